@@ -1,0 +1,63 @@
+-- A service tag comes off as it went on.
+use Rattle.std.proofs.Common.{◌≡◌, ℕ, ◌+◌, ◌*◌, ◌/◌, ◌%◌, ◌<◌, ◌≤◌, true, List, ◌∷◌, take, length, get_or, refl, sym, ap, ◌∙◌, arith}
+use Rattle.std.proofs.lemmas.Bool.Decides.{nat_tests}
+use Rattle.pb_frame.specs.Tags.{control, tagged, untagged, control_of, vid_of, priority_of, has_service_type}
+
+-- the frame is what is left without the tag
+pub untagged-tagged : (x : List ℕ) (p d v : ℕ) → 12 ≤ length x → untagged (tagged x p d v) ≡ x
+untagged-tagged (a ∷ b ∷ c ∷ e ∷ f ∷ g ∷ h ∷ i ∷ j ∷ k ∷ l ∷ m ∷ rest) p d v long = refl
+untagged-tagged _ p d v long = absurd (omega arith)
+
+-- the control is what was put there
+pub control_of-tagged : (x : List ℕ) (p d v : ℕ) → 12 ≤ length x → control_of (tagged x p d v) ≡ control p d v
+control_of-tagged (a ∷ b ∷ c ∷ e ∷ f ∷ g ∷ h ∷ i ∷ j ∷ k ∷ l ∷ m ∷ rest) p d v long = omega arith
+control_of-tagged _ p d v long = absurd (omega arith)
+
+-- and so are the identifier
+pub vid_of-tagged : (x : List ℕ) (p d v : ℕ) → 12 ≤ length x → v < 4096 → vid_of (tagged x p d v) ≡ v
+vid_of-tagged x p d v long small = rw (control_of-tagged x p d v long) (omega arith)
+
+-- and the priority
+pub priority_of-tagged : (x : List ℕ) (p d v : ℕ) → 12 ≤ length x → p < 8 → d < 2 → v < 4096 → priority_of (tagged x p d v) ≡ p
+priority_of-tagged x p d v long a b c = rw (control_of-tagged x p d v long) (omega arith)
+
+-- the type stands there
+pub has_service_type-tagged : (x : List ℕ) (p d v : ℕ) → 12 ≤ length x → has_service_type (tagged x p d v) ≡ true
+has_service_type-tagged (a ∷ b ∷ c ∷ e ∷ f ∷ g ∷ h ∷ i ∷ j ∷ k ∷ l ∷ m ∷ rest) p d v long = refl
+has_service_type-tagged _ p d v long = absurd (omega arith)
+
+-- a tag is 4 octets
+pub length-tagged : (x : List ℕ) (p d v : ℕ) → 12 ≤ length x → length (tagged x p d v) ≡ length x + 4
+length-tagged (a ∷ b ∷ c ∷ e ∷ f ∷ g ∷ h ∷ i ∷ j ∷ k ∷ l ∷ m ∷ rest) p d v long = omega arith
+length-tagged _ p d v long = absurd (omega arith)
+
+-- the destination stays
+pub take-tagged : (x : List ℕ) (p d v : ℕ) → 12 ≤ length x → take 6 (tagged x p d v) ≡ take 6 x
+take-tagged (a ∷ b ∷ c ∷ e ∷ f ∷ g ∷ h ∷ i ∷ j ∷ k ∷ l ∷ m ∷ rest) p d v long = refl
+take-tagged _ p d v long = absurd (omega arith)
+
+-- where the type stands, its octets do
+pub type-octets : (f : List ℕ) → has_service_type f ≡ true → (get_or f 12 0 ≡ 136) × (get_or f 13 0 ≡ 168)
+type-octets f e = grind (arith, nat_tests)
+
+high : (n a b : ℕ) → n ≡ a * 256 + b → b < 256 → n / 256 ≡ a
+high n a b e h = omega arith
+
+low : (n a b : ℕ) → n ≡ a * 256 + b → b < 256 → n % 256 ≡ b
+low n a b e h = omega arith
+
+-- a frame with a whole tag is what is left without it, tagged by what the tag says
+pub tagged-untagged : (f : List ℕ) (p d v : ℕ) → 18 ≤ length f → get_or f 12 0 ≡ 136 → get_or f 13 0 ≡ 168
+    → control p d v ≡ control_of f → get_or f 15 0 < 256 → f ≡ tagged (untagged f) p d v
+tagged-untagged (a ∷ b ∷ c ∷ e ∷ f ∷ g ∷ h ∷ i ∷ j ∷ k ∷ l ∷ m ∷ n ∷ o ∷ q ∷ r ∷ rest) p d v long twelve thirteen number fits =
+    let hi : control p d v / 256 ≡ q = high (control p d v) q r number fits in
+    let lo : control p d v % 256 ≡ r = low (control p d v) q r number fits in cc
+tagged-untagged _ p d v long twelve thirteen number fits = absurd (omega arith)
+
+-- a tagged form shows the frame and the tag
+pub tagged-inj : (x y : List ℕ) (p d v q e w : ℕ) → 12 ≤ length x → 12 ≤ length y → tagged x p d v ≡ tagged y q e w
+    → (x ≡ y) × (control p d v ≡ control q e w)
+tagged-inj x y p d v q e w hx hy same = (
+  sym (untagged-tagged x p d v hx) ∙ ap untagged same ∙ untagged-tagged y q e w hy,
+  sym (control_of-tagged x p d v hx) ∙ ap control_of same ∙ control_of-tagged y q e w hy,
+)

@@ -1,0 +1,137 @@
+//! Octets as hexadecimal texts.
+
+ghost use Rattle.std.specs.Prelude.{◌≡◌, ◌%◌, ◌<◌, ◌↔◌, true, false, length, string_bytes, IfOk, IfSome, IfNone, IsSome, IsErrOf, ℕ};
+ghost use Rattle.std.specs.List.{list_all};
+ghost use Rattle.pb_frame.specs.Hex.{digit_value, is_digit, IsPair, IsHex, hex_text as text_of, lower_digit, upper_digit};
+ghost use Rattle.pb_frame.specs.declared.hex.HexFault.{HexFault};
+ghost use Rattle.pb_frame.specs.declared.hex.HexFault.TheVariants.{Memory as memory_fault};
+
+use crate::memory::Memory;
+use bytes::Bytes;
+use std::alloc::{AllocError, AllocFailed, Global};
+use thiserror::Error;
+
+/// Why a text isn't octets in hexadecimal.
+#[derive(Clone, Copy, Debug, PartialEq, Eq, Error)]
+pub enum HexFault {
+    #[error("not a hexadecimal digit")]
+    Digit,
+    #[error("an odd number of digits")]
+    Odd,
+    #[error("out of memory")]
+    Memory,
+}
+
+impl From<AllocError> for HexFault {
+    ghost from_gives = { λ _ e. e ≡ memory_fault };
+
+    fn from(_e: AllocError) -> HexFault {
+        HexFault::Memory
+    }
+}
+
+impl<T: Drop> From<AllocFailed<T>> for HexFault {
+    ghost from_gives = { λ _ e. e ≡ memory_fault };
+
+    fn from(_e: AllocFailed<T>) -> HexFault {
+        HexFault::Memory
+    }
+}
+
+/// What a digit stands for.
+fn digit(c: u8) -> Option<u8>
+    ensures { result ≡ digit_value c }
+{
+    match c {
+        b'0'..=b'9' => Some(c - 48),
+        b'A'..=b'F' => Some(c - 55),
+        b'a'..=b'f' => Some(c - 87),
+        _ => None,
+    }
+}
+
+/// The octet of two digits.
+pub(crate) fn octet(high: u8, low: u8) -> Option<u8>
+    ensures pair { IfSome result (λ b. IsPair high low b) }
+    ensures none { IfNone result ((b : ℕ) → IsPair high low b → ⊥) }
+    ensures some { is_digit high ≡ true → is_digit low ≡ true → IsSome result }
+{
+    Some(digit(high)? * 16 + digit(low)?)
+}
+
+fn all_digits(text: &[u8]) -> bool
+    ensures { result ≡ list_all is_digit text.now }
+{
+    text.iter().all(|c| digit(*c).is_some())
+}
+
+/// Reads pairs of hexadecimal digits, in either case.
+///
+/// `Digit` is answered where something else than a digit stands, else `Odd` where their number is
+/// odd, else `Memory` where memory ran out.
+pub fn hex_read(alloc: Global, text: &str) -> Result<Bytes, HexFault>
+    ensures ok { IfOk result (λ b. IsHex text.now b) }
+    ensures digit { IsErrOf result HexFault.Digit ↔ (list_all is_digit text.now ≡ false) }
+    ensures odd { IsErrOf result HexFault.Odd ↔ ((list_all is_digit text.now ≡ true) × (length text.now % 2 ≡ 1)) }
+{
+    hex_octets(alloc, text.as_bytes())
+}
+
+/// Reads pairs of hexadecimal digits, in either case, from the bytes of a text, with the faults of
+/// [`hex_read`].
+pub fn hex_octets(alloc: Global, digits: &[u8]) -> Result<Bytes, HexFault>
+    ensures ok { IfOk result (λ b. IsHex digits.now b) }
+    ensures digit { IsErrOf result HexFault.Digit ↔ (list_all is_digit digits.now ≡ false) }
+    ensures odd { IsErrOf result HexFault.Odd ↔ ((list_all is_digit digits.now ≡ true) × (length digits.now % 2 ≡ 1)) }
+{
+    if !all_digits(digits) {
+        return Err(HexFault::Digit);
+    }
+    if digits.len() % 2 != 0 {
+        return Err(HexFault::Odd);
+    }
+    let octets = pairs_of(alloc, digits)?;
+    Ok(Bytes::from_vec(octets)?)
+}
+
+/// The octets of an even number of digits.
+fn pairs_of(alloc: Global, digits: &[u8]) -> Result<Vec<u8>, AllocError>
+    requires digits { list_all is_digit digits.now ≡ true }
+    requires even { length digits.now % 2 ≡ 0 }
+    ensures { IfOk result (λ v. IsHex digits.now v.items) }
+{
+    let mut octets = Vec::with_capacity(alloc, digits.len() / 2)?;
+    for i in 0..digits.len() / 2 {
+        let octet = octet(digits[2 * i], digits[2 * i + 1]).unwrap();
+        octets.push(octet)?;
+    }
+    Ok(octets)
+}
+
+/// The lower case digit of a number below 16.
+fn lower(n: u8) -> char
+    requires { n < 16 }
+    ensures { result ≡ lower_digit n }
+{
+    char::from(if n <= 9 { n + 48 } else { n + 87 })
+}
+
+/// The upper case digit of a number below 16.
+pub(crate) fn upper(n: u8) -> char
+    requires { n < 16 }
+    ensures { result ≡ upper_digit n }
+{
+    char::from(if n <= 9 { n + 48 } else { n + 55 })
+}
+
+/// Two hexadecimal digits for each octet, in lower case.
+pub fn hex_text(alloc: Global, octets: &[u8]) -> Result<String, Memory>
+    ensures { IfOk result (λ text. string_bytes text ≡ text_of octets.now) }
+{
+    let mut text = String::new(alloc);
+    for octet in octets {
+        text.push(lower(*octet / 16))?;
+        text.push(lower(*octet % 16))?;
+    }
+    Ok(text)
+}

@@ -1,0 +1,51 @@
+//! Station addresses.
+
+ghost use Rattle.std.specs.Prelude.{◌≡◌, ◌+◌, ◌*◌, string_bytes, IfOk, IfSome, IfNone, ℕ, List};
+ghost use Rattle.pb_frame.specs.Hex.{IsMacText, mac_text};
+
+use crate::hex::{octet, upper};
+use crate::memory::Memory;
+use std::alloc::Global;
+
+/// The address of a station, or of a group of stations (IEEE 802.3 clause 3).
+#[derive(Clone, Copy, Debug, PartialEq, Eq, PartialOrd, Ord, Hash)]
+pub struct Mac(pub [u8; 6]);
+
+impl Mac {
+    /// Reads six pairs of hexadecimal digits, in either case, parted by hyphens. None is answered
+    /// for any other text. Takes no memory.
+    pub fn read(text: &str) -> Option<Mac>
+        ensures found { IfSome result (λ m. IsMacText text.now m.0) }
+        ensures none { IfNone result ((octets : List ℕ) → IsMacText text.now octets → ⊥) }
+    {
+        let digits = text.as_bytes();
+        if digits.len() != 17 {
+            return None;
+        }
+        for k in 0..5usize {
+            if digits[3 * k + 2] != b'-' {
+                return None;
+            }
+        }
+        let mut octets = [0u8; 6];
+        for i in 0..6usize {
+            octets[i] = octet(digits[3 * i], digits[3 * i + 1])?;
+        }
+        Some(Mac(octets))
+    }
+
+    /// Six pairs of hexadecimal digits in upper case, parted by hyphens.
+    pub fn text(&self, alloc: Global) -> Result<String, Memory>
+        ensures { IfOk result (λ text. string_bytes text ≡ mac_text self.now.0) }
+    {
+        let mut text = String::new(alloc);
+        text.push(upper(self.0[0] / 16))?;
+        text.push(upper(self.0[0] % 16))?;
+        for octet in &self.0[1..] {
+            text.push('-')?;
+            text.push(upper(*octet / 16))?;
+            text.push(upper(*octet % 16))?;
+        }
+        Ok(text)
+    }
+}

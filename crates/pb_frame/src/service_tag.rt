@@ -1,0 +1,140 @@
+//! Service tags (S-tags), and the customer tags that are data to a provider.
+
+ghost use Rattle.std.specs.Prelude.{ℕ, List, ◌≡◌, ◌<◌, ◌≤◌, ◌↔◌, true, false, length, IfOk, IfSome, IsSome, IsErrOf};
+ghost use Rattle.pb_frame.specs.Tags.{tagged, untagged, bare, control, control_of, has_service_type, has_customer_tag, has_priority_tag, priority_tag_of, priority_of, vid_of};
+ghost use Rattle.pb_frame.specs.declared.service_tag.TagFault.{TagFault};
+ghost use Rattle.pb_frame.specs.declared.service_tag.TagFault.TheVariants.{Memory as memory_fault};
+
+use crate::memory::Memory;
+use crate::tci::Tci;
+use bytes::Bytes;
+use std::alloc::Global;
+use thiserror::Error;
+
+/// Why no service tag was taken off.
+#[derive(Clone, Copy, Debug, PartialEq, Eq, Error)]
+pub enum TagFault {
+    #[error("no S-tag")]
+    NoTag,
+    #[error("the S-tag is cut off")]
+    Cut,
+    #[error("out of memory")]
+    Memory,
+}
+
+impl From<Memory> for TagFault {
+    ghost from_gives = { λ _ e. e ≡ memory_fault };
+
+    fn from(_e: Memory) -> TagFault {
+        TagFault::Memory
+    }
+}
+
+/// Puts a service tag in behind the addresses of a frame (IEEE 802.1ad clause 9).
+pub fn push_s(alloc: Global, frame: &Bytes, tci: Tci) -> Result<Bytes, Memory>
+    requires { 14 ≤ length frame.now }
+    ensures { IfOk result (λ b. b ≡ tagged frame.now tci.pcp tci.dei tci.vid) }
+{
+    let value = tci.value();
+    let tag = [0x88, 0xa8, (value / 256) as u8, (value % 256) as u8];
+    let octets = frame.as_slice();
+    let mut out = Vec::with_capacity(alloc, octets.len() + 4)?;
+    out.extend_from_slice(&octets[..12])?;
+    out.extend_from_slice(&tag)?;
+    out.extend_from_slice(&octets[12..])?;
+    Ok(Bytes::from_vec(out)?)
+}
+
+/// Takes the service tag off (IEEE 802.1ad clause 9).
+///
+/// `NoTag` is answered where 88 A8 does not stand behind the addresses, `Cut` where it does and
+/// fewer than 18 octets are there, `Memory` where memory ran out.
+pub fn pop_s(alloc: Global, frame: &Bytes) -> Result<(Tci, Bytes), TagFault>
+    ensures ok { IfOk result (λ p. frame.now ≡ tagged p.1 p.0.pcp p.0.dei p.0.vid) }
+    ensures no_tag { IsErrOf result TagFault.NoTag ↔ (has_service_type frame.now ≡ false) }
+    ensures cut { IsErrOf result TagFault.Cut ↔ ((has_service_type frame.now ≡ true) × (length frame.now < 18)) }
+{
+    let octets = frame.as_slice();
+    if !has_service_type(octets) {
+        return Err(TagFault::NoTag);
+    }
+    if octets.len() < 18 {
+        return Err(TagFault::Cut);
+    }
+    let tci = Tci::of(u16::from(octets[14]) * 256 + u16::from(octets[15]));
+    Ok((tci, without_tag(alloc, frame)?))
+}
+
+/// The frame without the four octets behind its addresses.
+pub fn without_tag(alloc: Global, frame: &Bytes) -> Result<Bytes, Memory>
+    requires { 18 ≤ length frame.now }
+    ensures { IfOk result (λ b. b ≡ untagged frame.now) }
+{
+    let octets = frame.as_slice();
+    let mut out = Vec::with_capacity(alloc, octets.len() - 4)?;
+    out.extend_from_slice(&octets[..12])?;
+    out.extend_from_slice(&octets[16..])?;
+    Ok(Bytes::from_vec(out)?)
+}
+
+/// A customer's frame without its priority tag, and the priority that the tag told: a service tag
+/// whose VID is 0 names no service (IEEE 802.1ad clause 9). A frame without one is given back.
+pub fn pop_priority(alloc: Global, frame: &Bytes) -> Result<(Option<u8>, Bytes), Memory>
+    requires { 14 ≤ length frame.now }
+    ensures priority { IfOk result (λ p. p.0 ≡ priority_tag_of frame.now) }
+    ensures rest { IfOk result (λ p. p.1 ≡ bare frame.now) }
+{
+    let octets = frame.as_slice();
+    if has_priority_tag(octets) {
+        Ok((Some(priority_of(octets)), without_tag(alloc, frame)?))
+    } else {
+        Ok((None, frame.clone()?))
+    }
+}
+
+/// Shows the customer tag (81 00 behind the addresses), where there is a whole one. Takes no memory.
+pub fn look_c(frame: &[u8]) -> Option<Tci>
+    ensures found { IsSome result ↔ (has_customer_tag frame.now ≡ true) }
+    ensures value { IfSome result (λ t. control t.pcp t.dei t.vid ≡ control_of frame.now) }
+{
+    if frame.len() < 18 || frame[12] != 0x81 || frame[13] != 0 {
+        return None;
+    }
+    Some(Tci::of(u16::from(frame[14]) * 256 + u16::from(frame[15])))
+}
+
+/// 88 A8 stands behind the addresses.
+pub fn has_service_type(frame: &[u8]) -> bool
+    ensures { result ≡ has_service_type frame.now }
+{
+    frame.len() >= 14 && frame[12] == 0x88 && frame[13] == 0xa8
+}
+
+/// The VID of the tag behind the addresses, 0 to 4095.
+pub fn vid_of(frame: &[u8]) -> u16
+    requires { 16 ≤ length frame.now }
+    ensures { result ≡ vid_of frame.now }
+{
+    (u16::from(frame[14]) * 256 + u16::from(frame[15])) % 4096
+}
+
+/// The priority of the tag behind the addresses, 0 to 7.
+pub fn priority_of(frame: &[u8]) -> u8
+    requires { 16 ≤ length frame.now }
+    ensures { result ≡ priority_of frame.now }
+{
+    ((u16::from(frame[14]) * 256 + u16::from(frame[15])) / 8192 % 8) as u8
+}
+
+/// A whole service tag stands there that names no service: its VID is 0.
+pub fn has_priority_tag(frame: &[u8]) -> bool
+    ensures { result ≡ has_priority_tag frame.now }
+{
+    has_service_type(frame) && frame.len() >= 18 && vid_of(frame) == 0
+}
+
+/// A tagged frame shows the frame without its tag, and the tag: putting one in and taking it off
+/// undo each other.
+pub fn tags_undo_each_other()
+    ensures { (x y : List ℕ) (p d v q e w : ℕ) → 14 ≤ length x → 14 ≤ length y → tagged x p d v ≡ tagged y q e w → (x ≡ y) × (control p d v ≡ control q e w) }
+{}
