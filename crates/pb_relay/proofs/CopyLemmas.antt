@@ -4,7 +4,7 @@ use Rattle.std.proofs.lemmas.Bool.{eqb-true}
 use Rattle.std.proofs.lemmas.List.{get_or-set_same, get_or-set_other, get_or_read, map-append}
 use Rattle.std.specs.declared.option.Option.{Option}
 use Rattle.std.specs.List.{AllByRecursion, filter, list_any}
-use Rattle.pb_frame.proofs.Lists.{All-append}
+use Rattle.pb_frame.proofs.Lists.{All-append, filter-append}
 use Rattle.pb_lan.specs.Queues.{is_refused}
 use Rattle.pb_lan.specs.BridgeLists.{AreRefused, is_named_full, is_full_word}
 use Rattle.pb_lan.specs.declared.step.Item.{Item}
@@ -81,11 +81,6 @@ full-own p (Some word) rs h =
     any-append (λ r. r.0 == p && is_full_word r.1) rs ((p, word) ∷ [])
     ∙ ap (λ b. b || (((p == p) && is_full_word word) || false)) (none_full p rs h)
     ∙ ap (λ b. (b && is_full_word word) || false) (eq-eqb p p refl) ∙ or-false (is_full_word word)
-
-filter-append : (g : ℕ → Bool) (xs ys : List ℕ) → filter g (xs ++ ys) ≡ filter g xs ++ filter g ys
-filter-append g [] ys = refl
-filter-append g (x ∷ xs) ys = elim (g x) as (λ b. cond b (x ∷ filter g (xs ++ ys)) (filter g (xs ++ ys)) ≡ cond b (x ∷ filter g xs) (filter g xs) ++ filter g ys)
-    [ true ↦ ap (λ zs. x ∷ zs) (filter-append g xs ys) | false ↦ filter-append g xs ys ]
 
 filter-same : (p : ℕ) (g h : ℕ → Bool) → ((q : ℕ) → q ≢ p → g q ≡ h q) → (xs : List ℕ) → AllByRecursion (IsOther p) xs → filter g xs ≡ filter h xs
 filter-same p g h e [] a = refl

@@ -29,7 +29,7 @@ use Rattle.pb_relay.specs.Standing.{IsStanding, AreClassed}
 use Rattle.pb_lan.specs.Rules.{silent}
 use Rattle.pb_relay.specs.Tables.{live, seen_anew}
 use Rattle.pb_relay.proofs.CopyLemmas.{none_full}
-use Rattle.pb_relay.proofs.TableLemmas.{filter-twice, fresh_now, live_after}
+use Rattle.pb_relay.proofs.TableLemmas.{filter-twice, fresh_now, live_after, after_seen}
 use Rattle.pb_relay.proofs.WaitingLemmas.{by_class-push, number_by_class}
 use Rattle.pb_relay.proofs.StepLemmas.{lawful_more, states_stay, now_more, news_more}
 
@@ -70,6 +70,7 @@ standing_seen : (ageing now : ℕ) (news : List News) (s : Sighting) → is_fres
 standing_seen ageing now news s f =
     sym (table_tells_what_stands ageing now (news ++ Seen s ∷ []))
     ∙ ap (live ageing now) (after_all-append [] news (Seen s))
+    ∙ ap (live ageing now) (after_seen s (after_all [] news))
     ∙ live_after ageing now s (after_all [] news) f
     ∙ ap (seen_anew s) (table_tells_what_stands ageing now news)
 

@@ -1,11 +1,15 @@
 -- Tables of entries.
-use Rattle.std.proofs.Common.{◌≡◌, ℕ, suc, ◌-◌, ◌<◌, ◌≤◌, Bool, true, false, cond, not, Some, None, Err, List, [], ◌∷◌, ◌++◌, length, refl, sym, ap, ◌∙◌, arith}
+use Rattle.std.proofs.Common.{◌==◌, ◌&&◌, eq-eqb, ◌≡◌, ℕ, suc, ◌-◌, ◌<◌, ◌≤◌, Bool, true, false, cond, not, Some, None, Err, List, [], ◌∷◌, ◌++◌, length, refl, sym, ap, ◌∙◌, arith}
 use Rattle.std.proofs.lemmas.List.{length-map, map-append}
+use Rattle.std.proofs.lemmas.Bool.{eqb-true}
 use Rattle.std.proofs.lemmas.Bool.Decides.{nat_tests}
 use Rattle.std.specs.List.{filter}
 use Rattle.std.specs.Option.{option_map}
 use Rattle.std.specs.declared.option.Option.{Option}
-use Rattle.pb_frame.specs.Stations.{Sighting, is_sighted, is_fresh}
+use Rattle.pb_frame.proofs.Lists.{filter-append, filter-same}
+use Rattle.pb_frame.specs.Admission.{same}
+use Rattle.pb_frame.specs.Stations.News.{Seen}
+use Rattle.pb_frame.specs.Stations.{after, Sighting, is_sighted, is_fresh}
 use Rattle.pb_frame.specs.Lists.{first}
 use Rattle.pb_frame.specs.declared.learnt.Learnt.{Learnt}
 use Rattle.pb_frame.specs.declared.learnt.Learnt.TheVariants.{New, Kept, Moved, Full, Group, Memory}
@@ -34,11 +38,6 @@ filter-swap p q (x ∷ xs) =
       | false ↦ λ e. elim (p x) as (λ a. filter p (filter q xs) ≡ filter q (cond a (x ∷ filter p xs) (filter p xs)))
           [ true ↦ filter-swap p q xs ∙ ap (λ b. cond b (x ∷ filter q (filter p xs)) (filter q (filter p xs))) (sym e) | false ↦ filter-swap p q xs ]
     ] refl
-
-filter-append : {X : Type 0} (p : X → Bool) (xs ys : List X) → filter p (xs ++ ys) ≡ filter p xs ++ filter p ys
-filter-append p [] ys = refl
-filter-append p (x ∷ xs) ys = elim (p x) as (λ b. cond b (x ∷ filter p (xs ++ ys)) (filter p (xs ++ ys)) ≡ cond b (x ∷ filter p xs) (filter p xs) ++ filter p ys)
-    [ true ↦ ap (λ zs. x ∷ zs) (filter-append p xs ys) | false ↦ filter-append p xs ys ]
 
 pub filter-map : (p : Sighting → Bool) (es : List Entry) → filter p (sightings es) ≡ sightings (filter (λ e. p (sighting_of e)) es)
 filter-map p [] = refl
@@ -123,3 +122,26 @@ live_after ageing now s table f =
     filter-append (is_fresh ageing now) (filter (λ t. not (is_sighted s.vid s.mac t)) table) (s ∷ [])
     ∙ ap (λ b. live ageing now (filter (λ t. not (is_sighted s.vid s.mac t)) table) ++ cond b (s ∷ []) []) f
     ∙ ap (λ zs. zs ++ s ∷ []) (filter-swap (is_fresh ageing now) (λ t. not (is_sighted s.vid s.mac t)) table)
+
+eqb-symm : (a b : ℕ) → (a == b) ≡ (b == a)
+eqb-symm a b =
+    elim (a == b) as (λ t. (a == b) ≡ t → t ≡ (b == a)) [
+      | true ↦ λ e. sym (eq-eqb b a (sym (eqb-true a b e)))
+      | false ↦ λ e. elim (b == a) as (λ u. (b == a) ≡ u → false ≡ u) [
+          | true ↦ λ f. sym e ∙ eq-eqb a b (sym (eqb-true b a f))
+          | false ↦ λ f. refl
+        ] refl
+    ] refl
+
+same-symm : (a b : List ℕ) → same a b ≡ same b a
+same-symm [] [] = refl
+same-symm [] (y ∷ ys) = refl
+same-symm (x ∷ xs) [] = refl
+same-symm (x ∷ xs) (y ∷ ys) = ap (λ t. t && same xs ys) (eqb-symm x y) ∙ ap (λ t. (y == x) && t) (same-symm xs ys)
+
+-- a table once a station is seen, as the news tell it
+pub after_seen : (s : Sighting) (table : List Sighting) → after table (Seen s) ≡ seen_anew s table
+after_seen s table =
+    ap (λ zs. zs ++ s ∷ [])
+    (filter-same (λ t. not (is_sighted t.vid t.mac s)) (λ t. not (is_sighted s.vid s.mac t))
+    (λ t. ap (λ b. not (b && same s.mac t.mac)) (eqb-symm s.vid t.vid) ∙ ap (λ b. not ((t.vid == s.vid) && b)) (same-symm s.mac t.mac)) table)
