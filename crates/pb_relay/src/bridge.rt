@@ -1,0 +1,240 @@
+//! The bridge.
+
+ghost use Rattle.std.specs.Prelude.{◌≡◌, ◌<◌, ◌≤◌, ◌+◌, ◌++◌, ◌∷◌, [], ◌↔◌, vec_len, vec_capacity, length, Some, true, false, IsSome, OnOk, OnErr, IsErrOf};
+ghost use Rattle.std.specs.Option.{option_copied};
+ghost use Rattle.pb_lan.specs.Ports.{port_at};
+ghost use Rattle.pb_lan.specs.Queues.{waiting, next_out};
+ghost use Rattle.pb_lan.specs.BridgeLists.{IsLawfulBridge};
+ghost use Rattle.pb_lan.specs.BridgeLists.{ruling};
+ghost use Rattle.pb_lan.specs.BridgeLists.Ruling.{Refuses, Carries};
+ghost use Rattle.pb_relay.specs.Verdicts.{as_ruling};
+ghost use Rattle.pb_lan.specs.Shapes.{states_after};
+ghost use Rattle.pb_relay.specs.Standing.{HasReceived, HasTicked, unmoved};
+ghost use Rattle.pb_lan.specs.Ports.{is_used};
+ghost use Rattle.pb_lan.specs.Rules.{silent};
+
+use crate::fault::BridgeFault;
+use crate::fdb::Fdb;
+use crate::ports::LocalPort;
+use crate::queues::PortQueues;
+use crate::verdict::{Verdict, rule};
+use pb_frame::Seq;
+use pb_lan::{Item, Moved, Outcome, Plan, PortState, Reason, Step};
+use std::alloc::Global;
+use std::marker::Model;
+
+/// A bridge of a plan.
+#[derive(Drop)]
+pub struct Bridge {
+    alloc: Global,
+    plan: Plan,
+    number: u8,
+    ports: Vec<LocalPort>,
+    states: [PortState; 16],
+    queues: Vec<PortQueues>,
+    capacity: usize,
+    limit: usize,
+    table: Fdb,
+    clock: u32,
+    steps: Vec<Step>,
+    is_reserved: bool,
+}
+
+impl Model for Bridge {
+    ghost use Rattle.std.specs.Prelude.{vec_capacity};
+    ghost use Rattle.pb_relay.specs.Standing.{BridgeView, IsStanding, HasRoom};
+    ghost use Rattle.pb_relay.specs.LocalPorts.{IsConfigured};
+
+    ghost Value = { BridgeView };
+
+    ghost view = { λ b. record { plan = b.plan; number = b.number; steps = b.steps.items; is_reserved = b.is_reserved } };
+
+    ghost invariant = { λ b. IsConfigured b.plan b.number b.ports.items b.capacity b.limit
+        × IsStanding b.plan b.number b.steps.items b.states b.queues.items b.clock b.table
+        × HasRoom b.steps.items (vec_capacity b.steps) b.limit b.is_reserved };
+}
+
+/// Puts a step into the room that is there for it.
+fn append(steps: &mut Vec<Step>, step: Step)
+    requires { vec_len steps.old < vec_capacity steps.old }
+    ensures items { steps.new.items ≡ steps.old.items ++ step ∷ [] }
+{
+    let _ = steps.push(step);
+}
+
+impl Bridge {
+    /// The steps so far.
+    pub fn steps(&self) -> &[Step]
+        ensures steps { result.now ≡ self.now.steps }
+        ensures lawful { IsLawfulBridge silent self.now.plan self.now.number self.now.steps }
+    {
+        self.steps.as_slice()
+    }
+
+    pub fn into_steps(self) -> Vec<Step>
+        ensures steps { result.items ≡ self.steps }
+        ensures lawful { IsLawfulBridge silent self.plan self.number self.steps }
+    {
+        let Bridge {
+            alloc: _,
+            plan: _,
+            number: _,
+            ports: _,
+            states: _,
+            queues: _,
+            capacity: _,
+            limit: _,
+            table: _,
+            clock: _,
+            steps,
+            is_reserved: _,
+        } = self;
+        steps
+    }
+
+    /// Makes room for one step.
+    pub fn reserve_step(&mut self) -> Result<(), BridgeFault>
+        ensures ok { OnOk result (self.new ≡ record self.old { is_reserved = true }) }
+        ensures err { OnErr result (self.new ≡ self.old) }
+        ensures limit { IsErrOf result BridgeFault.StepLimit ↔ (length self.old.steps ≡ self.old.plan.steps) }
+    {
+        if self.steps.len() == self.limit {
+            return Err(BridgeFault::StepLimit);
+        }
+        self.steps.reserve(1)?;
+        self.is_reserved = true;
+        Ok(())
+    }
+
+    /// The number of items that wait at a port.
+    pub fn waiting(&self, port: u8) -> u16
+        requires { is_used (port_at self.now.plan self.now.number port) ≡ true }
+        ensures { result ≡ length (waiting self.now.plan self.now.number port self.now.steps) }
+    {
+        self.queues[port as usize - 1].len() as u16
+    }
+
+    /// The item that leaves a port next.
+    pub fn peek_out(&self, port: u8) -> Option<&Item>
+        requires { is_used (port_at self.now.plan self.now.number port) ≡ true }
+        ensures { option_copied result ≡ next_out (waiting self.now.plan self.now.number port self.now.steps) }
+    {
+        let queues = &self.queues[port as usize - 1];
+        queues.first()
+    }
+
+    /// Sends the item that leaves a port next.
+    pub fn pop_out(&mut self, port: u8) -> Item
+        requires used { is_used (port_at self.old.plan self.old.number port) ≡ true }
+        requires reserved { self.old.is_reserved ≡ true }
+        requires some { 0 < length (waiting self.old.plan self.old.number port self.old.steps) }
+        ensures next { next_out (waiting self.old.plan self.old.number port self.old.steps) ≡ Some result }
+        ensures step { self.new ≡ record self.old { steps = self.old.steps ++ Step.Transmit port result ∷ []; is_reserved = false } }
+    {
+        let queues = &mut self.queues[port as usize - 1];
+        let Some(twin) = queues.pop() else {
+            unreachable!();
+        };
+        let (item, copy) = twin.into_pair();
+        self.is_reserved = false;
+        append(&mut self.steps, Step::Transmit { port, item: copy });
+        item
+    }
+
+    /// What is to be done with an item that comes in at a port.
+    fn rule(&self, port: u8, item: &Item) -> Verdict
+        requires { is_used (port_at self.now.plan self.now.number port) ≡ true }
+        ensures { as_ruling result ≡ ruling silent self.now.plan self.now.number self.now.steps port item.now }
+    {
+        let ports = &self.ports;
+        let place = port as usize - 1;
+        let local = &ports[place];
+        rule(local, self.states[place], item)
+    }
+
+    /// Appends a step that tells that the item goes nowhere.
+    fn refuse(&mut self, port: u8, item: Item, reason: Reason) -> Outcome
+        requires reserved { self.old.is_reserved ≡ true }
+        requires ruling { ruling silent self.old.plan self.old.number self.old.steps port item ≡ Refuses reason }
+        ensures { HasReceived self.old port item result self.new }
+    {
+        self.is_reserved = false;
+        append(
+            &mut self.steps,
+            Step::Receive {
+                port,
+                item,
+                learnt: None,
+                outcome: Outcome::Filtered(reason),
+                moved: None,
+            },
+        );
+        Outcome::Filtered(reason)
+    }
+
+    /// Appends a step that tells that there is no memory to relay the item.
+    fn give_up(&mut self, port: u8, item: Item, vid: u16) -> Outcome
+        requires reserved { self.old.is_reserved ≡ true }
+        requires ruling { ruling silent self.old.plan self.old.number self.old.steps port item ≡ Carries vid }
+        ensures { HasReceived self.old port item result self.new }
+    {
+        self.is_reserved = false;
+        append(
+            &mut self.steps,
+            Step::Receive {
+                port,
+                item,
+                learnt: None,
+                outcome: Outcome::Filtered(Reason::Memory),
+                moved: None,
+            },
+        );
+        Outcome::Filtered(Reason::Memory)
+    }
+
+    /// The states of the local ports.
+    pub fn shape(&self) -> [PortState; 16]
+        ensures { result ≡ states_after self.now.plan self.now.number self.now.steps }
+    {
+        self.states
+    }
+
+    /// The clock ticks.
+    pub fn tick(&mut self) -> Result<(), BridgeFault>
+        ensures ok { OnOk result (HasTicked self.old self.new) }
+        ensures err { OnErr result (self.new ≡ self.old) }
+        ensures limit { IsErrOf result BridgeFault.StepLimit ↔ (length self.old.steps ≡ self.old.plan.steps) }
+    {
+        self.reserve_step()?;
+        self.advance();
+        Ok(())
+    }
+
+    /// Appends a tick.
+    fn advance(&mut self)
+        requires { self.old.is_reserved ≡ true }
+        ensures { HasTicked self.old self.new }
+    {
+        self.is_reserved = false;
+        self.clock += 1;
+        append(
+            &mut self.steps,
+            Step::Tick {
+                now: self.clock,
+                moved: nothing_moved(self.alloc),
+            },
+        );
+    }
+}
+
+/// No change.
+fn nothing_moved(alloc: Global) -> Moved
+    ensures { result ≡ unmoved }
+{
+    Moved {
+        states: Seq::from_vec(Vec::new(alloc)),
+        flushed: Seq::from_vec(Vec::new(alloc)),
+        queued: Seq::from_vec(Vec::new(alloc)),
+        dropped: Seq::from_vec(Vec::new(alloc)),
+    }
+}
