@@ -113,7 +113,8 @@ impl CustomerPlace {
     pub fn poll(&mut self, frame: Bytes)
         requires reserved { self.old.is_reserved ≡ true }
         requires empty { is_hand_empty self.old.steps ≡ true }
-        ensures { self.new ≡ with_step self.old (Step.Poll (arrival self.old frame)) }
+        ensures step { self.new ≡ with_step self.old (Step.Poll (arrival self.old frame)) }
+        ensures lawful { IsLawfulPort self.new.number self.new.steps }
     {
         prove!(self.steps.len() < self.steps.capacity());
         let item = Item {
@@ -136,6 +137,7 @@ impl CustomerPlace {
         requires full { is_hand_empty self.old.steps ≡ false }
         ensures ok { IfOk result (λ item. HasFed self.old item self.new) }
         ensures err { OnErr result (self.new ≡ self.old) }
+        ensures lawful { IsLawfulPort self.new.number self.new.steps }
     {
         let Some(place) = self.hand else {
             unreachable!();
@@ -155,7 +157,8 @@ impl CustomerPlace {
     /// Takes no memory.
     pub fn deliver(&mut self, item: Item, gone: bool)
         requires { self.old.is_reserved ≡ true }
-        ensures { self.new ≡ with_step self.old (Step.Deliver item gone) }
+        ensures step { self.new ≡ with_step self.old (Step.Deliver item gone) }
+        ensures lawful { IsLawfulPort self.new.number self.new.steps }
     {
         self.is_reserved = false;
         append(&mut self.steps, Step::Deliver { item, gone });

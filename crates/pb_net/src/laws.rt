@@ -1,0 +1,3 @@
+//! Temporary: checks lemma files.
+ghost use Rattle.std.specs.Prelude.{◌≡◌};
+fn lemmas() ensures { Unit {0} } {}

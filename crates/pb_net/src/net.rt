@@ -1,0 +1,189 @@
+//! The network, and its steps.
+
+ghost use Rattle.std.specs.Prelude.{◌≡◌, ◌+◌, ◌<◌, [], false, length, IfOk, IfSome, IfNone};
+ghost use Rattle.pb_lan.specs.Ports.{is_used, port_at};
+ghost use Rattle.pb_net.specs.Answers.{IsAnswer};
+ghost use Rattle.pb_net.specs.Dues.{IsDueOr, IsSpot};
+
+use crate::at_bridge::{receive_at, transmit_at};
+use crate::at_port::{deliver_at, feed_at, poll_at};
+use crate::did::Did;
+use crate::due::{Spot, index_of, sift};
+use crate::fault::NetFault;
+use bytes::Bytes;
+use pb_lan::{Event, Item, Place, Plan};
+use pb_link::CustomerPlace;
+use pb_relay::Bridge;
+use std::collections::VecDeque;
+use std::marker::Model;
+
+/// A network of a plan, in one thread. Contracts see its plan and the record of its steps.
+#[derive(Drop)]
+pub struct Net {
+    pub(crate) plan: Plan,
+    pub(crate) limit: usize,
+    pub(crate) ring: usize,
+    pub(crate) bridges: Vec<Bridge>,
+    pub(crate) customers: Vec<CustomerPlace>,
+    pub(crate) inboxes: Vec<VecDeque<Item>>,
+    pub(crate) outboxes: Vec<VecDeque<Item>>,
+    pub(crate) table: Vec<u8>,
+}
+
+impl Model for Net {
+    ghost use Rattle.std.specs.Prelude.{map};
+    ghost use Rattle.pb_net.specs.Answers.{NetView};
+    ghost use Rattle.pb_net.specs.Nets.{record_of, IsPlain, ArePlaced, IsKept, IsTable, HasNumbers};
+
+    ghost Value = { NetView };
+
+    ghost view = { λ n. record { plan = n.plan; rec = record_of n.bridges.items n.customers.items } };
+
+    ghost invariant = { λ n. IsPlain n.plan
+        × ArePlaced n.plan n.bridges.items n.customers.items
+        × IsKept n.plan (record_of n.bridges.items n.customers.items) (map (λ q. q.items) n.inboxes.items) (map (λ q. q.items) n.outboxes.items)
+        × IsTable n.plan n.table.items
+        × HasNumbers n.plan n.limit n.ring };
+}
+
+impl Net {
+    /// The customer port of a Poll that is due.
+    fn due_poll(&self, port: u8) -> Result<Option<usize>, NetFault>
+        ensures due { IsDueOr self.now (Event.Poll port []) result }
+        ensures place { IfOk result (λ o. IfSome o (λ r. (r + 1 ≡ port) × (r < length self.now.plan.customers))) }
+    {
+        let Some(place) = index_of(port, self.customers.len()) else {
+            return Err(NetFault::NoSuch);
+        };
+        let customer = &self.customers[place];
+        let is_idle = !customer.is_hand_empty();
+        sift(is_idle, customer.steps().len() == self.limit, place)
+    }
+    /// The customer port of a Feed that is due.
+    fn due_feed(&self, port: u8) -> Result<Option<usize>, NetFault>
+        ensures due { IsDueOr self.now (Event.Feed port) result }
+        ensures place { IfOk result (λ o. IfSome o (λ r. (r + 1 ≡ port) × (r < length self.now.plan.customers))) }
+    {
+        let Some(place) = index_of(port, self.customers.len()) else {
+            return Err(NetFault::NoSuch);
+        };
+        let customer = &self.customers[place];
+        let inbox = &self.inboxes[place];
+        let is_idle = customer.is_hand_empty() | (self.ring <= inbox.len());
+        sift(is_idle, customer.steps().len() == self.limit, place)
+    }
+
+    /// The customer port of a Deliver that is due.
+    fn due_deliver(&self, port: u8) -> Result<Option<usize>, NetFault>
+        ensures due { IsDueOr self.now (Event.Deliver port) result }
+        ensures place { IfOk result (λ o. IfSome o (λ r. (r + 1 ≡ port) × (r < length self.now.plan.customers))) }
+    {
+        let Some(place) = index_of(port, self.customers.len()) else {
+            return Err(NetFault::NoSuch);
+        };
+        let customer = &self.customers[place];
+        let outbox = &self.outboxes[place];
+        sift(outbox.is_empty(), customer.steps().len() == self.limit, place)
+    }
+
+    /// Who stands at a bridge's port.
+    fn spot(&self, bridge: u8, port: u8) -> Option<Spot>
+        ensures some { IfSome result (IsSpot self.now.plan bridge port) }
+        ensures none { IfNone result (is_used (port_at self.now.plan bridge port) ≡ false) }
+    {
+        let row = index_of(bridge, self.bridges.len())?;
+        let column = index_of(port, 16)?;
+        let number = self.table[16 * row + column];
+        if number == 0 {
+            return None;
+        }
+        Some(Spot {
+            bridge: row,
+            customer: usize::from(number) - 1,
+        })
+    }
+
+    /// Where a Receive is due.
+    fn due_receive(&self, bridge: u8, port: u8) -> Result<Option<Spot>, NetFault>
+        ensures due { IsDueOr self.now (Event.Receive bridge port) result }
+        ensures spot { IfOk result (λ o. IfSome o (IsSpot self.now.plan bridge port)) }
+    {
+        let Some(spot) = self.spot(bridge, port) else {
+            return Err(NetFault::NoSuch);
+        };
+        let at = &self.bridges[spot.bridge];
+        let inbox = &self.inboxes[spot.customer];
+        sift(inbox.is_empty(), at.steps().len() == self.limit, spot)
+    }
+
+    /// Where a Transmit is due.
+    fn due_transmit(&self, bridge: u8, port: u8) -> Result<Option<Spot>, NetFault>
+        ensures due { IsDueOr self.now (Event.Transmit bridge port) result }
+        ensures spot { IfOk result (λ o. IfSome o (IsSpot self.now.plan bridge port)) }
+    {
+        let Some(spot) = self.spot(bridge, port) else {
+            return Err(NetFault::NoSuch);
+        };
+        let at = &self.bridges[spot.bridge];
+        let outbox = &self.outboxes[spot.customer];
+        let is_idle = (at.waiting(port) == 0) | (self.ring <= outbox.len());
+        sift(is_idle, at.steps().len() == self.limit, spot)
+    }
+
+    /// A frame comes in at a customer port.
+    fn poll(&mut self, port: u8, frame: Bytes) -> Result<Did, NetFault>
+        ensures { IsAnswer self.old (Event.Poll port frame) result self.new }
+    {
+        let Some(place) = self.due_poll(port)? else {
+            return Ok(Did::Idle);
+        };
+        poll_at(&mut self.customers[place], frame)?;
+        Ok(Did::Done(Place::Customer(port)))
+    }
+
+    /// A customer port hands the frame that it holds to its bridge.
+    fn feed(&mut self, port: u8) -> Result<Did, NetFault>
+        ensures { IsAnswer self.old (Event.Feed port) result self.new }
+    {
+        let Some(place) = self.due_feed(port)? else {
+            return Ok(Did::Idle);
+        };
+        feed_at(&mut self.customers[place], &mut self.inboxes[place])?;
+        Ok(Did::Done(Place::Customer(port)))
+    }
+
+    /// A customer port takes the oldest frame that its bridge sent to it.
+    fn deliver(&mut self, port: u8) -> Result<Did, NetFault>
+        ensures { IsAnswer self.old (Event.Deliver port) result self.new }
+    {
+        let Some(place) = self.due_deliver(port)? else {
+            return Ok(Did::Idle);
+        };
+        deliver_at(&mut self.customers[place], &mut self.outboxes[place])?;
+        Ok(Did::Done(Place::Customer(port)))
+    }
+
+    /// A bridge takes the oldest item that came to one of its ports.
+    fn receive(&mut self, bridge: u8, port: u8) -> Result<Did, NetFault>
+        ensures { IsAnswer self.old (Event.Receive bridge port) result self.new }
+    {
+        let Some(spot) = self.due_receive(bridge, port)? else {
+            return Ok(Did::Idle);
+        };
+        let at = &mut self.bridges[spot.bridge];
+        receive_at(at, port, &mut self.inboxes[spot.customer])?;
+        Ok(Did::Done(Place::Bridge(bridge)))
+    }
+
+    /// A bridge sends the next item of one of its ports.
+    fn transmit(&mut self, bridge: u8, port: u8) -> Result<Did, NetFault>
+        ensures { IsAnswer self.old (Event.Transmit bridge port) result self.new }
+    {
+        let Some(spot) = self.due_transmit(bridge, port)? else {
+            return Ok(Did::Idle);
+        };
+        let at = &mut self.bridges[spot.bridge];
+        transmit_at(at, port, &mut self.outboxes[spot.customer])?;
+        Ok(Did::Done(Place::Bridge(bridge)))
+    }
+}
