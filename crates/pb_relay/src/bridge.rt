@@ -26,18 +26,18 @@ use std::marker::Model;
 /// A bridge of a plan.
 #[derive(Drop)]
 pub struct Bridge {
-    alloc: Global,
-    plan: Plan,
-    number: u8,
-    ports: Vec<LocalPort>,
-    states: [PortState; 16],
-    queues: Vec<PortQueues>,
-    capacity: usize,
-    limit: usize,
-    table: Fdb,
-    clock: u32,
-    steps: Vec<Step>,
-    is_reserved: bool,
+    pub(crate) alloc: Global,
+    pub(crate) plan: Plan,
+    pub(crate) number: u8,
+    pub(crate) ports: Vec<LocalPort>,
+    pub(crate) states: [PortState; 16],
+    pub(crate) queues: Vec<PortQueues>,
+    pub(crate) capacity: usize,
+    pub(crate) limit: usize,
+    pub(crate) table: Fdb,
+    pub(crate) clock: u32,
+    pub(crate) steps: Vec<Step>,
+    pub(crate) is_reserved: bool,
 }
 
 impl Model for Bridge {
