@@ -136,18 +136,6 @@ sound_port plan b p s =
           ] refl
     ] refl
 
--- what holds of each kind of port holds of what is kept
-pub kept_cases : (plan : Plan) (M : Port → LocalPort → Type 0)
-    → ((c : CustomerPlan) (vid pcp : ℕ) → IsKept plan (Customer c) (ToCustomer vid pcp) → M (Customer c) (ToCustomer vid pcp))
-    → ((e : End) (local : LocalPort) → IsKept plan (Provider e) local → M (Provider e) local)
-    → ((local : LocalPort) → IsKept plan Unused local → M Unused local)
-    → (port : Port) (local : LocalPort) → IsKept plan port local → M port local
-kept_cases plan M customer provider unused (Customer c) (ToCustomer vid pcp) k = customer c vid pcp k
-kept_cases plan M customer provider unused (Customer c) (ToBridge start vids) k = absurd k
-kept_cases plan M customer provider unused (Customer c) ToNobody k = absurd k
-kept_cases plan M customer provider unused (Provider e) local k = provider e local k
-kept_cases plan M customer provider unused Unused local k = unused local k
-
 -- such a frame can be made ready for other ports
 pub loadable : (plan : Plan) (port : Port) (local : LocalPort) (state : PortState) (item : Item) (v : ℕ) → IsSound plan → IsSoundPort plan port → IsKept plan port local
     → ruling_by silent plan port state item ≡ Carries v → IsLoadable local item.wire
