@@ -34,7 +34,7 @@ use Rattle.pb_relay.specs.declared.load.Load.{Load}
 use Rattle.pb_relay.specs.declared.ports.LocalPort.{LocalPort}
 use Rattle.pb_relay.specs.declared.ports.LocalPort.TheVariants.{ToCustomer, ToBridge, ToNobody}
 use Rattle.pb_relay.specs.Copies.{AreCopied, AreSeparate, copy_at, is_to_customer}
-use Rattle.pb_relay.specs.Loads.{IsLoad, is_choice, is_member_of, is_wanted}
+use Rattle.pb_relay.specs.Loads.{IsLoad, IsLoadedAt, is_choice, is_member_of, is_wanted}
 use Rattle.pb_relay.specs.LocalPorts.{IsKept, IsConfigured}
 use Rattle.pb_relay.specs.Standing.{IsStanding}
 use Rattle.pb_relay.specs.Tables.{HasLearnt, live, where_in}
@@ -170,40 +170,40 @@ places = all_up IsPlace 16 1 (λ j a c. (a, omega arith))
 
 -- each chosen port gets the copy of the definitions
 copies_are : (plan : Plan) (b : ℕ) (ports : List LocalPort) (states : List PortState) (capacity limit port vid : ℕ) (at : Option ℕ) (item : Item) (load : Load) (p : ℕ)
-    → IsConfigured plan b ports capacity limit → (1 ≤ port) × (port ≤ 16) → IsLoad (get_or ports (port - 1) ToNobody) item.wire load
+    → IsConfigured plan b ports capacity limit → IsLoadedAt plan (port_at plan b port) item.wire load
     → list_any (λ q. q == p) (filter (is_choice ports states port vid at) local_ports) ≡ true
     → copy_at ports load item p ≡ copy_of plan (port_at plan b port) (port_at plan b p) item
-copies_are plan b ports states capacity limit port vid at item load p k l h c =
+copies_are plan b ports states capacity limit port vid at item load p k h c =
     let f = list_any-found (λ q. IsPlace q × (is_choice ports states port vid at q ≡ true)) (λ q. q == p) (filter (is_choice ports states port vid at) local_ports) c
         (All-filter IsPlace (is_choice ports states port vid at) local_ports places) in
     let known : IsPlace p × (is_choice ports states port vid at p ≡ true) = subst (λ (q : ℕ). IsPlace q × (is_choice ports states port vid at q ≡ true)) (eqb-true f.0 p f.2) f.1 in
     ap (λ wire. record { mark = item.mark; hops = item.hops + 1; wire = wire })
-    (brings plan (port_at plan b port) (get_or ports (port - 1) ToNobody) item.wire load (port_at plan b p) (get_or ports (p - 1) ToNobody) vid
-    (kept_here plan b ports capacity limit port k l) h (kept_here plan b ports capacity limit p k known.0) (chosen_member ports states port vid at p known.1))
+    (brings plan (port_at plan b port) h.0 item.wire load (port_at plan b p) (get_or ports (p - 1) ToNobody) vid
+    h.1 h.2 (kept_here plan b ports capacity limit p k known.0) (chosen_member ports states port vid at p known.1))
 
 -- a frame has been relayed: the step fits, and what is kept is kept
 pub relayed : (plan : Plan) (b : ℕ) (steps : List Step) (states : List PortState) (queues new : List (List (List Item))) (now : ℕ) (table newer : List Sighting)
     (ports : List LocalPort) (capacity limit port vid : ℕ) (item : Item) (load : Load) (learnt : Learnt) (at : Option ℕ) (chosen : List ℕ) (refused : List (ℕ × NoRoom))
-    → IsConfigured plan b ports capacity limit → IsStanding plan b steps states queues now table → (1 ≤ port) × (port ≤ 16)
+    → IsConfigured plan b ports capacity limit → IsStanding plan b steps states queues now table
     → ruling silent plan b steps port item ≡ Carries vid
-    → IsLoad (get_or ports (port - 1) ToNobody) item.wire load
+    → IsLoadedAt plan (port_at plan b port) item.wire load
     → HasLearnt plan.ageing now vid port (src_of item.wire) table learnt newer
     → at ≡ cond (is_group (dst_of item.wire)) None (where_in plan.ageing now vid (dst_of item.wire) newer)
     → chosen ≡ filter (is_choice ports states port vid at) local_ports → AreSeparate chosen
     → AreCopied capacity load.class (copy_at ports load item) queues chosen refused new → length new ≡ 16
     → Fits silent plan b steps (learnt_step port item learnt (Relayed chosen refused))
     × IsStanding plan b (steps ++ learnt_step port item learnt (Relayed chosen refused) ∷ []) states new now newer
-relayed plan b steps states queues new now table newer ports capacity limit port vid item load learnt at chosen refused k s l r q h e c z f n =
+relayed plan b steps states queues new now table newer ports capacity limit port vid item load learnt at chosen refused k s r q h e c z f n =
     let few = k.sound.limits.ageing.0 in
     let ageing : 0 < plan.ageing = omega arith in
     let full = refusals_are plan b steps states queues now table capacity chosen refused s k.most z f.refusals in
     let fits = relayed_fits plan b steps states queues now table newer ports capacity limit port vid item learnt at chosen refused k s ageing r h e c full in
     let a = carried plan (port_at plan b port) (state_after plan b steps port) item vid r in
-    let class = class_is plan (port_at plan b port) (get_or ports (port - 1) ToNobody) item.wire load (kept_here plan b ports capacity limit port k l) q in (
+    let class = class_is plan (port_at plan b port) q.0 item.wire load q.1 q.2 in (
       fits,
       after_relayed plan b steps states queues new now table newer port item learnt chosen refused capacity load.class (copy_at ports load item)
           s fits full f n class.0 class.1
-          (λ p m. copies_are plan b ports states capacity limit port vid at item load p k l q (subst (λ (ps : List ℕ). list_any (λ q. q == p) ps ≡ true) c m))
+          (λ p m. copies_are plan b ports states capacity limit port vid at item load p k q (subst (λ (ps : List ℕ). list_any (λ q. q == p) ps ≡ true) c m))
           ageing (told plan b now port item vid table newer learnt a h),
     )
 

@@ -5,11 +5,7 @@ ghost use Rattle.std.specs.Option.{option_copied};
 ghost use Rattle.pb_lan.specs.Ports.{port_at};
 ghost use Rattle.pb_lan.specs.Queues.{waiting, next_out};
 ghost use Rattle.pb_lan.specs.BridgeLists.{IsLawfulBridge};
-ghost use Rattle.pb_lan.specs.BridgeLists.{ruling};
-ghost use Rattle.pb_lan.specs.BridgeLists.Ruling.{Refuses, Carries};
-ghost use Rattle.pb_relay.specs.Verdicts.{as_ruling};
 ghost use Rattle.pb_lan.specs.Shapes.{states_after};
-ghost use Rattle.pb_relay.specs.Standing.{HasReceived, HasTicked, unmoved};
 ghost use Rattle.pb_lan.specs.Ports.{is_used};
 ghost use Rattle.pb_lan.specs.Rules.{silent};
 
@@ -17,9 +13,7 @@ use crate::fault::BridgeFault;
 use crate::fdb::Fdb;
 use crate::ports::LocalPort;
 use crate::queues::PortQueues;
-use crate::verdict::{Verdict, rule};
-use pb_frame::Seq;
-use pb_lan::{Item, Moved, Outcome, Plan, PortState, Reason, Step};
+use pb_lan::{Item, Plan, PortState, Step};
 use std::alloc::Global;
 use std::marker::Model;
 
@@ -55,7 +49,7 @@ impl Model for Bridge {
 }
 
 /// Puts a step into the room that is there for it.
-fn append(steps: &mut Vec<Step>, step: Step)
+pub(crate) fn append(steps: &mut Vec<Step>, step: Step)
     requires { vec_len steps.old < vec_capacity steps.old }
     ensures items { steps.new.items ≡ steps.old.items ++ step ∷ [] }
 {
@@ -141,100 +135,10 @@ impl Bridge {
         item
     }
 
-    /// What is to be done with an item that comes in at a port.
-    fn rule(&self, port: u8, item: &Item) -> Verdict
-        requires { is_used (port_at self.now.plan self.now.number port) ≡ true }
-        ensures { as_ruling result ≡ ruling silent self.now.plan self.now.number self.now.steps port item.now }
-    {
-        let ports = &self.ports;
-        let place = port as usize - 1;
-        let local = &ports[place];
-        rule(local, self.states[place], item)
-    }
-
-    /// Appends a step that tells that the item goes nowhere.
-    fn refuse(&mut self, port: u8, item: Item, reason: Reason) -> Outcome
-        requires reserved { self.old.is_reserved ≡ true }
-        requires ruling { ruling silent self.old.plan self.old.number self.old.steps port item ≡ Refuses reason }
-        ensures { HasReceived self.old port item result self.new }
-    {
-        self.is_reserved = false;
-        append(
-            &mut self.steps,
-            Step::Receive {
-                port,
-                item,
-                learnt: None,
-                outcome: Outcome::Filtered(reason),
-                moved: None,
-            },
-        );
-        Outcome::Filtered(reason)
-    }
-
-    /// Appends a step that tells that there is no memory to relay the item.
-    fn give_up(&mut self, port: u8, item: Item, vid: u16) -> Outcome
-        requires reserved { self.old.is_reserved ≡ true }
-        requires ruling { ruling silent self.old.plan self.old.number self.old.steps port item ≡ Carries vid }
-        ensures { HasReceived self.old port item result self.new }
-    {
-        self.is_reserved = false;
-        append(
-            &mut self.steps,
-            Step::Receive {
-                port,
-                item,
-                learnt: None,
-                outcome: Outcome::Filtered(Reason::Memory),
-                moved: None,
-            },
-        );
-        Outcome::Filtered(Reason::Memory)
-    }
-
     /// The states of the local ports.
     pub fn shape(&self) -> [PortState; 16]
         ensures { result ≡ states_after self.now.plan self.now.number self.now.steps }
     {
         self.states
-    }
-
-    /// The clock ticks.
-    pub fn tick(&mut self) -> Result<(), BridgeFault>
-        ensures ok { OnOk result (HasTicked self.old self.new) }
-        ensures err { OnErr result (self.new ≡ self.old) }
-        ensures limit { IsErrOf result BridgeFault.StepLimit ↔ (length self.old.steps ≡ self.old.plan.steps) }
-    {
-        self.reserve_step()?;
-        self.advance();
-        Ok(())
-    }
-
-    /// Appends a tick.
-    fn advance(&mut self)
-        requires { self.old.is_reserved ≡ true }
-        ensures { HasTicked self.old self.new }
-    {
-        self.is_reserved = false;
-        self.clock += 1;
-        append(
-            &mut self.steps,
-            Step::Tick {
-                now: self.clock,
-                moved: nothing_moved(self.alloc),
-            },
-        );
-    }
-}
-
-/// No change.
-fn nothing_moved(alloc: Global) -> Moved
-    ensures { result ≡ unmoved }
-{
-    Moved {
-        states: Seq::from_vec(Vec::new(alloc)),
-        flushed: Seq::from_vec(Vec::new(alloc)),
-        queued: Seq::from_vec(Vec::new(alloc)),
-        dropped: Seq::from_vec(Vec::new(alloc)),
     }
 }
