@@ -31,7 +31,8 @@ use Rattle.pb_lan.specs.declared.step.Step.TheVariants.{Transmit, Tick}
 use Rattle.pb_lan.specs.Queues.{capacity_of}
 use Rattle.pb_relay.specs.Classes.{by_class, after_first, first_out, number_in, or_else}
 use Rattle.pb_lan.specs.Ports.{is_used}
-use Rattle.pb_relay.specs.Standing.{IsStanding, AreClassed, unmoved}
+use Rattle.pb_relay.specs.Standing.{IsStanding, AreClassed}
+use Rattle.pb_relay.specs.Changes.{unmoved}
 use Rattle.pb_lan.specs.Rules.{silent}
 use Rattle.pb_relay.proofs.WaitingLemmas.{next_by_class, rest_by_class, number_by_class, without-below}
 use Rattle.pb_relay.proofs.StepLemmas.{lawful_more, states_stay, states_unmoved, now_more, news_stay, news_more}

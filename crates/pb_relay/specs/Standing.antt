@@ -56,12 +56,3 @@ HasReceived old port item outcome new =
     (learnt : Option Learnt) × (moved : Option Moved)
     × (new ≡ with_step old (Receive port item learnt outcome moved))
     × Fits silent old.plan old.number old.steps (Receive port item learnt outcome moved)
-
-abbrev pub unmoved : Moved
-unmoved = record { states = []; flushed = []; queued = []; dropped = [] }
-
--- the bridge has appended one tick, which moved nothing
-abbrev pub HasTicked : BridgeView → BridgeView → Type 0
-HasTicked old new =
-    (new ≡ with_step old (Tick (now_after old.steps + 1) unmoved))
-    × Fits silent old.plan old.number old.steps (Tick (now_after old.steps + 1) unmoved)

@@ -1,6 +1,6 @@
 //! What a bridge does with a frame that comes in at a port (IEEE 802.1Q clause 8).
 
-ghost use Rattle.std.specs.Prelude.{◌≡◌, ◌≤◌, ◌<◌, ◌↔◌, length, true, slice_index_or, IfOk, IfErr, OnErr, IsErrOf, if◌then◌else◌, None};
+ghost use Rattle.std.specs.Prelude.{ℕ, ◌≡◌, ◌≤◌, ◌<◌, ◌↔◌, length, true, slice_index_or, IfOk, IfErr, OnErr, IsErrOf, if◌then◌else◌, None};
 ghost use Rattle.pb_frame.specs.Frames.{src_of, dst_of, is_group};
 ghost use Rattle.pb_lan.specs.Ports.{port_at, is_used};
 ghost use Rattle.pb_lan.specs.Rules.{silent};
@@ -47,7 +47,7 @@ impl Bridge {
     }
 
     /// What is to be done with an item that comes in at a port.
-    pub(crate) fn rule(&self, port: u8, item: &Item) -> Verdict
+    fn rule(&self, port: u8, item: &Item) -> Verdict
         requires { is_used (port_at self.now.plan self.now.number port) ≡ true }
         ensures { as_ruling result ≡ ruling silent self.now.plan self.now.number self.now.steps port item.now }
     {
@@ -58,7 +58,7 @@ impl Bridge {
     }
 
     /// Appends a step that tells that the item goes nowhere.
-    pub(crate) fn refuse(&mut self, port: u8, item: Item, reason: Reason) -> Outcome
+    fn refuse(&mut self, port: u8, item: Item, reason: Reason) -> Outcome
         requires reserved { self.old.is_reserved ≡ true }
         requires ruling { ruling silent self.old.plan self.old.number self.old.steps port item ≡ Refuses reason }
         ensures { HasReceived self.old port item result self.new }
@@ -78,9 +78,9 @@ impl Bridge {
     }
 
     /// Appends a step that tells that there is no memory to relay the item.
-    pub(crate) fn give_up(&mut self, port: u8, item: Item, vid: u16) -> Outcome
+    fn give_up(&mut self, port: u8, item: Item) -> Outcome
         requires reserved { self.old.is_reserved ≡ true }
-        requires ruling { ruling silent self.old.plan self.old.number self.old.steps port item ≡ Carries vid }
+        requires ruling { (vid : ℕ) × (ruling silent self.old.plan self.old.number self.old.steps port item ≡ Carries vid) }
         ensures { HasReceived self.old port item result self.new }
     {
         self.is_reserved = false;
@@ -131,10 +131,10 @@ impl Bridge {
         let ports = &self.ports;
         let local = &ports[port as usize - 1];
         let Ok(load) = Load::new(self.alloc, local, &item.wire) else {
-            return self.give_up(port, item, vid);
+            return self.give_up(port, item);
         };
         let Ok(room) = Room::new(self.alloc) else {
-            return self.give_up(port, item, vid);
+            return self.give_up(port, item);
         };
         self.carry(port, item, vid, load, room)
     }
