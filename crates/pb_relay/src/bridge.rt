@@ -1,13 +1,14 @@
-//! The bridge.
+//! A bridge, its list of steps and its queues.
 
-ghost use Rattle.std.specs.Prelude.{◌≡◌, ◌<◌, ◌≤◌, ◌+◌, ◌++◌, ◌∷◌, [], ◌↔◌, vec_len, vec_capacity, length, Some, true, false, IsSome, OnOk, OnErr, IsErrOf};
+ghost use Rattle.std.specs.Prelude.{◌≡◌, ◌<◌, ◌++◌, ◌∷◌, [], ◌↔◌, vec_len, vec_capacity, length, true, OnOk, OnErr, IsErrOf};
 ghost use Rattle.std.specs.Option.{option_copied};
-ghost use Rattle.pb_lan.specs.Ports.{port_at};
+ghost use Rattle.pb_lan.specs.BridgeLists.{IsLawfulBridge, Fits};
+ghost use Rattle.pb_lan.specs.Ports.{port_at, is_used};
 ghost use Rattle.pb_lan.specs.Queues.{waiting, next_out};
-ghost use Rattle.pb_lan.specs.BridgeLists.{IsLawfulBridge};
-ghost use Rattle.pb_lan.specs.Shapes.{states_after};
-ghost use Rattle.pb_lan.specs.Ports.{is_used};
 ghost use Rattle.pb_lan.specs.Rules.{silent};
+ghost use Rattle.pb_lan.specs.Shapes.{states_after};
+ghost use Rattle.pb_lan.specs.declared.step.Step.TheVariants.{Transmit};
+ghost use Rattle.pb_relay.specs.Standing.{with_step};
 
 use crate::fault::BridgeFault;
 use crate::fdb::Fdb;
@@ -17,20 +18,34 @@ use pb_lan::{Item, Plan, PortState, Step};
 use std::alloc::Global;
 use std::marker::Model;
 
-/// A bridge of a plan.
+/// A bridge of a sound plan that gives the states of its ports itself.
+///
+/// Contracts see the plan, the bridge's number there, the list of its steps, and whether there is
+/// room for one more step. The list is always lawful. All else that is kept, the states, the queues
+/// and the learning table, follows from it.
 #[derive(Drop)]
 pub struct Bridge {
     pub(crate) alloc: Global,
+    /// The whole plan, by which contracts tell what the bridge does.
     pub(crate) plan: Plan,
+    /// The bridge's number in the plan, from 1.
     pub(crate) number: u8,
+    /// What the plan has at the local ports 1 to 16.
     pub(crate) ports: Vec<LocalPort>,
+    /// The states of the local ports.
     pub(crate) states: [PortState; 16],
+    /// What waits at the local ports.
     pub(crate) queues: Vec<PortQueues>,
+    /// The most items that wait at a port.
     pub(crate) capacity: usize,
+    /// The most steps.
     pub(crate) limit: usize,
+    /// Where stations were seen.
     pub(crate) table: Fdb,
+    /// The number of ticks.
     pub(crate) clock: u32,
     pub(crate) steps: Vec<Step>,
+    /// There is room for one more step.
     pub(crate) is_reserved: bool,
 }
 
@@ -65,6 +80,7 @@ impl Bridge {
         self.steps.as_slice()
     }
 
+    /// The steps, and no bridge any more.
     pub fn into_steps(self) -> Vec<Step>
         ensures steps { result.items ≡ self.steps }
         ensures lawful { IsLawfulBridge silent self.plan self.number self.steps }
@@ -86,7 +102,10 @@ impl Bridge {
         steps
     }
 
-    /// Makes room for one step.
+    /// Makes room for one step, so that `pop_out` needs no memory.
+    ///
+    /// `StepLimit` is answered exactly where the list holds the plan's number of steps, `Memory`
+    /// where there is none for one more. Then nothing has changed.
     pub fn reserve_step(&mut self) -> Result<(), BridgeFault>
         ensures ok { OnOk result (self.new ≡ record self.old { is_reserved = true }) }
         ensures err { OnErr result (self.new ≡ self.old) }
@@ -100,7 +119,7 @@ impl Bridge {
         Ok(())
     }
 
-    /// The number of items that wait at a port.
+    /// The number of items that wait at a port, in all traffic classes.
     pub fn waiting(&self, port: u8) -> u16
         requires { is_used (port_at self.now.plan self.now.number port) ≡ true }
         ensures { result ≡ length (waiting self.now.plan self.now.number port self.now.steps) }
@@ -108,7 +127,8 @@ impl Bridge {
         self.queues[port as usize - 1].len() as u16
     }
 
-    /// The item that leaves a port next.
+    /// The item that leaves a port next: the oldest of the highest class (IEEE 802.1Q clause 8,
+    /// strict priority).
     pub fn peek_out(&self, port: u8) -> Option<&Item>
         requires { is_used (port_at self.now.plan self.now.number port) ≡ true }
         ensures { option_copied result ≡ next_out (waiting self.now.plan self.now.number port self.now.steps) }
@@ -117,13 +137,14 @@ impl Bridge {
         queues.first()
     }
 
-    /// Sends the item that leaves a port next.
+    /// Takes the item that leaves a port next, and appends the Transmit step that tells of it. Takes
+    /// no memory.
     pub fn pop_out(&mut self, port: u8) -> Item
         requires used { is_used (port_at self.old.plan self.old.number port) ≡ true }
         requires reserved { self.old.is_reserved ≡ true }
         requires some { 0 < length (waiting self.old.plan self.old.number port self.old.steps) }
-        ensures next { next_out (waiting self.old.plan self.old.number port self.old.steps) ≡ Some result }
-        ensures step { self.new ≡ record self.old { steps = self.old.steps ++ Step.Transmit port result ∷ []; is_reserved = false } }
+        ensures step { self.new ≡ with_step self.old (Transmit port result) }
+        ensures fits { Fits silent self.old.plan self.old.number self.old.steps (Transmit port result) }
     {
         let queues = &mut self.queues[port as usize - 1];
         let Some(twin) = queues.pop() else {
@@ -135,7 +156,7 @@ impl Bridge {
         item
     }
 
-    /// The states of the local ports.
+    /// The states of the local ports 1 to 16.
     pub fn shape(&self) -> [PortState; 16]
         ensures { result ≡ states_after self.now.plan self.now.number self.now.steps }
     {
