@@ -1,6 +1,5 @@
 -- What the rulings leave of a received frame, and what a sound plan says of its port.
-use Rattle.std.proofs.Common.{◌≡◌, ◌≢◌, ℕ, ◌+◌, ◌<◌, ◌≤◌, Bool, true, false, cond, not, nat_lt, ◌==◌, List, [], ◌∷◌, Some, None, length, refl, sym, ap, ◌∙◌, subst, arith, eq-eqb}
-use Rattle.std.proofs.lemmas.Bool.Decides.{nat_tests}
+use Rattle.std.proofs.Common.{◌≡◌, ◌≢◌, ℕ, ◌≤◌, Bool, true, false, cond, nat_lt, ◌==◌, List, [], ◌∷◌, Some, None, length, refl, arith, eq-eqb}
 use Rattle.std.specs.List.{AllByRecursion}
 use Rattle.pb_frame.proofs.Lists.{first-found}
 use Rattle.pb_frame.specs.Lists.{first}
@@ -13,10 +12,8 @@ use Rattle.pb_lan.specs.Queues.{vid_in}
 use Rattle.pb_lan.specs.Rules.{silent}
 use Rattle.pb_lan.specs.Shapes.{is_forwarding, state_by}
 use Rattle.pb_lan.specs.BridgeLists.{Ruling, first_case, customer_cases, ruling_in, ruling_by}
-use Rattle.pb_lan.specs.BridgeLists.Ruling.{Refuses, Listens, LearnsOnly, Carries, Closed}
+use Rattle.pb_lan.specs.BridgeLists.Ruling.{Refuses, Listens, LearnsOnly, Carries}
 use Rattle.pb_lan.specs.declared.plan.Plan.{Plan}
-use Rattle.pb_lan.specs.declared.plan.End.{End}
-use Rattle.pb_lan.specs.declared.plan.CustomerPlan.{CustomerPlan}
 use Rattle.pb_lan.specs.declared.shape.PortState.{PortState}
 use Rattle.pb_lan.specs.declared.shape.PortState.TheVariants.{Discarding, Learning, Forwarding}
 use Rattle.pb_lan.specs.declared.step.Item.{Item}
@@ -75,7 +72,7 @@ from_bridge : (services : ℕ → Bool) (item : Item) (rest target : Ruling) →
     → first_case (bridge_cases services item) rest ≡ target → (18 ≤ length item.wire) × (item.hops ≢ 4294967295) × (rest ≡ target)
 from_bridge services item rest target never unheard h =
     let a = past (bridge_cases services item) rest target
-        (never _, (never _, (never _, (unheard, (never _, (never _, (never _, (never _, (never _, (never _, tt)))))))))) h in
+    (never _, (never _, (never _, (unheard, (never _, (never _, (never _, (never _, (never _, (never _, tt)))))))))) h in
     (at-least 18 (length item.wire) a.0.1.1.1.1.1.1.1.0, unworn item.hops a.0.1.1.1.1.1.1.1.1.1.0, a.1)
 
 carries_in : (s : PortState) (w v : ℕ) → ruling_in s w ≡ Carries v → (w ≡ v) × (is_forwarding s ≡ true)

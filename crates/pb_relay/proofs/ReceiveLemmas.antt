@@ -1,10 +1,10 @@
 -- A frame that is relayed, and a frame whose source alone is learnt.
-use Rattle.std.proofs.Common.{inl, inr, ◌≡◌, ℕ, ◌+◌, ◌-◌, ◌<◌, ◌≤◌, Bool, true, false, cond, not, ◌&&◌, ◌==◌, Some, None, List, [], ◌∷◌, ◌++◌, length, get_or, refl, sym, ap, ◌∙◌, subst, arith}
+use Rattle.std.proofs.Common.{inr, ◌≡◌, ℕ, ◌+◌, ◌-◌, ◌<◌, ◌≤◌, true, cond, ◌==◌, Some, None, List, [], ◌∷◌, ◌++◌, length, get_or, refl, sym, ap, ◌∙◌, subst, arith}
 use Rattle.std.specs.List.{AllByRecursion, filter, list_any}
 use Rattle.std.specs.Option.{option_map}
 use Rattle.std.specs.declared.option.Option.{Option}
 use Rattle.std.proofs.lemmas.Bool.{eqb-true}
-use Rattle.pb_frame.proofs.Lists.{All-filter, All-imply, list_any-found, and-left, and-right}
+use Rattle.pb_frame.proofs.Lists.{All-filter, list_any-found, and-left, and-right}
 use Rattle.pb_frame.specs.Frames.{dst_of, src_of, is_group}
 use Rattle.pb_frame.specs.Lists.{first}
 use Rattle.pb_frame.specs.Stations.{Sighting, standing, is_sighted}
@@ -15,14 +15,13 @@ use Rattle.pb_lan.specs.Ports.Port.{Customer, Provider, Unused}
 use Rattle.pb_lan.specs.Queues.{is_full, vid_in, copy_of, class_of, priority_in, wire_out}
 use Rattle.pb_lan.specs.Rules.{silent}
 use Rattle.pb_lan.specs.Shapes.{state_after, changes_of, is_forwarding}
-use Rattle.pb_lan.specs.Choice.{now_after, news_of, found, chosen_ports, Learns}
+use Rattle.pb_lan.specs.Choice.{now_after, news_of, found}
 use Rattle.pb_lan.specs.BridgeLists.{ruling, Ruling, Follows, Fits, AreRefused}
 use Rattle.pb_lan.specs.BridgeLists.Ruling.{Carries, LearnsOnly}
 use Rattle.pb_lan.specs.declared.plan.Plan.{Plan}
 use Rattle.pb_lan.specs.declared.plan.CustomerPlan.{CustomerPlan}
 use Rattle.pb_lan.specs.declared.plan.End.{End}
 use Rattle.pb_lan.specs.declared.shape.PortState.{PortState}
-use Rattle.pb_lan.specs.declared.shape.PortState.TheVariants.{Discarding}
 use Rattle.pb_lan.specs.declared.step.Item.{Item}
 use Rattle.pb_lan.specs.declared.step.NoRoom.{NoRoom}
 use Rattle.pb_lan.specs.declared.step.Outcome.{Outcome}
@@ -34,10 +33,10 @@ use Rattle.pb_relay.specs.declared.load.Load.{Load}
 use Rattle.pb_relay.specs.declared.ports.LocalPort.{LocalPort}
 use Rattle.pb_relay.specs.declared.ports.LocalPort.TheVariants.{ToCustomer, ToBridge, ToNobody}
 use Rattle.pb_relay.specs.Copies.{AreCopied, AreSeparate, copy_at, is_to_customer}
-use Rattle.pb_relay.specs.Loads.{IsLoad, IsLoadedAt, is_choice, is_member_of, is_wanted}
+use Rattle.pb_relay.specs.Loads.{IsLoad, IsLoadedAt, is_choice, is_member_of}
 use Rattle.pb_relay.specs.LocalPorts.{IsKept, IsConfigured}
 use Rattle.pb_relay.specs.Standing.{IsStanding}
-use Rattle.pb_relay.specs.Tables.{HasLearnt, live, where_in}
+use Rattle.pb_relay.specs.Tables.{HasLearnt, where_in}
 use Rattle.pb_relay.proofs.ChosenLemmas.{chosen_ports_are, all_up}
 use Rattle.pb_relay.proofs.EntryLemmas.{IsAdmitted, carried, forwards, overheard}
 use Rattle.pb_relay.proofs.FoundLemmas.{learns_is}
@@ -175,7 +174,7 @@ copies_are : (plan : Plan) (b : ℕ) (ports : List LocalPort) (states : List Por
     → copy_at ports load item p ≡ copy_of plan (port_at plan b port) (port_at plan b p) item
 copies_are plan b ports states capacity limit port vid at item load p k h c =
     let f = list_any-found (λ q. IsPlace q × (is_choice ports states port vid at q ≡ true)) (λ q. q == p) (filter (is_choice ports states port vid at) local_ports) c
-        (All-filter IsPlace (is_choice ports states port vid at) local_ports places) in
+    (All-filter IsPlace (is_choice ports states port vid at) local_ports places) in
     let known : IsPlace p × (is_choice ports states port vid at p ≡ true) = subst (λ (q : ℕ). IsPlace q × (is_choice ports states port vid at q ≡ true)) (eqb-true f.0 p f.2) f.1 in
     ap (λ wire. record { mark = item.mark; hops = item.hops + 1; wire = wire })
     (brings plan (port_at plan b port) h.0 item.wire load (port_at plan b p) (get_or ports (p - 1) ToNobody) vid

@@ -190,6 +190,7 @@ refusals_are plan b steps states queues now table capacity chosen refused s c a 
         ap (λ q. nat_le capacity (number_in q)) (kept_at plan b steps states queues now table p s l)
         ∙ ap (nat_le capacity) (number_by_class (waiting plan b p steps) (s.classes p))
         ∙ ap (λ n. nat_le n (length (waiting plan b p steps))) c
+
     each : (ps : List ℕ) → AreSeparate ps → AllByRecursion (λ p. nat_le capacity (number_in (get_or queues (p - 1) [])) ≡ is_full plan b steps p) ps
     each [] z = tt
     each (p ∷ ps) z = (one-port p z.0, each ps z.2)

@@ -1,12 +1,12 @@
 -- A port that is set up or down.
-use Rattle.std.proofs.Common.{if◌then◌else◌, ◌≡◌, ◌≢◌, ℕ, suc, ◌+◌, ◌-◌, ◌<◌, ◌≤◌, Bool, true, false, cond, not, ◌&&◌, ◌==◌, List, [], ◌∷◌, ◌++◌, map, length, get_or, set, refl, sym, ap, ◌∙◌, subst, arith, append-nil, eq-eqb}
+use Rattle.std.proofs.Common.{if◌then◌else◌, ◌≡◌, ◌≢◌, ℕ, ◌+◌, ◌-◌, ◌≤◌, Bool, true, false, cond, not, ◌==◌, List, [], ◌∷◌, ◌++◌, map, length, set, refl, sym, ap, ◌∙◌, subst, arith, append-nil, eq-eqb}
 use Rattle.std.proofs.lemmas.Bool.{eqb-true}
 use Rattle.std.specs.List.{filter, flat_map}
 use Rattle.pb_frame.proofs.StationLaws.{table_tells_what_stands}
 use Rattle.pb_frame.specs.Stations.{Sighting, News, is_fresh, standing, after, after_all}
 use Rattle.pb_frame.specs.Stations.News.{Flushed}
 use Rattle.pb_lan.proofs.SentWasQueued.{waiting_from-append}
-use Rattle.pb_lan.specs.Ports.{Port, port_at, is_provider, is_used, local_ports}
+use Rattle.pb_lan.specs.Ports.{Port, port_at, is_provider, is_used}
 use Rattle.pb_lan.specs.Ports.Port.{Customer, Provider, Unused}
 use Rattle.pb_lan.specs.Queues.{Waiting, waiting, capacity_of, is_full, is_refused}
 use Rattle.pb_lan.specs.Rules.{silent, is_same, from_to, planned_change, change_by, change_of, Change}
@@ -32,7 +32,7 @@ use Rattle.pb_relay.specs.Standing.{IsStanding, AreClassed}
 use Rattle.pb_relay.proofs.RelayLemmas.{after_all-append}
 use Rattle.pb_relay.proofs.StepLemmas.{lawful_more, changes_more, now_more, news_more}
 use Rattle.pb_relay.proofs.TableLemmas.{filter-swap}
-use Rattle.pb_relay.proofs.WaitingLemmas.{at_one, count_up}
+use Rattle.pb_relay.proofs.WaitingLemmas.{at_one}
 
 -- the state to which a port is set
 abbrev pub goal_of : Plan → ℕ → ℕ → Bool → PortState

@@ -128,9 +128,9 @@ eqb-symm a b =
     elim (a == b) as (λ t. (a == b) ≡ t → t ≡ (b == a)) [
       | true ↦ λ e. sym (eq-eqb b a (sym (eqb-true a b e)))
       | false ↦ λ e. elim (b == a) as (λ u. (b == a) ≡ u → false ≡ u) [
-          | true ↦ λ f. sym e ∙ eq-eqb a b (sym (eqb-true b a f))
-          | false ↦ λ f. refl
-        ] refl
+        | true ↦ λ f. sym e ∙ eq-eqb a b (sym (eqb-true b a f))
+        | false ↦ λ f. refl
+      ] refl
     ] refl
 
 same-symm : (a b : List ℕ) → same a b ≡ same b a

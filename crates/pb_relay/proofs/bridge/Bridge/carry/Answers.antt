@@ -1,4 +1,4 @@
-use Rattle.std.proofs.Common.{◌≡◌, ◌≢◌, ◌≤◌, ◌∷◌, ◌++◌, [], Some, None, true, false, cond, List, ℕ, length, length-append, arith, ap, sym, subst, ◌∙◌}
+use Rattle.std.proofs.Common.{◌≡◌, ◌≤◌, ◌∷◌, ◌++◌, [], Some, None, true, false, cond, List, ℕ, length, length-append, arith, ap, sym, subst, ◌∙◌}
 use Rattle.std.specs.List.{filter}
 use Rattle.pb_frame.specs.Frames.{src_of, dst_of, is_group}
 use Rattle.pb_lan.specs.Ports.{port_at, local_ports}
@@ -11,7 +11,7 @@ use Rattle.pb_lan.specs.declared.step.Outcome.TheVariants.{Relayed}
 use Rattle.pb_lan.specs.declared.step.Step.{Step}
 use Rattle.pb_lan.specs.declared.step.Step.TheVariants.{Receive}
 use Rattle.pb_relay.specs.declared.ports.LocalPort.{LocalPort}
-use Rattle.pb_relay.specs.Copies.{AreCopied, AreSeparate, copy_at}
+use Rattle.pb_relay.specs.Copies.{AreCopied, copy_at}
 use Rattle.pb_relay.specs.Loads.{IsLoadedAt, is_choice}
 use Rattle.pb_relay.specs.Standing.{BridgeView, IsStanding, with_step}
 use Rattle.pb_relay.specs.Tables.{HasLearnt, where_in}

@@ -1,4 +1,4 @@
-use Rattle.std.proofs.Common.{◌≡◌, ◌≤◌, ◌∷◌, ◌++◌, [], Some, None, true, false, List, ℕ, length, length-append, arith, ap, sym, subst, ◌∙◌}
+use Rattle.std.proofs.Common.{◌≡◌, ◌∷◌, ◌++◌, [], Some, None, true, false, List, ℕ, length, length-append, arith, ap, sym, subst, ◌∙◌}
 use Rattle.pb_frame.specs.Frames.{src_of}
 use Rattle.pb_lan.specs.Rules.{silent}
 use Rattle.pb_lan.specs.BridgeLists.{ruling, Fits}

@@ -1,13 +1,12 @@
-use Rattle.std.proofs.Common.{List, ◌-◌, ◌≡◌, ℕ, true, get_or, arith, sym, ap, subst, ◌∙◌, IfOk}
-use Rattle.std.proofs.lemmas.List.{get_or_read}
-use Rattle.pb_lan.specs.Ports.{port_at, is_provider, is_used}
+use Rattle.std.proofs.Common.{List, ◌-◌, ◌≡◌, true, get_or, arith, sym, ap, subst, ◌∙◌, IfOk}
+use Rattle.pb_lan.specs.Ports.{port_at, is_provider}
 use Rattle.pb_lan.specs.Shapes.{state_after}
 use Rattle.pb_lan.specs.declared.shape.PortState.{PortState}
 use Rattle.pb_lan.specs.declared.shape.PortState.TheVariants.{Discarding}
 use Rattle.pb_lan.specs.declared.step.Moved.{Moved}
-use Rattle.pb_relay.specs.Changes.{moved_to, moved_by_setting, state_set}
+use Rattle.pb_relay.specs.Changes.{moved_to, moved_by_setting}
 use Rattle.pb_relay.specs.Standing.{BridgeView}
-use Rattle.pb_relay.proofs.SettingLemmas.{provider_used, state_set_is, moved_is, goal_of}
+use Rattle.pb_relay.proofs.SettingLemmas.{provider_used, state_set_is, moved_is}
 use Rattle.pb_relay.proofs.StandingLemmas.{used_port}
 use Rattle.pb_relay.proofs.VerdictLemmas.{at_port, kept_port}
 use Rattle.pb_relay.proofs.bridge.Bridge.moved_by_setting.Goals as goal
@@ -35,7 +34,7 @@ returns c =
     let l = used_port _ _ _ c.self.invariant.0.sound (provider_used _ p) in
     let k = kept_port c.self.inside.plan _ _ _ _ c.args.port c.index.result.now c.self.invariant.0 l c.index.ensures in
     let e : moved_to c.args.port c.args.up (get_or c.self.inside.states (c.args.port - 1) Discarding) c.state_set-next.result
-        ≡ moved_by_setting c.args.self.now.plan c.args.self.now.number c.args.self.now.steps c.args.port c.args.up =
+    ≡ moved_by_setting c.args.self.now.plan c.args.self.now.number c.args.self.now.steps c.args.port c.args.up =
     ap (λ (z : PortState). moved_to c.args.port c.args.up z c.state_set-next.result)
     (ap (λ (ss : List PortState). get_or ss (c.args.port - 1) Discarding) c.self.invariant.1.kept_states
     ∙ at_port (state_after c.self.inside.plan c.self.inside.number c.self.inside.steps.items) c.args.port Discarding l.0 l.1)

@@ -3,7 +3,6 @@ use Rattle.pb_lan.specs.Ports.{port_at, is_used}
 use Rattle.pb_lan.specs.Rules.{silent}
 use Rattle.pb_lan.specs.BridgeLists.{ruling}
 use Rattle.pb_lan.specs.BridgeLists.Ruling.{Carries}
-use Rattle.pb_lan.specs.declared.plan.Plan.{Plan}
 use Rattle.pb_relay.specs.Loads.{IsLoadedAt}
 use Rattle.pb_relay.specs.Standing.{BridgeView}
 use Rattle.pb_relay.proofs.EntryLemmas.{loadable, sound_port}

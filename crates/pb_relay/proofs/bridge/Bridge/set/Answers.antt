@@ -1,6 +1,5 @@
-use Rattle.std.proofs.Common.{◌-◌, ◌≡◌, ◌≤◌, ◌∷◌, ◌++◌, [], true, List, ℕ, length, length-append, cond, set, arith, ap, sym, subst, ◌∙◌}
-use Rattle.pb_frame.specs.Stations.{Sighting, after}
-use Rattle.pb_frame.specs.Stations.News.{Flushed}
+use Rattle.std.proofs.Common.{◌-◌, ◌≡◌, ◌∷◌, ◌++◌, [], true, List, length, length-append, set, arith, ap, sym, subst, ◌∙◌}
+use Rattle.pb_frame.specs.Stations.{Sighting}
 use Rattle.pb_lan.specs.Ports.{port_at, is_provider}
 use Rattle.pb_lan.specs.declared.step.Moved.{Moved}
 use Rattle.pb_lan.specs.declared.step.Step.{Step}
