@@ -5,19 +5,21 @@ use Rattle.std.proofs.lemmas.Bool.Decides.{nat_tests}
 use Rattle.std.specs.List.{AllByRecursion, filter, list_any}
 use Rattle.std.specs.declared.option.Option.{Option}
 use Rattle.pb_frame.proofs.StationLaws.{table_tells_what_stands}
+use Rattle.pb_frame.specs.Frames.{src_of}
 use Rattle.pb_frame.specs.Stations.{Sighting, News, is_fresh, standing, after, after_all}
 use Rattle.pb_frame.specs.Stations.News.{Seen}
 use Rattle.pb_frame.specs.declared.learnt.Learnt.{Learnt}
 use Rattle.pb_frame.proofs.Lists.{All-append}
 use Rattle.pb_lan.proofs.SentWasQueued.{waiting_from-append}
 use Rattle.pb_lan.specs.Ports.{port_at}
-use Rattle.pb_lan.specs.Queues.{Waiting, waiting, copies, copy_of, class_of, priority_in, is_refused, is_full}
+use Rattle.pb_lan.specs.Queues.{Waiting, waiting, copies, copy_of, class_of, priority_in, vid_in, is_refused, is_full}
 use Rattle.pb_lan.specs.Choice.{now_after, news_of, is_noted, sighting}
 use Rattle.pb_lan.specs.BridgeLists.{AreRefused, is_named_full, Fits}
 use Rattle.pb_lan.specs.declared.plan.Plan.{Plan}
 use Rattle.pb_lan.specs.declared.shape.PortState.{PortState}
 use Rattle.pb_lan.specs.declared.step.Item.{Item}
 use Rattle.pb_lan.specs.declared.step.NoRoom.{NoRoom}
+use Rattle.pb_lan.specs.declared.step.Outcome.{Outcome}
 use Rattle.pb_lan.specs.declared.step.Outcome.TheVariants.{Relayed}
 use Rattle.pb_lan.specs.declared.step.Step.{Step}
 use Rattle.pb_lan.specs.declared.step.Step.TheVariants.{Receive}
@@ -27,7 +29,7 @@ use Rattle.pb_relay.proofs.StandingLemmas.{kept_at}
 use Rattle.pb_relay.specs.Copies.{AreSeparate, AreCopied, with_copy}
 use Rattle.pb_relay.specs.Standing.{IsStanding, AreClassed}
 use Rattle.pb_lan.specs.Rules.{silent}
-use Rattle.pb_relay.specs.Tables.{live, seen_anew}
+use Rattle.pb_relay.specs.Tables.{live, seen_anew, HasLearnt}
 use Rattle.pb_relay.proofs.CopyLemmas.{none_full}
 use Rattle.pb_relay.proofs.TableLemmas.{filter-twice, fresh_now, live_after, after_seen}
 use Rattle.pb_relay.proofs.WaitingLemmas.{by_class-push, number_by_class}
@@ -62,7 +64,7 @@ standing-filter : (ageing now : ℕ) (news : List News) → live ageing now (sta
 standing-filter ageing now news =
     ap (filter (is_fresh ageing now)) (sym (table_tells_what_stands ageing now news)) ∙ filter-twice (is_fresh ageing now) (after_all [] news) ∙ table_tells_what_stands ageing now news
 
-after_all-append : (table : List Sighting) (news : List News) (n : News) → after_all table (news ++ n ∷ []) ≡ after (after_all table news) n
+pub after_all-append : (table : List Sighting) (news : List News) (n : News) → after_all table (news ++ n ∷ []) ≡ after (after_all table news) n
 after_all-append table [] n = refl
 after_all-append table (m ∷ news) n = after_all-append (after table m) news n
 
@@ -102,11 +104,11 @@ and-true true false h = (refl, refl)
 and-true false c h = cc
 
 -- what stands after a step that learns or doesn't
-standing_learnt : (plan : Plan) (b now port : ℕ) (steps : List Step) (item : Item) (learnt : Learnt) (chosen : List ℕ) (refused : List (ℕ × NoRoom)) → 0 < plan.ageing → now ≡ now_after steps
-    → standing plan.ageing now (news_of plan b (steps ++ Receive port item (Some learnt) (Relayed chosen refused) None ∷ []))
+standing_learnt : (plan : Plan) (b now port : ℕ) (steps : List Step) (item : Item) (learnt : Learnt) (outcome : Outcome) → 0 < plan.ageing → now ≡ now_after steps
+    → standing plan.ageing now (news_of plan b (steps ++ Receive port item (Some learnt) outcome None ∷ []))
     ≡ cond (is_noted (Some learnt)) (seen_anew (sighting plan b now port item.wire) (standing plan.ageing now (news_of plan b steps))) (standing plan.ageing now (news_of plan b steps))
-standing_learnt plan b now port steps item learnt chosen refused h c =
-    ap (standing plan.ageing now) (news_more plan b steps (Receive port item (Some learnt) (Relayed chosen refused) None))
+standing_learnt plan b now port steps item learnt outcome h c =
+    ap (standing plan.ageing now) (news_more plan b steps (Receive port item (Some learnt) outcome None))
     ∙ ap (λ n. standing plan.ageing now (news_of plan b steps ++ (cond (is_noted (Some learnt)) (Seen (sighting plan b n port item.wire) ∷ []) [] ++ []))) (sym c)
     ∙ by-word (is_noted (Some learnt))
   where
@@ -114,6 +116,16 @@ standing_learnt plan b now port steps item learnt chosen refused h c =
         ≡ cond t (seen_anew (sighting plan b now port item.wire) (standing plan.ageing now (news_of plan b steps))) (standing plan.ageing now (news_of plan b steps))
     by-word true = standing_seen plan.ageing now (news_of plan b steps) (sighting plan b now port item.wire) (fresh_now plan.ageing now (sighting plan b now port item.wire).vid port (sighting plan b now port item.wire).mac h)
     by-word false = ap (standing plan.ageing now) (append-nil (news_of plan b steps))
+
+-- once a station is seen, the table tells what stands
+pub newer_stands : (plan : Plan) (b : ℕ) (steps : List Step) (states : List PortState) (queues : List (List (List Item))) (now : ℕ) (table newer : List Sighting) (port : ℕ) (item : Item)
+    (learnt : Learnt) (outcome : Outcome)
+    → 0 < plan.ageing → IsStanding plan b steps states queues now table
+    → HasLearnt plan.ageing now (vid_in plan (port_at plan b port) item.wire) port (src_of item.wire) table learnt newer
+    → live plan.ageing now newer ≡ standing plan.ageing now (news_of plan b (steps ++ Receive port item (Some learnt) outcome None ∷ []))
+newer_stands plan b steps states queues now table newer port item learnt outcome ageing s h =
+    h.table ∙ ap (λ t. cond (is_noted (Some learnt)) (seen_anew (sighting plan b now port item.wire) t) t) s.stations
+    ∙ sym (standing_learnt plan b now port steps item learnt outcome ageing s.clock)
 
 abbrev one : ℕ → Item → List Waiting
 one class item = record { class = class; item = item } ∷ []
@@ -132,7 +144,7 @@ pub after_relayed : (plan : Plan) (b : ℕ) (steps : List Step) (states : List P
     → class ≡ class_of (priority_in (port_at plan b port) item.wire) → class < 8
     → ((p : ℕ) → list_any (λ q. q == p) chosen ≡ true → item_at p ≡ copy_of plan (port_at plan b port) (port_at plan b p) item)
     → 0 < plan.ageing
-    → live plan.ageing now newer ≡ cond (is_noted (Some learnt)) (seen_anew (sighting plan b now port item.wire) (live plan.ageing now table)) (live plan.ageing now table)
+    → HasLearnt plan.ageing now (vid_in plan (port_at plan b port) item.wire) port (src_of item.wire) table learnt newer
     → IsStanding plan b (steps ++ Receive port item (Some learnt) (Relayed chosen refused) None ∷ []) states new now newer
 after_relayed plan b steps states queues new now table newer port item learnt chosen refused capacity class item_at s fits full copied count same small at ageing learns = record {
   lawful = lawful_more silent plan b steps (Receive port item (Some learnt) (Relayed chosen refused) None) s.lawful fits;
@@ -143,8 +155,7 @@ after_relayed plan b steps states queues new now table newer port item learnt ch
   within = λ r. subst (λ (ws : List Waiting). length ws ≤ capacity_of plan b) (sym (waits r))
       (fewer_relayed (list_any (λ p. p == r) chosen && not (is_refused refused r)) (record { class = class; item = item_at r }) (waiting plan b r steps) (capacity_of plan b) (s.within r) (room r));
   clock = s.clock ∙ sym (now_more steps (Receive port item (Some learnt) (Relayed chosen refused) None) ∙ plus-zero (now_after steps));
-  stations = learns ∙ ap (λ t. cond (is_noted (Some learnt)) (seen_anew (sighting plan b now port item.wire) t) t) s.stations
-      ∙ sym (standing_learnt plan b now port steps item learnt chosen refused ageing s.clock);
+  stations = newer_stands plan b steps states queues now table newer port item learnt (Relayed chosen refused) ageing s learns;
 }
   where
     plus-zero : (n : ℕ) → n + 0 ≡ n
@@ -179,6 +190,7 @@ refusals_are plan b steps states queues now table capacity chosen refused s c a 
         ap (λ q. nat_le capacity (number_in q)) (kept_at plan b steps states queues now table p s l)
         ∙ ap (nat_le capacity) (number_by_class (waiting plan b p steps) (s.classes p))
         ∙ ap (λ n. nat_le n (length (waiting plan b p steps))) c
+
     each : (ps : List ℕ) → AreSeparate ps → AllByRecursion (λ p. nat_le capacity (number_in (get_or queues (p - 1) [])) ≡ is_full plan b steps p) ps
     each [] z = tt
     each (p ∷ ps) z = (one-port p z.0, each ps z.2)

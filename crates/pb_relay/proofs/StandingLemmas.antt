@@ -31,7 +31,8 @@ use Rattle.pb_lan.specs.declared.step.Step.TheVariants.{Transmit, Tick}
 use Rattle.pb_lan.specs.Queues.{capacity_of}
 use Rattle.pb_relay.specs.Classes.{by_class, after_first, first_out, number_in, or_else}
 use Rattle.pb_lan.specs.Ports.{is_used}
-use Rattle.pb_relay.specs.Standing.{IsStanding, AreClassed, unmoved}
+use Rattle.pb_relay.specs.Standing.{IsStanding, AreClassed}
+use Rattle.pb_relay.specs.Changes.{unmoved}
 use Rattle.pb_lan.specs.Rules.{silent}
 use Rattle.pb_relay.proofs.WaitingLemmas.{next_by_class, rest_by_class, number_by_class, without-below}
 use Rattle.pb_relay.proofs.StepLemmas.{lawful_more, states_stay, states_unmoved, now_more, news_stay, news_more}
@@ -179,12 +180,13 @@ transmitted plan b steps states queues now table p s l q rest e r item n more m 
     (subst (λ (z : List (List Item)). IsStanding plan b (steps ++ Transmit p item ∷ []) states (set queues (p - 1) z) now table) (sym (r ∙ ap after_first g))
     (after_transmit plan b steps states queues now table p item s l (sym (next_read plan b steps states queues now table p s l q e) ∙ sym n)))
 
--- a step that queues nothing, moves nothing and tells nothing of stations leaves all that is kept
-pub after_quiet : (plan : Plan) (b : ℕ) (steps : List Step) (states : List PortState) (queues : List (List (List Item))) (now : ℕ) (table : List Sighting) (step : Step)
+-- a step that queues nothing and moves nothing leaves all that is kept but the table
+pub after_still : (plan : Plan) (b : ℕ) (steps : List Step) (states : List PortState) (queues : List (List (List Item))) (now : ℕ) (table newer : List Sighting) (step : Step)
     → IsStanding plan b steps states queues now table → Fits silent plan b steps step
-    → moved_of step ≡ [] → sightings plan b (now_after steps) step ≡ [] → ticked step ≡ 0 → ((r : ℕ) → queued_by plan b r step ≡ []) → ((r : ℕ) (ws : List Waiting) → after_sending r step ws ≡ ws)
-    → IsStanding plan b (steps ++ step ∷ []) states queues now table
-after_quiet plan b steps states queues now table step s f m n t q a = record {
+    → moved_of step ≡ [] → filter (is_fresh plan.ageing now) newer ≡ standing plan.ageing now (news_of plan b (steps ++ step ∷ []))
+    → ticked step ≡ 0 → ((r : ℕ) → queued_by plan b r step ≡ []) → ((r : ℕ) (ws : List Waiting) → after_sending r step ws ≡ ws)
+    → IsStanding plan b (steps ++ step ∷ []) states queues now newer
+after_still plan b steps states queues now table newer step s f m n t q a = record {
   lawful = lawful_more silent plan b steps step s.lawful f;
   kept_states = s.kept_states ∙ sym (states_stay plan b steps step m);
   count = s.count;
@@ -192,7 +194,7 @@ after_quiet plan b steps states queues now table step s f m n t q a = record {
   classes = λ r. subst AreClassed (sym (still r)) (s.classes r);
   within = λ r. subst (λ (ws : List Waiting). length ws ≤ capacity_of plan b) (sym (still r)) (s.within r);
   clock = s.clock ∙ sym (now_more steps step ∙ ap (λ k. now_after steps + k) t ∙ plus-zero (now_after steps));
-  stations = s.stations ∙ ap (λ ns. standing plan.ageing now ns) (sym (news_stay plan b steps step n m));
+  stations = n;
 }
   where
     plus-zero : (n : ℕ) → n + 0 ≡ n
@@ -201,6 +203,15 @@ after_quiet plan b steps states queues now table step s f m n t q a = record {
     still : (r : ℕ) → waiting plan b r (steps ++ step ∷ []) ≡ waiting plan b r steps
     still r = waiting_from-append plan b r [] steps step ∙ a r (waiting plan b r steps ++ queued_by plan b r step)
         ∙ ap (λ ws. waiting plan b r steps ++ ws) (q r) ∙ append-nil (waiting plan b r steps)
+
+-- and the table too, where it tells nothing of stations
+pub after_quiet : (plan : Plan) (b : ℕ) (steps : List Step) (states : List PortState) (queues : List (List (List Item))) (now : ℕ) (table : List Sighting) (step : Step)
+    → IsStanding plan b steps states queues now table → Fits silent plan b steps step
+    → moved_of step ≡ [] → sightings plan b (now_after steps) step ≡ [] → ticked step ≡ 0 → ((r : ℕ) → queued_by plan b r step ≡ []) → ((r : ℕ) (ws : List Waiting) → after_sending r step ws ≡ ws)
+    → IsStanding plan b (steps ++ step ∷ []) states queues now table
+after_quiet plan b steps states queues now table step s f m n t q a =
+    after_still plan b steps states queues now table table step s f m
+    (s.stations ∙ ap (λ ns. standing plan.ageing now ns) (sym (news_stay plan b steps step n m))) t q a
 
 abbrev waits_at : (ℕ × Item) → Waiting
 waits_at z = record { class = 7; item = z.1 }

@@ -29,7 +29,7 @@ pub filter-shorter : {X : Type 0} (p : X → Bool) (xs : List X) → length (fil
 filter-shorter p [] = omega arith
 filter-shorter p (x ∷ xs) = elim (p x) as (λ b. length (cond b (x ∷ filter p xs) (filter p xs)) ≤ suc (length xs)) [ true ↦ omega (arith, filter-shorter p xs) | false ↦ omega (arith, filter-shorter p xs) ]
 
-filter-swap : {X : Type 0} (p q : X → Bool) (xs : List X) → filter p (filter q xs) ≡ filter q (filter p xs)
+pub filter-swap : {X : Type 0} (p q : X → Bool) (xs : List X) → filter p (filter q xs) ≡ filter q (filter p xs)
 filter-swap p q [] = refl
 filter-swap p q (x ∷ xs) =
     elim (q x) as (λ b. q x ≡ b → filter p (cond b (x ∷ filter q xs) (filter q xs)) ≡ filter q (cond (p x) (x ∷ filter p xs) (filter p xs))) [
@@ -128,9 +128,9 @@ eqb-symm a b =
     elim (a == b) as (λ t. (a == b) ≡ t → t ≡ (b == a)) [
       | true ↦ λ e. sym (eq-eqb b a (sym (eqb-true a b e)))
       | false ↦ λ e. elim (b == a) as (λ u. (b == a) ≡ u → false ≡ u) [
-          | true ↦ λ f. sym e ∙ eq-eqb a b (sym (eqb-true b a f))
-          | false ↦ λ f. refl
-        ] refl
+        | true ↦ λ f. sym e ∙ eq-eqb a b (sym (eqb-true b a f))
+        | false ↦ λ f. refl
+      ] refl
     ] refl
 
 same-symm : (a b : List ℕ) → same a b ≡ same b a

@@ -14,11 +14,11 @@ count_up k zero = []
 count_up k (suc n) = k ∷ count_up (k + 1) n
 
 -- lists by class that differ in one class alone
-pub at_none : (F G : ℕ → List Item) (c : ℕ) → ((j : ℕ) → j ≢ c → G j ≡ F j) → (n k : ℕ) → c < k → map G (count_up k n) ≡ map F (count_up k n)
+pub at_none : {X : Type 0} (F G : ℕ → X) (c : ℕ) → ((j : ℕ) → j ≢ c → G j ≡ F j) → (n k : ℕ) → c < k → map G (count_up k n) ≡ map F (count_up k n)
 at_none F G c h zero k l = refl
 at_none F G c h (suc n) k l = ap (λ q. q ∷ map G (count_up (k + 1) n)) (h k (omega arith)) ∙ ap (λ qs. F k ∷ qs) (at_none F G c h n (k + 1) (omega arith))
 
-pub at_one : (F G : ℕ → List Item) (c : ℕ) → ((j : ℕ) → j ≢ c → G j ≡ F j) → (n k i : ℕ) → c ≡ k + i → i < n
+pub at_one : {X : Type 0} (F G : ℕ → X) (c : ℕ) → ((j : ℕ) → j ≢ c → G j ≡ F j) → (n k i : ℕ) → c ≡ k + i → i < n
     → map G (count_up k n) ≡ set (map F (count_up k n)) i (G c)
 at_one F G c h zero k i e l = absurd (omega arith)
 at_one F G c h (suc n) k zero e l =

@@ -7,3 +7,4 @@ pub mod Tables
 pub mod Copies
 pub mod Rooms
 pub mod Loads
+pub mod Changes

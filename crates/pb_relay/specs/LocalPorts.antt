@@ -1,5 +1,5 @@
 -- What a bridge keeps of its own ports.
-use Rattle.std.specs.Prelude.{◌≡◌, ℕ, ◌+◌, ◌<◌, Bool, true, false, List, length, slice_index_or, ◌==◌}
+use Rattle.std.specs.Prelude.{◌≡◌, ℕ, ◌+◌, ◌<◌, List, length, slice_index_or, ◌==◌}
 use Rattle.std.specs.List.{list_any}
 use Rattle.pb_lan.specs.Ports.{Port, port_at, vid_at, has_vid, serves}
 use Rattle.pb_lan.specs.Ports.Port.{Customer, Provider, Unused}

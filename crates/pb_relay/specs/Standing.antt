@@ -15,7 +15,7 @@ use Rattle.pb_frame.specs.declared.learnt.Learnt.{Learnt}
 use Rattle.pb_lan.specs.declared.step.Moved.{Moved}
 use Rattle.pb_lan.specs.declared.step.Outcome.{Outcome}
 use Rattle.pb_lan.specs.declared.step.Step.{Step}
-use Rattle.pb_lan.specs.declared.step.Step.TheVariants.{Receive, Tick}
+use Rattle.pb_lan.specs.declared.step.Step.TheVariants.{Receive}
 use Rattle.pb_relay.specs.Classes.{by_class}
 use Rattle.pb_lan.specs.Queues.{capacity_of}
 
@@ -56,12 +56,3 @@ HasReceived old port item outcome new =
     (learnt : Option Learnt) × (moved : Option Moved)
     × (new ≡ with_step old (Receive port item learnt outcome moved))
     × Fits silent old.plan old.number old.steps (Receive port item learnt outcome moved)
-
-abbrev pub unmoved : Moved
-unmoved = record { states = []; flushed = []; queued = []; dropped = [] }
-
--- the bridge has appended one tick, which moved nothing
-abbrev pub HasTicked : BridgeView → BridgeView → Type 0
-HasTicked old new =
-    (new ≡ with_step old (Tick (now_after old.steps + 1) unmoved))
-    × Fits silent old.plan old.number old.steps (Tick (now_after old.steps + 1) unmoved)

@@ -1,43 +1,52 @@
-//! The bridge.
+//! A bridge, its list of steps and its queues.
 
-ghost use Rattle.std.specs.Prelude.{◌≡◌, ◌<◌, ◌≤◌, ◌+◌, ◌++◌, ◌∷◌, [], ◌↔◌, vec_len, vec_capacity, length, Some, true, false, IsSome, OnOk, OnErr, IsErrOf};
+ghost use Rattle.std.specs.Prelude.{◌≡◌, ◌<◌, ◌++◌, ◌∷◌, [], ◌↔◌, vec_len, vec_capacity, length, true, OnOk, OnErr, IsErrOf};
 ghost use Rattle.std.specs.Option.{option_copied};
-ghost use Rattle.pb_lan.specs.Ports.{port_at};
+ghost use Rattle.pb_lan.specs.BridgeLists.{IsLawfulBridge, Fits};
+ghost use Rattle.pb_lan.specs.Ports.{port_at, is_used};
 ghost use Rattle.pb_lan.specs.Queues.{waiting, next_out};
-ghost use Rattle.pb_lan.specs.BridgeLists.{IsLawfulBridge};
-ghost use Rattle.pb_lan.specs.BridgeLists.{ruling};
-ghost use Rattle.pb_lan.specs.BridgeLists.Ruling.{Refuses, Carries};
-ghost use Rattle.pb_relay.specs.Verdicts.{as_ruling};
-ghost use Rattle.pb_lan.specs.Shapes.{states_after};
-ghost use Rattle.pb_relay.specs.Standing.{HasReceived, HasTicked, unmoved};
-ghost use Rattle.pb_lan.specs.Ports.{is_used};
 ghost use Rattle.pb_lan.specs.Rules.{silent};
+ghost use Rattle.pb_lan.specs.Shapes.{states_after};
+ghost use Rattle.pb_lan.specs.declared.step.Step.TheVariants.{Transmit};
+ghost use Rattle.pb_relay.specs.Standing.{with_step};
 
 use crate::fault::BridgeFault;
 use crate::fdb::Fdb;
 use crate::ports::LocalPort;
 use crate::queues::PortQueues;
-use crate::verdict::{Verdict, rule};
-use pb_frame::Seq;
-use pb_lan::{Item, Moved, Outcome, Plan, PortState, Reason, Step};
+use pb_lan::{Item, Plan, PortState, Step};
 use std::alloc::Global;
 use std::marker::Model;
 
-/// A bridge of a plan.
+/// A bridge of a sound plan that gives the states of its ports itself.
+///
+/// Contracts see the plan, the bridge's number there, the list of its steps, and whether there is
+/// room for one more step. The list is always lawful. All else that is kept, the states, the queues
+/// and the learning table, follows from it.
 #[derive(Drop)]
 pub struct Bridge {
-    alloc: Global,
-    plan: Plan,
-    number: u8,
-    ports: Vec<LocalPort>,
-    states: [PortState; 16],
-    queues: Vec<PortQueues>,
-    capacity: usize,
-    limit: usize,
-    table: Fdb,
-    clock: u32,
-    steps: Vec<Step>,
-    is_reserved: bool,
+    pub(crate) alloc: Global,
+    /// The whole plan, by which contracts tell what the bridge does.
+    pub(crate) plan: Plan,
+    /// The bridge's number in the plan, from 1.
+    pub(crate) number: u8,
+    /// What the plan has at the local ports 1 to 16.
+    pub(crate) ports: Vec<LocalPort>,
+    /// The states of the local ports.
+    pub(crate) states: [PortState; 16],
+    /// What waits at the local ports.
+    pub(crate) queues: Vec<PortQueues>,
+    /// The most items that wait at a port.
+    pub(crate) capacity: usize,
+    /// The most steps.
+    pub(crate) limit: usize,
+    /// Where stations were seen.
+    pub(crate) table: Fdb,
+    /// The number of ticks.
+    pub(crate) clock: u32,
+    pub(crate) steps: Vec<Step>,
+    /// There is room for one more step.
+    pub(crate) is_reserved: bool,
 }
 
 impl Model for Bridge {
@@ -55,7 +64,7 @@ impl Model for Bridge {
 }
 
 /// Puts a step into the room that is there for it.
-fn append(steps: &mut Vec<Step>, step: Step)
+pub(crate) fn append(steps: &mut Vec<Step>, step: Step)
     requires { vec_len steps.old < vec_capacity steps.old }
     ensures items { steps.new.items ≡ steps.old.items ++ step ∷ [] }
 {
@@ -71,6 +80,7 @@ impl Bridge {
         self.steps.as_slice()
     }
 
+    /// The steps, and no bridge any more.
     pub fn into_steps(self) -> Vec<Step>
         ensures steps { result.items ≡ self.steps }
         ensures lawful { IsLawfulBridge silent self.plan self.number self.steps }
@@ -92,7 +102,10 @@ impl Bridge {
         steps
     }
 
-    /// Makes room for one step.
+    /// Makes room for one step, so that `pop_out` needs no memory.
+    ///
+    /// `StepLimit` is answered exactly where the list holds the plan's number of steps, `Memory`
+    /// where there is none for one more. Then nothing has changed.
     pub fn reserve_step(&mut self) -> Result<(), BridgeFault>
         ensures ok { OnOk result (self.new ≡ record self.old { is_reserved = true }) }
         ensures err { OnErr result (self.new ≡ self.old) }
@@ -106,7 +119,7 @@ impl Bridge {
         Ok(())
     }
 
-    /// The number of items that wait at a port.
+    /// The number of items that wait at a port, in all traffic classes.
     pub fn waiting(&self, port: u8) -> u16
         requires { is_used (port_at self.now.plan self.now.number port) ≡ true }
         ensures { result ≡ length (waiting self.now.plan self.now.number port self.now.steps) }
@@ -114,7 +127,8 @@ impl Bridge {
         self.queues[port as usize - 1].len() as u16
     }
 
-    /// The item that leaves a port next.
+    /// The item that leaves a port next: the oldest of the highest class (IEEE 802.1Q clause 8,
+    /// strict priority).
     pub fn peek_out(&self, port: u8) -> Option<&Item>
         requires { is_used (port_at self.now.plan self.now.number port) ≡ true }
         ensures { option_copied result ≡ next_out (waiting self.now.plan self.now.number port self.now.steps) }
@@ -123,13 +137,14 @@ impl Bridge {
         queues.first()
     }
 
-    /// Sends the item that leaves a port next.
+    /// Takes the item that leaves a port next, and appends the Transmit step that tells of it. Takes
+    /// no memory.
     pub fn pop_out(&mut self, port: u8) -> Item
         requires used { is_used (port_at self.old.plan self.old.number port) ≡ true }
         requires reserved { self.old.is_reserved ≡ true }
         requires some { 0 < length (waiting self.old.plan self.old.number port self.old.steps) }
-        ensures next { next_out (waiting self.old.plan self.old.number port self.old.steps) ≡ Some result }
-        ensures step { self.new ≡ record self.old { steps = self.old.steps ++ Step.Transmit port result ∷ []; is_reserved = false } }
+        ensures step { self.new ≡ with_step self.old (Transmit port result) }
+        ensures fits { Fits silent self.old.plan self.old.number self.old.steps (Transmit port result) }
     {
         let queues = &mut self.queues[port as usize - 1];
         let Some(twin) = queues.pop() else {
@@ -141,100 +156,10 @@ impl Bridge {
         item
     }
 
-    /// What is to be done with an item that comes in at a port.
-    fn rule(&self, port: u8, item: &Item) -> Verdict
-        requires { is_used (port_at self.now.plan self.now.number port) ≡ true }
-        ensures { as_ruling result ≡ ruling silent self.now.plan self.now.number self.now.steps port item.now }
-    {
-        let ports = &self.ports;
-        let place = port as usize - 1;
-        let local = &ports[place];
-        rule(local, self.states[place], item)
-    }
-
-    /// Appends a step that tells that the item goes nowhere.
-    fn refuse(&mut self, port: u8, item: Item, reason: Reason) -> Outcome
-        requires reserved { self.old.is_reserved ≡ true }
-        requires ruling { ruling silent self.old.plan self.old.number self.old.steps port item ≡ Refuses reason }
-        ensures { HasReceived self.old port item result self.new }
-    {
-        self.is_reserved = false;
-        append(
-            &mut self.steps,
-            Step::Receive {
-                port,
-                item,
-                learnt: None,
-                outcome: Outcome::Filtered(reason),
-                moved: None,
-            },
-        );
-        Outcome::Filtered(reason)
-    }
-
-    /// Appends a step that tells that there is no memory to relay the item.
-    fn give_up(&mut self, port: u8, item: Item, vid: u16) -> Outcome
-        requires reserved { self.old.is_reserved ≡ true }
-        requires ruling { ruling silent self.old.plan self.old.number self.old.steps port item ≡ Carries vid }
-        ensures { HasReceived self.old port item result self.new }
-    {
-        self.is_reserved = false;
-        append(
-            &mut self.steps,
-            Step::Receive {
-                port,
-                item,
-                learnt: None,
-                outcome: Outcome::Filtered(Reason::Memory),
-                moved: None,
-            },
-        );
-        Outcome::Filtered(Reason::Memory)
-    }
-
-    /// The states of the local ports.
+    /// The states of the local ports 1 to 16.
     pub fn shape(&self) -> [PortState; 16]
         ensures { result ≡ states_after self.now.plan self.now.number self.now.steps }
     {
         self.states
-    }
-
-    /// The clock ticks.
-    pub fn tick(&mut self) -> Result<(), BridgeFault>
-        ensures ok { OnOk result (HasTicked self.old self.new) }
-        ensures err { OnErr result (self.new ≡ self.old) }
-        ensures limit { IsErrOf result BridgeFault.StepLimit ↔ (length self.old.steps ≡ self.old.plan.steps) }
-    {
-        self.reserve_step()?;
-        self.advance();
-        Ok(())
-    }
-
-    /// Appends a tick.
-    fn advance(&mut self)
-        requires { self.old.is_reserved ≡ true }
-        ensures { HasTicked self.old self.new }
-    {
-        self.is_reserved = false;
-        self.clock += 1;
-        append(
-            &mut self.steps,
-            Step::Tick {
-                now: self.clock,
-                moved: nothing_moved(self.alloc),
-            },
-        );
-    }
-}
-
-/// No change.
-fn nothing_moved(alloc: Global) -> Moved
-    ensures { result ≡ unmoved }
-{
-    Moved {
-        states: Seq::from_vec(Vec::new(alloc)),
-        flushed: Seq::from_vec(Vec::new(alloc)),
-        queued: Seq::from_vec(Vec::new(alloc)),
-        dropped: Seq::from_vec(Vec::new(alloc)),
     }
 }

@@ -3,7 +3,8 @@
 ghost use Rattle.std.specs.Prelude.{◌≡◌, ◌<◌, ◌≤◌, ◌++◌, ◌∷◌, [], not, length, nat_le, OnOk, OnErr, if◌then◌else◌, Some, map};
 ghost use Rattle.std.specs.List.{filter};
 ghost use Rattle.pb_frame.specs.Frames.{is_group};
-ghost use Rattle.pb_frame.specs.Stations.{is_sighted, is_fresh};
+ghost use Rattle.pb_frame.specs.Stations.{is_sighted, is_fresh, after};
+ghost use Rattle.pb_frame.specs.Stations.News.{Flushed};
 ghost use Rattle.pb_lan.specs.Choice.{is_noted, IsLearnt, table_limit};
 ghost use Rattle.std.specs.Prelude.{vec_len, vec_capacity};
 ghost use Rattle.pb_relay.specs.Tables.{live, where_in, seen_anew, sighting_at};
@@ -125,6 +126,13 @@ impl Fdb {
                 }
             }
         }
+    }
+
+    /// Forgets the stations that were seen at a port.
+    pub fn flush(&mut self, port: u8)
+        ensures { self.new ≡ after self.old (Flushed port) }
+    {
+        self.entries.retain(|entry| port != entry.port);
     }
 }
 

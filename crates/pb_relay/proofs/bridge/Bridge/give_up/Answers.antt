@@ -13,8 +13,8 @@ use Rattle.pb_relay.proofs.bridge.Bridge.give_up.Goals as goal
 pub invariant_of-self : goal.invariant_of-self
 invariant_of-self c =
     let step : Step = Receive c.args.port c.args.item None (Filtered Memory) None in
-    let r : ruling silent c.self.inside.plan c.self.inside.number c.self.inside.steps.items c.args.port c.args.item ≡ Carries c.args.vid =
-    subst (λ (v : BridgeView). ruling silent v.plan v.number v.steps c.args.port c.args.item ≡ Carries c.args.vid) (sym c.self.view_is) c.requires.ruling in
+    let r : ruling silent c.self.inside.plan c.self.inside.number c.self.inside.steps.items c.args.port c.args.item ≡ Carries c.requires.ruling.0 =
+    subst (λ (v : BridgeView). ruling silent v.plan v.number v.steps c.args.port c.args.item ≡ Carries c.requires.ruling.0) (sym c.self.view_is) c.requires.ruling.1 in
     let reserved = c.self.invariant.2.reserved (subst (λ (v : BridgeView). v.is_reserved ≡ true) (sym c.self.view_is) c.requires.reserved) in
     let f : Fits silent c.self.inside.plan c.self.inside.number c.self.inside.steps.items step =
     subst (λ (z : Ruling). Follows silent c.self.inside.plan c.self.inside.number c.self.inside.steps.items c.args.port c.args.item None (Filtered Memory) None z) (sym r) (inl (refl, refl, refl)) in (

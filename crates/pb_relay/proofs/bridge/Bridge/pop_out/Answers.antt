@@ -46,8 +46,8 @@ invariant_of-self c =
       },
     )
 
-pub returns-clause-next : goal.returns-clause-next
-returns-clause-next c =
+pub returns-clause-fits : goal.returns-clause-fits
+returns-clause-fits c =
     let l = used_port _ _ _ c.self.invariant.0.sound
     (subst (λ (v : BridgeView). is_used (port_at v.plan v.number c.args.port) ≡ true) (sym c.self.view_is) c.requires.used) in
     ap (λ (v : BridgeView). next_out (waiting v.plan v.number c.args.port v.steps)) (sym c.self.view_is)
