@@ -1,5 +1,5 @@
 -- Whether an event is due, told from what the network keeps.
-use Rattle.std.proofs.Common.{◌≡◌, ℕ, zero, suc, ◌+◌, ◌<◌, ◌≤◌, ◌⊎◌, inl, inr, Bool, true, false, not, ◌||◌, ◌==◌, nat_le, List, [], ◌∷◌, ◌++◌, Some, None, Ok, Err, is_some, map, length, slice_get, get_or, ◌*◌, refl, sym, ap, subst, ◌∙◌, arith, length-append}
+use Rattle.std.proofs.Common.{◌≡◌, ℕ, zero, suc, ◌+◌, ◌<◌, ◌≤◌, ◌⊎◌, inl, inr, Bool, true, false, not, ◌||◌, ◌&&◌, ◌==◌, nat_le, List, [], ◌∷◌, ◌++◌, Some, None, Ok, Err, is_some, map, length, slice_get, get_or, ◌*◌, refl, sym, ap, subst, ◌∙◌, arith, length-append}
 use Rattle.std.proofs.lemmas.Bool.Decides.{leb_tells}
 use Rattle.std.specs.declared.option.Option.{Option}
 use Rattle.std.specs.declared.result.Result.{Result}
@@ -11,21 +11,21 @@ use Rattle.pb_lan.specs.Ports.Port.{Customer}
 use Rattle.pb_lan.specs.Queues.{waiting}
 use Rattle.pb_lan.specs.Records.{steps_of, received, transmitted}
 use Rattle.pb_lan.specs.declared.event.Event.{Event}
-use Rattle.pb_lan.specs.declared.event.Event.TheVariants.{Poll, Feed, Deliver, Receive, Transmit, Tick}
+use Rattle.pb_lan.specs.declared.event.Event.TheVariants.{Poll, Feed, Deliver, Receive, Transmit, Tick, Admin, Take, Put}
 use Rattle.pb_lan.specs.declared.plan.Plan.{Plan}
 use Rattle.pb_lan.specs.declared.plan.CustomerPlan.{CustomerPlan}
 use Rattle.pb_lan.specs.declared.record.Record.{Record}
 use Rattle.pb_lan.specs.declared.step.Item.{Item}
 use Rattle.pb_lan.specs.declared.step.Step.{Step}
 use Rattle.std.proofs.lemmas.Option.{slice_get_within, get_or_from_slice_get}
-use Rattle.std.proofs.lemmas.Bool.{eq-eqb}
-use Rattle.pb_frame.proofs.Lists.{true-false}
+use Rattle.std.proofs.lemmas.Bool.{eq-eqb, leb-true}
+use Rattle.pb_frame.proofs.Lists.{true-false, false-unless, and-left, and-right}
 use Rattle.pb_lan.specs.Plans.{IsSoundCustomer}
 use Rattle.pb_lan.proofs.Numbers.{numbered-exists, numbered-All}
 use Rattle.pb_link.specs.Hands.{PlaceView}
 use Rattle.pb_relay.specs.Standing.{BridgeView}
 use Rattle.pb_net.specs.Answers.{NetView, IsDue}
-use Rattle.pb_net.specs.Dues.{IsSifted, IsDueOr}
+use Rattle.pb_net.specs.Dues.{IsSifted, IsDueOr, IsOfLinks}
 use Rattle.pb_net.specs.Nets.{IsPlain, IsKept, ArePlaced, IsTable, HasNumbers, record_of, items_of}
 use Rattle.pb_net.specs.declared.fault.NetFault.{NetFault}
 use Rattle.pb_net.specs.declared.fault.NetFault.TheVariants.{StepLimit, Memory, NoSuch}
@@ -234,3 +234,18 @@ never_limit plan bridges customers r b placed here within at_limit =
     let mine : steps_of (map (λ (x : BridgeView). x.steps) bridges) (suc r) ≡ b.steps = steps_of-map (λ (x : BridgeView). x.steps) bridges r b here in
     let same : length (steps_of (map (λ (x : BridgeView). x.steps) bridges) (suc r)) ≡ plan.steps = ap length mine ∙ at_limit ∙ ap (λ (p : Plan). p.steps) (placed.planned r b here) in
     true-false (length (steps_of (map (λ (x : BridgeView). x.steps) bridges) (suc r)) == plan.steps) (eq-eqb _ _ same) within
+
+no_lane : (plan : Plan) → plan.links ≡ [] → (lane : ℕ) → (nat_le 1 lane && nat_le lane (2 * length plan.links)) ≡ false
+no_lane plan linkless lane = let none : length plan.links ≡ 0 = ap length linkless in false-unless (nat_le 1 lane && nat_le lane (2 * length plan.links)) (λ e. absurd (omega (arith, leb-true 1 lane (and-left (nat_le 1 lane) (nat_le lane (2 * length plan.links)) e), leb-true lane (2 * length plan.links) (and-right (nat_le 1 lane) (nat_le lane (2 * length plan.links)) e))))
+
+-- where there are no links, no such event names anything
+pub unlinked_is : (plan : Plan) → plan.links ≡ [] → (event : Event) → IsOfLinks event → names_something plan event ≡ false
+unlinked_is plan linkless (Admin bridge port up) of_links = never_provider plan linkless bridge port
+unlinked_is plan linkless (Take lane) of_links = no_lane plan linkless lane
+unlinked_is plan linkless (Put lane) of_links = no_lane plan linkless lane
+unlinked_is plan linkless (Poll port frame) of_links = absurd of_links
+unlinked_is plan linkless (Feed port) of_links = absurd of_links
+unlinked_is plan linkless (Deliver port) of_links = absurd of_links
+unlinked_is plan linkless (Receive bridge port) of_links = absurd of_links
+unlinked_is plan linkless (Transmit bridge port) of_links = absurd of_links
+unlinked_is plan linkless (Tick bridge) of_links = absurd of_links

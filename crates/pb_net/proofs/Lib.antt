@@ -5,3 +5,4 @@ pub mod BridgeMoves
 pub mod Table
 pub mod DueLemmas
 pub mod Done
+pub mod Records

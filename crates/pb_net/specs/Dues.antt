@@ -4,6 +4,7 @@ use Rattle.std.specs.declared.option.Option.{Option}
 use Rattle.std.specs.declared.result.Result.{Result}
 use Rattle.pb_lan.specs.Events.{names_something, is_idle, is_at_limit, customer_there}
 use Rattle.pb_lan.specs.declared.event.Event.{Event}
+use Rattle.pb_lan.specs.declared.event.Event.TheVariants.{Admin, Take, Put}
 use Rattle.pb_lan.specs.declared.plan.Plan.{Plan}
 use Rattle.pb_net.specs.declared.due.Spot.{Spot}
 use Rattle.pb_net.specs.Answers.{NetView, IsDue}
@@ -32,3 +33,10 @@ pub record IsSpot (plan : Plan) (bridge port : ℕ) (spot : Spot) : Type 0 where
   pub customer_is : customer_there plan bridge port ≡ spot.customer + 1
   pub bridge_there : spot.bridge < length plan.bridges
   pub customer_within : spot.customer < length plan.customers
+
+-- an event of a provider port's state or of a lane
+abbrev pub IsOfLinks : Event → Type 0
+IsOfLinks (Admin bridge port up) = Unit {0}
+IsOfLinks (Take lane) = Unit {0}
+IsOfLinks (Put lane) = Unit {0}
+IsOfLinks _ = ⊥

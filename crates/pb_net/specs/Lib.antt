@@ -2,4 +2,5 @@ pub mod Faults
 pub mod Answers
 pub mod Dues
 pub mod Moves
+pub mod Lists
 pub mod Nets

@@ -24,13 +24,15 @@ pub(crate) fn receive_at(
     ensures err { OnErr result (bridge.new.steps ≡ bridge.old.steps) }
     ensures err_inbox { OnErr result (inbox.new.items ≡ inbox.old.items) }
 {
-    bridge.reserve_step()?;
     let Some(item) = inbox.pop_front() else {
         unreachable!();
     };
     match bridge.receive(port, item) {
         Ok(_) => Ok(()),
-        Err(_) => unreachable!(),
+        Err((fault, item)) => {
+            let _ = inbox.push_front(item);
+            Err(fault)
+        }
     }
 }
 

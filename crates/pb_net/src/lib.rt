@@ -11,6 +11,7 @@ mod did;
 mod due;
 mod fault;
 mod laws;
+mod lists;
 mod net;
 
 pub use did::Did;

@@ -1,17 +1,22 @@
 //! The network, and its steps.
 
-ghost use Rattle.std.specs.Prelude.{◌≡◌, ◌+◌, ◌<◌, [], false, length, IfOk, IfSome, IfNone};
+ghost use Rattle.std.specs.Prelude.{◌≡◌, ◌+◌, ◌<◌, [], true, false, length, IfOk, IfErr, IfSome, IfNone, OnOk};
+ghost use Rattle.pb_lan.specs.Events.{has_place, names_something, steps_at};
 ghost use Rattle.pb_lan.specs.Ports.{is_used, port_at};
-ghost use Rattle.pb_net.specs.Answers.{IsAnswer};
-ghost use Rattle.pb_net.specs.Dues.{IsDueOr, IsSpot};
+ghost use Rattle.pb_lan.specs.Records.{IsLawfulRecord};
+ghost use Rattle.pb_lan.specs.Rules.{silent};
+ghost use Rattle.pb_net.specs.Answers.{IsAnswer, HaveRun, HasStopped};
+ghost use Rattle.pb_net.specs.Dues.{IsDueOr, IsOfLinks, IsSpot};
 
 use crate::at_bridge::{receive_at, transmit_at};
 use crate::at_port::{deliver_at, feed_at, poll_at};
 use crate::did::Did;
 use crate::due::{Spot, index_of, sift};
 use crate::fault::NetFault;
+use crate::lists::{Lists, bridge_steps, customer_steps};
 use bytes::Bytes;
-use pb_lan::{Event, Item, Place, Plan};
+use pb_frame::Seq;
+use pb_lan::{Event, Item, Place, Plan, Record, Step};
 use pb_link::CustomerPlace;
 use pb_relay::Bridge;
 use std::collections::VecDeque;
@@ -28,12 +33,14 @@ pub struct Net {
     pub(crate) inboxes: Vec<VecDeque<Item>>,
     pub(crate) outboxes: Vec<VecDeque<Item>>,
     pub(crate) table: Vec<u8>,
+    pub(crate) lists: Lists,
 }
 
 impl Model for Net {
-    ghost use Rattle.std.specs.Prelude.{map};
+    ghost use Rattle.std.specs.Prelude.{map, length};
     ghost use Rattle.pb_net.specs.Answers.{NetView};
     ghost use Rattle.pb_net.specs.Nets.{record_of, IsPlain, ArePlaced, IsKept, IsTable, HasNumbers};
+    ghost use Rattle.pb_net.specs.Lists.{AreEmpty};
 
     ghost Value = { NetView };
 
@@ -43,7 +50,8 @@ impl Model for Net {
         × ArePlaced n.plan n.bridges.items n.customers.items
         × IsKept n.plan (record_of n.bridges.items n.customers.items) (map (λ q. q.items) n.inboxes.items) (map (λ q. q.items) n.outboxes.items)
         × IsTable n.plan n.table.items
-        × HasNumbers n.plan n.limit n.ring };
+        × HasNumbers n.plan n.limit n.ring
+        × AreEmpty (length n.plan.bridges) (length n.plan.customers) n.lists };
 }
 
 impl Net {
@@ -185,5 +193,121 @@ impl Net {
         let at = &mut self.bridges[spot.bridge];
         transmit_at(at, port, &mut self.outboxes[spot.customer])?;
         Ok(Did::Done(Place::Bridge(bridge)))
+    }
+
+    /// A bridge's clock goes on by one.
+    fn tick(&mut self, bridge: u8) -> Result<Did, NetFault>
+        ensures { IsAnswer self.old (Event.Tick bridge) result self.new }
+    {
+        let Some(place) = index_of(bridge, self.bridges.len()) else {
+            return Err(NetFault::NoSuch);
+        };
+        self.bridges[place].tick()?;
+        Ok(Did::Done(Place::Bridge(bridge)))
+    }
+
+    /// A frame of the caller's comes in at a customer port.
+    fn poll_copy(&mut self, port: u8, frame: &Bytes) -> Result<Did, NetFault>
+        ensures { IsAnswer self.old (Event.Poll port frame.now) result self.new }
+    {
+        if self.due_poll(port)?.is_none() {
+            return Ok(Did::Idle);
+        }
+        self.poll(port, frame.clone()?)
+    }
+
+    /// A plan without links has no provider ports and no lanes.
+    fn unlinked(&self, event: &Event) -> NetFault
+        requires { IsOfLinks event.now }
+        ensures fault { result ≡ NetFault.NoSuch }
+        ensures unnamed { names_something self.now.plan event.now ≡ false }
+    {
+        prove!(self.plan.links.len() == 0);
+        NetFault::NoSuch
+    }
+
+    /// Does what an event asks for, of which the caller keeps the frame.
+    fn act(&mut self, event: &Event) -> Result<Did, NetFault>
+        ensures { IsAnswer self.old event.now result self.new }
+    {
+        match event {
+            Event::Poll { port, frame } => self.poll_copy(*port, frame),
+            Event::Feed { port } => self.feed(*port),
+            Event::Deliver { port } => self.deliver(*port),
+            Event::Receive { bridge, port } => self.receive(*bridge, *port),
+            Event::Transmit { bridge, port } => self.transmit(*bridge, *port),
+            Event::Tick { bridge } => self.tick(*bridge),
+            Event::Admin { .. } | Event::Take { .. } | Event::Put { .. } => Err(self.unlinked(event)),
+        }
+    }
+
+    /// Does what an event asks for: its place takes one step of its kind, or there is nothing to do.
+    ///
+    /// `NoSuch` is answered exactly where a number names nothing, or the port of an `Admin` is no
+    /// provider port; else `Idle` exactly where there is nothing to do; else `StepLimit` exactly
+    /// where the place's list holds the plan's number of steps; else `Memory` where memory ran out.
+    /// Nothing has changed after any of them.
+    pub fn step(&mut self, event: Event) -> Result<Did, NetFault>
+        ensures { IsAnswer self.old event result self.new }
+    {
+        match event {
+            Event::Poll { port, frame } => self.poll(port, frame),
+            other => self.act(&other),
+        }
+    }
+
+    /// Does what the events ask for, one after the other.
+    ///
+    /// The first fault ends it: the number of events done before it, and the fault, are answered.
+    pub fn run(&mut self, events: &[Event]) -> Result<(), (u64, NetFault)>
+        ensures ok { OnOk result (HaveRun self.old events.now self.new) }
+        ensures fault { IfErr result (λ e. HasStopped self.old events.now e.0 e.1 self.new) }
+    {
+        for (count, event) in events.iter().enumerate() {
+            if let Err(fault) = self.act(event) {
+                return Err((count as u64, fault));
+            }
+        }
+        Ok(())
+    }
+
+    /// The steps of a place so far.
+    pub fn steps(&self, place: Place) -> &[Step]
+        requires { has_place self.now.plan place ≡ true }
+        ensures { result.now ≡ steps_at self.now.rec place }
+    {
+        match place {
+            Place::Bridge(number) => self.bridges[number as usize - 1].steps(),
+            Place::Customer(number) => self.customers[number as usize - 1].steps(),
+            Place::Lane(_) => unreachable!(),
+        }
+    }
+
+    /// Ends the network, and gives the record of its steps, which is lawful. Takes no memory.
+    pub fn finish(self) -> Record
+        ensures record { result ≡ self.rec }
+        ensures lawful { IsLawfulRecord silent self.plan result }
+    {
+        let Net {
+            plan: _,
+            limit: _,
+            ring: _,
+            bridges,
+            customers,
+            inboxes: _,
+            outboxes: _,
+            table: _,
+            lists,
+        } = self;
+        let Lists {
+            bridges: bridge_lists,
+            lanes,
+            customers: customer_lists,
+        } = lists;
+        Record {
+            bridges: bridge_steps(bridges, bridge_lists),
+            lanes: Seq::from_vec(lanes),
+            customers: customer_steps(customers, customer_lists),
+        }
     }
 }

@@ -44,7 +44,7 @@ invariant_of-self c =
     let there = box_at items_in s.inboxes.items r (length s.plan.customers) box c.self.invariant.2.inbox_count planned c.index_mut-2.ensures.value in
     let failed = customer_failed s.plan s.bridges.items s.customers.items (map items_in s.inboxes.items) (map items_in s.outboxes.items) r old c.feed_at.new.place
       c.self.invariant.1 c.self.invariant.2 here c.in_err-feed_at.ensures.number c.in_err-feed_at.ensures.err in
-    (c.self.invariant.0, failed.0, (let kept_box = map-set_kept items_in s.inboxes.items r box c.feed_at.new.inbox (here_is s.inboxes.items r box (box_within items_in s.inboxes.items r (length s.plan.customers) c.self.invariant.2.inbox_count planned) c.index_mut-2.ensures.value) c.in_err-feed_at.ensures.err_inbox in rw kept_box failed.1), c.self.invariant.3, c.self.invariant.4)
+    (c.self.invariant.0, failed.0, (let kept_box = map-set_kept items_in s.inboxes.items r box c.feed_at.new.inbox (here_is s.inboxes.items r box (box_within items_in s.inboxes.items r (length s.plan.customers) c.self.invariant.2.inbox_count planned) c.index_mut-2.ensures.value) c.in_err-feed_at.ensures.err_inbox in rw kept_box failed.1), c.self.invariant.3, c.self.invariant.4, c.self.invariant.5)
 
 pub returns-in_err-feed_at : goal.returns-in_err-feed_at
 returns-in_err-feed_at c =
@@ -81,7 +81,7 @@ invariant_of-self-2 c =
     let box = c.index_mut-2.result.now in
     let there = box_at items_in s.inboxes.items r (length s.plan.customers) box c.self.invariant.2.inbox_count planned c.index_mut-2.ensures.value in
     let done = feed_done items_in s.plan s.bridges.items s.customers.items s.inboxes.items s.outboxes.items r old c.feed_at.new.place box c.feed_at.new.inbox c.self.invariant.1 c.self.invariant.2 here there c.in_ok-feed_at.ensures.number c.in_ok-feed_at.ensures.lawful c.in_ok-feed_at.ensures.ok in
-    (c.self.invariant.0, done.0, done.1, c.self.invariant.3, c.self.invariant.4)
+    (c.self.invariant.0, done.0, done.1, c.self.invariant.3, c.self.invariant.4, c.self.invariant.5)
 
 pub returns : goal.returns
 returns c =

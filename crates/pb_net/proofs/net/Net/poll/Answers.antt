@@ -39,7 +39,7 @@ invariant_of-self c =
     let here = here_is s.customers.items r old within c.index_mut.ensures.value in
     let failed = customer_failed s.plan s.bridges.items s.customers.items (map items_in s.inboxes.items) (map items_in s.outboxes.items) r old c.poll_at.new.place
       c.self.invariant.1 c.self.invariant.2 here c.in_err-poll_at.ensures.number c.in_err-poll_at.ensures.err in
-    (c.self.invariant.0, failed.0, failed.1, c.self.invariant.3, c.self.invariant.4)
+    (c.self.invariant.0, failed.0, failed.1, c.self.invariant.3, c.self.invariant.4, c.self.invariant.5)
 
 pub returns-in_err-poll_at : goal.returns-in_err-poll_at
 returns-in_err-poll_at c =
@@ -70,7 +70,7 @@ invariant_of-self-2 c =
     let within : r < length s.customers.items = omega (arith, place.1, customers, c.self.invariant.1.customer_count) in
     let here = here_is s.customers.items r old within c.index_mut.ensures.value in
     let done = poll_done s.plan s.bridges.items s.customers.items (map items_in s.inboxes.items) (map items_in s.outboxes.items) r old c.poll_at.new.place (arrival old c.args.frame) c.self.invariant.1 c.self.invariant.2 here c.in_ok-poll_at.ensures.number c.in_ok-poll_at.ensures.lawful c.in_ok-poll_at.ensures.ok in
-    (c.self.invariant.0, done.0, done.1, c.self.invariant.3, c.self.invariant.4)
+    (c.self.invariant.0, done.0, done.1, c.self.invariant.3, c.self.invariant.4, c.self.invariant.5)
 
 pub returns : goal.returns
 returns c =

@@ -51,7 +51,7 @@ invariant_of-self c =
     let failed = bridge_failed s.plan s.bridges.items s.customers.items (map items_in s.inboxes.items) (map items_in s.outboxes.items) spot.bridge old c.receive_at.new.bridge
       c.self.invariant.1 c.self.invariant.2 here c.in_err-receive_at.ensures.plan c.in_err-receive_at.ensures.number c.in_err-receive_at.ensures.err in
     let kept_box = map-set_kept items_in s.inboxes.items spot.customer box c.receive_at.new.inbox (here_is s.inboxes.items spot.customer box (box_within items_in s.inboxes.items spot.customer (length s.plan.customers) c.self.invariant.2.inbox_count known.customer_within) c.index_mut.ensures.value) c.in_err-receive_at.ensures.err_inbox in
-    (c.self.invariant.0, failed.0, rw kept_box failed.1, c.self.invariant.3, c.self.invariant.4)
+    (c.self.invariant.0, failed.0, rw kept_box failed.1, c.self.invariant.3, c.self.invariant.4, c.self.invariant.5)
 
 pub returns-in_err-receive_at : goal.returns-in_err-receive_at
 returns-in_err-receive_at c =
@@ -95,7 +95,7 @@ invariant_of-self-2 c =
     let there = box_at items_in s.inboxes.items spot.customer (length s.plan.customers) box c.self.invariant.2.inbox_count known.customer_within c.index_mut.ensures.value in
     let done = receive_done items_in s.plan s.bridges.items s.customers.items s.inboxes.items s.outboxes.items spot.bridge c.args.port spot.customer old c.receive_at.new.bridge box c.receive_at.new.inbox
       c.self.invariant.0 c.self.invariant.1 c.self.invariant.2 here there stand c.in_ok-receive_at.ensures.plan c.in_ok-receive_at.ensures.number c.in_ok-receive_at.ensures.ok in
-    (c.self.invariant.0, done.0, done.1, c.self.invariant.3, c.self.invariant.4)
+    (c.self.invariant.0, done.0, done.1, c.self.invariant.3, c.self.invariant.4, c.self.invariant.5)
 
 pub returns : goal.returns
 returns c =

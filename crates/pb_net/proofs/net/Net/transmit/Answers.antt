@@ -53,7 +53,7 @@ invariant_of-self c =
     let failed = bridge_failed s.plan s.bridges.items s.customers.items (map items_in s.inboxes.items) (map items_in s.outboxes.items) spot.bridge old c.transmit_at.new.bridge
       c.self.invariant.1 c.self.invariant.2 here c.in_err-transmit_at.ensures.plan c.in_err-transmit_at.ensures.number c.in_err-transmit_at.ensures.err in
     let kept_box = map-set_kept items_in s.outboxes.items spot.customer box c.transmit_at.new.outbox (here_is s.outboxes.items spot.customer box (box_within items_in s.outboxes.items spot.customer (length s.plan.customers) c.self.invariant.2.outbox_count known.customer_within) c.index_mut.ensures.value) c.in_err-transmit_at.ensures.err_outbox in
-    (c.self.invariant.0, failed.0, rw kept_box failed.1, c.self.invariant.3, c.self.invariant.4)
+    (c.self.invariant.0, failed.0, rw kept_box failed.1, c.self.invariant.3, c.self.invariant.4, c.self.invariant.5)
 
 pub returns-in_err-transmit_at : goal.returns-in_err-transmit_at
 returns-in_err-transmit_at c =
@@ -97,7 +97,7 @@ invariant_of-self-2 c =
     let there = box_at items_in s.outboxes.items spot.customer (length s.plan.customers) box c.self.invariant.2.outbox_count known.customer_within c.index_mut.ensures.value in
     let done = transmit_done items_in s.plan s.bridges.items s.customers.items s.inboxes.items s.outboxes.items spot.bridge c.args.port spot.customer old c.transmit_at.new.bridge box c.transmit_at.new.outbox
       c.self.invariant.0 c.self.invariant.1 c.self.invariant.2 here there stand c.in_ok-transmit_at.ensures.plan c.in_ok-transmit_at.ensures.number c.in_ok-transmit_at.ensures.ok in
-    (c.self.invariant.0, done.0, done.1, c.self.invariant.3, c.self.invariant.4)
+    (c.self.invariant.0, done.0, done.1, c.self.invariant.3, c.self.invariant.4, c.self.invariant.5)
 
 pub returns : goal.returns
 returns c =
