@@ -1,6 +1,7 @@
 //! Whether a plan is sound.
 
 mod distinct;
+mod ports;
 mod records;
 
 ghost use Rattle.std.specs.Prelude.{◌≤◌, ◌↔◌, IsTrue, map};

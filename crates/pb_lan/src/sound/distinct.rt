@@ -3,8 +3,6 @@
 ghost use Rattle.std.specs.Prelude.{◌≡◌, ◌↔◌, ℕ, List, IsTrue, map, nat_eq};
 ghost use Rattle.std.specs.List.{list_any, IsDistinct};
 ghost use Rattle.pb_frame.specs.Admission.{same};
-ghost use Rattle.pb_lan.specs.Plans.{is_same_port};
-ghost use Rattle.pb_lan.specs.UsedPorts.{ports_in, IsFree};
 
 use crate::plan::{BridgePlan, CustomerPlan, End, LinkPlan, Plan, ServicePlan};
 use pb_frame::{Mac, Text};
