@@ -28,10 +28,13 @@ unfolding IsDistinct
 ports_rest [] customers link some is free = absurd (omega arith)
 ports_rest (l ∷ links) customers link some is free =
     let ends : HasFreeEnds l (ports_in links customers) = rw (← is, ← after_first-cons l links) free in
-    rw (after_first-cons l links) ((λ d. d.1.1), (λ d. (
-      (ends.two, none_is is_same_port _ _ ends.a),
-      (none_is is_same_port _ _ ends.b, d),
-    )))
+    rw (after_first-cons l links) (
+      (λ d. d.1.1),
+      (λ d. (
+        (ends.two, none_is is_same_port _ _ ends.a),
+        (none_is is_same_port _ _ ends.b, d),
+      )),
+    )
 
 -- a link whose ends are not free
 pub ports_twice : (links : List LinkPlan) (customers : List CustomerPlan) (link : LinkPlan)
