@@ -1,5 +1,5 @@
 -- Numbers that rise strictly, tested one against the next.
-use Rattle.std.proofs.Common.{◌≡◌, ℕ, ◌+◌, ◌<◌, ◌≤◌, List, [], ◌∷◌, length, get_or, arith, suc, zero, ◌-◌}
+use Rattle.std.proofs.Common.{◌≡◌, ℕ, ◌<◌, ◌≤◌, List, [], ◌∷◌, length, get_or, arith, suc, zero, ◌-◌}
 use Rattle.std.specs.List.{AllByRecursion}
 use Rattle.pb_lan.specs.Plans.{Rises}
 

@@ -1,5 +1,5 @@
 -- Local ports in use, link by link.
-use Rattle.std.proofs.Common.{◌≡◌, ◌≤◌, ◌<◌, ℕ, Bool, true, false, List, [], ◌∷◌, map, ◌||◌, ◌↔◌, length, get_or, arith, sym, ◌∙◌, refl, ap}
+use Rattle.std.proofs.Common.{◌≡◌, ◌≤◌, ◌<◌, ℕ, Bool, true, false, List, [], ◌∷◌, map, ◌||◌, ◌↔◌, length, get_or, arith, refl}
 use Rattle.std.specs.List.{list_any, IsDistinct}
 use Rattle.pb_lan.proofs.Distinctness.{none_is, none_tested, list_any-map, after_first, after_first-cons}
 use Rattle.pb_lan.specs.Plans.{is_same_port}

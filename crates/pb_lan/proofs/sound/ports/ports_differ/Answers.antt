@@ -1,4 +1,4 @@
-use Rattle.std.proofs.Common.{arith, refl}
+use Rattle.std.proofs.Common.{arith}
 use Rattle.pb_lan.proofs.UsedPorts.{ports_rest, ports_twice, ports_end}
 use Rattle.pb_lan.proofs.sound.ports.ports_differ.Goals as goal
 
