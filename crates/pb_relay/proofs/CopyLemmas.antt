@@ -1,0 +1,195 @@
+-- One more port has got its copy or is refused.
+use Rattle.std.proofs.Common.{◌≡◌, ◌≢◌, ℕ, zero, suc, ◌+◌, ◌-◌, ◌<◌, ◌≤◌, Bool, true, false, cond, not, ◌&&◌, ◌||◌, is_some, Some, None, List, [], ◌∷◌, ◌++◌, map, length, take, get_or, set, nat_le, ◌==◌, refl, sym, ap, ◌∙◌, subst, arith, eq-eqb}
+use Rattle.std.proofs.lemmas.Bool.{eqb-true}
+use Rattle.std.proofs.lemmas.List.{get_or-set_same, get_or-set_other, get_or_read, map-append}
+use Rattle.std.specs.declared.option.Option.{Option}
+use Rattle.std.specs.List.{AllByRecursion, filter, list_any}
+use Rattle.pb_frame.proofs.Lists.{All-append, filter-append}
+use Rattle.pb_lan.specs.Queues.{is_refused}
+use Rattle.pb_lan.specs.BridgeLists.{AreRefused, is_named_full, is_full_word}
+use Rattle.pb_lan.specs.declared.step.Item.{Item}
+use Rattle.pb_lan.specs.declared.step.NoRoom.{NoRoom}
+use Rattle.pb_lan.specs.declared.step.NoRoom.TheVariants.{Full, Memory}
+use Rattle.pb_relay.specs.Classes.{number_in, put_in}
+use Rattle.pb_relay.specs.Copies.{HasEnqueued, AreCopied, AreSeparate, with_copy, named}
+
+abbrev pub IsOther : ℕ → ℕ → Type 0
+IsOther p q = q ≢ p
+
+or-false : (b : Bool) → (b || false) ≡ b
+or-false true = refl
+or-false false = refl
+
+unequal : (a b : ℕ) → a ≢ b → (a == b) ≡ false
+unequal a b n = elim (a == b) as (λ t. (a == b) ≡ t → t ≡ false) [ true ↦ λ e. absurd (n (eqb-true a b e)) | false ↦ λ e. refl ] refl
+
+any-append : {X : Type 0} (t : X → Bool) (xs ys : List X) → list_any t (xs ++ ys) ≡ (list_any t xs || list_any t ys)
+any-append t [] ys = refl
+any-append t (x ∷ xs) ys = elim (t x) as (λ b. (b || list_any t (xs ++ ys)) ≡ ((b || list_any t xs) || list_any t ys)) [ true ↦ refl | false ↦ any-append t xs ys ]
+
+any-none : (t : ℕ → Bool) (xs : List ℕ) → AllByRecursion (λ x. t x ≡ false) xs → list_any t xs ≡ false
+any-none t [] a = refl
+any-none t (x ∷ xs) a = ap (λ b. b || list_any t xs) a.0 ∙ any-none t xs a.1
+
+others-none : (p : ℕ) (xs : List ℕ) → AllByRecursion (IsOther p) xs → list_any (λ q. q == p) xs ≡ false
+others-none p [] a = refl
+others-none p (x ∷ xs) a = ap (λ b. b || list_any (λ q. q == p) xs) (unequal x p a.0) ∙ others-none p xs a.1
+
+filter-others : (P : ℕ → Type 0) (g : ℕ → Bool) (xs : List ℕ) → AllByRecursion P xs → AllByRecursion P (filter g xs)
+filter-others P g [] a = tt
+filter-others P g (x ∷ xs) a = elim (g x) as (λ b. AllByRecursion P (cond b (x ∷ filter g xs) (filter g xs))) [ true ↦ (a.0, filter-others P g xs a.1) | false ↦ filter-others P g xs a.1 ]
+
+any-names : (p : ℕ) (rs : List (ℕ × NoRoom)) → is_refused rs p ≡ list_any (λ q. q == p) (map (λ r. r.0) rs)
+any-names p [] = refl
+any-names p (r ∷ rs) = ap (λ b. (r.0 == p) || b) (any-names p rs)
+
+-- no port is refused that wasn't tried
+pub none_refused : (p : ℕ) (done : List ℕ) (rs : List (ℕ × NoRoom)) → map (λ r. r.0) rs ≡ filter (is_refused rs) done → AllByRecursion (IsOther p) done → is_refused rs p ≡ false
+none_refused p done rs e a =
+    any-names p rs ∙ ap (list_any (λ q. q == p)) e ∙ others-none p (filter (is_refused rs) done) (filter-others (IsOther p) (is_refused rs) done a)
+
+pub none_full : (p : ℕ) (rs : List (ℕ × NoRoom)) → is_refused rs p ≡ false → is_named_full rs p ≡ false
+none_full p [] h = refl
+none_full p (r ∷ rs) h =
+    elim (r.0 == p) as (λ b. (b || is_refused rs p) ≡ false → ((b && is_full_word r.1) || is_named_full rs p) ≡ false)
+    [ true ↦ λ e. cc | false ↦ λ e. none_full p rs e ] h
+
+-- what is named of a port says nothing of others
+refused-other : (p q : ℕ) (word : Option NoRoom) (rs : List (ℕ × NoRoom)) → q ≢ p → is_refused (rs ++ named p word) q ≡ is_refused rs q
+refused-other p q None rs n = any-append (λ r. r.0 == q) rs [] ∙ or-false (is_refused rs q)
+refused-other p q (Some word) rs n =
+    any-append (λ r. r.0 == q) rs ((p, word) ∷ []) ∙ ap (λ b. is_refused rs q || (b || false)) (unequal p q (λ e. n (sym e))) ∙ or-false (is_refused rs q)
+
+refused-own : (p : ℕ) (word : Option NoRoom) (rs : List (ℕ × NoRoom)) → is_refused rs p ≡ false → is_refused (rs ++ named p word) p ≡ is_some word
+refused-own p None rs h = any-append (λ r. r.0 == p) rs [] ∙ ap (λ b. b || false) h
+refused-own p (Some word) rs h =
+    any-append (λ r. r.0 == p) rs ((p, word) ∷ []) ∙ ap (λ b. b || ((p == p) || false)) h ∙ ap (λ b. b || false) (eq-eqb p p refl)
+
+full-other : (p q : ℕ) (word : Option NoRoom) (rs : List (ℕ × NoRoom)) → q ≢ p → is_named_full (rs ++ named p word) q ≡ is_named_full rs q
+full-other p q None rs n = any-append (λ r. r.0 == q && is_full_word r.1) rs [] ∙ or-false (is_named_full rs q)
+full-other p q (Some word) rs n =
+    any-append (λ r. r.0 == q && is_full_word r.1) rs ((p, word) ∷ [])
+    ∙ ap (λ b. is_named_full rs q || ((b && is_full_word word) || false)) (unequal p q (λ e. n (sym e))) ∙ or-false (is_named_full rs q)
+
+abbrev pub is_full_answer : Option NoRoom → Bool
+is_full_answer None = false
+is_full_answer (Some word) = is_full_word word
+
+full-own : (p : ℕ) (word : Option NoRoom) (rs : List (ℕ × NoRoom)) → is_refused rs p ≡ false → is_named_full (rs ++ named p word) p ≡ is_full_answer word
+full-own p None rs h = any-append (λ r. r.0 == p && is_full_word r.1) rs [] ∙ ap (λ b. b || false) (none_full p rs h)
+full-own p (Some word) rs h =
+    any-append (λ r. r.0 == p && is_full_word r.1) rs ((p, word) ∷ [])
+    ∙ ap (λ b. b || (((p == p) && is_full_word word) || false)) (none_full p rs h)
+    ∙ ap (λ b. (b && is_full_word word) || false) (eq-eqb p p refl) ∙ or-false (is_full_word word)
+
+filter-same : (p : ℕ) (g h : ℕ → Bool) → ((q : ℕ) → q ≢ p → g q ≡ h q) → (xs : List ℕ) → AllByRecursion (IsOther p) xs → filter g xs ≡ filter h xs
+filter-same p g h e [] a = refl
+filter-same p g h e (x ∷ xs) a = ap (λ b. cond b (x ∷ filter g xs) (filter g xs)) (e x a.0) ∙ ap (λ zs. cond (h x) (x ∷ zs) zs) (filter-same p g h e xs a.1)
+
+names-own : (p : ℕ) (word : Option NoRoom) → map (λ r. r.0) (named p word) ≡ cond (is_some word) (p ∷ []) []
+names-own p None = refl
+names-own p (Some word) = refl
+
+refusals-others : (p : ℕ) (word : Option NoRoom) (full : ℕ → Bool) (rs : List (ℕ × NoRoom)) (xs : List ℕ) → AllByRecursion (IsOther p) xs
+    → AllByRecursion (λ q. full q ≡ is_named_full rs q) xs → AllByRecursion (λ q. full q ≡ is_named_full (rs ++ named p word) q) xs
+refusals-others p word full rs [] a h = tt
+refusals-others p word full rs (x ∷ xs) a h = (h.0 ∙ sym (full-other p x word rs a.0), refusals-others p word full rs xs a.1 h.1)
+
+refusals-more : (p : ℕ) (word : Option NoRoom) (full : ℕ → Bool) (done : List ℕ) (rs : List (ℕ × NoRoom)) → AreRefused full done rs → AllByRecursion (IsOther p) done
+    → full p ≡ is_full_answer word → AreRefused full (done ++ p ∷ []) (rs ++ named p word)
+refusals-more p word full done rs h a f =
+    let n = none_refused p done rs h.0 a in
+    let own = refused-own p word rs n in (
+      map-append (λ r. r.0) rs (named p word)
+          ∙ ap (λ zs. zs ++ map (λ r. r.0) (named p word)) (h.0 ∙ filter-same p (is_refused rs) (is_refused (rs ++ named p word)) (λ q o. sym (refused-other p q word rs o)) done a)
+          ∙ ap (λ zs. filter (is_refused (rs ++ named p word)) done ++ zs) (names-own p word ∙ ap (λ b. cond b (p ∷ []) []) (sym own))
+          ∙ sym (filter-append (is_refused (rs ++ named p word)) done (p ∷ [])),
+      All-append (λ q. full q ≡ is_named_full (rs ++ named p word) q) done (p ∷ []) (refusals-others p word full rs done a h.1) (f ∙ sym (full-own p word rs n), tt),
+    )
+
+answered-full : (capacity class : ℕ) (item : Item) (old new : List (List Item)) (word : Option NoRoom) → HasEnqueued capacity class item old word new
+    → nat_le capacity (number_in old) ≡ is_full_answer word
+answered-full capacity class item old new None h = h.0
+answered-full capacity class item old new (Some Full) h = h.0
+answered-full capacity class item old new (Some Memory) h = h.0
+
+answered-copy : (capacity class : ℕ) (item : Item) (old new : List (List Item)) (word : Option NoRoom) → HasEnqueued capacity class item old word new
+    → new ≡ cond (not (is_some word)) (put_in class item old) old
+answered-copy capacity class item old new None h = h.1
+answered-copy capacity class item old new (Some Full) h = h.1
+answered-copy capacity class item old new (Some Memory) h = h.1
+
+-- one port more
+pub copied_more : (capacity class : ℕ) (item_at : ℕ → Item) (old : List (List (List Item))) (done : List ℕ) (rs : List (ℕ × NoRoom)) (new : List (List (List Item))) (p : ℕ)
+    (word : Option NoRoom) (q after : List (List Item))
+    → AreCopied capacity class item_at old done rs new → AllByRecursion (IsOther p) done → (1 ≤ p) × (p ≤ 16) → length new ≡ 16
+    → q ≡ get_or new (p - 1) q → HasEnqueued capacity class (item_at p) q word after
+    → AreCopied capacity class item_at old (done ++ p ∷ []) (rs ++ named p word) (set new (p - 1) after)
+copied_more capacity class item_at old done rs new p word q after h a l n e w = record {
+  refusals = refusals-more p word (λ port. nat_le capacity (number_in (get_or old (port - 1) []))) done rs h.refusals a
+      (ap (λ z. nat_le capacity (number_in z)) (sym same) ∙ answered-full capacity class (item_at p) q after word w);
+  copies = λ r b. at r b;
+}
+  where
+    fresh : (z : Bool) → list_any (λ x. x == p) done ≡ false → (list_any (λ x. x == p) done && z) ≡ false
+    fresh z f = ap (λ b. b && z) f
+
+    same : q ≡ get_or old (p - 1) []
+    same =
+        let l0 : 1 ≤ p = l.0 in
+        let l1 : p ≤ 16 = l.1 in
+        let s : p - 1 + 1 ≡ p = omega arith in
+        let none : list_any (λ x. x == p - 1 + 1) done ≡ false = subst (λ (k : ℕ). list_any (λ x. x == k) done ≡ false) (sym s) (others-none p done a) in
+        get_or_read new (p - 1) q (omega arith) e [] ∙ h.copies (p - 1) (omega arith)
+        ∙ ap (λ b. cond (b && not (is_refused rs (p - 1 + 1))) (put_in class (item_at (p - 1 + 1)) (get_or old (p - 1) [])) (get_or old (p - 1) [])) none
+
+    here : (r : ℕ) → r < 16 → r + 1 ≡ p → get_or (set new (p - 1) after) r [] ≡ with_copy class item_at (done ++ p ∷ []) (rs ++ named p word) p (get_or old r [])
+    here r b f =
+        let d : p - 1 ≡ r = omega arith in
+        let s : r ≡ p - 1 = sym d in
+        let own = refused-own p word rs (none_refused p done rs h.refusals.0 a) in
+        let any : list_any (λ x. x == p) (done ++ p ∷ []) ≡ true =
+        any-append (λ x. x == p) done (p ∷ []) ∙ ap (λ b. b || ((p == p) || false)) (others-none p done a) ∙ ap (λ b. b || false) (eq-eqb p p refl) in
+        ap (λ k. get_or (set new k after) r []) d
+        ∙ get_or-set_same new r after [] (omega arith)
+        ∙ answered-copy capacity class (item_at p) q after word w
+        ∙ ap (λ z. cond (not (is_some word)) (put_in class (item_at p) z) z) (same ∙ ap (λ k. get_or old k []) d)
+        ∙ ap (λ b. cond (not b) (put_in class (item_at p) (get_or old r [])) (get_or old r [])) (sym own)
+        ∙ ap (λ b. cond (b && not (is_refused (rs ++ named p word) p)) (put_in class (item_at p) (get_or old r [])) (get_or old r [])) (sym any)
+
+    other : (r : ℕ) → r < 16 → r + 1 ≢ p → get_or (set new (p - 1) after) r [] ≡ with_copy class item_at (done ++ p ∷ []) (rs ++ named p word) (r + 1) (get_or old r [])
+    other r b f =
+        let l0 : 1 ≤ p = l.0 in
+        let d : r ≢ p - 1 = omega arith in
+        let any : list_any (λ x. x == r + 1) (done ++ p ∷ []) ≡ list_any (λ x. x == r + 1) done =
+        any-append (λ x. x == r + 1) done (p ∷ []) ∙ ap (λ b. list_any (λ x. x == r + 1) done || (b || false)) (unequal p (r + 1) (λ z. f (sym z))) ∙ or-false (list_any (λ x. x == r + 1) done) in
+        get_or-set_other new (p - 1) r after [] d ∙ h.copies r b
+        ∙ ap (λ b. cond (b && not (is_refused rs (r + 1))) (put_in class (item_at (r + 1)) (get_or old r [])) (get_or old r [])) (sym any)
+        ∙ ap (λ b. cond (list_any (λ x. x == r + 1) (done ++ p ∷ []) && not b) (put_in class (item_at (r + 1)) (get_or old r [])) (get_or old r [])) (sym (refused-other p (r + 1) word rs f))
+
+    at : (r : ℕ) → r < 16 → get_or (set new (p - 1) after) r [] ≡ with_copy class item_at (done ++ p ∷ []) (rs ++ named p word) (r + 1) (get_or old r [])
+    at r b =
+        elim (r + 1 == p) as (λ t. (r + 1 == p) ≡ t → get_or (set new (p - 1) after) r [] ≡ with_copy class item_at (done ++ p ∷ []) (rs ++ named p word) (r + 1) (get_or old r [])) [
+          | true ↦ λ t. let f = eqb-true (r + 1) p t in here r b f ∙ ap (λ k. with_copy class item_at (done ++ p ∷ []) (rs ++ named p word) k (get_or old r [])) (sym f)
+          | false ↦ λ t. other r b (λ f. let g = eq-eqb (r + 1) p f in cc)
+        ] refl
+
+pub separate_at : (ps : List ℕ) (i : ℕ) → i < length ps → AreSeparate ps → (1 ≤ get_or ps i 0) × (get_or ps i 0 ≤ 16)
+separate_at [] i l a = absurd (omega arith)
+separate_at (p ∷ ps) zero l a = a.0
+separate_at (p ∷ ps) (suc i) l a = separate_at ps i (omega arith) a.2
+
+other-at : (p : ℕ) (ps : List ℕ) (i : ℕ) → i < length ps → AllByRecursion (λ q. q ≢ p) ps → p ≢ get_or ps i 0
+other-at p [] i l a = absurd (omega arith)
+other-at p (q ∷ ps) zero l a = λ e. a.0 (sym e)
+other-at p (q ∷ ps) (suc i) l a = other-at p ps i (omega arith) a.1
+
+-- a port was not among those before it
+pub separate_before : (ps : List ℕ) (i : ℕ) → i < length ps → AreSeparate ps → AllByRecursion (IsOther (get_or ps i 0)) (take i ps)
+separate_before [] i l a = absurd (omega arith)
+separate_before (p ∷ ps) zero l a = tt
+separate_before (p ∷ ps) (suc i) l a = (other-at p ps i (omega arith) a.1, separate_before ps i (omega arith) a.2)
+
+pub named-few : (p : ℕ) (word : Option NoRoom) → length (named p word) ≤ 1
+named-few p None = omega arith
+named-few p (Some word) = omega arith

@@ -1,0 +1,149 @@
+-- What the rulings leave of a received frame, and what a sound plan says of its port.
+use Rattle.std.proofs.Common.{◌≡◌, ◌≢◌, ℕ, ◌≤◌, Bool, true, false, cond, nat_lt, ◌==◌, List, [], ◌∷◌, Some, None, length, refl, arith, eq-eqb}
+use Rattle.std.specs.List.{AllByRecursion}
+use Rattle.pb_frame.proofs.Lists.{first-found}
+use Rattle.pb_frame.specs.Lists.{first}
+use Rattle.pb_frame.specs.Tags.{vid_of}
+use Rattle.pb_lan.proofs.Rulings.{vid_at-small}
+use Rattle.pb_lan.specs.Plans.{IsSound, IsSoundCustomer, IsSoundEnd}
+use Rattle.pb_lan.specs.Ports.{Port, port_at, vid_at, serves, is_customer_at, is_end_at, all_ends, customer_or_else, provider_or_unused}
+use Rattle.pb_lan.specs.Ports.Port.{Customer, Provider, Unused}
+use Rattle.pb_lan.specs.Queues.{vid_in}
+use Rattle.pb_lan.specs.Rules.{silent}
+use Rattle.pb_lan.specs.Shapes.{is_forwarding, state_by}
+use Rattle.pb_lan.specs.BridgeLists.{Ruling, first_case, customer_cases, ruling_in, ruling_by}
+use Rattle.pb_lan.specs.BridgeLists.Ruling.{Refuses, Listens, LearnsOnly, Carries}
+use Rattle.pb_lan.specs.declared.plan.Plan.{Plan}
+use Rattle.pb_lan.specs.declared.shape.PortState.{PortState}
+use Rattle.pb_lan.specs.declared.shape.PortState.TheVariants.{Discarding, Learning, Forwarding}
+use Rattle.pb_lan.specs.declared.step.Item.{Item}
+use Rattle.pb_lan.specs.declared.step.Reason.{Reason}
+use Rattle.pb_relay.specs.declared.ports.LocalPort.{LocalPort}
+use Rattle.pb_relay.specs.declared.ports.LocalPort.TheVariants.{ToCustomer, ToBridge, ToNobody}
+use Rattle.pb_relay.specs.Loads.{IsLoadable}
+use Rattle.pb_relay.specs.LocalPorts.{IsKept}
+use Rattle.pb_relay.specs.Verdicts.{bridge_cases}
+
+-- where none of the cases rules so and yet it is so ruled, none of them holds
+past : (cs : List (Bool × Ruling)) (rest target : Ruling) → AllByRecursion (λ c. c.1 ≡ target → ⊥) cs → first_case cs rest ≡ target
+    → AllByRecursion (λ c. c.0 ≡ false) cs × (rest ≡ target)
+past [] rest target never h = (tt, h)
+past (c ∷ cs) rest target never h =
+    elim (c.0) as (λ b. c.0 ≡ b → cond b c.1 (first_case cs rest) ≡ target → AllByRecursion (λ c. c.0 ≡ false) (c ∷ cs) × (rest ≡ target))
+    [ true ↦ λ e n. absurd (never.0 n) | false ↦ λ e n. let r = past cs rest target never.1 n in ((e, r.0), r.1) ] refl h
+
+-- who refuses doesn't carry
+refuses-carries : (v : ℕ) (r : Reason) → Refuses r ≡ Carries v → ⊥
+refuses-carries v r h = cc
+
+refuses-learns : (v : ℕ) (r : Reason) → Refuses r ≡ LearnsOnly v → ⊥
+refuses-learns v r h = cc
+
+listens-carries : (v : ℕ) → Listens ≡ Carries v → ⊥
+listens-carries v h = cc
+
+listens-learns : (v : ℕ) → Listens ≡ LearnsOnly v → ⊥
+listens-learns v h = cc
+
+carries-vid : (a b : ℕ) → Carries a ≡ Carries b → a ≡ b
+carries-vid a b h = cc
+
+at-least : (m n : ℕ) → nat_lt n m ≡ false → m ≤ n
+at-least m n h = grind (arith, h)
+
+unworn : (n : ℕ) → (n == 4294967295) ≡ false → n ≢ 4294967295
+unworn n h e = let t = eq-eqb n 4294967295 e in cc
+
+-- what is known of a frame that is learnt or relayed in a service
+pub record IsAdmitted (plan : Plan) (port : Port) (item : Item) (vid : ℕ) : Type 0 where
+  pub long : 14 ≤ length item.wire
+  pub unworn : item.hops ≢ 4294967295
+  pub service : vid_in plan port item.wire ≡ vid
+
+-- at a customer port
+from_customer : (item : Item) (rest target : Ruling) → ((r : Reason) → Refuses r ≡ target → ⊥) → first_case (customer_cases item) rest ≡ target
+    → (14 ≤ length item.wire) × (item.hops ≢ 4294967295) × (rest ≡ target)
+from_customer item rest target never h =
+    let a = past (customer_cases item) rest target (never _, (never _, (never _, (never _, (never _, tt))))) h in
+    (at-least 14 (length item.wire) a.0.0, unworn item.hops a.0.1.1.1.1.0, a.1)
+
+-- at a port to a bridge
+from_bridge : (services : ℕ → Bool) (item : Item) (rest target : Ruling) → ((r : Reason) → Refuses r ≡ target → ⊥) → (Listens ≡ target → ⊥)
+    → first_case (bridge_cases services item) rest ≡ target → (18 ≤ length item.wire) × (item.hops ≢ 4294967295) × (rest ≡ target)
+from_bridge services item rest target never unheard h =
+    let a = past (bridge_cases services item) rest target
+    (never _, (never _, (never _, (unheard, (never _, (never _, (never _, (never _, (never _, (never _, tt)))))))))) h in
+    (at-least 18 (length item.wire) a.0.1.1.1.1.1.1.1.0, unworn item.hops a.0.1.1.1.1.1.1.1.1.1.0, a.1)
+
+carries_in : (s : PortState) (w v : ℕ) → ruling_in s w ≡ Carries v → (w ≡ v) × (is_forwarding s ≡ true)
+carries_in Discarding w v h = absurd (refuses-carries v _ h)
+carries_in Learning w v h = cc
+carries_in Forwarding w v h = (carries-vid w v h, refl)
+
+learns_in : (s : PortState) (w v : ℕ) → ruling_in s w ≡ LearnsOnly v → w ≡ v
+learns_in Discarding w v h = absurd (refuses-learns v _ h)
+learns_in Learning w v h = cc
+learns_in Forwarding w v h = cc
+
+-- a frame that is relayed
+pub carried : (plan : Plan) (port : Port) (state : PortState) (item : Item) (v : ℕ) → ruling_by silent plan port state item ≡ Carries v → IsAdmitted plan port item v
+carried plan (Customer c) state item v h =
+    let a = from_customer item (Carries (vid_at plan c)) (Carries v) (refuses-carries v) h in
+    record { long = a.0; unworn = a.1; service = carries-vid _ v a.2 }
+carried plan (Provider e) state item v h =
+    let a = from_bridge (λ w. serves plan w e) item (ruling_in state (vid_of item.wire)) (Carries v) (refuses-carries v) (listens-carries v) h in
+    record { long = omega (arith, a.0); unworn = a.1; service = (carries_in state (vid_of item.wire) v a.2).0 }
+carried plan Unused state item v h = cc
+
+-- came in where frames are forwarded
+pub forwards : (plan : Plan) (port : Port) (p : ℕ) (changes : List (ℕ × PortState)) (item : Item) (v : ℕ)
+    → ruling_by silent plan port (state_by plan.spanning port p changes) item ≡ Carries v → is_forwarding (state_by plan.spanning port p changes) ≡ true
+forwards plan (Customer c) p changes item v h = refl
+forwards plan (Provider e) p changes item v h =
+    let state = state_by plan.spanning (Provider e) p changes in
+    let a = from_bridge (λ w. serves plan w e) item (ruling_in state (vid_of item.wire)) (Carries v) (refuses-carries v) (listens-carries v) h in
+    (carries_in state (vid_of item.wire) v a.2).1
+forwards plan Unused p changes item v h = cc
+
+-- a frame whose source alone is learnt
+pub overheard : (plan : Plan) (port : Port) (state : PortState) (item : Item) (v : ℕ) → ruling_by silent plan port state item ≡ LearnsOnly v → IsAdmitted plan port item v
+overheard plan (Customer c) state item v h =
+    let a = from_customer item (Carries (vid_at plan c)) (LearnsOnly v) (refuses-learns v) h in
+    let never = a.2 in cc
+overheard plan (Provider e) state item v h =
+    let a = from_bridge (λ w. serves plan w e) item (ruling_in state (vid_of item.wire)) (LearnsOnly v) (refuses-learns v) (listens-learns v) h in
+    record { long = omega (arith, a.0); unworn = a.1; service = learns_in state (vid_of item.wire) v a.2 }
+overheard plan Unused state item v h = cc
+
+-- what stands at a port of a sound plan is sound
+abbrev pub IsSoundPort : Plan → Port → Type 0
+IsSoundPort plan (Customer c) = IsSoundCustomer plan c
+IsSoundPort plan (Provider e) = IsSoundEnd plan e
+IsSoundPort plan Unused = Unit {0}
+
+pub sound_port : (plan : Plan) (b p : ℕ) → IsSound plan → IsSoundPort plan (port_at plan b p)
+sound_port plan b p s =
+    elim (first (is_customer_at b p) plan.customers)
+    as (λ o. first (is_customer_at b p) plan.customers ≡ o → IsSoundPort plan (customer_or_else o (provider_or_unused (first (is_end_at b p) (all_ends plan))))) [
+      | Some c ↦ λ e. (first-found (IsSoundCustomer plan) (is_customer_at b p) plan.customers c e s.customers).0
+      | None ↦ λ e. elim (first (is_end_at b p) (all_ends plan))
+          as (λ o. first (is_end_at b p) (all_ends plan) ≡ o → IsSoundPort plan (provider_or_unused o)) [
+            | Some x ↦ λ e. (first-found (IsSoundEnd plan) (is_end_at b p) (all_ends plan) x e s.ends).0
+            | None ↦ λ e. tt
+          ] refl
+    ] refl
+
+-- such a frame can be made ready for other ports
+pub loadable : (plan : Plan) (port : Port) (local : LocalPort) (state : PortState) (item : Item) (v : ℕ) → IsSound plan → IsSoundPort plan port → IsKept plan port local
+    → ruling_by silent plan port state item ≡ Carries v → IsLoadable local item.wire
+loadable plan (Customer c) (ToCustomer vid pcp) state item v s p k h =
+    let small = vid_at-small plan c s in
+    let priority = p.priority in
+    (omega (arith, small, k.0), omega (arith, priority, k.1), (from_customer item (Carries (vid_at plan c)) (Carries v) (refuses-carries v) h).0)
+loadable plan (Provider e) (ToBridge start vids) state item v s p k h =
+    (from_bridge (λ w. serves plan w e) item (ruling_in state (vid_of item.wire)) (Carries v) (refuses-carries v) (listens-carries v) h).0
+loadable plan Unused local state item v s p k h = cc
+loadable plan (Customer c) (ToBridge start vids) state item v s p k h = absurd k
+loadable plan (Customer c) ToNobody state item v s p k h = absurd k
+loadable plan (Provider e) (ToCustomer vid pcp) state item v s p k h = absurd k
+loadable plan (Provider e) ToNobody state item v s p k h = absurd k

@@ -1,0 +1,75 @@
+-- The ruling by what a bridge keeps of a port is the ruling.
+use Rattle.std.proofs.Common.{◌≡◌, ℕ, zero, suc, ◌+◌, ◌-◌, ◌<◌, ◌≤◌, Bool, true, List, map, get_or, refl, sym, ap, ◌∙◌, subst, arith}
+use Rattle.std.proofs.lemmas.List.{get_or_read}
+use Rattle.pb_lan.specs.Ports.{Port, port_at, local_ports, serves}
+use Rattle.pb_lan.specs.Ports.Port.{Customer, Provider, Unused}
+use Rattle.pb_lan.specs.Shapes.{state_after, states_after}
+use Rattle.pb_lan.specs.BridgeLists.{ruling}
+use Rattle.pb_lan.specs.declared.step.Step.{Step}
+use Rattle.pb_lan.specs.BridgeLists.{ruling_by, first_case, customer_cases, ruling_in}
+use Rattle.pb_lan.specs.BridgeLists.Ruling.{Carries}
+use Rattle.pb_frame.specs.Tags.{vid_of}
+use Rattle.pb_lan.specs.declared.plan.Plan.{Plan}
+use Rattle.pb_lan.specs.declared.shape.PortState.{PortState}
+use Rattle.pb_lan.specs.declared.step.Item.{Item}
+use Rattle.pb_relay.specs.declared.ports.LocalPort.{LocalPort}
+use Rattle.pb_relay.specs.declared.ports.LocalPort.TheVariants.{ToCustomer, ToBridge, ToNobody}
+use Rattle.pb_relay.specs.LocalPorts.{IsKept, IsConfigured}
+use Rattle.pb_lan.specs.Ports.{is_used}
+use Rattle.pb_lan.specs.Rules.{silent}
+use Rattle.pb_relay.specs.Verdicts.{local_ruling, bridge_cases, serves_of, is_to_somebody}
+use Rattle.pb_relay.proofs.WaitingLemmas.{count_up}
+
+pub ruled : (plan : Plan) (port : Port) (local : LocalPort) (state : PortState) (item : Item) → IsKept plan port local → local_ruling local state item ≡ ruling_by silent plan port state item
+ruled plan (Customer c) (ToCustomer vid pcp) state item k = ap (λ v. first_case (customer_cases item) (Carries v)) k.0
+ruled plan (Provider e) (ToBridge start vids) state item k = served (serves_of vids.items (vid_of item.wire)) (serves plan (vid_of item.wire) e) (k.1 (vid_of item.wire))
+  where
+    served : (a b : Bool) → a ≡ b → first_case (bridge_cases (λ _. a) item) (ruling_in state (vid_of item.wire)) ≡ first_case (bridge_cases (λ _. b) item) (ruling_in state (vid_of item.wire))
+    served a b h = ap (λ z. first_case (bridge_cases (λ _. z) item) (ruling_in state (vid_of item.wire))) h
+ruled plan Unused ToNobody state item k = refl
+ruled plan (Customer c) (ToBridge start vids) state item k = absurd k
+ruled plan (Customer c) ToNobody state item k = absurd k
+ruled plan (Provider e) (ToCustomer vid pcp) state item k = absurd k
+ruled plan (Provider e) ToNobody state item k = absurd k
+ruled plan Unused (ToCustomer vid pcp) state item k = absurd k
+ruled plan Unused (ToBridge start vids) state item k = absurd k
+
+pub used_here : (plan : Plan) (port : Port) (local : LocalPort) → IsKept plan port local → is_used port ≡ true → is_to_somebody local ≡ true
+used_here plan (Customer c) (ToCustomer vid pcp) k u = refl
+used_here plan (Provider e) (ToBridge start vids) k u = refl
+used_here plan Unused local k u = cc
+used_here plan (Customer c) (ToBridge start vids) k u = refl
+used_here plan (Customer c) ToNobody k u = absurd k
+used_here plan (Provider e) (ToCustomer vid pcp) k u = refl
+used_here plan (Provider e) ToNobody k u = absurd k
+
+pub get_up : {X : Type 0} (f : ℕ → X) (n k i : ℕ) (d : X) → i < n → get_or (map f (count_up k n)) i d ≡ f (k + i)
+get_up f zero k i d l = absurd (omega arith)
+get_up f (suc n) k zero d l = let s : k ≡ k + 0 = omega arith in ap f s
+get_up f (suc n) k (suc i) d l = let s : (k + 1) + i ≡ k + suc i = omega arith in get_up f n (k + 1) i d (omega arith) ∙ ap f s
+
+-- what a list by local ports has at a port
+pub at_port : {X : Type 0} (f : ℕ → X) (p : ℕ) (d : X) → 1 ≤ p → p ≤ 16 → get_or (map f local_ports) (p - 1) d ≡ f p
+at_port f p d a b =
+    let s : 1 + (p - 1) ≡ p = omega arith in
+    get_up f 16 1 (p - 1) d (omega arith) ∙ ap f s
+
+-- what is read of the ports
+pub kept_port : (plan : Plan) (b : ℕ) (ports : List LocalPort) (capacity limit p : ℕ) (local : LocalPort) → IsConfigured plan b ports capacity limit → (1 ≤ p) × (p ≤ 16)
+    → local ≡ get_or ports (p - 1) local → IsKept plan (port_at plan b p) local
+kept_port plan b ports capacity limit p local s l e =
+    let c = s.count in
+    let l0 : 1 ≤ p = l.0 in
+    let l1 : p ≤ 16 = l.1 in
+    let h : p - 1 + 1 ≡ p = omega arith in
+    subst (IsKept plan (port_at plan b p)) (sym (get_or_read ports (p - 1) local (omega arith) e ToNobody))
+    (subst (λ (r : ℕ). IsKept plan (port_at plan b r) (get_or ports (p - 1) ToNobody)) h (s.kept_ports (p - 1) (omega arith)))
+
+-- the ruling by what is kept
+pub rule_is : (plan : Plan) (b : ℕ) (steps : List Step) (states : List PortState) (p : ℕ) (local : LocalPort) (item : Item) (d : PortState)
+    → states ≡ states_after plan b steps → (1 ≤ p) × (p ≤ 16) → IsKept plan (port_at plan b p) local
+    → local_ruling local (get_or states (p - 1) d) item ≡ ruling silent plan b steps p item
+rule_is plan b steps states p local item d e l k =
+    ap (λ z. local_ruling local (get_or z (p - 1) d) item) e
+    ∙ ap (λ z. local_ruling local z item) (at_port (state_after plan b steps) p d l.0 l.1)
+    ∙ ruled plan (port_at plan b p) local (state_after plan b steps p) item k

@@ -1,0 +1,97 @@
+use Rattle.std.proofs.Common.{◌≡◌, ◌≤◌, ◌∷◌, ◌++◌, [], Some, None, true, false, cond, List, ℕ, length, length-append, arith, ap, sym, subst, ◌∙◌}
+use Rattle.std.specs.List.{filter}
+use Rattle.pb_frame.specs.Frames.{src_of, dst_of, is_group}
+use Rattle.pb_lan.specs.Ports.{port_at, local_ports}
+use Rattle.pb_lan.specs.Rules.{silent}
+use Rattle.pb_lan.specs.Shapes.{state_after}
+use Rattle.pb_lan.specs.BridgeLists.{ruling, Fits}
+use Rattle.pb_lan.specs.BridgeLists.Ruling.{Carries}
+use Rattle.pb_lan.specs.declared.step.Outcome.{Outcome}
+use Rattle.pb_lan.specs.declared.step.Outcome.TheVariants.{Relayed}
+use Rattle.pb_lan.specs.declared.step.Step.{Step}
+use Rattle.pb_lan.specs.declared.step.Step.TheVariants.{Receive}
+use Rattle.pb_relay.specs.declared.ports.LocalPort.{LocalPort}
+use Rattle.pb_relay.specs.Copies.{AreCopied, copy_at}
+use Rattle.pb_relay.specs.Loads.{IsLoadedAt, is_choice}
+use Rattle.pb_relay.specs.Standing.{BridgeView, IsStanding, with_step}
+use Rattle.pb_relay.specs.Tables.{HasLearnt, where_in}
+use Rattle.pb_relay.proofs.EntryLemmas.{IsAdmitted, carried}
+use Rattle.pb_relay.proofs.ReceiveLemmas.{relayed}
+use Rattle.pb_relay.proofs.StandingLemmas.{capacity-small}
+use Rattle.pb_relay.proofs.bridge.Bridge.carry.Goals as goal
+
+-- what is known of the item
+admitted : (old : BridgeView) (plan : BridgeView) → plan ≡ old → (port : ℕ) → (item : _) → (vid : ℕ)
+    → ruling silent old.plan old.number old.steps port item ≡ Carries vid → IsAdmitted plan.plan (port_at plan.plan plan.number port) item vid
+admitted old view e port item vid r =
+    carried view.plan (port_at view.plan view.number port) (state_after view.plan view.number view.steps port) item vid
+    (subst (λ (v : BridgeView). ruling silent v.plan v.number v.steps port item ≡ Carries vid) (sym e) r)
+
+pub sought-at-requires : goal.sought-at-requires
+sought-at-requires c =
+    let a = admitted _ _ c.self.view_is c.args.port c.args.item c.args.vid c.requires.ruling in
+    subst (λ (w : List ℕ). 14 ≤ length w) (sym c.as_slice-frame.ensures) a.long
+
+pub queue_copies-requires-clause-hops : goal.queue_copies-requires-clause-hops
+queue_copies-requires-clause-hops c =
+    let a = admitted _ _ c.self.view_is c.args.port c.args.item c.args.vid c.requires.ruling in
+    omega (arith, a.unworn)
+
+pub queue_copies-requires-clause-capacity : goal.queue_copies-requires-clause-capacity
+queue_copies-requires-clause-capacity c =
+    omega (arith, c.self.invariant.0.most, capacity-small c.self.inside.plan c.self.inside.number c.self.invariant.0.sound)
+
+-- the step fits, and what is kept is kept
+whole : (c : goal.Joined-load-2)
+    → Fits silent c.self.inside.plan c.self.inside.number c.self.inside.steps.items
+    (Receive c.args.port c.args.item (Some c.learn-learnt.result) (Relayed c.choose.new.chosen.items c.queue_copies.new.refused.items) None)
+    × IsStanding c.self.inside.plan c.self.inside.number
+    (c.self.inside.steps.items ++ Receive c.args.port c.args.item (Some c.learn-learnt.result) (Relayed c.choose.new.chosen.items c.queue_copies.new.refused.items) None ∷ [])
+    c.self.inside.states c.queue_copies.new.queues.items c.self.inside.clock c.learn-learnt.new.self
+whole c =
+    let mac : c.source_of.result.0 ≡ src_of c.args.item.wire = c.source_of.ensures ∙ ap src_of c.as_slice-frame.ensures in
+    let learns : HasLearnt c.self.inside.plan.ageing c.self.inside.clock c.args.vid c.args.port (src_of c.args.item.wire) c.self.inside.table c.learn-learnt.result c.learn-learnt.new.self =
+    subst (λ (m : List ℕ). HasLearnt c.self.inside.plan.ageing c.self.inside.clock c.args.vid c.args.port m c.self.inside.table c.learn-learnt.result c.learn-learnt.new.self) mac
+    (record { answer = c.learn-learnt.ensures.answer; table = c.learn-learnt.ensures.table }) in
+    let at = c.sought-at.ensures
+    ∙ ap (λ w. cond (is_group (dst_of w)) None (where_in c.self.inside.plan.ageing c.self.inside.clock c.args.vid (dst_of w) c.learn-learnt.new.self)) c.as_slice-frame.ensures in
+    let chosen : c.choose.new.chosen.items ≡ filter (is_choice c.self.inside.ports.items c.self.inside.states c.args.port c.args.vid c.sought-at.result) local_ports =
+    c.choose.ensures.chosen ∙ ap (λ (ps : List LocalPort). filter (is_choice ps c.self.inside.states c.args.port c.args.vid c.sought-at.result) local_ports) c.as_slice.ensures.value in
+    let copied = subst (λ (ps : List LocalPort). AreCopied c.self.inside.capacity c.args.load.class (copy_at ps c.args.load c.args.item) c.self.inside.queues.items c.choose.new.chosen.items c.queue_copies.new.refused.items c.queue_copies.new.queues.items) c.as_slice-3.ensures.value
+    (subst (λ (qs : List ℕ). AreCopied c.self.inside.capacity c.args.load.class (copy_at c.as_slice-3.result.now c.args.load c.args.item) c.self.inside.queues.items qs c.queue_copies.new.refused.items c.queue_copies.new.queues.items) c.as_slice-2.ensures.value c.queue_copies.ensures.copied) in
+    relayed c.self.inside.plan c.self.inside.number c.self.inside.steps.items c.self.inside.states c.self.inside.queues.items c.queue_copies.new.queues.items
+    c.self.inside.clock c.self.inside.table c.learn-learnt.new.self c.self.inside.ports.items c.self.inside.capacity c.self.inside.limit c.args.port c.args.vid c.args.item c.args.load
+    c.learn-learnt.result c.sought-at.result c.choose.new.chosen.items c.queue_copies.new.refused.items
+    c.self.invariant.0 c.self.invariant.1
+    (subst (λ (v : BridgeView). ruling silent v.plan v.number v.steps c.args.port c.args.item ≡ Carries c.args.vid) (sym c.self.view_is) c.requires.ruling)
+    (subst (λ (v : BridgeView). IsLoadedAt v.plan (port_at v.plan v.number c.args.port) c.args.item.wire c.args.load) (sym c.self.view_is) c.requires.load)
+    learns at chosen c.choose.ensures.separate copied c.queue_copies.ensures.count
+
+pub invariant_of-self : goal.invariant_of-self
+invariant_of-self c =
+    let reserved = c.self.invariant.2.reserved (subst (λ (v : BridgeView). v.is_reserved ≡ true) (sym c.self.view_is) c.requires.reserved) in
+    let step : Step = Receive c.args.port c.args.item (Some c.learn-learnt.result) (Relayed c.choose.new.chosen.items c.queue_copies.new.refused.items) None in
+    let e : c.append.new.steps.items ≡ c.self.inside.steps.items ++ step ∷ [] =
+    c.append.ensures.items ∙ ap (λ (o : Outcome). c.self.inside.steps.items ++ Receive c.args.port c.args.item (Some c.learn-learnt.result) o None ∷ []) c.into_outcomes-told.ensures.kept in (
+      c.self.invariant.0,
+      subst (λ (ms : List Step). IsStanding c.self.inside.plan c.self.inside.number ms c.self.inside.states c.queue_copies.new.queues.items c.self.inside.clock c.learn-learnt.new.self)
+          (sym e) (whole c).1,
+      record {
+        within = omega (arith, reserved.0, ap length e, length-append c.self.inside.steps.items (step ∷ []));
+        reserved = λ e. cc;
+      },
+    )
+
+pub returns : goal.returns
+returns c =
+    let told = c.into_outcomes-told.ensures.told in
+    let same : c.into_outcomes-told.result.1 ≡ c.into_outcomes-told.result.0 = c.into_outcomes-told.ensures.kept ∙ sym told in
+    let e : c.append.new.steps.items ≡ c.self.inside.steps.items ++ Receive c.args.port c.args.item (Some c.learn-learnt.result) c.into_outcomes-told.result.0 None ∷ [] =
+    c.append.ensures.items ∙ ap (λ (o : Outcome). c.self.inside.steps.items ++ Receive c.args.port c.args.item (Some c.learn-learnt.result) o None ∷ []) same in (
+      Some c.learn-learnt.result,
+      None,
+      ap (λ (ms : List Step). record { plan = c.self.inside.plan; number = c.self.inside.number; steps = ms; is_reserved = false }) e
+          ∙ ap (λ (v : BridgeView). with_step v (Receive c.args.port c.args.item (Some c.learn-learnt.result) c.into_outcomes-told.result.0 None)) c.self.view_is,
+      subst (λ (v : BridgeView). Fits silent v.plan v.number v.steps (Receive c.args.port c.args.item (Some c.learn-learnt.result) c.into_outcomes-told.result.0 None)) c.self.view_is
+          (subst (λ (o : Outcome). Fits silent c.self.inside.plan c.self.inside.number c.self.inside.steps.items (Receive c.args.port c.args.item (Some c.learn-learnt.result) o None)) (sym told) (whole c).0),
+    )

@@ -1,0 +1,53 @@
+use Rattle.std.proofs.Common.{◌≡◌, ◌∷◌, ◌++◌, [], Some, None, true, false, List, ℕ, length, length-append, arith, ap, sym, subst, ◌∙◌}
+use Rattle.pb_frame.specs.Frames.{src_of}
+use Rattle.pb_lan.specs.Rules.{silent}
+use Rattle.pb_lan.specs.BridgeLists.{ruling, Fits}
+use Rattle.pb_lan.specs.BridgeLists.Ruling.{LearnsOnly}
+use Rattle.pb_lan.specs.declared.step.Outcome.TheVariants.{Filtered}
+use Rattle.pb_lan.specs.declared.step.Reason.TheVariants.{NotForwarding}
+use Rattle.pb_lan.specs.declared.step.Step.{Step}
+use Rattle.pb_lan.specs.declared.step.Step.TheVariants.{Receive}
+use Rattle.pb_relay.specs.Standing.{BridgeView, IsStanding, with_step}
+use Rattle.pb_relay.specs.Tables.{HasLearnt}
+use Rattle.pb_relay.proofs.ReceiveLemmas.{learnt_alone}
+use Rattle.pb_relay.proofs.bridge.Bridge.learn_only.Goals as goal
+
+-- the step fits, and what is kept is kept
+whole : (c : goal.After-append)
+    → Fits silent c.self.inside.plan c.self.inside.number c.self.inside.steps.items (Receive c.args.port c.args.item (Some c.learn-learnt.result) (Filtered NotForwarding) None)
+    × IsStanding c.self.inside.plan c.self.inside.number
+    (c.self.inside.steps.items ++ Receive c.args.port c.args.item (Some c.learn-learnt.result) (Filtered NotForwarding) None ∷ [])
+    c.self.inside.states c.self.inside.queues.items c.self.inside.clock c.learn-learnt.new.self
+whole c =
+    let mac : c.source_of-source.result.0 ≡ src_of c.args.item.wire = c.source_of-source.ensures ∙ ap src_of c.as_slice.ensures in
+    let learns : HasLearnt c.self.inside.plan.ageing c.self.inside.clock c.args.vid c.args.port (src_of c.args.item.wire) c.self.inside.table c.learn-learnt.result c.learn-learnt.new.self =
+    subst (λ (m : List ℕ). HasLearnt c.self.inside.plan.ageing c.self.inside.clock c.args.vid c.args.port m c.self.inside.table c.learn-learnt.result c.learn-learnt.new.self) mac
+    (record { answer = c.learn-learnt.ensures.answer; table = c.learn-learnt.ensures.table }) in
+    learnt_alone c.self.inside.plan c.self.inside.number c.self.inside.steps.items c.self.inside.states c.self.inside.queues.items
+    c.self.inside.clock c.self.inside.table c.learn-learnt.new.self c.self.inside.ports.items c.self.inside.capacity c.self.inside.limit c.args.port c.args.vid c.args.item
+    c.learn-learnt.result c.self.invariant.0 c.self.invariant.1
+    (subst (λ (v : BridgeView). ruling silent v.plan v.number v.steps c.args.port c.args.item ≡ LearnsOnly c.args.vid) (sym c.self.view_is) c.requires.ruling)
+    learns
+
+pub invariant_of-self : goal.invariant_of-self
+invariant_of-self c =
+    let reserved = c.self.invariant.2.reserved (subst (λ (v : BridgeView). v.is_reserved ≡ true) (sym c.self.view_is) c.requires.reserved) in
+    let step : Step = Receive c.args.port c.args.item (Some c.learn-learnt.result) (Filtered NotForwarding) None in (
+      c.self.invariant.0,
+      subst (λ (ms : List Step). IsStanding c.self.inside.plan c.self.inside.number ms c.self.inside.states c.self.inside.queues.items c.self.inside.clock c.learn-learnt.new.self)
+          (sym c.append.ensures.items) (whole c).1,
+      record {
+        within = omega (arith, reserved.0, ap length c.append.ensures.items, length-append c.self.inside.steps.items (step ∷ []));
+        reserved = λ e. cc;
+      },
+    )
+
+pub returns : goal.returns
+returns c =
+    let step : Step = Receive c.args.port c.args.item (Some c.learn-learnt.result) (Filtered NotForwarding) None in (
+      Some c.learn-learnt.result,
+      None,
+      ap (λ (ms : List Step). record { plan = c.self.inside.plan; number = c.self.inside.number; steps = ms; is_reserved = false }) c.append.ensures.items
+          ∙ ap (λ (v : BridgeView). with_step v step) c.self.view_is,
+      subst (λ (v : BridgeView). Fits silent v.plan v.number v.steps step) c.self.view_is (whole c).0,
+    )

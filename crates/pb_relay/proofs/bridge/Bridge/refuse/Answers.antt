@@ -1,0 +1,28 @@
+use Rattle.std.proofs.Common.{◌≡◌, ◌∷◌, true, length, arith, sym, ap, subst, [], None, refl, length-append, List}
+use Rattle.pb_lan.specs.BridgeLists.{ruling, Ruling, Follows, Fits}
+use Rattle.pb_lan.specs.BridgeLists.Ruling.{Refuses}
+use Rattle.pb_lan.specs.declared.step.Outcome.TheVariants.{Filtered}
+use Rattle.pb_lan.specs.declared.step.Step.{Step}
+use Rattle.pb_lan.specs.declared.step.Step.TheVariants.{Receive}
+use Rattle.pb_relay.specs.Standing.{BridgeView, IsStanding}
+use Rattle.pb_lan.specs.Rules.{silent}
+use Rattle.pb_relay.proofs.StandingLemmas.{after_quiet}
+use Rattle.pb_relay.proofs.bridge.Bridge.refuse.Goals as goal
+
+pub invariant_of-self : goal.invariant_of-self
+invariant_of-self c =
+    let step : Step = Receive c.args.port c.args.item None (Filtered c.args.reason) None in
+    let r : ruling silent c.self.inside.plan c.self.inside.number c.self.inside.steps.items c.args.port c.args.item ≡ Refuses c.args.reason =
+    subst (λ (v : BridgeView). ruling silent v.plan v.number v.steps c.args.port c.args.item ≡ Refuses c.args.reason) (sym c.self.view_is) c.requires.ruling in
+    let reserved = c.self.invariant.2.reserved (subst (λ (v : BridgeView). v.is_reserved ≡ true) (sym c.self.view_is) c.requires.reserved) in
+    let f : Fits silent c.self.inside.plan c.self.inside.number c.self.inside.steps.items step =
+    subst (λ (z : Ruling). Follows silent c.self.inside.plan c.self.inside.number c.self.inside.steps.items c.args.port c.args.item None (Filtered c.args.reason) None z) (sym r) ((refl, refl, refl)) in (
+      c.self.invariant.0,
+      subst (λ (ms : List Step). IsStanding c.self.inside.plan c.self.inside.number ms c.self.inside.states c.self.inside.queues.items c.self.inside.clock c.self.inside.table)
+          (sym c.append.ensures.items)
+          (after_quiet _ _ _ _ _ _ _ step c.self.invariant.1 f refl refl refl (λ _. refl) (λ _ _. refl)),
+      record {
+        within = omega (arith, reserved.0, ap length c.append.ensures.items, length-append c.self.inside.steps.items (step ∷ []));
+        reserved = λ e. cc;
+      },
+    )

@@ -1,0 +1,38 @@
+use Rattle.std.proofs.Common.{◌≡◌, true, arith, sym, subst}
+use Rattle.pb_lan.specs.Ports.{port_at, is_used}
+use Rattle.pb_lan.specs.Rules.{silent}
+use Rattle.pb_lan.specs.BridgeLists.{ruling}
+use Rattle.pb_lan.specs.BridgeLists.Ruling.{Carries}
+use Rattle.pb_relay.specs.Loads.{IsLoadedAt}
+use Rattle.pb_relay.specs.Standing.{BridgeView}
+use Rattle.pb_relay.proofs.EntryLemmas.{loadable, sound_port}
+use Rattle.pb_relay.proofs.StandingLemmas.{used_port}
+use Rattle.pb_relay.proofs.VerdictLemmas.{kept_port}
+use Rattle.pb_relay.proofs.bridge.Bridge.relay.Goals as goal
+
+pub overflow_sub-port : goal.overflow_sub-port
+overflow_sub-port c =
+    (used_port _ _ _ c.self.invariant.0.sound
+    (subst (λ (v : BridgeView). is_used (port_at v.plan v.number c.args.port) ≡ true) (sym c.self.view_is) c.requires.used)).0
+
+pub index-local-requires : goal.index-local-requires
+index-local-requires c =
+    let l = used_port _ _ _ c.self.invariant.0.sound
+    (subst (λ (v : BridgeView). is_used (port_at v.plan v.number c.args.port) ≡ true) (sym c.self.view_is) c.requires.used) in
+    omega (arith, l.0, l.1, c.self.invariant.0.count)
+
+pub new-requires : goal.new-requires
+new-requires c =
+    let l = used_port _ _ _ c.self.invariant.0.sound
+    (subst (λ (v : BridgeView). is_used (port_at v.plan v.number c.args.port) ≡ true) (sym c.self.view_is) c.requires.used) in
+    loadable c.self.inside.plan (port_at c.self.inside.plan c.self.inside.number c.args.port) c.index-local.result.now _ c.args.item _ c.self.invariant.0.sound
+    (sound_port c.self.inside.plan c.self.inside.number c.args.port c.self.invariant.0.sound)
+    (kept_port c.self.inside.plan _ _ _ _ c.args.port c.index-local.result.now c.self.invariant.0 l c.index-local.ensures)
+    (subst (λ (v : BridgeView). ruling silent v.plan v.number v.steps c.args.port c.args.item ≡ Carries c.args.vid) (sym c.self.view_is) c.requires.ruling)
+
+pub carry-requires-clause-load : goal.carry-requires-clause-load
+carry-requires-clause-load c =
+    let l = used_port _ _ _ c.self.invariant.0.sound
+    (subst (λ (v : BridgeView). is_used (port_at v.plan v.number c.args.port) ≡ true) (sym c.self.view_is) c.requires.used) in
+    subst (λ (v : BridgeView). IsLoadedAt v.plan (port_at v.plan v.number c.args.port) c.args.item.wire c.in-Ok.load) c.self.view_is
+    (c.index-local.result.now, kept_port c.self.inside.plan _ _ _ _ c.args.port c.index-local.result.now c.self.invariant.0 l c.index-local.ensures, c.in-Ok.ensures)

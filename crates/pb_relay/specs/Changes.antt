@@ -1,0 +1,55 @@
+-- What changes a bridge's ports, and its clock.
+use Rattle.std.specs.Prelude.{◌≡◌, ℕ, ◌+◌, Bool, true, false, List, [], ◌∷◌}
+use Rattle.pb_lan.specs.Rules.{silent, planned_change, from_to}
+use Rattle.pb_lan.specs.Rules.Cause.{Sets}
+use Rattle.pb_lan.specs.Choice.{now_after}
+use Rattle.pb_lan.specs.BridgeLists.{Fits}
+use Rattle.pb_lan.specs.declared.plan.Plan.{Plan}
+use Rattle.pb_lan.specs.declared.shape.PortState.{PortState}
+use Rattle.pb_lan.specs.declared.shape.PortState.TheVariants.{Discarding}
+use Rattle.pb_lan.specs.declared.step.Moved.{Moved}
+use Rattle.pb_lan.specs.declared.step.Step.{Step}
+use Rattle.pb_lan.specs.declared.step.Step.TheVariants.{Tick, Admin}
+use Rattle.pb_relay.specs.Standing.{BridgeView, with_step}
+use Rattle.pb_relay.specs.declared.ports.LocalPort.{LocalPort}
+use Rattle.pb_relay.specs.declared.ports.LocalPort.TheVariants.{ToCustomer, ToBridge, ToNobody}
+
+abbrev pub unmoved : Moved
+unmoved = record { states = []; flushed = []; queued = []; dropped = [] }
+
+-- the bridge has appended one tick, which moved nothing
+abbrev pub HasTicked : BridgeView → BridgeView → Type 0
+HasTicked old new =
+    (new ≡ with_step old (Tick (now_after old.steps + 1) unmoved))
+    × Fits silent old.plan old.number old.steps (Tick (now_after old.steps + 1) unmoved)
+
+-- what moves where a port is set up or down
+abbrev pub moved_by_setting : Plan → ℕ → List Step → ℕ → Bool → Moved
+moved_by_setting plan number steps port up = record {
+  states = (planned_change plan number steps (Sets port up)).states;
+  flushed = (planned_change plan number steps (Sets port up)).flushed;
+  queued = [];
+  dropped = [];
+}
+
+-- the bridge has appended the one step of the port that is set up or down, and the step is lawful there
+abbrev pub HasSet : BridgeView → ℕ → Bool → BridgeView → Type 0
+HasSet old port up new =
+    (new ≡ with_step old (Admin port up (moved_by_setting old.plan old.number old.steps port up)))
+    × Fits silent old.plan old.number old.steps (Admin port up (moved_by_setting old.plan old.number old.steps port up))
+
+-- the state of a port that is set up or down
+abbrev pub state_set : LocalPort → Bool → PortState
+state_set (ToBridge start vids) true = start
+state_set (ToBridge start vids) false = Discarding
+state_set (ToCustomer vid pcp) up = Discarding
+state_set ToNobody up = Discarding
+
+-- a port that is set down is flushed
+abbrev pub ports_flushed : ℕ → Bool → List ℕ
+ports_flushed port true = []
+ports_flushed port false = port ∷ []
+
+-- what moves where a port goes from one state to another
+abbrev pub moved_to : ℕ → Bool → PortState → PortState → Moved
+moved_to port up old new = record { states = from_to port old new; flushed = ports_flushed port up; queued = []; dropped = [] }

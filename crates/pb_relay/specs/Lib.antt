@@ -1,0 +1,10 @@
+pub mod Classes
+pub mod LocalPorts
+pub mod Entries
+pub mod Standing
+pub mod Verdicts
+pub mod Tables
+pub mod Copies
+pub mod Rooms
+pub mod Loads
+pub mod Changes

@@ -1,0 +1,58 @@
+-- What a bridge keeps of its steps.
+use Rattle.std.specs.Prelude.{◌≡◌, ℕ, ◌+◌, ◌<◌, ◌≤◌, Bool, true, false, List, [], ◌∷◌, ◌++◌, length, slice_index_or}
+use Rattle.std.specs.List.{AllByRecursion, filter}
+use Rattle.pb_frame.specs.Stations.{Sighting, is_fresh, standing}
+use Rattle.pb_lan.specs.Shapes.{states_after}
+use Rattle.pb_lan.specs.Rules.{silent}
+use Rattle.pb_lan.specs.Queues.{Waiting, waiting}
+use Rattle.pb_lan.specs.Choice.{now_after, news_of}
+use Rattle.pb_lan.specs.BridgeLists.{IsLawfulBridge, Fits}
+use Rattle.pb_lan.specs.declared.plan.Plan.{Plan}
+use Rattle.pb_lan.specs.declared.shape.PortState.{PortState}
+use Rattle.pb_lan.specs.declared.step.Item.{Item}
+use Rattle.std.specs.declared.option.Option.{Option}
+use Rattle.pb_frame.specs.declared.learnt.Learnt.{Learnt}
+use Rattle.pb_lan.specs.declared.step.Moved.{Moved}
+use Rattle.pb_lan.specs.declared.step.Outcome.{Outcome}
+use Rattle.pb_lan.specs.declared.step.Step.{Step}
+use Rattle.pb_lan.specs.declared.step.Step.TheVariants.{Receive}
+use Rattle.pb_relay.specs.Classes.{by_class}
+use Rattle.pb_lan.specs.Queues.{capacity_of}
+
+-- what callers see of a bridge: the plan, its number there, its steps, and whether there is room for one more
+pub record BridgeView : Type 0 where
+  pub plan : Plan
+  pub number : ℕ
+  pub steps : List Step
+  pub is_reserved : Bool
+
+-- the class of each that waits is one of eight
+abbrev pub AreClassed : List Waiting → Type 0
+AreClassed ws = AllByRecursion (λ w. w.class < 8) ws
+
+-- the steps are lawful, and what is kept of them is so
+pub record IsStanding (plan : Plan) (number : ℕ) (steps : List Step) (states : List PortState) (queues : List (List (List Item))) (now : ℕ) (table : List Sighting) : Type 0 where
+  pub lawful : IsLawfulBridge silent plan number steps
+  pub kept_states : states ≡ states_after plan number steps
+  pub count : length queues ≡ 16
+  pub kept_queues : (r : ℕ) → r < 16 → slice_index_or queues r [] ≡ by_class (waiting plan number (r + 1) steps)
+  pub classes : (r : ℕ) → AreClassed (waiting plan number r steps)
+  pub within : (r : ℕ) → length (waiting plan number r steps) ≤ capacity_of plan number
+  pub clock : now ≡ now_after steps
+  pub stations : filter (is_fresh plan.ageing now) table ≡ standing plan.ageing now (news_of plan number steps)
+
+-- the room for steps
+pub record HasRoom (steps : List Step) (capacity limit : ℕ) (is_reserved : Bool) : Type 0 where
+  pub within : length steps ≤ limit
+  pub reserved : is_reserved ≡ true → (length steps < limit) × (length steps < capacity)
+
+-- the step that a bridge appends
+abbrev pub with_step : BridgeView → Step → BridgeView
+with_step b step = record b { steps = b.steps ++ step ∷ []; is_reserved = false }
+
+-- the bridge has appended the one step of the item received at the port, with this outcome, and the step is lawful there
+abbrev pub HasReceived : BridgeView → ℕ → Item → Outcome → BridgeView → Type 0
+HasReceived old port item outcome new =
+    (learnt : Option Learnt) × (moved : Option Moved)
+    × (new ≡ with_step old (Receive port item learnt outcome moved))
+    × Fits silent old.plan old.number old.steps (Receive port item learnt outcome moved)

@@ -1,0 +1,54 @@
+-- What a bridge does with a received frame, as its code tells it.
+use Rattle.std.specs.Prelude.{ℕ, Bool, true, false, List, [], ◌∷◌, length, nat_lt, ◌==◌, ◌&&◌, not}
+use Rattle.std.specs.List.{list_any}
+use Rattle.pb_frame.specs.Frames.{dst_of}
+use Rattle.pb_frame.specs.Tags.{has_service_type, vid_of}
+use Rattle.pb_frame.specs.Admission.{is_reserved}
+use Rattle.pb_lan.specs.BridgeLists.{Ruling, reserved_as, is_worn, is_for_bridges}
+use Rattle.pb_lan.specs.BridgeLists.Ruling.{Refuses, Listens, LearnsOnly, Carries}
+use Rattle.pb_lan.specs.declared.step.Item.{Item}
+use Rattle.pb_lan.specs.declared.step.Reason.TheVariants.{NotMember, Untagged, Reserved, Malformed, Worn, Long}
+use Rattle.pb_lan.specs.BridgeLists.Ruling.{Closed}
+use Rattle.pb_lan.specs.BridgeLists.{first_case, customer_cases, ruling_in}
+use Rattle.pb_lan.specs.declared.shape.PortState.{PortState}
+use Rattle.pb_lan.specs.Rules.{silent}
+use Rattle.pb_relay.specs.declared.ports.LocalPort.{LocalPort}
+use Rattle.pb_relay.specs.declared.ports.LocalPort.TheVariants.{ToCustomer, ToBridge, ToNobody}
+use Rattle.pb_relay.specs.declared.verdict.Verdict.{Verdict}
+use Rattle.pb_relay.specs.declared.verdict.Verdict.TheVariants.{Refuse, Learn, Carry}
+
+abbrev pub as_ruling : Verdict → Ruling
+as_ruling (Refuse reason) = Refuses reason
+as_ruling (Learn vid) = LearnsOnly vid
+as_ruling (Carry vid) = Carries vid
+
+-- the port is a member of the service
+abbrev pub serves_of : List ℕ → ℕ → Bool
+serves_of vids vid = list_any (λ w. w == vid) vids
+
+-- the cases at a port to a bridge, by the services that it serves
+abbrev pub bridge_cases : (ℕ → Bool) → Item → List (Bool × Ruling)
+bridge_cases serves item =
+    (nat_lt (length item.wire) 14, Refuses Malformed)
+    ∷ (nat_lt 1996 (length item.wire), Refuses Long)
+    ∷ (is_for_bridges item.wire && has_service_type item.wire, Refuses (Reserved 8))
+    ∷ (is_for_bridges item.wire && silent.is_readable item.wire, Listens)
+    ∷ (is_for_bridges item.wire, Refuses Malformed)
+    ∷ (is_reserved (dst_of item.wire), Refuses (reserved_as item.wire))
+    ∷ (not (has_service_type item.wire), Refuses Untagged)
+    ∷ (nat_lt (length item.wire) 18, Refuses Malformed)
+    ∷ (not (serves (vid_of item.wire)), Refuses NotMember)
+    ∷ (is_worn item, Refuses Worn)
+    ∷ []
+
+-- somebody is there
+abbrev pub is_to_somebody : LocalPort → Bool
+is_to_somebody (ToCustomer vid pcp) = true
+is_to_somebody (ToBridge start vids) = true
+is_to_somebody ToNobody = false
+
+-- the ruling by what is kept of the port
+abbrev pub local_ruling : LocalPort → PortState → Item → Ruling
+local_ruling (ToCustomer vid pcp) state item = first_case (customer_cases item) (Carries vid)
+local_ruling (ToBridge start vids) state item = first_case (bridge_cases (serves_of vids.items) item) (ruling_in state (vid_of item.wire))
+local_ruling ToNobody state item = Closed

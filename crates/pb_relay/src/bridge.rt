@@ -1,0 +1,165 @@
+//! A bridge, its list of steps and its queues.
+
+ghost use Rattle.std.specs.Prelude.{◌≡◌, ◌<◌, ◌++◌, ◌∷◌, [], ◌↔◌, vec_len, vec_capacity, length, true, OnOk, OnErr, IsErrOf};
+ghost use Rattle.std.specs.Option.{option_copied};
+ghost use Rattle.pb_lan.specs.BridgeLists.{IsLawfulBridge, Fits};
+ghost use Rattle.pb_lan.specs.Ports.{port_at, is_used};
+ghost use Rattle.pb_lan.specs.Queues.{waiting, next_out};
+ghost use Rattle.pb_lan.specs.Rules.{silent};
+ghost use Rattle.pb_lan.specs.Shapes.{states_after};
+ghost use Rattle.pb_lan.specs.declared.step.Step.TheVariants.{Transmit};
+ghost use Rattle.pb_relay.specs.Standing.{with_step};
+
+use crate::fault::BridgeFault;
+use crate::fdb::Fdb;
+use crate::ports::LocalPort;
+use crate::queues::PortQueues;
+use pb_lan::{Item, Plan, PortState, Step};
+use std::alloc::Global;
+use std::marker::Model;
+
+/// A bridge of a sound plan that gives the states of its ports itself.
+///
+/// Contracts see the plan, the bridge's number there, the list of its steps, and whether there is
+/// room for one more step. The list is always lawful. All else that is kept, the states, the queues
+/// and the learning table, follows from it.
+#[derive(Drop)]
+pub struct Bridge {
+    pub(crate) alloc: Global,
+    /// The whole plan, by which contracts tell what the bridge does.
+    pub(crate) plan: Plan,
+    /// The bridge's number in the plan, from 1.
+    pub(crate) number: u8,
+    /// What the plan has at the local ports 1 to 16.
+    pub(crate) ports: Vec<LocalPort>,
+    /// The states of the local ports.
+    pub(crate) states: [PortState; 16],
+    /// What waits at the local ports.
+    pub(crate) queues: Vec<PortQueues>,
+    /// The most items that wait at a port.
+    pub(crate) capacity: usize,
+    /// The most steps.
+    pub(crate) limit: usize,
+    /// Where stations were seen.
+    pub(crate) table: Fdb,
+    /// The number of ticks.
+    pub(crate) clock: u32,
+    pub(crate) steps: Vec<Step>,
+    /// There is room for one more step.
+    pub(crate) is_reserved: bool,
+}
+
+impl Model for Bridge {
+    ghost use Rattle.std.specs.Prelude.{vec_capacity};
+    ghost use Rattle.pb_relay.specs.Standing.{BridgeView, IsStanding, HasRoom};
+    ghost use Rattle.pb_relay.specs.LocalPorts.{IsConfigured};
+
+    ghost Value = { BridgeView };
+
+    ghost view = { λ b. record { plan = b.plan; number = b.number; steps = b.steps.items; is_reserved = b.is_reserved } };
+
+    ghost invariant = { λ b. IsConfigured b.plan b.number b.ports.items b.capacity b.limit
+        × IsStanding b.plan b.number b.steps.items b.states b.queues.items b.clock b.table
+        × HasRoom b.steps.items (vec_capacity b.steps) b.limit b.is_reserved };
+}
+
+/// Puts a step into the room that is there for it.
+pub(crate) fn append(steps: &mut Vec<Step>, step: Step)
+    requires { vec_len steps.old < vec_capacity steps.old }
+    ensures items { steps.new.items ≡ steps.old.items ++ step ∷ [] }
+{
+    let _ = steps.push(step);
+}
+
+impl Bridge {
+    /// The steps so far.
+    pub fn steps(&self) -> &[Step]
+        ensures steps { result.now ≡ self.now.steps }
+        ensures lawful { IsLawfulBridge silent self.now.plan self.now.number self.now.steps }
+    {
+        self.steps.as_slice()
+    }
+
+    /// The steps, and no bridge any more.
+    pub fn into_steps(self) -> Vec<Step>
+        ensures steps { result.items ≡ self.steps }
+        ensures lawful { IsLawfulBridge silent self.plan self.number self.steps }
+    {
+        let Bridge {
+            alloc: _,
+            plan: _,
+            number: _,
+            ports: _,
+            states: _,
+            queues: _,
+            capacity: _,
+            limit: _,
+            table: _,
+            clock: _,
+            steps,
+            is_reserved: _,
+        } = self;
+        steps
+    }
+
+    /// Makes room for one step, so that `pop_out` needs no memory.
+    ///
+    /// `StepLimit` is answered exactly where the list holds the plan's number of steps, `Memory`
+    /// where there is none for one more. Then nothing has changed.
+    pub fn reserve_step(&mut self) -> Result<(), BridgeFault>
+        ensures ok { OnOk result (self.new ≡ record self.old { is_reserved = true }) }
+        ensures err { OnErr result (self.new ≡ self.old) }
+        ensures limit { IsErrOf result BridgeFault.StepLimit ↔ (length self.old.steps ≡ self.old.plan.steps) }
+    {
+        if self.steps.len() == self.limit {
+            return Err(BridgeFault::StepLimit);
+        }
+        self.steps.reserve(1)?;
+        self.is_reserved = true;
+        Ok(())
+    }
+
+    /// The number of items that wait at a port, in all traffic classes.
+    pub fn waiting(&self, port: u8) -> u16
+        requires { is_used (port_at self.now.plan self.now.number port) ≡ true }
+        ensures { result ≡ length (waiting self.now.plan self.now.number port self.now.steps) }
+    {
+        self.queues[port as usize - 1].len() as u16
+    }
+
+    /// The item that leaves a port next: the oldest of the highest class (IEEE 802.1Q clause 8,
+    /// strict priority).
+    pub fn peek_out(&self, port: u8) -> Option<&Item>
+        requires { is_used (port_at self.now.plan self.now.number port) ≡ true }
+        ensures { option_copied result ≡ next_out (waiting self.now.plan self.now.number port self.now.steps) }
+    {
+        let queues = &self.queues[port as usize - 1];
+        queues.first()
+    }
+
+    /// Takes the item that leaves a port next, and appends the Transmit step that tells of it. Takes
+    /// no memory.
+    pub fn pop_out(&mut self, port: u8) -> Item
+        requires used { is_used (port_at self.old.plan self.old.number port) ≡ true }
+        requires reserved { self.old.is_reserved ≡ true }
+        requires some { 0 < length (waiting self.old.plan self.old.number port self.old.steps) }
+        ensures step { self.new ≡ with_step self.old (Transmit port result) }
+        ensures fits { Fits silent self.old.plan self.old.number self.old.steps (Transmit port result) }
+    {
+        let queues = &mut self.queues[port as usize - 1];
+        let Some(twin) = queues.pop() else {
+            unreachable!();
+        };
+        let (item, copy) = twin.into_pair();
+        self.is_reserved = false;
+        append(&mut self.steps, Step::Transmit { port, item: copy });
+        item
+    }
+
+    /// The states of the local ports 1 to 16.
+    pub fn shape(&self) -> [PortState; 16]
+        ensures { result ≡ states_after self.now.plan self.now.number self.now.steps }
+    {
+        self.states
+    }
+}

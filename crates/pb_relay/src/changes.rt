@@ -1,0 +1,177 @@
+//! What changes a bridge's ports, and its clock.
+
+ghost use Rattle.std.specs.Prelude.{◌≡◌, ◌↔◌, ◌<◌, ◌≤◌, Bool, [], length, true, false, not, if◌then◌else◌, IfOk, OnOk, OnErr, IsErrOf, IsTrue};
+ghost use Rattle.pb_frame.specs.Stations.{after};
+ghost use Rattle.pb_frame.specs.Stations.News.{Flushed};
+ghost use Rattle.pb_lan.specs.Ports.{port_at, is_provider};
+ghost use Rattle.pb_lan.specs.Rules.{is_same, from_to};
+ghost use Rattle.pb_relay.specs.Changes.{HasTicked, HasSet, unmoved, moved_by_setting, moved_to, state_set, ports_flushed};
+
+use crate::bridge::{Bridge, append};
+use crate::fault::BridgeFault;
+use crate::fdb::Fdb;
+use crate::ports::LocalPort;
+use pb_frame::{Memory, Seq};
+use pb_lan::{Moved, PortState, Step};
+use std::alloc::Global;
+
+impl Bridge {
+    /// The clock ticks.
+    pub fn tick(&mut self) -> Result<(), BridgeFault>
+        ensures ok { OnOk result (HasTicked self.old self.new) }
+        ensures err { OnErr result (self.new ≡ self.old) }
+        ensures limit { IsErrOf result BridgeFault.StepLimit ↔ (length self.old.steps ≡ self.old.plan.steps) }
+    {
+        self.reserve_step()?;
+        self.advance();
+        Ok(())
+    }
+
+    /// Appends a tick.
+    fn advance(&mut self)
+        requires { self.old.is_reserved ≡ true }
+        ensures { HasTicked self.old self.new }
+    {
+        self.is_reserved = false;
+        self.clock += 1;
+        append(
+            &mut self.steps,
+            Step::Tick {
+                now: self.clock,
+                moved: nothing_moved(self.alloc),
+            },
+        );
+    }
+
+    /// Sets a port to another bridge down, which makes it Discarding and forgets its stations, or up
+    /// again, in the state in which it started.
+    ///
+    /// `StepLimit` is answered exactly where the list holds the plan's number of steps, `Memory`
+    /// where there is none for the step. Then nothing has changed.
+    pub fn admin(&mut self, port: u8, up: bool) -> Result<(), BridgeFault>
+        requires { is_provider (port_at self.old.plan self.old.number port) ≡ true }
+        ensures ok { OnOk result (HasSet self.old port up self.new) }
+        ensures err { OnErr result (self.new ≡ self.old) }
+        ensures limit { IsErrOf result BridgeFault.StepLimit ↔ (length self.old.steps ≡ self.old.plan.steps) }
+    {
+        if self.steps.len() == self.limit {
+            return Err(BridgeFault::StepLimit);
+        }
+        let Ok(moved) = self.moved_by_setting(port, up) else {
+            return Err(BridgeFault::Memory);
+        };
+        self.reserve_step()?;
+        self.set(port, up, moved);
+        Ok(())
+    }
+
+    /// What moves where a port is set up or down.
+    fn moved_by_setting(&self, port: u8, up: bool) -> Result<Moved, Memory>
+        requires { is_provider (port_at self.now.plan self.now.number port) ≡ true }
+        ensures { IfOk result (λ moved. moved ≡ moved_by_setting self.now.plan self.now.number self.now.steps port up) }
+    {
+        let ports = &self.ports;
+        let place = port as usize - 1;
+        let next = state_set(&ports[place], up);
+        moved_to(self.alloc, port, up, self.states[place], next)
+    }
+
+    /// Sets a port up or down, and appends the step that tells of it.
+    fn set(&mut self, port: u8, up: bool, moved: Moved)
+        requires provider { is_provider (port_at self.old.plan self.old.number port) ≡ true }
+        requires reserved { self.old.is_reserved ≡ true }
+        requires moved { moved ≡ moved_by_setting self.old.plan self.old.number self.old.steps port up }
+        ensures { HasSet self.old port up self.new }
+    {
+        let ports = &self.ports;
+        let place = port as usize - 1;
+        let next = state_set(&ports[place], up);
+        flush_unless(&mut self.table, up, port);
+        self.states[place] = next;
+        self.is_reserved = false;
+        append(&mut self.steps, Step::Admin { port, up, moved });
+    }
+}
+
+/// No change.
+fn nothing_moved(alloc: Global) -> Moved
+    ensures { result ≡ unmoved }
+{
+    Moved {
+        states: Seq::from_vec(Vec::new(alloc)),
+        flushed: Seq::from_vec(Vec::new(alloc)),
+        queued: Seq::from_vec(Vec::new(alloc)),
+        dropped: Seq::from_vec(Vec::new(alloc)),
+    }
+}
+
+/// What moves where a port is set up or down, from one state to another.
+fn moved_to(
+    alloc: Global,
+    port: u8,
+    up: bool,
+    old: PortState,
+    new: PortState,
+) -> Result<Moved, Memory>
+    ensures { IfOk result (λ moved. moved ≡ moved_to port up old new) }
+{
+    Ok(Moved {
+        states: Seq::from_vec(change(alloc, port, old, new)?),
+        flushed: Seq::from_vec(flushed(alloc, port, up)?),
+        queued: Seq::from_vec(Vec::new(alloc)),
+        dropped: Seq::from_vec(Vec::new(alloc)),
+    })
+}
+
+/// The state of a port that is set up or down.
+fn state_set(local: &LocalPort, up: bool) -> PortState
+    ensures { result ≡ state_set local.now up }
+{
+    match local {
+        LocalPort::ToBridge { start, vids: _ } if up => *start,
+        _ => PortState::Discarding,
+    }
+}
+
+/// The states are one.
+fn is_same(a: PortState, b: PortState) -> bool
+    ensures { result ≡ is_same a b }
+{
+    a == b
+}
+
+/// The change of a port from one state to another, if they differ.
+fn change(
+    alloc: Global,
+    port: u8,
+    old: PortState,
+    new: PortState,
+) -> Result<Vec<(u8, PortState)>, Memory>
+    ensures { IfOk result (λ changes. changes.items ≡ from_to port old new) }
+{
+    let mut changes = Vec::new(alloc);
+    if !is_same(old, new) {
+        changes.push((port, new))?;
+    }
+    Ok(changes)
+}
+
+/// A port that is set down is flushed.
+fn flushed(alloc: Global, port: u8, up: bool) -> Result<Vec<u8>, Memory>
+    ensures { IfOk result (λ ports. ports.items ≡ ports_flushed port up) }
+{
+    let mut ports = Vec::new(alloc);
+    if !up {
+        ports.push(port)?;
+    }
+    Ok(ports)
+}
+
+/// Forgets the stations of a port that is set down.
+fn flush_unless(table: &mut Fdb, up: bool, port: u8)
+    ensures { table.new ≡ (if up then table.old else after table.old (Flushed port)) }
+{
+    if !up {
+        table.flush(port);
+    }
+}

@@ -1,0 +1,220 @@
+//! What a bridge does with a frame that comes in at a port (IEEE 802.1Q clause 8).
+
+ghost use Rattle.std.specs.Prelude.{ℕ, ◌≡◌, ◌≤◌, ◌<◌, ◌↔◌, length, true, slice_index_or, IfOk, IfErr, OnErr, IsErrOf, if◌then◌else◌, None};
+ghost use Rattle.pb_frame.specs.Frames.{src_of, dst_of, is_group};
+ghost use Rattle.pb_lan.specs.Ports.{port_at, is_used};
+ghost use Rattle.pb_lan.specs.Rules.{silent};
+ghost use Rattle.pb_lan.specs.BridgeLists.{ruling};
+ghost use Rattle.pb_lan.specs.BridgeLists.Ruling.{Refuses, LearnsOnly, Carries};
+ghost use Rattle.pb_relay.specs.Loads.{IsLoadedAt};
+ghost use Rattle.pb_relay.specs.Rooms.{IsEmptyRoom};
+ghost use Rattle.pb_relay.specs.Standing.{HasReceived};
+ghost use Rattle.pb_relay.specs.Tables.{where_in};
+ghost use Rattle.pb_relay.specs.Verdicts.{as_ruling};
+
+use crate::bridge::{Bridge, append};
+use crate::choice::choose;
+use crate::copies::queue_copies;
+use crate::fault::BridgeFault;
+use crate::fdb::Fdb;
+use crate::load::Load;
+use crate::room::Room;
+use crate::verdict::{Verdict, rule};
+use pb_frame::Mac;
+use pb_lan::{Item, Outcome, Reason, Step};
+
+impl Bridge {
+    /// Rules on an item that comes in at a port, learns its source, queues its copies and appends
+    /// the Receive step that tells of it.
+    ///
+    /// `StepLimit` is answered exactly where the list holds the plan's number of steps, `Memory`
+    /// where there is no room for one more. Then nothing has changed, and the item is handed back.
+    pub fn receive(&mut self, port: u8, item: Item) -> Result<Outcome, (BridgeFault, Item)>
+        requires { is_used (port_at self.old.plan self.old.number port) ≡ true }
+        ensures ok { IfOk result (λ outcome. HasReceived self.old port item outcome self.new) }
+        ensures err { OnErr result (self.new ≡ self.old) }
+        ensures item { IfErr result (λ e. e.1 ≡ item) }
+        ensures limit { IsErrOf result (BridgeFault.StepLimit, item) ↔ (length self.old.steps ≡ self.old.plan.steps) }
+    {
+        if let Err(fault) = self.reserve_step() {
+            return Err((fault, item));
+        }
+        match self.rule(port, &item) {
+            Verdict::Refuse(reason) => Ok(self.refuse(port, item, reason)),
+            Verdict::Learn(vid) => Ok(self.learn_only(port, item, vid)),
+            Verdict::Carry(vid) => Ok(self.relay(port, item, vid)),
+        }
+    }
+
+    /// What is to be done with an item that comes in at a port.
+    fn rule(&self, port: u8, item: &Item) -> Verdict
+        requires { is_used (port_at self.now.plan self.now.number port) ≡ true }
+        ensures { as_ruling result ≡ ruling silent self.now.plan self.now.number self.now.steps port item.now }
+    {
+        let ports = &self.ports;
+        let place = port as usize - 1;
+        let local = &ports[place];
+        rule(local, self.states[place], item)
+    }
+
+    /// Appends a step that tells that the item goes nowhere.
+    fn refuse(&mut self, port: u8, item: Item, reason: Reason) -> Outcome
+        requires reserved { self.old.is_reserved ≡ true }
+        requires ruling { ruling silent self.old.plan self.old.number self.old.steps port item ≡ Refuses reason }
+        ensures { HasReceived self.old port item result self.new }
+    {
+        self.is_reserved = false;
+        append(
+            &mut self.steps,
+            Step::Receive {
+                port,
+                item,
+                learnt: None,
+                outcome: Outcome::Filtered(reason),
+                moved: None,
+            },
+        );
+        Outcome::Filtered(reason)
+    }
+
+    /// Appends a step that tells that there is no memory to relay the item.
+    fn give_up(&mut self, port: u8, item: Item) -> Outcome
+        requires reserved { self.old.is_reserved ≡ true }
+        requires ruling { (vid : ℕ) × (ruling silent self.old.plan self.old.number self.old.steps port item ≡ Carries vid) }
+        ensures { HasReceived self.old port item result self.new }
+    {
+        self.is_reserved = false;
+        append(
+            &mut self.steps,
+            Step::Receive {
+                port,
+                item,
+                learnt: None,
+                outcome: Outcome::Filtered(Reason::Memory),
+                moved: None,
+            },
+        );
+        Outcome::Filtered(Reason::Memory)
+    }
+
+    /// Learns the source of an item that goes nowhere, at a port that is Learning.
+    fn learn_only(&mut self, port: u8, item: Item, vid: u16) -> Outcome
+        requires reserved { self.old.is_reserved ≡ true }
+        requires ruling { ruling silent self.old.plan self.old.number self.old.steps port item ≡ LearnsOnly vid }
+        ensures { HasReceived self.old port item result self.new }
+    {
+        let source = source_of(item.wire.as_slice());
+        let learnt = self
+            .table
+            .learn(self.plan.ageing, vid, source, port, self.clock);
+        self.is_reserved = false;
+        append(
+            &mut self.steps,
+            Step::Receive {
+                port,
+                item,
+                learnt: Some(learnt),
+                outcome: Outcome::Filtered(Reason::NotForwarding),
+                moved: None,
+            },
+        );
+        Outcome::Filtered(Reason::NotForwarding)
+    }
+
+    /// Relays an item in its service, or gives it up where there is no memory to begin.
+    fn relay(&mut self, port: u8, item: Item, vid: u16) -> Outcome
+        requires used { is_used (port_at self.old.plan self.old.number port) ≡ true }
+        requires reserved { self.old.is_reserved ≡ true }
+        requires ruling { ruling silent self.old.plan self.old.number self.old.steps port item ≡ Carries vid }
+        ensures { HasReceived self.old port item result self.new }
+    {
+        let ports = &self.ports;
+        let local = &ports[port as usize - 1];
+        let Ok(load) = Load::new(self.alloc, local, &item.wire) else {
+            return self.give_up(port, item);
+        };
+        let Ok(room) = Room::new(self.alloc) else {
+            return self.give_up(port, item);
+        };
+        self.carry(port, item, vid, load, room)
+    }
+
+    /// Learns the source of an item, chooses its ports and queues its copies there.
+    fn carry(&mut self, port: u8, item: Item, vid: u16, load: Load, mut room: Room) -> Outcome
+        requires used { is_used (port_at self.old.plan self.old.number port) ≡ true }
+        requires reserved { self.old.is_reserved ≡ true }
+        requires ruling { ruling silent self.old.plan self.old.number self.old.steps port item ≡ Carries vid }
+        requires load { IsLoadedAt self.old.plan (port_at self.old.plan self.old.number port) item.wire load }
+        requires room { IsEmptyRoom room }
+        ensures { HasReceived self.old port item result self.new }
+    {
+        let frame = item.wire.as_slice();
+        let ageing = self.plan.ageing;
+        let learnt = self
+            .table
+            .learn(ageing, vid, source_of(frame), port, self.clock);
+        let at = sought(&self.table, ageing, vid, frame, self.clock);
+        choose(
+            &mut room.chosen,
+            self.ports.as_slice(),
+            &self.states,
+            port,
+            vid,
+            at,
+        );
+        queue_copies(
+            &mut self.queues,
+            &mut room.refused,
+            room.chosen.as_slice(),
+            self.ports.as_slice(),
+            self.capacity,
+            &load,
+            &item,
+        );
+        let (told, kept) = room.into_outcomes();
+        self.is_reserved = false;
+        append(
+            &mut self.steps,
+            Step::Receive {
+                port,
+                item,
+                learnt: Some(learnt),
+                outcome: kept,
+                moved: None,
+            },
+        );
+        told
+    }
+}
+
+/// The source of a frame: its octets 6 to 11 (IEEE 802.3 clause 3).
+fn source_of(frame: &[u8]) -> Mac
+    requires { 14 ≤ length frame.now }
+    ensures { result.0 ≡ src_of frame.now }
+{
+    let mut octets = [0u8; 6];
+    octets.copy_from_slice(&frame[6..12]);
+    Mac(octets)
+}
+
+/// The destination of a frame: its first six octets.
+fn destination_of(frame: &[u8]) -> Mac
+    requires { 14 ≤ length frame.now }
+    ensures { result.0 ≡ dst_of frame.now }
+{
+    let mut octets = [0u8; 6];
+    octets.copy_from_slice(&frame[..6]);
+    Mac(octets)
+}
+
+/// The port at which the destination of a frame was seen. Groups are never sought.
+fn sought(table: &Fdb, ageing: u32, vid: u16, frame: &[u8], now: u32) -> Option<u8>
+    requires { 14 ≤ length frame.now }
+    ensures { result ≡ (if is_group (dst_of frame.now) then None else where_in ageing now vid (dst_of frame.now) table.now) }
+{
+    let destination = destination_of(frame);
+    if destination.0[0] % 2 == 1 {
+        return None;
+    }
+    table.find(ageing, vid, destination, now)
+}
