@@ -1,6 +1,6 @@
 -- What an event asks of a network: the place whose step it asks for, whether it names anything at
 -- all, whether there is nothing to do, and the step that it may append.
-use Rattle.std.specs.Prelude.{◌≡◌, ℕ, zero, suc, ◌+◌, ◌*◌, ◌/◌, ◌%◌, Bool, true, false, List, [], ◌∷◌, ◌++◌, Some, None, length, is_some, nat_le, nat_lt, ◌==◌, ◌&&◌, ◌||◌, not, slice_set, if◌then◌else◌}
+use Rattle.std.specs.Prelude.{◌≡◌, ℕ, zero, suc, ◌+◌, ◌*◌, ◌/◌, ◌%◌, Bool, false, List, [], ◌∷◌, ◌++◌, Some, None, length, is_some, nat_le, nat_lt, ◌==◌, ◌&&◌, ◌||◌, not, slice_set, if◌then◌else◌}
 use Rattle.std.specs.declared.option.Option.{Option}
 use Rattle.pb_lan.specs.Numbering.{numbered}
 use Rattle.pb_lan.specs.Ports.{Port, port_at, is_used, is_provider, is_customer_at, is_end_at}

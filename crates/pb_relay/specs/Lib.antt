@@ -8,3 +8,4 @@ pub mod Copies
 pub mod Rooms
 pub mod Loads
 pub mod Changes
+pub mod Starts

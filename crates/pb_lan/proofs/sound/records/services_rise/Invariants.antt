@@ -1,0 +1,5 @@
+use Rattle.pb_lan.proofs.Rising.{RisesBelow}
+use Rattle.pb_lan.proofs.sound.records.services_rise.Given as goal
+
+abbrev pub invariant-loop-k : goal.invariant-loop-k
+invariant-loop-k l = RisesBelow l.numbers l.k

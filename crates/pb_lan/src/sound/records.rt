@@ -1,0 +1,142 @@
+//! Whether the parts of a plan are sound, one by one.
+
+ghost use Rattle.std.specs.Prelude.{◌↔◌, IsTrue, IfSome, length};
+ghost use Rattle.std.specs.List.{AllByRecursion};
+ghost use Rattle.pb_lan.specs.Ports.{all_ends};
+ghost use Rattle.pb_lan.specs.Plans.{IsNumber, Rises, IsSoundBridge, IsSoundEnd, IsSoundCustomer};
+
+use crate::plan::{BridgePlan, CustomerPlan, End, LinkPlan, Plan, ServicePlan};
+use pb_frame::Seq;
+
+/// Whether a number is from 1 to the highest one.
+pub(crate) fn is_number(n: u32, highest: u32) -> bool
+    ensures { IsTrue result ↔ IsNumber n highest }
+{
+    1 <= n && n <= highest
+}
+
+/// Whether the list has something of this number.
+fn numbers_one_of<T>(n: u8, list: &[T]) -> bool
+    ensures { IsTrue result ↔ IsNumber n (length list.now) }
+{
+    1 <= n && n as usize <= list.len()
+}
+
+/// Whether the numbers of items rise strictly.
+fn rises(numbers: &[u64]) -> bool
+    ensures { IsTrue result ↔ Rises numbers.now }
+{
+    for k in 1..numbers.len() {
+        if numbers[k] <= numbers[k - 1] {
+            return false;
+        }
+    }
+    true
+}
+
+/// Whether the numbers of services rise strictly.
+fn services_rise(numbers: &[u8]) -> bool
+    ensures { IsTrue result ↔ Rises numbers.now }
+{
+    for k in 1..numbers.len() {
+        if numbers[k] <= numbers[k - 1] {
+            return false;
+        }
+    }
+    true
+}
+
+/// Whether the bridge's address, priority and capacity are allowed ones.
+fn is_sound_bridge(bridge: &BridgePlan) -> bool
+    ensures { IsTrue result ↔ IsSoundBridge bridge.now }
+{
+    bridge.address.0[0] % 2 == 0
+        && bridge.priority % 4096 == 0
+        && bridge.priority <= 61440
+        && is_number(bridge.queue as u32, 4096)
+}
+
+/// Whether each bridge is sound.
+pub(crate) fn are_sound_bridges(bridges: &[BridgePlan]) -> bool
+    ensures { IsTrue result ↔ AllByRecursion IsSoundBridge bridges.now }
+{
+    bridges.iter().all(|bridge| is_sound_bridge(bridge))
+}
+
+/// Whether each number is a service's.
+fn number_services(numbers: &[u8], services: &[ServicePlan]) -> bool
+    ensures { IsTrue result ↔ AllByRecursion (λ s. IsNumber s (length services.now)) numbers.now }
+{
+    numbers
+        .iter()
+        .all(|number| numbers_one_of(*number, services))
+}
+
+/// Whether the services of an end are all of them, or a rising list.
+fn are_end_services(numbers: &Option<Seq<u8>>, services: &[ServicePlan]) -> bool
+    ensures { IsTrue result ↔ IfSome numbers.now (λ numbers. Rises numbers × AllByRecursion (λ s. IsNumber s (length services.now)) numbers) }
+{
+    match numbers {
+        None => true,
+        Some(numbers) => {
+            services_rise(numbers.as_slice()) && number_services(numbers.as_slice(), services)
+        }
+    }
+}
+
+/// Whether the end names what exists, with an allowed cost and priority.
+fn is_sound_end(plan: &Plan, end: &End) -> bool
+    ensures { IsTrue result ↔ IsSoundEnd plan.now end.now }
+{
+    numbers_one_of(end.bridge, plan.bridges.as_slice())
+        && is_number(end.port as u32, 16)
+        && is_number(end.cost, 200_000_000)
+        && end.priority % 16 == 0
+        && end.priority <= 240
+        && are_end_services(&end.services, plan.services.as_slice())
+}
+
+/// Whether both ends of each link are sound.
+pub(crate) fn are_sound_ends(plan: &Plan) -> bool
+    ensures { IsTrue result ↔ AllByRecursion (IsSoundEnd plan.now) (all_ends plan.now) }
+{
+    plan.links.as_slice().iter().all(|link| is_sound_end(plan, &link.a)
+        && is_sound_end(plan, &link.b))
+}
+
+/// Whether the losses of each link rise.
+pub(crate) fn are_sound_losses(links: &[LinkPlan]) -> bool
+    ensures { IsTrue result ↔ AllByRecursion (λ l. Rises l.lost_ab × Rises l.lost_ba) links.now }
+{
+    links.iter().all(|link| rises(link.lost_ab.as_slice()) && rises(link.lost_ba.as_slice()))
+}
+
+/// Whether each VID is one that names a VLAN.
+pub(crate) fn are_sound_vids(services: &[ServicePlan]) -> bool
+    ensures { IsTrue result ↔ AllByRecursion (λ s. IsNumber s.vid 4094) services.now }
+{
+    services
+        .iter()
+        .all(|service| is_number(service.vid as u32, 4094))
+}
+
+/// Whether the customer port names what exists, with an allowed priority and capacity.
+fn is_sound_customer(plan: &Plan, customer: &CustomerPlan) -> bool
+    ensures { IsTrue result ↔ IsSoundCustomer plan.now customer.now }
+{
+    numbers_one_of(customer.bridge, plan.bridges.as_slice())
+        && is_number(customer.port as u32, 16)
+        && numbers_one_of(customer.service, plan.services.as_slice())
+        && customer.pcp <= 7
+        && is_number(customer.queue as u32, 4096)
+}
+
+/// Whether each customer port is sound.
+pub(crate) fn are_sound_customers(plan: &Plan) -> bool
+    ensures { IsTrue result ↔ AllByRecursion (IsSoundCustomer plan.now) plan.now.customers }
+{
+    plan.customers
+        .as_slice()
+        .iter()
+        .all(|customer| is_sound_customer(plan, customer))
+}
