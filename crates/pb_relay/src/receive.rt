@@ -1,6 +1,6 @@
 //! What a bridge does with a frame that comes in at a port (IEEE 802.1Q clause 8).
 
-ghost use Rattle.std.specs.Prelude.{ℕ, ◌≡◌, ◌≤◌, ◌<◌, ◌↔◌, length, true, slice_index_or, IfOk, IfErr, OnErr, IsErrOf, if◌then◌else◌, None};
+ghost use Rattle.std.specs.Prelude.{ℕ, ◌≡◌, ◌≤◌, ◌<◌, ◌↔◌, length, true, slice_index_or, IfOk, IfErr, OnErr, IsErrOf, IsOk, if◌then◌else◌, None};
 ghost use Rattle.pb_frame.specs.Frames.{src_of, dst_of, is_group};
 ghost use Rattle.pb_lan.specs.Ports.{port_at, is_used};
 ghost use Rattle.pb_lan.specs.Rules.{silent};
@@ -28,13 +28,15 @@ impl Bridge {
     /// the Receive step that tells of it.
     ///
     /// `StepLimit` is answered exactly where the list holds the plan's number of steps, `Memory`
-    /// where there is no room for one more. Then nothing has changed, and the item is handed back.
+    /// where there is no room for one more: never after `reserve_step`. Then nothing has changed,
+    /// and the item is handed back. Any other want of memory is told by the step.
     pub fn receive(&mut self, port: u8, item: Item) -> Result<Outcome, (BridgeFault, Item)>
         requires { is_used (port_at self.old.plan self.old.number port) ≡ true }
         ensures ok { IfOk result (λ outcome. HasReceived self.old port item outcome self.new) }
         ensures err { OnErr result (self.new ≡ self.old) }
-        ensures item { IfErr result (λ e. e.1 ≡ item) }
+        ensures handed { IfErr result (λ e. e.1 ≡ item) }
         ensures limit { IsErrOf result (BridgeFault.StepLimit, item) ↔ (length self.old.steps ≡ self.old.plan.steps) }
+        ensures reserved { self.old.is_reserved ≡ true → IsOk result }
     {
         if let Err(fault) = self.reserve_step() {
             return Err((fault, item));
