@@ -9,17 +9,40 @@ use pb_lan::{Item, PortState, Reason};
 use std::alloc::{AllocError, Global};
 use std::test::Fail;
 
-/// A customer port of the service with VID 100.
-fn customer() -> LocalPort {
-    LocalPort::ToCustomer { vid: 100, pcp: 0 }
+/// What is done with an item at a customer port of the service with VID 100.
+fn at_customer(item: &Item) -> Verdict {
+    let local = LocalPort::ToCustomer { vid: 100, pcp: 0 };
+    rule(&local, PortState::Forwarding, item)
 }
 
-/// A port to a bridge, for the services with VIDs 100 and 200.
-fn bridge(alloc: Global) -> Result<LocalPort, AllocError> {
-    Ok(LocalPort::ToBridge {
+/// What is done with an item at a port to a bridge, for the services with VIDs 100 and 200.
+fn at_bridge(alloc: Global, state: PortState, item: &Item) -> Result<Verdict, AllocError> {
+    let local = LocalPort::ToBridge {
         start: PortState::Forwarding,
         vids: vec![in alloc; 100, 200]?,
-    })
+    };
+    Ok(rule(&local, state, item))
+}
+
+/// What a frame brings that came in at that customer port.
+fn from_customer(alloc: Global, frame: &Bytes) -> Result<Load, Fail> {
+    if frame.len() < 14 {
+        return Err("short")?;
+    }
+    let local = LocalPort::ToCustomer { vid: 100, pcp: 0 };
+    Ok(Load::new(alloc, &local, frame)?)
+}
+
+/// What a frame brings that came in at a port to a bridge.
+fn from_bridge(alloc: Global, frame: &Bytes) -> Result<Load, Fail> {
+    if frame.len() < 18 {
+        return Err("short")?;
+    }
+    let local = LocalPort::ToBridge {
+        start: PortState::Forwarding,
+        vids: vec![in alloc; 100]?,
+    };
+    Ok(Load::new(alloc, &local, frame)?)
 }
 
 /// A broadcast of so many octets, all of them 255.
@@ -45,11 +68,7 @@ fn customers_are_relayed_by_length(rt: HostRuntime) -> Result<(), Fail> {
         (1993, Verdict::Refuse(Reason::Long)),
     ] {
         let item = broadcast(alloc, octets)?;
-        assert_eq!(rt;
-            rule(&customer(), PortState::Forwarding, &item),
-            verdict,
-            "{octets}"
-        );
+        assert_eq!(rt; at_customer(&item), verdict, "{octets}");
     }
     Ok(())
 }
@@ -79,11 +98,7 @@ fn reserved_destinations_are_refused(rt: HostRuntime) -> Result<(), Fail> {
         ),
     ] {
         let item = item(alloc, 0, digits)?;
-        assert_eq!(rt;
-            rule(&customer(), PortState::Forwarding, &item),
-            verdict,
-            "{digits}"
-        );
+        assert_eq!(rt; at_customer(&item), verdict, "{digits}");
     }
     Ok(())
 }
@@ -91,7 +106,6 @@ fn reserved_destinations_are_refused(rt: HostRuntime) -> Result<(), Fail> {
 #[test]
 fn bridges_are_relayed_by_tag_and_state(rt: HostRuntime) -> Result<(), Fail> {
     let alloc = rt.alloc();
-    let local = bridge(alloc)?;
     for (digits, state, verdict) in [
         (
             "ffffffffffff02000000010188a800640800",
@@ -125,7 +139,7 @@ fn bridges_are_relayed_by_tag_and_state(rt: HostRuntime) -> Result<(), Fail> {
         ),
     ] {
         let item = item(alloc, 0, digits)?;
-        assert_eq!(rt; rule(&local, state, &item), verdict, "{digits}");
+        assert_eq!(rt; at_bridge(alloc, state, &item)?, verdict, "{digits}");
     }
     Ok(())
 }
@@ -134,15 +148,9 @@ fn bridges_are_relayed_by_tag_and_state(rt: HostRuntime) -> Result<(), Fail> {
 fn worn_frames_are_refused(rt: HostRuntime) -> Result<(), Fail> {
     let alloc = rt.alloc();
     let last = item(alloc, u32::MAX - 1, "ffffffffffff02000000010108004142")?;
-    assert_eq!(rt;
-        rule(&customer(), PortState::Forwarding, &last),
-        Verdict::Carry(100)
-    );
+    assert_eq!(rt; at_customer(&last), Verdict::Carry(100));
     let worn = item(alloc, u32::MAX, "ffffffffffff02000000010108004142")?;
-    assert_eq!(rt;
-        rule(&customer(), PortState::Forwarding, &worn),
-        Verdict::Refuse(Reason::Worn)
-    );
+    assert_eq!(rt; at_customer(&worn), Verdict::Refuse(Reason::Worn));
     Ok(())
 }
 
@@ -151,7 +159,7 @@ fn customers_frames_get_a_tag(rt: HostRuntime) -> Result<(), Fail> {
     let alloc = rt.alloc();
     let frame = wire(alloc, "ffffffffffff0200000001018100200508004142")?;
     let tagged = wire(alloc, "ffffffffffff02000000010188a800648100200508004142")?;
-    let load = Load::new(alloc, &customer(), &frame)?;
+    let load = from_customer(alloc, &frame)?;
     assert_eq!(rt; load.bare, frame);
     assert_eq!(rt; load.tagged, tagged);
     assert_eq!(rt; load.class, 1);
@@ -162,7 +170,7 @@ fn customers_frames_get_a_tag(rt: HostRuntime) -> Result<(), Fail> {
 fn priority_tags_are_taken_off(rt: HostRuntime) -> Result<(), Fail> {
     let alloc = rt.alloc();
     let frame = wire(alloc, "ffffffffffff02000000010188a8a00008004142")?;
-    let load = Load::new(alloc, &customer(), &frame)?;
+    let load = from_customer(alloc, &frame)?;
     assert_eq!(rt; load.bare, wire(alloc, "ffffffffffff02000000010108004142")?);
     assert_eq!(rt;
         load.tagged,
@@ -176,7 +184,7 @@ fn priority_tags_are_taken_off(rt: HostRuntime) -> Result<(), Fail> {
 fn bridges_frames_lose_their_tag_for_customers(rt: HostRuntime) -> Result<(), Fail> {
     let alloc = rt.alloc();
     let frame = wire(alloc, "ffffffffffff02000000010188a800648100200508004142")?;
-    let load = Load::new(alloc, &bridge(alloc)?, &frame)?;
+    let load = from_bridge(alloc, &frame)?;
     assert_eq!(rt;
         load.bare,
         wire(alloc, "ffffffffffff0200000001018100200508004142")?
