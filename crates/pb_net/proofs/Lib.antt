@@ -6,3 +6,4 @@ pub mod Table
 pub mod DueLemmas
 pub mod Done
 pub mod Records
+pub mod StartLemmas

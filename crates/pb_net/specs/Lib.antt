@@ -4,3 +4,4 @@ pub mod Dues
 pub mod Moves
 pub mod Lists
 pub mod Nets
+pub mod Starts

@@ -10,9 +10,9 @@ mod at_port;
 mod did;
 mod due;
 mod fault;
-mod laws;
 mod lists;
 mod net;
+mod start;
 
 pub use did::Did;
 pub use fault::NetFault;
