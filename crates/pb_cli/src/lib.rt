@@ -10,3 +10,6 @@ mod switch;
 pub use fault::FlatFault;
 pub use run::{MAX_LINE, run_flat};
 pub use switch::Switch;
+
+#[cfg(test)]
+mod tests;
