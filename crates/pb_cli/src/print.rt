@@ -44,7 +44,7 @@ pub(crate) fn put_bad(out: &mut String, number: u64) -> Result<(), Memory>
 fn bare_hex(alloc: Global, wire: &[u8]) -> Result<String, Memory>
     ensures { IfOk result (λ hex. string_bytes hex ≡ hex_text (bare wire.now)) }
 {
-    let mut hex = String::new(alloc);
+    let mut hex = String::with_capacity(alloc, wire.len().saturating_mul(2))?;
     if has_priority_tag(wire) {
         put_hex(&mut hex, &wire[..12])?;
         put_hex(&mut hex, &wire[16..])?;
