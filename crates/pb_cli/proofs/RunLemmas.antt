@@ -7,6 +7,9 @@ use Rattle.pb_cli.specs.Answers.{Answer, blank, frame, bad, Answers}
 use Rattle.pb_cli.specs.Receipts.{Receipt, receipts}
 use Rattle.pb_cli.specs.Switches.{IsFlatPast}
 use Rattle.pb_cli.specs.Words.{IsFrameLine}
+use Rattle.pb_cli.specs.Faults.{of_line}
+use Rattle.pb_lines.specs.declared.LineFault.{LineFault}
+use Rattle.pb_lines.specs.declared.LineFault.TheVariants.{Read as line_unread, Memory as line_unheld}
 use Rattle.pb_lan.specs.declared.step.Step.{Step}
 use Rattle.pb_cli.specs.Progress.{Prints, PrintsBeginning, Progress, least_frames}
 use Rattle.pb_cli.specs.declared.fault.FlatFault.{FlatFault}
@@ -63,7 +66,7 @@ front_of_map n (l ∷ lines) (f ∷ front) back e =
     let head : take n l ≡ f = cc in
     let tail : map (λ line. take n line) lines ≡ front ++ back = cc in
     let parts = front_of_map n lines front back tail in
-    (l ∷ parts.0, parts.1, ap (λ z. l ∷ z) parts.2, let same : front ≡ map (λ line. take n line) parts.0 = parts.3 in cc)
+    (l ∷ parts.0, parts.1, ap (λ z. l ∷ z) {y = parts.0 ++ parts.1} parts.2, let same : front ≡ map (λ line. take n line) parts.0 = parts.3 in cc)
 
 Appends-twice : (a b c : Option (List ℕ)) (xs ys : List ℕ) → Appends a b xs → Appends b c ys → Appends a c (xs ++ ys)
 Appends-twice None b c xs ys p q = tt
@@ -160,3 +163,8 @@ pub begins : (fault : FlatFault) (limit ports : ℕ) (input before : Option (Lis
 begins fault limit ports None before ne = tt
 begins fault limit ports (Some octets) before ne =
     ([], Appends-nothing before, ([], lines_of octets, refl, [], fresh ports, (refl, refl), least_taken fault [] (λ e. absurd (ne e))))
+
+-- no line's fault is a want of steps
+pub of_line-not-steps : (e : LineFault) → of_line e ≢ Steps
+of_line-not-steps line_unread = λ q. cc
+of_line-not-steps line_unheld = λ q. cc
