@@ -1,10 +1,8 @@
 -- What a bridge was asked at its ports, and what it answered.
 use Rattle.std.specs.Prelude.{◌≡◌, ◌≢◌, ℕ, List, [], ◌∷◌, Some, flat_map}
-use Rattle.pb_frame.specs.declared.learnt.Learnt.{Learnt}
 use Rattle.pb_frame.specs.declared.learnt.Learnt.TheVariants.{Memory as not_learnt}
 use Rattle.pb_lan.specs.declared.step.Outcome.{Outcome}
 use Rattle.pb_lan.specs.declared.step.Outcome.TheVariants.{Relayed, Filtered, Heard}
-use Rattle.pb_lan.specs.declared.step.Reason.{Reason}
 use Rattle.pb_lan.specs.declared.step.Reason.TheVariants.{Memory as want_of_memory}
 use Rattle.pb_lan.specs.declared.step.Step.{Step}
 use Rattle.pb_lan.specs.declared.step.Step.TheVariants.{Receive}

@@ -6,7 +6,7 @@ use Rattle.pb_lan.specs.Rules.{silent}
 use Rattle.pb_lan.specs.declared.step.Outcome.{Outcome}
 use Rattle.pb_lan.specs.declared.step.Step.{Step}
 use Rattle.pb_cli.specs.FlatPlans.{flat_plan}
-use Rattle.pb_cli.specs.Receipts.{Receipt, receipts, IsClear}
+use Rattle.pb_cli.specs.Receipts.{receipts, IsClear}
 use Rattle.pb_cli.specs.Texts.{answer_text}
 
 -- a bridge with so many ports, and the steps that it took

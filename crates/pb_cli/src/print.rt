@@ -1,7 +1,7 @@
 //! The lines that are printed.
 
-ghost use Rattle.std.specs.Prelude.{◌≡◌, ◌<◌, ◌++◌, string_bytes, IfOk, OnOk};
-ghost use Rattle.pb_frame.specs.Hex.{hex_text, lower_digit};
+ghost use Rattle.std.specs.Prelude.{◌≡◌, ◌++◌, string_bytes, IfOk, OnOk};
+ghost use Rattle.pb_frame.specs.Hex.{hex_text};
 ghost use Rattle.pb_frame.specs.Tags.{bare};
 ghost use Rattle.pb_cli.specs.Texts.{answer_text, bad_line, filtered_line, out_line, out_lines, reason_word};
 
@@ -44,33 +44,19 @@ pub(crate) fn put_bad(out: &mut String, number: u64) -> Result<(), Memory>
 fn bare_hex(alloc: Global, wire: &[u8]) -> Result<String, Memory>
     ensures { IfOk result (λ hex. string_bytes hex ≡ hex_text (bare wire.now)) }
 {
-    let mut hex = String::with_capacity(alloc, wire.len().saturating_mul(2))?;
-    if has_priority_tag(wire) {
-        put_hex(&mut hex, &wire[..12])?;
-        put_hex(&mut hex, &wire[16..])?;
-    } else {
-        put_hex(&mut hex, wire)?;
+    if !has_priority_tag(wire) {
+        return hex_of(alloc, wire);
     }
+    let mut hex = hex_of(alloc, &wire[..12])?;
+    hex.push_str(hex_of(alloc, &wire[16..])?.as_str())?;
     Ok(hex)
 }
 
 /// Two hexadecimal digits for each octet, in lower case.
-fn put_hex(hex: &mut String, octets: &[u8]) -> Result<(), Memory>
-    ensures { OnOk result (string_bytes hex.new ≡ string_bytes hex.old ++ hex_text octets.now) }
+fn hex_of(alloc: Global, octets: &[u8]) -> Result<String, Memory>
+    ensures { IfOk result (λ hex. string_bytes hex ≡ hex_text octets.now) }
 {
-    for octet in octets {
-        hex.push(lower_digit(*octet / 16))?;
-        hex.push(lower_digit(*octet % 16))?;
-    }
-    Ok(())
-}
-
-/// The lower case digit of a number below 16.
-fn lower_digit(n: u8) -> char
-    requires { n < 16 }
-    ensures { result ≡ lower_digit n }
-{
-    char::from(if n <= 9 { n + 48 } else { n + 87 })
+    Ok(hex::encode(alloc, octets)?)
 }
 
 /// A line for each port at which a frame left.
