@@ -1,8 +1,13 @@
 -- A run over lines, line by line.
-use Rattle.std.proofs.Common.{◌≢◌, ◌≡◌, ℕ, suc, ◌+◌, ◌≤◌, List, [], ◌∷◌, ◌++◌, length, take, map, Option, Some, None, refl, sym, ap, subst, ◌∙◌, arith, append_assoc, append-nil, add-one, length-take, length-append}
+use Rattle.std.proofs.Common.{true, false, ◌≢◌, ◌≡◌, ℕ, suc, ◌+◌, ◌≤◌, List, [], ◌∷◌, ◌++◌, length, take, map, Option, Some, None, refl, sym, ap, subst, ◌∙◌, arith, append_assoc, append-nil, add-one, length-take, length-append}
 use Rattle.std.proofs.lemmas.List.{take_all}
 use Rattle.std.specs.Io.KnownBytes.{Appends, Keeps}
 use Rattle.pb_lines.specs.Lines.{lines_of, cut_lines, GivesLine, HasNoLine}
+use Rattle.pb_lines.specs.Found.{Finds}
+use Rattle.pb_lines.specs.contracts.Found.{the_type}
+use Rattle.pb_lines.specs.declared.Found.{Found}
+use Rattle.pb_lines.specs.declared.Found.TheVariants.{Line, Last, End}
+use denote.Enum.Bare.{sameb}
 use Rattle.pb_cli.specs.Answers.{Answer, blank, frame, bad, Answers}
 use Rattle.pb_cli.specs.Receipts.{Receipt, receipts}
 use Rattle.pb_cli.specs.Switches.{IsFlatPast}
@@ -168,3 +173,22 @@ begins fault limit ports (Some octets) before ne =
 pub of_line-not-steps : (e : LineFault) → of_line e ≢ Steps
 of_line-not-steps line_unread = λ q. cc
 of_line-not-steps line_unheld = λ q. cc
+
+-- what was found, by what the program tests
+pub line_found : (found : Found) (limit : ℕ) (old : Option (List ℕ)) (front : List ℕ) (new : Option (List ℕ)) (back line : List ℕ)
+    → false ≡ sameb the_type found End → Finds found limit old front new back line → GivesLine limit old front new back line
+line_found Line limit old front new back line q f = f
+line_found Last limit old front new back line q f = f.0
+line_found End limit old front new back line q f = cc
+
+pub none_found : (found : Found) (limit : ℕ) (old : Option (List ℕ)) (front : List ℕ) (new : Option (List ℕ)) (back line : List ℕ)
+    → true ≡ sameb the_type found End → Finds found limit old front new back line → HasNoLine limit old front
+none_found Line limit old front new back line q f = cc
+none_found Last limit old front new back line q f = cc
+none_found End limit old front new back line q f = f
+
+pub last_found : (found : Found) (limit : ℕ) (old : Option (List ℕ)) (front : List ℕ) (new : Option (List ℕ)) (back line : List ℕ)
+    → true ≡ sameb the_type found Last → Finds found limit old front new back line → GivesLine limit old front new back line × HasNoLine limit new back
+last_found Line limit old front new back line q f = cc
+last_found Last limit old front new back line q f = f
+last_found End limit old front new back line q f = cc

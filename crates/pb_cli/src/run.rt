@@ -1,6 +1,7 @@
 //! One bridge, driven by lines of text.
 
 ghost use Rattle.std.specs.Prelude.{◌≡◌, ◌≢◌, ◌<◌, ◌≤◌, ◌^◌, ◌++◌, ℕ, List, length, string_bytes, IsErrOf, OnOk, IfErr};
+ghost use Rattle.std.specs.Io.KnownBytes.{Keeps};
 ghost use Rattle.pb_cli.specs.Answers.{Answer};
 ghost use Rattle.pb_cli.specs.Receipts.{receipts};
 ghost use Rattle.pb_cli.specs.Switches.{IsFlatPast};
@@ -10,7 +11,7 @@ use crate::fault::FlatFault;
 use crate::line::read_frame_line;
 use crate::print::put_bad;
 use crate::switch::Switch;
-use pb_lines::LineReader;
+use pb_lines::{Found, LineReader};
 use std::alloc::Global;
 use std::io::{Read, Write};
 
@@ -44,6 +45,17 @@ fn answer(
     Ok(())
 }
 
+/// Has the writer hand on all that it took.
+fn finish<W: Write>(writer: &mut W) -> Result<(), FlatFault>
+    ensures ok { OnOk result (Keeps (W.contents writer.old) (W.contents writer.new)) }
+    ensures err { IfErr result (λ e. e ≡ FlatFault.Write) }
+{
+    if writer.flush().is_err() {
+        return Err(FlatFault::Write);
+    }
+    Ok(())
+}
+
 /// Answers each line of what is read, and writes nothing else.
 fn run_lines<R: Read, W: Write>(
     alloc: Global,
@@ -62,24 +74,20 @@ fn run_lines<R: Read, W: Write>(
     let mut switch = Switch::new(alloc, ports)?;
     let mut out = String::new(alloc);
     for number in 1..u64::MAX {
-        if !lines.next(reader)? {
-            if writer.flush().is_err() {
-                return Err(FlatFault::Write);
-            }
+        let found = lines.next(reader)?;
+        if found == Found::End {
+            finish(writer)?;
             return Ok(());
         }
         out.clear();
-        answer(
-            alloc,
-            limit,
-            ports,
-            number,
-            lines.line(),
-            &mut switch,
-            &mut out,
-        )?;
+        let line = lines.line();
+        answer(alloc, limit, ports, number, line, &mut switch, &mut out)?;
         if writer.write_all(out.as_bytes()).is_err() {
             return Err(FlatFault::Write);
+        }
+        if found == Found::Last {
+            finish(writer)?;
+            return Ok(());
         }
     }
     Err(FlatFault::Read)

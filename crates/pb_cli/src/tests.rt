@@ -330,8 +330,8 @@ fn reads_in_any_pieces(rt: HostRuntime) -> Result<(), Fail> {
 fn tells_a_failed_read(rt: HostRuntime) -> Result<(), Fail> {
     let alloc = rt.alloc();
     for most in 1..25usize {
-        // One more read follows the end that shows the last line.
-        let calls = (PIECES.len() as u64).div_ceil(most as u64) + 2;
+        // The end shows in one more call.
+        let calls = (PIECES.len() as u64).div_ceil(most as u64) + 1;
         for fails_at in 0..27u64 {
             let mut reader = Slow {
                 rest: PIECES.as_bytes(),

@@ -49,18 +49,20 @@ impl Read for Same {
 
 const TEXT: &[u8] = b"one\n\nlonger\r\nlast";
 
-const LINES: [&[u8]; 4] = [b"one", b"", b"longer\r", b"last"];
+const LINES: [(&[u8], Found); 4] = [
+    (b"one", Found::Line),
+    (b"", Found::Line),
+    (b"longer\r", Found::Line),
+    (b"last", Found::Last),
+];
 
 /// Reads all lines of `TEXT`, compares each, and tells how the reading ended.
 fn reads_text(rt: &impl Abort, alloc: Global, reader: &mut Slow<'_>) -> Result<(), LineFault> {
     let mut lines = LineReader::new(alloc, 7)?;
-    for want in LINES {
-        let more = lines.next(reader)?;
-        assert!(rt; more);
+    for (want, found) in LINES {
+        assert_eq!(rt; lines.next(reader)?, found);
         assert!(rt; lines.line() == want);
     }
-    assert!(rt; !lines.next(reader)?);
-    assert!(rt; !lines.next(reader)?);
     Ok(())
 }
 
@@ -84,8 +86,8 @@ fn gives_each_line_in_any_pieces(rt: HostRuntime) -> Result<(), Fail> {
 #[test]
 fn tells_a_failed_read_at_each_call(rt: HostRuntime) -> Result<(), Fail> {
     for most in 1..20usize {
-        // The end shows in a call of its own, and again in each call of `next` that asks for it.
-        let calls = (TEXT.len() as u64).div_ceil(most as u64) + 3;
+        // The end shows in one more call.
+        let calls = (TEXT.len() as u64).div_ceil(most as u64) + 1;
         for fails_at in 0..30u64 {
             let mut reader = Slow {
                 rest: TEXT,
@@ -120,11 +122,11 @@ fn cuts_one_octet_past_the_limit(rt: HostRuntime) -> Result<(), Fail> {
         let mut reader = b"abcd\nx\n".as_slice();
         assert!(rt; limit < 10);
         let mut lines = LineReader::new(rt.alloc(), limit)?;
-        assert_eq!(rt; lines.next(&mut reader), Ok(true));
+        assert_eq!(rt; lines.next(&mut reader), Ok(Found::Line));
         assert!(rt; lines.line() == want);
-        assert_eq!(rt; lines.next(&mut reader), Ok(true));
+        assert_eq!(rt; lines.next(&mut reader), Ok(Found::Line));
         assert!(rt; lines.line() == b"x".as_slice());
-        assert_eq!(rt; lines.next(&mut reader), Ok(false));
+        assert_eq!(rt; lines.next(&mut reader), Ok(Found::End));
     }
     Ok(())
 }
@@ -136,9 +138,9 @@ fn holds_little_of_a_long_line(rt: HostRuntime) -> Result<(), Fail> {
         left: 50_000_000,
     };
     let mut lines = LineReader::new(rt.alloc(), 1000)?;
-    assert_eq!(rt; lines.next(&mut reader), Ok(true));
+    assert_eq!(rt; lines.next(&mut reader), Ok(Found::Last));
     assert!(rt; lines.line().len() == 1001);
     assert!(rt; lines.line.capacity() < 5000);
-    assert_eq!(rt; lines.next(&mut reader), Ok(false));
+    assert_eq!(rt; lines.next(&mut reader), Ok(Found::End));
     Ok(())
 }
