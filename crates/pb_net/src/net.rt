@@ -271,10 +271,11 @@ impl Net {
         Ok(())
     }
 
-    /// The steps of a place so far.
+    /// The steps of a place so far. Those of all places are a lawful record.
     pub fn steps(&self, place: Place) -> &[Step]
         requires { has_place self.now.plan place ≡ true }
-        ensures { result.now ≡ steps_at self.now.rec place }
+        ensures steps { result.now ≡ steps_at self.now.rec place }
+        ensures lawful { IsLawfulRecord silent self.now.plan self.now.rec }
     {
         match place {
             Place::Bridge(number) => self.bridges[number as usize - 1].steps(),
