@@ -1,6 +1,6 @@
 //! What changes a bridge's ports, and its clock.
 
-ghost use Rattle.std.specs.Prelude.{◌≡◌, ◌↔◌, ◌<◌, ◌≤◌, Bool, [], length, true, false, not, if◌then◌else◌, IfOk, OnOk, OnErr, IsErrOf, IsOk, IsTrue};
+ghost use Rattle.std.specs.Prelude.{◌≡◌, ◌↔◌, ◌<◌, length, true, false, if◌then◌else◌, IfOk, OnOk, OnErr, IsErrOf, IsOk};
 ghost use Rattle.pb_frame.specs.Stations.{after};
 ghost use Rattle.pb_frame.specs.Stations.News.{Flushed};
 ghost use Rattle.pb_lan.specs.Ports.{port_at, is_provider};

@@ -1,11 +1,11 @@
 //! What a bridge does with a frame that comes in at a port (IEEE 802.1Q clause 8).
 
-ghost use Rattle.std.specs.Prelude.{ℕ, ◌++◌, ◌∷◌, [], vec_len, vec_capacity, ◌≡◌, ◌≤◌, ◌<◌, ◌↔◌, length, true, slice_index_or, IfOk, IfErr, OnErr, IsErrOf, IsOk, if◌then◌else◌, None};
+ghost use Rattle.std.specs.Prelude.{ℕ, ◌++◌, ◌∷◌, [], vec_len, vec_capacity, ◌≡◌, ◌≤◌, ◌<◌, ◌↔◌, length, true, IfOk, IfErr, OnErr, IsErrOf, IsOk, if◌then◌else◌, None};
 ghost use Rattle.pb_frame.specs.Frames.{src_of, dst_of, is_group};
-ghost use Rattle.pb_lan.specs.Ports.{port_at, is_used};
-ghost use Rattle.pb_lan.specs.Rules.{silent};
 ghost use Rattle.pb_lan.specs.BridgeLists.{ruling};
 ghost use Rattle.pb_lan.specs.BridgeLists.Ruling.{Refuses, LearnsOnly, Carries};
+ghost use Rattle.pb_lan.specs.Ports.{port_at, is_used};
+ghost use Rattle.pb_lan.specs.Rules.{silent};
 ghost use Rattle.pb_lan.specs.declared.step.Step.TheVariants.{Receive};
 ghost use Rattle.pb_relay.specs.Loads.{IsLoadedAt};
 ghost use Rattle.pb_relay.specs.Rooms.{IsEmptyRoom};
