@@ -2,6 +2,7 @@
 #![tactic(auto)]
 
 mod fault;
+mod flat_plan;
 mod line;
 mod print;
 mod run;
