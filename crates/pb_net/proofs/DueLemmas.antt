@@ -87,7 +87,7 @@ idle_feed_is plan bridges customers ins outs r p inbox placed kept within here b
     let mine : steps_of rec.customers (suc r) ≡ p.steps = steps_of-map (λ (q : PlaceView). q.steps) customers r p here in
     ap (λ o. is_feed_idle plan rec (steps_of rec.customers (suc r)) o) c.1
     ∙ ap (λ b. is_hand_empty (steps_of rec.customers (suc r)) || b)
-      (ring_full_is plan (fed (steps_of rec.customers (suc r))) (received c.0.port (steps_of rec.bridges c.0.bridge)) (items_of ins (suc r)) (kept.into (suc r) c.0 c.1))
+    (ring_full_is plan (fed (steps_of rec.customers (suc r))) (received c.0.port (steps_of rec.bridges c.0.bridge)) (items_of ins (suc r)) (kept.into (suc r) c.0 c.1))
     ∙ ap (λ ms. is_hand_empty ms || nat_le plan.ring (length (items_of ins (suc r)))) mine
     ∙ ap (λ z. is_hand_empty p.steps || nat_le plan.ring (length z)) (items_of-at ins r inbox box)
 
@@ -173,7 +173,7 @@ idle_transmit_is plan bridges customers ins outs r q s b outbox kept at found he
     ∙ ap (λ (k : ℕ). nat_le (length (waiting plan (suc r) q (steps_of rec.bridges (suc r)))) 0 || is_ring_full plan (transmitted q (steps_of rec.bridges (suc r))) (delivered (steps_of rec.customers k))) found
     ∙ ap (λ (k : ℕ). nat_le (length (waiting plan (suc r) q (steps_of rec.bridges (suc r)))) 0 || is_ring_full plan (transmitted k (steps_of rec.bridges (suc r))) (delivered (steps_of rec.customers (suc s)))) (sym at.port)
     ∙ ap (λ (x : Bool). nat_le (length (waiting plan (suc r) q (steps_of rec.bridges (suc r)))) 0 || x)
-      (ring_full_is plan (transmitted at.c.port (steps_of rec.bridges (suc r))) (delivered (steps_of rec.customers (suc s))) (items_of outs (suc s)) whole ∙ ap (λ (z : List Item). nat_le plan.ring (length z)) (items_of-at outs s outbox box))
+    (ring_full_is plan (transmitted at.c.port (steps_of rec.bridges (suc r))) (delivered (steps_of rec.customers (suc s))) (items_of outs (suc s)) whole ∙ ap (λ (z : List Item). nat_le plan.ring (length z)) (items_of-at outs s outbox box))
     ∙ ap (λ (ms : List Step). nat_le (length (waiting plan (suc r) q ms)) 0 || nat_le plan.ring (length outbox)) mine
 
 -- what stands out of range isn't there

@@ -46,11 +46,13 @@ pub recorded_customer : (bridges : List BridgeView) (customers : List PlaceView)
     → record_of bridges (set customers r new) ≡ with_step (record_of bridges customers) (Customer (suc r)) step
 recorded_customer bridges customers r old new step here grown =
     ap (λ (lists : List (List Step)). rec_with bridges lists) (one_more-map (λ (p : PlaceView). p.steps) customers r old new step here grown)
+
 -- the record is as it was where the port's steps are
 pub unrecorded_customer : (bridges : List BridgeView) (customers : List PlaceView) (r : ℕ) (old new : PlaceView)
     → slice_get customers r ≡ Some old → new.steps ≡ old.steps → record_of bridges (set customers r new) ≡ record_of bridges customers
 unrecorded_customer bridges customers r old new here same =
     ap (λ (lists : List (List Step)). rec_with bridges lists) (map-set_kept (λ (p : PlaceView). p.steps) customers r old new here same)
+
 -- a Deliver adds its item to those delivered
 delivered-more : (steps : List Step) (item : Item) → delivered (steps ++ Deliver item false ∷ []) ≡ delivered steps ++ item ∷ []
 delivered-more steps item = ap (λ ds. map (λ d. d.item) ds) (flat_map-more delivered_by steps (Deliver item false)) ∙ map-append (λ d. d.item) (all_delivered steps) (delivered_by (Deliver item false))

@@ -18,8 +18,8 @@ pub number_of-cases : {X : Type 0} (test : X → Bool) (k : ℕ) (xs : List X)
 number_of-cases test k [] = inl (refl, refl)
 number_of-cases {X} test k (x ∷ xs) =
     elim (test x) as (λ b. test x ≡ b →
-      (((if b then k else number_of test (k + 1) xs) ≡ 0) × ((if b then Some x else first test xs) ≡ None))
-      ⊎ ((i : ℕ) × (y : X) × ((if b then k else number_of test (k + 1) xs) ≡ k + i) × (slice_get (x ∷ xs) i ≡ Some y) × ((if b then Some x else first test xs) ≡ Some y) × (test y ≡ true))) [
+    (((if b then k else number_of test (k + 1) xs) ≡ 0) × ((if b then Some x else first test xs) ≡ None))
+    ⊎ ((i : ℕ) × (y : X) × ((if b then k else number_of test (k + 1) xs) ≡ k + i) × (slice_get (x ∷ xs) i ≡ Some y) × ((if b then Some x else first test xs) ≡ Some y) × (test y ≡ true))) [
       | true ↦ λ e. inr (0, x, omega arith, refl, refl, e)
       | false ↦ λ e. elim (number_of-cases test (k + 1) xs) [
         | inl none ↦ inl none
@@ -36,12 +36,12 @@ port_cases plan linkless b q =
     elim (number_of-cases (is_customer_at b q) 1 plan.customers) [
       | inl none ↦ inl (none.0, ap (λ o. customer_or_else o (provider_or_unused (first (is_end_at b q) (all_ends plan)))) none.1 ∙ ap provider_or_unused ends)
       | inr (i, c, n, g, f, t) ↦ inr (
-          i,
-          c,
-          n ∙ omega arith,
-          g,
-          eqb-true c.bridge b (and-left _ _ t),
-          eqb-true c.port q (and-right _ _ t),
-          ap (λ o. customer_or_else o (provider_or_unused (first (is_end_at b q) (all_ends plan)))) f,
-        )
+        i,
+        c,
+        n ∙ omega arith,
+        g,
+        eqb-true c.bridge b (and-left _ _ t),
+        eqb-true c.port q (and-right _ _ t),
+        ap (λ o. customer_or_else o (provider_or_unused (first (is_end_at b q) (all_ends plan)))) f,
+      )
     ]

@@ -9,6 +9,7 @@ mod at_bridge;
 mod at_port;
 mod did;
 mod due;
+mod events;
 mod fault;
 mod lists;
 mod net;

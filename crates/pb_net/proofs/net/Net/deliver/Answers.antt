@@ -43,7 +43,7 @@ invariant_of-self c =
     let box = c.index_mut-2.result.now in
     let there = box_at items_in s.outboxes.items r (length s.plan.customers) box c.self.invariant.2.outbox_count planned c.index_mut-2.ensures.value in
     let failed = customer_failed s.plan s.bridges.items s.customers.items (map items_in s.inboxes.items) (map items_in s.outboxes.items) r old c.deliver_at.new.place
-      c.self.invariant.1 c.self.invariant.2 here c.in_err-deliver_at.ensures.number c.in_err-deliver_at.ensures.err in
+    c.self.invariant.1 c.self.invariant.2 here c.in_err-deliver_at.ensures.number c.in_err-deliver_at.ensures.err in
     (c.self.invariant.0, failed.0, (let kept_box = map-set_kept items_in s.outboxes.items r box c.deliver_at.new.outbox (here_is s.outboxes.items r box (box_within items_in s.outboxes.items r (length s.plan.customers) c.self.invariant.2.outbox_count planned) c.index_mut-2.ensures.value) c.in_err-deliver_at.ensures.err_outbox in rw kept_box failed.1), c.self.invariant.3, c.self.invariant.4, c.self.invariant.5)
 
 pub returns-in_err-deliver_at : goal.returns-in_err-deliver_at
@@ -61,7 +61,7 @@ returns-in_err-deliver_at c =
     let box = c.index_mut-2.result.now in
     let there = box_at items_in s.outboxes.items r (length s.plan.customers) box c.self.invariant.2.outbox_count planned c.index_mut-2.ensures.value in
     let failed = customer_failed s.plan s.bridges.items s.customers.items (map items_in s.inboxes.items) (map items_in s.outboxes.items) r old c.deliver_at.new.place
-      c.self.invariant.1 c.self.invariant.2 here c.in_err-deliver_at.ensures.number c.in_err-deliver_at.ensures.err in
+    c.self.invariant.1 c.self.invariant.2 here c.in_err-deliver_at.ensures.number c.in_err-deliver_at.ensures.err in
     let p = err_from_is_err_and c.from_residual-in_err-deliver_at.result c.from_residual-in_err-deliver_at.ensures.1 in
     answers_memory c.args.self.now _ (Deliver c.args.port) c.from_residual-in_err-deliver_at.result p.0 p.1 p.2 due
     (ap (λ (rec : Record). net_with s.plan rec) failed.2 ∙ c.self.view_is)

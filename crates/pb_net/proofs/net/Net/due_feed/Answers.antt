@@ -26,6 +26,6 @@ returns-clause-due c =
     (sifted net (Feed (suc r)) (c.is_hand_empty.result || nat_le s.ring c.len-2.result) _ r c.sift.result
     (named_customer s.plan s.bridges.items s.customers.items r c.self.invariant.1 within)
     (idle_feed_is s.plan s.bridges.items s.customers.items (map items_in s.inboxes.items) (map items_in s.outboxes.items) r customer box.items c.self.invariant.1 c.self.invariant.2 within here there ∙ ap (λ (b : Bool). b || nat_le s.plan.ring (length box.items)) (sym c.is_hand_empty.ensures)
-      ∙ ap (λ (n : ℕ). c.is_hand_empty.result || nat_le n (length box.items)) (sym c.self.invariant.4.places) ∙ ap (λ (n : ℕ). c.is_hand_empty.result || nat_le s.ring n) (sym many))
+    ∙ ap (λ (n : ℕ). c.is_hand_empty.result || nat_le n (length box.items)) (sym c.self.invariant.4.places) ∙ ap (λ (n : ℕ). c.is_hand_empty.result || nat_le s.ring n) (sym many))
     (limit_customer s.plan s.customers.items r customer s.limit s.ring c.self.invariant.4 here)
     (rw c.steps.ensures.steps at c.sift.ensures)))

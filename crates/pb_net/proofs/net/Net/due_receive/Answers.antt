@@ -32,7 +32,7 @@ returns-clause-due c =
     (sifted net (Receive c.args.bridge c.args.port) (c.is_empty.result) _ spot c.sift.result
     (stands_used s.plan c.args.bridge c.args.port spot.customer stand)
     (idle_receive_is s.plan s.bridges.items s.customers.items (map items_in s.inboxes.items) (map items_in s.outboxes.items) c.args.bridge c.args.port spot.customer box.items c.self.invariant.2 stand found there
-      ∙ none_there (length box.items) ∙ ap (λ (n : ℕ). n == 0) many ∙ sym c.is_empty.ensures)
+    ∙ none_there (length box.items) ∙ ap (λ (n : ℕ). n == 0) many ∙ sym c.is_empty.ensures)
     (subst (λ (n : ℕ). (length (steps_of (map (λ (q : BridgeView). q.steps) s.bridges.items) n) == s.plan.steps) ≡ (length at.steps == s.limit)) row
-      (limit_bridge s.plan s.bridges.items spot.bridge at s.limit s.ring c.self.invariant.4 here))
+    (limit_bridge s.plan s.bridges.items spot.bridge at s.limit s.ring c.self.invariant.4 here))
     (rw c.steps.ensures.steps at c.sift.ensures))

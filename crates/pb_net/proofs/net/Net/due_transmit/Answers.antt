@@ -44,16 +44,16 @@ returns-clause-due c =
     let there = box_at items_in s.outboxes.items spot.customer (length s.plan.customers) box c.self.invariant.2.outbox_count known.customer_within c.index-outbox.ensures in
     let net = net_of s.plan s.bridges.items s.customers.items in
     let waits : c.waiting.result ≡ length (waiting s.plan (suc spot.bridge) c.args.port at.steps) =
-      c.waiting.ensures ∙ ap (λ ws. length ws) (bridge_waits s.plan s.bridges.items s.customers.items spot.bridge c.args.port at c.self.invariant.1 here) in
+    c.waiting.ensures ∙ ap (λ ws. length ws) (bridge_waits s.plan s.bridges.items s.customers.items spot.bridge c.args.port at c.self.invariant.1 here) in
     let many : c.len.result ≡ length box.items = omega arith in
     subst (λ (v : NetView). IsDueOr v (Transmit c.args.bridge c.args.port) c.sift.result) c.self.view_is
     (sifted net (Transmit c.args.bridge c.args.port) ((c.waiting.result == 0) || nat_le s.ring c.len.result) _ spot c.sift.result
     (stands_used s.plan c.args.bridge c.args.port spot.customer stand)
     (subst (λ (n : ℕ). is_idle s.plan net.rec (Transmit n c.args.port) ≡ ((c.waiting.result == 0) || nat_le s.ring c.len.result)) row
-      (idle_transmit_is s.plan s.bridges.items s.customers.items (map items_in s.inboxes.items) (map items_in s.outboxes.items) spot.bridge c.args.port spot.customer at box.items c.self.invariant.2
-        (subst (λ (n : ℕ). StandsAt s.plan n c.args.port spot.customer) (sym row) stand) (ap (λ (n : ℕ). customer_there s.plan n c.args.port) row ∙ found) here there
-      ∙ ap (λ (b : Bool). b || nat_le s.plan.ring (length box.items)) (none_there (length (waiting s.plan (suc spot.bridge) c.args.port at.steps)) ∙ ap (λ (n : ℕ). n == 0) (sym waits))
-      ∙ ap (λ (n : ℕ). (c.waiting.result == 0) || nat_le n (length box.items)) (sym c.self.invariant.4.places) ∙ ap (λ (n : ℕ). (c.waiting.result == 0) || nat_le s.ring n) (sym many)))
+    (idle_transmit_is s.plan s.bridges.items s.customers.items (map items_in s.inboxes.items) (map items_in s.outboxes.items) spot.bridge c.args.port spot.customer at box.items c.self.invariant.2
+    (subst (λ (n : ℕ). StandsAt s.plan n c.args.port spot.customer) (sym row) stand) (ap (λ (n : ℕ). customer_there s.plan n c.args.port) row ∙ found) here there
+    ∙ ap (λ (b : Bool). b || nat_le s.plan.ring (length box.items)) (none_there (length (waiting s.plan (suc spot.bridge) c.args.port at.steps)) ∙ ap (λ (n : ℕ). n == 0) (sym waits))
+    ∙ ap (λ (n : ℕ). (c.waiting.result == 0) || nat_le n (length box.items)) (sym c.self.invariant.4.places) ∙ ap (λ (n : ℕ). (c.waiting.result == 0) || nat_le s.ring n) (sym many)))
     (subst (λ (n : ℕ). (length (steps_of (map (λ (q : BridgeView). q.steps) s.bridges.items) n) == s.plan.steps) ≡ (length at.steps == s.limit)) row
-      (limit_bridge s.plan s.bridges.items spot.bridge at s.limit s.ring c.self.invariant.4 here))
+    (limit_bridge s.plan s.bridges.items spot.bridge at s.limit s.ring c.self.invariant.4 here))
     (rw c.steps.ensures.steps at c.sift.ensures))

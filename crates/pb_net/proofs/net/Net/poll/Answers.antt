@@ -38,7 +38,7 @@ invariant_of-self c =
     let within : r < length s.customers.items = omega (arith, place.1, customers, c.self.invariant.1.customer_count) in
     let here = here_is s.customers.items r old within c.index_mut.ensures.value in
     let failed = customer_failed s.plan s.bridges.items s.customers.items (map items_in s.inboxes.items) (map items_in s.outboxes.items) r old c.poll_at.new.place
-      c.self.invariant.1 c.self.invariant.2 here c.in_err-poll_at.ensures.number c.in_err-poll_at.ensures.err in
+    c.self.invariant.1 c.self.invariant.2 here c.in_err-poll_at.ensures.number c.in_err-poll_at.ensures.err in
     (c.self.invariant.0, failed.0, failed.1, c.self.invariant.3, c.self.invariant.4, c.self.invariant.5)
 
 pub returns-in_err-poll_at : goal.returns-in_err-poll_at
@@ -53,7 +53,7 @@ returns-in_err-poll_at c =
     let within : r < length s.customers.items = omega (arith, place.1, customers, c.self.invariant.1.customer_count) in
     let here = here_is s.customers.items r old within c.index_mut.ensures.value in
     let failed = customer_failed s.plan s.bridges.items s.customers.items (map items_in s.inboxes.items) (map items_in s.outboxes.items) r old c.poll_at.new.place
-      c.self.invariant.1 c.self.invariant.2 here c.in_err-poll_at.ensures.number c.in_err-poll_at.ensures.err in
+    c.self.invariant.1 c.self.invariant.2 here c.in_err-poll_at.ensures.number c.in_err-poll_at.ensures.err in
     let p = err_from_is_err_and c.from_residual-in_err-poll_at.result c.from_residual-in_err-poll_at.ensures.1 in
     answers_memory c.args.self.now _ (Poll c.args.port c.args.frame) c.from_residual-in_err-poll_at.result p.0 p.1 p.2 due
     (ap (λ (rec : Record). net_with s.plan rec) failed.2 ∙ c.self.view_is)

@@ -49,7 +49,7 @@ invariant_of-self c =
     let found_here : customer_there s.plan (suc spot.bridge) c.args.port ≡ suc spot.customer = ap (λ (n : ℕ). customer_there s.plan n c.args.port) row ∙ found in
     let there = box_at items_in s.inboxes.items spot.customer (length s.plan.customers) box c.self.invariant.2.inbox_count known.customer_within c.index_mut.ensures.value in
     let failed = bridge_failed s.plan s.bridges.items s.customers.items (map items_in s.inboxes.items) (map items_in s.outboxes.items) spot.bridge old c.receive_at.new.bridge
-      c.self.invariant.1 c.self.invariant.2 here c.in_err-receive_at.ensures.plan c.in_err-receive_at.ensures.number c.in_err-receive_at.ensures.err in
+    c.self.invariant.1 c.self.invariant.2 here c.in_err-receive_at.ensures.plan c.in_err-receive_at.ensures.number c.in_err-receive_at.ensures.err in
     let kept_box = map-set_kept items_in s.inboxes.items spot.customer box c.receive_at.new.inbox (here_is s.inboxes.items spot.customer box (box_within items_in s.inboxes.items spot.customer (length s.plan.customers) c.self.invariant.2.inbox_count known.customer_within) c.index_mut.ensures.value) c.in_err-receive_at.ensures.err_inbox in
     (c.self.invariant.0, failed.0, rw kept_box failed.1, c.self.invariant.3, c.self.invariant.4, c.self.invariant.5)
 
@@ -70,7 +70,7 @@ returns-in_err-receive_at c =
     let found_here : customer_there s.plan (suc spot.bridge) c.args.port ≡ suc spot.customer = ap (λ (n : ℕ). customer_there s.plan n c.args.port) row ∙ found in
     let there = box_at items_in s.inboxes.items spot.customer (length s.plan.customers) box c.self.invariant.2.inbox_count known.customer_within c.index_mut.ensures.value in
     let failed = bridge_failed s.plan s.bridges.items s.customers.items (map items_in s.inboxes.items) (map items_in s.outboxes.items) spot.bridge old c.receive_at.new.bridge
-      c.self.invariant.1 c.self.invariant.2 here c.in_err-receive_at.ensures.plan c.in_err-receive_at.ensures.number c.in_err-receive_at.ensures.err in
+    c.self.invariant.1 c.self.invariant.2 here c.in_err-receive_at.ensures.plan c.in_err-receive_at.ensures.number c.in_err-receive_at.ensures.err in
     let mine = subst (λ (n : ℕ). IsDue (net_of s.plan s.bridges.items s.customers.items) (Receive n c.args.port)) (sym row) (subst (λ (v : NetView). IsDue v (Receive c.args.bridge c.args.port)) (sym c.self.view_is) due) in
     let p = err_from_is_err_and c.from_residual-in_err-receive_at.result c.from_residual-in_err-receive_at.ensures.1 in
     answers_fault c.args.self.now _ (Receive c.args.bridge c.args.port) c.from_residual-in_err-receive_at.result p.0 c.in_err-receive_at.field-0.0 p.1 p.2
@@ -94,7 +94,7 @@ invariant_of-self-2 c =
     let found_here : customer_there s.plan (suc spot.bridge) c.args.port ≡ suc spot.customer = ap (λ (n : ℕ). customer_there s.plan n c.args.port) row ∙ found in
     let there = box_at items_in s.inboxes.items spot.customer (length s.plan.customers) box c.self.invariant.2.inbox_count known.customer_within c.index_mut.ensures.value in
     let done = receive_done items_in s.plan s.bridges.items s.customers.items s.inboxes.items s.outboxes.items spot.bridge c.args.port spot.customer old c.receive_at.new.bridge box c.receive_at.new.inbox
-      c.self.invariant.0 c.self.invariant.1 c.self.invariant.2 here there stand c.in_ok-receive_at.ensures.plan c.in_ok-receive_at.ensures.number c.in_ok-receive_at.ensures.ok in
+    c.self.invariant.0 c.self.invariant.1 c.self.invariant.2 here there stand c.in_ok-receive_at.ensures.plan c.in_ok-receive_at.ensures.number c.in_ok-receive_at.ensures.ok in
     (c.self.invariant.0, done.0, done.1, c.self.invariant.3, c.self.invariant.4, c.self.invariant.5)
 
 pub returns : goal.returns
@@ -114,7 +114,7 @@ returns c =
     let found_here : customer_there s.plan (suc spot.bridge) c.args.port ≡ suc spot.customer = ap (λ (n : ℕ). customer_there s.plan n c.args.port) row ∙ found in
     let there = box_at items_in s.inboxes.items spot.customer (length s.plan.customers) box c.self.invariant.2.inbox_count known.customer_within c.index_mut.ensures.value in
     let done = receive_done items_in s.plan s.bridges.items s.customers.items s.inboxes.items s.outboxes.items spot.bridge c.args.port spot.customer old c.receive_at.new.bridge box c.receive_at.new.inbox
-      c.self.invariant.0 c.self.invariant.1 c.self.invariant.2 here there stand c.in_ok-receive_at.ensures.plan c.in_ok-receive_at.ensures.number c.in_ok-receive_at.ensures.ok in
+    c.self.invariant.0 c.self.invariant.1 c.self.invariant.2 here there stand c.in_ok-receive_at.ensures.plan c.in_ok-receive_at.ensures.number c.in_ok-receive_at.ensures.ok in
     let new = record_of (set s.bridges.items spot.bridge c.receive_at.new.bridge) s.customers.items in
     let here_done = subst (λ (n : ℕ). HasDone (record_of s.bridges.items s.customers.items) (Receive n c.args.port) new) row done.2 in
     (due, refl, ap (λ (v : NetView). v.plan) c.self.view_is, subst (λ (v : NetView). HasDone v.rec (Receive c.args.bridge c.args.port) new) c.self.view_is here_done)
