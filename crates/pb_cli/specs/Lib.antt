@@ -4,5 +4,6 @@ pub mod Receipts
 pub mod Texts
 pub mod FlatPlans
 pub mod Switches
+pub mod Quiet
 pub mod Answers
 pub mod Progress

@@ -1,5 +1,5 @@
 -- One bridge that stands alone, and what it does with a frame.
-use Rattle.std.specs.Prelude.{◌≡◌, ℕ, List, [], ◌∷◌, ◌++◌}
+use Rattle.std.specs.Prelude.{◌≡◌, ℕ, Bool, true, List, [], ◌∷◌, ◌++◌}
 use Rattle.std.specs.List.{AllByRecursion}
 use Rattle.pb_lan.specs.BridgeLists.{IsLawfulBridge}
 use Rattle.pb_lan.specs.Rules.{silent}
@@ -9,10 +9,11 @@ use Rattle.pb_cli.specs.FlatPlans.{flat_plan}
 use Rattle.pb_cli.specs.Receipts.{receipts, IsClear}
 use Rattle.pb_cli.specs.Texts.{answer_text}
 
--- a bridge with so many ports, and the steps that it took
+-- a bridge with so many ports, the steps that it took, and whether it is ready for a frame
 pub record SwitchView : Type 0 where
   pub ports : ℕ
   pub steps : List Step
+  pub is_ready : Bool
 
 -- the steps are a lawful past of the bridge, with no want of memory
 pub record IsFlatPast (ports : ℕ) (steps : List Step) : Type 0 where
@@ -22,6 +23,7 @@ pub record IsFlatPast (ports : ℕ) (steps : List Step) : Type 0 where
 -- the bridge received the frame at the port, and what became of it is printed
 pub record HasHandled (old : SwitchView) (port : ℕ) (frame : List ℕ) (out : List ℕ) (new : SwitchView) (out' : List ℕ) : Type 0 where
   pub ports : new.ports ≡ old.ports
+  pub ready : new.is_ready ≡ true
   pub outcome : Outcome
   pub receipts : receipts new.steps ≡ receipts old.steps ++ record { port = port; wire = frame; outcome = outcome } ∷ []
   pub past : IsFlatPast new.ports new.steps

@@ -1,6 +1,6 @@
 //! One bridge, driven by lines of text.
 
-ghost use Rattle.std.specs.Prelude.{◌≡◌, ◌≢◌, ◌<◌, ◌≤◌, ◌^◌, ◌++◌, ℕ, List, length, string_bytes, IsErrOf, OnOk, IfErr};
+ghost use Rattle.std.specs.Prelude.{◌≡◌, ◌≢◌, ◌<◌, ◌≤◌, ◌^◌, ◌++◌, ℕ, List, length, true, string_bytes, IsErrOf, OnOk, IfErr};
 ghost use Rattle.std.specs.Io.KnownBytes.{Keeps};
 ghost use Rattle.pb_cli.specs.Answers.{Answer};
 ghost use Rattle.pb_cli.specs.Receipts.{receipts};
@@ -28,7 +28,9 @@ fn answer(
     switch: &mut Switch,
     out: &mut String,
 ) -> Result<(), FlatFault>
-    requires { ports ≡ switch.old.ports }
+    requires ports { ports ≡ switch.old.ports }
+    requires ready { switch.old.is_ready ≡ true }
+    ensures ready { OnOk result (switch.new.is_ready ≡ true) }
     ensures steps { IsErrOf result FlatFault.Steps → 62500 ≤ length (receipts switch.old.steps) }
     ensures ports { OnOk result (switch.new.ports ≡ ports) }
     ensures past { OnOk result (IsFlatPast ports switch.old.steps → IsFlatPast ports switch.new.steps) }

@@ -89,13 +89,13 @@ received-step test q before (step ∷ steps) h =
     here _ e = cc
 
 -- each step in its place fits those before it
-lawful-at : (rules : Rules) (plan : Plan) (b : ℕ) (start earlier later : List Step) (step : Step) → LawfulAfter rules plan b start (earlier ++ step ∷ later) → Fits rules plan b (start ++ earlier) step
+pub lawful-at : (rules : Rules) (plan : Plan) (b : ℕ) (start earlier later : List Step) (step : Step) → LawfulAfter rules plan b start (earlier ++ step ∷ later) → Fits rules plan b (start ++ earlier) step
 lawful-at rules plan b start [] later step h = subst (λ xs. Fits rules plan b xs step) (sym (append-nil start)) h.0
 lawful-at rules plan b start (s ∷ earlier) later step h =
     subst (λ xs. Fits rules plan b xs step) (append_assoc start (s ∷ []) earlier) (lawful-at rules plan b (start ++ s ∷ []) earlier later step h.1)
 
 -- what the cases may give, the ruling is
-first_case-is : (P : Ruling → Type 0) (cs : List (Bool × Ruling)) (rest : Ruling) → AllByRecursion (λ c. c.0 ≡ true → P c.1) cs → P rest → P (first_case cs rest)
+pub first_case-is : (P : Ruling → Type 0) (cs : List (Bool × Ruling)) (rest : Ruling) → AllByRecursion (λ c. c.0 ≡ true → P c.1) cs → P rest → P (first_case cs rest)
 first_case-is P [] rest a r = r
 first_case-is P (c ∷ cs) rest a r =
     elim (c.0) as (λ b. c.0 ≡ b → P (cond b c.1 (first_case cs rest))) [ true ↦ λ e. a.0 e | false ↦ λ e. first_case-is P cs rest a.1 r ] refl

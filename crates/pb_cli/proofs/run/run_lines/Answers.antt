@@ -21,6 +21,7 @@ loop-number-preserved g c =
           c.loop-number.invariant.progress gives (rw c.line-line.ensures at a.2) (rw e at w);
       limit = c.next.ensures.limit ∙ c.loop-number.invariant.limit;
       ports = c.in_ok-answer.ensures.ports;
+      ready = c.in_ok-answer.ensures.ready;
       past = c.in_ok-answer.ensures.past c.loop-number.invariant.past;
     }
 

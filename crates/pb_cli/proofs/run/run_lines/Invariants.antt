@@ -1,4 +1,4 @@
-use Rattle.std.proofs.Common.{◌≡◌}
+use Rattle.std.proofs.Common.{◌≡◌, true}
 use Rattle.pb_lines.specs.Reader.{held, limit_of}
 use Rattle.pb_cli.specs.Progress.{Progress}
 use Rattle.pb_cli.specs.Receipts.{receipts}
@@ -11,5 +11,6 @@ invariant-loop-number g l = record {
       (g.W.Write.contents l.fn.writer) (g.W.Write.contents l.writer) (receipts l.switch.steps);
   limit : limit_of l.lines ≡ l.limit;
   ports : l.switch.ports ≡ l.ports;
+  ready : l.switch.is_ready ≡ true;
   past : IsFlatPast l.ports l.switch.steps;
 }
