@@ -1,6 +1,6 @@
 -- What an event asks of a network: the place whose step it asks for, whether it names anything at
 -- all, whether there is nothing to do, and the step that it may append.
-use Rattle.std.specs.Prelude.{◌≡◌, ℕ, ◌+◌, ◌-◌, ◌*◌, ◌/◌, ◌%◌, Bool, false, List, [], ◌∷◌, ◌++◌, Some, None, length, is_some, nat_le, nat_lt, ◌==◌, ◌&&◌, ◌||◌, not, slice_set, if◌then◌else◌}
+use Rattle.std.specs.Prelude.{◌≡◌, ℕ, zero, suc, ◌+◌, ◌*◌, ◌/◌, ◌%◌, Bool, false, List, [], ◌∷◌, ◌++◌, Some, None, length, is_some, nat_le, nat_lt, ◌==◌, ◌&&◌, ◌||◌, not, slice_set, if◌then◌else◌}
 use Rattle.std.specs.declared.option.Option.{Option}
 use Rattle.pb_lan.specs.Numbering.{numbered}
 use Rattle.pb_lan.specs.Ports.{Port, port_at, is_used, is_provider, is_customer_at, is_end_at}
@@ -166,7 +166,8 @@ IsStepOf event _ = ⊥
 
 -- one step more in the list of this number
 abbrev pub one_more : List (List Step) → ℕ → Step → List (List Step)
-one_more lists number step = slice_set lists (number - 1) (steps_of lists number ++ step ∷ [])
+one_more lists zero step = lists
+one_more lists (suc n) step = slice_set lists n (steps_of lists (suc n) ++ step ∷ [])
 
 -- one step more at the place, and nothing else changed
 abbrev pub with_step : Record → Place → Step → Record
@@ -180,7 +181,7 @@ HasDone old event new = (step : Step) × IsStepOf event step × (new ≡ with_st
 
 -- the event's place has taken as many steps as the plan allows
 abbrev pub is_at_limit : Plan → Record → Event → Bool
-is_at_limit plan rec event = nat_le plan.steps (length (steps_at rec (place_of event)))
+is_at_limit plan rec event = length (steps_at rec (place_of event)) == plan.steps
 
 -- a place without a step
 abbrev pub unstepped : {X : Type 0} → List X → List (List Step)

@@ -48,6 +48,7 @@ pub none_refused : (p : ℕ) (done : List ℕ) (rs : List (ℕ × NoRoom)) → m
 none_refused p done rs e a =
     any-names p rs ∙ ap (list_any (λ q. q == p)) e ∙ others-none p (filter (is_refused rs) done) (filter-others (IsOther p) (is_refused rs) done a)
 
+-- a port that is not named is not named full
 pub none_full : (p : ℕ) (rs : List (ℕ × NoRoom)) → is_refused rs p ≡ false → is_named_full rs p ≡ false
 none_full p [] h = refl
 none_full p (r ∷ rs) h =
@@ -174,6 +175,7 @@ copied_more capacity class item_at old done rs new p word q after h a l n e w = 
           | false ↦ λ t. other r b (λ f. let g = eq-eqb (r + 1) p f in cc)
         ] refl
 
+-- each of the ports is one of 16
 pub separate_at : (ps : List ℕ) (i : ℕ) → i < length ps → AreSeparate ps → (1 ≤ get_or ps i 0) × (get_or ps i 0 ≤ 16)
 separate_at [] i l a = absurd (omega arith)
 separate_at (p ∷ ps) zero l a = a.0
@@ -190,6 +192,7 @@ separate_before [] i l a = absurd (omega arith)
 separate_before (p ∷ ps) zero l a = tt
 separate_before (p ∷ ps) (suc i) l a = (other-at p ps i (omega arith) a.1, separate_before ps i (omega arith) a.2)
 
+-- at most one word is named of a port
 pub named-few : (p : ℕ) (word : Option NoRoom) → length (named p word) ≤ 1
 named-few p None = omega arith
 named-few p (Some word) = omega arith

@@ -121,6 +121,7 @@ IsSoundPort plan (Customer c) = IsSoundCustomer plan c
 IsSoundPort plan (Provider e) = IsSoundEnd plan e
 IsSoundPort plan Unused = Unit {0}
 
+-- so it is at each port
 pub sound_port : (plan : Plan) (b p : ℕ) → IsSound plan → IsSoundPort plan (port_at plan b p)
 sound_port plan b p s =
     elim (first (is_customer_at b p) plan.customers)

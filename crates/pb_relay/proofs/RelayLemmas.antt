@@ -64,6 +64,7 @@ standing-filter : (ageing now : ℕ) (news : List News) → live ageing now (sta
 standing-filter ageing now news =
     ap (filter (is_fresh ageing now)) (sym (table_tells_what_stands ageing now news)) ∙ filter-twice (is_fresh ageing now) (after_all [] news) ∙ table_tells_what_stands ageing now news
 
+-- news come one after another
 pub after_all-append : (table : List Sighting) (news : List News) (n : News) → after_all table (news ++ n ∷ []) ≡ after (after_all table news) n
 after_all-append table [] n = refl
 after_all-append table (m ∷ news) n = after_all-append (after table m) news n

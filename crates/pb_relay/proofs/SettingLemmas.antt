@@ -157,6 +157,7 @@ table_set ageing now p true news table h = h ∙ ap (standing ageing now) (sym (
 table_set ageing now p false news table h =
     filter-swap (is_fresh ageing now) (λ s. not (p == s.port)) table ∙ ap (λ t. after t (Flushed p)) h ∙ sym (standing_flushed ageing now news p)
 
+-- a port has been set: what is kept is kept
 pub after_set : (plan : Plan) (b : ℕ) (steps : List Step) (states : List PortState) (queues : List (List (List Item))) (now : ℕ) (table : List Sighting) (p : ℕ) (up : Bool) (new : PortState)
     → IsStanding plan b steps states queues now table → plan.spanning ≡ Fixed → is_provider (port_at plan b p) ≡ true → (1 ≤ p) × (p ≤ 16)
     → new ≡ goal_of plan b p up

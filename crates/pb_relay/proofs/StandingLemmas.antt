@@ -75,6 +75,7 @@ waiting-sent plan b r p steps item =
     waiting_from-append plan b r [] steps (Transmit p item)
     ∙ ap (λ ws. cond (p == r) (without (highest ws) ws) ws) (append-nil (waiting plan b r steps))
 
+-- once a frame has left, what is kept is kept
 pub after_transmit : (plan : Plan) (b : ℕ) (steps : List Step) (states : List PortState) (queues : List (List (List Item))) (now : ℕ) (table : List Sighting) (p : ℕ) (item : Item)
     → IsStanding plan b steps states queues now table → (1 ≤ p) × (p ≤ 16) → next_out (waiting plan b p steps) ≡ Some item
     → IsStanding plan b (steps ++ Transmit p item ∷ []) states (set queues (p - 1) (after_first (get_or queues (p - 1) []))) now table
@@ -146,16 +147,19 @@ kept_read plan b steps states queues now table p s l q e =
     let l1 : p ≤ 16 = l.1 in
     get_or_read queues (p - 1) q (omega arith) e [] ∙ kept_at plan b steps states queues now table p s l
 
+-- the first that is kept at a port goes out next
 pub next_read : (plan : Plan) (b : ℕ) (steps : List Step) (states : List PortState) (queues : List (List (List Item))) (now : ℕ) (table : List Sighting) (p : ℕ)
     → IsStanding plan b steps states queues now table → (1 ≤ p) × (p ≤ 16) → (q : List (List Item)) → q ≡ get_or queues (p - 1) q → first_out q ≡ next_out (waiting plan b p steps)
 next_read plan b steps states queues now table p s l q e =
     ap first_out (kept_read plan b steps states queues now table p s l q e) ∙ next_by_class (waiting plan b p steps) (s.classes p)
 
+-- as many are kept at a port as wait there
 pub number_read : (plan : Plan) (b : ℕ) (steps : List Step) (states : List PortState) (queues : List (List (List Item))) (now : ℕ) (table : List Sighting) (p : ℕ)
     → IsStanding plan b steps states queues now table → (1 ≤ p) × (p ≤ 16) → (q : List (List Item)) → q ≡ get_or queues (p - 1) q → number_in q ≡ length (waiting plan b p steps)
 number_read plan b steps states queues now table p s l q e =
     ap number_in (kept_read plan b steps states queues now table p s l q e) ∙ number_by_class (waiting plan b p steps) (s.classes p)
 
+-- where nothing goes out next, nothing waits
 pub none_waits : (qs : List (List Item)) → first_out qs ≡ None → number_in qs ≡ 0
 none_waits [] e = refl
 none_waits (q ∷ qs) e =
@@ -274,6 +278,7 @@ ticked-few : (step : Step) → ticked step ≤ 1
 ticked-few (Tick now moved) = omega arith
 ticked-few _ = omega arith
 
+-- there are no more ticks than steps
 pub now_few : (steps : List Step) → now_after steps ≤ length steps
 now_few [] = omega arith
 now_few (s ∷ steps) = omega (arith, ticked-few s, now_few steps)

@@ -19,16 +19,19 @@ use Rattle.pb_relay.specs.Entries.{sighting_of, sightings}
 use Rattle.pb_relay.specs.Rooms.{IsRoom}
 use Rattle.pb_relay.specs.Tables.{live, where_in, seen_anew, sighting_at}
 
+-- a test twice is the test once
 pub filter-twice : {X : Type 0} (p : X → Bool) (xs : List X) → filter p (filter p xs) ≡ filter p xs
 filter-twice p [] = refl
 filter-twice p (x ∷ xs) =
     elim (p x) as (λ b. p x ≡ b → filter p (cond b (x ∷ filter p xs) (filter p xs)) ≡ cond b (x ∷ filter p xs) (filter p xs))
     [ true ↦ λ e. ap (λ b. cond b (x ∷ filter p (filter p xs)) (filter p (filter p xs))) e ∙ ap (λ zs. x ∷ zs) (filter-twice p xs) | false ↦ λ e. filter-twice p xs ] refl
 
+-- what passes a test is no longer
 pub filter-shorter : {X : Type 0} (p : X → Bool) (xs : List X) → length (filter p xs) ≤ length xs
 filter-shorter p [] = omega arith
 filter-shorter p (x ∷ xs) = elim (p x) as (λ b. length (cond b (x ∷ filter p xs) (filter p xs)) ≤ suc (length xs)) [ true ↦ omega (arith, filter-shorter p xs) | false ↦ omega (arith, filter-shorter p xs) ]
 
+-- two tests may change places
 pub filter-swap : {X : Type 0} (p q : X → Bool) (xs : List X) → filter p (filter q xs) ≡ filter q (filter p xs)
 filter-swap p q [] = refl
 filter-swap p q (x ∷ xs) =
@@ -39,6 +42,7 @@ filter-swap p q (x ∷ xs) =
           [ true ↦ filter-swap p q xs ∙ ap (λ b. cond b (x ∷ filter q (filter p xs)) (filter q (filter p xs))) (sym e) | false ↦ filter-swap p q xs ]
     ] refl
 
+-- a test of sightings is a test of entries
 pub filter-map : (p : Sighting → Bool) (es : List Entry) → filter p (sightings es) ≡ sightings (filter (λ e. p (sighting_of e)) es)
 filter-map p [] = refl
 filter-map p (e ∷ es) = elim (p (sighting_of e)) as (λ b. cond b (sighting_of e ∷ filter p (sightings es)) (filter p (sightings es)) ≡ sightings (cond b (e ∷ filter (λ e. p (sighting_of e)) es) (filter (λ e. p (sighting_of e)) es)))
@@ -51,10 +55,12 @@ live-length ageing now es table v =
     sym (length-map (filter (λ e. is_fresh ageing now (sighting_of e)) es) sighting_of)
     ∙ ap length (sym (filter-map (is_fresh ageing now) es)) ∙ ap (λ t. length (live ageing now t)) v
 
+-- where the fresh entries stay, the live sightings stay
 pub live-same : (ageing now : ℕ) (es fs : List Entry) (table : List Sighting) → sightings es ≡ table
     → filter (λ e. is_fresh ageing now (sighting_of e)) fs ≡ filter (λ e. is_fresh ageing now (sighting_of e)) es → live ageing now (sightings fs) ≡ live ageing now table
 live-same ageing now es fs table v h = filter-map (is_fresh ageing now) fs ∙ ap sightings h ∙ sym (filter-map (is_fresh ageing now) es) ∙ ap (live ageing now) v
 
+-- want of room is answered as the definitions say
 pub learnt_not : (group : Bool) (full : Bool) (port : ℕ) (answer : Learnt) (at : Option ℕ) → group ≡ false → at ≡ None → IsRoom full (Err answer) → IsLearnt group at full port answer
 learnt_not group full port New at g n r = absurd r
 learnt_not group full port Kept at g n r = absurd r
@@ -63,6 +69,7 @@ learnt_not group full port Full at g n r = (g, n, r)
 learnt_not group full port Group at g n r = absurd r
 learnt_not group full port Memory at g n r = (g, n, r)
 
+-- and notes nothing
 pub not_noted : (full : Bool) (answer : Learnt) → IsRoom full (Err answer) → is_noted (Some answer) ≡ false
 not_noted full New r = absurd r
 not_noted full Kept r = absurd r
@@ -101,15 +108,18 @@ found_shorter ageing now p (e ∷ es) at h =
     skip t true h = ap (λ b. option_map (λ s. s.port) (cond b (Some (sighting_of e)) (first p (live ageing now (sightings es))))) (sym t) ∙ h
     skip t false h = h
 
+-- what passes a test fits where the list fits
 pub filter_fits : {X : Type 0} (p : X → Bool) (xs : List X) (n : ℕ) → length xs < n → length (filter p xs) < n
 filter_fits p xs n h = omega (arith, filter-shorter p xs)
 
+-- a station that is found leaves room for its new sighting
 pub found_fits : (ageing now vid : ℕ) (mac : List ℕ) (es : List Entry) (table : List Sighting) (at n : ℕ) → sightings es ≡ table → Some at ≡ where_in ageing now vid mac table → length es ≤ n
     → length (filter (λ e. not (is_sighted vid mac (sighting_of e))) es) < n
 found_fits ageing now vid mac es table at n v h l =
     let s = found_shorter ageing now (is_sighted vid mac) es at (ap (where_in ageing now vid mac) v ∙ sym h) in
     omega (arith, s)
 
+-- what is seen now is fresh
 pub fresh_now : (ageing now vid port : ℕ) (mac : List ℕ) → 0 < ageing → is_fresh ageing now (sighting_at vid mac port now) ≡ true
 fresh_now ageing now vid port mac h =
     let z : now - now ≡ 0 = omega arith in

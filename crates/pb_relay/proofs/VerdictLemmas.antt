@@ -20,6 +20,7 @@ use Rattle.pb_lan.specs.Rules.{silent}
 use Rattle.pb_relay.specs.Verdicts.{local_ruling, bridge_cases, serves_of, is_to_somebody}
 use Rattle.pb_relay.proofs.WaitingLemmas.{count_up}
 
+-- the ruling by what is kept of a port is the ruling there
 pub ruled : (plan : Plan) (port : Port) (local : LocalPort) (state : PortState) (item : Item) → IsKept plan port local → local_ruling local state item ≡ ruling_by silent plan port state item
 ruled plan (Customer c) (ToCustomer vid pcp) state item k = ap (λ v. first_case (customer_cases item) (Carries v)) k.0
 ruled plan (Provider e) (ToBridge start vids) state item k = served (serves_of vids.items (vid_of item.wire)) (serves plan (vid_of item.wire) e) (k.1 (vid_of item.wire))
@@ -34,6 +35,7 @@ ruled plan (Provider e) ToNobody state item k = absurd k
 ruled plan Unused (ToCustomer vid pcp) state item k = absurd k
 ruled plan Unused (ToBridge start vids) state item k = absurd k
 
+-- somebody is at a port that is used
 pub used_here : (plan : Plan) (port : Port) (local : LocalPort) → IsKept plan port local → is_used port ≡ true → is_to_somebody local ≡ true
 used_here plan (Customer c) (ToCustomer vid pcp) k u = refl
 used_here plan (Provider e) (ToBridge start vids) k u = refl
@@ -43,6 +45,7 @@ used_here plan (Customer c) ToNobody k u = absurd k
 used_here plan (Provider e) (ToCustomer vid pcp) k u = refl
 used_here plan (Provider e) ToNobody k u = absurd k
 
+-- what a list by ascending numbers has at a place
 pub get_up : {X : Type 0} (f : ℕ → X) (n k i : ℕ) (d : X) → i < n → get_or (map f (count_up k n)) i d ≡ f (k + i)
 get_up f zero k i d l = absurd (omega arith)
 get_up f (suc n) k zero d l = let s : k ≡ k + 0 = omega arith in ap f s

@@ -18,6 +18,7 @@ pub at_none : {X : Type 0} (F G : ℕ → X) (c : ℕ) → ((j : ℕ) → j ≢ 
 at_none F G c h zero k l = refl
 at_none F G c h (suc n) k l = ap (λ q. q ∷ map G (count_up (k + 1) n)) (h k (omega arith)) ∙ ap (λ qs. F k ∷ qs) (at_none F G c h n (k + 1) (omega arith))
 
+-- so only one place of the lists changes
 pub at_one : {X : Type 0} (F G : ℕ → X) (c : ℕ) → ((j : ℕ) → j ≢ c → G j ≡ F j) → (n k i : ℕ) → c ≡ k + i → i < n
     → map G (count_up k n) ≡ set (map F (count_up k n)) i (G c)
 at_one F G c h zero k i e l = absurd (omega arith)
@@ -27,15 +28,18 @@ at_one F G c h (suc n) k zero e l =
 at_one F G c h (suc n) k (suc i) e l =
     ap (λ q. q ∷ map G (count_up (k + 1) n)) (h k (omega arith)) ∙ ap (λ qs. F k ∷ qs) (at_one F G c h n (k + 1) i (omega arith) (omega arith))
 
+-- what the lists have at a class
 pub get_class : (F : ℕ → List Item) (n k i : ℕ) → i < n → get_or (map F (count_up k n)) i [] ≡ F (k + i)
 get_class F zero k i l = absurd (omega arith)
 get_class F (suc n) k zero l = let s : k ≡ k + 0 = omega arith in ap F s
 get_class F (suc n) k (suc i) l = let s : (k + 1) + i ≡ k + suc i = omega arith in get_class F n (k + 1) i (omega arith) ∙ ap F s
 
+-- there are as many lists as classes
 pub length_classes : (F : ℕ → List Item) (n k : ℕ) → length (map F (count_up k n)) ≡ n
 length_classes F zero k = refl
 length_classes F (suc n) k = ap suc (length_classes F n (k + 1))
 
+-- empty lists have nothing to send
 pub none_above : (F : ℕ → List Item) (n k m : ℕ) → ((j : ℕ) → k + m ≤ j → F j ≡ []) → first_out (drop m (map F (count_up k n))) ≡ None
 none_above F zero k zero h = refl
 none_above F zero k (suc m) h = refl
@@ -64,6 +68,7 @@ append_none : (xs : List Item) → xs ++ [] ≡ xs
 append_none [] = refl
 append_none (x ∷ xs) = ap (λ zs. x ∷ zs) (append_none xs)
 
+-- one more that waits goes into the list of its class
 pub by_class-push : (ws : List Waiting) (w : Waiting) → w.class < 8 → by_class (ws ++ w ∷ []) ≡ put_in w.class w.item (by_class ws)
 by_class-push ws w l =
     at_one (λ j. of_class j ws) (λ j. of_class j (ws ++ w ∷ [])) w.class
@@ -184,6 +189,7 @@ number_by_class (w ∷ ws) a =
     ∙ ap (set (by_class ws) w.class) (of_class-own w.class w ws refl) in
     omega (arith, ap number_in e, number_set (by_class ws) w.class (w.item ∷ of_class w.class ws) a.0, ap length g, number_by_class ws a.1)
 
+-- taking one away leaves the others in their classes
 pub without-below : (n h : ℕ) (ws : List Waiting) → AllByRecursion (λ w. w.class < n) ws → AllByRecursion (λ w. w.class < n) (without h ws)
 without-below n h [] a = tt
 without-below n h (w ∷ ws) a =

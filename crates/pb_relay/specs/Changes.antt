@@ -14,6 +14,7 @@ use Rattle.pb_relay.specs.Standing.{BridgeView, with_step}
 use Rattle.pb_relay.specs.declared.ports.LocalPort.{LocalPort}
 use Rattle.pb_relay.specs.declared.ports.LocalPort.TheVariants.{ToCustomer, ToBridge, ToNobody}
 
+-- nothing moved
 abbrev pub unmoved : Moved
 unmoved = record { states = []; flushed = []; queued = []; dropped = [] }
 

@@ -21,6 +21,7 @@ where_in ageing now vid mac table = option_map (λ s. s.port) (first (is_sighted
 abbrev pub seen_anew : Sighting → List Sighting → List Sighting
 seen_anew s table = filter (λ t. not (is_sighted s.vid s.mac t)) table ++ s ∷ []
 
+-- the sighting of these parts
 abbrev pub sighting_at : ℕ → List ℕ → ℕ → ℕ → Sighting
 sighting_at vid mac port moment = record { vid = vid; mac = mac; port = port; moment = moment }
 

@@ -17,6 +17,7 @@ use Rattle.pb_relay.specs.declared.ports.LocalPort.TheVariants.{ToCustomer, ToBr
 use Rattle.pb_relay.specs.declared.verdict.Verdict.{Verdict}
 use Rattle.pb_relay.specs.declared.verdict.Verdict.TheVariants.{Refuse, Learn, Carry}
 
+-- the ruling that a verdict tells
 abbrev pub as_ruling : Verdict → Ruling
 as_ruling (Refuse reason) = Refuses reason
 as_ruling (Learn vid) = LearnsOnly vid

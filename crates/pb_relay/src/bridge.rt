@@ -1,7 +1,7 @@
 //! A bridge, its list of steps and its queues.
 
-ghost use Rattle.std.specs.Prelude.{◌≡◌, ◌<◌, ◌++◌, ◌∷◌, [], ◌↔◌, vec_len, vec_capacity, length, true, OnOk, OnErr, IsErrOf};
 ghost use Rattle.std.specs.Option.{option_copied};
+ghost use Rattle.std.specs.Prelude.{◌≡◌, ◌<◌, ◌++◌, ◌∷◌, [], ◌↔◌, vec_len, vec_capacity, length, true, OnOk, OnErr, IsErrOf, IsOk};
 ghost use Rattle.pb_lan.specs.BridgeLists.{IsLawfulBridge, Fits};
 ghost use Rattle.pb_lan.specs.Ports.{port_at, is_used};
 ghost use Rattle.pb_lan.specs.Queues.{waiting, next_out};
@@ -105,12 +105,17 @@ impl Bridge {
     /// Makes room for one step, so that `pop_out` needs no memory.
     ///
     /// `StepLimit` is answered exactly where the list holds the plan's number of steps, `Memory`
-    /// where there is none for one more. Then nothing has changed.
+    /// where there is none for one more. Then nothing has changed. Where there is room already, the
+    /// answer is `Ok`.
     pub fn reserve_step(&mut self) -> Result<(), BridgeFault>
         ensures ok { OnOk result (self.new ≡ record self.old { is_reserved = true }) }
         ensures err { OnErr result (self.new ≡ self.old) }
         ensures limit { IsErrOf result BridgeFault.StepLimit ↔ (length self.old.steps ≡ self.old.plan.steps) }
+        ensures reserved { self.old.is_reserved ≡ true → IsOk result }
     {
+        if self.is_reserved {
+            return Ok(());
+        }
         if self.steps.len() == self.limit {
             return Err(BridgeFault::StepLimit);
         }

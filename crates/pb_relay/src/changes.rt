@@ -1,6 +1,6 @@
 //! What changes a bridge's ports, and its clock.
 
-ghost use Rattle.std.specs.Prelude.{◌≡◌, ◌↔◌, ◌<◌, ◌≤◌, Bool, [], length, true, false, not, if◌then◌else◌, IfOk, OnOk, OnErr, IsErrOf, IsTrue};
+ghost use Rattle.std.specs.Prelude.{◌≡◌, ◌↔◌, ◌<◌, length, true, false, if◌then◌else◌, IfOk, OnOk, OnErr, IsErrOf, IsOk};
 ghost use Rattle.pb_frame.specs.Stations.{after};
 ghost use Rattle.pb_frame.specs.Stations.News.{Flushed};
 ghost use Rattle.pb_lan.specs.Ports.{port_at, is_provider};
@@ -16,11 +16,15 @@ use pb_lan::{Moved, PortState, Step};
 use std::alloc::Global;
 
 impl Bridge {
-    /// The clock ticks.
+    /// The clock ticks: a second has gone by.
+    ///
+    /// `StepLimit` is answered exactly where the list holds the plan's number of steps, `Memory`
+    /// where there is no room for one more: never after `reserve_step`. Then nothing has changed.
     pub fn tick(&mut self) -> Result<(), BridgeFault>
         ensures ok { OnOk result (HasTicked self.old self.new) }
         ensures err { OnErr result (self.new ≡ self.old) }
         ensures limit { IsErrOf result BridgeFault.StepLimit ↔ (length self.old.steps ≡ self.old.plan.steps) }
+        ensures reserved { self.old.is_reserved ≡ true → IsOk result }
     {
         self.reserve_step()?;
         self.advance();

@@ -1,15 +1,14 @@
 //! Where stations were seen.
 
-ghost use Rattle.std.specs.Prelude.{◌≡◌, ◌<◌, ◌≤◌, ◌++◌, ◌∷◌, [], not, length, nat_le, OnOk, OnErr, if◌then◌else◌, Some, map};
 ghost use Rattle.std.specs.List.{filter};
+ghost use Rattle.std.specs.Prelude.{◌≡◌, ◌<◌, ◌≤◌, ◌++◌, ◌∷◌, [], not, length, nat_le, OnOk, if◌then◌else◌, Some, vec_len, vec_capacity};
 ghost use Rattle.pb_frame.specs.Frames.{is_group};
 ghost use Rattle.pb_frame.specs.Stations.{is_sighted, is_fresh, after};
 ghost use Rattle.pb_frame.specs.Stations.News.{Flushed};
 ghost use Rattle.pb_lan.specs.Choice.{is_noted, IsLearnt, table_limit};
-ghost use Rattle.std.specs.Prelude.{vec_len, vec_capacity};
-ghost use Rattle.pb_relay.specs.Tables.{live, where_in, seen_anew, sighting_at};
-ghost use Rattle.pb_relay.specs.Rooms.{IsRoom};
 ghost use Rattle.pb_relay.specs.Entries.{sighting_of, sightings};
+ghost use Rattle.pb_relay.specs.Rooms.{IsRoom};
+ghost use Rattle.pb_relay.specs.Tables.{live, where_in, seen_anew, sighting_at};
 
 use pb_frame::{Learnt, Mac};
 use std::alloc::Global;

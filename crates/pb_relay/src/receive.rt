@@ -1,11 +1,12 @@
 //! What a bridge does with a frame that comes in at a port (IEEE 802.1Q clause 8).
 
-ghost use Rattle.std.specs.Prelude.{ℕ, ◌≡◌, ◌≤◌, ◌<◌, ◌↔◌, length, true, slice_index_or, IfOk, IfErr, OnErr, IsErrOf, if◌then◌else◌, None};
+ghost use Rattle.std.specs.Prelude.{ℕ, ◌++◌, ◌∷◌, [], vec_len, vec_capacity, ◌≡◌, ◌≤◌, ◌<◌, ◌↔◌, length, true, IfOk, IfErr, OnErr, IsErrOf, IsOk, if◌then◌else◌, None};
 ghost use Rattle.pb_frame.specs.Frames.{src_of, dst_of, is_group};
-ghost use Rattle.pb_lan.specs.Ports.{port_at, is_used};
-ghost use Rattle.pb_lan.specs.Rules.{silent};
 ghost use Rattle.pb_lan.specs.BridgeLists.{ruling};
 ghost use Rattle.pb_lan.specs.BridgeLists.Ruling.{Refuses, LearnsOnly, Carries};
+ghost use Rattle.pb_lan.specs.Ports.{port_at, is_used};
+ghost use Rattle.pb_lan.specs.Rules.{silent};
+ghost use Rattle.pb_lan.specs.declared.step.Step.TheVariants.{Receive};
 ghost use Rattle.pb_relay.specs.Loads.{IsLoadedAt};
 ghost use Rattle.pb_relay.specs.Rooms.{IsEmptyRoom};
 ghost use Rattle.pb_relay.specs.Standing.{HasReceived};
@@ -20,7 +21,7 @@ use crate::fdb::Fdb;
 use crate::load::Load;
 use crate::room::Room;
 use crate::verdict::{Verdict, rule};
-use pb_frame::Mac;
+use pb_frame::{Learnt, Mac};
 use pb_lan::{Item, Outcome, Reason, Step};
 
 impl Bridge {
@@ -28,13 +29,15 @@ impl Bridge {
     /// the Receive step that tells of it.
     ///
     /// `StepLimit` is answered exactly where the list holds the plan's number of steps, `Memory`
-    /// where there is no room for one more. Then nothing has changed, and the item is handed back.
+    /// where there is no room for one more: never after `reserve_step`. Then nothing has changed,
+    /// and the item is handed back. Any other want of memory is told by the step.
     pub fn receive(&mut self, port: u8, item: Item) -> Result<Outcome, (BridgeFault, Item)>
         requires { is_used (port_at self.old.plan self.old.number port) ≡ true }
         ensures ok { IfOk result (λ outcome. HasReceived self.old port item outcome self.new) }
         ensures err { OnErr result (self.new ≡ self.old) }
-        ensures item { IfErr result (λ e. e.1 ≡ item) }
+        ensures handed { IfErr result (λ e. e.1 ≡ item) }
         ensures limit { IsErrOf result (BridgeFault.StepLimit, item) ↔ (length self.old.steps ≡ self.old.plan.steps) }
+        ensures reserved { self.old.is_reserved ≡ true → IsOk result }
     {
         if let Err(fault) = self.reserve_step() {
             return Err((fault, item));
@@ -64,16 +67,7 @@ impl Bridge {
         ensures { HasReceived self.old port item result self.new }
     {
         self.is_reserved = false;
-        append(
-            &mut self.steps,
-            Step::Receive {
-                port,
-                item,
-                learnt: None,
-                outcome: Outcome::Filtered(reason),
-                moved: None,
-            },
-        );
+        append_receive(&mut self.steps, port, item, None, Outcome::Filtered(reason));
         Outcome::Filtered(reason)
     }
 
@@ -84,15 +78,12 @@ impl Bridge {
         ensures { HasReceived self.old port item result self.new }
     {
         self.is_reserved = false;
-        append(
+        append_receive(
             &mut self.steps,
-            Step::Receive {
-                port,
-                item,
-                learnt: None,
-                outcome: Outcome::Filtered(Reason::Memory),
-                moved: None,
-            },
+            port,
+            item,
+            None,
+            Outcome::Filtered(Reason::Memory),
         );
         Outcome::Filtered(Reason::Memory)
     }
@@ -108,15 +99,12 @@ impl Bridge {
             .table
             .learn(self.plan.ageing, vid, source, port, self.clock);
         self.is_reserved = false;
-        append(
+        append_receive(
             &mut self.steps,
-            Step::Receive {
-                port,
-                item,
-                learnt: Some(learnt),
-                outcome: Outcome::Filtered(Reason::NotForwarding),
-                moved: None,
-            },
+            port,
+            item,
+            Some(learnt),
+            Outcome::Filtered(Reason::NotForwarding),
         );
         Outcome::Filtered(Reason::NotForwarding)
     }
@@ -173,18 +161,32 @@ impl Bridge {
         );
         let (told, kept) = room.into_outcomes();
         self.is_reserved = false;
-        append(
-            &mut self.steps,
-            Step::Receive {
-                port,
-                item,
-                learnt: Some(learnt),
-                outcome: kept,
-                moved: None,
-            },
-        );
+        append_receive(&mut self.steps, port, item, Some(learnt), kept);
         told
     }
+}
+
+/// Puts the step of an item that came in at a port into the room that is there for it.
+fn append_receive(
+    steps: &mut Vec<Step>,
+    port: u8,
+    item: Item,
+    learnt: Option<Learnt>,
+    outcome: Outcome,
+)
+    requires { vec_len steps.old < vec_capacity steps.old }
+    ensures items { steps.new.items ≡ steps.old.items ++ Receive port item learnt outcome None ∷ [] }
+{
+    append(
+        steps,
+        Step::Receive {
+            port,
+            item,
+            learnt,
+            outcome,
+            moved: None,
+        },
+    );
 }
 
 /// The source of a frame: its octets 6 to 11 (IEEE 802.3 clause 3).

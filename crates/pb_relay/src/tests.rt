@@ -1,7 +1,10 @@
 //! Runs with ample memory.
 
+mod frames;
 mod networks;
 mod one_bridge;
+mod queues;
+mod table;
 mod two_bridges;
 
 ghost use Rattle.std.specs.Prelude.{◌≡◌, IsTrue, true};
@@ -10,6 +13,7 @@ ghost use Rattle.pb_lan.specs.Ports.{port_at, is_used, is_provider};
 use crate::ports::LocalPort;
 use crate::{Bridge, BridgeFault};
 use bytes::Bytes;
+use pb_frame::hex_read;
 use pb_lan::{Item, Mark, NoRoom, Outcome, Plan, Seq, Spanning, plan_is_sound};
 use std::alloc::{AllocError, Global};
 use std::process::Abort;
@@ -90,4 +94,18 @@ fn relayed(alloc: Global, chosen: &[u8], refused: &[(u8, NoRoom)]) -> Result<Out
         chosen: Seq::from_vec(Vec::from_slice(alloc, chosen)?),
         refused: Seq::from_vec(Vec::from_slice(alloc, refused)?),
     })
+}
+
+/// An item without a mark, by its octets in hexadecimal digits.
+fn unmarked(alloc: Global, hops: u32, digits: &str) -> Result<Item, Fail> {
+    Ok(Item {
+        mark: None,
+        hops,
+        wire: wire(alloc, digits)?,
+    })
+}
+
+/// Octets by their hexadecimal digits.
+fn wire(alloc: Global, digits: &str) -> Result<Bytes, Fail> {
+    Ok(hex_read(alloc, digits)?)
 }

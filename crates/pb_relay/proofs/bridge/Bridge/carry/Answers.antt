@@ -71,8 +71,8 @@ pub invariant_of-self : goal.invariant_of-self
 invariant_of-self c =
     let reserved = c.self.invariant.2.reserved (subst (λ (v : BridgeView). v.is_reserved ≡ true) (sym c.self.view_is) c.requires.reserved) in
     let step : Step = Receive c.args.port c.args.item (Some c.learn-learnt.result) (Relayed c.choose.new.chosen.items c.queue_copies.new.refused.items) None in
-    let e : c.append.new.steps.items ≡ c.self.inside.steps.items ++ step ∷ [] =
-    c.append.ensures.items ∙ ap (λ (o : Outcome). c.self.inside.steps.items ++ Receive c.args.port c.args.item (Some c.learn-learnt.result) o None ∷ []) c.into_outcomes-told.ensures.kept in (
+    let e : c.append_receive.new.steps.items ≡ c.self.inside.steps.items ++ step ∷ [] =
+    c.append_receive.ensures.items ∙ ap (λ (o : Outcome). c.self.inside.steps.items ++ Receive c.args.port c.args.item (Some c.learn-learnt.result) o None ∷ []) c.into_outcomes-told.ensures.kept in (
       c.self.invariant.0,
       subst (λ (ms : List Step). IsStanding c.self.inside.plan c.self.inside.number ms c.self.inside.states c.queue_copies.new.queues.items c.self.inside.clock c.learn-learnt.new.self)
           (sym e) (whole c).1,
@@ -86,8 +86,8 @@ pub returns : goal.returns
 returns c =
     let told = c.into_outcomes-told.ensures.told in
     let same : c.into_outcomes-told.result.1 ≡ c.into_outcomes-told.result.0 = c.into_outcomes-told.ensures.kept ∙ sym told in
-    let e : c.append.new.steps.items ≡ c.self.inside.steps.items ++ Receive c.args.port c.args.item (Some c.learn-learnt.result) c.into_outcomes-told.result.0 None ∷ [] =
-    c.append.ensures.items ∙ ap (λ (o : Outcome). c.self.inside.steps.items ++ Receive c.args.port c.args.item (Some c.learn-learnt.result) o None ∷ []) same in (
+    let e : c.append_receive.new.steps.items ≡ c.self.inside.steps.items ++ Receive c.args.port c.args.item (Some c.learn-learnt.result) c.into_outcomes-told.result.0 None ∷ [] =
+    c.append_receive.ensures.items ∙ ap (λ (o : Outcome). c.self.inside.steps.items ++ Receive c.args.port c.args.item (Some c.learn-learnt.result) o None ∷ []) same in (
       Some c.learn-learnt.result,
       None,
       ap (λ (ms : List Step). record { plan = c.self.inside.plan; number = c.self.inside.number; steps = ms; is_reserved = false }) e

@@ -13,7 +13,7 @@ use Rattle.pb_relay.proofs.ReceiveLemmas.{learnt_alone}
 use Rattle.pb_relay.proofs.bridge.Bridge.learn_only.Goals as goal
 
 -- the step fits, and what is kept is kept
-whole : (c : goal.After-append)
+whole : (c : goal.After-append_receive)
     → Fits silent c.self.inside.plan c.self.inside.number c.self.inside.steps.items (Receive c.args.port c.args.item (Some c.learn-learnt.result) (Filtered NotForwarding) None)
     × IsStanding c.self.inside.plan c.self.inside.number
     (c.self.inside.steps.items ++ Receive c.args.port c.args.item (Some c.learn-learnt.result) (Filtered NotForwarding) None ∷ [])
@@ -35,9 +35,9 @@ invariant_of-self c =
     let step : Step = Receive c.args.port c.args.item (Some c.learn-learnt.result) (Filtered NotForwarding) None in (
       c.self.invariant.0,
       subst (λ (ms : List Step). IsStanding c.self.inside.plan c.self.inside.number ms c.self.inside.states c.self.inside.queues.items c.self.inside.clock c.learn-learnt.new.self)
-          (sym c.append.ensures.items) (whole c).1,
+          (sym c.append_receive.ensures.items) (whole c).1,
       record {
-        within = omega (arith, reserved.0, ap length c.append.ensures.items, length-append c.self.inside.steps.items (step ∷ []));
+        within = omega (arith, reserved.0, ap length c.append_receive.ensures.items, length-append c.self.inside.steps.items (step ∷ []));
         reserved = λ e. cc;
       },
     )
@@ -47,7 +47,7 @@ returns c =
     let step : Step = Receive c.args.port c.args.item (Some c.learn-learnt.result) (Filtered NotForwarding) None in (
       Some c.learn-learnt.result,
       None,
-      ap (λ (ms : List Step). record { plan = c.self.inside.plan; number = c.self.inside.number; steps = ms; is_reserved = false }) c.append.ensures.items
+      ap (λ (ms : List Step). record { plan = c.self.inside.plan; number = c.self.inside.number; steps = ms; is_reserved = false }) c.append_receive.ensures.items
           ∙ ap (λ (v : BridgeView). with_step v step) c.self.view_is,
       subst (λ (v : BridgeView). Fits silent v.plan v.number v.steps step) c.self.view_is (whole c).0,
     )

@@ -1,0 +1,4 @@
+pub mod WordLemmas
+pub mod RunLemmas
+pub mod HexTexts
+pub mod FlatPlanLaws

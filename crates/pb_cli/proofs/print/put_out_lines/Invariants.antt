@@ -1,0 +1,6 @@
+use Rattle.std.proofs.Common.{◌≡◌, ◌++◌, drop, string_bytes}
+use Rattle.pb_cli.specs.Texts.{out_lines}
+use Rattle.pb_cli.proofs.print.put_out_lines.Given as goal
+
+abbrev pub invariant-loop-port : goal.invariant-loop-port
+invariant-loop-port l = string_bytes l.out ++ out_lines l.hex (drop l.port-index l.ports) ≡ string_bytes l.initial.out ++ out_lines l.hex l.ports

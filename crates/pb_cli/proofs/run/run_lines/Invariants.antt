@@ -1,0 +1,15 @@
+use Rattle.std.proofs.Common.{◌≡◌}
+use Rattle.pb_lines.specs.Reader.{held, limit_of}
+use Rattle.pb_cli.specs.Progress.{Progress}
+use Rattle.pb_cli.specs.Receipts.{receipts}
+use Rattle.pb_cli.specs.Switches.{IsFlatPast}
+use Rattle.pb_cli.proofs.run.run_lines.Given as goal
+
+abbrev pub invariant-loop-number : goal.invariant-loop-number
+invariant-loop-number g l = record {
+  progress : Progress l.limit l.ports l.number (g.R.Read.remaining l.fn.reader) (held l.lines) (g.R.Read.remaining l.reader)
+      (g.W.Write.contents l.fn.writer) (g.W.Write.contents l.writer) (receipts l.switch.steps);
+  limit : limit_of l.lines ≡ l.limit;
+  ports : l.switch.ports ≡ l.ports;
+  past : IsFlatPast l.ports l.switch.steps;
+}

@@ -1,0 +1,33 @@
+-- What a bridge was asked at its ports, and what it answered.
+use Rattle.std.specs.Prelude.{◌≡◌, ◌≢◌, ℕ, List, [], ◌∷◌, Some, flat_map}
+use Rattle.pb_frame.specs.declared.learnt.Learnt.TheVariants.{Memory as not_learnt}
+use Rattle.pb_lan.specs.declared.step.Outcome.{Outcome}
+use Rattle.pb_lan.specs.declared.step.Outcome.TheVariants.{Relayed, Filtered, Heard}
+use Rattle.pb_lan.specs.declared.step.Reason.TheVariants.{Memory as want_of_memory}
+use Rattle.pb_lan.specs.declared.step.Step.{Step}
+use Rattle.pb_lan.specs.declared.step.Step.TheVariants.{Receive}
+
+-- a frame came in at a port, and this became of it
+pub record Receipt : Type 0 where
+  pub port : ℕ
+  pub wire : List ℕ
+  pub outcome : Outcome
+
+abbrev pub receipt_by : Step → List Receipt
+receipt_by (Receive port item learnt outcome moved) = record { port = port; wire = item.wire; outcome = outcome } ∷ []
+receipt_by _ = []
+
+-- the frames that a bridge received, in order
+abbrev pub receipts : List Step → List Receipt
+receipts steps = flat_map receipt_by steps
+
+-- each chosen port got its copy, and no frame was lost for want of memory
+abbrev pub IsClearOutcome : Outcome → Type 0
+IsClearOutcome (Relayed chosen refused) = refused ≡ []
+IsClearOutcome (Filtered reason) = reason ≢ want_of_memory
+IsClearOutcome Heard = Unit {0}
+
+-- the step tells of no want of memory and of no refused copy
+abbrev pub IsClear : Step → Type 0
+IsClear (Receive port item learnt outcome moved) = (learnt ≢ Some not_learnt) × IsClearOutcome outcome
+IsClear _ = Unit {0}

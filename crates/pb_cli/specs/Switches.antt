@@ -1,0 +1,28 @@
+-- One bridge that stands alone, and what it does with a frame.
+use Rattle.std.specs.Prelude.{◌≡◌, ℕ, List, [], ◌∷◌, ◌++◌}
+use Rattle.std.specs.List.{AllByRecursion}
+use Rattle.pb_lan.specs.BridgeLists.{IsLawfulBridge}
+use Rattle.pb_lan.specs.Rules.{silent}
+use Rattle.pb_lan.specs.declared.step.Outcome.{Outcome}
+use Rattle.pb_lan.specs.declared.step.Step.{Step}
+use Rattle.pb_cli.specs.FlatPlans.{flat_plan}
+use Rattle.pb_cli.specs.Receipts.{receipts, IsClear}
+use Rattle.pb_cli.specs.Texts.{answer_text}
+
+-- a bridge with so many ports, and the steps that it took
+pub record SwitchView : Type 0 where
+  pub ports : ℕ
+  pub steps : List Step
+
+-- the steps are a lawful past of the bridge, with no want of memory
+pub record IsFlatPast (ports : ℕ) (steps : List Step) : Type 0 where
+  pub lawful : IsLawfulBridge silent (flat_plan ports) 1 steps
+  pub clear : AllByRecursion IsClear steps
+
+-- the bridge received the frame at the port, and what became of it is printed
+pub record HasHandled (old : SwitchView) (port : ℕ) (frame : List ℕ) (out : List ℕ) (new : SwitchView) (out' : List ℕ) : Type 0 where
+  pub ports : new.ports ≡ old.ports
+  pub outcome : Outcome
+  pub receipts : receipts new.steps ≡ receipts old.steps ++ record { port = port; wire = frame; outcome = outcome } ∷ []
+  pub past : IsFlatPast new.ports new.steps
+  pub text : out' ≡ out ++ answer_text (record { port = port; wire = frame; outcome = outcome })

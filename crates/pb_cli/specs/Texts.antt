@@ -1,0 +1,46 @@
+-- The lines that are printed.
+use Rattle.std.specs.Prelude.{ℕ, List, [], ◌∷◌, ◌++◌, flat_map, codes}
+use Rattle.std.specs.Fmt.{decimal}
+use Rattle.pb_frame.specs.Hex.{hex_text}
+use Rattle.pb_frame.specs.Tags.{bare}
+use Rattle.pb_lan.specs.declared.step.Outcome.{Outcome}
+use Rattle.pb_lan.specs.declared.step.Outcome.TheVariants.{Relayed, Filtered, Heard}
+use Rattle.pb_lan.specs.declared.step.Reason.{Reason}
+use Rattle.pb_lan.specs.declared.step.Reason.TheVariants.{NotForwarding, NotMember, Untagged, Reserved, Malformed, Worn, Memory, STagged, Long}
+use Rattle.pb_cli.specs.Receipts.{Receipt}
+
+-- a frame, in hexadecimal, left at a port
+abbrev pub out_line : List ℕ → ℕ → List ℕ
+out_line hex port = codes "out " ++ decimal port ++ codes " " ++ hex ++ 10 ∷ []
+
+-- it left at each of the ports, in their order
+abbrev pub out_lines : List ℕ → List ℕ → List ℕ
+out_lines hex ports = flat_map (out_line hex) ports
+
+abbrev pub reason_word : Reason → List ℕ
+reason_word NotForwarding = codes "not-forwarding"
+reason_word NotMember = codes "not-member"
+reason_word Untagged = codes "untagged"
+reason_word (Reserved number) = codes "reserved-" ++ decimal number
+reason_word Malformed = codes "malformed"
+reason_word Worn = codes "worn"
+reason_word Memory = codes "memory"
+reason_word STagged = codes "s-tagged"
+reason_word Long = codes "long"
+
+-- a frame that came in at a port went nowhere
+abbrev pub filtered_line : ℕ → Reason → List ℕ
+filtered_line port reason = codes "filtered " ++ decimal port ++ codes " " ++ reason_word reason ++ 10 ∷ []
+
+-- the line of this number is none that is known
+abbrev pub bad_line : ℕ → List ℕ
+bad_line number = codes "line " ++ decimal number ++ codes ": bad" ++ 10 ∷ []
+
+abbrev pub outcome_text : ℕ → List ℕ → Outcome → List ℕ
+outcome_text port wire (Relayed chosen refused) = out_lines (hex_text (bare wire)) chosen
+outcome_text port wire (Filtered reason) = filtered_line port reason
+outcome_text port wire Heard = []
+
+-- what is printed for a frame that a port received
+abbrev pub answer_text : Receipt → List ℕ
+answer_text r = outcome_text r.port r.wire r.outcome

@@ -1,0 +1,16 @@
+//! The commands of the program, over readers and writers.
+#![tactic(auto)]
+
+mod fault;
+mod flat_plan;
+mod line;
+mod print;
+mod run;
+mod switch;
+
+pub use fault::FlatFault;
+pub use run::{MAX_LINE, run_flat};
+pub use switch::Switch;
+
+#[cfg(test)]
+mod tests;

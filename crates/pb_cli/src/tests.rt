@@ -1,0 +1,380 @@
+use super::*;
+use crate::print::put_answer;
+use pb_lan::{Outcome, Reason, Seq};
+use std::alloc::Global;
+use std::io;
+use std::io::{Error, ErrorKind, Read, Write};
+use std::process::Abort;
+use std::test::Fail;
+
+/// Gives a few octets a call, and an error at one of its calls.
+#[derive(Drop)]
+struct Slow<'a> {
+    rest: &'a [u8],
+    most: usize,
+    calls: u64,
+    fails_at: u64,
+    kind: ErrorKind,
+}
+
+impl Read for Slow<'_> {
+    fn read(&mut self, buf: &mut [u8]) -> io::Result<usize> {
+        let call = self.calls;
+        self.calls = self.calls.saturating_add(1);
+        if call == self.fails_at {
+            return Err(Error::from(self.kind));
+        }
+        let n = self.rest.len().min(self.most).min(buf.len());
+        buf[..n].copy_from_slice(&self.rest[..n]);
+        self.rest = &self.rest[n..];
+        Ok(n)
+    }
+}
+
+/// Takes some octets, and then fails.
+#[derive(Drop)]
+struct Full {
+    room: usize,
+}
+
+impl Write for Full {
+    fn write(&mut self, buf: &[u8]) -> io::Result<usize> {
+        let n = buf.len().min(self.room);
+        if n == 0 && !buf.is_empty() {
+            return Err(Error::from(ErrorKind::StorageFull));
+        }
+        self.room -= n;
+        Ok(n)
+    }
+
+    fn flush(&mut self) -> io::Result<()> {
+        Ok(())
+    }
+}
+
+/// Takes everything, and can't be flushed.
+#[derive(Drop)]
+struct Unflushed;
+
+impl Write for Unflushed {
+    fn write(&mut self, buf: &[u8]) -> io::Result<usize> {
+        Ok(buf.len())
+    }
+
+    fn flush(&mut self) -> io::Result<()> {
+        Err(Error::from(ErrorKind::StorageFull))
+    }
+}
+
+fn ran(rt: &impl Abort, alloc: Global, ports: u8, input: &str, want: &str) {
+    assert!(rt; 2 <= ports && ports <= 16);
+    let mut output = Vec::new(alloc);
+    let mut reader = input.as_bytes();
+    let result = run_flat(alloc, ports, &mut reader, &mut output);
+    assert!(rt; result.is_ok(), "{input}");
+    assert!(rt; output.as_slice() == want.as_bytes(), "{input}");
+}
+
+/// Hands a frame of zeros but for a few octets in front to port 1 of 2.
+fn ran_long(
+    rt: &impl Abort,
+    alloc: Global,
+    front: &str,
+    octets: usize,
+    want: &str,
+) -> Result<(), Fail> {
+    let mut input = String::from_str(alloc, "in 1 ")?;
+    input.push_str(front)?;
+    for _ in front.len() / 2..octets {
+        input.push_str("00")?;
+    }
+    let mut output = Vec::new(alloc);
+    let mut reader = input.as_bytes();
+    let result = run_flat(alloc, 2, &mut reader, &mut output);
+    assert!(rt; result.is_ok(), "{front} {octets}");
+    assert!(rt;
+        output.as_slice().starts_with(want.as_bytes()),
+        "{front} {octets}"
+    );
+    Ok(())
+}
+
+#[test]
+fn floods_and_finds_stations(rt: HostRuntime) -> Result<(), Fail> {
+    let alloc = rt.alloc();
+    ran(&rt, alloc, 3, "", "");
+    ran(
+        &rt,
+        alloc,
+        3,
+        "in 1 ffffffffffff02000000010108004142",
+        "out 2 ffffffffffff02000000010108004142\nout 3 ffffffffffff02000000010108004142\n",
+    );
+    ran(
+        &rt,
+        alloc,
+        3,
+        "in 1 ffffffffffff02000000010108004142\nin 2 02000000010102000000020208004344\nin 1 0200000001010200000001010800\n",
+        "out 2 ffffffffffff02000000010108004142\nout 3 ffffffffffff02000000010108004142\nout 1 02000000010102000000020208004344\n",
+    );
+    ran(
+        &rt,
+        alloc,
+        2,
+        "in 1 FFFFFFFFFFFF02000000010108004142\n",
+        "out 2 ffffffffffff02000000010108004142\n",
+    );
+    Ok(())
+}
+
+#[test]
+fn tells_bad_lines(rt: HostRuntime) -> Result<(), Fail> {
+    let alloc = rt.alloc();
+    for line in [
+        "in 3 00",
+        "in 0 00",
+        "in 1 ",
+        "in 1",
+        "in 1  00",
+        "in  1 00",
+        "in 01 00",
+        "in +1 00",
+        "in 1 0",
+        "in 1 0g",
+        "in 1 00 ",
+        " in 1 00",
+        "IN 1 00",
+        "in\t1 00",
+        "in 1 00\r",
+        "\r",
+        "in 1000 00",
+        "in 257 00",
+        "out 1 00",
+    ] {
+        ran(&rt, alloc, 2, line, "line 1: bad\n");
+    }
+    ran(
+        &rt,
+        alloc,
+        2,
+        "in 1 0000\nin 3 00\nin 1 \n\nin 2 0\r\n",
+        "filtered 1 malformed\nline 2: bad\nline 3: bad\nline 5: bad\n",
+    );
+    ran(&rt, alloc, 2, "\n\n", "");
+    Ok(())
+}
+
+#[test]
+fn filters_with_a_reason(rt: HostRuntime) -> Result<(), Fail> {
+    let alloc = rt.alloc();
+    for (input, want) in [
+        ("in 1 0000", "filtered 1 malformed\n"),
+        (
+            "in 1 0180c20000080200000001010000",
+            "filtered 1 reserved-8\n",
+        ),
+        (
+            "in 1 0180c200000f0200000001010000",
+            "out 2 0180c200000f0200000001010000\n",
+        ),
+        (
+            "in 1 0180c200000e0200000001010000",
+            "filtered 1 reserved-14\n",
+        ),
+        (
+            "in 2 ffffffffffff02000000010288a800640000",
+            "filtered 2 s-tagged\n",
+        ),
+        (
+            "in 1 ffffffffffff02000000010188a8a00008004142",
+            "out 2 ffffffffffff02000000010108004142\n",
+        ),
+        // A tag that is cut off is no whole tag, and its type shows all the same.
+        (
+            "in 1 ffffffffffff02000000010188a8000000",
+            "filtered 1 s-tagged\n",
+        ),
+    ] {
+        ran(&rt, alloc, 2, input, want);
+    }
+    Ok(())
+}
+
+#[test]
+fn measures_frames(rt: HostRuntime) -> Result<(), Fail> {
+    let alloc = rt.alloc();
+    let plain = "ffffffffffff0200000001010800";
+    let marked = "ffffffffffff02000000010188a80000";
+    for (front, octets, want) in [
+        (
+            "ffffffffffff02000000010108",
+            13usize,
+            "filtered 1 malformed\n",
+        ),
+        (plain, 14, "out 2 ffffffffffff0200000001010800\n"),
+        (plain, 1992, "out 2 ffffffffffff020000000101080000"),
+        (plain, 1993, "filtered 1 long\n"),
+        (marked, 1996, "out 2 ffffffffffff0200000001010000"),
+        (marked, 1997, "filtered 1 long\n"),
+    ] {
+        ran_long(&rt, alloc, front, octets, want)?;
+    }
+    Ok(())
+}
+
+#[test]
+fn takes_lines_up_to_the_longest(rt: HostRuntime) -> Result<(), Fail> {
+    let alloc = rt.alloc();
+    for (digits, want) in [
+        (139_994usize, "filtered 1 long\n"),
+        (139_995, "line 1: bad\n"),
+        (139_996, "line 1: bad\n"),
+        (400_000, "line 1: bad\n"),
+    ] {
+        let mut text = String::from_str(alloc, "in 1 ")?;
+        for _ in 0..digits {
+            text.push('0')?;
+        }
+        ran(&rt, alloc, 2, text.as_str(), want);
+    }
+    // A line of exactly the most octets, and one of two more.
+    let mut longest = String::from_str(alloc, "in 10 ")?;
+    for _ in 0..139_994usize {
+        longest.push('0')?;
+    }
+    assert!(rt; longest.len() == MAX_LINE);
+    ran(&rt, alloc, 16, longest.as_str(), "filtered 10 long\n");
+    longest.push_str("00")?;
+    ran(&rt, alloc, 16, longest.as_str(), "line 1: bad\n");
+    Ok(())
+}
+
+/// What is printed for a frame that came in at port 3.
+fn put(
+    rt: &impl Abort,
+    alloc: Global,
+    wire: &[u8],
+    outcome: &Outcome,
+    want: &str,
+) -> Result<(), Fail> {
+    let mut out = String::from_str(alloc, "first\n")?;
+    put_answer(alloc, &mut out, 3, wire, outcome)?;
+    assert!(rt; out.as_str() == want, "{want}");
+    Ok(())
+}
+
+#[test]
+fn has_a_word_for_each_reason(rt: HostRuntime) -> Result<(), Fail> {
+    for (reason, want) in [
+        (Reason::NotForwarding, "first\nfiltered 3 not-forwarding\n"),
+        (Reason::NotMember, "first\nfiltered 3 not-member\n"),
+        (Reason::Untagged, "first\nfiltered 3 untagged\n"),
+        (Reason::Reserved(14), "first\nfiltered 3 reserved-14\n"),
+        (Reason::Malformed, "first\nfiltered 3 malformed\n"),
+        (Reason::Worn, "first\nfiltered 3 worn\n"),
+        (Reason::Memory, "first\nfiltered 3 memory\n"),
+        (Reason::STagged, "first\nfiltered 3 s-tagged\n"),
+        (Reason::Long, "first\nfiltered 3 long\n"),
+    ] {
+        put(&rt, rt.alloc(), b"", &Outcome::Filtered(reason), want)?;
+    }
+    put(&rt, rt.alloc(), b"", &Outcome::Heard, "first\n")
+}
+
+#[test]
+fn prints_frames_without_priority_tag(rt: HostRuntime) -> Result<(), Fail> {
+    let alloc = rt.alloc();
+    let plain = b"\xff\xff\xff\xff\xff\xff\x02\x00\x00\x00\x01\x01\x08\x00AB";
+    let marked = b"\xff\xff\xff\xff\xff\xff\x02\x00\x00\x00\x01\x01\x88\xa8\xe0\x00\x08\x00AB";
+    let want =
+        "first\nout 1 ffffffffffff02000000010108004142\nout 12 ffffffffffff02000000010108004142\n";
+    for wire in [plain.as_slice(), marked] {
+        let outcome = Outcome::Relayed {
+            chosen: Seq::from_vec(vec![in alloc; 1, 12]?),
+            refused: Seq::from_vec(Vec::new(alloc)),
+        };
+        put(&rt, alloc, wire, &outcome, want)?;
+    }
+    let outcome = Outcome::Relayed {
+        chosen: Seq::from_vec(Vec::new(alloc)),
+        refused: Seq::from_vec(Vec::new(alloc)),
+    };
+    put(&rt, alloc, plain, &outcome, "first\n")
+}
+
+const PIECES: &str = "in 1 0000\nhop\nin 2 0000";
+
+const PIECES_ANSWER: &[u8] = b"filtered 1 malformed\nline 2: bad\nfiltered 2 malformed\n";
+
+#[test]
+fn reads_in_any_pieces(rt: HostRuntime) -> Result<(), Fail> {
+    let alloc = rt.alloc();
+    for most in 1..25usize {
+        for fails_at in 0..27u64 {
+            let mut reader = Slow {
+                rest: PIECES.as_bytes(),
+                most,
+                calls: 0,
+                fails_at,
+                kind: ErrorKind::Interrupted,
+            };
+            let mut output = Vec::new(alloc);
+            assert!(rt; run_flat(alloc, 2, &mut reader, &mut output).is_ok());
+            assert!(rt; output.as_slice() == PIECES_ANSWER, "{most} {fails_at}");
+        }
+    }
+    Ok(())
+}
+
+#[test]
+fn tells_a_failed_read(rt: HostRuntime) -> Result<(), Fail> {
+    let alloc = rt.alloc();
+    for most in 1..25usize {
+        // The end shows in one more call.
+        let calls = (PIECES.len() as u64).div_ceil(most as u64) + 1;
+        for fails_at in 0..27u64 {
+            let mut reader = Slow {
+                rest: PIECES.as_bytes(),
+                most,
+                calls: 0,
+                fails_at,
+                kind: ErrorKind::BrokenPipe,
+            };
+            let mut output = Vec::new(alloc);
+            let result = run_flat(alloc, 2, &mut reader, &mut output);
+            let want = if fails_at < calls {
+                Err(FlatFault::Read)
+            } else {
+                Ok(())
+            };
+            assert_eq!(rt; result, want, "{most} {fails_at}");
+            assert!(rt;
+                PIECES_ANSWER.starts_with(output.as_slice()),
+                "{most} {fails_at}"
+            );
+        }
+    }
+    Ok(())
+}
+
+#[test]
+fn tells_a_failed_write(rt: HostRuntime) -> Result<(), Fail> {
+    let alloc = rt.alloc();
+    for room in 0..40usize {
+        let mut writer = Full { room };
+        let mut reader = "in 1 0000\nhop\n".as_bytes();
+        let result = run_flat(alloc, 2, &mut reader, &mut writer);
+        let want = if room < 33 {
+            Err(FlatFault::Write)
+        } else {
+            Ok(())
+        };
+        assert_eq!(rt; result, want, "{room}");
+    }
+    let mut reader = "".as_bytes();
+    assert_eq!(rt;
+        run_flat(alloc, 2, &mut reader, &mut Unflushed),
+        Err(FlatFault::Write)
+    );
+    Ok(())
+}

@@ -1,0 +1,46 @@
+use Rattle.std.proofs.Common.{◌≡◌, ◌-◌, ◌<◌, ◌≤◌, Some, length, slice_get, sym, ap, subst, ◌∙◌, arith, true}
+use Rattle.pb_lan.specs.Events.{steps_at, has_place}
+use Rattle.pb_lan.specs.Records.{IsLawfulRecord}
+use Rattle.pb_lan.specs.Rules.{silent}
+use Rattle.pb_net.specs.Nets.{record_of}
+use Rattle.pb_lan.specs.declared.step.Place.{Place}
+use Rattle.pb_lan.specs.declared.step.Place.TheVariants.{Bridge, Customer}
+use Rattle.pb_link.specs.Hands.{PlaceView}
+use Rattle.pb_net.specs.Answers.{NetView}
+use Rattle.pb_relay.specs.Standing.{BridgeView}
+use Rattle.pb_net.proofs.DueLemmas.{net_of}
+use Rattle.pb_net.proofs.OneMore.{here_is}
+use Rattle.pb_net.proofs.Records.{steps_at_number, known_number, kept_lawful}
+use Rattle.pb_net.proofs.net.Net.steps.Goals as goal
+
+pub returns-in-Bridge-clause-steps : goal.returns-in-Bridge-clause-steps
+returns-in-Bridge-clause-steps c =
+    let s = c.self.inside in
+    let n = c.in-Bridge.number in
+    let there = subst (λ (v : NetView). has_place v.plan (Bridge n) ≡ true) (sym c.self.view_is) (rw c.in-Bridge.is at c.requires) in
+    let known = known_number s.plan.bridges n there in
+    let within : n - 1 < length s.bridges.items = omega (arith, known.0, known.1, c.self.invariant.1.bridge_count) in
+    let here = here_is s.bridges.items (n - 1) c.index.result.now within c.index.ensures in
+    rw c.in-Bridge.is (c.steps.ensures.steps ∙ sym (steps_at_number (λ (x : BridgeView). x.steps) s.bridges.items n c.index.result.now known.0 here)
+    ∙ ap (λ (v : NetView). steps_at v.rec (Bridge n)) c.self.view_is)
+
+pub returns-in-Customer-clause-steps : goal.returns-in-Customer-clause-steps
+returns-in-Customer-clause-steps c =
+    let s = c.self.inside in
+    let n = c.in-Customer.number in
+    let there = subst (λ (v : NetView). has_place v.plan (Customer n) ≡ true) (sym c.self.view_is) (rw c.in-Customer.is at c.requires) in
+    let known = known_number s.plan.customers n there in
+    let within : n - 1 < length s.customers.items = omega (arith, known.0, known.1, c.self.invariant.1.customer_count) in
+    let here = here_is s.customers.items (n - 1) c.index-in-Customer.result.now within c.index-in-Customer.ensures in
+    rw c.in-Customer.is (c.steps-in-Customer.ensures.steps ∙ sym (steps_at_number (λ (x : PlaceView). x.steps) s.customers.items n c.index-in-Customer.result.now known.0 here)
+    ∙ ap (λ (v : NetView). steps_at v.rec (Customer n)) c.self.view_is)
+
+pub returns-in-Bridge-clause-lawful : goal.returns-in-Bridge-clause-lawful
+returns-in-Bridge-clause-lawful c =
+    let s = c.self.inside in
+    subst (λ (v : NetView). IsLawfulRecord silent v.plan v.rec) c.self.view_is (kept_lawful s.plan (record_of s.bridges.items s.customers.items) _ _ c.self.invariant.0 c.self.invariant.2)
+
+pub returns-in-Customer-clause-lawful : goal.returns-in-Customer-clause-lawful
+returns-in-Customer-clause-lawful c =
+    let s = c.self.inside in
+    subst (λ (v : NetView). IsLawfulRecord silent v.plan v.rec) c.self.view_is (kept_lawful s.plan (record_of s.bridges.items s.customers.items) _ _ c.self.invariant.0 c.self.invariant.2)

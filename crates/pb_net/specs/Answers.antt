@@ -1,0 +1,46 @@
+-- What a network answers to events.
+use Rattle.std.specs.Prelude.{◌≡◌, ℕ, ◌<◌, ◌⊎◌, Bool, true, false, List, [], ◌∷◌, Some, Ok, Err, take, length, slice_get}
+use Rattle.std.specs.declared.result.Result.{Result}
+use Rattle.pb_lan.specs.Events.{place_of, names_something, is_idle, is_at_limit, HasDone}
+use Rattle.pb_lan.specs.declared.event.Event.{Event}
+use Rattle.pb_lan.specs.declared.plan.Plan.{Plan}
+use Rattle.pb_lan.specs.declared.record.Record.{Record}
+use Rattle.pb_net.specs.declared.did.Did.{Did}
+use Rattle.pb_net.specs.declared.did.Did.TheVariants.{Idle, Done}
+use Rattle.pb_net.specs.declared.fault.NetFault.{NetFault}
+use Rattle.pb_net.specs.declared.fault.NetFault.TheVariants.{StepLimit, Memory, NoSuch}
+
+-- what callers see of a network: its plan, and the record of its steps
+pub record NetView : Type 0 where
+  pub plan : Plan
+  pub rec : Record
+
+-- the event names something, and there is something to do, and room in the list for the step
+pub record IsDue (net : NetView) (event : Event) : Type 0 where
+  pub named : names_something net.plan event ≡ true
+  pub busy : is_idle net.plan net.rec event ≡ false
+  pub within : is_at_limit net.plan net.rec event ≡ false
+
+-- the first that holds is answered: no such place, nothing to do, no step left, no memory; else the
+-- event's place has taken one step of the event's kind
+abbrev pub IsAnswer : NetView → Event → Result Did NetFault → NetView → Type 0
+IsAnswer old event (Err NoSuch) new = (names_something old.plan event ≡ false) × (new ≡ old)
+IsAnswer old event (Ok Idle) new = (names_something old.plan event ≡ true) × (is_idle old.plan old.rec event ≡ true) × (new ≡ old)
+IsAnswer old event (Err StepLimit) new =
+    (names_something old.plan event ≡ true) × (is_idle old.plan old.rec event ≡ false) × (is_at_limit old.plan old.rec event ≡ true) × (new ≡ old)
+IsAnswer old event (Err Memory) new = IsDue old event × (new ≡ old)
+IsAnswer old event (Ok (Done place)) new =
+    IsDue old event × (place ≡ place_of event) × (new.plan ≡ old.plan) × HasDone old.rec event new.rec
+
+-- the events were answered one after the other, none with a fault
+abbrev pub HaveRun : NetView → List Event → NetView → Type 0
+HaveRun old [] new = new ≡ old
+HaveRun old (event ∷ events) new =
+    (between : NetView) × (did : Did) × IsAnswer old event (Ok did) between × HaveRun between events new
+
+-- those before this one were, and this one met the fault
+pub record HasStopped (old : NetView) (events : List Event) (count : ℕ) (fault : NetFault) (new : NetView) : Type 0 where
+  pub event : Event
+  pub next : slice_get events count ≡ Some event
+  pub before : HaveRun old (take count events) new
+  pub met : IsAnswer new event (Err fault) new

@@ -1,0 +1,7 @@
+pub mod Faults
+pub mod Answers
+pub mod Dues
+pub mod Moves
+pub mod Lists
+pub mod Nets
+pub mod Starts

@@ -1,0 +1,59 @@
+//! Steps of a bridge, with the meeting places beside it.
+
+ghost use Rattle.std.specs.Prelude.{◌≡◌, ◌<◌, ◌↔◌, length, true, OnOk, OnErr, IsErrOf};
+ghost use Rattle.pb_lan.specs.Ports.{is_used, port_at};
+ghost use Rattle.pb_lan.specs.Queues.{waiting};
+ghost use Rattle.pb_net.specs.Moves.{HasReceivedFrom, HasTransmittedTo};
+
+use pb_lan::Item;
+use pb_relay::{Bridge, BridgeFault};
+use std::collections::VecDeque;
+
+/// The oldest item that came to a port is received.
+pub(crate) fn receive_at(
+    bridge: &mut Bridge,
+    port: u8,
+    inbox: &mut VecDeque<Item>,
+) -> Result<(), BridgeFault>
+    requires used { is_used (port_at bridge.old.plan bridge.old.number port) ≡ true }
+    requires some { 0 < length inbox.old.items }
+    ensures plan { bridge.new.plan ≡ bridge.old.plan }
+    ensures number { bridge.new.number ≡ bridge.old.number }
+    ensures ok { OnOk result (HasReceivedFrom bridge.old port inbox.old.items bridge.new inbox.new.items) }
+    ensures limit { IsErrOf result BridgeFault.StepLimit ↔ (length bridge.old.steps ≡ bridge.old.plan.steps) }
+    ensures err { OnErr result (bridge.new.steps ≡ bridge.old.steps) }
+    ensures err_inbox { OnErr result (inbox.new.items ≡ inbox.old.items) }
+{
+    let Some(item) = inbox.pop_front() else {
+        unreachable!();
+    };
+    match bridge.receive(port, item) {
+        Ok(_) => Ok(()),
+        Err((fault, item)) => {
+            let _ = inbox.push_front(item);
+            Err(fault)
+        }
+    }
+}
+
+/// The item that leaves a port next is sent.
+pub(crate) fn transmit_at(
+    bridge: &mut Bridge,
+    port: u8,
+    outbox: &mut VecDeque<Item>,
+) -> Result<(), BridgeFault>
+    requires used { is_used (port_at bridge.old.plan bridge.old.number port) ≡ true }
+    requires some { 0 < length (waiting bridge.old.plan bridge.old.number port bridge.old.steps) }
+    ensures plan { bridge.new.plan ≡ bridge.old.plan }
+    ensures number { bridge.new.number ≡ bridge.old.number }
+    ensures ok { OnOk result (HasTransmittedTo bridge.old port outbox.old.items bridge.new outbox.new.items) }
+    ensures limit { IsErrOf result BridgeFault.StepLimit ↔ (length bridge.old.steps ≡ bridge.old.plan.steps) }
+    ensures err { OnErr result (bridge.new.steps ≡ bridge.old.steps) }
+    ensures err_outbox { OnErr result (outbox.new.items ≡ outbox.old.items) }
+{
+    bridge.reserve_step()?;
+    outbox.reserve(1)?;
+    let item = bridge.pop_out(port);
+    let _ = outbox.push_back(item);
+    Ok(())
+}

@@ -1,0 +1,22 @@
+//! A whole network in one thread: every place of a plan, driven event by event.
+//!
+//! The network remembers nothing but the steps of its places, what stands at the meeting places
+//! between them, and what its bridges keep of their own steps. Its record is lawful whatever the
+//! events are.
+#![tactic(auto)]
+
+mod at_bridge;
+mod at_port;
+mod did;
+mod due;
+mod events;
+mod fault;
+mod lists;
+mod net;
+mod start;
+
+pub use did::Did;
+pub use fault::NetFault;
+pub use net::Net;
+pub use pb_frame::Memory;
+pub use pb_lan::Event;

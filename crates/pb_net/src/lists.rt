@@ -1,0 +1,43 @@
+//! The lists of a network's record, made before its first step.
+
+ghost use Rattle.std.specs.Prelude.{◌≡◌, ◌≤◌, [], map, length, vec_capacity};
+
+use pb_frame::Seq;
+use pb_lan::Step;
+use pb_link::CustomerPlace;
+use pb_relay::Bridge;
+
+/// Empty lists with room for the steps of each place, so that a network's end takes no memory.
+#[derive(Drop)]
+pub(crate) struct Lists {
+    pub bridges: Vec<Seq<Step>>,
+    pub lanes: Vec<Seq<Step>>,
+    pub customers: Vec<Seq<Step>>,
+}
+
+/// The steps of each bridge.
+pub(crate) fn bridge_steps(bridges: Vec<Bridge>, mut lists: Vec<Seq<Step>>) -> Seq<Seq<Step>>
+    requires empty { lists.items ≡ [] }
+    requires room { length bridges.items ≤ vec_capacity lists }
+    ensures { result ≡ map (λ b. b.steps) bridges.items }
+{
+    for bridge in bridges {
+        let _ = lists.push(Seq::from_vec(bridge.into_steps()));
+    }
+    Seq::from_vec(lists)
+}
+
+/// The steps of each customer port.
+pub(crate) fn customer_steps(
+    customers: Vec<CustomerPlace>,
+    mut lists: Vec<Seq<Step>>,
+) -> Seq<Seq<Step>>
+    requires empty { lists.items ≡ [] }
+    requires room { length customers.items ≤ vec_capacity lists }
+    ensures { result ≡ map (λ p. p.steps) customers.items }
+{
+    for customer in customers {
+        let _ = lists.push(Seq::from_vec(customer.into_steps()));
+    }
+    Seq::from_vec(lists)
+}

@@ -1,0 +1,122 @@
+//! The network, and its steps.
+
+ghost use Rattle.std.specs.Prelude.{◌≡◌, true, IfErr, OnOk};
+ghost use Rattle.pb_lan.specs.Events.{has_place, steps_at};
+ghost use Rattle.pb_lan.specs.Records.{IsLawfulRecord};
+ghost use Rattle.pb_lan.specs.Rules.{silent};
+ghost use Rattle.pb_net.specs.Answers.{IsAnswer, HaveRun, HasStopped};
+
+use crate::did::Did;
+use crate::fault::NetFault;
+use crate::lists::{Lists, bridge_steps, customer_steps};
+use pb_frame::Seq;
+use pb_lan::{Event, Item, Place, Plan, Record, Step};
+use pb_link::CustomerPlace;
+use pb_relay::Bridge;
+use std::collections::VecDeque;
+use std::marker::Model;
+
+/// A network of a plan, in one thread. Contracts see its plan and the record of its steps.
+#[derive(Drop)]
+pub struct Net {
+    pub(crate) plan: Plan,
+    pub(crate) limit: usize,
+    pub(crate) ring: usize,
+    pub(crate) bridges: Vec<Bridge>,
+    pub(crate) customers: Vec<CustomerPlace>,
+    pub(crate) inboxes: Vec<VecDeque<Item>>,
+    pub(crate) outboxes: Vec<VecDeque<Item>>,
+    pub(crate) table: Vec<u8>,
+    pub(crate) lists: Lists,
+}
+
+impl Model for Net {
+    ghost use Rattle.std.specs.Prelude.{map, length};
+    ghost use Rattle.pb_net.specs.Answers.{NetView};
+    ghost use Rattle.pb_net.specs.Nets.{record_of, IsPlain, ArePlaced, IsKept, IsTable, HasNumbers};
+    ghost use Rattle.pb_net.specs.Lists.{AreEmpty};
+
+    ghost Value = { NetView };
+
+    ghost view = { λ n. record { plan = n.plan; rec = record_of n.bridges.items n.customers.items } };
+
+    ghost invariant = { λ n. IsPlain n.plan
+        × ArePlaced n.plan n.bridges.items n.customers.items
+        × IsKept n.plan (record_of n.bridges.items n.customers.items) (map (λ q. q.items) n.inboxes.items) (map (λ q. q.items) n.outboxes.items)
+        × IsTable n.plan n.table.items
+        × HasNumbers n.plan n.limit n.ring
+        × AreEmpty (length n.plan.bridges) (length n.plan.customers) n.lists };
+}
+
+impl Net {
+    /// Does what an event asks for: its place takes one step of its kind, or there is nothing to do.
+    ///
+    /// `NoSuch` is answered exactly where a number names nothing, or the port of an `Admin` is no
+    /// provider port; else `Idle` exactly where there is nothing to do; else `StepLimit` exactly
+    /// where the place's list holds the plan's number of steps; else `Memory` where memory ran out.
+    /// Nothing has changed after any of them.
+    pub fn step(&mut self, event: Event) -> Result<Did, NetFault>
+        ensures { IsAnswer self.old event result self.new }
+    {
+        match event {
+            Event::Poll { port, frame } => self.poll(port, frame),
+            other => self.act(&other),
+        }
+    }
+
+    /// Does what the events ask for, one after the other.
+    ///
+    /// The first fault ends it: the number of events done before it, and the fault, are answered.
+    pub fn run(&mut self, events: &[Event]) -> Result<(), (u64, NetFault)>
+        ensures ok { OnOk result (HaveRun self.old events.now self.new) }
+        ensures fault { IfErr result (λ e. HasStopped self.old events.now e.0 e.1 self.new) }
+    {
+        for (count, event) in events.iter().enumerate() {
+            if let Err(fault) = self.act(event) {
+                return Err((count as u64, fault));
+            }
+        }
+        Ok(())
+    }
+
+    /// The steps of a place so far. Those of all places are a lawful record.
+    pub fn steps(&self, place: Place) -> &[Step]
+        requires { has_place self.now.plan place ≡ true }
+        ensures steps { result.now ≡ steps_at self.now.rec place }
+        ensures lawful { IsLawfulRecord silent self.now.plan self.now.rec }
+    {
+        match place {
+            Place::Bridge(number) => self.bridges[number as usize - 1].steps(),
+            Place::Customer(number) => self.customers[number as usize - 1].steps(),
+            Place::Lane(_) => unreachable!(),
+        }
+    }
+
+    /// Ends the network, and gives the record of its steps, which is lawful. Takes no memory.
+    pub fn finish(self) -> Record
+        ensures record { result ≡ self.rec }
+        ensures lawful { IsLawfulRecord silent self.plan result }
+    {
+        let Net {
+            plan: _,
+            limit: _,
+            ring: _,
+            bridges,
+            customers,
+            inboxes: _,
+            outboxes: _,
+            table: _,
+            lists,
+        } = self;
+        let Lists {
+            bridges: bridge_lists,
+            lanes,
+            customers: customer_lists,
+        } = lists;
+        Record {
+            bridges: bridge_steps(bridges, bridge_lists),
+            lanes: Seq::from_vec(lanes),
+            customers: customer_steps(customers, customer_lists),
+        }
+    }
+}

@@ -1,0 +1,74 @@
+//! A provider bridged Ethernet network in one process.
+//!
+//! The exit status is 0 where all went well, 2 where the words of the command line ask for nothing
+//! that is known, and 3 where reading, writing or memory failed in a run or a bridge had taken all
+//! its steps: then `fault: read`, `write`, `memory` or `steps` is the last line that is printed.
+#![tactic(auto)]
+
+ghost use Rattle.std.specs.Prelude.{◌≤◌};
+
+mod order;
+#[cfg(test)]
+mod tests;
+
+use order::{Order, order_of};
+use pb_cli::{FlatFault, run_flat};
+use std::io::{BufWriter, Write};
+use std::process::ExitCode;
+use std::rt::Env;
+use std::{env, io};
+
+/// The exit status where the words ask for nothing that is known.
+const WRONG_WORDS: u8 = 2;
+
+/// The exit status of a run that a fault ended.
+const FAULT: u8 = 3;
+
+/// How many octets are gathered before they are written.
+const BUFFER: usize = 65_536;
+
+fn main(rt: HostRuntime) -> ExitCode {
+    let Ok(words) = words_of(&rt) else {
+        return ExitCode::from(WRONG_WORDS);
+    };
+    match order_of(rt.alloc(), words.as_slice()) {
+        Ok(Some(Order::Flat(ports))) => flat(&rt, ports),
+        Ok(None) => ExitCode::from(WRONG_WORDS),
+        Err(e) => {
+            let _ = e.print(&rt);
+            ExitCode::from(if e.use_stderr() { WRONG_WORDS } else { 0 })
+        }
+    }
+}
+
+/// The words of the command line. An error where one isn't UTF-8, or memory ran out.
+fn words_of(rt: &(impl Env + AllocGlobal)) -> io::Result<Vec<String>> {
+    let mut words = Vec::new(rt.alloc());
+    for word in env::args(rt)? {
+        words.push(word)?;
+    }
+    Ok(words)
+}
+
+/// Runs one bridge over standard input.
+fn flat(rt: &(impl Input + Print + AllocGlobal), ports: u8) -> ExitCode
+    requires { (2 ≤ ports) × (ports ≤ 16) }
+{
+    let Ok(mut writer) = BufWriter::with_capacity(rt.alloc(), BUFFER, io::writer(rt)) else {
+        return tell(rt, FlatFault::Memory);
+    };
+    let mut reader = rt.reader();
+    let ran = run_flat(rt.alloc(), ports, &mut reader, &mut writer);
+    let flushed = writer.flush();
+    match ran {
+        Err(fault) => tell(rt, fault),
+        Ok(()) if flushed.is_err() => tell(rt, FlatFault::Write),
+        Ok(()) => ExitCode::SUCCESS,
+    }
+}
+
+/// Says which fault ended a run.
+fn tell(rt: &impl Print, fault: FlatFault) -> ExitCode {
+    let _ = println!(rt; "fault: {fault}");
+    ExitCode::from(FAULT)
+}

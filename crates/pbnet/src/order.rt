@@ -1,0 +1,51 @@
+//! What the words of a command line ask for.
+
+ghost use Rattle.std.specs.Prelude.{IfOk, IfSome};
+ghost use Rattle.pbnet.specs.Orders.{IsAllowed};
+
+use clap::{Arg, ArgAction, Command, Error};
+use std::alloc::Global;
+
+/// What is to be done.
+#[derive(Clone, Copy, PartialEq, Eq, Debug)]
+pub enum Order {
+    /// One bridge with so many ports, driven by the lines of standard input.
+    Flat(u8),
+}
+
+/// The program's commands and their arguments.
+fn commands<'a>(alloc: Global) -> Result<Command<'a>, Error> {
+    let ports = Arg::new(alloc, "PORTS")
+        .help("How many ports the bridge has, 2 to 16")
+        .required(true)
+        .action(ArgAction::Set)
+        .value_parser(clap::value_parser!(u8).range(2..=16));
+    let flat = Command::new(alloc, "flat")
+        .about(
+            "Runs one bridge over the lines `in PORT HEX` of standard input, and prints each frame that leaves it or why it went nowhere",
+        )
+        .arg(ports)?;
+    Ok(
+        Command::new(alloc, "pbnet")
+            .about("A provider bridged Ethernet network in one process")
+            .subcommand_required(true)
+            .subcommand(flat)?,
+    )
+}
+
+/// Reads the words of a command line, of which the first is the program's own.
+///
+/// The error is a message for the user: that the words ask for nothing that is known, or the help
+/// that they ask for. `None` is never answered: an argument that is required has a value.
+pub fn order_of(alloc: Global, words: &[String]) -> Result<Option<Order>, Error>
+    ensures { IfOk result (λ o. IfSome o IsAllowed) }
+{
+    let matches = commands(alloc)?.try_get_matches_from(words)?;
+    match matches.subcommand() {
+        Some(("flat", given)) => match given.get_one::<u8>("PORTS") {
+            Some(ports) if 2 <= ports && ports <= 16 => Ok(Some(Order::Flat(ports))),
+            _ => Ok(None),
+        },
+        _ => Ok(None),
+    }
+}

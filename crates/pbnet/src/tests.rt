@@ -1,0 +1,45 @@
+use super::*;
+use std::alloc::Global;
+use std::process::Abort;
+use std::test::Fail;
+
+/// What the words behind the program's name ask for: an order, or whether they are wrong.
+fn read(rt: &impl Abort, alloc: Global, words: &[&str]) -> Result<Result<Order, bool>, Fail> {
+    let mut given = vec![in alloc; String::from_str(alloc, "pbnet")?]?;
+    for word in words {
+        given.push(String::from_str(alloc, word)?)?;
+    }
+    match order_of(alloc, given.as_slice()) {
+        Ok(Some(order)) => Ok(Ok(order)),
+        Ok(None) => panic!(rt; "no order"),
+        Err(e) => Ok(Err(e.use_stderr())),
+    }
+}
+
+#[test]
+fn takes_two_to_sixteen_ports(rt: HostRuntime) -> Result<(), Fail> {
+    let alloc = rt.alloc();
+    for (word, ports) in [("2", 2u8), ("3", 3), ("03", 3), ("+3", 3), ("16", 16)] {
+        assert_eq!(rt;
+            read(&rt, alloc, &["flat", word])?,
+            Ok(Order::Flat(ports)),
+            "{word}"
+        );
+    }
+    for word in ["1", "17", "0", "-3", "258", "", "x", "3 ", "3.0", "٣"] {
+        assert_eq!(rt; read(&rt, alloc, &["flat", word])?, Err(true), "{word}");
+    }
+    Ok(())
+}
+
+#[test]
+fn refuses_other_words_and_helps(rt: HostRuntime) -> Result<(), Fail> {
+    let alloc = rt.alloc();
+    assert_eq!(rt; read(&rt, alloc, &[])?, Err(true));
+    assert_eq!(rt; read(&rt, alloc, &["flat"])?, Err(true));
+    assert_eq!(rt; read(&rt, alloc, &["flat", "3", "4"])?, Err(true));
+    assert_eq!(rt; read(&rt, alloc, &["flap", "3"])?, Err(true));
+    assert_eq!(rt; read(&rt, alloc, &["--help"])?, Err(false));
+    assert_eq!(rt; read(&rt, alloc, &["flat", "--help"])?, Err(false));
+    Ok(())
+}
