@@ -1,4 +1,4 @@
-use Rattle.std.proofs.Common.{◌≡◌, true, ap, subst, ◌∙◌}
+use Rattle.std.proofs.Common.{◌≡◌, true, ap, subst}
 use Rattle.pb_lan.specs.Ports.{port_at, is_provider}
 use Rattle.pb_relay.proofs.PortTests.{is_to_bridge, provider_there}
 use Rattle.pb_relay.proofs.tests.is_bridge_port.Goals as goal
