@@ -1,5 +1,5 @@
 -- What a bridge keeps at its start.
-use Rattle.std.proofs.Common.{◌≡◌, ℕ, ◌+◌, ◌-◌, ◌<◌, ◌≤◌, Bool, true, false, cond, ◌||◌, ◌==◌, List, [], ◌∷◌, map, Some, None, Option, Ok, Err, IfOk, length, get_or, set, replicate, unwrap_or, refl, sym, ◌∙◌, ap, subst, arith}
+use Rattle.std.proofs.Common.{◌≡◌, ℕ, ◌+◌, ◌-◌, ◌<◌, Bool, false, ◌||◌, ◌==◌, List, [], ◌∷◌, map, Some, None, Option, Ok, Err, IfOk, length, get_or, set, replicate, unwrap_or, refl, sym, ◌∙◌, ap, subst, arith}
 use Rattle.std.proofs.lemmas.List.{get_or-map, get_or-replicate, ext_get_or}
 use Rattle.std.proofs.lemmas.Grind.{common_steps}
 use Rattle.std.specs.List.{filter_map, cons_option, list_any}
@@ -12,10 +12,9 @@ use Rattle.pb_lan.proofs.Distinctness.{list_any-map}
 use Rattle.pb_lan.proofs.Numbers.{numbered-exists}
 use Rattle.pb_lan.specs.Numbering.{numbered}
 use Rattle.pb_lan.specs.Plans.{IsSound, IsSoundCustomer}
-use Rattle.pb_lan.specs.Ports.{Port, port_at, is_customer_at, has_vid, listed, serves, vid_at, local_ports, customer_or_else, provider_or_unused, is_end_at, all_ends}
+use Rattle.pb_lan.specs.Ports.{Port, port_at, is_customer_at, has_vid, listed, serves, local_ports, customer_or_else, provider_or_unused, is_end_at, all_ends}
 use Rattle.pb_lan.specs.Ports.Port.{Customer, Provider, Unused}
-use Rattle.pb_lan.specs.Queues.{capacity_of}
-use Rattle.pb_lan.specs.Shapes.{states_after, state_after, state_by}
+use Rattle.pb_lan.specs.Shapes.{state_after, state_by}
 use Rattle.pb_lan.specs.declared.plan.Plan.{Plan}
 use Rattle.pb_lan.specs.declared.plan.End.{End}
 use Rattle.pb_lan.specs.declared.plan.CustomerPlan.{CustomerPlan}
@@ -26,7 +25,7 @@ use Rattle.pb_lan.specs.declared.shape.PortState.{PortState}
 use Rattle.pb_lan.specs.declared.shape.PortState.TheVariants.{Discarding}
 use Rattle.pb_relay.proofs.VerdictLemmas.{at_port}
 use Rattle.pb_relay.specs.Classes.{no_items}
-use Rattle.pb_relay.specs.LocalPorts.{IsKept, IsConfigured}
+use Rattle.pb_relay.specs.LocalPorts.{IsKept}
 use Rattle.pb_relay.specs.Standing.{IsStanding}
 use Rattle.pb_relay.specs.Starts.{first_state, KeepsPorts}
 use Rattle.pb_relay.specs.declared.ports.LocalPort.{LocalPort}

@@ -14,7 +14,7 @@ use crate::ports::LocalPort;
 use crate::{Bridge, BridgeFault};
 use bytes::Bytes;
 use pb_frame::hex_read;
-use pb_lan::{Item, Mark, Outcome, Plan, Spanning, plan_is_sound};
+use pb_lan::{Item, Mark, NoRoom, Outcome, Plan, Seq, Spanning, plan_is_sound};
 use std::alloc::{AllocError, Global};
 use std::process::Abort;
 use std::test::Fail;
@@ -27,7 +27,11 @@ fn is_port(bridge: &Bridge, port: u8) -> bool
     if port == 0 || port > 16 {
         return false;
     }
-    !matches!(&ports[port as usize - 1], LocalPort::ToNobody)
+    match &ports[port as usize - 1] {
+        LocalPort::ToCustomer { .. } => true,
+        LocalPort::ToBridge { .. } => true,
+        LocalPort::ToNobody => false,
+    }
 }
 
 /// Whether the port goes to another bridge.
@@ -38,7 +42,10 @@ fn is_bridge_port(bridge: &Bridge, port: u8) -> bool
     if port == 0 || port > 16 {
         return false;
     }
-    matches!(&ports[port as usize - 1], LocalPort::ToBridge { .. })
+    match &ports[port as usize - 1] {
+        LocalPort::ToBridge { .. } => true,
+        _ => false,
+    }
 }
 
 /// A bridge of the plan at its start.
@@ -78,6 +85,14 @@ fn item(alloc: Global, number: u64, hops: u32, wire: &[u8]) -> Result<Item, Allo
         mark: Some(Mark { port: 1, number }),
         hops,
         wire: Bytes::copy_from_slice(alloc, wire)?,
+    })
+}
+
+/// Relayed to these ports, of which those refused.
+fn relayed(alloc: Global, chosen: &[u8], refused: &[(u8, NoRoom)]) -> Result<Outcome, AllocError> {
+    Ok(Outcome::Relayed {
+        chosen: Seq::from_vec(Vec::from_slice(alloc, chosen)?),
+        refused: Seq::from_vec(Vec::from_slice(alloc, refused)?),
     })
 }
 

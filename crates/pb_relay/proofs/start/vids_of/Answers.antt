@@ -1,4 +1,3 @@
-use Rattle.std.proofs.Common.{sym, ◌∙◌}
 use Rattle.pb_relay.proofs.StartLemmas.{all_serve, listed_serve}
 use Rattle.pb_relay.proofs.start.vids_of.Goals as goal
 
