@@ -312,7 +312,7 @@ admitted_waiting ports port frame old new quiet from to adm lawful =
     record {
       polled_fed = rw same calm.polled_fed;
       fed_received = let none : length (received_by n step) ≡ 0 = none_there port n adm.item (λ e. ne (sym e)) in
-        ap (λ ms. length (fed ms)) same ∙ omega (arith, got n, none, calm.fed_received);
+          ap (λ ms. length (fed ms)) same ∙ omega (arith, got n, none, calm.fed_received);
       sent_delivered = omega (arith, sent n, calm.sent_delivered) ∙ ap (λ ms. length (delivered ms)) (sym same);
       waits = omega (arith, waits n, calm.waits, copies_few plan port adm.item adm.outcome n);
     } in

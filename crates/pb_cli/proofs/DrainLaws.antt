@@ -98,7 +98,7 @@ one_drained ports port old one new sent got from to sized calm plan_one plan_two
     let receives : (n : ℕ) → length (received n (steps_of new.rec.bridges 1)) ≡ length (received n earlier) + 0 =
     λ n. ap (λ ms. length (received n ms)) bridge ∙ received-more n earlier (Transmitted port sent) in
     let waits : (n : ℕ) → waiting (flat_plan ports) 1 n (steps_of new.rec.bridges 1)
-        ≡ cond (port == n) (without (highest (waiting (flat_plan ports) 1 n earlier)) (waiting (flat_plan ports) 1 n earlier)) (waiting (flat_plan ports) 1 n earlier) =
+    ≡ cond (port == n) (without (highest (waiting (flat_plan ports) 1 n earlier)) (waiting (flat_plan ports) 1 n earlier)) (waiting (flat_plan ports) 1 n earlier) =
     λ n. ap (λ ms. waiting (flat_plan ports) 1 n ms) bridge ∙ waiting-sent (flat_plan ports) n port earlier sent in
     record {
       plan = plan_two ∙ plan_one;
@@ -112,21 +112,21 @@ one_drained ports port old one new sent got from to sized calm plan_one plan_two
         polled_fed = ap (λ ms. length (polled ms)) here ∙ polled-more before (Delivered got false) ∙ omega (arith, calm.polled_fed) ∙ sym (ap (λ ms. length (fed ms)) here ∙ fed-more before (Delivered got false));
         fed_received = let f = ap (λ ms. length (fed ms)) here ∙ fed-more before (Delivered got false) in f ∙ omega (arith, calm.fed_received) ∙ sym (receives port);
         sent_delivered = let s : length (transmitted_by port (Transmitted port sent)) ≡ 1 = one_here port sent in
-          let d = ap (λ ms. length (delivered ms)) here ∙ delivered-more before (Delivered got false) in
-          sends port ∙ omega (arith, s, calm.sent_delivered) ∙ sym d;
+            let d = ap (λ ms. length (delivered ms)) here ∙ delivered-more before (Delivered got false) in
+            sends port ∙ omega (arith, s, calm.sent_delivered) ∙ sym d;
         waits = let none : length (waiting (flat_plan ports) 1 port (steps_of new.rec.bridges 1)) ≡ 0 =
-          ap length (waits port) ∙ ap (λ b. length (cond b (without (highest (waiting (flat_plan ports) 1 port earlier)) (waiting (flat_plan ports) 1 port earlier)) (waiting (flat_plan ports) 1 port earlier))) (eqb-refl port)
-          ∙ alone (waiting (flat_plan ports) 1 port earlier) calm.waits in omega (arith, none);
+            ap length (waits port) ∙ ap (λ b. length (cond b (without (highest (waiting (flat_plan ports) 1 port earlier)) (waiting (flat_plan ports) 1 port earlier)) (waiting (flat_plan ports) 1 port earlier))) (eqb-refl port)
+            ∙ alone (waiting (flat_plan ports) 1 port earlier) calm.waits in omega (arith, none);
       };
       others = λ n most ne c. record {
         polled_fed = rw (there n ne) c.polled_fed;
         fed_received = ap (λ ms. length (fed ms)) (there n ne) ∙ c.fed_received ∙ omega (arith, receives n);
         sent_delivered = let none : length (transmitted_by n (Transmitted port sent)) ≡ 0 = none_there port n sent (λ e. ne (sym e)) in
-          let s : length (transmitted n (steps_of new.rec.bridges 1)) ≡ length (transmitted n earlier) = omega (arith, sends n, none) in
-          s ∙ c.sent_delivered ∙ ap (λ ms. length (delivered ms)) (sym (there n ne));
+            let s : length (transmitted n (steps_of new.rec.bridges 1)) ≡ length (transmitted n earlier) = omega (arith, sends n, none) in
+            s ∙ c.sent_delivered ∙ ap (λ ms. length (delivered ms)) (sym (there n ne));
         waits = let same : waiting (flat_plan ports) 1 n (steps_of new.rec.bridges 1) ≡ waiting (flat_plan ports) 1 n earlier =
-          waits n ∙ ap (λ b. cond b (without (highest (waiting (flat_plan ports) 1 n earlier)) (waiting (flat_plan ports) 1 n earlier)) (waiting (flat_plan ports) 1 n earlier)) (ne_eqb port n (λ e. ne (sym e))) in
-          rw same c.waits;
+            waits n ∙ ap (λ b. cond b (without (highest (waiting (flat_plan ports) 1 n earlier)) (waiting (flat_plan ports) 1 n earlier)) (waiting (flat_plan ports) 1 n earlier)) (ne_eqb port n (λ e. ne (sym e))) in
+            rw same c.waits;
       };
       at_bridge = omega (arith, ap length bridge, grown-length earlier (Transmitted port sent));
       at_port = omega (arith, ap length here, grown-length before (Delivered got false));

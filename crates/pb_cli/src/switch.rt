@@ -93,13 +93,15 @@ fn tell(alloc: Global, net: &Net, out: &mut String) -> Result<(), FlatFault>
     ensures steps { IsErrOf result FlatFault.Steps → ⊥ }
 {
     let steps = net.steps(Place::Bridge(1));
-    let Some(Step::Receive {
-        port,
-        item,
-        learnt,
-        outcome,
-        ..
-    }) = steps.last()
+    let Some(
+        Step::Receive {
+            port,
+            item,
+            learnt,
+            outcome,
+            ..
+        },
+    ) = steps.last()
     else {
         unreachable!();
     };

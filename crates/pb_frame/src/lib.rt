@@ -29,3 +29,5 @@ pub use service_tag::{
 pub use tci::Tci;
 pub use text::Text;
 
+#[cfg(test)]
+mod tests;

@@ -9,4 +9,3 @@ mod customer;
 
 pub use customer::CustomerPlace;
 pub use pb_frame::Memory;
-

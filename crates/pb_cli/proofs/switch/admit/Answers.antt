@@ -11,7 +11,7 @@ pub ask-requires-3 : goal.ask-requires-3
 ask-requires-3 c =
     let ports = port_count c.args.net.now in
     let plan = answered_plan c.ask.new.net c.ask-2.new.net (Feed c.args.port) c.in_ok-ask-2.field-0 c.in_ok-ask-2.ensures.ok
-      ∙ answered_plan c.args.net.now c.ask.new.net (Poll c.args.port c.args.frame) c.in_ok-ask.field-0 c.in_ok-ask.ensures.ok ∙ c.requires.quiet.few.plan in
+    ∙ answered_plan c.args.net.now c.ask.new.net (Poll c.args.port c.args.frame) c.in_ok-ask.field-0 c.in_ok-ask.ensures.ok ∙ c.requires.quiet.few.plan in
     subst (λ (p : Plan). is_used (port_at p 1 c.args.port) ≡ true) (sym plan) (ap is_used (flat_port-at ports c.args.port c.requires.from c.requires.to))
 
 pub returns-clause-ok : goal.returns-clause-ok

@@ -65,9 +65,12 @@ invariant_of-self-2 c =
     let s = c.self.inside in
     let quiet = c.self.invariant.2 (subst (λ (v : SwitchView). v.is_ready ≡ true) (sym c.self.view_is) c.requires.ready) in
     let to = subst (λ (v : SwitchView). c.args.port ≤ v.ports) (sym c.self.view_is) c.requires.to in
-    let adm = subst (λ (n : ℕ). HasAdmitted n c.args.port c.args.frame s.net c.admit.new.net) (quiet_ports s.ports s.net quiet.few.plan) c.in_ok-admit.ensures.ok in
-    (c.self.invariant.0, c.self.invariant.1, λ e. (handled s.ports c.args.port c.args.frame (string_bytes c.args.out.now) (string_bytes c.tell.new.out) s.net c.admit.new.net c.drain.new.net true
-    c.self.invariant.1 quiet c.requires.from to adm c.in_ok-tell.ensures.lawful c.in_ok-tell.ensures.ok c.in_ok-drain.ensures.ok c.in_ok-drain.ensures.lawful).0)
+    let adm = subst (λ (n : ℕ). HasAdmitted n c.args.port c.args.frame s.net c.admit.new.net) (quiet_ports s.ports s.net quiet.few.plan) c.in_ok-admit.ensures.ok in (
+      c.self.invariant.0,
+      c.self.invariant.1,
+      λ e. (handled s.ports c.args.port c.args.frame (string_bytes c.args.out.now) (string_bytes c.tell.new.out) s.net c.admit.new.net c.drain.new.net true
+          c.self.invariant.1 quiet c.requires.from to adm c.in_ok-tell.ensures.lawful c.in_ok-tell.ensures.ok c.in_ok-drain.ensures.ok c.in_ok-drain.ensures.lawful).0,
+    )
 
 pub returns-clause-ok : goal.returns-clause-ok
 returns-clause-ok c =
