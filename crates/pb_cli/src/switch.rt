@@ -45,6 +45,7 @@ fn ask(net: &mut Net, event: Event) -> Result<Did, FlatFault>
     requires { names_something net.old.plan event ≡ true }
     ensures ok { IfOk result (λ did. IsAnswer net.old event (Ok did) net.new) }
     ensures limit { IsErrOf result FlatFault.Steps → is_at_limit net.old.plan net.old.rec event ≡ true }
+    ensures memory { IsErrOf result FlatFault.Memory → is_at_limit net.old.plan net.old.rec event ≡ false }
     ensures kinds { IfErr result (λ e. (e ≡ FlatFault.Steps) ⊎ (e ≡ FlatFault.Memory)) }
 {
     match net.step(event) {
