@@ -1,6 +1,6 @@
 //! A customer port as a place of a network.
 
-ghost use Rattle.std.specs.Prelude.{◌≡◌, ◌<◌, ◌++◌, ◌∷◌, [], ◌+◌, length, true, false, vec_len, vec_capacity, IfOk, OnOk, OnErr};
+ghost use Rattle.std.specs.Prelude.{◌≡◌, ◌<◌, ◌++◌, ◌∷◌, [], ◌+◌, length, true, false, vec_len, vec_capacity, IfOk, IsOk, OnOk, OnErr};
 ghost use Rattle.pb_lan.specs.Events.{is_hand_empty};
 ghost use Rattle.pb_lan.specs.PortLists.{polled, fed, IsLawfulPort};
 ghost use Rattle.pb_link.specs.Hands.{arrival, with_step, HasFed};
@@ -93,10 +93,17 @@ impl CustomerPlace {
     }
 
     /// Makes room for one step, which the next step uses up.
+    ///
+    /// `Memory` is answered where there is none for one more, and nothing has changed then. Where
+    /// there is room already, the answer is `Ok`.
     pub fn reserve_step(&mut self) -> Result<(), Memory>
         ensures ok { OnOk result (self.new ≡ record self.old { is_reserved = true }) }
         ensures err { OnErr result (self.new ≡ self.old) }
+        ensures reserved { self.old.is_reserved ≡ true → IsOk result }
     {
+        if self.is_reserved {
+            return Ok(());
+        }
         self.steps.reserve(1)?;
         self.is_reserved = true;
         Ok(())

@@ -10,3 +10,5 @@ mod customer;
 pub use customer::CustomerPlace;
 pub use pb_frame::Memory;
 
+#[cfg(test)]
+mod tests;
