@@ -11,8 +11,9 @@ use pb_lan::{Item, Mark, Step};
 use std::alloc::Global;
 use std::marker::Model;
 
-/// A customer port of a plan: it polls frames, feeds them to its bridge one after the other, and
-/// delivers what its bridge sent to it. It holds at most one frame, polled and not yet fed.
+/// A customer port of a plan (802.1Q clause 15.3): it polls frames, feeds them to its bridge one
+/// after the other, and delivers what its bridge sent to it. It holds at most one frame, polled and
+/// not yet fed.
 ///
 /// Contracts see its number, its steps, and whether there is room for one more step.
 #[derive(Drop)]
@@ -138,7 +139,10 @@ impl CustomerPlace {
         append(&mut self.steps, Step::Poll { item });
     }
 
-    /// Gives the frame in hand, for the bridge. Where memory runs out it is still in hand.
+    /// Gives the frame in hand, for the bridge.
+    ///
+    /// `Memory` is answered where there is none for its two copies, which share its octets. It is
+    /// then still in hand.
     pub fn feed(&mut self) -> Result<Item, Memory>
         requires reserved { self.old.is_reserved ≡ true }
         requires full { is_hand_empty self.old.steps ≡ false }

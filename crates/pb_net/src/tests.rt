@@ -7,7 +7,7 @@ mod runs;
 ghost use Rattle.std.specs.Prelude.{◌≡◌, IsTrue, true};
 ghost use Rattle.pb_lan.specs.Events.{has_place};
 
-use crate::{Event, Net};
+use crate::{Event, Net, NetFault};
 use bytes::Bytes;
 use pb_lan::{
     BridgePlan, CustomerPlan, Item, Mac, Mark, Place, Plan, Seq, ServicePlan, Spanning, Step, Text,
@@ -131,6 +131,11 @@ fn broadcast(alloc: Global, number: u64, hops: u32) -> Result<Item, AllocError> 
         hops,
         wire: Bytes::copy_from_slice(alloc, &BROADCAST)?,
     })
+}
+
+/// Runs events none of which meets a fault.
+fn go(net: &mut Net, events: &[Event]) -> Result<(), NetFault> {
+    net.run(events).map_err(|(_, fault)| fault)
 }
 
 /// A broadcast comes in at customer port 1, and its bridge receives it.

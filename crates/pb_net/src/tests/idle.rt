@@ -1,6 +1,6 @@
 //! Events with nothing to do, and events of nothing.
 
-use super::{count, poll, send, started, three_customers, two_customers};
+use super::{count, go, poll, send, started, three_customers, two_customers};
 use crate::{Did, Event, NetFault};
 use pb_lan::{Place, Plan};
 use std::test::Fail;
@@ -10,11 +10,11 @@ fn a_hand_is_empty_or_full(rt: HostRuntime) -> Result<(), Fail> {
     let alloc = rt.alloc();
     let mut net = started(&rt, alloc, two_customers(alloc)?)?;
     let here = Place::Customer(1);
-    assert_eq!(rt; net.step(Event::Feed { port: 1 }), Ok(Did::Idle));
-    assert_eq!(rt; net.step(poll(alloc, 1)?), Ok(Did::Done(here)));
-    assert_eq!(rt; net.step(poll(alloc, 1)?), Ok(Did::Idle));
-    assert_eq!(rt; net.step(Event::Feed { port: 1 }), Ok(Did::Done(here)));
-    assert_eq!(rt; net.step(Event::Deliver { port: 1 }), Ok(Did::Idle));
+    assert_eq!(rt; net.step(Event::Feed { port: 1 })?, Did::Idle);
+    assert_eq!(rt; net.step(poll(alloc, 1)?)?, Did::Done(here));
+    assert_eq!(rt; net.step(poll(alloc, 1)?)?, Did::Idle);
+    assert_eq!(rt; net.step(Event::Feed { port: 1 })?, Did::Done(here));
+    assert_eq!(rt; net.step(Event::Deliver { port: 1 })?, Did::Idle);
     assert_eq!(rt; count(&rt, &net, here), 2);
     Ok(())
 }
@@ -36,14 +36,14 @@ fn a_full_meeting_place_takes_nothing(rt: HostRuntime) -> Result<(), Fail> {
     net.step(poll(alloc, 1)?)?;
     net.step(Event::Feed { port: 1 })?;
     net.step(poll(alloc, 1)?)?;
-    assert_eq!(rt; net.step(Event::Feed { port: 1 }), Ok(Did::Idle));
-    assert!(rt; net.run(&transmit).is_ok());
+    assert_eq!(rt; net.step(Event::Feed { port: 1 })?, Did::Idle);
+    go(&mut net, &transmit)?;
     assert_eq!(rt; count(&rt, &net, Place::Bridge(1)), 3);
     assert_eq!(rt;
-        net.step(Event::Deliver { port: 2 }),
-        Ok(Did::Done(Place::Customer(2)))
+        net.step(Event::Deliver { port: 2 })?,
+        Did::Done(Place::Customer(2))
     );
-    assert!(rt; net.run(&transmit).is_ok());
+    go(&mut net, &transmit)?;
     assert_eq!(rt; count(&rt, &net, Place::Bridge(1)), 4);
     Ok(())
 }
@@ -53,12 +53,12 @@ fn a_bridge_receives_what_came_and_sends_what_waits(rt: HostRuntime) -> Result<(
     let alloc = rt.alloc();
     let mut net = started(&rt, alloc, three_customers(alloc)?)?;
     let receive = Event::Receive { bridge: 1, port: 1 };
-    assert_eq!(rt; net.step(receive), Ok(Did::Idle));
+    assert_eq!(rt; net.step(receive)?, Did::Idle);
     let transmit = Event::Transmit { bridge: 1, port: 3 };
-    assert_eq!(rt; net.step(transmit), Ok(Did::Idle));
+    assert_eq!(rt; net.step(transmit)?, Did::Idle);
     assert_eq!(rt;
-        net.step(Event::Tick { bridge: 1 }),
-        Ok(Did::Done(Place::Bridge(1)))
+        net.step(Event::Tick { bridge: 1 })?,
+        Did::Done(Place::Bridge(1))
     );
     assert_eq!(rt; count(&rt, &net, Place::Bridge(1)), 1);
     Ok(())

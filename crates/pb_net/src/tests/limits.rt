@@ -19,21 +19,18 @@ fn each_place_has_its_own_steps(rt: HostRuntime) -> Result<(), Fail> {
     net.step(Event::Feed { port: 1 })?;
     assert_eq!(rt; net.step(poll(alloc, 1)?), Err(NetFault::StepLimit));
     let receive = Event::Receive { bridge: 1, port: 1 };
-    assert_eq!(rt; net.step(receive), Ok(Did::Done(at_bridge)));
+    assert_eq!(rt; net.step(receive)?, Did::Done(at_bridge));
     let transmit = Event::Transmit { bridge: 1, port: 2 };
-    assert_eq!(rt; net.step(transmit), Ok(Did::Done(at_bridge)));
+    assert_eq!(rt; net.step(transmit)?, Did::Done(at_bridge));
     let transmit = Event::Transmit { bridge: 1, port: 3 };
     assert_eq!(rt; net.step(transmit), Err(NetFault::StepLimit));
     let idle = Event::Transmit { bridge: 1, port: 1 };
-    assert_eq!(rt; net.step(idle), Ok(Did::Idle));
+    assert_eq!(rt; net.step(idle)?, Did::Idle);
     assert_eq!(rt;
         net.step(Event::Tick { bridge: 1 }),
         Err(NetFault::StepLimit)
     );
-    assert_eq!(rt;
-        net.step(Event::Deliver { port: 2 }),
-        Ok(Did::Done(at_second))
-    );
+    assert_eq!(rt; net.step(Event::Deliver { port: 2 })?, Did::Done(at_second));
     assert_eq!(rt; count(&rt, &net, at_bridge), 2);
     Ok(())
 }

@@ -1,6 +1,6 @@
 //! Runs over lists of events.
 
-use super::{broadcast, count, poll, started, took, two_customers};
+use super::{broadcast, count, go, poll, started, took, two_customers};
 use crate::{Event, NetFault};
 use pb_lan::{Place, Record, Seq, Step};
 use std::alloc::{AllocError, Global};
@@ -30,7 +30,7 @@ fn each_broadcast_leaves_the_other_port_once(rt: HostRuntime) -> Result<(), Fail
     let alloc = rt.alloc();
     let mut net = started(&rt, alloc, two_customers(alloc)?)?;
     for number in 0..2u64 {
-        assert!(rt; net.run(&events(alloc)?).is_ok());
+        go(&mut net, &events(alloc)?)?;
         let step = delivered(alloc, number)?;
         assert!(rt; took(&rt, &net, Place::Customer(2), number as usize, &step));
     }
@@ -44,7 +44,7 @@ fn each_broadcast_leaves_the_other_port_once(rt: HostRuntime) -> Result<(), Fail
 fn the_record_is_what_the_places_showed(rt: HostRuntime) -> Result<(), Fail> {
     let alloc = rt.alloc();
     let mut net = started(&rt, alloc, two_customers(alloc)?)?;
-    assert!(rt; net.run(&events(alloc)?).is_ok());
+    go(&mut net, &events(alloc)?)?;
     let Record {
         bridges,
         lanes,
