@@ -1,13 +1,12 @@
 -- A customer port's steps, with one step more.
-use Rattle.std.proofs.Common.{◌≡◌, ℕ, zero, suc, ◌+◌, ◌<◌, ◌≤◌, Bool, true, false, List, [], ◌∷◌, ◌++◌, Some, None, length, slice_get, get_or, refl, sym, ap, ◌∙◌, arith, append-nil, append_assoc, length-append}
+use Rattle.std.proofs.Common.{◌≡◌, ℕ, zero, suc, ◌+◌, ◌≤◌, Bool, true, false, List, [], ◌∷◌, ◌++◌, Some, None, length, slice_get, get_or, refl, sym, ap, ◌∙◌, arith, append-nil, length-append}
 use Rattle.std.proofs.lemmas.Grind.{flat_map-append}
-use Rattle.std.specs.List.{AllByRecursion, flat_map}
-use Rattle.std.specs.Option.{option_to_list}
+use Rattle.std.specs.List.{flat_map}
 use Rattle.std.specs.declared.option.Option.{Option}
 use Rattle.std.proofs.lemmas.Option.{get_or_from_slice_get}
 use Rattle.std.proofs.lemmas.Bool.{leb-true}
 use Rattle.pb_frame.proofs.Lists.{All-append, Some-injective}
-use Rattle.pb_lan.specs.PortLists.{polled, fed, polled_by, fed_by, IsLawfulPort, IsPortStep, AreMarked}
+use Rattle.pb_lan.specs.PortLists.{polled, fed, polled_by, fed_by, IsPortStep, AreMarked}
 use Rattle.pb_lan.specs.Events.{is_hand_empty}
 use Rattle.pb_lan.specs.declared.step.Item.{Item}
 use Rattle.pb_lan.specs.declared.step.Mark.{Mark}

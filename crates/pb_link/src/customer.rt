@@ -1,6 +1,6 @@
 //! A customer port as a place of a network.
 
-ghost use Rattle.std.specs.Prelude.{◌≡◌, ◌<◌, ◌++◌, ◌∷◌, [], ◌+◌, length, true, false, vec_len, vec_capacity, IfOk, OnOk, OnErr};
+ghost use Rattle.std.specs.Prelude.{◌≡◌, ◌<◌, ◌++◌, ◌∷◌, [], ◌+◌, length, true, false, vec_len, vec_capacity, IfOk, IsOk, OnOk, OnErr};
 ghost use Rattle.pb_lan.specs.Events.{is_hand_empty};
 ghost use Rattle.pb_lan.specs.PortLists.{polled, fed, IsLawfulPort};
 ghost use Rattle.pb_link.specs.Hands.{arrival, with_step, HasFed};
@@ -11,8 +11,9 @@ use pb_lan::{Item, Mark, Step};
 use std::alloc::Global;
 use std::marker::Model;
 
-/// A customer port of a plan: it polls frames, feeds them to its bridge one after the other, and
-/// delivers what its bridge sent to it. It holds at most one frame, polled and not yet fed.
+/// A customer port of a plan (802.1Q clause 15.3): it polls frames, feeds them to its bridge one
+/// after the other, and delivers what its bridge sent to it. It holds at most one frame, polled and
+/// not yet fed.
 ///
 /// Contracts see its number, its steps, and whether there is room for one more step.
 #[derive(Drop)]
@@ -93,10 +94,17 @@ impl CustomerPlace {
     }
 
     /// Makes room for one step, which the next step uses up.
+    ///
+    /// `Memory` is answered where there is none for one more, and nothing has changed then. Where
+    /// there is room already, the answer is `Ok`.
     pub fn reserve_step(&mut self) -> Result<(), Memory>
         ensures ok { OnOk result (self.new ≡ record self.old { is_reserved = true }) }
         ensures err { OnErr result (self.new ≡ self.old) }
+        ensures reserved { self.old.is_reserved ≡ true → IsOk result }
     {
+        if self.is_reserved {
+            return Ok(());
+        }
         self.steps.reserve(1)?;
         self.is_reserved = true;
         Ok(())
@@ -131,7 +139,10 @@ impl CustomerPlace {
         append(&mut self.steps, Step::Poll { item });
     }
 
-    /// Gives the frame in hand, for the bridge. Where memory runs out it is still in hand.
+    /// Gives the frame in hand, for the bridge.
+    ///
+    /// `Memory` is answered where there is none for its two copies, which share its octets. It is
+    /// then still in hand.
     pub fn feed(&mut self) -> Result<Item, Memory>
         requires reserved { self.old.is_reserved ≡ true }
         requires full { is_hand_empty self.old.steps ≡ false }

@@ -9,3 +9,6 @@ mod customer;
 
 pub use customer::CustomerPlace;
 pub use pb_frame::Memory;
+
+#[cfg(test)]
+mod tests;

@@ -1,15 +1,12 @@
 -- A network after a step of a bridge.
-use Rattle.std.proofs.Common.{◌≡◌, ℕ, zero, suc, ◌+◌, ◌<◌, ◌⊎◌, inl, inr, true, false, List, [], ◌∷◌, ◌++◌, Some, None, map, length, slice_get, ◌==◌, if◌then◌else◌, Bool, refl, sym, ap, subst, ◌∙◌, arith, append-nil, append_assoc, length-set, ne_eqb}
+use Rattle.std.proofs.Common.{◌≡◌, ℕ, suc, ◌+◌, inl, inr, List, [], ◌∷◌, ◌++◌, Some, map, slice_get, ◌==◌, if◌then◌else◌, Bool, refl, sym, ap, subst, ◌∙◌, arith, append-nil, append_assoc, length-set, ne_eqb}
 use Rattle.std.proofs.Math.ListN.{set}
 use Rattle.std.proofs.lemmas.Option.{slice_get_within}
-use Rattle.std.specs.declared.option.Option.{Option}
-use Rattle.pb_frame.specs.declared.learnt.Learnt.{Learnt}
 use Rattle.pb_frame.proofs.Lists.{Some-injective, eqb-refl}
 use Rattle.pb_lan.specs.BridgeLists.{IsLawfulBridge, Fits}
 use Rattle.pb_lan.specs.Events.{with_step}
 use Rattle.pb_lan.specs.Numbering.{numbered}
 use Rattle.pb_lan.specs.Plans.{IsSound}
-use Rattle.pb_lan.specs.PortLists.{fed}
 use Rattle.pb_lan.specs.Records.{steps_of, received, transmitted, received_by, transmitted_by}
 use Rattle.pb_lan.specs.Rules.{silent}
 use Rattle.pb_lan.specs.declared.plan.Plan.{Plan}
@@ -17,7 +14,6 @@ use Rattle.pb_lan.specs.declared.plan.CustomerPlan.{CustomerPlan}
 use Rattle.pb_lan.specs.declared.record.Record.{Record}
 use Rattle.pb_lan.specs.declared.step.Item.{Item}
 use Rattle.pb_lan.specs.declared.step.Moved.{Moved}
-use Rattle.pb_lan.specs.declared.step.Outcome.{Outcome}
 use Rattle.pb_lan.specs.declared.step.Place.TheVariants.{Bridge}
 use Rattle.pb_lan.specs.declared.step.Step.{Step}
 use Rattle.pb_lan.specs.declared.step.Step.TheVariants.{Receive, Transmit, Tick}

@@ -1,5 +1,5 @@
 -- What a network keeps after an event was done, and after one that met want of memory.
-use Rattle.std.proofs.Common.{◌≡◌, ℕ, zero, suc, ◌==◌, ◌+◌, ◌<◌, ◌≤◌, Bool, true, false, not, ◌||◌, nat_le, List, [], ◌∷◌, ◌++◌, Some, Err, map, length, slice_get, get_or, refl, sym, ap, subst, ◌∙◌, arith, Global}
+use Rattle.std.proofs.Common.{◌≡◌, ℕ, zero, suc, ◌==◌, ◌<◌, Bool, true, false, not, ◌||◌, nat_le, List, [], ◌∷◌, ◌++◌, Some, Err, map, length, slice_get, get_or, refl, sym, ap, subst, ◌∙◌, arith, Global}
 use Rattle.std.proofs.lemmas.List.{length-map}
 use Rattle.std.specs.declared.collections.VecDeque.{VecDeque}
 use Rattle.std.proofs.Math.ListN.{set}
@@ -7,9 +7,8 @@ use Rattle.std.proofs.lemmas.List.{map-set}
 use Rattle.std.proofs.lemmas.Bool.Decides.{nat_tests}
 use Rattle.std.proofs.Math.Dec.{leb-zero, leb-suc-zero, eqb-suc-zero}
 use Rattle.pb_lan.specs.BridgeLists.{Fits}
-use Rattle.pb_lan.specs.Events.{is_idle, is_hand_empty, HasDone, customer_there}
+use Rattle.pb_lan.specs.Events.{HasDone}
 use Rattle.pb_lan.specs.PortLists.{IsLawfulPort}
-use Rattle.pb_lan.specs.Queues.{waiting}
 use Rattle.pb_lan.specs.Rules.{silent}
 use Rattle.pb_lan.specs.declared.event.Event.TheVariants.{Poll, Feed, Deliver, Receive, Transmit, Tick}
 use Rattle.pb_lan.specs.declared.plan.Plan.{Plan}
@@ -32,7 +31,7 @@ use Rattle.pb_net.specs.Moves.{HasFedInto, HasDelivered, HasReceivedFrom, HasTra
 use Rattle.pb_net.specs.Nets.{IsPlain, IsKept, ArePlaced, record_of}
 use Rattle.pb_net.proofs.BridgeMoves.{after_receive, after_transmit, after_tick, placed_bridge, recorded_bridge, unrecorded_bridge}
 use Rattle.pb_net.proofs.DueLemmas.{StandsAt}
-use Rattle.pb_net.proofs.OneMore.{here_is, slice_get-map, map-set_kept}
+use Rattle.pb_net.proofs.OneMore.{here_is, slice_get-map}
 use Rattle.pb_net.proofs.PortMoves.{after_poll, after_feed, after_deliver, placed_customer, recorded_customer, unrecorded_customer}
 
 -- what stands in a queue

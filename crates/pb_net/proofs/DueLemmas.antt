@@ -1,11 +1,11 @@
 -- Whether an event is due, told from what the network keeps.
-use Rattle.std.proofs.Common.{◌≡◌, ℕ, zero, suc, ◌+◌, ◌<◌, ◌≤◌, ◌⊎◌, inl, inr, Bool, true, false, not, ◌||◌, ◌&&◌, ◌==◌, nat_le, List, [], ◌∷◌, ◌++◌, Some, None, Ok, Err, is_some, map, length, slice_get, get_or, ◌*◌, refl, sym, ap, subst, ◌∙◌, arith, length-append}
+use Rattle.std.proofs.Common.{◌≡◌, ℕ, suc, ◌+◌, ◌<◌, ◌≤◌, ◌⊎◌, inl, inr, Bool, true, false, not, ◌||◌, ◌&&◌, ◌==◌, nat_le, List, [], ◌++◌, Some, None, Ok, Err, is_some, map, length, slice_get, get_or, ◌*◌, sym, ap, subst, ◌∙◌, arith, length-append}
 use Rattle.std.proofs.lemmas.Bool.Decides.{leb_tells}
 use Rattle.std.specs.declared.option.Option.{Option}
 use Rattle.std.specs.declared.result.Result.{Result}
 use Rattle.pb_lan.specs.Events.{names_something, is_idle, is_at_limit, is_hand_empty, is_ring_full, is_all_fetched, is_feed_idle, is_deliver_idle, sent_by, fetched_by, customer_there}
 use Rattle.pb_lan.specs.Numbering.{numbered}
-use Rattle.pb_lan.specs.PortLists.{polled, fed, delivered}
+use Rattle.pb_lan.specs.PortLists.{fed, delivered}
 use Rattle.pb_lan.specs.Ports.{Port, port_at, is_used, is_provider}
 use Rattle.pb_lan.specs.Ports.Port.{Customer}
 use Rattle.pb_lan.specs.Queues.{waiting}
@@ -24,7 +24,7 @@ use Rattle.pb_lan.specs.Plans.{IsSoundCustomer}
 use Rattle.pb_lan.proofs.Numbers.{numbered-exists, numbered-All}
 use Rattle.pb_link.specs.Hands.{PlaceView}
 use Rattle.pb_relay.specs.Standing.{BridgeView}
-use Rattle.pb_net.specs.Answers.{NetView, IsDue}
+use Rattle.pb_net.specs.Answers.{NetView}
 use Rattle.pb_net.specs.Dues.{IsSifted, IsDueOr, IsOfLinks}
 use Rattle.pb_net.specs.Nets.{IsPlain, IsKept, ArePlaced, IsTable, HasNumbers, record_of, items_of}
 use Rattle.pb_net.specs.declared.fault.NetFault.{NetFault}

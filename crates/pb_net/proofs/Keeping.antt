@@ -1,11 +1,11 @@
 -- A network's lists and meeting places, with one step more.
-use Rattle.std.proofs.Common.{◌≡◌, ℕ, zero, suc, ◌+◌, ◌-◌, ◌<◌, ◌≤◌, ◌⊎◌, inl, inr, Bool, true, false, List, [], ◌∷◌, ◌++◌, Some, None, map, length, refl, sym, ap, subst, ◌∙◌, arith, append-nil, append_assoc, length-append, length-set}
+use Rattle.std.proofs.Common.{◌≡◌, ℕ, zero, suc, ◌<◌, ◌⊎◌, inl, inr, List, [], ◌∷◌, ◌++◌, Some, length, refl, sym, ap, subst, ◌∙◌, arith, length-set}
 use Rattle.std.proofs.Math.ListN.{set}
 use Rattle.pb_lan.specs.BridgeLists.{IsLawfulBridge}
-use Rattle.pb_lan.specs.Events.{with_step, one_more}
+use Rattle.pb_lan.specs.Events.{with_step}
 use Rattle.pb_lan.specs.Numbering.{numbered}
-use Rattle.pb_lan.specs.PortLists.{polled, fed, delivered, polled_by, fed_by, IsLawfulPort}
-use Rattle.pb_lan.specs.Records.{steps_of, received, transmitted, received_by, transmitted_by}
+use Rattle.pb_lan.specs.PortLists.{fed, delivered, IsLawfulPort}
+use Rattle.pb_lan.specs.Records.{steps_of, received, transmitted}
 use Rattle.pb_lan.specs.Rules.{silent}
 use Rattle.pb_lan.specs.declared.plan.Plan.{Plan}
 use Rattle.pb_lan.specs.declared.plan.CustomerPlan.{CustomerPlan}

@@ -1,13 +1,12 @@
 -- A network after a step of a customer port.
-use Rattle.std.proofs.Common.{◌≡◌, ℕ, zero, suc, ◌+◌, ◌<◌, ◌⊎◌, inl, inr, true, false, List, [], ◌∷◌, ◌++◌, Some, None, map, length, slice_get, refl, sym, ap, subst, ◌∙◌, arith, append-nil, append_assoc, length-set}
+use Rattle.std.proofs.Common.{◌≡◌, ℕ, suc, ◌+◌, inl, inr, false, List, [], ◌∷◌, ◌++◌, Some, map, length, slice_get, refl, sym, ap, subst, ◌∙◌, arith, append-nil, append_assoc, length-set}
 use Rattle.std.proofs.Math.ListN.{set}
 use Rattle.std.proofs.lemmas.List.{map-append}
 use Rattle.std.proofs.lemmas.Option.{slice_get_within}
 use Rattle.pb_frame.proofs.Lists.{Some-injective}
-use Rattle.pb_lan.specs.Events.{with_step, HasDone, IsStepOf}
-use Rattle.pb_lan.specs.PortLists.{polled, fed, delivered, polled_by, fed_by, delivered_by, all_delivered, IsLawfulPort}
+use Rattle.pb_lan.specs.Events.{with_step}
+use Rattle.pb_lan.specs.PortLists.{fed, delivered, fed_by, delivered_by, all_delivered, IsLawfulPort}
 use Rattle.pb_lan.specs.Records.{steps_of}
-use Rattle.pb_lan.specs.declared.event.Event.TheVariants.{Poll as Polls, Feed as Feeds, Deliver as Delivers}
 use Rattle.pb_lan.specs.declared.plan.Plan.{Plan}
 use Rattle.pb_lan.specs.declared.record.Record.{Record}
 use Rattle.pb_lan.specs.declared.step.Item.{Item}

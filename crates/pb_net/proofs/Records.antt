@@ -1,10 +1,8 @@
 -- What a network keeps makes its record lawful, and what it answers makes a run.
-use Rattle.std.proofs.Common.{◌≡◌, ℕ, zero, suc, ◌+◌, ◌-◌, ◌*◌, ◌<◌, ◌≤◌, Bool, true, false, ◌==◌, List, [], ◌∷◌, ◌++◌, Some, None, Ok, Err, is_some, map, length, take, slice_get, refl, sym, ap, subst, ◌∙◌, arith, ne_eqb}
+use Rattle.std.proofs.Common.{◌≡◌, ℕ, zero, suc, ◌-◌, ◌<◌, ◌≤◌, true, List, [], ◌∷◌, ◌++◌, Some, None, Ok, Err, is_some, map, length, take, slice_get, refl, sym, ap, subst, ◌∙◌, arith, ne_eqb}
 use Rattle.std.proofs.lemmas.Bool.{eq-eqb}
-use Rattle.std.specs.declared.option.Option.{Option}
 use Rattle.std.specs.declared.result.Result.{Result}
 use Rattle.std.proofs.lemmas.Option.{slice_get_within}
-use Rattle.pb_lan.specs.Events.{is_at_limit}
 use Rattle.pb_lan.specs.Numbering.{numbered}
 use Rattle.pb_lan.specs.Records.{IsLawfulRecord, steps_of}
 use Rattle.pb_lan.specs.Rules.{silent}
@@ -22,7 +20,7 @@ use Rattle.pb_relay.specs.declared.fault.BridgeFault.{BridgeFault}
 use Rattle.pb_relay.specs.declared.fault.BridgeFault.TheVariants.{StepLimit as bridge_limit, Memory as bridge_memory}
 use Rattle.pb_net.specs.Answers.{NetView, IsDue, IsAnswer, HaveRun, HasStopped}
 use Rattle.pb_net.specs.Faults.{fault_of}
-use Rattle.pb_net.specs.Nets.{IsPlain, IsKept, ArePlaced, record_of, items_of}
+use Rattle.pb_net.specs.Nets.{IsPlain, IsKept, ArePlaced, items_of}
 use Rattle.pb_net.specs.declared.did.Did.{Did}
 use Rattle.pb_net.specs.declared.fault.NetFault.{NetFault}
 use Rattle.pb_net.specs.declared.fault.NetFault.TheVariants.{StepLimit, Memory, NoSuch}

@@ -1,10 +1,10 @@
 -- Who stands at a bridge's port, in a plan without links.
-use Rattle.std.proofs.Common.{◌≡◌, ℕ, zero, suc, ◌+◌, ◌<◌, ◌≤◌, ◌⊎◌, inl, inr, Bool, true, false, ◌==◌, ◌&&◌, if◌then◌else◌, List, [], ◌∷◌, Some, None, length, slice_get, refl, sym, ap, subst, ◌∙◌, arith, eqb-true}
+use Rattle.std.proofs.Common.{◌≡◌, ℕ, suc, ◌+◌, ◌⊎◌, inl, inr, Bool, true, false, if◌then◌else◌, List, [], ◌∷◌, Some, None, slice_get, refl, ap, ◌∙◌, arith, eqb-true}
 use Rattle.pb_frame.specs.Lists.{first}
 use Rattle.pb_frame.proofs.Lists.{and-left, and-right}
 use Rattle.pb_lan.specs.Events.{number_of, customer_there}
 use Rattle.pb_lan.specs.Numbering.{numbered}
-use Rattle.pb_lan.specs.Ports.{Port, port_at, all_ends, ends_of, is_customer_at, is_end_at, customer_or_else, provider_or_unused}
+use Rattle.pb_lan.specs.Ports.{port_at, all_ends, ends_of, is_customer_at, is_end_at, customer_or_else, provider_or_unused}
 use Rattle.pb_lan.specs.Ports.Port.{Customer, Unused}
 use Rattle.pb_lan.specs.declared.plan.Plan.{Plan}
 use Rattle.pb_lan.specs.declared.plan.LinkPlan.{LinkPlan}

@@ -1,5 +1,5 @@
 -- What a network answers to events.
-use Rattle.std.specs.Prelude.{◌≡◌, ℕ, ◌<◌, ◌⊎◌, Bool, true, false, List, [], ◌∷◌, Some, Ok, Err, take, length, slice_get}
+use Rattle.std.specs.Prelude.{◌≡◌, ℕ, true, false, List, [], ◌∷◌, Some, Ok, Err, take, slice_get}
 use Rattle.std.specs.declared.result.Result.{Result}
 use Rattle.pb_lan.specs.Events.{place_of, names_something, is_idle, is_at_limit, HasDone}
 use Rattle.pb_lan.specs.declared.event.Event.{Event}

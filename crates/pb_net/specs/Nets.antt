@@ -1,6 +1,5 @@
 -- What a network keeps of its steps.
-use Rattle.std.specs.Prelude.{◌≡◌, ℕ, ◌+◌, ◌-◌, ◌*◌, ◌<◌, ◌≤◌, Bool, true, false, List, [], ◌∷◌, ◌++◌, Some, map, length, unwrap_or, slice_get, slice_index}
-use Rattle.std.specs.declared.option.Option.{Option}
+use Rattle.std.specs.Prelude.{◌≡◌, ℕ, ◌+◌, ◌*◌, ◌<◌, List, [], ◌++◌, Some, map, length, unwrap_or, slice_get, slice_index}
 use Rattle.pb_lan.specs.BridgeLists.{IsLawfulBridge}
 use Rattle.pb_lan.specs.Events.{customer_there}
 use Rattle.pb_lan.specs.Numbering.{numbered}
@@ -13,7 +12,6 @@ use Rattle.pb_lan.specs.declared.plan.CustomerPlan.{CustomerPlan}
 use Rattle.pb_lan.specs.declared.plan.Spanning.TheVariants.{Fixed}
 use Rattle.pb_lan.specs.declared.record.Record.{Record}
 use Rattle.pb_lan.specs.declared.step.Item.{Item}
-use Rattle.pb_lan.specs.declared.step.Step.{Step}
 use Rattle.pb_link.specs.Hands.{PlaceView}
 use Rattle.pb_relay.specs.Standing.{BridgeView}
 

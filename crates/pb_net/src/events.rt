@@ -203,9 +203,9 @@ impl Net {
             Event::Receive { bridge, port } => self.receive(*bridge, *port),
             Event::Transmit { bridge, port } => self.transmit(*bridge, *port),
             Event::Tick { bridge } => self.tick(*bridge),
-            Event::Admin { .. } | Event::Take { .. } | Event::Put { .. } => Err(self.unlinked(
-                event,
-            )),
+            Event::Admin { .. } | Event::Take { .. } | Event::Put { .. } => {
+                Err(self.unlinked(event))
+            }
         }
     }
 }

@@ -20,3 +20,6 @@ pub use fault::NetFault;
 pub use net::Net;
 pub use pb_frame::Memory;
 pub use pb_lan::Event;
+
+#[cfg(test)]
+mod tests;

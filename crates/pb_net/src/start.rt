@@ -93,7 +93,8 @@ fn empty_lists(alloc: Global, plan: &Plan) -> Result<Lists, Memory>
 }
 
 impl Net {
-    /// The network of a plan, in which no place has taken a step. It keeps the plan.
+    /// The network of a plan (802.1Q clause 15), in which no place has taken a step. It keeps the
+    /// plan. `Memory` is answered where memory ran out, and nothing else is refused.
     ///
     /// For now the plan has no links, and its states are fixed.
     pub fn new(alloc: Global, plan: Plan) -> Result<Net, Memory>

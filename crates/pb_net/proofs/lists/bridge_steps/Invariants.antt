@@ -1,4 +1,4 @@
-use Rattle.std.proofs.Common.{◌≡◌, ◌+◌, ◌≤◌, length, map, vec_capacity}
+use Rattle.std.proofs.Common.{◌≡◌, ◌≤◌, length, map, vec_capacity}
 use Rattle.pb_net.proofs.lists.bridge_steps.Given as goal
 
 abbrev pub invariant-loop-bridge : goal.invariant-loop-bridge

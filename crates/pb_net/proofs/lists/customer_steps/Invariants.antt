@@ -1,4 +1,4 @@
-use Rattle.std.proofs.Common.{◌≡◌, ◌+◌, ◌≤◌, length, map, vec_capacity}
+use Rattle.std.proofs.Common.{◌≡◌, ◌≤◌, length, map, vec_capacity}
 use Rattle.pb_net.proofs.lists.customer_steps.Given as goal
 
 abbrev pub invariant-loop-customer : goal.invariant-loop-customer

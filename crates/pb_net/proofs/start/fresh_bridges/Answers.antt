@@ -1,4 +1,4 @@
-use Rattle.std.proofs.Common.{◌≡◌, ◌+◌, ◌∙◌, ap, arith, ℕ}
+use Rattle.std.proofs.Common.{◌≡◌, ◌+◌}
 use Rattle.pb_net.specs.Starts.{fresh_bridge}
 use Rattle.pb_net.proofs.StartLemmas.{fresh_bridges-more}
 use Rattle.pb_net.proofs.start.fresh_bridges.Goals as goal

@@ -1,4 +1,4 @@
-use Rattle.std.proofs.Common.{rules, ◌≡◌, ◌<◌, ◌+◌, ◌^◌, ◌++◌, ◌∷◌, [], None, Some, refl, sym, arith, length, subst, true, ap, ℕ}
+use Rattle.std.proofs.Common.{rules, ◌≡◌, ◌<◌, ◌+◌, ◌^◌, None, Some, refl, sym, arith, length, subst, true, ap, ℕ}
 use Rattle.std.specs.declared.option.Option.{Option}
 use Rattle.pb_lan.specs.Events.{is_hand_empty}
 use Rattle.pb_link.specs.Hands.{PlaceView, IsPortKept}

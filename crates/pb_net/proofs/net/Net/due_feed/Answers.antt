@@ -1,5 +1,4 @@
-use Rattle.std.proofs.Common.{◌≡◌, ◌<◌, ◌≤◌, ℕ, suc, ◌+◌, ◌||◌, not, nat_le, [], Some, List, length, slice_get, map, sym, ap, subst, Bool, ◌∙◌, arith}
-use Rattle.pb_lan.specs.Numbering.{numbered}
+use Rattle.std.proofs.Common.{◌≡◌, ◌<◌, ℕ, suc, ◌||◌, nat_le, length, map, sym, ap, subst, Bool, ◌∙◌, arith}
 use Rattle.pb_lan.specs.declared.event.Event.TheVariants.{Feed}
 use Rattle.pb_net.specs.Answers.{NetView}
 use Rattle.pb_net.specs.Dues.{IsDueOr}

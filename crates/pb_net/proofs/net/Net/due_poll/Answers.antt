@@ -1,10 +1,8 @@
-use Rattle.std.proofs.Common.{◌≡◌, ◌<◌, ◌≤◌, ℕ, suc, ◌+◌, ◌||◌, not, nat_le, [], Some, List, length, slice_get, map, sym, ap, subst, ◌∙◌, arith}
-use Rattle.pb_lan.specs.Numbering.{numbered}
+use Rattle.std.proofs.Common.{◌≡◌, ◌<◌, ℕ, suc, not, [], length, sym, ap, subst, ◌∙◌, arith}
 use Rattle.pb_lan.specs.declared.event.Event.TheVariants.{Poll}
 use Rattle.pb_net.specs.Answers.{NetView}
 use Rattle.pb_net.specs.Dues.{IsDueOr}
 use Rattle.pb_net.proofs.DueLemmas.{idle_poll_is, named_customer, limit_customer, sifted, net_of}
-use Rattle.pb_net.proofs.Done.{box_at, items_in}
 use Rattle.pb_net.proofs.OneMore.{here_is}
 use Rattle.pb_net.proofs.net.Net.due_poll.Goals as goal
 

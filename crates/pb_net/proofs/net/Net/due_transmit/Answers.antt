@@ -1,10 +1,9 @@
-use Rattle.std.proofs.Common.{◌≡◌, ◌<◌, ◌≤◌, ℕ, suc, ◌+◌, ◌||◌, ◌==◌, Bool, true, not, nat_le, [], Some, Err, List, length, slice_get, map, sym, ap, subst, ◌∙◌, arith, refl, deque_len}
+use Rattle.std.proofs.Common.{◌≡◌, ◌<◌, ℕ, suc, ◌||◌, ◌==◌, Bool, true, nat_le, length, map, sym, ap, subst, ◌∙◌, arith}
 use Rattle.pb_lan.specs.Events.{customer_there, is_idle}
 use Rattle.pb_lan.specs.Ports.{is_used, port_at}
 use Rattle.pb_lan.specs.Queues.{waiting}
 use Rattle.pb_lan.specs.Records.{steps_of}
 use Rattle.pb_lan.specs.declared.event.Event.TheVariants.{Transmit}
-use Rattle.pb_lan.specs.declared.plan.Plan.{Plan}
 use Rattle.pb_relay.specs.Standing.{BridgeView}
 use Rattle.pb_net.specs.Answers.{NetView}
 use Rattle.pb_net.specs.Dues.{IsDueOr, IsSpot}

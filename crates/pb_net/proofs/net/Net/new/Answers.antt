@@ -1,4 +1,4 @@
-use Rattle.std.proofs.Common.{◌≡◌, ap, refl, length, subst, ℕ}
+use Rattle.std.proofs.Common.{ap, refl, subst, ℕ}
 use Rattle.pb_lan.specs.declared.record.Record.{Record}
 use Rattle.pb_net.specs.Starts.{AreFreshCustomers, AreEmptyBoxes}
 use Rattle.pb_net.proofs.Done.{net_with}

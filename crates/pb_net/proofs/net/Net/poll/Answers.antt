@@ -1,7 +1,7 @@
-use Rattle.std.proofs.Common.{◌≡◌, ◌<◌, ◌≤◌, ℕ, suc, ◌+◌, ◌||◌, Bool, not, nat_le, [], Some, Err, List, length, slice_get, map, sym, ap, subst, ◌∙◌, arith, refl}
+use Rattle.std.proofs.Common.{◌≡◌, ◌<◌, ℕ, suc, length, map, sym, ap, subst, ◌∙◌, arith, refl}
 use Rattle.std.proofs.lemmas.Result.{err_from_is_err_and}
 use Rattle.std.proofs.Math.ListN.{set}
-use Rattle.pb_lan.specs.Events.{HasDone, is_hand_empty}
+use Rattle.pb_lan.specs.Events.{HasDone}
 use Rattle.pb_lan.specs.declared.event.Event.TheVariants.{Poll}
 use Rattle.pb_lan.specs.declared.record.Record.{Record}
 use Rattle.pb_link.specs.Hands.{arrival}
@@ -9,7 +9,7 @@ use Rattle.pb_net.specs.Answers.{NetView, IsDue}
 use Rattle.pb_net.specs.Nets.{record_of}
 use Rattle.pb_net.proofs.DueLemmas.{idle_poll_is, net_of}
 use Rattle.pb_net.proofs.Done.{items_in, with_frame, not_false, customer_failed, poll_done, answers_memory, net_with}
-use Rattle.pb_net.proofs.OneMore.{here_is, map-set_kept}
+use Rattle.pb_net.proofs.OneMore.{here_is}
 use Rattle.pb_net.proofs.net.Net.poll.Goals as goal
 
 pub poll_at-requires : goal.poll_at-requires

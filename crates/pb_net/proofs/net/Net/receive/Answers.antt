@@ -1,14 +1,13 @@
-use Rattle.std.proofs.Common.{◌≡◌, ◌<◌, ◌≤◌, ℕ, suc, ◌+◌, ◌||◌, ◌==◌, Bool, true, not, nat_le, [], Some, Err, List, length, slice_get, map, sym, ap, subst, ◌∙◌, arith, refl}
+use Rattle.std.proofs.Common.{◌≡◌, ◌<◌, ℕ, suc, Err, length, map, sym, ap, subst, ◌∙◌, arith, refl}
 use Rattle.std.proofs.Math.ListN.{set}
 use Rattle.std.proofs.lemmas.Result.{err_from_is_err_and}
-use Rattle.pb_lan.specs.Events.{customer_there, is_idle, HasDone}
-use Rattle.pb_lan.specs.Queues.{waiting}
+use Rattle.pb_lan.specs.Events.{customer_there, HasDone}
 use Rattle.pb_lan.specs.declared.event.Event.TheVariants.{Receive}
 use Rattle.pb_lan.specs.declared.record.Record.{Record}
 use Rattle.pb_net.specs.Answers.{NetView, IsDue}
 use Rattle.pb_net.specs.Dues.{IsSpot}
 use Rattle.pb_net.specs.Nets.{record_of}
-use Rattle.pb_net.proofs.DueLemmas.{idle_receive_is, net_of, stands, StandsAt, never_limit, bridge_waits}
+use Rattle.pb_net.proofs.DueLemmas.{idle_receive_is, net_of, stands, StandsAt, never_limit}
 use Rattle.pb_net.proofs.Done.{box_at, box_within, items_in, some_there, bridge_failed, receive_done, answers_fault, net_with}
 use Rattle.pb_net.proofs.OneMore.{here_is, map-set_kept}
 use Rattle.pb_net.proofs.net.Net.receive.Goals as goal

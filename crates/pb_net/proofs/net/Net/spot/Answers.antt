@@ -1,8 +1,6 @@
-use Rattle.std.proofs.Common.{◌≡◌, ℕ, suc, ◌+◌, ◌-◌, ◌<◌, ◌⊎◌, false, Some, None, IfNone, length, sym, ap, subst, ◌∙◌, arith}
-use Rattle.std.specs.declared.option.Option.{Option}
+use Rattle.std.proofs.Common.{◌≡◌, suc, ◌-◌, ◌<◌, false, length, sym, subst, ◌∙◌, arith}
 use Rattle.pb_lan.specs.Events.{customer_there}
 use Rattle.pb_lan.specs.Ports.{is_used, port_at}
-use Rattle.pb_lan.specs.declared.plan.Plan.{Plan}
 use Rattle.pb_net.specs.Answers.{NetView}
 use Rattle.pb_net.specs.Dues.{IsSpot}
 use Rattle.pb_net.proofs.DueLemmas.{out_of_range, port_out_of_range, stands_within, unnamed, table_entry}

@@ -1,14 +1,12 @@
-use Rattle.std.proofs.Common.{◌≡◌, ◌-◌, ◌<◌, ◌≤◌, Some, length, slice_get, sym, ap, subst, ◌∙◌, arith, true}
+use Rattle.std.proofs.Common.{◌≡◌, ◌-◌, ◌<◌, length, sym, ap, subst, ◌∙◌, arith, true}
 use Rattle.pb_lan.specs.Events.{steps_at, has_place}
 use Rattle.pb_lan.specs.Records.{IsLawfulRecord}
 use Rattle.pb_lan.specs.Rules.{silent}
 use Rattle.pb_net.specs.Nets.{record_of}
-use Rattle.pb_lan.specs.declared.step.Place.{Place}
 use Rattle.pb_lan.specs.declared.step.Place.TheVariants.{Bridge, Customer}
 use Rattle.pb_link.specs.Hands.{PlaceView}
 use Rattle.pb_net.specs.Answers.{NetView}
 use Rattle.pb_relay.specs.Standing.{BridgeView}
-use Rattle.pb_net.proofs.DueLemmas.{net_of}
 use Rattle.pb_net.proofs.OneMore.{here_is}
 use Rattle.pb_net.proofs.Records.{steps_at_number, known_number, kept_lawful}
 use Rattle.pb_net.proofs.net.Net.steps.Goals as goal

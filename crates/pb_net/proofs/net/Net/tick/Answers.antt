@@ -1,16 +1,15 @@
-use Rattle.std.proofs.Common.{◌≡◌, ◌<◌, ℕ, suc, ◌+◌, true, Some, Err, List, length, map, sym, ap, subst, ◌∙◌, arith, refl}
+use Rattle.std.proofs.Common.{◌≡◌, ◌<◌, ℕ, suc, ◌+◌, Err, length, map, ap, subst, arith, refl}
 use Rattle.std.proofs.Math.ListN.{set}
 use Rattle.std.proofs.lemmas.Result.{err_from_is_err_and}
 use Rattle.pb_lan.specs.Choice.{now_after}
 use Rattle.pb_lan.specs.Events.{HasDone}
 use Rattle.pb_lan.specs.declared.event.Event.TheVariants.{Tick}
-use Rattle.pb_lan.specs.declared.record.Record.{Record}
 use Rattle.pb_relay.specs.Changes.{unmoved}
 use Rattle.pb_relay.specs.Standing.{BridgeView}
 use Rattle.pb_net.specs.Answers.{NetView, IsDue, IsAnswer}
 use Rattle.pb_net.specs.Nets.{record_of}
 use Rattle.pb_net.proofs.DueLemmas.{net_of}
-use Rattle.pb_net.proofs.Done.{items_in, bridge_failed, tick_done, net_with}
+use Rattle.pb_net.proofs.Done.{items_in, bridge_failed, tick_done}
 use Rattle.pb_net.proofs.OneMore.{here_is}
 use Rattle.pb_net.proofs.Records.{tick_due, tick_refused}
 use Rattle.pb_net.proofs.net.Net.tick.Goals as goal

@@ -1,7 +1,7 @@
-use Rattle.std.proofs.Common.{◌≡◌, ◌<◌, ◌≤◌, ℕ, suc, ◌+◌, ◌||◌, ◌==◌, Bool, true, not, nat_le, [], Some, Err, List, length, slice_get, map, sym, ap, subst, ◌∙◌, arith, refl}
+use Rattle.std.proofs.Common.{◌≡◌, ◌<◌, ℕ, suc, Err, length, map, sym, ap, subst, ◌∙◌, arith, refl}
 use Rattle.std.proofs.Math.ListN.{set}
 use Rattle.std.proofs.lemmas.Result.{err_from_is_err_and}
-use Rattle.pb_lan.specs.Events.{customer_there, is_idle, HasDone}
+use Rattle.pb_lan.specs.Events.{customer_there, HasDone}
 use Rattle.pb_lan.specs.Queues.{waiting}
 use Rattle.pb_lan.specs.declared.event.Event.TheVariants.{Transmit}
 use Rattle.pb_lan.specs.declared.record.Record.{Record}
