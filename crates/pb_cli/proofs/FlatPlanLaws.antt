@@ -1,12 +1,12 @@
 -- The plan of one bridge that stands alone: its customer ports, and that it is sound.
-use Rattle.std.proofs.Common.{◌≡◌, ℕ, zero, suc, ◌+◌, ◌<◌, ◌≤◌, ◌⊎◌, inl, inr, Bool, true, false, cond, List, [], ◌∷◌, ◌++◌, Some, None, slice_get, length, map, refl, sym, ap, subst, ◌∙◌, arith, ◌==◌, ◌&&◌, nat_eq}
+use Rattle.std.proofs.Common.{◌≡◌, ℕ, zero, suc, ◌+◌, ◌<◌, ◌≤◌, ◌⊎◌, inl, inr, Bool, true, false, List, [], ◌∷◌, ◌++◌, Some, slice_get, length, map, refl, sym, ap, subst, ◌∙◌, arith, ◌==◌, ◌&&◌, nat_eq}
 use Rattle.std.proofs.lemmas.List.{map-append, length_push}
 use Rattle.std.specs.List.{AllByRecursion, IsDistinct}
 use Rattle.pb_frame.specs.Admission.{same}
 use Rattle.pb_frame.specs.Lists.{first}
 use Rattle.pb_frame.proofs.Lists.{All-append, All-map, Some-injective}
 use Rattle.pb_lan.specs.Numbering.{numbered}
-use Rattle.pb_lan.specs.Plans.{IsSound, IsSoundCustomer, IsSoundBridge, HasDistinctNames, IsWithinLimits, is_same_port}
+use Rattle.pb_lan.specs.Plans.{IsSound, IsSoundCustomer, is_same_port}
 use Rattle.pb_lan.specs.Ports.{port_at, is_customer_at, customer_or_else}
 use Rattle.pb_lan.specs.Ports.Port.{Customer, Unused}
 use Rattle.pb_lan.specs.Events.{customer_there, number_of}
