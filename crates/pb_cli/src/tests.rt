@@ -1,5 +1,6 @@
 use super::*;
 use crate::print::put_answer;
+use bytes::Bytes;
 use pb_lan::{Outcome, Reason, Seq};
 use std::alloc::Global;
 use std::io;
@@ -96,6 +97,27 @@ fn ran_long(
         output.as_slice().starts_with(want.as_bytes()),
         "{front} {octets}"
     );
+    Ok(())
+}
+
+#[test]
+fn a_switch_answers_behind_what_stands_there(rt: HostRuntime) -> Result<(), Fail> {
+    let alloc = rt.alloc();
+    let mut switch = Switch::new(alloc, 3)?;
+    let mut out = String::from_str(alloc, "before\n")?;
+    let broadcast = Bytes::copy_from_slice(
+        alloc,
+        b"\xff\xff\xff\xff\xff\xff\x02\0\0\0\x01\x01\x08\0AB",
+    )?;
+    switch.handle(alloc, 2, broadcast, &mut out)?;
+    assert_eq!(rt;
+        out.as_str(),
+        "before\nout 1 ffffffffffff02000000010108004142\nout 3 ffffffffffff02000000010108004142\n"
+    );
+    let short = Bytes::copy_from_slice(alloc, b"AB")?;
+    out.clear();
+    switch.handle(alloc, 3, short, &mut out)?;
+    assert_eq!(rt; out.as_str(), "filtered 3 malformed\n");
     Ok(())
 }
 
