@@ -1,5 +1,5 @@
 -- What a customer port makes of a frame.
-use Rattle.std.specs.Prelude.{◌≡◌, ℕ, Bool, List, length, slice_index, nat_lt, Some, None, Ok, Err, unwrap_or, if◌then◌else◌}
+use Rattle.std.specs.Prelude.{◌≡◌, ℕ, List, length, slice_index, nat_lt, Some, None, unwrap_or, if◌then◌else◌}
 use Rattle.std.specs.declared.option.Option.{Option}
 use Rattle.pb_frame.specs.Admission.{is_reserved, most_octets}
 use Rattle.pb_frame.specs.Frames.{dst_of}

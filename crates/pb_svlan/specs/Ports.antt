@@ -1,7 +1,6 @@
 -- Ports in order.
 use Rattle.std.specs.Prelude.{ℕ, ◌<◌, List, [], ◌∷◌}
 use Rattle.std.specs.List.{AllByRecursion}
-use Rattle.pb_svlan.specs.declared.port.Attachment.{Attachment}
 
 -- each number is below all that follow
 abbrev pub IsAscending : List ℕ → Type 0

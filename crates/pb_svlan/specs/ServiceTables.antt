@@ -1,5 +1,5 @@
 -- The services of a bridge, and what its ports are in them.
-use Rattle.std.specs.Prelude.{◌≡◌, ℕ, zero, suc, Bool, true, false, List, [], ◌∷◌, Some, None, slice_get, insert, map, is_some, unwrap_or, nat_lt, ◌==◌, ◌&&◌, not, if◌then◌else◌}
+use Rattle.std.specs.Prelude.{ℕ, zero, suc, Bool, true, false, List, [], ◌∷◌, Some, None, slice_get, insert, map, is_some, unwrap_or, nat_lt, ◌==◌, if◌then◌else◌}
 use Rattle.std.specs.declared.option.Option.{Option}
 use Rattle.std.specs.List.{filter, list_any, list_all}
 use Rattle.std.specs.Option.{option_map}

@@ -1,4 +1,4 @@
-use Rattle.std.proofs.Common.{◌≡◌, ◌==◌, drop}
+use Rattle.std.proofs.Common.{◌≡◌, drop}
 use Rattle.std.specs.List.{list_any}
 use Rattle.pb_frame.specs.Admission.{same}
 use Rattle.pb_svlan.proofs.services.contains_name.Given as goal

@@ -1,6 +1,5 @@
 use Rattle.std.proofs.Common.{◌≡◌, ◌==◌, drop}
 use Rattle.std.specs.List.{list_any}
-use Rattle.pb_frame.specs.Admission.{same}
 use Rattle.pb_svlan.proofs.services.contains_vid.Given as goal
 
 abbrev pub invariant-loop-other : goal.invariant-loop-other

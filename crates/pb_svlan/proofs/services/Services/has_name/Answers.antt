@@ -1,4 +1,4 @@
-use Rattle.std.proofs.Common.{sym, ap, ◌∙◌}
+use Rattle.std.proofs.Common.{ap, ◌∙◌}
 use Rattle.std.specs.List.{list_any}
 use Rattle.pb_frame.specs.Admission.{same}
 use Rattle.pb_svlan.specs.ServiceTables.{has_name}

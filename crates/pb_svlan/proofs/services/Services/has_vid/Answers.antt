@@ -1,6 +1,5 @@
-use Rattle.std.proofs.Common.{sym, ap, ◌∙◌, ◌==◌}
+use Rattle.std.proofs.Common.{ap, ◌∙◌, ◌==◌}
 use Rattle.std.specs.List.{list_any}
-use Rattle.indexmap.specs.IndexMap.{keys}
 use Rattle.pb_svlan.specs.ServiceTables.{has_vid}
 use Rattle.pb_svlan.proofs.ServiceLemmas.{list_any-keys}
 use Rattle.pb_svlan.proofs.services.Services.has_vid.Goals as goal

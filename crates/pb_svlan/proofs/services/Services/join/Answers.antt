@@ -1,6 +1,6 @@
-use Rattle.std.proofs.Common.{◌≡◌, Some, false, is_some, ap, sym, ◌∙◌, refl}
+use Rattle.std.proofs.Common.{◌≡◌, Some, false, is_some, ap, sym, ◌∙◌}
 use Rattle.pb_svlan.specs.ServiceTables.{ServiceTable, is_taken, role_in, attached}
-use Rattle.pb_svlan.specs.declared.port.Role.TheVariants.{Customer, Trunk}
+use Rattle.pb_svlan.specs.declared.port.Role.TheVariants.{Customer}
 use Rattle.pb_svlan.proofs.ServiceLemmas.{ascending-attached}
 use Rattle.pb_svlan.proofs.services.Services.join.Goals as goal
 

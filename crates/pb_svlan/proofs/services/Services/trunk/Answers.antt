@@ -1,6 +1,6 @@
-use Rattle.std.proofs.Common.{◌≡◌, Some, option_copied, false, is_some, ap, sym, ◌∙◌, refl}
+use Rattle.std.proofs.Common.{◌≡◌, Some, option_copied, false, is_some, ap, sym, ◌∙◌}
 use Rattle.pb_svlan.specs.ServiceTables.{ServiceTable, is_taken, role_in, attached, carried}
-use Rattle.pb_svlan.specs.declared.port.Role.TheVariants.{Customer, Trunk}
+use Rattle.pb_svlan.specs.declared.port.Role.TheVariants.{Trunk}
 use Rattle.pb_svlan.proofs.ServiceLemmas.{ascending-attached}
 use Rattle.pb_svlan.proofs.services.Services.trunk.Goals as goal
 use Rattle.pb_svlan.proofs.services.Services.trunk.Goals.{in-None, in-Some+in_ok-vids_of-in-Some}
