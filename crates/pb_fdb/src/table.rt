@@ -2,7 +2,6 @@
 
 ghost use Rattle.std.specs.List.{filter};
 ghost use Rattle.std.specs.Prelude.{◌≡◌, ◌<◌, ◌≤◌, ◌&&◌, ◌==◌, ◌++◌, ◌∷◌, [], not, length, nat_le, OnOk, OnErr, if◌then◌else◌, vec_len, vec_capacity};
-ghost use Rattle.pb_frame.specs.Admission.{same};
 ghost use Rattle.pb_frame.specs.Frames.{is_group};
 ghost use Rattle.pb_frame.specs.Stations.{is_sighted, is_fresh, overrides};
 ghost use Rattle.pb_frame.specs.Stations.News.{Seen};

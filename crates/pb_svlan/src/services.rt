@@ -1,6 +1,6 @@
 //! Services and their members.
 
-ghost use Rattle.std.specs.Prelude.{◌≡◌, ◌≢◌, ◌+◌, ◌≤◌, ◌↔◌, ◌++◌, ◌∷◌, [], ◌==◌, true, false, length, nat_le, insert, unwrap_or, IsTrue, IsOk, IfOk, IfErr, IsSome, None, OnOk, OnErr, IsErrOf, IfSome, Some, option_copied};
+ghost use Rattle.std.specs.Prelude.{◌≡◌, ◌+◌, ◌≤◌, ◌↔◌, ◌++◌, ◌∷◌, [], ◌==◌, true, false, length, insert, unwrap_or, IsTrue, IsOk, IfOk, IfErr, IsSome, None, OnOk, OnErr, IsErrOf, Some, option_copied};
 ghost use Rattle.std.specs.List.{list_any, list_all};
 ghost use Rattle.pb_frame.specs.Admission.{same};
 ghost use Rattle.pb_svlan.specs.declared.port.Join.{Join};
