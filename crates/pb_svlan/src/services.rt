@@ -1,8 +1,8 @@
 //! Services and their members.
 
-ghost use Rattle.std.specs.Prelude.{◌≡◌, ◌+◌, ◌≤◌, ◌↔◌, ◌++◌, ◌∷◌, [], ◌==◌, true, false, length, insert, unwrap_or, IsTrue, IsOk, IfOk, IfErr, IsSome, None, OnOk, OnErr, IsErrOf, Some, option_copied};
+ghost use Rattle.std.specs.Prelude.{◌≡◌, ◌+◌, ◌≤◌, ◌↔◌, ◌++◌, ◌∷◌, [], ◌==◌, true, false, length, insert, unwrap_or, IsTrue, IsOk, IfOk, IfErr, IsSome, OnOk, OnErr, IsErrOf, Some, option_copied};
 ghost use Rattle.std.specs.List.{list_any, list_all};
-ghost use Rattle.pb_frame.specs.Admission.{same};
+ghost use Rattle.pb_frame.specs.Admission.{same, is_admitted};
 ghost use Rattle.pb_svlan.specs.declared.port.Join.{Join};
 ghost use Rattle.pb_svlan.specs.Entering.{refusal, IsEntered};
 ghost use Rattle.pb_svlan.specs.Ports.{IsAscending};
@@ -284,7 +284,7 @@ impl Services {
     pub fn enter(&self, port: u8, frame: &[u8]) -> Result<Entered, Refuse>
         requires { IsSome (vid_at self.now port) }
         ensures entered { IfOk result (IsEntered self.now port frame.now) }
-        ensures admitted { IsOk result ↔ (refusal frame.now ≡ None) }
+        ensures admitted { IsOk result ↔ (is_admitted frame.now ≡ true) }
         ensures refused { IfErr result (λ refuse. refusal frame.now ≡ Some refuse) }
     {
         if let Some(refuse) = refusal(frame) {
