@@ -1,0 +1,4 @@
+pub mod Tables
+pub mod Entries
+pub mod Rooms
+pub mod Laws

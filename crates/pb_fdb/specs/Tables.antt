@@ -1,0 +1,73 @@
+-- A learning table: the sightings that it keeps, and what it makes of one more.
+use Rattle.std.specs.Prelude.{◌≡◌, ℕ, Bool, true, false, List, [], length, nat_le, Some, None, ◌==◌, if◌then◌else◌}
+use Rattle.std.specs.declared.option.Option.{Option}
+use Rattle.std.specs.List.{filter}
+use Rattle.std.specs.Option.{option_map}
+use Rattle.pb_frame.specs.Lists.{first}
+use Rattle.pb_frame.specs.Stations.{Sighting, is_sighted, is_fresh, after}
+use Rattle.pb_frame.specs.Stations.News.{Seen, Flushed}
+use Rattle.pb_frame.specs.declared.learnt.Learnt.{Learnt}
+use Rattle.pb_frame.specs.declared.learnt.Learnt.TheVariants.{New, Kept, Moved, Full, Group, Memory}
+
+-- the most stations, the ageing time, the latest moment that the table was told, and the sightings that
+-- are kept, in the order of last learning
+pub record Table : Type 0 where
+  pub limit : ℕ
+  pub ageing : ℕ
+  pub clock : ℕ
+  pub sightings : List Sighting
+
+-- the table before anything was seen
+abbrev pub empty_table : ℕ → ℕ → Table
+empty_table limit ageing = record { limit = limit; ageing = ageing; clock = 0; sightings = [] }
+
+-- the sighting of these parts
+abbrev pub sighting_at : ℕ → List ℕ → ℕ → ℕ → Sighting
+sighting_at vid mac port moment = record { vid = vid; mac = mac; port = port; moment = moment }
+
+-- the sightings that aren't too old
+abbrev pub live : Table → ℕ → List Sighting
+live table now = filter (is_fresh table.ageing now) table.sightings
+
+-- the port of the station's sighting that isn't too old
+abbrev pub where_in : Table → ℕ → ℕ → List ℕ → Option ℕ
+where_in table now vid mac = option_map (λ s. s.port) (first (is_sighted vid mac) (live table now))
+
+-- as many stations are live as may be kept
+abbrev pub is_full : Table → ℕ → Bool
+is_full table now = nat_le table.limit (length (live table now))
+
+-- the table at this moment, less the sightings that are too old
+abbrev pub expired : Table → ℕ → Table
+expired table now = record table { clock = now; sightings = live table now }
+
+-- the table less the sightings at a port
+abbrev pub flushed : Table → ℕ → Table
+flushed table port = record table { sightings = after table.sightings (Flushed port) }
+
+-- the sightings that stay where one more is to come: where they are as many as may be, those that aren't too old
+abbrev pub with_room : Table → ℕ → List Sighting
+with_room table now = if nat_le table.limit (length table.sightings) then live table now else table.sightings
+
+-- the sightings once the table was told of one and answered so: a station that is learnt goes last
+abbrev pub learnt_sightings : Table → Sighting → Learnt → List Sighting
+learnt_sightings table s New = after (with_room table s.moment) (Seen s)
+learnt_sightings table s Kept = after table.sightings (Seen s)
+learnt_sightings table s Moved = after table.sightings (Seen s)
+learnt_sightings table s Full = table.sightings
+learnt_sightings table s Group = table.sightings
+learnt_sightings table s Memory = table.sightings
+
+-- and so the table
+abbrev pub learnt_table : Table → Sighting → Learnt → Table
+learnt_table table s answer = record table { clock = s.moment; sightings = learnt_sightings table s answer }
+
+-- what may be answered of a station: whether it is a group, where it was found, whether the table is
+-- full, and the port at which it is seen now
+abbrev pub IsAnswer : Bool → Option ℕ → Bool → ℕ → Learnt → Type 0
+IsAnswer group at full port New = (group ≡ false) × (at ≡ None) × (full ≡ false)
+IsAnswer group at full port Kept = (group ≡ false) × (at ≡ Some port)
+IsAnswer group at full port Moved = (group ≡ false) × ((other : ℕ) × (at ≡ Some other) × ((other == port) ≡ false))
+IsAnswer group at full port Full = (group ≡ false) × (at ≡ None) × (full ≡ true)
+IsAnswer group at full port Group = group ≡ true
+IsAnswer group at full port Memory = (group ≡ false) × (at ≡ None) × (full ≡ false)

@@ -1,0 +1,17 @@
+//! The filtering database of a bridge (IEEE 802.1Q clause 8, the learning process and ageing): where
+//! stations were seen last, by service and address.
+#![tactic(auto)]
+
+mod entries;
+mod entry;
+mod law;
+mod table;
+
+pub use entries::Entries;
+pub use entry::Entry;
+pub use law::tables_tell_what_stands;
+pub use pb_frame::Learnt;
+pub use table::Fdb;
+
+#[cfg(test)]
+mod tests;

@@ -1,0 +1,78 @@
+//! Runs with ample memory.
+
+use crate::{Entry, Fdb, Learnt};
+use pb_frame::Mac;
+
+/// The station 02-00-00-00-XX-XX of this number.
+fn station(number: u16) -> Mac {
+    Mac([2, 0, 0, 0, (number / 256) as u8, (number % 256) as u8])
+}
+
+#[test]
+fn a_full_table_keeps_the_live_ones(rt: HostRuntime) {
+    let mut table = Fdb::new(rt.alloc(), 2, 300);
+    assert_eq!(rt; table.learn(5, station(1), 1, 0), Learnt::New);
+    assert_eq!(rt; table.learn(5, station(2), 2, 0), Learnt::New);
+    assert_eq!(rt; table.learn(5, station(3), 3, 0), Learnt::Full);
+    assert_eq!(rt; table.learn(5, station(3), 3, 300), Learnt::New);
+    assert_eq!(rt; table.find(5, station(1), 300), None);
+    assert_eq!(rt;
+        table.learn(5, Mac([3, 0, 0, 0, 0, 1]), 3, 300),
+        Learnt::Group
+    );
+}
+
+#[test]
+fn stations_age_out_after_300_ticks(rt: HostRuntime) {
+    let mut table = Fdb::new(rt.alloc(), 4096, 300);
+    assert_eq!(rt; table.learn(5, station(1), 1, 0), Learnt::New);
+    assert_eq!(rt; table.find(5, station(1), 299), Some(1));
+    assert_eq!(rt; table.find(5, station(1), 300), None);
+    assert_eq!(rt; table.find(6, station(1), 299), None);
+    table.expire(300);
+    assert_eq!(rt; table.entries().count(), 0);
+    assert_eq!(rt; table.learn(5, station(1), 2, 300), Learnt::New);
+}
+
+#[test]
+fn a_station_seen_anew_goes_last(rt: HostRuntime) {
+    let mut table = Fdb::new(rt.alloc(), 4096, 300);
+    assert_eq!(rt; table.learn(5, station(1), 1, 0), Learnt::New);
+    assert_eq!(rt; table.learn(5, station(2), 2, 1), Learnt::New);
+    assert_eq!(rt; table.learn(5, station(1), 1, 2), Learnt::Kept);
+    assert_eq!(rt; table.learn(6, station(1), 1, 2), Learnt::New);
+    assert_eq!(rt; table.learn(5, station(2), 3, 3), Learnt::Moved);
+    let mut entries = table.entries();
+    let first = Entry {
+        vid: 5,
+        mac: station(1),
+        port: 1,
+        learnt: 2,
+    };
+    assert_eq!(rt; entries.next(), Some(first));
+    assert_eq!(rt; entries.next(), Some(Entry { vid: 6, ..first }));
+    let moved = Entry {
+        mac: station(2),
+        port: 3,
+        learnt: 3,
+        ..first
+    };
+    assert_eq!(rt; entries.next(), Some(moved));
+    assert_eq!(rt; entries.next(), None);
+    table.flush(1);
+    assert_eq!(rt; table.entries().count(), 1);
+    assert_eq!(rt; table.find(5, station(1), 3), None);
+    assert_eq!(rt; table.find(5, station(2), 3), Some(3));
+}
+
+#[test]
+fn the_table_holds_4096_stations(rt: HostRuntime) {
+    let mut table = Fdb::new(rt.alloc(), 4096, 10);
+    for number in 0..4096u16 {
+        assert_eq!(rt; table.learn(200, station(number), 3, 0), Learnt::New);
+    }
+    assert_eq!(rt; table.learn(200, station(4096), 3, 9), Learnt::Full);
+    assert_eq!(rt; table.learn(200, station(7), 4, 9), Learnt::Moved);
+    assert_eq!(rt; table.learn(200, station(4096), 3, 10), Learnt::New);
+    assert_eq!(rt; table.entries().count(), 2);
+}

@@ -1,0 +1,12 @@
+//! The fates of a frame.
+
+/// What becomes of a frame at a port of a provider bridge, by its destination address.
+#[derive(Clone, Copy, Debug, PartialEq, Eq)]
+pub enum Fate {
+    /// It is carried, as customer data or as any other frame.
+    Carry,
+    /// It is for the provider bridges themselves: 01-80-C2-00-00-08, the provider bridge group address.
+    Provider,
+    /// No provider bridge carries it: the address is 01-80-C2-00-00 with this last octet, which is 1 to 7, 9, 10 or 14.
+    Filter(u8),
+}

@@ -1,0 +1,12 @@
+//! What becomes of a frame at a port of a provider bridge by its destination alone: the reserved
+//! addresses 01-80-C2-00-00-00 to -0F (IEEE 802.1Q clause 8, reserved addresses of an S-VLAN component).
+#![tactic(auto)]
+
+mod kinds;
+mod ruling;
+
+pub use kinds::Fate;
+pub use ruling::fate;
+
+#[cfg(test)]
+mod tests;

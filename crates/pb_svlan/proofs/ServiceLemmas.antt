@@ -1,0 +1,111 @@
+-- Services and ports as lists.
+use Rattle.std.proofs.lemmas.Bool.{eqb-true}
+use Rattle.std.proofs.lemmas.Bool.Decides.{nat_tests}
+use Rattle.std.specs.declared.option.Option.{Option}
+use Rattle.std.specs.Option.{option_map}
+use Rattle.indexmap.specs.IndexMap.{insert_entry}
+use Rattle.pb_frame.proofs.Lists.{All-imply}
+use Rattle.pb_frame.specs.Lists.{first}
+use Rattle.pb_svlan.specs.Ports.{IsAscending}
+use Rattle.pb_svlan.specs.ServiceTables.{place_of, role_in}
+use Rattle.pb_svlan.specs.declared.port.Attachment.{Attachment}
+use Rattle.std.proofs.Common.{eq-eqb, length, is_some, ◌≡◌, ℕ, suc, ◌<◌, ◌≤◌, Bool, true, false, cond, nat_lt, ◌||◌, ◌==◌, List, [], ◌∷◌, ◌++◌, map, insert, Some, None, refl, sym, ap, ◌∙◌, arith}
+use Rattle.std.specs.List.{list_any, filter, AllByRecursion}
+use Rattle.std.specs.Map.{keys_of, values_of}
+
+-- neither of two
+or-false_left : (a b : Bool) → (a || b) ≡ false → a ≡ false
+or-false_left true b h = h
+or-false_left false b h = refl
+
+or-false_right : (a b : Bool) → (a || b) ≡ false → b ≡ false
+or-false_right true b h = cc
+or-false_right false b h = h
+
+-- a test of keys is a test of pairs
+pub list_any-keys : {K X : Type 0} (p : K → Bool) (es : List (K × X)) → list_any p (keys_of es) ≡ list_any (λ e. p e.0) es
+list_any-keys p [] = refl
+list_any-keys p (e ∷ es) = ap (λ b. p e.0 || b) (list_any-keys p es)
+
+pub list_any-values : {K X : Type 0} (p : X → Bool) (es : List (K × X)) → list_any p (values_of es) ≡ list_any (λ e. p e.1) es
+list_any-values p [] = refl
+list_any-values p (e ∷ es) = ap (λ b. p e.1 || b) (list_any-values p es)
+
+-- equality of numbers goes both ways
+pub eqb-symm : (a b : ℕ) → (a == b) ≡ (b == a)
+eqb-symm a b =
+    elim (a == b) as (λ t. (a == b) ≡ t → t ≡ (b == a)) [
+      | true ↦ λ e. sym (eq-eqb b a (sym (eqb-true a b e)))
+      | false ↦ λ e. elim (b == a) as (λ u. (b == a) ≡ u → false ≡ u) [
+        | true ↦ λ f. sym e ∙ eq-eqb a b (sym (eqb-true b a f))
+        | false ↦ λ f. refl
+      ] refl
+    ] refl
+
+-- a service with a new VID goes last
+pub insert_entry-last : {X : Type 0} (eq : ℕ → ℕ → Bool) → ((a b : ℕ) → eq a b ≡ (b == a)) → (es : List (ℕ × X)) (k : ℕ) (v : X)
+    → list_any (λ e. e.0 == k) es ≡ false → insert_entry eq es k v ≡ es ++ (k, v) ∷ []
+insert_entry-last eq same [] k v h = refl
+insert_entry-last eq same (e ∷ es) k v h =
+    ap (λ b. cond b ((e.0, v) ∷ es) (e ∷ insert_entry eq es k v)) (same k e.0 ∙ or-false_left (e.0 == k) _ h)
+    ∙ ap (λ zs. e ∷ zs) (insert_entry-last eq same es k v (or-false_right (e.0 == k) _ h))
+
+-- a port's place is one of its list's
+pub place_of-within : (port : ℕ) (ports : List Attachment) → place_of port ports ≤ length ports
+place_of-within port [] = omega arith
+place_of-within port (a ∷ others) =
+    elim (nat_lt a.port port) as (λ b. cond b (suc (place_of port others)) 0 ≤ suc (length others))
+    [ true ↦ omega (arith, place_of-within port others) | false ↦ omega arith ]
+
+-- what all ports keep, and one more, all keep where it goes
+All-placed : (P : ℕ → Type 0) (ports : List Attachment) (a : Attachment) → AllByRecursion P (map (λ a. a.port) ports) → P a.port
+    → AllByRecursion P (map (λ a. a.port) (insert ports (place_of a.port ports) a))
+All-placed P [] a all h = (h, tt)
+All-placed P (b ∷ others) a all h =
+    elim (nat_lt b.port a.port) as (λ t. AllByRecursion P (map (λ a. a.port) (insert (b ∷ others) (cond t (suc (place_of a.port others)) 0) a)))
+    [ true ↦ (all.0, All-placed P others a all.1 h) | false ↦ (h, all) ]
+
+-- ports that are ascending stay so
+pub ascending-placed : (ports : List Attachment) (a : Attachment) → IsAscending (map (λ a. a.port) ports) → role_in ports a.port ≡ None
+    → IsAscending (map (λ a. a.port) (insert ports (place_of a.port ports) a))
+ascending-placed [] a rise none = (tt, tt)
+ascending-placed (b ∷ others) a rise none =
+    let differs = unlike (b.port == a.port) none in
+    elim (nat_lt b.port a.port)
+    as (λ t. nat_lt b.port a.port ≡ t → IsAscending (map (λ a. a.port) (insert (b ∷ others) (cond t (suc (place_of a.port others)) 0) a))) [
+      | true ↦ λ e. (All-placed (λ m. b.port < m) others a rise.0 (below b.port a.port e), ascending-placed others a rise.1 differs.1)
+      | false ↦ λ e. let l = above b.port a.port e differs.0 in ((l, All-imply (λ m. b.port < m) (λ m. a.port < m) (λ m k. omega (arith, l, k)) (map (λ a. a.port) others) rise.0), rise)
+    ] refl
+  where
+    unlike : (t : Bool) → option_map (λ a. a.role) (cond t (Some b) (first (λ c. c.port == a.port) others)) ≡ None → (t ≡ false) × (role_in others a.port ≡ None)
+    unlike true h = cc
+    unlike false h = (refl, h)
+
+    below : (m n : ℕ) → nat_lt m n ≡ true → m < n
+    below m n h = grind (arith, nat_tests)
+
+    above : (m n : ℕ) → nat_lt m n ≡ false → (m == n) ≡ false → n < m
+    above m n h k = grind (arith, nat_tests)
+
+-- and so do some of them
+All-some : (P : ℕ → Type 0) (p : Attachment → Bool) (ports : List Attachment) → AllByRecursion P (map (λ a. a.port) ports) → AllByRecursion P (map (λ a. a.port) (filter p ports))
+All-some P p [] all = tt
+All-some P p (a ∷ others) all =
+    elim (p a) as (λ t. AllByRecursion P (map (λ a. a.port) (cond t (a ∷ filter p others) (filter p others))))
+    [ true ↦ (all.0, All-some P p others all.1) | false ↦ All-some P p others all.1 ]
+
+pub ascending-some : (p : Attachment → Bool) (ports : List Attachment) → IsAscending (map (λ a. a.port) ports) → IsAscending (map (λ a. a.port) (filter p ports))
+ascending-some p [] rise = tt
+ascending-some p (a ∷ others) rise =
+    elim (p a) as (λ t. IsAscending (map (λ a. a.port) (cond t (a ∷ filter p others) (filter p others))))
+    [ true ↦ (All-some (λ m. a.port < m) p others rise.0, ascending-some p others rise.1) | false ↦ ascending-some p others rise.1 ]
+
+-- nothing is there
+none_from : {X : Type 0} (o : Option X) → is_some o ≡ false → o ≡ None
+none_from None h = refl
+none_from (Some x) h = cc
+
+-- ports with one more in its place
+pub ascending-attached : (ports others : List Attachment) (a : Attachment) → IsAscending (map (λ a. a.port) ports) → is_some (role_in ports a.port) ≡ false
+    → others ≡ insert ports (place_of a.port ports) a → IsAscending (map (λ a. a.port) others)
+ascending-attached ports others a rise free h = rw h (ascending-placed ports a rise (none_from (role_in ports a.port) free))

@@ -1,0 +1,4 @@
+pub mod ServiceTables
+pub mod Entering
+pub mod Ports
+pub mod Reserving

@@ -1,0 +1,108 @@
+-- The services of a bridge, and what its ports are in them.
+use Rattle.std.specs.Prelude.{ℕ, zero, suc, Bool, true, false, List, [], ◌∷◌, Some, None, slice_get, insert, map, is_some, unwrap_or, nat_lt, ◌==◌, if◌then◌else◌}
+use Rattle.std.specs.declared.option.Option.{Option}
+use Rattle.std.specs.List.{filter, list_any, list_all}
+use Rattle.std.specs.Option.{option_map}
+use Rattle.pb_frame.specs.Admission.{same}
+use Rattle.pb_frame.specs.Lists.{first}
+use Rattle.pb_svlan.specs.declared.port.Attachment.{Attachment}
+use Rattle.pb_svlan.specs.declared.port.Role.{Role}
+use Rattle.pb_svlan.specs.declared.port.Role.TheVariants.{Customer, Trunk}
+
+-- the services, each a VID with its name, in the order of their numbers, and the ports, ascending
+pub record ServiceTable : Type 0 where
+  pub services : List (ℕ × List ℕ)
+  pub ports : List Attachment
+
+-- the service of this number: services are numbered from 1
+abbrev pub numbered : ServiceTable → ℕ → Option (ℕ × List ℕ)
+numbered table zero = None
+numbered table (suc n) = slice_get table.services n
+
+-- its VID
+abbrev pub vid_of : ServiceTable → ℕ → Option ℕ
+vid_of table number = option_map (λ s. s.0) (numbered table number)
+
+abbrev pub is_known : ServiceTable → ℕ → Bool
+is_known table number = is_some (vid_of table number)
+
+-- a service has this name, or this VID
+abbrev pub has_name : ServiceTable → List ℕ → Bool
+has_name table name = list_any (λ s. same s.1 name) table.services
+
+abbrev pub has_vid : ServiceTable → ℕ → Bool
+has_vid table vid = list_any (λ s. s.0 == vid) table.services
+
+-- what the port is: a customer port of one service, a port to other bridges, or nothing
+abbrev pub role_in : List Attachment → ℕ → Option Role
+role_in ports port = option_map (λ a. a.role) (first (λ a. a.port == port) ports)
+
+abbrev pub role_at : ServiceTable → ℕ → Option Role
+role_at table port = role_in table.ports port
+
+abbrev pub is_taken : ServiceTable → ℕ → Bool
+is_taken table port = is_some (role_at table port)
+
+-- a port to other bridges carries these services, or each one
+abbrev pub carries : ServiceTable → ℕ → Option (List ℕ) → Bool
+carries table vid None = has_vid table vid
+carries table vid (Some vids) = list_any (λ v. v == vid) vids
+
+-- a port of this kind is a member of the service with this VID
+abbrev pub is_member_as : ServiceTable → ℕ → Role → Bool
+is_member_as table vid (Customer join) = join.vid == vid
+is_member_as table vid (Trunk vids) = carries table vid vids
+
+abbrev pub is_member : ServiceTable → ℕ → ℕ → Bool
+is_member table port vid = unwrap_or (option_map (is_member_as table vid) (role_at table port)) false
+
+-- the members of the service, ascending
+abbrev pub ports_of : ServiceTable → ℕ → List ℕ
+ports_of table vid = map (λ a. a.port) (filter (λ a. is_member_as table vid a.role) table.ports)
+
+-- the priority of a customer port
+abbrev pub pcp_as : Role → Option ℕ
+pcp_as (Customer join) = Some join.pcp
+pcp_as (Trunk vids) = None
+
+abbrev pub pcp_in : Option Role → Option ℕ
+pcp_in None = None
+pcp_in (Some role) = pcp_as role
+
+abbrev pub pcp_of : ServiceTable → ℕ → Option ℕ
+pcp_of table port = pcp_in (role_at table port)
+
+-- the VID of a customer port's service
+abbrev pub vid_as : Role → Option ℕ
+vid_as (Customer join) = Some join.vid
+vid_as (Trunk vids) = None
+
+abbrev pub vid_in : Option Role → Option ℕ
+vid_in None = None
+vid_in (Some role) = vid_as role
+
+abbrev pub vid_at : ServiceTable → ℕ → Option ℕ
+vid_at table port = vid_in (role_at table port)
+
+-- the VIDs of the services of these numbers
+abbrev pub vids_of : ServiceTable → List ℕ → List ℕ
+vids_of table numbers = map (λ n. unwrap_or (vid_of table n) 0) numbers
+
+-- and those that a port to other bridges carries
+abbrev pub carried : ServiceTable → Option (List ℕ) → Option (List ℕ)
+carried table None = None
+carried table (Some numbers) = Some (vids_of table numbers)
+
+-- each number is a service's
+abbrev pub are_known : ServiceTable → Option (List ℕ) → Bool
+are_known table None = true
+are_known table (Some numbers) = list_all (is_known table) numbers
+
+-- where a port goes, so that the ports stay ascending
+abbrev pub place_of : ℕ → List Attachment → ℕ
+place_of port [] = 0
+place_of port (a ∷ others) = if nat_lt a.port port then suc (place_of port others) else 0
+
+-- the table with one port more
+abbrev pub attached : ServiceTable → ℕ → Role → ServiceTable
+attached table port role = record table { ports = insert table.ports (place_of port table.ports) (record { port = port; role = role }) }

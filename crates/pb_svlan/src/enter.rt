@@ -1,0 +1,62 @@
+//! Frames from customers.
+
+ghost use Rattle.std.specs.Prelude.{◌≡◌, ◌≤◌, length};
+ghost use Rattle.pb_frame.specs.Admission.{most_octets};
+ghost use Rattle.pb_frame.specs.Tags.{bare, has_service_type};
+ghost use Rattle.pb_svlan.specs.Entering.{refusal};
+ghost use Rattle.pb_svlan.specs.Reserving.{reserved_octet};
+
+use crate::entered::Refuse;
+use pb_frame::{Mac, has_priority_tag, has_service_type};
+use pb_reserved::{Fate, fate};
+
+/// The most octets of a frame from a customer.
+fn most_octets(frame: &[u8]) -> usize
+    ensures { result ≡ most_octets frame.now }
+{
+    if has_priority_tag(frame) { 1996 } else { 1992 }
+}
+
+/// A service tag's type stands in the frame less its priority tag.
+fn has_inner_type(frame: &[u8]) -> bool
+    ensures { result ≡ has_service_type (bare frame.now) }
+{
+    if has_priority_tag(frame) {
+        frame[16] == 0x88 && frame[17] == 0xa8
+    } else {
+        has_service_type(frame)
+    }
+}
+
+/// The last octet of a reserved destination.
+fn reserved_octet(frame: &[u8]) -> Option<u8>
+    requires { 14 ≤ length frame.now }
+    ensures { result ≡ reserved_octet frame.now }
+{
+    let mut destination = [0u8; 6];
+    destination.copy_from_slice(&frame[..6]);
+    match fate(Mac(destination)) {
+        Fate::Carry => None,
+        Fate::Provider => Some(8),
+        Fate::Filter(last) => Some(last),
+    }
+}
+
+/// Why the frame is refused, if it is.
+pub(crate) fn refusal(frame: &[u8]) -> Option<Refuse>
+    ensures { result ≡ refusal frame.now }
+{
+    if frame.len() < 14 {
+        return Some(Refuse::Short);
+    }
+    if frame.len() > most_octets(frame) {
+        return Some(Refuse::Long);
+    }
+    if let Some(last) = reserved_octet(frame) {
+        return Some(Refuse::Reserved(last));
+    }
+    if has_inner_type(frame) {
+        return Some(Refuse::STagged);
+    }
+    None
+}

@@ -1,0 +1,66 @@
+//! Why services or ports are refused.
+
+ghost use Rattle.std.specs.Prelude.{◌≡◌};
+ghost use Rattle.pb_svlan.specs.declared.fault.AddFault.{AddFault};
+ghost use Rattle.pb_svlan.specs.declared.fault.AddFault.TheVariants.{Memory as add_memory};
+ghost use Rattle.pb_svlan.specs.declared.fault.JoinFault.{JoinFault};
+ghost use Rattle.pb_svlan.specs.declared.fault.JoinFault.TheVariants.{Memory as join_memory};
+
+use std::alloc::{AllocError, AllocFailed};
+use thiserror::Error;
+
+/// Why a service was not added: the first that fits.
+#[derive(Clone, Copy, Debug, PartialEq, Eq, Error)]
+pub enum AddFault {
+    #[error("another service has the name")]
+    TakenName,
+    #[error("another service has the VID")]
+    TakenVid,
+    #[error("there are 64 services")]
+    TooMany,
+    #[error("out of memory")]
+    Memory,
+}
+
+impl From<AllocError> for AddFault {
+    ghost from_gives = { λ _ e. e ≡ add_memory };
+
+    fn from(_e: AllocError) -> AddFault {
+        AddFault::Memory
+    }
+}
+
+impl<T: Drop> From<AllocFailed<T>> for AddFault {
+    ghost from_gives = { λ _ e. e ≡ add_memory };
+
+    fn from(_e: AllocFailed<T>) -> AddFault {
+        AddFault::Memory
+    }
+}
+
+/// Why a port was not made a member: the first that fits.
+#[derive(Clone, Copy, Debug, PartialEq, Eq, Error)]
+pub enum JoinFault {
+    #[error("no service has the number")]
+    NoService,
+    #[error("the port is something already")]
+    Taken,
+    #[error("out of memory")]
+    Memory,
+}
+
+impl From<AllocError> for JoinFault {
+    ghost from_gives = { λ _ e. e ≡ join_memory };
+
+    fn from(_e: AllocError) -> JoinFault {
+        JoinFault::Memory
+    }
+}
+
+impl<T: Drop> From<AllocFailed<T>> for JoinFault {
+    ghost from_gives = { λ _ e. e ≡ join_memory };
+
+    fn from(_e: AllocFailed<T>) -> JoinFault {
+        JoinFault::Memory
+    }
+}

@@ -1,0 +1,19 @@
+//! The services of a provider bridge: their VIDs, the ports that are their members, and the frames that
+//! a customer port lets in (IEEE 802.1Q clause 15, port-based service interfaces; IEEE 802.1ad).
+#![tactic(auto)]
+
+mod enter;
+mod entered;
+mod fault;
+mod port;
+mod services;
+mod vid;
+
+pub use entered::{Entered, Refuse};
+pub use fault::{AddFault, JoinFault};
+pub use port::{Attachment, Join, Role};
+pub use services::Services;
+pub use vid::Vid;
+
+#[cfg(test)]
+mod tests;

@@ -1,0 +1,371 @@
+//! Services and their members.
+
+ghost use Rattle.std.specs.Prelude.{◌≡◌, ◌+◌, ◌≤◌, ◌↔◌, ◌++◌, ◌∷◌, [], ◌==◌, true, false, length, insert, unwrap_or, IsTrue, IsOk, IfOk, IfErr, IsSome, OnOk, OnErr, IsErrOf, Some, option_copied};
+ghost use Rattle.std.specs.List.{list_any, list_all};
+ghost use Rattle.pb_frame.specs.Admission.{same, is_admitted};
+ghost use Rattle.pb_svlan.specs.declared.port.Join.{Join};
+ghost use Rattle.pb_svlan.specs.Entering.{refusal, IsEntered};
+ghost use Rattle.pb_svlan.specs.Ports.{IsAscending};
+ghost use Rattle.pb_svlan.specs.ServiceTables.{vid_of, is_known, are_known, has_name, has_vid, role_in, is_taken, is_member, is_member_as, attached, carried, vids_of, ports_of, pcp_of, vid_at, place_of};
+ghost use Rattle.pb_svlan.specs.declared.port.Role.TheVariants.{Customer, Trunk};
+
+use crate::enter::refusal;
+use crate::entered::{Entered, Refuse};
+use crate::fault::{AddFault, JoinFault};
+use crate::port::{Attachment, Join, Role};
+use crate::vid::Vid;
+use indexmap::IndexMap;
+use pb_frame::{Memory, Seq, Text, has_priority_tag, priority_of};
+use std::alloc::{AllocError, Global};
+use std::marker::Model;
+
+/// The most services.
+const MOST: usize = 64;
+
+/// The services of a bridge, numbered from 1 in the order in which they were added, and the ports that
+/// are their members (IEEE 802.1Q clause 8.8).
+#[derive(Drop)]
+pub struct Services {
+    services: IndexMap<Vid, Text>,
+    ports: Vec<Attachment>,
+}
+
+impl Model for Services {
+    ghost use Rattle.std.specs.Prelude.{◌≤◌, length, map};
+    ghost use Rattle.pb_svlan.specs.Ports.{IsAscending};
+    ghost use Rattle.pb_svlan.specs.ServiceTables.{ServiceTable};
+
+    ghost Value = { ServiceTable };
+
+    ghost view = { λ s. record { services = s.services.entries; ports = s.ports.items } };
+
+    ghost invariant = { λ s. (length s.services.entries ≤ 64) × IsAscending (map (λ a. a.port) s.ports.items) };
+}
+
+impl Services {
+    /// No services and no ports. Takes no memory.
+    pub fn new(alloc: Global) -> Services
+        ensures services { result.services ≡ [] }
+        ensures ports { result.ports ≡ [] }
+    {
+        Services {
+            services: IndexMap::new(alloc),
+            ports: Vec::new(alloc),
+        }
+    }
+
+    /// The number of services.
+    pub fn len(&self) -> usize
+        ensures { result ≡ length self.now.services }
+    {
+        self.services.len()
+    }
+
+    /// There is no service.
+    pub fn is_empty(&self) -> bool
+        ensures { IsTrue result ↔ (self.now.services ≡ []) }
+    {
+        self.services.is_empty()
+    }
+
+    /// A service has the name.
+    fn has_name(&self, name: &str) -> bool
+        ensures { result ≡ has_name self.now name.now }
+    {
+        contains_name(self.services.values().as_slice(), name)
+    }
+
+    /// A service has the VID.
+    fn has_vid(&self, vid: u16) -> bool
+        ensures { result ≡ has_vid self.now vid }
+    {
+        contains_vid(self.services.keys().as_slice(), vid)
+    }
+
+    /// Adds a service (IEEE 802.1Q clause 9.6) and answers its number.
+    ///
+    /// `TakenName` is answered where a service has the name, else `TakenVid` where one has the VID, else
+    /// `TooMany` where there are 64, else `Memory` where memory ran out. All leave the services as they were.
+    pub fn add(&mut self, alloc: Global, name: &str, vid: Vid) -> Result<u8, AddFault>
+        ensures ok { OnOk result (self.new ≡ record self.old { services = self.old.services ++ (vid, name.now) ∷ [] }) }
+        ensures number { IfOk result (λ n. n ≡ length self.old.services + 1) }
+        ensures err { OnErr result (self.new ≡ self.old) }
+        ensures taken_name { IsErrOf result AddFault.TakenName ↔ (has_name self.old name.now ≡ true) }
+        ensures taken_vid { IsErrOf result AddFault.TakenVid ↔ ((has_name self.old name.now ≡ false) × (has_vid self.old vid ≡ true)) }
+        ensures too_many { IsErrOf result AddFault.TooMany ↔ ((has_name self.old name.now ≡ false) × (has_vid self.old vid ≡ false) × (64 ≤ length self.old.services)) }
+    {
+        if self.has_name(name) {
+            return Err(AddFault::TakenName);
+        }
+        if self.has_vid(vid.number()) {
+            return Err(AddFault::TakenVid);
+        }
+        let number = self.services.len();
+        if number >= MOST {
+            return Err(AddFault::TooMany);
+        }
+        let text = Text::from_string(String::from_str(alloc, name)?);
+        self.services.insert(vid, text)?;
+        Ok(number as u8 + 1)
+    }
+
+    /// The VID of the service of this number.
+    fn vid_of(&self, number: u8) -> Option<Vid>
+        ensures { result ≡ vid_of self.now number }
+    {
+        if number == 0 {
+            return None;
+        }
+        let (vid, _) = self.services.get_index(number as usize - 1)?;
+        Some(*vid)
+    }
+
+    /// Each of the numbers is that of a service.
+    fn are_known(&self, services: Option<&[u8]>) -> bool
+        ensures { result ≡ are_known self.now (option_copied services.entry) }
+    {
+        if let Some(numbers) = services {
+            for number in numbers {
+                if self.vid_of(*number).is_none() {
+                    return false;
+                }
+            }
+        }
+        true
+    }
+
+    /// The VIDs of the services of these numbers.
+    fn vids_of(&self, alloc: Global, numbers: &[u8]) -> Result<Seq<Vid>, AllocError>
+        requires { list_all (is_known self.now) numbers.now ≡ true }
+        ensures { IfOk result (λ vids. vids ≡ vids_of self.now numbers.now) }
+    {
+        let mut vids = Vec::with_capacity(alloc, numbers.len())?;
+        for number in numbers {
+            if let Some(vid) = self.vid_of(*number) {
+                vids.push(vid)?;
+            }
+        }
+        Ok(Seq::from_vec(vids))
+    }
+
+    /// The port is something already.
+    pub fn is_taken(&self, port: u8) -> bool
+        ensures { result ≡ is_taken self.now port }
+    {
+        role_at(&self.ports, port).is_some()
+    }
+
+    /// Makes a port a customer port of the service of this number, where frames without a priority tag have
+    /// the priority (IEEE 802.1Q clause 6.9).
+    ///
+    /// `NoService` is answered where no service has the number, else `Taken` where the port is something
+    /// already, else `Memory` where memory ran out. All leave the ports as they were.
+    pub fn join(&mut self, port: u8, service: u8, pcp: u8) -> Result<(), JoinFault>
+        requires { pcp ≤ 7 }
+        ensures ok { OnOk result ((join : Join) × (vid_of self.old service ≡ Some join.vid) × (join.pcp ≡ pcp) × (self.new ≡ attached self.old port (Customer join))) }
+        ensures err { OnErr result (self.new ≡ self.old) }
+        ensures no_service { IsErrOf result JoinFault.NoService ↔ (is_known self.old service ≡ false) }
+        ensures taken { IsErrOf result JoinFault.Taken ↔ ((is_known self.old service ≡ true) × (is_taken self.old port ≡ true)) }
+    {
+        let Some(vid) = self.vid_of(service) else {
+            return Err(JoinFault::NoService);
+        };
+        if self.is_taken(port) {
+            return Err(JoinFault::Taken);
+        }
+        let join = customer(vid, pcp);
+        let role = Role::Customer(join);
+        attach(&mut self.ports, Attachment { port, role })?;
+        Ok(())
+    }
+
+    /// Makes a port one to other bridges, which carries the services of these numbers; None is every
+    /// service, those added later too.
+    ///
+    /// `NoService` is answered where no service has one of the numbers, else `Taken` where the port is
+    /// something already, else `Memory` where memory ran out. All leave the ports as they were.
+    pub fn trunk(
+        &mut self,
+        alloc: Global,
+        port: u8,
+        services: Option<&[u8]>,
+    ) -> Result<(), JoinFault>
+        ensures ok { OnOk result (self.new ≡ attached self.old port (Trunk (carried self.old (option_copied services.entry)))) }
+        ensures err { OnErr result (self.new ≡ self.old) }
+        ensures no_service { IsErrOf result JoinFault.NoService ↔ (are_known self.old (option_copied services.entry) ≡ false) }
+        ensures taken { IsErrOf result JoinFault.Taken ↔ ((are_known self.old (option_copied services.entry) ≡ true) × (is_taken self.old port ≡ true)) }
+    {
+        if !self.are_known(services) {
+            return Err(JoinFault::NoService);
+        }
+        if self.is_taken(port) {
+            return Err(JoinFault::Taken);
+        }
+        let vids = match services {
+            None => None,
+            Some(numbers) => Some(self.vids_of(alloc, numbers)?),
+        };
+        let role = Role::Trunk(vids);
+        attach(&mut self.ports, Attachment { port, role })?;
+        Ok(())
+    }
+
+    /// The ports that are members of the service with this VID, ascending.
+    pub fn ports_of(&self, alloc: Global, vid: u16) -> Result<Vec<u8>, Memory>
+        ensures ports { IfOk result (λ ports. ports.items ≡ ports_of self.now vid) }
+        ensures ascending { IfOk result (λ ports. IsAscending ports.items) }
+    {
+        let _ = &self.ports;
+        let members = self.members_of(alloc, vid)?;
+        Ok(members)
+    }
+
+    /// The ports that are members of the service with this VID.
+    fn members_of(&self, alloc: Global, vid: u16) -> Result<Vec<u8>, Memory>
+        ensures { IfOk result (λ ports. ports.items ≡ ports_of self.now vid) }
+    {
+        let mut members = Vec::new(alloc);
+        for attachment in &self.ports {
+            if self.is_member_as(vid, &attachment.role) {
+                members.push(attachment.port)?;
+            }
+        }
+        Ok(members)
+    }
+
+    /// The port is a member of the service with this VID. A port that is nothing is a member of none.
+    pub fn is_member(&self, port: u8, vid: u16) -> bool
+        ensures { result ≡ is_member self.now port vid }
+    {
+        match role_at(&self.ports, port) {
+            None => false,
+            Some(role) => self.is_member_as(vid, role),
+        }
+    }
+
+    /// A port of this kind is a member of the service with this VID.
+    fn is_member_as(&self, vid: u16, role: &Role) -> bool
+        ensures { result ≡ is_member_as self.now vid role.now }
+    {
+        match role {
+            Role::Customer(join) => join.vid.number() == vid,
+            Role::Trunk(None) => self.has_vid(vid),
+            Role::Trunk(Some(vids)) => contains_vid(vids.as_slice(), vid),
+        }
+    }
+
+    /// The priority of frames that come in at a customer port without a priority tag, 0 to 7. None is
+    /// answered for any other port.
+    pub fn pcp_of(&self, port: u8) -> Option<u8>
+        ensures { result ≡ pcp_of self.now port }
+    {
+        match role_at(&self.ports, port)? {
+            Role::Customer(join) => Some(join.pcp),
+            Role::Trunk(_) => None,
+        }
+    }
+
+    /// The VID of a customer port's service. None is answered for any other port.
+    pub fn vid_at(&self, port: u8) -> Option<Vid>
+        ensures { result ≡ vid_at self.now port }
+    {
+        match role_at(&self.ports, port)? {
+            Role::Customer(join) => Some(join.vid),
+            Role::Trunk(_) => None,
+        }
+    }
+
+    /// What a customer port makes of a frame (IEEE 802.1ad clause 9): the service, the priority, and
+    /// whether a priority tag is to be cut out, or why the frame is refused. Takes no memory.
+    ///
+    /// `Short` is answered under 14 octets, else `Long` over 1,992 (1,996 with a priority tag), else
+    /// `Reserved` for a reserved destination, else `STagged` where a service tag's type stands behind the
+    /// addresses of the frame without its priority tag.
+    pub fn enter(&self, port: u8, frame: &[u8]) -> Result<Entered, Refuse>
+        requires { IsSome (vid_at self.now port) }
+        ensures entered { IfOk result (IsEntered self.now port frame.now) }
+        ensures admitted { IsOk result ↔ (is_admitted frame.now ≡ true) }
+        ensures refused { IfErr result (λ refuse. refusal frame.now ≡ Some refuse) }
+    {
+        if let Some(refuse) = refusal(frame) {
+            return Err(refuse);
+        }
+        let vid = self.vid_at(port).unwrap();
+        let cut = has_priority_tag(frame);
+        let pcp = if cut {
+            priority_of(frame)
+        } else {
+            self.pcp_of(port).unwrap_or(0)
+        };
+        Ok(Entered { vid, pcp, cut })
+    }
+}
+
+/// What the port is.
+fn role_at(ports: &[Attachment], port: u8) -> Option<&Role>
+    ensures { option_copied result ≡ role_in ports.now port }
+{
+    for attachment in ports {
+        if attachment.port == port {
+            return Some(&attachment.role);
+        }
+    }
+    None
+}
+
+/// A customer port's part.
+fn customer(vid: Vid, pcp: u8) -> Join
+    requires { pcp ≤ 7 }
+    ensures vid { result.vid ≡ vid }
+    ensures pcp { result.pcp ≡ pcp }
+{
+    Join { vid, pcp }
+}
+
+/// Puts a port in its place.
+fn attach(ports: &mut Vec<Attachment>, attachment: Attachment) -> Result<(), AllocError>
+    ensures ok { OnOk result (ports.new.items ≡ insert ports.old.items (place_of attachment.port ports.old.items) attachment) }
+    ensures err { OnErr result (ports.new.items ≡ ports.old.items) }
+{
+    let place = place_of(ports, attachment.port);
+    ports.insert(place, attachment)?;
+    Ok(())
+}
+
+/// Where a port goes, so that the ports stay ascending.
+fn place_of(ports: &[Attachment], port: u8) -> usize
+    ensures { result ≡ place_of port ports.now }
+{
+    let mut place = 0;
+    for attachment in ports {
+        if attachment.port >= port {
+            return place;
+        }
+        place += 1;
+    }
+    place
+}
+
+/// One of the VIDs is this number.
+fn contains_vid(vids: &[Vid], vid: u16) -> bool
+    ensures { result ≡ list_any (λ v. v == vid) vids.now }
+{
+    for other in vids {
+        if other.number() == vid {
+            return true;
+        }
+    }
+    false
+}
+
+/// One of the names is this text.
+fn contains_name(names: &[Text], name: &str) -> bool
+    ensures { result ≡ list_any (λ n. same n name.now) names.now }
+{
+    for other in names {
+        if other.as_str() == name {
+            return true;
+        }
+    }
+    false
+}
