@@ -255,4 +255,5 @@ fn reads_back_a_file(rt: HostRuntime) -> Result<(), Fail> {
 fn laws_of_streams_stand() {
     streams_have_one_reading();
     polls_spell_the_reading();
+    what_is_written_is_read();
 }

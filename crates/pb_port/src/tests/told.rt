@@ -31,7 +31,7 @@ pub(crate) fn sink(alloc: Global) -> Stub {
 }
 
 /// What a port says of its stream from now on: the octets of its frames, then 256 for the end, or 256 and
-/// the fault. Each frame is followed by 300.
+/// the fault. Each frame is followed by 300. Want of memory is passed over, since no octet is lost by it.
 pub(crate) fn told_by<P: Port>(port: &mut P, said: &mut Vec<u16>) -> Result<(), Fail> {
     for polls in 0..2000 {
         match port.poll() {
@@ -41,7 +41,7 @@ pub(crate) fn told_by<P: Port>(port: &mut P, said: &mut Vec<u16>) -> Result<(), 
                 }
                 said.push(300)?;
             }
-            Polled::Nothing => {}
+            Polled::Nothing | Polled::Fault(8) => {}
             Polled::End => {
                 said.push(256)?;
                 return Ok(());
