@@ -1,5 +1,5 @@
 -- The answers of successive polls are the reading of the input.
-use Rattle.std.proofs.Common.{◌≡◌, ℕ, ◌+◌, ◌<◌, true, false, if◌then◌else◌, eqb, nat_eq, List, [], ◌∷◌, ◌++◌, refl, sym, ap, ◌∙◌, subst, append_assoc, arith, Option, Some, None, ne_eqb}
+use Rattle.std.proofs.Common.{◌≡◌, ℕ, ◌+◌, ◌<◌, true, false, if◌then◌else◌, List, [], ◌∷◌, ◌++◌, refl, sym, ap, ◌∙◌, subst, append_assoc, arith, Option, Some}
 use Rattle.std.specs.Prelude.{◌==◌, MatchBool, Bool}
 use Rattle.pb_port.specs.declared.place.Place.{Place}
 use Rattle.pb_port.specs.declared.answers.Polled.{Polled}

@@ -1,15 +1,15 @@
 -- A stream has one reading: its parts are told by their lengths.
-use Rattle.std.proofs.Common.{◌≡◌, ℕ, zero, suc, ◌+◌, ◌<◌, ◌≤◌, true, false, nat_lt, List, [], ◌∷◌, ◌++◌, length, take, drop, refl, sym, ap, ◌∙◌, subst, append_assoc, arith, length-append, Option, Some, None, ne_eqb, eqb}
+use Rattle.std.proofs.Common.{◌≡◌, ℕ, zero, suc, ◌+◌, ◌<◌, ◌≤◌, false, nat_lt, List, [], ◌∷◌, ◌++◌, length, take, drop, refl, sym, ap, ◌∙◌, subst, append_assoc, arith, length-append, Option, Some, None, ne_eqb, eqb}
 use Rattle.std.specs.Prelude.{⊤}
 use Rattle.std.proofs.lemmas.Bool.{le-ltb}
 use Rattle.std.proofs.Math.Seq.{take-append_seam, drop-append_seam}
 use Rattle.byteorder.specs.Endian.{big_number}
 use Rattle.pb_port.specs.declared.place.Order.{Order}
-use Rattle.pb_port.specs.declared.place.Order.TheVariants.{Big, Little}
+use Rattle.pb_port.specs.declared.place.Order.TheVariants.{Big}
 use Rattle.pb_port.specs.declared.place.Place.{Place}
 use Rattle.pb_port.specs.declared.place.Place.TheVariants.{Header, Records, Lengths}
 use Rattle.pb_port.specs.Ports.{Frames}
-use Rattle.pb_port.specs.Streams.{captured, original, order_of, header_fault, fault_at, Passes, AreSkipped, IsHeader, IsRecord, IsSkipped, IsFrame, IsFrameRecord, IsFramed}
+use Rattle.pb_port.specs.Streams.{captured, original, order_of, fault_at, Passes, AreSkipped, IsHeader, IsRecord, IsSkipped, IsFrame, IsFramed}
 use Rattle.pb_port.specs.Whole.{Ends, IsStream}
 use Rattle.pb_port.proofs.StreamLemmas.{number-front, header_fault-front}
 

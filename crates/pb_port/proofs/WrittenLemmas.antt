@@ -1,10 +1,9 @@
 -- What is written is read as the same frames.
-use Rattle.std.proofs.Common.{◌≡◌, ℕ, ◌+◌, ◌<◌, ◌≤◌, true, false, List, [], ◌∷◌, ◌++◌, length, refl, sym, ap, ◌∙◌, append_assoc, arith, length-append, Option, None}
+use Rattle.std.proofs.Common.{◌≡◌, ℕ, ◌+◌, ◌<◌, true, false, List, [], ◌∷◌, ◌++◌, length, refl, arith, length-append, None}
 use Rattle.byteorder.specs.Endian.{big_number, big_bytes, little_bytes}
 use Rattle.byteorder.specs.Numbers.{little_number-reads_back, big_number-reads_back}
 use Rattle.pb_port.specs.declared.place.Order.TheVariants.{Little}
-use Rattle.pb_port.specs.declared.place.Place.{Place}
-use Rattle.pb_port.specs.declared.place.Place.TheVariants.{Header, Records, Lengths}
+use Rattle.pb_port.specs.declared.place.Place.TheVariants.{Records, Lengths}
 use Rattle.pb_port.specs.declared.framing.Framing.{Framing}
 use Rattle.pb_port.specs.declared.framing.Framing.TheVariants.{Capture, Socket}
 use Rattle.pb_port.specs.Streams.{captured, original, IsHeader, IsFrameRecord, IsFramed}
