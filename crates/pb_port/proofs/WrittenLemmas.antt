@@ -1,0 +1,89 @@
+-- What is written is read as the same frames.
+use Rattle.std.proofs.Common.{◌≡◌, ℕ, ◌+◌, ◌<◌, true, false, List, [], ◌∷◌, ◌++◌, length, refl, arith, length-append, None}
+use Rattle.byteorder.specs.Endian.{big_number, big_bytes, little_bytes}
+use Rattle.byteorder.specs.Numbers.{little_number-reads_back, big_number-reads_back}
+use Rattle.pb_port.specs.declared.place.Order.TheVariants.{Little}
+use Rattle.pb_port.specs.declared.place.Place.TheVariants.{Records, Lengths}
+use Rattle.pb_port.specs.declared.framing.Framing.{Framing}
+use Rattle.pb_port.specs.declared.framing.Framing.TheVariants.{Capture, Socket}
+use Rattle.pb_port.specs.Streams.{captured, original, IsHeader, IsFrameRecord, IsFramed}
+use Rattle.pb_port.specs.Spelling.{file_header, record_head, spelled}
+use Rattle.pb_port.specs.Whole.{IsStream}
+use Rattle.pb_port.specs.Written.{place_of, spelled_all, frames_of, AreShort}
+
+header_written : IsHeader Little file_header
+header_written = record { long = refl; magic = refl; sound = refl }
+
+record_written : (seconds : ℕ) (f : List ℕ) → length f < 65536 → IsFrameRecord Little (record_head seconds (length f) ++ f) f
+record_written seconds f short =
+    let kept : captured Little (record_head seconds (length f) ++ f) ≡ length f =
+    little_number-reads_back 4 (length f) (little_bytes 4 (length f) ++ f) (omega arith) in
+    let had : original Little (record_head seconds (length f) ++ f) ≡ length f = little_number-reads_back 4 (length f) f (omega arith) in
+    let long : length (record_head seconds (length f) ++ f) ≡ 16 + length f = omega (arith, length-append (record_head seconds (length f)) f) in
+    record { whole = record { limit = omega arith; long = omega arith }; full = omega arith; content = refl }
+
+frame_written : (f : List ℕ) → length f < 65536 → IsFramed (big_bytes 2 (length f) ++ f) f
+frame_written f short =
+    let number : big_number 2 (big_bytes 2 (length f) ++ f) ≡ length f = big_number-reads_back 2 (length f) f (omega arith) in
+    let long : length (big_bytes 2 (length f) ++ f) ≡ 2 + length f = omega (arith, length-append (big_bytes 2 (length f)) f) in
+    record { long = omega arith; content = refl }
+
+written_behind : (framing : Framing) (frames : List (ℕ × List ℕ)) → AreShort frames
+    → IsStream (place_of framing false) (spelled_all framing false frames) (frames_of frames) 0 None
+written_behind Capture [] short = (Records Little, [], [], (refl, refl), refl, (refl, λ _. refl))
+written_behind Capture ((seconds, f) ∷ more) (short, shorts) = (
+  Records Little,
+  [],
+  spelled Capture false seconds f,
+  spelled_all Capture false more,
+  0,
+  0,
+  (refl, refl),
+  record_written seconds f short,
+  refl,
+  written_behind Capture more shorts,
+  refl,
+)
+written_behind Socket [] short = (Lengths, [], [], (refl, refl), refl, (refl, λ _. refl))
+written_behind Socket ((seconds, f) ∷ more) (short, shorts) = (
+  Lengths,
+  [],
+  spelled Socket false seconds f,
+  spelled_all Socket false more,
+  0,
+  0,
+  (refl, refl),
+  frame_written f short,
+  refl,
+  written_behind Socket more shorts,
+  refl,
+)
+
+pub written_read : (framing : Framing) (seconds : ℕ) (f : List ℕ) (more : List (ℕ × List ℕ)) → AreShort ((seconds, f) ∷ more)
+    → IsStream (place_of framing true) (spelled_all framing true ((seconds, f) ∷ more)) (frames_of ((seconds, f) ∷ more)) 0 None
+written_read Capture seconds f more (short, shorts) = (
+  Records Little,
+  file_header,
+  record_head seconds (length f) ++ f,
+  spelled_all Capture false more,
+  0,
+  0,
+  (file_header, [], header_written, refl, refl),
+  record_written seconds f short,
+  refl,
+  written_behind Capture more shorts,
+  refl,
+)
+written_read Socket seconds f more (short, shorts) = (
+  Lengths,
+  [],
+  spelled Socket true seconds f,
+  spelled_all Socket false more,
+  0,
+  0,
+  (refl, refl),
+  frame_written f short,
+  refl,
+  written_behind Socket more shorts,
+  refl,
+)

@@ -1,0 +1,36 @@
+-- The reading of what is written.
+use Rattle.std.specs.Prelude.{ℕ, ◌<◌, Bool, true, false, List, [], ◌∷◌, ◌++◌, length, ⊤, None}
+use Rattle.pb_port.specs.declared.place.Order.TheVariants.{Little}
+use Rattle.pb_port.specs.declared.place.Place.{Place}
+use Rattle.pb_port.specs.declared.place.Place.TheVariants.{Header, Records, Lengths}
+use Rattle.pb_port.specs.declared.framing.Framing.{Framing}
+use Rattle.pb_port.specs.declared.framing.Framing.TheVariants.{Capture, Socket}
+use Rattle.pb_port.specs.Ports.{Frames}
+use Rattle.pb_port.specs.Spelling.{spelled}
+use Rattle.pb_port.specs.Whole.{IsStream}
+
+-- where a stream is read on, before its first frame was written and after
+abbrev pub place_of : Framing → Bool → Place
+place_of Capture true = Header
+place_of Capture false = Records Little
+place_of Socket fresh = Lengths
+
+-- the octets of frames, each begun at its own second
+abbrev pub spelled_all : Framing → Bool → List (ℕ × List ℕ) → List ℕ
+spelled_all framing fresh [] = []
+spelled_all framing fresh ((seconds, f) ∷ more) = spelled framing fresh seconds f ++ spelled_all framing false more
+
+abbrev pub frames_of : List (ℕ × List ℕ) → Frames
+frames_of [] = []
+frames_of ((seconds, f) ∷ more) = f ∷ frames_of more
+
+-- no frame is longer than 65,535 octets
+abbrev pub AreShort : List (ℕ × List ℕ) → Type 0
+AreShort [] = ⊤
+AreShort ((seconds, f) ∷ more) = (length f < 65536) × AreShort more
+
+-- at least one frame as it is written is read as the same frames, with nothing skipped and no fault
+abbrev pub WrittenIsRead : Type 0
+WrittenIsRead =
+    (framing : Framing) (seconds : ℕ) (f : List ℕ) (more : List (ℕ × List ℕ)) → AreShort ((seconds, f) ∷ more)
+    → IsStream (place_of framing true) (spelled_all framing true ((seconds, f) ∷ more)) (frames_of ((seconds, f) ∷ more)) 0 None
