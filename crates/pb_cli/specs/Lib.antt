@@ -7,3 +7,4 @@ pub mod Switches
 pub mod Quiet
 pub mod Answers
 pub mod Progress
+pub mod Shows

@@ -6,10 +6,12 @@ mod flat_plan;
 mod line;
 mod print;
 mod run;
+mod show;
 mod switch;
 
 pub use fault::FlatFault;
 pub use run::{MAX_LINE, run_flat};
+pub use show::run_show;
 pub use switch::Switch;
 
 #[cfg(test)]

@@ -400,3 +400,17 @@ fn tells_a_failed_write(rt: HostRuntime) -> Result<(), Fail> {
     );
     Ok(())
 }
+
+#[test]
+fn shows_sixteen_fates(rt: HostRuntime) -> Result<(), Fail> {
+    let mut output = Vec::new(rt.alloc());
+    assert!(rt; run_show(&mut output).is_ok());
+    let text = std::str::from_utf8(output.as_slice()).unwrap_or("");
+    assert_eq!(rt; text.lines().count(), 16);
+    assert_eq!(rt; text.lines().next(), Some("01-80-C2-00-00-00 carry"));
+    assert_eq!(rt; text.lines().nth(8), Some("01-80-C2-00-00-08 provider"));
+    assert_eq!(rt; text.lines().nth(14), Some("01-80-C2-00-00-0E filter"));
+    assert_eq!(rt; run_show(&mut Full { room: 5 }), Err(FlatFault::Write));
+    assert_eq!(rt; run_show(&mut Unflushed), Err(FlatFault::Write));
+    Ok(())
+}

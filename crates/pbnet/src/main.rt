@@ -12,7 +12,7 @@ mod order;
 mod tests;
 
 use order::{Order, order_of};
-use pb_cli::{FlatFault, run_flat};
+use pb_cli::{FlatFault, run_flat, run_show};
 use std::io::{BufWriter, Write};
 use std::process::ExitCode;
 use std::rt::Env;
@@ -33,6 +33,7 @@ fn main(rt: HostRuntime) -> ExitCode {
     };
     match order_of(rt.alloc(), words.as_slice()) {
         Ok(Some(Order::Flat(ports))) => flat(&rt, ports),
+        Ok(Some(Order::Show)) => show(&rt),
         Ok(None) => ExitCode::from(WRONG_WORDS),
         Err(e) => {
             let _ = e.print(&rt);
@@ -63,6 +64,14 @@ fn flat(rt: &(impl Input + Print + AllocGlobal), ports: u8) -> ExitCode
     match ran {
         Err(fault) => tell(rt, fault),
         Ok(()) if flushed.is_err() => tell(rt, FlatFault::Write),
+        Ok(()) => ExitCode::SUCCESS,
+    }
+}
+
+/// Tells what becomes of frames for the reserved addresses.
+fn show(rt: &impl Print) -> ExitCode {
+    match run_show(&mut io::writer(rt)) {
+        Err(fault) => tell(rt, fault),
         Ok(()) => ExitCode::SUCCESS,
     }
 }

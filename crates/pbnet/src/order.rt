@@ -11,6 +11,8 @@ use std::alloc::Global;
 pub enum Order {
     /// One bridge with so many ports, driven by the lines of standard input.
     Flat(u8),
+    /// Telling what becomes of frames for the reserved addresses.
+    Show,
 }
 
 /// The program's commands and their arguments.
@@ -25,11 +27,15 @@ fn commands<'a>(alloc: Global) -> Result<Command<'a>, Error> {
             "Runs one bridge over the lines `in PORT HEX` of standard input, and prints each frame that leaves it or why it went nowhere",
         )
         .arg(ports)?;
+    let show = Command::new(alloc, "show").about(
+        "Prints what becomes of frames for the addresses 01-80-C2-00-00-00 to -0F: carry, filter, or provider where the bridges themselves take them",
+    );
     Ok(
         Command::new(alloc, "pbnet")
             .about("A provider bridged Ethernet network in one process")
             .subcommand_required(true)
-            .subcommand(flat)?,
+            .subcommand(flat)?
+            .subcommand(show)?,
     )
 }
 
@@ -46,6 +52,7 @@ pub fn order_of(alloc: Global, words: &[String]) -> Result<Option<Order>, Error>
             Some(ports) if 2 <= ports && ports <= 16 => Ok(Some(Order::Flat(ports))),
             _ => Ok(None),
         },
+        Some(("show", _)) => Ok(Some(Order::Show)),
         _ => Ok(None),
     }
 }

@@ -33,12 +33,20 @@ fn takes_two_to_sixteen_ports(rt: HostRuntime) -> Result<(), Fail> {
 }
 
 #[test]
+fn shows_without_further_words(rt: HostRuntime) -> Result<(), Fail> {
+    assert_eq!(rt; read(&rt, rt.alloc(), &["show"])?, Ok(Order::Show));
+    Ok(())
+}
+
+#[test]
 fn refuses_other_words_and_helps(rt: HostRuntime) -> Result<(), Fail> {
     let alloc = rt.alloc();
     assert_eq!(rt; read(&rt, alloc, &[])?, Err(true));
     assert_eq!(rt; read(&rt, alloc, &["flat"])?, Err(true));
     assert_eq!(rt; read(&rt, alloc, &["flat", "3", "4"])?, Err(true));
     assert_eq!(rt; read(&rt, alloc, &["flap", "3"])?, Err(true));
+    assert_eq!(rt; read(&rt, alloc, &["show", "3"])?, Err(true));
+    assert_eq!(rt; read(&rt, alloc, &["show", "--help"])?, Err(false));
     assert_eq!(rt; read(&rt, alloc, &["--help"])?, Err(false));
     assert_eq!(rt; read(&rt, alloc, &["flat", "--help"])?, Err(false));
     Ok(())
