@@ -36,7 +36,7 @@ vid_of x = control_of x % 4096
 abbrev pub untagged : List ℕ → List ℕ
 untagged x = take 12 x ++ drop 16 x
 
--- a tag that tells a priority and no service
+-- a tag that tells a priority and no service (IEEE 802.1Q clause 9.6: the null VID)
 abbrev pub has_priority_tag : List ℕ → Bool
 has_priority_tag x = has_service_tag x && vid_of x == 0
 

@@ -53,7 +53,7 @@ abbrev pub first_case : List (Bool × Ruling) → Ruling → Ruling
 first_case [] otherwise = otherwise
 first_case (c ∷ cs) otherwise = if c.0 then c.1 else first_case cs otherwise
 
--- at a customer port
+-- at a customer port, a port-based service interface (IEEE 802.1Q clause 15.3)
 abbrev pub customer_cases : Item → List (Bool × Ruling)
 customer_cases item =
     (nat_lt (length item.wire) 14, Refuses Malformed)
@@ -66,7 +66,7 @@ customer_cases item =
 abbrev pub is_for_bridges : List ℕ → Bool
 is_for_bridges wire = same (dst_of wire) provider_address
 
--- at a provider port
+-- at a provider port (IEEE 802.1Q clauses 8.6.1 to 8.6.3)
 abbrev pub provider_cases : Rules → Plan → End → Item → List (Bool × Ruling)
 provider_cases rules plan e item =
     (nat_lt (length item.wire) 14, Refuses Malformed)

@@ -1,4 +1,5 @@
--- Where a bridge's past says that stations are, and the ports that a frame goes to.
+-- Where a bridge's past says that stations are, and the ports that a frame goes to (IEEE 802.1Q clauses
+-- 8.6 to 8.8).
 use Rattle.std.specs.Prelude.{◌≡◌, ℕ, ◌+◌, Bool, true, false, List, [], ◌∷◌, ◌++◌, Some, None, map, length, nat_le, ◌==◌, ◌&&◌, not, if◌then◌else◌}
 use Rattle.std.specs.declared.option.Option.{Option}
 use Rattle.std.specs.List.{filter, flat_map}
@@ -83,13 +84,13 @@ Learns plan bridge earlier port wire learnt =
     (found plan bridge earlier (vid_in plan (port_at plan bridge port) wire) (src_of wire))
     (is_table_full plan bridge earlier) port learnt
 
--- the other Forwarding ports of the service
+-- the other Forwarding ports of the service (IEEE 802.1Q clauses 8.6.1 and 8.6.4)
 abbrev pub flood : Plan → ℕ → List Step → ℕ → ℕ → List ℕ
 flood plan bridge steps port vid =
     filter (λ other. not (other == port) && (is_forwarding (state_after plan bridge steps other) && is_member plan vid (port_at plan bridge other)))
     local_ports
 
--- the one where the station is, if it is found
+-- the one where the station is, if it is found (IEEE 802.1Q clause 8.6.3)
 abbrev pub narrowed : List ℕ → Option ℕ → List ℕ
 narrowed ports None = ports
 narrowed ports (Some at) = filter (λ port. port == at) ports
