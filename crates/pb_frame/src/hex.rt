@@ -1,6 +1,6 @@
 //! Octets as hexadecimal texts.
 
-ghost use Rattle.std.specs.Prelude.{◌≡◌, ◌%◌, ◌<◌, ◌↔◌, true, false, length, string_bytes, IfOk, IfSome, IfNone, IsSome, IsErrOf, ℕ};
+ghost use Rattle.std.specs.Prelude.{◌≡◌, ◌%◌, ◌<◌, ◌↔◌, true, false, length, string_bytes, IfOk, IfSome, IfNone, IsSome, IsErrOf, if◌then◌else◌, ℕ};
 ghost use Rattle.std.specs.List.{list_all};
 ghost use Rattle.pb_frame.specs.Hex.{digit_value, is_digit, IsPair, IsHex, hex_text as text_of, lower_digit, upper_digit};
 ghost use Rattle.pb_frame.specs.declared.hex.HexFault.{HexFault};
@@ -98,28 +98,42 @@ pub fn hex_octets(alloc: Global, digits: &[u8]) -> Result<Bytes, HexFault>
     ensures digit { IsErrOf result HexFault.Digit ↔ (list_all is_digit digits.now ≡ false) }
     ensures odd { IsErrOf result HexFault.Odd ↔ ((list_all is_digit digits.now ≡ true) × (length digits.now % 2 ≡ 1)) }
 {
-    if !all_digits(digits) {
-        return Err(HexFault::Digit);
-    }
     if digits.len() % 2 != 0 {
-        return Err(HexFault::Odd);
+        return Err(fault_or(digits, HexFault::Odd));
     }
-    let octets = pairs_of(alloc, digits)?;
-    Ok(Bytes::from_vec(octets)?)
+    match pairs_of(alloc, digits) {
+        Ok(Some(octets)) => Ok(Bytes::from_vec(octets)?),
+        Ok(None) => Err(HexFault::Digit),
+        Err(AllocError) => Err(fault_or(digits, HexFault::Memory)),
+    }
 }
 
-/// The octets of an even number of digits.
-fn pairs_of(alloc: Global, digits: &[u8]) -> Result<Vec<u8>, AllocError>
-    requires digits { list_all is_digit digits.now ≡ true }
-    requires even { length digits.now % 2 ≡ 0 }
-    ensures { IfOk result (λ v. IsHex digits.now v.items) }
+/// `Digit` where something else than a digit stands, or else the other fault.
+fn fault_or(text: &[u8], other: HexFault) -> HexFault
+    ensures { result ≡ (if list_all is_digit text.now then other else HexFault.Digit) }
+{
+    if all_digits(text) {
+        other
+    } else {
+        HexFault::Digit
+    }
+}
+
+/// The octets of an even number of digits, if all are digits.
+fn pairs_of(alloc: Global, digits: &[u8]) -> Result<Option<Vec<u8>>, AllocError>
+    requires { length digits.now % 2 ≡ 0 }
+    ensures some { IfOk result (λ o. IfSome o (λ v. IsHex digits.now v.items)) }
+    ensures all { IfOk result (λ o. IfSome o (λ v. list_all is_digit digits.now ≡ true)) }
+    ensures none { IfOk result (λ o. IfNone o (list_all is_digit digits.now ≡ false)) }
 {
     let mut octets = Vec::with_capacity(alloc, digits.len() / 2)?;
     for i in 0..digits.len() / 2 {
-        let octet = octet(digits[2 * i], digits[2 * i + 1]).unwrap();
+        let Some(octet) = octet(digits[2 * i], digits[2 * i + 1]) else {
+            return Ok(None);
+        };
         octets.push(octet)?;
     }
-    Ok(octets)
+    Ok(Some(octets))
 }
 
 /// The lower case digit of a number below 16.

@@ -1,4 +1,4 @@
-use Rattle.std.proofs.Common.{sym, rules, arith}
+use Rattle.std.proofs.Common.{arith}
 use Rattle.pb_frame.proofs.DigitTable.{digit_at, no_digit}
 use Rattle.pb_frame.proofs.hex.digit.Goals as goal
 
