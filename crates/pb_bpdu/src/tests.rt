@@ -1,7 +1,8 @@
-//! Tests of BPDUs in frames.
+//! BPDUs in frames, as two bridges on one link send them.
 
-use crate::{Bpdu, BpduFault, read, write};
-use pb_frame::Mac;
+use crate::{Bpdu, BpduFault, read, what_is_written_is_read, write};
+use pb_frame::{Mac, hex_read};
+use std::alloc::Global;
 use std::test::Fail;
 
 /// What bridge 32768/02-00-00-00-00-01 sends on its port 1 at first.
@@ -11,6 +12,11 @@ const PROPOSAL: [u8; 53] = [
     0x00, 0x00, 0x80, 0x00, 0x02, 0x00, 0x00, 0x00, 0x00, 0x01, 0x80, 0x01, 0x00, 0x00, 0x14, 0x00,
     0x02, 0x00, 0x0f, 0x00, 0x00,
 ];
+
+/// What bridge 32768/02-00-00-00-00-02 at the other end answers.
+const ANSWER: &str = "0180c20000080200000000020027424203000002027980000200000000010000\
+4e2080000200000000028001010014000200\
+0f0000";
 
 fn proposal() -> Bpdu {
     Bpdu {
@@ -31,28 +37,86 @@ fn proposal() -> Bpdu {
     }
 }
 
+fn answer() -> Bpdu {
+    Bpdu {
+        change: true,
+        proposal: false,
+        role: 2,
+        learning: true,
+        forwarding: true,
+        agreement: true,
+        root: 0x8000_0200_0000_0001,
+        cost: 20_000,
+        bridge: 0x8000_0200_0000_0002,
+        port: 0x8001,
+        age: 256,
+        max_age: 20 * 256,
+        hello: 2 * 256,
+        delay: 15 * 256,
+    }
+}
+
 #[test]
-fn writes_a_proposal(rt: HostRuntime) -> Result<(), Fail> {
-    let frame = write(rt.alloc(), Mac([2, 0, 0, 0, 0, 1]), &proposal())?;
+fn writes_what_is_sent(rt: HostRuntime) -> Result<(), Fail> {
+    let alloc = rt.alloc();
+    let frame = write(alloc, Mac([2, 0, 0, 0, 0, 1]), &proposal())?;
     assert!(rt; frame.as_slice() == PROPOSAL.as_slice());
+    let frame = write(alloc, Mac([2, 0, 0, 0, 0, 2]), &answer())?;
+    assert!(rt; frame.as_slice() == hex_read(alloc, ANSWER)?.as_slice());
     Ok(())
 }
 
 #[test]
-fn reads_a_proposal(rt: HostRuntime) {
+fn reads_what_is_sent(rt: HostRuntime) -> Result<(), Fail> {
     assert!(rt; read(&PROPOSAL) == Ok(proposal()));
-    let mut short = PROPOSAL;
-    short[13] = 0x26;
-    assert!(rt; read(&short) == Err(BpduFault::Short));
-    let mut later = PROPOSAL;
-    later[19] = 3;
-    assert!(rt; read(&later) == Ok(proposal()));
-    let mut config = PROPOSAL;
-    config[20] = 0;
-    assert!(rt; read(&config) == Err(BpduFault::Kind));
-    let mut padded = [0; 60];
-    padded[..53].copy_from_slice(&PROPOSAL);
-    assert!(rt; read(&padded) == Ok(proposal()));
+    assert!(rt; read(hex_read(rt.alloc(), ANSWER)?.as_slice()) == Ok(answer()));
+    Ok(())
+}
+
+/// The proposal with another octet at a place.
+fn changed(alloc: Global, place: usize, octet: u8) -> Result<Vec<u8>, Fail> {
+    let mut frame = Vec::from_slice(alloc, &PROPOSAL)?;
+    if place < frame.len() {
+        frame[place] = octet;
+    }
+    Ok(frame)
+}
+
+#[test]
+fn ignores_what_means_nothing(rt: HostRuntime) -> Result<(), Fail> {
+    let alloc = rt.alloc();
+    for (place, octet) in [(19, 3), (19, 255), (21, 0x8e), (52, 7), (0, 2), (5, 0)] {
+        let frame = changed(alloc, place, octet)?;
+        assert!(rt; read(frame.as_slice()) == Ok(proposal()));
+    }
+    let mut padded = changed(alloc, 0, 1)?;
+    padded.extend_from_slice(&[7; 7])?;
+    assert!(rt; read(padded.as_slice()) == Ok(proposal()));
+    Ok(())
+}
+
+#[test]
+fn names_the_first_fault(rt: HostRuntime) -> Result<(), Fail> {
+    let alloc = rt.alloc();
+    for (place, octet, fault) in [
+        (13, 0x26, BpduFault::Short),
+        (13, 0x28, BpduFault::Llc),
+        (14, 0x43, BpduFault::Llc),
+        (15, 0x43, BpduFault::Llc),
+        (16, 0x13, BpduFault::Llc),
+        (17, 1, BpduFault::Protocol),
+        (18, 1, BpduFault::Protocol),
+        (20, 0, BpduFault::Kind),
+        (20, 0x80, BpduFault::Kind),
+        (19, 1, BpduFault::Old),
+        (19, 0, BpduFault::Old),
+    ] {
+        let frame = changed(alloc, place, octet)?;
+        assert!(rt; read(frame.as_slice()) == Err(fault));
+    }
+    assert!(rt; read(&[]) == Err(BpduFault::Llc));
+    assert!(rt; read(&PROPOSAL[..16]) == Err(BpduFault::Llc));
+    Ok(())
 }
 
 #[test]
@@ -74,4 +138,9 @@ fn reads_by_the_length(rt: HostRuntime) {
             assert!(rt; read(&frame[..end - 1]) == Err(BpduFault::Llc));
         }
     }
+}
+
+#[test]
+fn law_of_frames_stands() {
+    what_is_written_is_read();
 }
