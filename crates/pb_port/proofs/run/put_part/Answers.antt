@@ -1,4 +1,4 @@
-use Rattle.std.proofs.Common.{◌-◌, ◌≤◌, ◌≡◌, length, take, drop, ◌++◌, ap, ◌∙◌, arith, length-drop}
+use Rattle.std.proofs.Common.{◌-◌, ◌≡◌, length, take, drop, ◌++◌, ap, ◌∙◌, arith, length-drop}
 use Rattle.pb_port.proofs.PuttingLemmas.{take_all, head_then_frame, frame_only}
 use Rattle.pb_port.proofs.run.put_part.Goals as goal
 

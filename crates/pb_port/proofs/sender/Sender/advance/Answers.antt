@@ -1,4 +1,4 @@
-use Rattle.std.proofs.Common.{◌≡◌, ◌+◌, ◌-◌, ◌<◌, ◌≤◌, length, drop, refl, sym, ap, ◌∙◌, arith, rules, length-append, zero}
+use Rattle.std.proofs.Common.{◌≡◌, ◌+◌, ◌-◌, ◌<◌, length, refl, sym, ap, ◌∙◌, arith, rules, length-append}
 use Rattle.pb_port.specs.Spelling.{spelled, first_of, head_of}
 use Rattle.pb_port.proofs.SendingLemmas.{adds_part, sends_first, first_is}
 use Rattle.pb_port.proofs.sender.Sender.advance.Goals as goal

@@ -1,4 +1,4 @@
-use Rattle.std.proofs.Common.{◌≡◌, ◌+◌, ◌-◌, ◌<◌, ◌≤◌, ◌++◌, ℕ, List, length, take, drop, refl, sym, ap, ◌∙◌, subst, arith, append_assoc, add-zero, length-drop, take-append-drop}
+use Rattle.std.proofs.Common.{◌≡◌, ◌+◌, ◌-◌, ◌++◌, ℕ, List, length, take, drop, sym, ap, ◌∙◌, subst, arith, append_assoc, add-zero, length-drop, take-append-drop}
 use Rattle.pb_port.specs.Sending.{Adds, IsNext}
 use Rattle.pb_port.proofs.PuttingLemmas.{take_all}
 use Rattle.pb_port.proofs.SendingLemmas.{adds_after}

@@ -1,6 +1,6 @@
-use Rattle.std.proofs.Common.{◌≡◌, ◌+◌, ◌-◌, ◌<◌, ◌≤◌, ◌++◌, ℕ, List, length, take, drop, refl, sym, ap, ◌∙◌, subst, arith, length-drop}
-use Rattle.pb_port.specs.Spelling.{spelled, first_of, stream_of, stream_behind}
-use Rattle.pb_port.specs.Sending.{begun, stamp_of}
+use Rattle.std.proofs.Common.{◌≡◌, ◌-◌, ◌<◌, ◌++◌, length, take, drop, sym, ◌∙◌, arith, length-drop}
+use Rattle.pb_port.specs.Spelling.{spelled, first_of, stream_behind}
+use Rattle.pb_port.specs.Sending.{begun}
 use Rattle.pb_port.proofs.PuttingLemmas.{staged, first_at}
 use Rattle.pb_port.proofs.SendingLemmas.{head_and_frame}
 use Rattle.pb_port.proofs.sender.Sender.stage.Goals as goal
