@@ -1,5 +1,5 @@
 -- What is read of a frame, against the relation of frames and BPDUs.
-use Rattle.std.proofs.Common.{◌≡◌, ℕ, ◌<◌, ◌≤◌, ◌+◌, ◌*◌, ◌/◌, ◌%◌, List, [], ◌∷◌, ◌++◌, refl, sym, ap, ◌∙◌, length, take, drop, slice_index, arith, Bool, true, false, Some, None, nat_lt, ◌==◌, ◌&&◌, ◌||◌, not, append_assoc, Ok, Err, length-drop, ap₂, subst, IfOk, IfErr, OnOk}
+use Rattle.std.proofs.Common.{◌≡◌, ℕ, ◌<◌, ◌≤◌, ◌+◌, ◌*◌, ◌/◌, ◌%◌, List, [], ◌∷◌, ◌++◌, refl, sym, ap, ◌∙◌, length, take, drop, slice_index, arith, Bool, true, false, Some, None, nat_lt, ◌==◌, ◌&&◌, ◌||◌, not, append_assoc, Ok, Err, length-drop, ap₂, subst, IfOk, IfErr, OnOk, is_ok, is_none}
 use Rattle.std.specs.declared.result.Result.{Result}
 use Rattle.std.specs.declared.option.Option.{Option}
 use Rattle.pb_frame.specs.Admission.{provider_address}
@@ -9,7 +9,7 @@ use Rattle.byteorder.specs.Endian.{big_bytes}
 use Rattle.byteorder.specs.Numbers.{big_number-reads_back}
 use Rattle.pb_frame.specs.Frames.{AreOctets, kind_of}
 use Rattle.pb_bpdu.specs.Layout.{bit, flags, numbers, body, Fits, IsBpduFrame, written}
-use Rattle.pb_bpdu.specs.Reading.{number_at, has_llc, has_no_llc, has_fewer, first_of_cases, first_fault, flags_at, fields_of, reading, reading_by}
+use Rattle.pb_bpdu.specs.Reading.{number_at, has_llc, has_no_llc, has_fewer, first_of_cases, first_fault, flags_at, fields_of, is_readable, reading, reading_by}
 use Rattle.pb_bpdu.specs.declared.bpdu.Bpdu.{Bpdu}
 use Rattle.pb_bpdu.specs.declared.fault.BpduFault.{BpduFault}
 use Rattle.pb_bpdu.specs.declared.fault.BpduFault.TheVariants.{Llc, Short, Protocol, Kind, Old}
@@ -355,3 +355,11 @@ pub stands : {E : Type 0} (src : List ℕ) (m : Bpdu) (r : Result (List ℕ) E) 
     → IfOk r (λ x. IsBpduFrame x m)
 stands src m (Ok x) l fits e = let P : List ℕ → Type 0 = λ z. IsBpduFrame z m in subst P (sym e) (written_frame src m l fits)
 stands src m (Err e) l fits h = tt
+
+-- the test says what is read
+pub read_readable : (x : List ℕ) (r : Result Bpdu BpduFault) → r ≡ reading x → is_ok r ≡ is_readable x
+read_readable x r e = ap is_ok e ∙ by_fault (first_fault x) (fields_of x)
+  where
+    by_fault : (found : Option BpduFault) (m : Bpdu) → is_ok (reading_by found m) ≡ is_none found
+    by_fault None m = refl
+    by_fault (Some g) m = refl

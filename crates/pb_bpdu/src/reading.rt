@@ -1,9 +1,9 @@
 //! Takes frames with BPDUs apart.
 
-ghost use Rattle.std.specs.Prelude.{◌≡◌, ◌≤◌, length, IfOk, IfErr};
+ghost use Rattle.std.specs.Prelude.{◌≡◌, ◌≤◌, length, IfOk, IfErr, is_ok};
 ghost use Rattle.pb_bpdu.specs.Layout.{IsBpduFrame};
 ghost use Rattle.pb_bpdu.specs.declared.bpdu.Bpdu.{Bpdu};
-ghost use Rattle.pb_bpdu.specs.Reading.{first_fault, fields_of, has_no_llc, reading};
+ghost use Rattle.pb_bpdu.specs.Reading.{first_fault, fields_of, has_no_llc, is_readable, reading};
 
 use crate::bpdu::Bpdu;
 use crate::fault::BpduFault;
@@ -98,6 +98,8 @@ pub fn read(frame: &[u8]) -> Result<Bpdu, BpduFault>
     ensures only { (m : Bpdu) → IsBpduFrame frame.now m → result ≡ Ok m }
     // A fault is the first that the frame has.
     ensures fault { IfErr result (λ f. first_fault frame.now ≡ Some f) }
+    // The test says exactly which frames are read.
+    ensures readable { is_ok result ≡ is_readable frame.now }
     // The answer is told by the octets alone.
     ensures exact { result ≡ reading frame.now }
 {
