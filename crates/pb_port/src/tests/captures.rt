@@ -85,6 +85,23 @@ fn reads_and_writes_64_times_a_call(rt: HostRuntime) -> Result<(), Fail> {
     Ok(())
 }
 
+#[test]
+fn writes_many_frames_a_call(rt: HostRuntime) -> Result<(), Fail> {
+    let alloc = rt.alloc();
+    let writer = Stub::new(alloc, Vec::new(alloc), 100_000, false, 0);
+    let mut port = CapturePort::new(alloc, 1000, sink(alloc), writer);
+    let frame = frame_of(&rt, alloc, "0708")?;
+    for offers in 0..1000 {
+        assert_eq!(rt; port.offer(&frame), Offered::Taken);
+    }
+    assert_eq!(rt; port.pump(1), Pumped::Wrote(1000));
+    assert_eq!(rt; port.writer.calls, 2);
+    assert_eq!(rt; port.writer.output.len(), 18_024);
+    let end = frame_of(&rt, alloc, "010000000000000002000000020000000708")?;
+    assert!(rt; port.writer.output.as_slice().ends_with(end.as_slice()));
+    Ok(())
+}
+
 /// What is told of a capture in hexadecimal digits that has nothing but its header and one frame or fault.
 fn is_told(rt: HostRuntime, digits: &str, wanted: &[u16]) -> Result<bool, Fail> {
     let alloc = rt.alloc();

@@ -1,6 +1,7 @@
 use crate::tests::stub::Stub;
 use crate::tests::told::{frame_of, source_of, told_by};
 use crate::*;
+use bytes::Bytes;
 use mio::net::{UnixListener, UnixStream};
 use std::fs;
 use std::test::Fail;
@@ -43,6 +44,25 @@ fn writes_what_it_reads(rt: HostRuntime) -> Result<(), Fail> {
     }
     assert_eq!(rt; port.unsent().len(), 0);
     assert!(rt; port.stream.output.as_slice() == [0u8, 2, 7, 8, 0, 0].as_slice());
+    Ok(())
+}
+
+#[test]
+fn writes_the_longest_frame(rt: HostRuntime) -> Result<(), Fail> {
+    let alloc = rt.alloc();
+    let stream = Stub::new(alloc, Vec::new(alloc), 100_000, false, 0);
+    let mut port = SocketPort::new(alloc, 4, stream);
+    let octets = vec![in alloc; 7u8; 65_535]?;
+    let frame = Bytes::copy_from_slice(alloc, octets.as_slice())?;
+    assert!(rt; frame.len() < 65_536);
+    assert_eq!(rt; port.offer(&frame), Offered::Taken);
+    assert_eq!(rt; port.offer(&frame), Offered::Taken);
+    assert_eq!(rt; port.pump(0), Pumped::Wrote(2));
+    let output = port.stream.output.as_slice();
+    assert_eq!(rt; output.len(), 131_074);
+    assert!(rt; output.starts_with([0xffu8, 0xff, 7].as_slice()));
+    assert_eq!(rt; output.iter().filter(|octet| **octet == 7).count(), 131_070);
+    assert_eq!(rt; port.stream.calls, 9);
     Ok(())
 }
 

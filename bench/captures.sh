@@ -1,0 +1,43 @@
+#!/usr/bin/env bash
+# Has a capture that was written by a capture port read back by tcpdump, and compares what it shows with
+# the frames that were given. It installs tcpdump where that can be done, and says so where not. It is no
+# part of the gate.
+set -eu
+cd -- "$(dirname -- "$0")/.."
+
+folder=$(mktemp -d)
+trap 'rm -rf -- "$folder"' EXIT
+chmod 755 -- "$folder"
+. bench/tools.sh
+
+# Three frames, in hexadecimal digits: a broadcast, one with an S-tag, and one of 60 octets.
+cat >"$folder/wanted" <<'FRAMES'
+ffffffffffff02000000010108004142
+02000000010202000000020188a8606408004344
+020000000102020000000201080000000000000000000000000000000000000000000000000000000000000000000000000000000000000000000000
+FRAMES
+
+# Octets from hexadecimal digits.
+octets() {
+    printf "$(printf '%s' "$1" | sed 's/../\\x&/g')"
+}
+
+# A capture whose numbers have the higher octet first; the port writes the lower one first.
+octets a1b2c3d40002000400000000000000000000ffff00000001 >>"$folder/in.pcap"
+while read -r frame; do
+    len=$(printf '%08x' $((${#frame} / 2)))
+    octets "0000000100000000$len$len$frame" >>"$folder/in.pcap"
+done <"$folder/wanted"
+
+build_copy "$folder/in.pcap" "$folder/out.pcap"
+if ! install_tool tcpdump; then
+    echo "tcpdump is absent and can't be installed here" >&2
+    exit 1
+fi
+# Of each frame tcpdump shows a line of text, and then its octets in lines of their own.
+tcpdump -r "$folder/out.pcap" -t -xx 2>/dev/null \
+    | awk '/^\t0x/ { line = $0; sub(/^[^:]*:/, "", line); gsub(/[ \t]/, "", line); frame = frame line; next }
+           { if (frame) print frame; frame = "" }
+           END { if (frame) print frame }' >"$folder/shown"
+diff -- "$folder/wanted" "$folder/shown"
+echo "the frames are read back"

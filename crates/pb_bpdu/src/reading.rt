@@ -1,0 +1,107 @@
+//! Takes frames with BPDUs apart.
+
+ghost use Rattle.std.specs.Prelude.{◌≡◌, ◌≤◌, length, IfOk, IfErr, is_ok};
+ghost use Rattle.pb_bpdu.specs.Layout.{IsBpduFrame};
+ghost use Rattle.pb_bpdu.specs.declared.bpdu.Bpdu.{Bpdu};
+ghost use Rattle.pb_bpdu.specs.Reading.{first_fault, fields_of, has_no_llc, is_readable, reading};
+
+use crate::bpdu::Bpdu;
+use crate::fault::BpduFault;
+use byteorder::{BigEndian, ByteOrder};
+
+/// Whether the length or the octets of logical link control are missing or wrong.
+fn has_no_llc(frame: &[u8]) -> bool
+    ensures { result ≡ has_no_llc frame.now }
+{
+    if frame.len() < 17 {
+        return true;
+    }
+    let length = BigEndian::read_u16(&frame[12..]) as usize;
+    length < 3
+        || frame.len() < 14 + length
+        || !(frame[14] == 0x42 && frame[15] == 0x42 && frame[16] == 0x03)
+}
+
+/// The first reason why the frame is no BPDU, if there is one.
+fn first_fault(frame: &[u8]) -> Option<BpduFault>
+    ensures { result ≡ first_fault frame.now }
+{
+    if has_no_llc(frame) {
+        return Some(BpduFault::Llc);
+    }
+    let length = BigEndian::read_u16(&frame[12..]) as usize;
+    if length < 7 {
+        return Some(BpduFault::Short);
+    }
+    if !(frame[17] == 0 && frame[18] == 0) {
+        return Some(BpduFault::Protocol);
+    }
+    if frame[20] != 2 {
+        return Some(BpduFault::Kind);
+    }
+    if frame[19] < 2 {
+        return Some(BpduFault::Old);
+    }
+    if length < 39 {
+        return Some(BpduFault::Short);
+    }
+    None
+}
+
+/// What stands in the fields of a BPDU.
+fn fields(frame: &[u8]) -> Bpdu
+    requires { 53 ≤ length frame.now }
+    ensures { result ≡ fields_of frame.now }
+{
+    let flags = frame[21];
+    Bpdu {
+        change: flags % 2 == 1,
+        proposal: flags / 2 % 2 == 1,
+        role: flags / 4 % 4,
+        learning: flags / 16 % 2 == 1,
+        forwarding: flags / 32 % 2 == 1,
+        agreement: flags / 64 % 2 == 1,
+        root: BigEndian::read_u64(&frame[22..]),
+        cost: BigEndian::read_u32(&frame[30..]),
+        bridge: BigEndian::read_u64(&frame[34..]),
+        port: BigEndian::read_u16(&frame[42..]),
+        age: BigEndian::read_u16(&frame[44..]),
+        max_age: BigEndian::read_u16(&frame[46..]),
+        hello: BigEndian::read_u16(&frame[48..]),
+        delay: BigEndian::read_u16(&frame[50..]),
+    }
+}
+
+/// The fields, or the first fault.
+fn decode(frame: &[u8]) -> Result<Bpdu, BpduFault>
+    ensures { result ≡ reading frame.now }
+{
+    match first_fault(frame) {
+        Some(fault) => Err(fault),
+        None => Ok(fields(frame)),
+    }
+}
+
+/// What a whole untagged frame tells as a BPDU (IEEE 802.1D-2004 clauses 9.3.3 and 9.3.4).
+///
+/// The frame has any number of octets, and the answer takes no memory. The destination address is the
+/// caller's matter. The highest flag, a version above 2, the last of the 36 octets of the BPDU and all
+/// behind them mean nothing. Else the first fault that the frame has is answered, in this order: `Llc`
+/// where it has fewer than 17 octets, its length is below 3 or above the octets that follow it, or the
+/// octets of logical link control differ; `Short` where fewer than 4 octets of a BPDU stand within the
+/// length; `Protocol` where the protocol is not 0; `Kind` where the type is not 2; `Old` where the
+/// version is below 2; `Short` where fewer than 36 octets stand within the length.
+pub fn read(frame: &[u8]) -> Result<Bpdu, BpduFault>
+    // What is read stands in the frame.
+    ensures found { IfOk result (λ m. IsBpduFrame frame.now m) }
+    // What stands in the frame is read.
+    ensures only { (m : Bpdu) → IsBpduFrame frame.now m → result ≡ Ok m }
+    // A fault is the first that the frame has.
+    ensures fault { IfErr result (λ f. first_fault frame.now ≡ Some f) }
+    // The test says exactly which frames are read.
+    ensures readable { is_ok result ≡ is_readable frame.now }
+    // The answer is told by the octets alone.
+    ensures exact { result ≡ reading frame.now }
+{
+    decode(frame)
+}

@@ -1,0 +1,86 @@
+//! Puts frames with BPDUs together.
+
+ghost use Rattle.std.specs.Prelude.{◌≡◌, ◌<◌, ◌^◌, ◌++◌, length, IfOk, OnOk};
+ghost use Rattle.byteorder.specs.Endian.{big_bytes};
+ghost use Rattle.pb_bpdu.specs.Layout.{Fits, IsBpduFrame, flags, numbers, written};
+
+use crate::bpdu::Bpdu;
+use bytes::Bytes;
+use pb_frame::{Mac, Memory};
+use std::alloc::{AllocError, Global};
+
+/// The flags as one octet.
+fn flags(m: &Bpdu) -> u8
+    ensures { result ≡ flags m.now }
+{
+    m.change as u8
+        + 2 * (m.proposal as u8)
+        + 4 * m.role
+        + 16 * (m.learning as u8)
+        + 32 * (m.forwarding as u8)
+        + 64 * (m.agreement as u8)
+}
+
+fn push_u16(frame: &mut Vec<u8>, n: u16) -> Result<(), AllocError>
+    ensures fits { n < 256 ^ 2 }
+    ensures ok { OnOk result (frame.new.items ≡ frame.old.items ++ big_bytes 2 n) }
+{
+    frame.extend_from_slice(&n.to_be_bytes())
+}
+
+fn push_u32(frame: &mut Vec<u8>, n: u32) -> Result<(), AllocError>
+    ensures fits { n < 256 ^ 4 }
+    ensures ok { OnOk result (frame.new.items ≡ frame.old.items ++ big_bytes 4 n) }
+{
+    frame.extend_from_slice(&n.to_be_bytes())
+}
+
+fn push_u64(frame: &mut Vec<u8>, n: u64) -> Result<(), AllocError>
+    ensures fits { n < 256 ^ 8 }
+    ensures ok { OnOk result (frame.new.items ≡ frame.old.items ++ big_bytes 8 n) }
+{
+    frame.extend_from_slice(&n.to_be_bytes())
+}
+
+/// Appends what follows the flags.
+fn push_numbers(frame: &mut Vec<u8>, m: &Bpdu) -> Result<(), AllocError>
+    ensures fits { OnOk result (Fits m.now) }
+    ensures ok { OnOk result (frame.new.items ≡ frame.old.items ++ numbers m.now) }
+{
+    push_u64(frame, m.root)?;
+    push_u32(frame, m.cost)?;
+    push_u64(frame, m.bridge)?;
+    push_u16(frame, m.port)?;
+    push_u16(frame, m.age)?;
+    push_u16(frame, m.max_age)?;
+    push_u16(frame, m.hello)?;
+    push_u16(frame, m.delay)?;
+    Ok(())
+}
+
+/// The frame, octet by octet.
+fn encode(alloc: Global, src: Mac, m: &Bpdu) -> Result<Bytes, Memory>
+    ensures fits { OnOk result (Fits m.now) }
+    ensures exact { IfOk result (λ frame. frame ≡ written src.0 m.now) }
+{
+    let mut frame = Vec::with_capacity(alloc, 53)?;
+    frame.extend_from_slice(&[0x01, 0x80, 0xc2, 0x00, 0x00, 0x08])?;
+    frame.extend_from_slice(&src.0)?;
+    frame.extend_from_slice(&[0, 39, 0x42, 0x42, 0x03, 0, 0, 2, 2, flags(m)])?;
+    push_numbers(&mut frame, m)?;
+    frame.push(0)?;
+    Ok(Bytes::from_vec(frame)?)
+}
+
+/// The frame of 53 octets in which a bridge of this address sends the BPDU to 01-80-C2-00-00-08.
+///
+/// Its length is 39: three octets of logical link control and the 36 of the BPDU, of version 2 and type 2
+/// (IEEE 802.1D-2004 clause 9.3.3). The highest flag is 0. The only fault is want of memory.
+pub fn write(alloc: Global, src: Mac, m: &Bpdu) -> Result<Bytes, Memory>
+    // The BPDU stands in the frame.
+    ensures stands { IfOk result (λ frame. IsBpduFrame frame m.now) }
+    ensures length { IfOk result (λ frame. length frame ≡ 53) }
+    ensures exact { IfOk result (λ frame. frame ≡ written src.0 m.now) }
+{
+    encode(alloc, src, m)
+}
