@@ -1,8 +1,13 @@
+pub mod Found
+pub mod Lanes
 pub mod OneMore
+pub mod Meetings
 pub mod Keeping
+pub mod Placing
 pub mod PortMoves
+pub mod LaneMoves
 pub mod BridgeMoves
-pub mod Table
+pub mod SpotLemmas
 pub mod DueLemmas
 pub mod Done
 pub mod Records
