@@ -17,11 +17,10 @@ use Rattle.pb_lan.specs.declared.step.Outcome.{Outcome}
 use Rattle.pb_lan.specs.declared.step.Place.TheVariants.{Bridge}
 use Rattle.pb_lan.specs.declared.step.Step.{Step}
 use Rattle.pb_lan.specs.declared.step.Step.TheVariants.{Receive, Transmit}
-use Rattle.pb_link.proofs.PlaceLemmas.{flat_map-more}
 use Rattle.pb_net.specs.Nets.{IsKept}
 use Rattle.pb_net.specs.Slots.{IsSlot, bridge_of, port_of, items_at}
 use Rattle.pb_net.proofs.Keeping.{after_bridge, one_slot}
-use Rattle.pb_net.proofs.OneMore.{same_or_not, items_at-here, items_at-set_same, items_at-set_other}
+use Rattle.pb_net.proofs.OneMore.{flat_map-more, same_or_not, items_at-here, items_at-set_same, items_at-set_other}
 
 -- a step that neither receives nor transmits at a port leaves its meeting places
 received-else : (port : ℕ) (steps : List Step) (step : Step) → received_by port step ≡ [] → received port (steps ++ step ∷ []) ≡ received port steps

@@ -15,12 +15,11 @@ use Rattle.pb_lan.specs.declared.step.Item.{Item}
 use Rattle.pb_lan.specs.declared.step.Place.TheVariants.{Lane}
 use Rattle.pb_lan.specs.declared.step.Step.{Step}
 use Rattle.pb_lan.specs.declared.step.Step.TheVariants.{Take, Put}
-use Rattle.pb_link.proofs.PlaceLemmas.{flat_map-more}
 use Rattle.pb_net.specs.Nets.{IsKept}
 use Rattle.pb_net.specs.Slots.{IsSlot, bridge_of, port_of, items_at, link_of, losses_of}
 use Rattle.pb_net.proofs.Keeping.{after_lane, one_slot}
 use Rattle.pb_net.proofs.Meetings.{sent_to-lane, fetched_from-lane, sent_to-unput, fetched_from-untaken, sent_to-other_lane, fetched_from-other_lane}
-use Rattle.pb_net.proofs.OneMore.{same_or_not, items_at-set_other, steps_of-set_same}
+use Rattle.pb_net.proofs.OneMore.{flat_map-more, same_or_not, items_at-set_other, steps_of-set_same}
 use Rattle.pb_net.proofs.PortMoves.{slot_sent, slot_fetched, sends-nothing, fetches-nothing}
 
 -- what each step adds to what was taken and put

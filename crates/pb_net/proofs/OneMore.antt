@@ -1,8 +1,10 @@
 -- Lists by number, with one of them changed.
-use Rattle.std.proofs.Common.{◌≡◌, ℕ, zero, suc, ◌<◌, ◌⊎◌, inl, inr, List, [], ◌∷◌, ◌++◌, Some, map, length, unwrap_or, slice_get, get_or, refl, sym, ap, ◌∙◌, arith}
+use Rattle.std.proofs.Common.{◌≡◌, ℕ, zero, suc, ◌<◌, ◌⊎◌, inl, inr, List, [], ◌∷◌, ◌++◌, Some, map, length, unwrap_or, slice_get, get_or, refl, sym, ap, ◌∙◌, arith, append-nil}
 use Rattle.std.proofs.Math.ListN.{set}
 use Rattle.std.proofs.lemmas.List.{map-set}
 use Rattle.std.proofs.lemmas.Option.{slice_get-get_or}
+use Rattle.std.proofs.lemmas.Grind.{flat_map-append}
+use Rattle.std.specs.List.{flat_map}
 use Rattle.pb_lan.specs.Events.{one_more}
 use Rattle.pb_lan.specs.Numbering.{numbered}
 use Rattle.pb_lan.specs.Records.{steps_of}
@@ -90,3 +92,7 @@ pub map-set_kept : {X Y : Type 0} (f : X → Y) (xs : List X) (r : ℕ) (old new
 map-set_kept f [] r old new here same = refl
 map-set_kept f (x ∷ xs) zero old new here same = let one : x ≡ old = cc in ap (λ z. z ∷ map f xs) (same ∙ ap f (sym one))
 map-set_kept f (x ∷ xs) (suc r) old new here same = ap (λ z. f x ∷ z) (map-set_kept f xs r old new here same)
+
+-- what a list of steps gives, with one step more
+pub flat_map-more : {X : Type 0} (f : Step → List X) (steps : List Step) (step : Step) → flat_map f (steps ++ step ∷ []) ≡ flat_map f steps ++ f step
+flat_map-more f steps step = flat_map-append f steps (step ∷ []) ∙ ap (λ z. flat_map f steps ++ z) (append-nil (f step))

@@ -15,12 +15,11 @@ use Rattle.pb_lan.specs.declared.step.Item.{Item}
 use Rattle.pb_lan.specs.declared.step.Place.TheVariants.{Customer}
 use Rattle.pb_lan.specs.declared.step.Step.{Step}
 use Rattle.pb_lan.specs.declared.step.Step.TheVariants.{Poll, Feed, Deliver}
-use Rattle.pb_link.proofs.PlaceLemmas.{flat_map-more}
 use Rattle.pb_net.specs.Nets.{IsKept}
 use Rattle.pb_net.specs.Slots.{MeetsSlot, bridge_of, port_of, items_at}
 use Rattle.pb_net.proofs.Keeping.{after_port, one_slot, Sends, Fetches}
 use Rattle.pb_net.proofs.Meetings.{sent_to-customer, fetched_from-customer, sent_to-unfed, fetched_from-undelivered, sent_to-elsewhere, fetched_from-elsewhere}
-use Rattle.pb_net.proofs.OneMore.{same_or_not, items_at-here, items_at-set_same, items_at-set_other, steps_of-set_same}
+use Rattle.pb_net.proofs.OneMore.{flat_map-more, same_or_not, items_at-here, items_at-set_same, items_at-set_other, steps_of-set_same}
 
 -- what each step adds to what was fed and delivered
 fed-poll : (item : Item) (ms : List Step) → fed (ms ++ Poll item ∷ []) ≡ fed ms

@@ -6,3 +6,4 @@ pub mod Lists
 pub mod Slots
 pub mod Nets
 pub mod Starts
+pub mod Headline

@@ -15,6 +15,7 @@ mod fault;
 mod lists;
 mod net;
 mod slots;
+mod spots;
 mod start;
 
 pub use did::Did;

@@ -5,6 +5,7 @@ ghost use Rattle.pb_lan.specs.Events.{has_place, steps_at};
 ghost use Rattle.pb_lan.specs.Records.{IsLawfulRecord};
 ghost use Rattle.pb_lan.specs.Rules.{silent};
 ghost use Rattle.pb_net.specs.Answers.{IsAnswer, HaveRun, HasStopped};
+ghost use Rattle.pb_net.specs.Headline.{IsFaithful};
 
 use crate::did::Did;
 use crate::fault::NetFault;
@@ -97,9 +98,16 @@ impl Net {
     }
 
     /// Ends the network, and gives the record of its steps, which is lawful. Takes no memory.
+    ///
+    /// Whatever the events were: each departure has the octets of an arrival at a port of the same
+    /// service; a frame that was handled under a forest leaves each other port at most once, its own
+    /// never, and none outside its tree; one to a group that was neither refused nor lost, and has
+    /// drained, leaves each port of its service in its tree once; no frame is multiplied; and frames
+    /// of one port and one priority keep their order.
     pub fn finish(self) -> Record
         ensures record { result ≡ self.rec }
         ensures lawful { IsLawfulRecord silent self.plan result }
+        ensures headline { IsFaithful self.plan result }
     {
         let Net {
             plan: _,

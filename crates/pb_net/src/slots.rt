@@ -1,7 +1,5 @@
 //! The meeting places at the bridges' ports, by slot.
 
-ghost use Rattle.std.specs.Prelude.{◌≡◌, ◌<◌, ◌≤◌, ◌+◌, ◌⊎◌, IfSome, IfNone};
-
 /// Who is at a local port of a bridge.
 #[derive(Clone, Copy, Debug)]
 pub(crate) enum PortUse {
@@ -31,15 +29,4 @@ pub(crate) struct Slots {
 pub(crate) struct Spot {
     pub place: usize,
     pub slot: usize,
-}
-
-/// The index of the thing of a number, where there are so many, numbered from 1.
-pub(crate) fn index_of(number: u8, count: usize) -> Option<usize>
-    ensures some { IfSome result (λ r. (r + 1 ≡ number) × (r < count)) }
-    ensures none { IfNone result ((number ≡ 0) ⊎ (count < number)) }
-{
-    if number == 0 || usize::from(number) > count {
-        return None;
-    }
-    Some(usize::from(number) - 1)
 }
