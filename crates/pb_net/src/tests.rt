@@ -3,6 +3,7 @@
 mod classes;
 mod crossing;
 mod idle;
+mod lengths;
 mod limits;
 mod links;
 mod networks;

@@ -106,11 +106,12 @@ pub(super) fn two_bridges(
 
 /// Customer ports C1 (B1 port 2, red), C2 (B2 port 2, red) and C3 (B2 port 3, blue).
 pub(super) fn three_customers(alloc: Global) -> Result<Vec<CustomerPlan>, AllocError> {
-    vec![in alloc;
+    let customers = vec![in alloc;
         customer(alloc, "C1", (1, 2), 1, 0)?,
         customer(alloc, "C2", (2, 2), 1, 0)?,
         customer(alloc, "C3", (2, 3), 2, 0)?,
-    ]
+    ]?;
+    Ok(customers)
 }
 
 /// B1 and B2, joined by L1 from port 1 to port 1, which loses these; C1, C2 and C3.
