@@ -36,14 +36,13 @@ use Rattle.pb_lan.proofs.SentWasQueued.{waiting_from-append}
 use Rattle.pb_net.specs.Answers.{NetView, IsAnswer}
 use Rattle.pb_net.specs.declared.did.Did.{Did}
 use Rattle.pb_net.specs.declared.did.Did.TheVariants.{Idle, Done}
-use Rattle.pb_net.proofs.Keeping.{same_or_not}
 use Rattle.pb_cli.specs.FlatPlans.{flat_plan, flat_customer}
 use Rattle.pb_cli.specs.Quiet.{IsCalm, IsFew, IsQuiet, IsWaiting, HasAdmitted, bridge_steps}
 use Rattle.pb_cli.specs.Receipts.{receipts, receipt_by, IsClear}
 use Rattle.pb_cli.proofs.FlatPlanLaws.{flat_port-at, flat_customer-at, length-flat_customers}
 use Rattle.pb_cli.proofs.IdleLaws.{WasDone, poll_busy, feed_busy, receive_busy, busy_done}
 use Rattle.pb_cli.proofs.StepLengths.{customer_stepped, customer_kept, bridge_stepped, length-more, polled-more, fed-more, received-more, transmitted-more, delivered-more, one_here, none_there, grown-length}
-use Rattle.pb_net.proofs.OneMore.{flat_map-more}
+use Rattle.pb_net.proofs.OneMore.{same_or_not, flat_map-more}
 
 -- the steps that the three events append
 by_poll : (port : ℕ) (frame : List ℕ) (step : Step) → IsStepOf (Poll port frame) step → (item : Item) × (step ≡ Polled item) × (item.wire ≡ frame)

@@ -17,7 +17,6 @@ use Rattle.pb_lan.specs.declared.step.Place.TheVariants.{Bridge, Customer}
 use Rattle.pb_lan.specs.declared.step.Step.{Step}
 use Rattle.pb_lan.specs.declared.step.Step.TheVariants.{Poll as Polled, Feed as Fed, Deliver as Delivered, Receive as Received, Transmit as Transmitted, Tick as Ticked, Admin as Administered, Take as Took, Put as Put_on}
 use Rattle.pb_lan.proofs.SentWasQueued.{waiting_from-append}
-use Rattle.pb_net.proofs.Keeping.{same_or_not}
 use Rattle.pb_net.specs.Answers.{NetView, IsAnswer}
 use Rattle.pb_net.specs.declared.did.Did.{Did}
 use Rattle.pb_cli.specs.FlatPlans.{flat_plan}
@@ -26,7 +25,7 @@ use Rattle.pb_cli.specs.Receipts.{receipts, receipt_by, IsClear}
 use Rattle.pb_cli.proofs.FlatPlanLaws.{length-flat_customers}
 use Rattle.pb_cli.proofs.IdleLaws.{transmit_idle, deliver_idle, busy_done, idle_kept, gtb}
 use Rattle.pb_cli.proofs.StepLengths.{customer_stepped, customer_kept, bridge_stepped, length-more, polled-more, fed-more, received-more, transmitted-more, delivered-more, one_here, none_there, grown-length}
-use Rattle.pb_net.proofs.OneMore.{flat_map-more}
+use Rattle.pb_net.proofs.OneMore.{same_or_not, flat_map-more}
 
 by_transmit : (bridge port : ℕ) (step : Step) → IsStepOf (Transmit bridge port) step → (item : Item) × (step ≡ Transmitted port item)
 by_transmit bridge port (Polled item) h = absurd h

@@ -2,6 +2,7 @@
 
 mod counts;
 mod plans;
+mod states;
 mod unsound;
 
 use crate::{

@@ -15,7 +15,7 @@ use Rattle.pb_lan.specs.declared.step.Step.TheVariants.{Poll, Feed, Deliver, Rec
 use Rattle.pb_link.specs.Hands.{PlaceView, IsHand, IsPortKept}
 
 -- what a step more adds to a list that steps give
-flat_map-more : {X : Type 0} (f : Step → List X) (steps : List Step) (step : Step) → flat_map f (steps ++ step ∷ []) ≡ flat_map f steps ++ f step
+pub flat_map-more : {X : Type 0} (f : Step → List X) (steps : List Step) (step : Step) → flat_map f (steps ++ step ∷ []) ≡ flat_map f steps ++ f step
 flat_map-more f steps step = flat_map-append f steps (step ∷ []) ∙ ap (λ z. flat_map f steps ++ z) (append-nil (f step))
 
 -- what stands in a list stands there still when more follows

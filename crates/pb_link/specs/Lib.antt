@@ -1,1 +1,3 @@
 pub mod Hands
+pub mod Losses
+pub mod Lanes

@@ -5,6 +5,7 @@ ghost use Rattle.pb_lan.specs.Events.{is_hand_empty};
 ghost use Rattle.pb_lan.specs.PortLists.{polled, fed, IsLawfulPort};
 ghost use Rattle.pb_link.specs.Hands.{arrival, with_step, HasFed};
 
+use crate::steps::append;
 use bytes::Bytes;
 use pb_frame::Memory;
 use pb_lan::{Item, Mark, Step};
@@ -35,14 +36,6 @@ impl Model for CustomerPlace {
 
     ghost invariant = { λ p. IsPortKept p.number p.steps.items p.hand p.polls
         × HasRoom p.steps.items (vec_capacity p.steps) p.is_reserved };
-}
-
-/// Puts a step into the room that is there for it.
-fn append(steps: &mut Vec<Step>, step: Step)
-    requires { vec_len steps.old < vec_capacity steps.old }
-    ensures items { steps.new.items ≡ steps.old.items ++ step ∷ [] }
-{
-    let _ = steps.push(step);
 }
 
 /// An item's copy, which shares its octets.

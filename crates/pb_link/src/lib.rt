@@ -1,4 +1,5 @@
-//! The places at the edge of a network that have one item in hand: customer ports.
+//! The places between bridges and at the edge of a network, which have one item in hand: lanes and
+//! customer ports.
 //!
 //! A place shows the list of its steps, which is lawful whatever is called in which order. It knows
 //! nothing of the queues or rings through which its items come and go: who owns those takes an item
@@ -6,8 +7,12 @@
 #![tactic(auto)]
 
 mod customer;
+mod lane;
+mod losses;
+mod steps;
 
 pub use customer::CustomerPlace;
+pub use lane::Lane;
 pub use pb_frame::Memory;
 
 #[cfg(test)]

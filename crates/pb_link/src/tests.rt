@@ -1,5 +1,7 @@
 //! Runs with ample memory.
 
+mod lanes;
+
 use crate::CustomerPlace;
 use bytes::Bytes;
 use pb_frame::Memory;

@@ -1,38 +1,44 @@
 -- What a network keeps after an event was done, and after one that met want of memory.
-use Rattle.std.proofs.Common.{◌≡◌, ℕ, zero, suc, ◌==◌, ◌<◌, Bool, true, false, not, ◌||◌, nat_le, List, [], ◌∷◌, ◌++◌, Some, Err, map, length, slice_get, get_or, refl, sym, ap, subst, ◌∙◌, arith, Global}
-use Rattle.std.proofs.lemmas.List.{length-map}
-use Rattle.std.specs.declared.collections.VecDeque.{VecDeque}
-use Rattle.std.proofs.Math.ListN.{set}
-use Rattle.std.proofs.lemmas.List.{map-set}
+use Rattle.std.proofs.Common.{◌≡◌, ℕ, suc, ◌+◌, ◌*◌, ◌<◌, Bool, true, false, not, ◌||◌, ◌==◌, List, [], ◌∷◌, ◌++◌, Some, Err, map, length, slice_get, get_or, refl, sym, ap, subst, ◌∙◌, arith, Global}
+use Rattle.std.proofs.lemmas.List.{length-map, map-set}
 use Rattle.std.proofs.lemmas.Bool.Decides.{nat_tests}
-use Rattle.std.proofs.Math.Dec.{leb-zero, leb-suc-zero, eqb-suc-zero}
-use Rattle.pb_lan.specs.BridgeLists.{Fits}
-use Rattle.pb_lan.specs.Events.{HasDone}
+use Rattle.std.proofs.Math.ListN.{set}
+use Rattle.std.specs.declared.collections.VecDeque.{VecDeque}
+use Rattle.std.specs.declared.result.Result.{Result}
+use Rattle.pb_lan.specs.BridgeLists.{IsLawfulBridge, Fits}
+use Rattle.pb_lan.specs.Events.{HasDone, with_step}
+use Rattle.pb_lan.specs.LaneLists.{IsLawfulLane}
 use Rattle.pb_lan.specs.PortLists.{IsLawfulPort}
+use Rattle.pb_lan.specs.Records.{steps_of}
 use Rattle.pb_lan.specs.Rules.{silent}
-use Rattle.pb_lan.specs.declared.event.Event.TheVariants.{Poll, Feed, Deliver, Receive, Transmit, Tick}
+use Rattle.pb_lan.specs.declared.event.Event.{Event}
+use Rattle.pb_lan.specs.declared.event.Event.TheVariants.{Poll, Feed, Deliver, Receive, Transmit, Tick, Admin, Take, Put}
 use Rattle.pb_lan.specs.declared.plan.Plan.{Plan}
+use Rattle.pb_lan.specs.declared.record.Record.{Record}
 use Rattle.pb_lan.specs.declared.step.Item.{Item}
 use Rattle.pb_lan.specs.declared.step.Moved.{Moved}
-use Rattle.pb_lan.specs.declared.step.Step.TheVariants.{Poll as Polled, Feed as Fed, Deliver as Delivered, Receive as Received, Transmit as Transmitted, Tick as Ticked}
-use Rattle.std.specs.declared.result.Result.{Result}
-use Rattle.pb_lan.specs.declared.event.Event.{Event}
-use Rattle.pb_lan.specs.declared.record.Record.{Record}
-use Rattle.pb_net.specs.Answers.{NetView, IsDue, IsAnswer}
-use Rattle.pb_net.specs.Faults.{fault_of}
+use Rattle.pb_lan.specs.declared.step.Step.{Step}
+use Rattle.pb_lan.specs.declared.step.Step.TheVariants.{Poll as Polled, Feed as Fed, Deliver as Delivered, Receive as Received, Transmit as Transmitted, Tick as Ticked, Admin as Administered, Put as Put_on}
+use Rattle.pb_link.specs.Hands.{PlaceView}
+use Rattle.pb_link.specs.Lanes.{LaneView, taking}
+use Rattle.pb_relay.proofs.StepLemmas.{lawful_more}
+use Rattle.pb_relay.specs.Standing.{BridgeView}
 use Rattle.pb_relay.specs.declared.fault.BridgeFault.{BridgeFault}
 use Rattle.pb_relay.specs.declared.fault.BridgeFault.TheVariants.{StepLimit as bridge_limit, Memory as bridge_memory}
+use Rattle.pb_net.specs.Answers.{NetView, IsDue, IsAnswer}
+use Rattle.pb_net.specs.Faults.{fault_of}
+use Rattle.pb_net.specs.Moves.{HasFedInto, HasDelivered, HasReceivedFrom, HasTransmittedTo, HasTakenFrom, HasPutInto}
+use Rattle.pb_net.specs.Nets.{IsFixedPlan, IsKept, ArePlaced, record_of}
+use Rattle.pb_net.specs.Slots.{IsSlot, MeetsSlot, IsBridgeSpot, IsCustomerSpot, IsLaneStart, IsLaneEnd, losses_of}
 use Rattle.pb_net.specs.declared.did.Did.{Did}
 use Rattle.pb_net.specs.declared.fault.NetFault.{NetFault}
 use Rattle.pb_net.specs.declared.fault.NetFault.TheVariants.{Memory}
-use Rattle.pb_link.specs.Hands.{PlaceView}
-use Rattle.pb_relay.specs.Standing.{BridgeView}
-use Rattle.pb_net.specs.Moves.{HasFedInto, HasDelivered, HasReceivedFrom, HasTransmittedTo}
-use Rattle.pb_net.specs.Nets.{IsPlain, IsKept, ArePlaced, record_of}
-use Rattle.pb_net.proofs.BridgeMoves.{after_receive, after_transmit, after_tick, placed_bridge, recorded_bridge, unrecorded_bridge}
-use Rattle.pb_net.proofs.DueLemmas.{StandsAt}
-use Rattle.pb_net.proofs.OneMore.{here_is, slice_get-map}
-use Rattle.pb_net.proofs.PortMoves.{after_poll, after_feed, after_deliver, placed_customer, recorded_customer, unrecorded_customer}
+use Rattle.pb_net.specs.declared.slots.Spot.{Spot}
+use Rattle.pb_net.proofs.BridgeMoves.{after_receive, after_transmit, after_quiet}
+use Rattle.pb_net.proofs.LaneMoves.{after_take, after_put}
+use Rattle.pb_net.proofs.OneMore.{here_is, slice_get-map, steps_of-map, map-set_kept}
+use Rattle.pb_net.proofs.Placing.{placed_bridge, placed_lane, placed_customer, recorded_bridge, recorded_lane, recorded_customer, unrecorded_bridge, unrecorded_lane, unrecorded_customer}
+use Rattle.pb_net.proofs.PortMoves.{after_poll, after_feed, after_deliver}
 
 -- what stands in a queue
 abbrev pub items_in : VecDeque Item Global → List Item
@@ -42,8 +48,9 @@ items_in q = q.items
 pub box_at : {Q : Type 0} (f : Q → List Item) (boxes : List Q) (r n : ℕ) (box : Q) → length (map f boxes) ≡ n → r < n → box ≡ get_or boxes r box → slice_get (map f boxes) r ≡ Some (f box)
 box_at f boxes r n box count within e = slice_get-map f boxes r box (here_is boxes r box (omega (arith, length-map boxes f)) e)
 
-pub box_within : {Q : Type 0} (f : Q → List Item) (boxes : List Q) (r n : ℕ) → length (map f boxes) ≡ n → r < n → r < length boxes
-box_within f boxes r n count within = omega (arith, length-map boxes f)
+-- a meeting place that holds what it held
+pub box_kept : {Q : Type 0} (f : Q → List Item) (boxes : List Q) (r n : ℕ) (old new : Q) → length (map f boxes) ≡ n → r < n → old ≡ get_or boxes r old → f new ≡ f old → map f (set boxes r new) ≡ map f boxes
+box_kept f boxes r n old new count within e same = map-set_kept f boxes r old new (here_is boxes r old (omega (arith, length-map boxes f)) e) same
 
 abbrev pub net_with : Plan → Record → NetView
 net_with plan rec = record { plan = plan; rec = rec }
@@ -69,99 +76,212 @@ not_false true e = refl
 not_false false e = cc
 
 -- something is there
-pub some_there : (n : ℕ) → nat_le n 0 ≡ false → 0 < n
+pub some_there : (n : ℕ) → (n == 0) ≡ false → 0 < n
 some_there n e = grind (arith, nat_tests)
-
--- nothing is there
-pub none_there : (n : ℕ) → nat_le n 0 ≡ (n == 0)
-none_there zero = leb-zero zero
-none_there (suc n) = leb-suc-zero n ∙ sym (eqb-suc-zero n)
-
--- a customer port has not changed its steps
-pub customer_failed : (plan : Plan) (bridges : List BridgeView) (customers : List PlaceView) (ins outs : List (List Item)) (r : ℕ) (old new : PlaceView)
-    → ArePlaced plan bridges customers → IsKept plan (record_of bridges customers) ins outs → slice_get customers r ≡ Some old → new.number ≡ old.number → new.steps ≡ old.steps
-    → ArePlaced plan bridges (set customers r new) × IsKept plan (record_of bridges (set customers r new)) ins outs × (record_of bridges (set customers r new) ≡ record_of bridges customers)
-customer_failed plan bridges customers ins outs r old new placed kept here number same =
-    let e = unrecorded_customer bridges customers r old new here same in
-    (placed_customer plan bridges customers r old new placed here number, rw e kept, e)
-
--- nor has a bridge
-pub bridge_failed : (plan : Plan) (bridges : List BridgeView) (customers : List PlaceView) (ins outs : List (List Item)) (r : ℕ) (old new : BridgeView)
-    → ArePlaced plan bridges customers → IsKept plan (record_of bridges customers) ins outs → slice_get bridges r ≡ Some old → new.plan ≡ old.plan → new.number ≡ old.number → new.steps ≡ old.steps
-    → ArePlaced plan (set bridges r new) customers × IsKept plan (record_of (set bridges r new) customers) ins outs × (record_of (set bridges r new) customers ≡ record_of bridges customers)
-bridge_failed plan bridges customers ins outs r old new placed kept here of_plan number same =
-    let e = unrecorded_bridge bridges customers r old new here same in
-    (placed_bridge plan bridges customers r old new placed here of_plan number, rw e kept, e)
 
 -- whether a Poll is due does not rest on its frame
 pub with_frame : (net : NetView) (port : ℕ) (frame : List ℕ) → IsDue net (Poll port []) → IsDue net (Poll port frame)
 with_frame net port frame due = record { named = due.named; busy = due.busy; within = due.within }
 
-pub poll_done : (plan : Plan) (bridges : List BridgeView) (customers : List PlaceView) (ins outs : List (List Item)) (r : ℕ) (old new : PlaceView) (item : Item)
-    → ArePlaced plan bridges customers → IsKept plan (record_of bridges customers) ins outs → slice_get customers r ≡ Some old → new.number ≡ old.number → IsLawfulPort new.number new.steps
-    → new.steps ≡ old.steps ++ Polled item ∷ []
-    → ArePlaced plan bridges (set customers r new) × IsKept plan (record_of bridges (set customers r new)) ins outs
-    × HasDone (record_of bridges customers) (Poll (suc r) item.wire) (record_of bridges (set customers r new))
-poll_done plan bridges customers ins outs r old new item placed kept here number lawful grown =
-    let named : new.number ≡ suc r = number ∙ placed.customer_numbers r old here ∙ omega arith in (
-      placed_customer plan bridges customers r old new placed here number,
-      after_poll plan bridges customers ins outs r old new item kept placed.customer_count here (subst (λ n. IsLawfulPort n new.steps) named lawful) grown,
-      (Polled item, refl, recorded_customer bridges customers r old new (Polled item) here grown),
+-- a place has not changed its steps
+pub customer_failed : (plan : Plan) (bridges : List BridgeView) (lanes : List LaneView) (customers : List PlaceView) (ins outs : List (List Item)) (r : ℕ) (old new : PlaceView)
+    → ArePlaced plan bridges lanes customers → IsKept plan (record_of bridges lanes customers) ins outs → r < length plan.customers → old ≡ get_or customers r old → new.number ≡ old.number → new.steps ≡ old.steps
+    → ArePlaced plan bridges lanes (set customers r new) × IsKept plan (record_of bridges lanes (set customers r new)) ins outs × (record_of bridges lanes (set customers r new) ≡ record_of bridges lanes customers)
+customer_failed plan bridges lanes customers ins outs r old new placed kept within value number same =
+    let here = here_is customers r old (omega (arith, placed.customer_count)) value in
+    let e = unrecorded_customer bridges lanes customers r old new here same in
+    (placed_customer plan bridges lanes customers r old new placed here number, rw e kept, e)
+
+pub lane_failed : (plan : Plan) (bridges : List BridgeView) (lanes : List LaneView) (customers : List PlaceView) (ins outs : List (List Item)) (r : ℕ) (old new : LaneView)
+    → ArePlaced plan bridges lanes customers → IsKept plan (record_of bridges lanes customers) ins outs → r < 2 * length plan.links → old ≡ get_or lanes r old → new.losses ≡ old.losses → new.steps ≡ old.steps
+    → ArePlaced plan bridges (set lanes r new) customers × IsKept plan (record_of bridges (set lanes r new) customers) ins outs × (record_of bridges (set lanes r new) customers ≡ record_of bridges lanes customers)
+lane_failed plan bridges lanes customers ins outs r old new placed kept within value losses same =
+    let here = here_is lanes r old (omega (arith, placed.lane_count)) value in
+    let e = unrecorded_lane bridges lanes customers r old new here same in
+    (placed_lane plan bridges lanes customers r old new placed here losses, rw e kept, e)
+
+pub bridge_failed : (plan : Plan) (bridges : List BridgeView) (lanes : List LaneView) (customers : List PlaceView) (ins outs : List (List Item)) (r : ℕ) (old new : BridgeView)
+    → ArePlaced plan bridges lanes customers → IsKept plan (record_of bridges lanes customers) ins outs → r < length plan.bridges → old ≡ get_or bridges r old → new.plan ≡ old.plan → new.number ≡ old.number → new.steps ≡ old.steps
+    → ArePlaced plan (set bridges r new) lanes customers × IsKept plan (record_of (set bridges r new) lanes customers) ins outs × (record_of (set bridges r new) lanes customers ≡ record_of bridges lanes customers)
+bridge_failed plan bridges lanes customers ins outs r old new placed kept within value of_plan number same =
+    let here = here_is bridges r old (omega (arith, placed.bridge_count)) value in
+    let e = unrecorded_bridge bridges lanes customers r old new here same in
+    (placed_bridge plan bridges lanes customers r old new placed here of_plan number, rw e kept, e)
+
+-- a place's lawful list, with one step more
+grown_port : (plan : Plan) (bridges : List BridgeView) (lanes : List LaneView) (customers : List PlaceView) (r : ℕ) (old new : PlaceView) (step : Step)
+    → ArePlaced plan bridges lanes customers → slice_get customers r ≡ Some old → new.number ≡ old.number → IsLawfulPort new.number new.steps → new.steps ≡ old.steps ++ step ∷ []
+    → IsLawfulPort (suc r) (steps_of (map (λ (p : PlaceView). p.steps) customers) (suc r) ++ step ∷ [])
+grown_port plan bridges lanes customers r old new step placed here number lawful grown =
+    let named : new.number ≡ suc r = number ∙ placed.customer_numbers r old here ∙ omega arith in
+    let mine : steps_of (map (λ (p : PlaceView). p.steps) customers) (suc r) ≡ old.steps = steps_of-map (λ (p : PlaceView). p.steps) customers r old here in
+    subst (λ (ms : List Step). IsLawfulPort (suc r) ms) (grown ∙ ap (λ (ms : List Step). ms ++ step ∷ []) (sym mine)) (subst (λ n. IsLawfulPort n new.steps) named lawful)
+
+grown_lane : (plan : Plan) (bridges : List BridgeView) (lanes : List LaneView) (customers : List PlaceView) (r : ℕ) (old new : LaneView) (step : Step)
+    → ArePlaced plan bridges lanes customers → slice_get lanes r ≡ Some old → new.losses ≡ old.losses → IsLawfulLane new.losses new.steps → new.steps ≡ old.steps ++ step ∷ []
+    → IsLawfulLane (losses_of plan (suc r)) (steps_of (map (λ (l : LaneView). l.steps) lanes) (suc r) ++ step ∷ [])
+grown_lane plan bridges lanes customers r old new step placed here losses lawful grown =
+    let next : r + 1 ≡ suc r = omega arith in
+    let of_plan : new.losses ≡ losses_of plan (suc r) = losses ∙ placed.lane_losses r old here ∙ ap (losses_of plan) next in
+    let mine : steps_of (map (λ (l : LaneView). l.steps) lanes) (suc r) ≡ old.steps = steps_of-map (λ (l : LaneView). l.steps) lanes r old here in
+    subst (λ (ms : List Step). IsLawfulLane (losses_of plan (suc r)) ms) (grown ∙ ap (λ (ms : List Step). ms ++ step ∷ []) (sym mine)) (subst (λ (ls : List ℕ). IsLawfulLane ls new.steps) of_plan lawful)
+
+grown_bridge : (plan : Plan) (bridges : List BridgeView) (lanes : List LaneView) (customers : List PlaceView) (ins outs : List (List Item)) (r : ℕ) (old : BridgeView) (step : Step)
+    → IsKept plan (record_of bridges lanes customers) ins outs → ArePlaced plan bridges lanes customers → slice_get bridges r ≡ Some old
+    → Fits silent old.plan old.number old.steps step
+    → IsLawfulBridge silent plan (suc r) (steps_of (map (λ (b : BridgeView). b.steps) bridges) (suc r) ++ step ∷ [])
+grown_bridge plan bridges lanes customers ins outs r old step kept placed here fits =
+    let mine : steps_of (map (λ (b : BridgeView). b.steps) bridges) (suc r) ≡ old.steps = steps_of-map (λ (b : BridgeView). b.steps) bridges r old here in
+    let number : old.number ≡ suc r = placed.bridge_numbers r old here ∙ omega arith in
+    let fits_here = subst (λ (p : Plan). Fits silent p (suc r) old.steps step) (placed.planned r old here) (subst (λ (n : ℕ). Fits silent old.plan n old.steps step) number fits) in
+    subst (λ (ms : List Step). IsLawfulBridge silent plan (suc r) (ms ++ step ∷ [])) (sym mine)
+    (lawful_more silent plan (suc r) old.steps step (subst (λ (ms : List Step). IsLawfulBridge silent plan (suc r) ms) mine (kept.bridges (suc r))) fits_here)
+
+pub poll_done : (plan : Plan) (bridges : List BridgeView) (lanes : List LaneView) (customers : List PlaceView) (ins outs : List (List Item)) (port : ℕ) (spot : Spot) (old new : PlaceView) (item : Item)
+    → ArePlaced plan bridges lanes customers → IsKept plan (record_of bridges lanes customers) ins outs → IsCustomerSpot plan port spot → old ≡ get_or customers spot.place old
+    → new.number ≡ old.number → IsLawfulPort new.number new.steps → new.steps ≡ old.steps ++ Polled item ∷ []
+    → ArePlaced plan bridges lanes (set customers spot.place new) × IsKept plan (record_of bridges lanes (set customers spot.place new)) ins outs
+    × HasDone (record_of bridges lanes customers) (Poll port item.wire) (record_of bridges lanes (set customers spot.place new))
+poll_done plan bridges lanes customers ins outs port spot old new item placed kept known value number lawful grown =
+    let r = spot.place in
+    let here = here_is customers r old (omega (arith, known.there, placed.customer_count)) value in
+    let port_is : suc r ≡ port = omega (arith, known.place) in
+    let rec = recorded_customer bridges lanes customers r old new (Polled item) here grown in (
+      placed_customer plan bridges lanes customers r old new placed here number,
+      rw rec (after_poll plan (record_of bridges lanes customers) ins outs r item kept known.there (grown_port plan bridges lanes customers r old new (Polled item) placed here number lawful grown)),
+      subst (λ n. HasDone (record_of bridges lanes customers) (Poll n item.wire) (record_of bridges lanes (set customers r new))) port_is (Polled item, refl, rec),
     )
 
-pub feed_done : {Q : Type 0} (f : Q → List Item) (plan : Plan) (bridges : List BridgeView) (customers : List PlaceView) (ins outs : List Q) (r : ℕ) (old new : PlaceView) (box box' : Q)
-    → ArePlaced plan bridges customers → IsKept plan (record_of bridges customers) (map f ins) (map f outs) → slice_get customers r ≡ Some old → slice_get (map f ins) r ≡ Some (f box)
-    → new.number ≡ old.number → IsLawfulPort new.number new.steps → HasFedInto old (f box) new (f box')
-    → ArePlaced plan bridges (set customers r new) × IsKept plan (record_of bridges (set customers r new)) (map f (set ins r box')) (map f outs)
-    × HasDone (record_of bridges customers) (Feed (suc r)) (record_of bridges (set customers r new))
-feed_done f plan bridges customers ins outs r old new box box' placed kept here there number lawful moved =
-    let named : new.number ≡ suc r = number ∙ placed.customer_numbers r old here ∙ omega arith in (
-      placed_customer plan bridges customers r old new placed here number,
-      rw (map-set f ins r box') (after_feed plan bridges customers (map f ins) (map f outs) r old new (f box) (f box') kept placed.customer_count here there (subst (λ n. IsLawfulPort n new.steps) named lawful) moved),
-      (Fed moved.item, tt, recorded_customer bridges customers r old new (Fed moved.item) here moved.steps),
+pub feed_done : {Q : Type 0} (f : Q → List Item) (plan : Plan) (bridges : List BridgeView) (lanes : List LaneView) (customers : List PlaceView) (ins outs : List Q) (port : ℕ) (spot : Spot) (old new : PlaceView) (box box' : Q)
+    → IsFixedPlan plan → ArePlaced plan bridges lanes customers → IsKept plan (record_of bridges lanes customers) (map f ins) (map f outs) → IsCustomerSpot plan port spot
+    → old ≡ get_or customers spot.place old → box ≡ get_or ins spot.slot box → new.number ≡ old.number → IsLawfulPort new.number new.steps → HasFedInto old (f box) new (f box')
+    → ArePlaced plan bridges lanes (set customers spot.place new) × IsKept plan (record_of bridges lanes (set customers spot.place new)) (map f (set ins spot.slot box')) (map f outs)
+    × HasDone (record_of bridges lanes customers) (Feed port) (record_of bridges lanes (set customers spot.place new))
+feed_done f plan bridges lanes customers ins outs port spot old new box box' fixed placed kept known value boxed number lawful moved =
+    let r = spot.place in
+    let here = here_is customers r old (omega (arith, known.there, placed.customer_count)) value in
+    let there = box_at f ins spot.slot (16 * length plan.bridges) box kept.inbox_count known.slot.at.within boxed in
+    let port_is : suc r ≡ port = omega (arith, known.place) in
+    let meets : MeetsSlot plan (suc r) spot.slot = subst (λ n. MeetsSlot plan n spot.slot) (sym port_is) known.slot in
+    let rec = recorded_customer bridges lanes customers r old new (Fed moved.item) here moved.steps in (
+      placed_customer plan bridges lanes customers r old new placed here number,
+      rw (rec, map-set f ins spot.slot box', moved.queued) (after_feed plan (record_of bridges lanes customers) (map f ins) (map f outs) r spot.slot moved.item (f box) fixed.sound kept known.there meets there (grown_port plan bridges lanes customers r old new (Fed moved.item) placed here number lawful moved.steps)),
+      subst (λ n. HasDone (record_of bridges lanes customers) (Feed n) (record_of bridges lanes (set customers r new))) port_is (Fed moved.item, tt, rec),
     )
 
-pub deliver_done : {Q : Type 0} (f : Q → List Item) (plan : Plan) (bridges : List BridgeView) (customers : List PlaceView) (ins outs : List Q) (r : ℕ) (old new : PlaceView) (box box' : Q)
-    → ArePlaced plan bridges customers → IsKept plan (record_of bridges customers) (map f ins) (map f outs) → slice_get customers r ≡ Some old → slice_get (map f outs) r ≡ Some (f box)
-    → new.number ≡ old.number → IsLawfulPort new.number new.steps → HasDelivered old (f box) new (f box')
-    → ArePlaced plan bridges (set customers r new) × IsKept plan (record_of bridges (set customers r new)) (map f ins) (map f (set outs r box'))
-    × HasDone (record_of bridges customers) (Deliver (suc r)) (record_of bridges (set customers r new))
-deliver_done f plan bridges customers ins outs r old new box box' placed kept here there number lawful moved =
-    let named : new.number ≡ suc r = number ∙ placed.customer_numbers r old here ∙ omega arith in (
-      placed_customer plan bridges customers r old new placed here number,
-      rw (map-set f outs r box') (after_deliver plan bridges customers (map f ins) (map f outs) r old new (f box) (f box') kept placed.customer_count here there (subst (λ n. IsLawfulPort n new.steps) named lawful) moved),
-      (Delivered moved.item false, refl, recorded_customer bridges customers r old new (Delivered moved.item false) here moved.steps),
+pub deliver_done : {Q : Type 0} (f : Q → List Item) (plan : Plan) (bridges : List BridgeView) (lanes : List LaneView) (customers : List PlaceView) (ins outs : List Q) (port : ℕ) (spot : Spot) (old new : PlaceView) (box box' : Q)
+    → IsFixedPlan plan → ArePlaced plan bridges lanes customers → IsKept plan (record_of bridges lanes customers) (map f ins) (map f outs) → IsCustomerSpot plan port spot
+    → old ≡ get_or customers spot.place old → box ≡ get_or outs spot.slot box → new.number ≡ old.number → IsLawfulPort new.number new.steps → HasDelivered old (f box) new (f box')
+    → ArePlaced plan bridges lanes (set customers spot.place new) × IsKept plan (record_of bridges lanes (set customers spot.place new)) (map f ins) (map f (set outs spot.slot box'))
+    × HasDone (record_of bridges lanes customers) (Deliver port) (record_of bridges lanes (set customers spot.place new))
+deliver_done f plan bridges lanes customers ins outs port spot old new box box' fixed placed kept known value boxed number lawful moved =
+    let r = spot.place in
+    let here = here_is customers r old (omega (arith, known.there, placed.customer_count)) value in
+    let there = box_at f outs spot.slot (16 * length plan.bridges) box kept.outbox_count known.slot.at.within boxed in
+    let port_is : suc r ≡ port = omega (arith, known.place) in
+    let meets : MeetsSlot plan (suc r) spot.slot = subst (λ n. MeetsSlot plan n spot.slot) (sym port_is) known.slot in
+    let rec = recorded_customer bridges lanes customers r old new (Delivered moved.item false) here moved.steps in (
+      placed_customer plan bridges lanes customers r old new placed here number,
+      rw (rec, map-set f outs spot.slot box') (after_deliver plan (record_of bridges lanes customers) (map f ins) (map f outs) r spot.slot moved.item (f box') fixed.sound kept known.there meets (there ∙ ap (λ z. Some z) moved.taken) (grown_port plan bridges lanes customers r old new (Delivered moved.item false) placed here number lawful moved.steps)),
+      subst (λ n. HasDone (record_of bridges lanes customers) (Deliver n) (record_of bridges lanes (set customers r new))) port_is (Delivered moved.item false, refl, rec),
     )
 
-pub receive_done : {Q : Type 0} (f : Q → List Item) (plan : Plan) (bridges : List BridgeView) (customers : List PlaceView) (ins outs : List Q) (r q s : ℕ) (old new : BridgeView) (box box' : Q)
-    → IsPlain plan → ArePlaced plan bridges customers → IsKept plan (record_of bridges customers) (map f ins) (map f outs) → slice_get bridges r ≡ Some old → slice_get (map f ins) s ≡ Some (f box)
-    → StandsAt plan (suc r) q s → new.plan ≡ old.plan → new.number ≡ old.number → HasReceivedFrom old q (f box) new (f box')
-    → ArePlaced plan (set bridges r new) customers × IsKept plan (record_of (set bridges r new) customers) (map f (set ins s box')) (map f outs)
-    × HasDone (record_of bridges customers) (Receive (suc r) q) (record_of (set bridges r new) customers)
-receive_done f plan bridges customers ins outs r q s old new box box' plain placed kept here there at of_plan number moved = (
-  placed_bridge plan bridges customers r old new placed here of_plan number,
-  rw (map-set f ins s box') (after_receive plan bridges customers (map f ins) (map f outs) r s q at.c old new (f box) (f box') plain.sound kept placed here there at.planned at.bridge at.port moved),
-  (Received q moved.item moved.learnt moved.outcome moved.moved, refl, recorded_bridge bridges customers r old new (Received q moved.item moved.learnt moved.outcome moved.moved) here moved.steps),
-)
+pub receive_done : {Q : Type 0} (f : Q → List Item) (plan : Plan) (bridges : List BridgeView) (lanes : List LaneView) (customers : List PlaceView) (ins outs : List Q) (bridge port : ℕ) (spot : Spot) (old new : BridgeView) (box box' : Q)
+    → ArePlaced plan bridges lanes customers → IsKept plan (record_of bridges lanes customers) (map f ins) (map f outs) → IsBridgeSpot plan bridge port spot
+    → old ≡ get_or bridges spot.place old → box ≡ get_or ins spot.slot box → new.plan ≡ old.plan → new.number ≡ old.number → HasReceivedFrom old port (f box) new (f box')
+    → ArePlaced plan (set bridges spot.place new) lanes customers × IsKept plan (record_of (set bridges spot.place new) lanes customers) (map f (set ins spot.slot box')) (map f outs)
+    × HasDone (record_of bridges lanes customers) (Receive bridge port) (record_of (set bridges spot.place new) lanes customers)
+receive_done f plan bridges lanes customers ins outs bridge port spot old new box box' placed kept known value boxed of_plan number moved =
+    let r = spot.place in
+    let step : Step = Received port moved.item moved.learnt moved.outcome moved.moved in
+    let here = here_is bridges r old (omega (arith, known.there, placed.bridge_count)) value in
+    let there = box_at f ins spot.slot (16 * length plan.bridges) box kept.inbox_count known.slot.within boxed in
+    let bridge_is : suc r ≡ bridge = omega (arith, known.place) in
+    let at : IsSlot plan (suc r) port spot.slot = subst (λ n. IsSlot plan n port spot.slot) (sym bridge_is) known.slot in
+    let rec = recorded_bridge bridges lanes customers r old new step here moved.steps in (
+      placed_bridge plan bridges lanes customers r old new placed here of_plan number,
+      rw (rec, map-set f ins spot.slot box') (after_receive plan (record_of bridges lanes customers) (map f ins) (map f outs) r spot.slot port moved.item moved.learnt moved.outcome moved.moved (f box') kept known.there at (there ∙ ap (λ z. Some z) moved.taken) (grown_bridge plan bridges lanes customers (map f ins) (map f outs) r old step kept placed here moved.fits)),
+      subst (λ n. HasDone (record_of bridges lanes customers) (Receive n port) (record_of (set bridges r new) lanes customers)) bridge_is (step, refl, rec),
+    )
 
-pub transmit_done : {Q : Type 0} (f : Q → List Item) (plan : Plan) (bridges : List BridgeView) (customers : List PlaceView) (ins outs : List Q) (r q s : ℕ) (old new : BridgeView) (box box' : Q)
-    → IsPlain plan → ArePlaced plan bridges customers → IsKept plan (record_of bridges customers) (map f ins) (map f outs) → slice_get bridges r ≡ Some old → slice_get (map f outs) s ≡ Some (f box)
-    → StandsAt plan (suc r) q s → new.plan ≡ old.plan → new.number ≡ old.number → HasTransmittedTo old q (f box) new (f box')
-    → ArePlaced plan (set bridges r new) customers × IsKept plan (record_of (set bridges r new) customers) (map f ins) (map f (set outs s box'))
-    × HasDone (record_of bridges customers) (Transmit (suc r) q) (record_of (set bridges r new) customers)
-transmit_done f plan bridges customers ins outs r q s old new box box' plain placed kept here there at of_plan number moved = (
-  placed_bridge plan bridges customers r old new placed here of_plan number,
-  rw (map-set f outs s box') (after_transmit plan bridges customers (map f ins) (map f outs) r s q at.c old new (f box) (f box') plain.sound kept placed here there at.planned at.bridge at.port moved),
-  (Transmitted q moved.item, refl, recorded_bridge bridges customers r old new (Transmitted q moved.item) here moved.steps),
-)
+pub transmit_done : {Q : Type 0} (f : Q → List Item) (plan : Plan) (bridges : List BridgeView) (lanes : List LaneView) (customers : List PlaceView) (ins outs : List Q) (bridge port : ℕ) (spot : Spot) (old new : BridgeView) (box box' : Q)
+    → ArePlaced plan bridges lanes customers → IsKept plan (record_of bridges lanes customers) (map f ins) (map f outs) → IsBridgeSpot plan bridge port spot
+    → old ≡ get_or bridges spot.place old → box ≡ get_or outs spot.slot box → new.plan ≡ old.plan → new.number ≡ old.number → HasTransmittedTo old port (f box) new (f box')
+    → ArePlaced plan (set bridges spot.place new) lanes customers × IsKept plan (record_of (set bridges spot.place new) lanes customers) (map f ins) (map f (set outs spot.slot box'))
+    × HasDone (record_of bridges lanes customers) (Transmit bridge port) (record_of (set bridges spot.place new) lanes customers)
+transmit_done f plan bridges lanes customers ins outs bridge port spot old new box box' placed kept known value boxed of_plan number moved =
+    let r = spot.place in
+    let step : Step = Transmitted port moved.item in
+    let here = here_is bridges r old (omega (arith, known.there, placed.bridge_count)) value in
+    let there = box_at f outs spot.slot (16 * length plan.bridges) box kept.outbox_count known.slot.within boxed in
+    let bridge_is : suc r ≡ bridge = omega (arith, known.place) in
+    let at : IsSlot plan (suc r) port spot.slot = subst (λ n. IsSlot plan n port spot.slot) (sym bridge_is) known.slot in
+    let rec = recorded_bridge bridges lanes customers r old new step here moved.steps in (
+      placed_bridge plan bridges lanes customers r old new placed here of_plan number,
+      rw (rec, map-set f outs spot.slot box', moved.queued) (after_transmit plan (record_of bridges lanes customers) (map f ins) (map f outs) r spot.slot port moved.item (f box) kept known.there at there (grown_bridge plan bridges lanes customers (map f ins) (map f outs) r old step kept placed here moved.fits)),
+      subst (λ n. HasDone (record_of bridges lanes customers) (Transmit n port) (record_of (set bridges r new) lanes customers)) bridge_is (step, refl, rec),
+    )
 
-pub tick_done : (plan : Plan) (bridges : List BridgeView) (customers : List PlaceView) (ins outs : List (List Item)) (r now : ℕ) (moved : Moved) (old new : BridgeView)
-    → ArePlaced plan bridges customers → IsKept plan (record_of bridges customers) ins outs → slice_get bridges r ≡ Some old
+pub take_done : {Q : Type 0} (f : Q → List Item) (plan : Plan) (bridges : List BridgeView) (lanes : List LaneView) (customers : List PlaceView) (ins outs : List Q) (lane : ℕ) (spot : Spot) (old new : LaneView) (box box' : Q)
+    → IsFixedPlan plan → ArePlaced plan bridges lanes customers → IsKept plan (record_of bridges lanes customers) (map f ins) (map f outs) → IsLaneStart plan lane spot
+    → old ≡ get_or lanes spot.place old → box ≡ get_or outs spot.slot box → new.losses ≡ old.losses → IsLawfulLane new.losses new.steps → HasTakenFrom old (f box) new (f box')
+    → ArePlaced plan bridges (set lanes spot.place new) customers × IsKept plan (record_of bridges (set lanes spot.place new) customers) (map f ins) (map f (set outs spot.slot box'))
+    × HasDone (record_of bridges lanes customers) (Take lane) (record_of bridges (set lanes spot.place new) customers)
+take_done f plan bridges lanes customers ins outs lane spot old new box box' fixed placed kept known value boxed losses lawful moved =
+    let r = spot.place in
+    let here = here_is lanes r old (omega (arith, known.there, placed.lane_count)) value in
+    let there = box_at f outs spot.slot (16 * length plan.bridges) box kept.outbox_count known.from.within boxed in
+    let lane_is : suc r ≡ lane = omega (arith, known.place) in
+    let start : IsLaneStart plan (suc r) spot = subst (λ n. IsLaneStart plan n spot) (sym lane_is) known in
+    let rec = recorded_lane bridges lanes customers r old new (taking old moved.item) here moved.steps in (
+      placed_lane plan bridges lanes customers r old new placed here losses,
+      rw (rec, map-set f outs spot.slot box') (after_take plan (record_of bridges lanes customers) (map f ins) (map f outs) r spot.slot _ moved.item _ start.link (f box') fixed.sound kept known.there start.planned start.from (there ∙ ap (λ z. Some z) moved.taken) (grown_lane plan bridges lanes customers r old new (taking old moved.item) placed here losses lawful moved.steps)),
+      subst (λ n. HasDone (record_of bridges lanes customers) (Take n) (record_of bridges (set lanes r new) customers)) lane_is (taking old moved.item, tt, rec),
+    )
+
+pub put_done : {Q : Type 0} (f : Q → List Item) (plan : Plan) (bridges : List BridgeView) (lanes : List LaneView) (customers : List PlaceView) (ins outs : List Q) (lane : ℕ) (spot : Spot) (old new : LaneView) (box box' : Q)
+    → IsFixedPlan plan → ArePlaced plan bridges lanes customers → IsKept plan (record_of bridges lanes customers) (map f ins) (map f outs) → IsLaneEnd plan lane spot
+    → old ≡ get_or lanes spot.place old → box ≡ get_or ins spot.slot box → new.losses ≡ old.losses → IsLawfulLane new.losses new.steps → HasPutInto old (f box) new (f box')
+    → ArePlaced plan bridges (set lanes spot.place new) customers × IsKept plan (record_of bridges (set lanes spot.place new) customers) (map f (set ins spot.slot box')) (map f outs)
+    × HasDone (record_of bridges lanes customers) (Put lane) (record_of bridges (set lanes spot.place new) customers)
+put_done f plan bridges lanes customers ins outs lane spot old new box box' fixed placed kept known value boxed losses lawful moved =
+    let r = spot.place in
+    let here = here_is lanes r old (omega (arith, known.there, placed.lane_count)) value in
+    let there = box_at f ins spot.slot (16 * length plan.bridges) box kept.inbox_count known.to.within boxed in
+    let lane_is : suc r ≡ lane = omega (arith, known.place) in
+    let end : IsLaneEnd plan (suc r) spot = subst (λ n. IsLaneEnd plan n spot) (sym lane_is) known in
+    let rec = recorded_lane bridges lanes customers r old new (Put_on moved.item) here moved.steps in (
+      placed_lane plan bridges lanes customers r old new placed here losses,
+      rw (rec, map-set f ins spot.slot box', moved.queued) (after_put plan (record_of bridges lanes customers) (map f ins) (map f outs) r spot.slot moved.item end.link (f box) fixed.sound kept known.there end.planned end.to there (grown_lane plan bridges lanes customers r old new (Put_on moved.item) placed here losses lawful moved.steps)),
+      subst (λ n. HasDone (record_of bridges lanes customers) (Put n) (record_of bridges (set lanes r new) customers)) lane_is (Put_on moved.item, tt, rec),
+    )
+
+pub tick_done : (plan : Plan) (bridges : List BridgeView) (lanes : List LaneView) (customers : List PlaceView) (ins outs : List (List Item)) (bridge r now : ℕ) (moved : Moved) (old new : BridgeView)
+    → ArePlaced plan bridges lanes customers → IsKept plan (record_of bridges lanes customers) ins outs → r + 1 ≡ bridge → r < length plan.bridges → old ≡ get_or bridges r old
     → new.plan ≡ old.plan → new.number ≡ old.number → new.steps ≡ old.steps ++ Ticked now moved ∷ [] → Fits silent old.plan old.number old.steps (Ticked now moved)
-    → ArePlaced plan (set bridges r new) customers × IsKept plan (record_of (set bridges r new) customers) ins outs
-    × HasDone (record_of bridges customers) (Tick (suc r)) (record_of (set bridges r new) customers)
-tick_done plan bridges customers ins outs r now moved old new placed kept here of_plan number grown fits = (
-  placed_bridge plan bridges customers r old new placed here of_plan number,
-  after_tick plan bridges customers ins outs r now moved old new kept placed here grown fits,
-  (Ticked now moved, tt, recorded_bridge bridges customers r old new (Ticked now moved) here grown),
-)
+    → ArePlaced plan (set bridges r new) lanes customers × IsKept plan (record_of (set bridges r new) lanes customers) ins outs
+    × HasDone (record_of bridges lanes customers) (Tick bridge) (record_of (set bridges r new) lanes customers)
+tick_done plan bridges lanes customers ins outs bridge r now moved old new placed kept place within value of_plan number grown fits =
+    let here = here_is bridges r old (omega (arith, placed.bridge_count)) value in
+    let bridge_is : suc r ≡ bridge = omega (arith, place) in
+    let rec = recorded_bridge bridges lanes customers r old new (Ticked now moved) here grown in (
+      placed_bridge plan bridges lanes customers r old new placed here of_plan number,
+      rw rec (after_quiet plan (record_of bridges lanes customers) ins outs r (Ticked now moved) kept within (λ q. refl) (λ q. refl) (grown_bridge plan bridges lanes customers ins outs r old (Ticked now moved) kept placed here fits)),
+      subst (λ n. HasDone (record_of bridges lanes customers) (Tick n) (record_of (set bridges r new) lanes customers)) bridge_is (Ticked now moved, tt, rec),
+    )
+
+pub admin_done : (plan : Plan) (bridges : List BridgeView) (lanes : List LaneView) (customers : List PlaceView) (ins outs : List (List Item)) (bridge port : ℕ) (up : Bool) (spot : Spot) (moved : Moved) (old new : BridgeView)
+    → ArePlaced plan bridges lanes customers → IsKept plan (record_of bridges lanes customers) ins outs → IsBridgeSpot plan bridge port spot → old ≡ get_or bridges spot.place old
+    → new.plan ≡ old.plan → new.number ≡ old.number → new.steps ≡ old.steps ++ Administered port up moved ∷ [] → Fits silent old.plan old.number old.steps (Administered port up moved)
+    → ArePlaced plan (set bridges spot.place new) lanes customers × IsKept plan (record_of (set bridges spot.place new) lanes customers) ins outs
+    × HasDone (record_of bridges lanes customers) (Admin bridge port up) (record_of (set bridges spot.place new) lanes customers)
+admin_done plan bridges lanes customers ins outs bridge port up spot moved old new placed kept known value of_plan number grown fits =
+    let r = spot.place in
+    let here = here_is bridges r old (omega (arith, known.there, placed.bridge_count)) value in
+    let bridge_is : suc r ≡ bridge = omega (arith, known.place) in
+    let step : Step = Administered port up moved in
+    let rec = recorded_bridge bridges lanes customers r old new step here grown in (
+      placed_bridge plan bridges lanes customers r old new placed here of_plan number,
+      rw rec (after_quiet plan (record_of bridges lanes customers) ins outs r step kept known.there (λ q. refl) (λ q. refl) (grown_bridge plan bridges lanes customers ins outs r old step kept placed here fits)),
+      subst (λ n. HasDone (record_of bridges lanes customers) (Admin n port up) (record_of (set bridges r new) lanes customers)) bridge_is (step, (refl, refl), rec),
+    )

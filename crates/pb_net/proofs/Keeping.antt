@@ -1,103 +1,133 @@
 -- A network's lists and meeting places, with one step more.
-use Rattle.std.proofs.Common.{◌≡◌, ℕ, zero, suc, ◌<◌, ◌⊎◌, inl, inr, List, [], ◌∷◌, ◌++◌, Some, length, refl, sym, ap, subst, ◌∙◌, arith, length-set}
+use Rattle.std.proofs.Common.{◌≡◌, ℕ, suc, ◌+◌, ◌*◌, ◌<◌, ◌/◌, ◌%◌, inl, inr, List, [], ◌∷◌, ◌++◌, length, sym, ap, subst, ◌∙◌, arith, length-set}
 use Rattle.std.proofs.Math.ListN.{set}
 use Rattle.pb_lan.specs.BridgeLists.{IsLawfulBridge}
-use Rattle.pb_lan.specs.Events.{with_step}
-use Rattle.pb_lan.specs.Numbering.{numbered}
-use Rattle.pb_lan.specs.PortLists.{fed, delivered, IsLawfulPort}
+use Rattle.pb_lan.specs.Events.{with_step, sent_to, fetched_from}
+use Rattle.pb_lan.specs.LaneLists.{IsLawfulLane}
+use Rattle.pb_lan.specs.PortLists.{IsLawfulPort}
 use Rattle.pb_lan.specs.Records.{steps_of, received, transmitted}
 use Rattle.pb_lan.specs.Rules.{silent}
 use Rattle.pb_lan.specs.declared.plan.Plan.{Plan}
-use Rattle.pb_lan.specs.declared.plan.CustomerPlan.{CustomerPlan}
 use Rattle.pb_lan.specs.declared.record.Record.{Record}
 use Rattle.pb_lan.specs.declared.step.Item.{Item}
-use Rattle.pb_lan.specs.declared.step.Place.TheVariants.{Bridge, Customer}
+use Rattle.pb_lan.specs.declared.step.Place.TheVariants.{Bridge, Lane, Customer}
 use Rattle.pb_lan.specs.declared.step.Step.{Step}
-use Rattle.pb_net.specs.Nets.{IsKept, items_of}
-use Rattle.pb_net.proofs.OneMore.{steps_of-set_same, steps_of-set_other}
+use Rattle.pb_net.specs.Nets.{IsKept}
+use Rattle.pb_net.specs.Slots.{IsSlot, bridge_of, port_of, items_at, losses_of}
+use Rattle.pb_net.proofs.Meetings.{sent_to-bridge, fetched_from-bridge}
+use Rattle.pb_net.proofs.OneMore.{same_or_not, steps_of-set_same, steps_of-set_other}
 
--- two numbers are one or not
-pub same_or_not : (m n : ℕ) → (m ≡ n) ⊎ (m ≡ n → ⊥)
-same_or_not zero zero = inl refl
-same_or_not zero (suc n) = inr (λ e. omega arith)
-same_or_not (suc m) zero = inr (λ e. omega arith)
-same_or_not (suc m) (suc n) = elim (same_or_not m n) [ inl e ↦ inl (ap (λ k. suc k) e) | inr ne ↦ inr (λ e. ne (omega arith)) ]
+-- a bridge's port has one slot
+pub one_slot : (plan : Plan) (bridge port s t : ℕ) → IsSlot plan bridge port s → bridge_of t ≡ bridge → port_of t ≡ port → t ≡ s
+one_slot plan bridge port s t is b q =
+    let rows : t / 16 ≡ s / 16 = omega (arith, is.of_bridge, b) in
+    let columns : t % 16 ≡ s % 16 = omega (arith, is.of_port, q) in
+    omega arith
+
+-- what was sent to slots, and fetched from them, as the meeting places changed
+abbrev pub Sends : Plan → Record → Record → List (List Item) → List (List Item) → Type 0
+Sends plan rec rec' ins ins' =
+    (s : ℕ) (front : List Item) → front ++ items_at ins s ≡ sent_to plan rec (bridge_of s) (port_of s) → front ++ items_at ins' s ≡ sent_to plan rec' (bridge_of s) (port_of s)
+
+abbrev pub Fetches : Plan → Record → Record → List (List Item) → List (List Item) → Type 0
+Fetches plan rec rec' outs outs' =
+    (s : ℕ) (whole : List Item) → fetched_from plan rec (bridge_of s) (port_of s) ++ items_at outs s ≡ whole → fetched_from plan rec' (bridge_of s) (port_of s) ++ items_at outs' s ≡ whole
 
 -- a customer port has taken a step
 pub after_port : (plan : Plan) (rec : Record) (ins outs ins' outs' : List (List Item)) (r : ℕ) (step : Step)
     → IsKept plan rec ins outs → r < length plan.customers
     → IsLawfulPort (suc r) (steps_of rec.customers (suc r) ++ step ∷ [])
     → length ins' ≡ length ins → length outs' ≡ length outs
-    → ((n : ℕ) → (n ≡ suc r → ⊥) → items_of ins' n ≡ items_of ins n)
-    → ((n : ℕ) → (n ≡ suc r → ⊥) → items_of outs' n ≡ items_of outs n)
-    → ((front : List Item) → front ++ items_of ins (suc r) ≡ fed (steps_of rec.customers (suc r))
-    → front ++ items_of ins' (suc r) ≡ fed (steps_of rec.customers (suc r) ++ step ∷ []))
-    → ((whole : List Item) → delivered (steps_of rec.customers (suc r)) ++ items_of outs (suc r) ≡ whole
-    → delivered (steps_of rec.customers (suc r) ++ step ∷ []) ++ items_of outs' (suc r) ≡ whole)
+    → Sends plan rec (with_step rec (Customer (suc r)) step) ins ins' → Fetches plan rec (with_step rec (Customer (suc r)) step) outs outs'
     → IsKept plan (with_step rec (Customer (suc r)) step) ins' outs'
-after_port plan rec ins outs ins' outs' r step kept within lawful ins_so outs_so ins_else outs_else into out =
+after_port plan rec ins outs ins' outs' r step kept within lawful ins_so outs_so sends fetches =
     let grown = steps_of rec.customers (suc r) ++ step ∷ [] in
     let room : r < length rec.customers = omega (arith, kept.customer_count) in
     let here : steps_of (set rec.customers r grown) (suc r) ≡ grown = steps_of-set_same rec.customers r grown room in
     record {
       bridge_count = kept.bridge_count;
+      lane_count = kept.lane_count;
       customer_count = length-set rec.customers r grown ∙ kept.customer_count;
       inbox_count = ins_so ∙ kept.inbox_count;
       outbox_count = outs_so ∙ kept.outbox_count;
-      lanes = kept.lanes;
       bridges = kept.bridges;
+      lanes = kept.lanes;
       ports = λ n. elim (same_or_not n (suc r)) [
         | inl e ↦ subst (λ k. IsLawfulPort k (steps_of (set rec.customers r grown) k)) (sym e) (subst (λ ms. IsLawfulPort (suc r) ms) (sym here) lawful)
         | inr ne ↦ subst (λ ms. IsLawfulPort n ms) (sym (steps_of-set_other rec.customers r n grown ne)) (kept.ports n)
       ];
-      into = λ n c h. elim (same_or_not n (suc r)) [
-        | inl e ↦ subst (λ k. received c.port (steps_of rec.bridges c.bridge) ++ items_of ins' k ≡ fed (steps_of (set rec.customers r grown) k)) (sym e)
-            (into (received c.port (steps_of rec.bridges c.bridge)) (kept.into (suc r) c (ap (λ k. numbered plan.customers k) (sym e) ∙ h)) ∙ ap fed (sym here))
-        | inr ne ↦ ap (λ z. received c.port (steps_of rec.bridges c.bridge) ++ z) (ins_else n ne) ∙ kept.into n c h ∙ ap fed (sym (steps_of-set_other rec.customers r n grown ne))
-      ];
-      out = λ n c h. elim (same_or_not n (suc r)) [
-        | inl e ↦ subst (λ k. delivered (steps_of (set rec.customers r grown) k) ++ items_of outs' k ≡ transmitted c.port (steps_of rec.bridges c.bridge)) (sym e)
-            (ap (λ ms. delivered ms ++ items_of outs' (suc r)) here ∙ out (transmitted c.port (steps_of rec.bridges c.bridge)) (kept.out (suc r) c (ap (λ k. numbered plan.customers k) (sym e) ∙ h)))
-        | inr ne ↦ ap (λ ms. delivered ms ++ items_of outs' n) (steps_of-set_other rec.customers r n grown ne) ∙ ap (λ z. delivered (steps_of rec.customers n) ++ z) (outs_else n ne) ∙ kept.out n c h
-      ];
+      into = λ s. sends s (received (port_of s) (steps_of rec.bridges (bridge_of s))) (kept.into s);
+      out = λ s. fetches s (transmitted (port_of s) (steps_of rec.bridges (bridge_of s))) (kept.out s);
     }
 
--- a bridge has taken a step
+-- a lane has
+pub after_lane : (plan : Plan) (rec : Record) (ins outs ins' outs' : List (List Item)) (r : ℕ) (step : Step)
+    → IsKept plan rec ins outs → r < 2 * length plan.links
+    → IsLawfulLane (losses_of plan (suc r)) (steps_of rec.lanes (suc r) ++ step ∷ [])
+    → length ins' ≡ length ins → length outs' ≡ length outs
+    → Sends plan rec (with_step rec (Lane (suc r)) step) ins ins' → Fetches plan rec (with_step rec (Lane (suc r)) step) outs outs'
+    → IsKept plan (with_step rec (Lane (suc r)) step) ins' outs'
+after_lane plan rec ins outs ins' outs' r step kept within lawful ins_so outs_so sends fetches =
+    let grown = steps_of rec.lanes (suc r) ++ step ∷ [] in
+    let room : r < length rec.lanes = omega (arith, kept.lane_count) in
+    let here : steps_of (set rec.lanes r grown) (suc r) ≡ grown = steps_of-set_same rec.lanes r grown room in
+    record {
+      bridge_count = kept.bridge_count;
+      lane_count = length-set rec.lanes r grown ∙ kept.lane_count;
+      customer_count = kept.customer_count;
+      inbox_count = ins_so ∙ kept.inbox_count;
+      outbox_count = outs_so ∙ kept.outbox_count;
+      bridges = kept.bridges;
+      lanes = λ n. elim (same_or_not n (suc r)) [
+        | inl e ↦ subst (λ k. IsLawfulLane (losses_of plan k) (steps_of (set rec.lanes r grown) k)) (sym e) (subst (λ ms. IsLawfulLane (losses_of plan (suc r)) ms) (sym here) lawful)
+        | inr ne ↦ subst (λ ms. IsLawfulLane (losses_of plan n) ms) (sym (steps_of-set_other rec.lanes r n grown ne)) (kept.lanes n)
+      ];
+      ports = kept.ports;
+      into = λ s. sends s (received (port_of s) (steps_of rec.bridges (bridge_of s))) (kept.into s);
+      out = λ s. fetches s (transmitted (port_of s) (steps_of rec.bridges (bridge_of s))) (kept.out s);
+    }
+
+-- a bridge has
 pub after_bridge : (plan : Plan) (rec : Record) (ins outs ins' outs' : List (List Item)) (r : ℕ) (step : Step)
     → IsKept plan rec ins outs → r < length plan.bridges
     → IsLawfulBridge silent plan (suc r) (steps_of rec.bridges (suc r) ++ step ∷ [])
     → length ins' ≡ length ins → length outs' ≡ length outs
-    → ((n : ℕ) (c : CustomerPlan) → numbered plan.customers n ≡ Some c → (c.bridge ≡ suc r → ⊥) → (items_of ins' n ≡ items_of ins n) × (items_of outs' n ≡ items_of outs n))
-    → ((n : ℕ) (c : CustomerPlan) → numbered plan.customers n ≡ Some c → c.bridge ≡ suc r → (whole : List Item) → received c.port (steps_of rec.bridges (suc r)) ++ items_of ins n ≡ whole
-    → received c.port (steps_of rec.bridges (suc r) ++ step ∷ []) ++ items_of ins' n ≡ whole)
-    → ((n : ℕ) (c : CustomerPlan) → numbered plan.customers n ≡ Some c → c.bridge ≡ suc r → (front : List Item) → front ++ items_of outs n ≡ transmitted c.port (steps_of rec.bridges (suc r))
-    → front ++ items_of outs' n ≡ transmitted c.port (steps_of rec.bridges (suc r) ++ step ∷ []))
+    → ((s : ℕ) → (bridge_of s ≡ suc r → ⊥) → (items_at ins' s ≡ items_at ins s) × (items_at outs' s ≡ items_at outs s))
+    → ((s : ℕ) → bridge_of s ≡ suc r → (whole : List Item) → received (port_of s) (steps_of rec.bridges (suc r)) ++ items_at ins s ≡ whole
+    → received (port_of s) (steps_of rec.bridges (suc r) ++ step ∷ []) ++ items_at ins' s ≡ whole)
+    → ((s : ℕ) → bridge_of s ≡ suc r → (front : List Item) → front ++ items_at outs s ≡ transmitted (port_of s) (steps_of rec.bridges (suc r))
+    → front ++ items_at outs' s ≡ transmitted (port_of s) (steps_of rec.bridges (suc r) ++ step ∷ []))
     → IsKept plan (with_step rec (Bridge (suc r)) step) ins' outs'
 after_bridge plan rec ins outs ins' outs' r step kept within lawful ins_so outs_so else_so into out =
     let grown = steps_of rec.bridges (suc r) ++ step ∷ [] in
     let room : r < length rec.bridges = omega (arith, kept.bridge_count) in
     let here : steps_of (set rec.bridges r grown) (suc r) ≡ grown = steps_of-set_same rec.bridges r grown room in
+    let sent = λ (s : ℕ). sym (sent_to-bridge plan rec r step (bridge_of s) (port_of s)) in
+    let fetched = λ (s : ℕ). fetched_from-bridge plan rec r step (bridge_of s) (port_of s) in
     record {
       bridge_count = length-set rec.bridges r grown ∙ kept.bridge_count;
+      lane_count = kept.lane_count;
       customer_count = kept.customer_count;
       inbox_count = ins_so ∙ kept.inbox_count;
       outbox_count = outs_so ∙ kept.outbox_count;
-      lanes = kept.lanes;
-      ports = kept.ports;
       bridges = λ n. elim (same_or_not n (suc r)) [
         | inl e ↦ subst (λ k. IsLawfulBridge silent plan k (steps_of (set rec.bridges r grown) k)) (sym e) (subst (λ ms. IsLawfulBridge silent plan (suc r) ms) (sym here) lawful)
         | inr ne ↦ subst (λ ms. IsLawfulBridge silent plan n ms) (sym (steps_of-set_other rec.bridges r n grown ne)) (kept.bridges n)
       ];
-      into = λ n c h. elim (same_or_not c.bridge (suc r)) [
-        | inl e ↦ ap (λ ms. received c.port ms ++ items_of ins' n) (ap (λ k. steps_of (set rec.bridges r grown) k) e ∙ here)
-            ∙ into n c h e (fed (steps_of rec.customers n)) (ap (λ k. received c.port (steps_of rec.bridges k) ++ items_of ins n) (sym e) ∙ kept.into n c h)
-        | inr ne ↦ ap (λ ms. received c.port ms ++ items_of ins' n) (steps_of-set_other rec.bridges r c.bridge grown ne)
-            ∙ ap (λ z. received c.port (steps_of rec.bridges c.bridge) ++ z) (else_so n c h ne).0 ∙ kept.into n c h
+      lanes = kept.lanes;
+      ports = kept.ports;
+      into = λ s. elim (same_or_not (bridge_of s) (suc r)) [
+        | inl e ↦ ap (λ ms. received (port_of s) ms ++ items_at ins' s) (ap (λ k. steps_of (set rec.bridges r grown) k) e ∙ here)
+            ∙ into s e (sent_to plan rec (bridge_of s) (port_of s)) (ap (λ k. received (port_of s) (steps_of rec.bridges k) ++ items_at ins s) (sym e) ∙ kept.into s) ∙ sent s
+        | inr ne ↦ ap (λ ms. received (port_of s) ms ++ items_at ins' s) (steps_of-set_other rec.bridges r (bridge_of s) grown ne)
+            ∙ ap (λ z. received (port_of s) (steps_of rec.bridges (bridge_of s)) ++ z) (else_so s ne).0 ∙ kept.into s ∙ sent s
       ];
-      out = λ n c h. elim (same_or_not c.bridge (suc r)) [
-        | inl e ↦ out n c h e (delivered (steps_of rec.customers n)) (kept.out n c h ∙ ap (λ k. transmitted c.port (steps_of rec.bridges k)) e)
-            ∙ ap (transmitted c.port) (sym (ap (λ k. steps_of (set rec.bridges r grown) k) e ∙ here))
-        | inr ne ↦ ap (λ z. delivered (steps_of rec.customers n) ++ z) (else_so n c h ne).1 ∙ kept.out n c h
-            ∙ ap (transmitted c.port) (sym (steps_of-set_other rec.bridges r c.bridge grown ne))
+      out = λ s. elim (same_or_not (bridge_of s) (suc r)) [
+        | inl e ↦ ap (λ z. z ++ items_at outs' s) (fetched s)
+            ∙ out s e (fetched_from plan rec (bridge_of s) (port_of s)) (kept.out s ∙ ap (λ k. transmitted (port_of s) (steps_of rec.bridges k)) e)
+            ∙ ap (transmitted (port_of s)) (sym (ap (λ k. steps_of (set rec.bridges r grown) k) e ∙ here))
+        | inr ne ↦ ap (λ z. z ++ items_at outs' s) (fetched s)
+            ∙ ap (λ z. fetched_from plan rec (bridge_of s) (port_of s) ++ z) (else_so s ne).1 ∙ kept.out s
+            ∙ ap (transmitted (port_of s)) (sym (steps_of-set_other rec.bridges r (bridge_of s) grown ne))
       ];
     }

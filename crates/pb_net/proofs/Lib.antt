@@ -1,9 +1,15 @@
+pub mod Found
+pub mod Lanes
 pub mod OneMore
+pub mod Meetings
 pub mod Keeping
+pub mod Placing
 pub mod PortMoves
+pub mod LaneMoves
 pub mod BridgeMoves
-pub mod Table
+pub mod SpotLemmas
 pub mod DueLemmas
 pub mod Done
 pub mod Records
 pub mod StartLemmas
+pub mod HeadlineLemmas

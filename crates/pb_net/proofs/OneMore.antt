@@ -1,5 +1,5 @@
 -- Lists by number, with one of them changed.
-use Rattle.std.proofs.Common.{◌≡◌, ℕ, zero, suc, ◌<◌, List, [], ◌∷◌, ◌++◌, Some, map, length, unwrap_or, slice_get, get_or, refl, sym, ap, ◌∙◌, arith, append-nil}
+use Rattle.std.proofs.Common.{◌≡◌, ℕ, zero, suc, ◌<◌, ◌⊎◌, inl, inr, List, [], ◌∷◌, ◌++◌, Some, map, length, unwrap_or, slice_get, get_or, refl, sym, ap, ◌∙◌, arith, append-nil}
 use Rattle.std.proofs.Math.ListN.{set}
 use Rattle.std.proofs.lemmas.List.{map-set}
 use Rattle.std.proofs.lemmas.Option.{slice_get-get_or}
@@ -10,7 +10,14 @@ use Rattle.pb_lan.specs.Numbering.{numbered}
 use Rattle.pb_lan.specs.Records.{steps_of}
 use Rattle.pb_lan.specs.declared.step.Item.{Item}
 use Rattle.pb_lan.specs.declared.step.Step.{Step}
-use Rattle.pb_net.specs.Nets.{items_of}
+use Rattle.pb_net.specs.Slots.{items_at}
+
+-- two numbers are one or not
+pub same_or_not : (m n : ℕ) → (m ≡ n) ⊎ (m ≡ n → ⊥)
+same_or_not zero zero = inl refl
+same_or_not zero (suc n) = inr (λ e. omega arith)
+same_or_not (suc m) zero = inr (λ e. omega arith)
+same_or_not (suc m) (suc n) = elim (same_or_not m n) [ inl e ↦ inl (ap (λ k. suc k) e) | inr ne ↦ inr (λ e. ne (omega arith)) ]
 
 -- the thing at a place of a list that was changed there
 pub slice_get-set_same : {X : Type 0} (xs : List X) (r : ℕ) (y : X) → r < length xs → slice_get (set xs r y) r ≡ Some y
@@ -45,12 +52,22 @@ steps_of-set_same lists r steps h = ap (λ o. unwrap_or o []) (numbered-set_same
 pub steps_of-set_other : (lists : List (List Step)) (r n : ℕ) (steps : List Step) → (n ≡ suc r → ⊥) → steps_of (set lists r steps) n ≡ steps_of lists n
 steps_of-set_other lists r n steps ne = ap (λ o. unwrap_or o []) (numbered-set_other lists r n steps ne)
 
--- the items of the meeting place that changed, and of another
-pub items_of-set_same : (lists : List (List Item)) (r : ℕ) (items : List Item) → r < length lists → items_of (set lists r items) (suc r) ≡ items
-items_of-set_same lists r items h = ap (λ o. unwrap_or o []) (numbered-set_same lists r items h)
+-- what is read of a place's steps, where the step adds nothing to it
+pub one_more-kept : {X : Type 0} (f : List Step → X) (step : Step) → ((ms : List Step) → f (ms ++ step ∷ []) ≡ f ms)
+    → (lists : List (List Step)) (r m : ℕ) → r < length lists → f (steps_of (set lists r (steps_of lists (suc r) ++ step ∷ [])) m) ≡ f (steps_of lists m)
+one_more-kept f step each lists r m within =
+    let grown = steps_of lists (suc r) ++ step ∷ [] in
+    elim (same_or_not m (suc r)) [
+      | inl e ↦ ap (λ k. f (steps_of (set lists r grown) k)) e ∙ ap f (steps_of-set_same lists r grown within) ∙ each (steps_of lists (suc r)) ∙ ap (λ k. f (steps_of lists k)) (sym e)
+      | inr ne ↦ ap f (steps_of-set_other lists r m grown ne)
+    ]
 
-pub items_of-set_other : (lists : List (List Item)) (r n : ℕ) (items : List Item) → (n ≡ suc r → ⊥) → items_of (set lists r items) n ≡ items_of lists n
-items_of-set_other lists r n items ne = ap (λ o. unwrap_or o []) (numbered-set_other lists r n items ne)
+-- the items of the meeting place that changed, and of another
+pub items_at-set_same : (lists : List (List Item)) (s : ℕ) (items : List Item) → s < length lists → items_at (set lists s items) s ≡ items
+items_at-set_same lists s items h = ap (λ o. unwrap_or o []) (slice_get-set_same lists s items h)
+
+pub items_at-set_other : (lists : List (List Item)) (s t : ℕ) (items : List Item) → (t ≡ s → ⊥) → items_at (set lists s items) t ≡ items_at lists t
+items_at-set_other lists s t items ne = ap (λ o. unwrap_or o []) (slice_get-set_other lists s t items ne)
 
 -- what is looked up in a list of things is looked up in the list of their parts
 pub slice_get-map : {X Y : Type 0} (f : X → Y) (xs : List X) (r : ℕ) (x : X) → slice_get xs r ≡ Some x → slice_get (map f xs) r ≡ Some (f x)
@@ -61,11 +78,8 @@ slice_get-map f (y ∷ xs) (suc r) x e = slice_get-map f xs r x e
 pub steps_of-map : {X : Type 0} (f : X → List Step) (xs : List X) (r : ℕ) (x : X) → slice_get xs r ≡ Some x → steps_of (map f xs) (suc r) ≡ f x
 steps_of-map f xs r x e = ap (λ o. unwrap_or o []) (slice_get-map f xs r x e)
 
-pub items_of-at : (lists : List (List Item)) (r : ℕ) (items : List Item) → slice_get lists r ≡ Some items → items_of lists (suc r) ≡ items
-items_of-at lists r items e = ap (λ o. unwrap_or o []) e
-
-pub items_of-map : {X : Type 0} (f : X → List Item) (xs : List X) (r : ℕ) (x : X) → slice_get xs r ≡ Some x → items_of (map f xs) (suc r) ≡ f x
-items_of-map f xs r x e = ap (λ o. unwrap_or o []) (slice_get-map f xs r x e)
+pub items_at-here : (lists : List (List Item)) (s : ℕ) (items : List Item) → slice_get lists s ≡ Some items → items_at lists s ≡ items
+items_at-here lists s items e = ap (λ o. unwrap_or o []) e
 
 -- one thing has taken a step: so have the lists
 pub one_more-map : {X : Type 0} (f : X → List Step) (xs : List X) (r : ℕ) (old new : X) (step : Step) → slice_get xs r ≡ Some old

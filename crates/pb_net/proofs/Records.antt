@@ -1,46 +1,118 @@
 -- What a network keeps makes its record lawful, and what it answers makes a run.
-use Rattle.std.proofs.Common.{◌≡◌, ℕ, zero, suc, ◌-◌, ◌<◌, ◌≤◌, true, List, [], ◌∷◌, ◌++◌, Some, None, Ok, Err, is_some, map, length, take, slice_get, refl, sym, ap, subst, ◌∙◌, arith, ne_eqb}
-use Rattle.std.proofs.lemmas.Bool.{eq-eqb}
+use Rattle.std.proofs.Common.{◌≡◌, ℕ, zero, suc, ◌+◌, ◌-◌, ◌*◌, ◌<◌, ◌≤◌, inl, inr, Bool, true, false, if◌then◌else◌, nat_le, ◌&&◌, List, [], ◌∷◌, ◌++◌, Some, None, Ok, Err, is_some, unwrap_or, map, length, take, slice_get, get_or, refl, sym, ap, subst, ◌∙◌, arith, ne_eqb}
+use Rattle.std.proofs.lemmas.Bool.{eq-eqb, leb-true}
+use Rattle.std.specs.Option.{option_map}
+use Rattle.std.specs.declared.option.Option.{Option}
 use Rattle.std.specs.declared.result.Result.{Result}
-use Rattle.std.proofs.lemmas.Option.{slice_get_within}
+use Rattle.pb_frame.proofs.Lists.{and-left, and-right}
+use Rattle.pb_lan.proofs.Numbers.{numbered-exists, numbered-All}
+use Rattle.pb_lan.proofs.PortsInPlans.{sound-end}
+use Rattle.pb_lan.specs.Events.{sent_to, fetched_from}
+use Rattle.pb_lan.specs.LaneLists.{IsLawfulLane, taken, put}
 use Rattle.pb_lan.specs.Numbering.{numbered}
-use Rattle.pb_lan.specs.Records.{IsLawfulRecord, steps_of}
+use Rattle.pb_lan.specs.Plans.{IsSound, IsNumber, IsSoundEnd, IsSoundCustomer}
+use Rattle.pb_lan.specs.PortLists.{fed, delivered}
+use Rattle.pb_lan.specs.Ports.{port_at, is_provider}
+use Rattle.pb_lan.specs.Records.{IsLawfulRecord, IsLawfulLink, steps_of, received, transmitted, lane_ab, lane_ba}
 use Rattle.pb_lan.specs.Rules.{silent}
 use Rattle.pb_lan.specs.declared.event.Event.{Event}
-use Rattle.pb_lan.specs.declared.event.Event.TheVariants.{Tick}
-use Rattle.pb_lan.specs.declared.plan.Plan.{Plan}
+use Rattle.pb_lan.specs.declared.event.Event.TheVariants.{Tick, Admin}
+use Rattle.pb_lan.specs.declared.plan.End.{End}
 use Rattle.pb_lan.specs.declared.plan.LinkPlan.{LinkPlan}
+use Rattle.pb_lan.specs.declared.plan.Plan.{Plan}
 use Rattle.pb_lan.specs.declared.record.Record.{Record}
 use Rattle.pb_lan.specs.declared.step.Item.{Item}
 use Rattle.pb_lan.specs.declared.step.Step.{Step}
-use Rattle.pb_lan.proofs.Numbers.{numbered-exists}
 use Rattle.pb_link.specs.Hands.{PlaceView}
+use Rattle.pb_link.specs.Lanes.{LaneView}
 use Rattle.pb_relay.specs.Standing.{BridgeView}
 use Rattle.pb_relay.specs.declared.fault.BridgeFault.{BridgeFault}
 use Rattle.pb_relay.specs.declared.fault.BridgeFault.TheVariants.{StepLimit as bridge_limit, Memory as bridge_memory}
 use Rattle.pb_net.specs.Answers.{NetView, IsDue, IsAnswer, HaveRun, HasStopped}
 use Rattle.pb_net.specs.Faults.{fault_of}
-use Rattle.pb_net.specs.Nets.{IsPlain, IsKept, ArePlaced, items_of}
+use Rattle.pb_net.specs.Nets.{IsFixedPlan, IsKept, ArePlaced}
+use Rattle.pb_net.specs.Slots.{IsSlot, IsBridgeSpot, items_at, link_of, losses_at, losses_of}
 use Rattle.pb_net.specs.declared.did.Did.{Did}
 use Rattle.pb_net.specs.declared.fault.NetFault.{NetFault}
 use Rattle.pb_net.specs.declared.fault.NetFault.TheVariants.{StepLimit, Memory, NoSuch}
-use Rattle.pb_net.proofs.DueLemmas.{net_of}
-use Rattle.pb_net.proofs.OneMore.{steps_of-map}
+use Rattle.pb_net.specs.declared.slots.Spot.{Spot}
+use Rattle.pb_net.proofs.DueLemmas.{net_of, into_at, out_at}
+use Rattle.pb_net.proofs.Lanes.{ab_link, ba_link, ab_odd, ba_even}
+use Rattle.pb_net.proofs.Meetings.{sent_to-customer, fetched_from-customer, sent_to-lane, fetched_from-lane}
+use Rattle.pb_net.proofs.OneMore.{here_is, steps_of-map}
+use Rattle.pb_net.proofs.SpotLemmas.{slot_at, slot_of, slot_there}
 
-no_link : (plan : Plan) → plan.links ≡ [] → (number : ℕ) (link : LinkPlan) → numbered plan.links number ≡ Some link → ⊥
-no_link plan linkless zero link h = cc
-no_link plan linkless (suc n) link h = let none : slice_get plan.links n ≡ None = ap (λ (links : List LinkPlan). slice_get links n) linkless in cc
+into_port : (plan : Plan) (rec : Record) (ins outs : List (List Item)) (b q : ℕ) (sent : List Item) → IsKept plan rec ins outs → IsNumber b (length plan.bridges) → IsNumber q 16 → sent_to plan rec b q ≡ sent
+    → received q (steps_of rec.bridges b) ++ items_at ins (slot_at b q) ≡ sent
+into_port plan rec ins outs b q sent kept of_bridge of_port e = into_at plan rec ins outs b q (slot_at b q) kept (slot_there plan b q of_bridge of_port) ∙ e
+
+out_port : (plan : Plan) (rec : Record) (ins outs : List (List Item)) (b q : ℕ) (got : List Item) → IsKept plan rec ins outs → IsNumber b (length plan.bridges) → IsNumber q 16 → fetched_from plan rec b q ≡ got
+    → got ++ items_at outs (slot_at b q) ≡ transmitted q (steps_of rec.bridges b)
+out_port plan rec ins outs b q got kept of_bridge of_port e = ap (λ (z : List Item). z ++ items_at outs (slot_at b q)) (sym e) ∙ out_at plan rec ins outs b q (slot_at b q) kept (slot_there plan b q of_bridge of_port)
+
+into_of : (plan : Plan) (rec : Record) (ins outs : List (List Item)) (e : End) (sent : List Item) → IsKept plan rec ins outs → IsSoundEnd plan e → sent_to plan rec e.bridge e.port ≡ sent
+    → received e.port (steps_of rec.bridges e.bridge) ++ items_at ins (slot_of e) ≡ sent
+into_of plan rec ins outs e sent kept is h = into_port plan rec ins outs e.bridge e.port sent kept is.bridge is.port h
+
+out_of : (plan : Plan) (rec : Record) (ins outs : List (List Item)) (e : End) (got : List Item) → IsKept plan rec ins outs → IsSoundEnd plan e → fetched_from plan rec e.bridge e.port ≡ got
+    → got ++ items_at outs (slot_of e) ≡ transmitted e.port (steps_of rec.bridges e.bridge)
+out_of plan rec ins outs e got kept is h = out_port plan rec ins outs e.bridge e.port got kept is.bridge is.port h
+
+-- a lane's list is lawful for its link
+lane_lawful : (plan : Plan) (lane n : ℕ) (link : LinkPlan) (losses : List ℕ) (steps : List Step) → numbered plan.links n ≡ Some link → link_of lane ≡ n → losses_at lane link ≡ losses
+    → IsLawfulLane (losses_of plan lane) steps → IsLawfulLane losses steps
+lane_lawful plan lane n link losses steps at of_link e lawful =
+    let found : losses_of plan lane ≡ losses = ap (λ k. unwrap_or (option_map (losses_at lane) (numbered plan.links k)) []) of_link ∙ ap (λ (o : Option LinkPlan). unwrap_or (option_map (losses_at lane) o) []) at ∙ e in
+    subst (λ (ls : List ℕ). IsLawfulLane ls steps) found lawful
+
+-- at each end of a link what was received is a beginning of what was sent, and so over its lanes
+link_lawful : (plan : Plan) (rec : Record) (ins outs : List (List Item)) (n : ℕ) (link : LinkPlan) → IsSound plan → IsKept plan rec ins outs → numbered plan.links n ≡ Some link → IsLawfulLink rec n link
+link_lawful plan rec ins outs zero link sound kept at = cc
+link_lawful plan rec ins outs (suc k) link sound kept at =
+    let ab : numbered plan.links (link_of (lane_ab (suc k))) ≡ Some link = ap (λ m. numbered plan.links m) (ab_link k) ∙ at in
+    let ba : numbered plan.links (link_of (lane_ba (suc k))) ≡ Some link = ap (λ m. numbered plan.links m) (ba_link k) ∙ at in
+    let a = sound-end plan sound (suc k) link link.a at (inl refl) in
+    let b = sound-end plan sound (suc k) link link.b at (inr refl) in
+    record {
+      ab = lane_lawful plan (lane_ab (suc k)) (suc k) link link.lost_ab (steps_of rec.lanes (lane_ab (suc k))) at (ab_link k) (ap (λ (t : Bool). if t then link.lost_ab else link.lost_ba) (ab_odd k)) (kept.lanes (lane_ab (suc k)));
+      ba = lane_lawful plan (lane_ba (suc k)) (suc k) link link.lost_ba (steps_of rec.lanes (lane_ba (suc k))) at (ba_link k) (ap (λ (t : Bool). if t then link.lost_ab else link.lost_ba) (ba_even k)) (kept.lanes (lane_ba (suc k)));
+      meets_ab = record {
+        onto = (items_at outs (slot_of link.a), out_of plan rec ins outs link.a (taken (steps_of rec.lanes (lane_ab (suc k)))) kept a (from_a ab));
+        off = (items_at ins (slot_of link.b), into_of plan rec ins outs link.b (put (steps_of rec.lanes (lane_ab (suc k)))) kept b (to_b ab));
+      };
+      meets_ba = record {
+        onto = (items_at outs (slot_of link.b), out_of plan rec ins outs link.b (taken (steps_of rec.lanes (lane_ba (suc k)))) kept b (from_b ba));
+        off = (items_at ins (slot_of link.a), into_of plan rec ins outs link.a (put (steps_of rec.lanes (lane_ba (suc k)))) kept a (to_a ba));
+      };
+    }
+  where
+    from_a : numbered plan.links (link_of (lane_ab (suc k))) ≡ Some link → fetched_from plan rec link.a.bridge link.a.port ≡ taken (steps_of rec.lanes (lane_ab (suc k)))
+    from_a h = ap (λ (t : Bool). fetched_from plan rec (if t then link.a else link.b).bridge (if t then link.a else link.b).port) (sym (ab_odd k)) ∙ fetched_from-lane plan sound rec (lane_ab (suc k)) link h
+
+    to_b : numbered plan.links (link_of (lane_ab (suc k))) ≡ Some link → sent_to plan rec link.b.bridge link.b.port ≡ put (steps_of rec.lanes (lane_ab (suc k)))
+    to_b h = ap (λ (t : Bool). sent_to plan rec (if t then link.b else link.a).bridge (if t then link.b else link.a).port) (sym (ab_odd k)) ∙ sent_to-lane plan sound rec (lane_ab (suc k)) link h
+
+    from_b : numbered plan.links (link_of (lane_ba (suc k))) ≡ Some link → fetched_from plan rec link.b.bridge link.b.port ≡ taken (steps_of rec.lanes (lane_ba (suc k)))
+    from_b h = ap (λ (t : Bool). fetched_from plan rec (if t then link.a else link.b).bridge (if t then link.a else link.b).port) (sym (ba_even k)) ∙ fetched_from-lane plan sound rec (lane_ba (suc k)) link h
+
+    to_a : numbered plan.links (link_of (lane_ba (suc k))) ≡ Some link → sent_to plan rec link.a.bridge link.a.port ≡ put (steps_of rec.lanes (lane_ba (suc k)))
+    to_a h = ap (λ (t : Bool). sent_to plan rec (if t then link.b else link.a).bridge (if t then link.b else link.a).port) (sym (ba_even k)) ∙ sent_to-lane plan sound rec (lane_ba (suc k)) link h
 
 -- the record is lawful
-pub kept_lawful : (plan : Plan) (rec : Record) (ins outs : List (List Item)) → IsPlain plan → IsKept plan rec ins outs → IsLawfulRecord silent plan rec
-kept_lawful plan rec ins outs plain kept = record {
+pub kept_lawful : (plan : Plan) (rec : Record) (ins outs : List (List Item)) → IsFixedPlan plan → IsKept plan rec ins outs → IsLawfulRecord silent plan rec
+kept_lawful plan rec ins outs fixed kept = record {
   bridge_count = kept.bridge_count;
-  lane_count = ap length kept.lanes ∙ (let none : length plan.links ≡ 0 = ap length plain.linkless in omega arith);
+  lane_count = kept.lane_count;
   customer_count = kept.customer_count;
   bridges = kept.bridges;
-  links = λ number link h. absurd (no_link plan plain.linkless number link h);
+  links = λ number link h. link_lawful plan rec ins outs number link fixed.sound kept h;
   ports = kept.ports;
-  customers = λ number c h. record { into = (items_of ins number, kept.into number c h); out = (items_of outs number, kept.out number c h) };
+  customers = λ number c h.
+      let is = numbered-All (IsSoundCustomer plan) plan.customers number c h fixed.sound.customers in
+      record {
+        into = (items_at ins (slot_at c.bridge c.port), into_port plan rec ins outs c.bridge c.port (fed (steps_of rec.customers number)) kept is.bridge is.port (sent_to-customer plan fixed.sound rec number c h));
+        out = (items_at outs (slot_at c.bridge c.port), out_port plan rec ins outs c.bridge c.port (delivered (steps_of rec.customers number)) kept is.bridge is.port (fetched_from-customer plan fixed.sound rec number c h));
+      };
 }
 
 -- one event more was answered
@@ -62,37 +134,75 @@ known_number xs (suc r) h = (omega arith, within xs r h)
     within (x ∷ xs) zero h = omega arith
     within (x ∷ xs) (suc r) h = omega (arith, within xs r h)
 
-pub named_bridge : (plan : Plan) (r : ℕ) → r < length plan.bridges → is_some (numbered plan.bridges (suc r)) ≡ true
-named_bridge plan r within = ap is_some (numbered-exists plan.bridges (suc r) (omega arith, omega arith)).1
+-- the plan knows a lane that has a place
+pub known_lane : (n lanes : ℕ) → (nat_le 1 n && nat_le n lanes) ≡ true → (1 ≤ n) × (n ≤ lanes)
+known_lane n lanes h = (leb-true 1 n (and-left (nat_le 1 n) (nat_le n lanes) h), leb-true n lanes (and-right (nat_le 1 n) (nat_le n lanes) h))
+
+-- a bridge's steps are the record's
+bridge_steps : (plan : Plan) (bridges : List BridgeView) (lanes : List LaneView) (customers : List PlaceView) (bridge r : ℕ) (b : BridgeView) → ArePlaced plan bridges lanes customers → r + 1 ≡ bridge → r < length plan.bridges → b ≡ get_or bridges r b
+    → (steps_of (map (λ (x : BridgeView). x.steps) bridges) bridge ≡ b.steps) × (b.plan.steps ≡ plan.steps)
+bridge_steps plan bridges lanes customers bridge r b placed place within value =
+    let here = here_is bridges r b (omega (arith, placed.bridge_count)) value in
+    let number : suc r ≡ bridge = omega (arith, place) in
+    let lists = map (λ (x : BridgeView). x.steps) bridges in
+    (ap (λ n. steps_of lists n) (sym number) ∙ steps_of-map (λ (x : BridgeView). x.steps) bridges r b here, ap (λ (p : Plan). p.steps) (placed.planned r b here))
+
+named_bridge : (plan : Plan) (bridge r : ℕ) → r + 1 ≡ bridge → r < length plan.bridges → is_some (numbered plan.bridges bridge) ≡ true
+named_bridge plan bridge r place within = ap is_some (numbered-exists plan.bridges bridge (omega arith, omega arith)).1
 
 -- a Tick is due where the bridge isn't at its limit
-pub tick_due : (plan : Plan) (bridges : List BridgeView) (customers : List PlaceView) (r : ℕ) (b : BridgeView) → ArePlaced plan bridges customers → slice_get bridges r ≡ Some b
-    → (length b.steps ≡ b.plan.steps → ⊥) → IsDue (net_of plan bridges customers) (Tick (suc r))
-tick_due plan bridges customers r b placed here not_yet =
-    let mine : steps_of (map (λ (x : BridgeView). x.steps) bridges) (suc r) ≡ b.steps = steps_of-map (λ (x : BridgeView). x.steps) bridges r b here in
-    let steps : b.plan.steps ≡ plan.steps = ap (λ (p : Plan). p.steps) (placed.planned r b here) in
+pub tick_due : (plan : Plan) (bridges : List BridgeView) (lanes : List LaneView) (customers : List PlaceView) (bridge r : ℕ) (b : BridgeView) → ArePlaced plan bridges lanes customers → r + 1 ≡ bridge → r < length plan.bridges → b ≡ get_or bridges r b
+    → (length b.steps ≡ b.plan.steps → ⊥) → IsDue (net_of plan bridges lanes customers) (Tick bridge)
+tick_due plan bridges lanes customers bridge r b placed place within value not_yet =
+    let same = bridge_steps plan bridges lanes customers bridge r b placed place within value in
     record {
-      named = named_bridge plan r (omega (arith, slice_get_within bridges r b here, placed.bridge_count));
+      named = named_bridge plan bridge r place within;
       busy = refl;
-      within = ne_eqb _ _ (λ e. not_yet (ap length (sym mine) ∙ e ∙ sym steps));
+      within = ne_eqb _ _ (λ e. not_yet (ap length (sym same.0) ∙ e ∙ sym same.1));
     }
 
 -- and a refused one tells why
-pub tick_refused : (plan : Plan) (bridges : List BridgeView) (customers : List PlaceView) (r : ℕ) (b : BridgeView) (result : Result Did NetFault) (fault : NetFault) (met : BridgeFault)
-    → ArePlaced plan bridges customers → slice_get bridges r ≡ Some b → result ≡ Err fault → fault ≡ fault_of met
+pub tick_refused : (plan : Plan) (bridges : List BridgeView) (lanes : List LaneView) (customers : List PlaceView) (bridge r : ℕ) (b : BridgeView) (result : Result Did NetFault) (fault : NetFault) (met : BridgeFault)
+    → ArePlaced plan bridges lanes customers → r + 1 ≡ bridge → r < length plan.bridges → b ≡ get_or bridges r b → result ≡ Err fault → fault ≡ fault_of met
     → (met ≡ bridge_limit → length b.steps ≡ b.plan.steps) → (length b.steps ≡ b.plan.steps → met ≡ bridge_limit)
-    → IsAnswer (net_of plan bridges customers) (Tick (suc r)) result (net_of plan bridges customers)
-tick_refused plan bridges customers r b result fault bridge_limit placed here e m there back =
-    let net = net_of plan bridges customers in
-    let mine : steps_of (map (λ (x : BridgeView). x.steps) bridges) (suc r) ≡ b.steps = steps_of-map (λ (x : BridgeView). x.steps) bridges r b here in
-    let steps : b.plan.steps ≡ plan.steps = ap (λ (p : Plan). p.steps) (placed.planned r b here) in
-    let at_limit : length (steps_of (map (λ (x : BridgeView). x.steps) bridges) (suc r)) ≡ plan.steps = ap length mine ∙ there refl ∙ steps in
-    subst (λ (x : Result Did NetFault). IsAnswer net (Tick (suc r)) x net) (sym (e ∙ ap (λ z. Err z) m))
-    (named_bridge plan r (omega (arith, slice_get_within bridges r b here, placed.bridge_count)), refl, eq-eqb _ _ at_limit, refl)
-tick_refused plan bridges customers r b result fault bridge_memory placed here e m there back =
-    let net = net_of plan bridges customers in
-    subst (λ (x : Result Did NetFault). IsAnswer net (Tick (suc r)) x net) (sym (e ∙ ap (λ z. Err z) m))
-    (tick_due plan bridges customers r b placed here (λ l. let wrong = back l in cc), refl)
+    → IsAnswer (net_of plan bridges lanes customers) (Tick bridge) result (net_of plan bridges lanes customers)
+tick_refused plan bridges lanes customers bridge r b result fault bridge_limit placed place within value e m there back =
+    let net = net_of plan bridges lanes customers in
+    let same = bridge_steps plan bridges lanes customers bridge r b placed place within value in
+    let at_limit : length (steps_of (map (λ (x : BridgeView). x.steps) bridges) bridge) ≡ plan.steps = ap length same.0 ∙ there refl ∙ same.1 in
+    subst (λ (x : Result Did NetFault). IsAnswer net (Tick bridge) x net) (sym (e ∙ ap (λ z. Err z) m))
+    (named_bridge plan bridge r place within, refl, eq-eqb _ _ at_limit, refl)
+tick_refused plan bridges lanes customers bridge r b result fault bridge_memory placed place within value e m there back =
+    let net = net_of plan bridges lanes customers in
+    subst (λ (x : Result Did NetFault). IsAnswer net (Tick bridge) x net) (sym (e ∙ ap (λ z. Err z) m))
+    (tick_due plan bridges lanes customers bridge r b placed place within value (λ l. let wrong = back l in cc), refl)
+
+-- the same of an Admin
+pub admin_due : (plan : Plan) (bridges : List BridgeView) (lanes : List LaneView) (customers : List PlaceView) (bridge port : ℕ) (up : Bool) (spot : Spot) (b : BridgeView) → ArePlaced plan bridges lanes customers → IsBridgeSpot plan bridge port spot
+    → is_provider (port_at plan bridge port) ≡ true → b ≡ get_or bridges spot.place b
+    → (length b.steps ≡ b.plan.steps → ⊥) → IsDue (net_of plan bridges lanes customers) (Admin bridge port up)
+admin_due plan bridges lanes customers bridge port up spot b placed known named value not_yet =
+    let same = bridge_steps plan bridges lanes customers bridge spot.place b placed known.place known.there value in
+    record {
+      named = named;
+      busy = refl;
+      within = ne_eqb _ _ (λ e. not_yet (ap length (sym same.0) ∙ e ∙ sym same.1));
+    }
+
+pub admin_refused : (plan : Plan) (bridges : List BridgeView) (lanes : List LaneView) (customers : List PlaceView) (bridge port : ℕ) (up : Bool) (spot : Spot) (b : BridgeView) (result : Result Did NetFault) (fault : NetFault) (met : BridgeFault)
+    → ArePlaced plan bridges lanes customers → IsBridgeSpot plan bridge port spot → is_provider (port_at plan bridge port) ≡ true → b ≡ get_or bridges spot.place b → result ≡ Err fault → fault ≡ fault_of met
+    → (met ≡ bridge_limit → length b.steps ≡ b.plan.steps) → (length b.steps ≡ b.plan.steps → met ≡ bridge_limit)
+    → IsAnswer (net_of plan bridges lanes customers) (Admin bridge port up) result (net_of plan bridges lanes customers)
+admin_refused plan bridges lanes customers bridge port up spot b result fault bridge_limit placed known named value e m there back =
+    let net = net_of plan bridges lanes customers in
+    let same = bridge_steps plan bridges lanes customers bridge spot.place b placed known.place known.there value in
+    let at_limit : length (steps_of (map (λ (x : BridgeView). x.steps) bridges) bridge) ≡ plan.steps = ap length same.0 ∙ there refl ∙ same.1 in
+    subst (λ (x : Result Did NetFault). IsAnswer net (Admin bridge port up) x net) (sym (e ∙ ap (λ z. Err z) m))
+    (named, refl, eq-eqb _ _ at_limit, refl)
+admin_refused plan bridges lanes customers bridge port up spot b result fault bridge_memory placed known named value e m there back =
+    let net = net_of plan bridges lanes customers in
+    subst (λ (x : Result Did NetFault). IsAnswer net (Admin bridge port up) x net) (sym (e ∙ ap (λ z. Err z) m))
+    (admin_due plan bridges lanes customers bridge port up spot b placed known named value (λ l. let wrong = back l in cc), refl)
 
 -- a fault leaves the network as it was
 pub fault_keeps : (old new : NetView) (event : Event) (fault : NetFault) → IsAnswer old event (Err fault) new → new ≡ old

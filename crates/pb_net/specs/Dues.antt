@@ -1,12 +1,9 @@
 -- Whether an event is due.
-use Rattle.std.specs.Prelude.{◌≡◌, ℕ, ◌+◌, ◌<◌, Bool, true, false, Some, None, Ok, Err, length}
+use Rattle.std.specs.Prelude.{◌≡◌, Bool, true, false, Some, None, Ok, Err}
 use Rattle.std.specs.declared.option.Option.{Option}
 use Rattle.std.specs.declared.result.Result.{Result}
-use Rattle.pb_lan.specs.Events.{names_something, is_idle, is_at_limit, customer_there}
+use Rattle.pb_lan.specs.Events.{names_something, is_idle, is_at_limit}
 use Rattle.pb_lan.specs.declared.event.Event.{Event}
-use Rattle.pb_lan.specs.declared.event.Event.TheVariants.{Admin, Take, Put}
-use Rattle.pb_lan.specs.declared.plan.Plan.{Plan}
-use Rattle.pb_net.specs.declared.due.Spot.{Spot}
 use Rattle.pb_net.specs.Answers.{NetView, IsDue}
 use Rattle.pb_net.specs.declared.fault.NetFault.{NetFault}
 use Rattle.pb_net.specs.declared.fault.NetFault.TheVariants.{StepLimit, Memory, NoSuch}
@@ -26,17 +23,3 @@ IsDueOr net event (Ok (Some place)) = IsDue net event
 IsDueOr net event (Err StepLimit) = (names_something net.plan event ≡ true) × (is_idle net.plan net.rec event ≡ false) × (is_at_limit net.plan net.rec event ≡ true)
 IsDueOr net event (Err Memory) = ⊥
 IsDueOr net event (Err NoSuch) = names_something net.plan event ≡ false
-
--- the places of a bridge and of the customer port at its port
-pub record IsSpot (plan : Plan) (bridge port : ℕ) (spot : Spot) : Type 0 where
-  pub bridge_is : spot.bridge + 1 ≡ bridge
-  pub customer_is : customer_there plan bridge port ≡ spot.customer + 1
-  pub bridge_there : spot.bridge < length plan.bridges
-  pub customer_within : spot.customer < length plan.customers
-
--- an event of a provider port's state or of a lane
-abbrev pub IsOfLinks : Event → Type 0
-IsOfLinks (Admin bridge port up) = Unit {0}
-IsOfLinks (Take lane) = Unit {0}
-IsOfLinks (Put lane) = Unit {0}
-IsOfLinks _ = ⊥

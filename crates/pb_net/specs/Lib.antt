@@ -3,5 +3,7 @@ pub mod Answers
 pub mod Dues
 pub mod Moves
 pub mod Lists
+pub mod Slots
 pub mod Nets
 pub mod Starts
+pub mod Headline

@@ -2,10 +2,11 @@
 use Rattle.std.specs.Prelude.{◌≡◌, ℕ, ◌≤◌, [], vec_capacity}
 use Rattle.pb_net.specs.declared.lists.Lists.{Lists}
 
--- they are empty, and there is room for so many bridges and customer ports
-pub record AreEmpty (bridges customers : ℕ) (lists : Lists) : Type 0 where
+-- they are empty, and there is room for so many bridges, lanes and customer ports
+pub record AreEmpty (bridges lanes customers : ℕ) (lists : Lists) : Type 0 where
   pub no_bridges : lists.bridges.items ≡ []
   pub no_lanes : lists.lanes.items ≡ []
   pub no_customers : lists.customers.items ≡ []
   pub bridge_room : bridges ≤ vec_capacity lists.bridges
+  pub lane_room : lanes ≤ vec_capacity lists.lanes
   pub customer_room : customers ≤ vec_capacity lists.customers

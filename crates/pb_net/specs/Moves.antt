@@ -8,8 +8,9 @@ use Rattle.pb_lan.specs.Rules.{silent}
 use Rattle.pb_lan.specs.declared.step.Item.{Item}
 use Rattle.pb_lan.specs.declared.step.Moved.{Moved}
 use Rattle.pb_lan.specs.declared.step.Outcome.{Outcome}
-use Rattle.pb_lan.specs.declared.step.Step.TheVariants.{Feed, Deliver, Receive, Transmit}
+use Rattle.pb_lan.specs.declared.step.Step.TheVariants.{Feed, Deliver, Receive, Transmit, Put}
 use Rattle.pb_link.specs.Hands.{PlaceView}
+use Rattle.pb_link.specs.Lanes.{LaneView, taking}
 use Rattle.pb_relay.specs.Standing.{BridgeView}
 
 -- the frame in hand went to the back of the inbox
@@ -41,3 +42,15 @@ pub record HasTransmittedTo (old : BridgeView) (port : ℕ) (outbox : List Item)
   pub steps : new.steps ≡ old.steps ++ Transmit port item ∷ []
   pub fits : Fits silent old.plan old.number old.steps (Transmit port item)
   pub queued : outbox' ≡ outbox ++ item ∷ []
+
+-- the front of the outbox was taken by a lane
+pub record HasTakenFrom (old : LaneView) (outbox : List Item) (new : LaneView) (outbox' : List Item) : Type 0 where
+  pub item : Item
+  pub steps : new.steps ≡ old.steps ++ taking old item ∷ []
+  pub taken : outbox ≡ item ∷ outbox'
+
+-- the item in a lane's hand went to the back of the inbox
+pub record HasPutInto (old : LaneView) (inbox : List Item) (new : LaneView) (inbox' : List Item) : Type 0 where
+  pub item : Item
+  pub steps : new.steps ≡ old.steps ++ Put item ∷ []
+  pub queued : inbox' ≡ inbox ++ item ∷ []

@@ -5,6 +5,11 @@ use Rattle.std.specs.Global.{Global}
 use Rattle.pb_lan.specs.declared.plan.Plan.{Plan}
 use Rattle.pb_lan.specs.declared.step.Item.{Item}
 use Rattle.pb_link.specs.Hands.{PlaceView}
+use Rattle.pb_link.specs.Lanes.{LaneView}
+use Rattle.pb_net.specs.Slots.{losses_of, bridge_of, port_of, use_of, JoinsSlots, MeetsSlot}
+use Rattle.pb_net.specs.declared.slots.PortUse.{PortUse}
+use Rattle.pb_net.specs.declared.slots.LaneSlots.{LaneSlots}
+use Rattle.pb_lan.specs.Ports.{port_at}
 use Rattle.pb_relay.specs.Standing.{BridgeView}
 
 abbrev pub fresh_bridge : Plan → ℕ → BridgeView
@@ -13,10 +18,17 @@ fresh_bridge plan number = record { plan = plan; number = number; steps = []; is
 abbrev pub fresh_customer : ℕ → PlaceView
 fresh_customer number = record { number = number; steps = []; is_reserved = false }
 
+abbrev pub fresh_lane : List ℕ → LaneView
+fresh_lane losses = record { losses = losses; steps = []; is_reserved = false }
+
 -- the first so many bridges of the plan
 pub record AreFreshBridges (plan : Plan) (count : ℕ) (bridges : List BridgeView) : Type 0 where
   pub counted : length bridges ≡ count
   pub fresh : (r : ℕ) (b : BridgeView) → slice_get bridges r ≡ Some b → b ≡ fresh_bridge plan (r + 1)
+
+pub record AreFreshLanes (plan : Plan) (count : ℕ) (lanes : List LaneView) : Type 0 where
+  pub counted : length lanes ≡ count
+  pub fresh : (r : ℕ) (l : LaneView) → slice_get lanes r ≡ Some l → l ≡ fresh_lane (losses_of plan (r + 1))
 
 pub record AreFreshCustomers (count : ℕ) (customers : List PlaceView) : Type 0 where
   pub counted : length customers ≡ count
@@ -25,3 +37,18 @@ pub record AreFreshCustomers (count : ℕ) (customers : List PlaceView) : Type 0
 pub record AreEmptyBoxes (count : ℕ) (boxes : List (VecDeque Item Global)) : Type 0 where
   pub counted : length boxes ≡ count
   pub empty : (r : ℕ) (q : VecDeque Item Global) → slice_get boxes r ≡ Some q → q.items ≡ []
+
+-- who is at the first so many slots
+pub record AreUses (plan : Plan) (count : ℕ) (uses : List PortUse) : Type 0 where
+  pub counted : length uses ≡ count
+  pub told : (s : ℕ) (here : PortUse) → slice_get uses s ≡ Some here → here ≡ use_of (port_at plan (bridge_of s) (port_of s))
+
+-- the slots of the first so many lanes
+pub record AreLaneSlots (plan : Plan) (count : ℕ) (slots : List LaneSlots) : Type 0 where
+  pub counted : length slots ≡ count
+  pub joined : (r : ℕ) (at : LaneSlots) → slice_get slots r ≡ Some at → JoinsSlots plan (r + 1) at
+
+-- the slots of the first so many customer ports
+pub record AreCustomerSlots (plan : Plan) (count : ℕ) (slots : List ℕ) : Type 0 where
+  pub counted : length slots ≡ count
+  pub met : (r s : ℕ) → slice_get slots r ≡ Some s → MeetsSlot plan (r + 1) s

@@ -1,27 +1,13 @@
-//! Whether an event is due.
+//! Whether an event is due, and where.
 
-ghost use Rattle.std.specs.Prelude.{◌≡◌, ◌<◌, ◌≤◌, ◌+◌, ◌⊎◌, IfSome, IfNone};
-ghost use Rattle.pb_net.specs.Dues.{IsSifted};
+ghost use Rattle.std.specs.Prelude.{◌≡◌, [], IfOk, IfSome};
+ghost use Rattle.pb_net.specs.Dues.{IsSifted, IsDueOr};
+ghost use Rattle.pb_net.specs.Slots.{IsBridgeSpot, IsCustomerSpot, IsLaneStart, IsLaneEnd};
 
 use crate::fault::NetFault;
-
-/// The indexes of a bridge, and of the customer port that stands at one of its ports.
-#[derive(Clone, Copy, Debug)]
-pub(crate) struct Spot {
-    pub bridge: usize,
-    pub customer: usize,
-}
-
-/// The index of the thing of a number, where there are so many, numbered from 1.
-pub(crate) fn index_of(number: u8, count: usize) -> Option<usize>
-    ensures some { IfSome result (λ r. (r + 1 ≡ number) × (r < count)) }
-    ensures none { IfNone result ((number ≡ 0) ⊎ (count < number)) }
-{
-    if number == 0 || usize::from(number) > count {
-        return None;
-    }
-    Some(usize::from(number) - 1)
-}
+use crate::net::Net;
+use crate::slots::Spot;
+use pb_lan::Event;
 
 /// Where there is something to do, and room in the list for its step, the place.
 pub(crate) fn sift<P: Copy>(
@@ -38,4 +24,105 @@ pub(crate) fn sift<P: Copy>(
         return Err(NetFault::StepLimit);
     }
     Ok(Some(place))
+}
+
+impl Net {
+    /// The customer port of a Poll that is due.
+    pub(crate) fn due_poll(&self, port: u8) -> Result<Option<Spot>, NetFault>
+        ensures due { IsDueOr self.now (Event.Poll port []) result }
+        ensures spot { IfOk result (λ o. IfSome o (IsCustomerSpot self.now.plan port)) }
+    {
+        let Some(spot) = self.customer_spot(port) else {
+            return Err(NetFault::NoSuch);
+        };
+        let customer = &self.customers[spot.place];
+        let is_idle = !customer.is_hand_empty();
+        sift(is_idle, customer.steps().len() == self.limit, spot)
+    }
+
+    /// The customer port of a Feed that is due.
+    pub(crate) fn due_feed(&self, port: u8) -> Result<Option<Spot>, NetFault>
+        ensures due { IsDueOr self.now (Event.Feed port) result }
+        ensures spot { IfOk result (λ o. IfSome o (IsCustomerSpot self.now.plan port)) }
+    {
+        let Some(spot) = self.customer_spot(port) else {
+            return Err(NetFault::NoSuch);
+        };
+        let customer = &self.customers[spot.place];
+        let inbox = &self.inboxes[spot.slot];
+        let is_idle = customer.is_hand_empty() | (self.ring <= inbox.len());
+        sift(is_idle, customer.steps().len() == self.limit, spot)
+    }
+
+    /// The customer port of a Deliver that is due.
+    pub(crate) fn due_deliver(&self, port: u8) -> Result<Option<Spot>, NetFault>
+        ensures due { IsDueOr self.now (Event.Deliver port) result }
+        ensures spot { IfOk result (λ o. IfSome o (IsCustomerSpot self.now.plan port)) }
+    {
+        let Some(spot) = self.customer_spot(port) else {
+            return Err(NetFault::NoSuch);
+        };
+        let customer = &self.customers[spot.place];
+        let outbox = &self.outboxes[spot.slot];
+        sift(
+            outbox.is_empty(),
+            customer.steps().len() == self.limit,
+            spot,
+        )
+    }
+
+    /// Where a Receive is due.
+    pub(crate) fn due_receive(&self, bridge: u8, port: u8) -> Result<Option<Spot>, NetFault>
+        ensures due { IsDueOr self.now (Event.Receive bridge port) result }
+        ensures spot { IfOk result (λ o. IfSome o (IsBridgeSpot self.now.plan bridge port)) }
+    {
+        let Some(spot) = self.used_spot(bridge, port) else {
+            return Err(NetFault::NoSuch);
+        };
+        let at = &self.bridges[spot.place];
+        let inbox = &self.inboxes[spot.slot];
+        sift(inbox.is_empty(), at.steps().len() == self.limit, spot)
+    }
+
+    /// Where a Transmit is due.
+    pub(crate) fn due_transmit(&self, bridge: u8, port: u8) -> Result<Option<Spot>, NetFault>
+        ensures due { IsDueOr self.now (Event.Transmit bridge port) result }
+        ensures spot { IfOk result (λ o. IfSome o (IsBridgeSpot self.now.plan bridge port)) }
+    {
+        let Some(spot) = self.used_spot(bridge, port) else {
+            return Err(NetFault::NoSuch);
+        };
+        let at = &self.bridges[spot.place];
+        let outbox = &self.outboxes[spot.slot];
+        let is_idle = (at.waiting(port) == 0) | (self.ring <= outbox.len());
+        sift(is_idle, at.steps().len() == self.limit, spot)
+    }
+
+    /// The lane of a Take that is due.
+    pub(crate) fn due_take(&self, lane: u8) -> Result<Option<Spot>, NetFault>
+        ensures due { IsDueOr self.now (Event.Take lane) result }
+        ensures spot { IfOk result (λ o. IfSome o (IsLaneStart self.now.plan lane)) }
+    {
+        let Some(spot) = self.lane_start(lane) else {
+            return Err(NetFault::NoSuch);
+        };
+        let at = &self.lanes[spot.place];
+        let outbox = &self.outboxes[spot.slot];
+        let is_idle = !at.is_hand_empty() | outbox.is_empty();
+        sift(is_idle, at.steps().len() == self.limit, spot)
+    }
+
+    /// The lane of a Put that is due.
+    pub(crate) fn due_put(&self, lane: u8) -> Result<Option<Spot>, NetFault>
+        ensures due { IsDueOr self.now (Event.Put lane) result }
+        ensures spot { IfOk result (λ o. IfSome o (IsLaneEnd self.now.plan lane)) }
+    {
+        let Some(spot) = self.lane_end(lane) else {
+            return Err(NetFault::NoSuch);
+        };
+        let at = &self.lanes[spot.place];
+        let inbox = &self.inboxes[spot.slot];
+        let is_idle = at.is_hand_empty() | (self.ring <= inbox.len());
+        sift(is_idle, at.steps().len() == self.limit, spot)
+    }
 }

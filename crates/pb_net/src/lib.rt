@@ -6,6 +6,7 @@
 #![tactic(auto)]
 
 mod at_bridge;
+mod at_lane;
 mod at_port;
 mod did;
 mod due;
@@ -13,6 +14,8 @@ mod events;
 mod fault;
 mod lists;
 mod net;
+mod slots;
+mod spots;
 mod start;
 
 pub use did::Did;

@@ -4,7 +4,7 @@ ghost use Rattle.std.specs.Prelude.{◌≡◌, ◌≤◌, [], map, length, vec_c
 
 use pb_frame::Seq;
 use pb_lan::Step;
-use pb_link::CustomerPlace;
+use pb_link::{CustomerPlace, Lane};
 use pb_relay::Bridge;
 
 /// Empty lists with room for the steps of each place, so that a network's end takes no memory.
@@ -23,6 +23,18 @@ pub(crate) fn bridge_steps(bridges: Vec<Bridge>, mut lists: Vec<Seq<Step>>) -> S
 {
     for bridge in bridges {
         let _ = lists.push(Seq::from_vec(bridge.into_steps()));
+    }
+    Seq::from_vec(lists)
+}
+
+/// The steps of each lane.
+pub(crate) fn lane_steps(lanes: Vec<Lane>, mut lists: Vec<Seq<Step>>) -> Seq<Seq<Step>>
+    requires empty { lists.items ≡ [] }
+    requires room { length lanes.items ≤ vec_capacity lists }
+    ensures { result ≡ map (λ l. l.steps) lanes.items }
+{
+    for lane in lanes {
+        let _ = lists.push(Seq::from_vec(lane.into_steps()));
     }
     Seq::from_vec(lists)
 }

@@ -5,13 +5,14 @@ ghost use Rattle.pb_lan.specs.Events.{has_place, steps_at};
 ghost use Rattle.pb_lan.specs.Records.{IsLawfulRecord};
 ghost use Rattle.pb_lan.specs.Rules.{silent};
 ghost use Rattle.pb_net.specs.Answers.{IsAnswer, HaveRun, HasStopped};
+ghost use Rattle.pb_net.specs.Headline.{IsFaithful};
 
 use crate::did::Did;
 use crate::fault::NetFault;
-use crate::lists::{Lists, bridge_steps, customer_steps};
-use pb_frame::Seq;
+use crate::lists::{Lists, bridge_steps, customer_steps, lane_steps};
+use crate::slots::Slots;
 use pb_lan::{Event, Item, Place, Plan, Record, Step};
-use pb_link::CustomerPlace;
+use pb_link::{CustomerPlace, Lane};
 use pb_relay::Bridge;
 use std::collections::VecDeque;
 use std::marker::Model;
@@ -23,29 +24,33 @@ pub struct Net {
     pub(crate) limit: usize,
     pub(crate) ring: usize,
     pub(crate) bridges: Vec<Bridge>,
+    pub(crate) lanes: Vec<Lane>,
     pub(crate) customers: Vec<CustomerPlace>,
+    /// By slot, what was sent to the bridge's port and not received.
     pub(crate) inboxes: Vec<VecDeque<Item>>,
+    /// By slot, what the bridge transmitted at the port and nobody fetched.
     pub(crate) outboxes: Vec<VecDeque<Item>>,
-    pub(crate) table: Vec<u8>,
+    pub(crate) slots: Slots,
     pub(crate) lists: Lists,
 }
 
 impl Model for Net {
-    ghost use Rattle.std.specs.Prelude.{map, length};
+    ghost use Rattle.std.specs.Prelude.{map, length, ◌*◌};
     ghost use Rattle.pb_net.specs.Answers.{NetView};
-    ghost use Rattle.pb_net.specs.Nets.{record_of, IsPlain, ArePlaced, IsKept, IsTable, HasNumbers};
+    ghost use Rattle.pb_net.specs.Nets.{record_of, IsFixedPlan, ArePlaced, IsKept, HasNumbers};
     ghost use Rattle.pb_net.specs.Lists.{AreEmpty};
+    ghost use Rattle.pb_net.specs.Slots.{AreTables};
 
     ghost Value = { NetView };
 
-    ghost view = { λ n. record { plan = n.plan; rec = record_of n.bridges.items n.customers.items } };
+    ghost view = { λ n. record { plan = n.plan; rec = record_of n.bridges.items n.lanes.items n.customers.items } };
 
-    ghost invariant = { λ n. IsPlain n.plan
-        × ArePlaced n.plan n.bridges.items n.customers.items
-        × IsKept n.plan (record_of n.bridges.items n.customers.items) (map (λ q. q.items) n.inboxes.items) (map (λ q. q.items) n.outboxes.items)
-        × IsTable n.plan n.table.items
+    ghost invariant = { λ n. IsFixedPlan n.plan
+        × ArePlaced n.plan n.bridges.items n.lanes.items n.customers.items
+        × IsKept n.plan (record_of n.bridges.items n.lanes.items n.customers.items) (map (λ q. q.items) n.inboxes.items) (map (λ q. q.items) n.outboxes.items)
+        × AreTables n.plan n.slots
         × HasNumbers n.plan n.limit n.ring
-        × AreEmpty (length n.plan.bridges) (length n.plan.customers) n.lists };
+        × AreEmpty (length n.plan.bridges) (2 * length n.plan.links) (length n.plan.customers) n.lists };
 }
 
 impl Net {
@@ -88,34 +93,42 @@ impl Net {
         match place {
             Place::Bridge(number) => self.bridges[number as usize - 1].steps(),
             Place::Customer(number) => self.customers[number as usize - 1].steps(),
-            Place::Lane(_) => unreachable!(),
+            Place::Lane(number) => self.lanes[number as usize - 1].steps(),
         }
     }
 
     /// Ends the network, and gives the record of its steps, which is lawful. Takes no memory.
+    ///
+    /// Whatever the events were: each departure has the octets of an arrival at a port of the same
+    /// service; a frame that was handled under a forest leaves each other port at most once, its own
+    /// never, and none outside its tree; one to a group that was neither refused nor lost, and has
+    /// drained, leaves each port of its service in its tree once; no frame is multiplied; and frames
+    /// of one port and one priority keep their order.
     pub fn finish(self) -> Record
         ensures record { result ≡ self.rec }
         ensures lawful { IsLawfulRecord silent self.plan result }
+        ensures headline { IsFaithful self.plan result }
     {
         let Net {
             plan: _,
             limit: _,
             ring: _,
             bridges,
+            lanes,
             customers,
             inboxes: _,
             outboxes: _,
-            table: _,
+            slots: _,
             lists,
         } = self;
         let Lists {
             bridges: bridge_lists,
-            lanes,
+            lanes: lane_lists,
             customers: customer_lists,
         } = lists;
         Record {
             bridges: bridge_steps(bridges, bridge_lists),
-            lanes: Seq::from_vec(lanes),
+            lanes: lane_steps(lanes, lane_lists),
             customers: customer_steps(customers, customer_lists),
         }
     }

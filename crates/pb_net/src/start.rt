@@ -1,19 +1,21 @@
 //! A network at its start.
 
-ghost use Rattle.std.specs.Prelude.{◌≡◌, ◌<◌, [], length, IfOk};
-ghost use Rattle.pb_lan.specs.Events.{number_of, empty_record};
-ghost use Rattle.pb_lan.specs.Plans.{IsSound};
-ghost use Rattle.pb_lan.specs.Ports.{is_customer_at};
+ghost use Rattle.std.specs.Prelude.{◌≡◌, ◌<◌, ◌*◌, ◌+◌, ◌-◌, ◌||◌, [], length, IfOk};
+ghost use Rattle.std.specs.List.{list_any};
+ghost use Rattle.pb_lan.specs.Events.{empty_record};
+ghost use Rattle.pb_lan.specs.Plans.{IsSound, Rises};
+ghost use Rattle.pb_lan.specs.Ports.{is_customer_at, is_end_at, port_at};
 ghost use Rattle.pb_lan.specs.declared.plan.Spanning.TheVariants.{Fixed};
 ghost use Rattle.pb_net.specs.Lists.{AreEmpty};
-ghost use Rattle.pb_net.specs.Nets.{IsTable};
-ghost use Rattle.pb_net.specs.Starts.{AreFreshBridges, AreFreshCustomers, AreEmptyBoxes};
+ghost use Rattle.pb_net.specs.Slots.{use_of, AreTables};
+ghost use Rattle.pb_net.specs.Starts.{fresh_lane, AreFreshBridges, AreFreshLanes, AreFreshCustomers, AreEmptyBoxes, AreUses, AreLaneSlots, AreCustomerSlots};
 
 use crate::lists::Lists;
 use crate::net::Net;
-use pb_frame::Memory;
-use pb_lan::{CustomerPlan, Item, Plan};
-use pb_link::CustomerPlace;
+use crate::slots::{LaneSlots, PortUse, Slots};
+use pb_frame::{Memory, Seq};
+use pb_lan::{CustomerPlan, End, Item, LinkPlan, Plan};
+use pb_link::{CustomerPlace, Lane};
 use pb_relay::Bridge;
 use std::alloc::Global;
 use std::collections::VecDeque;
@@ -29,6 +31,28 @@ fn fresh_bridges(alloc: Global, plan: &Plan) -> Result<Vec<Bridge>, Memory>
         bridges.push(Bridge::new(alloc, plan, place as u8 + 1)?)?;
     }
     Ok(bridges)
+}
+
+/// A lane that loses the items of these numbers, and has taken no step.
+fn fresh_lane(alloc: Global, losses: &Seq<u64>) -> Result<Lane, Memory>
+    requires { Rises losses.now }
+    ensures { IfOk result (λ lane. lane ≡ fresh_lane losses.now) }
+{
+    Ok(Lane::new(alloc, losses.clone()?))
+}
+
+/// The lanes of a plan, none of which has taken a step.
+fn fresh_lanes(alloc: Global, plan: &Plan) -> Result<Vec<Lane>, Memory>
+    requires { IsSound plan.now }
+    ensures { IfOk result (λ lanes. AreFreshLanes plan.now (2 * length plan.now.links) lanes.items) }
+{
+    let links = plan.links.as_slice();
+    let mut lanes = Vec::with_capacity(alloc, 2 * links.len())?;
+    for link in links {
+        lanes.push(fresh_lane(alloc, &link.lost_ab)?)?;
+        lanes.push(fresh_lane(alloc, &link.lost_ba)?)?;
+    }
+    Ok(lanes)
 }
 
 /// So many customer ports, none of which has taken a step.
@@ -54,64 +78,137 @@ fn empty_boxes(alloc: Global, count: usize) -> Result<Vec<VecDeque<Item>>, Memor
     Ok(boxes)
 }
 
-/// The number of the customer port that stands at a bridge's port, or 0.
-fn customer_there(customers: &[CustomerPlan], bridge: u8, port: u8) -> u8
-    requires { length customers.now < 256 }
-    ensures { result ≡ number_of (is_customer_at bridge port) 1 customers.now }
+/// Whether a customer port stands at a bridge's port.
+fn is_customer_there(customers: &[CustomerPlan], bridge: u8, port: u8) -> bool
+    ensures { result ≡ list_any (is_customer_at bridge port) customers.now }
 {
-    for (place, customer) in customers.iter().enumerate() {
-        if customer.bridge == bridge && customer.port == port {
-            return place as u8 + 1;
-        }
-    }
-    0
+    customers.iter().any(|customer| customer.bridge == bridge && customer.port == port)
 }
 
-/// By bridge and local port, the number of the customer port that stands there.
-fn table_of(alloc: Global, plan: &Plan) -> Result<Vec<u8>, Memory>
+/// Whether a link ends at a bridge's port.
+fn is_end_there(links: &[LinkPlan], bridge: u8, port: u8) -> bool
+    ensures { result ≡ list_any (λ l. is_end_at bridge port l.a || is_end_at bridge port l.b) links.now }
+{
+    links.iter().any(|link| {
+        (link.a.bridge == bridge && link.a.port == port)
+            || (link.b.bridge == bridge && link.b.port == port)
+    })
+}
+
+/// Who is at a bridge's port.
+fn use_at(plan: &Plan, bridge: u8, port: u8) -> PortUse
+    ensures { result ≡ use_of (port_at plan.now bridge port) }
+{
+    if is_customer_there(plan.customers.as_slice(), bridge, port) {
+        return PortUse::ToCustomer;
+    }
+    if is_end_there(plan.links.as_slice(), bridge, port) {
+        return PortUse::ToBridge;
+    }
+    PortUse::ToNobody
+}
+
+/// By slot, who is there.
+fn uses(alloc: Global, plan: &Plan) -> Result<Vec<PortUse>, Memory>
     requires { IsSound plan.now }
-    ensures { IfOk result (λ table. IsTable plan.now table.items) }
+    ensures { IfOk result (λ uses. AreUses plan.now (16 * length plan.now.bridges) uses.items) }
+{
+    let mut uses = Vec::with_capacity(alloc, 16 * plan.bridges.len())?;
+    for slot in 0..16 * plan.bridges.len() {
+        uses.push(use_at(plan, (slot / 16) as u8 + 1, (slot % 16) as u8 + 1))?;
+    }
+    Ok(uses)
+}
+
+/// The slot of a bridge's port.
+fn slot_of(bridge: u8, port: u8) -> usize
+    requires bridge { 0 < bridge }
+    requires port { 0 < port }
+    ensures { result ≡ 16 * (bridge - 1) + (port - 1) }
+{
+    16 * (usize::from(bridge) - 1) + (usize::from(port) - 1)
+}
+
+/// The slot of an end of a link.
+fn slot_of_end(end: &End) -> usize
+    requires bridge { 0 < end.now.bridge }
+    requires port { 0 < end.now.port }
+    ensures { result ≡ 16 * (end.now.bridge - 1) + (end.now.port - 1) }
+{
+    slot_of(end.bridge, end.port)
+}
+
+/// By lane, the slots where it begins and ends.
+fn lane_slots(alloc: Global, plan: &Plan) -> Result<Vec<LaneSlots>, Memory>
+    requires { IsSound plan.now }
+    ensures { IfOk result (λ slots. AreLaneSlots plan.now (2 * length plan.now.links) slots.items) }
+{
+    let links = plan.links.as_slice();
+    let mut slots = Vec::with_capacity(alloc, 2 * links.len())?;
+    for link in links {
+        let (from, to) = (slot_of_end(&link.a), slot_of_end(&link.b));
+        slots.push(LaneSlots { from, to })?;
+        slots.push(LaneSlots { from: to, to: from })?;
+    }
+    Ok(slots)
+}
+
+/// By customer port, its slot.
+fn customer_slots(alloc: Global, plan: &Plan) -> Result<Vec<usize>, Memory>
+    requires { IsSound plan.now }
+    ensures { IfOk result (λ slots. AreCustomerSlots plan.now (length plan.now.customers) slots.items) }
 {
     let customers = plan.customers.as_slice();
-    let mut table = Vec::with_capacity(alloc, 16 * plan.bridges.len())?;
-    for entry in 0..16 * plan.bridges.len() {
-        let number = customer_there(customers, (entry / 16) as u8 + 1, (entry % 16) as u8 + 1);
-        table.push(number)?;
+    let mut slots = Vec::with_capacity(alloc, customers.len())?;
+    for customer in customers {
+        slots.push(slot_of(customer.bridge, customer.port))?;
     }
-    Ok(table)
+    Ok(slots)
+}
+
+/// The meeting places at the bridges' ports.
+fn slots_of(alloc: Global, plan: &Plan) -> Result<Slots, Memory>
+    requires { IsSound plan.now }
+    ensures { IfOk result (AreTables plan.now) }
+{
+    Ok(Slots {
+        uses: uses(alloc, plan)?,
+        lanes: lane_slots(alloc, plan)?,
+        customers: customer_slots(alloc, plan)?,
+    })
 }
 
 /// Room for the lists of the record.
 fn empty_lists(alloc: Global, plan: &Plan) -> Result<Lists, Memory>
-    ensures { IfOk result (AreEmpty (length plan.now.bridges) (length plan.now.customers)) }
+    requires { length plan.now.links < 256 }
+    ensures { IfOk result (AreEmpty (length plan.now.bridges) (2 * length plan.now.links) (length plan.now.customers)) }
 {
     Ok(Lists {
         bridges: Vec::with_capacity(alloc, plan.bridges.len())?,
-        lanes: Vec::new(alloc),
+        lanes: Vec::with_capacity(alloc, 2 * plan.links.len())?,
         customers: Vec::with_capacity(alloc, plan.customers.len())?,
     })
 }
 
 impl Net {
-    /// The network of a plan (802.1Q clause 15), in which no place has taken a step. It keeps the
-    /// plan. `Memory` is answered where memory ran out, and nothing else is refused.
-    ///
-    /// For now the plan has no links, and its states are fixed.
+    /// The network of a sound plan (802.1Q clause 15) that gives the states of its ports itself, in
+    /// which no place has taken a step. It keeps the plan. `Memory` is answered where memory ran out,
+    /// and nothing else is refused.
     pub fn new(alloc: Global, plan: Plan) -> Result<Net, Memory>
         requires sound { IsSound plan }
         requires fixed { plan.spanning ≡ Fixed }
-        requires linkless { plan.links ≡ [] }
         ensures { IfOk result (λ net. net ≡ record { plan = plan; rec = empty_record plan }) }
     {
-        let count = plan.customers.len();
+        let slots = 16 * plan.bridges.len();
         Ok(Net {
             limit: plan.steps as usize,
             ring: usize::from(plan.ring),
             bridges: fresh_bridges(alloc, &plan)?,
-            customers: fresh_customers(alloc, count)?,
-            inboxes: empty_boxes(alloc, count)?,
-            outboxes: empty_boxes(alloc, count)?,
-            table: table_of(alloc, &plan)?,
+            lanes: fresh_lanes(alloc, &plan)?,
+            customers: fresh_customers(alloc, plan.customers.len())?,
+            inboxes: empty_boxes(alloc, slots)?,
+            outboxes: empty_boxes(alloc, slots)?,
+            slots: slots_of(alloc, &plan)?,
             lists: empty_lists(alloc, &plan)?,
             plan,
         })

@@ -1,17 +1,26 @@
 //! Runs with ample memory.
 
+mod classes;
+mod crossing;
 mod idle;
+mod lengths;
 mod limits;
+mod links;
+mod networks;
+mod ports_down;
+mod rulings;
 mod runs;
+mod services;
 
 ghost use Rattle.std.specs.Prelude.{◌≡◌, IsTrue, true};
 ghost use Rattle.pb_lan.specs.Events.{has_place};
 
-use crate::{Event, Net, NetFault};
+use crate::{Did, Event, Net, NetFault};
 use bytes::Bytes;
+use pb_frame::hex_read;
 use pb_lan::{
-    BridgePlan, CustomerPlan, Item, Mac, Mark, Place, Plan, Seq, ServicePlan, Spanning, Step, Text,
-    plan_is_sound,
+    BridgePlan, CustomerPlan, Item, Mac, Mark, Outcome, Place, Plan, Seq, ServicePlan, Spanning,
+    Step, Text, plan_is_sound,
 };
 use std::alloc::{AllocError, Global};
 use std::process::Abort;
@@ -89,7 +98,6 @@ fn three_customers(alloc: Global) -> Result<Plan, AllocError> {
 fn started(rt: &impl Abort, alloc: Global, plan: Plan) -> Result<Net, Fail> {
     assert!(rt; plan_is_sound(&plan));
     assert!(rt; matches!(plan.spanning, Spanning::Fixed));
-    assert!(rt; plan.links.as_slice().is_empty());
     Ok(Net::new(alloc, plan)?)
 }
 
@@ -100,7 +108,7 @@ fn has(net: &Net, place: Place) -> bool
     match place {
         Place::Bridge(number) => 0 < number && usize::from(number) <= net.bridges.len(),
         Place::Customer(number) => 0 < number && usize::from(number) <= net.customers.len(),
-        Place::Lane(_) => false,
+        Place::Lane(number) => 0 < number && usize::from(number) <= net.lanes.len(),
     }
 }
 
@@ -144,4 +152,101 @@ fn send(alloc: Global, net: &mut Net) -> Result<(), Fail> {
     net.step(Event::Feed { port: 1 })?;
     net.step(Event::Receive { bridge: 1, port: 1 })?;
     Ok(())
+}
+
+/// Does one event, which finds something to do.
+fn does(rt: &impl Abort, net: &mut Net, event: Event) -> Result<(), Fail> {
+    let did = net.step(event)?;
+    assert!(rt; did != Did::Idle);
+    Ok(())
+}
+
+/// A frame of these hexadecimal digits comes in at a customer port, and its bridge receives it.
+fn enters(
+    rt: &impl Abort,
+    alloc: Global,
+    net: &mut Net,
+    customer: u8,
+    at: (u8, u8),
+    digits: &str,
+) -> Result<(), Fail> {
+    let frame = hex_read(alloc, digits)?;
+    does(
+        rt,
+        net,
+        Event::Poll {
+            port: customer,
+            frame,
+        },
+    )?;
+    does(rt, net, Event::Feed { port: customer })?;
+    let (bridge, port) = at;
+    does(rt, net, Event::Receive { bridge, port })
+}
+
+/// A bridge sends an item onto a lane, and the bridge at its end receives it.
+fn crosses(
+    rt: &impl Abort,
+    net: &mut Net,
+    from: (u8, u8),
+    lane: u8,
+    to: (u8, u8),
+) -> Result<(), Fail> {
+    let (bridge, port) = from;
+    does(rt, net, Event::Transmit { bridge, port })?;
+    does(rt, net, Event::Take { lane })?;
+    does(rt, net, Event::Put { lane })?;
+    let (bridge, port) = to;
+    does(rt, net, Event::Receive { bridge, port })
+}
+
+/// A bridge sends an item to a customer port, which delivers it.
+fn leaves(rt: &impl Abort, net: &mut Net, from: (u8, u8), customer: u8) -> Result<(), Fail> {
+    let (bridge, port) = from;
+    does(rt, net, Event::Transmit { bridge, port })?;
+    does(rt, net, Event::Deliver { port: customer })
+}
+
+/// Whether a step moved a frame of these octets.
+fn moves(step: Option<&Step>, wire: &[u8]) -> bool {
+    match step {
+        Some(
+            Step::Take { item, .. }
+            | Step::Put { item }
+            | Step::Receive { item, .. }
+            | Step::Deliver { item, .. },
+        ) => item.wire.as_slice() == wire,
+        _ => false,
+    }
+}
+
+/// Whether the last step of a place moved a frame of these hexadecimal digits.
+fn moved(
+    rt: &impl Abort,
+    alloc: Global,
+    net: &Net,
+    place: Place,
+    digits: &str,
+) -> Result<bool, Fail> {
+    let wire = hex_read(alloc, digits)?;
+    assert!(rt; has(net, place));
+    Ok(moves(net.steps(place).last(), wire.as_slice()))
+}
+
+/// Whether the last step of a bridge is a Receive with this outcome.
+fn ruled(rt: &impl Abort, net: &Net, bridge: u8, wanted: &Outcome) -> bool {
+    let place = Place::Bridge(bridge);
+    assert!(rt; has(net, place));
+    match net.steps(place).last() {
+        Some(Step::Receive { outcome, .. }) => outcome == wanted,
+        _ => false,
+    }
+}
+
+/// Relayed to these ports, none of which refused.
+fn relayed_to(alloc: Global, chosen: &[u8]) -> Result<Outcome, AllocError> {
+    Ok(Outcome::Relayed {
+        chosen: Seq::from_vec(Vec::from_slice(alloc, chosen)?),
+        refused: Seq::from_vec(Vec::new(alloc)),
+    })
 }

@@ -75,3 +75,8 @@ pub returns-in_err-switch-clause-part : goal.returns-in_err-switch-clause-part
 returns-in_err-switch-clause-part g c =
     let p = err_from_is_err_and c.from_residual-in_err-switch.result c.from_residual-in_err-switch.ensures.1 in
     rw p.1 (λ ne. begins p.0 c.args.limit c.args.ports (g.R.Read.remaining c.args.reader.now) (g.W.Write.contents c.args.writer.now) (λ s. let e = sym p.2 ∙ s in cc))
+
+pub returns-in_err-finish-2-clause-part : goal.returns-in_err-finish-2-clause-part
+returns-in_err-finish-2-clause-part g c =
+    let p = err_from_is_err_and c.from_residual-in_err-finish-2.result c.from_residual-in_err-finish-2.ensures.1 in
+    rw p.1 (λ ne. absurd (ne (p.2 ∙ c.in_err-finish-2.ensures.err)))

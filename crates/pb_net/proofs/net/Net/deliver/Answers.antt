@@ -1,67 +1,52 @@
-use Rattle.std.proofs.Common.{◌≡◌, ◌<◌, ℕ, suc, length, map, sym, ap, subst, ◌∙◌, arith, refl}
+use Rattle.std.proofs.Common.{◌≡◌, ◌<◌, ◌+◌, ◌*◌, ◌-◌, ◌==◌, ◌||◌, ℕ, suc, Bool, true, false, not, nat_le, List, [], ◌∷◌, ◌++◌, Some, Err, length, map, get_or, sym, ap, subst, ◌∙◌, arith, refl, deque_len}
 use Rattle.std.proofs.lemmas.Result.{err_from_is_err_and}
 use Rattle.std.proofs.Math.ListN.{set}
-use Rattle.pb_lan.specs.Events.{HasDone}
+use Rattle.pb_lan.specs.Events.{HasDone, is_idle}
 use Rattle.pb_lan.specs.declared.event.Event.TheVariants.{Deliver}
 use Rattle.pb_lan.specs.declared.record.Record.{Record}
-use Rattle.pb_net.specs.Answers.{NetView, IsDue}
+use Rattle.pb_net.specs.Answers.{NetView, IsDue, IsAnswer}
 use Rattle.pb_net.specs.Nets.{record_of}
-use Rattle.pb_net.proofs.DueLemmas.{idle_deliver_is, net_of}
-use Rattle.pb_net.proofs.Done.{box_at, box_within, items_in, some_there, customer_failed, deliver_done, answers_memory, net_with}
-use Rattle.pb_net.proofs.OneMore.{here_is, map-set_kept}
+use Rattle.pb_net.specs.Slots.{IsCustomerSpot}
+use Rattle.pb_net.proofs.DueLemmas.{idle_deliver_is}
+use Rattle.pb_net.proofs.Done.{box_at, box_kept, items_in, some_there, customer_failed, deliver_done, answers_memory, net_with}
 use Rattle.pb_net.proofs.net.Net.deliver.Goals as goal
 
 pub deliver_at-requires : goal.deliver_at-requires
 deliver_at-requires c =
     let s = c.self.inside in
-    let r = c.in-Some.place in
+    let spot = c.in-Some.spot in
     let old = c.index_mut.result.now in
-    let place = rw c.in-Some.is at c.in_ok-place.ensures.place in
-    let due = rw c.in-Some.is at c.in_ok-place.ensures.due in
-    let port : suc r ≡ c.args.port = omega (arith, place.0) in
-    let customers : length s.plan.customers ≡ length c.args.self.now.plan.customers = ap (λ (v : NetView). length v.plan.customers) c.self.view_is in
-    let within : r < length s.customers.items = omega (arith, place.1, customers, c.self.invariant.1.customer_count) in
-    let here = here_is s.customers.items r old within c.index_mut.ensures.value in
-    let planned : r < length s.plan.customers = omega (arith, within, c.self.invariant.1.customer_count) in
+    let due = rw c.in-Some.is at c.in_ok-spot.ensures.due in
+    let told = rw c.in-Some.is at c.in_ok-spot.ensures.spot in
+    let known = subst (λ (v : NetView). IsCustomerSpot v.plan c.args.port spot) (sym c.self.view_is) told in
     let box = c.index_mut-2.result.now in
-    let there = box_at items_in s.outboxes.items r (length s.plan.customers) box c.self.invariant.2.outbox_count planned c.index_mut-2.ensures.value in
-    let mine = subst (λ (n : ℕ). IsDue (net_of s.plan s.bridges.items s.customers.items) (Deliver n)) (sym port) (subst (λ (v : NetView). IsDue v (Deliver c.args.port)) (sym c.self.view_is) due) in
-    some_there (length box.items) (sym (idle_deliver_is s.plan s.bridges.items s.customers.items (map items_in s.inboxes.items) (map items_in s.outboxes.items) r box.items c.self.invariant.1 c.self.invariant.2 within there) ∙ mine.busy)
+    let there = box_at items_in s.outboxes.items spot.slot (16 * length s.plan.bridges) box c.self.invariant.2.outbox_count known.slot.at.within c.index_mut-2.ensures.value in
+    let busy : is_idle s.plan (record_of s.bridges.items s.lanes.items s.customers.items) (Deliver c.args.port) ≡ false = subst (λ (v : NetView). is_idle v.plan v.rec (Deliver c.args.port) ≡ false) (sym c.self.view_is) due.busy in
+    some_there (length box.items) (sym (idle_deliver_is s.plan s.bridges.items s.lanes.items s.customers.items (map items_in s.inboxes.items) (map items_in s.outboxes.items) s.limit s.ring c.args.port (length box.items) spot old box.items c.self.invariant.0 c.self.invariant.1 c.self.invariant.2 c.self.invariant.4 known c.index_mut.ensures.value there refl) ∙ busy)
 
 pub invariant_of-self : goal.invariant_of-self
 invariant_of-self c =
     let s = c.self.inside in
-    let r = c.in-Some.place in
+    let spot = c.in-Some.spot in
     let old = c.index_mut.result.now in
-    let place = rw c.in-Some.is at c.in_ok-place.ensures.place in
-    let due = rw c.in-Some.is at c.in_ok-place.ensures.due in
-    let port : suc r ≡ c.args.port = omega (arith, place.0) in
-    let customers : length s.plan.customers ≡ length c.args.self.now.plan.customers = ap (λ (v : NetView). length v.plan.customers) c.self.view_is in
-    let within : r < length s.customers.items = omega (arith, place.1, customers, c.self.invariant.1.customer_count) in
-    let here = here_is s.customers.items r old within c.index_mut.ensures.value in
-    let planned : r < length s.plan.customers = omega (arith, within, c.self.invariant.1.customer_count) in
+    let due = rw c.in-Some.is at c.in_ok-spot.ensures.due in
+    let told = rw c.in-Some.is at c.in_ok-spot.ensures.spot in
+    let known = subst (λ (v : NetView). IsCustomerSpot v.plan c.args.port spot) (sym c.self.view_is) told in
     let box = c.index_mut-2.result.now in
-    let there = box_at items_in s.outboxes.items r (length s.plan.customers) box c.self.invariant.2.outbox_count planned c.index_mut-2.ensures.value in
-    let failed = customer_failed s.plan s.bridges.items s.customers.items (map items_in s.inboxes.items) (map items_in s.outboxes.items) r old c.deliver_at.new.place
-    c.self.invariant.1 c.self.invariant.2 here c.in_err-deliver_at.ensures.number c.in_err-deliver_at.ensures.err in
-    (c.self.invariant.0, failed.0, (let kept_box = map-set_kept items_in s.outboxes.items r box c.deliver_at.new.outbox (here_is s.outboxes.items r box (box_within items_in s.outboxes.items r (length s.plan.customers) c.self.invariant.2.outbox_count planned) c.index_mut-2.ensures.value) c.in_err-deliver_at.ensures.err_outbox in rw kept_box failed.1), c.self.invariant.3, c.self.invariant.4, c.self.invariant.5)
+    let failed = customer_failed s.plan s.bridges.items s.lanes.items s.customers.items (map items_in s.inboxes.items) (map items_in s.outboxes.items) spot.place old c.deliver_at.new.place c.self.invariant.1 c.self.invariant.2 known.there c.index_mut.ensures.value c.in_err-deliver_at.ensures.number c.in_err-deliver_at.ensures.err in
+    let kept_box = box_kept items_in s.outboxes.items spot.slot (16 * length s.plan.bridges) box c.deliver_at.new.outbox c.self.invariant.2.outbox_count known.slot.at.within c.index_mut-2.ensures.value c.in_err-deliver_at.ensures.err_outbox in
+    (c.self.invariant.0, failed.0, rw kept_box failed.1, c.self.invariant.3, c.self.invariant.4, c.self.invariant.5)
 
 pub returns-in_err-deliver_at : goal.returns-in_err-deliver_at
 returns-in_err-deliver_at c =
     let s = c.self.inside in
-    let r = c.in-Some.place in
+    let spot = c.in-Some.spot in
     let old = c.index_mut.result.now in
-    let place = rw c.in-Some.is at c.in_ok-place.ensures.place in
-    let due = rw c.in-Some.is at c.in_ok-place.ensures.due in
-    let port : suc r ≡ c.args.port = omega (arith, place.0) in
-    let customers : length s.plan.customers ≡ length c.args.self.now.plan.customers = ap (λ (v : NetView). length v.plan.customers) c.self.view_is in
-    let within : r < length s.customers.items = omega (arith, place.1, customers, c.self.invariant.1.customer_count) in
-    let here = here_is s.customers.items r old within c.index_mut.ensures.value in
-    let planned : r < length s.plan.customers = omega (arith, within, c.self.invariant.1.customer_count) in
+    let due = rw c.in-Some.is at c.in_ok-spot.ensures.due in
+    let told = rw c.in-Some.is at c.in_ok-spot.ensures.spot in
+    let known = subst (λ (v : NetView). IsCustomerSpot v.plan c.args.port spot) (sym c.self.view_is) told in
     let box = c.index_mut-2.result.now in
-    let there = box_at items_in s.outboxes.items r (length s.plan.customers) box c.self.invariant.2.outbox_count planned c.index_mut-2.ensures.value in
-    let failed = customer_failed s.plan s.bridges.items s.customers.items (map items_in s.inboxes.items) (map items_in s.outboxes.items) r old c.deliver_at.new.place
-    c.self.invariant.1 c.self.invariant.2 here c.in_err-deliver_at.ensures.number c.in_err-deliver_at.ensures.err in
+    let failed = customer_failed s.plan s.bridges.items s.lanes.items s.customers.items (map items_in s.inboxes.items) (map items_in s.outboxes.items) spot.place old c.deliver_at.new.place c.self.invariant.1 c.self.invariant.2 known.there c.index_mut.ensures.value c.in_err-deliver_at.ensures.number c.in_err-deliver_at.ensures.err in
     let p = err_from_is_err_and c.from_residual-in_err-deliver_at.result c.from_residual-in_err-deliver_at.ensures.1 in
     answers_memory c.args.self.now _ (Deliver c.args.port) c.from_residual-in_err-deliver_at.result p.0 p.1 p.2 due
     (ap (λ (rec : Record). net_with s.plan rec) failed.2 ∙ c.self.view_is)
@@ -69,35 +54,24 @@ returns-in_err-deliver_at c =
 pub invariant_of-self-2 : goal.invariant_of-self-2
 invariant_of-self-2 c =
     let s = c.self.inside in
-    let r = c.in-Some.place in
+    let spot = c.in-Some.spot in
     let old = c.index_mut.result.now in
-    let place = rw c.in-Some.is at c.in_ok-place.ensures.place in
-    let due = rw c.in-Some.is at c.in_ok-place.ensures.due in
-    let port : suc r ≡ c.args.port = omega (arith, place.0) in
-    let customers : length s.plan.customers ≡ length c.args.self.now.plan.customers = ap (λ (v : NetView). length v.plan.customers) c.self.view_is in
-    let within : r < length s.customers.items = omega (arith, place.1, customers, c.self.invariant.1.customer_count) in
-    let here = here_is s.customers.items r old within c.index_mut.ensures.value in
-    let planned : r < length s.plan.customers = omega (arith, within, c.self.invariant.1.customer_count) in
+    let due = rw c.in-Some.is at c.in_ok-spot.ensures.due in
+    let told = rw c.in-Some.is at c.in_ok-spot.ensures.spot in
+    let known = subst (λ (v : NetView). IsCustomerSpot v.plan c.args.port spot) (sym c.self.view_is) told in
     let box = c.index_mut-2.result.now in
-    let there = box_at items_in s.outboxes.items r (length s.plan.customers) box c.self.invariant.2.outbox_count planned c.index_mut-2.ensures.value in
-    let done = deliver_done items_in s.plan s.bridges.items s.customers.items s.inboxes.items s.outboxes.items r old c.deliver_at.new.place box c.deliver_at.new.outbox c.self.invariant.1 c.self.invariant.2 here there c.in_ok-deliver_at.ensures.number c.in_ok-deliver_at.ensures.lawful c.in_ok-deliver_at.ensures.ok in
+    let done = deliver_done items_in s.plan s.bridges.items s.lanes.items s.customers.items s.inboxes.items s.outboxes.items c.args.port spot old c.deliver_at.new.place box c.deliver_at.new.outbox c.self.invariant.0 c.self.invariant.1 c.self.invariant.2 known c.index_mut.ensures.value c.index_mut-2.ensures.value c.in_ok-deliver_at.ensures.number c.in_ok-deliver_at.ensures.lawful c.in_ok-deliver_at.ensures.ok in
     (c.self.invariant.0, done.0, done.1, c.self.invariant.3, c.self.invariant.4, c.self.invariant.5)
 
 pub returns : goal.returns
 returns c =
     let s = c.self.inside in
-    let r = c.in-Some.place in
+    let spot = c.in-Some.spot in
     let old = c.index_mut.result.now in
-    let place = rw c.in-Some.is at c.in_ok-place.ensures.place in
-    let due = rw c.in-Some.is at c.in_ok-place.ensures.due in
-    let port : suc r ≡ c.args.port = omega (arith, place.0) in
-    let customers : length s.plan.customers ≡ length c.args.self.now.plan.customers = ap (λ (v : NetView). length v.plan.customers) c.self.view_is in
-    let within : r < length s.customers.items = omega (arith, place.1, customers, c.self.invariant.1.customer_count) in
-    let here = here_is s.customers.items r old within c.index_mut.ensures.value in
-    let planned : r < length s.plan.customers = omega (arith, within, c.self.invariant.1.customer_count) in
+    let due = rw c.in-Some.is at c.in_ok-spot.ensures.due in
+    let told = rw c.in-Some.is at c.in_ok-spot.ensures.spot in
+    let known = subst (λ (v : NetView). IsCustomerSpot v.plan c.args.port spot) (sym c.self.view_is) told in
     let box = c.index_mut-2.result.now in
-    let there = box_at items_in s.outboxes.items r (length s.plan.customers) box c.self.invariant.2.outbox_count planned c.index_mut-2.ensures.value in
-    let done = deliver_done items_in s.plan s.bridges.items s.customers.items s.inboxes.items s.outboxes.items r old c.deliver_at.new.place box c.deliver_at.new.outbox c.self.invariant.1 c.self.invariant.2 here there c.in_ok-deliver_at.ensures.number c.in_ok-deliver_at.ensures.lawful c.in_ok-deliver_at.ensures.ok in
-    let new = record_of s.bridges.items (set s.customers.items r c.deliver_at.new.place) in
-    let here_done = subst (λ (n : ℕ). HasDone (record_of s.bridges.items s.customers.items) (Deliver n) new) port done.2 in
-    (due, refl, ap (λ (v : NetView). v.plan) c.self.view_is, subst (λ (v : NetView). HasDone v.rec (Deliver c.args.port) new) c.self.view_is here_done)
+    let done = deliver_done items_in s.plan s.bridges.items s.lanes.items s.customers.items s.inboxes.items s.outboxes.items c.args.port spot old c.deliver_at.new.place box c.deliver_at.new.outbox c.self.invariant.0 c.self.invariant.1 c.self.invariant.2 known c.index_mut.ensures.value c.index_mut-2.ensures.value c.in_ok-deliver_at.ensures.number c.in_ok-deliver_at.ensures.lawful c.in_ok-deliver_at.ensures.ok in
+    let new = record_of s.bridges.items s.lanes.items (set s.customers.items spot.place c.deliver_at.new.place) in
+    (due, refl, ap (λ (v : NetView). v.plan) c.self.view_is, subst (λ (v : NetView). HasDone v.rec (Deliver c.args.port) new) c.self.view_is done.2)

@@ -1,25 +1,18 @@
-use Rattle.std.proofs.Common.{◌≡◌, ◌<◌, ℕ, suc, not, [], length, sym, ap, subst, ◌∙◌, arith}
+use Rattle.std.proofs.Common.{◌≡◌, ◌<◌, ◌+◌, ◌*◌, ◌-◌, ◌==◌, ◌||◌, ℕ, suc, Bool, true, false, not, nat_le, List, [], ◌∷◌, ◌++◌, Some, Err, length, map, get_or, sym, ap, subst, ◌∙◌, arith, refl, deque_len}
+use Rattle.pb_net.specs.Answers.{NetView, IsDue, IsAnswer}
 use Rattle.pb_lan.specs.declared.event.Event.TheVariants.{Poll}
-use Rattle.pb_net.specs.Answers.{NetView}
 use Rattle.pb_net.specs.Dues.{IsDueOr}
-use Rattle.pb_net.proofs.DueLemmas.{idle_poll_is, named_customer, limit_customer, sifted, net_of}
-use Rattle.pb_net.proofs.OneMore.{here_is}
+use Rattle.pb_net.specs.Slots.{IsCustomerSpot}
+use Rattle.pb_net.proofs.DueLemmas.{due_poll_is}
+use Rattle.pb_net.proofs.Done.{box_at, items_in}
 use Rattle.pb_net.proofs.net.Net.due_poll.Goals as goal
 
 pub returns-clause-due : goal.returns-clause-due
 returns-clause-due c =
     let s = c.self.inside in
-    let r = c.in-Some.place in
-    let customer = c.index-customer.result.now in
-    let found = c.in-Some.ensures.some in
-    let within : r < length s.customers.items = omega (arith, found) in
-    let port : suc r ≡ c.args.port = omega (arith, found) in
-    let here = here_is s.customers.items r customer within c.index-customer.ensures in
-    let net = net_of s.plan s.bridges.items s.customers.items in
+    let spot = c.in-Some.spot in
+    let place = c.index-customer.result.now in
+    let known = subst (λ (v : NetView). IsCustomerSpot v.plan c.args.port spot) (sym c.self.view_is) c.in-Some.ensures.some in
     subst (λ (v : NetView). IsDueOr v (Poll c.args.port []) c.sift.result) c.self.view_is
-    (subst (λ (n : ℕ). IsDueOr net (Poll n []) c.sift.result) port
-    (sifted net (Poll (suc r) []) (not c.is_hand_empty-is_idle.result) _ r c.sift.result
-    (named_customer s.plan s.bridges.items s.customers.items r c.self.invariant.1 within)
-    (idle_poll_is s.plan s.bridges.items s.customers.items r customer [] here ∙ ap not (sym c.is_hand_empty-is_idle.ensures))
-    (limit_customer s.plan s.customers.items r customer s.limit s.ring c.self.invariant.4 here)
-    (rw c.steps.ensures.steps at c.sift.ensures)))
+    (due_poll_is s.plan s.bridges.items s.lanes.items s.customers.items s.limit s.ring c.args.port [] spot place c.is_hand_empty-is_idle.result c.sift.result c.self.invariant.1 c.self.invariant.4 known c.index-customer.ensures c.is_hand_empty-is_idle.ensures
+    (rw c.steps.ensures.steps at c.sift.ensures))

@@ -1,15 +1,24 @@
-use Rattle.std.proofs.Common.{◌≡◌, subst, ◌∙◌, []}
+use Rattle.std.proofs.Common.{◌≡◌, ◌<◌, ◌+◌, ◌*◌, ◌-◌, ◌==◌, ◌||◌, ℕ, suc, Bool, true, false, not, nat_le, List, [], ◌∷◌, ◌++◌, Some, Err, length, map, get_or, sym, ap, subst, ◌∙◌, arith, refl, deque_len}
+use Rattle.pb_net.specs.Answers.{NetView, IsDue, IsAnswer}
 use Rattle.pb_lan.specs.Records.{IsLawfulRecord}
 use Rattle.pb_lan.specs.Rules.{silent}
-use Rattle.pb_net.specs.Answers.{NetView}
 use Rattle.pb_net.specs.Nets.{record_of}
+use Rattle.pb_net.specs.Headline.{IsFaithful}
+use Rattle.pb_net.proofs.HeadlineLemmas.{faithful}
 use Rattle.pb_net.proofs.Records.{kept_lawful}
 use Rattle.pb_net.proofs.net.Net.finish.Goals as goal
 
 pub returns-clause-lawful : goal.returns-clause-lawful
 returns-clause-lawful c =
     let s = c.self.inside in
-    let lanes : c.from_vec.result ≡ [] = c.from_vec.ensures ∙ c.self.invariant.5.no_lanes in
-    let lawful = kept_lawful s.plan (record_of s.bridges.items s.customers.items) _ _ c.self.invariant.0 c.self.invariant.2 in
-    rw (c.bridge_steps.ensures, lanes, c.customer_steps.ensures)
-    (subst (λ (v : NetView). IsLawfulRecord silent v.plan (record_of s.bridges.items s.customers.items)) c.self.view_is lawful)
+    let lawful = kept_lawful s.plan (record_of s.bridges.items s.lanes.items s.customers.items) _ _ c.self.invariant.0 c.self.invariant.2 in
+    rw (c.bridge_steps.ensures, c.lane_steps.ensures, c.customer_steps.ensures)
+    (subst (λ (v : NetView). IsLawfulRecord silent v.plan (record_of s.bridges.items s.lanes.items s.customers.items)) c.self.view_is lawful)
+
+pub returns-clause-headline : goal.returns-clause-headline
+returns-clause-headline c =
+    let s = c.self.inside in
+    let lawful = kept_lawful s.plan (record_of s.bridges.items s.lanes.items s.customers.items) _ _ c.self.invariant.0 c.self.invariant.2 in
+    rw (c.bridge_steps.ensures, c.lane_steps.ensures, c.customer_steps.ensures)
+    (subst (λ (v : NetView). IsFaithful v.plan (record_of s.bridges.items s.lanes.items s.customers.items)) c.self.view_is
+    (faithful silent s.plan (record_of s.bridges.items s.lanes.items s.customers.items) c.self.invariant.0.sound lawful))

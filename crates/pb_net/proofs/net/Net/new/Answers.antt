@@ -1,4 +1,4 @@
-use Rattle.std.proofs.Common.{ap, refl, subst, ℕ}
+use Rattle.std.proofs.Common.{ap, refl, subst, ◌*◌, ℕ}
 use Rattle.pb_lan.specs.declared.record.Record.{Record}
 use Rattle.pb_net.specs.Starts.{AreFreshCustomers, AreEmptyBoxes}
 use Rattle.pb_net.proofs.Done.{net_with}
@@ -8,16 +8,17 @@ use Rattle.pb_net.proofs.net.Net.new.Goals as goal
 pub invariant_of-result : goal.invariant_of-result
 invariant_of-result c =
     let bridges = c.in_ok-fresh_bridges.field-0.items in
+    let lanes = c.in_ok-fresh_lanes.field-0.items in
     let customers = c.in_ok-fresh_customers.field-0.items in
     let ins = c.in_ok-empty_boxes.field-0.items in
     let outs = c.in_ok-empty_boxes-2.field-0.items in
-    let cs = subst (λ (n : ℕ). AreFreshCustomers n customers) c.len-count.ensures c.in_ok-fresh_customers.ensures in
-    let is = subst (λ (n : ℕ). AreEmptyBoxes n ins) c.len-count.ensures c.in_ok-empty_boxes.ensures in
-    let os = subst (λ (n : ℕ). AreEmptyBoxes n outs) c.len-count.ensures c.in_ok-empty_boxes-2.ensures in (
-      record { sound = c.requires.sound; fixed = c.requires.fixed; linkless = c.requires.linkless },
-      fresh_placed c.args.plan bridges customers c.in_ok-fresh_bridges.ensures cs,
-      fresh_kept c.args.plan bridges customers ins outs c.in_ok-fresh_bridges.ensures cs is os,
-      c.in_ok-table_of.ensures,
+    let cs = subst (λ (n : ℕ). AreFreshCustomers n customers) c.len.ensures c.in_ok-fresh_customers.ensures in
+    let is = subst (λ (n : ℕ). AreEmptyBoxes (16 * n) ins) c.len-slots.ensures c.in_ok-empty_boxes.ensures in
+    let os = subst (λ (n : ℕ). AreEmptyBoxes (16 * n) outs) c.len-slots.ensures c.in_ok-empty_boxes-2.ensures in (
+      record { sound = c.requires.sound; fixed = c.requires.fixed },
+      fresh_placed c.args.plan bridges lanes customers c.in_ok-fresh_bridges.ensures c.in_ok-fresh_lanes.ensures cs,
+      fresh_kept c.args.plan bridges lanes customers ins outs c.in_ok-fresh_bridges.ensures c.in_ok-fresh_lanes.ensures cs is os,
+      c.in_ok-slots_of.ensures,
       record { steps = refl; places = c.from.ensures },
       c.in_ok-empty_lists.ensures,
     )
@@ -25,7 +26,8 @@ invariant_of-result c =
 pub returns : goal.returns
 returns c =
     let bridges = c.in_ok-fresh_bridges.field-0.items in
+    let lanes = c.in_ok-fresh_lanes.field-0.items in
     let customers = c.in_ok-fresh_customers.field-0.items in
-    let cs = subst (λ (n : ℕ). AreFreshCustomers n customers) c.len-count.ensures c.in_ok-fresh_customers.ensures in
+    let cs = subst (λ (n : ℕ). AreFreshCustomers n customers) c.len.ensures c.in_ok-fresh_customers.ensures in
     ap (λ (rec : Record). net_with c.args.plan rec)
-    (fresh_record c.args.plan bridges customers c.requires.linkless c.in_ok-fresh_bridges.ensures cs)
+    (fresh_record c.args.plan bridges lanes customers c.in_ok-fresh_bridges.ensures c.in_ok-fresh_lanes.ensures cs)

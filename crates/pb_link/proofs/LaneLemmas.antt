@@ -1,0 +1,164 @@
+-- A lane's steps, with one step more.
+use Rattle.std.proofs.Common.{◌≡◌, ℕ, zero, suc, ◌+◌, ◌≤◌, Bool, true, false, not, if◌then◌else◌, ◌==◌, List, [], ◌∷◌, ◌++◌, Some, None, length, map, slice_get, get_or, refl, sym, ap, subst, ◌∙◌, arith, append-nil, length-append}
+use Rattle.std.proofs.lemmas.List.{map-append, length-map}
+use Rattle.std.specs.List.{list_any, filter}
+use Rattle.std.specs.declared.option.Option.{Option}
+use Rattle.std.proofs.lemmas.Bool.{leb-true}
+use Rattle.std.proofs.lemmas.Option.{get_or_from_slice_get}
+use Rattle.pb_frame.proofs.Lists.{All-append, Some-injective, filter-append}
+use Rattle.pb_lan.specs.LaneLists.{Taken, all_taken, taken, taken_by, carried, put, put_by, IsLaneStep, AreCounted}
+use Rattle.pb_lan.specs.declared.step.Item.{Item}
+use Rattle.pb_lan.specs.declared.step.Step.{Step}
+use Rattle.pb_lan.specs.declared.step.Step.TheVariants.{Poll, Feed, Deliver, Receive, Transmit, Tick, Admin, Take, Put}
+use Rattle.pb_link.specs.Lanes.{is_hand_empty, in_hand, IsHand, IsLaneKept}
+use Rattle.pb_link.proofs.PlaceLemmas.{flat_map-more, slice_get-front, slice_get-next}
+
+-- items that are counted, and one more with the next number
+counted-more : (losses : List ℕ) (n : ℕ) (ts : List Taken) (t : Taken) → AreCounted losses n ts
+    → t.number ≡ n + length ts → t.lost ≡ list_any (λ k. k == n + length ts) losses → AreCounted losses n (ts ++ t ∷ [])
+counted-more losses n [] t counted number lost = let e : n + 0 ≡ n = omega arith in (rw e at number, rw e at lost, tt)
+counted-more losses n (x ∷ ts) t counted number lost =
+    let e : n + suc (length ts) ≡ (n + 1) + length ts = omega arith in
+    (counted.0, counted.1, counted-more losses (n + 1) ts t counted.2 (rw e at number) (rw e at lost))
+
+-- each step takes at most one item
+pub length-taken : (steps : List Step) → length (taken steps) ≤ length steps
+length-taken [] = omega arith
+length-taken (Poll item ∷ steps) = omega (arith, length-taken steps)
+length-taken (Feed item ∷ steps) = omega (arith, length-taken steps)
+length-taken (Deliver item gone ∷ steps) = omega (arith, length-taken steps)
+length-taken (Receive port item learnt outcome moved ∷ steps) = omega (arith, length-taken steps)
+length-taken (Transmit port item ∷ steps) = omega (arith, length-taken steps)
+length-taken (Tick now moved ∷ steps) = omega (arith, length-taken steps)
+length-taken (Admin port up moved ∷ steps) = omega (arith, length-taken steps)
+length-taken (Take number item lost ∷ steps) = omega (arith, length-taken steps)
+length-taken (Put item ∷ steps) = omega (arith, length-taken steps)
+
+-- nothing stands behind a list
+none-behind : {X : Type 0} (xs : List X) → slice_get xs (length xs) ≡ None
+none-behind [] = refl
+none-behind (x ∷ xs) = none-behind xs
+
+-- what the hand says of the item in it
+pub none_in_hand : (steps : List Step) → IsHand steps None → in_hand steps ≡ None
+none_in_hand steps held = ap (λ (items : List Item). slice_get (carried steps) (length items)) held ∙ none-behind (carried steps)
+
+pub one_in_hand : (steps : List Step) (item : Item) → put steps ++ item ∷ [] ≡ carried steps → in_hand steps ≡ Some item
+one_in_hand steps item whole = ap (λ (items : List Item). slice_get items (length (put steps))) (sym whole) ∙ slice_get-next (put steps) [] item
+
+-- an empty hand is none
+pub no_hand : (steps : List Step) (hand : Option ℕ) → IsHand steps hand → is_hand_empty steps ≡ true → hand ≡ None
+no_hand steps None held e = refl
+no_hand steps (Some place) held e =
+    let wrong : length (carried steps) ≤ length (put steps) = leb-true (length (carried steps)) (length (put steps)) e in
+    absurd (omega (arith, ap length held.3, length-append (put steps) (held.1 ∷ [])))
+
+-- the step that the hand names has the item in hand
+pub hand_step : (steps : List Step) (hand : Option ℕ) (place : ℕ) (d : Step) → IsHand steps hand → hand ≡ Some place
+    → (number : ℕ) × (item : Item) × (get_or steps place d ≡ Take number item false) × (in_hand steps ≡ Some item)
+hand_step steps None place d held e = cc
+hand_step steps (Some other) place d held e =
+    let one : other ≡ place = Some-injective e in (
+      held.0,
+      held.1,
+      ap (λ (k : ℕ). get_or steps k d) (sym one) ∙ get_or_from_slice_get steps other (Take held.0 held.1 false) d held.2,
+      one_in_hand steps held.1 held.3,
+    )
+
+-- a lane is empty where its hand is
+pub hand-empty : (steps : List Step) → put steps ≡ carried steps → is_hand_empty steps ≡ true
+hand-empty steps e = grind (arith, ap length e)
+
+pub hand-full : (steps : List Step) (item : Item) → put steps ++ item ∷ [] ≡ carried steps → is_hand_empty steps ≡ false
+hand-full steps item e = grind (arith, ap length e, length-append (put steps) (item ∷ []))
+
+-- what a Take adds to the lists
+all-take : (steps : List Step) (number : ℕ) (item : Item) (lost : Bool)
+    → all_taken (steps ++ Take number item lost ∷ []) ≡ all_taken steps ++ record { number = number; item = item; lost = lost } ∷ []
+all-take steps number item lost = flat_map-more taken_by steps (Take number item lost)
+
+abbrev items_of : List Taken → List Item
+items_of ts = map (λ (t : Taken). t.item) ts
+
+abbrev kept_of : List Taken → List Taken
+kept_of ts = filter (λ (t : Taken). not t.lost) ts
+
+taken-take : (steps : List Step) (number : ℕ) (item : Item) (lost : Bool) → taken (steps ++ Take number item lost ∷ []) ≡ taken steps ++ item ∷ []
+taken-take steps number item lost =
+    ap items_of (all-take steps number item lost) ∙ map-append (λ (t : Taken). t.item) (all_taken steps) (record { number = number; item = item; lost = lost } ∷ [])
+
+put-take : (steps : List Step) (number : ℕ) (item : Item) (lost : Bool) → put (steps ++ Take number item lost ∷ []) ≡ put steps
+put-take steps number item lost = flat_map-more put_by steps (Take number item lost) ∙ append-nil (put steps)
+
+carried-take : (steps : List Step) (number : ℕ) (item : Item) (lost : Bool)
+    → carried (steps ++ Take number item lost ∷ []) ≡ carried steps ++ items_of (kept_of (record { number = number; item = item; lost = lost } ∷ []))
+carried-take steps number item lost =
+    let one : List Taken = record { number = number; item = item; lost = lost } ∷ [] in
+    ap (λ (ts : List Taken). items_of (kept_of ts)) (all-take steps number item lost)
+    ∙ ap items_of (filter-append (λ (t : Taken). not t.lost) (all_taken steps) one)
+    ∙ map-append (λ (t : Taken). t.item) (kept_of (all_taken steps)) (kept_of one)
+
+-- the lists of a lane that took one more are counted
+counted-take : (losses : List ℕ) (steps : List Step) (count : ℕ) (item : Item) (lost : Bool) → AreCounted losses 0 (all_taken steps) → count ≡ length (taken steps)
+    → lost ≡ list_any (λ k. k == count) losses → AreCounted losses 0 (all_taken (steps ++ Take count item lost ∷ []))
+counted-take losses steps count item lost counted e is_lost =
+    let many : count ≡ 0 + length (all_taken steps) = e ∙ length-map (all_taken steps) (λ (t : Taken). t.item) ∙ omega arith in
+    subst (λ (ts : List Taken). AreCounted losses 0 ts) (sym (all-take steps count item lost))
+    (counted-more losses 0 (all_taken steps) (record { number = count; item = item; lost = lost }) counted many (is_lost ∙ ap (λ (n : ℕ). list_any (λ k. k == n) losses) many))
+
+length-take : (steps : List Step) (count : ℕ) (item : Item) (lost : Bool) → count ≡ length (taken steps) → count + 1 ≡ length (taken (steps ++ Take count item lost ∷ []))
+length-take steps count item lost e = omega (arith, e, ap length (taken-take steps count item lost), length-append (taken steps) (item ∷ []))
+
+-- after a Take
+pub after_take : (losses : List ℕ) (steps : List Step) (count : ℕ) (item : Item) (lost : Bool) → IsLaneKept losses steps None count
+    → lost ≡ list_any (λ k. k == count) losses
+    → IsLaneKept losses (steps ++ Take count item lost ∷ []) (if lost then None else Some (length steps)) (count + 1)
+after_take losses steps count item true kept e =
+    let empty : put (steps ++ Take count item true ∷ []) ≡ carried (steps ++ Take count item true ∷ []) =
+    put-take steps count item true ∙ kept.held ∙ sym (carried-take steps count item true ∙ append-nil (carried steps)) in
+    record {
+      lawful = record {
+        kinds = All-append IsLaneStep steps (Take count item true ∷ []) kept.lawful.kinds (tt, tt);
+        counted = counted-take losses steps count item true kept.lawful.counted kept.counted e;
+        held = (None, append-nil (put (steps ++ Take count item true ∷ [])) ∙ empty);
+      };
+      held = empty;
+      counted = length-take steps count item true kept.counted;
+    }
+after_take losses steps count item false kept e =
+    let full : put (steps ++ Take count item false ∷ []) ++ item ∷ [] ≡ carried (steps ++ Take count item false ∷ []) =
+    ap (λ (items : List Item). items ++ item ∷ []) (put-take steps count item false ∙ kept.held) ∙ sym (carried-take steps count item false) in
+    record {
+      lawful = record {
+        kinds = All-append IsLaneStep steps (Take count item false ∷ []) kept.lawful.kinds (tt, tt);
+        counted = counted-take losses steps count item false kept.lawful.counted kept.counted e;
+        held = (Some item, full);
+      };
+      held = (count, item, slice_get-next steps [] (Take count item false), full);
+      counted = length-take steps count item false kept.counted;
+    }
+
+-- the item that is in hand is the one that the hand has
+whole_by : (steps : List Step) (hand : Option ℕ) (item : Item) → IsHand steps hand → in_hand steps ≡ Some item → put steps ++ item ∷ [] ≡ carried steps
+whole_by steps None item held e = let none = none_in_hand steps held in cc
+whole_by steps (Some place) item held e =
+    let one = one_in_hand steps held.1 held.3 in
+    let same : held.1 ≡ item = Some-injective (sym one ∙ e) in
+    rw (← same) held.3
+
+-- after a Put
+pub after_put : (losses : List ℕ) (steps : List Step) (hand : Option ℕ) (count : ℕ) (item : Item) → IsLaneKept losses steps hand count
+    → in_hand steps ≡ Some item → IsLaneKept losses (steps ++ Put item ∷ []) None count
+after_put losses steps hand count item kept e =
+    let all_so : all_taken (steps ++ Put item ∷ []) ≡ all_taken steps = flat_map-more taken_by steps (Put item) ∙ append-nil (all_taken steps) in
+    let put_so : put (steps ++ Put item ∷ []) ≡ put steps ++ item ∷ [] = flat_map-more put_by steps (Put item) in
+    let empty : put (steps ++ Put item ∷ []) ≡ carried (steps ++ Put item ∷ []) = put_so ∙ whole_by steps hand item kept.held e ∙ ap (λ (ts : List Taken). items_of (kept_of ts)) (sym all_so) in
+    record {
+      lawful = record {
+        kinds = All-append IsLaneStep steps (Put item ∷ []) kept.lawful.kinds (tt, tt);
+        counted = subst (λ (ts : List Taken). AreCounted losses 0 ts) (sym all_so) kept.lawful.counted;
+        held = (None, append-nil (put (steps ++ Put item ∷ [])) ∙ empty);
+      };
+      held = empty;
+      counted = kept.counted ∙ ap (λ (ts : List Taken). length (items_of ts)) (sym all_so);
+    }

@@ -1,0 +1,48 @@
+-- What a lane keeps of its steps.
+use Rattle.std.specs.Prelude.{◌≡◌, ℕ, ◌<◌, Bool, true, false, List, [], ◌∷◌, ◌++◌, Some, None, length, slice_get, ◌==◌}
+use Rattle.std.specs.List.{list_any}
+use Rattle.std.specs.declared.option.Option.{Option}
+use Rattle.pb_lan.specs.Events.{is_all_fetched}
+use Rattle.pb_lan.specs.LaneLists.{taken, carried, put, IsLawfulLane}
+use Rattle.pb_lan.specs.declared.step.Item.{Item}
+use Rattle.pb_lan.specs.declared.step.Step.{Step}
+use Rattle.pb_lan.specs.declared.step.Step.TheVariants.{Take, Put}
+
+-- what callers see of a lane: the numbers of the items that it loses, its steps, and whether there is
+-- room for one more
+pub record LaneView : Type 0 where
+  pub losses : List ℕ
+  pub steps : List Step
+  pub is_reserved : Bool
+
+-- one step more, which uses the room
+abbrev pub with_step : LaneView → Step → LaneView
+with_step lane step = record lane { steps = lane.steps ++ step ∷ []; is_reserved = false }
+
+-- the step that takes an item: its number is that of the items taken before, and it is lost where the
+-- losses have that number
+abbrev pub taking : LaneView → Item → Step
+taking lane item = Take (length (taken lane.steps)) item (list_any (λ k. k == length (taken lane.steps)) lane.losses)
+
+-- all that was carried was put
+abbrev pub is_hand_empty : List Step → Bool
+is_hand_empty steps = is_all_fetched (carried steps) (put steps)
+
+-- the item that was carried and not put
+abbrev pub in_hand : List Step → Option Item
+in_hand steps = slice_get (carried steps) (length (put steps))
+
+-- the item is the one in hand, and was put
+abbrev pub HasPut : LaneView → Item → LaneView → Type 0
+HasPut old item new = (in_hand old.steps ≡ Some item) × (new ≡ with_step old (Put item))
+
+-- the hand holds the item of this step, or none
+abbrev pub IsHand : List Step → Option ℕ → Type 0
+IsHand steps None = put steps ≡ carried steps
+IsHand steps (Some place) = (number : ℕ) × (item : Item) × (slice_get steps place ≡ Some (Take number item false)) × (put steps ++ item ∷ [] ≡ carried steps)
+
+-- the steps are lawful, and what is kept of them is so
+pub record IsLaneKept (losses : List ℕ) (steps : List Step) (hand : Option ℕ) (count : ℕ) : Type 0 where
+  pub lawful : IsLawfulLane losses steps
+  pub held : IsHand steps hand
+  pub counted : count ≡ length (taken steps)

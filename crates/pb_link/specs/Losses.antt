@@ -1,0 +1,20 @@
+-- The items that a lane loses, and those of them that are still to come.
+use Rattle.std.specs.Prelude.{◌≡◌, ℕ, ◌≤◌, Bool, false, List, [], ◌∷◌, drop, ◌==◌}
+use Rattle.std.specs.List.{list_any, AllByRecursion}
+use Rattle.pb_lan.specs.Plans.{Rises}
+
+-- what callers see: the numbers of the items that are lost, and how many items were taken
+pub record LossView : Type 0 where
+  pub numbers : List ℕ
+  pub taken : ℕ
+
+-- the first of the numbers is this one
+abbrev pub is_first : List ℕ → ℕ → Bool
+is_first [] number = false
+is_first (k ∷ ks) number = k == number
+
+-- the numbers from the place on rise, and are those that are still to come
+pub record IsNext (numbers : List ℕ) (next taken : ℕ) : Type 0 where
+  pub rising : Rises (drop next numbers)
+  pub coming : AllByRecursion (λ k. taken ≤ k) (drop next numbers)
+  pub gone : (n : ℕ) → taken ≤ n → list_any (λ k. k == n) numbers ≡ list_any (λ k. k == n) (drop next numbers)

@@ -1,0 +1,44 @@
+//! Steps of a lane, with the meeting places beside it.
+
+ghost use Rattle.std.specs.Prelude.{◌≡◌, ◌<◌, length, true, false, OnOk, OnErr};
+ghost use Rattle.pb_lan.specs.LaneLists.{IsLawfulLane};
+ghost use Rattle.pb_link.specs.Lanes.{is_hand_empty};
+ghost use Rattle.pb_net.specs.Moves.{HasTakenFrom, HasPutInto};
+
+use pb_frame::Memory;
+use pb_lan::Item;
+use pb_link::Lane;
+use std::collections::VecDeque;
+
+/// The oldest item that was sent to a lane is taken.
+pub(crate) fn take_at(lane: &mut Lane, outbox: &mut VecDeque<Item>) -> Result<(), Memory>
+    requires empty { is_hand_empty lane.old.steps ≡ true }
+    requires some { 0 < length outbox.old.items }
+    ensures losses { lane.new.losses ≡ lane.old.losses }
+    ensures lawful { OnOk result (IsLawfulLane lane.new.losses lane.new.steps) }
+    ensures ok { OnOk result (HasTakenFrom lane.old outbox.old.items lane.new outbox.new.items) }
+    ensures err { OnErr result (lane.new.steps ≡ lane.old.steps) }
+    ensures err_outbox { OnErr result (outbox.new.items ≡ outbox.old.items) }
+{
+    lane.reserve()?;
+    let Some(item) = outbox.pop_front() else {
+        unreachable!();
+    };
+    lane.accept(item);
+    Ok(())
+}
+
+/// The item in a lane's hand is put in front of the bridge at its end.
+pub(crate) fn put_at(lane: &mut Lane, inbox: &mut VecDeque<Item>) -> Result<(), Memory>
+    requires { is_hand_empty lane.old.steps ≡ false }
+    ensures losses { lane.new.losses ≡ lane.old.losses }
+    ensures lawful { OnOk result (IsLawfulLane lane.new.losses lane.new.steps) }
+    ensures ok { OnOk result (HasPutInto lane.old inbox.old.items lane.new inbox.new.items) }
+    ensures err { OnErr result (lane.new.steps ≡ lane.old.steps) }
+    ensures err_inbox { OnErr result (inbox.new.items ≡ inbox.old.items) }
+{
+    inbox.reserve(1)?;
+    let item = lane.release()?;
+    let _ = inbox.push_back(item);
+    Ok(())
+}

@@ -1,0 +1,96 @@
+//! Where a network has the place, and the meeting place, that a number names.
+
+ghost use Rattle.std.specs.Prelude.{◌≡◌, ◌<◌, ◌+◌, ◌⊎◌, true, false, IfSome, IfNone};
+ghost use Rattle.pb_lan.specs.Events.{has_place};
+ghost use Rattle.pb_lan.specs.Ports.{is_used, is_provider, port_at};
+ghost use Rattle.pb_lan.specs.Ports.Port.{Unused};
+ghost use Rattle.pb_lan.specs.declared.step.Place.TheVariants.{Customer as CustomerPort, Lane};
+ghost use Rattle.pb_net.specs.Slots.{IsBridgeSpot, IsCustomerSpot, IsLaneStart, IsLaneEnd};
+
+use crate::net::Net;
+use crate::slots::{PortUse, Spot};
+
+/// The index of the thing of a number, where there are so many, numbered from 1.
+pub(crate) fn index_of(number: u8, count: usize) -> Option<usize>
+    ensures some { IfSome result (λ r. (r + 1 ≡ number) × (r < count)) }
+    ensures none { IfNone result ((number ≡ 0) ⊎ (count < number)) }
+{
+    if number == 0 || usize::from(number) > count {
+        return None;
+    }
+    Some(usize::from(number) - 1)
+}
+
+impl Net {
+    /// The slot of a customer port.
+    pub(crate) fn customer_spot(&self, port: u8) -> Option<Spot>
+        ensures some { IfSome result (IsCustomerSpot self.now.plan port) }
+        ensures none { IfNone result (has_place self.now.plan (CustomerPort port) ≡ false) }
+    {
+        let place = index_of(port, self.customers.len())?;
+        let slot = self.slots.customers[place];
+        Some(Spot { place, slot })
+    }
+
+    /// The slot where a lane begins.
+    pub(crate) fn lane_start(&self, lane: u8) -> Option<Spot>
+        ensures some { IfSome result (IsLaneStart self.now.plan lane) }
+        ensures none { IfNone result (has_place self.now.plan (Lane lane) ≡ false) }
+    {
+        let place = index_of(lane, self.lanes.len())?;
+        let at = self.slots.lanes[place];
+        Some(Spot {
+            place,
+            slot: at.from,
+        })
+    }
+
+    /// The slot where a lane ends.
+    pub(crate) fn lane_end(&self, lane: u8) -> Option<Spot>
+        ensures some { IfSome result (IsLaneEnd self.now.plan lane) }
+        ensures none { IfNone result (has_place self.now.plan (Lane lane) ≡ false) }
+    {
+        let place = index_of(lane, self.lanes.len())?;
+        let at = self.slots.lanes[place];
+        Some(Spot { place, slot: at.to })
+    }
+
+    /// The slot of a bridge's port, in use or not.
+    fn bridge_spot(&self, bridge: u8, port: u8) -> Option<Spot>
+        ensures some { IfSome result (IsBridgeSpot self.now.plan bridge port) }
+        ensures none { IfNone result (port_at self.now.plan bridge port ≡ Unused) }
+    {
+        let place = index_of(bridge, self.bridges.len())?;
+        let column = index_of(port, 16)?;
+        Some(Spot {
+            place,
+            slot: 16 * place + column,
+        })
+    }
+
+    /// The slot of a bridge's port that the plan uses.
+    pub(crate) fn used_spot(&self, bridge: u8, port: u8) -> Option<Spot>
+        ensures some { IfSome result (IsBridgeSpot self.now.plan bridge port) }
+        ensures used { IfSome result (λ _. is_used (port_at self.now.plan bridge port) ≡ true) }
+        ensures none { IfNone result (is_used (port_at self.now.plan bridge port) ≡ false) }
+    {
+        let spot = self.bridge_spot(bridge, port)?;
+        match self.slots.uses[spot.slot] {
+            PortUse::ToCustomer | PortUse::ToBridge => Some(spot),
+            PortUse::ToNobody => None,
+        }
+    }
+
+    /// The slot of a bridge's port to another bridge.
+    pub(crate) fn provider_spot(&self, bridge: u8, port: u8) -> Option<Spot>
+        ensures some { IfSome result (IsBridgeSpot self.now.plan bridge port) }
+        ensures used { IfSome result (λ _. is_provider (port_at self.now.plan bridge port) ≡ true) }
+        ensures none { IfNone result (is_provider (port_at self.now.plan bridge port) ≡ false) }
+    {
+        let spot = self.bridge_spot(bridge, port)?;
+        match self.slots.uses[spot.slot] {
+            PortUse::ToBridge => Some(spot),
+            PortUse::ToCustomer | PortUse::ToNobody => None,
+        }
+    }
+}
