@@ -1,6 +1,5 @@
 pub mod Classes
 pub mod LocalPorts
-pub mod Entries
 pub mod Standing
 pub mod Verdicts
 pub mod Tables

@@ -11,9 +11,9 @@ ghost use Rattle.pb_lan.specs.declared.step.Step.TheVariants.{Transmit};
 ghost use Rattle.pb_relay.specs.Standing.{with_step};
 
 use crate::fault::BridgeFault;
-use crate::fdb::Fdb;
 use crate::ports::LocalPort;
 use crate::queues::PortQueues;
+use pb_fdb::Fdb;
 use pb_lan::{Item, Plan, PortState, Step};
 use std::alloc::Global;
 use std::marker::Model;
@@ -52,6 +52,7 @@ pub struct Bridge {
 impl Model for Bridge {
     ghost use Rattle.std.specs.Prelude.{vec_capacity};
     ghost use Rattle.pb_relay.specs.Standing.{BridgeView, IsStanding, HasRoom};
+    ghost use Rattle.pb_relay.specs.Tables.{IsTableOf};
     ghost use Rattle.pb_relay.specs.LocalPorts.{IsConfigured};
 
     ghost Value = { BridgeView };
@@ -59,8 +60,9 @@ impl Model for Bridge {
     ghost view = { λ b. record { plan = b.plan; number = b.number; steps = b.steps.items; is_reserved = b.is_reserved } };
 
     ghost invariant = { λ b. IsConfigured b.plan b.number b.ports.items b.capacity b.limit
-        × IsStanding b.plan b.number b.steps.items b.states b.queues.items b.clock b.table
-        × HasRoom b.steps.items (vec_capacity b.steps) b.limit b.is_reserved };
+        × IsStanding b.plan b.number b.steps.items b.states b.queues.items b.clock b.table.sightings
+        × HasRoom b.steps.items (vec_capacity b.steps) b.limit b.is_reserved
+        × IsTableOf b.plan b.clock b.table };
 }
 
 /// Puts a step into the room that is there for it.

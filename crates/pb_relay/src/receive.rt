@@ -10,17 +10,17 @@ ghost use Rattle.pb_lan.specs.declared.step.Step.TheVariants.{Receive};
 ghost use Rattle.pb_relay.specs.Loads.{IsLoadedAt};
 ghost use Rattle.pb_relay.specs.Rooms.{IsEmptyRoom};
 ghost use Rattle.pb_relay.specs.Standing.{HasReceived};
-ghost use Rattle.pb_relay.specs.Tables.{where_in};
+ghost use Rattle.pb_fdb.specs.Tables.{where_in};
 ghost use Rattle.pb_relay.specs.Verdicts.{as_ruling};
 
 use crate::bridge::{Bridge, append};
 use crate::choice::choose;
 use crate::copies::queue_copies;
 use crate::fault::BridgeFault;
-use crate::fdb::Fdb;
 use crate::load::Load;
 use crate::room::Room;
 use crate::verdict::{Verdict, rule};
+use pb_fdb::Fdb;
 use pb_frame::{Learnt, Mac};
 use pb_lan::{Item, Outcome, Reason, Step};
 
@@ -95,9 +95,7 @@ impl Bridge {
         ensures { HasReceived self.old port item result self.new }
     {
         let source = source_of(item.wire.as_slice());
-        let learnt = self
-            .table
-            .learn(self.plan.ageing, vid, source, port, self.clock);
+        let learnt = self.table.learn(vid, source, port, self.clock);
         self.is_reserved = false;
         append_receive(
             &mut self.steps,
@@ -137,11 +135,8 @@ impl Bridge {
         ensures { HasReceived self.old port item result self.new }
     {
         let frame = item.wire.as_slice();
-        let ageing = self.plan.ageing;
-        let learnt = self
-            .table
-            .learn(ageing, vid, source_of(frame), port, self.clock);
-        let at = sought(&self.table, ageing, vid, frame, self.clock);
+        let learnt = self.table.learn(vid, source_of(frame), port, self.clock);
+        let at = sought(&self.table, vid, frame, self.clock);
         choose(
             &mut room.chosen,
             self.ports.as_slice(),
@@ -210,13 +205,13 @@ fn destination_of(frame: &[u8]) -> Mac
 }
 
 /// The port at which the destination of a frame was seen. Groups are never sought.
-fn sought(table: &Fdb, ageing: u32, vid: u16, frame: &[u8], now: u32) -> Option<u8>
+fn sought(table: &Fdb, vid: u16, frame: &[u8], now: u32) -> Option<u8>
     requires { 14 ≤ length frame.now }
-    ensures { result ≡ (if is_group (dst_of frame.now) then None else where_in ageing now vid (dst_of frame.now) table.now) }
+    ensures { result ≡ (if is_group (dst_of frame.now) then None else where_in table.now now vid (dst_of frame.now)) }
 {
     let destination = destination_of(frame);
     if destination.0[0] % 2 == 1 {
         return None;
     }
-    table.find(ageing, vid, destination, now)
+    table.find(vid, destination, now)
 }

@@ -14,12 +14,15 @@ ghost use Rattle.pb_relay.specs.LocalPorts.{IsKept};
 ghost use Rattle.pb_relay.specs.Starts.{first_state, KeepsPorts};
 
 use crate::bridge::Bridge;
-use crate::fdb::Fdb;
 use crate::ports::LocalPort;
 use crate::queues::PortQueues;
+use pb_fdb::Fdb;
 use pb_frame::Memory;
 use pb_lan::{CustomerPlan, End, LinkPlan, Plan, PortState, ServicePlan};
 use std::alloc::Global;
+
+/// The most stations that a bridge knows.
+const STATIONS: usize = 4096;
 
 /// The VID of the service of this number, if there is one.
 fn vid_numbered(services: &[ServicePlan], number: u8) -> Option<u16>
@@ -185,7 +188,7 @@ impl Bridge {
             queues: empty_queues(alloc)?,
             capacity: capacity(plan, number),
             limit: plan.steps as usize,
-            table: Fdb::new(alloc),
+            table: Fdb::new(alloc, STATIONS, plan.ageing),
             clock: 0,
             steps: Vec::new(alloc),
             is_reserved: false,

@@ -1,6 +1,7 @@
 use Rattle.std.proofs.Common.{ap, ◌∙◌, refl, map, arith}
 use Rattle.pb_relay.proofs.StartLemmas.{started}
 use Rattle.pb_relay.proofs.bridge.Bridge.new.Goals as goal
+use Rattle.pb_fdb.specs.Tables.{Table}
 use Rattle.pb_relay.specs.Starts.{first_state}
 
 pub invariant_of-result : goal.invariant_of-result
@@ -16,7 +17,8 @@ invariant_of-result c =
         most = c.capacity.ensures;
         steps = refl;
       },
-      started c.args.plan.now c.args.number c.in_ok-ports.ports.items c.start_states-states.result c.in_ok-empty_queues.field-0.items c.new.result
-          c.requires.fixed keeps states c.in_ok-empty_queues.ensures c.new.ensures,
+      started c.args.plan.now c.args.number c.in_ok-ports.ports.items c.start_states-states.result c.in_ok-empty_queues.field-0.items c.new.result.sightings
+          c.requires.fixed keeps states c.in_ok-empty_queues.ensures (ap (λ (t : Table). t.sightings) c.new.ensures),
       record { within = omega arith; reserved = λ t. absurd cc },
+      rw c.new.ensures (record { limit = refl; ageing = refl; in_time = omega arith }),
     )

@@ -9,6 +9,8 @@ use Rattle.pb_relay.specs.Standing.{BridgeView, IsStanding}
 use Rattle.pb_relay.proofs.SettingLemmas.{provider_used, state_set_is, after_set}
 use Rattle.pb_relay.proofs.StandingLemmas.{used_port}
 use Rattle.pb_relay.proofs.VerdictLemmas.{kept_port}
+use Rattle.pb_fdb.specs.Tables.{Table}
+use Rattle.pb_relay.proofs.TableLemmas.{table_flushed_or, sightings_flushed_or}
 use Rattle.pb_relay.proofs.bridge.Bridge.set.Goals as goal
 
 pub overflow_sub-place : goal.overflow_sub-place
@@ -40,15 +42,16 @@ invariant_of-self c =
     ∙ ap (λ (m : Moved). c.self.inside.steps.items ++ Admin c.args.port c.args.up m ∷ [])
     (c.requires.moved ∙ ap (λ (v : BridgeView). moved_by_setting v.plan v.number v.steps c.args.port c.args.up) (sym c.self.view_is)) in (
       c.self.invariant.0,
-      subst (λ (ms : List Step). IsStanding c.self.inside.plan c.self.inside.number ms (set c.self.inside.states (c.args.port - 1) c.state_set-next.result) c.self.inside.queues.items c.self.inside.clock c.flush_unless.new.table)
+      subst (λ (ms : List Step). IsStanding c.self.inside.plan c.self.inside.number ms (set c.self.inside.states (c.args.port - 1) c.state_set-next.result) c.self.inside.queues.items c.self.inside.clock c.flush_unless.new.table.sightings)
           (sym e)
           (subst (λ (t : List Sighting). IsStanding c.self.inside.plan c.self.inside.number (c.self.inside.steps.items ++ step ∷ []) (set c.self.inside.states (c.args.port - 1) c.state_set-next.result) c.self.inside.queues.items c.self.inside.clock t)
-          (sym c.flush_unless.ensures)
-          (after_set c.self.inside.plan c.self.inside.number c.self.inside.steps.items c.self.inside.states c.self.inside.queues.items c.self.inside.clock c.self.inside.table c.args.port c.args.up c.state_set-next.result
+          (sym (ap (λ (t : Table). t.sightings) c.flush_unless.ensures ∙ sightings_flushed_or c.args.port c.args.up c.self.inside.table))
+          (after_set c.self.inside.plan c.self.inside.number c.self.inside.steps.items c.self.inside.states c.self.inside.queues.items c.self.inside.clock c.self.inside.table.sightings c.args.port c.args.up c.state_set-next.result
           c.self.invariant.1 c.self.invariant.0.fixed p l
           (c.state_set-next.ensures ∙ state_set_is c.self.inside.plan c.self.inside.number c.args.port c.index.result.now c.args.up p k))),
       record {
         within = omega (arith, reserved.0, ap length e, length-append c.self.inside.steps.items (step ∷ []));
         reserved = λ e. cc;
       },
+      rw c.flush_unless.ensures (table_flushed_or c.self.inside.plan c.self.inside.clock c.args.port c.args.up c.self.inside.table c.self.invariant.3),
     )
