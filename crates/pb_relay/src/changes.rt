@@ -76,7 +76,7 @@ impl Bridge {
     {
         let ports = &self.ports;
         let place = port as usize - 1;
-        let next = state_set(&ports[place], up);
+        let next = state_set(ports.at(place), up);
         moved_to(self.alloc, port, up, self.states[place], next)
     }
 
@@ -89,7 +89,7 @@ impl Bridge {
     {
         let ports = &self.ports;
         let place = port as usize - 1;
-        let next = state_set(&ports[place], up);
+        let next = state_set(ports.at(place), up);
         flush_unless(&mut self.table, up, port);
         self.states[place] = next;
         self.is_reserved = false;

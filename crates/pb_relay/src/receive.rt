@@ -21,7 +21,7 @@ use crate::load::Load;
 use crate::room::Room;
 use crate::verdict::{Verdict, rule};
 use pb_fdb::Fdb;
-use pb_frame::{Learnt, Mac};
+use pb_frame::{Learnt, Mac, Memory};
 use pb_lan::{Item, Outcome, Reason, Step};
 
 impl Bridge {
@@ -56,8 +56,7 @@ impl Bridge {
     {
         let ports = &self.ports;
         let place = port as usize - 1;
-        let local = &ports[place];
-        rule(local, self.states[place], item)
+        rule(ports.at(place), self.states[place], item)
     }
 
     /// Appends a step that tells that the item goes nowhere.
@@ -115,14 +114,22 @@ impl Bridge {
         ensures { HasReceived self.old port item result self.new }
     {
         let ports = &self.ports;
-        let local = &ports[port as usize - 1];
-        let Ok(load) = Load::new(self.alloc, local, &item.wire) else {
+        let local = ports.at(port as usize - 1);
+        let Ok(load) = Load::new(self.alloc, ports, local, &item.wire) else {
             return self.give_up(port, item);
         };
-        let Ok(room) = Room::new(self.alloc) else {
+        let Ok(room) = self.take_room() else {
             return self.give_up(port, item);
         };
         self.carry(port, item, vid, load, room)
+    }
+
+    /// Lists for the outcome of an item.
+    fn take_room(&mut self) -> Result<Room, Memory>
+        ensures room { IfOk result IsEmptyRoom }
+        ensures kept { self.new ≡ self.old }
+    {
+        self.spare.room(self.alloc)
     }
 
     /// Learns the source of an item, chooses its ports and queues its copies there.
@@ -130,7 +137,7 @@ impl Bridge {
         requires used { is_used (port_at self.old.plan self.old.number port) ≡ true }
         requires reserved { self.old.is_reserved ≡ true }
         requires ruling { ruling silent self.old.plan self.old.number self.old.steps port item ≡ Carries vid }
-        requires load { IsLoadedAt self.old.plan (port_at self.old.plan self.old.number port) item.wire load }
+        requires load { IsLoadedAt self.old.plan self.old.number (port_at self.old.plan self.old.number port) item.wire load }
         requires room { IsEmptyRoom room }
         ensures { HasReceived self.old port item result self.new }
     {
@@ -154,7 +161,7 @@ impl Bridge {
             &load,
             &item,
         );
-        let (told, kept) = room.into_outcomes();
+        let (told, kept) = self.spare.outcomes(self.alloc, room);
         self.is_reserved = false;
         append_receive(&mut self.steps, port, item, Some(learnt), kept);
         told

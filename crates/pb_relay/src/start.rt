@@ -14,8 +14,9 @@ ghost use Rattle.pb_relay.specs.LocalPorts.{IsKept};
 ghost use Rattle.pb_relay.specs.Starts.{first_state, KeepsPorts};
 
 use crate::bridge::Bridge;
-use crate::ports::LocalPort;
+use crate::ports::{LocalPort, LocalPorts};
 use crate::queues::PortQueues;
+use crate::room::Spare;
 use pb_fdb::Fdb;
 use pb_frame::Memory;
 use pb_lan::{CustomerPlan, End, LinkPlan, Plan, PortState, ServicePlan};
@@ -183,13 +184,14 @@ impl Bridge {
             alloc,
             plan: plan.clone()?,
             number,
-            ports,
+            ports: LocalPorts::of(ports),
             states,
             queues: empty_queues(alloc)?,
             capacity: capacity(plan, number),
             limit: plan.steps as usize,
             table: Fdb::new(alloc, STATIONS, plan.ageing),
             clock: 0,
+            spare: Spare::new(alloc),
             steps: Vec::new(alloc),
             is_reserved: false,
         })

@@ -29,6 +29,11 @@ admitted old view e port item vid r =
     carried view.plan (port_at view.plan view.number port) (state_after view.plan view.number view.steps port) item vid
     (subst (λ (v : BridgeView). ruling silent v.plan v.number v.steps port item ≡ Carries vid) (sym e) r)
 
+pub source_of-requires : goal.source_of-requires
+source_of-requires c =
+    let a = admitted _ _ c.self.view_is c.args.port c.args.item c.args.vid c.requires.ruling in
+    subst (λ (w : List ℕ). 14 ≤ length w) (sym c.as_slice-frame.ensures) a.long
+
 pub sought-at-requires : goal.sought-at-requires
 sought-at-requires c =
     let a = admitted _ _ c.self.view_is c.args.port c.args.item c.args.vid c.requires.ruling in
@@ -59,16 +64,16 @@ whole c =
     let at = c.sought-at.ensures
     ∙ ap (λ w. cond (is_group (dst_of w)) None (place_in c.learn-learnt.new.self c.self.inside.clock c.args.vid (dst_of w))) c.as_slice-frame.ensures
     ∙ ap (λ o. cond (is_group (dst_of c.args.item.wire)) None o) (found_in c.self.inside.plan c.self.inside.clock c.args.vid (dst_of c.args.item.wire) c.learn-learnt.new.self newer.ageing) in
-    let chosen : c.choose.new.chosen.items ≡ filter (is_choice c.self.inside.ports.items c.self.inside.states c.args.port c.args.vid c.sought-at.result) local_ports =
-    c.choose.ensures.chosen ∙ ap (λ (ps : List LocalPort). filter (is_choice ps c.self.inside.states c.args.port c.args.vid c.sought-at.result) local_ports) c.as_slice.ensures.value in
-    let copied = subst (λ (ps : List LocalPort). AreCopied c.self.inside.capacity c.args.load.class (copy_at ps c.args.load c.args.item) c.self.inside.queues.items c.choose.new.chosen.items c.queue_copies.new.refused.items c.queue_copies.new.queues.items) c.as_slice-3.ensures.value
+    let chosen : c.choose.new.chosen.items ≡ filter (is_choice c.self.inside.ports c.self.inside.states c.args.port c.args.vid c.sought-at.result) local_ports =
+    c.choose.ensures.chosen ∙ ap (λ (ps : List LocalPort). filter (is_choice ps c.self.inside.states c.args.port c.args.vid c.sought-at.result) local_ports) c.as_slice.ensures in
+    let copied = subst (λ (ps : List LocalPort). AreCopied c.self.inside.capacity c.args.load.class (copy_at ps c.args.load c.args.item) c.self.inside.queues.items c.choose.new.chosen.items c.queue_copies.new.refused.items c.queue_copies.new.queues.items) c.as_slice-3.ensures
     (subst (λ (qs : List ℕ). AreCopied c.self.inside.capacity c.args.load.class (copy_at c.as_slice-3.result.now c.args.load c.args.item) c.self.inside.queues.items qs c.queue_copies.new.refused.items c.queue_copies.new.queues.items) c.as_slice-2.ensures.value c.queue_copies.ensures.copied) in
     relayed c.self.inside.plan c.self.inside.number c.self.inside.steps.items c.self.inside.states c.self.inside.queues.items c.queue_copies.new.queues.items
-    c.self.inside.clock c.self.inside.table.sightings c.learn-learnt.new.self.sightings c.self.inside.ports.items c.self.inside.capacity c.self.inside.limit c.args.port c.args.vid c.args.item c.args.load
+    c.self.inside.clock c.self.inside.table.sightings c.learn-learnt.new.self.sightings c.self.inside.ports c.self.inside.capacity c.self.inside.limit c.args.port c.args.vid c.args.item c.args.load
     c.learn-learnt.result c.sought-at.result c.choose.new.chosen.items c.queue_copies.new.refused.items
     c.self.invariant.0 c.self.invariant.1
     (subst (λ (v : BridgeView). ruling silent v.plan v.number v.steps c.args.port c.args.item ≡ Carries c.args.vid) (sym c.self.view_is) c.requires.ruling)
-    (subst (λ (v : BridgeView). IsLoadedAt v.plan (port_at v.plan v.number c.args.port) c.args.item.wire c.args.load) (sym c.self.view_is) c.requires.load)
+    (subst (λ (v : BridgeView). IsLoadedAt v.plan v.number (port_at v.plan v.number c.args.port) c.args.item.wire c.args.load) (sym c.self.view_is) c.requires.load)
     learns at chosen c.choose.ensures.separate copied c.queue_copies.ensures.count
 
 pub invariant_of-self : goal.invariant_of-self
@@ -76,7 +81,7 @@ invariant_of-self c =
     let reserved = c.self.invariant.2.reserved (subst (λ (v : BridgeView). v.is_reserved ≡ true) (sym c.self.view_is) c.requires.reserved) in
     let step : Step = Receive c.args.port c.args.item (Some c.learn-learnt.result) (Relayed c.choose.new.chosen.items c.queue_copies.new.refused.items) None in
     let e : c.append_receive.new.steps.items ≡ c.self.inside.steps.items ++ step ∷ [] =
-    c.append_receive.ensures.items ∙ ap (λ (o : Outcome). c.self.inside.steps.items ++ Receive c.args.port c.args.item (Some c.learn-learnt.result) o None ∷ []) c.into_outcomes-told.ensures.kept in (
+    c.append_receive.ensures.items ∙ ap (λ (o : Outcome). c.self.inside.steps.items ++ Receive c.args.port c.args.item (Some c.learn-learnt.result) o None ∷ []) c.outcomes-told.ensures.kept in (
       c.self.invariant.0,
       subst (λ (ms : List Step). IsStanding c.self.inside.plan c.self.inside.number ms c.self.inside.states c.queue_copies.new.queues.items c.self.inside.clock c.learn-learnt.new.self.sightings)
           (sym e) (whole c).1,
@@ -89,14 +94,14 @@ invariant_of-self c =
 
 pub returns : goal.returns
 returns c =
-    let told = c.into_outcomes-told.ensures.told in
-    let same : c.into_outcomes-told.result.1 ≡ c.into_outcomes-told.result.0 = c.into_outcomes-told.ensures.kept ∙ sym told in
-    let e : c.append_receive.new.steps.items ≡ c.self.inside.steps.items ++ Receive c.args.port c.args.item (Some c.learn-learnt.result) c.into_outcomes-told.result.0 None ∷ [] =
+    let told = c.outcomes-told.ensures.told in
+    let same : c.outcomes-told.result.1 ≡ c.outcomes-told.result.0 = c.outcomes-told.ensures.kept ∙ sym told in
+    let e : c.append_receive.new.steps.items ≡ c.self.inside.steps.items ++ Receive c.args.port c.args.item (Some c.learn-learnt.result) c.outcomes-told.result.0 None ∷ [] =
     c.append_receive.ensures.items ∙ ap (λ (o : Outcome). c.self.inside.steps.items ++ Receive c.args.port c.args.item (Some c.learn-learnt.result) o None ∷ []) same in (
       Some c.learn-learnt.result,
       None,
       ap (λ (ms : List Step). record { plan = c.self.inside.plan; number = c.self.inside.number; steps = ms; is_reserved = false }) e
-          ∙ ap (λ (v : BridgeView). with_step v (Receive c.args.port c.args.item (Some c.learn-learnt.result) c.into_outcomes-told.result.0 None)) c.self.view_is,
-      subst (λ (v : BridgeView). Fits silent v.plan v.number v.steps (Receive c.args.port c.args.item (Some c.learn-learnt.result) c.into_outcomes-told.result.0 None)) c.self.view_is
+          ∙ ap (λ (v : BridgeView). with_step v (Receive c.args.port c.args.item (Some c.learn-learnt.result) c.outcomes-told.result.0 None)) c.self.view_is,
+      subst (λ (v : BridgeView). Fits silent v.plan v.number v.steps (Receive c.args.port c.args.item (Some c.learn-learnt.result) c.outcomes-told.result.0 None)) c.self.view_is
           (subst (λ (o : Outcome). Fits silent c.self.inside.plan c.self.inside.number c.self.inside.steps.items (Receive c.args.port c.args.item (Some c.learn-learnt.result) o None)) (sym told) (whole c).0),
     )

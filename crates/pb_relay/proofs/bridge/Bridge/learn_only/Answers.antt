@@ -26,7 +26,7 @@ whole c =
     subst (λ (m : List ℕ). HasLearnt c.self.inside.plan.ageing c.self.inside.clock c.args.vid c.args.port m c.self.inside.table.sightings c.learn-learnt.result c.learn-learnt.new.self.sightings) mac
     (has_learnt c.self.inside.plan c.self.inside.clock c.args.vid c.args.port c.source_of-source.result.0 c.self.inside.table c.learn-learnt.new.self c.learn-learnt.result (omega (arith, c.self.invariant.0.sound.limits.ageing.0)) c.self.invariant.3 c.learn-learnt.ensures.answer c.learn-learnt.ensures.table) in
     learnt_alone c.self.inside.plan c.self.inside.number c.self.inside.steps.items c.self.inside.states c.self.inside.queues.items
-    c.self.inside.clock c.self.inside.table.sightings c.learn-learnt.new.self.sightings c.self.inside.ports.items c.self.inside.capacity c.self.inside.limit c.args.port c.args.vid c.args.item
+    c.self.inside.clock c.self.inside.table.sightings c.learn-learnt.new.self.sightings c.self.inside.ports c.self.inside.capacity c.self.inside.limit c.args.port c.args.vid c.args.item
     c.learn-learnt.result c.self.invariant.0 c.self.invariant.1
     (subst (λ (v : BridgeView). ruling silent v.plan v.number v.steps c.args.port c.args.item ≡ LearnsOnly c.args.vid) (sym c.self.view_is) c.requires.ruling)
     learns

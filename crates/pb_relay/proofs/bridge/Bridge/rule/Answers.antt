@@ -13,8 +13,8 @@ overflow_sub-place c =
     (used_port _ _ _ c.self.invariant.0.sound
     (subst (λ (v : BridgeView). is_used (port_at v.plan v.number c.args.port) ≡ true) (sym c.self.view_is) c.requires)).0
 
-pub index-local-requires : goal.index-local-requires
-index-local-requires c =
+pub at-requires : goal.at-requires
+at-requires c =
     let l = used_port _ _ _ c.self.invariant.0.sound
     (subst (λ (v : BridgeView). is_used (port_at v.plan v.number c.args.port) ≡ true) (sym c.self.view_is) c.requires) in
     omega (arith, l.0, l.1, c.self.invariant.0.count)
@@ -29,13 +29,13 @@ pub rule-requires : goal.rule-requires
 rule-requires c =
     let u = subst (λ (v : BridgeView). is_used (port_at v.plan v.number c.args.port) ≡ true) (sym c.self.view_is) c.requires in
     let l = used_port _ _ _ c.self.invariant.0.sound u in
-    used_here c.self.inside.plan _ _ (kept_port c.self.inside.plan _ _ _ _ c.args.port c.index-local.result.now c.self.invariant.0 l c.index-local.ensures) u
+    used_here c.self.inside.plan _ _ (kept_port c.self.inside.plan _ _ _ _ c.args.port c.at.result.now c.self.invariant.0 l c.at.ensures) u
 
 pub returns : goal.returns
 returns c =
     let u = subst (λ (v : BridgeView). is_used (port_at v.plan v.number c.args.port) ≡ true) (sym c.self.view_is) c.requires in
     let l = used_port _ _ _ c.self.invariant.0.sound u in
-    let k = kept_port c.self.inside.plan _ _ _ _ c.args.port c.index-local.result.now c.self.invariant.0 l c.index-local.ensures in
+    let k = kept_port c.self.inside.plan _ _ _ _ c.args.port c.at.result.now c.self.invariant.0 l c.at.ensures in
     c.rule.ensures
-    ∙ rule_is c.self.inside.plan c.self.inside.number c.self.inside.steps.items c.self.inside.states c.args.port c.index-local.result.now c.args.item.now _ c.self.invariant.1.kept_states l k
+    ∙ rule_is c.self.inside.plan c.self.inside.number c.self.inside.steps.items c.self.inside.states c.args.port c.at.result.now c.args.item.now _ c.self.invariant.1.kept_states l k
     ∙ ap (λ (v : BridgeView). ruling silent v.plan v.number v.steps c.args.port c.args.item.now) c.self.view_is

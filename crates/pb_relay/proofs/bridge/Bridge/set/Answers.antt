@@ -18,8 +18,8 @@ overflow_sub-place c =
     (used_port _ _ _ c.self.invariant.0.sound
     (provider_used _ (subst (λ (v : BridgeView). is_provider (port_at v.plan v.number c.args.port) ≡ true) (sym c.self.view_is) c.requires.provider))).0
 
-pub index-requires : goal.index-requires
-index-requires c =
+pub at-requires : goal.at-requires
+at-requires c =
     let l = used_port _ _ _ c.self.invariant.0.sound
     (provider_used _ (subst (λ (v : BridgeView). is_provider (port_at v.plan v.number c.args.port) ≡ true) (sym c.self.view_is) c.requires.provider)) in
     omega (arith, l.0, l.1, c.self.invariant.0.count)
@@ -35,7 +35,7 @@ invariant_of-self c =
     let reserved = c.self.invariant.2.reserved (subst (λ (v : BridgeView). v.is_reserved ≡ true) (sym c.self.view_is) c.requires.reserved) in
     let p = subst (λ (v : BridgeView). is_provider (port_at v.plan v.number c.args.port) ≡ true) (sym c.self.view_is) c.requires.provider in
     let l = used_port _ _ _ c.self.invariant.0.sound (provider_used _ p) in
-    let k = kept_port c.self.inside.plan _ _ _ _ c.args.port c.index.result.now c.self.invariant.0 l c.index.ensures in
+    let k = kept_port c.self.inside.plan _ _ _ _ c.args.port c.at.result.now c.self.invariant.0 l c.at.ensures in
     let step : Step = Admin c.args.port c.args.up (moved_by_setting c.self.inside.plan c.self.inside.number c.self.inside.steps.items c.args.port c.args.up) in
     let e : c.append.new.steps.items ≡ c.self.inside.steps.items ++ step ∷ [] =
     c.append.ensures.items
@@ -48,7 +48,7 @@ invariant_of-self c =
           (sym (ap (λ (t : Table). t.sightings) c.flush_unless.ensures ∙ sightings_flushed_or c.args.port c.args.up c.self.inside.table))
           (after_set c.self.inside.plan c.self.inside.number c.self.inside.steps.items c.self.inside.states c.self.inside.queues.items c.self.inside.clock c.self.inside.table.sightings c.args.port c.args.up c.state_set-next.result
           c.self.invariant.1 c.self.invariant.0.fixed p l
-          (c.state_set-next.ensures ∙ state_set_is c.self.inside.plan c.self.inside.number c.args.port c.index.result.now c.args.up p k))),
+          (c.state_set-next.ensures ∙ state_set_is c.self.inside.plan c.self.inside.number c.args.port c.at.result.now c.args.up p k))),
       record {
         within = omega (arith, reserved.0, ap length e, length-append c.self.inside.steps.items (step ∷ []));
         reserved = λ e. cc;
