@@ -6,7 +6,7 @@ use Rattle.std.specs.List.{AllByRecursion, IsDistinct, filter}
 use Rattle.std.specs.Map.{keys_of, lookup, lookup_entry, remove_entry, IsKeyTest}
 use Rattle.std.specs.Option.{option_map, option_map_or, option_to_list}
 use Rattle.lru.specs.LruCache.{LruCache, last_entry, promoted, put_entries}
-use Rattle.pb_frame.proofs.Lists.{All-imply, filter-append}
+use Rattle.pb_frame.proofs.Lists.{All-imply, Some-injective, filter-append}
 use Rattle.pb_fdb.specs.declared.entry.Entry.{Entry}
 use Rattle.pb_fdb.specs.declared.station.LastSeen.{LastSeen}
 use Rattle.pb_fdb.specs.declared.station.Station.{Station}
@@ -61,6 +61,44 @@ pub oldest-gone : (ps : List (Station × LastSeen)) → oldest_first (take (leng
 oldest-gone ps = elim (has_last ps) [
   | inl e ↦ rw e refl
   | inr l ↦ rw l.2 (rw (oldest_first-last l.0 l.1) (ap oldest_first (last-before l.0 l.1)))
+]
+
+-- a place parts a list
+split : {X : Type 0} (xs : List X) (i : ℕ) → i < length xs → (x : X) × (drop i xs ≡ x ∷ drop (suc i) xs) × (take (suc i) xs ≡ take i xs ++ x ∷ [])
+split [] i h = absurd (omega arith)
+split (x ∷ xs) zero h = (x, refl, refl)
+split (x ∷ xs) (suc i) h = let r = split xs i (omega arith) in (r.0, r.1, ap (λ zs. x ∷ zs) r.2)
+
+-- once the first ones were turned, one more is
+pub turned-more : (port : ℕ) (es : List Entry) (i : ℕ) → i < length es
+    → turned port (drop i es ++ filter (λ e. not (port == e.port)) (take i es)) ≡ drop (suc i) es ++ filter (λ e. not (port == e.port)) (take (suc i) es)
+turned-more port es i h =
+    let keep : Entry → Bool = λ e. not (port == e.port) in
+    let s = split es i h in
+    ap (λ zs. turned port (zs ++ filter keep (take i es))) s.1 ∙ append_assoc (drop (suc i) es) (filter keep (take i es)) (filter keep (s.0 ∷ []))
+    ∙ ap (λ zs. drop (suc i) es ++ zs) (sym (filter-append keep (take i es) (s.0 ∷ [])) ∙ ap (filter keep) (sym s.2))
+
+-- nothing turns where there is no pair
+pub turned-none : (port : ℕ) (ps : List (Station × LastSeen)) → None ≡ last_entry ps → oldest_first ps ≡ turned port (oldest_first ps)
+turned-none port [] is = refl
+turned-none port (p ∷ ps) is = elim (has_last (p ∷ ps)) [
+  | inl e ↦ cc
+  | inr l ↦ let n : None ≡ Some l.1 = is ∙ ap last_entry l.2 ∙ last-there l.0 l.1 in cc
+]
+
+-- the pair that goes, where its entry is at the port
+pub turned-pop : (port : ℕ) (ps : List (Station × LastSeen)) (q : Station × LastSeen) → Some q ≡ last_entry ps → (port == q.1.port) ≡ true
+    → oldest_first (take (length ps - 1) ps) ≡ turned port (oldest_first ps)
+turned-pop port ps q is h = elim (has_last ps) [
+  | inl e ↦ let n : Some q ≡ None = is ∙ ap last_entry e in cc
+  | inr l ↦
+      let same : q ≡ l.1 = Some-injective (is ∙ ap last_entry l.2 ∙ last-there l.0 l.1) in
+      oldest-gone ps ∙ ap (drop 1) (ap oldest_first l.2 ∙ oldest_first-last l.0 l.1)
+      ∙ sym (
+        ap (turned port) (ap oldest_first l.2 ∙ oldest_first-last l.0 l.1)
+        ∙ ap (λ b. oldest_first l.0 ++ cond (not b) (entry_of l.1 ∷ []) []) (ap (λ p. port == p.1.port) (sym same) ∙ h)
+        ∙ append-nil (oldest_first l.0)
+      )
 ]
 
 -- tests of stations and of their entries, that agree
@@ -118,5 +156,11 @@ module _ (eq : Station → Station → Bool) (t : Station → Bool) (p : Entry �
         | false ↦ λ e n. (e, lookup-none ps n)
       ] refl h
 
+  -- so all stay without it
   pub lookup-absent : (ps : List (Station × LastSeen)) → lookup t ps ≡ None → filter (λ e. not (p e)) (oldest_first ps) ≡ oldest_first ps
   lookup-absent ps h = none-dropped ps (lookup-none ps h)
+
+-- a pair is looked up with its value
+pub lookup-entry : (t : Station → Bool) (ps : List (Station × LastSeen)) → lookup t ps ≡ option_map (λ e. e.1) (lookup_entry t ps)
+lookup-entry t [] = refl
+lookup-entry t (q ∷ ps) = elim (t q.0) as (λ b. cond b (Some q.1) (lookup t ps) ≡ option_map (λ e. e.1) (cond b (Some q) (lookup_entry t ps))) [ true ↦ refl | false ↦ lookup-entry t ps ]

@@ -126,9 +126,10 @@ impl Journal {
     pub fn forget_oldest(&mut self)
         ensures { self.new ≡ drop 1 self.old }
     {
-        if let Some(cache) = &mut self.cache {
-            let _ = cache.pop_lru();
-        }
+        let Some(cache) = &mut self.cache else {
+            return;
+        };
+        let _ = cache.pop_lru();
     }
 
     /// Puts an entry last, in place of those of its station. Where there is one, this takes no memory.
