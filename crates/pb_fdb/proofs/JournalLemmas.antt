@@ -1,11 +1,10 @@
 -- The entries of a cache, by its stations.
-use Rattle.std.proofs.Common.{◌≡◌, ℕ, zero, suc, ◌+◌, ◌-◌, ◌^◌, ◌<◌, ◌≤◌, ◌==◌, Bool, true, false, cond, not, ◌⊎◌, Some, None, List, [], ◌∷◌, ◌++◌, length, take, drop, slice_get, refl, sym, ap, ◌∙◌, subst, inl, inr, arith, append-nil, append_assoc, length-append}
+use Rattle.std.proofs.Common.{◌≡◌, ℕ, zero, suc, ◌-◌, ◌<◌, ◌==◌, Bool, true, false, cond, not, ◌⊎◌, Some, None, List, [], ◌∷◌, ◌++◌, length, take, drop, slice_get, refl, sym, ap, ◌∙◌, inl, inr, arith, append-nil, append_assoc, length-append}
 use Rattle.std.proofs.Math.Seq.{take-append_seam}
-use Rattle.std.specs.declared.option.Option.{Option}
 use Rattle.std.specs.List.{AllByRecursion, IsDistinct, filter}
 use Rattle.std.specs.Map.{keys_of, lookup, lookup_entry, remove_entry, IsKeyTest}
-use Rattle.std.specs.Option.{option_map, option_map_or, option_to_list}
-use Rattle.lru.specs.LruCache.{LruCache, last_entry, promoted, put_entries}
+use Rattle.std.specs.Option.{option_map, option_to_list}
+use Rattle.lru.specs.LruCache.{last_entry}
 use Rattle.pb_frame.proofs.Lists.{All-imply, Some-injective, filter-append}
 use Rattle.pb_fdb.specs.declared.entry.Entry.{Entry}
 use Rattle.pb_fdb.specs.declared.station.LastSeen.{LastSeen}
@@ -95,9 +94,9 @@ turned-pop port ps q is h = elim (has_last ps) [
       let same : q ≡ l.1 = Some-injective (is ∙ ap last_entry l.2 ∙ last-there l.0 l.1) in
       oldest-gone ps ∙ ap (drop 1) (ap oldest_first l.2 ∙ oldest_first-last l.0 l.1)
       ∙ sym (
-        ap (turned port) (ap oldest_first l.2 ∙ oldest_first-last l.0 l.1)
-        ∙ ap (λ b. oldest_first l.0 ++ cond (not b) (entry_of l.1 ∷ []) []) (ap (λ p. port == p.1.port) (sym same) ∙ h)
-        ∙ append-nil (oldest_first l.0)
+      ap (turned port) (ap oldest_first l.2 ∙ oldest_first-last l.0 l.1)
+      ∙ ap (λ b. oldest_first l.0 ++ cond (not b) (entry_of l.1 ∷ []) []) (ap (λ p. port == p.1.port) (sym same) ∙ h)
+      ∙ append-nil (oldest_first l.0)
       )
 ]
 

@@ -2,7 +2,6 @@
 use Rattle.std.proofs.Common.{◌≡◌, ℕ, ◌-◌, ◌^◌, ◌<◌, ◌≤◌, ◌==◌, ◌&&◌, Bool, true, false, cond, not, Some, None, IsSome, List, [], ◌∷◌, ◌++◌, length, take, refl, sym, ap, ◌∙◌, subst, inl, inr, arith}
 use Rattle.std.proofs.lemmas.Bool.{eqb-true}
 use Rattle.std.proofs.lemmas.List.{take_all}
-use Rattle.std.specs.declared.option.Option.{Option}
 use Rattle.std.specs.List.{AllByRecursion, IsDistinct, filter}
 use Rattle.std.specs.Cmp.Derive.{both_true}
 use Rattle.std.specs.Map.{keys_of, lookup, lookup_entry, remove_entry, IsKeyTest}
@@ -15,7 +14,7 @@ use Rattle.pb_frame.specs.Stations.{is_sighted, overrides}
 use Rattle.pb_frame.specs.Stations.News.{Seen}
 use Rattle.pb_frame.specs.declared.mac.Mac.{Mac}
 use Rattle.pb_fdb.proofs.EntryLemmas.{eqb-symm, same-symm}
-use Rattle.pb_fdb.proofs.JournalLemmas.{HasLast, has_last, last-there, oldest_first-last, filter-oldest_first, oldest_first-removed, lookup-absent, lookup-entry}
+use Rattle.pb_fdb.proofs.JournalLemmas.{has_last, last-there, oldest_first-last, filter-oldest_first, oldest_first-removed, lookup-absent, lookup-entry}
 use Rattle.pb_fdb.specs.declared.entry.Entry.{Entry}
 use Rattle.pb_fdb.specs.declared.station.LastSeen.{LastSeen}
 use Rattle.pb_fdb.specs.declared.station.Station.{Station}
@@ -77,8 +76,8 @@ pub oldest_first-put : (cache : LruCache Station LastSeen) (s : Station) (seen :
 oldest_first-put cache s seen cap fits d =
     elim (lookup_entry (is_same s) cache.entries)
     as (λ o. lookup_entry (is_same s) cache.entries ≡ o
-        → oldest_first (option_map_or (λ e. (e.0, seen) ∷ remove_entry (is_same s) cache.entries) o ((s, seen) ∷ take (cache.cap - 1) cache.entries))
-        ≡ without_station (entry_of (s, seen)) (oldest_first cache.entries) ++ entry_of (s, seen) ∷ []) [
+    → oldest_first (option_map_or (λ e. (e.0, seen) ∷ remove_entry (is_same s) cache.entries) o ((s, seen) ∷ take (cache.cap - 1) cache.entries))
+    ≡ without_station (entry_of (s, seen)) (oldest_first cache.entries) ++ entry_of (s, seen) ∷ []) [
       | None ↦ λ h.
           let all : length cache.entries ≤ cache.cap - 1 = rw cap (omega arith) in
           ap (λ ps. oldest_first ps ++ entry_of (s, seen) ∷ []) (take_all (cache.cap - 1) cache.entries all)
@@ -127,7 +126,7 @@ turned-promote port ps q d is h = elim (has_last ps) [
       ∙ ap (λ o. oldest_first (option_map_or (λ e. e ∷ remove_entry (is_same q.0) (l.0 ++ q ∷ [])) o (l.0 ++ q ∷ []))) (lookup-last l.0 q apart)
       ∙ ap (λ zs. oldest_first zs ++ entry_of q ∷ []) (remove-last l.0 q apart)
       ∙ sym (
-        ap (turned port) (ap oldest_first all ∙ oldest_first-last l.0 q)
-        ∙ ap (λ b. oldest_first l.0 ++ cond (not b) (entry_of q ∷ []) []) h
+      ap (turned port) (ap oldest_first all ∙ oldest_first-last l.0 q)
+      ∙ ap (λ b. oldest_first l.0 ++ cond (not b) (entry_of q ∷ []) []) h
       )
 ]

@@ -21,6 +21,11 @@ abbrev pub entries_in : Option (LruCache Station LastSeen) → List Entry
 entries_in None = []
 entries_in (Some cache) = oldest_first cache.entries
 
+-- the entries of the pairs that an iterator has left, if there is one
+abbrev pub left_in : Option (List (Station × LastSeen)) → List Entry
+left_in None = []
+left_in (Some ps) = oldest_first ps
+
 -- the cache drops none of itself
 abbrev pub IsUnbounded : Option (LruCache Station LastSeen) → Type 0
 IsUnbounded None = Unit {0}

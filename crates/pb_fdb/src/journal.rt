@@ -4,9 +4,10 @@ ghost use Rattle.std.specs.List.{filter};
 ghost use Rattle.std.specs.Option.{option_to_list};
 ghost use Rattle.std.specs.Prelude.{◌≡◌, ◌-◌, ◌^◌, ◌<◌, ◌==◌, ◌++◌, ◌∷◌, [], not, length, drop, slice_get, OnOk, OnErr, IsOk};
 ghost use Rattle.pb_frame.specs.Stations.{is_sighted};
-ghost use Rattle.pb_fdb.specs.Entries.{sighting_of, without_station};
+ghost use Rattle.pb_fdb.specs.Entries.{sighting_of, sightings, without_station};
 ghost use Rattle.pb_fdb.specs.Journals.{oldest_first, turned};
 
+use crate::entries::Entries;
 use crate::entry::Entry;
 use crate::station::{LastSeen, Station};
 use lru::LruCache;
@@ -158,6 +159,16 @@ impl Journal {
         };
         for _turn in 0..cache.len() {
             turn(cache, port);
+        }
+    }
+
+    /// The entries, the oldest learning first.
+    pub fn entries(&self) -> Entries<'_>
+        ensures { result ≡ sightings self.now }
+    {
+        match &self.cache {
+            Some(cache) => Entries::of(Some(cache.iter())),
+            None => Entries::of(None),
         }
     }
 }

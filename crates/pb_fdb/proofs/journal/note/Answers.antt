@@ -7,7 +7,7 @@ use Rattle.pb_fdb.proofs.journal.note.Goals as goal
 pub returns-in_err-put-clause-succeeds : goal.returns-in_err-put-clause-succeeds
 returns-in_err-put-clause-succeeds c =
     λ h. absurd (false≢true (c.in_err-put.ensures.succeeds (
-      without-found (record { vid = c.args.entry.vid; mac = c.args.entry.mac }) (record { port = c.args.entry.port; learnt = c.args.entry.learnt }) c.args.cache.now.entries h
+    without-found (record { vid = c.args.entry.vid; mac = c.args.entry.mac }) (record { port = c.args.entry.port; learnt = c.args.entry.learnt }) c.args.cache.now.entries h
     )))
 
 pub returns-clause-ok : goal.returns-clause-ok

@@ -1,8 +1,7 @@
-use Rattle.std.proofs.Common.{◌≡◌, ◌==◌, false, true, None, Some, eq-eqb, sym, ap, ◌∙◌, arith}
+use Rattle.std.proofs.Common.{eq-eqb, sym, ap, ◌∙◌, arith}
 use Rattle.std.proofs.lemmas.Bool.Decides.{nat_tests}
 use Rattle.std.specs.Map.Iter.{deref_pair}
 use Rattle.std.specs.Option.{option_map}
-use Rattle.lru.specs.LruCache.{last_entry}
 use Rattle.pb_fdb.specs.Journals.{oldest_first}
 use Rattle.pb_fdb.proofs.JournalLemmas.{turned-none, turned-pop}
 use Rattle.pb_fdb.proofs.StationLemmas.{turned-promote}

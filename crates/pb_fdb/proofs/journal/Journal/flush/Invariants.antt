@@ -8,5 +8,5 @@ invariant-loop-turn l = record {
   unbounded : l.cache.cap ≡ 2 ^ 64 - 1;
   end : l._turn-end ≡ length (oldest_first l.initial.cache.entries);
   entries : oldest_first l.cache.entries
-      ≡ drop l._turn (oldest_first l.initial.cache.entries) ++ filter (λ e. not (l.port == e.port)) (take l._turn (oldest_first l.initial.cache.entries))
+      ≡ drop l._turn (oldest_first l.initial.cache.entries) ++ filter (λ e. not (l.port == e.port)) (take l._turn (oldest_first l.initial.cache.entries));
 }
