@@ -38,7 +38,7 @@ pub filter-map-length : (p : Sighting → Bool) (es : List Entry) → length (fi
 filter-map-length p es = ap length (filter-map p es) ∙ length-map (filter (λ e. p (sighting_of e)) es) sighting_of
 
 -- equality of numbers goes both ways
-eqb-symm : (a b : ℕ) → (a == b) ≡ (b == a)
+pub eqb-symm : (a b : ℕ) → (a == b) ≡ (b == a)
 eqb-symm a b =
     elim (a == b) as (λ t. (a == b) ≡ t → t ≡ (b == a)) [
       | true ↦ λ e. sym (eq-eqb b a (sym (eqb-true a b e)))
@@ -49,7 +49,7 @@ eqb-symm a b =
     ] refl
 
 -- and so does that of texts
-same-symm : (a b : List ℕ) → same a b ≡ same b a
+pub same-symm : (a b : List ℕ) → same a b ≡ same b a
 same-symm [] [] = refl
 same-symm [] (y ∷ ys) = refl
 same-symm (x ∷ xs) [] = refl

@@ -1,0 +1,174 @@
+//! Entries in the order of last learning, found by their stations.
+
+ghost use Rattle.std.specs.List.{filter};
+ghost use Rattle.std.specs.Option.{option_to_list};
+ghost use Rattle.std.specs.Prelude.{◌≡◌, ◌-◌, ◌^◌, ◌<◌, ◌==◌, ◌++◌, ◌∷◌, [], not, length, drop, slice_get, OnOk, OnErr, IsOk};
+ghost use Rattle.pb_frame.specs.Stations.{is_sighted};
+ghost use Rattle.pb_fdb.specs.Entries.{sighting_of, sightings, without_station};
+ghost use Rattle.pb_fdb.specs.Journals.{oldest_first, turned};
+
+use crate::entries::Entries;
+use crate::entry::Entry;
+use crate::station::{LastSeen, Station};
+use lru::LruCache;
+use pb_frame::Mac;
+use std::alloc::{AllocError, Global};
+use std::marker::Model;
+
+/// A cache of stations.
+type Cache = LruCache<Station, LastSeen>;
+
+/// Entries in the order of last learning, the oldest first. None, before there was one to keep, takes
+/// no memory.
+#[derive(Debug, Drop)]
+pub struct Journal {
+    cache: Option<Cache>,
+    alloc: Global,
+}
+
+impl Model for Journal {
+    ghost use Rattle.std.specs.Prelude.{List};
+    ghost use Rattle.pb_fdb.specs.declared.entry.Entry.{Entry};
+
+    ghost Value = { List Entry };
+
+    ghost use Rattle.pb_fdb.specs.Journals.{entries_in, IsUnbounded};
+
+    ghost view = { λ j. entries_in j.cache };
+
+    ghost invariant = { λ j. IsUnbounded j.cache };
+}
+
+/// Puts an entry last, in place of those of its station.
+fn note(cache: &mut Cache, entry: Entry) -> Result<(), AllocError>
+    requires { cache.old.cap ≡ 2 ^ 64 - 1 }
+    ensures cap { cache.new.cap ≡ 2 ^ 64 - 1 }
+    ensures ok { OnOk result (oldest_first cache.new.entries ≡ without_station entry (oldest_first cache.old.entries) ++ entry ∷ []) }
+    ensures err { OnErr result (cache.new ≡ cache.old) }
+    ensures succeeds { length (without_station entry (oldest_first cache.old.entries)) < length (oldest_first cache.old.entries) → IsOk result }
+{
+    prove!(cache.len() < usize::MAX);
+    let station = Station {
+        vid: entry.vid,
+        mac: entry.mac,
+    };
+    let seen = LastSeen {
+        port: entry.port,
+        learnt: entry.learnt,
+    };
+    cache.put(station, seen)?;
+    Ok(())
+}
+
+/// Takes the oldest entry away if it is at the port, and else puts it last.
+fn turn(cache: &mut Cache, port: u8)
+    ensures cap { cache.new.cap ≡ cache.old.cap }
+    ensures entries { oldest_first cache.new.entries ≡ turned port (oldest_first cache.old.entries) }
+{
+    prove!(cache.len() < usize::MAX);
+    let Some((station, seen)) = cache.peek_lru() else {
+        return;
+    };
+    let (station, at) = (*station, seen.port);
+    if port == at {
+        let _ = cache.pop_lru();
+    } else {
+        let _ = cache.promote(&station);
+    }
+}
+
+impl Journal {
+    /// No entries. Takes no memory.
+    pub fn new(alloc: Global) -> Journal
+        ensures { result ≡ [] }
+    {
+        Journal { cache: None, alloc }
+    }
+
+    /// How many entries there are.
+    pub fn len(&self) -> usize
+        ensures { result ≡ length self.now }
+    {
+        match &self.cache {
+            Some(cache) => cache.len(),
+            None => 0,
+        }
+    }
+
+    /// The station's entry: it has one at most.
+    pub fn find(&self, vid: u16, mac: Mac) -> Option<Entry>
+        ensures { filter (λ e. is_sighted vid mac.0 (sighting_of e)) self.now ≡ option_to_list result }
+    {
+        let cache = self.cache.as_ref()?;
+        prove!(cache.len() < usize::MAX);
+        let seen = cache.peek(&Station { vid, mac })?;
+        Some(Entry {
+            vid,
+            mac,
+            port: seen.port,
+            learnt: seen.learnt,
+        })
+    }
+
+    /// The entry whose learning is oldest.
+    pub fn oldest(&self) -> Option<Entry>
+        ensures { result ≡ slice_get self.now 0 }
+    {
+        let (station, seen) = self.cache.as_ref()?.peek_lru()?;
+        Some(Entry {
+            vid: station.vid,
+            mac: station.mac,
+            port: seen.port,
+            learnt: seen.learnt,
+        })
+    }
+
+    /// Forgets the entry whose learning is oldest.
+    pub fn forget_oldest(&mut self)
+        ensures { self.new ≡ drop 1 self.old }
+    {
+        let Some(cache) = &mut self.cache else {
+            return;
+        };
+        let _ = cache.pop_lru();
+    }
+
+    /// Puts an entry last, in place of those of its station. Where there is one, this takes no memory.
+    pub fn replace(&mut self, entry: Entry) -> Result<(), AllocError>
+        ensures ok { OnOk result (self.new ≡ without_station entry self.old ++ entry ∷ []) }
+        ensures err { OnErr result (self.new ≡ self.old) }
+        ensures succeeds { length (without_station entry self.old) < length self.old → IsOk result }
+    {
+        match &mut self.cache {
+            Some(cache) => note(cache, entry),
+            None => {
+                let mut cache = LruCache::unbounded(self.alloc)?;
+                note(&mut cache, entry)?;
+                self.cache = Some(cache);
+                Ok(())
+            }
+        }
+    }
+
+    /// Forgets the entries at a port.
+    pub fn flush(&mut self, port: u8)
+        ensures { self.new ≡ filter (λ e. not (port == e.port)) self.old }
+    {
+        let Some(cache) = &mut self.cache else {
+            return;
+        };
+        for _turn in 0..cache.len() {
+            turn(cache, port);
+        }
+    }
+
+    /// The entries, the oldest learning first.
+    pub fn entries(&self) -> Entries<'_>
+        ensures { result ≡ sightings self.now }
+    {
+        match &self.cache {
+            Some(cache) => Entries::of(Some(cache.iter())),
+            None => Entries::of(None),
+        }
+    }
+}
