@@ -2,7 +2,7 @@
 
 ghost use Rattle.std.specs.List.{filter};
 ghost use Rattle.std.specs.Option.{option_to_list};
-ghost use Rattle.std.specs.Prelude.{◌≡◌, ◌-◌, ◌^◌, ◌<◌, ◌==◌, ◌++◌, ◌∷◌, [], not, length, drop, slice_get, OnOk, OnErr, IsOk};
+ghost use Rattle.std.specs.Prelude.{◌≡◌, ◌-◌, ◌^◌, ◌==◌, ◌++◌, ◌∷◌, [], not, length, drop, slice_get, OnOk, OnErr, OnSome, IfNone};
 ghost use Rattle.pb_frame.specs.Stations.{is_sighted};
 ghost use Rattle.pb_fdb.specs.Entries.{sighting_of, sightings, without_station};
 ghost use Rattle.pb_fdb.specs.Journals.{oldest_first, turned};
@@ -45,7 +45,6 @@ fn note(cache: &mut Cache, entry: Entry) -> Result<(), AllocError>
     ensures cap { cache.new.cap ≡ 2 ^ 64 - 1 }
     ensures ok { OnOk result (oldest_first cache.new.entries ≡ without_station entry (oldest_first cache.old.entries) ++ entry ∷ []) }
     ensures err { OnErr result (cache.new ≡ cache.old) }
-    ensures succeeds { length (without_station entry (oldest_first cache.old.entries)) < length (oldest_first cache.old.entries) → IsOk result }
 {
     prove!(cache.len() < usize::MAX);
     let station = Station {
@@ -58,6 +57,32 @@ fn note(cache: &mut Cache, entry: Entry) -> Result<(), AllocError>
     };
     cache.put(station, seen)?;
     Ok(())
+}
+
+/// Puts an entry last in place of its station's, which is answered, and else leaves all as it was.
+fn renew(cache: &mut Cache, new: Entry) -> Option<Entry>
+    ensures cap { cache.new.cap ≡ cache.old.cap }
+    ensures old { filter (λ e. is_sighted new.vid new.mac.0 (sighting_of e)) (oldest_first cache.old.entries) ≡ option_to_list result }
+    ensures renewed { OnSome result (oldest_first cache.new.entries ≡ without_station new (oldest_first cache.old.entries) ++ new ∷ []) }
+    ensures absent { IfNone result (cache.new.entries ≡ cache.old.entries) }
+{
+    prove!(cache.len() < usize::MAX);
+    let station = Station {
+        vid: new.vid,
+        mac: new.mac,
+    };
+    let seen = cache.get_mut(&station)?;
+    let old = Entry {
+        vid: new.vid,
+        mac: new.mac,
+        port: seen.port,
+        learnt: seen.learnt,
+    };
+    *seen = LastSeen {
+        port: new.port,
+        learnt: new.learnt,
+    };
+    Some(old)
 }
 
 /// Takes the oldest entry away if it is at the port, and else puts it last.
@@ -133,11 +158,23 @@ impl Journal {
         let _ = cache.pop_lru();
     }
 
-    /// Puts an entry last, in place of those of its station. Where there is one, this takes no memory.
+    /// Puts an entry last in place of its station's, which is answered, and else leaves all as it was.
+    /// Takes no memory.
+    pub fn renew(&mut self, new: Entry) -> Option<Entry>
+        ensures old { filter (λ e. is_sighted new.vid new.mac.0 (sighting_of e)) self.old ≡ option_to_list result }
+        ensures renewed { OnSome result (self.new ≡ without_station new self.old ++ new ∷ []) }
+        ensures absent { IfNone result (self.new ≡ self.old) }
+    {
+        match &mut self.cache {
+            Some(cache) => renew(cache, new),
+            None => None,
+        }
+    }
+
+    /// Puts an entry last, in place of those of its station.
     pub fn replace(&mut self, entry: Entry) -> Result<(), AllocError>
         ensures ok { OnOk result (self.new ≡ without_station entry self.old ++ entry ∷ []) }
         ensures err { OnErr result (self.new ≡ self.old) }
-        ensures succeeds { length (without_station entry self.old) < length self.old → IsOk result }
     {
         match &mut self.cache {
             Some(cache) => note(cache, entry),
