@@ -15,11 +15,16 @@ use pb_frame::Mac;
 use std::alloc::{AllocError, Global};
 use std::marker::Model;
 
-/// A cache of stations.
+/// A cache of stations. The contract of its `len` says that they are distinct: each function that rests
+/// on this names `len` in a `prove!`, which is proved and costs nothing.
+///
+/// The hasher's seed is fixed: whoever picks the addresses can make look-ups as slow as a search among
+/// all entries, and no slower.
 type Cache = LruCache<Station, LastSeen>;
 
-/// Entries in the order of last learning, the oldest first. None, before there was one to keep, takes
-/// no memory.
+/// Entries in the order of last learning, the oldest first, each found by its station in constant time.
+/// Contracts see the entries. There is no cache before there was an entry to keep, so that an empty
+/// journal takes no memory.
 #[derive(Debug, Drop)]
 pub struct Journal {
     cache: Option<Cache>,
@@ -120,7 +125,7 @@ impl Journal {
         }
     }
 
-    /// The station's entry: it has one at most.
+    /// The station's entry: it has one at most. One look-up.
     pub fn find(&self, vid: u16, mac: Mac) -> Option<Entry>
         ensures { filter (λ e. is_sighted vid mac.0 (sighting_of e)) self.now ≡ option_to_list result }
     {
@@ -159,7 +164,7 @@ impl Journal {
     }
 
     /// Puts an entry last in place of its station's, which is answered, and else leaves all as it was.
-    /// Takes no memory.
+    /// Takes no memory, and one look-up.
     pub fn renew(&mut self, new: Entry) -> Option<Entry>
         ensures old { filter (λ e. is_sighted new.vid new.mac.0 (sighting_of e)) self.old ≡ option_to_list result }
         ensures renewed { OnSome result (self.new ≡ without_station new self.old ++ new ∷ []) }
@@ -171,7 +176,7 @@ impl Journal {
         }
     }
 
-    /// Puts an entry last, in place of those of its station.
+    /// Puts an entry last, in place of those of its station. Where memory is short, nothing changes.
     pub fn replace(&mut self, entry: Entry) -> Result<(), AllocError>
         ensures ok { OnOk result (self.new ≡ without_station entry self.old ++ entry ∷ []) }
         ensures err { OnErr result (self.new ≡ self.old) }
@@ -187,7 +192,7 @@ impl Journal {
         }
     }
 
-    /// Forgets the entries at a port.
+    /// Forgets the entries at a port: each entry in turn goes, or goes last, until all had their turn.
     pub fn flush(&mut self, port: u8)
         ensures { self.new ≡ filter (λ e. not (port == e.port)) self.old }
     {
