@@ -3,3 +3,4 @@ pub mod LawLemmas
 pub mod JournalLemmas
 pub mod StationLemmas
 pub mod OrderLemmas
+pub mod LearnLemmas

@@ -1,8 +1,7 @@
 -- Entries in the order of learning.
-use Rattle.std.proofs.Common.{◌≡◌, ℕ, ◌-◌, ◌<◌, ◌≤◌, ◌&&◌, Bool, true, false, cond, nat_le, nat_lt, Some, None, Ok, Err, IsOk, OnOk, List, [], ◌∷◌, ◌++◌, length, drop, slice_get, refl, sym, ap, ◌∙◌, length-append, arith}
+use Rattle.std.proofs.Common.{◌≡◌, ℕ, ◌-◌, ◌<◌, ◌≤◌, ◌&&◌, Bool, true, false, cond, nat_le, nat_lt, Some, None, List, [], ◌∷◌, ◌++◌, length, drop, slice_get, refl, sym, ap, ◌∙◌, length-append, arith}
 use Rattle.std.proofs.lemmas.Bool.Decides.{nat_tests}
 use Rattle.std.specs.declared.option.Option.{Option}
-use Rattle.std.specs.declared.result.Result.{Result}
 use Rattle.std.specs.List.{AllByRecursion, filter}
 use Rattle.std.specs.Option.{option_map, option_to_list}
 use Rattle.pb_frame.proofs.Lists.{All-imply, All-append, Some-injective, filter-append, filter-twice}
@@ -154,8 +153,3 @@ full-fresh limit ageing now es e o fits full is =
       | true ↦ λ f. let same = ap length (oldest-fresh ageing now es e o is f) in grind (arith, nat_tests)
       | false ↦ λ f. let fewer = oldest-old-fewer ageing now es e is f in grind (arith, nat_tests)
     ] refl
-
--- what holds of a value holds where there is one
-pub ok_holds : {T E : Type 0} (r : Result T E) (P : Type 0) → IsOk r → OnOk r P → P
-ok_holds (Ok x) P ok h = h
-ok_holds (Err e) P ok h = cc

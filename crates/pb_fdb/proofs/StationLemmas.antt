@@ -1,10 +1,10 @@
 -- The entries of stations in a cache.
-use Rattle.std.proofs.Common.{◌≡◌, ℕ, ◌-◌, ◌^◌, ◌<◌, ◌≤◌, ◌==◌, ◌&&◌, Bool, true, false, cond, not, Some, None, IsSome, List, [], ◌∷◌, ◌++◌, length, take, refl, sym, ap, ◌∙◌, subst, inl, inr, arith}
+use Rattle.std.proofs.Common.{◌≡◌, ℕ, ◌-◌, ◌^◌, ◌<◌, ◌≤◌, ◌==◌, ◌&&◌, Bool, true, false, cond, not, Some, None, List, [], ◌∷◌, ◌++◌, length, take, refl, sym, ap, ◌∙◌, subst, inl, inr, arith}
 use Rattle.std.proofs.lemmas.Bool.{eqb-true}
 use Rattle.std.proofs.lemmas.List.{take_all}
 use Rattle.std.specs.List.{AllByRecursion, IsDistinct, filter}
 use Rattle.std.specs.Cmp.Derive.{both_true}
-use Rattle.std.specs.Map.{keys_of, lookup, lookup_entry, remove_entry, IsKeyTest}
+use Rattle.std.specs.Map.{keys_of, lookup, lookup_entry, remove_entry, set_value, IsKeyTest}
 use Rattle.std.specs.Option.{option_map, option_map_or, option_to_list}
 use Rattle.lru.proofs.CallerLemmas.{Contains-lookup_entry}
 use Rattle.lru.specs.LruCache.{LruCache, last_entry, promoted, put_entries}
@@ -61,15 +61,6 @@ without-absent : (s : Station) (seen : LastSeen) (ps : List (Station × LastSeen
 without-absent s seen ps h =
     lookup-absent is_same (is_same s) (λ e. overrides (sighting_of e) (Seen (sighting_of (entry_of (s, seen))))) (λ q. refl) (key_test s.vid s.mac.0) ps h
 
--- so where one goes, it is looked up
-pub without-found : (s : Station) (seen : LastSeen) (ps : List (Station × LastSeen)) → length (without_station (entry_of (s, seen)) (oldest_first ps)) < length (oldest_first ps)
-    → IsSome (lookup (is_same s) ps)
-without-found s seen ps h =
-    elim (lookup (is_same s) ps) as (λ o. lookup (is_same s) ps ≡ o → IsSome o) [
-      | None ↦ λ n. let same = ap length (without-absent s seen ps n) in absurd (omega arith)
-      | Some x ↦ λ n. refl
-    ] refl
-
 -- a pair that is put takes the place of its station's
 pub oldest_first-put : (cache : LruCache Station LastSeen) (s : Station) (seen : LastSeen) → cache.cap ≡ 2 ^ 64 - 1 → length cache.entries < 2 ^ 63 → IsDistinct is_same (keys_of cache.entries)
     → oldest_first (put_entries is_same cache s seen) ≡ without_station (entry_of (s, seen)) (oldest_first cache.entries) ++ entry_of (s, seen) ∷ []
@@ -87,6 +78,22 @@ oldest_first-put cache s seen cap fits d =
           ap (λ x. oldest_first (remove_entry (is_same s) cache.entries) ++ x ∷ []) (entry_of-at s.vid s.mac (e.0, seen) key)
           ∙ ap (λ es. es ++ entry_of (s, seen) ∷ [])
           (oldest_first-removed is_same (is_same s) (λ e. overrides (sighting_of e) (Seen (sighting_of (entry_of (s, seen))))) (λ q. refl) (key_test s.vid s.mac.0) cache.entries d)
+    ] refl
+
+-- and so does one that is written in its place, at the front
+pub oldest_first-renewed : (ps : List (Station × LastSeen)) (s : Station) (seen old : LastSeen) → lookup (is_same s) ps ≡ Some old → IsDistinct is_same (keys_of ps)
+    → oldest_first (set_value (is_same s) (promoted (is_same s) ps) seen) ≡ without_station (entry_of (s, seen)) (oldest_first ps) ++ entry_of (s, seen) ∷ []
+oldest_first-renewed ps s seen old found d =
+    elim (lookup_entry (is_same s) ps)
+    as (λ o. lookup_entry (is_same s) ps ≡ o
+    → oldest_first (set_value (is_same s) (option_map_or (λ e. e ∷ remove_entry (is_same s) ps) o ps) seen) ≡ without_station (entry_of (s, seen)) (oldest_first ps) ++ entry_of (s, seen) ∷ []) [
+      | None ↦ λ h. let none : Some old ≡ None = sym found ∙ lookup-entry (is_same s) ps ∙ ap (option_map (λ e. e.1)) h in cc
+      | Some e ↦ λ h.
+          let key = (Contains-lookup_entry (is_same s) ps e h).1 in
+          ap (λ b. oldest_first (cond b ((e.0, seen) ∷ remove_entry (is_same s) ps) (e ∷ set_value (is_same s) (remove_entry (is_same s) ps) seen))) key
+          ∙ ap (λ x. oldest_first (remove_entry (is_same s) ps) ++ x ∷ []) (entry_of-at s.vid s.mac (e.0, seen) key)
+          ∙ ap (λ es. es ++ entry_of (s, seen) ∷ [])
+          (oldest_first-removed is_same (is_same s) (λ e. overrides (sighting_of e) (Seen (sighting_of (entry_of (s, seen))))) (λ q. refl) (key_test s.vid s.mac.0) ps d)
     ] refl
 
 -- a station is the same as another as that is the same as it

@@ -2,7 +2,7 @@
 
 ghost use Rattle.std.specs.List.{filter};
 ghost use Rattle.std.specs.Option.{option_to_list};
-ghost use Rattle.std.specs.Prelude.{◌≡◌, ◌-◌, ◌^◌, ◌<◌, ◌==◌, ◌++◌, ◌∷◌, [], not, length, drop, slice_get, OnOk, OnErr, IsOk};
+ghost use Rattle.std.specs.Prelude.{◌≡◌, ◌-◌, ◌^◌, ◌==◌, ◌++◌, ◌∷◌, [], not, length, drop, slice_get, OnOk, OnErr, OnSome, IfNone};
 ghost use Rattle.pb_frame.specs.Stations.{is_sighted};
 ghost use Rattle.pb_fdb.specs.Entries.{sighting_of, sightings, without_station};
 ghost use Rattle.pb_fdb.specs.Journals.{oldest_first, turned};
@@ -15,11 +15,16 @@ use pb_frame::Mac;
 use std::alloc::{AllocError, Global};
 use std::marker::Model;
 
-/// A cache of stations.
+/// A cache of stations. The contract of its `len` says that they are distinct: each function that rests
+/// on this names `len` in a `prove!`, which is proved and costs nothing.
+///
+/// The hasher's seed is fixed: whoever picks the addresses can make look-ups as slow as a search among
+/// all entries, and no slower.
 type Cache = LruCache<Station, LastSeen>;
 
-/// Entries in the order of last learning, the oldest first. None, before there was one to keep, takes
-/// no memory.
+/// Entries in the order of last learning, the oldest first, each found by its station in constant time.
+/// Contracts see the entries. There is no cache before there was an entry to keep, so that an empty
+/// journal takes no memory.
 #[derive(Debug, Drop)]
 pub struct Journal {
     cache: Option<Cache>,
@@ -45,7 +50,6 @@ fn note(cache: &mut Cache, entry: Entry) -> Result<(), AllocError>
     ensures cap { cache.new.cap ≡ 2 ^ 64 - 1 }
     ensures ok { OnOk result (oldest_first cache.new.entries ≡ without_station entry (oldest_first cache.old.entries) ++ entry ∷ []) }
     ensures err { OnErr result (cache.new ≡ cache.old) }
-    ensures succeeds { length (without_station entry (oldest_first cache.old.entries)) < length (oldest_first cache.old.entries) → IsOk result }
 {
     prove!(cache.len() < usize::MAX);
     let station = Station {
@@ -58,6 +62,32 @@ fn note(cache: &mut Cache, entry: Entry) -> Result<(), AllocError>
     };
     cache.put(station, seen)?;
     Ok(())
+}
+
+/// Puts an entry last in place of its station's, which is answered, and else leaves all as it was.
+fn renew(cache: &mut Cache, new: Entry) -> Option<Entry>
+    ensures cap { cache.new.cap ≡ cache.old.cap }
+    ensures old { filter (λ e. is_sighted new.vid new.mac.0 (sighting_of e)) (oldest_first cache.old.entries) ≡ option_to_list result }
+    ensures renewed { OnSome result (oldest_first cache.new.entries ≡ without_station new (oldest_first cache.old.entries) ++ new ∷ []) }
+    ensures absent { IfNone result (cache.new.entries ≡ cache.old.entries) }
+{
+    prove!(cache.len() < usize::MAX);
+    let station = Station {
+        vid: new.vid,
+        mac: new.mac,
+    };
+    let seen = cache.get_mut(&station)?;
+    let old = Entry {
+        vid: new.vid,
+        mac: new.mac,
+        port: seen.port,
+        learnt: seen.learnt,
+    };
+    *seen = LastSeen {
+        port: new.port,
+        learnt: new.learnt,
+    };
+    Some(old)
 }
 
 /// Takes the oldest entry away if it is at the port, and else puts it last.
@@ -95,7 +125,7 @@ impl Journal {
         }
     }
 
-    /// The station's entry: it has one at most.
+    /// The station's entry: it has one at most. One look-up.
     pub fn find(&self, vid: u16, mac: Mac) -> Option<Entry>
         ensures { filter (λ e. is_sighted vid mac.0 (sighting_of e)) self.now ≡ option_to_list result }
     {
@@ -133,11 +163,23 @@ impl Journal {
         let _ = cache.pop_lru();
     }
 
-    /// Puts an entry last, in place of those of its station. Where there is one, this takes no memory.
+    /// Puts an entry last in place of its station's, which is answered, and else leaves all as it was.
+    /// Takes no memory, and one look-up.
+    pub fn renew(&mut self, new: Entry) -> Option<Entry>
+        ensures old { filter (λ e. is_sighted new.vid new.mac.0 (sighting_of e)) self.old ≡ option_to_list result }
+        ensures renewed { OnSome result (self.new ≡ without_station new self.old ++ new ∷ []) }
+        ensures absent { IfNone result (self.new ≡ self.old) }
+    {
+        match &mut self.cache {
+            Some(cache) => renew(cache, new),
+            None => None,
+        }
+    }
+
+    /// Puts an entry last, in place of those of its station. Where memory is short, nothing changes.
     pub fn replace(&mut self, entry: Entry) -> Result<(), AllocError>
         ensures ok { OnOk result (self.new ≡ without_station entry self.old ++ entry ∷ []) }
         ensures err { OnErr result (self.new ≡ self.old) }
-        ensures succeeds { length (without_station entry self.old) < length self.old → IsOk result }
     {
         match &mut self.cache {
             Some(cache) => note(cache, entry),
@@ -150,7 +192,7 @@ impl Journal {
         }
     }
 
-    /// Forgets the entries at a port.
+    /// Forgets the entries at a port: each entry in turn goes, or goes last, until all had their turn.
     pub fn flush(&mut self, port: u8)
         ensures { self.new ≡ filter (λ e. not (port == e.port)) self.old }
     {

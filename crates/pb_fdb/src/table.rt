@@ -1,7 +1,7 @@
 //! Where stations were seen.
 
 ghost use Rattle.std.specs.List.{AllByRecursion};
-ghost use Rattle.std.specs.Prelude.{◌≡◌, ◌<◌, ◌≤◌, ◌++◌, ◌∷◌, [], length, nat_le, OnOk, OnErr};
+ghost use Rattle.std.specs.Prelude.{◌≡◌, ◌<◌, ◌≤◌, ◌++◌, ◌∷◌, [], length, nat_le, OnOk, OnErr, if◌then◌else◌};
 ghost use Rattle.pb_frame.specs.Frames.{is_group};
 ghost use Rattle.pb_frame.specs.Stations.{is_fresh};
 ghost use Rattle.pb_fdb.specs.Entries.{sighting_of, without_station, fresh_entries, entries_with_room, InOrder};
@@ -56,6 +56,16 @@ fn forget_old(journal: &mut Journal, ageing: u32, now: u32)
     }
 }
 
+/// Forgets the old ones where there were as many entries as may be.
+fn sweep(journal: &mut Journal, full: bool, ageing: u32, now: u32)
+    requires { InOrder journal.old }
+    ensures { journal.new ≡ (if full then fresh_entries ageing now journal.old else journal.old) }
+{
+    if full {
+        forget_old(journal, ageing, now);
+    }
+}
+
 /// As many stations are live as may be kept. They all are where the oldest is.
 fn is_full(journal: &Journal, limit: usize, ageing: u32, now: u32) -> bool
     requires order { InOrder journal.now }
@@ -71,8 +81,8 @@ fn is_full(journal: &Journal, limit: usize, ageing: u32, now: u32) -> bool
     }
 }
 
-/// Puts an entry last, in place of those of its station, and forgets the old ones if there were as many
-/// as may be.
+/// Puts an entry last, in place of those of its station, and forgets the old ones where there were as
+/// many entries as may be. Memory is asked for first, so that nothing is forgotten where it is short.
 fn add(journal: &mut Journal, entry: Entry, limit: usize, ageing: u32) -> Result<(), AllocError>
     requires order { InOrder journal.old }
     requires before { AllByRecursion (λ e. e.learnt ≤ entry.learnt) journal.old }
@@ -80,11 +90,9 @@ fn add(journal: &mut Journal, entry: Entry, limit: usize, ageing: u32) -> Result
     ensures ok { OnOk result (journal.new ≡ without_station entry (entries_with_room limit ageing entry.learnt journal.old) ++ entry ∷ []) }
     ensures err { OnErr result (journal.new ≡ journal.old) }
 {
-    if journal.len() < limit {
-        return journal.replace(entry);
-    }
+    let full = journal.len() >= limit;
     journal.replace(entry)?;
-    forget_old(journal, ageing, entry.learnt);
+    sweep(journal, full, ageing, entry.learnt);
     Ok(())
 }
 
@@ -136,24 +144,24 @@ impl Fdb {
             port,
             learnt: now,
         };
-        match self.find(vid, mac, now) {
-            None => {
-                if is_full(&self.journal, self.limit, self.ageing, now) {
-                    return Learnt::Full;
-                }
-                let Ok(()) = add(&mut self.journal, entry, self.limit, self.ageing) else {
-                    return Learnt::Memory;
-                };
-                Learnt::New
+        let full = self.journal.len() >= self.limit;
+        let Some(old) = self.journal.renew(entry) else {
+            if is_full(&self.journal, self.limit, self.ageing, now) {
+                return Learnt::Full;
             }
-            Some(at) => {
-                let _ = self.journal.replace(entry);
-                if at == port {
-                    Learnt::Kept
-                } else {
-                    Learnt::Moved
-                }
-            }
+            let Ok(()) = add(&mut self.journal, entry, self.limit, self.ageing) else {
+                return Learnt::Memory;
+            };
+            return Learnt::New;
+        };
+        if !is_fresh(&old, self.ageing, now) {
+            sweep(&mut self.journal, full, self.ageing, now);
+            return Learnt::New;
+        }
+        if old.port == port {
+            Learnt::Kept
+        } else {
+            Learnt::Moved
         }
     }
 
