@@ -6,9 +6,10 @@ use Rattle.pb_lan.specs.Ports.{Port, port_at, vid_at, is_used}
 use Rattle.pb_lan.specs.Ports.Port.{Customer, Provider, Unused}
 use Rattle.pb_lan.specs.Queues.{class_of, priority_in, wire_out}
 use Rattle.pb_lan.specs.declared.plan.Plan.{Plan}
+use Rattle.pb_lan.specs.declared.shape.PortState.{PortState}
 use Rattle.pb_relay.specs.declared.load.Load.{Load}
-use Rattle.pb_relay.specs.declared.ports.LocalPort.{LocalPort}
-use Rattle.pb_relay.specs.declared.ports.LocalPort.TheVariants.{ToCustomer, ToBridge, ToNobody}
+use Rattle.pb_relay.specs.Roles.{LocalPort, told}
+use Rattle.pb_relay.specs.Roles.LocalPort.{ToCustomer, ToBridge, ToNobody}
 use Rattle.pb_relay.specs.Kinds.{is_to_customer, is_to_bridge}
 use Rattle.pb_relay.specs.Loads.{IsLoad, IsLoadedAt, brought, is_member_of}
 use Rattle.pb_relay.specs.LocalPorts.{IsKept, IsConfigured}
@@ -31,7 +32,7 @@ some_port q (x ∷ ports) (suc i) n h =
 
 -- a customer's frame brings this
 customer_brings : (plan : Plan) (vid pcp : ℕ) (wire : List ℕ) (load : Load) (customers bridges : Bool) (entry exit : Port) (local : LocalPort)
-    → IsKept plan entry (ToCustomer vid pcp) → IsLoad customers bridges (ToCustomer vid pcp) wire load
+    → IsKept plan entry (ToCustomer vid pcp) → IsLoad customers bridges (told (ToCustomer vid pcp)) wire load
     → IsKept plan exit local → (is_to_bridge local ≡ true → bridges ≡ true) → is_used exit ≡ true
     → brought exit load ≡ wire_out plan entry exit wire
 customer_brings plan vid pcp wire load customers bridges (Customer c) (Customer d) local k l q b u = l.0
@@ -45,8 +46,8 @@ customer_brings plan vid pcp wire load customers bridges (Provider f) exit local
 customer_brings plan vid pcp wire load customers bridges Unused exit local k l q b u = absurd k
 
 -- a bridge's frame brings this
-bridge_brings : (plan : Plan) (start : _) (vids : _) (wire : List ℕ) (load : Load) (customers bridges : Bool) (entry exit : Port) (local : LocalPort)
-    → IsKept plan entry (ToBridge start vids) → IsLoad customers bridges (ToBridge start vids) wire load
+bridge_brings : (plan : Plan) (start : PortState) (vids : List ℕ) (wire : List ℕ) (load : Load) (customers bridges : Bool) (entry exit : Port) (local : LocalPort)
+    → IsKept plan entry (ToBridge start vids) → IsLoad customers bridges (told (ToBridge start vids)) wire load
     → IsKept plan exit local → (is_to_customer local ≡ true → customers ≡ true) → is_used exit ≡ true
     → brought exit load ≡ wire_out plan entry exit wire
 bridge_brings plan start vids wire load customers bridges (Provider f) (Customer d) (ToCustomer v p) k l q c u = l.0 (c refl)
@@ -59,7 +60,7 @@ bridge_brings plan start vids wire load customers bridges Unused exit local k l 
 
 -- so at every kind of port
 brings : (plan : Plan) (entry : Port) (here : LocalPort) (wire : List ℕ) (load : Load) (customers bridges : Bool) (exit : Port) (local : LocalPort)
-    → IsKept plan entry here → IsLoad customers bridges here wire load → IsKept plan exit local
+    → IsKept plan entry here → IsLoad customers bridges (told here) wire load → IsKept plan exit local
     → (is_to_customer local ≡ true → customers ≡ true) → (is_to_bridge local ≡ true → bridges ≡ true) → is_used exit ≡ true
     → brought exit load ≡ wire_out plan entry exit wire
 brings plan entry (ToCustomer vid pcp) wire load customers bridges exit local k l q c b u = customer_brings plan vid pcp wire load customers bridges entry exit local k l q b u
@@ -67,7 +68,7 @@ brings plan entry (ToBridge start vids) wire load customers bridges exit local k
 brings plan entry ToNobody wire load customers bridges exit local k l q c b u = absurd l
 
 -- and so is the class
-class_is : (plan : Plan) (entry : Port) (here : LocalPort) (wire : List ℕ) (load : Load) (customers bridges : Bool) → IsKept plan entry here → IsLoad customers bridges here wire load
+class_is : (plan : Plan) (entry : Port) (here : LocalPort) (wire : List ℕ) (load : Load) (customers bridges : Bool) → IsKept plan entry here → IsLoad customers bridges (told here) wire load
     → (load.class ≡ class_of (priority_in entry wire)) × (load.class < 8)
 class_is plan (Customer c) (ToCustomer vid pcp) wire load customers bridges k l = (l.2 ∙ ap (λ p. class_of (cond (has_priority_tag wire) (priority_of wire) p)) k.1, l.3)
 class_is plan (Provider f) (ToBridge start vids) wire load customers bridges k l = (l.2, l.3)
@@ -79,7 +80,7 @@ class_is plan Unused (ToBridge start vids) wire load customers bridges k l = abs
 
 -- what is made of a frame by the port where it came in and by the kinds of ports is what it brings to each
 pub loaded : (plan : Plan) (b : ℕ) (ports : List LocalPort) (capacity limit : ℕ) (entry : Port) (here : LocalPort) (wire : List ℕ) (load : Load)
-    → IsConfigured plan b ports capacity limit → IsKept plan entry here → IsLoad (list_any is_to_customer ports) (list_any is_to_bridge ports) here wire load
+    → IsConfigured plan b ports capacity limit → IsKept plan entry here → IsLoad (list_any is_to_customer ports) (list_any is_to_bridge ports) (told here) wire load
     → IsLoadedAt plan b entry wire load
 loaded plan b ports capacity limit entry here wire load k e l =
     let class = class_is plan entry here wire load (list_any is_to_customer ports) (list_any is_to_bridge ports) e l in record {

@@ -8,19 +8,15 @@ use Rattle.pb_frame.proofs.Lists.{All-filter, list_any-found, and-left, and-righ
 use Rattle.pb_frame.specs.Frames.{dst_of, src_of, is_group}
 use Rattle.pb_frame.specs.Lists.{first}
 use Rattle.pb_frame.specs.Stations.{Sighting, standing, is_sighted}
-use Rattle.pb_frame.specs.Tags.{bare, untagged, tagged, has_priority_tag, priority_of}
 use Rattle.pb_frame.specs.declared.learnt.Learnt.{Learnt}
-use Rattle.pb_lan.specs.Ports.{Port, port_at, local_ports, vid_at}
-use Rattle.pb_lan.specs.Ports.Port.{Customer, Provider, Unused}
-use Rattle.pb_lan.specs.Queues.{is_full, vid_in, copy_of, class_of, priority_in, wire_out}
+use Rattle.pb_lan.specs.Ports.{port_at, local_ports}
+use Rattle.pb_lan.specs.Queues.{is_full, vid_in, copy_of}
 use Rattle.pb_lan.specs.Rules.{silent}
 use Rattle.pb_lan.specs.Shapes.{state_after, changes_of, is_forwarding}
 use Rattle.pb_lan.specs.Choice.{now_after, news_of, found}
 use Rattle.pb_lan.specs.BridgeLists.{ruling, Ruling, Follows, Fits, AreRefused}
 use Rattle.pb_lan.specs.BridgeLists.Ruling.{Carries, LearnsOnly}
 use Rattle.pb_lan.specs.declared.plan.Plan.{Plan}
-use Rattle.pb_lan.specs.declared.plan.CustomerPlan.{CustomerPlan}
-use Rattle.pb_lan.specs.declared.plan.End.{End}
 use Rattle.pb_lan.specs.declared.shape.PortState.{PortState}
 use Rattle.pb_lan.specs.declared.step.Item.{Item}
 use Rattle.pb_lan.specs.declared.step.NoRoom.{NoRoom}
@@ -30,11 +26,11 @@ use Rattle.pb_lan.specs.declared.step.Reason.TheVariants.{NotForwarding}
 use Rattle.pb_lan.specs.declared.step.Step.{Step}
 use Rattle.pb_lan.specs.declared.step.Step.TheVariants.{Receive}
 use Rattle.pb_relay.specs.declared.load.Load.{Load}
-use Rattle.pb_relay.specs.declared.ports.LocalPort.{LocalPort}
-use Rattle.pb_relay.specs.declared.ports.LocalPort.TheVariants.{ToCustomer, ToBridge, ToNobody}
+use Rattle.pb_relay.specs.Roles.{LocalPort}
+use Rattle.pb_relay.specs.Roles.LocalPort.{ToNobody}
 use Rattle.pb_relay.specs.Copies.{AreCopied, AreSeparate, copy_at}
 use Rattle.pb_relay.specs.Loads.{IsLoadedAt, is_choice, is_member_of}
-use Rattle.pb_relay.specs.LocalPorts.{IsKept, IsConfigured}
+use Rattle.pb_relay.specs.LocalPorts.{IsConfigured}
 use Rattle.pb_relay.specs.Standing.{IsStanding}
 use Rattle.pb_relay.specs.Tables.{HasLearnt, where_in}
 use Rattle.pb_relay.proofs.ChosenLemmas.{chosen_ports_are, all_up}
@@ -141,8 +137,7 @@ relayed plan b steps states queues new now table newer ports capacity limit port
     let ageing : 0 < plan.ageing = omega arith in
     let full = refusals_are plan b steps states queues now table capacity chosen refused s k.most z f.refusals in
     let fits = relayed_fits plan b steps states queues now table newer ports capacity limit port vid item learnt at chosen refused k s ageing r h e c full in
-    let a = carried plan (port_at plan b port) (state_after plan b steps port) item vid r in
-    (
+    let a = carried plan (port_at plan b port) (state_after plan b steps port) item vid r in (
       fits,
       after_relayed plan b steps states queues new now table newer port item learnt chosen refused capacity load.class (copy_at ports load item)
           s fits full f n q.class q.eight

@@ -1,9 +1,8 @@
 -- The learning table.
-use Rattle.std.proofs.Common.{◌==◌, ◌&&◌, eq-eqb, ◌≡◌, ℕ, ◌+◌, ◌-◌, ◌<◌, ◌≤◌, Bool, true, false, cond, not, nat_le, Some, None, List, [], ◌∷◌, ◌++◌, length, refl, sym, ap, ◌∙◌, subst, arith}
+use Rattle.std.proofs.Common.{◌==◌, ◌&&◌, eq-eqb, ◌≡◌, ℕ, ◌+◌, ◌-◌, ◌<◌, Bool, true, false, cond, not, nat_le, Some, List, [], ◌∷◌, ◌++◌, length, refl, sym, ap, ◌∙◌, subst, arith}
 use Rattle.std.proofs.lemmas.Bool.{eqb-true}
 use Rattle.std.proofs.lemmas.Bool.Decides.{nat_tests}
 use Rattle.std.specs.List.{filter}
-use Rattle.std.specs.Option.{option_map}
 use Rattle.std.specs.declared.option.Option.{Option}
 use Rattle.pb_fdb.proofs.LawLemmas.{live-with_room}
 use Rattle.pb_fdb.specs.Tables.{Table, sighting_at, where_in, is_full, IsAnswer, with_room, learnt_sightings, learnt_table, expired, flushed}

@@ -1,4 +1,5 @@
 pub mod Classes
+pub mod Roles
 pub mod Kinds
 pub mod LocalPorts
 pub mod Standing

@@ -8,7 +8,7 @@ ghost use Rattle.pb_relay.specs.Changes.{HasTicked, HasSet, unmoved, moved_by_se
 
 use crate::bridge::{Bridge, append};
 use crate::fault::BridgeFault;
-use crate::ports::LocalPort;
+use crate::ports::Local;
 use pb_fdb::Fdb;
 use pb_frame::{Memory, Seq};
 use pb_lan::{Moved, PortState, Step};
@@ -128,11 +128,11 @@ fn moved_to(
 }
 
 /// The state of a port that is set up or down.
-fn state_set(local: &LocalPort, up: bool) -> PortState
-    ensures { result ≡ state_set local.now up }
+fn state_set(local: Local, up: bool) -> PortState
+    ensures { result ≡ state_set local up }
 {
     match local {
-        LocalPort::ToBridge { start, vids: _ } if up => *start,
+        Local::Bridge { start } if up => start,
         _ => PortState::Discarding,
     }
 }

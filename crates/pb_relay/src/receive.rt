@@ -56,7 +56,7 @@ impl Bridge {
     {
         let ports = &self.ports;
         let place = port as usize - 1;
-        rule(ports.at(place), self.states[place], item)
+        rule(ports, place, self.states[place], item)
     }
 
     /// Appends a step that tells that the item goes nowhere.
@@ -144,19 +144,12 @@ impl Bridge {
         let frame = item.wire.as_slice();
         let learnt = self.table.learn(vid, source_of(frame), port, self.clock);
         let at = sought(&self.table, vid, frame, self.clock);
-        choose(
-            &mut room.chosen,
-            self.ports.as_slice(),
-            &self.states,
-            port,
-            vid,
-            at,
-        );
+        choose(&mut room.chosen, &self.ports, &self.states, port, vid, at);
         queue_copies(
             &mut self.queues,
             &mut room.refused,
             room.chosen.as_slice(),
-            self.ports.as_slice(),
+            &self.ports,
             self.capacity,
             &load,
             &item,

@@ -74,10 +74,7 @@ impl Spare {
 }
 
 /// A list with nothing in it and room for a word of each local port: the spare one.
-fn emptied(
-    alloc: Global,
-    spare: &mut Vec<(u8, NoRoom)>,
-) -> Result<Vec<(u8, NoRoom)>, Memory>
+fn emptied(alloc: Global, spare: &mut Vec<(u8, NoRoom)>) -> Result<Vec<(u8, NoRoom)>, Memory>
     ensures empty { IfOk result (λ list. list.items ≡ []) }
     ensures room { IfOk result (λ list. 16 ≤ vec_capacity list) }
 {
@@ -88,11 +85,7 @@ fn emptied(
 }
 
 /// The list. One with nothing in it stays behind as the spare one, and the other takes no memory.
-fn given(
-    alloc: Global,
-    spare: &mut Vec<(u8, NoRoom)>,
-    list: Vec<(u8, NoRoom)>,
-) -> Vec<(u8, NoRoom)>
+fn given(alloc: Global, spare: &mut Vec<(u8, NoRoom)>, list: Vec<(u8, NoRoom)>) -> Vec<(u8, NoRoom)>
     ensures { result.items ≡ list.items }
 {
     if !list.is_empty() {

@@ -10,13 +10,12 @@ use Rattle.pb_lan.specs.declared.step.Outcome.{Outcome}
 use Rattle.pb_lan.specs.declared.step.Outcome.TheVariants.{Relayed}
 use Rattle.pb_lan.specs.declared.step.Step.{Step}
 use Rattle.pb_lan.specs.declared.step.Step.TheVariants.{Receive}
-use Rattle.pb_relay.specs.declared.ports.LocalPort.{LocalPort}
 use Rattle.pb_relay.specs.Copies.{AreCopied, copy_at}
 use Rattle.pb_relay.specs.Loads.{IsLoadedAt, is_choice}
 use Rattle.pb_relay.specs.Standing.{BridgeView, IsStanding, with_step}
 use Rattle.pb_fdb.specs.Tables.{sighting_at, where_in as place_in}
 use Rattle.pb_relay.proofs.TableLemmas.{has_learnt, table_learnt, found_in}
-use Rattle.pb_relay.specs.Tables.{HasLearnt, where_in}
+use Rattle.pb_relay.specs.Tables.{HasLearnt}
 use Rattle.pb_relay.proofs.EntryLemmas.{IsAdmitted, carried}
 use Rattle.pb_relay.proofs.ReceiveLemmas.{relayed}
 use Rattle.pb_relay.proofs.StandingLemmas.{capacity-small}
@@ -65,9 +64,9 @@ whole c =
     ∙ ap (λ w. cond (is_group (dst_of w)) None (place_in c.learn-learnt.new.self c.self.inside.clock c.args.vid (dst_of w))) c.as_slice-frame.ensures
     ∙ ap (λ o. cond (is_group (dst_of c.args.item.wire)) None o) (found_in c.self.inside.plan c.self.inside.clock c.args.vid (dst_of c.args.item.wire) c.learn-learnt.new.self newer.ageing) in
     let chosen : c.choose.new.chosen.items ≡ filter (is_choice c.self.inside.ports c.self.inside.states c.args.port c.args.vid c.sought-at.result) local_ports =
-    c.choose.ensures.chosen ∙ ap (λ (ps : List LocalPort). filter (is_choice ps c.self.inside.states c.args.port c.args.vid c.sought-at.result) local_ports) c.as_slice.ensures in
-    let copied = subst (λ (ps : List LocalPort). AreCopied c.self.inside.capacity c.args.load.class (copy_at ps c.args.load c.args.item) c.self.inside.queues.items c.choose.new.chosen.items c.queue_copies.new.refused.items c.queue_copies.new.queues.items) c.as_slice-3.ensures
-    (subst (λ (qs : List ℕ). AreCopied c.self.inside.capacity c.args.load.class (copy_at c.as_slice-3.result.now c.args.load c.args.item) c.self.inside.queues.items qs c.queue_copies.new.refused.items c.queue_copies.new.queues.items) c.as_slice-2.ensures.value c.queue_copies.ensures.copied) in
+    c.choose.ensures.chosen in
+    let copied = subst (λ (qs : List ℕ). AreCopied c.self.inside.capacity c.args.load.class (copy_at c.self.inside.ports c.args.load c.args.item) c.self.inside.queues.items qs c.queue_copies.new.refused.items c.queue_copies.new.queues.items)
+    c.as_slice.ensures.value c.queue_copies.ensures.copied in
     relayed c.self.inside.plan c.self.inside.number c.self.inside.steps.items c.self.inside.states c.self.inside.queues.items c.queue_copies.new.queues.items
     c.self.inside.clock c.self.inside.table.sightings c.learn-learnt.new.self.sightings c.self.inside.ports c.self.inside.capacity c.self.inside.limit c.args.port c.args.vid c.args.item c.args.load
     c.learn-learnt.result c.sought-at.result c.choose.new.chosen.items c.queue_copies.new.refused.items

@@ -1,14 +1,14 @@
 use Rattle.std.proofs.Common.{List, ap, ◌∙◌, refl, sym, subst, map, arith}
-use Rattle.pb_relay.specs.declared.ports.LocalPort.{LocalPort}
+use Rattle.pb_fdb.specs.Tables.{Table}
+use Rattle.pb_relay.specs.Roles.{LocalPort, told}
+use Rattle.pb_relay.specs.Starts.{KeepsPorts, first_state}
 use Rattle.pb_relay.proofs.StartLemmas.{started}
 use Rattle.pb_relay.proofs.bridge.Bridge.new.Goals as goal
-use Rattle.pb_fdb.specs.Tables.{Table}
-use Rattle.pb_relay.specs.Starts.{first_state, KeepsPorts}
 
-pub invariant_of-result : goal.invariant_of-result
-invariant_of-result c =
-    let keeps : KeepsPorts c.args.plan.now c.args.number c.of.result 16 = subst (λ (ps : List LocalPort). KeepsPorts c.args.plan.now c.args.number ps 16) (sym c.of.ensures) c.in_ok-ports.ensures in
-    let states = c.start_states-states.ensures ∙ ap (map first_state) (c.as_slice.ensures.value ∙ sym c.of.ensures) in
+pub invariant_of-result-2 : goal.invariant_of-result-2
+invariant_of-result-2 c =
+    let keeps = subst (λ (ps : List LocalPort). KeepsPorts c.args.plan.now c.args.number ps 16) (sym c.ports.view_is) c.in_ok-ports.ensures in
+    let states = c.start_states-states.ensures ∙ ap (map (λ (l : LocalPort). first_state (told l))) (sym c.ports.view_is) in
     rw (c.in_ok-clone.ensures.cases, c.new-3.ensures.items) (
       record {
         sound = c.requires.sound;
@@ -18,7 +18,7 @@ invariant_of-result c =
         most = c.capacity.ensures;
         steps = refl;
       },
-      started c.args.plan.now c.args.number c.of.result c.start_states-states.result c.in_ok-empty_queues.field-0.items c.new.result.sightings
+      started c.args.plan.now c.args.number _ c.start_states-states.result c.in_ok-empty_queues.field-0.items c.new.result.sightings
           c.requires.fixed keeps states c.in_ok-empty_queues.ensures (ap (λ (t : Table). t.sightings) c.new.ensures),
       record { within = omega arith; reserved = λ t. absurd cc },
       rw c.new.ensures (record { limit = refl; ageing = refl; in_time = omega arith }),
