@@ -1,14 +1,11 @@
 -- Lists of entries, and the sightings that they tell.
-use Rattle.std.proofs.Common.{◌==◌, ◌&&◌, eq-eqb, nat_le, ◌≡◌, ℕ, suc, ◌<◌, ◌≤◌, Bool, true, false, cond, not, Some, List, [], ◌∷◌, ◌++◌, length, refl, sym, ap, ◌∙◌, arith}
+use Rattle.std.proofs.Common.{◌==◌, ◌&&◌, eq-eqb, nat_le, ◌≡◌, ℕ, suc, ◌<◌, ◌≤◌, Bool, true, false, cond, not, List, [], ◌∷◌, ◌++◌, length, refl, sym, ap, ◌∙◌, arith}
 use Rattle.std.proofs.lemmas.List.{length-map, map-append}
 use Rattle.std.proofs.lemmas.Bool.{eqb-true}
 use Rattle.std.specs.List.{filter}
-use Rattle.std.specs.Option.{option_map}
-use Rattle.pb_frame.proofs.Lists.{filter-same}
 use Rattle.pb_frame.specs.Admission.{same}
 use Rattle.pb_frame.specs.Stations.{Sighting, is_fresh, is_sighted, overrides, after}
 use Rattle.pb_frame.specs.Stations.News.{Seen}
-use Rattle.pb_frame.specs.Lists.{first}
 use Rattle.pb_fdb.specs.declared.entry.Entry.{Entry}
 use Rattle.pb_fdb.specs.Entries.{sighting_of, sightings, table_of}
 use Rattle.pb_fdb.specs.Tables.{with_room}
@@ -17,15 +14,6 @@ use Rattle.pb_fdb.specs.Tables.{with_room}
 pub filter-shorter : {X : Type 0} (p : X → Bool) (xs : List X) → length (filter p xs) ≤ length xs
 filter-shorter p [] = omega arith
 filter-shorter p (x ∷ xs) = elim (p x) as (λ b. length (cond b (x ∷ filter p xs) (filter p xs)) ≤ suc (length xs)) [ true ↦ omega (arith, filter-shorter p xs) | false ↦ omega (arith, filter-shorter p xs) ]
-
--- and where it is as long, all passes
-pub filter-whole : {X : Type 0} (p : X → Bool) (xs : List X) → length xs ≤ length (filter p xs) → filter p xs ≡ xs
-filter-whole p [] h = refl
-filter-whole p (x ∷ xs) h =
-    elim (p x) as (λ b. suc (length xs) ≤ length (cond b (x ∷ filter p xs) (filter p xs)) → cond b (x ∷ filter p xs) (filter p xs) ≡ x ∷ xs) [
-      | true ↦ λ h. ap (λ zs. x ∷ zs) (filter-whole p xs (omega arith))
-      | false ↦ λ h. absurd (omega (arith, filter-shorter p xs))
-    ] h
 
 -- a test of sightings is a test of entries
 pub filter-map : (p : Sighting → Bool) (es : List Entry) → filter p (sightings es) ≡ sightings (filter (λ e. p (sighting_of e)) es)
@@ -38,7 +26,7 @@ pub filter-map-length : (p : Sighting → Bool) (es : List Entry) → length (fi
 filter-map-length p es = ap length (filter-map p es) ∙ length-map (filter (λ e. p (sighting_of e)) es) sighting_of
 
 -- equality of numbers goes both ways
-eqb-symm : (a b : ℕ) → (a == b) ≡ (b == a)
+pub eqb-symm : (a b : ℕ) → (a == b) ≡ (b == a)
 eqb-symm a b =
     elim (a == b) as (λ t. (a == b) ≡ t → t ≡ (b == a)) [
       | true ↦ λ e. sym (eq-eqb b a (sym (eqb-true a b e)))
@@ -49,7 +37,7 @@ eqb-symm a b =
     ] refl
 
 -- and so does that of texts
-same-symm : (a b : List ℕ) → same a b ≡ same b a
+pub same-symm : (a b : List ℕ) → same a b ≡ same b a
 same-symm [] [] = refl
 same-symm [] (y ∷ ys) = refl
 same-symm (x ∷ xs) [] = refl
@@ -58,31 +46,6 @@ same-symm (x ∷ xs) (y ∷ ys) = ap (λ t. t && same xs ys) (eqb-symm x y) ∙ 
 -- a sighting is overridden by those of its own station
 pub overrides-is_sighted : (s t : Sighting) → overrides t (Seen s) ≡ is_sighted s.vid s.mac t
 overrides-is_sighted s t = ap (λ b. b && same s.mac t.mac) (eqb-symm s.vid t.vid) ∙ ap (λ b. (t.vid == s.vid) && b) (same-symm s.mac t.mac)
-
--- a station that is found leaves room for itself
-found_shorter : (ageing now : ℕ) (p : Sighting → Bool) (es : List Entry) (at : ℕ)
-    → option_map (λ s. s.port) (first p (filter (is_fresh ageing now) (sightings es))) ≡ Some at → length (filter (λ e. not (p (sighting_of e))) es) < length es
-found_shorter ageing now p [] at h = cc
-found_shorter ageing now p (e ∷ es) at h =
-    elim (p (sighting_of e))
-    as (λ b. p (sighting_of e) ≡ b → length (cond (not b) (e ∷ filter (λ e. not (p (sighting_of e))) es) (filter (λ e. not (p (sighting_of e))) es)) < suc (length es)) [
-      | true ↦ λ t. omega (arith, filter-shorter (λ e. not (p (sighting_of e))) es)
-      | false ↦ λ t. omega (arith, found_shorter ageing now p es at (skip t (is_fresh ageing now (sighting_of e)) h))
-    ] refl
-  where
-    skip : p (sighting_of e) ≡ false → (b : Bool)
-        → option_map (λ s. s.port) (first p (cond b (sighting_of e ∷ filter (is_fresh ageing now) (sightings es)) (filter (is_fresh ageing now) (sightings es)))) ≡ Some at
-        → option_map (λ s. s.port) (first p (filter (is_fresh ageing now) (sightings es))) ≡ Some at
-    skip t true h = ap (λ b. option_map (λ s. s.port) (cond b (Some (sighting_of e)) (first p (filter (is_fresh ageing now) (sightings es))))) (sym t) ∙ h
-    skip t false h = h
-
--- so its new sighting fits where they fit
-pub found_fits : (ageing now : ℕ) (s : Sighting) (es : List Entry) (at n : ℕ)
-    → option_map (λ s. s.port) (first (is_sighted s.vid s.mac) (filter (is_fresh ageing now) (sightings es))) ≡ Some at → length es ≤ n
-    → length (filter (λ e. not (overrides (sighting_of e) (Seen s))) es) < n
-found_fits ageing now s es at n h l =
-    let f = found_shorter ageing now (is_sighted s.vid s.mac) es at h in
-    rw (filter-same (λ e. not (overrides (sighting_of e) (Seen s))) (λ e. not (is_sighted s.vid s.mac (sighting_of e))) (λ e. ap not (overrides-is_sighted s (sighting_of e))) es) (omega (arith, f))
 
 -- what passes a test fits where the list fits
 pub filter_fits : {X : Type 0} (p : X → Bool) (xs : List X) (n : ℕ) → length xs < n → length (filter p xs) < n

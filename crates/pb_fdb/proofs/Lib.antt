@@ -1,3 +1,6 @@
 pub mod EntryLemmas
-pub mod RoomLemmas
 pub mod LawLemmas
+pub mod JournalLemmas
+pub mod StationLemmas
+pub mod OrderLemmas
+pub mod LearnLemmas

@@ -1,6 +1,8 @@
 -- Entries as sightings.
-use Rattle.std.specs.Prelude.{ℕ, List, map}
-use Rattle.pb_frame.specs.Stations.{Sighting}
+use Rattle.std.specs.Prelude.{ℕ, ◌<◌, ◌≤◌, List, [], ◌∷◌, length, map, nat_le, not, if◌then◌else◌}
+use Rattle.std.specs.List.{AllByRecursion, filter}
+use Rattle.pb_frame.specs.Stations.{Sighting, is_fresh, overrides}
+use Rattle.pb_frame.specs.Stations.News.{Seen}
 use Rattle.pb_fdb.specs.Tables.{Table}
 use Rattle.pb_fdb.specs.declared.entry.Entry.{Entry}
 
@@ -15,3 +17,27 @@ sightings es = map sighting_of es
 -- the table that these entries tell
 abbrev pub table_of : ℕ → ℕ → ℕ → List Entry → Table
 table_of limit ageing clock es = record { limit = limit; ageing = ageing; clock = clock; sightings = sightings es }
+
+-- the entries less those of whose station the new one is
+abbrev pub without_station : Entry → List Entry → List Entry
+without_station new es = filter (λ e. not (overrides (sighting_of e) (Seen (sighting_of new)))) es
+
+-- the entries that aren't too old
+abbrev pub fresh_entries : ℕ → ℕ → List Entry → List Entry
+fresh_entries ageing now es = filter (λ e. is_fresh ageing now (sighting_of e)) es
+
+-- the entries that stay where one more is to come: where they are as many as may be, those that aren't too old
+abbrev pub entries_with_room : ℕ → ℕ → ℕ → List Entry → List Entry
+entries_with_room limit ageing now es = if nat_le limit (length es) then fresh_entries ageing now es else es
+
+-- the entries stand in the order of learning
+abbrev pub InOrder : List Entry → Type 0
+InOrder [] = Unit {0}
+InOrder (e ∷ es) = AllByRecursion (λ f. e.learnt ≤ f.learnt) es × InOrder es
+
+-- a table keeps these entries: no more than the limit, in order, none learnt later than its clock
+pub record IsKept (limit ageing clock : ℕ) (es : List Entry) : Type 0 where
+  pub ageing_is : 0 < ageing
+  pub fits : length es ≤ limit
+  pub order : InOrder es
+  pub before : AllByRecursion (λ e. e.learnt ≤ clock) es

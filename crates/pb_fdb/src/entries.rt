@@ -3,15 +3,18 @@
 ghost use Rattle.std.specs.Iterator.{YieldsFirstBy, item_count};
 ghost use Rattle.std.specs.Prelude.{◌≡◌};
 ghost use Rattle.pb_fdb.specs.Entries.{sighting_of, sightings};
+ghost use Rattle.pb_fdb.specs.Journals.{left_in};
 
 use crate::entry::Entry;
+use crate::station::{LastSeen, Station};
+use lru::Iter;
 use std::marker::Model;
 
 /// The entries of a table that are left to come, the oldest learning first. Contracts see the
 /// sightings that they tell.
 #[derive(Drop)]
 pub struct Entries<'a> {
-    rest: &'a [Entry],
+    rest: Option<Iter<'a, Station, LastSeen>>,
 }
 
 impl<'a> Model for Entries<'a> {
@@ -21,14 +24,15 @@ impl<'a> Model for Entries<'a> {
     ghost Value = { List Sighting };
 
     ghost use Rattle.pb_fdb.specs.Entries.{sightings};
+    ghost use Rattle.pb_fdb.specs.Journals.{left_in};
 
-    ghost view = { λ e. sightings e.rest.now };
+    ghost view = { λ e. sightings (left_in e.rest) };
 }
 
 impl<'a> Entries<'a> {
-    /// All entries of the slice.
-    pub(crate) fn of(rest: &'a [Entry]) -> Entries<'a>
-        ensures { result ≡ sightings rest.now }
+    /// All entries of a cache's pairs, which have the latest learning first.
+    pub(crate) fn of(rest: Option<Iter<'a, Station, LastSeen>>) -> Entries<'a>
+        ensures { result ≡ sightings (left_in rest.entry) }
     {
         Entries { rest }
     }
@@ -42,8 +46,15 @@ impl<'a> Iterator for Entries<'a> {
     ghost remaining = { item_count (λ rest. rest) };
 
     fn next(&mut self) -> Option<Entry> {
-        let (first, rest) = self.rest.split_first()?;
-        self.rest = rest;
-        Some(*first)
+        let Some(rest) = &mut self.rest else {
+            return None;
+        };
+        let (station, seen) = rest.next_back()?;
+        Some(Entry {
+            vid: station.vid,
+            mac: station.mac,
+            port: seen.port,
+            learnt: seen.learnt,
+        })
     }
 }

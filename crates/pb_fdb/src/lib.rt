@@ -4,7 +4,9 @@
 
 mod entries;
 mod entry;
+mod journal;
 mod law;
+mod station;
 mod table;
 
 pub use entries::Entries;

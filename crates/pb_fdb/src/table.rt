@@ -1,18 +1,17 @@
 //! Where stations were seen.
 
-ghost use Rattle.std.specs.List.{filter};
-ghost use Rattle.std.specs.Prelude.{◌≡◌, ◌<◌, ◌≤◌, ◌&&◌, ◌==◌, ◌++◌, ◌∷◌, [], not, length, nat_le, OnOk, OnErr, if◌then◌else◌, vec_len, vec_capacity};
+ghost use Rattle.std.specs.List.{AllByRecursion};
+ghost use Rattle.std.specs.Prelude.{◌≡◌, ◌<◌, ◌≤◌, ◌++◌, ◌∷◌, [], length, nat_le, OnOk, OnErr, if◌then◌else◌};
 ghost use Rattle.pb_frame.specs.Frames.{is_group};
-ghost use Rattle.pb_frame.specs.Stations.{is_sighted, is_fresh, overrides};
-ghost use Rattle.pb_frame.specs.Stations.News.{Seen};
-ghost use Rattle.pb_fdb.specs.Entries.{sighting_of};
-ghost use Rattle.pb_fdb.specs.Rooms.{IsRoom};
+ghost use Rattle.pb_frame.specs.Stations.{is_fresh};
+ghost use Rattle.pb_fdb.specs.Entries.{sighting_of, without_station, fresh_entries, entries_with_room, InOrder};
 ghost use Rattle.pb_fdb.specs.Tables.{empty_table, sighting_at, where_in, is_full, expired, flushed, learnt_table, IsAnswer};
 
 use crate::entries::Entries;
 use crate::entry::Entry;
+use crate::journal::Journal;
 use pb_frame::{Learnt, Mac};
-use std::alloc::Global;
+use std::alloc::{AllocError, Global};
 use std::marker::Model;
 
 /// The filtering database: where stations were seen last, by service and address, the oldest learning
@@ -22,34 +21,19 @@ pub struct Fdb {
     limit: usize,
     ageing: u32,
     clock: u32,
-    entries: Vec<Entry>,
+    journal: Journal,
 }
 
 impl Model for Fdb {
-    ghost use Rattle.std.specs.Prelude.{◌<◌, ◌≤◌, length};
     ghost use Rattle.pb_fdb.specs.Tables.{Table};
 
     ghost Value = { Table };
 
-    ghost use Rattle.pb_fdb.specs.Entries.{table_of};
+    ghost use Rattle.pb_fdb.specs.Entries.{table_of, IsKept};
 
-    ghost view = { λ f. table_of f.limit f.ageing f.clock f.entries.items };
+    ghost view = { λ f. table_of f.limit f.ageing f.clock f.journal };
 
-    ghost invariant = { λ f. (0 < f.ageing) × (length f.entries.items ≤ f.limit) };
-}
-
-/// The entry is of the station in the service.
-fn is_sighted(entry: &Entry, vid: u16, mac: Mac) -> bool
-    ensures { result ≡ is_sighted vid mac.0 (sighting_of entry.now) }
-{
-    entry.vid == vid && entry.mac.0 == mac.0
-}
-
-/// The new entry takes the place of this one.
-fn is_overridden(entry: &Entry, new: &Entry) -> bool
-    ensures { result ≡ overrides (sighting_of entry.now) (Seen (sighting_of new.now)) }
-{
-    new.vid == entry.vid && new.mac.0 == entry.mac.0
+    ghost invariant = { λ f. IsKept f.limit f.ageing f.clock f.journal };
 }
 
 /// The entry is no older than the ageing time allows.
@@ -59,51 +43,57 @@ fn is_fresh(entry: &Entry, ageing: u32, now: u32) -> bool
     now.saturating_sub(entry.learnt) < ageing
 }
 
-/// Forgets the stations that weren't seen for the ageing time.
-fn forget_old(entries: &mut Vec<Entry>, ageing: u32, now: u32)
-    ensures items { entries.new.items ≡ filter (λ e. is_fresh ageing now (sighting_of e)) entries.old.items }
-    ensures capacity { vec_capacity entries.old ≤ vec_capacity entries.new }
+/// Forgets the stations that weren't seen for the ageing time: they come first.
+fn forget_old(journal: &mut Journal, ageing: u32, now: u32)
+    requires { InOrder journal.old }
+    ensures { journal.new ≡ fresh_entries ageing now journal.old }
 {
-    entries.retain(|entry| is_fresh(entry, ageing, now));
-}
-
-/// Makes room for one more entry, if fewer than the limit are live.
-fn make_room(entries: &mut Vec<Entry>, limit: usize, ageing: u32, now: u32) -> Result<(), Learnt>
-    requires { vec_len entries.old ≤ limit }
-    ensures ok { OnOk result (entries.new.items ≡ (if nat_le limit (length entries.old.items) then filter (λ e. is_fresh ageing now (sighting_of e)) entries.old.items else entries.old.items)) }
-    ensures err { OnErr result (entries.new.items ≡ entries.old.items) }
-    ensures answer { IsRoom (nat_le limit (length (filter (λ e. is_fresh ageing now (sighting_of e)) entries.old.items))) result }
-    ensures room { OnOk result (vec_len entries.new < vec_capacity entries.new) }
-    ensures fits { OnOk result (vec_len entries.new < limit) }
-{
-    if entries.len() >= limit {
-        forget_old(entries, ageing, now);
-        if entries.len() >= limit {
-            return Err(Learnt::Full);
+    while let Some(entry) = journal.oldest() {
+        if is_fresh(&entry, ageing, now) {
+            return;
         }
-        return Ok(());
+        journal.forget_oldest();
     }
-    if entries.reserve(1).is_err() {
-        return Err(Learnt::Memory);
+}
+
+/// Forgets the old ones where there were as many entries as may be.
+fn sweep(journal: &mut Journal, full: bool, ageing: u32, now: u32)
+    requires { InOrder journal.old }
+    ensures { journal.new ≡ (if full then fresh_entries ageing now journal.old else journal.old) }
+{
+    if full {
+        forget_old(journal, ageing, now);
     }
+}
+
+/// As many stations are live as may be kept. They all are where the oldest is.
+fn is_full(journal: &Journal, limit: usize, ageing: u32, now: u32) -> bool
+    requires order { InOrder journal.now }
+    requires fits { length journal.now ≤ limit }
+    ensures { result ≡ nat_le limit (length (fresh_entries ageing now journal.now)) }
+{
+    if journal.len() < limit {
+        return false;
+    }
+    match journal.oldest() {
+        Some(entry) => is_fresh(&entry, ageing, now),
+        None => true,
+    }
+}
+
+/// Puts an entry last, in place of those of its station, and forgets the old ones where there were as
+/// many entries as may be. Memory is asked for first, so that nothing is forgotten where it is short.
+fn add(journal: &mut Journal, entry: Entry, limit: usize, ageing: u32) -> Result<(), AllocError>
+    requires order { InOrder journal.old }
+    requires before { AllByRecursion (λ e. e.learnt ≤ entry.learnt) journal.old }
+    requires ageing { 0 < ageing }
+    ensures ok { OnOk result (journal.new ≡ without_station entry (entries_with_room limit ageing entry.learnt journal.old) ++ entry ∷ []) }
+    ensures err { OnErr result (journal.new ≡ journal.old) }
+{
+    let full = journal.len() >= limit;
+    journal.replace(entry)?;
+    sweep(journal, full, ageing, entry.learnt);
     Ok(())
-}
-
-/// Forgets what the new entry takes the place of.
-fn forget(entries: &mut Vec<Entry>, new: &Entry)
-    ensures items { entries.new.items ≡ filter (λ e. not (overrides (sighting_of e) (Seen (sighting_of new.now)))) entries.old.items }
-    ensures capacity { vec_capacity entries.old ≤ vec_capacity entries.new }
-{
-    entries.retain(|entry| !is_overridden(entry, new));
-}
-
-/// Puts an entry at the end, in place of those of its station.
-fn replace(entries: &mut Vec<Entry>, new: Entry)
-    requires { length (filter (λ e. not (overrides (sighting_of e) (Seen (sighting_of new)))) entries.old.items) < vec_capacity entries.old }
-    ensures { entries.new.items ≡ filter (λ e. not (overrides (sighting_of e) (Seen (sighting_of new)))) entries.old.items ++ new ∷ [] }
-{
-    forget(entries, &new);
-    let _ = entries.push(new);
 }
 
 impl Fdb {
@@ -117,7 +107,7 @@ impl Fdb {
             limit,
             ageing,
             clock: 0,
-            entries: Vec::new(alloc),
+            journal: Journal::new(alloc),
         }
     }
 
@@ -125,10 +115,9 @@ impl Fdb {
     pub fn find(&self, vid: u16, mac: Mac, now: u32) -> Option<u8>
         ensures { result ≡ where_in self.now now vid mac.0 }
     {
-        for entry in &self.entries {
-            if is_fresh(entry, self.ageing, now) && is_sighted(entry, vid, mac) {
-                return Some(entry.port);
-            }
+        let entry = self.journal.find(vid, mac)?;
+        if is_fresh(&entry, self.ageing, now) {
+            return Some(entry.port);
         }
         None
     }
@@ -155,23 +144,24 @@ impl Fdb {
             port,
             learnt: now,
         };
-        match self.find(vid, mac, now) {
-            None => {
-                let room = make_room(&mut self.entries, self.limit, self.ageing, now);
-                if let Err(answer) = room {
-                    return answer;
-                }
-                replace(&mut self.entries, entry);
-                Learnt::New
+        let full = self.journal.len() >= self.limit;
+        let Some(old) = self.journal.renew(entry) else {
+            if is_full(&self.journal, self.limit, self.ageing, now) {
+                return Learnt::Full;
             }
-            Some(at) => {
-                replace(&mut self.entries, entry);
-                if at == port {
-                    Learnt::Kept
-                } else {
-                    Learnt::Moved
-                }
-            }
+            let Ok(()) = add(&mut self.journal, entry, self.limit, self.ageing) else {
+                return Learnt::Memory;
+            };
+            return Learnt::New;
+        };
+        if !is_fresh(&old, self.ageing, now) {
+            sweep(&mut self.journal, full, self.ageing, now);
+            return Learnt::New;
+        }
+        if old.port == port {
+            Learnt::Kept
+        } else {
+            Learnt::Moved
         }
     }
 
@@ -179,7 +169,7 @@ impl Fdb {
     pub fn flush(&mut self, port: u8)
         ensures { self.new ≡ flushed self.old port }
     {
-        self.entries.retain(|entry| port != entry.port);
+        self.journal.flush(port);
     }
 
     /// Forgets the stations that were not seen for the ageing time. The moment is no earlier than any
@@ -189,13 +179,13 @@ impl Fdb {
         ensures { self.new ≡ expired self.old now }
     {
         self.clock = now;
-        forget_old(&mut self.entries, self.ageing, now);
+        forget_old(&mut self.journal, self.ageing, now);
     }
 
     /// The entries that are kept, those too old but not yet dropped among them, the oldest learning first.
     pub fn entries(&self) -> Entries<'_>
         ensures { result ≡ self.now.sightings }
     {
-        Entries::of(self.entries.as_slice())
+        self.journal.entries()
     }
 }

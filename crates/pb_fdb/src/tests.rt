@@ -1,5 +1,9 @@
 //! Runs with ample memory.
 
+mod both;
+mod plain;
+
+use crate::tests::both::{Answers, Both, Dice};
 use crate::{Entry, Fdb, Learnt};
 use pb_frame::Mac;
 
@@ -75,4 +79,16 @@ fn the_table_holds_4096_stations(rt: HostRuntime) {
     assert_eq!(rt; table.learn(200, station(7), 4, 9), Learnt::Moved);
     assert_eq!(rt; table.learn(200, station(4096), 3, 10), Learnt::New);
     assert_eq!(rt; table.entries().count(), 2);
+}
+
+#[test]
+fn ten_thousand_commands_leave_what_a_plain_list_has(rt: HostRuntime) {
+    let mut both = Both::new(rt.alloc(), 12, 40);
+    let mut dice = Dice(1);
+    let mut answers = Answers::none();
+    for _ in 0..10000 {
+        both.step(&rt, &mut dice, &mut answers);
+    }
+    assert!(rt; answers.new > 100 && answers.kept > 100 && answers.moved > 100);
+    assert!(rt; answers.full > 100 && answers.group > 100 && both.plain.sweeps > 100);
 }

@@ -18,8 +18,8 @@ use Rattle.pb_lan.specs.declared.shape.PortState.{PortState}
 use Rattle.pb_lan.specs.declared.shape.PortState.TheVariants.{Discarding, Learning, Forwarding}
 use Rattle.pb_lan.specs.declared.step.Item.{Item}
 use Rattle.pb_lan.specs.declared.step.Reason.{Reason}
-use Rattle.pb_relay.specs.declared.ports.LocalPort.{LocalPort}
-use Rattle.pb_relay.specs.declared.ports.LocalPort.TheVariants.{ToCustomer, ToBridge, ToNobody}
+use Rattle.pb_relay.specs.Roles.{LocalPort, told}
+use Rattle.pb_relay.specs.Roles.LocalPort.{ToCustomer, ToBridge, ToNobody}
 use Rattle.pb_relay.specs.Loads.{IsLoadable}
 use Rattle.pb_relay.specs.LocalPorts.{IsKept}
 use Rattle.pb_relay.specs.Verdicts.{bridge_cases}
@@ -136,7 +136,7 @@ sound_port plan b p s =
 
 -- such a frame can be made ready for other ports
 pub loadable : (plan : Plan) (port : Port) (local : LocalPort) (state : PortState) (item : Item) (v : ℕ) → IsSound plan → IsSoundPort plan port → IsKept plan port local
-    → ruling_by silent plan port state item ≡ Carries v → IsLoadable local item.wire
+    → ruling_by silent plan port state item ≡ Carries v → IsLoadable (told local) item.wire
 loadable plan (Customer c) (ToCustomer vid pcp) state item v s p k h =
     let small = vid_at-small plan c s in
     let priority = p.priority in

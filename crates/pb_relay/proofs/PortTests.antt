@@ -6,8 +6,8 @@ use Rattle.pb_lan.specs.declared.plan.Plan.{Plan}
 use Rattle.pb_relay.proofs.VerdictLemmas.{kept_port}
 use Rattle.pb_relay.specs.LocalPorts.{IsKept, IsConfigured}
 use Rattle.pb_relay.specs.Verdicts.{is_to_somebody}
-use Rattle.pb_relay.specs.declared.ports.LocalPort.{LocalPort}
-use Rattle.pb_relay.specs.declared.ports.LocalPort.TheVariants.{ToCustomer, ToBridge, ToNobody}
+use Rattle.pb_relay.specs.Roles.{LocalPort}
+use Rattle.pb_relay.specs.Roles.LocalPort.{ToCustomer, ToBridge, ToNobody}
 
 -- another bridge is there
 abbrev pub is_to_bridge : LocalPort → Bool

@@ -8,19 +8,15 @@ use Rattle.pb_frame.proofs.Lists.{All-filter, list_any-found, and-left, and-righ
 use Rattle.pb_frame.specs.Frames.{dst_of, src_of, is_group}
 use Rattle.pb_frame.specs.Lists.{first}
 use Rattle.pb_frame.specs.Stations.{Sighting, standing, is_sighted}
-use Rattle.pb_frame.specs.Tags.{bare, untagged, tagged, has_priority_tag, priority_of}
 use Rattle.pb_frame.specs.declared.learnt.Learnt.{Learnt}
-use Rattle.pb_lan.specs.Ports.{Port, port_at, local_ports, vid_at}
-use Rattle.pb_lan.specs.Ports.Port.{Customer, Provider, Unused}
-use Rattle.pb_lan.specs.Queues.{is_full, vid_in, copy_of, class_of, priority_in, wire_out}
+use Rattle.pb_lan.specs.Ports.{port_at, local_ports}
+use Rattle.pb_lan.specs.Queues.{is_full, vid_in, copy_of}
 use Rattle.pb_lan.specs.Rules.{silent}
 use Rattle.pb_lan.specs.Shapes.{state_after, changes_of, is_forwarding}
 use Rattle.pb_lan.specs.Choice.{now_after, news_of, found}
 use Rattle.pb_lan.specs.BridgeLists.{ruling, Ruling, Follows, Fits, AreRefused}
 use Rattle.pb_lan.specs.BridgeLists.Ruling.{Carries, LearnsOnly}
 use Rattle.pb_lan.specs.declared.plan.Plan.{Plan}
-use Rattle.pb_lan.specs.declared.plan.CustomerPlan.{CustomerPlan}
-use Rattle.pb_lan.specs.declared.plan.End.{End}
 use Rattle.pb_lan.specs.declared.shape.PortState.{PortState}
 use Rattle.pb_lan.specs.declared.step.Item.{Item}
 use Rattle.pb_lan.specs.declared.step.NoRoom.{NoRoom}
@@ -30,16 +26,17 @@ use Rattle.pb_lan.specs.declared.step.Reason.TheVariants.{NotForwarding}
 use Rattle.pb_lan.specs.declared.step.Step.{Step}
 use Rattle.pb_lan.specs.declared.step.Step.TheVariants.{Receive}
 use Rattle.pb_relay.specs.declared.load.Load.{Load}
-use Rattle.pb_relay.specs.declared.ports.LocalPort.{LocalPort}
-use Rattle.pb_relay.specs.declared.ports.LocalPort.TheVariants.{ToCustomer, ToBridge, ToNobody}
-use Rattle.pb_relay.specs.Copies.{AreCopied, AreSeparate, copy_at, is_to_customer}
-use Rattle.pb_relay.specs.Loads.{IsLoad, IsLoadedAt, is_choice, is_member_of}
-use Rattle.pb_relay.specs.LocalPorts.{IsKept, IsConfigured}
+use Rattle.pb_relay.specs.Roles.{LocalPort}
+use Rattle.pb_relay.specs.Roles.LocalPort.{ToNobody}
+use Rattle.pb_relay.specs.Copies.{AreCopied, AreSeparate, copy_at}
+use Rattle.pb_relay.specs.Loads.{IsLoadedAt, is_choice, is_member_of}
+use Rattle.pb_relay.specs.LocalPorts.{IsConfigured}
 use Rattle.pb_relay.specs.Standing.{IsStanding}
 use Rattle.pb_relay.specs.Tables.{HasLearnt, where_in}
 use Rattle.pb_relay.proofs.ChosenLemmas.{chosen_ports_are, all_up}
 use Rattle.pb_relay.proofs.EntryLemmas.{IsAdmitted, carried, forwards, overheard}
 use Rattle.pb_relay.proofs.FoundLemmas.{learns_is}
+use Rattle.pb_relay.proofs.LoadLemmas.{kept_here, member_used, sent_is}
 use Rattle.pb_relay.proofs.RelayLemmas.{after_relayed, newer_stands, refusals_are}
 use Rattle.pb_relay.proofs.StandingLemmas.{after_still}
 use Rattle.pb_relay.proofs.StepLemmas.{states_stay, state_stays, now_more}
@@ -97,64 +94,6 @@ relayed_fits plan b steps states queues now table newer ports capacity limit por
       refl,
     ))
 
--- the copies are those of the definitions: first what a customer's frame brings
-customer_brings : (plan : Plan) (c : CustomerPlan) (vid pcp : ℕ) (wire : List ℕ) (load : Load) (exit : Port) (local : LocalPort) (service : ℕ)
-    → IsKept plan (Customer c) (ToCustomer vid pcp) → IsLoad (ToCustomer vid pcp) wire load → IsKept plan exit local → is_member_of local service ≡ true
-    → cond (is_to_customer local) load.bare load.tagged ≡ wire_out plan (Customer c) exit wire
-customer_brings plan c vid pcp wire load (Customer d) (ToCustomer v p) service k l q m = l.0
-customer_brings plan c vid pcp wire load (Provider e) (ToBridge start vids) service k l q m =
-    l.1 ∙ ap (λ v. tagged (bare wire) (cond (has_priority_tag wire) (priority_of wire) pcp) 0 v) k.0
-    ∙ ap (λ p. tagged (bare wire) (cond (has_priority_tag wire) (priority_of wire) p) 0 (vid_at plan c)) k.1
-customer_brings plan c vid pcp wire load exit ToNobody service k l q m = cc
-customer_brings plan c vid pcp wire load (Customer d) (ToBridge start vids) service k l q m = absurd q
-customer_brings plan c vid pcp wire load (Provider e) (ToCustomer v p) service k l q m = absurd q
-customer_brings plan c vid pcp wire load Unused (ToCustomer v p) service k l q m = absurd q
-customer_brings plan c vid pcp wire load Unused (ToBridge start vids) service k l q m = absurd q
-
--- then what a bridge's frame brings
-bridge_brings : (plan : Plan) (f : End) (wire : List ℕ) (load : Load) (exit : Port) (local : LocalPort) (service : ℕ)
-    → load.bare ≡ untagged wire → load.tagged ≡ wire → IsKept plan exit local → is_member_of local service ≡ true
-    → cond (is_to_customer local) load.bare load.tagged ≡ wire_out plan (Provider f) exit wire
-bridge_brings plan f wire load (Customer d) (ToCustomer v p) service n t q m = n
-bridge_brings plan f wire load (Provider e) (ToBridge start vids) service n t q m = t
-bridge_brings plan f wire load exit ToNobody service n t q m = cc
-bridge_brings plan f wire load (Customer d) (ToBridge start vids) service n t q m = absurd q
-bridge_brings plan f wire load (Provider e) (ToCustomer v p) service n t q m = absurd q
-bridge_brings plan f wire load Unused (ToCustomer v p) service n t q m = absurd q
-bridge_brings plan f wire load Unused (ToBridge start vids) service n t q m = absurd q
-
--- so at every kind of port
-brings : (plan : Plan) (entry : Port) (here : LocalPort) (wire : List ℕ) (load : Load) (exit : Port) (local : LocalPort) (service : ℕ)
-    → IsKept plan entry here → IsLoad here wire load → IsKept plan exit local → is_member_of local service ≡ true
-    → cond (is_to_customer local) load.bare load.tagged ≡ wire_out plan entry exit wire
-brings plan (Customer c) (ToCustomer vid pcp) wire load exit local service k l q m = customer_brings plan c vid pcp wire load exit local service k l q m
-brings plan (Provider f) (ToBridge start vids) wire load exit local service k l q m = bridge_brings plan f wire load exit local service l.0 l.1 q m
-brings plan entry ToNobody wire load exit local service k l q m = absurd l
-brings plan (Customer c) (ToBridge start vids) wire load exit local service k l q m = absurd k
-brings plan (Provider f) (ToCustomer vid pcp) wire load exit local service k l q m = absurd k
-brings plan Unused (ToCustomer vid pcp) wire load exit local service k l q m = absurd k
-brings plan Unused (ToBridge start vids) wire load exit local service k l q m = absurd k
-
--- and so is the class
-class_is : (plan : Plan) (entry : Port) (here : LocalPort) (wire : List ℕ) (load : Load) → IsKept plan entry here → IsLoad here wire load
-    → (load.class ≡ class_of (priority_in entry wire)) × (load.class < 8)
-class_is plan (Customer c) (ToCustomer vid pcp) wire load k l = (l.2 ∙ ap (λ p. class_of (cond (has_priority_tag wire) (priority_of wire) p)) k.1, l.3)
-class_is plan (Provider f) (ToBridge start vids) wire load k l = (l.2, l.3)
-class_is plan entry ToNobody wire load k l = absurd l
-class_is plan (Customer c) (ToBridge start vids) wire load k l = absurd k
-class_is plan (Provider f) (ToCustomer vid pcp) wire load k l = absurd k
-class_is plan Unused (ToCustomer vid pcp) wire load k l = absurd k
-class_is plan Unused (ToBridge start vids) wire load k l = absurd k
-
--- what is kept of a local port
-kept_here : (plan : Plan) (b : ℕ) (ports : List LocalPort) (capacity limit p : ℕ) → IsConfigured plan b ports capacity limit → (1 ≤ p) × (p ≤ 16)
-    → IsKept plan (port_at plan b p) (get_or ports (p - 1) ToNobody)
-kept_here plan b ports capacity limit p k l =
-    let l0 : 1 ≤ p = l.0 in
-    let l1 : p ≤ 16 = l.1 in
-    let h : p - 1 + 1 ≡ p = omega arith in
-    subst (λ (r : ℕ). IsKept plan (port_at plan b r) (get_or ports (p - 1) ToNobody)) h (k.kept_ports (p - 1) (omega arith))
-
 -- a port of choice is a member of the service
 chosen_member : (ports : List LocalPort) (states : List PortState) (port vid : ℕ) (at : Option ℕ) (p : ℕ) → is_choice ports states port vid at p ≡ true
     → is_member_of (get_or ports (p - 1) ToNobody) vid ≡ true
@@ -169,23 +108,24 @@ places = all_up IsPlace 16 1 (λ j a c. (a, omega arith))
 
 -- each chosen port gets the copy of the definitions
 copies_are : (plan : Plan) (b : ℕ) (ports : List LocalPort) (states : List PortState) (capacity limit port vid : ℕ) (at : Option ℕ) (item : Item) (load : Load) (p : ℕ)
-    → IsConfigured plan b ports capacity limit → IsLoadedAt plan (port_at plan b port) item.wire load
+    → IsConfigured plan b ports capacity limit → IsLoadedAt plan b (port_at plan b port) item.wire load
     → list_any (λ q. q == p) (filter (is_choice ports states port vid at) local_ports) ≡ true
     → copy_at ports load item p ≡ copy_of plan (port_at plan b port) (port_at plan b p) item
 copies_are plan b ports states capacity limit port vid at item load p k h c =
     let f = list_any-found (λ q. IsPlace q × (is_choice ports states port vid at q ≡ true)) (λ q. q == p) (filter (is_choice ports states port vid at) local_ports) c
     (All-filter IsPlace (is_choice ports states port vid at) local_ports places) in
     let known : IsPlace p × (is_choice ports states port vid at p ≡ true) = subst (λ (q : ℕ). IsPlace q × (is_choice ports states port vid at q ≡ true)) (eqb-true f.0 p f.2) f.1 in
+    let member = chosen_member ports states port vid at p known.1 in
     ap (λ wire. record { mark = item.mark; hops = item.hops + 1; wire = wire })
-    (brings plan (port_at plan b port) h.0 item.wire load (port_at plan b p) (get_or ports (p - 1) ToNobody) vid
-    h.1 h.2 (kept_here plan b ports capacity limit p k known.0) (chosen_member ports states port vid at p known.1))
+    (sent_is plan (port_at plan b p) (get_or ports (p - 1) ToNobody) vid load (kept_here plan b ports capacity limit p k known.0) member
+    ∙ h.wires p known.0.0 known.0.1 (member_used plan (port_at plan b p) (get_or ports (p - 1) ToNobody) vid (kept_here plan b ports capacity limit p k known.0) member))
 
 -- a frame has been relayed: the step fits, and what is kept is kept
 pub relayed : (plan : Plan) (b : ℕ) (steps : List Step) (states : List PortState) (queues new : List (List (List Item))) (now : ℕ) (table newer : List Sighting)
     (ports : List LocalPort) (capacity limit port vid : ℕ) (item : Item) (load : Load) (learnt : Learnt) (at : Option ℕ) (chosen : List ℕ) (refused : List (ℕ × NoRoom))
     → IsConfigured plan b ports capacity limit → IsStanding plan b steps states queues now table
     → ruling silent plan b steps port item ≡ Carries vid
-    → IsLoadedAt plan (port_at plan b port) item.wire load
+    → IsLoadedAt plan b (port_at plan b port) item.wire load
     → HasLearnt plan.ageing now vid port (src_of item.wire) table learnt newer
     → at ≡ cond (is_group (dst_of item.wire)) None (where_in plan.ageing now vid (dst_of item.wire) newer)
     → chosen ≡ filter (is_choice ports states port vid at) local_ports → AreSeparate chosen
@@ -197,11 +137,10 @@ relayed plan b steps states queues new now table newer ports capacity limit port
     let ageing : 0 < plan.ageing = omega arith in
     let full = refusals_are plan b steps states queues now table capacity chosen refused s k.most z f.refusals in
     let fits = relayed_fits plan b steps states queues now table newer ports capacity limit port vid item learnt at chosen refused k s ageing r h e c full in
-    let a = carried plan (port_at plan b port) (state_after plan b steps port) item vid r in
-    let class = class_is plan (port_at plan b port) q.0 item.wire load q.1 q.2 in (
+    let a = carried plan (port_at plan b port) (state_after plan b steps port) item vid r in (
       fits,
       after_relayed plan b steps states queues new now table newer port item learnt chosen refused capacity load.class (copy_at ports load item)
-          s fits full f n class.0 class.1
+          s fits full f n q.class q.eight
           (λ p m. copies_are plan b ports states capacity limit port vid at item load p k q (subst (λ (ps : List ℕ). list_any (λ q. q == p) ps ≡ true) c m))
           ageing (told plan b now port item vid table newer learnt a h),
     )

@@ -23,8 +23,8 @@ use Rattle.pb_lan.specs.declared.step.Item.{Item}
 use Rattle.pb_lan.specs.declared.step.Moved.{Moved}
 use Rattle.pb_lan.specs.declared.step.Step.{Step}
 use Rattle.pb_lan.specs.declared.step.Step.TheVariants.{Admin}
-use Rattle.pb_relay.specs.declared.ports.LocalPort.{LocalPort}
-use Rattle.pb_relay.specs.declared.ports.LocalPort.TheVariants.{ToCustomer, ToBridge, ToNobody}
+use Rattle.pb_relay.specs.Roles.{LocalPort, told}
+use Rattle.pb_relay.specs.Roles.LocalPort.{ToCustomer, ToBridge, ToNobody}
 use Rattle.pb_relay.specs.Changes.{moved_by_setting, moved_to, state_set, ports_flushed}
 use Rattle.pb_relay.specs.Classes.{by_class}
 use Rattle.pb_relay.specs.LocalPorts.{IsKept}
@@ -45,10 +45,10 @@ provider_used (Provider e) h = refl
 provider_used Unused h = cc
 
 -- what is kept of a port tells that state
-pub state_set_is : (plan : Plan) (b p : ℕ) (local : LocalPort) (up : Bool) → is_provider (port_at plan b p) ≡ true → IsKept plan (port_at plan b p) local → state_set local up ≡ goal_of plan b p up
+pub state_set_is : (plan : Plan) (b p : ℕ) (local : LocalPort) (up : Bool) → is_provider (port_at plan b p) ≡ true → IsKept plan (port_at plan b p) local → state_set (told local) up ≡ goal_of plan b p up
 state_set_is plan b p local up h k = by_port (port_at plan b p) local up h k
   where
-    by_port : (port : Port) (local : LocalPort) (up : Bool) → is_provider port ≡ true → IsKept plan port local → state_set local up ≡ cond up (start_of Fixed port) Discarding
+    by_port : (port : Port) (local : LocalPort) (up : Bool) → is_provider port ≡ true → IsKept plan port local → state_set (told local) up ≡ cond up (start_of Fixed port) Discarding
     by_port (Provider e) (ToBridge start vids) true h k = k.0
     by_port (Provider e) (ToBridge start vids) false h k = refl
     by_port (Provider e) (ToCustomer vid pcp) up h k = absurd k

@@ -240,11 +240,12 @@ standing_later ageing now news =
     ∙ sym (live_later ageing now (after_all [] news)) ∙ table_tells_what_stands ageing (now + 1) news
 
 -- where the clock ticks, and nothing moves
-pub after_tick : (plan : Plan) (b : ℕ) (steps : List Step) (states : List PortState) (queues : List (List (List Item))) (now : ℕ) (table : List Sighting) (moved : Moved)
+pub after_tick : (plan : Plan) (b : ℕ) (steps : List Step) (states : List PortState) (queues : List (List (List Item))) (now : ℕ) (table newer : List Sighting) (moved : Moved)
     → IsStanding plan b steps states queues now table → Fits silent plan b steps (Tick (now + 1) moved)
     → moved.states ≡ [] → moved.flushed ≡ [] → moved.queued ≡ []
-    → IsStanding plan b (steps ++ Tick (now + 1) moved ∷ []) states queues (now + 1) table
-after_tick plan b steps states queues now table moved s f m l q = record {
+    → filter (is_fresh plan.ageing (now + 1)) newer ≡ filter (is_fresh plan.ageing (now + 1)) table
+    → IsStanding plan b (steps ++ Tick (now + 1) moved ∷ []) states queues (now + 1) newer
+after_tick plan b steps states queues now table newer moved s f m l q d = record {
   lawful = lawful_more silent plan b steps (Tick (now + 1) moved) s.lawful f;
   kept_states = s.kept_states ∙ sym (states_unmoved plan b steps (Tick (now + 1) moved) (ap (λ cs. cs ++ []) m));
   count = s.count;
@@ -252,7 +253,7 @@ after_tick plan b steps states queues now table moved s f m l q = record {
   classes = λ r. subst AreClassed (sym (still r)) (s.classes r);
   within = λ r. subst (λ (ws : List Waiting). length ws ≤ capacity_of plan b) (sym (still r)) (s.within r);
   clock = ap (λ n. n + 1) s.clock ∙ sym (now_more steps (Tick (now + 1) moved));
-  stations = live_later plan.ageing now table
+  stations = d ∙ live_later plan.ageing now table
       ∙ ap (filter (is_fresh plan.ageing (now + 1))) s.stations
       ∙ standing_later plan.ageing now (news_of plan b steps)
       ∙ ap (λ ns. standing plan.ageing (now + 1) ns) (sym (news_more plan b steps (Tick (now + 1) moved)

@@ -1,29 +1,32 @@
 -- The ruling by what a bridge keeps of a port is the ruling.
-use Rattle.std.proofs.Common.{◌≡◌, ℕ, zero, suc, ◌+◌, ◌-◌, ◌<◌, ◌≤◌, Bool, true, List, map, get_or, refl, sym, ap, ◌∙◌, subst, arith}
+use Rattle.std.proofs.Common.{◌≡◌, ℕ, zero, suc, ◌+◌, ◌-◌, ◌<◌, ◌≤◌, Bool, true, false, cond, Some, None, List, [], ◌∷◌, map, get_or, refl, sym, ap, ◌∙◌, subst, arith}
 use Rattle.std.proofs.lemmas.List.{get_or_read}
 use Rattle.pb_lan.specs.Ports.{Port, port_at, local_ports, serves}
 use Rattle.pb_lan.specs.Ports.Port.{Customer, Provider, Unused}
 use Rattle.pb_lan.specs.Shapes.{state_after, states_after}
 use Rattle.pb_lan.specs.BridgeLists.{ruling}
 use Rattle.pb_lan.specs.declared.step.Step.{Step}
-use Rattle.pb_lan.specs.BridgeLists.{ruling_by, first_case, customer_cases, ruling_in}
-use Rattle.pb_lan.specs.BridgeLists.Ruling.{Carries}
+use Rattle.pb_lan.specs.BridgeLists.{Ruling, is_worn, ruling_by, first_case, customer_cases, ruling_in}
+use Rattle.pb_lan.specs.BridgeLists.Ruling.{Carries, Refuses}
+use Rattle.pb_lan.specs.declared.step.Reason.TheVariants.{Malformed, Long, Reserved, STagged, Worn}
+use Rattle.pb_svlan.specs.Entering.{refusal}
+use Rattle.pb_svlan.specs.declared.entered.Refuse.TheVariants.{Short, Long as TooLong, Reserved as ReservedAs, STagged as InnerTag}
 use Rattle.pb_frame.specs.Tags.{vid_of}
 use Rattle.pb_lan.specs.declared.plan.Plan.{Plan}
 use Rattle.pb_lan.specs.declared.shape.PortState.{PortState}
 use Rattle.pb_lan.specs.declared.step.Item.{Item}
-use Rattle.pb_relay.specs.declared.ports.LocalPort.{LocalPort}
-use Rattle.pb_relay.specs.declared.ports.LocalPort.TheVariants.{ToCustomer, ToBridge, ToNobody}
+use Rattle.pb_relay.specs.Roles.{LocalPort, serves_of}
+use Rattle.pb_relay.specs.Roles.LocalPort.{ToCustomer, ToBridge, ToNobody}
 use Rattle.pb_relay.specs.LocalPorts.{IsKept, IsConfigured}
 use Rattle.pb_lan.specs.Ports.{is_used}
 use Rattle.pb_lan.specs.Rules.{silent}
-use Rattle.pb_relay.specs.Verdicts.{local_ruling, bridge_cases, serves_of, is_to_somebody}
+use Rattle.pb_relay.specs.Verdicts.{local_ruling, bridge_cases, is_to_somebody, by_refusal}
 use Rattle.pb_relay.proofs.WaitingLemmas.{count_up}
 
 -- the ruling by what is kept of a port is the ruling there
 pub ruled : (plan : Plan) (port : Port) (local : LocalPort) (state : PortState) (item : Item) → IsKept plan port local → local_ruling local state item ≡ ruling_by silent plan port state item
 ruled plan (Customer c) (ToCustomer vid pcp) state item k = ap (λ v. first_case (customer_cases item) (Carries v)) k.0
-ruled plan (Provider e) (ToBridge start vids) state item k = served (serves_of vids.items (vid_of item.wire)) (serves plan (vid_of item.wire) e) (k.1 (vid_of item.wire))
+ruled plan (Provider e) (ToBridge start vids) state item k = served (serves_of vids (vid_of item.wire)) (serves plan (vid_of item.wire) e) (k.1 (vid_of item.wire))
   where
     served : (a b : Bool) → a ≡ b → first_case (bridge_cases (λ _. a) item) (ruling_in state (vid_of item.wire)) ≡ first_case (bridge_cases (λ _. b) item) (ruling_in state (vid_of item.wire))
     served a b h = ap (λ z. first_case (bridge_cases (λ _. z) item) (ruling_in state (vid_of item.wire))) h
@@ -76,3 +79,16 @@ rule_is plan b steps states p local item d e l k =
     ap (λ z. local_ruling local (get_or z (p - 1) d) item) e
     ∙ ap (λ z. local_ruling local z item) (at_port (state_after plan b steps) p d l.0 l.1)
     ∙ ruled plan (port_at plan b p) local (state_after plan b steps p) item k
+
+-- the cases at a customer port, by why the frame is refused
+cases_are : (a b c d worn : Bool) (last : ℕ) (rest : Ruling)
+    → by_refusal (cond a (Some Short) (cond b (Some TooLong) (cond c (Some (ReservedAs last)) (cond d (Some InnerTag) None)))) worn rest
+    ≡ first_case ((a, Refuses Malformed) ∷ (b, Refuses Long) ∷ (c, Refuses (Reserved last)) ∷ (d, Refuses STagged) ∷ (worn, Refuses Worn) ∷ []) rest
+cases_are true b c d worn last rest = refl
+cases_are false true c d worn last rest = refl
+cases_are false false true d worn last rest = refl
+cases_are false false false true worn last rest = refl
+cases_are false false false false worn last rest = refl
+
+pub customer_ruled : (item : Item) (rest : Ruling) → by_refusal (refusal item.wire) (is_worn item) rest ≡ first_case (customer_cases item) rest
+customer_ruled item rest = cases_are _ _ _ _ (is_worn item) _ rest

@@ -11,8 +11,8 @@ use Rattle.pb_lan.specs.declared.step.Moved.{Moved}
 use Rattle.pb_lan.specs.declared.step.Step.{Step}
 use Rattle.pb_lan.specs.declared.step.Step.TheVariants.{Tick, Admin}
 use Rattle.pb_relay.specs.Standing.{BridgeView, with_step}
-use Rattle.pb_relay.specs.declared.ports.LocalPort.{LocalPort}
-use Rattle.pb_relay.specs.declared.ports.LocalPort.TheVariants.{ToCustomer, ToBridge, ToNobody}
+use Rattle.pb_relay.specs.declared.ports.Local.{Local}
+use Rattle.pb_relay.specs.declared.ports.Local.TheVariants.{Customer as customer_there, Bridge as bridge_there, Nobody as nobody_there}
 
 -- nothing moved
 abbrev pub unmoved : Moved
@@ -40,11 +40,11 @@ HasSet old port up new =
     × Fits silent old.plan old.number old.steps (Admin port up (moved_by_setting old.plan old.number old.steps port up))
 
 -- the state of a port that is set up or down
-abbrev pub state_set : LocalPort → Bool → PortState
-state_set (ToBridge start vids) true = start
-state_set (ToBridge start vids) false = Discarding
-state_set (ToCustomer vid pcp) up = Discarding
-state_set ToNobody up = Discarding
+abbrev pub state_set : Local → Bool → PortState
+state_set (bridge_there start) true = start
+state_set (bridge_there start) false = Discarding
+state_set (customer_there vid pcp) up = Discarding
+state_set nobody_there up = Discarding
 
 -- a port that is set down is flushed
 abbrev pub ports_flushed : ℕ → Bool → List ℕ

@@ -1,6 +1,7 @@
 pub mod Classes
+pub mod Roles
+pub mod Kinds
 pub mod LocalPorts
-pub mod Entries
 pub mod Standing
 pub mod Verdicts
 pub mod Tables

@@ -1,19 +1,18 @@
 -- What a bridge keeps of its own ports.
 use Rattle.std.specs.Prelude.{◌≡◌, ℕ, ◌+◌, ◌<◌, List, length, slice_index_or, ◌==◌}
-use Rattle.std.specs.List.{list_any}
 use Rattle.pb_lan.specs.Ports.{Port, port_at, vid_at, has_vid, serves}
 use Rattle.pb_lan.specs.Ports.Port.{Customer, Provider, Unused}
 use Rattle.pb_lan.specs.Plans.{IsSound}
 use Rattle.pb_lan.specs.declared.plan.Plan.{Plan}
 use Rattle.pb_lan.specs.declared.plan.Spanning.TheVariants.{Fixed}
 use Rattle.pb_lan.specs.Queues.{capacity_of}
-use Rattle.pb_relay.specs.declared.ports.LocalPort.{LocalPort}
-use Rattle.pb_relay.specs.declared.ports.LocalPort.TheVariants.{ToCustomer, ToBridge, ToNobody}
+use Rattle.pb_relay.specs.Roles.{LocalPort, serves_of}
+use Rattle.pb_relay.specs.Roles.LocalPort.{ToCustomer, ToBridge, ToNobody}
 
 -- what is kept is what the plan says
 abbrev pub IsKept : Plan → Port → LocalPort → Type 0
 IsKept plan (Customer c) (ToCustomer vid pcp) = (vid ≡ vid_at plan c) × (pcp ≡ c.pcp) × ((v : ℕ) → (vid == v) ≡ has_vid plan v c.service)
-IsKept plan (Provider e) (ToBridge start vids) = (start ≡ e.start) × ((v : ℕ) → list_any (λ w. w == v) vids.items ≡ serves plan v e)
+IsKept plan (Provider e) (ToBridge start vids) = (start ≡ e.start) × ((v : ℕ) → serves_of vids v ≡ serves plan v e)
 IsKept plan Unused ToNobody = Unit {0}
 IsKept plan _ _ = ⊥
 

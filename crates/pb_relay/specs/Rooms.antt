@@ -1,16 +1,6 @@
--- Room for one more station, and for an outcome.
-use Rattle.std.specs.Prelude.{◌≡◌, ◌≤◌, Bool, true, false, Ok, Err, [], vec_capacity}
+-- Room for an outcome.
+use Rattle.std.specs.Prelude.{◌≡◌, ◌≤◌, [], vec_capacity}
 use Rattle.pb_relay.specs.declared.room.Room.{Room}
-use Rattle.std.specs.declared.result.Result.{Result}
-use Rattle.pb_frame.specs.declared.learnt.Learnt.{Learnt}
-use Rattle.pb_frame.specs.declared.learnt.Learnt.TheVariants.{Full, Memory}
-
--- there is room unless as many are fresh as may be, or memory is short
-abbrev pub IsRoom : Bool → Result (Unit {0}) Learnt → Type 0
-IsRoom full (Ok _) = full ≡ false
-IsRoom full (Err Full) = full ≡ true
-IsRoom full (Err Memory) = full ≡ false
-IsRoom full (Err _) = ⊥
 
 -- four empty lists with room for a word of each local port
 pub record IsEmptyRoom (room : Room) : Type 0 where

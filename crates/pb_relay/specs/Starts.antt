@@ -1,20 +1,34 @@
 -- The states in which ports start.
-use Rattle.std.specs.Prelude.{◌≡◌, ℕ, ◌+◌, ◌<◌, List, length, slice_index_or}
+use Rattle.std.specs.Prelude.{◌≡◌, ℕ, ◌+◌, ◌<◌, List, None, map, length, slice_index_or}
 use Rattle.pb_lan.specs.Ports.{port_at}
 use Rattle.pb_lan.specs.declared.plan.Plan.{Plan}
 use Rattle.pb_lan.specs.declared.shape.PortState.{PortState}
 use Rattle.pb_lan.specs.declared.shape.PortState.TheVariants.{Discarding, Forwarding}
 use Rattle.pb_relay.specs.LocalPorts.{IsKept}
-use Rattle.pb_relay.specs.declared.ports.LocalPort.{LocalPort}
-use Rattle.pb_relay.specs.declared.ports.LocalPort.TheVariants.{ToCustomer, ToBridge, ToNobody}
+use Rattle.pb_relay.specs.Roles.{LocalPort, local_of}
+use Rattle.pb_relay.specs.Roles.LocalPort.{ToNobody}
+use Rattle.pb_relay.specs.declared.ports.Local.{Local}
+use Rattle.pb_relay.specs.declared.ports.Local.TheVariants.{Customer as customer_there, Bridge as bridge_there, Nobody as nobody_there}
+use Rattle.pb_svlan.specs.ServiceTables.{ServiceTable, role_at}
 
 -- the state in which a port starts, where the plan gives the states
-abbrev pub first_state : LocalPort → PortState
-first_state (ToCustomer vid pcp) = Forwarding
-first_state (ToBridge start vids) = start
-first_state ToNobody = Discarding
+abbrev pub first_state : Local → PortState
+first_state (customer_there vid pcp) = Forwarding
+first_state (bridge_there start) = start
+first_state nobody_there = Discarding
 
 -- the first n local ports are kept as the plan has them
 pub record KeepsPorts (plan : Plan) (number : ℕ) (ports : List LocalPort) (n : ℕ) : Type 0 where
   pub count : length ports ≡ n
   pub kept : (r : ℕ) → r < n → IsKept plan (port_at plan number (r + 1)) (slice_index_or ports r ToNobody)
+
+-- the services are the plan's
+abbrev pub HasServices : Plan → ServiceTable → Type 0
+HasServices plan table = table.services ≡ map (λ s. (s.vid, s.name)) plan.services
+
+-- the first n local ports are something in the services as the plan has them, and the others nothing
+pub record HasAttached (plan : Plan) (number : ℕ) (table : ServiceTable) (starts : List PortState) (n : ℕ) : Type 0 where
+  pub services : HasServices plan table
+  pub count : length starts ≡ 16
+  pub kept : (r : ℕ) → r < n → IsKept plan (port_at plan number (r + 1)) (local_of table starts (r + 1))
+  pub free : (p : ℕ) → n < p → role_at table p ≡ None

@@ -1,5 +1,5 @@
--- What a table of sightings tells.
-use Rattle.std.specs.Prelude.{◌≡◌, ℕ, List, [], ◌∷◌, ◌++◌, not, length, nat_le, Some, if◌then◌else◌}
+-- What the learning table tells.
+use Rattle.std.specs.Prelude.{◌≡◌, ◌≤◌, ℕ, List, [], ◌∷◌, ◌++◌, not, length, nat_le, Some, if◌then◌else◌}
 use Rattle.std.specs.declared.option.Option.{Option}
 use Rattle.std.specs.List.{filter}
 use Rattle.std.specs.Option.{option_map}
@@ -8,6 +8,8 @@ use Rattle.pb_frame.specs.declared.learnt.Learnt.{Learnt}
 use Rattle.pb_lan.specs.Choice.{is_noted, IsLearnt, table_limit}
 use Rattle.pb_frame.specs.Stations.{Sighting, is_sighted, is_fresh}
 use Rattle.pb_frame.specs.Lists.{first}
+use Rattle.pb_fdb.specs.Tables.{Table, sighting_at}
+use Rattle.pb_lan.specs.declared.plan.Plan.{Plan}
 
 -- the sightings that aren't too old
 abbrev pub live : ℕ → ℕ → List Sighting → List Sighting
@@ -21,11 +23,13 @@ where_in ageing now vid mac table = option_map (λ s. s.port) (first (is_sighted
 abbrev pub seen_anew : Sighting → List Sighting → List Sighting
 seen_anew s table = filter (λ t. not (is_sighted s.vid s.mac t)) table ++ s ∷ []
 
--- the sighting of these parts
-abbrev pub sighting_at : ℕ → List ℕ → ℕ → ℕ → Sighting
-sighting_at vid mac port moment = record { vid = vid; mac = mac; port = port; moment = moment }
-
 -- the table was told of a station that is seen at a port, and answered
 pub record HasLearnt (ageing now vid port : ℕ) (mac : List ℕ) (old : List Sighting) (learnt : Learnt) (new : List Sighting) : Type 0 where
   pub answer : IsLearnt (is_group mac) (where_in ageing now vid mac old) (nat_le table_limit (length (live ageing now old))) port learnt
   pub table : live ageing now new ≡ (if is_noted (Some learnt) then seen_anew (sighting_at vid mac port now) (live ageing now old) else live ageing now old)
+
+-- the table is one of a bridge of the plan, and was told of no moment later than now
+pub record IsTableOf (plan : Plan) (now : ℕ) (table : Table) : Type 0 where
+  pub limit : table.limit ≡ table_limit
+  pub ageing : table.ageing ≡ plan.ageing
+  pub in_time : table.clock ≤ now

@@ -11,9 +11,10 @@ ghost use Rattle.pb_lan.specs.declared.step.Step.TheVariants.{Transmit};
 ghost use Rattle.pb_relay.specs.Standing.{with_step};
 
 use crate::fault::BridgeFault;
-use crate::fdb::Fdb;
-use crate::ports::LocalPort;
+use crate::ports::LocalPorts;
 use crate::queues::PortQueues;
+use crate::room::Spare;
+use pb_fdb::Fdb;
 use pb_lan::{Item, Plan, PortState, Step};
 use std::alloc::Global;
 use std::marker::Model;
@@ -31,7 +32,7 @@ pub struct Bridge {
     /// The bridge's number in the plan, from 1.
     pub(crate) number: u8,
     /// What the plan has at the local ports 1 to 16.
-    pub(crate) ports: Vec<LocalPort>,
+    pub(crate) ports: LocalPorts,
     /// The states of the local ports.
     pub(crate) states: [PortState; 16],
     /// What waits at the local ports.
@@ -44,6 +45,8 @@ pub struct Bridge {
     pub(crate) table: Fdb,
     /// The number of ticks.
     pub(crate) clock: u32,
+    /// Lists for the next frame that is relayed.
+    pub(crate) spare: Spare,
     pub(crate) steps: Vec<Step>,
     /// There is room for one more step.
     pub(crate) is_reserved: bool,
@@ -52,15 +55,17 @@ pub struct Bridge {
 impl Model for Bridge {
     ghost use Rattle.std.specs.Prelude.{vec_capacity};
     ghost use Rattle.pb_relay.specs.Standing.{BridgeView, IsStanding, HasRoom};
+    ghost use Rattle.pb_relay.specs.Tables.{IsTableOf};
     ghost use Rattle.pb_relay.specs.LocalPorts.{IsConfigured};
 
     ghost Value = { BridgeView };
 
     ghost view = { λ b. record { plan = b.plan; number = b.number; steps = b.steps.items; is_reserved = b.is_reserved } };
 
-    ghost invariant = { λ b. IsConfigured b.plan b.number b.ports.items b.capacity b.limit
-        × IsStanding b.plan b.number b.steps.items b.states b.queues.items b.clock b.table
-        × HasRoom b.steps.items (vec_capacity b.steps) b.limit b.is_reserved };
+    ghost invariant = { λ b. IsConfigured b.plan b.number b.ports b.capacity b.limit
+        × IsStanding b.plan b.number b.steps.items b.states b.queues.items b.clock b.table.sightings
+        × HasRoom b.steps.items (vec_capacity b.steps) b.limit b.is_reserved
+        × IsTableOf b.plan b.clock b.table };
 }
 
 /// Puts a step into the room that is there for it.
@@ -96,6 +101,7 @@ impl Bridge {
             limit: _,
             table: _,
             clock: _,
+            spare: _,
             steps,
             is_reserved: _,
         } = self;

@@ -1,16 +1,15 @@
 //! What changes a bridge's ports, and its clock.
 
 ghost use Rattle.std.specs.Prelude.{◌≡◌, ◌↔◌, ◌<◌, length, true, false, if◌then◌else◌, IfOk, OnOk, OnErr, IsErrOf, IsOk};
-ghost use Rattle.pb_frame.specs.Stations.{after};
-ghost use Rattle.pb_frame.specs.Stations.News.{Flushed};
+ghost use Rattle.pb_fdb.specs.Tables.{flushed};
 ghost use Rattle.pb_lan.specs.Ports.{port_at, is_provider};
 ghost use Rattle.pb_lan.specs.Rules.{is_same, from_to};
 ghost use Rattle.pb_relay.specs.Changes.{HasTicked, HasSet, unmoved, moved_by_setting, moved_to, state_set, ports_flushed};
 
 use crate::bridge::{Bridge, append};
 use crate::fault::BridgeFault;
-use crate::fdb::Fdb;
-use crate::ports::LocalPort;
+use crate::ports::Local;
+use pb_fdb::Fdb;
 use pb_frame::{Memory, Seq};
 use pb_lan::{Moved, PortState, Step};
 use std::alloc::Global;
@@ -38,6 +37,7 @@ impl Bridge {
     {
         self.is_reserved = false;
         self.clock += 1;
+        self.table.expire(self.clock);
         append(
             &mut self.steps,
             Step::Tick {
@@ -76,7 +76,7 @@ impl Bridge {
     {
         let ports = &self.ports;
         let place = port as usize - 1;
-        let next = state_set(&ports[place], up);
+        let next = state_set(ports.at(place), up);
         moved_to(self.alloc, port, up, self.states[place], next)
     }
 
@@ -89,7 +89,7 @@ impl Bridge {
     {
         let ports = &self.ports;
         let place = port as usize - 1;
-        let next = state_set(&ports[place], up);
+        let next = state_set(ports.at(place), up);
         flush_unless(&mut self.table, up, port);
         self.states[place] = next;
         self.is_reserved = false;
@@ -128,11 +128,11 @@ fn moved_to(
 }
 
 /// The state of a port that is set up or down.
-fn state_set(local: &LocalPort, up: bool) -> PortState
-    ensures { result ≡ state_set local.now up }
+fn state_set(local: Local, up: bool) -> PortState
+    ensures { result ≡ state_set local up }
 {
     match local {
-        LocalPort::ToBridge { start, vids: _ } if up => *start,
+        Local::Bridge { start } if up => start,
         _ => PortState::Discarding,
     }
 }
@@ -173,7 +173,7 @@ fn flushed(alloc: Global, port: u8, up: bool) -> Result<Vec<u8>, Memory>
 
 /// Forgets the stations of a port that is set down.
 fn flush_unless(table: &mut Fdb, up: bool, port: u8)
-    ensures { table.new ≡ (if up then table.old else after table.old (Flushed port)) }
+    ensures { table.new ≡ (if up then table.old else flushed table.old port) }
 {
     if !up {
         table.flush(port);

@@ -10,18 +10,18 @@ ghost use Rattle.pb_lan.specs.declared.step.Step.TheVariants.{Receive};
 ghost use Rattle.pb_relay.specs.Loads.{IsLoadedAt};
 ghost use Rattle.pb_relay.specs.Rooms.{IsEmptyRoom};
 ghost use Rattle.pb_relay.specs.Standing.{HasReceived};
-ghost use Rattle.pb_relay.specs.Tables.{where_in};
+ghost use Rattle.pb_fdb.specs.Tables.{where_in};
 ghost use Rattle.pb_relay.specs.Verdicts.{as_ruling};
 
 use crate::bridge::{Bridge, append};
 use crate::choice::choose;
 use crate::copies::queue_copies;
 use crate::fault::BridgeFault;
-use crate::fdb::Fdb;
 use crate::load::Load;
 use crate::room::Room;
 use crate::verdict::{Verdict, rule};
-use pb_frame::{Learnt, Mac};
+use pb_fdb::Fdb;
+use pb_frame::{Learnt, Mac, Memory};
 use pb_lan::{Item, Outcome, Reason, Step};
 
 impl Bridge {
@@ -56,8 +56,7 @@ impl Bridge {
     {
         let ports = &self.ports;
         let place = port as usize - 1;
-        let local = &ports[place];
-        rule(local, self.states[place], item)
+        rule(ports, place, self.states[place], item)
     }
 
     /// Appends a step that tells that the item goes nowhere.
@@ -95,9 +94,7 @@ impl Bridge {
         ensures { HasReceived self.old port item result self.new }
     {
         let source = source_of(item.wire.as_slice());
-        let learnt = self
-            .table
-            .learn(self.plan.ageing, vid, source, port, self.clock);
+        let learnt = self.table.learn(vid, source, port, self.clock);
         self.is_reserved = false;
         append_receive(
             &mut self.steps,
@@ -117,14 +114,22 @@ impl Bridge {
         ensures { HasReceived self.old port item result self.new }
     {
         let ports = &self.ports;
-        let local = &ports[port as usize - 1];
-        let Ok(load) = Load::new(self.alloc, local, &item.wire) else {
+        let local = ports.at(port as usize - 1);
+        let Ok(load) = Load::new(self.alloc, ports, local, &item.wire) else {
             return self.give_up(port, item);
         };
-        let Ok(room) = Room::new(self.alloc) else {
+        let Ok(room) = self.take_room() else {
             return self.give_up(port, item);
         };
         self.carry(port, item, vid, load, room)
+    }
+
+    /// Lists for the outcome of an item.
+    fn take_room(&mut self) -> Result<Room, Memory>
+        ensures room { IfOk result IsEmptyRoom }
+        ensures kept { self.new ≡ self.old }
+    {
+        self.spare.room(self.alloc)
     }
 
     /// Learns the source of an item, chooses its ports and queues its copies there.
@@ -132,34 +137,24 @@ impl Bridge {
         requires used { is_used (port_at self.old.plan self.old.number port) ≡ true }
         requires reserved { self.old.is_reserved ≡ true }
         requires ruling { ruling silent self.old.plan self.old.number self.old.steps port item ≡ Carries vid }
-        requires load { IsLoadedAt self.old.plan (port_at self.old.plan self.old.number port) item.wire load }
+        requires load { IsLoadedAt self.old.plan self.old.number (port_at self.old.plan self.old.number port) item.wire load }
         requires room { IsEmptyRoom room }
         ensures { HasReceived self.old port item result self.new }
     {
         let frame = item.wire.as_slice();
-        let ageing = self.plan.ageing;
-        let learnt = self
-            .table
-            .learn(ageing, vid, source_of(frame), port, self.clock);
-        let at = sought(&self.table, ageing, vid, frame, self.clock);
-        choose(
-            &mut room.chosen,
-            self.ports.as_slice(),
-            &self.states,
-            port,
-            vid,
-            at,
-        );
+        let learnt = self.table.learn(vid, source_of(frame), port, self.clock);
+        let at = sought(&self.table, vid, frame, self.clock);
+        choose(&mut room.chosen, &self.ports, &self.states, port, vid, at);
         queue_copies(
             &mut self.queues,
             &mut room.refused,
             room.chosen.as_slice(),
-            self.ports.as_slice(),
+            &self.ports,
             self.capacity,
             &load,
             &item,
         );
-        let (told, kept) = room.into_outcomes();
+        let (told, kept) = self.spare.outcomes(self.alloc, room);
         self.is_reserved = false;
         append_receive(&mut self.steps, port, item, Some(learnt), kept);
         told
@@ -210,13 +205,13 @@ fn destination_of(frame: &[u8]) -> Mac
 }
 
 /// The port at which the destination of a frame was seen. Groups are never sought.
-fn sought(table: &Fdb, ageing: u32, vid: u16, frame: &[u8], now: u32) -> Option<u8>
+fn sought(table: &Fdb, vid: u16, frame: &[u8], now: u32) -> Option<u8>
     requires { 14 ≤ length frame.now }
-    ensures { result ≡ (if is_group (dst_of frame.now) then None else where_in ageing now vid (dst_of frame.now) table.now) }
+    ensures { result ≡ (if is_group (dst_of frame.now) then None else where_in table.now now vid (dst_of frame.now)) }
 {
     let destination = destination_of(frame);
     if destination.0[0] % 2 == 1 {
         return None;
     }
-    table.find(ageing, vid, destination, now)
+    table.find(vid, destination, now)
 }

@@ -1,64 +1,63 @@
 //! A bridge at its start.
 
-ghost use Rattle.std.specs.Prelude.{◌≡◌, ℕ, ◌+◌, ◌<◌, ◌==◌, List, [], map, length, false, IfOk, replicate, slice_index_or};
-ghost use Rattle.std.specs.List.{filter_map, list_any, flat_map};
-ghost use Rattle.std.specs.Option.{option_map, option_copied};
+ghost use Rattle.std.specs.Prelude.{◌≡◌, ℕ, ◌+◌, ◌<◌, ◌≤◌, ◌==◌, ◌++◌, ◌∷◌, [], map, length, true, false, Some, IfOk, OnOk, replicate};
+ghost use Rattle.std.specs.List.{flat_map};
+ghost use Rattle.std.specs.Option.{option_copied};
 ghost use Rattle.pb_frame.specs.Lists.{first};
-ghost use Rattle.pb_lan.specs.Numbering.{numbered};
 ghost use Rattle.pb_lan.specs.Plans.{IsSound, IsNumber};
-ghost use Rattle.pb_lan.specs.Ports.{port_at, is_customer_at, is_end_at, ends_of, serves};
+ghost use Rattle.pb_lan.specs.Ports.{port_at, is_customer_at, is_end_at, ends_of};
 ghost use Rattle.pb_lan.specs.Queues.{capacity_of};
 ghost use Rattle.pb_lan.specs.declared.plan.Spanning.TheVariants.{Fixed};
+ghost use Rattle.pb_svlan.specs.ServiceTables.{vid_of, is_known, are_known, has_name, has_vid, is_taken, role_at, attached, carried};
+ghost use Rattle.pb_svlan.specs.declared.port.Join.{Join};
+ghost use Rattle.pb_svlan.specs.declared.port.Role.TheVariants.{Customer, Trunk};
 ghost use Rattle.pb_relay.specs.Classes.{no_items};
 ghost use Rattle.pb_relay.specs.LocalPorts.{IsKept};
-ghost use Rattle.pb_relay.specs.Starts.{first_state, KeepsPorts};
+ghost use Rattle.pb_relay.specs.Roles.{local_as, told};
+ghost use Rattle.pb_relay.specs.Starts.{first_state, HasServices, KeepsPorts};
 
 use crate::bridge::Bridge;
-use crate::fdb::Fdb;
-use crate::ports::LocalPort;
+use crate::ports::{Local, LocalPorts};
 use crate::queues::PortQueues;
+use crate::room::Spare;
+use pb_fdb::Fdb;
 use pb_frame::Memory;
 use pb_lan::{CustomerPlan, End, LinkPlan, Plan, PortState, ServicePlan};
+use pb_svlan::{AddFault, JoinFault, Services, Vid};
 use std::alloc::Global;
 
-/// The VID of the service of this number, if there is one.
-fn vid_numbered(services: &[ServicePlan], number: u8) -> Option<u16>
-    ensures { result ≡ option_map (λ s. s.vid) (numbered services.now number) }
+/// The most stations that a bridge knows.
+const STATIONS: usize = 4096;
+
+/// Adds a service of the plan to those before it.
+fn add(alloc: Global, services: &mut Services, service: &ServicePlan) -> Result<(), Memory>
+    requires vid { IsNumber service.now.vid 4094 }
+    requires name { has_name services.old service.now.name ≡ false }
+    requires free { has_vid services.old service.now.vid ≡ false }
+    requires few { length services.old.services < 64 }
+    ensures { OnOk result (services.new ≡ record services.old { services = services.old.services ++ (service.now.vid, service.now.name) ∷ [] }) }
 {
-    if number == 0 {
-        return None;
+    let Some(vid) = Vid::new(service.vid) else {
+        unreachable!();
+    };
+    match services.add(alloc, service.name.as_str(), vid) {
+        Ok(_) => Ok(()),
+        Err(AddFault::Memory) => Err(Memory),
+        Err(_) => unreachable!(),
     }
-    services.get(number as usize - 1).map(|service| service.vid)
 }
 
-/// The VIDs of all services.
-fn vids_of_all(alloc: Global, services: &[ServicePlan]) -> Result<Vec<u16>, Memory>
-    ensures { IfOk result (λ vids. vids.items ≡ map (λ s. s.vid) services.now) }
+/// The services of the plan. No port is anything in them.
+fn services_of(alloc: Global, plan: &Plan) -> Result<Services, Memory>
+    requires { IsSound plan.now }
+    ensures services { IfOk result (HasServices plan.now) }
+    ensures ports { IfOk result (λ services. services.ports ≡ []) }
 {
-    Ok(services.iter().map(|service| service.vid).collect(alloc)?)
-}
-
-/// The VIDs of the services of these numbers.
-fn vids_listed(alloc: Global, services: &[ServicePlan], numbers: &[u8]) -> Result<Vec<u16>, Memory>
-    ensures { IfOk result (λ vids. vids.items ≡ filter_map (λ n. option_map (λ s. s.vid) (numbered services.now n)) numbers.now) }
-{
-    Ok(
-        numbers
-            .iter()
-            .filter_map(|number| vid_numbered(services, *number))
-            .collect(alloc)?,
-    )
-}
-
-/// The VIDs of the services that an end is a member of.
-fn vids_of(alloc: Global, plan: &Plan, end: &End) -> Result<Vec<u16>, Memory>
-    ensures { IfOk result (λ vids. (v : ℕ) → list_any (λ w. w == v) vids.items ≡ serves plan.now v end.now) }
-{
-    let services = plan.services.as_slice();
-    match &end.services {
-        None => vids_of_all(alloc, services),
-        Some(numbers) => vids_listed(alloc, services, numbers.as_slice()),
+    let mut services = Services::new(alloc);
+    for service in plan.services.as_slice() {
+        add(alloc, &mut services, service)?;
     }
+    Ok(services)
 }
 
 /// The customer port that stands there.
@@ -88,58 +87,93 @@ fn end_at(links: &[LinkPlan], bridge: u8, port: u8) -> Option<&End>
     None
 }
 
-/// What a bridge keeps of a local port.
-fn local_port(alloc: Global, plan: &Plan, number: u8, port: u8) -> Result<LocalPort, Memory>
-    requires { IsSound plan.now }
-    ensures { IfOk result (IsKept plan.now (port_at plan.now number port)) }
+/// Makes a local port a customer's.
+fn join(services: &mut Services, customer: &CustomerPlan) -> Result<(), Memory>
+    requires priority { customer.now.pcp ≤ 7 }
+    requires known { is_known services.old customer.now.service ≡ true }
+    requires free { is_taken services.old customer.now.port ≡ false }
+    ensures { OnOk result ((join : Join) × (vid_of services.old customer.now.service ≡ Some join.vid) × (join.pcp ≡ customer.now.pcp)
+        × (services.new ≡ attached services.old customer.now.port (Customer join))) }
+{
+    match services.join(customer.port, customer.service, customer.pcp) {
+        Ok(()) => Ok(()),
+        Err(JoinFault::Memory) => Err(Memory),
+        Err(_) => unreachable!(),
+    }
+}
+
+/// Makes a local port one to another bridge.
+fn trunk(alloc: Global, services: &mut Services, end: &End) -> Result<(), Memory>
+    requires known { are_known services.old end.now.services ≡ true }
+    requires free { is_taken services.old end.now.port ≡ false }
+    ensures { OnOk result (services.new ≡ attached services.old end.now.port (Trunk (carried services.old end.now.services))) }
+{
+    let listed = end.services.as_ref().map(|numbers| numbers.as_slice());
+    match services.trunk(alloc, end.port, listed) {
+        Ok(()) => Ok(()),
+        Err(JoinFault::Memory) => Err(Memory),
+        Err(_) => unreachable!(),
+    }
+}
+
+/// Makes a local port in the services what it is in the plan, and gives the state in which it starts.
+fn attach(
+    alloc: Global,
+    services: &mut Services,
+    plan: &Plan,
+    number: u8,
+    port: u8,
+) -> Result<PortState, Memory>
+    requires sound { IsSound plan.now }
+    requires services { HasServices plan.now services.old }
+    requires free { is_taken services.old port ≡ false }
+    ensures kept { IfOk result (λ start. IsKept plan.now (port_at plan.now number port) (local_as services.new start (role_at services.new port))) }
+    ensures services { OnOk result (services.new.services ≡ services.old.services) }
+    ensures others { OnOk result ((p : ℕ) → (p == port) ≡ false → role_at services.new p ≡ role_at services.old p) }
 {
     if let Some(customer) = customer_at(plan.customers.as_slice(), number, port) {
-        let vid = vid_numbered(plan.services.as_slice(), customer.service);
-        return Ok(LocalPort::ToCustomer {
-            vid: vid.unwrap_or(0),
-            pcp: customer.pcp,
-        });
+        join(services, customer)?;
+        return Ok(PortState::Forwarding);
     }
-    match end_at(plan.links.as_slice(), number, port) {
-        Some(end) => Ok(LocalPort::ToBridge {
-            start: end.start,
-            vids: vids_of(alloc, plan, end)?,
-        }),
-        None => Ok(LocalPort::ToNobody),
-    }
+    let Some(end) = end_at(plan.links.as_slice(), number, port) else {
+        return Ok(PortState::Discarding);
+    };
+    trunk(alloc, services, end)?;
+    Ok(end.start)
 }
 
 /// What a bridge keeps of its local ports.
-fn local_ports(alloc: Global, plan: &Plan, number: u8) -> Result<Vec<LocalPort>, Memory>
+fn local_ports(alloc: Global, plan: &Plan, number: u8) -> Result<LocalPorts, Memory>
     requires { IsSound plan.now }
-    ensures { IfOk result (λ ports. KeepsPorts plan.now number ports.items 16) }
+    ensures { IfOk result (λ ports. KeepsPorts plan.now number ports 16) }
 {
-    let mut ports = Vec::with_capacity(alloc, 16)?;
+    let mut services = services_of(alloc, plan)?;
+    let mut starts = [PortState::Discarding; 16];
     for r in 0..16u8 {
-        ports.push(local_port(alloc, plan, number, r + 1)?)?;
+        starts[r as usize] = attach(alloc, &mut services, plan, number, r + 1)?;
     }
-    Ok(ports)
+    Ok(LocalPorts::of(services, starts))
 }
 
 /// The state in which a port starts.
-fn start_state(port: &LocalPort) -> PortState
-    ensures { result ≡ first_state port.now }
+fn start_state(port: Local) -> PortState
+    ensures { result ≡ first_state port }
 {
     match port {
-        LocalPort::ToCustomer { .. } => PortState::Forwarding,
-        LocalPort::ToBridge { start, .. } => *start,
-        LocalPort::ToNobody => PortState::Discarding,
+        Local::Customer { .. } => PortState::Forwarding,
+        Local::Bridge { start } => start,
+        Local::Nobody => PortState::Discarding,
     }
 }
 
 /// The states in which the local ports start.
-fn start_states(ports: &[LocalPort]) -> [PortState; 16]
+fn start_states(ports: &LocalPorts) -> [PortState; 16]
     requires { length ports.now ≡ 16 }
-    ensures { result ≡ map first_state ports.now }
+    ensures { result ≡ map (λ port. first_state (told port)) ports.now }
 {
     let mut states = [PortState::Discarding; 16];
     for r in 0..16usize {
-        states[r] = start_state(&ports[r]);
+        states[r] = start_state(ports.at(r));
     }
     states
 }
@@ -175,7 +209,7 @@ impl Bridge {
         ensures { IfOk result (λ bridge. bridge ≡ record { plan = plan.now; number = number; steps = []; is_reserved = false }) }
     {
         let ports = local_ports(alloc, plan, number)?;
-        let states = start_states(ports.as_slice());
+        let states = start_states(&ports);
         Ok(Bridge {
             alloc,
             plan: plan.clone()?,
@@ -185,8 +219,9 @@ impl Bridge {
             queues: empty_queues(alloc)?,
             capacity: capacity(plan, number),
             limit: plan.steps as usize,
-            table: Fdb::new(alloc),
+            table: Fdb::new(alloc, STATIONS, plan.ageing),
             clock: 0,
+            spare: Spare::new(alloc),
             steps: Vec::new(alloc),
             is_reserved: false,
         })

@@ -9,7 +9,7 @@ use Rattle.pb_frame.specs.Lists.{first}
 use Rattle.pb_svlan.specs.Ports.{IsAscending}
 use Rattle.pb_svlan.specs.ServiceTables.{place_of, role_in}
 use Rattle.pb_svlan.specs.declared.port.Attachment.{Attachment}
-use Rattle.std.proofs.Common.{eq-eqb, length, is_some, ◌≡◌, ℕ, suc, ◌<◌, ◌≤◌, Bool, true, false, cond, nat_lt, ◌||◌, ◌==◌, List, [], ◌∷◌, ◌++◌, map, insert, Some, None, refl, sym, ap, ◌∙◌, arith}
+use Rattle.std.proofs.Common.{eq-eqb, length, is_some, get_or, subst, ◌≡◌, ℕ, zero, suc, ◌<◌, ◌≤◌, Bool, true, false, cond, nat_lt, ◌||◌, ◌==◌, List, [], ◌∷◌, ◌++◌, map, insert, Some, None, refl, sym, ap, ◌∙◌, arith}
 use Rattle.std.specs.List.{list_any, filter, AllByRecursion}
 use Rattle.std.specs.Map.{keys_of, values_of}
 
@@ -109,3 +109,22 @@ none_from (Some x) h = cc
 pub ascending-attached : (ports others : List Attachment) (a : Attachment) → IsAscending (map (λ a. a.port) ports) → is_some (role_in ports a.port) ≡ false
     → others ≡ insert ports (place_of a.port ports) a → IsAscending (map (λ a. a.port) others)
 ascending-attached ports others a rise free h = rw h (ascending-placed ports a rise (none_from (role_in ports a.port) free))
+
+-- where a port stands in its place among ascending ones, it is what is found
+pub found-there : (ports : List Attachment) (i port : ℕ) (a : Attachment) → IsAscending (map (λ a. a.port) ports) → i < length ports → a ≡ get_or ports i a → a.port ≡ port
+    → role_in ports port ≡ Some a.role
+found-there [] i port a rise within there is = absurd (omega arith)
+found-there (b ∷ others) zero port a rise within there is =
+    ap (λ t. option_map (λ c. c.role) (cond t (Some b) (first (λ c. c.port == port) others))) (eq-eqb b.port port (ap (λ (z : Attachment). z.port) (sym there) ∙ is)) ∙ ap (λ (z : Attachment). Some z.role) (sym there)
+found-there (b ∷ others) (suc i) port a rise within there is =
+    let below : b.port < a.port = among others i rise.0 (omega arith) there in
+    let differs : (b.port == port) ≡ false = unequal b.port port (omega (arith, below, is)) in
+    ap (λ t. option_map (λ c. c.role) (cond t (Some b) (first (λ c. c.port == port) others))) differs ∙ found-there others i port a rise.1 (omega arith) there is
+  where
+    unequal : (m n : ℕ) → m < n → (m == n) ≡ false
+    unequal m n h = grind (arith, nat_tests)
+
+    among : (others : List Attachment) (i : ℕ) → AllByRecursion (λ m. b.port < m) (map (λ a. a.port) others) → i < length others → a ≡ get_or others i a → b.port < a.port
+    among [] i all within there = absurd (omega arith)
+    among (c ∷ others) zero all within there = subst (λ (z : Attachment). b.port < z.port) (sym there) all.0
+    among (c ∷ others) (suc i) all within there = among others i all.1 (omega arith) there

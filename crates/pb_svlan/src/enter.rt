@@ -42,8 +42,13 @@ fn reserved_octet(frame: &[u8]) -> Option<u8>
     }
 }
 
-/// Why the frame is refused, if it is.
-pub(crate) fn refusal(frame: &[u8]) -> Option<Refuse>
+/// Why a customer's frame is refused, if it is (IEEE 802.1ad clause 9): the first that fits. Takes no
+/// memory.
+///
+/// `Short` is answered under 14 octets, else `Long` over 1,992 (1,996 with a priority tag), else
+/// `Reserved` for a reserved destination, else `STagged` where a service tag's type stands behind the
+/// addresses of the frame without its priority tag.
+pub fn refusal(frame: &[u8]) -> Option<Refuse>
     ensures { result ≡ refusal frame.now }
 {
     if frame.len() < 14 {

@@ -9,6 +9,7 @@ mod port;
 mod services;
 mod vid;
 
+pub use enter::refusal;
 pub use entered::{Entered, Refuse};
 pub use fault::{AddFault, JoinFault};
 pub use port::{Attachment, Join, Role};

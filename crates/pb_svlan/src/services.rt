@@ -1,12 +1,12 @@
 //! Services and their members.
 
-ghost use Rattle.std.specs.Prelude.{◌≡◌, ◌+◌, ◌≤◌, ◌↔◌, ◌++◌, ◌∷◌, [], ◌==◌, true, false, length, insert, unwrap_or, IsTrue, IsOk, IfOk, IfErr, IsSome, OnOk, OnErr, IsErrOf, Some, option_copied};
+ghost use Rattle.std.specs.Prelude.{◌≡◌, ◌+◌, ◌≤◌, ◌↔◌, ◌++◌, ◌∷◌, [], ◌==◌, true, false, length, insert, map, unwrap_or, IsTrue, IsOk, IfOk, IfErr, IsSome, OnOk, OnErr, IsErrOf, Some, option_copied};
 ghost use Rattle.std.specs.List.{list_any, list_all};
 ghost use Rattle.pb_frame.specs.Admission.{same, is_admitted};
 ghost use Rattle.pb_svlan.specs.declared.port.Join.{Join};
 ghost use Rattle.pb_svlan.specs.Entering.{refusal, IsEntered};
 ghost use Rattle.pb_svlan.specs.Ports.{IsAscending};
-ghost use Rattle.pb_svlan.specs.ServiceTables.{vid_of, is_known, are_known, has_name, has_vid, role_in, is_taken, is_member, is_member_as, attached, carried, vids_of, ports_of, pcp_of, vid_at, place_of};
+ghost use Rattle.pb_svlan.specs.ServiceTables.{vid_of, is_known, are_known, has_name, has_vid, role_in, is_taken, is_member, is_member_as, role_at, attached, carried, vids_of, ports_of, pcp_of, vid_at, place_of};
 ghost use Rattle.pb_svlan.specs.declared.port.Role.TheVariants.{Customer, Trunk};
 
 use crate::enter::refusal;
@@ -146,6 +146,13 @@ impl Services {
             }
         }
         Ok(Seq::from_vec(vids))
+    }
+
+    /// What the port is. None is answered for a port that is nothing.
+    pub fn role(&self, port: u8) -> Option<&Role>
+        ensures { option_copied result ≡ role_at self.now port }
+    {
+        role_at(&self.ports, port)
     }
 
     /// The port is something already.
@@ -301,8 +308,19 @@ impl Services {
     }
 }
 
-/// What the port is.
+/// What the port is. Where the first ports all are something, a port's place is found at once.
 fn role_at(ports: &[Attachment], port: u8) -> Option<&Role>
+    requires { IsAscending (map (λ a. a.port) ports.now) }
+    ensures { option_copied result ≡ role_in ports.now port }
+{
+    match ports.get(usize::from(port.saturating_sub(1))) {
+        Some(attachment) if attachment.port == port => Some(&attachment.role),
+        _ => searched(ports, port),
+    }
+}
+
+/// What the port is, of those that are something.
+fn searched(ports: &[Attachment], port: u8) -> Option<&Role>
     ensures { option_copied result ≡ role_in ports.now port }
 {
     for attachment in ports {

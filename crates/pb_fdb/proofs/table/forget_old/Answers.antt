@@ -1,8 +1,14 @@
-use Rattle.std.proofs.Common.{rules}
-use Rattle.std.proofs.lemmas.Fn.{filter_same}
-use Rattle.pb_frame.specs.Stations.{is_fresh}
-use Rattle.pb_fdb.specs.Entries.{sighting_of}
+use Rattle.std.proofs.Common.{sym, ap, ◌∙◌}
+use Rattle.pb_fdb.specs.Entries.{fresh_entries}
+use Rattle.pb_fdb.proofs.OrderLemmas.{oldest-fresh, oldest-none}
 use Rattle.pb_fdb.proofs.table.forget_old.Goals as goal
 
-pub returns-clause-items : goal.returns-clause-items
-returns-clause-items c = filter_same _ (λ e. is_fresh c.args.ageing c.args.now (sighting_of e)) _ (λ x b f' k. search rules) _ _ c.retain.ensures.filtered
+pub returns-then-is_fresh : goal.returns-then-is_fresh
+returns-then-is_fresh c =
+    sym (oldest-fresh c.args.ageing c.args.now c.loop-entry.journal c.in-Some.entry c.loop-entry.invariant.order (sym c.in-Some.is ∙ c.oldest.ensures) (sym c.is_fresh.ensures ∙ c.if-is_fresh.true))
+    ∙ c.loop-entry.invariant.fresh
+
+pub returns : goal.returns
+returns c =
+    let none = oldest-none c.loop-entry.journal (sym c.in_default.is ∙ c.oldest.ensures) in
+    none ∙ ap (fresh_entries c.args.ageing c.args.now) (sym none) ∙ c.loop-entry.invariant.fresh

@@ -1,13 +1,11 @@
-use Rattle.std.proofs.Common.{arith, sym, ap, ◌∙◌, length-set}
-use Rattle.std.proofs.lemmas.List.{get_or_read_under}
+use Rattle.std.proofs.Common.{arith, ap, ◌∙◌, length-set}
 use Rattle.pb_relay.proofs.StartLemmas.{states_more, states_all}
-use Rattle.pb_relay.proofs.start.start_states.Goals as goal
 use Rattle.pb_relay.specs.Starts.{first_state}
-use Rattle.pb_relay.specs.declared.ports.LocalPort.TheVariants.{ToNobody}
+use Rattle.pb_relay.proofs.start.start_states.Goals as goal
 
 pub loop-r-preserved : goal.loop-r-preserved
 loop-r-preserved c =
-    let here = c.start_state.ensures ∙ ap first_state (get_or_read_under c.args.ports.now c.loop-r.r 16 c.index-ports-r.result ToNobody c.index-ports-r.is c.loop-r-test.true (sym c.requires)) in (
+    let here = c.start_state.ensures ∙ ap first_state c.at.ensures in (
       length-set _ _ _ ∙ c.loop-r.invariant.0,
       states_more c.loop-r.states c.args.ports.now c.loop-r.r c.start_state.result (omega (arith, c.loop-r.invariant.0, c.loop-r-test.true)) c.loop-r.invariant.1 here,
     )

@@ -1,74 +1,174 @@
-use Rattle.std.proofs.Common.{◌≡◌, [], false, not, nat_le, ap, sym, ◌∙◌, subst, arith, refl, Err, vec_capacity, length-append}
+use Rattle.std.proofs.Common.{◌≡◌, ◌≤◌, ◌==◌, ◌++◌, ◌∷◌, [], ℕ, None, Some, false, true, nat_le, length, ap, sym, ◌∙◌, subst, refl, arith}
 use Rattle.std.proofs.lemmas.Bool.Decides.{nat_tests}
 use Rattle.pb_frame.specs.Frames.{is_group}
-use Rattle.pb_frame.specs.Stations.{is_fresh, overrides, after}
+use Rattle.pb_frame.specs.Stations.{is_fresh, after}
 use Rattle.pb_frame.specs.Stations.News.{Seen}
-use Rattle.pb_frame.specs.declared.learnt.Learnt.TheVariants.{New, Kept}
-use Rattle.pb_fdb.specs.Entries.{sighting_of, sightings, table_of}
-use Rattle.pb_fdb.specs.Rooms.{IsRoom}
-use Rattle.pb_fdb.specs.Tables.{where_in, is_full, sighting_at, learnt_table}
-use Rattle.pb_fdb.proofs.EntryLemmas.{found_fits, filter_fits, filter-map-length, sightings-anew, with_room-table_of}
-use Rattle.pb_fdb.proofs.RoomLemmas.{no_room-answer, no_room-sightings}
+use Rattle.pb_frame.specs.declared.learnt.Learnt.TheVariants.{New, Kept, Moved}
+use Rattle.pb_fdb.specs.declared.entry.Entry.{Entry}
+use Rattle.pb_fdb.specs.Entries.{sighting_of, table_of, without_station, fresh_entries, entries_with_room, IsKept}
+use Rattle.pb_fdb.specs.Tables.{Table, where_in, is_full, sighting_at, learnt_table}
+use Rattle.pb_fdb.proofs.EntryLemmas.{filter_fits, sightings-anew, with_room-table_of}
+use Rattle.pb_fdb.proofs.LearnLemmas.{full-table_of, where-none, where-old, where-fresh, old-room, kept-renewed, swept-renewed, kept-swept}
+use Rattle.pb_fdb.proofs.OrderLemmas.{IsKept-filter, IsKept-later, IsKept-push, IsKept-room, room-left}
 use Rattle.pb_fdb.proofs.table.Fdb.learn.Goals as goal
-use Rattle.pb_fdb.proofs.table.Fdb.learn.Goals.{then-at-port, else-at-port}
 
-pub returns-in-Err-clause-answer : goal.returns-in-Err-clause-answer
-returns-in-Err-clause-answer c =
+pub returns-then-is_full-clause-answer : goal.returns-then-is_full-clause-answer
+returns-then-is_full-clause-answer c =
+    let f = c.self.inside in
+    let now = c.args.now in
     let g : is_group c.args.mac.0 ≡ false = grind (arith, nat_tests) in
-    let full = ap (nat_le c.self.inside.limit) (sym (filter-map-length (is_fresh c.self.inside.ageing c.args.now) c.self.inside.entries.items)) ∙ ap (λ t. is_full t c.args.now) c.self.view_is in
-    no_room-answer _ _ c.args.port c.in-Err.answer _ g (sym (ap (λ t. where_in t c.args.now c.args.vid c.args.mac.0) c.self.view_is) ∙ sym c.in-None.ensures) (subst (λ b. IsRoom b (Err c.in-Err.answer)) full c.in-Err.ensures.answer)
+    subst (λ (t : Table). (is_group c.args.mac.0 ≡ false) × (where_in t now c.args.vid c.args.mac.0 ≡ None) × (is_full t now ≡ true)) c.self.view_is (
+      g,
+      where-none f.limit f.ageing f.clock now c.args.vid c.args.mac.0 f.journal c.in_default.ensures.old,
+      full-table_of f.limit f.ageing f.clock now f.journal ∙ ap (λ j. nat_le f.limit (length (fresh_entries f.ageing now j))) (sym c.in_default.ensures.absent)
+          ∙ sym c.is_full.ensures ∙ c.if-is_full.true,
+    )
 
-pub returns-in-Err-clause-table : goal.returns-in-Err-clause-table
-returns-in-Err-clause-table c =
-    let s = sighting_at c.args.vid c.args.mac.0 c.args.port c.args.now in
-    let old = table_of c.self.inside.limit c.self.inside.ageing c.self.inside.clock c.self.inside.entries.items in
-    ap (table_of c.self.inside.limit c.self.inside.ageing c.args.now) c.in-Err.ensures.err
-    ∙ sym (ap (λ zs. record old { clock = c.args.now; sightings = zs }) (no_room-sightings _ c.in-Err.answer old s c.in-Err.ensures.answer))
-    ∙ ap (λ t. learnt_table t s c.in-Err.answer) c.self.view_is
+pub add-requires-clause-before : goal.add-requires-clause-before
+add-requires-clause-before c =
+    let f = c.self.inside in
+    let now = c.args.now in
+    let in_time = subst (λ (t : Table). t.clock ≤ now) (sym c.self.view_is) c.requires in
+    let kept : IsKept f.limit f.ageing now c.renew.new.self = subst (IsKept f.limit f.ageing now) (sym c.in_default.ensures.absent) (IsKept-later f.limit f.ageing f.clock now f.journal in_time c.self.invariant) in
+    kept.before
 
-pub replace-requires : goal.replace-requires
-replace-requires c = filter_fits _ c.make_room-room.new.entries.items (vec_capacity c.make_room-room.new.entries) (omega (arith, c.in_default.ensures.room))
+pub invariant_of-self-in_default-add : goal.invariant_of-self-in_default-add
+invariant_of-self-in_default-add c =
+    let f = c.self.inside in
+    let now = c.args.now in
+    let in_time = subst (λ (t : Table). t.clock ≤ now) (sym c.self.view_is) c.requires in
+    subst (IsKept f.limit f.ageing now) (sym (c.in_default-add.ensures.err ∙ c.in_default.ensures.absent)) (IsKept-later f.limit f.ageing f.clock now f.journal in_time c.self.invariant)
 
-pub invariant_of-self-in-None : goal.invariant_of-self-in-None
-invariant_of-self-in-None c =
-    let s = sighting_at c.args.vid c.args.mac.0 c.args.port c.args.now in
-    let f = filter_fits (λ e. not (overrides (sighting_of e) (Seen s))) c.make_room-room.new.entries.items c.self.inside.limit (omega (arith, c.in_default.ensures.fits)) in
-    (c.self.invariant.0, rw c.replace.ensures (rw length-append (omega (arith, f))))
+pub returns-in_default-add-clause-answer : goal.returns-in_default-add-clause-answer
+returns-in_default-add-clause-answer c =
+    let f = c.self.inside in
+    let now = c.args.now in
+    let g : is_group c.args.mac.0 ≡ false = grind (arith, nat_tests) in
+    subst (λ (t : Table). (is_group c.args.mac.0 ≡ false) × (where_in t now c.args.vid c.args.mac.0 ≡ None) × (is_full t now ≡ false)) c.self.view_is (
+      g,
+      where-none f.limit f.ageing f.clock now c.args.vid c.args.mac.0 f.journal c.in_default.ensures.old,
+      full-table_of f.limit f.ageing f.clock now f.journal ∙ ap (λ j. nat_le f.limit (length (fresh_entries f.ageing now j))) (sym c.in_default.ensures.absent)
+          ∙ sym c.is_full.ensures ∙ c.if-is_full.false,
+    )
 
-pub replace-requires-in-Some : goal.replace-requires-in-Some
-replace-requires-in-Some c =
-    found_fits c.self.inside.ageing c.args.now (sighting_at c.args.vid c.args.mac.0 c.args.port c.args.now) c.self.inside.entries.items c.in-Some.at (vec_capacity c.self.inside.entries)
-    (sym c.in-Some.ensures) (omega arith)
-
-pub invariant_of-self-in-Some : goal.invariant_of-self-in-Some
-invariant_of-self-in-Some c =
-    let f = found_fits c.self.inside.ageing c.args.now (sighting_at c.args.vid c.args.mac.0 c.args.port c.args.now) c.self.inside.entries.items c.in-Some.at c.self.inside.limit
-    (sym c.in-Some.ensures) c.self.invariant.1 in
-    (c.self.invariant.0, rw c.replace-in-Some.ensures (rw length-append (omega (arith, f))))
+pub invariant_of-self-in_default : goal.invariant_of-self-in_default
+invariant_of-self-in_default c =
+    let f = c.self.inside in
+    let now = c.args.now in
+    let e : Entry = record { vid = c.args.vid; mac = c.args.mac; port = c.args.port; learnt = now } in
+    let in_time = subst (λ (t : Table). t.clock ≤ now) (sym c.self.view_is) c.requires in
+    let j = c.renew.new.self in
+    let kept : IsKept f.limit f.ageing now j = subst (IsKept f.limit f.ageing now) (sym c.in_default.ensures.absent) (IsKept-later f.limit f.ageing f.clock now f.journal in_time c.self.invariant) in
+    let room = room-left f.limit f.ageing now j (sym c.is_full.ensures ∙ c.if-is_full.false) in
+    subst (IsKept f.limit f.ageing now) (sym c.in-Ok.ensures.ok)
+    (IsKept-push f.limit f.ageing (without_station e (entries_with_room f.limit f.ageing now j)) e
+    (IsKept-filter f.limit f.ageing now _ (entries_with_room f.limit f.ageing now j) (IsKept-room f.limit f.ageing now j kept))
+    (filter_fits _ (entries_with_room f.limit f.ageing now j) f.limit room))
 
 pub returns-in_default-clause-answer : goal.returns-in_default-clause-answer
 returns-in_default-clause-answer c =
-    let g : is_group c.args.mac.0 ≡ false = grind (arith, nat_tests) in (
+    let f = c.self.inside in
+    let now = c.args.now in
+    let g : is_group c.args.mac.0 ≡ false = grind (arith, nat_tests) in
+    subst (λ (t : Table). (is_group c.args.mac.0 ≡ false) × (where_in t now c.args.vid c.args.mac.0 ≡ None) × (is_full t now ≡ false)) c.self.view_is (
       g,
-      sym (ap (λ t. where_in t c.args.now c.args.vid c.args.mac.0) c.self.view_is) ∙ sym c.in-None.ensures,
-      sym (ap (λ t. is_full t c.args.now) c.self.view_is) ∙ ap (nat_le c.self.inside.limit) (filter-map-length (is_fresh c.self.inside.ageing c.args.now) c.self.inside.entries.items) ∙ c.in_default.ensures.answer,
+      where-none f.limit f.ageing f.clock now c.args.vid c.args.mac.0 f.journal c.in_default.ensures.old,
+      full-table_of f.limit f.ageing f.clock now f.journal ∙ ap (λ j. nat_le f.limit (length (fresh_entries f.ageing now j))) (sym c.in_default.ensures.absent)
+          ∙ sym c.is_full.ensures ∙ c.if-is_full.false,
     )
 
 pub returns-in_default-clause-table : goal.returns-in_default-clause-table
 returns-in_default-clause-table c =
-    let s = sighting_at c.args.vid c.args.mac.0 c.args.port c.args.now in
-    let limit = c.self.inside.limit in
-    let ageing = c.self.inside.ageing in
-    ap (λ zs. record (table_of limit ageing c.args.now []) { sightings = zs }) (
-    sightings-anew s c.make_room-room.new.entries.items _ _ refl c.replace.ensures
-    ∙ ap (λ es. after (sightings es) (Seen s)) c.in_default.ensures.ok
-    ∙ ap (λ zs. after zs (Seen s)) (sym (with_room-table_of limit ageing c.self.inside.clock c.args.now c.self.inside.entries.items))
+    let f = c.self.inside in
+    let now = c.args.now in
+    let e : Entry = record { vid = c.args.vid; mac = c.args.mac; port = c.args.port; learnt = now } in
+    let s = sighting_at c.args.vid c.args.mac.0 c.args.port now in
+    let anew = c.in-Ok.ensures.ok ∙ ap (λ j. without_station e (entries_with_room f.limit f.ageing now j) ++ e ∷ []) c.in_default.ensures.absent in
+    ap (λ zs. record (table_of f.limit f.ageing now []) { sightings = zs }) (
+    sightings-anew s (entries_with_room f.limit f.ageing now f.journal) _ _ refl anew ∙ ap (λ zs. after zs (Seen s)) (sym (with_room-table_of f.limit f.ageing f.clock now f.journal))
     )
     ∙ ap (λ t. learnt_table t s New) c.self.view_is
 
-pub returns-after-at-port-clause-table : goal.returns-after-at-port-clause-table
-returns-after-at-port-clause-table c =
+pub sweep-requires : goal.sweep-requires
+sweep-requires c =
+    let f = c.self.inside in
+    let e : Entry = record { vid = c.args.vid; mac = c.args.mac; port = c.args.port; learnt = c.args.now } in
+    let in_time = subst (λ (t : Table). t.clock ≤ c.args.now) (sym c.self.view_is) c.requires in
+    let kept : IsKept f.limit f.ageing c.args.now c.renew.new.self = kept-renewed f.limit f.ageing f.clock e f.journal c.renew.new.self c.in-Some.old in_time c.self.invariant c.in-Some.ensures.old c.in-Some.ensures.renewed in
+    kept.order
+
+pub invariant_of-self-then-not-is_fresh : goal.invariant_of-self-then-not-is_fresh
+invariant_of-self-then-not-is_fresh c =
+    let f = c.self.inside in
+    let e : Entry = record { vid = c.args.vid; mac = c.args.mac; port = c.args.port; learnt = c.args.now } in
+    let in_time = subst (λ (t : Table). t.clock ≤ c.args.now) (sym c.self.view_is) c.requires in
+    let kept : IsKept f.limit f.ageing c.args.now c.renew.new.self = kept-renewed f.limit f.ageing f.clock e f.journal c.renew.new.self c.in-Some.old in_time c.self.invariant c.in-Some.ensures.old c.in-Some.ensures.renewed in
+    subst (IsKept f.limit f.ageing c.args.now) (sym c.sweep.ensures) (kept-swept _ f.limit f.ageing c.args.now c.renew.new.self kept)
+
+pub returns-then-not-is_fresh-clause-answer : goal.returns-then-not-is_fresh-clause-answer
+returns-then-not-is_fresh-clause-answer c =
+    let f = c.self.inside in
+    let now = c.args.now in
+    let g : is_group c.args.mac.0 ≡ false = grind (arith, nat_tests) in
+    let stale : is_fresh f.ageing now (sighting_of c.in-Some.old) ≡ false = sym c.is_fresh.ensures ∙ c.if-not-is_fresh.true in
+    subst (λ (t : Table). (is_group c.args.mac.0 ≡ false) × (where_in t now c.args.vid c.args.mac.0 ≡ None) × (is_full t now ≡ false)) c.self.view_is (
+      g,
+      where-old f.limit f.ageing f.clock now c.args.vid c.args.mac.0 f.journal c.in-Some.old c.in-Some.ensures.old stale,
+      full-table_of f.limit f.ageing f.clock now f.journal ∙ old-room f.limit f.ageing now _ f.journal c.in-Some.old c.self.invariant.fits c.in-Some.ensures.old stale,
+    )
+
+pub returns-then-not-is_fresh-clause-table : goal.returns-then-not-is_fresh-clause-table
+returns-then-not-is_fresh-clause-table c =
+    let f = c.self.inside in
+    let now = c.args.now in
+    let e : Entry = record { vid = c.args.vid; mac = c.args.mac; port = c.args.port; learnt = now } in
+    let s = sighting_at c.args.vid c.args.mac.0 c.args.port now in
+    let anew = c.sweep.ensures ∙ swept-renewed _ f.limit f.ageing e f.journal c.renew.new.self (ap (nat_le f.limit) c.len.ensures) c.self.invariant.ageing_is c.in-Some.ensures.renewed in
+    ap (λ zs. record (table_of f.limit f.ageing now []) { sightings = zs }) (
+    sightings-anew s (entries_with_room f.limit f.ageing now f.journal) _ _ refl anew ∙ ap (λ zs. after zs (Seen s)) (sym (with_room-table_of f.limit f.ageing f.clock now f.journal))
+    )
+    ∙ ap (λ t. learnt_table t s New) c.self.view_is
+
+pub invariant_of-self-else-not-is_fresh : goal.invariant_of-self-else-not-is_fresh
+invariant_of-self-else-not-is_fresh c =
+    let f = c.self.inside in
+    let e : Entry = record { vid = c.args.vid; mac = c.args.mac; port = c.args.port; learnt = c.args.now } in
+    let in_time = subst (λ (t : Table). t.clock ≤ c.args.now) (sym c.self.view_is) c.requires in
+    kept-renewed f.limit f.ageing f.clock e f.journal c.renew.new.self c.in-Some.old in_time c.self.invariant c.in-Some.ensures.old c.in-Some.ensures.renewed
+
+pub returns-then-old-port-clause-answer : goal.returns-then-old-port-clause-answer
+returns-then-old-port-clause-answer c =
+    let f = c.self.inside in
+    let now = c.args.now in
+    let g : is_group c.args.mac.0 ≡ false = grind (arith, nat_tests) in
+    let fresh : is_fresh f.ageing now (sighting_of c.in-Some.old) ≡ true = sym c.is_fresh.ensures ∙ c.if-not-is_fresh.false in
+    subst (λ (t : Table). (is_group c.args.mac.0 ≡ false) × (where_in t now c.args.vid c.args.mac.0 ≡ Some c.args.port)) c.self.view_is (
+      g,
+      where-fresh f.limit f.ageing f.clock now c.args.vid c.args.mac.0 f.journal c.in-Some.old c.in-Some.ensures.old fresh ∙ ap (λ p. Some p) c.if-old-port.true,
+    )
+
+pub returns-then-old-port-clause-table : goal.returns-then-old-port-clause-table
+returns-then-old-port-clause-table c =
+    let f = c.self.inside in
     let s = sighting_at c.args.vid c.args.mac.0 c.args.port c.args.now in
-    let e = ap (λ zs. record (table_of c.self.inside.limit c.self.inside.ageing c.args.now []) { sightings = zs }) (sightings-anew s c.self.inside.entries.items _ _ refl c.replace-in-Some.ensures)
-    ∙ ap (λ t. learnt_table t s Kept) c.self.view_is in
-    elim c.if-at-port.branch [ then-at-port w ↦ rw w.result-is e | else-at-port w ↦ rw w.result-is e ]
+    ap (λ zs. record (table_of f.limit f.ageing c.args.now []) { sightings = zs }) (sightings-anew s f.journal _ _ refl c.in-Some.ensures.renewed)
+    ∙ ap (λ t. learnt_table t s Kept) c.self.view_is
+
+pub returns-else-old-port-clause-answer : goal.returns-else-old-port-clause-answer
+returns-else-old-port-clause-answer c =
+    let f = c.self.inside in
+    let now = c.args.now in
+    let g : is_group c.args.mac.0 ≡ false = grind (arith, nat_tests) in
+    let fresh : is_fresh f.ageing now (sighting_of c.in-Some.old) ≡ true = sym c.is_fresh.ensures ∙ c.if-not-is_fresh.false in
+    let other : (c.in-Some.old.port == c.args.port) ≡ false = grind (arith, nat_tests) in
+    subst (λ (t : Table). (is_group c.args.mac.0 ≡ false) × ((x : ℕ) × (where_in t now c.args.vid c.args.mac.0 ≡ Some x) × ((x == c.args.port) ≡ false))) c.self.view_is (
+      g,
+      (c.in-Some.old.port, where-fresh f.limit f.ageing f.clock now c.args.vid c.args.mac.0 f.journal c.in-Some.old c.in-Some.ensures.old fresh, other),
+    )
+
+pub returns-else-old-port-clause-table : goal.returns-else-old-port-clause-table
+returns-else-old-port-clause-table c =
+    let f = c.self.inside in
+    let s = sighting_at c.args.vid c.args.mac.0 c.args.port c.args.now in
+    ap (λ zs. record (table_of f.limit f.ageing c.args.now []) { sightings = zs }) (sightings-anew s f.journal _ _ refl c.in-Some.ensures.renewed)
+    ∙ ap (λ t. learnt_table t s Moved) c.self.view_is

@@ -1,4 +1,4 @@
-use Rattle.std.proofs.Common.{◌≡◌, ◌≤◌, ◌∷◌, ◌++◌, [], Some, None, true, false, cond, List, ℕ, length, length-append, arith, ap, sym, subst, ◌∙◌}
+use Rattle.std.proofs.Common.{◌≡◌, ◌≤◌, ◌∷◌, ◌++◌, [], Some, None, refl, true, false, cond, List, ℕ, length, length-append, arith, ap, sym, subst, ◌∙◌}
 use Rattle.std.specs.List.{filter}
 use Rattle.pb_frame.specs.Frames.{src_of, dst_of, is_group}
 use Rattle.pb_lan.specs.Ports.{port_at, local_ports}
@@ -10,11 +10,12 @@ use Rattle.pb_lan.specs.declared.step.Outcome.{Outcome}
 use Rattle.pb_lan.specs.declared.step.Outcome.TheVariants.{Relayed}
 use Rattle.pb_lan.specs.declared.step.Step.{Step}
 use Rattle.pb_lan.specs.declared.step.Step.TheVariants.{Receive}
-use Rattle.pb_relay.specs.declared.ports.LocalPort.{LocalPort}
 use Rattle.pb_relay.specs.Copies.{AreCopied, copy_at}
 use Rattle.pb_relay.specs.Loads.{IsLoadedAt, is_choice}
 use Rattle.pb_relay.specs.Standing.{BridgeView, IsStanding, with_step}
-use Rattle.pb_relay.specs.Tables.{HasLearnt, where_in}
+use Rattle.pb_fdb.specs.Tables.{sighting_at, where_in as place_in}
+use Rattle.pb_relay.proofs.TableLemmas.{has_learnt, table_learnt, found_in}
+use Rattle.pb_relay.specs.Tables.{HasLearnt}
 use Rattle.pb_relay.proofs.EntryLemmas.{IsAdmitted, carried}
 use Rattle.pb_relay.proofs.ReceiveLemmas.{relayed}
 use Rattle.pb_relay.proofs.StandingLemmas.{capacity-small}
@@ -26,6 +27,11 @@ admitted : (old : BridgeView) (plan : BridgeView) → plan ≡ old → (port : �
 admitted old view e port item vid r =
     carried view.plan (port_at view.plan view.number port) (state_after view.plan view.number view.steps port) item vid
     (subst (λ (v : BridgeView). ruling silent v.plan v.number v.steps port item ≡ Carries vid) (sym e) r)
+
+pub source_of-requires : goal.source_of-requires
+source_of-requires c =
+    let a = admitted _ _ c.self.view_is c.args.port c.args.item c.args.vid c.requires.ruling in
+    subst (λ (w : List ℕ). 14 ≤ length w) (sym c.as_slice-frame.ensures) a.long
 
 pub sought-at-requires : goal.sought-at-requires
 sought-at-requires c =
@@ -47,24 +53,26 @@ whole : (c : goal.Joined-load-2)
     (Receive c.args.port c.args.item (Some c.learn-learnt.result) (Relayed c.choose.new.chosen.items c.queue_copies.new.refused.items) None)
     × IsStanding c.self.inside.plan c.self.inside.number
     (c.self.inside.steps.items ++ Receive c.args.port c.args.item (Some c.learn-learnt.result) (Relayed c.choose.new.chosen.items c.queue_copies.new.refused.items) None ∷ [])
-    c.self.inside.states c.queue_copies.new.queues.items c.self.inside.clock c.learn-learnt.new.self
+    c.self.inside.states c.queue_copies.new.queues.items c.self.inside.clock c.learn-learnt.new.self.sightings
 whole c =
     let mac : c.source_of.result.0 ≡ src_of c.args.item.wire = c.source_of.ensures ∙ ap src_of c.as_slice-frame.ensures in
-    let learns : HasLearnt c.self.inside.plan.ageing c.self.inside.clock c.args.vid c.args.port (src_of c.args.item.wire) c.self.inside.table c.learn-learnt.result c.learn-learnt.new.self =
-    subst (λ (m : List ℕ). HasLearnt c.self.inside.plan.ageing c.self.inside.clock c.args.vid c.args.port m c.self.inside.table c.learn-learnt.result c.learn-learnt.new.self) mac
-    (record { answer = c.learn-learnt.ensures.answer; table = c.learn-learnt.ensures.table }) in
+    let learns : HasLearnt c.self.inside.plan.ageing c.self.inside.clock c.args.vid c.args.port (src_of c.args.item.wire) c.self.inside.table.sightings c.learn-learnt.result c.learn-learnt.new.self.sightings =
+    subst (λ (m : List ℕ). HasLearnt c.self.inside.plan.ageing c.self.inside.clock c.args.vid c.args.port m c.self.inside.table.sightings c.learn-learnt.result c.learn-learnt.new.self.sightings) mac
+    (has_learnt c.self.inside.plan c.self.inside.clock c.args.vid c.args.port c.source_of.result.0 c.self.inside.table c.learn-learnt.new.self c.learn-learnt.result (omega (arith, c.self.invariant.0.sound.limits.ageing.0)) c.self.invariant.3 c.learn-learnt.ensures.answer c.learn-learnt.ensures.table) in
+    let newer = table_learnt c.self.inside.plan c.self.inside.clock c.self.inside.table c.learn-learnt.new.self (sighting_at c.args.vid c.source_of.result.0 c.args.port c.self.inside.clock) c.learn-learnt.result c.self.invariant.3 refl c.learn-learnt.ensures.table in
     let at = c.sought-at.ensures
-    ∙ ap (λ w. cond (is_group (dst_of w)) None (where_in c.self.inside.plan.ageing c.self.inside.clock c.args.vid (dst_of w) c.learn-learnt.new.self)) c.as_slice-frame.ensures in
-    let chosen : c.choose.new.chosen.items ≡ filter (is_choice c.self.inside.ports.items c.self.inside.states c.args.port c.args.vid c.sought-at.result) local_ports =
-    c.choose.ensures.chosen ∙ ap (λ (ps : List LocalPort). filter (is_choice ps c.self.inside.states c.args.port c.args.vid c.sought-at.result) local_ports) c.as_slice.ensures.value in
-    let copied = subst (λ (ps : List LocalPort). AreCopied c.self.inside.capacity c.args.load.class (copy_at ps c.args.load c.args.item) c.self.inside.queues.items c.choose.new.chosen.items c.queue_copies.new.refused.items c.queue_copies.new.queues.items) c.as_slice-3.ensures.value
-    (subst (λ (qs : List ℕ). AreCopied c.self.inside.capacity c.args.load.class (copy_at c.as_slice-3.result.now c.args.load c.args.item) c.self.inside.queues.items qs c.queue_copies.new.refused.items c.queue_copies.new.queues.items) c.as_slice-2.ensures.value c.queue_copies.ensures.copied) in
+    ∙ ap (λ w. cond (is_group (dst_of w)) None (place_in c.learn-learnt.new.self c.self.inside.clock c.args.vid (dst_of w))) c.as_slice-frame.ensures
+    ∙ ap (λ o. cond (is_group (dst_of c.args.item.wire)) None o) (found_in c.self.inside.plan c.self.inside.clock c.args.vid (dst_of c.args.item.wire) c.learn-learnt.new.self newer.ageing) in
+    let chosen : c.choose.new.chosen.items ≡ filter (is_choice c.self.inside.ports c.self.inside.states c.args.port c.args.vid c.sought-at.result) local_ports =
+    c.choose.ensures.chosen in
+    let copied = subst (λ (qs : List ℕ). AreCopied c.self.inside.capacity c.args.load.class (copy_at c.self.inside.ports c.args.load c.args.item) c.self.inside.queues.items qs c.queue_copies.new.refused.items c.queue_copies.new.queues.items)
+    c.as_slice.ensures.value c.queue_copies.ensures.copied in
     relayed c.self.inside.plan c.self.inside.number c.self.inside.steps.items c.self.inside.states c.self.inside.queues.items c.queue_copies.new.queues.items
-    c.self.inside.clock c.self.inside.table c.learn-learnt.new.self c.self.inside.ports.items c.self.inside.capacity c.self.inside.limit c.args.port c.args.vid c.args.item c.args.load
+    c.self.inside.clock c.self.inside.table.sightings c.learn-learnt.new.self.sightings c.self.inside.ports c.self.inside.capacity c.self.inside.limit c.args.port c.args.vid c.args.item c.args.load
     c.learn-learnt.result c.sought-at.result c.choose.new.chosen.items c.queue_copies.new.refused.items
     c.self.invariant.0 c.self.invariant.1
     (subst (λ (v : BridgeView). ruling silent v.plan v.number v.steps c.args.port c.args.item ≡ Carries c.args.vid) (sym c.self.view_is) c.requires.ruling)
-    (subst (λ (v : BridgeView). IsLoadedAt v.plan (port_at v.plan v.number c.args.port) c.args.item.wire c.args.load) (sym c.self.view_is) c.requires.load)
+    (subst (λ (v : BridgeView). IsLoadedAt v.plan v.number (port_at v.plan v.number c.args.port) c.args.item.wire c.args.load) (sym c.self.view_is) c.requires.load)
     learns at chosen c.choose.ensures.separate copied c.queue_copies.ensures.count
 
 pub invariant_of-self : goal.invariant_of-self
@@ -72,26 +80,27 @@ invariant_of-self c =
     let reserved = c.self.invariant.2.reserved (subst (λ (v : BridgeView). v.is_reserved ≡ true) (sym c.self.view_is) c.requires.reserved) in
     let step : Step = Receive c.args.port c.args.item (Some c.learn-learnt.result) (Relayed c.choose.new.chosen.items c.queue_copies.new.refused.items) None in
     let e : c.append_receive.new.steps.items ≡ c.self.inside.steps.items ++ step ∷ [] =
-    c.append_receive.ensures.items ∙ ap (λ (o : Outcome). c.self.inside.steps.items ++ Receive c.args.port c.args.item (Some c.learn-learnt.result) o None ∷ []) c.into_outcomes-told.ensures.kept in (
+    c.append_receive.ensures.items ∙ ap (λ (o : Outcome). c.self.inside.steps.items ++ Receive c.args.port c.args.item (Some c.learn-learnt.result) o None ∷ []) c.outcomes-told.ensures.kept in (
       c.self.invariant.0,
-      subst (λ (ms : List Step). IsStanding c.self.inside.plan c.self.inside.number ms c.self.inside.states c.queue_copies.new.queues.items c.self.inside.clock c.learn-learnt.new.self)
+      subst (λ (ms : List Step). IsStanding c.self.inside.plan c.self.inside.number ms c.self.inside.states c.queue_copies.new.queues.items c.self.inside.clock c.learn-learnt.new.self.sightings)
           (sym e) (whole c).1,
       record {
         within = omega (arith, reserved.0, ap length e, length-append c.self.inside.steps.items (step ∷ []));
         reserved = λ e. cc;
       },
+      table_learnt c.self.inside.plan c.self.inside.clock c.self.inside.table c.learn-learnt.new.self (sighting_at c.args.vid c.source_of.result.0 c.args.port c.self.inside.clock) c.learn-learnt.result c.self.invariant.3 refl c.learn-learnt.ensures.table,
     )
 
 pub returns : goal.returns
 returns c =
-    let told = c.into_outcomes-told.ensures.told in
-    let same : c.into_outcomes-told.result.1 ≡ c.into_outcomes-told.result.0 = c.into_outcomes-told.ensures.kept ∙ sym told in
-    let e : c.append_receive.new.steps.items ≡ c.self.inside.steps.items ++ Receive c.args.port c.args.item (Some c.learn-learnt.result) c.into_outcomes-told.result.0 None ∷ [] =
+    let told = c.outcomes-told.ensures.told in
+    let same : c.outcomes-told.result.1 ≡ c.outcomes-told.result.0 = c.outcomes-told.ensures.kept ∙ sym told in
+    let e : c.append_receive.new.steps.items ≡ c.self.inside.steps.items ++ Receive c.args.port c.args.item (Some c.learn-learnt.result) c.outcomes-told.result.0 None ∷ [] =
     c.append_receive.ensures.items ∙ ap (λ (o : Outcome). c.self.inside.steps.items ++ Receive c.args.port c.args.item (Some c.learn-learnt.result) o None ∷ []) same in (
       Some c.learn-learnt.result,
       None,
       ap (λ (ms : List Step). record { plan = c.self.inside.plan; number = c.self.inside.number; steps = ms; is_reserved = false }) e
-          ∙ ap (λ (v : BridgeView). with_step v (Receive c.args.port c.args.item (Some c.learn-learnt.result) c.into_outcomes-told.result.0 None)) c.self.view_is,
-      subst (λ (v : BridgeView). Fits silent v.plan v.number v.steps (Receive c.args.port c.args.item (Some c.learn-learnt.result) c.into_outcomes-told.result.0 None)) c.self.view_is
+          ∙ ap (λ (v : BridgeView). with_step v (Receive c.args.port c.args.item (Some c.learn-learnt.result) c.outcomes-told.result.0 None)) c.self.view_is,
+      subst (λ (v : BridgeView). Fits silent v.plan v.number v.steps (Receive c.args.port c.args.item (Some c.learn-learnt.result) c.outcomes-told.result.0 None)) c.self.view_is
           (subst (λ (o : Outcome). Fits silent c.self.inside.plan c.self.inside.number c.self.inside.steps.items (Receive c.args.port c.args.item (Some c.learn-learnt.result) o None)) (sym told) (whole c).0),
     )

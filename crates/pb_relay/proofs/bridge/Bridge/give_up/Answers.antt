@@ -19,11 +19,12 @@ invariant_of-self c =
     let f : Fits silent c.self.inside.plan c.self.inside.number c.self.inside.steps.items step =
     subst (λ (z : Ruling). Follows silent c.self.inside.plan c.self.inside.number c.self.inside.steps.items c.args.port c.args.item None (Filtered Memory) None z) (sym r) (inl (refl, refl, refl)) in (
       c.self.invariant.0,
-      subst (λ (ms : List Step). IsStanding c.self.inside.plan c.self.inside.number ms c.self.inside.states c.self.inside.queues.items c.self.inside.clock c.self.inside.table)
+      subst (λ (ms : List Step). IsStanding c.self.inside.plan c.self.inside.number ms c.self.inside.states c.self.inside.queues.items c.self.inside.clock c.self.inside.table.sightings)
           (sym c.append_receive.ensures.items)
           (after_quiet _ _ _ _ _ _ _ step c.self.invariant.1 f refl refl refl (λ _. refl) (λ _ _. refl)),
       record {
         within = omega (arith, reserved.0, ap length c.append_receive.ensures.items, length-append c.self.inside.steps.items (step ∷ []));
         reserved = λ e. cc;
       },
+      c.self.invariant.3,
     )

@@ -1,4 +1,4 @@
-use Rattle.std.proofs.Common.{◌≡◌, ◌∷◌, ◌++◌, [], Some, None, true, false, List, ℕ, length, length-append, arith, ap, sym, subst, ◌∙◌}
+use Rattle.std.proofs.Common.{◌≡◌, ◌∷◌, ◌++◌, [], Some, None, refl, true, false, List, ℕ, length, length-append, arith, ap, sym, subst, ◌∙◌}
 use Rattle.pb_frame.specs.Frames.{src_of}
 use Rattle.pb_lan.specs.Rules.{silent}
 use Rattle.pb_lan.specs.BridgeLists.{ruling, Fits}
@@ -8,6 +8,8 @@ use Rattle.pb_lan.specs.declared.step.Reason.TheVariants.{NotForwarding}
 use Rattle.pb_lan.specs.declared.step.Step.{Step}
 use Rattle.pb_lan.specs.declared.step.Step.TheVariants.{Receive}
 use Rattle.pb_relay.specs.Standing.{BridgeView, IsStanding, with_step}
+use Rattle.pb_fdb.specs.Tables.{sighting_at}
+use Rattle.pb_relay.proofs.TableLemmas.{has_learnt, table_learnt}
 use Rattle.pb_relay.specs.Tables.{HasLearnt}
 use Rattle.pb_relay.proofs.ReceiveLemmas.{learnt_alone}
 use Rattle.pb_relay.proofs.bridge.Bridge.learn_only.Goals as goal
@@ -17,14 +19,14 @@ whole : (c : goal.After-append_receive)
     → Fits silent c.self.inside.plan c.self.inside.number c.self.inside.steps.items (Receive c.args.port c.args.item (Some c.learn-learnt.result) (Filtered NotForwarding) None)
     × IsStanding c.self.inside.plan c.self.inside.number
     (c.self.inside.steps.items ++ Receive c.args.port c.args.item (Some c.learn-learnt.result) (Filtered NotForwarding) None ∷ [])
-    c.self.inside.states c.self.inside.queues.items c.self.inside.clock c.learn-learnt.new.self
+    c.self.inside.states c.self.inside.queues.items c.self.inside.clock c.learn-learnt.new.self.sightings
 whole c =
     let mac : c.source_of-source.result.0 ≡ src_of c.args.item.wire = c.source_of-source.ensures ∙ ap src_of c.as_slice.ensures in
-    let learns : HasLearnt c.self.inside.plan.ageing c.self.inside.clock c.args.vid c.args.port (src_of c.args.item.wire) c.self.inside.table c.learn-learnt.result c.learn-learnt.new.self =
-    subst (λ (m : List ℕ). HasLearnt c.self.inside.plan.ageing c.self.inside.clock c.args.vid c.args.port m c.self.inside.table c.learn-learnt.result c.learn-learnt.new.self) mac
-    (record { answer = c.learn-learnt.ensures.answer; table = c.learn-learnt.ensures.table }) in
+    let learns : HasLearnt c.self.inside.plan.ageing c.self.inside.clock c.args.vid c.args.port (src_of c.args.item.wire) c.self.inside.table.sightings c.learn-learnt.result c.learn-learnt.new.self.sightings =
+    subst (λ (m : List ℕ). HasLearnt c.self.inside.plan.ageing c.self.inside.clock c.args.vid c.args.port m c.self.inside.table.sightings c.learn-learnt.result c.learn-learnt.new.self.sightings) mac
+    (has_learnt c.self.inside.plan c.self.inside.clock c.args.vid c.args.port c.source_of-source.result.0 c.self.inside.table c.learn-learnt.new.self c.learn-learnt.result (omega (arith, c.self.invariant.0.sound.limits.ageing.0)) c.self.invariant.3 c.learn-learnt.ensures.answer c.learn-learnt.ensures.table) in
     learnt_alone c.self.inside.plan c.self.inside.number c.self.inside.steps.items c.self.inside.states c.self.inside.queues.items
-    c.self.inside.clock c.self.inside.table c.learn-learnt.new.self c.self.inside.ports.items c.self.inside.capacity c.self.inside.limit c.args.port c.args.vid c.args.item
+    c.self.inside.clock c.self.inside.table.sightings c.learn-learnt.new.self.sightings c.self.inside.ports c.self.inside.capacity c.self.inside.limit c.args.port c.args.vid c.args.item
     c.learn-learnt.result c.self.invariant.0 c.self.invariant.1
     (subst (λ (v : BridgeView). ruling silent v.plan v.number v.steps c.args.port c.args.item ≡ LearnsOnly c.args.vid) (sym c.self.view_is) c.requires.ruling)
     learns
@@ -34,12 +36,13 @@ invariant_of-self c =
     let reserved = c.self.invariant.2.reserved (subst (λ (v : BridgeView). v.is_reserved ≡ true) (sym c.self.view_is) c.requires.reserved) in
     let step : Step = Receive c.args.port c.args.item (Some c.learn-learnt.result) (Filtered NotForwarding) None in (
       c.self.invariant.0,
-      subst (λ (ms : List Step). IsStanding c.self.inside.plan c.self.inside.number ms c.self.inside.states c.self.inside.queues.items c.self.inside.clock c.learn-learnt.new.self)
+      subst (λ (ms : List Step). IsStanding c.self.inside.plan c.self.inside.number ms c.self.inside.states c.self.inside.queues.items c.self.inside.clock c.learn-learnt.new.self.sightings)
           (sym c.append_receive.ensures.items) (whole c).1,
       record {
         within = omega (arith, reserved.0, ap length c.append_receive.ensures.items, length-append c.self.inside.steps.items (step ∷ []));
         reserved = λ e. cc;
       },
+      table_learnt c.self.inside.plan c.self.inside.clock c.self.inside.table c.learn-learnt.new.self (sighting_at c.args.vid c.source_of-source.result.0 c.args.port c.self.inside.clock) c.learn-learnt.result c.self.invariant.3 refl c.learn-learnt.ensures.table,
     )
 
 pub returns : goal.returns

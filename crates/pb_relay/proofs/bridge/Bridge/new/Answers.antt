@@ -1,13 +1,15 @@
-use Rattle.std.proofs.Common.{ap, ◌∙◌, refl, map, arith}
+use Rattle.std.proofs.Common.{List, ap, ◌∙◌, refl, sym, subst, map, arith}
+use Rattle.pb_fdb.specs.Tables.{Table}
+use Rattle.pb_relay.specs.Roles.{LocalPort, told}
+use Rattle.pb_relay.specs.Starts.{KeepsPorts, first_state}
 use Rattle.pb_relay.proofs.StartLemmas.{started}
 use Rattle.pb_relay.proofs.bridge.Bridge.new.Goals as goal
-use Rattle.pb_relay.specs.Starts.{first_state}
 
-pub invariant_of-result : goal.invariant_of-result
-invariant_of-result c =
-    let keeps = c.in_ok-ports.ensures in
-    let states = c.start_states-states.ensures ∙ ap (map first_state) c.as_slice.ensures.value in
-    rw (c.in_ok-clone.ensures.cases, c.new-2.ensures.items) (
+pub invariant_of-result-2 : goal.invariant_of-result-2
+invariant_of-result-2 c =
+    let keeps = subst (λ (ps : List LocalPort). KeepsPorts c.args.plan.now c.args.number ps 16) (sym c.ports.view_is) c.in_ok-ports.ensures in
+    let states = c.start_states-states.ensures ∙ ap (map (λ (l : LocalPort). first_state (told l))) (sym c.ports.view_is) in
+    rw (c.in_ok-clone.ensures.cases, c.new-3.ensures.items) (
       record {
         sound = c.requires.sound;
         fixed = c.requires.fixed;
@@ -16,7 +18,8 @@ invariant_of-result c =
         most = c.capacity.ensures;
         steps = refl;
       },
-      started c.args.plan.now c.args.number c.in_ok-ports.ports.items c.start_states-states.result c.in_ok-empty_queues.field-0.items c.new.result
-          c.requires.fixed keeps states c.in_ok-empty_queues.ensures c.new.ensures,
+      started c.args.plan.now c.args.number _ c.start_states-states.result c.in_ok-empty_queues.field-0.items c.new.result.sightings
+          c.requires.fixed keeps states c.in_ok-empty_queues.ensures (ap (λ (t : Table). t.sightings) c.new.ensures),
       record { within = omega arith; reserved = λ t. absurd cc },
+      rw c.new.ensures (record { limit = refl; ageing = refl; in_time = omega arith }),
     )

@@ -44,6 +44,7 @@ invariant_of-self c =
         within = omega (arith, reserved.0, ap length c.append.ensures.items, length-append c.self.inside.steps.items (Transmit c.args.port c.into_pair-item.result.1 ∷ []));
         reserved = λ e. cc;
       },
+      c.self.invariant.3,
     )
 
 pub returns-clause-fits : goal.returns-clause-fits

@@ -1,13 +1,18 @@
-use Rattle.std.proofs.Common.{◌≡◌, true, arith, sym, subst}
+use Rattle.std.proofs.Common.{◌≡◌, ◌-◌, get_or, ℕ, true, arith, sym, subst, ◌∙◌}
 use Rattle.pb_lan.specs.Ports.{port_at, is_used}
 use Rattle.pb_lan.specs.Rules.{silent}
 use Rattle.pb_lan.specs.BridgeLists.{ruling}
 use Rattle.pb_lan.specs.BridgeLists.Ruling.{Carries}
 use Rattle.pb_relay.specs.Loads.{IsLoadedAt}
-use Rattle.pb_relay.specs.Standing.{BridgeView}
+use Rattle.pb_relay.specs.Standing.{BridgeView, HasReceived}
 use Rattle.pb_relay.proofs.EntryLemmas.{loadable, sound_port}
+use Rattle.std.specs.List.{list_any}
+use Rattle.pb_relay.specs.Kinds.{is_to_customer, is_to_bridge}
+use Rattle.pb_relay.specs.Loads.{IsLoad, IsLoadable}
+use Rattle.pb_relay.specs.Roles.LocalPort.{ToNobody}
+use Rattle.pb_relay.specs.declared.ports.Local.{Local}
+use Rattle.pb_relay.proofs.LoadLemmas.{loaded, kept_here}
 use Rattle.pb_relay.proofs.StandingLemmas.{used_port}
-use Rattle.pb_relay.proofs.VerdictLemmas.{kept_port}
 use Rattle.pb_relay.proofs.bridge.Bridge.relay.Goals as goal
 
 pub overflow_sub-port : goal.overflow_sub-port
@@ -15,24 +20,38 @@ overflow_sub-port c =
     (used_port _ _ _ c.self.invariant.0.sound
     (subst (λ (v : BridgeView). is_used (port_at v.plan v.number c.args.port) ≡ true) (sym c.self.view_is) c.requires.used)).0
 
-pub index-local-requires : goal.index-local-requires
-index-local-requires c =
+pub at-local-requires : goal.at-local-requires
+at-local-requires c =
     let l = used_port _ _ _ c.self.invariant.0.sound
     (subst (λ (v : BridgeView). is_used (port_at v.plan v.number c.args.port) ≡ true) (sym c.self.view_is) c.requires.used) in
-    omega (arith, l.0, l.1, c.self.invariant.0.count)
+    omega (arith, l.0, l.1)
 
 pub new-requires : goal.new-requires
 new-requires c =
     let l = used_port _ _ _ c.self.invariant.0.sound
     (subst (λ (v : BridgeView). is_used (port_at v.plan v.number c.args.port) ≡ true) (sym c.self.view_is) c.requires.used) in
-    loadable c.self.inside.plan (port_at c.self.inside.plan c.self.inside.number c.args.port) c.index-local.result.now _ c.args.item _ c.self.invariant.0.sound
+    subst (λ (z : Local). IsLoadable z c.args.item.wire) (sym c.at-local.ensures)
+    (loadable c.self.inside.plan (port_at c.self.inside.plan c.self.inside.number c.args.port) (get_or c.self.inside.ports (c.args.port - 1) ToNobody) _ c.args.item _ c.self.invariant.0.sound
     (sound_port c.self.inside.plan c.self.inside.number c.args.port c.self.invariant.0.sound)
-    (kept_port c.self.inside.plan _ _ _ _ c.args.port c.index-local.result.now c.self.invariant.0 l c.index-local.ensures)
-    (subst (λ (v : BridgeView). ruling silent v.plan v.number v.steps c.args.port c.args.item ≡ Carries c.args.vid) (sym c.self.view_is) c.requires.ruling)
+    (kept_here c.self.inside.plan _ _ _ _ c.args.port c.self.invariant.0 l)
+    (subst (λ (v : BridgeView). ruling silent v.plan v.number v.steps c.args.port c.args.item ≡ Carries c.args.vid) (sym c.self.view_is) c.requires.ruling))
 
 pub carry-requires-clause-load : goal.carry-requires-clause-load
 carry-requires-clause-load c =
     let l = used_port _ _ _ c.self.invariant.0.sound
     (subst (λ (v : BridgeView). is_used (port_at v.plan v.number c.args.port) ≡ true) (sym c.self.view_is) c.requires.used) in
-    subst (λ (v : BridgeView). IsLoadedAt v.plan (port_at v.plan v.number c.args.port) c.args.item.wire c.in-Ok.load) c.self.view_is
-    (c.index-local.result.now, kept_port c.self.inside.plan _ _ _ _ c.args.port c.index-local.result.now c.self.invariant.0 l c.index-local.ensures, c.in-Ok.ensures)
+    subst (λ (v : BridgeView). IsLoadedAt v.plan v.number (port_at v.plan v.number c.args.port) c.args.item.wire c.in-Ok.load) (c.self.view_is ∙ sym c.take_room.ensures.kept)
+    (loaded c.self.inside.plan c.self.inside.number c.self.inside.ports _ _ _ (get_or c.self.inside.ports (c.args.port - 1) ToNobody) c.args.item.wire c.in-Ok.load c.self.invariant.0
+    (kept_here c.self.inside.plan _ _ _ _ c.args.port c.self.invariant.0 l)
+    (subst (λ (z : Local). IsLoad (list_any is_to_customer c.self.inside.ports) (list_any is_to_bridge c.self.inside.ports) z c.args.item.wire c.in-Ok.load) c.at-local.ensures c.in-Ok.ensures))
+
+pub give_up-requires-in_default-take_room-clause-ruling : goal.give_up-requires-in_default-take_room-clause-ruling
+give_up-requires-in_default-take_room-clause-ruling c =
+    subst (λ (v : BridgeView). (vid : ℕ) × (ruling silent v.plan v.number v.steps c.args.port c.args.item ≡ Carries vid)) (sym c.take_room.ensures.kept) (c.args.vid, c.requires.ruling)
+
+pub returns-in_default-take_room : goal.returns-in_default-take_room
+returns-in_default-take_room c =
+    subst (λ (v : BridgeView). HasReceived v c.args.port c.args.item c.give_up-in_default-take_room.result c.give_up-in_default-take_room.new.self) c.take_room.ensures.kept c.give_up-in_default-take_room.ensures
+
+pub returns : goal.returns
+returns c = subst (λ (v : BridgeView). HasReceived v c.args.port c.args.item c.carry.result c.carry.new.self) c.take_room.ensures.kept c.carry.ensures

@@ -1,4 +1,4 @@
-use Rattle.std.proofs.Common.{◌-◌, ◌≡◌, ◌∷◌, ◌++◌, [], true, List, length, length-append, set, arith, ap, sym, subst, ◌∙◌}
+use Rattle.std.proofs.Common.{◌-◌, ◌≡◌, ◌∷◌, ◌++◌, [], true, List, get_or, length, length-append, set, arith, ap, sym, subst, ◌∙◌}
 use Rattle.pb_frame.specs.Stations.{Sighting}
 use Rattle.pb_lan.specs.Ports.{port_at, is_provider}
 use Rattle.pb_lan.specs.declared.step.Moved.{Moved}
@@ -8,7 +8,12 @@ use Rattle.pb_relay.specs.Changes.{moved_by_setting}
 use Rattle.pb_relay.specs.Standing.{BridgeView, IsStanding}
 use Rattle.pb_relay.proofs.SettingLemmas.{provider_used, state_set_is, after_set}
 use Rattle.pb_relay.proofs.StandingLemmas.{used_port}
-use Rattle.pb_relay.proofs.VerdictLemmas.{kept_port}
+use Rattle.pb_fdb.specs.Tables.{Table}
+use Rattle.pb_relay.proofs.TableLemmas.{table_flushed_or, sightings_flushed_or}
+use Rattle.pb_relay.specs.Changes.{state_set}
+use Rattle.pb_relay.specs.Roles.LocalPort.{ToNobody}
+use Rattle.pb_relay.specs.declared.ports.Local.{Local}
+use Rattle.pb_relay.proofs.LoadLemmas.{kept_here}
 use Rattle.pb_relay.proofs.bridge.Bridge.set.Goals as goal
 
 pub overflow_sub-place : goal.overflow_sub-place
@@ -16,11 +21,11 @@ overflow_sub-place c =
     (used_port _ _ _ c.self.invariant.0.sound
     (provider_used _ (subst (λ (v : BridgeView). is_provider (port_at v.plan v.number c.args.port) ≡ true) (sym c.self.view_is) c.requires.provider))).0
 
-pub index-requires : goal.index-requires
-index-requires c =
+pub at-requires : goal.at-requires
+at-requires c =
     let l = used_port _ _ _ c.self.invariant.0.sound
     (provider_used _ (subst (λ (v : BridgeView). is_provider (port_at v.plan v.number c.args.port) ≡ true) (sym c.self.view_is) c.requires.provider)) in
-    omega (arith, l.0, l.1, c.self.invariant.0.count)
+    omega (arith, l.0, l.1)
 
 pub bounds-self-inside-place : goal.bounds-self-inside-place
 bounds-self-inside-place c =
@@ -33,22 +38,24 @@ invariant_of-self c =
     let reserved = c.self.invariant.2.reserved (subst (λ (v : BridgeView). v.is_reserved ≡ true) (sym c.self.view_is) c.requires.reserved) in
     let p = subst (λ (v : BridgeView). is_provider (port_at v.plan v.number c.args.port) ≡ true) (sym c.self.view_is) c.requires.provider in
     let l = used_port _ _ _ c.self.invariant.0.sound (provider_used _ p) in
-    let k = kept_port c.self.inside.plan _ _ _ _ c.args.port c.index.result.now c.self.invariant.0 l c.index.ensures in
+    let k = kept_here c.self.inside.plan _ _ _ _ c.args.port c.self.invariant.0 l in
     let step : Step = Admin c.args.port c.args.up (moved_by_setting c.self.inside.plan c.self.inside.number c.self.inside.steps.items c.args.port c.args.up) in
     let e : c.append.new.steps.items ≡ c.self.inside.steps.items ++ step ∷ [] =
     c.append.ensures.items
     ∙ ap (λ (m : Moved). c.self.inside.steps.items ++ Admin c.args.port c.args.up m ∷ [])
     (c.requires.moved ∙ ap (λ (v : BridgeView). moved_by_setting v.plan v.number v.steps c.args.port c.args.up) (sym c.self.view_is)) in (
       c.self.invariant.0,
-      subst (λ (ms : List Step). IsStanding c.self.inside.plan c.self.inside.number ms (set c.self.inside.states (c.args.port - 1) c.state_set-next.result) c.self.inside.queues.items c.self.inside.clock c.flush_unless.new.table)
+      subst (λ (ms : List Step). IsStanding c.self.inside.plan c.self.inside.number ms (set c.self.inside.states (c.args.port - 1) c.state_set-next.result) c.self.inside.queues.items c.self.inside.clock c.flush_unless.new.table.sightings)
           (sym e)
           (subst (λ (t : List Sighting). IsStanding c.self.inside.plan c.self.inside.number (c.self.inside.steps.items ++ step ∷ []) (set c.self.inside.states (c.args.port - 1) c.state_set-next.result) c.self.inside.queues.items c.self.inside.clock t)
-          (sym c.flush_unless.ensures)
-          (after_set c.self.inside.plan c.self.inside.number c.self.inside.steps.items c.self.inside.states c.self.inside.queues.items c.self.inside.clock c.self.inside.table c.args.port c.args.up c.state_set-next.result
+          (sym (ap (λ (t : Table). t.sightings) c.flush_unless.ensures ∙ sightings_flushed_or c.args.port c.args.up c.self.inside.table))
+          (after_set c.self.inside.plan c.self.inside.number c.self.inside.steps.items c.self.inside.states c.self.inside.queues.items c.self.inside.clock c.self.inside.table.sightings c.args.port c.args.up c.state_set-next.result
           c.self.invariant.1 c.self.invariant.0.fixed p l
-          (c.state_set-next.ensures ∙ state_set_is c.self.inside.plan c.self.inside.number c.args.port c.index.result.now c.args.up p k))),
+          (c.state_set-next.ensures ∙ ap (λ (z : Local). state_set z c.args.up) c.at.ensures
+          ∙ state_set_is c.self.inside.plan c.self.inside.number c.args.port (get_or c.self.inside.ports (c.args.port - 1) ToNobody) c.args.up p k))),
       record {
         within = omega (arith, reserved.0, ap length e, length-append c.self.inside.steps.items (step ∷ []));
         reserved = λ e. cc;
       },
+      rw c.flush_unless.ensures (table_flushed_or c.self.inside.plan c.self.inside.clock c.args.port c.args.up c.self.inside.table c.self.invariant.3),
     )

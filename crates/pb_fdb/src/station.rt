@@ -1,0 +1,39 @@
+//! Stations, and where each was seen last.
+
+ghost use Rattle.std.specs.Hash as fed;
+ghost use Rattle.std.specs.Prelude.{◌++◌, ◌∷◌, []};
+ghost use Rattle.std.proofs.Common.{rules};
+ghost use Rattle.std.specs.Cmp.Rules.{hashing};
+
+use pb_frame::Mac;
+use std::hash::{Hash, Hasher};
+
+/// A station in a service.
+#[derive(Clone, Copy, Debug, PartialEq, Eq)]
+pub struct Station {
+    /// The service: the VID of its S-VLAN.
+    pub vid: u16,
+    /// The station's address.
+    pub mac: Mac,
+}
+
+impl Hash for Station {
+    ghost hash_input = { λ s. fed.u16 s.vid ++ s.mac.0 ∷ [] };
+
+    ghost respects_eq = { Prim.search (hashing, rules) };
+
+    /// Two writes, where a derived one makes eight.
+    fn hash<H: Hasher>(&self, state: &mut H) {
+        state.write_u16(self.vid);
+        state.write(&self.mac.0);
+    }
+}
+
+/// Where and when a station was seen last.
+#[derive(Clone, Copy, Debug, PartialEq, Eq)]
+pub struct LastSeen {
+    /// The port.
+    pub port: u8,
+    /// The moment, in ticks.
+    pub learnt: u32,
+}
