@@ -4,13 +4,12 @@ mod frames;
 mod networks;
 mod one_bridge;
 mod queues;
-mod table;
 mod two_bridges;
 
 ghost use Rattle.std.specs.Prelude.{◌≡◌, IsTrue, true};
 ghost use Rattle.pb_lan.specs.Ports.{port_at, is_used, is_provider};
 
-use crate::ports::LocalPort;
+use crate::ports::{is_bridge, is_customer};
 use crate::{Bridge, BridgeFault};
 use bytes::Bytes;
 use pb_frame::hex_read;
@@ -27,11 +26,8 @@ fn is_port(bridge: &Bridge, port: u8) -> bool
     if port == 0 || port > 16 {
         return false;
     }
-    match &ports[port as usize - 1] {
-        LocalPort::ToCustomer { .. } => true,
-        LocalPort::ToBridge { .. } => true,
-        LocalPort::ToNobody => false,
-    }
+    let local = ports.at(port as usize - 1);
+    is_customer(local) | is_bridge(local)
 }
 
 /// Whether the port goes to another bridge.
@@ -42,10 +38,7 @@ fn is_bridge_port(bridge: &Bridge, port: u8) -> bool
     if port == 0 || port > 16 {
         return false;
     }
-    match &ports[port as usize - 1] {
-        LocalPort::ToBridge { .. } => true,
-        _ => false,
-    }
+    is_bridge(ports.at(port as usize - 1))
 }
 
 /// A bridge of the plan at its start.

@@ -2,47 +2,57 @@
 
 use super::{unmarked, wire};
 use crate::load::Load;
-use crate::ports::LocalPort;
-use crate::verdict::{Verdict, rule};
+use crate::ports::{Local, LocalPorts};
+use crate::verdict::{Verdict, bridge_verdict, customer_verdict};
 use bytes::Bytes;
 use pb_lan::{Item, PortState, Reason};
-use std::alloc::{AllocError, Global};
+use pb_svlan::{Services, Vid};
+use std::alloc::Global;
 use std::test::Fail;
 
 /// What is done with an item at a customer port of the service with VID 100.
 fn at_customer(item: &Item) -> Verdict {
-    let local = LocalPort::ToCustomer { vid: 100, pcp: 0 };
-    rule(&local, PortState::Forwarding, item)
+    customer_verdict(item, 100)
 }
 
-/// What is done with an item at a port to a bridge, for the services with VIDs 100 and 200.
-fn at_bridge(alloc: Global, state: PortState, item: &Item) -> Result<Verdict, AllocError> {
-    let local = LocalPort::ToBridge {
-        start: PortState::Forwarding,
-        vids: vec![in alloc; 100, 200]?,
-    };
-    Ok(rule(&local, state, item))
+/// Port 1, a customer of the service with VID 100, and port 2, to a bridge, for the services with VIDs
+/// 100 and 200.
+fn ports(alloc: Global) -> Result<LocalPorts, Fail> {
+    let mut services = Services::new(alloc);
+    for (name, number) in [("red", 100), ("blue", 200)] {
+        let Some(vid) = Vid::new(number) else {
+            return Err("no VID")?;
+        };
+        services.add(alloc, name, vid)?;
+    }
+    services.join(1, 1, 0)?;
+    services.trunk(alloc, 2, None)?;
+    Ok(LocalPorts::of(services, [PortState::Forwarding; 16]))
 }
 
-/// What a frame brings that came in at that customer port.
+/// What is done with an item at the port to a bridge.
+fn at_bridge(alloc: Global, state: PortState, item: &Item) -> Result<Verdict, Fail> {
+    Ok(bridge_verdict(item, &ports(alloc)?, 1, state))
+}
+
+/// What a frame brings that came in at the customer port.
 fn from_customer(alloc: Global, frame: &Bytes) -> Result<Load, Fail> {
     if frame.len() < 14 {
         return Err("short")?;
     }
-    let local = LocalPort::ToCustomer { vid: 100, pcp: 0 };
-    Ok(Load::new(alloc, &local, frame)?)
+    let local = Local::Customer { vid: 100, pcp: 0 };
+    Ok(Load::new(alloc, &ports(alloc)?, local, frame)?)
 }
 
-/// What a frame brings that came in at a port to a bridge.
+/// What a frame brings that came in at the port to a bridge.
 fn from_bridge(alloc: Global, frame: &Bytes) -> Result<Load, Fail> {
     if frame.len() < 18 {
         return Err("short")?;
     }
-    let local = LocalPort::ToBridge {
+    let local = Local::Bridge {
         start: PortState::Forwarding,
-        vids: vec![in alloc; 100]?,
     };
-    Ok(Load::new(alloc, &local, frame)?)
+    Ok(Load::new(alloc, &ports(alloc)?, local, frame)?)
 }
 
 /// A broadcast of so many octets, all of them 255.
