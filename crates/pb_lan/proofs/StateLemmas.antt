@@ -6,9 +6,9 @@ use Rattle.std.specs.List.{list_any}
 use Rattle.std.specs.declared.option.Option.{Option}
 use Rattle.pb_frame.specs.Lists.{first}
 use Rattle.pb_lan.specs.Numbering.{numbers_from}
-use Rattle.pb_lan.specs.Ports.{port_at, all_ends, is_customer_at, is_end_at, customer_or_else, provider_or_unused}
+use Rattle.pb_lan.specs.Ports.{all_ends, is_customer_at, is_end_at, customer_or_else, provider_or_unused}
 use Rattle.pb_lan.specs.Records.{steps_of}
-use Rattle.pb_lan.specs.Shapes.{moved_of, state_by, state_after, changes_of, changed, start_by, states_after, start_shape}
+use Rattle.pb_lan.specs.Shapes.{moved_of, state_by, state_after, changes_of, changed, states_after, start_shape}
 use Rattle.pb_lan.specs.LastShapes.{shape_after}
 use Rattle.pb_lan.specs.declared.plan.CustomerPlan.{CustomerPlan}
 use Rattle.pb_lan.specs.declared.plan.End.{End}
@@ -16,7 +16,7 @@ use Rattle.pb_lan.specs.declared.plan.Plan.{Plan}
 use Rattle.pb_lan.specs.declared.plan.Spanning.{Spanning}
 use Rattle.pb_lan.specs.declared.shape.PortState.{PortState}
 use Rattle.pb_lan.specs.declared.shape.Shape.{Shape}
-use Rattle.pb_lan.specs.declared.shape.PortState.TheVariants.{Discarding, Forwarding}
+use Rattle.pb_lan.specs.declared.shape.PortState.TheVariants.{Forwarding}
 use Rattle.pb_lan.specs.declared.step.Moved.{Moved}
 use Rattle.pb_lan.specs.declared.step.Step.{Step}
 use Rattle.pb_lan.specs.Ports.{Port}

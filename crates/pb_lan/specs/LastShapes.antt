@@ -1,5 +1,5 @@
 -- The states of all ports at a record's end.
-use Rattle.std.specs.Prelude.{ℕ, List, map}
+use Rattle.std.specs.Prelude.{List, map}
 use Rattle.pb_lan.specs.Numbering.{numbers_from}
 use Rattle.pb_lan.specs.Records.{steps_of}
 use Rattle.pb_lan.specs.Shapes.{states_after}

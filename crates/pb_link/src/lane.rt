@@ -13,10 +13,10 @@ use pb_lan::{Item, Step};
 use std::alloc::Global;
 use std::marker::Model;
 
-/// A lane of a plan: one direction of a link (802.1Q clause 6.7, an individual LAN between two
-/// bridges). It takes items from the bridge at its beginning, loses those that the plan loses, and
-/// puts the others in front of the bridge at its end. It holds at most one item, taken and not yet
-/// put.
+/// A lane of a plan: one direction of a link, which is a point-to-point LAN between two bridges
+/// (802.1D-2004 clause 6.4.3). It takes items from the bridge at its beginning, loses those that the
+/// plan loses, and puts the others in front of the bridge at its end. It holds at most one item,
+/// taken and not yet put.
 ///
 /// Contracts see the numbers of the items that it loses, its steps, and whether there is room for one
 /// more step.

@@ -1,5 +1,5 @@
 -- A network after a step of a bridge.
-use Rattle.std.proofs.Common.{◌≡◌, ℕ, suc, ◌<◌, inl, inr, Bool, List, [], ◌∷◌, ◌++◌, Some, length, slice_get, ◌==◌, if◌then◌else◌, refl, sym, ap, subst, ◌∙◌, arith, append-nil, append_assoc, length-set, ne_eqb}
+use Rattle.std.proofs.Common.{◌≡◌, ℕ, suc, ◌<◌, inl, inr, Bool, List, [], ◌∷◌, ◌++◌, Some, length, slice_get, ◌==◌, if◌then◌else◌, refl, sym, ap, ◌∙◌, append-nil, append_assoc, length-set, ne_eqb}
 use Rattle.std.proofs.Math.ListN.{set}
 use Rattle.std.proofs.lemmas.Option.{slice_get_within}
 use Rattle.pb_frame.proofs.Lists.{eqb-refl}

@@ -6,7 +6,7 @@ use Rattle.std.proofs.Math.ListN.{set}
 use Rattle.std.specs.declared.collections.VecDeque.{VecDeque}
 use Rattle.std.specs.declared.result.Result.{Result}
 use Rattle.pb_lan.specs.BridgeLists.{IsLawfulBridge, Fits}
-use Rattle.pb_lan.specs.Events.{HasDone, with_step}
+use Rattle.pb_lan.specs.Events.{HasDone}
 use Rattle.pb_lan.specs.LaneLists.{IsLawfulLane}
 use Rattle.pb_lan.specs.PortLists.{IsLawfulPort}
 use Rattle.pb_lan.specs.Records.{steps_of}

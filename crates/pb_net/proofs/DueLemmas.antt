@@ -1,22 +1,19 @@
 -- Whether an event is due, told from what the network keeps.
-use Rattle.std.proofs.Common.{◌≡◌, ℕ, suc, ◌+◌, ◌*◌, ◌<◌, ◌≤◌, ◌⊎◌, inl, inr, Bool, true, false, not, ◌||◌, ◌&&◌, ◌==◌, nat_le, List, [], ◌∷◌, ◌++◌, Some, None, Ok, Err, is_some, map, length, slice_get, get_or, sym, ap, subst, ◌∙◌, arith, length-append}
+use Rattle.std.proofs.Common.{◌≡◌, ℕ, suc, ◌+◌, ◌*◌, ◌<◌, ◌≤◌, inl, inr, Bool, true, false, not, ◌||◌, ◌&&◌, ◌==◌, nat_le, List, ◌++◌, Some, None, Ok, Err, is_some, map, length, slice_get, get_or, sym, ap, subst, ◌∙◌, arith, length-append}
 use Rattle.std.proofs.lemmas.Bool.Decides.{leb_tells, nat_tests}
-use Rattle.std.proofs.lemmas.Bool.{eq-eqb, leb-true}
-use Rattle.std.proofs.lemmas.Option.{slice_get_within}
+use Rattle.std.proofs.lemmas.Bool.{eq-eqb}
 use Rattle.std.specs.declared.option.Option.{Option}
 use Rattle.std.specs.declared.result.Result.{Result}
-use Rattle.pb_frame.proofs.Lists.{true-false, false-unless, and-left, and-right}
+use Rattle.pb_frame.proofs.Lists.{true-false}
 use Rattle.pb_lan.proofs.Numbers.{numbered-exists}
-use Rattle.pb_lan.specs.Events.{names_something, is_idle, is_at_limit, is_hand_empty, is_ring_full, is_all_fetched, is_feed_idle, is_deliver_idle, is_take_idle, is_put_idle, sent_to, fetched_from, has_place, begins_at, ends_at}
-use Rattle.pb_lan.specs.LaneLists.{taken, put, carried}
-use Rattle.pb_lan.specs.Numbering.{numbered}
+use Rattle.pb_lan.specs.Events.{names_something, is_idle, is_at_limit, is_hand_empty, is_ring_full, is_all_fetched, is_feed_idle, is_deliver_idle, is_take_idle, is_put_idle, sent_to, fetched_from, begins_at, ends_at}
+use Rattle.pb_lan.specs.LaneLists.{taken, put}
 use Rattle.pb_lan.specs.PortLists.{fed, delivered}
-use Rattle.pb_lan.specs.Plans.{IsSound}
-use Rattle.pb_lan.specs.Ports.{port_at, is_used, is_provider}
+use Rattle.pb_lan.specs.Ports.{port_at, is_used}
 use Rattle.pb_lan.specs.Queues.{waiting}
 use Rattle.pb_lan.specs.Records.{steps_of, received, transmitted}
 use Rattle.pb_lan.specs.declared.event.Event.{Event}
-use Rattle.pb_lan.specs.declared.event.Event.TheVariants.{Poll, Feed, Deliver, Receive, Transmit, Tick, Admin, Take, Put}
+use Rattle.pb_lan.specs.declared.event.Event.TheVariants.{Poll, Feed, Deliver, Receive, Transmit, Take, Put}
 use Rattle.pb_lan.specs.declared.plan.Plan.{Plan}
 use Rattle.pb_lan.specs.declared.plan.CustomerPlan.{CustomerPlan}
 use Rattle.pb_lan.specs.declared.plan.LinkPlan.{LinkPlan}
@@ -29,7 +26,7 @@ use Rattle.pb_relay.specs.Standing.{BridgeView}
 use Rattle.pb_net.specs.Answers.{NetView}
 use Rattle.pb_net.specs.Dues.{IsSifted, IsDueOr}
 use Rattle.pb_net.specs.Nets.{IsFixedPlan, IsKept, ArePlaced, HasNumbers, record_of}
-use Rattle.pb_net.specs.Slots.{IsSlot, MeetsSlot, IsBridgeSpot, IsCustomerSpot, IsLaneStart, IsLaneEnd, bridge_of, port_of, items_at, link_of}
+use Rattle.pb_net.specs.Slots.{IsSlot, MeetsSlot, IsBridgeSpot, IsCustomerSpot, IsLaneStart, IsLaneEnd, items_at}
 use Rattle.pb_net.specs.declared.fault.NetFault.{NetFault}
 use Rattle.pb_net.specs.declared.fault.NetFault.TheVariants.{StepLimit, Memory, NoSuch}
 use Rattle.pb_net.specs.declared.slots.Spot.{Spot}

@@ -1,11 +1,11 @@
 -- The lanes of a sound plan, and the ports where they begin and end.
-use Rattle.std.proofs.Common.{◌≡◌, ℕ, zero, suc, ◌+◌, ◌/◌, ◌%◌, ◌<◌, inl, inr, Bool, true, false, if◌then◌else◌, nat_lt, ◌==◌, List, [], ◌∷◌, Some, None, map, slice_get, flat_map, refl, sym, ap, subst, ◌∙◌, arith, eqb-true}
+use Rattle.std.proofs.Common.{◌≡◌, ℕ, zero, suc, ◌%◌, ◌<◌, inl, inr, Bool, true, false, if◌then◌else◌, nat_lt, ◌==◌, List, [], ◌∷◌, Some, map, slice_get, flat_map, refl, sym, ap, subst, ◌∙◌, arith, eqb-true}
 use Rattle.std.proofs.lemmas.Bool.Decides.{nat_tests}
 use Rattle.std.specs.Cmp.Derive.{both_true}
-use Rattle.std.specs.List.{AllByRecursion, IsDistinct}
+use Rattle.std.specs.List.{IsDistinct}
 use Rattle.pb_frame.proofs.Lists.{and-left, and-right, eqb-refl, first-finds, IsDistinct-front, Some-injective}
 use Rattle.pb_lan.proofs.PortsInPlans.{port_at-end, end_at, end-link, IsEndOf}
-use Rattle.pb_lan.specs.Events.{number_of, link_a, link_b, lane_from, lane_to, begins_at, ends_at}
+use Rattle.pb_lan.specs.Events.{link_a, link_b, lane_from, lane_to, begins_at, ends_at}
 use Rattle.pb_lan.specs.Numbering.{numbered}
 use Rattle.pb_lan.specs.Plans.{IsSound, is_same_port}
 use Rattle.pb_lan.specs.Ports.{port_at, is_end_at, ends_of, all_ends}

@@ -1,7 +1,6 @@
 -- What was sent to a bridge's port, and what was fetched from it, as a customer port or a lane takes
 -- steps.
-use Rattle.std.proofs.Common.{◌≡◌, ℕ, suc, ◌+◌, ◌<◌, ◌⊎◌, inl, inr, List, [], ◌∷◌, ◌++◌, Some, length, slice_get, refl, sym, ap, ◌∙◌, arith, eqb-true}
-use Rattle.std.proofs.Math.ListN.{set}
+use Rattle.std.proofs.Common.{◌≡◌, ℕ, suc, ◌<◌, inl, inr, List, [], ◌∷◌, ◌++◌, Some, length, slice_get, refl, sym, ap, ◌∙◌, arith, eqb-true}
 use Rattle.std.specs.Cmp.Derive.{both_true}
 use Rattle.pb_frame.proofs.Lists.{and-left, and-right, eqb-refl, first-finds, Some-injective}
 use Rattle.pb_lan.proofs.Numbers.{numbered-place}
@@ -23,7 +22,7 @@ use Rattle.pb_lan.specs.declared.step.Step.{Step}
 use Rattle.pb_net.specs.Slots.{link_of}
 use Rattle.pb_net.proofs.Found.{number_of-cases}
 use Rattle.pb_net.proofs.Lanes.{lane_to-is, lane_from-is, lane_to-back, lane_from-back, ends_at-end, begins_at-end}
-use Rattle.pb_net.proofs.OneMore.{same_or_not, one_more-kept, steps_of-set_other}
+use Rattle.pb_net.proofs.OneMore.{one_more-kept, steps_of-set_other}
 
 -- a customer port has its number where it stands
 pub customer_there-is : (plan : Plan) → IsSound plan → (n : ℕ) (c : CustomerPlan) → numbered plan.customers n ≡ Some c → customer_there plan c.bridge c.port ≡ n

@@ -5,11 +5,9 @@ use Rattle.std.proofs.lemmas.List.{map-append}
 use Rattle.std.proofs.lemmas.Option.{slice_get_within}
 use Rattle.pb_lan.specs.Events.{with_step, sent_to, fetched_from}
 use Rattle.pb_lan.specs.PortLists.{fed, delivered, fed_by, delivered_by, all_delivered, Delivered, IsLawfulPort}
-use Rattle.pb_lan.specs.Numbering.{numbered}
 use Rattle.pb_lan.specs.Plans.{IsSound}
 use Rattle.pb_lan.specs.Records.{steps_of}
 use Rattle.pb_lan.specs.declared.plan.Plan.{Plan}
-use Rattle.pb_lan.specs.declared.plan.CustomerPlan.{CustomerPlan}
 use Rattle.pb_lan.specs.declared.record.Record.{Record}
 use Rattle.pb_lan.specs.declared.step.Item.{Item}
 use Rattle.pb_lan.specs.declared.step.Place.TheVariants.{Customer}

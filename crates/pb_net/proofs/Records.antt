@@ -1,5 +1,5 @@
 -- What a network keeps makes its record lawful, and what it answers makes a run.
-use Rattle.std.proofs.Common.{◌≡◌, ℕ, zero, suc, ◌+◌, ◌-◌, ◌*◌, ◌<◌, ◌≤◌, inl, inr, Bool, true, false, if◌then◌else◌, nat_le, ◌&&◌, List, [], ◌∷◌, ◌++◌, Some, None, Ok, Err, is_some, unwrap_or, map, length, take, slice_get, get_or, refl, sym, ap, subst, ◌∙◌, arith, ne_eqb}
+use Rattle.std.proofs.Common.{◌≡◌, ℕ, zero, suc, ◌+◌, ◌-◌, ◌<◌, ◌≤◌, inl, inr, Bool, true, if◌then◌else◌, nat_le, ◌&&◌, List, [], ◌∷◌, ◌++◌, Some, Ok, Err, is_some, unwrap_or, map, length, take, slice_get, get_or, refl, sym, ap, subst, ◌∙◌, arith, ne_eqb}
 use Rattle.std.proofs.lemmas.Bool.{eq-eqb, leb-true}
 use Rattle.std.specs.Option.{option_map}
 use Rattle.std.specs.declared.option.Option.{Option}
@@ -31,7 +31,7 @@ use Rattle.pb_relay.specs.declared.fault.BridgeFault.TheVariants.{StepLimit as b
 use Rattle.pb_net.specs.Answers.{NetView, IsDue, IsAnswer, HaveRun, HasStopped}
 use Rattle.pb_net.specs.Faults.{fault_of}
 use Rattle.pb_net.specs.Nets.{IsFixedPlan, IsKept, ArePlaced}
-use Rattle.pb_net.specs.Slots.{IsSlot, IsBridgeSpot, items_at, link_of, losses_at, losses_of}
+use Rattle.pb_net.specs.Slots.{IsBridgeSpot, items_at, link_of, losses_at, losses_of}
 use Rattle.pb_net.specs.declared.did.Did.{Did}
 use Rattle.pb_net.specs.declared.fault.NetFault.{NetFault}
 use Rattle.pb_net.specs.declared.fault.NetFault.TheVariants.{StepLimit, Memory, NoSuch}

@@ -1,5 +1,5 @@
 -- Where the tables of a network have its places.
-use Rattle.std.proofs.Common.{◌≡◌, ℕ, zero, suc, ◌+◌, ◌-◌, ◌*◌, ◌/◌, ◌%◌, ◌<◌, ◌≤◌, ◌⊎◌, inl, inr, Bool, true, false, nat_le, ◌&&◌, List, [], ◌∷◌, Some, None, is_some, length, slice_get, get_or, refl, sym, ap, subst, ◌∙◌, arith}
+use Rattle.std.proofs.Common.{◌≡◌, ℕ, zero, suc, ◌+◌, ◌-◌, ◌*◌, ◌/◌, ◌%◌, ◌<◌, ◌⊎◌, inl, inr, true, false, nat_le, ◌&&◌, List, [], ◌∷◌, is_some, length, slice_get, get_or, refl, ap, subst, ◌∙◌, arith}
 use Rattle.std.proofs.lemmas.Bool.Decides.{nat_tests}
 use Rattle.pb_lan.proofs.Numbers.{numbered-All}
 use Rattle.pb_lan.proofs.PortsInPlans.{customer_at, end_at, sound-end}
@@ -13,7 +13,7 @@ use Rattle.pb_link.specs.Hands.{PlaceView}
 use Rattle.pb_link.specs.Lanes.{LaneView}
 use Rattle.pb_relay.specs.Standing.{BridgeView}
 use Rattle.pb_net.specs.Nets.{ArePlaced}
-use Rattle.pb_net.specs.Slots.{AreTables, IsSlot, MeetsSlot, JoinsSlots, IsBridgeSpot, IsCustomerSpot, IsLaneStart, IsLaneEnd, bridge_of, port_of, use_of}
+use Rattle.pb_net.specs.Slots.{AreTables, IsSlot, MeetsSlot, JoinsSlots, IsBridgeSpot, IsCustomerSpot, IsLaneStart, IsLaneEnd, port_of, use_of}
 use Rattle.pb_net.specs.declared.slots.PortUse.{PortUse}
 use Rattle.pb_net.specs.declared.slots.PortUse.TheVariants.{ToCustomer, ToBridge, ToNobody}
 use Rattle.pb_net.specs.declared.slots.LaneSlots.{LaneSlots}

@@ -1,5 +1,5 @@
 -- A network at its start.
-use Rattle.std.proofs.Common.{◌≡◌, ℕ, zero, suc, ◌+◌, ◌*◌, ◌/◌, ◌%◌, ◌<◌, inl, inr, Bool, true, false, if◌then◌else◌, ◌||◌, ◌==◌, List, [], ◌∷◌, ◌++◌, Some, None, is_some, unwrap_or, map, length, slice_get, get_or, flat_map, refl, sym, ap, subst, ◌∙◌, arith, length-append}
+use Rattle.std.proofs.Common.{◌≡◌, ℕ, zero, suc, ◌+◌, ◌*◌, ◌<◌, inl, inr, Bool, true, false, if◌then◌else◌, ◌||◌, List, [], ◌∷◌, ◌++◌, Some, None, is_some, unwrap_or, map, length, slice_get, flat_map, refl, sym, ap, subst, ◌∙◌, arith, length-append}
 use Rattle.std.proofs.lemmas.List.{length-map}
 use Rattle.std.specs.List.{list_any}
 use Rattle.std.specs.Option.{option_map}
@@ -8,11 +8,10 @@ use Rattle.std.specs.declared.option.Option.{Option}
 use Rattle.std.specs.Global.{Global}
 use Rattle.pb_frame.proofs.Lists.{All-at}
 use Rattle.pb_frame.specs.Lists.{first}
-use Rattle.pb_lan.proofs.Numbers.{numbered-All}
 use Rattle.pb_lan.proofs.PortsInPlans.{sound-end}
 use Rattle.pb_lan.proofs.StateLemmas.{is_some-first}
 use Rattle.pb_lan.specs.BridgeLists.{IsLawfulBridge}
-use Rattle.pb_lan.specs.Events.{unstepped, empty_record, sent_by, sent_to, fetched_by, fetched_from, begins_at, ends_at, customer_there, lane_to, lane_from}
+use Rattle.pb_lan.specs.Events.{unstepped, empty_record, sent_by, sent_to, fetched_by, fetched_from, customer_there, lane_to, lane_from}
 use Rattle.pb_lan.specs.LaneLists.{IsLawfulLane, taken, put}
 use Rattle.pb_lan.specs.Numbering.{numbered}
 use Rattle.pb_lan.specs.Plans.{IsSound, IsSoundCustomer, Rises}
@@ -32,7 +31,7 @@ use Rattle.pb_link.specs.Hands.{PlaceView}
 use Rattle.pb_link.specs.Lanes.{LaneView}
 use Rattle.pb_relay.specs.Standing.{BridgeView}
 use Rattle.pb_net.specs.Nets.{IsKept, ArePlaced, record_of}
-use Rattle.pb_net.specs.Slots.{IsSlot, JoinsSlots, MeetsSlot, bridge_of, port_of, items_at, use_of, link_of, losses_at, losses_of}
+use Rattle.pb_net.specs.Slots.{IsSlot, JoinsSlots, MeetsSlot, bridge_of, port_of, items_at, use_of, losses_at, losses_of}
 use Rattle.pb_net.specs.Starts.{AreFreshBridges, AreFreshLanes, AreFreshCustomers, AreEmptyBoxes, AreUses, AreLaneSlots, AreCustomerSlots, fresh_bridge, fresh_lane, fresh_customer}
 use Rattle.pb_net.specs.declared.slots.LaneSlots.{LaneSlots}
 use Rattle.pb_net.specs.declared.slots.PortUse.{PortUse}

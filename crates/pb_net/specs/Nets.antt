@@ -1,5 +1,5 @@
 -- What a network keeps of its steps.
-use Rattle.std.specs.Prelude.{◌≡◌, ℕ, ◌+◌, ◌*◌, List, [], ◌++◌, Some, map, length, slice_get}
+use Rattle.std.specs.Prelude.{◌≡◌, ℕ, ◌+◌, ◌*◌, List, ◌++◌, Some, map, length, slice_get}
 use Rattle.pb_lan.specs.BridgeLists.{IsLawfulBridge}
 use Rattle.pb_lan.specs.Events.{sent_to, fetched_from}
 use Rattle.pb_lan.specs.LaneLists.{IsLawfulLane}

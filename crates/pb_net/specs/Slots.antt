@@ -1,6 +1,6 @@
 -- The meeting places at the bridges' ports, by slot: sixteen slots to a bridge, one for each local
 -- port. Each slot has an inbox, of what was sent to the port, and an outbox, of what it transmitted.
-use Rattle.std.specs.Prelude.{◌≡◌, ℕ, ◌+◌, ◌*◌, ◌/◌, ◌%◌, ◌<◌, List, [], Some, None, length, unwrap_or, slice_get, ◌==◌, if◌then◌else◌}
+use Rattle.std.specs.Prelude.{◌≡◌, ℕ, ◌+◌, ◌*◌, ◌/◌, ◌%◌, ◌<◌, List, [], Some, length, unwrap_or, slice_get, ◌==◌, if◌then◌else◌}
 use Rattle.std.specs.Option.{option_map}
 use Rattle.pb_lan.specs.Events.{begins_at, ends_at}
 use Rattle.pb_lan.specs.Numbering.{numbered}

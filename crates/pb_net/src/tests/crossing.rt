@@ -1,7 +1,7 @@
 //! Frames that go from C1 over L1 to C2.
 
 use super::networks::joined;
-use super::{count, crosses, does, enters, leaves, moved, started};
+use super::{count, crosses, enters, leaves, moved, started};
 use crate::{Did, Event, Net};
 use pb_lan::Place;
 use std::alloc::Global;
@@ -74,6 +74,5 @@ fn what_enters_twice_leaves_twice(rt: HostRuntime) -> Result<(), Fail> {
         goes(&rt, alloc, &mut net, frame, tagged, frame)?;
         assert_eq!(rt; count(&rt, &net, Place::Customer(2)), number);
     }
-    does(&rt, &mut net, Event::Tick { bridge: 1 })?;
     Ok(())
 }

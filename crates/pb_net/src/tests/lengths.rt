@@ -43,6 +43,24 @@ fn octets(step: Option<&Step>) -> usize {
     }
 }
 
+/// A frame goes from C1 over L1 to C2, and has these lengths there.
+fn goes(
+    rt: &impl Abort,
+    net: &mut Net,
+    frame: Bytes,
+    on_link: usize,
+    at_end: usize,
+) -> Result<(), Fail> {
+    comes(rt, net, frame)?;
+    crosses(rt, net, (1, 1), 1, (2, 1))?;
+    let lane = net.lanes.first();
+    assert_eq!(rt; lane.map_or(0, |lane| octets(lane.steps().last())), on_link);
+    leaves(rt, net, (2, 2), 2)?;
+    let port = net.customers.get(1);
+    assert_eq!(rt; port.map_or(0, |port| octets(port.steps().last())), at_end);
+    Ok(())
+}
+
 /// A frame that begins so has these lengths at C1, on L1, and at C2.
 fn has_lengths(
     rt: &impl Abort,
@@ -51,20 +69,8 @@ fn has_lengths(
     lengths: [usize; 3],
 ) -> Result<(), Fail> {
     let mut net = started(rt, alloc, joined(alloc, Vec::new(alloc))?)?;
-    comes(rt, &mut net, frame(alloc, head, lengths[0])?)?;
-    crosses(rt, &mut net, (1, 1), 1, (2, 1))?;
-    let on_link = net
-        .lanes
-        .first()
-        .map_or(0, |lane| octets(lane.steps().last()));
-    assert_eq!(rt; on_link, lengths[1]);
-    leaves(rt, &mut net, (2, 2), 2)?;
-    let at_end = net
-        .customers
-        .get(1)
-        .map_or(0, |port| octets(port.steps().last()));
-    assert_eq!(rt; at_end, lengths[2]);
-    Ok(())
+    let frame = frame(alloc, head, lengths[0])?;
+    goes(rt, &mut net, frame, lengths[1], lengths[2])
 }
 
 #[test]

@@ -37,6 +37,13 @@ fn a_port_goes_down_once(rt: HostRuntime) -> Result<(), Fail> {
     let mut net = started(&rt, alloc, joined(alloc, Vec::new(alloc))?)?;
     sets(&rt, &mut net, false)?;
     assert!(rt; super::took(&rt, &net, Place::Bridge(1), 0, &went_down(alloc)?));
+    Ok(())
+}
+
+#[test]
+fn no_customer_port_is_set(rt: HostRuntime) -> Result<(), Fail> {
+    let alloc = rt.alloc();
+    let mut net = started(&rt, alloc, joined(alloc, Vec::new(alloc))?)?;
     let customer = Event::Admin {
         bridge: 1,
         port: 2,
@@ -46,19 +53,36 @@ fn a_port_goes_down_once(rt: HostRuntime) -> Result<(), Fail> {
     Ok(())
 }
 
+/// A broadcast at C1 goes to these ports, after B1's port to B2 was set up or down.
+fn goes_to(
+    rt: &impl Abort,
+    alloc: Global,
+    net: &mut Net,
+    up: bool,
+    ports: &[u8],
+) -> Result<(), Fail> {
+    sets(rt, net, up)?;
+    enters(rt, alloc, net, 1, (1, 2), BROADCAST)?;
+    assert!(rt; ruled(rt, net, 1, &relayed_to(alloc, ports)?));
+    Ok(())
+}
+
 #[test]
 fn a_port_that_is_down_sends_nothing(rt: HostRuntime) -> Result<(), Fail> {
     let alloc = rt.alloc();
     let mut net = started(&rt, alloc, joined(alloc, Vec::new(alloc))?)?;
-    sets(&rt, &mut net, false)?;
-    enters(&rt, alloc, &mut net, 1, (1, 2), BROADCAST)?;
-    assert!(rt; ruled(&rt, &net, 1, &relayed_to(alloc, &[])?));
+    goes_to(&rt, alloc, &mut net, false, &[])?;
     let transmit = Event::Transmit { bridge: 1, port: 1 };
     assert_eq!(rt; net.step(transmit)?, Did::Idle);
-    sets(&rt, &mut net, true)?;
-    enters(&rt, alloc, &mut net, 1, (1, 2), BROADCAST)?;
-    assert!(rt; ruled(&rt, &net, 1, &relayed_to(alloc, &[1])?));
     Ok(())
+}
+
+#[test]
+fn a_port_that_is_up_again_sends(rt: HostRuntime) -> Result<(), Fail> {
+    let alloc = rt.alloc();
+    let mut net = started(&rt, alloc, joined(alloc, Vec::new(alloc))?)?;
+    goes_to(&rt, alloc, &mut net, false, &[])?;
+    goes_to(&rt, alloc, &mut net, true, &[1])
 }
 
 /// What a bridge's last step learnt; None where it is no Receive.

@@ -2,9 +2,10 @@
 
 use super::networks::{customer, end, joined, link, three_customers, two_bridges};
 use super::{crosses, enters, leaves, relayed_to, ruled, started};
-use crate::{Did, Event};
+use crate::{Did, Event, Net};
 use pb_lan::{Outcome, Plan, Reason, Seq};
 use std::alloc::{AllocError, Global};
+use std::process::Abort;
 use std::test::Fail;
 
 /// A broadcast from 02-00-00-00-01-01.
@@ -64,21 +65,22 @@ fn a_port_takes_the_services_that_it_lists(rt: HostRuntime) -> Result<(), Fail> 
     Ok(())
 }
 
+/// A station of blue sends a broadcast at C3, and a frame to it enters C1.
+fn calls_across(rt: &impl Abort, alloc: Global, net: &mut Net) -> Result<(), Fail> {
+    let from_blue = "ffffffffffff0200000003030800";
+    enters(rt, alloc, net, 3, (2, 3), from_blue)?;
+    crosses(rt, net, (2, 1), 2, (1, 1))?;
+    let to_it = "0200000003030200000001010800";
+    enters(rt, alloc, net, 1, (1, 2), to_it)
+}
+
 #[test]
 fn a_station_is_known_in_its_service_alone(rt: HostRuntime) -> Result<(), Fail> {
     let alloc = rt.alloc();
     let mut net = started(&rt, alloc, joined(alloc, Vec::new(alloc))?)?;
-    let from_blue = "ffffffffffff0200000003030800";
-    enters(&rt, alloc, &mut net, 3, (2, 3), from_blue)?;
-    crosses(&rt, &mut net, (2, 1), 2, (1, 1))?;
-    let to_it = "0200000003030200000001010800";
-    enters(&rt, alloc, &mut net, 1, (1, 2), to_it)?;
+    calls_across(&rt, alloc, &mut net)?;
     assert!(rt; ruled(&rt, &net, 1, &relayed_to(alloc, &[1])?));
     crosses(&rt, &mut net, (1, 1), 1, (2, 1))?;
     assert!(rt; ruled(&rt, &net, 2, &relayed_to(alloc, &[2])?));
-    assert_eq!(rt;
-        net.step(Event::Transmit { bridge: 2, port: 3 })?,
-        Did::Idle
-    );
     Ok(())
 }

@@ -1,4 +1,4 @@
-use Rattle.std.proofs.Common.{◌≡◌, ◌++◌, ◌∷◌, [], List, map, take, sym, ap, ◌∙◌, arith}
+use Rattle.std.proofs.Common.{◌++◌, ◌∷◌, [], List, map, take, sym, ap, ◌∙◌}
 use Rattle.pb_lan.specs.Ports.{local_ports}
 use Rattle.pb_lan.specs.Shapes.{state_after}
 use Rattle.pb_lan.specs.declared.shape.PortState.{PortState}

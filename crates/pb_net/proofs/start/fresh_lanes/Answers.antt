@@ -1,4 +1,3 @@
-use Rattle.std.proofs.Common.{◌≡◌}
 use Rattle.pb_net.proofs.OneMore.{here_is}
 use Rattle.pb_net.proofs.StartLemmas.{fresh_lanes-more}
 use Rattle.pb_net.proofs.start.fresh_lanes.Goals as goal

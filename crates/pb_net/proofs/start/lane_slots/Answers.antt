@@ -1,4 +1,3 @@
-use Rattle.std.proofs.Common.{◌≡◌, ◌<◌, ◌+◌, ◌*◌, ◌-◌, ◌==◌, ◌||◌, ℕ, suc, Bool, true, false, not, nat_le, List, [], ◌∷◌, ◌++◌, Some, Err, length, map, get_or, sym, ap, subst, ◌∙◌, arith, refl, deque_len}
 use Rattle.pb_net.proofs.OneMore.{here_is}
 use Rattle.pb_net.proofs.StartLemmas.{lane_slots-more, ends_numbered}
 use Rattle.pb_net.proofs.start.lane_slots.Goals as goal

@@ -1,4 +1,4 @@
-use Rattle.std.proofs.Common.{◌≡◌, ◌<◌, ◌+◌, ◌*◌, ◌-◌, ◌==◌, ◌||◌, ℕ, suc, Bool, true, false, not, nat_le, List, [], ◌∷◌, ◌++◌, Some, Err, length, map, get_or, sym, ap, subst, ◌∙◌, arith, refl, deque_len}
+use Rattle.std.proofs.Common.{◌≡◌, ◌||◌, true, false}
 use Rattle.std.specs.List.{list_any}
 use Rattle.pb_lan.specs.Ports.{is_customer_at, is_end_at}
 use Rattle.pb_net.proofs.StartLemmas.{use-customer, use-end, use-nobody}

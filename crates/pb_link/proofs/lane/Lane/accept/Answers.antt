@@ -1,8 +1,6 @@
-use Rattle.std.proofs.Common.{◌≡◌, ◌<◌, ◌+◌, ◌^◌, ◌==◌, ℕ, Bool, None, Some, sym, arith, length, subst, true, ap, ◌∙◌, if◌then◌else◌}
-use Rattle.std.specs.List.{list_any}
+use Rattle.std.proofs.Common.{◌≡◌, ℕ, None, sym, arith, length, subst, true}
 use Rattle.std.specs.declared.option.Option.{Option}
 use Rattle.pb_link.specs.Lanes.{LaneView, IsLaneKept, is_hand_empty}
-use Rattle.pb_link.specs.Losses.{LossView}
 use Rattle.pb_link.proofs.LaneLemmas.{after_take, length-taken, no_hand}
 use Rattle.pb_link.proofs.lane.Lane.accept.Goals as goal
 

@@ -1,6 +1,6 @@
-use Rattle.std.proofs.Common.{subst, ℕ, ◌≡◌, ◌==◌, ◌∙◌, ap, List, sym}
+use Rattle.std.proofs.Common.{◌==◌, ◌∙◌, ap}
 use Rattle.std.specs.List.{list_any}
-use Rattle.pb_link.specs.Losses.{LossView, IsNext}
+use Rattle.pb_link.specs.Losses.{LossView}
 use Rattle.pb_link.proofs.LossLemmas.{next-more, lost_is}
 use Rattle.pb_link.proofs.losses.Losses.take.Goals as goal
 

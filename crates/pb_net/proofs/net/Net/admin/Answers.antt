@@ -1,4 +1,4 @@
-use Rattle.std.proofs.Common.{◌≡◌, ◌<◌, ◌+◌, ◌*◌, ◌-◌, ◌==◌, ◌||◌, ℕ, suc, Bool, true, false, not, nat_le, List, [], ◌∷◌, ◌++◌, Some, Err, length, map, get_or, sym, ap, subst, ◌∙◌, arith, refl, deque_len}
+use Rattle.std.proofs.Common.{◌≡◌, true, Err, map, sym, ap, subst, refl}
 use Rattle.std.proofs.lemmas.Result.{err_from_is_err_and}
 use Rattle.std.proofs.Math.ListN.{set}
 use Rattle.pb_lan.specs.Events.{HasDone}

@@ -1,10 +1,9 @@
-use Rattle.std.proofs.Common.{◌≡◌, ◌<◌, ◌+◌, ◌*◌, ◌-◌, ◌==◌, ◌||◌, ℕ, suc, Bool, true, false, not, nat_le, List, [], ◌∷◌, ◌++◌, Some, Err, length, map, get_or, sym, ap, subst, ◌∙◌, arith, refl, deque_len}
-use Rattle.pb_net.specs.Answers.{NetView, IsDue, IsAnswer}
+use Rattle.std.proofs.Common.{[], sym, subst}
+use Rattle.pb_net.specs.Answers.{NetView}
 use Rattle.pb_lan.specs.declared.event.Event.TheVariants.{Poll}
 use Rattle.pb_net.specs.Dues.{IsDueOr}
 use Rattle.pb_net.specs.Slots.{IsCustomerSpot}
 use Rattle.pb_net.proofs.DueLemmas.{due_poll_is}
-use Rattle.pb_net.proofs.Done.{box_at, items_in}
 use Rattle.pb_net.proofs.net.Net.due_poll.Goals as goal
 
 pub returns-clause-due : goal.returns-clause-due

@@ -1,5 +1,5 @@
-use Rattle.std.proofs.Common.{◌≡◌, ◌<◌, ◌+◌, ◌*◌, ◌-◌, ◌==◌, ◌||◌, ℕ, suc, Bool, true, false, not, nat_le, List, [], ◌∷◌, ◌++◌, Some, Err, length, map, get_or, sym, ap, subst, ◌∙◌, arith, refl, deque_len}
-use Rattle.pb_net.specs.Answers.{NetView, IsDue, IsAnswer}
+use Rattle.std.proofs.Common.{◌≡◌, ◌*◌, length, map, sym, subst, arith}
+use Rattle.pb_net.specs.Answers.{NetView}
 use Rattle.pb_lan.specs.declared.event.Event.TheVariants.{Put}
 use Rattle.pb_net.specs.Dues.{IsDueOr}
 use Rattle.pb_net.specs.Slots.{IsLaneEnd}

@@ -1,10 +1,10 @@
-use Rattle.std.proofs.Common.{◌≡◌, ◌<◌, ◌+◌, ◌*◌, ◌-◌, ◌==◌, ◌||◌, ℕ, suc, Bool, true, false, not, nat_le, List, [], ◌∷◌, ◌++◌, Some, Err, length, map, get_or, sym, ap, subst, ◌∙◌, arith, refl, deque_len}
+use Rattle.std.proofs.Common.{◌≡◌, ◌*◌, true, false, Err, length, map, sym, ap, subst, ◌∙◌, arith, refl}
 use Rattle.std.proofs.lemmas.Result.{err_from_is_err_and}
 use Rattle.std.proofs.Math.ListN.{set}
 use Rattle.pb_lan.specs.Events.{HasDone, is_idle}
 use Rattle.pb_lan.specs.declared.event.Event.TheVariants.{Receive}
 use Rattle.pb_lan.specs.declared.record.Record.{Record}
-use Rattle.pb_net.specs.Answers.{NetView, IsDue, IsAnswer}
+use Rattle.pb_net.specs.Answers.{NetView}
 use Rattle.pb_net.specs.Nets.{record_of}
 use Rattle.pb_net.specs.Slots.{IsBridgeSpot}
 use Rattle.pb_lan.specs.Events.{is_at_limit}

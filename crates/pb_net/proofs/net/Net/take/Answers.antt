@@ -1,10 +1,10 @@
-use Rattle.std.proofs.Common.{◌≡◌, ◌<◌, ◌+◌, ◌*◌, ◌-◌, ◌==◌, ◌||◌, ℕ, suc, Bool, true, false, not, nat_le, List, [], ◌∷◌, ◌++◌, Some, Err, length, map, get_or, sym, ap, subst, ◌∙◌, arith, refl, deque_len}
+use Rattle.std.proofs.Common.{◌≡◌, ◌*◌, false, length, map, sym, ap, subst, ◌∙◌, refl}
 use Rattle.std.proofs.lemmas.Result.{err_from_is_err_and}
 use Rattle.std.proofs.Math.ListN.{set}
 use Rattle.pb_lan.specs.Events.{HasDone, is_idle}
 use Rattle.pb_lan.specs.declared.event.Event.TheVariants.{Take}
 use Rattle.pb_lan.specs.declared.record.Record.{Record}
-use Rattle.pb_net.specs.Answers.{NetView, IsDue, IsAnswer}
+use Rattle.pb_net.specs.Answers.{NetView}
 use Rattle.pb_net.specs.Nets.{record_of}
 use Rattle.pb_net.specs.Slots.{IsLaneStart}
 use Rattle.pb_link.specs.Lanes.{is_hand_empty}
