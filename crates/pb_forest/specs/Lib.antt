@@ -1,0 +1,2 @@
+pub mod ServiceVids
+pub mod Certificates
