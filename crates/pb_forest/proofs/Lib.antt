@@ -1,1 +1,5 @@
 pub mod CertificateLemmas
+pub mod Sums
+pub mod UsedOnce
+pub mod Flows
+pub mod DrainedBalance

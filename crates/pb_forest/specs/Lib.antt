@@ -1,2 +1,3 @@
 pub mod ServiceVids
 pub mod Certificates
+pub mod Draining

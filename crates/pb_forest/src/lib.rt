@@ -3,6 +3,8 @@
 
 mod active;
 mod certificate;
+mod drained;
 
 pub use certificate::check_rooted;
+pub use drained::is_drained;
 pub use pb_frame::Memory;
