@@ -3,3 +3,4 @@ pub mod Sums
 pub mod UsedOnce
 pub mod Flows
 pub mod DrainedBalance
+pub mod PathLemmas

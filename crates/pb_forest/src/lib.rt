@@ -4,7 +4,9 @@
 mod active;
 mod certificate;
 mod drained;
+mod ways;
 
 pub use certificate::check_rooted;
 pub use drained::is_drained;
 pub use pb_frame::Memory;
+pub use ways::path;
