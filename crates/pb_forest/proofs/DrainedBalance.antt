@@ -272,8 +272,8 @@ port-drained rec mark n c h g = record {
 pub left-drained : (rules : Rules) (plan : Plan) (rec : Record) → IsLawfulRecord rules plan rec → all_left plan rec ≡ 0 → (mark : Mark) → IsDrained plan rec mark
 left-drained rules plan rec lawful h mark = record {
   queues = λ b r.
-    none-of mark (map (λ w. w.item) (waiting plan b r (steps_of rec.bridges b)))
-    (count_by-map is_marked (λ (w : Waiting). w.item) (waiting plan b r (steps_of rec.bridges b)) ∙ none-waits rules plan rec lawful (omega (arith, h)) b r);
+      none-of mark (map (λ w. w.item) (waiting plan b r (steps_of rec.bridges b)))
+      (count_by-map is_marked (λ (w : Waiting). w.item) (waiting plan b r (steps_of rec.bridges b)) ∙ none-waits rules plan rec lawful (omega (arith, h)) b r);
   lanes_ab = on_ab;
   lanes_ba = on_ba;
   ports = at_port;

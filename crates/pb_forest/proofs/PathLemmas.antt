@@ -262,8 +262,7 @@ goes-on plan shape vid rooted s a b i j m n g ne c = by (order (depth_of rooted 
         let r = c.first le in
         let made = climb-a plan shape vid rooted s a b i.bridge i.links.items j.bridge j.links.items g ne le r.0.0 m.bridge r.0.1 r.0.2 in
         let d = made.1 in
-        let stays : depth_of rooted n.bridge ≡ depth_of rooted j.bridge = ap (λ z. depth_of rooted z.bridge) r.1 in
-        (
+        let stays : depth_of rooted n.bridge ≡ depth_of rooted j.bridge = ap (λ z. depth_of rooted z.bridge) r.1 in (
           subst (λ z. Goes plan shape vid rooted a b m.bridge m.links.items z.bridge z.links.items) (sym r.1)
               (subst (λ ks. Goes plan shape vid rooted a b m.bridge ks j.bridge j.links.items) (sym r.0.3) made.0),
           omega (arith, d, stays),
@@ -272,8 +271,7 @@ goes-on plan shape vid rooted s a b i j m n g ne c = by (order (depth_of rooted 
         let r = c.second lt in
         let made = climb-b plan shape vid rooted s a b i.bridge i.links.items j.bridge j.links.items g lt r.0.0 n.bridge r.0.1 r.0.2 in
         let d = made.1 in
-        let stays : depth_of rooted m.bridge ≡ depth_of rooted i.bridge = ap (λ z. depth_of rooted z.bridge) r.1 in
-        (
+        let stays : depth_of rooted m.bridge ≡ depth_of rooted i.bridge = ap (λ z. depth_of rooted z.bridge) r.1 in (
           subst (λ z. Goes plan shape vid rooted a b z.bridge z.links.items n.bridge n.links.items) (sym r.1)
               (subst (λ ks. Goes plan shape vid rooted a b i.bridge i.links.items n.bridge ks) (sym r.0.3) made.0),
           omega (arith, d, stays),

@@ -16,7 +16,10 @@ fn is_below(depths: &[u8], near: &End, far: &End, bridge: usize) -> bool
     if near.bridge as usize != bridge {
         return false;
     }
-    match (numbered(depths, far.bridge as usize), numbered(depths, bridge)) {
+    match (
+        numbered(depths, far.bridge as usize),
+        numbered(depths, bridge),
+    ) {
         (Some(above), Some(here)) => *above as u16 + 1 == *here as u16,
         _ => false,
     }
@@ -157,8 +160,7 @@ fn has_all_entries(plan: &Plan, rooted: &Rooted) -> bool
 fn entries_show(plan: &Plan, shape: &Shape, vid: u16, rooted: &Rooted) -> bool
     ensures { IsTrue result ↔ (AllStand plan.now shape.now vid rooted.now × (AreApart rooted.now.up × AllLeadUp plan.now shape.now vid rooted.now.up)) }
 {
-    all_stand(plan, shape, vid, rooted)
-        && have_one_child(plan, shape, vid, rooted.up.as_slice())
+    all_stand(plan, shape, vid, rooted) && have_one_child(plan, shape, vid, rooted.up.as_slice())
 }
 
 /// Whether parents and depths show that the active links of a service join no bridges in a ring.

@@ -10,3 +10,6 @@ pub use certificate::check_rooted;
 pub use drained::is_drained;
 pub use pb_frame::Memory;
 pub use ways::path;
+
+#[cfg(test)]
+mod tests;

@@ -77,8 +77,14 @@ fn climb_deeper(plan: &Plan, rooted: &Rooted, a: &mut Side, b: &mut Side) -> Res
 fn joined(a: Side, b: Side) -> Result<Vec<u8>, Memory>
     ensures { IfOk result (λ links. links.items ≡ a.links.items ++ reverse b.links.items) }
 {
-    let Side { links: mut path, .. } = a;
-    let Side { links: mut back, .. } = b;
+    let Side {
+        links: mut path,
+        ..
+    } = a;
+    let Side {
+        links: mut back,
+        ..
+    } = b;
     back.reverse();
     for number in &back {
         path.push(*number)?;

@@ -11,10 +11,10 @@ pub returns-then-not-is_marked_if_active : goal.returns-then-not-is_marked_if_ac
 returns-then-not-is_marked_if_active c = (
   (λ h. absurd cc),
   (λ all.
-    let t = c.is_marked_if_active.ensures.1
-    (λ a. (c.requires (c.loop-i.i + 1)).1
-    (lead_at c.args.plan.now c.args.shape.now c.args.vid c.args.ups.now c.as_slice-link-items.result.now c.loop-i.i c.link-item.result c.as_slice-link-items.ensures c.loop-i-test.true c.link-item.is all a)) in
-    cc),
+      let t = c.is_marked_if_active.ensures.1
+      (λ a. (c.requires (c.loop-i.i + 1)).1
+      (lead_at c.args.plan.now c.args.shape.now c.args.vid c.args.ups.now c.as_slice-link-items.result.now c.loop-i.i c.link-item.result c.as_slice-link-items.ensures c.loop-i-test.true c.link-item.is all a)) in
+      cc),
 )
 
 pub returns : goal.returns

@@ -11,8 +11,8 @@ pub returns-then-not-stands : goal.returns-then-not-stands
 returns-then-not-stands c = (
   (λ h. absurd cc),
   (λ all.
-    let t = c.stands.ensures.1 (stand_fails c.args.plan.now c.args.shape.now c.args.vid c.args.rooted.now c.as_slice-up-items.result.now c.loop-i.i c.as_slice-up-items.ensures c.loop-i-test.true all) in
-    cc),
+      let t = c.stands.ensures.1 (stand_fails c.args.plan.now c.args.shape.now c.args.vid c.args.rooted.now c.as_slice-up-items.result.now c.loop-i.i c.as_slice-up-items.ensures c.loop-i-test.true all) in
+      cc),
 )
 
 pub returns : goal.returns
