@@ -1,12 +1,12 @@
 -- The parts of a certificate make it whole.
-use Rattle.std.proofs.Common.{◌≡◌, ◌≢◌, ◌⊎◌, inl, inr, ℕ, zero, suc, ◌+◌, ◌<◌, ◌≤◌, ◌==◌, Some, None, Option, List, slice_get, length, refl, sym, ◌∙◌, ap, subst, ◌↔◌, Bool, true, false, not, arith, get_or, slice_index_or, slice_set, get_or-set_other, get_or-set_same, below_more, add-one, nat_lt, replicate}
+use Rattle.std.proofs.Common.{◌≡◌, ◌≢◌, ◌⊎◌, inl, inr, ℕ, zero, suc, ◌+◌, ◌<◌, ◌≤◌, ◌==◌, Some, None, Option, List, slice_get, length, refl, sym, ◌∙◌, ap, subst, Bool, true, false, not, arith, get_or, slice_index_or, slice_set, get_or-set_other, get_or-set_same, below_more, add-one, nat_lt, replicate}
 use Rattle.std.proofs.Math.ListN.{length-set}
 use Rattle.std.proofs.lemmas.Bool.{eqb-true}
 use Rattle.std.proofs.lemmas.List.{length-replicate, get_or-replicate, get_or_past}
 use Rattle.std.proofs.lemmas.Option.{slice_get-get_or, slice_get_within}
 use Rattle.pb_lan.proofs.Numbers.{numbered-place}
 use Rattle.pb_frame.proofs.Lists.{Some-injective}
-use Rattle.pb_lan.specs.Forests.{Shows, LeadsUp, HasOneChild, Crosses}
+use Rattle.pb_lan.specs.Forests.{Shows}
 use Rattle.pb_lan.specs.Numbering.{numbered}
 use Rattle.pb_lan.specs.Shapes.{is_active}
 use Rattle.pb_lan.specs.declared.plan.Plan.{Plan}

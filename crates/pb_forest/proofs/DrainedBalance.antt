@@ -1,5 +1,5 @@
 -- A record is drained where all that was added was taken away.
-use Rattle.std.proofs.Common.{◌≡◌, ℕ, zero, suc, ◌+◌, ◌-◌, ◌*◌, Some, None, Option, Bool, true, false, cond, ◌&&◌, ◌==◌, ◌↔◌, List, [], ◌∷◌, map, length, slice_get, unwrap_or, refl, sym, ◌∙◌, ap, subst, arith}
+use Rattle.std.proofs.Common.{◌≡◌, ℕ, zero, suc, ◌+◌, ◌-◌, ◌*◌, Some, None, Option, true, false, ◌&&◌, ◌==◌, ◌↔◌, List, [], ◌∷◌, map, slice_get, unwrap_or, refl, sym, ◌∙◌, ap, subst, arith}
 use Rattle.std.proofs.lemmas.Bool.{eqb-true}
 use Rattle.std.specs.Cmp.Derive.{both_true}
 use Rattle.std.specs.List.{AllByRecursion, count_by, flat_map, list_any, sum_by}

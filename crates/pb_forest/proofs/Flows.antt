@@ -1,8 +1,7 @@
 -- What bridges, lanes and customer ports add and take away.
-use Rattle.std.proofs.Common.{◌≡◌, ℕ, zero, suc, ◌+◌, Some, None, Option, Bool, true, false, cond, not, ◌&&◌, ◌==◌, List, [], ◌∷◌, ◌++◌, map, drop, length, slice_get, unwrap_or, refl, sym, ◌∙◌, ap, subst, arith}
+use Rattle.std.proofs.Common.{◌≡◌, ℕ, suc, ◌+◌, Bool, true, false, cond, not, ◌&&◌, ◌==◌, List, [], ◌∷◌, ◌++◌, map, drop, length, unwrap_or, refl, sym, ◌∙◌, ap, subst, arith}
 use Rattle.std.proofs.lemmas.Bool.{eqb-true}
 use Rattle.std.specs.List.{AllByRecursion, count_by, filter, list_any}
-use Rattle.std.specs.Option.{option_to_list}
 use Rattle.pb_forest.proofs.Sums.{given, total, total-agree, total-none, total-plus, total-same, sum_by-total, total-numbered, total_at-swap, total_at-same, total-at, total_at}
 use Rattle.pb_forest.proofs.UsedOnce.{used-once, used-total, used-at}
 use Rattle.pb_forest.specs.Draining.{is_marked, is_some_mark, gets_copy, gain, loss}
@@ -12,10 +11,9 @@ use Rattle.pb_frame.specs.Lists.{IsBeginning}
 use Rattle.pb_lan.proofs.Carriage.{step-own, own-All}
 use Rattle.pb_lan.proofs.QueueCounts.{count_waiting, count_queued}
 use Rattle.pb_lan.proofs.Rulings.{chosen-there, IsChoice}
-use Rattle.pb_lan.specs.BridgeLists.{Fits, Follows, LawfulAfter, IsLawfulBridge, ruling_by, ruling}
+use Rattle.pb_lan.specs.BridgeLists.{Fits, Follows, LawfulAfter, IsLawfulBridge, ruling_by}
 use Rattle.pb_lan.specs.Counts.{pending}
 use Rattle.pb_lan.specs.LaneLists.{Taken, IsLaneStep, taken, all_taken, carried}
-use Rattle.pb_lan.specs.Numbering.{numbered}
 use Rattle.pb_lan.specs.Plans.{IsSound, is_same_port, used_ports}
 use Rattle.pb_lan.specs.PortLists.{IsPortStep, polled, delivered}
 use Rattle.pb_lan.specs.Ports.{port_at, is_member, local_ports}

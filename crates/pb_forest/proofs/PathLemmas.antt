@@ -1,8 +1,8 @@
 -- Climbing from both sides of a path.
-use Rattle.std.proofs.Common.{◌≡◌, ◌≢◌, ◌⊎◌, inl, inr, ℕ, zero, suc, ◌+◌, ◌<◌, ◌≤◌, Some, None, Option, Bool, true, false, List, [], ◌∷◌, ◌++◌, reverse, refl, sym, ◌∙◌, ap, subst, unwrap_or, arith, add-one, append_assoc, nat_eq}
+use Rattle.std.proofs.Common.{◌≡◌, ◌≢◌, ◌⊎◌, inl, inr, ℕ, zero, suc, ◌+◌, ◌<◌, ◌≤◌, Some, None, Option, true, false, List, [], ◌∷◌, ◌++◌, reverse, refl, sym, ◌∙◌, ap, subst, unwrap_or, arith, add-one, append_assoc, nat_eq}
 use Rattle.std.proofs.lemmas.List.{reverse-append}
 use Rattle.std.specs.List.{AllByRecursion, IsDistinct}
-use Rattle.pb_forest.specs.Paths.{depth_of, across, HasUp, Climbs, IsWayBetween}
+use Rattle.pb_forest.specs.Paths.{depth_of, across, HasUp}
 use Rattle.pb_forest.specs.Sides.{ClimbsDeeper}
 use Rattle.pb_forest.specs.declared.ways.Side.{Side}
 use Rattle.pb_frame.proofs.Lists.{Some-injective, All-imply, All-append}

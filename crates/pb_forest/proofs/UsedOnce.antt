@@ -1,5 +1,5 @@
 -- Each port that is used is used once.
-use Rattle.std.proofs.Common.{◌≡◌, ℕ, ◌+◌, Some, None, Option, Bool, true, false, cond, ◌&&◌, ◌||◌, ◌==◌, List, [], ◌∷◌, ◌++◌, map, refl, sym, ◌∙◌, ap, subst, arith, nat_eq}
+use Rattle.std.proofs.Common.{◌≡◌, ℕ, ◌+◌, Some, None, Option, Bool, true, false, cond, ◌&&◌, ◌||◌, ◌==◌, List, [], ◌∷◌, map, refl, sym, ◌∙◌, ap, subst, arith, nat_eq}
 use Rattle.std.proofs.lemmas.Bool.{eqb-true}
 use Rattle.std.specs.List.{AllByRecursion, IsDistinct, list_any}
 use Rattle.pb_forest.proofs.Sums.{given, total, total-same, total-none, total-agree, total-swap, total-once}
@@ -7,8 +7,8 @@ use Rattle.pb_frame.proofs.Lists.{and-left, and-right, All-imply, All-map, All-a
 use Rattle.pb_frame.specs.Lists.{first}
 use Rattle.pb_lan.proofs.Rulings.{local-listed}
 use Rattle.pb_lan.specs.Plans.{IsSound, IsSoundEnd, IsSoundCustomer, IsNumber, is_same_port, used_ports}
-use Rattle.pb_lan.specs.Ports.{Port, port_at, provider_or_unused, customer_or_else, is_customer_at, is_end_at, all_ends, local_ports}
-use Rattle.pb_lan.specs.Ports.Port.{Customer, Provider, Unused}
+use Rattle.pb_lan.specs.Ports.{port_at, provider_or_unused, customer_or_else, is_customer_at, is_end_at, all_ends, local_ports}
+use Rattle.pb_lan.specs.Ports.Port.{Unused}
 use Rattle.pb_lan.specs.declared.plan.Plan.{Plan}
 use Rattle.pb_lan.specs.declared.plan.End.{End}
 use Rattle.pb_lan.specs.declared.plan.CustomerPlan.{CustomerPlan}

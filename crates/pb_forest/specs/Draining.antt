@@ -1,5 +1,5 @@
 -- Customers' frames that come in, are copied and go.
-use Rattle.std.specs.Prelude.{◌≡◌, ℕ, ◌+◌, Bool, true, false, List, [], ◌∷◌, Some, None, ◌==◌, ◌&&◌, ◌↔◌, not, IsTrue, if◌then◌else◌}
+use Rattle.std.specs.Prelude.{◌≡◌, ℕ, ◌+◌, Bool, true, false, List, Some, None, ◌==◌, ◌&&◌, ◌↔◌, not, IsTrue, if◌then◌else◌}
 use Rattle.std.specs.declared.option.Option.{Option}
 use Rattle.std.specs.List.{count_by, list_any, sum_by}
 use Rattle.pb_lan.specs.Counts.{IsDrained}

@@ -1,5 +1,5 @@
 -- The way up in a forest, and the path between two bridges.
-use Rattle.std.specs.Prelude.{◌≡◌, ℕ, ◌≤◌, ◌<◌, ◌++◌, Bool, true, false, List, [], ◌∷◌, Some, None, unwrap_or, ◌==◌, if◌then◌else◌}
+use Rattle.std.specs.Prelude.{◌≡◌, ℕ, ◌++◌, Bool, true, false, List, [], ◌∷◌, Some, None, unwrap_or, ◌==◌, if◌then◌else◌}
 use Rattle.std.specs.declared.option.Option.{Option}
 use Rattle.pb_lan.specs.Forests.{IsPath, AreJoined, Shows}
 use Rattle.pb_lan.specs.Numbering.{numbered}

@@ -123,5 +123,6 @@ pub fn path(
             return Ok(None);
         }
     }
-    Ok(Some(joined(from_a, from_b)?))
+    let links = joined(from_a, from_b)?;
+    Ok(Some(links))
 }

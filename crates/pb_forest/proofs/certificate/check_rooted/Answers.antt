@@ -1,4 +1,4 @@
-use Rattle.std.proofs.Common.{◌≡◌, true, sym, subst}
+use Rattle.std.proofs.Common.{sym, subst}
 use Rattle.pb_forest.proofs.CertificateLemmas.{shows-parts, stand-of, parts-of}
 use Rattle.pb_forest.proofs.certificate.check_rooted.Goals as goal
 use Rattle.pb_lan.specs.Forests.{Shows}

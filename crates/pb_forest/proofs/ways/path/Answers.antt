@@ -1,8 +1,7 @@
-use Rattle.std.proofs.Common.{◌≡◌, List, [], ℕ, ap, sym, subst, reverse, ◌++◌}
-use Rattle.std.specs.List.{IsDistinct}
+use Rattle.std.proofs.Common.{◌≡◌, List, [], ℕ, sym, subst, reverse, ◌++◌}
 use Rattle.pb_forest.proofs.PathLemmas.{Goes, goes-start, goes-on, goes-nowhere, goes-there}
 use Rattle.pb_forest.specs.Sides.{ClimbsDeeper}
-use Rattle.pb_lan.specs.Forests.{Shows, IsPath}
+use Rattle.pb_lan.specs.Forests.{IsPath}
 use Rattle.pb_forest.proofs.ways.path.Goals as goal
 
 pub loop-from_a-init : goal.loop-from_a-init
@@ -37,7 +36,7 @@ returns-then-not-branch c shape vid s =
 
 pub returns : goal.returns
 returns c shape vid s =
-    let links : c.in_ok-joined.field-0.items ≡ c.loop-from_a.from_a.links.items ++ reverse c.loop-from_a.from_b.links.items = c.in_ok-joined.ensures in
-    subst (λ (xs : List ℕ). IsPath c.args.plan.now shape vid c.args.a xs c.args.b) (sym links)
+    let way : c.in_ok-links.links.items ≡ c.loop-from_a.from_a.links.items ++ reverse c.loop-from_a.from_b.links.items = c.in_ok-links.ensures in
+    subst (λ (xs : List ℕ). IsPath c.args.plan.now shape vid c.args.a xs c.args.b) (sym way)
     (goes-there c.args.plan.now shape vid c.args.rooted.now c.args.a c.args.b c.loop-from_a.from_a.bridge c.loop-from_a.from_a.links.items c.loop-from_a.from_b.bridge c.loop-from_a.from_b.links.items
     (c.loop-from_a.invariant shape vid s) c.loop-from_a-test.false)
