@@ -1,0 +1,5 @@
+pub mod ServiceVids
+pub mod Certificates
+pub mod Draining
+pub mod Paths
+pub mod Sides

@@ -1,0 +1,15 @@
+//! Forests of the active links of a service, and paths in them.
+#![tactic(auto)]
+
+mod active;
+mod certificate;
+mod drained;
+mod ways;
+
+pub use certificate::check_rooted;
+pub use drained::is_drained;
+pub use pb_frame::Memory;
+pub use ways::path;
+
+#[cfg(test)]
+mod tests;
