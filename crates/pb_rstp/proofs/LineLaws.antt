@@ -20,8 +20,8 @@ use Rattle.pb_rstp.specs.Machine.{settle, moved_by, ticking, is_hello_time, hell
 use Rattle.pb_rstp.specs.Profile.{after, hear_read}
 use Rattle.pb_rstp.specs.Laws.{IsQuiet, IsInLine}
 use Rattle.pb_rstp.specs.declared.config.RstpPort.{RstpPort}
-use Rattle.pb_rstp.specs.declared.vector.Role.{Role}
-use Rattle.pb_rstp.specs.declared.vector.Role.TheVariants.{Disabled, Root, Designated, Alternate, Backup}
+use Rattle.pb_rstp.specs.declared.role.Role.{Role}
+use Rattle.pb_rstp.specs.declared.role.Role.TheVariants.{Disabled, Root, Designated, Alternate, Backup}
 use Rattle.pb_rstp.proofs.RoleLaws.{HasRoleBy, each-all, keeps-state, roles_settled, roles_related}
 
 -- States.

@@ -12,8 +12,8 @@ use Rattle.pb_rstp.specs.Settling.{nows, each, with_role, with_roles, without_ag
 use Rattle.pb_rstp.specs.declared.moving.Moving.{Moving}
 use Rattle.pb_rstp.specs.declared.moving.Heard.{Heard}
 use Rattle.pb_rstp.specs.declared.vector.Vector.{Vector}
-use Rattle.pb_rstp.specs.declared.vector.Role.{Role}
-use Rattle.pb_rstp.specs.declared.vector.Role.TheVariants.{Disabled, Root, Designated, Alternate, Backup}
+use Rattle.pb_rstp.specs.declared.role.Role.{Role}
+use Rattle.pb_rstp.specs.declared.role.Role.TheVariants.{Disabled, Root, Designated, Alternate, Backup}
 use Rattle.pb_rstp.proofs.RootLaws.{root_vector-is, root_vector-unique}
 
 -- what roles hang on

@@ -20,8 +20,8 @@ use Rattle.pb_rstp.specs.Ports.{Machine, id_of, port_of, is_root, is_designated,
 use Rattle.pb_rstp.specs.declared.port.Port.{Port}
 use Rattle.pb_rstp.specs.Roles.{root_vector}
 use Rattle.pb_rstp.specs.Tree.{root_cost, StandsAt, HasPortAt, Rises, AreBothForwarding, SettledIsForest, LeadsBehindRoots, state_at, states_of, shape_of}
-use Rattle.pb_rstp.specs.declared.vector.Role.{Role}
-use Rattle.pb_rstp.specs.declared.vector.Role.TheVariants.{Disabled, Root, Designated, Alternate, Backup}
+use Rattle.pb_rstp.specs.declared.role.Role.{Role}
+use Rattle.pb_rstp.specs.declared.role.Role.TheVariants.{Disabled, Root, Designated, Alternate, Backup}
 use Rattle.pb_rstp.proofs.ForestLaws.{lower, upper, Falls, numbered-at, numbered-only, is_up, up_of, rooted_by, falling-shows}
 use Rattle.pb_rstp.proofs.SettledLaws.{Network, stands, rises, root_way, root_is, same_number, at_number}
 

@@ -17,8 +17,8 @@ use Rattle.pb_rstp.specs.Roles.{root_vector, IsWay, IsWayOfSome, IsRootVector, H
 use Rattle.pb_rstp.specs.Laws.{IsInLine, IsQuiet}
 use Rattle.pb_rstp.specs.Tree.{root_cost, StandsAt, StoresOffer, LeadsTo, IsSettledLink, IsSettled, HasPorts, HasPortAt, AreMachines, IsNotHeld, NoneHeld, Rises, AreBothForwarding, CostRises}
 use Rattle.pb_rstp.specs.declared.vector.Vector.{Vector}
-use Rattle.pb_rstp.specs.declared.vector.Role.{Role}
-use Rattle.pb_rstp.specs.declared.vector.Role.TheVariants.{Disabled, Root, Designated, Alternate, Backup}
+use Rattle.pb_rstp.specs.declared.role.Role.{Role}
+use Rattle.pb_rstp.specs.declared.role.Role.TheVariants.{Disabled, Root, Designated, Alternate, Backup}
 use Rattle.pb_lan.specs.declared.shape.PortState.{PortState}
 use Rattle.pb_lan.specs.declared.shape.PortState.TheVariants.{Discarding, Learning, Forwarding}
 use Rattle.pb_rstp.proofs.RootLaws.{root_vector-is}

@@ -9,8 +9,8 @@ use Rattle.pb_rstp.specs.declared.port.Info.{Info}
 use Rattle.pb_rstp.specs.declared.port.Port.{Port}
 use Rattle.pb_rstp.specs.Roles.{root_vector}
 use Rattle.pb_rstp.specs.declared.vector.Vector.{Vector}
-use Rattle.pb_rstp.specs.declared.vector.Role.{Role}
-use Rattle.pb_rstp.specs.declared.vector.Role.TheVariants.{Disabled, Root, Designated, Alternate, Backup}
+use Rattle.pb_rstp.specs.declared.role.Role.{Role}
+use Rattle.pb_rstp.specs.declared.role.Role.TheVariants.{Disabled, Root, Designated, Alternate, Backup}
 
 -- a role in the flags (clause 9.3.3)
 abbrev pub role_code : Role → ℕ

@@ -10,8 +10,8 @@ use Rattle.pb_rstp.specs.declared.config.RstpPort.{RstpPort}
 use Rattle.pb_rstp.specs.declared.port.Info.{Info}
 use Rattle.pb_rstp.specs.declared.port.Port.{Port}
 use Rattle.pb_rstp.specs.declared.vector.Vector.{Vector}
-use Rattle.pb_rstp.specs.declared.vector.Role.{Role}
-use Rattle.pb_rstp.specs.declared.vector.Role.TheVariants.{Disabled, Root, Designated, Alternate, Backup}
+use Rattle.pb_rstp.specs.declared.role.Role.{Role}
+use Rattle.pb_rstp.specs.declared.role.Role.TheVariants.{Disabled, Root, Designated, Alternate, Backup}
 
 pub record Machine : Type 0 where
   pub id : ℕ

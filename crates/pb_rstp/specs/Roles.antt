@@ -7,8 +7,8 @@ use Rattle.pb_rstp.specs.Ports.{id_of, stored_vector, root_path, designated_vect
 use Rattle.pb_rstp.specs.declared.port.Info.{Info}
 use Rattle.pb_rstp.specs.declared.port.Port.{Port}
 use Rattle.pb_rstp.specs.declared.vector.Vector.{Vector}
-use Rattle.pb_rstp.specs.declared.vector.Role.{Role}
-use Rattle.pb_rstp.specs.declared.vector.Role.TheVariants.{Disabled, Root, Designated, Alternate, Backup}
+use Rattle.pb_rstp.specs.declared.role.Role.{Role}
+use Rattle.pb_rstp.specs.declared.role.Role.TheVariants.{Disabled, Root, Designated, Alternate, Backup}
 
 -- the way that a port offers, unless the bridge itself has said so
 abbrev pub offer_of : ℕ → Port → Option Info → List Vector

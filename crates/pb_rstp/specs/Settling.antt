@@ -15,8 +15,8 @@ use Rattle.pb_rstp.specs.declared.change.Change.{Change}
 use Rattle.pb_rstp.specs.declared.moving.Heard.{Heard}
 use Rattle.pb_rstp.specs.declared.moving.Moving.{Moving}
 use Rattle.pb_rstp.specs.declared.vector.Vector.{Vector}
-use Rattle.pb_rstp.specs.declared.vector.Role.{Role}
-use Rattle.pb_rstp.specs.declared.vector.Role.TheVariants.{Disabled, Root, Designated, Alternate, Backup}
+use Rattle.pb_rstp.specs.declared.role.Role.{Role}
+use Rattle.pb_rstp.specs.declared.role.Role.TheVariants.{Disabled, Root, Designated, Alternate, Backup}
 
 abbrev pub befores : List Moving → List Port
 befores ports = map (λ p. p.was) ports

@@ -6,9 +6,12 @@ mod config;
 mod laws;
 mod moving;
 mod port;
+mod role;
+mod roles;
 mod vector;
 
 pub use change::Change;
 pub use config::{Config, RstpPort};
 pub use laws::{calls_keep_line, cost_rises, settled_is_forest, start_is_in_line, test_tells};
-pub use vector::{Role, Vector};
+pub use role::Role;
+pub use vector::Vector;
