@@ -1,5 +1,5 @@
 -- Each call leaves the machine in line.
-use Rattle.std.proofs.Common.{◌≡◌, ℕ, zero, suc, ◌≤◌, ◌+◌, List, [], ◌∷◌, Some, None, Ok, Err, refl, sym, ap, ◌∙◌, subst, Bool, true, false, ◌==◌, ◌&&◌, not, if◌then◌else◌, map, arith}
+use Rattle.std.proofs.Common.{◌≡◌, ℕ, zero, suc, ◌≤◌, ◌<◌, ◌+◌, List, [], ◌∷◌, Some, None, Ok, Err, refl, sym, ap, ◌∙◌, subst, Bool, true, false, ◌==◌, ◌&&◌, not, if◌then◌else◌, map, arith}
 use Rattle.std.specs.declared.option.Option.{Option}
 use Rattle.std.specs.declared.result.Result.{Result}
 use Rattle.std.specs.List.{flat_map, list_any, AllByRecursion}
@@ -19,6 +19,7 @@ use Rattle.pb_rstp.specs.declared.moving.Heard.{Heard}
 use Rattle.pb_rstp.specs.Machine.{settle, moved_by, ticking, is_hello_time, hello_after, heard_at, hearing, setting, hear_by, hear_at, admin_at, admin_by, is_same_setting, unchanged}
 use Rattle.pb_rstp.specs.Profile.{after, hear_read}
 use Rattle.pb_rstp.specs.Laws.{IsQuiet, IsInLine}
+use Rattle.pb_rstp.specs.Readings.{AreAbove}
 use Rattle.pb_rstp.specs.declared.config.RstpPort.{RstpPort}
 use Rattle.pb_rstp.specs.declared.role.Role.{Role}
 use Rattle.pb_rstp.specs.declared.role.Role.TheVariants.{Disabled, Root, Designated, Alternate, Backup}
@@ -85,7 +86,7 @@ quiet_settled id heard ports =
 
 -- Calls.
 
-settled_in_line : (id hello_left : ℕ) (heard : Option Heard) (ports : List Moving) → IsInLine (settle id hello_left heard ports).machine
+pub settled_in_line : (id hello_left : ℕ) (heard : Option Heard) (ports : List Moving) → IsInLine (settle id hello_left heard ports).machine
 settled_in_line id hello_left heard ports =
     let h = roles_settled id heard ports in
     record {
@@ -150,3 +151,8 @@ start_is_in_line id ports above = record {
   roles = roles_related id (own_vector id) (map fresh ports) (map fresh ports) (own_root id ports) (fresh_roles id ports above);
   states = fresh_quiet ports;
 }
+
+-- rising numbers are above zero
+pub above_zero : (n : ℕ) (ports : List RstpPort) → AreAbove n ports → AllByRecursion (λ p. 1 ≤ p.port) ports
+above_zero n [] h = tt
+above_zero n (p ∷ ps) h = (omega (arith, h.0), above_zero p.port ps h.1)

@@ -8,6 +8,7 @@ use Rattle.pb_rstp.specs.Ports.{id_of, is_designated, is_discarding, is_forwardi
 use Rattle.pb_rstp.specs.declared.port.Info.{Info}
 use Rattle.pb_rstp.specs.declared.port.Port.{Port}
 use Rattle.pb_rstp.specs.Roles.{root_vector}
+use Rattle.pb_rstp.specs.declared.message.Times.{Times}
 use Rattle.pb_rstp.specs.declared.vector.Vector.{Vector}
 use Rattle.pb_rstp.specs.declared.role.Role.{Role}
 use Rattle.pb_rstp.specs.declared.role.Role.TheVariants.{Disabled, Root, Designated, Alternate, Backup}
@@ -26,13 +27,6 @@ role_code-fits Alternate = lit< tt
 role_code-fits Backup = lit< tt
 role_code-fits Root = lit< tt
 role_code-fits Designated = lit< tt
-
--- the age, the greatest age, the hello time and the delay that a BPDU tells
-pub record Times : Type 0 where
-  pub age : ℕ
-  pub max_age : ℕ
-  pub hello : ℕ
-  pub delay : ℕ
 
 -- a root's own times, or the stored ones, a second older (clause 17.21.25)
 abbrev pub times_by : Option Info → Times
