@@ -26,3 +26,6 @@ pub use laws::{calls_keep_line, cost_rises, settled_is_forest, start_is_in_line,
 pub use role::Role;
 pub use rstp::Rstp;
 pub use vector::Vector;
+
+#[cfg(test)]
+mod tests;
