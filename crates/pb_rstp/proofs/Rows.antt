@@ -114,7 +114,7 @@ thirty_ticks : map (told 1) (changes (bridge 1) (ticks 30))
 unfolding address bridge wires front id_octets times from_first changes ticks told sends silent
 thirty_ticks = refl
 
--- row 16's BPDU with another cost, or another age
+-- the first bridge's proposal with another cost, or another age
 with_cost : List ℕ → List ℕ
 with_cost cost = front 1 ++ 14 ∷ id_octets 1 ++ cost ++ id_octets 1 ++ 128 ∷ 1 ∷ times 0
 

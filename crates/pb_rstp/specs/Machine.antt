@@ -63,7 +63,7 @@ with_answer root m p = if has_agreed root m p then record p { agreed = true } el
 abbrev pub hearing : Vector → ℕ → Bpdu → Port → Port
 hearing root port m p = if p.number == port then with_answer root m (with_news m p) else p
 
--- what SETTLE is told of m
+-- what the steps after are told of m
 abbrev pub heard_at : Bpdu → Port → Heard
 heard_at m p = record { port = p.number; bpdu = m; stored = is_stored m p }
 
@@ -97,7 +97,7 @@ aged (Some info) = aged_by info
 abbrev pub with_timers : Port → Port
 with_timers p = record p { sent = p.sent - 1; changing = p.changing - 1; info = aged p.info }
 
--- a Designated port goes on to the next state when its time is up (clauses 17.29.2 and 17.29.3)
+-- a Designated port goes on to the next state when its time is up (clause 17.29.3)
 abbrev pub opened_by : ℕ → PortState → Port → Port
 opened_by delay Discarding p = record p { state = Learning; wait = delay }
 opened_by delay Learning p = record p { state = Forwarding; wait = 0 }

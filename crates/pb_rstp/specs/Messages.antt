@@ -33,7 +33,7 @@ abbrev pub times_by : Option Info → Times
 times_by None = record { age = 0; max_age = 5120; hello = 512; delay = 3840 }
 times_by (Some info) = record { age = min (info.age + 256) 65535; max_age = info.max_age; hello = info.hello; delay = info.delay }
 
--- the BPDU of a port, by the bridge, its root vector and its times (clauses 17.21.18 and 17.21.20)
+-- the BPDU of a port, by the bridge, its root vector and its times (clause 17.21.20)
 abbrev pub message : ℕ → Vector → Times → Port → Bpdu
 message id root times p = record {
   change = nat_lt 0 p.changing;

@@ -1,4 +1,4 @@
--- The root vector and the roles (IEEE 802.1D-2004 clauses 17.6 and 17.21.25).
+-- The root vector and the roles (IEEE 802.1D-2004 clauses 17.6, 17.7 and 17.21.25).
 use Rattle.std.specs.Prelude.{◌≡◌, ◌≢◌, ℕ, ◌⊎◌, Bool, true, false, List, [], ◌∷◌, Some, None, ◌==◌, if◌then◌else◌}
 use Rattle.std.specs.declared.option.Option.{Option}
 use Rattle.std.specs.List.{flat_map, AllByRecursion}

@@ -38,7 +38,7 @@ with_role id root was now = record now { role = role_by id root now }
 abbrev pub with_roles : ℕ → List Moving → List Moving
 with_roles id ports = each (with_role id (root_vector id (nows ports))) ports
 
--- second: under another root vector no agreement holds (clauses 17.21.25 and 17.29.1)
+-- second: under another root vector no agreement holds (clause 17.27)
 abbrev pub without_agreement : Port → Port → Port
 without_agreement was now = record now { agreed = false; agree = false }
 
@@ -79,7 +79,7 @@ with_state delay was now = state_by delay now.role was now
 abbrev pub with_states : List Moving → List Moving
 with_states ports = each (with_state (delay_of (nows ports))) ports
 
--- fifth: a proposal is agreed to (clauses 17.21.6, 17.21.16 and 17.29.2)
+-- fifth: a proposal is agreed to (clauses 17.21.11, 17.21.14 and 17.29.2)
 
 -- a proposal was heard and stored
 abbrev pub is_proposed : Heard → Bool
@@ -110,7 +110,7 @@ abbrev pub with_proposal : Option Heard → List Moving → List Moving
 with_proposal None ports = ports
 with_proposal (Some heard) ports = if is_proposed heard then with_agreement_at heard.port ports else ports
 
--- sixth: changes of the topology (clauses 17.21.11, 17.21.17 and 17.31)
+-- sixth: changes of the topology (clauses 17.21.17, 17.21.18 and 17.31)
 
 -- the port became Forwarding in this call
 abbrev pub has_opened : Moving → Bool
@@ -148,7 +148,7 @@ with_changing heard ports was now = if is_telling heard ports now then record no
 abbrev pub with_topology : Option Heard → List Moving → List Moving
 with_topology heard ports = each (with_changing heard ports) ports
 
--- seventh: what is due is sent, six BPDUs of late at most (clauses 17.26 and 17.30)
+-- seventh: what is due is sent, six BPDUs of late at most (clauses 17.13.12 and 17.26)
 abbrev pub is_sending : Port → Bool
 is_sending now = now.up && now.due && nat_lt now.sent 6
 

@@ -81,7 +81,7 @@ fn with_agreeing(alloc: Global, number: u8, ports: &[Moving]) -> Result<Vec<Movi
 }
 
 /// The port of this number agrees, and where it is the Root port the others are held back first (IEEE
-/// 802.1D-2004 clause 17.21.16, setSyncTree).
+/// 802.1D-2004 clause 17.21.14, setSyncTree).
 fn with_agreement_at(alloc: Global, number: u8, ports: &[Moving]) -> Result<Vec<Moving>, Memory>
     ensures { IfOk result (λ moved. moved.items ≡ with_agreement_at number ports.now) }
 {

@@ -126,7 +126,7 @@ impl Rstp {
         port.designated_vector(self.id, &root)
     }
 
-    /// The vector that a port stores, if it stores one (IEEE 802.1D-2004 clause 17.19.22, portPriority).
+    /// The vector that a port stores, if it stores one (IEEE 802.1D-2004 clause 17.19.21, portPriority).
     /// Takes no memory. None is answered for a port that the bridge lacks.
     pub fn stored(&self, port: u8) -> Option<Vector>
         ensures { result ≡ stored_at self.now port }
