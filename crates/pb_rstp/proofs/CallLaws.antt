@@ -1,7 +1,7 @@
 -- The steps of a call, put together, are the call.
 use Rattle.std.proofs.Common.{◌≡◌, ℕ, Bool, true, false, List, Some, None, ap, sym, ◌∙◌, if◌then◌else◌}
 use Rattle.pb_bpdu.specs.declared.bpdu.Bpdu.{Bpdu}
-use Rattle.pb_rstp.specs.Machine.{After, settle, unchanged, heard_at, hearing, hear_at, hear_by, after_hear, moved_by, ticking, is_hello_time, hello_after, after_tick, setting, is_same_setting, admin_at, admin_by, after_admin}
+use Rattle.pb_rstp.specs.Machine.{settle, unchanged, heard_at, hearing, hear_at, hear_by, after_hear, moved_by, ticking, is_hello_time, hello_after, after_tick, setting, is_same_setting, admin_at, admin_by, after_admin}
 use Rattle.pb_rstp.specs.Ports.{Machine, port_of, delay_of}
 use Rattle.pb_rstp.specs.Roles.{root_vector}
 use Rattle.pb_rstp.specs.declared.moving.Heard.{Heard}

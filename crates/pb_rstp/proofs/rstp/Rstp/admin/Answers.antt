@@ -1,5 +1,5 @@
 use Rattle.std.proofs.Common.{ap, sym, ◌∙◌}
-use Rattle.pb_rstp.specs.Machine.{is_same_setting, setting, moved_by}
+use Rattle.pb_rstp.specs.Machine.{setting, moved_by}
 use Rattle.pb_rstp.specs.Ports.{Machine, port_of}
 use Rattle.pb_rstp.proofs.CallLaws.{sets}
 use Rattle.pb_rstp.proofs.rstp.Rstp.admin.Goals as goal

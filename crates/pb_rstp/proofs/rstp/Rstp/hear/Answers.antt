@@ -1,5 +1,5 @@
-use Rattle.std.proofs.Common.{◌≡◌, Some, ap, sym, ◌∙◌}
-use Rattle.pb_rstp.specs.Machine.{settle, hearing, moved_by, after_hear}
+use Rattle.std.proofs.Common.{ap, sym, ◌∙◌}
+use Rattle.pb_rstp.specs.Machine.{hearing, moved_by}
 use Rattle.pb_rstp.specs.Ports.{Machine, port_of}
 use Rattle.pb_rstp.specs.Roles.{root_vector}
 use Rattle.pb_rstp.proofs.CallLaws.{hears}
