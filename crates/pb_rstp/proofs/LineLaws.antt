@@ -1,0 +1,158 @@
+-- Each call leaves the machine in line.
+use Rattle.std.proofs.Common.{◌≡◌, ℕ, zero, suc, ◌≤◌, ◌+◌, List, [], ◌∷◌, Some, None, Ok, Err, refl, sym, ap, ◌∙◌, subst, Bool, true, false, ◌==◌, ◌&&◌, not, if◌then◌else◌, map, arith}
+use Rattle.std.specs.declared.option.Option.{Option}
+use Rattle.std.specs.declared.result.Result.{Result}
+use Rattle.std.specs.List.{flat_map, list_any, AllByRecursion}
+use Rattle.std.proofs.lemmas.Bool.{eqb-true}
+use Rattle.pb_bpdu.specs.Reading.{reading}
+use Rattle.pb_bpdu.specs.declared.bpdu.Bpdu.{Bpdu}
+use Rattle.pb_bpdu.specs.declared.fault.BpduFault.{BpduFault}
+use Rattle.pb_lan.specs.Rules.{Cause}
+use Rattle.pb_lan.specs.Rules.Cause.{Hears, Ticks, Sets}
+use Rattle.pb_rstp.specs.Vectors.{own_vector, port_id}
+use Rattle.pb_rstp.specs.Ports.{Machine, start, fresh, is_designated, is_root_or_designated, is_discarding, delay_of, port_of}
+use Rattle.pb_rstp.specs.declared.port.Port.{Port}
+use Rattle.pb_rstp.specs.Roles.{offers, best, root_vector}
+use Rattle.pb_rstp.specs.Settling.{nows, each, with_roles, with_agreements, with_infos, held_back, state_by, with_state, synced, agreeing, with_agreement_at, with_proposal, is_proposed, is_root_agreeing, is_agreeing, with_changing, is_telling, is_sending, after_sending, with_sent, in_line, settled}
+use Rattle.pb_rstp.specs.declared.moving.Moving.{Moving}
+use Rattle.pb_rstp.specs.declared.moving.Heard.{Heard}
+use Rattle.pb_rstp.specs.Machine.{settle, moved_by, ticking, is_hello_time, hello_after, heard_at, hearing, setting, hear_by, hear_at, admin_at, admin_by, is_same_setting, unchanged}
+use Rattle.pb_rstp.specs.Profile.{after, hear_read}
+use Rattle.pb_rstp.specs.Laws.{IsQuiet, IsInLine}
+use Rattle.pb_rstp.specs.Readings.{AreAbove}
+use Rattle.pb_rstp.specs.declared.config.RstpPort.{RstpPort}
+use Rattle.pb_rstp.specs.declared.role.Role.{Role}
+use Rattle.pb_rstp.specs.declared.role.Role.TheVariants.{Disabled, Root, Designated, Alternate, Backup}
+use Rattle.pb_rstp.proofs.RoleLaws.{HasRoleBy, each-all, keeps-state, roles_settled, roles_related}
+
+-- States.
+
+quiet-if : (b : Bool) (p q : Port) → IsQuiet p → IsQuiet q → IsQuiet (if b then p else q)
+quiet-if true p q hp hq = hp
+quiet-if false p q hp hq = hq
+
+quiet_state : (delay : ℕ) (was now : Port) → IsQuiet (with_state delay was now)
+quiet_state delay was now = by_role now.role refl
+  where
+    by_role : (r : Role) → now.role ≡ r → IsQuiet (state_by delay r was now)
+    by_role Root e = λ none. let yes = ap is_root_or_designated e in cc
+    by_role Designated e = λ none.
+        let same : (state_by delay Designated was now).role ≡ Designated = let P : Role → Type 0 = λ r. (state_by delay r was now).role ≡ now.role in subst P e (keeps-state delay was now).role ∙ e in
+        let yes = ap is_root_or_designated same in cc
+    by_role Disabled e = λ none. refl
+    by_role Alternate e = λ none. refl
+    by_role Backup e = λ none. refl
+
+quiet-each : (f : Port → Port → Port) → ((was now : Port) → IsQuiet now → IsQuiet (f was now)) → (ports : List Moving)
+    → AllByRecursion IsQuiet (nows ports) → AllByRecursion IsQuiet (nows (each f ports))
+quiet-each f keeps ports h = each-all IsQuiet IsQuiet f keeps ports h
+
+quiet_states : (delay : ℕ) (ports : List Moving) → AllByRecursion IsQuiet (nows (each (with_state delay) ports))
+quiet_states delay [] = tt
+quiet_states delay (p ∷ ps) = (quiet_state delay p.was p.now, quiet_states delay ps)
+
+quiet-or : (b : Bool) (ps qs : List Moving) → AllByRecursion IsQuiet (nows ps) → AllByRecursion IsQuiet (nows qs) → AllByRecursion IsQuiet (nows (if b then ps else qs))
+quiet-or true ps qs hp hq = hp
+quiet-or false ps qs hp hq = hq
+
+quiet_synced : (delay : ℕ) (was now : Port) → IsQuiet now → IsQuiet (synced delay was now)
+quiet_synced delay was now h =
+    quiet-if (is_designated now.role && not now.agreed && not (is_discarding now.state)) (held_back delay now) now (λ none. refl) h
+
+quiet_agreeing : (number : ℕ) (was now : Port) → IsQuiet now → IsQuiet (agreeing number was now)
+quiet_agreeing number was now h = quiet-if (is_agreeing number now) (record now { agree = true; due = true }) now h h
+
+quiet_changing : (heard : Option Heard) (ports : List Moving) (was now : Port) → IsQuiet now → IsQuiet (with_changing heard ports was now)
+quiet_changing heard ports was now h = quiet-if (is_telling heard ports now) (record now { changing = 3; due = true }) now h h
+
+quiet_sending : (was now : Port) → IsQuiet now → IsQuiet (after_sending was now)
+quiet_sending was now h = quiet-if (is_sending now) (record now { due = false; sent = now.sent + 1 }) now h h
+
+quiet_proposal : (heard : Option Heard) (ports : List Moving) → AllByRecursion IsQuiet (nows ports) → AllByRecursion IsQuiet (nows (with_proposal heard ports))
+quiet_proposal None ports h = h
+quiet_proposal (Some heard) ports h =
+    quiet-or (is_proposed heard) (with_agreement_at heard.port ports) ports
+    (quiet-each (agreeing heard.port) (quiet_agreeing heard.port) _
+    (quiet-or (list_any (is_root_agreeing heard.port) (nows ports)) (each (synced (delay_of (nows ports))) ports) ports
+    (quiet-each (synced (delay_of (nows ports))) (quiet_synced (delay_of (nows ports))) ports h) h)) h
+
+quiet_settled : (id : ℕ) (heard : Option Heard) (ports : List Moving) → AllByRecursion IsQuiet (nows (with_sent (settled id heard ports)))
+quiet_settled id heard ports =
+    let infos = with_infos (with_agreements id (with_roles id ports)) in
+    let fourth : AllByRecursion IsQuiet (nows (in_line id ports)) = quiet_states (delay_of (nows infos)) infos in
+    let proposed = with_proposal heard (in_line id ports) in
+    quiet-each after_sending quiet_sending (settled id heard ports)
+    (quiet-each (with_changing heard proposed) (quiet_changing heard proposed) proposed (quiet_proposal heard (in_line id ports) fourth))
+
+-- Calls.
+
+pub settled_in_line : (id hello_left : ℕ) (heard : Option Heard) (ports : List Moving) → IsInLine (settle id hello_left heard ports).machine
+settled_in_line id hello_left heard ports =
+    let h = roles_settled id heard ports in
+    record {
+      roles = roles_related id (root_vector id (nows ports)) (nows (with_sent (settled id heard ports))) (nows (with_sent (settled id heard ports))) h.0 h.1;
+      states = quiet_settled id heard ports;
+    }
+
+pub calls_keep_line : (machine : Machine) (cause : Cause) → IsInLine machine → IsInLine (after machine cause).machine
+calls_keep_line machine Ticks h =
+    settled_in_line machine.id (hello_after machine) None
+    (moved_by (ticking (delay_of machine.ports) (is_hello_time machine)) machine.ports)
+calls_keep_line machine (Hears port wire) h = by_read (reading wire)
+  where
+    by_up : (m : Bpdu) (p : Port) (b : Bool) → IsInLine (if b then hear_at machine m p else unchanged machine).machine
+    by_up m p true = settled_in_line machine.id machine.hello_left (Some (heard_at m p)) (moved_by (hearing (root_vector machine.id machine.ports) p.number m) machine.ports)
+    by_up m p false = h
+
+    by_port : (m : Bpdu) (o : Option Port) → IsInLine (hear_by machine m o).machine
+    by_port m None = h
+    by_port m (Some p) = by_up m p p.up
+
+    by_read : (r : Result Bpdu BpduFault) → IsInLine (hear_read machine port r).machine
+    by_read (Ok m) = by_port m (port_of machine.ports port)
+    by_read (Err fault) = h
+calls_keep_line machine (Sets port up) h = by_port (port_of machine.ports port)
+  where
+    by_same : (b : Bool) → IsInLine (if b then unchanged machine else admin_at machine port up).machine
+    by_same true = h
+    by_same false = settled_in_line machine.id machine.hello_left None (moved_by (setting port up) machine.ports)
+
+    by_port : (o : Option Port) → IsInLine (admin_by machine port up o).machine
+    by_port None = h
+    by_port (Some p) = by_same (is_same_setting p.up up)
+
+-- The start.
+
+no_offers : (id : ℕ) (ports : List RstpPort) → flat_map (offers id) (map fresh ports) ≡ []
+no_offers id [] = refl
+no_offers id (p ∷ ps) = no_offers id ps
+
+own_root : (id : ℕ) (ports : List RstpPort) → root_vector id (map fresh ports) ≡ own_vector id
+own_root id ports = ap (λ os. best (own_vector id) os) (no_offers id ports)
+
+not_zero : (n : ℕ) → 1 ≤ n → (0 == n) ≡ false
+not_zero zero h = absurd (omega arith)
+not_zero (suc n) h = elim (0 == suc n) as (λ t. (0 == suc n) ≡ t → (0 == suc n) ≡ false) [ true ↦ λ e. absurd (omega (arith, eqb-true 0 (suc n) e)) | false ↦ λ e. e ] refl
+
+fresh_role : (id : ℕ) (p : RstpPort) → 1 ≤ p.port → HasRoleBy id (own_vector id) (fresh p)
+fresh_role id p above =
+    ap (λ c. if c then Root else Designated) (sym (not_zero (port_id p.priority p.port) (omega arith)))
+
+fresh_roles : (id : ℕ) (ports : List RstpPort) → AllByRecursion (λ p. 1 ≤ p.port) ports → AllByRecursion (HasRoleBy id (own_vector id)) (map fresh ports)
+fresh_roles id [] h = tt
+fresh_roles id (p ∷ ps) h = (fresh_role id p h.0, fresh_roles id ps h.1)
+
+fresh_quiet : (ports : List RstpPort) → AllByRecursion IsQuiet (map fresh ports)
+fresh_quiet [] = tt
+fresh_quiet (p ∷ ps) = (λ none. refl, fresh_quiet ps)
+
+pub start_is_in_line : (id : ℕ) (ports : List RstpPort) → AllByRecursion (λ p. 1 ≤ p.port) ports → IsInLine (start id ports)
+start_is_in_line id ports above = record {
+  roles = roles_related id (own_vector id) (map fresh ports) (map fresh ports) (own_root id ports) (fresh_roles id ports above);
+  states = fresh_quiet ports;
+}
+
+-- rising numbers are above zero
+pub above_zero : (n : ℕ) (ports : List RstpPort) → AreAbove n ports → AllByRecursion (λ p. 1 ≤ p.port) ports
+above_zero n [] h = tt
+above_zero n (p ∷ ps) h = (omega (arith, h.0), above_zero p.port ps h.1)

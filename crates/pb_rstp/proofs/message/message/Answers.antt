@@ -1,0 +1,9 @@
+use Rattle.std.proofs.Common.{refl, rules}
+use Rattle.pb_rstp.proofs.Equal.{bpdu_eq}
+use Rattle.pb_rstp.specs.Messages.{message}
+use Rattle.pb_rstp.proofs.message.message.Goals as goal
+
+pub returns : goal.returns
+returns c = bpdu_eq _ (message c.args.id c.args.root.now c.args.times.now c.args.p.now)
+    (search rules) (search rules) (search rules) (search rules) (search rules) refl refl refl refl
+    (search rules) refl refl refl refl

@@ -1,0 +1,10 @@
+use Rattle.std.proofs.Common.{ap, ◌∙◌}
+use Rattle.pb_rstp.specs.Settling.{with_proposal, with_topology}
+use Rattle.pb_rstp.proofs.sending.settled.Goals as goal
+
+pub returns : goal.returns
+returns c =
+    c.in_ok-with_topology.ensures
+    ∙ ap (λ ports. with_topology c.args.heard ports) (c.deref.ensures.value
+    ∙ c.in_ok-with_proposal.ensures
+    ∙ ap (λ ports. with_proposal c.args.heard ports) c.in_ok-in_line.ensures)

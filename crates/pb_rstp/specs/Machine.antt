@@ -1,0 +1,157 @@
+-- The three calls: a BPDU is heard, a second passes, a port is set up or down.
+use Rattle.std.specs.Prelude.{ℕ, ◌-◌, Bool, true, false, List, [], Some, None, map, nat_lt, ◌==◌, ◌&&◌, ◌||◌, not, if◌then◌else◌}
+use Rattle.std.specs.declared.option.Option.{Option}
+use Rattle.pb_bpdu.specs.declared.bpdu.Bpdu.{Bpdu}
+use Rattle.pb_lan.specs.declared.shape.PortState.{PortState}
+use Rattle.pb_lan.specs.declared.shape.PortState.TheVariants.{Discarding, Learning, Forwarding}
+use Rattle.pb_rstp.specs.Ports.{Machine, is_root, is_designated, is_forwarding, port_of, delay_of}
+use Rattle.pb_rstp.specs.declared.port.Info.{Info}
+use Rattle.pb_rstp.specs.declared.port.Port.{Port}
+use Rattle.pb_rstp.specs.Roles.{root_vector}
+use Rattle.pb_rstp.specs.Messages.{is_from_designated, is_agreement, is_superior, is_young, info_of}
+use Rattle.pb_rstp.specs.Settling.{nows, settled, with_sent, change_of}
+use Rattle.pb_rstp.specs.declared.moving.Moving.{Moving}
+use Rattle.pb_rstp.specs.declared.moving.Heard.{Heard}
+use Rattle.pb_rstp.specs.declared.change.Change.{Change}
+use Rattle.pb_rstp.specs.declared.vector.Vector.{Vector}
+
+-- what a call leaves and tells
+pub record After : Type 0 where
+  pub machine : Machine
+  pub change : Change
+
+abbrev pub nothing : Change
+nothing = record { states = []; flush = []; send = [] }
+
+-- each port as the call changes it, before all is brought into line
+abbrev pub moving : (Port → Port) → Port → Moving
+moving change p = record { was = p; now = change p }
+
+abbrev pub moved_by : (Port → Port) → List Port → List Moving
+moved_by change ports = map (moving change) ports
+
+-- what is due is sent
+abbrev pub finished : ℕ → ℕ → Option Heard → List Moving → After
+finished id hello_left heard ports = record {
+  machine = record { id = id; ports = nows (with_sent ports); hello_left = hello_left };
+  change = change_of id heard ports;
+}
+
+-- all is brought into line, and what is due is sent
+abbrev pub settle : ℕ → ℕ → Option Heard → List Moving → After
+settle id hello_left heard ports = finished id hello_left heard (settled id heard ports)
+
+-- A BPDU is heard.
+
+-- m takes the place of what is stored, or empties it where m is too old (clauses 17.21.8 and 17.27)
+abbrev pub takes_place : Bpdu → Port → Bool
+takes_place m p = is_from_designated m && is_superior m p.info
+
+abbrev pub is_stored : Bpdu → Port → Bool
+is_stored m p = takes_place m p && is_young m
+
+abbrev pub with_news : Bpdu → Port → Port
+with_news m p = if takes_place m p then record p { info = if is_young m then Some (info_of m) else None } else p
+
+-- the neighbour agrees to the root that the bridge has (clause 17.21.9)
+abbrev pub has_agreed : Vector → Bpdu → Port → Bool
+has_agreed root m p = is_agreement m && is_designated p.role && m.root == root.root
+
+abbrev pub with_answer : Vector → Bpdu → Port → Port
+with_answer root m p = if has_agreed root m p then record p { agreed = true } else p
+
+abbrev pub hearing : Vector → ℕ → Bpdu → Port → Port
+hearing root port m p = if p.number == port then with_answer root m (with_news m p) else p
+
+-- what the steps after are told of m
+abbrev pub heard_at : Bpdu → Port → Heard
+heard_at m p = record { port = p.number; bpdu = m; stored = is_stored m p }
+
+abbrev pub hear_at : Machine → Bpdu → Port → After
+hear_at machine m p =
+    settle machine.id machine.hello_left (Some (heard_at m p))
+    (moved_by (hearing (root_vector machine.id machine.ports) p.number m) machine.ports)
+
+-- nothing changes and nothing is sent
+abbrev pub unchanged : Machine → After
+unchanged machine = record { machine = machine; change = nothing }
+
+-- a port that is down hears nothing
+abbrev pub hear_by : Machine → Bpdu → Option Port → After
+hear_by machine m None = unchanged machine
+hear_by machine m (Some p) = if p.up then hear_at machine m p else unchanged machine
+
+abbrev pub after_hear : Machine → ℕ → Bpdu → After
+after_hear machine port m = hear_by machine m (port_of machine.ports port)
+
+-- A second passes.
+
+-- what is stored grows old (clause 17.22)
+abbrev pub aged_by : Info → Option Info
+aged_by info = if nat_lt 1 info.left then Some (record info { left = info.left - 1 }) else None
+
+abbrev pub aged : Option Info → Option Info
+aged None = None
+aged (Some info) = aged_by info
+
+abbrev pub with_timers : Port → Port
+with_timers p = record p { sent = p.sent - 1; changing = p.changing - 1; info = aged p.info }
+
+-- a Designated port goes on to the next state when its time is up (clause 17.29.3)
+abbrev pub opened_by : ℕ → PortState → Port → Port
+opened_by delay Discarding p = record p { state = Learning; wait = delay }
+opened_by delay Learning p = record p { state = Forwarding; wait = 0 }
+opened_by delay Forwarding p = p
+
+abbrev pub opened : ℕ → Port → Port
+opened delay p = if nat_lt 1 p.wait then record p { wait = p.wait - 1 } else opened_by delay p.state p
+
+abbrev pub with_opening : ℕ → Port → Port
+with_opening delay p = if is_designated p.role && not (is_forwarding p.state) then opened delay p else p
+
+-- every second tick Designated ports tell what they know, and a Root port that the topology changed
+-- (clause 17.26)
+abbrev pub is_hello : Port → Bool
+is_hello p = is_designated p.role || (is_root p.role && nat_lt 0 p.changing)
+
+abbrev pub with_hello : Bool → Port → Port
+with_hello hello p = if hello && is_hello p then record p { due = true } else p
+
+abbrev pub ticking : ℕ → Bool → Port → Port
+ticking delay hello p = with_hello hello (with_opening delay (with_timers p))
+
+-- the hello time is over
+abbrev pub is_hello_time : Machine → Bool
+is_hello_time machine = not (nat_lt 1 machine.hello_left)
+
+abbrev pub hello_after : Machine → ℕ
+hello_after machine = if is_hello_time machine then 2 else machine.hello_left - 1
+
+abbrev pub after_tick : Machine → After
+after_tick machine =
+    settle machine.id (hello_after machine) None
+    (moved_by (ticking (delay_of machine.ports) (is_hello_time machine)) machine.ports)
+
+-- A port is set up or down.
+
+abbrev pub with_admin : Bool → Port → Port
+with_admin true p = record p { up = true; info = None }
+with_admin false p = record p { up = false; info = None; agreed = false; agree = false; due = false; wait = 0; changing = 0 }
+
+abbrev pub setting : ℕ → Bool → Port → Port
+setting port up p = if p.number == port then with_admin up p else p
+
+abbrev pub admin_at : Machine → ℕ → Bool → After
+admin_at machine port up = settle machine.id machine.hello_left None (moved_by (setting port up) machine.ports)
+
+abbrev pub is_same_setting : Bool → Bool → Bool
+is_same_setting true up = up
+is_same_setting false up = not up
+
+-- setting what already holds changes nothing
+abbrev pub admin_by : Machine → ℕ → Bool → Option Port → After
+admin_by machine port up None = unchanged machine
+admin_by machine port up (Some p) = if is_same_setting p.up up then unchanged machine else admin_at machine port up
+
+abbrev pub after_admin : Machine → ℕ → Bool → After
+after_admin machine port up = admin_by machine port up (port_of machine.ports port)

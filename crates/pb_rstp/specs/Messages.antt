@@ -1,0 +1,94 @@
+-- The BPDUs that a bridge sends, and what it keeps of those that it hears.
+use Rattle.std.specs.Prelude.{ℕ, ◌+◌, ◌*◌, ◌/◌, ◌<◌, Bool, true, List, [], ◌∷◌, Some, None, min, max, nat_lt, nat_le, ◌==◌, ◌&&◌, ◌||◌, not}
+use Rattle.std.specs.declared.option.Option.{Option}
+use Rattle.std.proofs.Common.{lit<}
+use Rattle.pb_bpdu.specs.declared.bpdu.Bpdu.{Bpdu}
+use Rattle.pb_rstp.specs.Vectors.{is_before}
+use Rattle.pb_rstp.specs.Ports.{id_of, is_designated, is_discarding, is_forwarding, root_info}
+use Rattle.pb_rstp.specs.declared.port.Info.{Info}
+use Rattle.pb_rstp.specs.declared.port.Port.{Port}
+use Rattle.pb_rstp.specs.Roles.{root_vector}
+use Rattle.pb_rstp.specs.declared.message.Times.{Times}
+use Rattle.pb_rstp.specs.declared.vector.Vector.{Vector}
+use Rattle.pb_rstp.specs.declared.role.Role.{Role}
+use Rattle.pb_rstp.specs.declared.role.Role.TheVariants.{Disabled, Root, Designated, Alternate, Backup}
+
+-- a role in the flags (clause 9.3.3)
+abbrev pub role_code : Role → ℕ
+role_code Disabled = 0
+role_code Alternate = 1
+role_code Backup = 1
+role_code Root = 2
+role_code Designated = 3
+
+pub role_code-fits : (role : Role) → role_code role < 4
+role_code-fits Disabled = lit< tt
+role_code-fits Alternate = lit< tt
+role_code-fits Backup = lit< tt
+role_code-fits Root = lit< tt
+role_code-fits Designated = lit< tt
+
+-- a root's own times, or the stored ones, a second older (clause 17.21.25)
+abbrev pub times_by : Option Info → Times
+times_by None = record { age = 0; max_age = 5120; hello = 512; delay = 3840 }
+times_by (Some info) = record { age = min (info.age + 256) 65535; max_age = info.max_age; hello = info.hello; delay = info.delay }
+
+-- the BPDU of a port, by the bridge, its root vector and its times (clause 17.21.20)
+abbrev pub message : ℕ → Vector → Times → Port → Bpdu
+message id root times p = record {
+  change = nat_lt 0 p.changing;
+  proposal = is_designated p.role && not (is_forwarding p.state);
+  role = role_code p.role;
+  learning = not (is_discarding p.state);
+  forwarding = is_forwarding p.state;
+  agreement = p.agree;
+  root = root.root;
+  cost = root.cost;
+  bridge = id;
+  port = id_of p;
+  age = times.age;
+  max_age = times.max_age;
+  hello = times.hello;
+  delay = times.delay;
+  role_fits = role_code-fits p.role;
+}
+
+abbrev pub message_of : ℕ → List Port → Port → Bpdu
+message_of id ports p = message id (root_vector id ports) (times_by (root_info ports)) p
+
+-- a BPDU of a Designated port
+abbrev pub is_from_designated : Bpdu → Bool
+is_from_designated m = m.role == 3
+
+-- a BPDU of a Root, Alternate or Backup port that agrees
+abbrev pub is_agreement : Bpdu → Bool
+is_agreement m = (m.role == 1 || m.role == 2) && m.agreement
+
+abbrev pub told : Bpdu → List ℕ
+told m = m.root ∷ m.cost ∷ m.bridge ∷ m.port ∷ []
+
+abbrev pub known : Info → List ℕ
+known info = info.root ∷ info.cost ∷ info.bridge ∷ info.port ∷ []
+
+-- m is better than what is stored, or comes from where that came from (clause 17.21.8)
+abbrev pub is_superior : Bpdu → Option Info → Bool
+is_superior m None = true
+is_superior m (Some info) = is_before (told m) (known info) || (m.bridge == info.bridge && m.port == info.port)
+
+-- m is not too old to be kept (clause 17.21.23)
+abbrev pub is_young : Bpdu → Bool
+is_young m = nat_le (m.age + 256) m.max_age
+
+-- what is kept of m: for three hello times
+abbrev pub info_of : Bpdu → Info
+info_of m = record {
+  root = m.root;
+  cost = m.cost;
+  bridge = m.bridge;
+  port = m.port;
+  age = m.age;
+  max_age = m.max_age;
+  hello = m.hello;
+  delay = m.delay;
+  left = 3 * max 1 (m.hello / 256);
+}

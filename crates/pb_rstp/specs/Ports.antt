@@ -1,0 +1,106 @@
+-- What a bridge keeps of itself and of each port.
+use Rattle.std.specs.Prelude.{ℕ, ◌/◌, Bool, true, false, List, Some, None, map, max, ◌==◌}
+use Rattle.std.specs.declared.option.Option.{Option}
+use Rattle.std.specs.Option.{option_map, option_and_then}
+use Rattle.pb_frame.specs.Lists.{first}
+use Rattle.pb_lan.specs.declared.shape.PortState.{PortState}
+use Rattle.pb_lan.specs.declared.shape.PortState.TheVariants.{Discarding, Learning, Forwarding}
+use Rattle.pb_rstp.specs.Vectors.{port_id, raised}
+use Rattle.pb_rstp.specs.declared.config.RstpPort.{RstpPort}
+use Rattle.pb_rstp.specs.declared.port.Info.{Info}
+use Rattle.pb_rstp.specs.declared.port.Port.{Port}
+use Rattle.pb_rstp.specs.declared.vector.Vector.{Vector}
+use Rattle.pb_rstp.specs.declared.role.Role.{Role}
+use Rattle.pb_rstp.specs.declared.role.Role.TheVariants.{Disabled, Root, Designated, Alternate, Backup}
+
+pub record Machine : Type 0 where
+  pub id : ℕ
+  pub ports : List Port
+  pub hello_left : ℕ
+
+abbrev pub is_root : Role → Bool
+is_root Root = true
+is_root Disabled = false
+is_root Designated = false
+is_root Alternate = false
+is_root Backup = false
+
+abbrev pub is_designated : Role → Bool
+is_designated Designated = true
+is_designated Disabled = false
+is_designated Root = false
+is_designated Alternate = false
+is_designated Backup = false
+
+abbrev pub is_root_or_designated : Role → Bool
+is_root_or_designated Root = true
+is_root_or_designated Designated = true
+is_root_or_designated Disabled = false
+is_root_or_designated Alternate = false
+is_root_or_designated Backup = false
+
+abbrev pub is_discarding : PortState → Bool
+is_discarding Discarding = true
+is_discarding Learning = false
+is_discarding Forwarding = false
+
+abbrev pub is_forwarding : PortState → Bool
+is_forwarding Forwarding = true
+is_forwarding Discarding = false
+is_forwarding Learning = false
+
+abbrev pub id_of : Port → ℕ
+id_of p = port_id p.priority p.number
+
+-- the vector that is stored
+abbrev pub stored_vector : Port → Info → Vector
+stored_vector p info = record { root = info.root; cost = info.cost; bridge = info.bridge; port = info.port; receiving = id_of p }
+
+abbrev pub stored : Port → Option Vector
+stored p = option_map (stored_vector p) p.info
+
+-- the way to the root through the port (clause 17.6)
+abbrev pub root_path : Port → Info → Vector
+root_path p info = record { root = info.root; cost = raised info.cost p.cost; bridge = info.bridge; port = info.port; receiving = id_of p }
+
+-- what the port offers the others on its link, where the bridge has this root vector (clause 17.6)
+abbrev pub designated_vector : ℕ → Vector → Port → Vector
+designated_vector id root p = record { root = root.root; cost = root.cost; bridge = id; port = id_of p; receiving = id_of p }
+
+-- the port of this number
+abbrev pub port_of : List Port → ℕ → Option Port
+port_of ports number = first (λ p. p.number == number) ports
+
+-- what the Root port stores, where there is one
+abbrev pub root_info : List Port → Option Info
+root_info ports = option_and_then (λ p. p.info) (first (λ p. is_root p.role) ports)
+
+abbrev pub delay_by : Option Info → ℕ
+delay_by None = 15
+delay_by (Some info) = max 1 (info.delay / 256)
+
+-- ticks in which a port stays Discarding, and in which it stays Learning (clause 17.20.6)
+abbrev pub delay_of : List Port → ℕ
+delay_of ports = delay_by (root_info ports)
+
+-- a port at the start
+abbrev pub fresh : RstpPort → Port
+fresh p = record {
+  number = p.port;
+  cost = p.cost;
+  priority = p.priority;
+  up = true;
+  info = None;
+  role = Designated;
+  state = Discarding;
+  wait = 15;
+  agreed = false;
+  agree = false;
+  changing = 0;
+  sent = 0;
+  due = true;
+}
+
+-- the machine at the start
+abbrev pub start : ℕ → List RstpPort → Machine
+start id ports = record { id = id; ports = map fresh ports; hello_left = 2 }

@@ -1,0 +1,42 @@
+-- What a caller reads of the machine.
+use Rattle.std.specs.Prelude.{◌≡◌, ℕ, ◌<◌, List, [], ◌∷◌, map}
+use Rattle.std.specs.declared.option.Option.{Option}
+use Rattle.std.specs.Option.{option_map, option_and_then}
+use Rattle.pb_lan.specs.declared.shape.PortState.{PortState}
+use Rattle.pb_rstp.specs.Ports.{Machine, port_of, stored, designated_vector}
+use Rattle.pb_rstp.specs.Roles.{root_vector}
+use Rattle.pb_rstp.specs.Laws.{IsInLine}
+use Rattle.pb_rstp.specs.declared.config.RstpPort.{RstpPort}
+use Rattle.pb_rstp.specs.declared.port.Port.{Port}
+use Rattle.pb_rstp.specs.declared.role.Role.{Role}
+use Rattle.pb_rstp.specs.declared.vector.Vector.{Vector}
+
+-- the ports' numbers rise, each above n
+abbrev pub AreAbove : ℕ → List RstpPort → Type 0
+AreAbove n [] = Unit {0}
+AreAbove n (p ∷ ps) = (n < p.port) × AreAbove p.port ps
+
+-- the role and the state of each port, by number
+abbrev pub roles_of : List Port → List (ℕ × Role)
+roles_of ports = map (λ p. (p.number, p.role)) ports
+
+abbrev pub states_of : List Port → List (ℕ × PortState)
+states_of ports = map (λ p. (p.number, p.state)) ports
+
+-- the bridge's root vector
+abbrev pub root_of : Machine → Vector
+root_of machine = root_vector machine.id machine.ports
+
+-- what the port of this number offers the others on its link
+abbrev pub vector_at : Machine → ℕ → Option Vector
+vector_at machine number = option_map (designated_vector machine.id (root_of machine)) (port_of machine.ports number)
+
+-- what the port of this number stores
+abbrev pub stored_at : Machine → ℕ → Option Vector
+stored_at machine number = option_and_then stored (port_of machine.ports number)
+
+-- the roles and states are the machine's, and it is in line
+pub record IsTold (machine : Machine) (told_roles : List (ℕ × Role)) (told_states : List (ℕ × PortState)) : Type 0 where
+  pub roles : told_roles ≡ roles_of machine.ports
+  pub states : told_states ≡ states_of machine.ports
+  pub in_line : IsInLine machine

@@ -1,0 +1,170 @@
+-- Settled networks, and the forest of their Forwarding ports.
+use Rattle.std.specs.Prelude.{◌≡◌, ℕ, ◌+◌, ◌<◌, ◌≤◌, ◌⊎◌, Bool, true, false, List, [], ◌∷◌, Some, None, map, length, nat_eq, ◌&&◌, ◌||◌, not}
+use Rattle.std.specs.declared.option.Option.{Option}
+use Rattle.std.specs.List.{list_all, AllByRecursion}
+use Rattle.std.specs.Cmp.Lexicographic.{pointwise}
+use Rattle.std.specs.Option.{option_map, option_and_then, option_map_or}
+use Rattle.pb_lan.specs.Numbering.{numbered, numbers_from}
+use Rattle.pb_lan.specs.Ports.{Port as LocalPort, port_at, local_ports}
+use Rattle.pb_lan.specs.Ports.Port.{Customer, Provider, Unused}
+use Rattle.pb_lan.specs.Plans.{IsSound}
+use Rattle.pb_lan.specs.Forests.{Shows, HasEnds}
+use Rattle.pb_lan.specs.declared.plan.Plan.{Plan}
+use Rattle.pb_lan.specs.declared.plan.End.{End}
+use Rattle.pb_lan.specs.declared.plan.LinkPlan.{LinkPlan}
+use Rattle.pb_lan.specs.declared.shape.PortState.{PortState}
+use Rattle.pb_lan.specs.declared.shape.PortState.TheVariants.{Discarding, Forwarding}
+use Rattle.pb_lan.specs.declared.shape.Rooted.{Rooted}
+use Rattle.pb_lan.specs.declared.shape.Shape.{Shape}
+use Rattle.pb_rstp.specs.Ports.{Machine, id_of, is_designated, is_forwarding, is_root, port_of}
+use Rattle.pb_rstp.specs.declared.port.Info.{Info}
+use Rattle.pb_rstp.specs.declared.port.Port.{Port}
+use Rattle.pb_rstp.specs.Roles.{root_vector}
+use Rattle.pb_rstp.specs.Messages.{known}
+use Rattle.pb_rstp.specs.Vectors.{greatest_cost}
+use Rattle.pb_rstp.specs.Laws.{IsInLine}
+
+-- the cost of the bridge's way to the root
+abbrev pub root_cost : Machine → ℕ
+root_cost m = (root_vector m.id m.ports).cost
+
+-- what a port offers the other end of its link
+abbrev pub offered : Machine → Port → List ℕ
+offered m p = (root_vector m.id m.ports).root ∷ root_cost m ∷ m.id ∷ id_of p ∷ []
+
+-- at the end of a link stands this port of this machine
+pub record StandsAt (machines : List Machine) (e : End) (m : Machine) (p : Port) : Type 0 where
+  pub machine : numbered machines e.bridge ≡ Some m
+  pub port : port_of m.ports e.port ≡ Some p
+
+-- the port stores what the other offers
+abbrev pub StoresOffer : Port → Machine → Port → Type 0
+StoresOffer q m p = (info : Info) × (q.info ≡ Some info) × (known info ≡ offered m p)
+
+-- the first port alone is Designated, and the second stores what it offers
+pub record LeadsTo (m : Machine) (p : Port) (q : Port) : Type 0 where
+  pub here : is_designated p.role ≡ true
+  pub there : is_designated q.role ≡ false
+  pub stores : StoresOffer q m p
+
+-- a link with both ends up has one Designated end, and the other end stores what it offers
+abbrev pub IsSettledLink : List Machine → LinkPlan → Type 0
+IsSettledLink machines link =
+    (m n : Machine) (p q : Port) → StandsAt machines link.a m p → StandsAt machines link.b n q
+    → p.up ≡ true → q.up ≡ true → LeadsTo m p q ⊎ LeadsTo n q p
+
+pub record IsSettled (plan : Plan) (machines : List Machine) : Type 0 where
+  pub in_line : AllByRecursion IsInLine machines
+  pub links : AllByRecursion (IsSettledLink machines) plan.links
+
+-- The same as a test.
+
+abbrev pub stores_test : Option Info → List ℕ → Bool
+stores_test None offer = false
+stores_test (Some info) offer = pointwise nat_eq (known info) offer
+
+abbrev pub leads_test : Machine → Port → Port → Bool
+leads_test m p q = is_designated p.role && not (is_designated q.role) && stores_test q.info (offered m p)
+
+-- a machine and one of its ports, if they are there
+pub record Place : Type 0 where
+  pub machine : Machine
+  pub port : Port
+
+abbrev pub place_in : ℕ → Machine → Option Place
+place_in port m = option_map (λ p. let place : Place = record { machine = m; port = p } in place) (port_of m.ports port)
+
+abbrev pub place_at : List Machine → End → Option Place
+place_at machines e = option_and_then (place_in e.port) (numbered machines e.bridge)
+
+abbrev pub is_settled_between : Option Place → Option Place → Bool
+is_settled_between (Some a) (Some b) =
+    not (a.port.up && b.port.up) || leads_test a.machine a.port b.port || leads_test b.machine b.port a.port
+is_settled_between None b = true
+is_settled_between (Some a) None = true
+
+abbrev pub is_settled : Plan → List Machine → Bool
+is_settled plan machines = list_all (λ link. is_settled_between (place_at machines link.a) (place_at machines link.b)) plan.links
+
+-- the test passes just where each link is settled
+abbrev pub TestTells : Type 0
+TestTells =
+    (plan : Plan) (machines : List Machine)
+    → (is_settled plan machines ≡ true → AllByRecursion (IsSettledLink machines) plan.links)
+    × (AllByRecursion (IsSettledLink machines) plan.links → is_settled plan machines ≡ true)
+
+-- The forest.
+
+-- the ports have numbers of their own, from 1 to 255
+pub record HasPorts (m : Machine) : Type 0 where
+  pub distinct : AllByRecursion (λ p. port_of m.ports p.number ≡ Some p) m.ports
+  pub small : AllByRecursion (λ p. (1 ≤ p.number) × (p.number < 256)) m.ports
+
+-- at each end stands a port, with the cost of the plan
+abbrev pub HasPortAt : List Machine → End → Type 0
+HasPortAt machines e = (m : Machine) × (p : Port) × StandsAt machines e m p × (p.cost ≡ e.cost)
+
+-- the machines are those of the plan's bridges, in order
+pub record AreMachines (plan : Plan) (machines : List Machine) : Type 0 where
+  pub count : length machines ≡ length plan.bridges
+  pub ports : AllByRecursion HasPorts machines
+  pub ends : AllByRecursion (λ link. HasPortAt machines link.a × HasPortAt machines link.b) plan.links
+
+-- no Root port's cost is held
+abbrev pub IsNotHeld : Port → Type 0
+IsNotHeld p = is_root p.role ≡ true → (info : Info) → p.info ≡ Some info → info.cost + p.cost ≤ greatest_cost
+
+abbrev pub NoneHeld : List Machine → Type 0
+NoneHeld machines = AllByRecursion (λ m. AllByRecursion IsNotHeld m.ports) machines
+
+-- the states of the machines' ports
+abbrev pub state_at : Machine → LocalPort → ℕ → PortState
+state_at m (Customer c) port = Forwarding
+state_at m (Provider e) port = option_map_or (λ p. p.state) (port_of m.ports port) Discarding
+state_at m Unused port = Discarding
+
+abbrev pub states_of : Plan → List Machine → ℕ → List PortState
+states_of plan machines bridge =
+    option_map_or (λ m. map (λ port. state_at m (port_at plan bridge port) port) local_ports) (numbered machines bridge) []
+
+abbrev pub shape_of : Plan → List Machine → Shape
+shape_of plan machines = record { states = map (states_of plan machines) (numbers_from 1 machines) }
+
+-- cost rises from a Designated end to a Root end
+pub record Rises (machines : List Machine) (upper lower : End) : Type 0 where
+  pub above : Machine
+  pub below : Machine
+  pub designated : Port
+  pub root : Port
+  pub stands_above : StandsAt machines upper above designated
+  pub stands_below : StandsAt machines lower below root
+  pub is_designated : is_designated designated.role ≡ true
+  pub is_root : is_root root.role ≡ true
+  pub cost : root_cost above < root_cost below
+
+-- the way up of each bridge leads from its Root port to a Designated port behind which the cost is less
+abbrev pub LeadsBehindRoots : Plan → List Machine → Rooted → Type 0
+LeadsBehindRoots plan machines rooted =
+    (bridge number : ℕ) → numbered rooted.up bridge ≡ Some (Some number)
+    → (link : LinkPlan) × (near : End) × (far : End) × (numbered plan.links number ≡ Some link) × HasEnds link near far
+    × (near.bridge ≡ bridge) × Rises machines far near
+
+-- where the machines of a sound plan are settled and no cost is held, the Forwarding ports are a forest
+-- for every service, and its parents lie behind the Root ports
+abbrev pub SettledIsForest : Type 0
+SettledIsForest =
+    (plan : Plan) (machines : List Machine) (vid : ℕ) → IsSound plan → AreMachines plan machines → IsSettled plan machines
+    → NoneHeld machines
+    → (rooted : Rooted) × Shows plan (shape_of plan machines) vid rooted × LeadsBehindRoots plan machines rooted
+
+abbrev pub AreBothForwarding : List Machine → LinkPlan → Type 0
+AreBothForwarding machines link =
+    (m : Machine) × (n : Machine) × (p : Port) × (q : Port) × StandsAt machines link.a m p × StandsAt machines link.b n q
+    × (is_forwarding p.state ≡ true) × (is_forwarding q.state ≡ true)
+
+-- and cost rises along every link whose ends are both Forwarding
+abbrev pub CostRises : Type 0
+CostRises =
+    (plan : Plan) (machines : List Machine) → IsSound plan → AreMachines plan machines → IsSettled plan machines → NoneHeld machines
+    → (number : ℕ) (link : LinkPlan) → numbered plan.links number ≡ Some link → AreBothForwarding machines link
+    → Rises machines link.a link.b ⊎ Rises machines link.b link.a

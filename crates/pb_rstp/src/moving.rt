@@ -1,0 +1,19 @@
+//! Ports in the course of a call.
+
+use crate::port::Port;
+use pb_bpdu::Bpdu;
+
+/// A port as it was before the call and as it is at this point of the call.
+#[derive(Clone, Copy, PartialEq, Eq, Debug)]
+pub(crate) struct Moving {
+    pub(crate) was: Port,
+    pub(crate) now: Port,
+}
+
+/// The BPDU that was heard, the port at which, and whether it was stored.
+#[derive(Clone, Copy, PartialEq, Eq, Debug)]
+pub(crate) struct Heard {
+    pub(crate) port: u8,
+    pub(crate) bpdu: Bpdu,
+    pub(crate) stored: bool,
+}

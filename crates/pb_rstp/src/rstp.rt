@@ -1,0 +1,138 @@
+//! The spanning tree of one bridge.
+
+ghost use Rattle.std.specs.Prelude.{◌≡◌, map, IfOk, IsSome, Some};
+ghost use Rattle.pb_rstp.specs.Laws.{IsInLine};
+ghost use Rattle.pb_rstp.specs.Ports.{start, fresh, port_of};
+ghost use Rattle.pb_rstp.specs.Readings.{AreAbove, roles_of, states_of, root_of, vector_at, stored_at};
+ghost use Rattle.pb_rstp.specs.Roles.{IsRootVector};
+ghost use Rattle.pb_rstp.specs.Vectors.{bridge_id};
+
+use crate::config::{Config, RstpPort, bridge_id};
+use crate::port::{Port, port_of};
+use crate::role::Role;
+use crate::roles::root_vector;
+use crate::vector::Vector;
+use pb_frame::Memory;
+use pb_lan::PortState;
+use std::alloc::Global;
+use std::marker::Model;
+
+/// The rapid spanning tree protocol at one bridge (IEEE 802.1D-2004 clause 17, in a profile).
+///
+/// Contracts see the bridge's identifier, what it keeps of each port, and the ticks to the next hello
+/// time. Each port always has the role that follows from the root vector, and only Root and Designated
+/// ports do more than discard.
+#[derive(Drop)]
+pub struct Rstp {
+    pub(crate) alloc: Global,
+    /// The bridge's identifier.
+    pub(crate) id: u64,
+    pub(crate) ports: Vec<Port>,
+    /// Ticks to the next hello time.
+    pub(crate) hello_left: u8,
+    /// The role of each port.
+    pub(crate) roles: Vec<(u8, Role)>,
+    /// The state of each port.
+    pub(crate) states: Vec<(u8, PortState)>,
+}
+
+impl Model for Rstp {
+    ghost use Rattle.pb_rstp.specs.Ports.{Machine};
+    ghost use Rattle.pb_rstp.specs.Readings.{IsTold};
+
+    ghost Value = { Machine };
+
+    ghost view = { λ r. record { id = r.id; ports = r.ports.items; hello_left = r.hello_left } };
+
+    ghost invariant = { λ r. IsTold (record { id = r.id; ports = r.ports.items; hello_left = r.hello_left }) r.roles.items r.states.items };
+}
+
+/// The ports at the start.
+fn fresh_ports(alloc: Global, ports: &[RstpPort]) -> Result<Vec<Port>, Memory>
+    ensures { IfOk result (λ found. found.items ≡ map fresh ports.now) }
+{
+    Ok(ports.iter().map(|p| Port::fresh(p)).collect(alloc)?)
+}
+
+/// The role of each port.
+pub(crate) fn roles_of(alloc: Global, ports: &[Port]) -> Result<Vec<(u8, Role)>, Memory>
+    ensures { IfOk result (λ found. found.items ≡ roles_of ports.now) }
+{
+    Ok(ports.iter().map(|p| (p.number, p.role)).collect(alloc)?)
+}
+
+/// The state of each port.
+pub(crate) fn states_of(alloc: Global, ports: &[Port]) -> Result<Vec<(u8, PortState)>, Memory>
+    ensures { IfOk result (λ found. found.items ≡ states_of ports.now) }
+{
+    Ok(ports.iter().map(|p| (p.number, p.state)).collect(alloc)?)
+}
+
+impl Rstp {
+    /// The bridge at the start: all ports are up, Designated and Discarding, and store nothing.
+    ///
+    /// `Memory` is answered where memory ran out.
+    pub fn new(alloc: Global, config: Config) -> Result<Rstp, Memory>
+        requires { AreAbove 0 config.ports }
+        ensures { IfOk result (λ rstp. rstp ≡ start (bridge_id config.priority config.address.0) config.ports) }
+    {
+        let id = bridge_id(config.priority, config.address);
+        let ports = fresh_ports(alloc, config.ports.as_slice())?;
+        let roles = roles_of(alloc, &ports)?;
+        let states = states_of(alloc, &ports)?;
+        Ok(Rstp {
+            alloc,
+            id,
+            ports,
+            hello_left: 2,
+            roles,
+            states,
+        })
+    }
+
+    /// The role of each port, by number (IEEE 802.1D-2004 clause 17.7). Takes no memory.
+    pub fn roles(&self) -> &[(u8, Role)]
+        ensures roles { result.now ≡ roles_of self.now.ports }
+        ensures in_line { IsInLine self.now }
+    {
+        self.roles.as_slice()
+    }
+
+    /// The state of each port, by number. Ports that are neither Root nor Designated are Discarding.
+    /// Takes no memory.
+    pub fn states(&self) -> &[(u8, PortState)]
+        ensures states { result.now ≡ states_of self.now.ports }
+        ensures in_line { IsInLine self.now }
+    {
+        self.states.as_slice()
+    }
+
+    /// The root vector: the least of the bridge's own vector and the ways through its ports (IEEE
+    /// 802.1D-2004 clause 17.6). Takes no memory.
+    pub fn root(&self) -> Vector
+        ensures value { result ≡ root_of self.now }
+        ensures least { IsRootVector self.now.id self.now.ports result }
+    {
+        root_vector(self.id, &self.ports)
+    }
+
+    /// What a port offers the others on its link (IEEE 802.1D-2004 clause 17.6). Takes no memory.
+    pub fn vector(&self, port: u8) -> Vector
+        requires { IsSome (port_of self.now.ports port) }
+        ensures { vector_at self.now port ≡ Some result }
+    {
+        let root = root_vector(self.id, &self.ports);
+        let port = port_of(&self.ports, port).unwrap();
+        port.designated_vector(self.id, &root)
+    }
+
+    /// The vector that a port stores, if it stores one (IEEE 802.1D-2004 clause 17.19.21, portPriority).
+    /// Takes no memory. None is answered for a port that the bridge lacks.
+    pub fn stored(&self, port: u8) -> Option<Vector>
+        ensures { result ≡ stored_at self.now port }
+    {
+        let port = port_of(&self.ports, port)?;
+        let info = port.info?;
+        Some(port.stored_vector(&info))
+    }
+}
