@@ -77,16 +77,22 @@ fn after_ticks(rt: &impl Abort, alloc: Global, ticks: u8) -> Result<Bridge, Fail
     Ok(bridge)
 }
 
+/// What becomes of an answer to a station that was seen so many ticks ago, and how many steps there
+/// are then.
+fn answered(rt: &impl Abort, alloc: Global, ticks: u8) -> Result<(Outcome, usize), Fail> {
+    let mut bridge = after_ticks(rt, alloc, ticks)?;
+    let outcome = received(rt, &mut bridge, 2, answer(alloc, 1)?)?;
+    Ok((outcome, bridge.steps().len()))
+}
+
 #[test]
 fn a_station_is_known_until_it_is_too_old(rt: HostRuntime) -> Result<(), Fail> {
     let alloc = rt.alloc();
-    let mut young = after_ticks(&rt, alloc, 9)?;
-    let outcome = received(&rt, &mut young, 2, answer(alloc, 1)?)?;
-    assert!(rt; outcome == relayed(alloc, &[1], &[])?);
-    assert_eq!(rt; young.steps().len(), 13);
-    let mut old = after_ticks(&rt, alloc, 10)?;
-    let outcome = received(&rt, &mut old, 2, answer(alloc, 1)?)?;
-    assert!(rt; outcome == relayed(alloc, &[1, 3], &[])?);
+    let (young, steps) = answered(&rt, alloc, 9)?;
+    assert!(rt; young == relayed(alloc, &[1], &[])?);
+    assert_eq!(rt; steps, 13);
+    let (old, _) = answered(&rt, alloc, 10)?;
+    assert!(rt; old == relayed(alloc, &[1, 3], &[])?);
     Ok(())
 }
 
