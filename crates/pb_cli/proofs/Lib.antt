@@ -3,7 +3,6 @@ pub mod RunLemmas
 pub mod HexTexts
 pub mod FlatPlanLaws
 pub mod StepLengths
-pub mod IdleLaws
 pub mod AdmitLaws
 pub mod DrainLaws
 pub mod HandleLaws

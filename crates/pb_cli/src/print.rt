@@ -1,21 +1,31 @@
 //! The lines that are printed.
 
+ghost use Rattle.std.specs.Prelude.{◌≡◌, ◌++◌, string_bytes, IfOk, OnOk};
+ghost use Rattle.pb_frame.specs.Hex.{hex_text};
+ghost use Rattle.pb_frame.specs.Tags.{bare};
+ghost use Rattle.pb_cli.specs.Texts.{answer_text, bad_line, filtered_line, out_line, out_lines, reason_word};
+
 use pb_frame::{Memory, has_priority_tag};
 use pb_lan::{Outcome, Reason};
+use std::alloc::Global;
 
 /// Puts what became of a frame that a port received behind a text: for a relayed frame a line for
 /// each port that was chosen, with the frame as it leaves there, less its priority tag; for a
 /// filtered one the reason; for one that the bridge itself heard nothing.
 pub(crate) fn put_answer(
-    out: &mut Vec<u8>,
+    alloc: Global,
+    out: &mut String,
     port: u8,
     wire: &[u8],
     outcome: &Outcome,
 ) -> Result<(), Memory>
+    ensures { OnOk result (string_bytes out.new ≡ string_bytes out.old
+        ++ answer_text (record { port = port; wire = wire.now; outcome = outcome.now })) }
 {
     match outcome {
         Outcome::Relayed { chosen, .. } => {
-            put_out_lines(out, wire, chosen.as_slice())
+            let hex = bare_hex(alloc, wire)?;
+            put_out_lines(out, hex.as_str(), chosen.as_slice())
         }
         Outcome::Filtered(reason) => put_filtered(out, port, *reason),
         Outcome::Heard => Ok(()),
@@ -23,93 +33,74 @@ pub(crate) fn put_answer(
 }
 
 /// Says that a line was none of those that are known.
-pub(crate) fn put_bad(out: &mut Vec<u8>, number: u64) -> Result<(), Memory>
+pub(crate) fn put_bad(out: &mut String, number: u64) -> Result<(), Memory>
+    ensures { OnOk result (string_bytes out.new ≡ string_bytes out.old ++ bad_line number) }
 {
-    out.extend_from_slice(b"line ")?;
-    put_number(out, number)?;
-    out.extend_from_slice(b": bad\n")?;
+    writeln!(out, "line {number}: bad")?;
     Ok(())
 }
 
-fn put_number(out: &mut Vec<u8>, number: u64) -> Result<(), Memory> {
-    if number > 9 {
-        put_number(out, number / 10)?;
-    }
-    out.push(48 + (number % 10) as u8)?;
-    Ok(())
-}
-
-const LOWER: [u8; 16] = *b"0123456789abcdef";
-
-/// Two hexadecimal digits for each octet, in lower case.
-fn put_hex(out: &mut Vec<u8>, octets: &[u8]) -> Result<(), Memory>
-{
-    let start = out.len();
-    out.resize(start + 2 * octets.len(), 0)?;
-    let digits = &mut out[start..];
-    for i in 0..octets.len() {
-        digits[2 * i] = LOWER[usize::from(octets[i] >> 4)];
-        digits[2 * i + 1] = LOWER[usize::from(octets[i] & 15)];
-    }
-    Ok(())
-}
-
-fn put_bare(out: &mut Vec<u8>, wire: &[u8]) -> Result<(), Memory>
+/// A frame without its priority tag, in hexadecimal.
+fn bare_hex(alloc: Global, wire: &[u8]) -> Result<String, Memory>
+    ensures { IfOk result (λ hex. string_bytes hex ≡ hex_text (bare wire.now)) }
 {
     if !has_priority_tag(wire) {
-        return put_hex(out, wire);
+        return hex_of(alloc, wire);
     }
-    put_hex(out, &wire[..12])?;
-    put_hex(out, &wire[16..])
+    let mut hex = hex_of(alloc, &wire[..12])?;
+    hex.push_str(hex_of(alloc, &wire[16..])?.as_str())?;
+    Ok(hex)
+}
+
+/// Two hexadecimal digits for each octet, in lower case.
+fn hex_of(alloc: Global, octets: &[u8]) -> Result<String, Memory>
+    ensures { IfOk result (λ hex. string_bytes hex ≡ hex_text octets.now) }
+{
+    Ok(hex::encode(alloc, octets)?)
 }
 
 /// A line for each port at which a frame left.
-fn put_out_lines(out: &mut Vec<u8>, wire: &[u8], ports: &[u8]) -> Result<(), Memory>
+fn put_out_lines(out: &mut String, hex: &str, ports: &[u8]) -> Result<(), Memory>
+    ensures { OnOk result (string_bytes out.new ≡ string_bytes out.old ++ out_lines hex.now ports.now) }
 {
     for port in ports {
-        put_out(out, wire, *port)?;
+        put_out(out, hex, *port)?;
     }
     Ok(())
 }
 
 /// The line of a frame that left at a port.
-fn put_out(out: &mut Vec<u8>, wire: &[u8], port: u8) -> Result<(), Memory>
+fn put_out(out: &mut String, hex: &str, port: u8) -> Result<(), Memory>
+    ensures { OnOk result (string_bytes out.new ≡ string_bytes out.old ++ out_line hex.now port) }
 {
-    out.extend_from_slice(b"out ")?;
-    put_number(out, u64::from(port))?;
-    out.push(b' ')?;
-    put_bare(out, wire)?;
-    out.push(b'\n')?;
+    writeln!(out, "out {port} {hex}")?;
     Ok(())
 }
 
 /// The line of a frame that went nowhere.
-fn put_filtered(out: &mut Vec<u8>, port: u8, reason: Reason) -> Result<(), Memory>
+fn put_filtered(out: &mut String, port: u8, reason: Reason) -> Result<(), Memory>
+    ensures { OnOk result (string_bytes out.new ≡ string_bytes out.old ++ filtered_line port reason) }
 {
-    out.extend_from_slice(b"filtered ")?;
-    put_number(out, u64::from(port))?;
-    out.push(b' ')?;
+    write!(out, "filtered {port} ")?;
     put_reason(out, reason)?;
-    out.push(b'\n')?;
+    writeln!(out)?;
     Ok(())
 }
 
 /// The word for a reason.
-fn put_reason(out: &mut Vec<u8>, reason: Reason) -> Result<(), Memory>
+fn put_reason(out: &mut String, reason: Reason) -> Result<(), Memory>
+    ensures { OnOk result (string_bytes out.new ≡ string_bytes out.old ++ reason_word reason) }
 {
     match reason {
-        Reason::NotForwarding => out.extend_from_slice(b"not-forwarding")?,
-        Reason::NotMember => out.extend_from_slice(b"not-member")?,
-        Reason::Untagged => out.extend_from_slice(b"untagged")?,
-        Reason::Reserved(number) => {
-            out.extend_from_slice(b"reserved-")?;
-            put_number(out, u64::from(number))?
-        }
-        Reason::Malformed => out.extend_from_slice(b"malformed")?,
-        Reason::Worn => out.extend_from_slice(b"worn")?,
-        Reason::Memory => out.extend_from_slice(b"memory")?,
-        Reason::STagged => out.extend_from_slice(b"s-tagged")?,
-        Reason::Long => out.extend_from_slice(b"long")?,
+        Reason::NotForwarding => out.push_str("not-forwarding")?,
+        Reason::NotMember => out.push_str("not-member")?,
+        Reason::Untagged => out.push_str("untagged")?,
+        Reason::Reserved(number) => write!(out, "reserved-{number}")?,
+        Reason::Malformed => out.push_str("malformed")?,
+        Reason::Worn => out.push_str("worn")?,
+        Reason::Memory => out.push_str("memory")?,
+        Reason::STagged => out.push_str("s-tagged")?,
+        Reason::Long => out.push_str("long")?,
     }
     Ok(())
 }

@@ -1,9 +1,12 @@
 //! One bridge, driven by lines of text.
 
+ghost use Rattle.std.specs.Prelude.{◌≡◌, ◌≢◌, ◌<◌, ◌≤◌, ◌^◌, ◌++◌, [], ℕ, List, length, true, string_bytes, IsErrOf, OnOk, IfErr};
 ghost use Rattle.std.specs.Io.KnownBytes.{Keeps};
+ghost use Rattle.pb_lines.specs.Reader.{held, limit_of};
 ghost use Rattle.pb_cli.specs.Answers.{Answer};
 ghost use Rattle.pb_cli.specs.Receipts.{receipts};
 ghost use Rattle.pb_cli.specs.Switches.{IsFlatPast};
+ghost use Rattle.pb_cli.specs.Progress.{Prints, PrintsBeginning};
 
 use crate::fault::FlatFault;
 use crate::line::read_frame_line;
@@ -24,26 +27,77 @@ fn answer(
     number: u64,
     line: &[u8],
     switch: &mut Switch,
-    out: &mut Vec<u8>,
+    out: &mut String,
 ) -> Result<(), FlatFault>
+    requires ports { ports ≡ switch.old.ports }
+    requires ready { switch.old.is_ready ≡ true }
+    ensures ready { OnOk result (switch.new.is_ready ≡ true) }
+    ensures steps { IsErrOf result FlatFault.Steps → 62500 ≤ length (receipts switch.old.steps) }
+    ensures ports { OnOk result (switch.new.ports ≡ ports) }
+    ensures past { OnOk result (IsFlatPast ports switch.old.steps → IsFlatPast ports switch.new.steps) }
+    ensures ok { OnOk result ((text : List ℕ) × (string_bytes out.new ≡ string_bytes out.old ++ text)
+        × Answer limit ports number line.now (receipts switch.old.steps) (receipts switch.new.steps) text) }
 {
     if line.is_empty() {
         return Ok(());
     }
     match read_frame_line(alloc, limit, ports, line)? {
         None => put_bad(out, number)?,
-        Some(handed) => switch.handle(handed.port, handed.frame, out)?,
+        Some(handed) => switch.handle(alloc, handed.port, handed.frame, out)?,
     }
     Ok(())
 }
 
 /// Has the writer hand on all that it took.
 fn finish<W: Write>(writer: &mut W) -> Result<(), FlatFault>
+    ensures ok { OnOk result (Keeps (W.contents writer.old) (W.contents writer.new)) }
+    ensures err { IfErr result (λ e. e ≡ FlatFault.Write) }
 {
     if writer.flush().is_err() {
         return Err(FlatFault::Write);
     }
     Ok(())
+}
+
+/// Answers each line of what is read, with a reader of lines and a bridge that are new.
+fn answer_lines<R: Read, W: Write>(
+    alloc: Global,
+    limit: usize,
+    ports: u8,
+    lines: &mut LineReader,
+    switch: &mut Switch,
+    reader: &mut R,
+    writer: &mut W,
+) -> Result<(), FlatFault>
+    requires limit { limit < 2 ^ 32 }
+    requires lines { limit_of lines.old ≡ limit }
+    requires held { held lines.old ≡ [] }
+    requires ports { switch.old.ports ≡ ports }
+    requires ready { switch.old.is_ready ≡ true }
+    requires fresh { switch.old.steps ≡ [] }
+    ensures ok { OnOk result (Prints limit ports (R.remaining reader.old) (W.contents writer.old) (W.contents writer.new)) }
+    ensures part { IfErr result (λ e. e ≢ FlatFault.Write →
+        PrintsBeginning e limit ports (R.remaining reader.old) (W.contents writer.old) (W.contents writer.new)) }
+{
+    let mut out = String::new(alloc);
+    for number in 1..u64::MAX {
+        let found = lines.next(reader)?;
+        if found == Found::End {
+            finish(writer)?;
+            return Ok(());
+        }
+        out.clear();
+        let line = lines.line();
+        answer(alloc, limit, ports, number, line, switch, &mut out)?;
+        if writer.write_all(out.as_bytes()).is_err() {
+            return Err(FlatFault::Write);
+        }
+        if found == Found::Last {
+            finish(writer)?;
+            return Ok(());
+        }
+    }
+    Err(FlatFault::Read)
 }
 
 /// Answers each line of what is read, and writes nothing else.
@@ -54,33 +108,15 @@ fn run_lines<R: Read, W: Write>(
     reader: &mut R,
     writer: &mut W,
 ) -> Result<(), FlatFault>
+    requires limit { limit < 2 ^ 32 }
+    requires ports { (2 ≤ ports) × (ports ≤ 16) }
+    ensures ok { OnOk result (Prints limit ports (R.remaining reader.old) (W.contents writer.old) (W.contents writer.new)) }
+    ensures part { IfErr result (λ e. e ≢ FlatFault.Write →
+        PrintsBeginning e limit ports (R.remaining reader.old) (W.contents writer.old) (W.contents writer.new)) }
 {
     let mut lines = LineReader::new(alloc, limit)?;
     let mut switch = Switch::new(alloc, ports)?;
-    let mut out = Vec::new(alloc);
-    for number in 1..u64::MAX {
-        let found = lines.next(reader)?;
-        if found == Found::End {
-            if writer.write_all(out.as_slice()).is_err() {
-                return Err(FlatFault::Write);
-            }
-            finish(writer)?;
-            return Ok(());
-        }
-        let line = lines.line();
-        answer(alloc, limit, ports, number, line, &mut switch, &mut out)?;
-        if out.len() >= 65536 || found == Found::Last {
-            if writer.write_all(out.as_slice()).is_err() {
-                return Err(FlatFault::Write);
-            }
-            out.clear();
-        }
-        if found == Found::Last {
-            finish(writer)?;
-            return Ok(());
-        }
-    }
-    Err(FlatFault::Read)
+    answer_lines(alloc, limit, ports, &mut lines, &mut switch, reader, writer)
 }
 
 /// Runs one bridge (IEEE 802.1Q) with `ports` customer ports of one service, 2 to 16, over lines,
@@ -99,6 +135,10 @@ pub fn run_flat<R: Read, W: Write>(
     reader: &mut R,
     writer: &mut W,
 ) -> Result<(), FlatFault>
+    requires { (2 ≤ ports) × (ports ≤ 16) }
+    ensures ok { OnOk result (Prints 140000 ports (R.remaining reader.old) (W.contents writer.old) (W.contents writer.new)) }
+    ensures part { IfErr result (λ e. e ≢ FlatFault.Write →
+        PrintsBeginning e 140000 ports (R.remaining reader.old) (W.contents writer.old) (W.contents writer.new)) }
 {
     run_lines(alloc, MAX_LINE, ports, reader, writer)
 }

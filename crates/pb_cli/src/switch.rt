@@ -1,5 +1,14 @@
 //! One bridge that stands alone.
 
+ghost use Rattle.std.specs.Prelude.{◌≡◌, ◌≤◌, ◌<◌, ◌+◌, ◌*◌, ◌⊎◌, [], true, false, length, string_bytes, IfErr, OnOk, IsErrOf, IfOk};
+ghost use Rattle.pb_lan.specs.BridgeLists.{IsLawfulBridge};
+ghost use Rattle.pb_lan.specs.Ports.{port_at, is_used};
+ghost use Rattle.pb_lan.specs.Rules.{silent};
+ghost use Rattle.pb_cli.specs.FlatPlans.{flat_plan};
+ghost use Rattle.pb_cli.specs.Quiet.{IsQuiet, IsAlone, HasAdmitted, IsReceive, IsWaiting, IsDraining, HasDrained, Tells, newest, waits};
+ghost use Rattle.pb_cli.specs.Receipts.{receipts, IsClearOutcome};
+ghost use Rattle.pb_cli.specs.Switches.{HasHandled};
+
 use crate::fault::FlatFault;
 use crate::flat_plan::flat_plan;
 use crate::print::put_answer;
@@ -8,6 +17,7 @@ use pb_frame::{Learnt, Memory};
 use pb_lan::{Item, Outcome, Reason, Step};
 use pb_relay::{Bridge, BridgeFault};
 use std::alloc::Global;
+use std::marker::Model;
 
 /// A bridge of customer ports of one service. A fault leaves it not ready for another frame.
 #[derive(Drop)]
@@ -17,7 +27,23 @@ pub struct Switch {
     is_ready: bool,
 }
 
-fn fault_of(fault: BridgeFault) -> FlatFault {
+impl Model for Switch {
+    ghost use Rattle.std.specs.Prelude.{◌≡◌, ◌≤◌, true};
+    ghost use Rattle.pb_cli.specs.Quiet.{IsQuiet};
+    ghost use Rattle.pb_cli.specs.Switches.{SwitchView};
+
+    ghost Value = { SwitchView };
+
+    ghost view = { λ s. record { ports = s.ports; steps = s.bridge.steps; is_ready = s.is_ready } };
+
+    ghost invariant = { λ s. (2 ≤ s.ports) × (s.ports ≤ 16) × (s.is_ready ≡ true → IsQuiet s.ports s.bridge) };
+}
+
+/// What ends a run where the bridge can take no step.
+fn fault_of(fault: BridgeFault) -> FlatFault
+    ensures limit { result ≡ FlatFault.Steps → fault ≡ BridgeFault.StepLimit }
+    ensures kinds { (result ≡ FlatFault.Steps) ⊎ (result ≡ FlatFault.Memory) }
+{
     match fault {
         BridgeFault::StepLimit => FlatFault::Steps,
         BridgeFault::Memory => FlatFault::Memory,
@@ -25,7 +51,12 @@ fn fault_of(fault: BridgeFault) -> FlatFault {
 }
 
 /// Has the bridge receive a frame at a port.
-fn admit(bridge: &mut Bridge, port: u8, frame: Bytes) -> Result<(), FlatFault> {
+fn admit(bridge: &mut Bridge, port: u8, frame: Bytes) -> Result<(), FlatFault>
+    requires { is_used (port_at bridge.old.plan bridge.old.number port) ≡ true }
+    ensures ok { OnOk result (HasAdmitted port frame bridge.old bridge.new) }
+    ensures kinds { IfErr result (λ e. (e ≡ FlatFault.Steps) ⊎ (e ≡ FlatFault.Memory)) }
+    ensures limit { IsErrOf result FlatFault.Steps → length bridge.old.steps ≡ bridge.old.plan.steps }
+{
     let item = Item {
         mark: None,
         hops: 0,
@@ -39,7 +70,10 @@ fn admit(bridge: &mut Bridge, port: u8, frame: Bytes) -> Result<(), FlatFault> {
 
 /// The outcome tells of a frame or a copy that was lost for want of memory. The bridge's queues were
 /// empty, so a copy is refused for nothing else.
-fn is_lost(outcome: &Outcome) -> bool {
+fn is_lost(outcome: &Outcome) -> bool
+    ensures lost { result ≡ true → IsClearOutcome outcome.now → ⊥ }
+    ensures kept { result ≡ false → IsClearOutcome outcome.now }
+{
     match outcome {
         Outcome::Relayed { refused, .. } => refused.len() > 0,
         Outcome::Filtered(reason) => *reason == Reason::Memory,
@@ -48,7 +82,11 @@ fn is_lost(outcome: &Outcome) -> bool {
 }
 
 /// Prints what became of the frame that the bridge received last.
-fn tell(bridge: &Bridge, out: &mut Vec<u8>) -> Result<(), FlatFault> {
+fn tell(alloc: Global, bridge: &Bridge, out: &mut String) -> Result<(), FlatFault>
+    requires { IsReceive (newest bridge.now.steps) }
+    ensures ok { OnOk result (Tells (newest bridge.now.steps) (string_bytes out.old) (string_bytes out.new)) }
+    ensures err { IfErr result (λ e. e ≡ FlatFault.Memory) }
+{
     let Some(
         Step::Receive {
             port,
@@ -64,12 +102,18 @@ fn tell(bridge: &Bridge, out: &mut Vec<u8>) -> Result<(), FlatFault> {
     if *learnt == Some(Learnt::Memory) || is_lost(outcome) {
         return Err(FlatFault::Memory);
     }
-    put_answer(out, *port, item.wire.as_slice(), outcome)?;
+    put_answer(alloc, out, *port, item.wire.as_slice(), outcome)?;
     Ok(())
 }
 
 /// Has a port send what waits there, at most one item.
-fn drain_at(bridge: &mut Bridge, port: u8) -> Result<(), FlatFault> {
+fn drain_at(bridge: &mut Bridge, port: u8) -> Result<(), FlatFault>
+    requires used { is_used (port_at bridge.old.plan bridge.old.number port) ≡ true }
+    ensures ok { OnOk result (HasDrained port bridge.old bridge.new) }
+    ensures kinds { IfErr result (λ e. (e ≡ FlatFault.Steps) ⊎ (e ≡ FlatFault.Memory)) }
+    ensures some { IsErrOf result FlatFault.Steps → 0 < waits bridge.old port }
+    ensures limit { IsErrOf result FlatFault.Steps → length bridge.old.steps ≡ bridge.old.plan.steps }
+{
     if bridge.waiting(port) == 0 {
         return Ok(());
     }
@@ -80,17 +124,30 @@ fn drain_at(bridge: &mut Bridge, port: u8) -> Result<(), FlatFault> {
     Ok(())
 }
 
-/// Has each port send what waits there.
-fn drain(bridge: &mut Bridge, ports: u8) -> Result<(), FlatFault> {
-    for port in 1..ports + 1 {
-        drain_at(bridge, port)?;
+/// Has each port send what waits there. Nothing does at the one at which a frame came in.
+fn drain(bridge: &mut Bridge, ports: u8, port: u8) -> Result<(), FlatFault>
+    requires most { ports ≤ 16 }
+    requires from { 1 ≤ port }
+    requires to { port ≤ ports }
+    requires waiting { IsWaiting ports port bridge.old }
+    ensures ok { OnOk result (IsDraining ports port (ports + 1) bridge.old bridge.new) }
+    ensures kinds { IfErr result (λ e. (e ≡ FlatFault.Steps) ⊎ (e ≡ FlatFault.Memory)) }
+    ensures lawful { OnOk result (IsLawfulBridge silent bridge.new.plan bridge.new.number bridge.new.steps) }
+    ensures steps { IsErrOf result FlatFault.Steps → 62501 ≤ length (receipts bridge.old.steps) }
+{
+    for other in 1..ports + 1 {
+        drain_at(bridge, other)?;
     }
+    let _steps = bridge.steps();
     Ok(())
 }
 
 impl Switch {
     /// A bridge with so many ports, 2 to 16, that has received nothing.
-    pub fn new(alloc: Global, ports: u8) -> Result<Switch, Memory> {
+    pub fn new(alloc: Global, ports: u8) -> Result<Switch, Memory>
+        requires { (2 ≤ ports) × (ports ≤ 16) }
+        ensures { IfOk result (λ s. s ≡ record { ports = ports; steps = []; is_ready = true }) }
+    {
         let plan = flat_plan(alloc, ports)?;
         Ok(Switch {
             ports,
@@ -100,16 +157,27 @@ impl Switch {
     }
 
     /// Takes a frame at a port, and prints what becomes of it.
+    ///
+    /// `Steps` is answered where the list of steps is full, `Memory` where memory ran out: at least
+    /// 62,500 frames were taken before the first. After either the bridge takes no more frames.
     pub fn handle(
         &mut self,
+        alloc: Global,
         port: u8,
         frame: Bytes,
-        out: &mut Vec<u8>,
-    ) -> Result<(), FlatFault> {
+        out: &mut String,
+    ) -> Result<(), FlatFault>
+        requires from { 1 ≤ port }
+        requires to { port ≤ self.old.ports }
+        requires ready { self.old.is_ready ≡ true }
+        ensures ok { OnOk result (HasHandled self.old port frame (string_bytes out.old) self.new (string_bytes out.new)) }
+        ensures kinds { IfErr result (λ e. (e ≡ FlatFault.Steps) ⊎ (e ≡ FlatFault.Memory)) }
+        ensures steps { IsErrOf result FlatFault.Steps → 62500 ≤ length (receipts self.old.steps) }
+    {
         self.is_ready = false;
         admit(&mut self.bridge, port, frame)?;
-        tell(&self.bridge, out)?;
-        drain(&mut self.bridge, self.ports)?;
+        tell(alloc, &self.bridge, out)?;
+        drain(&mut self.bridge, self.ports, port)?;
         self.is_ready = true;
         Ok(())
     }

@@ -1,8 +1,7 @@
 use Rattle.std.proofs.Common.{◌≡◌, sym, subst, ap, ◌∙◌}
-use Rattle.pb_lan.specs.Events.{empty_record}
 use Rattle.pb_lan.specs.Plans.{IsSound}
 use Rattle.pb_lan.specs.declared.plan.Plan.{Plan}
-use Rattle.pb_net.specs.Answers.{NetView}
+use Rattle.pb_relay.specs.Standing.{BridgeView}
 use Rattle.pb_cli.specs.FlatPlans.{flat_plan}
 use Rattle.pb_cli.specs.Quiet.{IsQuiet}
 use Rattle.pb_cli.proofs.FlatPlanLaws.{flat_sound}
@@ -17,5 +16,5 @@ new-requires-clause-sound c =
 pub invariant_of-result : goal.invariant_of-result
 invariant_of-result c =
     let same : c.in_ok-plan.plan ≡ flat_plan c.args.ports = c.in_ok-plan.ensures in
-    let net : c.in_ok-new.field-0 ≡ at_start (flat_plan c.args.ports) = c.in_ok-new.ensures ∙ ap at_start same in
-    (c.requires.0, c.requires.1, λ e. subst (λ (v : NetView). IsQuiet c.args.ports v) (sym net) (quiet_start c.args.ports))
+    let bridge : c.in_ok-new.field-0 ≡ at_start (flat_plan c.args.ports) = c.in_ok-new.ensures ∙ ap at_start same in
+    (c.requires.0, c.requires.1, λ e. subst (λ (v : BridgeView). IsQuiet c.args.ports v) (sym bridge) (quiet_start c.args.ports))

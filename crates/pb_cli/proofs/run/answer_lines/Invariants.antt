@@ -3,7 +3,7 @@ use Rattle.pb_lines.specs.Reader.{held, limit_of}
 use Rattle.pb_cli.specs.Progress.{Progress}
 use Rattle.pb_cli.specs.Receipts.{receipts}
 use Rattle.pb_cli.specs.Switches.{IsFlatPast}
-use Rattle.pb_cli.proofs.run.run_lines.Given as goal
+use Rattle.pb_cli.proofs.run.answer_lines.Given as goal
 
 abbrev pub invariant-loop-number : goal.invariant-loop-number
 invariant-loop-number g l = record {
