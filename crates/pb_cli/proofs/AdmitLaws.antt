@@ -1,6 +1,6 @@
 -- The bridge takes a frame in.
-use Rattle.std.proofs.Common.{◌≡◌, ℕ, ◌+◌, ◌*◌, ◌<◌, ◌≤◌, ◌==◌, ◌&&◌, inl, inr, Bool, true, false, not, if◌then◌else◌, List, [], ◌∷◌, ◌++◌, Some, None, length, refl, sym, ap, subst, ◌∙◌, arith, append-nil, length-append}
-use Rattle.std.specs.List.{AllByRecursion, list_any}
+use Rattle.std.proofs.Common.{◌≡◌, ℕ, ◌+◌, ◌≤◌, ◌==◌, ◌&&◌, inl, inr, Bool, true, false, not, if◌then◌else◌, List, [], ◌∷◌, ◌++◌, None, length, refl, sym, ap, subst, ◌∙◌, arith, append-nil, length-append}
+use Rattle.std.specs.List.{list_any}
 use Rattle.std.specs.declared.option.Option.{Option}
 use Rattle.pb_frame.specs.declared.learnt.Learnt.{Learnt}
 use Rattle.pb_frame.proofs.Lists.{true-false, false-unless, eqb-refl}
@@ -28,7 +28,7 @@ use Rattle.pb_cli.specs.FlatPlans.{flat_plan, flat_customer}
 use Rattle.pb_cli.specs.Quiet.{IsAlone, IsQuiet, IsWaiting, HasAdmitted, arriving, waits}
 use Rattle.pb_cli.specs.Receipts.{receipts, receipt_by}
 use Rattle.pb_cli.proofs.FlatPlanLaws.{flat_port-at}
-use Rattle.pb_cli.proofs.StepLengths.{same_or_not, length-more, grown-length}
+use Rattle.pb_cli.proofs.StepLengths.{length-more, grown-length}
 
 -- what the bridge may rule at a customer port
 abbrev IsPlainRuling : Ruling → Type 0
@@ -117,7 +117,7 @@ admitted_waiting ports port frame old new quiet from to (outcome, (learnt, moved
     let told : length (receipts new.steps) ≡ length (receipts old.steps) + 1 = ap (λ ms. length (receipts ms)) steps ∙ length-more receipt_by old.steps step in
     let more : (n : ℕ) → waits new n ≡ waits old n + length (copies plan 1 port item outcome n) =
     λ n. waits-alone ports new alone n ∙ ap (λ ms. length (waiting plan 1 n ms)) whole ∙ waiting_received plan old.steps port n item learnt outcome
-        ∙ ap (λ k. k + length (copies plan 1 port item outcome n)) (sym (waits-alone ports old quiet.alone n)) in
+    ∙ ap (λ k. k + length (copies plan 1 port item outcome n)) (sym (waits-alone ports old quiet.alone n)) in
     record {
       alone = alone;
       near = λ n low high. omega (arith, more n, quiet.calm n low high, copies_few plan port item outcome n);

@@ -4,6 +4,7 @@ ghost use Rattle.std.specs.Prelude.{◌≡◌, ◌≤◌, ◌<◌, ◌+◌, ◌*
 ghost use Rattle.pb_lan.specs.BridgeLists.{IsLawfulBridge};
 ghost use Rattle.pb_lan.specs.Ports.{port_at, is_used};
 ghost use Rattle.pb_lan.specs.Rules.{silent};
+ghost use Rattle.pb_cli.specs.Faults.{of_bridge};
 ghost use Rattle.pb_cli.specs.FlatPlans.{flat_plan};
 ghost use Rattle.pb_cli.specs.Quiet.{IsQuiet, IsAlone, HasAdmitted, IsReceive, IsWaiting, IsDraining, HasDrained, Tells, newest, waits};
 ghost use Rattle.pb_cli.specs.Receipts.{receipts, IsClearOutcome};
@@ -41,8 +42,7 @@ impl Model for Switch {
 
 /// What ends a run where the bridge can take no step.
 fn fault_of(fault: BridgeFault) -> FlatFault
-    ensures limit { result ≡ FlatFault.Steps → fault ≡ BridgeFault.StepLimit }
-    ensures kinds { (result ≡ FlatFault.Steps) ⊎ (result ≡ FlatFault.Memory) }
+    ensures { result ≡ of_bridge fault }
 {
     match fault {
         BridgeFault::StepLimit => FlatFault::Steps,

@@ -1,6 +1,6 @@
-use Rattle.std.proofs.Common.{◌≡◌, ◌+◌, ◌≤◌, sym, subst, ap, ◌∙◌, arith, ℕ}
+use Rattle.std.proofs.Common.{arith}
 use Rattle.pb_cli.proofs.AdmitLaws.{used-alone}
-use Rattle.pb_cli.proofs.DrainLaws.{draining_start, draining_next, full_then_many}
+use Rattle.pb_cli.proofs.DrainLaws.{draining_next}
 use Rattle.pb_cli.proofs.switch.drain.Goals as goal
 
 pub drain_at-requires : goal.drain_at-requires

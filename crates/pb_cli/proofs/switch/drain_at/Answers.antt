@@ -1,4 +1,4 @@
-use Rattle.std.proofs.Common.{◌≡◌, ◌<◌, ◌∙◌, ap, arith}
+use Rattle.std.proofs.Common.{◌∙◌, ap, arith}
 use Rattle.pb_lan.specs.declared.step.Step.TheVariants.{Transmit}
 use Rattle.pb_relay.specs.Standing.{BridgeView, with_step}
 use Rattle.pb_cli.specs.Quiet.HasDrained.{one}

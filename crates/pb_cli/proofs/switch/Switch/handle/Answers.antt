@@ -1,10 +1,7 @@
-use Rattle.std.proofs.Common.{◌≡◌, ◌+◌, ◌≤◌, true, Bool, sym, subst, ap, ◌∙◌, arith, ℕ, length, length-append, string_bytes, Err}
-use Rattle.std.proofs.lemmas.Result.{err_from_is_err_and}
-use Rattle.pb_cli.specs.Quiet.{IsQuiet}
-use Rattle.pb_cli.specs.Receipts.{receipts}
+use Rattle.std.proofs.Common.{◌≡◌, ◌≤◌, true, sym, subst, string_bytes}
 use Rattle.pb_cli.specs.Switches.{SwitchView, HasHandled}
 use Rattle.pb_cli.proofs.AdmitLaws.{admitted_waiting, used-alone}
-use Rattle.pb_cli.proofs.HandleLaws.{received_admitted, told_admitted, handled, view_of, receipt_one}
+use Rattle.pb_cli.proofs.HandleLaws.{received_admitted, handled, view_of}
 use Rattle.pb_cli.proofs.switch.Switch.handle.Goals as goal
 
 pub admit-requires : goal.admit-requires

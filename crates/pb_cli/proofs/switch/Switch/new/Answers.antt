@@ -1,6 +1,5 @@
 use Rattle.std.proofs.Common.{◌≡◌, sym, subst, ap, ◌∙◌}
 use Rattle.pb_lan.specs.Plans.{IsSound}
-use Rattle.pb_lan.specs.declared.plan.Plan.{Plan}
 use Rattle.pb_relay.specs.Standing.{BridgeView}
 use Rattle.pb_cli.specs.FlatPlans.{flat_plan}
 use Rattle.pb_cli.specs.Quiet.{IsQuiet}
