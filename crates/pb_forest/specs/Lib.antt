@@ -7,3 +7,4 @@ pub mod Graphs
 pub mod Counting
 pub mod Rooting
 pub mod Searching
+pub mod Benches

@@ -1,5 +1,6 @@
 //! Runs with ample memory.
 
+mod bench;
 mod certificates;
 mod draining;
 mod paths;
