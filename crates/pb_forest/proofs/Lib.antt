@@ -4,3 +4,10 @@ pub mod UsedOnce
 pub mod Flows
 pub mod DrainedBalance
 pub mod PathLemmas
+pub mod GraphLemmas
+pub mod CountingLemmas
+pub mod PeelingLemmas
+pub mod RootingLemmas
+pub mod EdgeLemmas
+pub mod CoreLemmas
+pub mod ForestLemmas

@@ -38,7 +38,7 @@ same-ends link near far e f (inr h) (inl g) = inr (sym h.0 ∙ g.1, sym h.1 ∙ 
 same-ends link near far e f (inr h) (inr g) = inl (sym h.0 ∙ g.0, sym h.1 ∙ g.1)
 
 -- each active link leads up, from one end or the other
-cross-up : (plan : Plan) (shape : Shape) (vid : ℕ) (rooted : Rooted) → Shows plan shape vid rooted → (k : ℕ) (near far : End) → Crosses plan shape vid k near far
+pub cross-up : (plan : Plan) (shape : Shape) (vid : ℕ) (rooted : Rooted) → Shows plan shape vid rooted → (k : ℕ) (near far : End) → Crosses plan shape vid k near far
     → IsUp plan rooted near.bridge k far.bridge ⊎ IsUp plan rooted far.bridge k near.bridge
 cross-up plan shape vid rooted s k near far c = by (same-ends c.link near far way.near way.far c.ends (subst (λ l. HasEnds l way.near way.far) one way.crosses.ends))
   where

@@ -3,3 +3,8 @@ pub mod Certificates
 pub mod Draining
 pub mod Paths
 pub mod Sides
+pub mod Graphs
+pub mod Counting
+pub mod Rooting
+pub mod Searching
+pub mod Benches

@@ -1,8 +1,10 @@
 //! Runs with ample memory.
 
+mod bench;
 mod certificates;
 mod draining;
 mod paths;
+mod searching;
 
 use pb_lan::{
     BridgePlan, End, LinkPlan, Mac, Plan, PortState, Rooted, Seq, ServicePlan, Shape, Spanning,
@@ -146,4 +148,32 @@ fn line_rooted(alloc: Global) -> Result<Rooted, AllocError> {
         vec![in alloc; None, Some(1), Some(2), Some(3)]?,
         vec![in alloc; 0, 1, 2, 3]?,
     ))
+}
+
+/// B1 and B2, joined by L1 and L2.
+fn doubled(alloc: Global) -> Result<Plan, AllocError> {
+    let links = vec![in alloc;
+        link(alloc, "L1", end(1, 1), end(2, 1))?,
+        link(alloc, "L2", end(1, 3), end(2, 4))?,
+    ]?;
+    network(alloc, two(alloc)?, links)
+}
+
+/// The same, with L1 for red alone and L2 for blue alone.
+fn parted(alloc: Global) -> Result<Plan, AllocError> {
+    let links = vec![in alloc;
+        link(
+            alloc,
+            "L1",
+            end_of(alloc, 1, 1, 1)?,
+            end_of(alloc, 2, 1, 1)?
+        )?,
+        link(
+            alloc,
+            "L2",
+            end_of(alloc, 1, 3, 2)?,
+            end_of(alloc, 2, 4, 2)?
+        )?,
+    ]?;
+    network(alloc, two(alloc)?, links)
 }

@@ -1,38 +1,10 @@
 //! Certificates that show a forest, and others.
 
-use super::{end, end_of, line, line_rooted, link, network, rooted, shape, two};
+use super::{doubled, line, line_rooted, parted, rooted, shape};
 use crate::check_rooted;
-use pb_lan::{Plan, Rooted};
+use pb_lan::Rooted;
 use std::alloc::{AllocError, Global};
 use std::test::Fail;
-
-/// B1 and B2, joined by L1 and L2.
-fn doubled(alloc: Global) -> Result<Plan, AllocError> {
-    let links = vec![in alloc;
-        link(alloc, "L1", end(1, 1), end(2, 1))?,
-        link(alloc, "L2", end(1, 3), end(2, 4))?,
-    ]?;
-    network(alloc, two(alloc)?, links)
-}
-
-/// The same, with L1 for red alone and L2 for blue alone.
-fn parted(alloc: Global) -> Result<Plan, AllocError> {
-    let links = vec![in alloc;
-        link(
-            alloc,
-            "L1",
-            end_of(alloc, 1, 1, 1)?,
-            end_of(alloc, 2, 1, 1)?
-        )?,
-        link(
-            alloc,
-            "L2",
-            end_of(alloc, 1, 3, 2)?,
-            end_of(alloc, 2, 4, 2)?
-        )?,
-    ]?;
-    network(alloc, two(alloc)?, links)
-}
 
 /// B2 below B1 by this link.
 fn below(alloc: Global, number: u8) -> Result<Rooted, AllocError> {

@@ -8,7 +8,7 @@ use std::alloc::Global;
 use std::test::Fail;
 
 /// The path, where the certificate shows a forest for the first service.
-fn path_if_shown(
+pub(super) fn path_if_shown(
     alloc: Global,
     shape: &Shape,
     plan: &Plan,

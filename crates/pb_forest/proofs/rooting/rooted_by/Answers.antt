@@ -1,0 +1,51 @@
+use Rattle.std.proofs.Common.{◌≡◌, [], length, refl, subst, arith, rules}
+use Rattle.std.proofs.lemmas.Option.{slice_get_read}
+use Rattle.std.proofs.lemmas.List.{nil_from_length}
+use Rattle.pb_forest.proofs.RootingLemmas.{RootsTo, roots-none, near-next, depth-next, roots-more, roots-all}
+use Rattle.pb_forest.proofs.rooting.rooted_by.Goals as goal
+
+pub loop-branch-init : goal.loop-branch-init
+loop-branch-init c =
+    roots-none c.args.bridges c.args.branches.items c.in_ok-up.up.items c.in_ok-depth.depth.items
+    (c.in_ok-up.ensures.items_if_clones_equal (search rules))
+    (c.in_ok-depth.ensures.items_if_clones_equal (λ y h. h))
+
+pub loop-branch-preserved : goal.loop-branch-preserved
+loop-branch-preserved c =
+    let r = c.loop-branch.invariant in
+    let b = c.in-Some.branch in
+    let near = near-next c.args.bridges c.args.branches.items c.loop-branch.branches.items c.pop.new.self.items c.loop-branch.up.items c.loop-branch.depth.items b r c.in-Some.ensures.items c.requires.near in
+    let n = r.depths in
+    let m = near.above in
+    let at = slice_get_read c.loop-branch.depth.items (length c.loop-branch.depth.items) b.above c.index.result.now refl (omega (arith, n, m)) c.index.ensures in
+    let d = depth-next c.args.bridges c.args.branches.items c.loop-branch.branches.items c.pop.new.self.items c.loop-branch.up.items c.loop-branch.depth.items b c.index.result.now r c.in-Some.ensures.items near at in
+    roots-more c.args.bridges c.args.branches.items c.loop-branch.branches.items c.pop.new.self.items c.loop-branch.up.items c.loop-branch.depth.items b c.index.result.now r c.in-Some.ensures.items near d.0
+
+pub overflow_add-index : goal.overflow_add-index
+overflow_add-index c =
+    let r = c.loop-branch.invariant in
+    let b = c.in-Some.branch in
+    let near = near-next c.args.bridges c.args.branches.items c.loop-branch.branches.items c.pop.new.self.items c.loop-branch.up.items c.loop-branch.depth.items b r c.in-Some.ensures.items c.requires.near in
+    let n = r.depths in
+    let m = near.above in
+    let at = slice_get_read c.loop-branch.depth.items (length c.loop-branch.depth.items) b.above c.index.result.now refl (omega (arith, n, m)) c.index.ensures in
+    let d = depth-next c.args.bridges c.args.branches.items c.loop-branch.branches.items c.pop.new.self.items c.loop-branch.up.items c.loop-branch.depth.items b c.index.result.now r c.in-Some.ensures.items near at in
+    let l = d.1 in
+    let few = c.requires.few in
+    omega (arith, l, few)
+
+pub index_mut-requires-in-Some : goal.index_mut-requires-in-Some
+index_mut-requires-in-Some c =
+    let r = c.loop-branch.invariant in
+    let near = near-next c.args.bridges c.args.branches.items c.loop-branch.branches.items c.pop.new.self.items c.loop-branch.up.items c.loop-branch.depth.items c.in-Some.branch r c.in-Some.ensures.items c.requires.near in
+    let n = r.depths in
+    let m = near.bridge in
+    let k = c.loop-branch.depth.ok.0 in
+    omega (arith, n, m, k)
+
+pub returns : goal.returns
+returns c =
+    let none : c.loop-branch.branches.items ≡ [] = let v = c.in_default.ensures.cases in let k = c.loop-branch.branches.ok.0 in nil_from_length c.loop-branch.branches.items (omega (arith, v, k)) in
+    roots-all c.args.bridges c.args.branches.items c.loop-branch.up.items c.loop-branch.depth.items _
+    (subst (λ xs. RootsTo c.args.bridges c.args.branches.items xs c.loop-branch.up.items c.loop-branch.depth.items) none c.loop-branch.invariant)
+    c.from_vec.ensures c.from_vec-2.ensures
