@@ -1,0 +1,47 @@
+-- Lists of values, and the data that they stand for.
+use Rattle.std.proofs.Common.{◌≡◌, ℕ, ◌+◌, ◌<◌, ◌≤◌, Bool, true, false, zero, suc, List, [], ◌∷◌, ◌++◌, inl, inr, length, get_or, drop, refl, ap, arith}
+use Rattle.std.proofs.lemmas.Bool.{cases_Bool}
+use Rattle.std.proofs.lemmas.List.{drop_more, drop_all, append-nil}
+use Rattle.std.specs.Prelude.{◌&&◌, ◌||◌}
+use Rattle.pb_frame.specs.Admission.{same}
+use Rattle.std.specs.List.{list_all, list_any}
+use Rattle.toml.specs.Data.{Data, item}
+use Rattle.toml.specs.View.{view, items_view}
+use Rattle.toml.specs.declared.value.Value.{Value}
+use Rattle.pb_service.specs.Tables.{AreFrames}
+use Rattle.pb_service.specs.Values.{all_items, any_item, are_distinct, is_text, text_in}
+
+pub all_items-view : (test : Data → Bool) (vs : List Value) → all_items test (items_view vs) ≡ list_all (λ v. test (view v)) vs
+all_items-view test [] = refl
+all_items-view test (v ∷ vs) = ap (λ b. test (view v) && b) (all_items-view test vs)
+
+pub any_item-view : (test : Data → Bool) (vs : List Value) → any_item test (items_view vs) ≡ list_any (λ v. test (view v)) vs
+any_item-view test [] = refl
+any_item-view test (v ∷ vs) = ap (λ b. test (view v) || b) (any_item-view test vs)
+
+pub distinct_stop : (vs : List Value) (i : ℕ) (d x : Value) (t : List ℕ) (later : List Value) → i < length vs → x ≡ get_or vs i d → t ≡ text_in (view x) → later ≡ drop (i + 1) vs
+    → any_item (is_text (same t)) (items_view later) ≡ true → are_distinct (items_view (drop i vs)) ≡ false
+distinct_stop vs i d x t later h ex et el has =
+    let here = rw (el, et, ex) at has in
+    rw (drop_more vs i d h, here)
+
+pub distinct_on : (vs : List Value) (i : ℕ) (d x : Value) (t : List ℕ) (later : List Value) → i < length vs → x ≡ get_or vs i d → t ≡ text_in (view x) → later ≡ drop (i + 1) vs
+    → any_item (is_text (same t)) (items_view later) ≡ false → are_distinct (items_view (drop i vs)) ≡ are_distinct (items_view (drop (i + 1) vs))
+distinct_on vs i d x t later h ex et el has =
+    let here = rw (el, et, ex) at has in
+    rw (drop_more vs i d h, here)
+
+pub any_at : (test : Data → Bool) (vs : List Value) (i : ℕ) (d x : Value) → i < length vs → x ≡ get_or vs i d → test (view x) ≡ true → any_item test (items_view vs) ≡ true
+any_at test [] i d x h is t = absurd (omega arith)
+any_at test (v ∷ vs) zero d x h is t = rw (← is, t)
+any_at test (v ∷ vs) (suc i) d x h is t =
+    elim (cases_Bool (test (view v))) [
+      | inl this ↦ rw this
+      | inr other ↦ rw (other, any_at test vs i d x (omega arith) is t)
+    ]
+
+pub frames_end : (vs : List Value) (n : ℕ) (frames : List (List ℕ)) → length vs ≤ n
+    → ((more : List (List ℕ)) → AreFrames (items_view (drop n vs)) more → AreFrames (items_view vs) (frames ++ more)) → AreFrames (items_view vs) frames
+frames_end vs n frames h f =
+    let none : AreFrames (items_view (drop n vs)) [] = rw (drop_all n vs h) tt in
+    rw append-nil at (f [] none)

@@ -1,0 +1,9 @@
+use Rattle.std.proofs.Common.{◌∙◌, ap, Some, option_map, string_bytes}
+use Rattle.pb_service.proofs.KeyLemmas.{first_unknown-find}
+use Rattle.pb_service.proofs.row.unknown_key.Goals as goal
+
+pub returns-in-None : goal.returns-in-None
+returns-in-None c = ap (option_map string_bytes) c.in-None.ensures ∙ first_unknown-find _ c.args.table.now.entries
+
+pub returns-in-Some : goal.returns-in-Some
+returns-in-Some c = ap Some c.as_str.ensures.value ∙ ap (option_map string_bytes) c.in-Some.ensures ∙ first_unknown-find _ c.args.table.now.entries

@@ -1,0 +1,85 @@
+-- The keys of the tables of a plan file, in order.
+use Rattle.std.specs.Prelude.{ℕ, Bool, true, false, codes, List, [], ◌∷◌, if◌then◌else◌}
+use Rattle.pb_frame.specs.Admission.{same}
+use Rattle.toml.specs.Data.{Members, get_member}
+use Rattle.pb_service.specs.declared.section.Section.{Section}
+use Rattle.pb_service.specs.declared.section.Section.TheVariants.{Bridge, Link, Service, Port}
+use Rattle.pb_service.specs.declared.rule.Rule.TheVariants.{Number, BridgePriority, PortPriority, Name, Address, Spanning, State, PortKind, Path, Losses, Names, Frames}
+use Rattle.pb_service.specs.Keys.{KeyRule, with_default, without_default}
+use Rattle.pb_service.specs.Told.{text_told}
+
+-- the keys at the top
+abbrev pub top_keys : List (List ℕ)
+top_keys = codes "network" ∷ codes "bridge" ∷ codes "link" ∷ codes "service" ∷ codes "port" ∷ []
+
+-- the keys of the network
+abbrev pub network_keys : List KeyRule
+network_keys =
+    with_default (codes "spanning") Spanning
+    ∷ with_default (codes "ageing") (Number 10 1000000)
+    ∷ with_default (codes "ring") (Number 1 4096)
+    ∷ with_default (codes "steps") (Number 1 1000000)
+    ∷ with_default (codes "turns") (Number 1 1000000000)
+    ∷ with_default (codes "tick_every") (Number 0 1000000)
+    ∷ []
+
+-- of a bridge
+abbrev pub bridge_keys : List KeyRule
+bridge_keys =
+    without_default (codes "name") Name
+    ∷ without_default (codes "address") Address
+    ∷ with_default (codes "priority") BridgePriority
+    ∷ with_default (codes "queue") (Number 1 4096)
+    ∷ []
+
+-- of a link
+abbrev pub link_keys : List KeyRule
+link_keys =
+    without_default (codes "name") Name
+    ∷ without_default (codes "a") Name
+    ∷ without_default (codes "a_port") (Number 1 16)
+    ∷ without_default (codes "b") Name
+    ∷ without_default (codes "b_port") (Number 1 16)
+    ∷ with_default (codes "a_cost") (Number 1 200000000)
+    ∷ with_default (codes "b_cost") (Number 1 200000000)
+    ∷ with_default (codes "a_priority") PortPriority
+    ∷ with_default (codes "b_priority") PortPriority
+    ∷ with_default (codes "a_state") State
+    ∷ with_default (codes "b_state") State
+    ∷ with_default (codes "a_services") Names
+    ∷ with_default (codes "b_services") Names
+    ∷ with_default (codes "lost_ab") Losses
+    ∷ with_default (codes "lost_ba") Losses
+    ∷ []
+
+-- of a service
+abbrev pub service_keys : List KeyRule
+service_keys =
+    without_default (codes "name") Name
+    ∷ without_default (codes "vid") (Number 1 4094)
+    ∷ []
+
+-- of a customer port of each kind, with those that they share before them
+abbrev pub own_keys : List ℕ → List KeyRule
+own_keys kind =
+    if same kind (codes "capture") then without_default (codes "read") Path ∷ without_default (codes "write") Path ∷ []
+    else if same kind (codes "socket") then without_default (codes "path") Path ∷ []
+    else with_default (codes "in") Frames ∷ []
+
+abbrev pub port_keys : List ℕ → List KeyRule
+port_keys kind =
+    without_default (codes "name") Name
+    ∷ without_default (codes "bridge") Name
+    ∷ without_default (codes "port") (Number 1 16)
+    ∷ without_default (codes "service") Name
+    ∷ with_default (codes "pcp") (Number 0 7)
+    ∷ with_default (codes "queue") (Number 1 4096)
+    ∷ with_default (codes "kind") PortKind
+    ∷ own_keys kind
+
+-- of a table of an array
+abbrev pub keys_of : Section → Members → List KeyRule
+keys_of Bridge row = bridge_keys
+keys_of Link row = link_keys
+keys_of Service row = service_keys
+keys_of Port row = port_keys (text_told (get_member (codes "kind") row))

@@ -1,0 +1,10 @@
+pub mod Faults
+pub mod Sections
+pub mod Values
+pub mod Told
+pub mod Keys
+pub mod Formats
+pub mod Tables
+pub mod Refusals
+pub mod UsedPorts
+pub mod PlanFiles

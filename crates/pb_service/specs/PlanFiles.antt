@@ -1,0 +1,57 @@
+-- What a plan file tells, and when it is refused.
+use Rattle.std.specs.Prelude.{◌≡◌, ◌⊎◌, ℕ, codes, List, Some, None}
+use Rattle.std.specs.declared.option.Option.{Option}
+use Rattle.std.specs.List.{AllZip}
+use Rattle.std.specs.Str.{IsUtf8}
+use Rattle.toml.specs.Data.{Members, get_member}
+use Rattle.toml.specs.Parse.{parse_document}
+use Rattle.pb_lan.specs.declared.plan.Plan.{Plan}
+use Rattle.pb_service.specs.declared.fault.PlanFault.{PlanFault}
+use Rattle.pb_service.specs.declared.fault.PlanFault.TheVariants.{Utf8, Toml, Memory}
+use Rattle.pb_service.specs.declared.limits.Limits.{Limits}
+use Rattle.pb_service.specs.declared.port_spec.PortSpec.{PortSpec}
+use Rattle.pb_service.specs.declared.section.Section.TheVariants.{Bridge, Link, Service, Port}
+use Rattle.pb_service.specs.Keys.{IsAccepted, first_unknown}
+use Rattle.pb_service.specs.Formats.{top_keys, network_keys, bridge_keys, link_keys, service_keys}
+use Rattle.pb_service.specs.Told.{rows_of, table_told, spanning_of}
+use Rattle.pb_service.specs.Tables.{number_at, text_at, IsRead, IsReadPort, IsBridgeOf, IsLinkOf, IsServiceOf, IsCustomerOf, IsPortSpecOf}
+use Rattle.pb_service.specs.Refusals.{Refuses, HasTables, names_of}
+
+-- the table of the network; an empty one where there is none
+abbrev pub network_row : Members → Members
+network_row document = table_told (get_member (codes "network") document)
+
+pub record TellsNetwork (row : Members) (plan : Plan) : Type 0 where
+  pub keys : IsAccepted network_keys row
+  pub spanning : plan.spanning ≡ spanning_of (text_at row (codes "spanning"))
+  pub ageing : plan.ageing ≡ number_at row (codes "ageing") 300 1000000
+  pub ring : plan.ring ≡ number_at row (codes "ring") 64 4096
+  pub steps : plan.steps ≡ number_at row (codes "steps") 1000000 1000000
+
+pub record AreLimitsOf (document : Members) (limits : Limits) : Type 0 where
+  pub turns : limits.turns ≡ number_at (network_row document) (codes "turns") 10000000 1000000000
+  pub tick_every : limits.tick_every ≡ number_at (network_row document) (codes "tick_every") 0 1000000
+
+-- the plan that a document tells, table by table, and what its customer ports are
+pub record IsPlanOf (document : Members) (plan : Plan) (specs : List PortSpec) : Type 0 where
+  pub top : first_unknown top_keys document ≡ None
+  pub network : TellsNetwork (network_row document) plan
+  pub bridge_tables : HasTables document Bridge
+  pub link_tables : HasTables document Link
+  pub service_tables : HasTables document Service
+  pub port_tables : HasTables document Port
+  pub bridges : AllZip (IsRead IsBridgeOf bridge_keys) (rows_of document Bridge) plan.bridges
+  pub links : AllZip (IsRead (IsLinkOf (names_of document Bridge) (names_of document Service)) link_keys) (rows_of document Link) plan.links
+  pub services : AllZip (IsRead IsServiceOf service_keys) (rows_of document Service) plan.services
+  pub customers : AllZip (IsReadPort (IsCustomerOf (names_of document Bridge) (names_of document Service))) (rows_of document Port) plan.customers
+  pub ports : AllZip IsPortSpecOf (rows_of document Port) specs
+
+-- the file is a document of which the fact holds
+abbrev pub Tells : List ℕ → (Members → Type 0) → Type 0
+Tells file P = (document : Members) × (parse_document file ≡ Some document) × P document
+
+-- the file breaks a rule, in the way that the fault tells
+abbrev pub RefusesFile : List ℕ → PlanFault → Type 0
+RefusesFile file Utf8 = IsUtf8 file → ⊥
+RefusesFile file Toml = parse_document file ≡ None
+RefusesFile file fault = (fault ≡ Memory) ⊎ Tells file (λ document. Refuses document fault)

@@ -1,0 +1,128 @@
+-- When a document is refused, and why.
+use Rattle.std.specs.Prelude.{◌≡◌, ◌≤◌, ◌<◌, ◌⊎◌, ℕ, codes, Bool, true, false, ◌||◌, List, [], ◌∷◌, ◌++◌, length, take, map, slice_get, is_some, Some, None, unwrap_or}
+use Rattle.std.specs.declared.option.Option.{Option}
+use Rattle.std.specs.Fmt.{decimal}
+use Rattle.std.specs.List.{flat_map}
+use Rattle.std.specs.Option.{option_map_or}
+use Rattle.pb_frame.specs.Admission.{same}
+use Rattle.pb_frame.specs.Hex.{IsMacText, mac_text}
+use Rattle.toml.specs.Data.{Data, Items, Members, get_member, as_table}
+use Rattle.pb_service.specs.declared.fault.PlanFault.{PlanFault}
+use Rattle.pb_service.specs.declared.fault.PlanFault.TheVariants.{Kind, Unknown, Twice, NoSuch, LinkEnd, TooMany, Memory}
+use Rattle.pb_service.specs.declared.section.Section.{Section}
+use Rattle.pb_service.specs.declared.section.Section.TheVariants.{Bridge, Link, Service, Port}
+use Rattle.pb_service.specs.declared.section.Place.TheVariants.{Network, Row}
+use Rattle.pb_service.specs.declared.used.LocalPort.{LocalPort}
+use Rattle.pb_service.specs.UsedPorts.{is_used}
+use Rattle.pb_service.specs.Sections.{word_of, most_of}
+use Rattle.pb_service.specs.Values.{all_items, any_item, is_list, text_in}
+use Rattle.pb_service.specs.Keys.{RefusesRow, SomeOf, first_unknown}
+use Rattle.pb_service.specs.Formats.{top_keys, network_keys, keys_of}
+use Rattle.pb_service.specs.Told.{rows_of, names_in, number_from, table_told}
+use Rattle.pb_service.specs.Tables.{number_at, text_at, items_at, is_one_of}
+
+-- nothing, or an array of tables
+abbrev pub is_array_of_tables : Option Data → Bool
+is_array_of_tables value = option_map_or (is_list (all_items (λ d. is_some (as_table d)))) value true
+
+-- there is nothing or an array of tables, not too many
+pub record HasTables (document : Members) (section : Section) : Type 0 where
+  pub tables : is_array_of_tables (get_member (word_of section) document) ≡ true
+  pub few : length (rows_of document section) ≤ most_of section
+
+-- the names of the tables of an array
+abbrev pub names_of : Members → Section → List (List ℕ)
+names_of document section = names_in (rows_of document section)
+
+-- the keys that name a bridge
+abbrev pub names_bridge : Section → List ℕ → Bool
+names_bridge Link key = same key (codes "a") || same key (codes "b")
+names_bridge Port key = same key (codes "bridge")
+names_bridge section key = false
+
+-- the keys that list services
+abbrev pub lists_services : List ℕ → Bool
+lists_services key = same key (codes "a_services") || same key (codes "b_services")
+
+-- the local port of a bridge that two keys of a table tell
+abbrev pub port_told : List (List ℕ) → Members → List ℕ → List ℕ → LocalPort
+port_told bridges row bridge port = record { bridge = unwrap_or (number_from 1 bridges (text_at row bridge)) 0; port = number_at row port 0 16 }
+
+abbrev pub link_ports : List (List ℕ) → Members → List LocalPort
+link_ports bridges row = port_told bridges row (codes "a") (codes "a_port") ∷ port_told bridges row (codes "b") (codes "b_port") ∷ []
+
+abbrev pub customer_ports : List (List ℕ) → Members → List LocalPort
+customer_ports bridges row = port_told bridges row (codes "bridge") (codes "port") ∷ []
+
+-- the local ports that a document uses, in order
+abbrev pub ports_told : Members → List LocalPort
+ports_told document =
+    flat_map (link_ports (names_of document Bridge)) (rows_of document Link)
+    ++ flat_map (customer_ports (names_of document Bridge)) (rows_of document Port)
+
+-- a local port of a bridge that is there stands again behind its first place
+pub record UsesTwice (ports : List LocalPort) (port : LocalPort) : Type 0 where
+  pub before : List LocalPort
+  pub behind : List LocalPort
+  pub stands : ports ≡ before ++ port ∷ behind
+  pub again : is_used before port ≡ true
+  pub bridge : 1 ≤ port.bridge
+
+-- the document breaks a rule, in the way that the fault tells
+pub data Refuses : Members → PlanFault → Type 0 where
+  other_key : (document : Members) (key : List ℕ) → first_unknown top_keys document ≡ Some key → Refuses document (Unknown key)
+  no_network : (document : Members) (d : Data) → get_member (codes "network") document ≡ Some d → as_table d ≡ None → Refuses document (Kind (codes "network"))
+  in_network : (document : Members) (fault : PlanFault) → RefusesRow network_keys Network (table_told (get_member (codes "network") document)) fault → Refuses document fault
+  no_tables : (document : Members) (section : Section) → is_array_of_tables (get_member (word_of section) document) ≡ false → Refuses document (Kind (word_of section))
+  too_many : (document : Members) (section : Section) → most_of section < length (rows_of document section) → Refuses document TooMany
+  in_table : (document : Members) (section : Section) (index : ℕ) (row : Members) (fault : PlanFault)
+      → slice_get (rows_of document section) index ≡ Some row → RefusesRow (keys_of section row) (Row section index) row fault → Refuses document fault
+  same_name : (document : Members) (section : Section) (index : ℕ) (row : Members)
+      → slice_get (rows_of document section) index ≡ Some row → is_one_of (take index (names_of document section)) (text_at row (codes "name")) ≡ true
+      → Refuses document (Twice (text_at row (codes "name")))
+  same_address : (document : Members) (index : ℕ) (row : Members) (octets : List ℕ)
+      → slice_get (rows_of document Bridge) index ≡ Some row → IsMacText (text_at row (codes "address")) octets
+      → SomeOf (λ earlier. IsMacText (text_at earlier (codes "address")) octets) (take index (rows_of document Bridge)) → Refuses document (Twice (mac_text octets))
+  same_vid : (document : Members) (index : ℕ) (row : Members) (vid : ℕ)
+      → slice_get (rows_of document Service) index ≡ Some row → number_at row (codes "vid") 0 4094 ≡ vid
+      → SomeOf (λ earlier. number_at earlier (codes "vid") 0 4094 ≡ vid) (take index (rows_of document Service)) → Refuses document (Twice (decimal vid))
+  no_bridge : (document : Members) (section : Section) (index : ℕ) (row : Members) (key : List ℕ)
+      → slice_get (rows_of document section) index ≡ Some row → names_bridge section key ≡ true
+      → number_from 1 (names_of document Bridge) (text_at row key) ≡ None → Refuses document (NoSuch (text_at row key))
+  no_service : (document : Members) (index : ℕ) (row : Members)
+      → slice_get (rows_of document Port) index ≡ Some row
+      → number_from 1 (names_of document Service) (text_at row (codes "service")) ≡ None → Refuses document (NoSuch (text_at row (codes "service")))
+  no_listed : (document : Members) (index : ℕ) (row : Members) (key name : List ℕ)
+      → slice_get (rows_of document Link) index ≡ Some row → lists_services key ≡ true
+      → any_item (λ d. same name (text_in d)) (items_at row key) ≡ true
+      → is_one_of (names_of document Service) name ≡ false → Refuses document (NoSuch name)
+  used_twice : (document : Members) (port : LocalPort) → UsesTwice (ports_told document) port → Refuses document LinkEnd
+  no_memory : (document : Members) → Refuses document Memory
+
+-- a table breaks a rule of its keys, or has the name of one before it
+abbrev pub RefusesTable : Section → List (List ℕ) → ℕ → Members → PlanFault → Type 0
+RefusesTable section names index row fault =
+    RefusesRow (keys_of section row) (Row section index) row fault
+    ⊎ ((fault ≡ Twice (text_at row (codes "name"))) × (is_one_of (take index names) (text_at row (codes "name")) ≡ true))
+
+-- the key of a table names nothing
+abbrev pub LacksName : List (List ℕ) → Members → List ℕ → PlanFault → Type 0
+LacksName names row key fault = (fault ≡ NoSuch (text_at row key)) × (number_from 1 names (text_at row key) ≡ None)
+
+-- the name is listed and names nothing
+pub record IsUnlisted (names : List (List ℕ)) (listed : Items) (name : List ℕ) : Type 0 where
+  pub stands : any_item (λ d. same name (text_in d)) listed ≡ true
+  pub unknown : is_one_of names name ≡ false
+
+abbrev pub LacksListed : List (List ℕ) → Items → PlanFault → Type 0
+LacksListed names listed fault = (name : List ℕ) × (fault ≡ NoSuch name) × IsUnlisted names listed name
+
+-- a link names a bridge or a service that isn't there, or memory ran out
+abbrev pub LinkLacks : List (List ℕ) → List (List ℕ) → Members → PlanFault → Type 0
+LinkLacks bridges services row fault =
+    (fault ≡ Memory) ⊎ ((LacksName bridges row (codes "a") fault ⊎ LacksName bridges row (codes "b") fault)
+    ⊎ (LacksListed services (items_at row (codes "a_services")) fault ⊎ LacksListed services (items_at row (codes "b_services")) fault))
+
+abbrev pub CustomerLacks : List (List ℕ) → List (List ℕ) → Members → PlanFault → Type 0
+CustomerLacks bridges services row fault =
+    (fault ≡ Memory) ⊎ (LacksName bridges row (codes "bridge") fault ⊎ LacksName services row (codes "service") fault)

@@ -1,0 +1,27 @@
+-- The tables of a plan file, and the places of their keys.
+use Rattle.std.specs.Prelude.{ℕ, List, codes, ◌++◌}
+use Rattle.std.specs.Fmt.{decimal}
+use Rattle.pb_service.specs.declared.section.Section.{Section}
+use Rattle.pb_service.specs.declared.section.Section.TheVariants.{Bridge, Link, Service, Port}
+use Rattle.pb_service.specs.declared.section.Place.{Place}
+use Rattle.pb_service.specs.declared.section.Place.TheVariants.{Top, Network, Row}
+
+-- the key of an array of tables
+abbrev pub word_of : Section → List ℕ
+word_of Bridge = codes "bridge"
+word_of Link = codes "link"
+word_of Service = codes "service"
+word_of Port = codes "port"
+
+-- the most tables that it may have
+abbrev pub most_of : Section → ℕ
+most_of Bridge = 32
+most_of Link = 64
+most_of Service = 64
+most_of Port = 128
+
+-- a key with its place, as it is printed
+abbrev pub path_at : Place → List ℕ → List ℕ
+path_at Top key = key
+path_at Network key = codes "network." ++ key
+path_at (Row section index) key = word_of section ++ codes "[" ++ decimal index ++ codes "]." ++ key

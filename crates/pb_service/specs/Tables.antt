@@ -1,0 +1,129 @@
+-- What the tables of a plan file tell.
+use Rattle.std.specs.Prelude.{◌≡◌, ℕ, codes, Bool, true, false, List, [], ◌∷◌, ◌++◌, take, Some, None}
+use Rattle.std.specs.declared.option.Option.{Option}
+use Rattle.std.specs.List.{list_any}
+use Rattle.pb_frame.specs.Admission.{same}
+use Rattle.pb_frame.specs.Hex.{IsHex, IsMacText}
+use Rattle.toml.specs.Data.{Data, Items, no_items, item, Members, get_member}
+use Rattle.pb_lan.specs.declared.plan.BridgePlan.{BridgePlan}
+use Rattle.pb_lan.specs.declared.plan.End.{End}
+use Rattle.pb_lan.specs.declared.plan.LinkPlan.{LinkPlan}
+use Rattle.pb_lan.specs.declared.plan.ServicePlan.{ServicePlan}
+use Rattle.pb_lan.specs.declared.plan.CustomerPlan.{CustomerPlan}
+use Rattle.pb_service.specs.declared.link.EndKeys.{EndKeys}
+use Rattle.pb_service.specs.declared.network.Network.{Network}
+use Rattle.pb_service.specs.declared.port_spec.PortSpec.{PortSpec}
+use Rattle.pb_service.specs.declared.port_spec.PortSpec.TheVariants.{Memory, Capture, Socket}
+use Rattle.pb_service.specs.Values.{text_in, all_items}
+use Rattle.pb_service.specs.Keys.{KeyRule, IsAccepted}
+use Rattle.pb_service.specs.Formats.{network_keys, port_keys}
+use Rattle.pb_service.specs.Told.{number_told, text_told, items_told, state_of, spanning_of, naturals_in, number_from, listed_from}
+
+-- the number, and the text, at a key of a table
+abbrev pub number_at : Members → List ℕ → ℕ → ℕ → ℕ
+number_at row key default highest = number_told default highest (get_member key row)
+
+abbrev pub text_at : Members → List ℕ → List ℕ
+text_at row key = text_told (get_member key row)
+
+abbrev pub items_at : Members → List ℕ → Items
+items_at row key = items_told (get_member key row)
+
+pub record IsNetworkOf (row : Members) (n : Network) : Type 0 where
+  pub keys : IsAccepted network_keys row
+  pub spanning : n.spanning ≡ spanning_of (text_at row (codes "spanning"))
+  pub ageing : n.ageing ≡ number_at row (codes "ageing") 300 1000000
+  pub ring : n.ring ≡ number_at row (codes "ring") 64 4096
+  pub steps : n.steps ≡ number_at row (codes "steps") 1000000 1000000
+  pub turns : n.limits.turns ≡ number_at row (codes "turns") 10000000 1000000000
+  pub tick_every : n.limits.tick_every ≡ number_at row (codes "tick_every") 0 1000000
+
+pub record IsBridgeOf (row : Members) (b : BridgePlan) : Type 0 where
+  pub name : b.name ≡ text_at row (codes "name")
+  pub address : IsMacText (text_at row (codes "address")) b.address.0
+  pub priority : b.priority ≡ number_at row (codes "priority") 32768 61440
+  pub queue : b.queue ≡ number_at row (codes "queue") 64 4096
+
+pub record IsServiceOf (row : Members) (s : ServicePlan) : Type 0 where
+  pub name : s.name ≡ text_at row (codes "name")
+  pub vid : s.vid ≡ number_at row (codes "vid") 0 4094
+
+-- the services of an end: all of them, or those that are listed, by their numbers
+abbrev pub services_told : List (List ℕ) → Option Data → Option (List ℕ)
+services_told services None = None
+services_told services (Some d) = Some (listed_from 1 (take 64 services) (items_told (Some d)))
+
+-- each listed name is one of those that are known
+abbrev pub is_one_of : List (List ℕ) → List ℕ → Bool
+is_one_of names name = list_any (same name) names
+
+abbrev pub are_known : List (List ℕ) → Items → Bool
+are_known names listed = all_items (λ d. is_one_of names (text_in d)) listed
+
+-- the keys of an end of a link
+pub record EndNames : Type 0 where
+  pub bridge : List ℕ
+  pub port : List ℕ
+  pub cost : List ℕ
+  pub priority : List ℕ
+  pub state : List ℕ
+  pub services : List ℕ
+
+abbrev pub names_of_end : EndKeys → EndNames
+names_of_end k = record { bridge = k.bridge.now; port = k.port.now; cost = k.cost.now; priority = k.priority.now; state = k.state.now; services = k.services.now }
+
+abbrev pub a_names : EndNames
+a_names = record { bridge = codes "a"; port = codes "a_port"; cost = codes "a_cost"; priority = codes "a_priority"; state = codes "a_state"; services = codes "a_services" }
+
+abbrev pub b_names : EndNames
+b_names = record { bridge = codes "b"; port = codes "b_port"; cost = codes "b_cost"; priority = codes "b_priority"; state = codes "b_state"; services = codes "b_services" }
+
+-- the end of a link that is at the bridge of a number, among services of these names
+pub record IsEndOf (known : List (List ℕ)) (row : Members) (k : EndNames) (e : End) : Type 0 where
+  pub port : e.port ≡ number_at row k.port 0 16
+  pub cost : e.cost ≡ number_at row k.cost 20000 200000000
+  pub priority : e.priority ≡ number_at row k.priority 128 240
+  pub start : e.start ≡ state_of (text_at row k.state)
+  pub services : e.services ≡ services_told known (get_member k.services row)
+
+-- the link, among bridges and services of these names
+pub record IsLinkOf (bridges services : List (List ℕ)) (row : Members) (l : LinkPlan) : Type 0 where
+  pub name : l.name ≡ text_at row (codes "name")
+  pub a_bridge : number_from 1 bridges (text_at row (codes "a")) ≡ Some l.a.bridge
+  pub b_bridge : number_from 1 bridges (text_at row (codes "b")) ≡ Some l.b.bridge
+  pub a_services : are_known services (items_at row (codes "a_services")) ≡ true
+  pub b_services : are_known services (items_at row (codes "b_services")) ≡ true
+  pub a : IsEndOf services row a_names l.a
+  pub b : IsEndOf services row b_names l.b
+  pub lost_ab : l.lost_ab ≡ naturals_in (items_at row (codes "lost_ab"))
+  pub lost_ba : l.lost_ba ≡ naturals_in (items_at row (codes "lost_ba"))
+
+pub record IsCustomerOf (bridges services : List (List ℕ)) (row : Members) (c : CustomerPlan) : Type 0 where
+  pub name : c.name ≡ text_at row (codes "name")
+  pub bridge : number_from 1 bridges (text_at row (codes "bridge")) ≡ Some c.bridge
+  pub port : c.port ≡ number_at row (codes "port") 0 16
+  pub service : number_from 1 services (text_at row (codes "service")) ≡ Some c.service
+  pub pcp : c.pcp ≡ number_at row (codes "pcp") 0 7
+  pub queue : c.queue ≡ number_at row (codes "queue") 64 4096
+
+-- the frames that texts tell
+abbrev pub AreFrames : Items → List (List ℕ) → Type 0
+AreFrames no_items [] = Unit {0}
+AreFrames (item d ds) (frame ∷ frames) = IsHex (text_in d) frame × AreFrames ds frames
+AreFrames ds frames = ⊥
+
+-- what a customer port is
+abbrev pub IsPortSpecOf : Members → PortSpec → Type 0
+IsPortSpecOf row (Memory frames) = (same (text_at row (codes "kind")) (codes "capture") ≡ false) × (same (text_at row (codes "kind")) (codes "socket") ≡ false) × AreFrames (items_at row (codes "in")) frames
+IsPortSpecOf row (Capture read write) = (same (text_at row (codes "kind")) (codes "capture") ≡ true) × (read ≡ text_at row (codes "read")) × (write ≡ text_at row (codes "write"))
+IsPortSpecOf row (Socket path) = (same (text_at row (codes "kind")) (codes "socket") ≡ true) × (path ≡ text_at row (codes "path"))
+
+-- a table that keeps the rules of its keys, and what it tells
+pub record IsRead {X : Type 0} (Tells : Members → X → Type 0) (keys : List KeyRule) (row : Members) (x : X) : Type 0 where
+  pub accepted : IsAccepted keys row
+  pub told : Tells row x
+
+-- the same of a customer port, whose keys depend on what it is
+pub record IsReadPort {X : Type 0} (Tells : Members → X → Type 0) (row : Members) (x : X) : Type 0 where
+  pub accepted : IsAccepted (port_keys (text_at row (codes "kind"))) row
+  pub told : Tells row x

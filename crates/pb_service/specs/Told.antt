@@ -1,0 +1,61 @@
+-- What a table tells under a key, whatever stands there.
+use Rattle.std.specs.Prelude.{ℕ, suc, ◌+◌, codes, min, Bool, true, false, ◌&&◌, List, [], ◌∷◌, ◌++◌, map, Some, None, unwrap_or, if◌then◌else◌}
+use Rattle.std.specs.declared.option.Option.{Option}
+use Rattle.std.specs.Option.{option_map_or, option_and_then, option_to_list}
+use Rattle.pb_frame.specs.Admission.{same}
+use Rattle.toml.specs.Data.{Data, Items, no_items, item, Members, no_members, as_array, as_table, get_member}
+use Rattle.pb_lan.specs.declared.shape.PortState.{PortState}
+use Rattle.pb_lan.specs.declared.shape.PortState.TheVariants.{Discarding, Learning, Forwarding}
+use Rattle.pb_lan.specs.declared.plan.Spanning.{Spanning}
+use Rattle.pb_lan.specs.declared.plan.Spanning.TheVariants.{Fixed, Rstp}
+use Rattle.pb_service.specs.declared.section.Section.{Section}
+use Rattle.pb_service.specs.Sections.{word_of}
+use Rattle.pb_service.specs.Values.{natural_of, text_in, any_item, is_text}
+
+-- the number, or the default; never above the highest
+abbrev pub number_told : ℕ → ℕ → Option Data → ℕ
+number_told default highest value = min (unwrap_or (option_and_then natural_of value) default) highest
+
+-- the text, or the empty one
+abbrev pub text_told : Option Data → List ℕ
+text_told value = option_map_or text_in value []
+
+-- the list, or the empty one
+abbrev pub items_told : Option Data → Items
+items_told value = unwrap_or (option_and_then as_array value) no_items
+
+abbrev pub table_told : Option Data → Members
+table_told value = unwrap_or (option_and_then as_table value) no_members
+
+abbrev pub state_of : List ℕ → PortState
+state_of text = if same text (codes "discarding") then Discarding else if same text (codes "learning") then Learning else Forwarding
+
+abbrev pub spanning_of : List ℕ → Spanning
+spanning_of text = if same text (codes "rstp") then Rstp else Fixed
+
+-- the numbers of a list
+abbrev pub naturals_in : Items → List ℕ
+naturals_in no_items = []
+naturals_in (item d ds) = option_to_list (natural_of d) ++ naturals_in ds
+
+-- the tables of a list
+abbrev pub tables_in : Items → List Members
+tables_in no_items = []
+tables_in (item d ds) = option_to_list (as_table d) ++ tables_in ds
+
+-- the tables of an array, and their names
+abbrev pub rows_of : Members → Section → List Members
+rows_of document section = tables_in (items_told (get_member (word_of section) document))
+
+abbrev pub names_in : List Members → List (List ℕ)
+names_in rows = map (λ row. text_told (get_member (codes "name") row)) rows
+
+-- the number of the first thing with the name, of things that are numbered from n
+abbrev pub number_from : ℕ → List (List ℕ) → List ℕ → Option ℕ
+number_from n [] name = None
+number_from n (x ∷ names) name = if same name x then Some n else number_from (suc n) names name
+
+-- the numbers of the things whose names are listed
+abbrev pub listed_from : ℕ → List (List ℕ) → Items → List ℕ
+listed_from n [] listed = []
+listed_from n (name ∷ names) listed = (if any_item (is_text (same name)) listed then n ∷ [] else []) ++ listed_from (n + 1) names listed

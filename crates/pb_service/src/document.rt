@@ -1,0 +1,110 @@
+//! A whole document.
+
+ghost use Rattle.std.specs.Prelude.{IfOk, IfErr};
+ghost use Rattle.toml.specs.View.{table_view};
+ghost use Rattle.pb_lan.specs.Plans.{IsSound};
+ghost use Rattle.pb_service.specs.Refusals.{Refuses};
+ghost use Rattle.pb_service.specs.PlanFiles.{IsPlanOf, AreLimitsOf, Tells, RefusesFile};
+
+use crate::bridge::read_bridges;
+use crate::fault::PlanFault;
+use crate::limits::Limits;
+use crate::link::{Links, read_links};
+use crate::network::read_network;
+use crate::port::{Customers, read_customers};
+use crate::port_spec::PortSpec;
+use crate::row::check_top;
+use crate::service::read_services;
+use pb_frame::Seq;
+use pb_lan::{Plan, plan_is_sound};
+use std::alloc::Global;
+use toml::Table;
+
+/// What a plan file tells.
+#[derive(Drop)]
+struct PlanFile {
+    plan: Plan,
+    ports: Vec<PortSpec>,
+    limits: Limits,
+}
+
+/// What a document tells.
+fn file_of(alloc: Global, document: &Table) -> Result<PlanFile, PlanFault>
+    ensures ok { IfOk result (λ file. IsPlanOf (table_view document.now) file.plan file.ports.items) }
+    ensures limits { IfOk result (λ file. AreLimitsOf (table_view document.now) file.limits) }
+    ensures sound { IfOk result (λ file. IsSound file.plan) }
+    ensures err { IfErr result (Refuses (table_view document.now)) }
+{
+    check_top(alloc, document)?;
+    let network = read_network(alloc, document)?;
+    let bridges = read_bridges(alloc, document)?;
+    let Links { links, used } = read_links(alloc, document)?;
+    let services = read_services(alloc, document)?;
+    let Customers { customers, specs } = read_customers(alloc, document, used)?;
+    let plan = Plan {
+        bridges: Seq::from_vec(bridges),
+        links: Seq::from_vec(links),
+        services: Seq::from_vec(services),
+        customers: Seq::from_vec(customers),
+        spanning: network.spanning,
+        ageing: network.ageing,
+        ring: network.ring,
+        steps: network.steps,
+    };
+    if !plan_is_sound(&plan) {
+        return Err(PlanFault::Memory);
+    }
+    Ok(PlanFile {
+        plan,
+        ports: specs,
+        limits: network.limits,
+    })
+}
+
+/// What the octets of a file tell.
+fn read_file(alloc: Global, file: &[u8]) -> Result<PlanFile, PlanFault>
+    ensures ok { IfOk result (λ r. Tells file.now (λ document. IsPlanOf document r.plan r.ports.items)) }
+    ensures limits { IfOk result (λ r. Tells file.now (λ document. AreLimitsOf document r.limits)) }
+    ensures sound { IfOk result (λ r. IsSound r.plan) }
+    ensures err { IfErr result (RefusesFile file.now) }
+{
+    let text = match std::str::from_utf8(file) {
+        Ok(text) => text,
+        Err(_) => return Err(PlanFault::Utf8),
+    };
+    match toml::table_from_str(alloc, text) {
+        Ok(document) => file_of(alloc, &document),
+        Err(e) if e.is_memory() => Err(PlanFault::Memory),
+        Err(_) => Err(PlanFault::Toml),
+    }
+}
+
+/// Reads a plan file: the plan of its network, and what each customer port is, in the order of the plan.
+///
+/// Any fault but `Memory` comes only where the file breaks a rule in the way that the fault tells; of
+/// several faults the first is told, in the order of the tables and keys of the format.
+pub fn read_plan(alloc: Global, file: &[u8]) -> Result<(Plan, Vec<PortSpec>), PlanFault>
+    ensures plan { IfOk result (λ r. Tells file.now (λ document. IsPlanOf document r.0 r.1.items)) }
+    ensures sound { IfOk result (λ r. IsSound r.0) }
+    ensures err { IfErr result (RefusesFile file.now) }
+{
+    let PlanFile {
+        plan,
+        ports,
+        limits: _,
+    } = read_file(alloc, file)?;
+    Ok((plan, ports))
+}
+
+/// Reads the limits of a run from a plan file, with the faults of [`read_plan`].
+pub fn read_limits(alloc: Global, file: &[u8]) -> Result<Limits, PlanFault>
+    ensures limits { IfOk result (λ limits. Tells file.now (λ document. AreLimitsOf document limits)) }
+    ensures err { IfErr result (RefusesFile file.now) }
+{
+    let PlanFile {
+        plan: _,
+        ports: _,
+        limits,
+    } = read_file(alloc, file)?;
+    Ok(limits)
+}

@@ -1,0 +1,33 @@
+//! The plan file: a network, its limits and its ports, read from a TOML text.
+//!
+//! A file is read table by table against the rules of its keys; the first rule that it breaks is told
+//! as a [`PlanFault`].
+#![tactic(auto)]
+
+mod bridge;
+mod check;
+mod document;
+mod fault;
+mod formats;
+mod key_fault;
+mod limits;
+mod link;
+mod network;
+mod port;
+mod port_spec;
+mod row;
+mod rule;
+mod section;
+mod service;
+mod table;
+mod told;
+mod used;
+mod values;
+
+pub use document::{read_limits, read_plan};
+pub use fault::PlanFault;
+pub use limits::Limits;
+pub use port_spec::PortSpec;
+
+#[cfg(test)]
+mod tests;

@@ -1,0 +1,215 @@
+//! The links of a document.
+
+ghost use Rattle.std.specs.Prelude.{◌≡◌, ◌≤◌, ◌<◌, ◌⊎◌, ◌++◌, ◌∷◌, [], true, codes, length, map, Some, IfSome, IfNone, IfOk, IfErr, OnOk};
+ghost use Rattle.std.specs.List.{AllZip, flat_map};
+ghost use Rattle.toml.specs.Data.{get_member};
+ghost use Rattle.toml.specs.View.{items_view, table_view};
+ghost use Rattle.pb_service.specs.Formats.{link_keys};
+ghost use Rattle.pb_service.specs.Told.{rows_of, number_from};
+ghost use Rattle.pb_service.specs.Tables.{text_at, services_told, are_known, names_of_end, IsEndOf, IsLinkOf, IsRead};
+ghost use Rattle.pb_service.specs.UsedPorts.{is_used, port_of};
+ghost use Rattle.pb_service.specs.Refusals.{Refuses, RefusesTable, HasTables, LacksName, LacksListed, IsUnlisted, LinkLacks, names_of, link_ports};
+ghost use Rattle.pb_service.specs.declared.fault.PlanFault.TheVariants.{LinkEnd as link_end_fault, Memory as memory_fault};
+ghost use Rattle.pb_service.specs.declared.section.Section.TheVariants.{Bridge as bridge_section, Link as link_section, Service as service_section};
+
+use crate::check::{check_row, is_one_of, no_such, put};
+use crate::fault::PlanFault;
+use crate::section::Section;
+use crate::table::{names_of, tables_at};
+use crate::told::{
+    copy_at, items_at, naturals_in, number_at, number_of, numbers_of, state_of, text_at, value_at,
+};
+use crate::used::{LocalPort, use_port};
+use crate::values::text_in;
+use pb_frame::Seq;
+use pb_lan::{End, LinkPlan};
+use std::alloc::Global;
+use toml::{Table, Value};
+
+/// The keys of an end of a link.
+#[derive(Clone, Copy)]
+struct EndKeys {
+    bridge: &'static str,
+    port: &'static str,
+    cost: &'static str,
+    priority: &'static str,
+    state: &'static str,
+    services: &'static str,
+}
+
+static A: EndKeys = EndKeys {
+    bridge: "a",
+    port: "a_port",
+    cost: "a_cost",
+    priority: "a_priority",
+    state: "a_state",
+    services: "a_services",
+};
+
+static B: EndKeys = EndKeys {
+    bridge: "b",
+    port: "b_port",
+    cost: "b_cost",
+    priority: "b_priority",
+    state: "b_state",
+    services: "b_services",
+};
+
+/// The number of the thing that a key names.
+pub(crate) fn named(alloc: Global, row: &Table, key: &str, names: &[&str]) -> Result<u8, PlanFault>
+    requires { length names.now < 256 }
+    ensures ok { IfOk result (λ n. number_from 1 (map (λ n. n.now) names.now) (text_at (table_view row.now) key.now) ≡ Some n) }
+    ensures err { IfErr result (λ e. (e ≡ memory_fault) ⊎ LacksName (map (λ n. n.now) names.now) (table_view row.now) key.now e) }
+{
+    let name = text_at(row, key);
+    match number_of(names, name) {
+        Some(number) => Ok(number),
+        None => Err(no_such(alloc, name)),
+    }
+}
+
+/// The first listed name that isn't one of those that are known.
+fn unlisted<'a>(names: &[&str], listed: &'a [Value]) -> Option<&'a str>
+    ensures none { IfNone result (are_known (map (λ n. n.now) names.now) (items_view listed.now) ≡ true) }
+    ensures some { IfSome result (λ name. IsUnlisted (map (λ n. n.now) names.now) (items_view listed.now) name.now) }
+{
+    for item in listed {
+        let name = text_in(item);
+        if !is_one_of(names, name) {
+            return Some(name);
+        }
+    }
+    None
+}
+
+/// Whether each listed name is one of those that are known.
+fn check_listed(alloc: Global, names: &[&str], listed: &[Value]) -> Result<(), PlanFault>
+    ensures ok { OnOk result (are_known (map (λ n. n.now) names.now) (items_view listed.now) ≡ true) }
+    ensures err { IfErr result (λ e. (e ≡ memory_fault) ⊎ LacksListed (map (λ n. n.now) names.now) (items_view listed.now) e) }
+{
+    match unlisted(names, listed) {
+        None => Ok(()),
+        Some(name) => Err(no_such(alloc, name)),
+    }
+}
+
+/// The services that an end of a link lists, if it does.
+fn services_at(
+    alloc: Global,
+    row: &Table,
+    key: &str,
+    names: &[&str],
+) -> Result<Option<Seq<u8>>, PlanFault>
+    ensures ok { IfOk result (λ services. services ≡ services_told (map (λ n. n.now) names.now) (get_member key.now (table_view row.now))) }
+    ensures err { IfErr result (λ e. e ≡ memory_fault) }
+{
+    match value_at(row, key) {
+        None => Ok(None),
+        Some(_) => Ok(Some(numbers_of(alloc, names, items_at(row, key))?)),
+    }
+}
+
+/// The end of a link that a table tells, at the bridge of a number.
+fn end_of(
+    alloc: Global,
+    row: &Table,
+    keys: &EndKeys,
+    bridge: u8,
+    services: &[&str],
+) -> Result<End, PlanFault>
+    ensures ok { IfOk result (IsEndOf (map (λ n. n.now) services.now) (table_view row.now) (names_of_end keys.now)) }
+    ensures bridge { IfOk result (λ e. e.bridge ≡ bridge) }
+    ensures err { IfErr result (λ e. e ≡ memory_fault) }
+{
+    Ok(End {
+        bridge,
+        port: number_at(row, keys.port, 0, 16) as u8,
+        cost: number_at(row, keys.cost, 20_000, 200_000_000) as u32,
+        priority: number_at(row, keys.priority, 128, 240) as u8,
+        start: state_of(text_at(row, keys.state)),
+        services: services_at(alloc, row, keys.services, services)?,
+    })
+}
+
+/// The link that a table tells.
+fn link_of(
+    alloc: Global,
+    row: &Table,
+    bridges: &[&str],
+    services: &[&str],
+) -> Result<LinkPlan, PlanFault>
+    requires { length bridges.now < 256 }
+    ensures ok { IfOk result (IsLinkOf (map (λ n. n.now) bridges.now) (map (λ n. n.now) services.now) (table_view row.now)) }
+    ensures err { IfErr result (LinkLacks (map (λ n. n.now) bridges.now) (map (λ n. n.now) services.now) (table_view row.now)) }
+{
+    let a = named(alloc, row, A.bridge, bridges)?;
+    let b = named(alloc, row, B.bridge, bridges)?;
+    check_listed(alloc, services, items_at(row, A.services))?;
+    check_listed(alloc, services, items_at(row, B.services))?;
+    Ok(LinkPlan {
+        name: copy_at(alloc, row, "name")?,
+        a: end_of(alloc, row, &A, a, services)?,
+        b: end_of(alloc, row, &B, b, services)?,
+        lost_ab: naturals_in(alloc, items_at(row, "lost_ab"))?,
+        lost_ba: naturals_in(alloc, items_at(row, "lost_ba"))?,
+    })
+}
+
+/// Uses the ports of a link.
+fn use_ends(used: &mut Vec<LocalPort>, link: &LinkPlan) -> Result<(), PlanFault>
+    ensures ok { OnOk result (used.new.items ≡ used.old.items ++ port_of link.now.a ∷ port_of link.now.b ∷ []) }
+    ensures err { IfErr result (λ e. (e ≡ memory_fault) ⊎ ((e ≡ link_end_fault)
+        × ((is_used used.old.items (port_of link.now.a) ≡ true)
+        ⊎ (is_used (used.old.items ++ port_of link.now.a ∷ []) (port_of link.now.b) ≡ true)))) }
+{
+    let (a, b) = (&link.a, &link.b);
+    use_port(
+        used,
+        LocalPort {
+            bridge: a.bridge,
+            port: a.port,
+        },
+    )?;
+    use_port(
+        used,
+        LocalPort {
+            bridge: b.bridge,
+            port: b.port,
+        },
+    )?;
+    Ok(())
+}
+
+/// The links of a document, and the local ports that they use.
+#[derive(Drop)]
+pub(crate) struct Links {
+    pub links: Vec<LinkPlan>,
+    pub used: Vec<LocalPort>,
+}
+
+/// The links of a document.
+pub(crate) fn read_links(alloc: Global, document: &Table) -> Result<Links, PlanFault>
+    requires { HasTables (table_view document.now) bridge_section }
+    ensures ok { IfOk result (λ r. AllZip (IsRead (IsLinkOf (names_of (table_view document.now) bridge_section) (names_of (table_view document.now) service_section)) link_keys)
+        (rows_of (table_view document.now) link_section) r.links.items) }
+    ensures used { IfOk result (λ r. r.used.items ≡ flat_map (link_ports (names_of (table_view document.now) bridge_section)) (rows_of (table_view document.now) link_section)) }
+    ensures tables { OnOk result (HasTables (table_view document.now) link_section) }
+    ensures err { IfErr result (Refuses (table_view document.now)) }
+{
+    let (rows, names) = tables_at(alloc, document, Section::Link)?;
+    let rows = rows.as_slice();
+    let names = names.as_slice();
+    let bridge_names = names_of(alloc, document, Section::Bridge)?;
+    let bridges = bridge_names.as_slice();
+    let service_names = names_of(alloc, document, Section::Service)?;
+    let services = service_names.as_slice();
+    let mut used = Vec::new(alloc);
+    let mut links = Vec::new(alloc);
+    for (index, row) in rows.iter().enumerate() {
+        check_row(alloc, Section::Link, row, names, index)?;
+        let link = link_of(alloc, row, bridges, services)?;
+        use_ends(&mut used, &link)?;
+        put(&mut links, link)?;
+    }
+    Ok(Links { links, used })
+}

@@ -1,0 +1,134 @@
+//! The customer ports of a document.
+
+ghost use Rattle.std.specs.Prelude.{◌≡◌, ◌<◌, length, map, IfOk, IfErr, OnOk};
+ghost use Rattle.std.specs.List.{AllZip, flat_map};
+ghost use Rattle.toml.specs.View.{items_view, table_view};
+ghost use Rattle.pb_service.specs.Told.{rows_of};
+ghost use Rattle.pb_service.specs.Tables.{AreFrames, IsPortSpecOf, IsCustomerOf, IsReadPort};
+ghost use Rattle.pb_service.specs.Refusals.{Refuses, HasTables, CustomerLacks, names_of, link_ports};
+ghost use Rattle.pb_service.specs.declared.fault.PlanFault.TheVariants.{Memory as memory_fault};
+ghost use Rattle.pb_service.specs.declared.section.Section.TheVariants.{Bridge as bridge_section, Link as link_section, Service as service_section, Port as port_section};
+
+use crate::check::{check_row, put};
+use crate::fault::PlanFault;
+use crate::link::named;
+use crate::port_spec::PortSpec;
+use crate::section::Section;
+use crate::table::{names_of, tables_at};
+use crate::told::{copy_at, items_at, number_at, text_at};
+use crate::used::{LocalPort, use_port};
+use crate::values::text_in;
+use bytes::Bytes;
+use pb_frame::{Seq, hex_read};
+use pb_lan::CustomerPlan;
+use std::alloc::Global;
+use toml::{Table, Value};
+
+/// The frames that texts tell.
+fn frames_of(alloc: Global, items: &[Value]) -> Result<Vec<Bytes>, PlanFault>
+    ensures ok { IfOk result (λ frames. AreFrames (items_view items.now) frames.items) }
+    ensures err { IfErr result (λ e. e ≡ memory_fault) }
+{
+    let mut frames = Vec::with_capacity(alloc, items.len())?;
+    for item in items {
+        match hex_read(alloc, text_in(item)) {
+            Ok(frame) => frames.push(frame)?,
+            Err(_) => return Err(PlanFault::Memory),
+        }
+    }
+    Ok(frames)
+}
+
+/// What a table tells that a customer port is.
+fn port_spec_of(alloc: Global, row: &Table) -> Result<PortSpec, PlanFault>
+    ensures ok { IfOk result (IsPortSpecOf (table_view row.now)) }
+    ensures err { IfErr result (λ e. e ≡ memory_fault) }
+{
+    let kind = text_at(row, "kind");
+    if kind == "capture" {
+        return Ok(PortSpec::Capture {
+            read: copy_at(alloc, row, "read")?,
+            write: copy_at(alloc, row, "write")?,
+        });
+    }
+    if kind == "socket" {
+        return Ok(PortSpec::Socket {
+            path: copy_at(alloc, row, "path")?,
+        });
+    }
+    let frames = frames_of(alloc, items_at(row, "in"))?;
+    Ok(PortSpec::Memory(Seq::from_vec(frames)))
+}
+
+/// The customer port that a table tells.
+fn customer_of(
+    alloc: Global,
+    row: &Table,
+    bridges: &[&str],
+    services: &[&str],
+) -> Result<CustomerPlan, PlanFault>
+    requires bridges { length bridges.now < 256 }
+    requires services { length services.now < 256 }
+    ensures ok { IfOk result (IsCustomerOf (map (λ n. n.now) bridges.now) (map (λ n. n.now) services.now) (table_view row.now)) }
+    ensures err { IfErr result (CustomerLacks (map (λ n. n.now) bridges.now) (map (λ n. n.now) services.now) (table_view row.now)) }
+{
+    let bridge = named(alloc, row, "bridge", bridges)?;
+    let service = named(alloc, row, "service", services)?;
+    Ok(CustomerPlan {
+        name: copy_at(alloc, row, "name")?,
+        bridge,
+        port: number_at(row, "port", 0, 16) as u8,
+        service,
+        pcp: number_at(row, "pcp", 0, 7) as u8,
+        queue: number_at(row, "queue", 64, 4096) as u16,
+    })
+}
+
+/// The customer ports of a document, and what they are.
+#[derive(Drop)]
+pub(crate) struct Customers {
+    pub customers: Vec<CustomerPlan>,
+    pub specs: Vec<PortSpec>,
+}
+
+/// The customer ports of a document, and what they are.
+pub(crate) fn read_customers(
+    alloc: Global,
+    document: &Table,
+    used: Vec<LocalPort>,
+) -> Result<Customers, PlanFault>
+    requires bridges { HasTables (table_view document.now) bridge_section }
+    requires services { HasTables (table_view document.now) service_section }
+    requires used { used.items ≡ flat_map (link_ports (names_of (table_view document.now) bridge_section)) (rows_of (table_view document.now) link_section) }
+    ensures ok { IfOk result (λ r. AllZip (IsReadPort (IsCustomerOf (names_of (table_view document.now) bridge_section) (names_of (table_view document.now) service_section)))
+        (rows_of (table_view document.now) port_section) r.customers.items) }
+    ensures specs { IfOk result (λ r. AllZip IsPortSpecOf (rows_of (table_view document.now) port_section) r.specs.items) }
+    ensures tables { OnOk result (HasTables (table_view document.now) port_section) }
+    ensures err { IfErr result (Refuses (table_view document.now)) }
+{
+    let (rows, names) = tables_at(alloc, document, Section::Port)?;
+    let rows = rows.as_slice();
+    let names = names.as_slice();
+    let bridge_names = names_of(alloc, document, Section::Bridge)?;
+    let bridges = bridge_names.as_slice();
+    let service_names = names_of(alloc, document, Section::Service)?;
+    let services = service_names.as_slice();
+    let mut used = used;
+    let mut customers = Vec::new(alloc);
+    let mut specs = Vec::new(alloc);
+    for (index, row) in rows.iter().enumerate() {
+        check_row(alloc, Section::Port, row, names, index)?;
+        let customer = customer_of(alloc, row, bridges, services)?;
+        use_port(
+            &mut used,
+            LocalPort {
+                bridge: customer.bridge,
+                port: customer.port,
+            },
+        )?;
+        put(&mut customers, customer)?;
+        let spec = port_spec_of(alloc, row)?;
+        put(&mut specs, spec)?;
+    }
+    Ok(Customers { customers, specs })
+}

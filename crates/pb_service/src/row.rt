@@ -1,0 +1,154 @@
+//! Whether a table keeps the rules of its keys.
+
+ghost use Rattle.std.specs.Prelude.{◌≡◌, ◌⊎◌, option_map, option_copied, find, not, OnOk, IfErr, IfNone, IfSome, None, string_bytes};
+ghost use Rattle.std.specs.BTreeMap.{keys};
+ghost use Rattle.toml.specs.Data.{get_member};
+ghost use Rattle.toml.specs.View.{view, table_view};
+ghost use Rattle.pb_service.specs.Sections.{path_at};
+ghost use Rattle.pb_service.specs.Formats.{top_keys};
+ghost use Rattle.pb_service.specs.Refusals.{Refuses};
+ghost use Rattle.pb_service.specs.Keys.{rule_of, rules_of, names_of, IsTaken, IsRefused, IsAccepted, RefusesRow, first_unknown, is_known, fault_of};
+ghost use Rattle.pb_service.specs.declared.fault.PlanFault.TheVariants.{Unknown as unknown_fault, Memory as memory_fault};
+
+use crate::fault::PlanFault;
+use crate::key_fault::KeyFault;
+use crate::rule::Key;
+use crate::section::{Place, path_at};
+use crate::told::value_at;
+use crate::values::{is_allowed, is_of_kind};
+use pb_frame::Text;
+use std::alloc::Global;
+use toml::{Table, Value};
+
+/// Why what stands at a key is refused, if it is.
+fn refusal(key: &Key, value: Option<&Value>) -> Option<KeyFault>
+    ensures none { IfNone result (IsTaken (rule_of key.now) (option_map (λ v. view v.now) value.entry)) }
+    ensures some { IfSome result (λ fault. IsRefused (rule_of key.now) (option_map (λ v. view v.now) value.entry) fault) }
+{
+    let Some(value) = value else {
+        return if key.needed {
+            Some(KeyFault::Missing)
+        } else {
+            None
+        };
+    };
+    if is_allowed(key.rule, value) {
+        None
+    } else if is_of_kind(key.rule, value) {
+        Some(KeyFault::Range)
+    } else {
+        Some(KeyFault::Kind)
+    }
+}
+
+/// The fault of a key with its place.
+fn told(alloc: Global, place: Place, key: &str, fault: KeyFault) -> PlanFault
+    ensures { (result ≡ memory_fault) ⊎ (result ≡ fault_of fault (path_at place key.now)) }
+{
+    match path_at(alloc, place, key) {
+        Ok(path) => told_at(path, fault),
+        Err(_) => PlanFault::Memory,
+    }
+}
+
+/// The fault of a key with its path.
+fn told_at(path: Text, fault: KeyFault) -> PlanFault
+    ensures { result ≡ fault_of fault path }
+{
+    match fault {
+        KeyFault::Missing => PlanFault::Missing(path),
+        KeyFault::Kind => PlanFault::Kind(path),
+        KeyFault::Range => PlanFault::Range(path),
+    }
+}
+
+/// The first key of a table that isn't one of those that are known.
+fn unknown_key<'a>(table: &'a Table, known: &[Key]) -> Option<&'a str>
+    ensures { option_map (λ k. k.now) result ≡ first_unknown (names_of (rules_of known.now)) (table_view table.now) }
+{
+    match unknown_entry(table, known) {
+        None => None,
+        Some(key) => Some(key.as_str()),
+    }
+}
+
+fn unknown_entry<'a>(table: &'a Table, known: &[Key]) -> Option<&'a String>
+    ensures { option_copied result ≡ find (λ key. not (is_known (names_of (rules_of known.now)) (string_bytes key))) (keys table.now) }
+{
+    table.keys().find(|key| !is_known(known, key.as_str()))
+}
+
+fn is_known(known: &[Key], key: &str) -> bool
+    ensures { result ≡ is_known (names_of (rules_of known.now)) key.now }
+{
+    for k in known {
+        if key == k.name {
+            return true;
+        }
+    }
+    false
+}
+
+/// Whether a table keeps the rules of its keys: the first that is broken.
+pub(crate) fn check_keys(
+    alloc: Global,
+    place: Place,
+    keys: &[Key],
+    row: &Table,
+) -> Result<(), PlanFault>
+    ensures ok { OnOk result (IsAccepted (rules_of keys.now) (table_view row.now)) }
+    ensures err { IfErr result (RefusesRow (rules_of keys.now) place (table_view row.now)) }
+{
+    for key in keys {
+        if let Some(fault) = refusal(key, value_at(row, key.name)) {
+            return Err(told(alloc, place, key.name, fault));
+        }
+    }
+    match unknown_key(row, keys) {
+        None => Ok(()),
+        Some(key) => Err(PlanFault::Unknown(path_at(alloc, place, key)?)),
+    }
+}
+
+/// Whether the document has only the keys at the top that there are: the first other one.
+pub(crate) fn check_top(alloc: Global, document: &Table) -> Result<(), PlanFault>
+    ensures ok { OnOk result (first_unknown top_keys (table_view document.now) ≡ None) }
+    ensures err { IfErr result (Refuses (table_view document.now)) }
+{
+    match unknown_top(document) {
+        None => Ok(()),
+        Some(key) => Err(unknown(alloc, key)),
+    }
+}
+
+/// The fault of a key at the top.
+fn unknown(alloc: Global, key: &str) -> PlanFault
+    ensures { (result ≡ memory_fault) ⊎ (result ≡ unknown_fault key.now) }
+{
+    match String::from_str(alloc, key) {
+        Ok(key) => PlanFault::Unknown(Text::from_string(key)),
+        Err(_) => PlanFault::Memory,
+    }
+}
+
+/// The first key at the top that isn't one of those that there are.
+fn unknown_top(document: &Table) -> Option<&str>
+    ensures { option_map (λ k. k.now) result ≡ first_unknown top_keys (table_view document.now) }
+{
+    match unknown_top_entry(document) {
+        None => None,
+        Some(key) => Some(key.as_str()),
+    }
+}
+
+fn unknown_top_entry(document: &Table) -> Option<&String>
+    ensures { option_copied result ≡ find (λ key. not (is_known top_keys (string_bytes key))) (keys document.now) }
+{
+    document.keys().find(|key| !is_top_key(key.as_str()))
+}
+
+fn is_top_key(key: &str) -> bool
+    ensures { result ≡ is_known top_keys key.now }
+{
+    key == "network" || (key == "bridge" || (key == "link" || (key == "service" || key == "port")))
+}

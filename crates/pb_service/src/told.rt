@@ -1,0 +1,143 @@
+//! What a table tells under a key, whatever stands there.
+
+ghost use Rattle.std.specs.Prelude.{◌≡◌, ◌<◌, ◌≤◌, ◌^◌, length, map, option_map, take, IfOk, IfErr, IfSome};
+ghost use Rattle.toml.specs.Data.{get_member};
+ghost use Rattle.toml.specs.View.{view, items_view, table_view};
+ghost use Rattle.pb_service.specs.Told.{number_told, text_told, items_told, state_of, spanning_of, naturals_in, number_from, listed_from};
+ghost use Rattle.pb_service.specs.declared.fault.PlanFault.TheVariants.{Memory as memory_fault};
+
+use crate::fault::PlanFault;
+use crate::values::{has_text, natural_of, text_in};
+use pb_frame::{Seq, Text};
+use pb_lan::{PortState, Spanning};
+use std::alloc::Global;
+use toml::{Table, Value};
+
+/// The value at a key.
+pub(crate) fn value_at<'a>(table: &'a Table, key: &str) -> Option<&'a Value>
+    ensures { option_map (λ v. view v.now) result ≡ get_member key.now (table_view table.now) }
+{
+    table.get(key)
+}
+
+/// The number at a key, or the default; never above the highest.
+pub(crate) fn number_at(table: &Table, key: &str, default: u64, highest: u64) -> u64
+    ensures value { result ≡ number_told default highest (get_member key.now (table_view table.now)) }
+    ensures within { result ≤ highest }
+{
+    let told = match value_at(table, key) {
+        Some(value) => natural_of(value).unwrap_or(default),
+        None => default,
+    };
+    told.min(highest)
+}
+
+/// The text at a key, or the empty one.
+pub(crate) fn text_at<'a>(table: &'a Table, key: &str) -> &'a str
+    ensures { result.now ≡ text_told (get_member key.now (table_view table.now)) }
+{
+    match value_at(table, key) {
+        Some(value) => text_in(value),
+        None => "",
+    }
+}
+
+/// A copy of the text at a key, or of the empty one.
+pub(crate) fn copy_at(alloc: Global, table: &Table, key: &str) -> Result<Text, PlanFault>
+    ensures ok { IfOk result (λ text. text ≡ text_told (get_member key.now (table_view table.now))) }
+    ensures err { IfErr result (λ e. e ≡ memory_fault) }
+{
+    let text = String::from_str(alloc, text_at(table, key))?;
+    Ok(Text::from_string(text))
+}
+
+/// The list at a key, or the empty one.
+pub(crate) fn items_at<'a>(table: &'a Table, key: &str) -> &'a [Value]
+    ensures { items_view result.now ≡ items_told (get_member key.now (table_view table.now)) }
+{
+    match value_at(table, key) {
+        Some(value) => match value.as_array() {
+            Some(items) => items.as_slice(),
+            None => &[],
+        },
+        None => &[],
+    }
+}
+
+/// The state of a port that a text tells.
+pub(crate) fn state_of(text: &str) -> PortState
+    ensures { result ≡ state_of text.now }
+{
+    if text == "discarding" {
+        PortState::Discarding
+    } else if text == "learning" {
+        PortState::Learning
+    } else {
+        PortState::Forwarding
+    }
+}
+
+/// Who decides the states of ports, as a text tells.
+pub(crate) fn spanning_of(text: &str) -> Spanning
+    ensures { result ≡ spanning_of text.now }
+{
+    if text == "rstp" {
+        Spanning::Rstp
+    } else {
+        Spanning::Fixed
+    }
+}
+
+/// The numbers of a list.
+pub(crate) fn naturals_in(alloc: Global, items: &[Value]) -> Result<Seq<u64>, PlanFault>
+    ensures ok { IfOk result (λ numbers. numbers ≡ naturals_in (items_view items.now)) }
+    ensures err { IfErr result (λ e. e ≡ memory_fault) }
+{
+    let mut numbers = Vec::with_capacity(alloc, items.len())?;
+    for item in items {
+        if let Some(n) = natural_of(item) {
+            numbers.push(n)?;
+        }
+    }
+    Ok(Seq::from_vec(numbers))
+}
+
+/// The number of the first thing with the name, of things that are numbered from 1.
+pub(crate) fn number_of(names: &[&str], name: &str) -> Option<u8>
+    requires { length names.now < 256 }
+    ensures value { result ≡ number_from 1 (map (λ n. n.now) names.now) name.now }
+{
+    for (index, other) in names.iter().enumerate() {
+        if name == *other {
+            return Some(index as u8 + 1);
+        }
+    }
+    None
+}
+
+/// The numbers of the things whose names are listed, of 64 things that are numbered from 1.
+pub(crate) fn numbers_of(
+    alloc: Global,
+    names: &[&str],
+    listed: &[Value],
+) -> Result<Seq<u8>, PlanFault>
+    ensures ok { IfOk result (λ numbers. numbers ≡ listed_from 1 (take 64 (map (λ n. n.now) names.now)) (items_view listed.now)) }
+    ensures err { IfErr result (λ e. e ≡ memory_fault) }
+{
+    numbers_among(alloc, &names[..64usize.min(names.len())], listed)
+}
+
+/// The numbers of the things whose names are listed, of things that are numbered from 1.
+fn numbers_among(alloc: Global, names: &[&str], listed: &[Value]) -> Result<Seq<u8>, PlanFault>
+    requires { length names.now ≤ 64 }
+    ensures ok { IfOk result (λ numbers. numbers ≡ listed_from 1 (map (λ n. n.now) names.now) (items_view listed.now)) }
+    ensures err { IfErr result (λ e. e ≡ memory_fault) }
+{
+    let mut numbers = Vec::new(alloc);
+    for (index, name) in names.iter().enumerate() {
+        if has_text(listed, name) {
+            numbers.push(index as u8 + 1)?;
+        }
+    }
+    Ok(Seq::from_vec(numbers))
+}

@@ -1,0 +1,317 @@
+//! What values of a TOML document may be.
+
+ghost use Rattle.std.specs.Prelude.{◌≡◌, false, ◌+◌, ◌^◌, ◌<◌, ◌↔◌, IsTrue, IsSome, IfSome, IfNone, nat_le, ◌==◌, ◌%◌, ◌&&◌, ◌||◌, is_some, codes, List, ℕ};
+ghost use Rattle.std.specs.List.{list_all};
+ghost use Rattle.toml.specs.Data.{as_str, as_integer};
+ghost use Rattle.toml.specs.View.{view, items_view};
+ghost use Rattle.pb_frame.specs.Admission.{same};
+ghost use Rattle.pb_frame.specs.Frames.{is_group};
+ghost use Rattle.pb_frame.specs.Hex.{is_digit, IsMacText};
+ghost use Rattle.pb_service.specs.Values.{natural_of, is_text, is_natural, all_items, any_item, is_list, is_name, is_name_letter, is_hex, text_in, IsAddress, rise_from, are_distinct, is_of_kind, IsAllowed};
+
+use crate::rule::Rule;
+use pb_frame::Mac;
+use toml::Value;
+
+/// An integer that isn't negative.
+pub(crate) fn natural_of(value: &Value) -> Option<u64>
+    ensures value { result ≡ natural_of (view value.now) }
+    ensures signed { IfSome result (λ n. n < 2 ^ 63) }
+{
+    let n = value.as_integer()?;
+    if n < 0 { None } else { Some(n as u64) }
+}
+
+/// The text of a value; of another value than a text the empty one.
+pub(crate) fn text_in(value: &Value) -> &str
+    ensures { result.now ≡ text_in (view value.now) }
+{
+    match value.as_str() {
+        Some(text) => text,
+        None => "",
+    }
+}
+
+fn is_number(value: &Value, low: u64, high: u64) -> bool
+    ensures { result ≡ is_natural (λ n. nat_le low n && nat_le n high) (view value.now) }
+{
+    match natural_of(value) {
+        Some(n) => low <= n && n <= high,
+        None => false,
+    }
+}
+
+fn is_bridge_priority(value: &Value) -> bool
+    ensures { result ≡ is_natural (λ n. n % 4096 == 0 && nat_le n 61440) (view value.now) }
+{
+    match natural_of(value) {
+        Some(n) => n % 4096 == 0 && n <= 61_440,
+        None => false,
+    }
+}
+
+fn is_port_priority(value: &Value) -> bool
+    ensures { result ≡ is_natural (λ n. n % 16 == 0 && nat_le n 240) (view value.now) }
+{
+    match natural_of(value) {
+        Some(n) => n % 16 == 0 && n <= 240,
+        None => false,
+    }
+}
+
+fn is_name_letter(c: u8) -> bool
+    ensures { result ≡ is_name_letter c }
+{
+    matches!(c, b'a'..=b'z' | b'A'..=b'Z' | b'0'..=b'9' | b'-' | b'_')
+}
+
+fn are_name_letters(text: &[u8]) -> bool
+    ensures { result ≡ list_all is_name_letter text.now }
+{
+    text.iter().all(|c| is_name_letter(*c))
+}
+
+fn is_name_text(text: &str) -> bool
+    ensures { result ≡ is_name text.now }
+{
+    let letters = are_name_letters(text.as_bytes());
+    1 <= text.len() && text.len() <= 32 && letters
+}
+
+fn is_name(value: &Value) -> bool
+    ensures { result ≡ is_text is_name (view value.now) }
+{
+    match value.as_str() {
+        Some(text) => is_name_text(text),
+        None => false,
+    }
+}
+
+fn is_digit(c: u8) -> bool
+    ensures { result ≡ is_digit c }
+{
+    matches!(c, b'0'..=b'9' | b'A'..=b'F' | b'a'..=b'f')
+}
+
+fn are_digits(text: &[u8]) -> bool
+    ensures { result ≡ list_all is_digit text.now }
+{
+    text.iter().all(|c| is_digit(*c))
+}
+
+fn is_hex_text(text: &str) -> bool
+    ensures { result ≡ is_hex text.now }
+{
+    let digits = are_digits(text.as_bytes());
+    digits && text.len() % 2 == 0
+}
+
+fn is_hex(value: &Value) -> bool
+    ensures { result ≡ is_text is_hex (view value.now) }
+{
+    match value.as_str() {
+        Some(text) => is_hex_text(text),
+        None => false,
+    }
+}
+
+/// The address of one station that a text tells.
+pub(crate) fn station(text: &str) -> Option<Mac>
+    ensures found { IfSome result (λ m. IsMacText text.now m.0) }
+    ensures individual { IfSome result (λ m. is_group m.0 ≡ false) }
+    ensures none { IfNone result (IsAddress text.now → ⊥) }
+    ensures some { IsAddress text.now → IsSome result }
+{
+    match Mac::read(text) {
+        None => None,
+        Some(mac) => { if mac.0[0] % 2 == 1 { None } else { Some(mac) } }
+    }
+}
+
+fn is_spanning(value: &Value) -> bool
+    ensures { result ≡ is_text (λ t. same t (codes "fixed") || same t (codes "rstp")) (view value.now) }
+{
+    match value.as_str() {
+        Some(text) => text == "fixed" || text == "rstp",
+        None => false,
+    }
+}
+
+fn is_state(value: &Value) -> bool
+    ensures { result ≡ is_text (λ t. same t (codes "discarding") || (same t (codes "learning") || same t (codes "forwarding"))) (view value.now) }
+{
+    match value.as_str() {
+        Some(text) => text == "discarding" || (text == "learning" || text == "forwarding"),
+        None => false,
+    }
+}
+
+fn is_port_kind(value: &Value) -> bool
+    ensures { result ≡ is_text (λ t. same t (codes "memory") || (same t (codes "capture") || same t (codes "socket"))) (view value.now) }
+{
+    match value.as_str() {
+        Some(text) => text == "memory" || (text == "capture" || text == "socket"),
+        None => false,
+    }
+}
+
+fn are_integers(items: &[Value]) -> bool
+    ensures { result ≡ all_items (λ e. is_some (as_integer e)) (items_view items.now) }
+{
+    for item in items {
+        if !item.is_integer() {
+            return false;
+        }
+    }
+    true
+}
+
+fn are_texts(items: &[Value]) -> bool
+    ensures { result ≡ all_items (λ e. is_some (as_str e)) (items_view items.now) }
+{
+    for item in items {
+        if !item.is_str() {
+            return false;
+        }
+    }
+    true
+}
+
+fn are_hex(items: &[Value]) -> bool
+    ensures { result ≡ all_items (is_text is_hex) (items_view items.now) }
+{
+    for item in items {
+        if !is_hex(item) {
+            return false;
+        }
+    }
+    true
+}
+
+fn are_names(items: &[Value]) -> bool
+    ensures { result ≡ all_items (is_text is_name) (items_view items.now) }
+{
+    for item in items {
+        if !is_name(item) {
+            return false;
+        }
+    }
+    true
+}
+
+/// The numbers rise strictly.
+fn rise(items: &[Value]) -> bool
+    ensures { result ≡ rise_from 0 (items_view items.now) }
+{
+    let mut least = 0;
+    for item in items {
+        let Some(n) = natural_of(item) else {
+            return false;
+        };
+        if n < least {
+            return false;
+        }
+        least = n + 1;
+    }
+    true
+}
+
+/// One of the values is this text.
+pub(crate) fn has_text(items: &[Value], text: &str) -> bool
+    ensures { result ≡ any_item (is_text (same text.now)) (items_view items.now) }
+{
+    for item in items {
+        if is_same(item, text) {
+            return true;
+        }
+    }
+    false
+}
+
+fn is_same(value: &Value, text: &str) -> bool
+    ensures { result ≡ is_text (same text.now) (view value.now) }
+{
+    match value.as_str() {
+        Some(other) => text == other,
+        None => false,
+    }
+}
+
+/// No text stands twice.
+fn are_distinct(items: &[Value]) -> bool
+    ensures { result ≡ are_distinct (items_view items.now) }
+{
+    for (index, item) in items.iter().enumerate() {
+        let (_, later) = items.split_at(index + 1);
+        if has_text(later, text_in(item)) {
+            return false;
+        }
+    }
+    true
+}
+
+/// The value is of the TOML type that the rule asks for, the items of a list too.
+pub(crate) fn is_of_kind(rule: Rule, value: &Value) -> bool
+    ensures { result ≡ is_of_kind rule (view value.now) }
+{
+    match rule {
+        Rule::Number { .. } | Rule::BridgePriority | Rule::PortPriority => value.is_integer(),
+        Rule::Losses => match value.as_array() {
+            Some(items) => are_integers(items.as_slice()),
+            None => false,
+        },
+        Rule::Names | Rule::Frames => match value.as_array() {
+            Some(items) => are_texts(items.as_slice()),
+            None => false,
+        },
+        Rule::Name | Rule::Address | Rule::Spanning | Rule::State | Rule::PortKind | Rule::Path =>
+            value.is_str(),
+    }
+}
+
+/// The value is one that the rule allows.
+pub(crate) fn is_allowed(rule: Rule, value: &Value) -> bool
+    ensures { IsTrue result ↔ IsAllowed rule (view value.now) }
+{
+    match rule {
+        Rule::Number { low, high } => is_number(value, low, high),
+        Rule::BridgePriority => is_bridge_priority(value),
+        Rule::PortPriority => is_port_priority(value),
+        Rule::Name => is_name(value),
+        Rule::Address => station(text_in(value)).is_some(),
+        Rule::Spanning => is_spanning(value),
+        Rule::State => is_state(value),
+        Rule::PortKind => is_port_kind(value),
+        Rule::Path => value.is_str(),
+        Rule::Losses => are_losses(value),
+        Rule::Names => are_listed(value),
+        Rule::Frames => are_frames(value),
+    }
+}
+
+fn are_losses(value: &Value) -> bool
+    ensures { result ≡ is_list (rise_from 0) (view value.now) }
+{
+    match value.as_array() {
+        Some(items) => rise(items.as_slice()),
+        None => false,
+    }
+}
+
+fn are_listed(value: &Value) -> bool
+    ensures { result ≡ is_list (λ ds. all_items (is_text is_name) ds && are_distinct ds) (view value.now) }
+{
+    match value.as_array() {
+        Some(items) => are_names(items.as_slice()) && are_distinct(items.as_slice()),
+        None => false,
+    }
+}
+
+fn are_frames(value: &Value) -> bool
+    ensures { result ≡ is_list (all_items (is_text is_hex)) (view value.now) }
+{
+    match value.as_array() {
+        Some(items) => are_hex(items.as_slice()),
+        None => false,
+    }
+}
