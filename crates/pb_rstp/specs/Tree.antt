@@ -16,7 +16,7 @@ use Rattle.pb_lan.specs.declared.shape.PortState.{PortState}
 use Rattle.pb_lan.specs.declared.shape.PortState.TheVariants.{Discarding, Forwarding}
 use Rattle.pb_lan.specs.declared.shape.Rooted.{Rooted}
 use Rattle.pb_lan.specs.declared.shape.Shape.{Shape}
-use Rattle.pb_rstp.specs.Ports.{Machine, id_of, is_designated, is_forwarding, is_root, port_of}
+use Rattle.pb_rstp.specs.Ports.{Machine, id_of, is_designated, is_discarding, is_forwarding, is_root, is_root_or_designated, port_of}
 use Rattle.pb_rstp.specs.declared.port.Info.{Info}
 use Rattle.pb_rstp.specs.declared.port.Port.{Port}
 use Rattle.pb_rstp.specs.Roles.{root_vector}
@@ -58,6 +58,9 @@ pub record IsSettled (plan : Plan) (machines : List Machine) : Type 0 where
   pub links : AllByRecursion (IsSettledLink machines) plan.links
 
 -- The same as a test.
+
+abbrev pub is_quiet : Port → Bool
+is_quiet p = is_root_or_designated p.role || is_discarding p.state
 
 abbrev pub stores_test : Option Info → List ℕ → Bool
 stores_test None offer = false
@@ -149,13 +152,16 @@ LeadsBehindRoots plan machines rooted =
     → (link : LinkPlan) × (near : End) × (far : End) × (numbered plan.links number ≡ Some link) × HasEnds link near far
     × (near.bridge ≡ bridge) × Rises machines far near
 
--- where the machines of a sound plan are settled and no cost is held, the Forwarding ports are a forest
--- for every service, and its parents lie behind the Root ports
+-- the Forwarding ports are a forest for the service, and its parents lie behind the Root ports
+abbrev pub IsForestBehindRoots : Plan → List Machine → ℕ → Type 0
+IsForestBehindRoots plan machines vid =
+    (rooted : Rooted) × Shows plan (shape_of plan machines) vid rooted × LeadsBehindRoots plan machines rooted
+
+-- where the machines of a sound plan are settled and no cost is held, so they are for every service
 abbrev pub SettledIsForest : Type 0
 SettledIsForest =
     (plan : Plan) (machines : List Machine) (vid : ℕ) → IsSound plan → AreMachines plan machines → IsSettled plan machines
-    → NoneHeld machines
-    → (rooted : Rooted) × Shows plan (shape_of plan machines) vid rooted × LeadsBehindRoots plan machines rooted
+    → NoneHeld machines → IsForestBehindRoots plan machines vid
 
 abbrev pub AreBothForwarding : List Machine → LinkPlan → Type 0
 AreBothForwarding machines link =
