@@ -1,7 +1,9 @@
 //! Runs with ample memory, of bridges with priority 32768 and the addresses 02-00-00-00-00-01 and on.
 
 mod alone;
+mod refused;
 mod rings;
+mod settling;
 mod two;
 
 ghost use Rattle.std.specs.Prelude.{◌≡◌};
