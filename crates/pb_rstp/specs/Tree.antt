@@ -16,6 +16,10 @@ use Rattle.pb_lan.specs.declared.shape.PortState.{PortState}
 use Rattle.pb_lan.specs.declared.shape.PortState.TheVariants.{Discarding, Forwarding}
 use Rattle.pb_lan.specs.declared.shape.Rooted.{Rooted}
 use Rattle.pb_lan.specs.declared.shape.Shape.{Shape}
+use Rattle.pb_lan.specs.declared.step.Step.{Step}
+use Rattle.pb_lan.specs.Rules.{Cause}
+use Rattle.pb_rstp.specs.Changes.{IsSameBridge}
+use Rattle.pb_rstp.specs.Profile.{after, machine_of}
 use Rattle.pb_rstp.specs.Ports.{Machine, id_of, is_designated, is_discarding, is_forwarding, is_root, is_root_or_designated, port_of}
 use Rattle.pb_rstp.specs.declared.port.Info.{Info}
 use Rattle.pb_rstp.specs.declared.port.Port.{Port}
@@ -112,6 +116,18 @@ pub record AreMachines (plan : Plan) (machines : List Machine) : Type 0 where
   pub count : length machines ≡ length plan.bridges
   pub ports : AllByRecursion HasPorts machines
   pub ends : AllByRecursion (λ link. HasPortAt machines link.a × HasPortAt machines link.b) plan.links
+
+-- each call leaves the bridge, and its ports' numbers, costs and priorities
+abbrev pub CallsKeepBridges : Type 0
+CallsKeepBridges = (machine : Machine) (cause : Cause) → IsSameBridge machine (after machine cause).machine
+
+-- the machines of a plan's bridges, after the steps of each
+abbrev pub machines_of : Plan → (ℕ → List Step) → List Machine
+machines_of plan past = map (λ bridge. machine_of plan bridge (past bridge)) (numbers_from 1 plan.bridges)
+
+-- whatever the steps were
+abbrev pub PlannedAreMachines : Type 0
+PlannedAreMachines = (plan : Plan) (past : ℕ → List Step) → IsSound plan → AreMachines plan (machines_of plan past)
 
 -- no Root port's cost is held
 abbrev pub IsNotHeld : Port → Type 0

@@ -2,6 +2,7 @@
 
 ghost use Rattle.std.specs.Prelude.{◌≡◌, ◌-◌, IfOk, OnOk, OnErr, nat_lt, not, if◌then◌else◌};
 ghost use Rattle.pb_rstp.specs.Changes.{AreMoving, IsSameBridge, HoldsOldRoots, NamesChanges};
+ghost use Rattle.pb_rstp.specs.Laws.{IsInLine};
 ghost use Rattle.pb_rstp.specs.Machine.{settle, after_hear, after_tick, after_admin, is_same_setting};
 ghost use Rattle.pb_rstp.specs.Readings.{roles_of, states_of};
 ghost use Rattle.pb_rstp.specs.Settling.{nows, settled, with_sent, change_of};
@@ -87,6 +88,7 @@ impl Rstp {
         ensures same { OnOk result (IsSameBridge self.old self.new) }
         ensures old_roots { OnOk result (HoldsOldRoots self.old self.new) }
         ensures named { IfOk result (λ change. NamesChanges self.old self.new change) }
+        ensures in_line { IsInLine self.new }
         ensures err { OnErr result (self.new ≡ self.old) }
     {
         let settled = settle(self.alloc, self.id, heard, ports)?;
@@ -111,6 +113,8 @@ impl Rstp {
         ensures old_roots { OnOk result (HoldsOldRoots self.old self.new) }
         // Each change of state is told once, and each list goes by rising port number.
         ensures named { IfOk result (λ change. NamesChanges self.old self.new change) }
+        // Each port has its role, and only Root and Designated ports do more than discard.
+        ensures in_line { IsInLine self.new }
 
         ensures err { OnErr result (self.new ≡ self.old) }
     {
@@ -141,6 +145,8 @@ impl Rstp {
         ensures old_roots { OnOk result (HoldsOldRoots self.old self.new) }
         // Each change of state is told once, and each list goes by rising port number.
         ensures named { IfOk result (λ change. NamesChanges self.old self.new change) }
+        // Each port has its role, and only Root and Designated ports do more than discard.
+        ensures in_line { IsInLine self.new }
 
         ensures err { OnErr result (self.new ≡ self.old) }
     {
@@ -166,6 +172,8 @@ impl Rstp {
         ensures old_roots { OnOk result (HoldsOldRoots self.old self.new) }
         // Each change of state is told once, and each list goes by rising port number.
         ensures named { IfOk result (λ change. NamesChanges self.old self.new change) }
+        // Each port has its role, and only Root and Designated ports do more than discard.
+        ensures in_line { IsInLine self.new }
 
         ensures err { OnErr result (self.new ≡ self.old) }
     {

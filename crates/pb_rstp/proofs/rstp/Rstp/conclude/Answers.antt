@@ -64,3 +64,10 @@ returns-clause-named c =
     let R : Change → Type 0 = λ change. NamesChanges c.args.self.now (record { id = old.id; ports = c.in_ok-settled.settled.ports.items; hello_left = c.args.hello_left }) change in
     subst R (sym c.in_ok-settled.ensures.change) (subst Q c.self.view_is (subst P (sym c.in_ok-settled.ensures.ports)
     (settle_named old.id old.hello_left c.args.hello_left c.args.heard old.ports c.args.ports.now moving c.self.invariant.by_number)))
+
+pub returns-clause-in_line : goal.returns-clause-in_line
+returns-clause-in_line c =
+    subst
+    (λ (ports : List Port). let machine : Machine = record { id = c.self.inside.id; ports = ports; hello_left = c.args.hello_left } in IsInLine machine)
+    (sym c.in_ok-settled.ensures.ports)
+    (settled_in_line c.self.inside.id c.args.hello_left c.args.heard c.args.ports.now)
