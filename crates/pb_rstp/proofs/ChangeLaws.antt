@@ -6,10 +6,12 @@ use Rattle.std.specs.Option.{option_map}
 use Rattle.std.proofs.lemmas.Bool.{eqb-true, eq-eqb}
 use Rattle.pb_bpdu.specs.declared.bpdu.Bpdu.{Bpdu}
 use Rattle.pb_frame.specs.Lists.{first}
+use Rattle.pb_frame.proofs.Lists.{Some-injective}
 use Rattle.pb_lan.specs.Rules.{from_to, is_same}
+use Rattle.pb_lan.specs.Shapes.{changed}
 use Rattle.pb_lan.specs.declared.shape.PortState.{PortState}
 use Rattle.pb_lan.specs.declared.shape.PortState.TheVariants.{Discarding, Learning, Forwarding}
-use Rattle.pb_rstp.specs.Changes.{IsSamePort, AreMoving, HoldsOldRoots, state_of, told_state, new_state, NamesChanges}
+use Rattle.pb_rstp.specs.Changes.{IsSamePort, AreMoving, HoldsOldRoots, state_of, told_state, new_state, NamesChanges, ChangesLeadOn}
 use Rattle.pb_rstp.specs.Machine.{settle, nothing}
 use Rattle.pb_rstp.specs.Messages.{message_of}
 use Rattle.pb_rstp.specs.Ports.{Machine, is_root, is_designated, is_discarding, id_of, port_of, delay_of}
@@ -174,3 +176,57 @@ settle_named id hello_left hello_now heard ps ms h r =
       flush_rises = rising-filter (is_flushed heard all) 0 0 (omega arith) ps all moving r;
       send_rises = rising-sent id (nows all) 0 0 (omega arith) ps all moving r;
     }
+
+-- Changes that are told, one after another, lead from the states before to the states after.
+
+changed-none : (k : ℕ) (s : PortState) (changes : List (ℕ × PortState)) → told_state changes k ≡ None → changed k s changes ≡ s
+changed-none k s [] none = refl
+changed-none k s (c ∷ cs) none = by_test (c.0 == k) refl (changed-none k s cs)
+  where
+    by_test : (t : Bool) → (c.0 == k) ≡ t → (told_state cs k ≡ None → changed k s cs ≡ s) → changed k s (c ∷ cs) ≡ s
+    by_test true t rest =
+        let some : Some c.1 ≡ None =
+        ap (λ b. option_map (λ (d : ℕ × PortState). d.1) (if b then Some c else first (λ d. d.0 == k) cs)) (sym t) ∙ none in cc
+    by_test false t rest =
+        ap (λ b. changed k (if b then c.1 else s) cs) t
+        ∙ rest (ap (λ b. option_map (λ (d : ℕ × PortState). d.1) (if b then Some c else first (λ d. d.0 == k) cs)) (sym t) ∙ none)
+
+changed-some : (k n : ℕ) (s new : PortState) (changes : List (ℕ × PortState)) → AreRising n (map (λ c. c.0) changes)
+    → told_state changes k ≡ Some new → changed k s changes ≡ new
+changed-some k n s new [] r some = cc
+changed-some k n s new (c ∷ cs) r some = by_test (c.0 == k) refl (changed-some k c.0 s new cs r.1)
+  where
+    by_test : (t : Bool) → (c.0 == k) ≡ t → (told_state cs k ≡ Some new → changed k s cs ≡ new) → changed k s (c ∷ cs) ≡ new
+    by_test true t rest =
+        let same : Some c.1 ≡ Some new =
+        ap (λ b. option_map (λ (d : ℕ × PortState). d.1) (if b then Some c else first (λ d. d.0 == k) cs)) (sym t) ∙ some in
+        let number = eqb-true c.0 k t in
+        let none : told_state cs k ≡ None =
+        ap (λ (o : Option (ℕ × PortState)). option_map (λ d. d.1) o) (first-none (λ (d : ℕ × PortState). d.0) k c.0 (omega (arith, number)) cs r.1) in
+        ap (λ b. changed k (if b then c.1 else s) cs) t ∙ changed-none k c.1 cs none ∙ Some-injective same
+    by_test false t rest =
+        ap (λ b. changed k (if b then c.1 else s) cs) t
+        ∙ rest (ap (λ b. option_map (λ (d : ℕ × PortState). d.1) (if b then Some c else first (λ d. d.0 == k) cs)) (sym t) ∙ some)
+
+same_is : (a b : PortState) → is_same a b ≡ true → a ≡ b
+same_is Discarding Discarding e = refl
+same_is Learning Learning e = refl
+same_is Forwarding Forwarding e = refl
+same_is Discarding Learning e = cc
+same_is Discarding Forwarding e = cc
+same_is Learning Discarding e = cc
+same_is Learning Forwarding e = cc
+same_is Forwarding Discarding e = cc
+same_is Forwarding Learning e = cc
+
+pub changes_lead_on : ChangesLeadOn
+changes_lead_on before after change names number was is stood stands = by_test (is_same was.state is.state) refl
+  where
+    told_is : told_state change.states number ≡ new_state (Some was.state) (Some is.state)
+    told_is =
+        names.states number
+        ∙ ap₂ new_state (ap (λ (o : Option Port). option_map (λ p. p.state) o) stood) (ap (λ (o : Option Port). option_map (λ p. p.state) o) stands)
+
+    by_test : (t : Bool) → is_same was.state is.state ≡ t → changed number was.state change.states ≡ is.state
+    by_test true t = changed-none number was.state change.states (told_is ∙ new-some was.state is.state true t) ∙ same_is was.state is.state t
+    by_test false t = changed-some number 0 was.state is.state change.states names.states_rise (told_is ∙ new-some was.state is.state false t)

@@ -4,6 +4,7 @@ use Rattle.std.specs.declared.option.Option.{Option}
 use Rattle.std.specs.Option.{option_map}
 use Rattle.pb_frame.specs.Lists.{first}
 use Rattle.pb_lan.specs.Rules.{is_same}
+use Rattle.pb_lan.specs.Shapes.{changed}
 use Rattle.pb_lan.specs.declared.shape.PortState.{PortState}
 use Rattle.pb_rstp.specs.Ports.{Machine, is_root, is_discarding, port_of}
 use Rattle.pb_rstp.specs.Rising.{AreRising}
@@ -63,3 +64,9 @@ pub record NamesChanges (before after : Machine) (change : Change) : Type 0 wher
   pub states_rise : AreRising 0 (map (λ s. s.0) change.states)
   pub flush_rises : AreRising 0 change.flush
   pub send_rises : AreRising 0 (map (λ s. s.0) change.send)
+
+-- what is told, one change after another, leads from a port's state before to its state after
+abbrev pub ChangesLeadOn : Type 0
+ChangesLeadOn =
+    (before after : Machine) (change : Change) → NamesChanges before after change → (number : ℕ) (was is : Port)
+    → port_of before.ports number ≡ Some was → port_of after.ports number ≡ Some is → changed number was.state change.states ≡ is.state

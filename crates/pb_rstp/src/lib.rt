@@ -24,8 +24,8 @@ mod vector;
 pub use change::Change;
 pub use config::{Config, RstpPort};
 pub use laws::{
-    calls_keep_bridges, calls_keep_line, cost_rises, planned_are_machines, settled_is_forest,
-    start_is_in_line, test_tells,
+    calls_keep_bridges, calls_keep_line, changes_lead_on, cost_rises, planned_are_machines,
+    settled_is_forest, start_is_in_line, test_tells,
 };
 pub use network::is_settled;
 pub use role::Role;

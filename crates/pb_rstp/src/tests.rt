@@ -10,8 +10,8 @@ ghost use Rattle.std.specs.Prelude.{◌≡◌};
 ghost use Rattle.pb_rstp.specs.Readings.{AreAbove};
 
 use crate::{
-    Change, Config, Rstp, RstpPort, calls_keep_bridges, calls_keep_line, cost_rises,
-    planned_are_machines, settled_is_forest, start_is_in_line, test_tells,
+    Change, Config, Rstp, RstpPort, calls_keep_bridges, calls_keep_line, changes_lead_on,
+    cost_rises, planned_are_machines, settled_is_forest, start_is_in_line, test_tells,
 };
 use pb_bpdu::{Bpdu, read, write};
 use pb_frame::{Mac, Memory, Seq};
@@ -94,6 +94,7 @@ fn laws_stand() {
     start_is_in_line();
     calls_keep_line();
     calls_keep_bridges();
+    changes_lead_on();
     planned_are_machines();
     settled_is_forest();
     cost_rises();
