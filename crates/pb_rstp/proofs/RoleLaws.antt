@@ -132,7 +132,7 @@ roles-first id ports = (
     all root (p ∷ ps) = (sym (role-same id root p.now (with_role id root p.was p.now) (same_role p.was p.now root)), all root ps)
 
 -- second
-keeps-agreement : (was now : Port) → Keeps now (without_agreement was now)
+pub keeps-agreement : (was now : Port) → Keeps now (without_agreement was now)
 keeps-agreement was now = record { seen = record { number = refl; cost = refl; priority = refl; up = refl; info = refl }; role = refl }
 
 roles-if : (id : ℕ) (root : Vector) (b : Bool) (ps qs : List Moving) → HaveRoles id root ps → HaveRoles id root qs → HaveRoles id root (if b then ps else qs)
@@ -227,11 +227,11 @@ keeps-state delay was now = by_role now.role
 keeps_held : (delay : ℕ) (p : Port) → Keeps p (held_back delay p)
 keeps_held delay p = record { seen = record { number = refl; cost = refl; priority = refl; up = refl; info = refl }; role = refl }
 
-keeps-synced : (delay : ℕ) (was now : Port) → Keeps now (synced delay was now)
+pub keeps-synced : (delay : ℕ) (was now : Port) → Keeps now (synced delay was now)
 keeps-synced delay was now =
     keeps-if (is_designated now.role && not now.agreed && not (is_discarding now.state)) now _ now (keeps_held delay now) (keeps_all now)
 
-keeps-agreeing : (number : ℕ) (was now : Port) → Keeps now (agreeing number was now)
+pub keeps-agreeing : (number : ℕ) (was now : Port) → Keeps now (agreeing number was now)
 keeps-agreeing number was now =
     keeps-if (is_agreeing number now) now _ now
     (record { seen = record { number = refl; cost = refl; priority = refl; up = refl; info = refl }; role = refl }) (keeps_all now)
@@ -245,12 +245,12 @@ roles-fifth id root (Some heard) ports h =
     (roles-each id root (synced (delay_of (nows ports))) (keeps-synced (delay_of (nows ports))) ports h) h)) h
 
 -- sixth and seventh
-keeps-changing : (heard : Option Heard) (ports : List Moving) (was now : Port) → Keeps now (with_changing heard ports was now)
+pub keeps-changing : (heard : Option Heard) (ports : List Moving) (was now : Port) → Keeps now (with_changing heard ports was now)
 keeps-changing heard ports was now =
     keeps-if (is_telling heard ports now) now _ now
     (record { seen = record { number = refl; cost = refl; priority = refl; up = refl; info = refl }; role = refl }) (keeps_all now)
 
-keeps-sending : (was now : Port) → Keeps now (after_sending was now)
+pub keeps-sending : (was now : Port) → Keeps now (after_sending was now)
 keeps-sending was now =
     keeps-if (is_sending now) now _ now
     (record { seen = record { number = refl; cost = refl; priority = refl; up = refl; info = refl }; role = refl }) (keeps_all now)

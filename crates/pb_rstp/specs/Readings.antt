@@ -1,9 +1,10 @@
 -- What a caller reads of the machine.
-use Rattle.std.specs.Prelude.{◌≡◌, ℕ, ◌<◌, List, [], ◌∷◌, map}
+use Rattle.std.specs.Prelude.{◌≡◌, ℕ, List, map}
 use Rattle.std.specs.declared.option.Option.{Option}
 use Rattle.std.specs.Option.{option_map, option_and_then}
 use Rattle.pb_lan.specs.declared.shape.PortState.{PortState}
 use Rattle.pb_rstp.specs.Ports.{Machine, port_of, stored, designated_vector}
+use Rattle.pb_rstp.specs.Rising.{AreRising}
 use Rattle.pb_rstp.specs.Roles.{root_vector}
 use Rattle.pb_rstp.specs.Laws.{IsInLine}
 use Rattle.pb_rstp.specs.declared.config.RstpPort.{RstpPort}
@@ -13,8 +14,7 @@ use Rattle.pb_rstp.specs.declared.vector.Vector.{Vector}
 
 -- the ports' numbers rise, each above n
 abbrev pub AreAbove : ℕ → List RstpPort → Type 0
-AreAbove n [] = Unit {0}
-AreAbove n (p ∷ ps) = (n < p.port) × AreAbove p.port ps
+AreAbove n ports = AreRising n (map (λ p. p.port) ports)
 
 -- the role and the state of each port, by number
 abbrev pub roles_of : List Port → List (ℕ × Role)
@@ -35,8 +35,13 @@ vector_at machine number = option_map (designated_vector machine.id (root_of mac
 abbrev pub stored_at : Machine → ℕ → Option Vector
 stored_at machine number = option_and_then stored (port_of machine.ports number)
 
--- the roles and states are the machine's, and it is in line
+-- the numbers of the machine's ports
+abbrev pub numbers_of : Machine → List ℕ
+numbers_of machine = map (λ p. p.number) machine.ports
+
+-- the roles and states are the machine's, its ports go by rising number, and it is in line
 pub record IsTold (machine : Machine) (told_roles : List (ℕ × Role)) (told_states : List (ℕ × PortState)) : Type 0 where
   pub roles : told_roles ≡ roles_of machine.ports
   pub states : told_states ≡ states_of machine.ports
+  pub by_number : AreRising 0 (numbers_of machine)
   pub in_line : IsInLine machine

@@ -16,7 +16,11 @@ use Rattle.pb_lan.specs.declared.shape.PortState.{PortState}
 use Rattle.pb_lan.specs.declared.shape.PortState.TheVariants.{Discarding, Forwarding}
 use Rattle.pb_lan.specs.declared.shape.Rooted.{Rooted}
 use Rattle.pb_lan.specs.declared.shape.Shape.{Shape}
-use Rattle.pb_rstp.specs.Ports.{Machine, id_of, is_designated, is_forwarding, is_root, port_of}
+use Rattle.pb_lan.specs.declared.step.Step.{Step}
+use Rattle.pb_lan.specs.Rules.{Cause}
+use Rattle.pb_rstp.specs.Changes.{IsSameBridge}
+use Rattle.pb_rstp.specs.Profile.{after, machine_of}
+use Rattle.pb_rstp.specs.Ports.{Machine, id_of, is_designated, is_discarding, is_forwarding, is_root, is_root_or_designated, port_of}
 use Rattle.pb_rstp.specs.declared.port.Info.{Info}
 use Rattle.pb_rstp.specs.declared.port.Port.{Port}
 use Rattle.pb_rstp.specs.Roles.{root_vector}
@@ -58,6 +62,9 @@ pub record IsSettled (plan : Plan) (machines : List Machine) : Type 0 where
   pub links : AllByRecursion (IsSettledLink machines) plan.links
 
 -- The same as a test.
+
+abbrev pub is_quiet : Port → Bool
+is_quiet p = is_root_or_designated p.role || is_discarding p.state
 
 abbrev pub stores_test : Option Info → List ℕ → Bool
 stores_test None offer = false
@@ -110,6 +117,18 @@ pub record AreMachines (plan : Plan) (machines : List Machine) : Type 0 where
   pub ports : AllByRecursion HasPorts machines
   pub ends : AllByRecursion (λ link. HasPortAt machines link.a × HasPortAt machines link.b) plan.links
 
+-- each call leaves the bridge, and its ports' numbers, costs and priorities
+abbrev pub CallsKeepBridges : Type 0
+CallsKeepBridges = (machine : Machine) (cause : Cause) → IsSameBridge machine (after machine cause).machine
+
+-- the machines of a plan's bridges, after the steps of each
+abbrev pub machines_of : Plan → (ℕ → List Step) → List Machine
+machines_of plan past = map (λ bridge. machine_of plan bridge (past bridge)) (numbers_from 1 plan.bridges)
+
+-- whatever the steps were
+abbrev pub PlannedAreMachines : Type 0
+PlannedAreMachines = (plan : Plan) (past : ℕ → List Step) → IsSound plan → AreMachines plan (machines_of plan past)
+
 -- no Root port's cost is held
 abbrev pub IsNotHeld : Port → Type 0
 IsNotHeld p = is_root p.role ≡ true → (info : Info) → p.info ≡ Some info → info.cost + p.cost ≤ greatest_cost
@@ -149,13 +168,16 @@ LeadsBehindRoots plan machines rooted =
     → (link : LinkPlan) × (near : End) × (far : End) × (numbered plan.links number ≡ Some link) × HasEnds link near far
     × (near.bridge ≡ bridge) × Rises machines far near
 
--- where the machines of a sound plan are settled and no cost is held, the Forwarding ports are a forest
--- for every service, and its parents lie behind the Root ports
+-- the Forwarding ports are a forest for the service, and its parents lie behind the Root ports
+abbrev pub IsForestBehindRoots : Plan → List Machine → ℕ → Type 0
+IsForestBehindRoots plan machines vid =
+    (rooted : Rooted) × Shows plan (shape_of plan machines) vid rooted × LeadsBehindRoots plan machines rooted
+
+-- where the machines of a sound plan are settled and no cost is held, so they are for every service
 abbrev pub SettledIsForest : Type 0
 SettledIsForest =
     (plan : Plan) (machines : List Machine) (vid : ℕ) → IsSound plan → AreMachines plan machines → IsSettled plan machines
-    → NoneHeld machines
-    → (rooted : Rooted) × Shows plan (shape_of plan machines) vid rooted × LeadsBehindRoots plan machines rooted
+    → NoneHeld machines → IsForestBehindRoots plan machines vid
 
 abbrev pub AreBothForwarding : List Machine → LinkPlan → Type 0
 AreBothForwarding machines link =

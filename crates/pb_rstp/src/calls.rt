@@ -1,6 +1,8 @@
 //! The three calls: a BPDU is heard, a second passes, a port is set up or down.
 
 ghost use Rattle.std.specs.Prelude.{◌≡◌, ◌-◌, IfOk, OnOk, OnErr, nat_lt, not, if◌then◌else◌};
+ghost use Rattle.pb_rstp.specs.Changes.{AreMoving, IsSameBridge, HoldsOldRoots, NamesChanges};
+ghost use Rattle.pb_rstp.specs.Laws.{IsInLine};
 ghost use Rattle.pb_rstp.specs.Machine.{settle, after_hear, after_tick, after_admin, is_same_setting};
 ghost use Rattle.pb_rstp.specs.Readings.{roles_of, states_of};
 ghost use Rattle.pb_rstp.specs.Settling.{nows, settled, with_sent, change_of};
@@ -80,8 +82,13 @@ impl Rstp {
         heard: Option<Heard>,
         ports: &[Moving],
     ) -> Result<Change, Memory>
+        requires { AreMoving self.old.ports ports.now }
         ensures ok { OnOk result (self.new ≡ (settle self.old.id hello_left heard ports.now).machine) }
         ensures change { IfOk result (λ change. change ≡ (settle self.old.id hello_left heard ports.now).change) }
+        ensures same { OnOk result (IsSameBridge self.old self.new) }
+        ensures old_roots { OnOk result (HoldsOldRoots self.old self.new) }
+        ensures named { IfOk result (λ change. NamesChanges self.old self.new change) }
+        ensures in_line { IsInLine self.new }
         ensures err { OnErr result (self.new ≡ self.old) }
     {
         let settled = settle(self.alloc, self.id, heard, ports)?;
@@ -99,6 +106,16 @@ impl Rstp {
     pub fn hear(&mut self, port: u8, m: &Bpdu) -> Result<Change, Memory>
         ensures ok { OnOk result (self.new ≡ (after_hear self.old port m.now).machine) }
         ensures change { IfOk result (λ change. change ≡ (after_hear self.old port m.now).change) }
+
+        // A call changes no bridge, and no port's number, cost or priority.
+        ensures same { OnOk result (IsSameBridge self.old self.new) }
+        // A port that was the Root port and isn't any more is Discarding.
+        ensures old_roots { OnOk result (HoldsOldRoots self.old self.new) }
+        // Each change of state is told once, and each list goes by rising port number.
+        ensures named { IfOk result (λ change. NamesChanges self.old self.new change) }
+        // Each port has its role, and only Root and Designated ports do more than discard.
+        ensures in_line { IsInLine self.new }
+
         ensures err { OnErr result (self.new ≡ self.old) }
     {
         let Some(p) = port_of(&self.ports, port) else {
@@ -121,6 +138,16 @@ impl Rstp {
     pub fn tick(&mut self) -> Result<Change, Memory>
         ensures ok { OnOk result (self.new ≡ (after_tick self.old).machine) }
         ensures change { IfOk result (λ change. change ≡ (after_tick self.old).change) }
+
+        // A call changes no bridge, and no port's number, cost or priority.
+        ensures same { OnOk result (IsSameBridge self.old self.new) }
+        // A port that was the Root port and isn't any more is Discarding.
+        ensures old_roots { OnOk result (HoldsOldRoots self.old self.new) }
+        // Each change of state is told once, and each list goes by rising port number.
+        ensures named { IfOk result (λ change. NamesChanges self.old self.new change) }
+        // Each port has its role, and only Root and Designated ports do more than discard.
+        ensures in_line { IsInLine self.new }
+
         ensures err { OnErr result (self.new ≡ self.old) }
     {
         let delay = delay_of(&self.ports);
@@ -138,6 +165,16 @@ impl Rstp {
     pub fn admin(&mut self, port: u8, up: bool) -> Result<Change, Memory>
         ensures ok { OnOk result (self.new ≡ (after_admin self.old port up).machine) }
         ensures change { IfOk result (λ change. change ≡ (after_admin self.old port up).change) }
+
+        // A call changes no bridge, and no port's number, cost or priority.
+        ensures same { OnOk result (IsSameBridge self.old self.new) }
+        // A port that was the Root port and isn't any more is Discarding.
+        ensures old_roots { OnOk result (HoldsOldRoots self.old self.new) }
+        // Each change of state is told once, and each list goes by rising port number.
+        ensures named { IfOk result (λ change. NamesChanges self.old self.new change) }
+        // Each port has its role, and only Root and Designated ports do more than discard.
+        ensures in_line { IsInLine self.new }
+
         ensures err { OnErr result (self.new ≡ self.old) }
     {
         let Some(p) = port_of(&self.ports, port) else {

@@ -8,6 +8,7 @@ mod hearing;
 mod laws;
 mod message;
 mod moving;
+mod network;
 mod port;
 mod proposal;
 mod role;
@@ -22,7 +23,11 @@ mod vector;
 
 pub use change::Change;
 pub use config::{Config, RstpPort};
-pub use laws::{calls_keep_line, cost_rises, settled_is_forest, start_is_in_line, test_tells};
+pub use laws::{
+    calls_keep_bridges, calls_keep_line, changes_lead_on, cost_rises, planned_are_machines,
+    settled_is_forest, start_is_in_line, test_tells,
+};
+pub use network::is_settled;
 pub use role::Role;
 pub use rstp::Rstp;
 pub use vector::Vector;

@@ -3,7 +3,8 @@
 ghost use Rattle.std.specs.Prelude.{◌≡◌, map, IfOk, IsSome, Some};
 ghost use Rattle.pb_rstp.specs.Laws.{IsInLine};
 ghost use Rattle.pb_rstp.specs.Ports.{start, fresh, port_of};
-ghost use Rattle.pb_rstp.specs.Readings.{AreAbove, roles_of, states_of, root_of, vector_at, stored_at};
+ghost use Rattle.pb_rstp.specs.Readings.{AreAbove, numbers_of, roles_of, states_of, root_of, vector_at, stored_at};
+ghost use Rattle.pb_rstp.specs.Rising.{AreRising};
 ghost use Rattle.pb_rstp.specs.Roles.{IsRootVector};
 ghost use Rattle.pb_rstp.specs.Vectors.{bridge_id};
 
@@ -93,6 +94,7 @@ impl Rstp {
     /// The role of each port, by number (IEEE 802.1D-2004 clause 17.7). Takes no memory.
     pub fn roles(&self) -> &[(u8, Role)]
         ensures roles { result.now ≡ roles_of self.now.ports }
+        ensures by_number { AreRising 0 (numbers_of self.now) }
         ensures in_line { IsInLine self.now }
     {
         self.roles.as_slice()
@@ -102,6 +104,7 @@ impl Rstp {
     /// Takes no memory.
     pub fn states(&self) -> &[(u8, PortState)]
         ensures states { result.now ≡ states_of self.now.ports }
+        ensures by_number { AreRising 0 (numbers_of self.now) }
         ensures in_line { IsInLine self.now }
     {
         self.states.as_slice()

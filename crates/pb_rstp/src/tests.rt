@@ -1,15 +1,17 @@
 //! Runs with ample memory, of bridges with priority 32768 and the addresses 02-00-00-00-00-01 and on.
 
 mod alone;
+mod refused;
 mod rings;
+mod settling;
 mod two;
 
 ghost use Rattle.std.specs.Prelude.{◌≡◌};
 ghost use Rattle.pb_rstp.specs.Readings.{AreAbove};
 
 use crate::{
-    Change, Config, Rstp, RstpPort, calls_keep_line, cost_rises, settled_is_forest,
-    start_is_in_line, test_tells,
+    Change, Config, Rstp, RstpPort, calls_keep_bridges, calls_keep_line, changes_lead_on,
+    cost_rises, planned_are_machines, settled_is_forest, start_is_in_line, test_tells,
 };
 use pb_bpdu::{Bpdu, read, write};
 use pb_frame::{Mac, Memory, Seq};
@@ -91,6 +93,9 @@ fn heard(frame: &[u8]) -> Result<Bpdu, Fail> {
 fn laws_stand() {
     start_is_in_line();
     calls_keep_line();
+    calls_keep_bridges();
+    changes_lead_on();
+    planned_are_machines();
     settled_is_forest();
     cost_rises();
     test_tells();

@@ -1,11 +1,13 @@
 //! Three bridges in a ring: port 1 of the first to port 1 of the second, port 2 of the second to port 2
 //! of the third, port 1 of the third to port 2 of the first.
 
+use super::settling::{link, plan};
 use super::with_two_ports;
-use crate::{Change, Role, Rstp};
+use crate::{Change, Role, Rstp, is_settled};
 use pb_bpdu::Bpdu;
 use pb_frame::Memory;
-use std::alloc::Global;
+use pb_lan::{Plan, PortState};
+use std::alloc::{AllocError, Global};
 use std::collections::VecDeque;
 use std::test::Fail;
 
@@ -71,6 +73,32 @@ fn ring(alloc: Global) -> Result<Vec<Rstp>, Memory> {
         deliver(&mut ring, &mut way)?;
     }
     Ok(ring)
+}
+
+/// The plan of the ring.
+fn ring_plan(alloc: Global) -> Result<Plan, AllocError> {
+    plan(
+        alloc,
+        vec![in alloc;
+            link(alloc, "L1", (1, 1), (2, 1))?,
+            link(alloc, "L2", (2, 2), (3, 2))?,
+            link(alloc, "L3", (3, 1), (1, 2))?,
+        ]?,
+    )
+}
+
+#[test]
+fn a_ring_settles(rt: HostRuntime) -> Result<(), Fail> {
+    let ring = ring(rt.alloc())?;
+    assert_eq!(rt; ring.len(), 3);
+    let bridges = [&ring[0], &ring[1], &ring[2]];
+    assert!(rt; is_settled(&bridges, &ring_plan(rt.alloc())?));
+    let open = [(1, PortState::Forwarding), (2, PortState::Forwarding)];
+    assert!(rt; ring[0].states() == open.as_slice());
+    assert!(rt; ring[1].states() == open.as_slice());
+    let cut = [(1, PortState::Forwarding), (2, PortState::Discarding)];
+    assert!(rt; ring[2].states() == cut.as_slice());
+    Ok(())
 }
 
 #[test]

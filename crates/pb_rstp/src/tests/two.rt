@@ -1,5 +1,8 @@
 //! Two bridges on one link.
 
+ghost use Rattle.std.specs.Prelude.{◌≡◌, ◌==◌};
+ghost use Rattle.std.specs.List.{list_any};
+
 use super::{PROPOSAL, first_with, heard, sends, with_one_port, with_two_ports};
 use crate::{Change, Role, Rstp, Vector};
 use pb_lan::PortState;
@@ -57,7 +60,7 @@ fn the_first_proposes(rt: HostRuntime) -> Result<(), Fail> {
 }
 
 /// The second bridge after the first's proposal, and what it told then.
-fn agreed(alloc: Global) -> Result<(Rstp, Change), Fail> {
+pub(crate) fn agreed(alloc: Global) -> Result<(Rstp, Change), Fail> {
     let mut second = with_one_port(alloc, 2)?;
     let change = second.hear(1, &heard(&PROPOSAL)?)?;
     Ok((second, change))
@@ -133,5 +136,46 @@ fn old_bpdus_are_not_stored(rt: HostRuntime) -> Result<(), Fail> {
     m.age = 19 * 256;
     let _ = second.hear(1, &m)?;
     assert!(rt; second.stored(1) == Some(first_vector(0x8001)));
+    Ok(())
+}
+
+/// The list has the port.
+fn has_port(roles: &[(u8, Role)], port: u8) -> bool
+    ensures { result ≡ list_any (λ r. r.0 == port) roles.now }
+{
+    roles.iter().any(|r| r.0 == port)
+}
+
+/// What a port offers, where the bridge has it.
+fn offer_of(bridge: &Rstp, port: u8) -> Option<Vector> {
+    if has_port(bridge.roles(), port) {
+        Some(bridge.vector(port))
+    } else {
+        None
+    }
+}
+
+/// What port 1 of a bridge offers on the way to a root.
+fn offered(last: u8, root: u8, cost: u32) -> Vector {
+    Vector {
+        root: id(root),
+        cost,
+        bridge: id(last),
+        port: 0x8001,
+        receiving: 0x8001,
+    }
+}
+
+#[test]
+fn ports_offer_the_way_to_the_root(rt: HostRuntime) -> Result<(), Fail> {
+    let second = with_one_port(rt.alloc(), 2)?;
+    assert!(rt; offer_of(&second, 1) == Some(offered(2, 2, 0)));
+    assert!(rt; offer_of(&second, 2) == None);
+    let (mut second, _) = agreed(rt.alloc())?;
+    assert!(rt; offer_of(&second, 1) == Some(offered(2, 1, 20_000)));
+    for _ in 0..6u8 {
+        let _ = second.tick()?;
+    }
+    assert!(rt; offer_of(&second, 1) == Some(offered(2, 2, 0)));
     Ok(())
 }

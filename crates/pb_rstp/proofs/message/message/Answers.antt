@@ -1,5 +1,5 @@
 use Rattle.std.proofs.Common.{refl, rules}
-use Rattle.pb_rstp.proofs.Equal.{bpdu_eq}
+use Rattle.pb_bpdu.proofs.Equal.{bpdu_eq}
 use Rattle.pb_rstp.specs.Messages.{message}
 use Rattle.pb_rstp.proofs.message.message.Goals as goal
 

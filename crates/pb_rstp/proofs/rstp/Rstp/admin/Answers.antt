@@ -1,6 +1,7 @@
 use Rattle.std.proofs.Common.{ap, sym, ◌∙◌}
 use Rattle.pb_rstp.specs.Machine.{setting, moved_by}
 use Rattle.pb_rstp.specs.Ports.{Machine, port_of}
+use Rattle.pb_rstp.proofs.MovingLaws.{moving_of, same_setting, is_same_bridge}
 use Rattle.pb_rstp.proofs.CallLaws.{sets}
 use Rattle.pb_rstp.proofs.rstp.Rstp.admin.Goals as goal
 
@@ -21,3 +22,15 @@ returns-clause-change c =
     ∙ ap (λ a. a.change) (sets old c.args.self.now c.args.port c.args.up c.in-Some.p c.deref-3.result.now
     c.self.view_is found (sym c.is_same_setting.ensures ∙ c.if-is_same_setting.false)
     (c.deref-3.ensures.value ∙ c.in_ok-ports.ensures ∙ ap (λ ps. moved_by (setting c.args.port c.args.up) ps) c.deref-2.ensures.value))
+
+pub conclude-requires : goal.conclude-requires
+conclude-requires c =
+    let old : Machine = record { id = c.self.inside.id; ports = c.self.inside.ports.items; hello_left = c.self.inside.hello_left } in
+    moving_of old c.args.self.now (setting c.args.port c.args.up) (same_setting c.args.port c.args.up) c.self.view_is c.deref-3.result.now
+    (c.deref-3.ensures.value ∙ c.in_ok-ports.ensures ∙ ap (λ ps. moved_by (setting c.args.port c.args.up) ps) c.deref-2.ensures.value)
+
+pub returns-in_default-clause-same : goal.returns-in_default-clause-same
+returns-in_default-clause-same c = is_same_bridge c.args.self.now
+
+pub returns-then-is_same_setting-clause-same : goal.returns-then-is_same_setting-clause-same
+returns-then-is_same_setting-clause-same c = is_same_bridge c.args.self.now

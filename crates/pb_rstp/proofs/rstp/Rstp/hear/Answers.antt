@@ -2,6 +2,7 @@ use Rattle.std.proofs.Common.{ap, sym, ◌∙◌}
 use Rattle.pb_rstp.specs.Machine.{hearing, moved_by}
 use Rattle.pb_rstp.specs.Ports.{Machine, port_of}
 use Rattle.pb_rstp.specs.Roles.{root_vector}
+use Rattle.pb_rstp.proofs.MovingLaws.{moving_of, same_hearing, is_same_bridge}
 use Rattle.pb_rstp.proofs.CallLaws.{hears}
 use Rattle.pb_rstp.proofs.rstp.Rstp.hear.Goals as goal
 
@@ -24,3 +25,16 @@ returns-clause-change c =
     c.self.view_is found c.if-not-p.false c.heard_at-heard.ensures
     (c.root_vector-root.ensures ∙ ap (λ ps. root_vector old.id ps) c.deref-2.ensures.value)
     (c.deref-4.ensures.value ∙ c.in_ok-ports.ensures ∙ ap (λ ps. moved_by (hearing c.root_vector-root.result c.in-Some.p.number c.args.m.now) ps) c.deref-3.ensures.value))
+
+pub conclude-requires : goal.conclude-requires
+conclude-requires c =
+    let old : Machine = record { id = c.self.inside.id; ports = c.self.inside.ports.items; hello_left = c.self.inside.hello_left } in
+    moving_of old c.args.self.now (hearing c.root_vector-root.result c.in-Some.p.number c.args.m.now)
+    (same_hearing c.root_vector-root.result c.in-Some.p.number c.args.m.now) c.self.view_is c.deref-4.result.now
+    (c.deref-4.ensures.value ∙ c.in_ok-ports.ensures ∙ ap (λ ps. moved_by (hearing c.root_vector-root.result c.in-Some.p.number c.args.m.now) ps) c.deref-3.ensures.value)
+
+pub returns-in_default-clause-same : goal.returns-in_default-clause-same
+returns-in_default-clause-same c = is_same_bridge c.args.self.now
+
+pub returns-then-not-p-clause-same : goal.returns-then-not-p-clause-same
+returns-then-not-p-clause-same c = is_same_bridge c.args.self.now
