@@ -6,3 +6,4 @@ pub mod StepLengths
 pub mod AdmitLaws
 pub mod DrainLaws
 pub mod HandleLaws
+pub mod CheckLemmas

@@ -8,3 +8,4 @@ pub mod Quiet
 pub mod Answers
 pub mod Progress
 pub mod Shows
+pub mod Checks

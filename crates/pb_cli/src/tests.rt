@@ -1,3 +1,5 @@
+mod check;
+
 use super::*;
 use crate::print::put_answer;
 use bytes::Bytes;

@@ -1,8 +1,9 @@
 //! A provider bridged Ethernet network in one process.
 //!
-//! The exit status is 0 where all went well, 2 where the words of the command line ask for nothing
-//! that is known, and 3 where reading, writing or memory failed in a run or a bridge had taken all
-//! its steps: then `fault: read`, `write`, `memory` or `steps` is the last line that is printed.
+//! The exit status is 0 where all went well, 1 where a plan file was refused, 2 where the words of the
+//! command line ask for nothing that is known, and 3 where reading, writing or memory failed in a run, a
+//! bridge had taken all its steps, or a file can't be read: then `fault: read`, `write`, `memory`,
+//! `steps` or `path` is the last line that is printed.
 #![tactic(auto)]
 
 ghost use Rattle.std.specs.Prelude.{◌≤◌};
@@ -12,11 +13,12 @@ mod order;
 mod tests;
 
 use order::{Order, order_of};
-use pb_cli::{FlatFault, run_flat, run_show};
-use std::io::{BufWriter, Write};
+use pb_cli::{FlatFault, run_check, run_flat, run_show};
+use std::fs::Files;
+use std::io::{BufWriter, ErrorKind, Write};
 use std::process::ExitCode;
 use std::rt::Env;
-use std::{env, io};
+use std::{env, fs, io};
 
 /// The exit status where the words ask for nothing that is known.
 const WRONG_WORDS: u8 = 2;
@@ -33,6 +35,7 @@ fn main(rt: HostRuntime) -> ExitCode {
     };
     match order_of(rt.alloc(), words.as_slice()) {
         Ok(Some(Order::Flat(ports))) => flat(&rt, ports),
+        Ok(Some(Order::Check(path))) => check(&rt, path.as_str()),
         Ok(Some(Order::Show)) => show(&rt),
         Ok(None) => ExitCode::from(WRONG_WORDS),
         Err(e) => {
@@ -65,6 +68,22 @@ fn flat(rt: &(impl Input + Print + AllocGlobal), ports: u8) -> ExitCode
         Err(fault) => tell(rt, fault),
         Ok(()) if flushed.is_err() => tell(rt, FlatFault::Write),
         Ok(()) => ExitCode::SUCCESS,
+    }
+}
+
+/// Tells whether a file is a plan.
+fn check(rt: &(impl Files + Print + AllocGlobal), path: &str) -> ExitCode {
+    let file = match fs::read(rt, path) {
+        Ok(file) => file,
+        Err(e) if e.kind() == ErrorKind::OutOfMemory => return tell(rt, FlatFault::Memory),
+        Err(_) => {
+            let _ = println!(rt; "fault: path");
+            return ExitCode::from(FAULT);
+        }
+    };
+    match run_check(rt.alloc(), file.as_slice(), &mut io::writer(rt)) {
+        Err(fault) => tell(rt, fault),
+        Ok(status) => ExitCode::from(status),
     }
 }
 

@@ -7,10 +7,12 @@ use clap::{Arg, ArgAction, Command, Error};
 use std::alloc::Global;
 
 /// What is to be done.
-#[derive(Clone, Copy, PartialEq, Eq, Debug)]
+#[derive(PartialEq, Eq, Debug, Drop)]
 pub enum Order {
     /// One bridge with so many ports, driven by the lines of standard input.
     Flat(u8),
+    /// Telling whether the file at this path is a plan.
+    Check(String),
     /// Telling what becomes of frames for the reserved addresses.
     Show,
 }
@@ -27,6 +29,15 @@ fn commands<'a>(alloc: Global) -> Result<Command<'a>, Error> {
             "Runs one bridge over the lines `in PORT HEX` of standard input, and prints each frame that leaves it or why it went nowhere",
         )
         .arg(ports)?;
+    let file = Arg::new(alloc, "FILE")
+        .help("The plan file")
+        .required(true)
+        .action(ArgAction::Set);
+    let check = Command::new(alloc, "check")
+        .about(
+            "Reads a plan file, and prints what it has and whether a ring of links starts open for a service, or the rule that the file breaks",
+        )
+        .arg(file)?;
     let show = Command::new(alloc, "show").about(
         "Prints what becomes of frames for the addresses 01-80-C2-00-00-00 to -0F: carry, filter, or provider where the bridges themselves take them",
     );
@@ -35,6 +46,7 @@ fn commands<'a>(alloc: Global) -> Result<Command<'a>, Error> {
             .about("A provider bridged Ethernet network in one process")
             .subcommand_required(true)
             .subcommand(flat)?
+            .subcommand(check)?
             .subcommand(show)?,
     )
 }
@@ -51,6 +63,10 @@ pub fn order_of(alloc: Global, words: &[String]) -> Result<Option<Order>, Error>
         Some(("flat", given)) => match given.get_one::<u8>("PORTS") {
             Some(ports) if 2 <= ports && ports <= 16 => Ok(Some(Order::Flat(ports))),
             _ => Ok(None),
+        },
+        Some(("check", given)) => match given.get_str("FILE") {
+            Some(path) => Ok(Some(Order::Check(String::from_str(alloc, path)?))),
+            None => Ok(None),
         },
         Some(("show", _)) => Ok(Some(Order::Show)),
         _ => Ok(None),

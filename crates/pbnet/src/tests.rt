@@ -33,6 +33,18 @@ fn takes_two_to_sixteen_ports(rt: HostRuntime) -> Result<(), Fail> {
 }
 
 #[test]
+fn checks_one_file(rt: HostRuntime) -> Result<(), Fail> {
+    let alloc = rt.alloc();
+    for path in ["metro.toml", "a plan.toml", "-"] {
+        let order = Order::Check(String::from_str(alloc, path)?);
+        assert_eq!(rt; read(&rt, alloc, &["check", path])?, Ok(order), "{path}");
+    }
+    assert_eq!(rt; read(&rt, alloc, &["check"])?, Err(true));
+    assert_eq!(rt; read(&rt, alloc, &["check", "a", "b"])?, Err(true));
+    Ok(())
+}
+
+#[test]
 fn shows_without_further_words(rt: HostRuntime) -> Result<(), Fail> {
     assert_eq!(rt; read(&rt, rt.alloc(), &["show"])?, Ok(Order::Show));
     Ok(())
