@@ -154,12 +154,13 @@ fn record(
 ) -> Result<Record, AllocError> {
     let came = item(alloc, 0, &BROADCAST)?;
     let goes = item(alloc, 1, &TAGGED)?;
-    let none = Vec::new(alloc);
+    let no_steps = Seq::from_vec(Vec::new(alloc));
+    let back = Seq::from_vec(Vec::new(alloc));
     let first = at_bridge(alloc, 2, came, 1, goes)?;
     Ok(Record {
         bridges: Seq::from_vec(vec![in alloc; first, bridge]?),
-        lanes: Seq::from_vec(vec![in alloc; lane]?),
-        customers: Seq::from_vec(vec![in alloc; at_c1(alloc)?, port, Seq::from_vec(none)]?),
+        lanes: Seq::from_vec(vec![in alloc; lane, back]?),
+        customers: Seq::from_vec(vec![in alloc; at_c1(alloc)?, port, no_steps]?),
     })
 }
 
