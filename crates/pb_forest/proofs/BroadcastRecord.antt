@@ -1,12 +1,11 @@
 -- A record in which a broadcast goes over one link and leaves another port of its service.
-use Rattle.std.proofs.Common.{◌≡◌, ◌≢◌, ◌⊎◌, inl, inr, ℕ, zero, suc, ◌+◌, ◌<◌, ◌≤◌, Some, None, Option, Bool, true, false, List, [], ◌∷◌, ◌++◌, refl, subst, arith, slice_get, nat_eq}
+use Rattle.std.proofs.Common.{◌≡◌, inl, inr, ℕ, zero, suc, Some, None, true, false, List, [], ◌∷◌, refl, subst, arith}
 use Rattle.std.specs.List.{AllByRecursion, IsDistinct}
 use Rattle.pb_forest.specs.Benches.{CanArrive}
 use Rattle.pb_frame.specs.declared.learnt.Learnt.TheVariants.{New}
-use Rattle.pb_lan.specs.Counts.{IsDrained, IsHandledUnder, IsUnhindered, hinders, IsLaneDrained, IsPortDrained}
-use Rattle.pb_lan.specs.Forests.{HasEnds, Shows, LeadsUp, HasOneChild, Crosses, IsForest}
-use Rattle.pb_lan.specs.Laws.{IsTraced, IsReached}
-use Rattle.pb_lan.specs.LastShapes.{last_shape}
+use Rattle.pb_lan.specs.Counts.{IsHandledUnder, IsUnhindered, hinders}
+use Rattle.pb_lan.specs.Forests.{HasEnds, Shows, LeadsUp, HasOneChild, Crosses}
+use Rattle.pb_lan.specs.Laws.{IsReached}
 use Rattle.pb_lan.specs.Numbering.{numbered}
 use Rattle.pb_lan.specs.Plans.{IsSound, IsSoundBridge, IsSoundEnd, IsSoundCustomer, IsNumber}
 use Rattle.pb_forest.proofs.DrainedBalance.{tells-drained}
@@ -21,13 +20,11 @@ use Rattle.pb_lan.specs.declared.plan.Plan.{Plan}
 use Rattle.pb_lan.specs.declared.plan.BridgePlan.{BridgePlan}
 use Rattle.pb_lan.specs.declared.plan.End.{End}
 use Rattle.pb_lan.specs.declared.plan.LinkPlan.{LinkPlan}
-use Rattle.pb_lan.specs.declared.plan.ServicePlan.{ServicePlan}
 use Rattle.pb_lan.specs.declared.plan.CustomerPlan.{CustomerPlan}
 use Rattle.pb_lan.specs.declared.plan.Spanning.TheVariants.{Fixed}
 use Rattle.pb_lan.specs.declared.record.Record.{Record}
 use Rattle.pb_lan.specs.declared.shape.PortState.TheVariants.{Forwarding}
 use Rattle.pb_lan.specs.declared.shape.Rooted.{Rooted}
-use Rattle.pb_lan.specs.declared.shape.Shape.{Shape}
 use Rattle.pb_lan.specs.declared.step.Item.{Item}
 use Rattle.pb_lan.specs.declared.step.Mark.{Mark}
 use Rattle.pb_lan.specs.declared.step.Outcome.TheVariants.{Relayed}
