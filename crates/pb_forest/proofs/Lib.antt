@@ -11,3 +11,4 @@ pub mod RootingLemmas
 pub mod EdgeLemmas
 pub mod CoreLemmas
 pub mod ForestLemmas
+pub mod BroadcastRecord

@@ -1,8 +1,9 @@
 -- What a test bench is told of a finished record.
-use Rattle.std.specs.Prelude.{◌≡◌, ℕ, Bool, List, Some, IsTrue}
-use Rattle.pb_lan.specs.Counts.{IsHandledUnder, IsUnhindered}
-use Rattle.pb_lan.specs.Laws.{IsReached, IsDelivered}
+use Rattle.std.specs.Prelude.{◌≡◌, ℕ, Bool, List, [], ◌∷◌, Some, IsTrue}
+use Rattle.pb_lan.specs.Counts.{IsDrained, IsHandledUnder, IsUnhindered}
+use Rattle.pb_lan.specs.Laws.{IsTraced, IsReached, IsDelivered}
 use Rattle.pb_lan.specs.Numbering.{numbered}
+use Rattle.pb_lan.specs.Plans.{IsSound}
 use Rattle.pb_lan.specs.Ports.{vid_at}
 use Rattle.pb_lan.specs.Records.{IsLawfulRecord}
 use Rattle.pb_lan.specs.Rules.{Rules}
@@ -24,3 +25,21 @@ abbrev pub TellsDelivered : Plan → Shape → Record → ℕ → Bool → Type 
 TellsDelivered plan shape rec service told =
     IsTrue told → (rules : Rules) (mark : Mark) (entry : CustomerPlan) → IsLawfulRecord rules plan rec → IsCarried plan shape rec service mark entry
     → (number : ℕ) (c : CustomerPlan) (path : List ℕ) → IsReached plan shape mark entry number c path → IsDelivered plan shape rec mark entry number c path
+
+-- some record of a network with a link meets all that the law of exact delivery asks
+pub record CanArrive : Type 0 where
+  pub rules : Rules
+  pub plan : Plan
+  pub shape : Shape
+  pub rec : Record
+  pub mark : Mark
+  pub entry : CustomerPlan
+  pub sound : IsSound plan
+  pub lawful : IsLawfulRecord rules plan rec
+  pub traced : IsTraced plan shape rec mark entry
+  pub drained : IsDrained plan rec mark
+  pub unhindered : IsUnhindered plan shape (vid_at plan entry) rec mark
+  pub number : ℕ
+  pub there : CustomerPlan
+  pub link : ℕ
+  pub reached : IsReached plan shape mark entry number there (link ∷ [])

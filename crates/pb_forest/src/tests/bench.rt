@@ -1,7 +1,7 @@
 //! A test bench, which asks of a finished record what the laws of records rest on.
 
 ghost use Rattle.std.specs.Prelude.{IfOk};
-ghost use Rattle.pb_forest.specs.Benches.{TellsDelivered};
+ghost use Rattle.pb_forest.specs.Benches.{CanArrive, TellsDelivered};
 ghost use Rattle.pb_lan.specs.LastShapes.{last_shape};
 ghost use Rattle.pb_lan.specs.Plans.{IsSound};
 
@@ -31,6 +31,11 @@ fn arrives(alloc: Global, plan: &Plan, rec: &Record, service: u8) -> Result<bool
     frames_arrive_exactly_once();
     Ok(is_drained(rec))
 }
+
+/// What the law asks can all be met: a broadcast that goes over a link meets it.
+fn broadcasts_can_arrive()
+    ensures { CanArrive }
+{}
 
 /// A broadcast of sixteen octets.
 const BROADCAST: [u8; 16] = [255, 255, 255, 255, 255, 255, 2, 0, 0, 0, 1, 1, 8, 0, 65, 66];
@@ -154,12 +159,13 @@ fn record(
 ) -> Result<Record, AllocError> {
     let came = item(alloc, 0, &BROADCAST)?;
     let goes = item(alloc, 1, &TAGGED)?;
-    let none = Vec::new(alloc);
+    let no_steps = Seq::from_vec(Vec::new(alloc));
+    let back = Seq::from_vec(Vec::new(alloc));
     let first = at_bridge(alloc, 2, came, 1, goes)?;
     Ok(Record {
         bridges: Seq::from_vec(vec![in alloc; first, bridge]?),
-        lanes: Seq::from_vec(vec![in alloc; lane]?),
-        customers: Seq::from_vec(vec![in alloc; at_c1(alloc)?, port, Seq::from_vec(none)]?),
+        lanes: Seq::from_vec(vec![in alloc; lane, back]?),
+        customers: Seq::from_vec(vec![in alloc; at_c1(alloc)?, port, no_steps]?),
     })
 }
 
@@ -195,6 +201,7 @@ fn a_broadcast_arrives_once(rt: HostRuntime) -> Result<(), Fail> {
     let plan = plan(alloc)?;
     let rec = finished(alloc)?;
     assert!(rt; plan_is_sound(&plan));
+    broadcasts_can_arrive();
     let told = arrives(alloc, &plan, &rec, 1)?;
     assert!(rt; told);
     let frames = left(alloc, &rec, 2)?;
