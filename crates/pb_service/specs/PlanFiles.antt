@@ -5,6 +5,7 @@ use Rattle.std.specs.List.{AllZip}
 use Rattle.std.specs.Str.{IsUtf8}
 use Rattle.toml.specs.Data.{Members, get_member}
 use Rattle.toml.specs.Parse.{parse_document}
+use Rattle.pb_lan.specs.Plans.{IsSound}
 use Rattle.pb_lan.specs.declared.plan.Plan.{Plan}
 use Rattle.pb_service.specs.declared.fault.PlanFault.{PlanFault}
 use Rattle.pb_service.specs.declared.fault.PlanFault.TheVariants.{Utf8, Toml, Memory}
@@ -49,6 +50,10 @@ pub record IsPlanOf (document : Members) (plan : Plan) (specs : List PortSpec) :
 -- the file is a document of which the fact holds
 abbrev pub Tells : List ℕ → (Members → Type 0) → Type 0
 Tells file P = (document : Members) × (parse_document file ≡ Some document) × P document
+
+-- the file tells a sound plan
+abbrev pub IsPlanFile : List ℕ → Type 0
+IsPlanFile file = (plan : Plan) × (specs : List PortSpec) × Tells file (λ document. IsPlanOf document plan specs) × IsSound plan
 
 -- the file breaks a rule, in the way that the fault tells
 abbrev pub RefusesFile : List ℕ → PlanFault → Type 0

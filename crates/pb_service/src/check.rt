@@ -1,10 +1,10 @@
 //! What is asked of each table of an array before it is read.
 
-ghost use Rattle.std.specs.Prelude.{◌≡◌, ◌⊎◌, ◌≤◌, ◌++◌, ◌∷◌, [], length, map, OnOk, IfErr};
+ghost use Rattle.std.specs.Prelude.{◌≡◌, ◌⊎◌, ◌≤◌, ◌++◌, ◌∷◌, [], false, codes, length, map, take, OnOk, IfErr};
 ghost use Rattle.toml.specs.View.{table_view};
 ghost use Rattle.pb_service.specs.Keys.{IsAccepted};
 ghost use Rattle.pb_service.specs.Formats.{keys_of};
-ghost use Rattle.pb_service.specs.Tables.{is_one_of};
+ghost use Rattle.pb_service.specs.Tables.{is_one_of, text_at};
 ghost use Rattle.pb_service.specs.Refusals.{RefusesTable};
 ghost use Rattle.pb_service.specs.declared.fault.PlanFault.TheVariants.{Twice as twice_fault, NoSuch as no_such_fault, Memory as memory_fault};
 
@@ -59,6 +59,7 @@ pub(crate) fn check_row(
 ) -> Result<(), PlanFault>
     requires { index ≤ length names.now }
     ensures ok { OnOk result (IsAccepted (keys_of section (table_view row.now)) (table_view row.now)) }
+    ensures new { OnOk result (is_one_of (map (λ n. n.now) (take index names.now)) (text_at (table_view row.now) (codes "name")) ≡ false) }
     ensures err { IfErr result (RefusesTable section (map (λ n. n.now) names.now) index (table_view row.now)) }
 {
     check_keys(

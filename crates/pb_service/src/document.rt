@@ -1,10 +1,10 @@
 //! A whole document.
 
-ghost use Rattle.std.specs.Prelude.{IfOk, IfErr};
+ghost use Rattle.std.specs.Prelude.{IfOk, IfErr, OnOk};
 ghost use Rattle.toml.specs.View.{table_view};
 ghost use Rattle.pb_lan.specs.Plans.{IsSound};
 ghost use Rattle.pb_service.specs.Refusals.{Refuses};
-ghost use Rattle.pb_service.specs.PlanFiles.{IsPlanOf, AreLimitsOf, Tells, RefusesFile};
+ghost use Rattle.pb_service.specs.PlanFiles.{IsPlanOf, AreLimitsOf, Tells, IsPlanFile, RefusesFile};
 
 use crate::bridge::read_bridges;
 use crate::fault::PlanFault;
@@ -51,6 +51,8 @@ fn file_of(alloc: Global, document: &Table) -> Result<PlanFile, PlanFault>
         ring: network.ring,
         steps: network.steps,
     };
+    // Each rule of a sound plan was asked above, and told by a fault of its own: a plan of which this
+    // one were false would have slipped through, and is not handed on.
     if !plan_is_sound(&plan) {
         return Err(PlanFault::Memory);
     }
@@ -99,6 +101,7 @@ pub fn read_plan(alloc: Global, file: &[u8]) -> Result<(Plan, Vec<PortSpec>), Pl
 /// Reads the limits of a run from a plan file, with the faults of [`read_plan`].
 pub fn read_limits(alloc: Global, file: &[u8]) -> Result<Limits, PlanFault>
     ensures limits { IfOk result (λ limits. Tells file.now (λ document. AreLimitsOf document limits)) }
+    ensures accepted { OnOk result (IsPlanFile file.now) }
     ensures err { IfErr result (RefusesFile file.now) }
 {
     let PlanFile {

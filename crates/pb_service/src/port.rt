@@ -24,7 +24,7 @@ use pb_lan::CustomerPlan;
 use std::alloc::Global;
 use toml::{Table, Value};
 
-/// The frames that texts tell.
+/// The frames that texts tell. Other texts than hexadecimal ones were refused before.
 fn frames_of(alloc: Global, items: &[Value]) -> Result<Vec<Bytes>, PlanFault>
     ensures ok { IfOk result (λ frames. AreFrames (items_view items.now) frames.items) }
     ensures err { IfErr result (λ e. e ≡ memory_fault) }

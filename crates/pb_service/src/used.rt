@@ -1,6 +1,6 @@
 //! The local ports that are used so far.
 
-ghost use Rattle.std.specs.Prelude.{◌≡◌, ◌⊎◌, ◌++◌, ◌∷◌, [], true, OnOk, IfErr};
+ghost use Rattle.std.specs.Prelude.{◌≡◌, ◌⊎◌, ◌++◌, ◌∷◌, [], true, false, OnOk, IfErr};
 ghost use Rattle.pb_service.specs.UsedPorts.{is_used};
 ghost use Rattle.pb_service.specs.declared.fault.PlanFault.TheVariants.{LinkEnd as link_end_fault, Memory as memory_fault};
 
@@ -28,6 +28,7 @@ fn is_used(used: &[LocalPort], port: LocalPort) -> bool
 /// Uses a port that nothing has used so far.
 pub(crate) fn use_port(used: &mut Vec<LocalPort>, port: LocalPort) -> Result<(), PlanFault>
     ensures ok { OnOk result (used.new.items ≡ used.old.items ++ port ∷ []) }
+    ensures free { OnOk result (is_used used.old.items port ≡ false) }
     ensures err { IfErr result (λ e. (e ≡ memory_fault) ⊎ ((e ≡ link_end_fault) × (is_used used.old.items port ≡ true))) }
 {
     if is_used(used, port) {

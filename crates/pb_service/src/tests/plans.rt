@@ -4,6 +4,7 @@ use super::NETWORK;
 use crate::{Limits, PlanFault, PortSpec, read_limits, read_plan};
 use bytes::Bytes;
 use pb_lan::{PortState, Seq, Spanning};
+use std::fmt::Write;
 use std::process::Abort;
 
 #[test]
@@ -195,4 +196,65 @@ fn ports_are_of_three_kinds(rt: HostRuntime) -> Result<(), PlanFault> {
         "kind = \"socket\"\npath = \"p\"",
         PortSpec::Socket { path: text("p")? },
     )
+}
+
+/// A table of the largest plan.
+fn put_table(text: &mut String, head: &str, number: u8, rest: &str) -> Result<(), PlanFault> {
+    write!(text, "[[{head}]]\nname = \"{head}-{number}\"\n{rest}\n")?;
+    Ok(())
+}
+
+/// The bridges and services of the largest plan.
+fn put_bridges(alloc: std::alloc::Global, text: &mut String) -> Result<(), PlanFault> {
+    for i in 0..32u8 {
+        put_table(
+            text,
+            "bridge",
+            i,
+            format!(in alloc; "address = \"02-00-00-00-00-{i:02x}\"")?.as_str(),
+        )?;
+    }
+    for i in 0..64u8 {
+        put_table(
+            text,
+            "service",
+            i,
+            format!(in alloc; "vid = 10{i}")?.as_str(),
+        )?;
+    }
+    Ok(())
+}
+
+/// Its links and customer ports.
+fn put_ports(alloc: std::alloc::Global, text: &mut String) -> Result<(), PlanFault> {
+    for i in 0..64u8 {
+        let (a, b, port) = (i % 32, (i % 32 + 1) % 32, 1 + i / 32 * 2);
+        let rest = format!(in alloc;
+            "a = \"bridge-{a}\"\na_port = {port}\nb = \"bridge-{b}\"\nb_port = 1{port}\nb_services = [\"service-{i}\"]"
+        )?;
+        put_table(text, "link", i, rest.as_str())?;
+    }
+    for i in 0..128u8 {
+        let (bridge, service, port) = (i % 32, i % 64, 5 + i / 32);
+        let rest = format!(in alloc;
+            "bridge = \"bridge-{bridge}\"\nservice = \"service-{service}\"\nport = {port}"
+        )?;
+        put_table(text, "port", i, rest.as_str())?;
+    }
+    Ok(())
+}
+
+#[test]
+fn the_largest_plan_is_read(rt: HostRuntime) -> Result<(), PlanFault> {
+    let alloc = rt.alloc();
+    let mut text = String::new(alloc);
+    put_bridges(alloc, &mut text)?;
+    put_ports(alloc, &mut text)?;
+    let (plan, ports) = read_plan(alloc, text.as_bytes())?;
+    assert_eq!(rt; plan.bridges.len(), 32);
+    assert_eq!(rt; plan.links.len(), 64);
+    assert_eq!(rt; plan.services.len(), 64);
+    assert_eq!(rt; plan.customers.len(), 128);
+    assert_eq!(rt; ports.len(), 128);
+    Ok(())
 }
