@@ -1,5 +1,5 @@
 -- What is known of a table that keeps the rules of its keys.
-use Rattle.std.proofs.Common.{◌≡◌, ℕ, List, Some, None, Option}
+use Rattle.std.proofs.Common.{ℕ, List, Some, None, Option}
 use Rattle.std.specs.Prelude.{codes}
 use Rattle.toml.specs.Data.{Data, Members}
 use Rattle.pb_service.specs.declared.rule.Rule.TheVariants.{Address}

@@ -1,5 +1,5 @@
 -- The local ports that links and customer ports use.
-use Rattle.std.proofs.Common.{◌≡◌, ℕ, ◌+◌, ◌<◌, ◌≤◌, true, false, List, [], ◌∷◌, ◌++◌, zero, suc, length, get_or, map, take, drop, Some, None, Result, Ok, Err, IfErr, Bor, refl, sym, ap, subst, ◌∙◌, append_assoc, arith, inl, inr}
+use Rattle.std.proofs.Common.{◌≡◌, ℕ, ◌+◌, ◌<◌, ◌≤◌, true, List, [], ◌∷◌, ◌++◌, zero, suc, length, get_or, map, take, drop, Some, Result, Err, IfErr, Bor, refl, sym, ap, subst, ◌∙◌, append_assoc, arith, inl, inr}
 use Rattle.std.specs.Prelude.{◌⊎◌, slice_get, codes}
 use Rattle.std.specs.List.{AllZip, flat_map}
 use Rattle.std.proofs.lemmas.Bool.{cases_Bool}
@@ -20,7 +20,7 @@ use Rattle.pb_service.specs.Formats.{link_keys}
 use Rattle.pb_service.specs.Told.{rows_of, number_from}
 use Rattle.pb_service.specs.Tables.{IsLinkOf, IsCustomerOf, IsRead, IsReadPort}
 use Rattle.pb_service.specs.UsedPorts.{is_used, port_of}
-use Rattle.pb_service.specs.Refusals.{Refuses, HasTables, LinkLacks, CustomerLacks, UsesTwice, link_ports, customer_ports, ports_told, names_of, used_twice, no_bridge, no_service, no_listed, no_memory}
+use Rattle.pb_service.specs.Refusals.{Refuses, HasTables, LinkLacks, CustomerLacks, link_ports, customer_ports, names_of, used_twice, no_bridge, no_service, no_listed, no_memory}
 use Rattle.pb_service.proofs.Refusing.{Table, passed_on}
 
 -- a list has few names where its array is not too long

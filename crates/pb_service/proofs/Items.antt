@@ -5,7 +5,7 @@ use Rattle.std.proofs.lemmas.List.{drop_more, drop_all, append-nil}
 use Rattle.std.specs.Prelude.{◌&&◌, ◌||◌}
 use Rattle.pb_frame.specs.Admission.{same}
 use Rattle.std.specs.List.{list_all, list_any}
-use Rattle.toml.specs.Data.{Data, item}
+use Rattle.toml.specs.Data.{Data}
 use Rattle.toml.specs.View.{view, items_view}
 use Rattle.toml.specs.declared.value.Value.{Value}
 use Rattle.pb_service.specs.Tables.{AreFrames}

@@ -1,5 +1,5 @@
 -- Keys of tables.
-use Rattle.std.proofs.Common.{◌≡◌, ℕ, ◌<◌, List, [], ◌∷◌, zero, suc, length, get_or, map, Option, Some, None, option_map, Bool, true, false, refl, arith, string_bytes, Bor, sym, String, Global, inl, inr}
+use Rattle.std.proofs.Common.{◌≡◌, ℕ, ◌<◌, List, [], ◌∷◌, zero, suc, length, get_or, Option, option_map, refl, arith, string_bytes, inl, inr}
 use Rattle.std.specs.Prelude.{find, not, ◌⊎◌}
 use Rattle.std.specs.Map.{keys_of}
 use Rattle.std.proofs.lemmas.Bool.{cases_Bool}

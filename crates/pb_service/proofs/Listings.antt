@@ -1,5 +1,5 @@
 -- The numbers of listed names, one name after another.
-use Rattle.std.proofs.Common.{◌≡◌, ℕ, ◌+◌, ◌<◌, true, false, List, [], ◌∷◌, ◌++◌, length, get_or, drop, map, Bor, append_assoc, rules, arith}
+use Rattle.std.proofs.Common.{◌≡◌, ℕ, ◌+◌, ◌<◌, true, false, List, [], ◌∷◌, ◌++◌, length, get_or, drop, map, Bor, append_assoc}
 use Rattle.std.proofs.lemmas.List.{drop_more}
 use Rattle.pb_frame.specs.Admission.{same}
 use Rattle.toml.specs.Data.{Items}

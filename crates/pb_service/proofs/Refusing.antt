@@ -1,5 +1,5 @@
 -- Refusals of documents.
-use Rattle.std.proofs.Common.{◌≡◌, ℕ, ◌<◌, true, List, [], ◌∷◌, zero, suc, length, get_or, map, take, Some, None, Result, Ok, Err, IfErr, Bor, BTreeMap, Global, String, refl, sym, ap, ◌∙◌, arith, inl, inr}
+use Rattle.std.proofs.Common.{◌≡◌, ℕ, ◌<◌, true, List, [], ◌∷◌, zero, suc, length, get_or, map, take, Some, Result, Ok, Err, IfErr, Bor, BTreeMap, Global, String, refl, sym, ap, ◌∙◌, arith, inl, inr}
 use Rattle.std.specs.Prelude.{◌⊎◌, slice_get, codes}
 use Rattle.std.proofs.lemmas.List.{length-map, take-map}
 use Rattle.toml.specs.Data.{Members, get_member}

@@ -1,5 +1,5 @@
 -- The keys of the tables of a plan file, in order.
-use Rattle.std.specs.Prelude.{ℕ, Bool, true, false, codes, List, [], ◌∷◌, if◌then◌else◌}
+use Rattle.std.specs.Prelude.{ℕ, codes, List, [], ◌∷◌, if◌then◌else◌}
 use Rattle.pb_frame.specs.Admission.{same}
 use Rattle.toml.specs.Data.{Members, get_member}
 use Rattle.pb_service.specs.declared.section.Section.{Section}

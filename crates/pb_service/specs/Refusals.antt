@@ -1,5 +1,5 @@
 -- When a document is refused, and why.
-use Rattle.std.specs.Prelude.{◌≡◌, ◌≤◌, ◌<◌, ◌⊎◌, ℕ, codes, Bool, true, false, ◌||◌, List, [], ◌∷◌, ◌++◌, length, take, map, slice_get, is_some, Some, None, unwrap_or}
+use Rattle.std.specs.Prelude.{◌≡◌, ◌≤◌, ◌<◌, ◌⊎◌, ℕ, codes, Bool, true, false, ◌||◌, List, [], ◌∷◌, ◌++◌, length, take, slice_get, is_some, Some, None, unwrap_or}
 use Rattle.std.specs.declared.option.Option.{Option}
 use Rattle.std.specs.Fmt.{decimal}
 use Rattle.std.specs.List.{flat_map}

@@ -1,5 +1,5 @@
 -- What a table tells under a key, whatever stands there.
-use Rattle.std.specs.Prelude.{ℕ, suc, ◌+◌, codes, min, Bool, true, false, ◌&&◌, List, [], ◌∷◌, ◌++◌, map, Some, None, unwrap_or, if◌then◌else◌}
+use Rattle.std.specs.Prelude.{ℕ, suc, ◌+◌, codes, min, List, [], ◌∷◌, ◌++◌, map, Some, None, unwrap_or, if◌then◌else◌}
 use Rattle.std.specs.declared.option.Option.{Option}
 use Rattle.std.specs.Option.{option_map_or, option_and_then, option_to_list}
 use Rattle.pb_frame.specs.Admission.{same}

@@ -1,5 +1,5 @@
 -- The local ports that are used so far.
-use Rattle.std.specs.Prelude.{ℕ, Bool, List, ◌==◌, ◌&&◌}
+use Rattle.std.specs.Prelude.{Bool, List, ◌==◌, ◌&&◌}
 use Rattle.std.specs.List.{list_any}
 use Rattle.pb_lan.specs.declared.plan.End.{End}
 use Rattle.pb_service.specs.declared.used.LocalPort.{LocalPort}

@@ -1,8 +1,8 @@
 -- What values of a TOML document may be, and what they stand for.
-use Rattle.std.specs.Prelude.{◌≡◌, ℕ, suc, pos, negsuc, ℤ, codes, ◌-◌, ◌*◌, ◌+◌, ◌%◌, nat_le, nat_lt, ◌==◌, Bool, true, false, ◌&&◌, ◌||◌, not, if◌then◌else◌, List, [], ◌∷◌, length, Some, None, is_some, unwrap_or}
+use Rattle.std.specs.Prelude.{◌≡◌, ℕ, suc, pos, negsuc, ℤ, codes, ◌%◌, nat_le, ◌==◌, Bool, true, false, ◌&&◌, ◌||◌, not, List, [], length, Some, None, is_some, unwrap_or}
 use Rattle.std.specs.declared.option.Option.{Option}
-use Rattle.std.specs.Option.{option_map, option_map_or, option_and_then}
-use Rattle.std.specs.List.{list_all, list_any}
+use Rattle.std.specs.Option.{option_map_or, option_and_then}
+use Rattle.std.specs.List.{list_all}
 use Rattle.pb_frame.specs.Admission.{same}
 use Rattle.pb_frame.specs.Frames.{is_group}
 use Rattle.pb_frame.specs.Hex.{is_digit, IsMacText}

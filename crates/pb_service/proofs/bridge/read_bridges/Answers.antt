@@ -1,4 +1,4 @@
-use Rattle.std.proofs.Common.{◌≡◌, List, Bor, map, ◌∙◌, sym, ap, arith}
+use Rattle.std.proofs.Common.{map, ◌∙◌, sym, ap, arith}
 use Rattle.std.proofs.lemmas.Result.{err_from_is_err_and}
 use Rattle.toml.specs.View.{table_view}
 use Rattle.pb_service.specs.declared.section.Section.TheVariants.{Bridge}

@@ -1,4 +1,4 @@
-use Rattle.std.proofs.Common.{◌≡◌, ℕ, List, [], ◌++◌, Bor, map, ◌∙◌, sym, ap, arith}
+use Rattle.std.proofs.Common.{◌++◌, map, ◌∙◌, ap, arith}
 use Rattle.std.proofs.lemmas.Result.{err_from_is_err_and}
 use Rattle.std.specs.List.{flat_map}
 use Rattle.toml.specs.View.{table_view}

@@ -1,6 +1,4 @@
 use Rattle.std.proofs.lemmas.Result.{err_from_is_err_and}
-use Rattle.std.proofs.Common.{◌∙◌, ap}
-use Rattle.pb_service.specs.Told.{names_in}
 use Rattle.pb_service.proofs.Refusing.{memory_passed}
 use Rattle.pb_service.proofs.table.tables_at.Goals as goal
 

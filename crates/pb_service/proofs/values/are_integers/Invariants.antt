@@ -1,9 +1,8 @@
 use Rattle.std.proofs.Common.{◌≡◌, drop}
 use Rattle.std.specs.Prelude.{is_some}
-use Rattle.toml.specs.Data.{as_str, as_integer}
+use Rattle.toml.specs.Data.{as_integer}
 use Rattle.toml.specs.View.{items_view}
-use Rattle.pb_frame.specs.Admission.{same}
-use Rattle.pb_service.specs.Values.{all_items, any_item, is_text, is_name, is_hex}
+use Rattle.pb_service.specs.Values.{all_items}
 use Rattle.pb_service.proofs.values.are_integers.Given as goal
 
 abbrev pub invariant-loop-item : goal.invariant-loop-item
