@@ -9,7 +9,7 @@ use Rattle.pb_lan.specs.BridgeLists.Ruling.{Refuses, Listens, LearnsOnly, Carrie
 use Rattle.pb_lan.specs.Ports.{Port, port_at, is_used, vid_at}
 use Rattle.pb_lan.specs.Ports.Port.{Customer as CustomerAt}
 use Rattle.pb_lan.specs.Queues.{waiting, copies, is_refused}
-use Rattle.pb_lan.specs.Rules.{silent}
+use Rattle.pb_relay.specs.Protocol.{spanning_tree}
 use Rattle.pb_lan.specs.Shapes.{state_after}
 use Rattle.pb_lan.specs.declared.plan.Plan.{Plan}
 use Rattle.pb_lan.specs.declared.plan.CustomerPlan.{CustomerPlan}
@@ -38,13 +38,13 @@ IsPlainRuling (LearnsOnly vid) = ⊥
 IsPlainRuling (Carries vid) = Unit {0}
 IsPlainRuling Closed = ⊥
 
-plain_ruling : (plan : Plan) (c : CustomerPlan) (state : PortState) (item : Item) → IsPlainRuling (ruling_by silent plan (CustomerAt c) state item)
+plain_ruling : (plan : Plan) (c : CustomerPlan) (state : PortState) (item : Item) → IsPlainRuling (ruling_by spanning_tree plan (CustomerAt c) state item)
 plain_ruling plan c state item =
     first_case-is IsPlainRuling (customer_cases item) (Carries (vid_at plan c)) ((λ e. tt), ((λ e. tt), ((λ e. tt), ((λ e. tt), ((λ e. tt), tt))))) tt
 
 -- a Receive there moves nothing
 unmoved : (plan : Plan) (earlier : List Step) (port : ℕ) (item : Item) (learnt : Option Learnt) (outcome : Outcome) (moved : Option Moved) (g : Ruling)
-    → IsPlainRuling g → Follows silent plan 1 earlier port item learnt outcome moved g → moved ≡ None
+    → IsPlainRuling g → Follows spanning_tree plan 1 earlier port item learnt outcome moved g → moved ≡ None
 unmoved plan earlier port item learnt outcome moved (Refuses reason) p h = h.2
 unmoved plan earlier port item learnt outcome moved Listens p h = absurd p
 unmoved plan earlier port item learnt outcome moved (LearnsOnly vid) p h = absurd p
@@ -53,10 +53,10 @@ unmoved plan earlier port item learnt outcome moved (Carries vid) p (inr h) = h.
 unmoved plan earlier port item learnt outcome moved Closed p h = absurd p
 
 pub customer_unmoved : (plan : Plan) (earlier : List Step) (port : ℕ) (c : CustomerPlan) (item : Item) (learnt : Option Learnt) (outcome : Outcome) (moved : Option Moved)
-    → port_at plan 1 port ≡ CustomerAt c → Fits silent plan 1 earlier (Received port item learnt outcome moved) → moved ≡ None
+    → port_at plan 1 port ≡ CustomerAt c → Fits spanning_tree plan 1 earlier (Received port item learnt outcome moved) → moved ≡ None
 customer_unmoved plan earlier port c item learnt outcome moved there fits =
-    unmoved plan earlier port item learnt outcome moved (ruling silent plan 1 earlier port item)
-    (subst (λ (p : Port). IsPlainRuling (ruling_by silent plan p (state_after plan 1 earlier port) item)) (sym there) (plain_ruling plan c (state_after plan 1 earlier port) item)) fits
+    unmoved plan earlier port item learnt outcome moved (ruling spanning_tree plan 1 earlier port item)
+    (subst (λ (p : Port). IsPlainRuling (ruling_by spanning_tree plan p (state_after plan 1 earlier port) item)) (sym there) (plain_ruling plan c (state_after plan 1 earlier port) item)) fits
 
 -- at most one copy is queued at a port, and none where the frame came in
 copies_few : (plan : Plan) (port : ℕ) (item : Item) (outcome : Outcome) (exit : ℕ) → length (copies plan 1 port item outcome exit) ≤ 1
@@ -69,10 +69,10 @@ copies_few plan port item (Filtered reason) exit = omega arith
 copies_few plan port item Heard exit = omega arith
 
 no_copy_back : (plan : Plan) (earlier : List Step) (port : ℕ) (item : Item) (learnt : Option Learnt) (outcome : Outcome) (moved : Option Moved)
-    → Fits silent plan 1 earlier (Received port item learnt outcome moved) → length (copies plan 1 port item outcome port) ≡ 0
+    → Fits spanning_tree plan 1 earlier (Received port item learnt outcome moved) → length (copies plan 1 port item outcome port) ≡ 0
 no_copy_back plan earlier port item learnt (Relayed chosen refused) moved fits =
     let never : list_any (λ p. p == port) chosen ≡ false =
-    false-unless (list_any (λ p. p == port) chosen) (λ e. true-false (port == port) (eqb-refl port) (chosen-there silent plan 1 port earlier port item learnt chosen refused moved fits e).other) in
+    false-unless (list_any (λ p. p == port) chosen) (λ e. true-false (port == port) (eqb-refl port) (chosen-there spanning_tree plan 1 port earlier port item learnt chosen refused moved fits e).other) in
     none _ (list_any (λ p. p == port) chosen) (not (is_refused refused port)) never
   where
     none : {X : Type 0} (x : X) (a b : Bool) → a ≡ false → length (if a && b then (x ∷ []) else []) ≡ 0
@@ -110,8 +110,8 @@ admitted_waiting ports port frame old new quiet from to (outcome, (learnt, moved
       plan = ap (λ (b : BridgeView). b.plan) appended ∙ quiet.alone.plan;
       number = ap (λ (b : BridgeView). b.number) appended ∙ quiet.alone.number;
     } in
-    let fits : Fits silent plan 1 old.steps step =
-    subst (λ k. Fits silent plan k old.steps step) quiet.alone.number (subst (λ (p : Plan). Fits silent p old.number old.steps step) quiet.alone.plan fits_there) in
+    let fits : Fits spanning_tree plan 1 old.steps step =
+    subst (λ k. Fits spanning_tree plan k old.steps step) quiet.alone.number (subst (λ (p : Plan). Fits spanning_tree p old.number old.steps step) quiet.alone.plan fits_there) in
     let still = customer_unmoved plan old.steps port (flat_customer port) item learnt outcome moved (flat_port-at ports port from to) fits in
     let whole : new.steps ≡ old.steps ++ Received port item learnt outcome None ∷ [] = steps ∙ ap (λ m. old.steps ++ Received port item learnt outcome m ∷ []) still in
     let told : length (receipts new.steps) ≡ length (receipts old.steps) + 1 = ap (λ ms. length (receipts ms)) steps ∙ length-more receipt_by old.steps step in

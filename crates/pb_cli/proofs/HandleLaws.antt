@@ -4,7 +4,7 @@ use Rattle.std.specs.List.{AllByRecursion}
 use Rattle.std.specs.declared.option.Option.{Option}
 use Rattle.pb_frame.proofs.Lists.{All-append}
 use Rattle.pb_lan.specs.BridgeLists.{IsLawfulBridge}
-use Rattle.pb_lan.specs.Rules.{silent}
+use Rattle.pb_relay.specs.Protocol.{spanning_tree}
 use Rattle.pb_lan.specs.declared.plan.Plan.{Plan}
 use Rattle.pb_lan.specs.declared.step.Outcome.{Outcome}
 use Rattle.pb_lan.specs.declared.step.Step.{Step}
@@ -57,7 +57,7 @@ view_of ports bridge is_ready = record { ports = ports; steps = bridge.steps; is
 
 -- the frame was handled, and the bridge is quiet again
 pub handled : (ports port : ℕ) (frame out out' : List ℕ) (old mid new : BridgeView) (was_ready : Bool) → ports ≤ 16 → IsQuiet ports old → port ≤ ports → HasAdmitted port frame old mid
-    → Tells (newest mid.steps) out out' → IsDraining ports port (ports + 1) mid new → IsLawfulBridge silent new.plan new.number new.steps
+    → Tells (newest mid.steps) out out' → IsDraining ports port (ports + 1) mid new → IsLawfulBridge spanning_tree new.plan new.number new.steps
     → IsQuiet ports new × HasHandled (view_of ports old was_ready) port frame out (view_of ports new true) out'
 handled ports port frame out out' old mid new was_ready few quiet to adm tells drain lawful =
     let step : Step = Receive port (arriving frame) adm.1.0 adm.0 adm.1.1 in
@@ -72,7 +72,7 @@ handled ports port frame out out' old mid new was_ready few quiet to adm tells d
         outcome = adm.0;
         receipts = drain.same ∙ told_admitted port frame old mid adm;
         past = record {
-          lawful = subst (λ k. IsLawfulBridge silent (flat_plan ports) k new.steps) again.alone.number (subst (λ (p : Plan). IsLawfulBridge silent p new.number new.steps) again.alone.plan lawful);
+          lawful = subst (λ k. IsLawfulBridge spanning_tree (flat_plan ports) k new.steps) again.alone.number (subst (λ (p : Plan). IsLawfulBridge spanning_tree p new.number new.steps) again.alone.plan lawful);
           clear = again.clear;
         };
         text = told.0;

@@ -7,3 +7,7 @@ pub mod AdmitLaws
 pub mod DrainLaws
 pub mod HandleLaws
 pub mod CheckLemmas
+pub mod PlaceLemmas
+pub mod StepLemmas
+pub mod ReportLemmas
+pub mod NetworkLemmas

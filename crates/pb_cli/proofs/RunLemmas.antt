@@ -39,10 +39,10 @@ Answers-snoc limit ports n (l ∷ front) line old mid new text more (between, he
     )
 
 -- a line that was cut is answered as the whole line is
-whole_line : (limit : ℕ) (line : List ℕ) → length (take (limit + 1) line) ≤ limit → take (limit + 1) line ≡ line
+pub whole_line : (limit : ℕ) (line : List ℕ) → length (take (limit + 1) line) ≤ limit → take (limit + 1) line ≡ line
 whole_line limit line h = take_all (limit + 1) line (omega (arith, length-take (limit + 1) line))
 
-uncut : (limit : ℕ) (line : List ℕ) → length line ≤ limit → take (limit + 1) line ≡ line
+pub uncut : (limit : ℕ) (line : List ℕ) → length line ≤ limit → take (limit + 1) line ≡ line
 uncut limit line h = take_all (limit + 1) line (omega arith)
 
 Answer-uncut : (limit ports n : ℕ) (line : List ℕ) (old new : List Receipt) (text : List ℕ)
@@ -73,19 +73,19 @@ front_of_map n (l ∷ lines) (f ∷ front) back e =
     let parts = front_of_map n lines front back tail in
     (l ∷ parts.0, parts.1, ap (λ z. l ∷ z) {y = parts.0 ++ parts.1} parts.2, let same : front ≡ map (λ line. take n line) parts.0 = parts.3 in cc)
 
-Appends-twice : (a b c : Option (List ℕ)) (xs ys : List ℕ) → Appends a b xs → Appends b c ys → Appends a c (xs ++ ys)
+pub Appends-twice : (a b c : Option (List ℕ)) (xs ys : List ℕ) → Appends a b xs → Appends b c ys → Appends a c (xs ++ ys)
 Appends-twice None b c xs ys p q = tt
 Appends-twice (Some u) None c xs ys p q = absurd p
 Appends-twice (Some u) (Some v) None xs ys p q = absurd q
 Appends-twice (Some u) (Some v) (Some w) xs ys p q = q ∙ ap (λ z. z ++ ys) p ∙ append_assoc u xs ys
 
-Appends-keeps : (a b c : Option (List ℕ)) (xs : List ℕ) → Appends a b xs → Keeps b c → Appends a c xs
+pub Appends-keeps : (a b c : Option (List ℕ)) (xs : List ℕ) → Appends a b xs → Keeps b c → Appends a c xs
 Appends-keeps None b c xs p q = tt
 Appends-keeps (Some u) None c xs p q = absurd p
 Appends-keeps (Some u) (Some v) None xs p q = absurd q
 Appends-keeps (Some u) (Some v) (Some w) xs p q = q ∙ p
 
-Appends-nothing : (a : Option (List ℕ)) → Appends a a []
+pub Appends-nothing : (a : Option (List ℕ)) → Appends a a []
 Appends-nothing None = tt
 Appends-nothing (Some xs) = sym (append-nil xs)
 

@@ -9,3 +9,9 @@ pub mod Answers
 pub mod Progress
 pub mod Shows
 pub mod Checks
+pub mod Steps
+pub mod Reports
+pub mod Scripts
+pub mod AnyPorts
+pub mod Networks
+pub mod Unwritten

@@ -2,7 +2,7 @@
 use Rattle.std.specs.Prelude.{◌≡◌, ℕ, Bool, true, List, [], ◌∷◌, ◌++◌}
 use Rattle.std.specs.List.{AllByRecursion}
 use Rattle.pb_lan.specs.BridgeLists.{IsLawfulBridge}
-use Rattle.pb_lan.specs.Rules.{silent}
+use Rattle.pb_relay.specs.Protocol.{spanning_tree}
 use Rattle.pb_lan.specs.declared.step.Outcome.{Outcome}
 use Rattle.pb_lan.specs.declared.step.Step.{Step}
 use Rattle.pb_cli.specs.FlatPlans.{flat_plan}
@@ -17,7 +17,7 @@ pub record SwitchView : Type 0 where
 
 -- the steps are a lawful past of the bridge, with no want of memory
 pub record IsFlatPast (ports : ℕ) (steps : List Step) : Type 0 where
-  pub lawful : IsLawfulBridge silent (flat_plan ports) 1 steps
+  pub lawful : IsLawfulBridge spanning_tree (flat_plan ports) 1 steps
   pub clear : AllByRecursion IsClear steps
 
 -- the bridge received the frame at the port, and what became of it is printed

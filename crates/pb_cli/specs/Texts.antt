@@ -6,7 +6,7 @@ use Rattle.pb_frame.specs.Tags.{bare}
 use Rattle.pb_lan.specs.declared.step.Outcome.{Outcome}
 use Rattle.pb_lan.specs.declared.step.Outcome.TheVariants.{Relayed, Filtered, Heard}
 use Rattle.pb_lan.specs.declared.step.Reason.{Reason}
-use Rattle.pb_lan.specs.declared.step.Reason.TheVariants.{NotForwarding, NotMember, Untagged, Reserved, Malformed, Worn, Memory, STagged, Long}
+use Rattle.pb_script.specs.Answers.{reason_word}
 use Rattle.pb_cli.specs.Receipts.{Receipt}
 
 -- a frame, in hexadecimal, left at a port
@@ -16,17 +16,6 @@ out_line hex port = codes "out " ++ decimal port ++ codes " " ++ hex ++ 10 ∷ [
 -- it left at each of the ports, in their order
 abbrev pub out_lines : List ℕ → List ℕ → List ℕ
 out_lines hex ports = flat_map (out_line hex) ports
-
-abbrev pub reason_word : Reason → List ℕ
-reason_word NotForwarding = codes "not-forwarding"
-reason_word NotMember = codes "not-member"
-reason_word Untagged = codes "untagged"
-reason_word (Reserved number) = codes "reserved-" ++ decimal number
-reason_word Malformed = codes "malformed"
-reason_word Worn = codes "worn"
-reason_word Memory = codes "memory"
-reason_word STagged = codes "s-tagged"
-reason_word Long = codes "long"
 
 -- a frame that came in at a port went nowhere
 abbrev pub filtered_line : ℕ → Reason → List ℕ

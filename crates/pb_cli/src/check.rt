@@ -55,7 +55,7 @@ fn put_fault(out: &mut String, fault: &PlanFault) -> Result<(), Memory>
 }
 
 /// The line of a plan that is refused.
-fn put_refusal(out: &mut String, fault: &PlanFault) -> Result<(), Memory>
+pub(crate) fn put_refusal(out: &mut String, fault: &PlanFault) -> Result<(), Memory>
     ensures { OnOk result (string_bytes out.new ≡ string_bytes out.old ++ refusal_line fault.now) }
 {
     let number = fault.number();

@@ -3,10 +3,11 @@
 ghost use Rattle.std.specs.Prelude.{◌≡◌, ◌++◌, string_bytes, IfOk, OnOk};
 ghost use Rattle.pb_frame.specs.Hex.{hex_text};
 ghost use Rattle.pb_frame.specs.Tags.{bare};
-ghost use Rattle.pb_cli.specs.Texts.{answer_text, bad_line, filtered_line, out_line, out_lines, reason_word};
+ghost use Rattle.pb_cli.specs.Texts.{answer_text, bad_line, filtered_line, out_line, out_lines};
 
 use pb_frame::{Memory, has_priority_tag};
 use pb_lan::{Outcome, Reason};
+use pb_script::put_reason;
 use std::alloc::Global;
 
 /// Puts what became of a frame that a port received behind a text: for a relayed frame a line for
@@ -84,23 +85,5 @@ fn put_filtered(out: &mut String, port: u8, reason: Reason) -> Result<(), Memory
     write!(out, "filtered {port} ")?;
     put_reason(out, reason)?;
     writeln!(out)?;
-    Ok(())
-}
-
-/// The word for a reason.
-fn put_reason(out: &mut String, reason: Reason) -> Result<(), Memory>
-    ensures { OnOk result (string_bytes out.new ≡ string_bytes out.old ++ reason_word reason) }
-{
-    match reason {
-        Reason::NotForwarding => out.push_str("not-forwarding")?,
-        Reason::NotMember => out.push_str("not-member")?,
-        Reason::Untagged => out.push_str("untagged")?,
-        Reason::Reserved(number) => write!(out, "reserved-{number}")?,
-        Reason::Malformed => out.push_str("malformed")?,
-        Reason::Worn => out.push_str("worn")?,
-        Reason::Memory => out.push_str("memory")?,
-        Reason::STagged => out.push_str("s-tagged")?,
-        Reason::Long => out.push_str("long")?,
-    }
     Ok(())
 }

@@ -100,23 +100,24 @@ fn answer_lines<R: Read, W: Write>(
     Err(FlatFault::Read)
 }
 
-/// Answers each line of what is read, and writes nothing else.
-fn run_lines<R: Read, W: Write>(
+/// Runs a bridge that is new over lines, as [`run_flat`] does with a bridge of its own, and with its
+/// faults. The bridge stays with the caller: a program that ends then need not free the record of its
+/// steps one by one.
+pub fn run_flat_on<R: Read, W: Write>(
     alloc: Global,
-    limit: usize,
-    ports: u8,
+    switch: &mut Switch,
     reader: &mut R,
     writer: &mut W,
 ) -> Result<(), FlatFault>
-    requires limit { limit < 2 ^ 32 }
-    requires ports { (2 ≤ ports) × (ports ≤ 16) }
-    ensures ok { OnOk result (Prints limit ports (R.remaining reader.old) (W.contents writer.old) (W.contents writer.new)) }
+    requires ready { switch.old.is_ready ≡ true }
+    requires fresh { switch.old.steps ≡ [] }
+    ensures ok { OnOk result (Prints 140000 switch.old.ports (R.remaining reader.old) (W.contents writer.old) (W.contents writer.new)) }
     ensures part { IfErr result (λ e. e ≢ FlatFault.Write →
-        PrintsBeginning e limit ports (R.remaining reader.old) (W.contents writer.old) (W.contents writer.new)) }
+        PrintsBeginning e 140000 switch.old.ports (R.remaining reader.old) (W.contents writer.old) (W.contents writer.new)) }
 {
-    let mut lines = LineReader::new(alloc, limit)?;
-    let mut switch = Switch::new(alloc, ports)?;
-    answer_lines(alloc, limit, ports, &mut lines, &mut switch, reader, writer)
+    let mut lines = LineReader::new(alloc, MAX_LINE)?;
+    let ports = switch.ports();
+    answer_lines(alloc, MAX_LINE, ports, &mut lines, switch, reader, writer)
 }
 
 /// Runs one bridge (IEEE 802.1Q) with `ports` customer ports of one service, 2 to 16, over lines,
@@ -140,5 +141,6 @@ pub fn run_flat<R: Read, W: Write>(
     ensures part { IfErr result (λ e. e ≢ FlatFault.Write →
         PrintsBeginning e 140000 ports (R.remaining reader.old) (W.contents writer.old) (W.contents writer.new)) }
 {
-    run_lines(alloc, MAX_LINE, ports, reader, writer)
+    let mut switch = Switch::new(alloc, ports)?;
+    run_flat_on(alloc, &mut switch, reader, writer)
 }

@@ -3,7 +3,7 @@
 ghost use Rattle.std.specs.Prelude.{◌≡◌, ◌≤◌, ◌<◌, ◌+◌, ◌*◌, ◌⊎◌, [], true, false, length, string_bytes, IfErr, OnOk, IsErrOf, IfOk};
 ghost use Rattle.pb_lan.specs.BridgeLists.{IsLawfulBridge};
 ghost use Rattle.pb_lan.specs.Ports.{port_at, is_used};
-ghost use Rattle.pb_lan.specs.Rules.{silent};
+ghost use Rattle.pb_relay.specs.Protocol.{spanning_tree};
 ghost use Rattle.pb_cli.specs.Faults.{of_bridge};
 ghost use Rattle.pb_cli.specs.FlatPlans.{flat_plan};
 ghost use Rattle.pb_cli.specs.Quiet.{IsQuiet, IsAlone, HasAdmitted, IsReceive, IsWaiting, IsDraining, HasDrained, Tells, newest, waits};
@@ -62,8 +62,8 @@ fn admit(bridge: &mut Bridge, port: u8, frame: Bytes) -> Result<(), FlatFault>
         hops: 0,
         wire: frame,
     };
-    match bridge.receive(port, item) {
-        Ok(_) => Ok(()),
+    match bridge.take_in(port, item) {
+        Ok(()) => Ok(()),
         Err((fault, _)) => Err(fault_of(fault)),
     }
 }
@@ -132,7 +132,7 @@ fn drain(bridge: &mut Bridge, ports: u8, port: u8) -> Result<(), FlatFault>
     requires waiting { IsWaiting ports port bridge.old }
     ensures ok { OnOk result (IsDraining ports port (ports + 1) bridge.old bridge.new) }
     ensures kinds { IfErr result (λ e. (e ≡ FlatFault.Steps) ⊎ (e ≡ FlatFault.Memory)) }
-    ensures lawful { OnOk result (IsLawfulBridge silent bridge.new.plan bridge.new.number bridge.new.steps) }
+    ensures lawful { OnOk result (IsLawfulBridge spanning_tree bridge.new.plan bridge.new.number bridge.new.steps) }
     ensures steps { IsErrOf result FlatFault.Steps → 62501 ≤ length (receipts bridge.old.steps) }
 {
     for other in 1..ports + 1 {
@@ -154,6 +154,13 @@ impl Switch {
             bridge: Bridge::new(alloc, &plan, 1)?,
             is_ready: true,
         })
+    }
+
+    /// The number of ports.
+    pub fn ports(&self) -> u8
+        ensures { result ≡ self.now.ports }
+    {
+        self.ports
     }
 
     /// Takes a frame at a port, and prints what becomes of it.

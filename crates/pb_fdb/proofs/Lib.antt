@@ -1,6 +1,6 @@
 pub mod EntryLemmas
 pub mod LawLemmas
-pub mod JournalLemmas
 pub mod StationLemmas
+pub mod LogLemmas
 pub mod OrderLemmas
 pub mod LearnLemmas

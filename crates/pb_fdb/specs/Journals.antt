@@ -1,37 +1,69 @@
--- Entries as a cache keeps them, by their stations.
-use Rattle.std.specs.Prelude.{◌≡◌, ℕ, ◌-◌, ◌^◌, ◌==◌, not, List, [], ◌∷◌, ◌++◌, Some, None}
+-- Entries as a log of stations tells them, with an index of where each was seen last.
+use Rattle.std.specs.Prelude.{◌≡◌, ℕ, ◌+◌, ◌-◌, ◌^◌, ◌≤◌, ◌%◌, ◌==◌, ◌&&◌, Bool, true, cond, not, List, [], ◌∷◌, ◌++◌, Some, None, length}
 use Rattle.std.specs.declared.option.Option.{Option}
 use Rattle.std.specs.List.{filter}
-use Rattle.lru.specs.LruCache.{LruCache}
+use Rattle.pb_frame.specs.Admission.{same}
 use Rattle.pb_fdb.specs.declared.entry.Entry.{Entry}
 use Rattle.pb_fdb.specs.declared.station.LastSeen.{LastSeen}
 use Rattle.pb_fdb.specs.declared.station.Station.{Station}
 
+-- the station in the service
+abbrev pub is_station : ℕ → List ℕ → Station → Bool
+is_station vid mac s = (vid == s.vid) && same mac s.mac.0
+
+abbrev pub is_same : Station → Station → Bool
+is_same a b = is_station a.vid a.mac.0 b
+
 -- the entry of a station that was seen last so
-abbrev pub entry_of : Station × LastSeen → Entry
-entry_of p = record { vid = p.0.vid; mac = p.0.mac; port = p.1.port; learnt = p.1.learnt }
+abbrev pub entry_of : Station → LastSeen → Entry
+entry_of s seen = record { vid = s.vid; mac = s.mac; port = seen.port; learnt = seen.learnt }
 
--- the entries, the oldest learning first: a cache has the latest first
-abbrev pub oldest_first : List (Station × LastSeen) → List Entry
-oldest_first [] = []
-oldest_first (p ∷ ps) = oldest_first ps ++ entry_of p ∷ []
+-- the entry is the station's
+abbrev pub is_of : Station → Entry → Bool
+is_of s e = (s.vid == e.vid) && same s.mac.0 e.mac.0
 
--- the entries of a cache, if there is one
-abbrev pub entries_in : Option (LruCache Station LastSeen) → List Entry
-entries_in None = []
-entries_in (Some cache) = oldest_first cache.entries
+-- where stations were seen last
+abbrev pub Index : Type 0
+Index = Station → Option LastSeen
 
--- the entries of the pairs that an iterator has left, if there is one
-abbrev pub left_in : Option (List (Station × LastSeen)) → List Entry
-left_in None = []
-left_in (Some ps) = oldest_first ps
+-- the index once a station was seen last so
+abbrev pub IsIndexWith : Station → Option LastSeen → Index → Index → Type 0
+IsIndexWith s seen old new = (q : Station) → new q ≡ cond (is_same s q) seen (old q)
 
--- the cache drops none of itself
-abbrev pub IsUnbounded : Option (LruCache Station LastSeen) → Type 0
-IsUnbounded None = Unit {0}
-IsUnbounded (Some cache) = cache.cap ≡ 2 ^ 64 - 1
+-- the place that comes so many behind this one in a log
+abbrev pub place_after : ℕ → ℕ → ℕ
+place_after at count = (at + count) % 2 ^ 64
 
--- the entries once the first is gone if it is at the port, and else goes last
-abbrev pub turned : ℕ → List Entry → List Entry
-turned port [] = []
-turned port (e ∷ es) = es ++ filter (λ e. not (port == e.port)) (e ∷ [])
+-- the entry that stands at a place of the log: it counts where the index has its station at that place
+abbrev pub entry_at : ℕ → Station → Option LastSeen → List Entry
+entry_at at s None = []
+entry_at at s (Some seen) = cond (at == seen.at) (entry_of s seen ∷ []) []
+
+-- the entries of a log that begins at this place
+abbrev pub entries_from : Index → ℕ → List Station → List Entry
+entries_from index at [] = []
+entries_from index at (s ∷ ss) = entry_at at s (index s) ++ entries_from index (place_after at 1) ss
+
+-- each station of the index has its one entry
+abbrev pub HasEach : Index → List Entry → Type 0
+HasEach index es = (s : Station) (seen : LastSeen) → index s ≡ Some seen → filter (is_of s) es ≡ entry_of s seen ∷ []
+
+-- the index has as many stations as there are entries, and the log room for one more than these
+pub record IsJournal (index : Index) (count room : ℕ) (es : List Entry) : Type 0 where
+  pub each : HasEach index es
+  pub counted : length es ≡ count
+  pub roomy : count ≤ room - 1
+
+-- the entry stays where those at this port go, if one is named
+abbrev pub stays : Option ℕ → Entry → Bool
+stays None e = true
+stays (Some port) e = not (port == e.port)
+
+-- the first place of a log had its turn: what stood there goes last if it stays, all others are as before,
+-- and so is every beginning of the rest
+pub record HasTurned (keep : Entry → Bool) (old new : Index) (at : ℕ) (s : Station) (rest log : List Station) : Type 0 where
+  pub kept : List Station
+  pub log_is : log ≡ rest ++ kept
+  pub kept_count : length kept ≡ length (filter keep (entry_at at s (old s)))
+  pub entries : entries_from new (place_after at 1) log ≡ entries_from old (place_after at 1) rest ++ filter keep (entry_at at s (old s))
+  pub fronts : (front back : List Station) → rest ≡ front ++ back → entries_from new (place_after at 1) front ≡ entries_from old (place_after at 1) front

@@ -1,40 +1,46 @@
 //! The table's entries, one by one.
 
+ghost use Rattle.std.specs.HashMap.{get};
 ghost use Rattle.std.specs.Iterator.{YieldsFirstBy, item_count};
 ghost use Rattle.std.specs.Prelude.{◌≡◌};
+ghost use Rattle.std.specs.VecDeque.Iter.{deque_iter_rest};
 ghost use Rattle.pb_fdb.specs.Entries.{sighting_of, sightings};
-ghost use Rattle.pb_fdb.specs.Journals.{left_in};
+ghost use Rattle.pb_fdb.specs.Journals.{entries_from, is_same};
 
 use crate::entry::Entry;
-use crate::station::{LastSeen, Station};
-use lru::Iter;
+use crate::journal::{Index, entry_there};
+use crate::station::Station;
+use std::collections::vec_deque::Iter;
 use std::marker::Model;
 
 /// The entries of a table that are left to come, the oldest learning first. Contracts see the
 /// sightings that they tell.
 #[derive(Drop)]
 pub struct Entries<'a> {
-    rest: Option<Iter<'a, Station, LastSeen>>,
+    index: &'a Index,
+    log: Iter<'a, Station>,
+    at: u64,
 }
 
 impl<'a> Model for Entries<'a> {
+    ghost use Rattle.std.specs.HashMap.{get};
     ghost use Rattle.std.specs.Prelude.{List};
+    ghost use Rattle.std.specs.VecDeque.Iter.{deque_iter_rest};
     ghost use Rattle.pb_frame.specs.Stations.{Sighting};
+    ghost use Rattle.pb_fdb.specs.Entries.{sightings};
+    ghost use Rattle.pb_fdb.specs.Journals.{entries_from, is_same};
 
     ghost Value = { List Sighting };
 
-    ghost use Rattle.pb_fdb.specs.Entries.{sightings};
-    ghost use Rattle.pb_fdb.specs.Journals.{left_in};
-
-    ghost view = { λ e. sightings (left_in e.rest) };
+    ghost view = { λ e. sightings (entries_from (get is_same e.index.now) e.at (deque_iter_rest e.log)) };
 }
 
 impl<'a> Entries<'a> {
-    /// All entries of a cache's pairs, which have the latest learning first.
-    pub(crate) fn of(rest: Option<Iter<'a, Station, LastSeen>>) -> Entries<'a>
-        ensures { result ≡ sightings (left_in rest.entry) }
+    /// The entries of a log that begins at this place.
+    pub(crate) fn of(index: &'a Index, log: Iter<'a, Station>, at: u64) -> Entries<'a>
+        ensures { result ≡ sightings (entries_from (get is_same index.now) at (deque_iter_rest log.entry)) }
     {
-        Entries { rest }
+        Entries { index, log, at }
     }
 }
 
@@ -46,15 +52,13 @@ impl<'a> Iterator for Entries<'a> {
     ghost remaining = { item_count (λ rest. rest) };
 
     fn next(&mut self) -> Option<Entry> {
-        let Some(rest) = &mut self.rest else {
-            return None;
-        };
-        let (station, seen) = rest.next_back()?;
-        Some(Entry {
-            vid: station.vid,
-            mac: station.mac,
-            port: seen.port,
-            learnt: seen.learnt,
-        })
+        while let Some(station) = self.log.next() {
+            let entry = entry_there(self.index, self.at, *station);
+            self.at = self.at.wrapping_add(1);
+            if entry.is_some() {
+                return entry;
+            }
+        }
+        None
     }
 }

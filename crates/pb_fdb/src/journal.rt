@@ -1,110 +1,177 @@
 //! Entries in the order of last learning, found by their stations.
 
+ghost use Rattle.std.specs.HashMap.{get, hash_map_len};
 ghost use Rattle.std.specs.List.{filter};
 ghost use Rattle.std.specs.Option.{option_to_list};
-ghost use Rattle.std.specs.Prelude.{◌≡◌, ◌-◌, ◌^◌, ◌==◌, ◌++◌, ◌∷◌, [], not, length, drop, slice_get, OnOk, OnErr, OnSome, IfNone};
+ghost use Rattle.std.specs.Prelude.{◌≡◌, ◌==◌, ◌<◌, ◌≤◌, ◌+◌, ◌^◌, ◌++◌, ◌∷◌, [], List, Some, not, length, drop, slice_get, OnOk, OnErr, OnSome, IfNone};
+ghost use Rattle.std.specs.VecDeque.{deque_len, deque_capacity};
 ghost use Rattle.pb_frame.specs.Stations.{is_sighted};
 ghost use Rattle.pb_fdb.specs.Entries.{sighting_of, sightings, without_station};
-ghost use Rattle.pb_fdb.specs.Journals.{oldest_first, turned};
+ghost use Rattle.pb_fdb.specs.Journals.{is_same, entry_at, entries_from, place_after, stays, HasEach, HasTurned, IsIndexWith};
+ghost use Rattle.pb_fdb.specs.declared.station.Station.{Station};
 
 use crate::entries::Entries;
 use crate::entry::Entry;
 use crate::station::{LastSeen, Station};
-use lru::LruCache;
 use pb_frame::Mac;
 use std::alloc::{AllocError, Global};
+use std::collections::{HashMap, VecDeque};
 use std::marker::Model;
 
-/// A cache of stations. The contract of its `len` says that they are distinct: each function that rests
-/// on this names `len` in a `prove!`, which is proved and costs nothing.
-///
-/// The hasher's seed is fixed: whoever picks the addresses can make look-ups as slow as a search among
-/// all entries, and no slower.
-type Cache = LruCache<Station, LastSeen>;
+/// Where each station was seen last. A look-up takes constant time. Its hashes are without secret: whoever
+/// picks the addresses can make look-ups as slow as a search among all stations, and no slower.
+pub(crate) type Index = HashMap<Station, LastSeen>;
 
 /// Entries in the order of last learning, the oldest first, each found by its station in constant time.
-/// Contracts see the entries. There is no cache before there was an entry to keep, so that an empty
-/// journal takes no memory.
-#[derive(Debug, Drop)]
+/// Contracts see the entries. An empty journal takes no memory.
+///
+/// The log has each station at every place where it was learnt, and the index the last of these places, at
+/// which alone it counts. So a station that is learnt again is put last without a search for where it stood.
+/// Once the log is full it is gone through, and the places that count no more are dropped.
+#[derive(Drop)]
 pub struct Journal {
-    cache: Option<Cache>,
-    alloc: Global,
+    index: Index,
+    log: VecDeque<Station>,
+    first: u64,
 }
 
 impl Model for Journal {
+    ghost use Rattle.std.specs.HashMap.{get, hash_map_len};
     ghost use Rattle.std.specs.Prelude.{List};
+    ghost use Rattle.std.specs.VecDeque.{deque_capacity};
     ghost use Rattle.pb_fdb.specs.declared.entry.Entry.{Entry};
+    ghost use Rattle.pb_fdb.specs.Journals.{entries_from, is_same, IsJournal};
 
     ghost Value = { List Entry };
 
-    ghost use Rattle.pb_fdb.specs.Journals.{entries_in, IsUnbounded};
+    ghost view = { λ j. entries_from (get is_same j.index) j.first j.log.items };
 
-    ghost view = { λ j. entries_in j.cache };
-
-    ghost invariant = { λ j. IsUnbounded j.cache };
+    ghost invariant = { λ j. IsJournal (get is_same j.index) (hash_map_len j.index) (deque_capacity j.log) (entries_from (get is_same j.index) j.first j.log.items) };
 }
 
-/// Puts an entry last, in place of those of its station.
-fn note(cache: &mut Cache, entry: Entry) -> Result<(), AllocError>
-    requires { cache.old.cap ≡ 2 ^ 64 - 1 }
-    ensures cap { cache.new.cap ≡ 2 ^ 64 - 1 }
-    ensures ok { OnOk result (oldest_first cache.new.entries ≡ without_station entry (oldest_first cache.old.entries) ++ entry ∷ []) }
-    ensures err { OnErr result (cache.new ≡ cache.old) }
+/// The entry that stands at a place of the log, if the station's last place is this one.
+pub(crate) fn entry_there(index: &Index, at: u64, station: Station) -> Option<Entry>
+    ensures { entry_at at station (get is_same index.now station) ≡ option_to_list result }
 {
-    prove!(cache.len() < usize::MAX);
-    let station = Station {
-        vid: entry.vid,
-        mac: entry.mac,
-    };
-    let seen = LastSeen {
-        port: entry.port,
-        learnt: entry.learnt,
-    };
-    cache.put(station, seen)?;
-    Ok(())
-}
-
-/// Puts an entry last in place of its station's, which is answered, and else leaves all as it was.
-fn renew(cache: &mut Cache, new: Entry) -> Option<Entry>
-    ensures cap { cache.new.cap ≡ cache.old.cap }
-    ensures old { filter (λ e. is_sighted new.vid new.mac.0 (sighting_of e)) (oldest_first cache.old.entries) ≡ option_to_list result }
-    ensures renewed { OnSome result (oldest_first cache.new.entries ≡ without_station new (oldest_first cache.old.entries) ++ new ∷ []) }
-    ensures absent { IfNone result (cache.new.entries ≡ cache.old.entries) }
-{
-    prove!(cache.len() < usize::MAX);
-    let station = Station {
-        vid: new.vid,
-        mac: new.mac,
-    };
-    let seen = cache.get_mut(&station)?;
-    let old = Entry {
-        vid: new.vid,
-        mac: new.mac,
+    let seen = index.get(&station)?;
+    if seen.at != at {
+        return None;
+    }
+    Some(Entry {
+        vid: station.vid,
+        mac: station.mac,
         port: seen.port,
         learnt: seen.learnt,
-    };
-    *seen = LastSeen {
-        port: new.port,
-        learnt: new.learnt,
-    };
+    })
+}
+
+/// Notes where a station that the index has was seen last, and answers where that was before. Takes no memory.
+fn note(index: &mut Index, station: Station, seen: LastSeen) -> Option<LastSeen>
+    ensures old { result ≡ get is_same index.old station }
+    ensures noted { OnSome result (IsIndexWith station (Some seen) (get is_same index.old) (get is_same index.new)) }
+    ensures len { hash_map_len index.new ≡ hash_map_len index.old }
+    ensures absent { IfNone result (index.new ≡ index.old) }
+{
+    let last = index.get_mut(&station)?;
+    let old = *last;
+    *last = seen;
     Some(old)
 }
 
-/// Takes the oldest entry away if it is at the port, and else puts it last.
-fn turn(cache: &mut Cache, port: u8)
-    ensures cap { cache.new.cap ≡ cache.old.cap }
-    ensures entries { oldest_first cache.new.entries ≡ turned port (oldest_first cache.old.entries) }
+/// Drops the places at the front of a log that count no more, and answers the entry at the first that does.
+fn front(index: &Index, log: &mut VecDeque<Station>, first: &mut u64) -> Option<Entry>
+    ensures entries { entries_from (get is_same index.now) first.new log.new.items ≡ entries_from (get is_same index.now) first.old log.old.items }
+    ensures oldest { result ≡ slice_get (entries_from (get is_same index.now) first.old log.old.items) 0 }
+    ensures capacity { deque_capacity log.new ≡ deque_capacity log.old }
 {
-    prove!(cache.len() < usize::MAX);
-    let Some((station, seen)) = cache.peek_lru() else {
+    while let Some(station) = log.front() {
+        let entry = entry_there(index, *first, *station);
+        if entry.is_some() {
+            return entry;
+        }
+        let _ = log.pop_front();
+        *first = first.wrapping_add(1);
+    }
+    None
+}
+
+/// Drops the first place of a log, and where it counts and is at another port, has its entry stand last.
+fn turn(index: &mut Index, log: &mut VecDeque<Station>, first: &mut u64, port: Option<u8>)
+    requires some { 0 < deque_len log.old }
+    requires each { HasEach (get is_same index.old) (entries_from (get is_same index.old) first.old log.old.items) }
+    ensures first { first.new ≡ place_after first.old 1 }
+    ensures turned { (s : Station) (rest : List Station) → log.old.items ≡ s ∷ rest
+        → HasTurned (stays port) (get is_same index.old) (get is_same index.new) first.old s rest log.new.items }
+    ensures each { HasEach (get is_same index.new) (entries_from (get is_same index.new) first.new log.new.items) }
+    ensures count { length (entries_from (get is_same index.old) first.old log.old.items) ≡ hash_map_len index.old
+        → length (entries_from (get is_same index.new) first.new log.new.items) ≡ hash_map_len index.new }
+    ensures capacity { deque_capacity log.new ≡ deque_capacity log.old }
+{
+    let Some(station) = log.pop_front() else {
+        unreachable!();
+    };
+    let at = *first;
+    *first = at.wrapping_add(1);
+    let Some(entry) = entry_there(index, at, station) else {
         return;
     };
-    let (station, at) = (*station, seen.port);
-    if port == at {
-        let _ = cache.pop_lru();
-    } else {
-        let _ = cache.promote(&station);
+    if port == Some(entry.port) {
+        let _ = index.remove(&station);
+        return;
     }
+    let seen = LastSeen {
+        at: first.wrapping_add(log.len() as u64),
+        learnt: entry.learnt,
+        port: entry.port,
+    };
+    let _ = note(index, station, seen);
+    log.push_back_reserved(station);
+}
+
+/// Drops the places of a log that count no more, and the entries at a port: each in turn goes, or goes last.
+fn rotate(index: &mut Index, log: &mut VecDeque<Station>, first: &mut u64, port: Option<u8>)
+    requires each { HasEach (get is_same index.old) (entries_from (get is_same index.old) first.old log.old.items) }
+    requires count { length (entries_from (get is_same index.old) first.old log.old.items) ≡ hash_map_len index.old }
+    ensures entries { entries_from (get is_same index.new) first.new log.new.items ≡ filter (stays port) (entries_from (get is_same index.old) first.old log.old.items) }
+    ensures each { HasEach (get is_same index.new) (entries_from (get is_same index.new) first.new log.new.items) }
+    ensures count { length (entries_from (get is_same index.new) first.new log.new.items) ≡ hash_map_len index.new }
+    ensures len { deque_len log.new ≡ hash_map_len index.new }
+    ensures capacity { deque_capacity log.new ≡ deque_capacity log.old }
+{
+    for _turn in 0..log.len() {
+        turn(index, log, first, port);
+    }
+}
+
+/// Has a log that is full take one more place, by dropping those that count no more, where any do.
+#[tactic(auto, using(crate::proofs::LogLemmas::all_stay))]
+fn free_place(index: &mut Index, log: &mut VecDeque<Station>, first: &mut u64)
+    requires each { HasEach (get is_same index.old) (entries_from (get is_same index.old) first.old log.old.items) }
+    requires count { length (entries_from (get is_same index.old) first.old log.old.items) ≡ hash_map_len index.old }
+    ensures entries { entries_from (get is_same index.new) first.new log.new.items ≡ entries_from (get is_same index.old) first.old log.old.items }
+    ensures each { HasEach (get is_same index.new) (entries_from (get is_same index.new) first.new log.new.items) }
+    ensures len { hash_map_len index.new ≡ hash_map_len index.old }
+    ensures place { hash_map_len index.old < deque_capacity log.old → deque_len log.new < deque_capacity log.new }
+    ensures capacity { deque_capacity log.new ≡ deque_capacity log.old }
+{
+    if log.len() == log.capacity() {
+        rotate(index, log, first, None);
+    }
+}
+
+/// Has a log take one more place, and twice as many as a station more than these.
+fn make_room(log: &mut VecDeque<Station>, count: usize) -> Result<(), AllocError>
+    requires { count < 2 ^ 63 }
+    ensures items { log.new.items ≡ log.old.items }
+    ensures place { OnOk result (deque_len log.new < deque_capacity log.new) }
+    ensures room { OnOk result (count + 2 ≤ deque_capacity log.new) }
+    ensures capacity { deque_capacity log.old ≤ deque_capacity log.new }
+{
+    let room = count.saturating_add(1).saturating_mul(2);
+    if log.capacity() < room || log.len() == log.capacity() {
+        log.reserve(room.saturating_mul(2))?;
+    }
+    Ok(())
 }
 
 impl Journal {
@@ -112,26 +179,25 @@ impl Journal {
     pub fn new(alloc: Global) -> Journal
         ensures { result ≡ [] }
     {
-        Journal { cache: None, alloc }
+        Journal {
+            index: HashMap::new(alloc),
+            log: VecDeque::new(alloc),
+            first: 0,
+        }
     }
 
     /// How many entries there are.
     pub fn len(&self) -> usize
         ensures { result ≡ length self.now }
     {
-        match &self.cache {
-            Some(cache) => cache.len(),
-            None => 0,
-        }
+        self.index.len()
     }
 
     /// The station's entry: it has one at most. One look-up.
     pub fn find(&self, vid: u16, mac: Mac) -> Option<Entry>
         ensures { filter (λ e. is_sighted vid mac.0 (sighting_of e)) self.now ≡ option_to_list result }
     {
-        let cache = self.cache.as_ref()?;
-        prove!(cache.len() < usize::MAX);
-        let seen = cache.peek(&Station { vid, mac })?;
+        let seen = self.index.get(&Station { vid, mac })?;
         Some(Entry {
             vid,
             mac,
@@ -141,26 +207,24 @@ impl Journal {
     }
 
     /// The entry whose learning is oldest.
-    pub fn oldest(&self) -> Option<Entry>
-        ensures { result ≡ slice_get self.now 0 }
+    pub fn oldest(&mut self) -> Option<Entry>
+        ensures entries { self.new ≡ self.old }
+        ensures oldest { result ≡ slice_get self.old 0 }
     {
-        let (station, seen) = self.cache.as_ref()?.peek_lru()?;
-        Some(Entry {
-            vid: station.vid,
-            mac: station.mac,
-            port: seen.port,
-            learnt: seen.learnt,
-        })
+        front(&self.index, &mut self.log, &mut self.first)
     }
 
     /// Forgets the entry whose learning is oldest.
     pub fn forget_oldest(&mut self)
         ensures { self.new ≡ drop 1 self.old }
     {
-        let Some(cache) = &mut self.cache else {
+        let Some(entry) = front(&self.index, &mut self.log, &mut self.first) else {
             return;
         };
-        let _ = cache.pop_lru();
+        let _ = self.index.remove(&Station {
+            vid: entry.vid,
+            mac: entry.mac,
+        });
     }
 
     /// Puts an entry last in place of its station's, which is answered, and else leaves all as it was.
@@ -170,10 +234,24 @@ impl Journal {
         ensures renewed { OnSome result (self.new ≡ without_station new self.old ++ new ∷ []) }
         ensures absent { IfNone result (self.new ≡ self.old) }
     {
-        match &mut self.cache {
-            Some(cache) => renew(cache, new),
-            None => None,
-        }
+        free_place(&mut self.index, &mut self.log, &mut self.first);
+        let station = Station {
+            vid: new.vid,
+            mac: new.mac,
+        };
+        let seen = LastSeen {
+            at: self.first.wrapping_add(self.log.len() as u64),
+            learnt: new.learnt,
+            port: new.port,
+        };
+        let old = note(&mut self.index, station, seen)?;
+        self.log.push_back_reserved(station);
+        Some(Entry {
+            vid: new.vid,
+            mac: new.mac,
+            port: old.port,
+            learnt: old.learnt,
+        })
     }
 
     /// Puts an entry last, in place of those of its station. Where memory is short, nothing changes.
@@ -181,36 +259,32 @@ impl Journal {
         ensures ok { OnOk result (self.new ≡ without_station entry self.old ++ entry ∷ []) }
         ensures err { OnErr result (self.new ≡ self.old) }
     {
-        match &mut self.cache {
-            Some(cache) => note(cache, entry),
-            None => {
-                let mut cache = LruCache::unbounded(self.alloc)?;
-                note(&mut cache, entry)?;
-                self.cache = Some(cache);
-                Ok(())
-            }
-        }
+        make_room(&mut self.log, self.index.len())?;
+        let station = Station {
+            vid: entry.vid,
+            mac: entry.mac,
+        };
+        let seen = LastSeen {
+            at: self.first.wrapping_add(self.log.len() as u64),
+            learnt: entry.learnt,
+            port: entry.port,
+        };
+        self.index.insert(station, seen)?;
+        self.log.push_back_reserved(station);
+        Ok(())
     }
 
-    /// Forgets the entries at a port: each entry in turn goes, or goes last, until all had their turn.
+    /// Forgets the entries at a port.
     pub fn flush(&mut self, port: u8)
         ensures { self.new ≡ filter (λ e. not (port == e.port)) self.old }
     {
-        let Some(cache) = &mut self.cache else {
-            return;
-        };
-        for _turn in 0..cache.len() {
-            turn(cache, port);
-        }
+        rotate(&mut self.index, &mut self.log, &mut self.first, Some(port));
     }
 
     /// The entries, the oldest learning first.
     pub fn entries(&self) -> Entries<'_>
         ensures { result ≡ sightings self.now }
     {
-        match &self.cache {
-            Some(cache) => Entries::of(Some(cache.iter())),
-            None => Entries::of(None),
-        }
+        Entries::of(&self.index, self.log.iter(), self.first)
     }
 }

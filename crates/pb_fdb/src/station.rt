@@ -29,11 +29,13 @@ impl Hash for Station {
     }
 }
 
-/// Where and when a station was seen last.
+/// Where and when a station was seen last, and the place of that in a log.
 #[derive(Clone, Copy, Debug, PartialEq, Eq)]
 pub struct LastSeen {
-    /// The port.
-    pub port: u8,
+    /// The place in the log.
+    pub at: u64,
     /// The moment, in ticks.
     pub learnt: u32,
+    /// The port.
+    pub port: u8,
 }

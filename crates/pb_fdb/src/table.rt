@@ -16,7 +16,7 @@ use std::marker::Model;
 
 /// The filtering database: where stations were seen last, by service and address, the oldest learning
 /// first (IEEE 802.1Q clause 8). Moments are ticks.
-#[derive(Debug, Drop)]
+#[derive(Drop)]
 pub struct Fdb {
     limit: usize,
     ageing: u32,
@@ -67,10 +67,11 @@ fn sweep(journal: &mut Journal, full: bool, ageing: u32, now: u32)
 }
 
 /// As many stations are live as may be kept. They all are where the oldest is.
-fn is_full(journal: &Journal, limit: usize, ageing: u32, now: u32) -> bool
-    requires order { InOrder journal.now }
-    requires fits { length journal.now ≤ limit }
-    ensures { result ≡ nat_le limit (length (fresh_entries ageing now journal.now)) }
+fn is_full(journal: &mut Journal, limit: usize, ageing: u32, now: u32) -> bool
+    requires order { InOrder journal.old }
+    requires fits { length journal.old ≤ limit }
+    ensures entries { journal.new ≡ journal.old }
+    ensures full { result ≡ nat_le limit (length (fresh_entries ageing now journal.old)) }
 {
     if journal.len() < limit {
         return false;
@@ -146,7 +147,7 @@ impl Fdb {
         };
         let full = self.journal.len() >= self.limit;
         let Some(old) = self.journal.renew(entry) else {
-            if is_full(&self.journal, self.limit, self.ageing, now) {
+            if is_full(&mut self.journal, self.limit, self.ageing, now) {
                 return Learnt::Full;
             }
             let Ok(()) = add(&mut self.journal, entry, self.limit, self.ageing) else {

@@ -15,6 +15,3 @@ pub use drained::is_drained;
 pub use pb_frame::Memory;
 pub use search::forest;
 pub use ways::path;
-
-#[cfg(test)]
-mod tests;

@@ -1,6 +1,6 @@
 //! Octets as hexadecimal texts.
 
-ghost use Rattle.std.specs.Prelude.{◌≡◌, ◌%◌, ◌<◌, ◌↔◌, true, false, length, string_bytes, IfOk, IfSome, IfNone, IsSome, IsErrOf, if◌then◌else◌, ℕ};
+ghost use Rattle.std.specs.Prelude.{◌≡◌, ◌%◌, ◌*◌, ◌<◌, ◌≤◌, ◌↔◌, true, false, length, string_bytes, IfOk, IfSome, IfNone, Some, None, IsSome, IsErrOf, if◌then◌else◌, ℕ};
 ghost use Rattle.std.specs.List.{list_all};
 ghost use Rattle.pb_frame.specs.Hex.{digit_value, is_digit, IsPair, IsHex, hex_text as text_of, lower_digit, upper_digit};
 ghost use Rattle.pb_frame.specs.declared.hex.HexFault.{HexFault};
@@ -56,12 +56,12 @@ static VALUES: [u8; 256] = [
     255, 255, 255,
 ];
 
-/// What a digit stands for.
-fn digit(c: u8) -> Option<u8>
-    ensures { result ≡ digit_value c }
+/// What a digit stands for, and 255 for what is none.
+fn value(c: u8) -> u8
+    ensures digit { result < 16 → digit_value c ≡ Some result }
+    ensures none { 16 ≤ result → digit_value c ≡ None }
 {
-    let value = VALUES[usize::from(c)];
-    if value < 16 { Some(value) } else { None }
+    VALUES[usize::from(c)]
 }
 
 /// The octet of two digits.
@@ -70,13 +70,19 @@ pub(crate) fn octet(high: u8, low: u8) -> Option<u8>
     ensures none { IfNone result ((b : ℕ) → IsPair high low b → ⊥) }
     ensures some { is_digit high ≡ true → is_digit low ≡ true → IsSome result }
 {
-    Some(digit(high)? * 16 + digit(low)?)
+    let high = value(high);
+    let low = value(low);
+    if high < 16 && low < 16 {
+        Some(high * 16 + low)
+    } else {
+        None
+    }
 }
 
 fn all_digits(text: &[u8]) -> bool
     ensures { result ≡ list_all is_digit text.now }
 {
-    text.iter().all(|c| digit(*c).is_some())
+    text.iter().all(|c| value(*c) < 16)
 }
 
 /// Reads pairs of hexadecimal digits, in either case.
@@ -126,14 +132,26 @@ fn pairs_of(alloc: Global, digits: &[u8]) -> Result<Option<Vec<u8>>, AllocError>
     ensures all { IfOk result (λ o. IfSome o (λ v. list_all is_digit digits.now ≡ true)) }
     ensures none { IfOk result (λ o. IfNone o (list_all is_digit digits.now ≡ false)) }
 {
-    let mut octets = Vec::with_capacity(alloc, digits.len() / 2)?;
-    for i in 0..digits.len() / 2 {
-        let Some(octet) = octet(digits[2 * i], digits[2 * i + 1]) else {
-            return Ok(None);
-        };
-        octets.push(octet)?;
+    let mut octets = vec![in alloc; 0u8; digits.len() / 2]?;
+    if !read_pairs(digits, octets.as_mut_slice()) {
+        return Ok(None);
     }
     Ok(Some(octets))
+}
+
+/// Puts the octets of the digits in place, if all are digits.
+fn read_pairs(digits: &[u8], octets: &mut [u8]) -> bool
+    requires { length digits.now ≡ 2 * length octets.old }
+    ensures octets { result ≡ true → IsHex digits.now octets.new }
+    ensures none { result ≡ false → list_all is_digit digits.now ≡ false }
+{
+    for i in 0..octets.len() {
+        let Some(octet) = octet(digits[2 * i], digits[2 * i + 1]) else {
+            return false;
+        };
+        octets[i] = octet;
+    }
+    true
 }
 
 /// The lower case digit of a number below 16.

@@ -5,6 +5,7 @@
 #![tactic(auto)]
 
 mod frame;
+mod held;
 mod hex;
 mod layout;
 mod learnt;
@@ -16,6 +17,7 @@ mod tci;
 mod text;
 
 pub use frame::{FrameFault, view};
+pub use held::Held;
 pub use hex::{HexFault, hex_octets, hex_read, hex_text};
 pub use layout::View;
 pub use learnt::Learnt;

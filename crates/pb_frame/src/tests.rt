@@ -1,7 +1,7 @@
 //! Values from outside: worked examples of the standards' layouts, and texts.
 
 use crate::{
-    FrameFault, HexFault, Mac, Seq, TagFault, Tci, Text, has_priority_tag, has_service_type,
+    FrameFault, Held, HexFault, Mac, Seq, TagFault, Tci, Text, has_priority_tag, has_service_type,
     hex_octets, hex_read, hex_text, look_c, pop_priority, pop_s, priority_of, push_s, vid_of, view,
     without_tag,
 };
@@ -185,5 +185,18 @@ fn lists_and_texts_are_given_back(rt: HostRuntime) -> Result<(), Fail> {
     assert!(rt; text == text.clone()?);
     assert_eq!(rt; text.as_str(), "red");
     assert_eq!(rt; text.into_string().as_str(), "red");
+    Ok(())
+}
+
+#[test]
+fn held_values_are_what_was_given(rt: HostRuntime) -> Result<(), Fail> {
+    let alloc = rt.alloc();
+    let mut held = Held::new(alloc, 7u32)?;
+    assert_eq!(rt; *held.get(), 7);
+    assert!(rt; held == held.clone()?);
+    assert!(rt; held != Held::new(alloc, 8)?);
+    held.set(8);
+    assert!(rt; held == Held::new(alloc, 8)?);
+    assert_eq!(rt; held.into_inner(), 8);
     Ok(())
 }

@@ -57,9 +57,8 @@ fn moved_by(step: &Step) -> Option<&Moved>
         Step::Receive {
             moved: Some(moved),
             ..
-        }
-        | Step::Tick { moved, .. }
-        | Step::Admin { moved, .. } => Some(moved),
+        } => Some(moved.get()),
+        Step::Tick { moved, .. } | Step::Admin { moved, .. } => Some(moved),
         _ => None,
     }
 }

@@ -1,7 +1,8 @@
 -- What a lane keeps of its steps.
-use Rattle.std.specs.Prelude.{◌≡◌, ℕ, Bool, false, List, [], ◌∷◌, ◌++◌, Some, None, length, slice_get, ◌==◌}
+use Rattle.std.specs.Prelude.{◌≡◌, ℕ, Bool, true, false, Result, Ok, Err, List, [], ◌∷◌, ◌++◌, Some, None, length, slice_get, ◌==◌}
 use Rattle.std.specs.List.{list_any}
 use Rattle.std.specs.declared.option.Option.{Option}
+use Rattle.pb_frame.specs.declared.memory.Memory.{Memory}
 use Rattle.pb_lan.specs.Events.{is_all_fetched}
 use Rattle.pb_lan.specs.LaneLists.{taken, carried, put, IsLawfulLane}
 use Rattle.pb_lan.specs.declared.step.Item.{Item}
@@ -35,6 +36,22 @@ in_hand steps = slice_get (carried steps) (length (put steps))
 -- the item is the one in hand, and was put
 abbrev pub HasPut : LaneView → Item → LaneView → Type 0
 HasPut old item new = (in_hand old.steps ≡ Some item) × (new ≡ with_step old (Put item))
+
+-- the lane took the item that was the next to be received; or an item is in hand, or none is known to
+-- stand on the ring; or memory ran out
+abbrev pub HasTaken : Result Bool Memory → LaneView → List Item → List Item → LaneView → List Item → Type 0
+HasTaken (Ok true) old received known new received' =
+    (item : Item) × (is_hand_empty old.steps ≡ true) × (received' ≡ received ++ item ∷ []) × (new ≡ with_step old (taking old item))
+HasTaken (Ok false) old received known new received' =
+    (is_hand_empty old.steps ≡ true → known ≡ []) × (received' ≡ received) × (new ≡ old)
+HasTaken (Err e) old received known new received' = (is_hand_empty old.steps ≡ true) × (received' ≡ received) × (new ≡ old)
+
+-- the lane put the item in hand onto a ring; or none is in hand, or no place is known to be free on the
+-- ring; or memory ran out
+abbrev pub HasSent : Result Bool Memory → LaneView → List Item → ℕ → LaneView → List Item → Type 0
+HasSent (Ok true) old sent free new sent' = (item : Item) × HasPut old item new × (sent' ≡ sent ++ item ∷ [])
+HasSent (Ok false) old sent free new sent' = (is_hand_empty old.steps ≡ false → free ≡ 0) × (sent' ≡ sent) × (new ≡ old)
+HasSent (Err e) old sent free new sent' = (is_hand_empty old.steps ≡ false) × (sent' ≡ sent) × (new ≡ old)
 
 -- the hand holds the item of this step, or none
 abbrev pub IsHand : List Step → Option ℕ → Type 0

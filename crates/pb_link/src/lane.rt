@@ -4,12 +4,14 @@ ghost use Rattle.std.specs.Option.{option_copied};
 ghost use Rattle.std.specs.Prelude.{◌≡◌, ◌++◌, ◌∷◌, [], true, false, Some, None, IfOk, IsOk, OnOk, OnErr, if◌then◌else◌};
 ghost use Rattle.pb_lan.specs.LaneLists.{IsLawfulLane};
 ghost use Rattle.pb_lan.specs.Plans.{Rises};
-ghost use Rattle.pb_link.specs.Lanes.{with_step, taking, is_hand_empty, in_hand, HasPut};
+ghost use Rattle.pb_link.specs.Lanes.{with_step, taking, is_hand_empty, in_hand, HasPut, HasTaken, HasSent};
+ghost use Rattle.rtrb.specs.Ring.{sent, received, known_free, known_items, SameProducer, SameConsumer};
 
 use crate::losses::Losses;
 use crate::steps::append;
 use pb_frame::{Memory, Seq};
 use pb_lan::{Item, Step};
+use rtrb::{Consumer, Producer};
 use std::alloc::Global;
 use std::marker::Model;
 
@@ -149,8 +151,44 @@ impl Lane {
         let told = self.copy_in_hand()?;
         let given = self.copy_in_hand()?;
         self.reserve()?;
-        self.put(told);
+        self.note_put(told);
         Ok(given)
+    }
+
+    /// Takes the oldest item off a ring, unless one is in hand or the ring is empty.
+    ///
+    /// `false` is answered where there is nothing to do; the other end of the ring may send an item at any
+    /// time. `Memory` is answered where there is no room for the step. Nothing has changed after either.
+    pub fn take(&mut self, from: &mut Consumer<Item>) -> Result<bool, Memory>
+        ensures taken { HasTaken result self.old (received from.old) (known_items from.new) self.new (received from.new) }
+        ensures ring { SameConsumer from.old from.new }
+        ensures lawful { IsLawfulLane self.new.losses self.new.steps }
+    {
+        let _steps = &self.steps;
+        if !self.is_hand_empty() || from.is_empty() {
+            return Ok(false);
+        }
+        self.reserve()?;
+        self.accept(from.pop_known());
+        Ok(true)
+    }
+
+    /// Puts the item in hand onto a ring, unless none is in hand or the ring is full.
+    ///
+    /// `false` is answered where there is nothing to do; the other end of the ring may make room at any
+    /// time. `Memory` is answered where there is none for the item's two copies, which share its octets, or
+    /// for the step. Nothing has changed after either.
+    pub fn put(&mut self, to: &mut Producer<Item>) -> Result<bool, Memory>
+        ensures put { HasSent result self.old (sent to.old) (known_free to.new) self.new (sent to.new) }
+        ensures ring { SameProducer to.old to.new }
+        ensures lawful { IsLawfulLane self.new.losses self.new.steps }
+    {
+        let _steps = &self.steps;
+        if self.is_hand_empty() || to.is_full() {
+            return Ok(false);
+        }
+        to.push_reserved(self.release()?);
+        Ok(true)
     }
 
     /// A copy of the item in hand.
@@ -165,7 +203,7 @@ impl Lane {
     }
 
     /// Appends the step that puts the item in hand.
-    fn put(&mut self, item: Item)
+    fn note_put(&mut self, item: Item)
         requires reserved { self.old.is_reserved ≡ true }
         requires held { in_hand self.old.steps ≡ Some item }
         ensures step { self.new ≡ with_step self.old (Step.Put item) }

@@ -1,6 +1,7 @@
 //! Runs with ample memory.
 
 mod lanes;
+mod rings;
 
 use crate::CustomerPlace;
 use bytes::Bytes;

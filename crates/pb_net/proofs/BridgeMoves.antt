@@ -8,7 +8,7 @@ use Rattle.std.specs.declared.option.Option.{Option}
 use Rattle.pb_lan.specs.BridgeLists.{IsLawfulBridge}
 use Rattle.pb_lan.specs.Events.{with_step}
 use Rattle.pb_lan.specs.Records.{steps_of, received, transmitted, received_by, transmitted_by}
-use Rattle.pb_lan.specs.Rules.{silent}
+use Rattle.pb_relay.specs.Protocol.{spanning_tree}
 use Rattle.pb_lan.specs.declared.plan.Plan.{Plan}
 use Rattle.pb_lan.specs.declared.record.Record.{Record}
 use Rattle.pb_lan.specs.declared.step.Item.{Item}
@@ -43,7 +43,7 @@ other_slot plan r port s t at ne e = ne (ap bridge_of e ∙ at.of_bridge)
 -- after a Receive
 pub after_receive : (plan : Plan) (rec : Record) (ins outs : List (List Item)) (r s port : ℕ) (item : Item) (learnt : Option Learnt) (outcome : Outcome) (moved : Option Moved) (inbox : List Item)
     → IsKept plan rec ins outs → r < length plan.bridges → IsSlot plan (suc r) port s → slice_get ins s ≡ Some (item ∷ inbox)
-    → IsLawfulBridge silent plan (suc r) (steps_of rec.bridges (suc r) ++ Receive port item learnt outcome moved ∷ [])
+    → IsLawfulBridge spanning_tree plan (suc r) (steps_of rec.bridges (suc r) ++ Receive port item learnt outcome moved ∷ [])
     → IsKept plan (with_step rec (Bridge (suc r)) (Receive port item learnt outcome moved)) (set ins s inbox) outs
 after_receive plan rec ins outs r s port item learnt outcome moved inbox kept within at box lawful =
     let step : Step = Receive port item learnt outcome moved in
@@ -68,7 +68,7 @@ after_receive plan rec ins outs r s port item learnt outcome moved inbox kept wi
 -- after a Transmit
 pub after_transmit : (plan : Plan) (rec : Record) (ins outs : List (List Item)) (r s port : ℕ) (item : Item) (outbox : List Item)
     → IsKept plan rec ins outs → r < length plan.bridges → IsSlot plan (suc r) port s → slice_get outs s ≡ Some outbox
-    → IsLawfulBridge silent plan (suc r) (steps_of rec.bridges (suc r) ++ Transmit port item ∷ [])
+    → IsLawfulBridge spanning_tree plan (suc r) (steps_of rec.bridges (suc r) ++ Transmit port item ∷ [])
     → IsKept plan (with_step rec (Bridge (suc r)) (Transmit port item)) ins (set outs s (outbox ++ item ∷ []))
 after_transmit plan rec ins outs r s port item outbox kept within at box lawful =
     let step : Step = Transmit port item in
@@ -93,7 +93,7 @@ after_transmit plan rec ins outs r s port item outbox kept within at box lawful 
 -- after a step that neither receives nor transmits
 pub after_quiet : (plan : Plan) (rec : Record) (ins outs : List (List Item)) (r : ℕ) (step : Step)
     → IsKept plan rec ins outs → r < length plan.bridges → ((port : ℕ) → received_by port step ≡ []) → ((port : ℕ) → transmitted_by port step ≡ [])
-    → IsLawfulBridge silent plan (suc r) (steps_of rec.bridges (suc r) ++ step ∷ [])
+    → IsLawfulBridge spanning_tree plan (suc r) (steps_of rec.bridges (suc r) ++ step ∷ [])
     → IsKept plan (with_step rec (Bridge (suc r)) step) ins outs
 after_quiet plan rec ins outs r step kept within receives transmits lawful =
     let steps : List Step = steps_of rec.bridges (suc r) in

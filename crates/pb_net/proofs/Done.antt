@@ -10,7 +10,7 @@ use Rattle.pb_lan.specs.Events.{HasDone}
 use Rattle.pb_lan.specs.LaneLists.{IsLawfulLane}
 use Rattle.pb_lan.specs.PortLists.{IsLawfulPort}
 use Rattle.pb_lan.specs.Records.{steps_of}
-use Rattle.pb_lan.specs.Rules.{silent}
+use Rattle.pb_relay.specs.Protocol.{spanning_tree}
 use Rattle.pb_lan.specs.declared.event.Event.{Event}
 use Rattle.pb_lan.specs.declared.event.Event.TheVariants.{Poll, Feed, Deliver, Receive, Transmit, Tick, Admin, Take, Put}
 use Rattle.pb_lan.specs.declared.plan.Plan.{Plan}
@@ -28,7 +28,7 @@ use Rattle.pb_relay.specs.declared.fault.BridgeFault.TheVariants.{StepLimit as b
 use Rattle.pb_net.specs.Answers.{NetView, IsDue, IsAnswer}
 use Rattle.pb_net.specs.Faults.{fault_of}
 use Rattle.pb_net.specs.Moves.{HasFedInto, HasDelivered, HasReceivedFrom, HasTransmittedTo, HasTakenFrom, HasPutInto}
-use Rattle.pb_net.specs.Nets.{IsFixedPlan, IsKept, ArePlaced, record_of}
+use Rattle.pb_net.specs.Nets.{IsSoundPlan, IsKept, ArePlaced, record_of}
 use Rattle.pb_net.specs.Slots.{IsSlot, MeetsSlot, IsBridgeSpot, IsCustomerSpot, IsLaneStart, IsLaneEnd, losses_of}
 use Rattle.pb_net.specs.declared.did.Did.{Did}
 use Rattle.pb_net.specs.declared.fault.NetFault.{NetFault}
@@ -128,14 +128,14 @@ grown_lane plan bridges lanes customers r old new step placed here losses lawful
 
 grown_bridge : (plan : Plan) (bridges : List BridgeView) (lanes : List LaneView) (customers : List PlaceView) (ins outs : List (List Item)) (r : ℕ) (old : BridgeView) (step : Step)
     → IsKept plan (record_of bridges lanes customers) ins outs → ArePlaced plan bridges lanes customers → slice_get bridges r ≡ Some old
-    → Fits silent old.plan old.number old.steps step
-    → IsLawfulBridge silent plan (suc r) (steps_of (map (λ (b : BridgeView). b.steps) bridges) (suc r) ++ step ∷ [])
+    → Fits spanning_tree old.plan old.number old.steps step
+    → IsLawfulBridge spanning_tree plan (suc r) (steps_of (map (λ (b : BridgeView). b.steps) bridges) (suc r) ++ step ∷ [])
 grown_bridge plan bridges lanes customers ins outs r old step kept placed here fits =
     let mine : steps_of (map (λ (b : BridgeView). b.steps) bridges) (suc r) ≡ old.steps = steps_of-map (λ (b : BridgeView). b.steps) bridges r old here in
     let number : old.number ≡ suc r = placed.bridge_numbers r old here ∙ omega arith in
-    let fits_here = subst (λ (p : Plan). Fits silent p (suc r) old.steps step) (placed.planned r old here) (subst (λ (n : ℕ). Fits silent old.plan n old.steps step) number fits) in
-    subst (λ (ms : List Step). IsLawfulBridge silent plan (suc r) (ms ++ step ∷ [])) (sym mine)
-    (lawful_more silent plan (suc r) old.steps step (subst (λ (ms : List Step). IsLawfulBridge silent plan (suc r) ms) mine (kept.bridges (suc r))) fits_here)
+    let fits_here = subst (λ (p : Plan). Fits spanning_tree p (suc r) old.steps step) (placed.planned r old here) (subst (λ (n : ℕ). Fits spanning_tree old.plan n old.steps step) number fits) in
+    subst (λ (ms : List Step). IsLawfulBridge spanning_tree plan (suc r) (ms ++ step ∷ [])) (sym mine)
+    (lawful_more spanning_tree plan (suc r) old.steps step (subst (λ (ms : List Step). IsLawfulBridge spanning_tree plan (suc r) ms) mine (kept.bridges (suc r))) fits_here)
 
 pub poll_done : (plan : Plan) (bridges : List BridgeView) (lanes : List LaneView) (customers : List PlaceView) (ins outs : List (List Item)) (port : ℕ) (spot : Spot) (old new : PlaceView) (item : Item)
     → ArePlaced plan bridges lanes customers → IsKept plan (record_of bridges lanes customers) ins outs → IsCustomerSpot plan port spot → old ≡ get_or customers spot.place old
@@ -153,11 +153,11 @@ poll_done plan bridges lanes customers ins outs port spot old new item placed ke
     )
 
 pub feed_done : {Q : Type 0} (f : Q → List Item) (plan : Plan) (bridges : List BridgeView) (lanes : List LaneView) (customers : List PlaceView) (ins outs : List Q) (port : ℕ) (spot : Spot) (old new : PlaceView) (box box' : Q)
-    → IsFixedPlan plan → ArePlaced plan bridges lanes customers → IsKept plan (record_of bridges lanes customers) (map f ins) (map f outs) → IsCustomerSpot plan port spot
+    → IsSoundPlan plan → ArePlaced plan bridges lanes customers → IsKept plan (record_of bridges lanes customers) (map f ins) (map f outs) → IsCustomerSpot plan port spot
     → old ≡ get_or customers spot.place old → box ≡ get_or ins spot.slot box → new.number ≡ old.number → IsLawfulPort new.number new.steps → HasFedInto old (f box) new (f box')
     → ArePlaced plan bridges lanes (set customers spot.place new) × IsKept plan (record_of bridges lanes (set customers spot.place new)) (map f (set ins spot.slot box')) (map f outs)
     × HasDone (record_of bridges lanes customers) (Feed port) (record_of bridges lanes (set customers spot.place new))
-feed_done f plan bridges lanes customers ins outs port spot old new box box' fixed placed kept known value boxed number lawful moved =
+feed_done f plan bridges lanes customers ins outs port spot old new box box' sound placed kept known value boxed number lawful moved =
     let r = spot.place in
     let here = here_is customers r old (omega (arith, known.there, placed.customer_count)) value in
     let there = box_at f ins spot.slot (16 * length plan.bridges) box kept.inbox_count known.slot.at.within boxed in
@@ -165,16 +165,16 @@ feed_done f plan bridges lanes customers ins outs port spot old new box box' fix
     let meets : MeetsSlot plan (suc r) spot.slot = subst (λ n. MeetsSlot plan n spot.slot) (sym port_is) known.slot in
     let rec = recorded_customer bridges lanes customers r old new (Fed moved.item) here moved.steps in (
       placed_customer plan bridges lanes customers r old new placed here number,
-      rw (rec, map-set f ins spot.slot box', moved.queued) (after_feed plan (record_of bridges lanes customers) (map f ins) (map f outs) r spot.slot moved.item (f box) fixed.sound kept known.there meets there (grown_port plan bridges lanes customers r old new (Fed moved.item) placed here number lawful moved.steps)),
+      rw (rec, map-set f ins spot.slot box', moved.queued) (after_feed plan (record_of bridges lanes customers) (map f ins) (map f outs) r spot.slot moved.item (f box) sound.sound kept known.there meets there (grown_port plan bridges lanes customers r old new (Fed moved.item) placed here number lawful moved.steps)),
       subst (λ n. HasDone (record_of bridges lanes customers) (Feed n) (record_of bridges lanes (set customers r new))) port_is (Fed moved.item, tt, rec),
     )
 
 pub deliver_done : {Q : Type 0} (f : Q → List Item) (plan : Plan) (bridges : List BridgeView) (lanes : List LaneView) (customers : List PlaceView) (ins outs : List Q) (port : ℕ) (spot : Spot) (old new : PlaceView) (box box' : Q)
-    → IsFixedPlan plan → ArePlaced plan bridges lanes customers → IsKept plan (record_of bridges lanes customers) (map f ins) (map f outs) → IsCustomerSpot plan port spot
+    → IsSoundPlan plan → ArePlaced plan bridges lanes customers → IsKept plan (record_of bridges lanes customers) (map f ins) (map f outs) → IsCustomerSpot plan port spot
     → old ≡ get_or customers spot.place old → box ≡ get_or outs spot.slot box → new.number ≡ old.number → IsLawfulPort new.number new.steps → HasDelivered old (f box) new (f box')
     → ArePlaced plan bridges lanes (set customers spot.place new) × IsKept plan (record_of bridges lanes (set customers spot.place new)) (map f ins) (map f (set outs spot.slot box'))
     × HasDone (record_of bridges lanes customers) (Deliver port) (record_of bridges lanes (set customers spot.place new))
-deliver_done f plan bridges lanes customers ins outs port spot old new box box' fixed placed kept known value boxed number lawful moved =
+deliver_done f plan bridges lanes customers ins outs port spot old new box box' sound placed kept known value boxed number lawful moved =
     let r = spot.place in
     let here = here_is customers r old (omega (arith, known.there, placed.customer_count)) value in
     let there = box_at f outs spot.slot (16 * length plan.bridges) box kept.outbox_count known.slot.at.within boxed in
@@ -182,7 +182,7 @@ deliver_done f plan bridges lanes customers ins outs port spot old new box box' 
     let meets : MeetsSlot plan (suc r) spot.slot = subst (λ n. MeetsSlot plan n spot.slot) (sym port_is) known.slot in
     let rec = recorded_customer bridges lanes customers r old new (Delivered moved.item false) here moved.steps in (
       placed_customer plan bridges lanes customers r old new placed here number,
-      rw (rec, map-set f outs spot.slot box') (after_deliver plan (record_of bridges lanes customers) (map f ins) (map f outs) r spot.slot moved.item (f box') fixed.sound kept known.there meets (there ∙ ap (λ z. Some z) moved.taken) (grown_port plan bridges lanes customers r old new (Delivered moved.item false) placed here number lawful moved.steps)),
+      rw (rec, map-set f outs spot.slot box') (after_deliver plan (record_of bridges lanes customers) (map f ins) (map f outs) r spot.slot moved.item (f box') sound.sound kept known.there meets (there ∙ ap (λ z. Some z) moved.taken) (grown_port plan bridges lanes customers r old new (Delivered moved.item false) placed here number lawful moved.steps)),
       subst (λ n. HasDone (record_of bridges lanes customers) (Deliver n) (record_of bridges lanes (set customers r new))) port_is (Delivered moved.item false, refl, rec),
     )
 
@@ -223,11 +223,11 @@ transmit_done f plan bridges lanes customers ins outs bridge port spot old new b
     )
 
 pub take_done : {Q : Type 0} (f : Q → List Item) (plan : Plan) (bridges : List BridgeView) (lanes : List LaneView) (customers : List PlaceView) (ins outs : List Q) (lane : ℕ) (spot : Spot) (old new : LaneView) (box box' : Q)
-    → IsFixedPlan plan → ArePlaced plan bridges lanes customers → IsKept plan (record_of bridges lanes customers) (map f ins) (map f outs) → IsLaneStart plan lane spot
+    → IsSoundPlan plan → ArePlaced plan bridges lanes customers → IsKept plan (record_of bridges lanes customers) (map f ins) (map f outs) → IsLaneStart plan lane spot
     → old ≡ get_or lanes spot.place old → box ≡ get_or outs spot.slot box → new.losses ≡ old.losses → IsLawfulLane new.losses new.steps → HasTakenFrom old (f box) new (f box')
     → ArePlaced plan bridges (set lanes spot.place new) customers × IsKept plan (record_of bridges (set lanes spot.place new) customers) (map f ins) (map f (set outs spot.slot box'))
     × HasDone (record_of bridges lanes customers) (Take lane) (record_of bridges (set lanes spot.place new) customers)
-take_done f plan bridges lanes customers ins outs lane spot old new box box' fixed placed kept known value boxed losses lawful moved =
+take_done f plan bridges lanes customers ins outs lane spot old new box box' sound placed kept known value boxed losses lawful moved =
     let r = spot.place in
     let here = here_is lanes r old (omega (arith, known.there, placed.lane_count)) value in
     let there = box_at f outs spot.slot (16 * length plan.bridges) box kept.outbox_count known.from.within boxed in
@@ -235,16 +235,16 @@ take_done f plan bridges lanes customers ins outs lane spot old new box box' fix
     let start : IsLaneStart plan (suc r) spot = subst (λ n. IsLaneStart plan n spot) (sym lane_is) known in
     let rec = recorded_lane bridges lanes customers r old new (taking old moved.item) here moved.steps in (
       placed_lane plan bridges lanes customers r old new placed here losses,
-      rw (rec, map-set f outs spot.slot box') (after_take plan (record_of bridges lanes customers) (map f ins) (map f outs) r spot.slot _ moved.item _ start.link (f box') fixed.sound kept known.there start.planned start.from (there ∙ ap (λ z. Some z) moved.taken) (grown_lane plan bridges lanes customers r old new (taking old moved.item) placed here losses lawful moved.steps)),
+      rw (rec, map-set f outs spot.slot box') (after_take plan (record_of bridges lanes customers) (map f ins) (map f outs) r spot.slot _ moved.item _ start.link (f box') sound.sound kept known.there start.planned start.from (there ∙ ap (λ z. Some z) moved.taken) (grown_lane plan bridges lanes customers r old new (taking old moved.item) placed here losses lawful moved.steps)),
       subst (λ n. HasDone (record_of bridges lanes customers) (Take n) (record_of bridges (set lanes r new) customers)) lane_is (taking old moved.item, tt, rec),
     )
 
 pub put_done : {Q : Type 0} (f : Q → List Item) (plan : Plan) (bridges : List BridgeView) (lanes : List LaneView) (customers : List PlaceView) (ins outs : List Q) (lane : ℕ) (spot : Spot) (old new : LaneView) (box box' : Q)
-    → IsFixedPlan plan → ArePlaced plan bridges lanes customers → IsKept plan (record_of bridges lanes customers) (map f ins) (map f outs) → IsLaneEnd plan lane spot
+    → IsSoundPlan plan → ArePlaced plan bridges lanes customers → IsKept plan (record_of bridges lanes customers) (map f ins) (map f outs) → IsLaneEnd plan lane spot
     → old ≡ get_or lanes spot.place old → box ≡ get_or ins spot.slot box → new.losses ≡ old.losses → IsLawfulLane new.losses new.steps → HasPutInto old (f box) new (f box')
     → ArePlaced plan bridges (set lanes spot.place new) customers × IsKept plan (record_of bridges (set lanes spot.place new) customers) (map f (set ins spot.slot box')) (map f outs)
     × HasDone (record_of bridges lanes customers) (Put lane) (record_of bridges (set lanes spot.place new) customers)
-put_done f plan bridges lanes customers ins outs lane spot old new box box' fixed placed kept known value boxed losses lawful moved =
+put_done f plan bridges lanes customers ins outs lane spot old new box box' sound placed kept known value boxed losses lawful moved =
     let r = spot.place in
     let here = here_is lanes r old (omega (arith, known.there, placed.lane_count)) value in
     let there = box_at f ins spot.slot (16 * length plan.bridges) box kept.inbox_count known.to.within boxed in
@@ -252,13 +252,13 @@ put_done f plan bridges lanes customers ins outs lane spot old new box box' fixe
     let end : IsLaneEnd plan (suc r) spot = subst (λ n. IsLaneEnd plan n spot) (sym lane_is) known in
     let rec = recorded_lane bridges lanes customers r old new (Put_on moved.item) here moved.steps in (
       placed_lane plan bridges lanes customers r old new placed here losses,
-      rw (rec, map-set f ins spot.slot box', moved.queued) (after_put plan (record_of bridges lanes customers) (map f ins) (map f outs) r spot.slot moved.item end.link (f box) fixed.sound kept known.there end.planned end.to there (grown_lane plan bridges lanes customers r old new (Put_on moved.item) placed here losses lawful moved.steps)),
+      rw (rec, map-set f ins spot.slot box', moved.queued) (after_put plan (record_of bridges lanes customers) (map f ins) (map f outs) r spot.slot moved.item end.link (f box) sound.sound kept known.there end.planned end.to there (grown_lane plan bridges lanes customers r old new (Put_on moved.item) placed here losses lawful moved.steps)),
       subst (λ n. HasDone (record_of bridges lanes customers) (Put n) (record_of bridges (set lanes r new) customers)) lane_is (Put_on moved.item, tt, rec),
     )
 
 pub tick_done : (plan : Plan) (bridges : List BridgeView) (lanes : List LaneView) (customers : List PlaceView) (ins outs : List (List Item)) (bridge r now : ℕ) (moved : Moved) (old new : BridgeView)
     → ArePlaced plan bridges lanes customers → IsKept plan (record_of bridges lanes customers) ins outs → r + 1 ≡ bridge → r < length plan.bridges → old ≡ get_or bridges r old
-    → new.plan ≡ old.plan → new.number ≡ old.number → new.steps ≡ old.steps ++ Ticked now moved ∷ [] → Fits silent old.plan old.number old.steps (Ticked now moved)
+    → new.plan ≡ old.plan → new.number ≡ old.number → new.steps ≡ old.steps ++ Ticked now moved ∷ [] → Fits spanning_tree old.plan old.number old.steps (Ticked now moved)
     → ArePlaced plan (set bridges r new) lanes customers × IsKept plan (record_of (set bridges r new) lanes customers) ins outs
     × HasDone (record_of bridges lanes customers) (Tick bridge) (record_of (set bridges r new) lanes customers)
 tick_done plan bridges lanes customers ins outs bridge r now moved old new placed kept place within value of_plan number grown fits =
@@ -272,7 +272,7 @@ tick_done plan bridges lanes customers ins outs bridge r now moved old new place
 
 pub admin_done : (plan : Plan) (bridges : List BridgeView) (lanes : List LaneView) (customers : List PlaceView) (ins outs : List (List Item)) (bridge port : ℕ) (up : Bool) (spot : Spot) (moved : Moved) (old new : BridgeView)
     → ArePlaced plan bridges lanes customers → IsKept plan (record_of bridges lanes customers) ins outs → IsBridgeSpot plan bridge port spot → old ≡ get_or bridges spot.place old
-    → new.plan ≡ old.plan → new.number ≡ old.number → new.steps ≡ old.steps ++ Administered port up moved ∷ [] → Fits silent old.plan old.number old.steps (Administered port up moved)
+    → new.plan ≡ old.plan → new.number ≡ old.number → new.steps ≡ old.steps ++ Administered port up moved ∷ [] → Fits spanning_tree old.plan old.number old.steps (Administered port up moved)
     → ArePlaced plan (set bridges spot.place new) lanes customers × IsKept plan (record_of (set bridges spot.place new) lanes customers) ins outs
     × HasDone (record_of bridges lanes customers) (Admin bridge port up) (record_of (set bridges spot.place new) lanes customers)
 admin_done plan bridges lanes customers ins outs bridge port up spot moved old new placed kept known value of_plan number grown fits =

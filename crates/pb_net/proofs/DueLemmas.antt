@@ -25,7 +25,7 @@ use Rattle.pb_link.specs.Lanes.{LaneView, is_hand_empty as is_lane_empty}
 use Rattle.pb_relay.specs.Standing.{BridgeView}
 use Rattle.pb_net.specs.Answers.{NetView}
 use Rattle.pb_net.specs.Dues.{IsSifted, IsDueOr}
-use Rattle.pb_net.specs.Nets.{IsFixedPlan, IsKept, ArePlaced, HasNumbers, record_of}
+use Rattle.pb_net.specs.Nets.{IsSoundPlan, IsKept, ArePlaced, HasNumbers, record_of}
 use Rattle.pb_net.specs.Slots.{IsSlot, MeetsSlot, IsBridgeSpot, IsCustomerSpot, IsLaneStart, IsLaneEnd, items_at}
 use Rattle.pb_net.specs.declared.fault.NetFault.{NetFault}
 use Rattle.pb_net.specs.declared.fault.NetFault.TheVariants.{StepLimit, Memory, NoSuch}
@@ -110,10 +110,10 @@ due_poll_is plan bridges lanes customers limit ring port frame spot p empty resu
 
 -- a Feed
 pub idle_feed_is : (plan : Plan) (bridges : List BridgeView) (lanes : List LaneView) (customers : List PlaceView) (ins outs : List (List Item)) (limit ring port many : ℕ) (spot : Spot) (p : PlaceView) (inbox : List Item) (empty : Bool)
-    → IsFixedPlan plan → ArePlaced plan bridges lanes customers → IsKept plan (record_of bridges lanes customers) ins outs → HasNumbers plan limit ring → IsCustomerSpot plan port spot
+    → IsSoundPlan plan → ArePlaced plan bridges lanes customers → IsKept plan (record_of bridges lanes customers) ins outs → HasNumbers plan limit ring → IsCustomerSpot plan port spot
     → p ≡ get_or customers spot.place p → slice_get ins spot.slot ≡ Some inbox → empty ≡ is_hand_empty p.steps → many ≡ length inbox
     → is_idle plan (record_of bridges lanes customers) (Feed port) ≡ (empty || nat_le ring many)
-idle_feed_is plan bridges lanes customers ins outs limit ring port many spot p inbox empty fixed placed kept numbers known value box is_empty is_many =
+idle_feed_is plan bridges lanes customers ins outs limit ring port many spot p inbox empty sound placed kept numbers known value box is_empty is_many =
     let r = spot.place in
     let rec : Record = record_of bridges lanes customers in
     let here = here_is customers r p (omega (arith, known.there, placed.customer_count)) value in
@@ -121,7 +121,7 @@ idle_feed_is plan bridges lanes customers ins outs limit ring port many spot p i
     let number : suc r ≡ port = omega (arith, known.place) in
     let meets : MeetsSlot plan (suc r) spot.slot = subst (λ n. MeetsSlot plan n spot.slot) (sym number) known.slot in
     let c = meets.customer in
-    let whole = into_at plan rec ins outs c.bridge c.port spot.slot kept meets.at ∙ sent_to-customer plan fixed.sound rec (suc r) c meets.planned in
+    let whole = into_at plan rec ins outs c.bridge c.port spot.slot kept meets.at ∙ sent_to-customer plan sound.sound rec (suc r) c meets.planned in
     subst (λ n. is_idle plan (record_of bridges lanes customers) (Feed n) ≡ (empty || nat_le ring many)) number
     (ap (λ (o : Option CustomerPlan). is_feed_idle plan rec (steps_of rec.customers (suc r)) o) meets.planned
     ∙ ap (λ (b : Bool). is_hand_empty (steps_of rec.customers (suc r)) || b) (ring_full_is plan (fed (steps_of rec.customers (suc r))) (received c.port (steps_of rec.bridges c.bridge)) (items_at ins spot.slot) whole)
@@ -130,10 +130,10 @@ idle_feed_is plan bridges lanes customers ins outs limit ring port many spot p i
     ∙ ap (λ (b : Bool). b || nat_le plan.ring (length inbox)) (sym is_empty) ∙ ap (λ (n : ℕ). empty || nat_le n (length inbox)) (sym numbers.places) ∙ ap (λ (n : ℕ). empty || nat_le ring n) (sym is_many))
 
 pub due_feed_is : (plan : Plan) (bridges : List BridgeView) (lanes : List LaneView) (customers : List PlaceView) (ins outs : List (List Item)) (limit ring port many : ℕ) (spot : Spot) (p : PlaceView) (inbox : List Item) (empty : Bool) (result : Result (Option Spot) NetFault)
-    → IsFixedPlan plan → ArePlaced plan bridges lanes customers → IsKept plan (record_of bridges lanes customers) ins outs → HasNumbers plan limit ring → IsCustomerSpot plan port spot
+    → IsSoundPlan plan → ArePlaced plan bridges lanes customers → IsKept plan (record_of bridges lanes customers) ins outs → HasNumbers plan limit ring → IsCustomerSpot plan port spot
     → p ≡ get_or customers spot.place p → slice_get ins spot.slot ≡ Some inbox → empty ≡ is_hand_empty p.steps → many ≡ length inbox
     → IsSifted (empty || nat_le ring many) (length p.steps == limit) spot result → IsDueOr (net_of plan bridges lanes customers) (Feed port) result
-due_feed_is plan bridges lanes customers ins outs limit ring port many spot p inbox empty result fixed placed kept numbers known value box is_empty is_many sift =
+due_feed_is plan bridges lanes customers ins outs limit ring port many spot p inbox empty result sound placed kept numbers known value box is_empty is_many sift =
     let r = spot.place in
     let rec : Record = record_of bridges lanes customers in
     let here = here_is customers r p (omega (arith, known.there, placed.customer_count)) value in
@@ -141,19 +141,19 @@ due_feed_is plan bridges lanes customers ins outs limit ring port many spot p in
     let number : suc r ≡ port = omega (arith, known.place) in
     let meets : MeetsSlot plan (suc r) spot.slot = subst (λ n. MeetsSlot plan n spot.slot) (sym number) known.slot in
     let c = meets.customer in
-    let whole = into_at plan rec ins outs c.bridge c.port spot.slot kept meets.at ∙ sent_to-customer plan fixed.sound rec (suc r) c meets.planned in
+    let whole = into_at plan rec ins outs c.bridge c.port spot.slot kept meets.at ∙ sent_to-customer plan sound.sound rec (suc r) c meets.planned in
     subst (λ n. IsDueOr (net_of plan bridges lanes customers) (Feed n) result) number
     (sifted (net_of plan bridges lanes customers) (Feed (suc r)) (empty || nat_le ring many) (length p.steps == limit) spot result
     (ap is_some meets.planned)
-    (subst (λ n. is_idle plan (record_of bridges lanes customers) (Feed n) ≡ (empty || nat_le ring many)) (sym number) (idle_feed_is plan bridges lanes customers ins outs limit ring port many spot p inbox empty fixed placed kept numbers known value box is_empty is_many))
+    (subst (λ n. is_idle plan (record_of bridges lanes customers) (Feed n) ≡ (empty || nat_le ring many)) (sym number) (idle_feed_is plan bridges lanes customers ins outs limit ring port many spot p inbox empty sound placed kept numbers known value box is_empty is_many))
     (limit_is _ _ limit plan.steps mine numbers.steps) sift)
 
 -- a Deliver
 pub idle_deliver_is : (plan : Plan) (bridges : List BridgeView) (lanes : List LaneView) (customers : List PlaceView) (ins outs : List (List Item)) (limit ring port many : ℕ) (spot : Spot) (p : PlaceView) (outbox : List Item)
-    → IsFixedPlan plan → ArePlaced plan bridges lanes customers → IsKept plan (record_of bridges lanes customers) ins outs → HasNumbers plan limit ring → IsCustomerSpot plan port spot
+    → IsSoundPlan plan → ArePlaced plan bridges lanes customers → IsKept plan (record_of bridges lanes customers) ins outs → HasNumbers plan limit ring → IsCustomerSpot plan port spot
     → p ≡ get_or customers spot.place p → slice_get outs spot.slot ≡ Some outbox → many ≡ length outbox
     → is_idle plan (record_of bridges lanes customers) (Deliver port) ≡ (many == 0)
-idle_deliver_is plan bridges lanes customers ins outs limit ring port many spot p outbox fixed placed kept numbers known value box is_many =
+idle_deliver_is plan bridges lanes customers ins outs limit ring port many spot p outbox sound placed kept numbers known value box is_many =
     let r = spot.place in
     let rec : Record = record_of bridges lanes customers in
     let here = here_is customers r p (omega (arith, known.there, placed.customer_count)) value in
@@ -161,17 +161,17 @@ idle_deliver_is plan bridges lanes customers ins outs limit ring port many spot 
     let number : suc r ≡ port = omega (arith, known.place) in
     let meets : MeetsSlot plan (suc r) spot.slot = subst (λ n. MeetsSlot plan n spot.slot) (sym number) known.slot in
     let c = meets.customer in
-    let whole = ap (λ (z : List Item). z ++ items_at outs spot.slot) (sym (fetched_from-customer plan fixed.sound rec (suc r) c meets.planned)) ∙ out_at plan rec ins outs c.bridge c.port spot.slot kept meets.at in
+    let whole = ap (λ (z : List Item). z ++ items_at outs spot.slot) (sym (fetched_from-customer plan sound.sound rec (suc r) c meets.planned)) ∙ out_at plan rec ins outs c.bridge c.port spot.slot kept meets.at in
     subst (λ n. is_idle plan (record_of bridges lanes customers) (Deliver n) ≡ (many == 0)) number
     (ap (λ (o : Option CustomerPlan). is_deliver_idle rec (steps_of rec.customers (suc r)) o) meets.planned
     ∙ all_fetched_is (transmitted c.port (steps_of rec.bridges c.bridge)) (delivered (steps_of rec.customers (suc r))) (items_at outs spot.slot) whole
     ∙ ap (λ (z : List Item). nat_le (length z) 0) (items_at-here outs spot.slot outbox box) ∙ none_there (length outbox) ∙ ap (λ (n : ℕ). n == 0) (sym is_many))
 
 pub due_deliver_is : (plan : Plan) (bridges : List BridgeView) (lanes : List LaneView) (customers : List PlaceView) (ins outs : List (List Item)) (limit ring port many : ℕ) (spot : Spot) (p : PlaceView) (outbox : List Item) (result : Result (Option Spot) NetFault)
-    → IsFixedPlan plan → ArePlaced plan bridges lanes customers → IsKept plan (record_of bridges lanes customers) ins outs → HasNumbers plan limit ring → IsCustomerSpot plan port spot
+    → IsSoundPlan plan → ArePlaced plan bridges lanes customers → IsKept plan (record_of bridges lanes customers) ins outs → HasNumbers plan limit ring → IsCustomerSpot plan port spot
     → p ≡ get_or customers spot.place p → slice_get outs spot.slot ≡ Some outbox → many ≡ length outbox
     → IsSifted (many == 0) (length p.steps == limit) spot result → IsDueOr (net_of plan bridges lanes customers) (Deliver port) result
-due_deliver_is plan bridges lanes customers ins outs limit ring port many spot p outbox result fixed placed kept numbers known value box is_many sift =
+due_deliver_is plan bridges lanes customers ins outs limit ring port many spot p outbox result sound placed kept numbers known value box is_many sift =
     let r = spot.place in
     let rec : Record = record_of bridges lanes customers in
     let here = here_is customers r p (omega (arith, known.there, placed.customer_count)) value in
@@ -179,11 +179,11 @@ due_deliver_is plan bridges lanes customers ins outs limit ring port many spot p
     let number : suc r ≡ port = omega (arith, known.place) in
     let meets : MeetsSlot plan (suc r) spot.slot = subst (λ n. MeetsSlot plan n spot.slot) (sym number) known.slot in
     let c = meets.customer in
-    let whole = ap (λ (z : List Item). z ++ items_at outs spot.slot) (sym (fetched_from-customer plan fixed.sound rec (suc r) c meets.planned)) ∙ out_at plan rec ins outs c.bridge c.port spot.slot kept meets.at in
+    let whole = ap (λ (z : List Item). z ++ items_at outs spot.slot) (sym (fetched_from-customer plan sound.sound rec (suc r) c meets.planned)) ∙ out_at plan rec ins outs c.bridge c.port spot.slot kept meets.at in
     subst (λ n. IsDueOr (net_of plan bridges lanes customers) (Deliver n) result) number
     (sifted (net_of plan bridges lanes customers) (Deliver (suc r)) (many == 0) (length p.steps == limit) spot result
     (ap is_some meets.planned)
-    (subst (λ n. is_idle plan (record_of bridges lanes customers) (Deliver n) ≡ (many == 0)) (sym number) (idle_deliver_is plan bridges lanes customers ins outs limit ring port many spot p outbox fixed placed kept numbers known value box is_many))
+    (subst (λ n. is_idle plan (record_of bridges lanes customers) (Deliver n) ≡ (many == 0)) (sym number) (idle_deliver_is plan bridges lanes customers ins outs limit ring port many spot p outbox sound placed kept numbers known value box is_many))
     (limit_is _ _ limit plan.steps mine numbers.steps) sift)
 
 -- a Receive
@@ -269,17 +269,17 @@ named_lane plan lane place e within = grind (arith, nat_tests, e, within)
 
 -- a Take
 pub idle_take_is : (plan : Plan) (bridges : List BridgeView) (lanes : List LaneView) (customers : List PlaceView) (ins outs : List (List Item)) (limit ring lane many : ℕ) (spot : Spot) (l : LaneView) (outbox : List Item) (empty : Bool)
-    → IsFixedPlan plan → ArePlaced plan bridges lanes customers → IsKept plan (record_of bridges lanes customers) ins outs → HasNumbers plan limit ring → IsLaneStart plan lane spot
+    → IsSoundPlan plan → ArePlaced plan bridges lanes customers → IsKept plan (record_of bridges lanes customers) ins outs → HasNumbers plan limit ring → IsLaneStart plan lane spot
     → l ≡ get_or lanes spot.place l → slice_get outs spot.slot ≡ Some outbox → empty ≡ is_lane_empty l.steps → many ≡ length outbox
     → is_idle plan (record_of bridges lanes customers) (Take lane) ≡ (not empty || (many == 0))
-idle_take_is plan bridges lanes customers ins outs limit ring lane many spot l outbox empty fixed placed kept numbers known value box is_empty is_many =
+idle_take_is plan bridges lanes customers ins outs limit ring lane many spot l outbox empty sound placed kept numbers known value box is_empty is_many =
     let r = spot.place in
     let rec : Record = record_of bridges lanes customers in
     let here = here_is lanes r l (omega (arith, known.there, placed.lane_count)) value in
     let number : suc r ≡ lane = omega (arith, known.place) in
     let mine : steps_of rec.lanes lane ≡ l.steps = ap (λ n. steps_of rec.lanes n) (sym number) ∙ steps_of-map (λ (x : LaneView). x.steps) lanes r l here in
     let from = begins_at lane known.link in
-    let whole = ap (λ (z : List Item). z ++ items_at outs spot.slot) (sym (fetched_from-lane plan fixed.sound rec lane known.link known.planned)) ∙ out_at plan rec ins outs from.bridge from.port spot.slot kept known.from in
+    let whole = ap (λ (z : List Item). z ++ items_at outs spot.slot) (sym (fetched_from-lane plan sound.sound rec lane known.link known.planned)) ∙ out_at plan rec ins outs from.bridge from.port spot.slot kept known.from in
     (ap (λ (o : Option LinkPlan). is_take_idle rec lane (steps_of rec.lanes lane) o) known.planned
     ∙ ap (λ (b : Bool). not (is_lane_empty (steps_of rec.lanes lane)) || b) (all_fetched_is (transmitted from.port (steps_of rec.bridges from.bridge)) (taken (steps_of rec.lanes lane)) (items_at outs spot.slot) whole)
     ∙ ap (λ (ms : List Step). not (is_lane_empty ms) || nat_le (length (items_at outs spot.slot)) 0) mine
@@ -287,35 +287,35 @@ idle_take_is plan bridges lanes customers ins outs limit ring lane many spot l o
     ∙ ap (λ (b : Bool). not b || nat_le (length outbox) 0) (sym is_empty) ∙ ap (λ (b : Bool). not empty || b) (none_there (length outbox) ∙ ap (λ (n : ℕ). n == 0) (sym is_many)))
 
 pub due_take_is : (plan : Plan) (bridges : List BridgeView) (lanes : List LaneView) (customers : List PlaceView) (ins outs : List (List Item)) (limit ring lane many : ℕ) (spot : Spot) (l : LaneView) (outbox : List Item) (empty : Bool) (result : Result (Option Spot) NetFault)
-    → IsFixedPlan plan → ArePlaced plan bridges lanes customers → IsKept plan (record_of bridges lanes customers) ins outs → HasNumbers plan limit ring → IsLaneStart plan lane spot
+    → IsSoundPlan plan → ArePlaced plan bridges lanes customers → IsKept plan (record_of bridges lanes customers) ins outs → HasNumbers plan limit ring → IsLaneStart plan lane spot
     → l ≡ get_or lanes spot.place l → slice_get outs spot.slot ≡ Some outbox → empty ≡ is_lane_empty l.steps → many ≡ length outbox
     → IsSifted (not empty || (many == 0)) (length l.steps == limit) spot result → IsDueOr (net_of plan bridges lanes customers) (Take lane) result
-due_take_is plan bridges lanes customers ins outs limit ring lane many spot l outbox empty result fixed placed kept numbers known value box is_empty is_many sift =
+due_take_is plan bridges lanes customers ins outs limit ring lane many spot l outbox empty result sound placed kept numbers known value box is_empty is_many sift =
     let r = spot.place in
     let rec : Record = record_of bridges lanes customers in
     let here = here_is lanes r l (omega (arith, known.there, placed.lane_count)) value in
     let number : suc r ≡ lane = omega (arith, known.place) in
     let mine : steps_of rec.lanes lane ≡ l.steps = ap (λ n. steps_of rec.lanes n) (sym number) ∙ steps_of-map (λ (x : LaneView). x.steps) lanes r l here in
     let from = begins_at lane known.link in
-    let whole = ap (λ (z : List Item). z ++ items_at outs spot.slot) (sym (fetched_from-lane plan fixed.sound rec lane known.link known.planned)) ∙ out_at plan rec ins outs from.bridge from.port spot.slot kept known.from in
+    let whole = ap (λ (z : List Item). z ++ items_at outs spot.slot) (sym (fetched_from-lane plan sound.sound rec lane known.link known.planned)) ∙ out_at plan rec ins outs from.bridge from.port spot.slot kept known.from in
     sifted (net_of plan bridges lanes customers) (Take lane) (not empty || (many == 0)) (length l.steps == limit) spot result
     (named_lane plan lane r known.place known.there)
-    (idle_take_is plan bridges lanes customers ins outs limit ring lane many spot l outbox empty fixed placed kept numbers known value box is_empty is_many)
+    (idle_take_is plan bridges lanes customers ins outs limit ring lane many spot l outbox empty sound placed kept numbers known value box is_empty is_many)
     (limit_is _ _ limit plan.steps mine numbers.steps) sift
 
 -- a Put
 pub idle_put_is : (plan : Plan) (bridges : List BridgeView) (lanes : List LaneView) (customers : List PlaceView) (ins outs : List (List Item)) (limit ring lane many : ℕ) (spot : Spot) (l : LaneView) (inbox : List Item) (empty : Bool)
-    → IsFixedPlan plan → ArePlaced plan bridges lanes customers → IsKept plan (record_of bridges lanes customers) ins outs → HasNumbers plan limit ring → IsLaneEnd plan lane spot
+    → IsSoundPlan plan → ArePlaced plan bridges lanes customers → IsKept plan (record_of bridges lanes customers) ins outs → HasNumbers plan limit ring → IsLaneEnd plan lane spot
     → l ≡ get_or lanes spot.place l → slice_get ins spot.slot ≡ Some inbox → empty ≡ is_lane_empty l.steps → many ≡ length inbox
     → is_idle plan (record_of bridges lanes customers) (Put lane) ≡ (empty || nat_le ring many)
-idle_put_is plan bridges lanes customers ins outs limit ring lane many spot l inbox empty fixed placed kept numbers known value box is_empty is_many =
+idle_put_is plan bridges lanes customers ins outs limit ring lane many spot l inbox empty sound placed kept numbers known value box is_empty is_many =
     let r = spot.place in
     let rec : Record = record_of bridges lanes customers in
     let here = here_is lanes r l (omega (arith, known.there, placed.lane_count)) value in
     let number : suc r ≡ lane = omega (arith, known.place) in
     let mine : steps_of rec.lanes lane ≡ l.steps = ap (λ n. steps_of rec.lanes n) (sym number) ∙ steps_of-map (λ (x : LaneView). x.steps) lanes r l here in
     let to = ends_at lane known.link in
-    let whole = into_at plan rec ins outs to.bridge to.port spot.slot kept known.to ∙ sent_to-lane plan fixed.sound rec lane known.link known.planned in
+    let whole = into_at plan rec ins outs to.bridge to.port spot.slot kept known.to ∙ sent_to-lane plan sound.sound rec lane known.link known.planned in
     (ap (λ (o : Option LinkPlan). is_put_idle plan rec lane (steps_of rec.lanes lane) o) known.planned
     ∙ ap (λ (b : Bool). is_lane_empty (steps_of rec.lanes lane) || b) (ring_full_is plan (put (steps_of rec.lanes lane)) (received to.port (steps_of rec.bridges to.bridge)) (items_at ins spot.slot) whole)
     ∙ ap (λ (ms : List Step). is_lane_empty ms || nat_le plan.ring (length (items_at ins spot.slot))) mine
@@ -323,20 +323,20 @@ idle_put_is plan bridges lanes customers ins outs limit ring lane many spot l in
     ∙ ap (λ (b : Bool). b || nat_le plan.ring (length inbox)) (sym is_empty) ∙ ap (λ (n : ℕ). empty || nat_le n (length inbox)) (sym numbers.places) ∙ ap (λ (n : ℕ). empty || nat_le ring n) (sym is_many))
 
 pub due_put_is : (plan : Plan) (bridges : List BridgeView) (lanes : List LaneView) (customers : List PlaceView) (ins outs : List (List Item)) (limit ring lane many : ℕ) (spot : Spot) (l : LaneView) (inbox : List Item) (empty : Bool) (result : Result (Option Spot) NetFault)
-    → IsFixedPlan plan → ArePlaced plan bridges lanes customers → IsKept plan (record_of bridges lanes customers) ins outs → HasNumbers plan limit ring → IsLaneEnd plan lane spot
+    → IsSoundPlan plan → ArePlaced plan bridges lanes customers → IsKept plan (record_of bridges lanes customers) ins outs → HasNumbers plan limit ring → IsLaneEnd plan lane spot
     → l ≡ get_or lanes spot.place l → slice_get ins spot.slot ≡ Some inbox → empty ≡ is_lane_empty l.steps → many ≡ length inbox
     → IsSifted (empty || nat_le ring many) (length l.steps == limit) spot result → IsDueOr (net_of plan bridges lanes customers) (Put lane) result
-due_put_is plan bridges lanes customers ins outs limit ring lane many spot l inbox empty result fixed placed kept numbers known value box is_empty is_many sift =
+due_put_is plan bridges lanes customers ins outs limit ring lane many spot l inbox empty result sound placed kept numbers known value box is_empty is_many sift =
     let r = spot.place in
     let rec : Record = record_of bridges lanes customers in
     let here = here_is lanes r l (omega (arith, known.there, placed.lane_count)) value in
     let number : suc r ≡ lane = omega (arith, known.place) in
     let mine : steps_of rec.lanes lane ≡ l.steps = ap (λ n. steps_of rec.lanes n) (sym number) ∙ steps_of-map (λ (x : LaneView). x.steps) lanes r l here in
     let to = ends_at lane known.link in
-    let whole = into_at plan rec ins outs to.bridge to.port spot.slot kept known.to ∙ sent_to-lane plan fixed.sound rec lane known.link known.planned in
+    let whole = into_at plan rec ins outs to.bridge to.port spot.slot kept known.to ∙ sent_to-lane plan sound.sound rec lane known.link known.planned in
     sifted (net_of plan bridges lanes customers) (Put lane) (empty || nat_le ring many) (length l.steps == limit) spot result
     (named_lane plan lane r known.place known.there)
-    (idle_put_is plan bridges lanes customers ins outs limit ring lane many spot l inbox empty fixed placed kept numbers known value box is_empty is_many)
+    (idle_put_is plan bridges lanes customers ins outs limit ring lane many spot l inbox empty sound placed kept numbers known value box is_empty is_many)
     (limit_is _ _ limit plan.steps mine numbers.steps) sift
 
 -- a bridge whose event is due isn't at its limit

@@ -6,7 +6,7 @@ use Rattle.pb_lan.specs.Events.{with_step, sent_to, fetched_from}
 use Rattle.pb_lan.specs.LaneLists.{IsLawfulLane}
 use Rattle.pb_lan.specs.PortLists.{IsLawfulPort}
 use Rattle.pb_lan.specs.Records.{steps_of, received, transmitted}
-use Rattle.pb_lan.specs.Rules.{silent}
+use Rattle.pb_relay.specs.Protocol.{spanning_tree}
 use Rattle.pb_lan.specs.declared.plan.Plan.{Plan}
 use Rattle.pb_lan.specs.declared.record.Record.{Record}
 use Rattle.pb_lan.specs.declared.step.Item.{Item}
@@ -90,7 +90,7 @@ after_lane plan rec ins outs ins' outs' r step kept within lawful ins_so outs_so
 -- a bridge has
 pub after_bridge : (plan : Plan) (rec : Record) (ins outs ins' outs' : List (List Item)) (r : ℕ) (step : Step)
     → IsKept plan rec ins outs → r < length plan.bridges
-    → IsLawfulBridge silent plan (suc r) (steps_of rec.bridges (suc r) ++ step ∷ [])
+    → IsLawfulBridge spanning_tree plan (suc r) (steps_of rec.bridges (suc r) ++ step ∷ [])
     → length ins' ≡ length ins → length outs' ≡ length outs
     → ((s : ℕ) → (bridge_of s ≡ suc r → ⊥) → (items_at ins' s ≡ items_at ins s) × (items_at outs' s ≡ items_at outs s))
     → ((s : ℕ) → bridge_of s ≡ suc r → (whole : List Item) → received (port_of s) (steps_of rec.bridges (suc r)) ++ items_at ins s ≡ whole
@@ -111,8 +111,8 @@ after_bridge plan rec ins outs ins' outs' r step kept within lawful ins_so outs_
       inbox_count = ins_so ∙ kept.inbox_count;
       outbox_count = outs_so ∙ kept.outbox_count;
       bridges = λ n. elim (same_or_not n (suc r)) [
-        | inl e ↦ subst (λ k. IsLawfulBridge silent plan k (steps_of (set rec.bridges r grown) k)) (sym e) (subst (λ ms. IsLawfulBridge silent plan (suc r) ms) (sym here) lawful)
-        | inr ne ↦ subst (λ ms. IsLawfulBridge silent plan n ms) (sym (steps_of-set_other rec.bridges r n grown ne)) (kept.bridges n)
+        | inl e ↦ subst (λ k. IsLawfulBridge spanning_tree plan k (steps_of (set rec.bridges r grown) k)) (sym e) (subst (λ ms. IsLawfulBridge spanning_tree plan (suc r) ms) (sym here) lawful)
+        | inr ne ↦ subst (λ ms. IsLawfulBridge spanning_tree plan n ms) (sym (steps_of-set_other rec.bridges r n grown ne)) (kept.bridges n)
       ];
       lanes = kept.lanes;
       ports = kept.ports;

@@ -12,4 +12,4 @@ pub mod DueLemmas
 pub mod Done
 pub mod Records
 pub mod StartLemmas
-pub mod HeadlineLemmas
+mod SettledLemmas

@@ -1,5 +1,6 @@
 -- What a network keeps makes its record lawful, and what it answers makes a run.
 use Rattle.std.proofs.Common.{◌≡◌, ℕ, zero, suc, ◌+◌, ◌-◌, ◌<◌, ◌≤◌, inl, inr, Bool, true, if◌then◌else◌, nat_le, ◌&&◌, List, [], ◌∷◌, ◌++◌, Some, Ok, Err, is_some, unwrap_or, map, length, take, slice_get, get_or, refl, sym, ap, subst, ◌∙◌, arith, ne_eqb}
+use Rattle.std.proofs.Math.Dec.{leb-zero, leb-suc-zero, leb-suc-suc}
 use Rattle.std.proofs.lemmas.Bool.{eq-eqb, leb-true}
 use Rattle.std.specs.Option.{option_map}
 use Rattle.std.specs.declared.option.Option.{Option}
@@ -14,7 +15,7 @@ use Rattle.pb_lan.specs.Plans.{IsSound, IsNumber, IsSoundEnd, IsSoundCustomer}
 use Rattle.pb_lan.specs.PortLists.{fed, delivered}
 use Rattle.pb_lan.specs.Ports.{port_at, is_provider}
 use Rattle.pb_lan.specs.Records.{IsLawfulRecord, IsLawfulLink, steps_of, received, transmitted, lane_ab, lane_ba}
-use Rattle.pb_lan.specs.Rules.{silent}
+use Rattle.pb_relay.specs.Protocol.{spanning_tree}
 use Rattle.pb_lan.specs.declared.event.Event.{Event}
 use Rattle.pb_lan.specs.declared.event.Event.TheVariants.{Tick, Admin}
 use Rattle.pb_lan.specs.declared.plan.End.{End}
@@ -30,7 +31,7 @@ use Rattle.pb_relay.specs.declared.fault.BridgeFault.{BridgeFault}
 use Rattle.pb_relay.specs.declared.fault.BridgeFault.TheVariants.{StepLimit as bridge_limit, Memory as bridge_memory}
 use Rattle.pb_net.specs.Answers.{NetView, IsDue, IsAnswer, HaveRun, HasStopped}
 use Rattle.pb_net.specs.Faults.{fault_of}
-use Rattle.pb_net.specs.Nets.{IsFixedPlan, IsKept, ArePlaced}
+use Rattle.pb_net.specs.Nets.{IsSoundPlan, IsKept, ArePlaced}
 use Rattle.pb_net.specs.Slots.{IsBridgeSpot, items_at, link_of, losses_at, losses_of}
 use Rattle.pb_net.specs.declared.did.Did.{Did}
 use Rattle.pb_net.specs.declared.fault.NetFault.{NetFault}
@@ -99,19 +100,19 @@ link_lawful plan rec ins outs (suc k) link sound kept at =
     to_a h = ap (λ (t : Bool). sent_to plan rec (if t then link.b else link.a).bridge (if t then link.b else link.a).port) (sym (ba_even k)) ∙ sent_to-lane plan sound rec (lane_ba (suc k)) link h
 
 -- the record is lawful
-pub kept_lawful : (plan : Plan) (rec : Record) (ins outs : List (List Item)) → IsFixedPlan plan → IsKept plan rec ins outs → IsLawfulRecord silent plan rec
-kept_lawful plan rec ins outs fixed kept = record {
+pub kept_lawful : (plan : Plan) (rec : Record) (ins outs : List (List Item)) → IsSoundPlan plan → IsKept plan rec ins outs → IsLawfulRecord spanning_tree plan rec
+kept_lawful plan rec ins outs sound kept = record {
   bridge_count = kept.bridge_count;
   lane_count = kept.lane_count;
   customer_count = kept.customer_count;
   bridges = kept.bridges;
-  links = λ number link h. link_lawful plan rec ins outs number link fixed.sound kept h;
+  links = λ number link h. link_lawful plan rec ins outs number link sound.sound kept h;
   ports = kept.ports;
   customers = λ number c h.
-      let is = numbered-All (IsSoundCustomer plan) plan.customers number c h fixed.sound.customers in
+      let is = numbered-All (IsSoundCustomer plan) plan.customers number c h sound.sound.customers in
       record {
-        into = (items_at ins (slot_at c.bridge c.port), into_port plan rec ins outs c.bridge c.port (fed (steps_of rec.customers number)) kept is.bridge is.port (sent_to-customer plan fixed.sound rec number c h));
-        out = (items_at outs (slot_at c.bridge c.port), out_port plan rec ins outs c.bridge c.port (delivered (steps_of rec.customers number)) kept is.bridge is.port (fetched_from-customer plan fixed.sound rec number c h));
+        into = (items_at ins (slot_at c.bridge c.port), into_port plan rec ins outs c.bridge c.port (fed (steps_of rec.customers number)) kept is.bridge is.port (sent_to-customer plan sound.sound rec number c h));
+        out = (items_at outs (slot_at c.bridge c.port), out_port plan rec ins outs c.bridge c.port (delivered (steps_of rec.customers number)) kept is.bridge is.port (fetched_from-customer plan sound.sound rec number c h));
       };
 }
 
@@ -133,6 +134,16 @@ known_number xs (suc r) h = (omega arith, within xs r h)
     within [] r h = cc
     within (x ∷ xs) zero h = omega arith
     within (x ∷ xs) (suc r) h = omega (arith, within xs r h)
+
+-- the numbers of a list's things are those from 1 to its length
+pub number_is_named : {X : Type 0} (xs : List X) (n : ℕ) → (nat_le 1 n && nat_le n (length xs)) ≡ is_some (numbered xs n)
+number_is_named xs zero = refl
+number_is_named xs (suc r) = ap (λ b. b && nat_le (suc r) (length xs)) (leb-suc-suc 0 r ∙ leb-zero r) ∙ there xs r
+  where
+    there : {X : Type 0} (xs : List X) (r : ℕ) → nat_le (suc r) (length xs) ≡ is_some (slice_get xs r)
+    there [] r = leb-suc-zero r
+    there (x ∷ xs) zero = leb-suc-suc 0 (length xs) ∙ leb-zero (length xs)
+    there (x ∷ xs) (suc r) = leb-suc-suc (suc r) (length xs) ∙ there xs r
 
 -- the plan knows a lane that has a place
 pub known_lane : (n lanes : ℕ) → (nat_le 1 n && nat_le n lanes) ≡ true → (1 ≤ n) × (n ≤ lanes)

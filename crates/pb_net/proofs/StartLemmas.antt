@@ -19,7 +19,7 @@ use Rattle.pb_lan.specs.PortLists.{fed, delivered, IsLawfulPort}
 use Rattle.pb_lan.specs.Ports.{Port, port_at, is_customer_at, is_end_at, ends_of, all_ends, customer_or_else, provider_or_unused}
 use Rattle.pb_lan.specs.Ports.Port.{Customer, Provider, Unused}
 use Rattle.pb_lan.specs.Records.{steps_of, received, transmitted, lane_ab, lane_ba}
-use Rattle.pb_lan.specs.Rules.{silent}
+use Rattle.pb_relay.specs.Protocol.{spanning_tree}
 use Rattle.pb_lan.specs.declared.plan.CustomerPlan.{CustomerPlan}
 use Rattle.pb_lan.specs.declared.plan.End.{End}
 use Rattle.pb_lan.specs.declared.plan.LinkPlan.{LinkPlan}
@@ -291,7 +291,7 @@ fresh_kept plan bridges lanes customers ins outs bs ls cs is os =
       customer_count = length-map customers (λ (p : PlaceView). p.steps) ∙ cs.counted;
       inbox_count = length-map ins items_in ∙ is.counted;
       outbox_count = length-map outs items_in ∙ os.counted;
-      bridges = λ n. subst (λ (ms : List Step). IsLawfulBridge silent plan n ms) (sym (bridge n)) tt;
+      bridges = λ n. subst (λ (ms : List Step). IsLawfulBridge spanning_tree plan n ms) (sym (bridge n)) tt;
       lanes = λ n. subst (λ (ms : List Step). IsLawfulLane (losses_of plan n) ms) (sym (lane n)) (record { kinds = tt; counted = tt; held = (None, refl) });
       ports = λ n. subst (λ (ms : List Step). IsLawfulPort n ms) (sym (customer n)) (record { kinds = tt; marked = tt; held = (None, refl) });
       into = λ s. ap (λ (ms : List Step). received (port_of s) ms ++ items_at (map items_in ins) s) (bridge (bridge_of s)) ∙ inbox s ∙ sym (no_sent plan rec (bridge_of s) (port_of s) customer lane);

@@ -6,4 +6,3 @@ pub mod Lists
 pub mod Slots
 pub mod Nets
 pub mod Starts
-pub mod Headline

@@ -4,7 +4,7 @@ use Rattle.std.specs.declared.option.Option.{Option}
 use Rattle.pb_frame.specs.declared.learnt.Learnt.{Learnt}
 use Rattle.pb_lan.specs.BridgeLists.{Fits}
 use Rattle.pb_lan.specs.PortLists.{polled, fed}
-use Rattle.pb_lan.specs.Rules.{silent}
+use Rattle.pb_relay.specs.Protocol.{spanning_tree}
 use Rattle.pb_lan.specs.declared.step.Item.{Item}
 use Rattle.pb_lan.specs.declared.step.Moved.{Moved}
 use Rattle.pb_lan.specs.declared.step.Outcome.{Outcome}
@@ -33,14 +33,14 @@ pub record HasReceivedFrom (old : BridgeView) (port : ℕ) (inbox : List Item) (
   pub outcome : Outcome
   pub moved : Option Moved
   pub steps : new.steps ≡ old.steps ++ Receive port item learnt outcome moved ∷ []
-  pub fits : Fits silent old.plan old.number old.steps (Receive port item learnt outcome moved)
+  pub fits : Fits spanning_tree old.plan old.number old.steps (Receive port item learnt outcome moved)
   pub taken : inbox ≡ item ∷ inbox'
 
 -- what waits first at the port went to the back of the outbox
 pub record HasTransmittedTo (old : BridgeView) (port : ℕ) (outbox : List Item) (new : BridgeView) (outbox' : List Item) : Type 0 where
   pub item : Item
   pub steps : new.steps ≡ old.steps ++ Transmit port item ∷ []
-  pub fits : Fits silent old.plan old.number old.steps (Transmit port item)
+  pub fits : Fits spanning_tree old.plan old.number old.steps (Transmit port item)
   pub queued : outbox' ≡ outbox ++ item ∷ []
 
 -- the front of the outbox was taken by a lane

@@ -6,9 +6,8 @@ use Rattle.pb_lan.specs.LaneLists.{IsLawfulLane}
 use Rattle.pb_lan.specs.Plans.{IsSound}
 use Rattle.pb_lan.specs.PortLists.{IsLawfulPort}
 use Rattle.pb_lan.specs.Records.{steps_of, received, transmitted}
-use Rattle.pb_lan.specs.Rules.{silent}
+use Rattle.pb_relay.specs.Protocol.{spanning_tree}
 use Rattle.pb_lan.specs.declared.plan.Plan.{Plan}
-use Rattle.pb_lan.specs.declared.plan.Spanning.TheVariants.{Fixed}
 use Rattle.pb_lan.specs.declared.record.Record.{Record}
 use Rattle.pb_lan.specs.declared.step.Item.{Item}
 use Rattle.pb_link.specs.Hands.{PlaceView}
@@ -20,10 +19,9 @@ use Rattle.pb_relay.specs.Standing.{BridgeView}
 abbrev pub record_of : List BridgeView → List LaneView → List PlaceView → Record
 record_of bridges lanes customers = record { bridges = map (λ b. b.steps) bridges; lanes = map (λ l. l.steps) lanes; customers = map (λ p. p.steps) customers }
 
--- the plan is sound, and gives the states of the ports itself
-pub record IsFixedPlan (plan : Plan) : Type 0 where
+-- the plan is sound
+pub record IsSoundPlan (plan : Plan) : Type 0 where
   pub sound : IsSound plan
-  pub fixed : plan.spanning ≡ Fixed
 
 -- the places are those of the plan, in its order
 pub record ArePlaced (plan : Plan) (bridges : List BridgeView) (lanes : List LaneView) (customers : List PlaceView) : Type 0 where
@@ -42,7 +40,7 @@ pub record IsKept (plan : Plan) (rec : Record) (inboxes outboxes : List (List It
   pub customer_count : length rec.customers ≡ length plan.customers
   pub inbox_count : length inboxes ≡ 16 * length plan.bridges
   pub outbox_count : length outboxes ≡ 16 * length plan.bridges
-  pub bridges : (number : ℕ) → IsLawfulBridge silent plan number (steps_of rec.bridges number)
+  pub bridges : (number : ℕ) → IsLawfulBridge spanning_tree plan number (steps_of rec.bridges number)
   pub lanes : (number : ℕ) → IsLawfulLane (losses_of plan number) (steps_of rec.lanes number)
   pub ports : (number : ℕ) → IsLawfulPort number (steps_of rec.customers number)
   pub into : (s : ℕ) → received (port_of s) (steps_of rec.bridges (bridge_of s)) ++ items_at inboxes s ≡ sent_to plan rec (bridge_of s) (port_of s)

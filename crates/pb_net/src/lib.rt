@@ -14,6 +14,7 @@ mod events;
 mod fault;
 mod lists;
 mod net;
+mod settled;
 mod slots;
 mod spots;
 mod start;
@@ -23,6 +24,3 @@ pub use fault::NetFault;
 pub use net::Net;
 pub use pb_frame::Memory;
 pub use pb_lan::Event;
-
-#[cfg(test)]
-mod tests;

@@ -3,14 +3,15 @@
 ghost use Rattle.std.specs.Prelude.{◌≡◌, true, IfErr, OnOk};
 ghost use Rattle.pb_lan.specs.Events.{has_place, steps_at};
 ghost use Rattle.pb_lan.specs.Records.{IsLawfulRecord};
-ghost use Rattle.pb_lan.specs.Rules.{silent};
+ghost use Rattle.pb_relay.specs.Protocol.{spanning_tree};
 ghost use Rattle.pb_net.specs.Answers.{IsAnswer, HaveRun, HasStopped};
-ghost use Rattle.pb_net.specs.Headline.{IsFaithful};
+ghost use Rattle.pb_lan.specs.Headline.{IsFaithful};
 
 use crate::did::Did;
 use crate::fault::NetFault;
 use crate::lists::{Lists, bridge_steps, customer_steps, lane_steps};
 use crate::slots::Slots;
+use crate::spots::is_number;
 use pb_lan::{Event, Item, Place, Plan, Record, Step};
 use pb_link::{CustomerPlace, Lane};
 use pb_relay::Bridge;
@@ -37,7 +38,7 @@ pub struct Net {
 impl Model for Net {
     ghost use Rattle.std.specs.Prelude.{map, length, ◌*◌};
     ghost use Rattle.pb_net.specs.Answers.{NetView};
-    ghost use Rattle.pb_net.specs.Nets.{record_of, IsFixedPlan, ArePlaced, IsKept, HasNumbers};
+    ghost use Rattle.pb_net.specs.Nets.{record_of, IsSoundPlan, ArePlaced, IsKept, HasNumbers};
     ghost use Rattle.pb_net.specs.Lists.{AreEmpty};
     ghost use Rattle.pb_net.specs.Slots.{AreTables};
 
@@ -45,7 +46,7 @@ impl Model for Net {
 
     ghost view = { λ n. record { plan = n.plan; rec = record_of n.bridges.items n.lanes.items n.customers.items } };
 
-    ghost invariant = { λ n. IsFixedPlan n.plan
+    ghost invariant = { λ n. IsSoundPlan n.plan
         × ArePlaced n.plan n.bridges.items n.lanes.items n.customers.items
         × IsKept n.plan (record_of n.bridges.items n.lanes.items n.customers.items) (map (λ q. q.items) n.inboxes.items) (map (λ q. q.items) n.outboxes.items)
         × AreTables n.plan n.slots
@@ -84,11 +85,22 @@ impl Net {
         Ok(())
     }
 
+    /// Whether the plan has a place. [`steps`](Net::steps) asks this of its caller.
+    pub fn has_place(&self, place: Place) -> bool
+        ensures { result ≡ has_place self.now.plan place }
+    {
+        match place {
+            Place::Bridge(number) => is_number(number, self.bridges.len()),
+            Place::Lane(number) => is_number(number, self.lanes.len()),
+            Place::Customer(number) => is_number(number, self.customers.len()),
+        }
+    }
+
     /// The steps of a place so far. Those of all places are a lawful record.
     pub fn steps(&self, place: Place) -> &[Step]
         requires { has_place self.now.plan place ≡ true }
         ensures steps { result.now ≡ steps_at self.now.rec place }
-        ensures lawful { IsLawfulRecord silent self.now.plan self.now.rec }
+        ensures lawful { IsLawfulRecord spanning_tree self.now.plan self.now.rec }
     {
         match place {
             Place::Bridge(number) => self.bridges[number as usize - 1].steps(),
@@ -106,7 +118,7 @@ impl Net {
     /// of one port and one priority keep their order.
     pub fn finish(self) -> Record
         ensures record { result ≡ self.rec }
-        ensures lawful { IsLawfulRecord silent self.plan result }
+        ensures lawful { IsLawfulRecord spanning_tree self.plan result }
         ensures headline { IsFaithful self.plan result }
     {
         let Net {

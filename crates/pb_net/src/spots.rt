@@ -1,6 +1,6 @@
 //! Where a network has the place, and the meeting place, that a number names.
 
-ghost use Rattle.std.specs.Prelude.{◌≡◌, ◌<◌, ◌+◌, ◌⊎◌, true, false, IfSome, IfNone};
+ghost use Rattle.std.specs.Prelude.{◌≡◌, ◌<◌, ◌+◌, ◌⊎◌, true, false, nat_le, ◌&&◌, IfSome, IfNone};
 ghost use Rattle.pb_lan.specs.Events.{has_place};
 ghost use Rattle.pb_lan.specs.Ports.{is_used, is_provider, port_at};
 ghost use Rattle.pb_lan.specs.Ports.Port.{Unused};
@@ -19,6 +19,13 @@ pub(crate) fn index_of(number: u8, count: usize) -> Option<usize>
         return None;
     }
     Some(usize::from(number) - 1)
+}
+
+/// Whether there is a thing of this number, where there are so many, numbered from 1.
+pub(crate) fn is_number(number: u8, count: usize) -> bool
+    ensures { result ≡ (nat_le 1 number && nat_le number count) }
+{
+    1 <= number && usize::from(number) <= count
 }
 
 impl Net {

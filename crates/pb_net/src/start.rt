@@ -5,7 +5,6 @@ ghost use Rattle.std.specs.List.{list_any};
 ghost use Rattle.pb_lan.specs.Events.{empty_record};
 ghost use Rattle.pb_lan.specs.Plans.{IsSound, Rises};
 ghost use Rattle.pb_lan.specs.Ports.{is_customer_at, is_end_at, port_at};
-ghost use Rattle.pb_lan.specs.declared.plan.Spanning.TheVariants.{Fixed};
 ghost use Rattle.pb_net.specs.Lists.{AreEmpty};
 ghost use Rattle.pb_net.specs.Slots.{use_of, AreTables};
 ghost use Rattle.pb_net.specs.Starts.{fresh_lane, AreFreshBridges, AreFreshLanes, AreFreshCustomers, AreEmptyBoxes, AreUses, AreLaneSlots, AreCustomerSlots};
@@ -22,8 +21,7 @@ use std::collections::VecDeque;
 
 /// The bridges of a plan, none of which has taken a step.
 fn fresh_bridges(alloc: Global, plan: &Plan) -> Result<Vec<Bridge>, Memory>
-    requires sound { IsSound plan.now }
-    requires fixed { plan.now.spanning ≡ Fixed }
+    requires { IsSound plan.now }
     ensures { IfOk result (λ bridges. AreFreshBridges plan.now (length plan.now.bridges) bridges.items) }
 {
     let mut bridges = Vec::with_capacity(alloc, plan.bridges.len())?;
@@ -191,12 +189,11 @@ fn empty_lists(alloc: Global, plan: &Plan) -> Result<Lists, Memory>
 }
 
 impl Net {
-    /// The network of a sound plan (802.1Q clause 15) that gives the states of its ports itself, in
-    /// which no place has taken a step. It keeps the plan. `Memory` is answered where memory ran out,
+    /// The network of a sound plan (802.1Q clause 15), in which no place has taken a step. The plan gives
+    /// the states of the ports, or a spanning tree at each bridge decides them. It keeps the plan. `Memory` is answered where memory ran out,
     /// and nothing else is refused.
     pub fn new(alloc: Global, plan: Plan) -> Result<Net, Memory>
-        requires sound { IsSound plan }
-        requires fixed { plan.spanning ≡ Fixed }
+        requires { IsSound plan }
         ensures { IfOk result (λ net. net ≡ record { plan = plan; rec = empty_record plan }) }
     {
         let slots = 16 * plan.bridges.len();

@@ -20,7 +20,7 @@ or-false : (b : Bool) → (b || false) ≡ b
 or-false true = refl
 or-false false = refl
 
-unequal : (a b : ℕ) → a ≢ b → (a == b) ≡ false
+pub unequal : (a b : ℕ) → a ≢ b → (a == b) ≡ false
 unequal a b n = elim (a == b) as (λ t. (a == b) ≡ t → t ≡ false) [ true ↦ λ e. absurd (n (eqb-true a b e)) | false ↦ λ e. refl ] refl
 
 any-append : {X : Type 0} (t : X → Bool) (xs ys : List X) → list_any t (xs ++ ys) ≡ (list_any t xs || list_any t ys)
@@ -31,7 +31,7 @@ any-none : (t : ℕ → Bool) (xs : List ℕ) → AllByRecursion (λ x. t x ≡ 
 any-none t [] a = refl
 any-none t (x ∷ xs) a = ap (λ b. b || list_any t xs) a.0 ∙ any-none t xs a.1
 
-others-none : (p : ℕ) (xs : List ℕ) → AllByRecursion (IsOther p) xs → list_any (λ q. q == p) xs ≡ false
+pub others-none : (p : ℕ) (xs : List ℕ) → AllByRecursion (IsOther p) xs → list_any (λ q. q == p) xs ≡ false
 others-none p [] a = refl
 others-none p (x ∷ xs) a = ap (λ b. b || list_any (λ q. q == p) xs) (unequal x p a.0) ∙ others-none p xs a.1
 
@@ -56,12 +56,12 @@ none_full p (r ∷ rs) h =
     [ true ↦ λ e. cc | false ↦ λ e. none_full p rs e ] h
 
 -- what is named of a port says nothing of others
-refused-other : (p q : ℕ) (word : Option NoRoom) (rs : List (ℕ × NoRoom)) → q ≢ p → is_refused (rs ++ named p word) q ≡ is_refused rs q
+pub refused-other : (p q : ℕ) (word : Option NoRoom) (rs : List (ℕ × NoRoom)) → q ≢ p → is_refused (rs ++ named p word) q ≡ is_refused rs q
 refused-other p q None rs n = any-append (λ r. r.0 == q) rs [] ∙ or-false (is_refused rs q)
 refused-other p q (Some word) rs n =
     any-append (λ r. r.0 == q) rs ((p, word) ∷ []) ∙ ap (λ b. is_refused rs q || (b || false)) (unequal p q (λ e. n (sym e))) ∙ or-false (is_refused rs q)
 
-refused-own : (p : ℕ) (word : Option NoRoom) (rs : List (ℕ × NoRoom)) → is_refused rs p ≡ false → is_refused (rs ++ named p word) p ≡ is_some word
+pub refused-own : (p : ℕ) (word : Option NoRoom) (rs : List (ℕ × NoRoom)) → is_refused rs p ≡ false → is_refused (rs ++ named p word) p ≡ is_some word
 refused-own p None rs h = any-append (λ r. r.0 == p) rs [] ∙ ap (λ b. b || false) h
 refused-own p (Some word) rs h =
     any-append (λ r. r.0 == p) rs ((p, word) ∷ []) ∙ ap (λ b. b || ((p == p) || false)) h ∙ ap (λ b. b || false) (eq-eqb p p refl)

@@ -9,7 +9,7 @@ use Rattle.pb_lan.specs.Plans.{IsSound, IsSoundCustomer, IsSoundEnd}
 use Rattle.pb_lan.specs.Ports.{Port, port_at, vid_at, serves, is_customer_at, is_end_at, all_ends, customer_or_else, provider_or_unused}
 use Rattle.pb_lan.specs.Ports.Port.{Customer, Provider, Unused}
 use Rattle.pb_lan.specs.Queues.{vid_in}
-use Rattle.pb_lan.specs.Rules.{silent}
+use Rattle.pb_relay.specs.Protocol.{spanning_tree}
 use Rattle.pb_lan.specs.Shapes.{is_forwarding, state_by}
 use Rattle.pb_lan.specs.BridgeLists.{Ruling, first_case, customer_cases, ruling_in, ruling_by}
 use Rattle.pb_lan.specs.BridgeLists.Ruling.{Refuses, Listens, LearnsOnly, Carries}
@@ -86,7 +86,7 @@ learns_in Learning w v h = cc
 learns_in Forwarding w v h = cc
 
 -- a frame that is relayed
-pub carried : (plan : Plan) (port : Port) (state : PortState) (item : Item) (v : ℕ) → ruling_by silent plan port state item ≡ Carries v → IsAdmitted plan port item v
+pub carried : (plan : Plan) (port : Port) (state : PortState) (item : Item) (v : ℕ) → ruling_by spanning_tree plan port state item ≡ Carries v → IsAdmitted plan port item v
 carried plan (Customer c) state item v h =
     let a = from_customer item (Carries (vid_at plan c)) (Carries v) (refuses-carries v) h in
     record { long = a.0; unworn = a.1; service = carries-vid _ v a.2 }
@@ -97,7 +97,7 @@ carried plan Unused state item v h = cc
 
 -- came in where frames are forwarded
 pub forwards : (plan : Plan) (port : Port) (p : ℕ) (changes : List (ℕ × PortState)) (item : Item) (v : ℕ)
-    → ruling_by silent plan port (state_by plan.spanning port p changes) item ≡ Carries v → is_forwarding (state_by plan.spanning port p changes) ≡ true
+    → ruling_by spanning_tree plan port (state_by plan.spanning port p changes) item ≡ Carries v → is_forwarding (state_by plan.spanning port p changes) ≡ true
 forwards plan (Customer c) p changes item v h = refl
 forwards plan (Provider e) p changes item v h =
     let state = state_by plan.spanning (Provider e) p changes in
@@ -106,7 +106,7 @@ forwards plan (Provider e) p changes item v h =
 forwards plan Unused p changes item v h = cc
 
 -- a frame whose source alone is learnt
-pub overheard : (plan : Plan) (port : Port) (state : PortState) (item : Item) (v : ℕ) → ruling_by silent plan port state item ≡ LearnsOnly v → IsAdmitted plan port item v
+pub overheard : (plan : Plan) (port : Port) (state : PortState) (item : Item) (v : ℕ) → ruling_by spanning_tree plan port state item ≡ LearnsOnly v → IsAdmitted plan port item v
 overheard plan (Customer c) state item v h =
     let a = from_customer item (Carries (vid_at plan c)) (LearnsOnly v) (refuses-learns v) h in
     let never = a.2 in cc
@@ -136,7 +136,7 @@ sound_port plan b p s =
 
 -- such a frame can be made ready for other ports
 pub loadable : (plan : Plan) (port : Port) (local : LocalPort) (state : PortState) (item : Item) (v : ℕ) → IsSound plan → IsSoundPort plan port → IsKept plan port local
-    → ruling_by silent plan port state item ≡ Carries v → IsLoadable (told local) item.wire
+    → ruling_by spanning_tree plan port state item ≡ Carries v → IsLoadable (told local) item.wire
 loadable plan (Customer c) (ToCustomer vid pcp) state item v s p k h =
     let small = vid_at-small plan c s in
     let priority = p.priority in

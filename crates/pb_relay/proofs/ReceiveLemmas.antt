@@ -1,5 +1,5 @@
 -- A frame that is relayed, and a frame whose source alone is learnt.
-use Rattle.std.proofs.Common.{inr, ◌≡◌, ℕ, ◌+◌, ◌-◌, ◌<◌, ◌≤◌, true, cond, ◌==◌, Some, None, List, [], ◌∷◌, ◌++◌, length, get_or, refl, sym, ap, ◌∙◌, subst, arith}
+use Rattle.std.proofs.Common.{inl, inr, ◌≡◌, ℕ, ◌+◌, ◌-◌, ◌<◌, ◌≤◌, true, cond, ◌==◌, Some, None, List, [], ◌∷◌, ◌++◌, length, get_or, refl, sym, ap, ◌∙◌, subst, arith}
 use Rattle.std.specs.List.{AllByRecursion, filter, list_any}
 use Rattle.std.specs.Option.{option_map}
 use Rattle.std.specs.declared.option.Option.{Option}
@@ -11,7 +11,7 @@ use Rattle.pb_frame.specs.Stations.{Sighting, standing, is_sighted}
 use Rattle.pb_frame.specs.declared.learnt.Learnt.{Learnt}
 use Rattle.pb_lan.specs.Ports.{port_at, local_ports}
 use Rattle.pb_lan.specs.Queues.{is_full, vid_in, copy_of}
-use Rattle.pb_lan.specs.Rules.{silent}
+use Rattle.pb_relay.specs.Protocol.{spanning_tree}
 use Rattle.pb_lan.specs.Shapes.{state_after, changes_of, is_forwarding}
 use Rattle.pb_lan.specs.Choice.{now_after, news_of, found}
 use Rattle.pb_lan.specs.BridgeLists.{ruling, Ruling, Follows, Fits, AreRefused}
@@ -22,7 +22,7 @@ use Rattle.pb_lan.specs.declared.step.Item.{Item}
 use Rattle.pb_lan.specs.declared.step.NoRoom.{NoRoom}
 use Rattle.pb_lan.specs.declared.step.Outcome.{Outcome}
 use Rattle.pb_lan.specs.declared.step.Outcome.TheVariants.{Relayed, Filtered}
-use Rattle.pb_lan.specs.declared.step.Reason.TheVariants.{NotForwarding}
+use Rattle.pb_lan.specs.declared.step.Reason.TheVariants.{NotForwarding, Memory as WantOfMemory}
 use Rattle.pb_lan.specs.declared.step.Step.{Step}
 use Rattle.pb_lan.specs.declared.step.Step.TheVariants.{Receive}
 use Rattle.pb_relay.specs.declared.load.Load.{Load}
@@ -69,12 +69,12 @@ found_after plan b steps states queues now table newer port item learnt outcome 
 pub relayed_fits : (plan : Plan) (b : ℕ) (steps : List Step) (states : List PortState) (queues : List (List (List Item))) (now : ℕ) (table newer : List Sighting)
     (ports : List LocalPort) (capacity limit port vid : ℕ) (item : Item) (learnt : Learnt) (at : Option ℕ) (chosen : List ℕ) (refused : List (ℕ × NoRoom))
     → IsConfigured plan b ports capacity limit → IsStanding plan b steps states queues now table → 0 < plan.ageing
-    → ruling silent plan b steps port item ≡ Carries vid
+    → ruling spanning_tree plan b steps port item ≡ Carries vid
     → HasLearnt plan.ageing now vid port (src_of item.wire) table learnt newer
     → at ≡ cond (is_group (dst_of item.wire)) None (where_in plan.ageing now vid (dst_of item.wire) newer)
     → chosen ≡ filter (is_choice ports states port vid at) local_ports
     → AreRefused (is_full plan b steps) chosen refused
-    → Fits silent plan b steps (learnt_step port item learnt (Relayed chosen refused))
+    → Fits spanning_tree plan b steps (learnt_step port item learnt (Relayed chosen refused))
 relayed_fits plan b steps states queues now table newer ports capacity limit port vid item learnt at chosen refused k s ageing r h e c f =
     let step = learnt_step port item learnt (Relayed chosen refused) in
     let a = carried plan (port_at plan b port) (state_after plan b steps port) item vid r in
@@ -82,7 +82,7 @@ relayed_fits plan b steps states queues now table newer ports capacity limit por
     let stay : states ≡ _ = s.kept_states ∙ sym (states_stay plan b steps step refl) in
     let forwarding : is_forwarding (state_after plan b (steps ++ step ∷ []) port) ≡ true =
     ap is_forwarding (state_stays plan b steps step port refl) ∙ forwards plan (port_at plan b port) port (changes_of steps) item vid r in
-    subst (λ (g : Ruling). Follows silent plan b steps port item (Some learnt) (Relayed chosen refused) None g) (sym r)
+    subst (λ (g : Ruling). Follows spanning_tree plan b steps port item (Some learnt) (Relayed chosen refused) None g) (sym r)
     (inr (
       (learnt, refl, learns_is plan b steps states queues now table port item.wire learnt s t.answer),
       (
@@ -124,13 +124,13 @@ copies_are plan b ports states capacity limit port vid at item load p k h c =
 pub relayed : (plan : Plan) (b : ℕ) (steps : List Step) (states : List PortState) (queues new : List (List (List Item))) (now : ℕ) (table newer : List Sighting)
     (ports : List LocalPort) (capacity limit port vid : ℕ) (item : Item) (load : Load) (learnt : Learnt) (at : Option ℕ) (chosen : List ℕ) (refused : List (ℕ × NoRoom))
     → IsConfigured plan b ports capacity limit → IsStanding plan b steps states queues now table
-    → ruling silent plan b steps port item ≡ Carries vid
+    → ruling spanning_tree plan b steps port item ≡ Carries vid
     → IsLoadedAt plan b (port_at plan b port) item.wire load
     → HasLearnt plan.ageing now vid port (src_of item.wire) table learnt newer
     → at ≡ cond (is_group (dst_of item.wire)) None (where_in plan.ageing now vid (dst_of item.wire) newer)
     → chosen ≡ filter (is_choice ports states port vid at) local_ports → AreSeparate chosen
     → AreCopied capacity load.class (copy_at ports load item) queues chosen refused new → length new ≡ 16
-    → Fits silent plan b steps (learnt_step port item learnt (Relayed chosen refused))
+    → Fits spanning_tree plan b steps (learnt_step port item learnt (Relayed chosen refused))
     × IsStanding plan b (steps ++ learnt_step port item learnt (Relayed chosen refused) ∷ []) states new now newer
 relayed plan b steps states queues new now table newer ports capacity limit port vid item load learnt at chosen refused k s r q h e c z f n =
     let few = k.sound.limits.ageing.0 in
@@ -145,13 +145,19 @@ relayed plan b steps states queues new now table newer ports capacity limit port
           ageing (told plan b now port item vid table newer learnt a h),
     )
 
+-- a frame that was to be relayed is given up: the step fits
+pub given_up : (plan : Plan) (b : ℕ) (steps : List Step) (port : ℕ) (item : Item) (vid : ℕ) → ruling spanning_tree plan b steps port item ≡ Carries vid
+    → Fits spanning_tree plan b steps (Receive port item None (Filtered WantOfMemory) None)
+given_up plan b steps port item vid r =
+    subst (λ (g : Ruling). Follows spanning_tree plan b steps port item None (Filtered WantOfMemory) None g) (sym r) (inl (refl, refl, refl))
+
 -- a source has been learnt, and its frame goes nowhere: the step fits, and what is kept is kept
 pub learnt_alone : (plan : Plan) (b : ℕ) (steps : List Step) (states : List PortState) (queues : List (List (List Item))) (now : ℕ) (table newer : List Sighting)
     (ports : List LocalPort) (capacity limit port vid : ℕ) (item : Item) (learnt : Learnt)
     → IsConfigured plan b ports capacity limit → IsStanding plan b steps states queues now table
-    → ruling silent plan b steps port item ≡ LearnsOnly vid
+    → ruling spanning_tree plan b steps port item ≡ LearnsOnly vid
     → HasLearnt plan.ageing now vid port (src_of item.wire) table learnt newer
-    → Fits silent plan b steps (learnt_step port item learnt (Filtered NotForwarding))
+    → Fits spanning_tree plan b steps (learnt_step port item learnt (Filtered NotForwarding))
     × IsStanding plan b (steps ++ learnt_step port item learnt (Filtered NotForwarding) ∷ []) states queues now newer
 learnt_alone plan b steps states queues now table newer ports capacity limit port vid item learnt k s r h =
     let few = k.sound.limits.ageing.0 in
@@ -159,8 +165,8 @@ learnt_alone plan b steps states queues now table newer ports capacity limit por
     let step = learnt_step port item learnt (Filtered NotForwarding) in
     let a = overheard plan (port_at plan b port) (state_after plan b steps port) item vid r in
     let t = told plan b now port item vid table newer learnt a h in
-    let fits : Fits silent plan b steps step =
-    subst (λ (g : Ruling). Follows silent plan b steps port item (Some learnt) (Filtered NotForwarding) None g) (sym r)
+    let fits : Fits spanning_tree plan b steps step =
+    subst (λ (g : Ruling). Follows spanning_tree plan b steps port item (Some learnt) (Filtered NotForwarding) None g) (sym r)
     ((learnt, refl, learns_is plan b steps states queues now table port item.wire learnt s t.answer), refl, refl) in (
       fits,
       after_still plan b steps states queues now table newer step s fits refl

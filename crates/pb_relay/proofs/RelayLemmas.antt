@@ -28,7 +28,7 @@ use Rattle.pb_relay.specs.Classes.{number_in, by_class, put_in}
 use Rattle.pb_relay.proofs.StandingLemmas.{kept_at}
 use Rattle.pb_relay.specs.Copies.{AreSeparate, AreCopied, with_copy}
 use Rattle.pb_relay.specs.Standing.{IsStanding, AreClassed}
-use Rattle.pb_lan.specs.Rules.{silent}
+use Rattle.pb_relay.specs.Protocol.{spanning_tree}
 use Rattle.pb_relay.specs.Tables.{live, seen_anew, HasLearnt}
 use Rattle.pb_relay.proofs.CopyLemmas.{none_full}
 use Rattle.pb_relay.proofs.TableLemmas.{filter-twice, fresh_now, live_after, after_seen}
@@ -47,7 +47,7 @@ among P (p ∷ ports) r h a =
     [ true ↦ λ e g. subst P (eqb-true p r e) a.0 | false ↦ λ e g. among P ports r g a.1 ] refl h
 
 -- a port that gets a copy isn't full
-not_full : (full : ℕ → Bool) (chosen : List ℕ) (refused : List (ℕ × NoRoom)) (r : ℕ) → AreRefused full chosen refused
+pub not_full : (full : ℕ → Bool) (chosen : List ℕ) (refused : List (ℕ × NoRoom)) (r : ℕ) → AreRefused full chosen refused
     → list_any (λ p. p == r) chosen ≡ true → is_refused refused r ≡ false → full r ≡ false
 not_full full chosen refused r h c n = among (λ p. full p ≡ is_named_full refused p) chosen r c h.1 ∙ none_full r refused n
 
@@ -86,20 +86,20 @@ waiting-relayed plan b r port steps item learnt chosen refused =
     ∙ ap (λ ws. waiting plan b r steps ++ ws) (append-nil (copies plan b port item (Relayed chosen refused) r))
 
 -- the queues after that
-queue_relayed : (b : Bool) (class : ℕ) (item : Item) (ws : List Waiting) → class < 8
+pub queue_relayed : (b : Bool) (class : ℕ) (item : Item) (ws : List Waiting) → class < 8
     → by_class (ws ++ cond b (record { class = class; item = item } ∷ []) []) ≡ cond b (put_in class item (by_class ws)) (by_class ws)
 queue_relayed true class item ws l = by_class-push ws (record { class = class; item = item }) l
 queue_relayed false class item ws l = ap by_class (append-nil ws)
 
-classes_relayed : (b : Bool) (class : ℕ) (item : Item) (ws : List Waiting) → class < 8 → AreClassed ws → AreClassed (ws ++ cond b (record { class = class; item = item } ∷ []) [])
+pub classes_relayed : (b : Bool) (class : ℕ) (item : Item) (ws : List Waiting) → class < 8 → AreClassed ws → AreClassed (ws ++ cond b (record { class = class; item = item } ∷ []) [])
 classes_relayed true class item ws l a = All-append (λ w. w.class < 8) ws (record { class = class; item = item } ∷ []) a (l, tt)
 classes_relayed false class item ws l a = All-append (λ w. w.class < 8) ws [] a tt
 
-fewer_relayed : (b : Bool) (w : Waiting) (ws : List Waiting) (most : ℕ) → length ws ≤ most → (b ≡ true → nat_le most (length ws) ≡ false) → length (ws ++ cond b (w ∷ []) []) ≤ most
+pub fewer_relayed : (b : Bool) (w : Waiting) (ws : List Waiting) (most : ℕ) → length ws ≤ most → (b ≡ true → nat_le most (length ws) ≡ false) → length (ws ++ cond b (w ∷ []) []) ≤ most
 fewer_relayed true w ws most l n = let f = n refl in let s : length ws < most = grind (arith, nat_tests) in omega (arith, length-append ws (w ∷ []))
 fewer_relayed false w ws most l n = omega (arith, length-append ws [])
 
-and-true : (a c : Bool) → (a && not c) ≡ true → (a ≡ true) × (c ≡ false)
+pub and-true : (a c : Bool) → (a && not c) ≡ true → (a ≡ true) × (c ≡ false)
 and-true true true h = cc
 and-true true false h = (refl, refl)
 and-true false c h = cc
@@ -139,7 +139,7 @@ same_copy false c class i j e = refl
 pub after_relayed : (plan : Plan) (b : ℕ) (steps : List Step) (states : List PortState) (queues new : List (List (List Item))) (now : ℕ) (table newer : List Sighting) (port : ℕ) (item : Item)
     (learnt : Learnt) (chosen : List ℕ) (refused : List (ℕ × NoRoom)) (capacity class : ℕ) (item_at : ℕ → Item)
     → IsStanding plan b steps states queues now table
-    → Fits silent plan b steps (Receive port item (Some learnt) (Relayed chosen refused) None)
+    → Fits spanning_tree plan b steps (Receive port item (Some learnt) (Relayed chosen refused) None)
     → AreRefused (is_full plan b steps) chosen refused
     → AreCopied capacity class item_at queues chosen refused new → length new ≡ 16
     → class ≡ class_of (priority_in (port_at plan b port) item.wire) → class < 8
@@ -148,7 +148,7 @@ pub after_relayed : (plan : Plan) (b : ℕ) (steps : List Step) (states : List P
     → HasLearnt plan.ageing now (vid_in plan (port_at plan b port) item.wire) port (src_of item.wire) table learnt newer
     → IsStanding plan b (steps ++ Receive port item (Some learnt) (Relayed chosen refused) None ∷ []) states new now newer
 after_relayed plan b steps states queues new now table newer port item learnt chosen refused capacity class item_at s fits full copied count same small at ageing learns = record {
-  lawful = lawful_more silent plan b steps (Receive port item (Some learnt) (Relayed chosen refused) None) s.lawful fits;
+  lawful = lawful_more spanning_tree plan b steps (Receive port item (Some learnt) (Relayed chosen refused) None) s.lawful fits;
   kept_states = s.kept_states ∙ sym (states_stay plan b steps (Receive port item (Some learnt) (Relayed chosen refused) None) refl);
   count = count;
   kept_queues = λ r h. kept r h;

@@ -9,7 +9,8 @@ use Rattle.pb_lan.proofs.SentWasQueued.{waiting_from-append}
 use Rattle.pb_lan.specs.Ports.{Port, port_at, is_provider, is_used}
 use Rattle.pb_lan.specs.Ports.Port.{Customer, Provider, Unused}
 use Rattle.pb_lan.specs.Queues.{Waiting, waiting, capacity_of, is_full, is_refused}
-use Rattle.pb_lan.specs.Rules.{silent, is_same, from_to, planned_change, change_by, change_of, Change}
+use Rattle.pb_lan.specs.Rules.{is_same, from_to, planned_change, change_by, change_of, Change}
+use Rattle.pb_relay.specs.Protocol.{spanning_tree}
 use Rattle.pb_lan.specs.Rules.Cause.{Sets}
 use Rattle.pb_lan.specs.Shapes.{changed, changes_of, state_by, state_after, states_after, start_of}
 use Rattle.pb_lan.specs.Choice.{now_after, news_of}
@@ -63,20 +64,20 @@ moved_is plan b steps p false = refl
 
 -- the step fits
 pub set_fits : (plan : Plan) (b : ℕ) (steps : List Step) (p : ℕ) (up : Bool) → plan.spanning ≡ Fixed → is_provider (port_at plan b p) ≡ true
-    → Fits silent plan b steps (Admin p up (moved_by_setting plan b steps p up))
+    → Fits spanning_tree plan b steps (Admin p up (moved_by_setting plan b steps p up))
 set_fits plan b steps p up fixed provider = (provider, names)
   where
-    same : planned_change plan b steps (Sets p up) ≡ change_of silent plan b steps (Sets p up)
-    same = ap (λ (z : Spanning). change_by z silent plan b steps (Sets p up)) (sym fixed)
+    same : planned_change plan b steps (Sets p up) ≡ change_of spanning_tree plan b steps (Sets p up)
+    same = ap (λ (z : Spanning). change_by z spanning_tree plan b steps (Sets p up)) (sym fixed)
 
     none : (up : Bool) → (planned_change plan b steps (Sets p up)).sent ≡ []
     none true = refl
     none false = refl
 
-    unsent : (change_of silent plan b steps (Sets p up)).sent ≡ []
+    unsent : (change_of spanning_tree plan b steps (Sets p up)).sent ≡ []
     unsent = ap (λ (ch : Change). ch.sent) (sym same) ∙ none up
 
-    names : Names silent plan b steps (Sets p up) (moved_by_setting plan b steps p up)
+    names : Names spanning_tree plan b steps (Sets p up) (moved_by_setting plan b steps p up)
     names = record {
       states = ap (λ (ch : Change). ch.states) same;
       flushed = ap (λ (ch : Change). ch.flushed) same;
@@ -86,7 +87,7 @@ set_fits plan b steps p up fixed provider = (provider, names)
     }
 
 -- changes come one after another
-changed-append : (q : ℕ) (s : PortState) (xs ys : List (ℕ × PortState)) → changed q s (xs ++ ys) ≡ changed q (changed q s xs) ys
+pub changed-append : (q : ℕ) (s : PortState) (xs ys : List (ℕ × PortState)) → changed q s (xs ++ ys) ≡ changed q (changed q s xs) ys
 changed-append q s [] ys = refl
 changed-append q s (x ∷ xs) ys = changed-append q (cond (x.0 == q) x.1 s) xs ys
 
@@ -163,7 +164,7 @@ pub after_set : (plan : Plan) (b : ℕ) (steps : List Step) (states : List PortS
     → new ≡ goal_of plan b p up
     → IsStanding plan b (steps ++ Admin p up (moved_by_setting plan b steps p up) ∷ []) (set states (p - 1) new) queues now (cond up table (after table (Flushed p)))
 after_set plan b steps states queues now table p up new s fixed provider l e = record {
-  lawful = lawful_more silent plan b steps step s.lawful (set_fits plan b steps p up fixed provider);
+  lawful = lawful_more spanning_tree plan b steps step s.lawful (set_fits plan b steps p up fixed provider);
   kept_states = ap (λ (z : PortState). set states (p - 1) z) e ∙ ap (λ (ss : List PortState). set ss (p - 1) (goal_of plan b p up)) s.kept_states
       ∙ sym (states_set plan b steps p step (goal_of plan b p up) l provider (changes up));
   count = s.count;

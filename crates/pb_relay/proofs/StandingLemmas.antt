@@ -1,5 +1,5 @@
 -- What a bridge keeps, after one more step.
-use Rattle.std.proofs.Common.{◌≡◌, ℕ, zero, suc, slice_get, unwrap_or, ◌+◌, ◌-◌, ◌<◌, ◌≤◌, ◌≢◌, Bool, true, false, cond, ◌&&◌, Some, None, List, [], ◌∷◌, ◌++◌, map, length, get_or, set, ◌==◌, refl, sym, ap, ◌∙◌, subst, arith, append-nil, eq-eqb}
+use Rattle.std.proofs.Common.{not, ◌≡◌, ℕ, zero, suc, slice_get, unwrap_or, ◌+◌, ◌-◌, ◌<◌, ◌≤◌, ◌≢◌, Bool, true, false, cond, ◌&&◌, Some, None, List, [], ◌∷◌, ◌++◌, map, length, get_or, set, ◌==◌, refl, sym, ap, ◌∙◌, subst, arith, append-nil, eq-eqb}
 use Rattle.std.proofs.lemmas.Bool.{eqb-true}
 use Rattle.std.proofs.lemmas.Bool.Decides.{nat_tests}
 use Rattle.std.proofs.lemmas.List.{length-set, get_or-set_same, get_or-set_other, get_or_read}
@@ -14,13 +14,14 @@ use Rattle.pb_lan.proofs.SentWasQueued.{waiting_from-append}
 use Rattle.pb_frame.specs.Lists.{first}
 use Rattle.pb_lan.specs.Plans.{IsSound, IsSoundBridge, IsSoundCustomer, IsSoundEnd}
 use Rattle.pb_lan.specs.Ports.{port_at, is_customer_at, is_end_at, all_ends, customer_or_else, provider_or_unused}
-use Rattle.pb_lan.specs.Queues.{Waiting, waiting, queued_by, after_sending, next_out, highest, without}
+use Rattle.pb_lan.specs.Queues.{Waiting, waiting, queued_by, after_sending, next_out, highest, without, is_full, is_refused}
 use Rattle.pb_lan.specs.Shapes.{moved_of}
 use Rattle.pb_lan.specs.Choice.{now_after, news_of, ticked, sightings}
-use Rattle.pb_lan.specs.BridgeLists.{Fits, Names}
+use Rattle.pb_lan.specs.BridgeLists.{Fits, Names, AreRefused, own_item}
+use Rattle.pb_lan.specs.Rules.{Cause, Change, nothing, planned_change, change_by, change_of}
 use Rattle.pb_lan.specs.Rules.Cause.{Ticks}
 use Rattle.pb_lan.specs.declared.plan.Spanning.{Spanning}
-use Rattle.pb_lan.specs.declared.plan.Spanning.TheVariants.{Fixed, Rstp}
+use Rattle.pb_lan.specs.declared.plan.Spanning.TheVariants.{Fixed}
 use Rattle.pb_lan.specs.declared.plan.Plan.{Plan}
 use Rattle.pb_lan.specs.declared.plan.End.{End}
 use Rattle.pb_lan.specs.declared.plan.CustomerPlan.{CustomerPlan}
@@ -33,7 +34,7 @@ use Rattle.pb_relay.specs.Classes.{by_class, after_first, first_out, number_in, 
 use Rattle.pb_lan.specs.Ports.{is_used}
 use Rattle.pb_relay.specs.Standing.{IsStanding, AreClassed}
 use Rattle.pb_relay.specs.Changes.{unmoved}
-use Rattle.pb_lan.specs.Rules.{silent}
+use Rattle.pb_relay.specs.Protocol.{spanning_tree}
 use Rattle.pb_relay.proofs.WaitingLemmas.{next_by_class, rest_by_class, number_by_class, without-below}
 use Rattle.pb_relay.proofs.StepLemmas.{lawful_more, states_stay, states_unmoved, now_more, news_stay, news_more}
 
@@ -80,7 +81,7 @@ pub after_transmit : (plan : Plan) (b : ℕ) (steps : List Step) (states : List 
     → IsStanding plan b steps states queues now table → (1 ≤ p) × (p ≤ 16) → next_out (waiting plan b p steps) ≡ Some item
     → IsStanding plan b (steps ++ Transmit p item ∷ []) states (set queues (p - 1) (after_first (get_or queues (p - 1) []))) now table
 after_transmit plan b steps states queues now table p item s l n = record {
-  lawful = lawful_more silent plan b steps (Transmit p item) s.lawful n;
+  lawful = lawful_more spanning_tree plan b steps (Transmit p item) s.lawful n;
   kept_states = s.kept_states ∙ sym (states_stay plan b steps (Transmit p item) refl);
   count = length-set _ _ _ ∙ s.count;
   kept_queues = λ r h. at r h;
@@ -186,12 +187,12 @@ transmitted plan b steps states queues now table p s l q rest e r item n more m 
 
 -- a step that queues nothing and moves nothing leaves all that is kept but the table
 pub after_still : (plan : Plan) (b : ℕ) (steps : List Step) (states : List PortState) (queues : List (List (List Item))) (now : ℕ) (table newer : List Sighting) (step : Step)
-    → IsStanding plan b steps states queues now table → Fits silent plan b steps step
+    → IsStanding plan b steps states queues now table → Fits spanning_tree plan b steps step
     → moved_of step ≡ [] → filter (is_fresh plan.ageing now) newer ≡ standing plan.ageing now (news_of plan b (steps ++ step ∷ []))
     → ticked step ≡ 0 → ((r : ℕ) → queued_by plan b r step ≡ []) → ((r : ℕ) (ws : List Waiting) → after_sending r step ws ≡ ws)
     → IsStanding plan b (steps ++ step ∷ []) states queues now newer
 after_still plan b steps states queues now table newer step s f m n t q a = record {
-  lawful = lawful_more silent plan b steps step s.lawful f;
+  lawful = lawful_more spanning_tree plan b steps step s.lawful f;
   kept_states = s.kept_states ∙ sym (states_stay plan b steps step m);
   count = s.count;
   kept_queues = λ r h. s.kept_queues r h ∙ ap by_class (sym (still (r + 1)));
@@ -210,7 +211,7 @@ after_still plan b steps states queues now table newer step s f m n t q a = reco
 
 -- and the table too, where it tells nothing of stations
 pub after_quiet : (plan : Plan) (b : ℕ) (steps : List Step) (states : List PortState) (queues : List (List (List Item))) (now : ℕ) (table : List Sighting) (step : Step)
-    → IsStanding plan b steps states queues now table → Fits silent plan b steps step
+    → IsStanding plan b steps states queues now table → Fits spanning_tree plan b steps step
     → moved_of step ≡ [] → sightings plan b (now_after steps) step ≡ [] → ticked step ≡ 0 → ((r : ℕ) → queued_by plan b r step ≡ []) → ((r : ℕ) (ws : List Waiting) → after_sending r step ws ≡ ws)
     → IsStanding plan b (steps ++ step ∷ []) states queues now table
 after_quiet plan b steps states queues now table step s f m n t q a =
@@ -231,22 +232,22 @@ filter-both p q h (x ∷ xs) =
       | false ↦ λ e. filter-both p q h xs ∙ ap (λ b. cond b (x ∷ filter p xs) (filter p xs)) e
     ] (h x)
 
-live_later : (ageing now : ℕ) (table : List Sighting) → filter (is_fresh ageing (now + 1)) table ≡ filter (is_fresh ageing (now + 1)) (filter (is_fresh ageing now) table)
+pub live_later : (ageing now : ℕ) (table : List Sighting) → filter (is_fresh ageing (now + 1)) table ≡ filter (is_fresh ageing (now + 1)) (filter (is_fresh ageing now) table)
 live_later ageing now table = sym (filter-both (is_fresh ageing (now + 1)) (is_fresh ageing now) (still_fresh ageing now) table)
 
-standing_later : (ageing now : ℕ) (news : List News) → filter (is_fresh ageing (now + 1)) (standing ageing now news) ≡ standing ageing (now + 1) news
+pub standing_later : (ageing now : ℕ) (news : List News) → filter (is_fresh ageing (now + 1)) (standing ageing now news) ≡ standing ageing (now + 1) news
 standing_later ageing now news =
     ap (filter (is_fresh ageing (now + 1))) (sym (table_tells_what_stands ageing now news))
     ∙ sym (live_later ageing now (after_all [] news)) ∙ table_tells_what_stands ageing (now + 1) news
 
 -- where the clock ticks, and nothing moves
 pub after_tick : (plan : Plan) (b : ℕ) (steps : List Step) (states : List PortState) (queues : List (List (List Item))) (now : ℕ) (table newer : List Sighting) (moved : Moved)
-    → IsStanding plan b steps states queues now table → Fits silent plan b steps (Tick (now + 1) moved)
+    → IsStanding plan b steps states queues now table → Fits spanning_tree plan b steps (Tick (now + 1) moved)
     → moved.states ≡ [] → moved.flushed ≡ [] → moved.queued ≡ []
     → filter (is_fresh plan.ageing (now + 1)) newer ≡ filter (is_fresh plan.ageing (now + 1)) table
     → IsStanding plan b (steps ++ Tick (now + 1) moved ∷ []) states queues (now + 1) newer
 after_tick plan b steps states queues now table newer moved s f m l q d = record {
-  lawful = lawful_more silent plan b steps (Tick (now + 1) moved) s.lawful f;
+  lawful = lawful_more spanning_tree plan b steps (Tick (now + 1) moved) s.lawful f;
   kept_states = s.kept_states ∙ sym (states_unmoved plan b steps (Tick (now + 1) moved) (ap (λ cs. cs ++ []) m));
   count = s.count;
   kept_queues = λ r h. s.kept_queues r h ∙ ap by_class (sym (still (r + 1)));
@@ -267,13 +268,26 @@ after_tick plan b steps states queues now table newer moved s f m l q d = record
     still r = waiting_from-append plan b r [] steps (Tick (now + 1) moved)
         ∙ ap (λ ws. waiting plan b r steps ++ ws) (own-none r moved.queued q) ∙ append-nil (waiting plan b r steps)
 
--- a tick that moves nothing fits
-pub tick_fits : (plan : Plan) (b now : ℕ) (steps : List Step) → now ≡ now_after steps → Fits silent plan b steps (Tick (now + 1) unmoved)
-tick_fits plan b now steps e = (ap (λ n. n + 1) e, names plan.spanning)
+-- where the plan gives the states, a cause that changes nothing is told by no move
+pub fixed_names : (plan : Plan) (b : ℕ) (steps : List Step) (cause : Cause) → plan.spanning ≡ Fixed → planned_change plan b steps cause ≡ nothing
+    → Names spanning_tree plan b steps cause unmoved
+fixed_names plan b steps cause fixed none = record {
+  states = ap (λ (ch : Change). ch.states) same;
+  flushed = ap (λ (ch : Change). ch.flushed) same;
+  queued = ap (λ (ss : List (ℕ × List ℕ)). map own_item (filter (λ s. not (is_refused [] s.0)) ss)) unsent;
+  dropped = subst (λ (ss : List (ℕ × List ℕ)). AreRefused (is_full plan b steps) (map (λ s. s.0) ss) []) unsent (refl, tt);
+  own = tt;
+}
   where
-    names : (z : Spanning) → Names silent (record plan { spanning = z }) b steps Ticks unmoved
-    names Fixed = record { states = refl; flushed = refl; queued = refl; dropped = (refl, tt); own = tt }
-    names Rstp = record { states = refl; flushed = refl; queued = refl; dropped = (refl, tt); own = tt }
+    same : nothing ≡ change_of spanning_tree plan b steps cause
+    same = sym none ∙ ap (λ (z : Spanning). change_by z spanning_tree plan b steps cause) (sym fixed)
+
+    unsent : [] ≡ (change_of spanning_tree plan b steps cause).sent
+    unsent = ap (λ (ch : Change). ch.sent) same
+
+-- a tick that moves nothing fits
+pub tick_fits : (plan : Plan) (b now : ℕ) (steps : List Step) → plan.spanning ≡ Fixed → now ≡ now_after steps → Fits spanning_tree plan b steps (Tick (now + 1) unmoved)
+tick_fits plan b now steps fixed e = (ap (λ n. n + 1) e, fixed_names plan b steps Ticks fixed refl)
 
 ticked-few : (step : Step) → ticked step ≤ 1
 ticked-few (Tick now moved) = omega arith

@@ -19,12 +19,12 @@ use Rattle.pb_relay.specs.Roles.{LocalPort, serves_of}
 use Rattle.pb_relay.specs.Roles.LocalPort.{ToCustomer, ToBridge, ToNobody}
 use Rattle.pb_relay.specs.LocalPorts.{IsKept, IsConfigured}
 use Rattle.pb_lan.specs.Ports.{is_used}
-use Rattle.pb_lan.specs.Rules.{silent}
+use Rattle.pb_relay.specs.Protocol.{spanning_tree}
 use Rattle.pb_relay.specs.Verdicts.{local_ruling, bridge_cases, is_to_somebody, by_refusal}
 use Rattle.pb_relay.proofs.WaitingLemmas.{count_up}
 
 -- the ruling by what is kept of a port is the ruling there
-pub ruled : (plan : Plan) (port : Port) (local : LocalPort) (state : PortState) (item : Item) → IsKept plan port local → local_ruling local state item ≡ ruling_by silent plan port state item
+pub ruled : (plan : Plan) (port : Port) (local : LocalPort) (state : PortState) (item : Item) → IsKept plan port local → local_ruling local state item ≡ ruling_by spanning_tree plan port state item
 ruled plan (Customer c) (ToCustomer vid pcp) state item k = ap (λ v. first_case (customer_cases item) (Carries v)) k.0
 ruled plan (Provider e) (ToBridge start vids) state item k = served (serves_of vids (vid_of item.wire)) (serves plan (vid_of item.wire) e) (k.1 (vid_of item.wire))
   where
@@ -74,7 +74,7 @@ kept_port plan b ports capacity limit p local s l e =
 -- the ruling by what is kept
 pub rule_is : (plan : Plan) (b : ℕ) (steps : List Step) (states : List PortState) (p : ℕ) (local : LocalPort) (item : Item) (d : PortState)
     → states ≡ states_after plan b steps → (1 ≤ p) × (p ≤ 16) → IsKept plan (port_at plan b p) local
-    → local_ruling local (get_or states (p - 1) d) item ≡ ruling silent plan b steps p item
+    → local_ruling local (get_or states (p - 1) d) item ≡ ruling spanning_tree plan b steps p item
 rule_is plan b steps states p local item d e l k =
     ap (λ z. local_ruling local (get_or z (p - 1) d) item) e
     ∙ ap (λ z. local_ruling local z item) (at_port (state_after plan b steps) p d l.0 l.1)

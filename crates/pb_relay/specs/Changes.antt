@@ -1,6 +1,7 @@
 -- What changes a bridge's ports, and its clock.
 use Rattle.std.specs.Prelude.{◌≡◌, ℕ, ◌+◌, Bool, true, false, List, [], ◌∷◌}
-use Rattle.pb_lan.specs.Rules.{silent, planned_change, from_to}
+use Rattle.pb_lan.specs.Rules.{planned_change, from_to}
+use Rattle.pb_relay.specs.Protocol.{spanning_tree}
 use Rattle.pb_lan.specs.Rules.Cause.{Sets}
 use Rattle.pb_lan.specs.Choice.{now_after}
 use Rattle.pb_lan.specs.BridgeLists.{Fits}
@@ -18,13 +19,13 @@ use Rattle.pb_relay.specs.declared.ports.Local.TheVariants.{Customer as customer
 abbrev pub unmoved : Moved
 unmoved = record { states = []; flushed = []; queued = []; dropped = [] }
 
--- the bridge has appended one tick, which moved nothing
+-- the bridge has appended one tick, and the step is lawful there
 abbrev pub HasTicked : BridgeView → BridgeView → Type 0
 HasTicked old new =
-    (new ≡ with_step old (Tick (now_after old.steps + 1) unmoved))
-    × Fits silent old.plan old.number old.steps (Tick (now_after old.steps + 1) unmoved)
+    (moved : Moved) × (new ≡ with_step old (Tick (now_after old.steps + 1) moved))
+    × Fits spanning_tree old.plan old.number old.steps (Tick (now_after old.steps + 1) moved)
 
--- what moves where a port is set up or down
+-- what moves where a port is set up or down, and the plan gives the states
 abbrev pub moved_by_setting : Plan → ℕ → List Step → ℕ → Bool → Moved
 moved_by_setting plan number steps port up = record {
   states = (planned_change plan number steps (Sets port up)).states;
@@ -36,8 +37,8 @@ moved_by_setting plan number steps port up = record {
 -- the bridge has appended the one step of the port that is set up or down, and the step is lawful there
 abbrev pub HasSet : BridgeView → ℕ → Bool → BridgeView → Type 0
 HasSet old port up new =
-    (new ≡ with_step old (Admin port up (moved_by_setting old.plan old.number old.steps port up)))
-    × Fits silent old.plan old.number old.steps (Admin port up (moved_by_setting old.plan old.number old.steps port up))
+    (moved : Moved) × (new ≡ with_step old (Admin port up moved))
+    × Fits spanning_tree old.plan old.number old.steps (Admin port up moved)
 
 -- the state of a port that is set up or down
 abbrev pub state_set : Local → Bool → PortState

@@ -1,8 +1,9 @@
 -- The kinds of local ports.
-use Rattle.std.specs.Prelude.{Bool, true, false}
+use Rattle.std.specs.Prelude.{◌≡◌, ◌≤◌, ℕ, List, Bool, true, false, slice_index_or}
 use Rattle.pb_relay.specs.declared.ports.Local.{Local}
 use Rattle.pb_relay.specs.declared.ports.Local.TheVariants.{Customer, Bridge, Nobody}
 use Rattle.pb_relay.specs.Roles.{LocalPort, told}
+use Rattle.pb_relay.specs.Roles.LocalPort.{ToNobody}
 
 -- a customer is there
 abbrev pub is_customer_told : Local → Bool
@@ -21,3 +22,7 @@ is_bridge_told Nobody = false
 
 abbrev pub is_to_bridge : LocalPort → Bool
 is_to_bridge port = is_bridge_told (told port)
+
+-- from this place on there is nothing
+abbrev pub IsNothingFrom : List LocalPort → ℕ → Type 0
+IsNothingFrom ports place = (k : ℕ) → place ≤ k → slice_index_or ports k ToNobody ≡ ToNobody

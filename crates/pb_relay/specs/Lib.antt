@@ -1,3 +1,5 @@
+pub mod Protocol
+pub mod Machines
 pub mod Classes
 pub mod Roles
 pub mod Kinds
@@ -6,7 +8,11 @@ pub mod Standing
 pub mod Verdicts
 pub mod Tables
 pub mod Copies
+pub mod Moves
+pub mod Bpdus
+pub mod Following
 pub mod Rooms
 pub mod Loads
 pub mod Changes
 pub mod Starts
+pub mod Settled

@@ -4,7 +4,6 @@ use Rattle.pb_lan.specs.Ports.{Port, port_at, vid_at, has_vid, serves}
 use Rattle.pb_lan.specs.Ports.Port.{Customer, Provider, Unused}
 use Rattle.pb_lan.specs.Plans.{IsSound}
 use Rattle.pb_lan.specs.declared.plan.Plan.{Plan}
-use Rattle.pb_lan.specs.declared.plan.Spanning.TheVariants.{Fixed}
 use Rattle.pb_lan.specs.Queues.{capacity_of}
 use Rattle.pb_relay.specs.Roles.{LocalPort, serves_of}
 use Rattle.pb_relay.specs.Roles.LocalPort.{ToCustomer, ToBridge, ToNobody}
@@ -19,7 +18,6 @@ IsKept plan _ _ = ⊥
 -- what a bridge keeps of a plan is so
 pub record IsConfigured (plan : Plan) (number : ℕ) (ports : List LocalPort) (capacity limit : ℕ) : Type 0 where
   pub sound : IsSound plan
-  pub fixed : plan.spanning ≡ Fixed
   pub count : length ports ≡ 16
   pub kept_ports : (r : ℕ) → r < 16 → IsKept plan (port_at plan number (r + 1)) (slice_index_or ports r ToNobody)
   pub most : capacity ≡ capacity_of plan number

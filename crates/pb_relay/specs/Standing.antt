@@ -1,9 +1,9 @@
 -- What a bridge keeps of its steps.
-use Rattle.std.specs.Prelude.{◌≡◌, ℕ, ◌+◌, ◌<◌, ◌≤◌, Bool, true, false, List, [], ◌∷◌, ◌++◌, length, slice_index_or}
+use Rattle.std.specs.Prelude.{◌≡◌, ℕ, ◌+◌, ◌<◌, ◌≤◌, Bool, true, false, List, [], ◌∷◌, ◌++◌, length, slice_index_or, IfSome}
 use Rattle.std.specs.List.{AllByRecursion, filter}
 use Rattle.pb_frame.specs.Stations.{Sighting, is_fresh, standing}
 use Rattle.pb_lan.specs.Shapes.{states_after}
-use Rattle.pb_lan.specs.Rules.{silent}
+use Rattle.pb_relay.specs.Protocol.{spanning_tree}
 use Rattle.pb_lan.specs.Queues.{Waiting, waiting}
 use Rattle.pb_lan.specs.Choice.{now_after, news_of}
 use Rattle.pb_lan.specs.BridgeLists.{IsLawfulBridge, Fits}
@@ -32,7 +32,7 @@ AreClassed ws = AllByRecursion (λ w. w.class < 8) ws
 
 -- the steps are lawful, and what is kept of them is so
 pub record IsStanding (plan : Plan) (number : ℕ) (steps : List Step) (states : List PortState) (queues : List (List (List Item))) (now : ℕ) (table : List Sighting) : Type 0 where
-  pub lawful : IsLawfulBridge silent plan number steps
+  pub lawful : IsLawfulBridge spanning_tree plan number steps
   pub kept_states : states ≡ states_after plan number steps
   pub count : length queues ≡ 16
   pub kept_queues : (r : ℕ) → r < 16 → slice_index_or queues r [] ≡ by_class (waiting plan number (r + 1) steps)
@@ -55,4 +55,8 @@ abbrev pub HasReceived : BridgeView → ℕ → Item → Outcome → BridgeView 
 HasReceived old port item outcome new =
     (learnt : Option Learnt) × (moved : Option Moved)
     × (new ≡ with_step old (Receive port item learnt outcome moved))
-    × Fits silent old.plan old.number old.steps (Receive port item learnt outcome moved)
+    × Fits spanning_tree old.plan old.number old.steps (Receive port item learnt outcome moved)
+
+-- and what is told of its outcome, if it is, is so
+abbrev pub HasTaken : BridgeView → ℕ → Item → Option Outcome → BridgeView → Type 0
+HasTaken old port item told new = (outcome : Outcome) × HasReceived old port item outcome new × IfSome told (λ o. o ≡ outcome)

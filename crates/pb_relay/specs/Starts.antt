@@ -1,7 +1,9 @@
 -- The states in which ports start.
 use Rattle.std.specs.Prelude.{◌≡◌, ℕ, ◌+◌, ◌<◌, List, None, map, length, slice_index_or}
 use Rattle.pb_lan.specs.Ports.{port_at}
+use Rattle.pb_lan.specs.Shapes.{start_by}
 use Rattle.pb_lan.specs.declared.plan.Plan.{Plan}
+use Rattle.pb_lan.specs.declared.plan.Spanning.{Spanning}
 use Rattle.pb_lan.specs.declared.shape.PortState.{PortState}
 use Rattle.pb_lan.specs.declared.shape.PortState.TheVariants.{Discarding, Forwarding}
 use Rattle.pb_relay.specs.LocalPorts.{IsKept}
@@ -11,11 +13,11 @@ use Rattle.pb_relay.specs.declared.ports.Local.{Local}
 use Rattle.pb_relay.specs.declared.ports.Local.TheVariants.{Customer as customer_there, Bridge as bridge_there, Nobody as nobody_there}
 use Rattle.pb_svlan.specs.ServiceTables.{ServiceTable, role_at}
 
--- the state in which a port starts, where the plan gives the states
-abbrev pub first_state : Local → PortState
-first_state (customer_there vid pcp) = Forwarding
-first_state (bridge_there start) = start
-first_state nobody_there = Discarding
+-- the state in which a port starts
+abbrev pub first_state : Spanning → Local → PortState
+first_state spanning (customer_there vid pcp) = Forwarding
+first_state spanning (bridge_there start) = start_by spanning start
+first_state spanning nobody_there = Discarding
 
 -- the first n local ports are kept as the plan has them
 pub record KeepsPorts (plan : Plan) (number : ℕ) (ports : List LocalPort) (n : ℕ) : Type 0 where

@@ -14,15 +14,16 @@ use Rattle.pb_svlan.specs.declared.entered.Refuse.TheVariants.{Short, Long as To
 use Rattle.pb_lan.specs.BridgeLists.Ruling.{Closed}
 use Rattle.pb_lan.specs.BridgeLists.{first_case, customer_cases, ruling_in}
 use Rattle.pb_lan.specs.declared.shape.PortState.{PortState}
-use Rattle.pb_lan.specs.Rules.{silent}
+use Rattle.pb_relay.specs.Protocol.{spanning_tree}
 use Rattle.pb_relay.specs.Roles.{LocalPort, serves_of}
 use Rattle.pb_relay.specs.Roles.LocalPort.{ToCustomer, ToBridge, ToNobody}
 use Rattle.pb_relay.specs.declared.verdict.Verdict.{Verdict}
-use Rattle.pb_relay.specs.declared.verdict.Verdict.TheVariants.{Refuse, Learn, Carry}
+use Rattle.pb_relay.specs.declared.verdict.Verdict.TheVariants.{Refuse, Hear, Learn, Carry}
 
 -- the ruling that a verdict tells
 abbrev pub as_ruling : Verdict → Ruling
 as_ruling (Refuse reason) = Refuses reason
+as_ruling Hear = Listens
 as_ruling (Learn vid) = LearnsOnly vid
 as_ruling (Carry vid) = Carries vid
 
@@ -44,7 +45,7 @@ bridge_cases serves item =
     (nat_lt (length item.wire) 14, Refuses Malformed)
     ∷ (nat_lt 1996 (length item.wire), Refuses Long)
     ∷ (is_for_bridges item.wire && has_service_type item.wire, Refuses (Reserved 8))
-    ∷ (is_for_bridges item.wire && silent.is_readable item.wire, Listens)
+    ∷ (is_for_bridges item.wire && spanning_tree.is_readable item.wire, Listens)
     ∷ (is_for_bridges item.wire, Refuses Malformed)
     ∷ (is_reserved (dst_of item.wire), Refuses (reserved_as item.wire))
     ∷ (not (has_service_type item.wire), Refuses Untagged)

@@ -3,27 +3,31 @@
 ghost use Rattle.std.specs.Option.{option_copied};
 ghost use Rattle.std.specs.Prelude.{◌≡◌, ◌<◌, ◌++◌, ◌∷◌, [], ◌↔◌, vec_len, vec_capacity, length, true, OnOk, OnErr, IsErrOf, IsOk};
 ghost use Rattle.pb_lan.specs.BridgeLists.{IsLawfulBridge, Fits};
-ghost use Rattle.pb_lan.specs.Ports.{port_at, is_used};
+ghost use Rattle.pb_lan.specs.Ports.{port_at, is_used, is_provider};
 ghost use Rattle.pb_lan.specs.Queues.{waiting, next_out};
-ghost use Rattle.pb_lan.specs.Rules.{silent};
+ghost use Rattle.pb_relay.specs.Protocol.{spanning_tree};
 ghost use Rattle.pb_lan.specs.Shapes.{states_after};
 ghost use Rattle.pb_lan.specs.declared.step.Step.TheVariants.{Transmit};
+ghost use Rattle.pb_relay.specs.Machines.{machine_in};
 ghost use Rattle.pb_relay.specs.Standing.{with_step};
 
 use crate::fault::BridgeFault;
-use crate::ports::LocalPorts;
+use crate::ports::{LocalPorts, PORTS, is_bridge, is_customer};
 use crate::queues::PortQueues;
 use crate::room::Spare;
 use pb_fdb::Fdb;
+use pb_frame::Mac;
 use pb_lan::{Item, Plan, PortState, Step};
+use pb_rstp::Rstp;
 use std::alloc::Global;
 use std::marker::Model;
 
-/// A bridge of a sound plan that gives the states of its ports itself.
+/// A bridge of a sound plan. The plan gives the states of its ports itself, or the Rapid Spanning Tree
+/// Protocol decides them.
 ///
 /// Contracts see the plan, the bridge's number there, the list of its steps, and whether there is
-/// room for one more step. The list is always lawful. All else that is kept, the states, the queues
-/// and the learning table, follows from it.
+/// room for one more step. The list is always lawful. All else that is kept, the states, the queues,
+/// the learning table and the spanning tree, follows from it.
 #[derive(Drop)]
 pub struct Bridge {
     pub(crate) alloc: Global,
@@ -45,6 +49,10 @@ pub struct Bridge {
     pub(crate) table: Fdb,
     /// The number of ticks.
     pub(crate) clock: u32,
+    /// The bridge's address, from which its BPDUs come.
+    pub(crate) address: Mac,
+    /// The spanning tree, where the protocol decides the states.
+    pub(crate) rstp: Option<Rstp>,
     /// Lists for the next frame that is relayed.
     pub(crate) spare: Spare,
     pub(crate) steps: Vec<Step>,
@@ -57,6 +65,7 @@ impl Model for Bridge {
     ghost use Rattle.pb_relay.specs.Standing.{BridgeView, IsStanding, HasRoom};
     ghost use Rattle.pb_relay.specs.Tables.{IsTableOf};
     ghost use Rattle.pb_relay.specs.LocalPorts.{IsConfigured};
+    ghost use Rattle.pb_relay.specs.Machines.{IsSpanning};
 
     ghost Value = { BridgeView };
 
@@ -65,7 +74,8 @@ impl Model for Bridge {
     ghost invariant = { λ b. IsConfigured b.plan b.number b.ports b.capacity b.limit
         × IsStanding b.plan b.number b.steps.items b.states b.queues.items b.clock b.table.sightings
         × HasRoom b.steps.items (vec_capacity b.steps) b.limit b.is_reserved
-        × IsTableOf b.plan b.clock b.table };
+        × IsTableOf b.plan b.clock b.table
+        × IsSpanning b.plan b.number b.steps.items b.rstp b.address.0 };
 }
 
 /// Puts a step into the room that is there for it.
@@ -80,7 +90,7 @@ impl Bridge {
     /// The steps so far.
     pub fn steps(&self) -> &[Step]
         ensures steps { result.now ≡ self.now.steps }
-        ensures lawful { IsLawfulBridge silent self.now.plan self.now.number self.now.steps }
+        ensures lawful { IsLawfulBridge spanning_tree self.now.plan self.now.number self.now.steps }
     {
         self.steps.as_slice()
     }
@@ -88,7 +98,7 @@ impl Bridge {
     /// The steps, and no bridge any more.
     pub fn into_steps(self) -> Vec<Step>
         ensures steps { result.items ≡ self.steps }
-        ensures lawful { IsLawfulBridge silent self.plan self.number self.steps }
+        ensures lawful { IsLawfulBridge spanning_tree self.plan self.number self.steps }
     {
         let Bridge {
             alloc: _,
@@ -101,6 +111,8 @@ impl Bridge {
             limit: _,
             table: _,
             clock: _,
+            address: _,
+            rstp: _,
             spare: _,
             steps,
             is_reserved: _,
@@ -130,6 +142,29 @@ impl Bridge {
         Ok(())
     }
 
+    /// Whether the bridge uses the port of this number, for a customer or for another bridge.
+    pub fn has_port(&self, port: u8) -> bool
+        ensures { result ≡ is_used (port_at self.now.plan self.now.number port) }
+    {
+        let ports = &self.ports;
+        if port == 0 || port as usize > PORTS {
+            return false;
+        }
+        let local = ports.at(port as usize - 1);
+        is_customer(local) | is_bridge(local)
+    }
+
+    /// Whether the port of this number goes to another bridge.
+    pub fn has_link(&self, port: u8) -> bool
+        ensures { result ≡ is_provider (port_at self.now.plan self.now.number port) }
+    {
+        let ports = &self.ports;
+        if port == 0 || port as usize > PORTS {
+            return false;
+        }
+        is_bridge(ports.at(port as usize - 1))
+    }
+
     /// The number of items that wait at a port, in all traffic classes.
     pub fn waiting(&self, port: u8) -> u16
         requires { is_used (port_at self.now.plan self.now.number port) ≡ true }
@@ -155,7 +190,7 @@ impl Bridge {
         requires reserved { self.old.is_reserved ≡ true }
         requires some { 0 < length (waiting self.old.plan self.old.number port self.old.steps) }
         ensures step { self.new ≡ with_step self.old (Transmit port result) }
-        ensures fits { Fits silent self.old.plan self.old.number self.old.steps (Transmit port result) }
+        ensures fits { Fits spanning_tree self.old.plan self.old.number self.old.steps (Transmit port result) }
     {
         let queues = &mut self.queues[port as usize - 1];
         let Some(twin) = queues.pop() else {
@@ -165,6 +200,14 @@ impl Bridge {
         self.is_reserved = false;
         append(&mut self.steps, Step::Transmit { port, item: copy });
         item
+    }
+
+    /// The spanning tree of the bridge, where the protocol decides the states of its ports, and None where
+    /// the plan gives them. Takes no memory.
+    pub fn rstp(&self) -> Option<&Rstp>
+        ensures { option_copied result ≡ machine_in self.now.plan self.now.number self.now.steps }
+    {
+        self.rstp.as_ref()
     }
 
     /// The states of the local ports 1 to 16.

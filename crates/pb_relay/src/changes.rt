@@ -4,6 +4,8 @@ ghost use Rattle.std.specs.Prelude.{◌≡◌, ◌↔◌, ◌<◌, length, true,
 ghost use Rattle.pb_fdb.specs.Tables.{flushed};
 ghost use Rattle.pb_lan.specs.Ports.{port_at, is_provider};
 ghost use Rattle.pb_lan.specs.Rules.{is_same, from_to};
+ghost use Rattle.pb_lan.specs.declared.plan.Spanning.TheVariants.{Fixed};
+ghost use Rattle.pb_relay.specs.Machines.{is_by_protocol};
 ghost use Rattle.pb_relay.specs.Changes.{HasTicked, HasSet, unmoved, moved_by_setting, moved_to, state_set, ports_flushed};
 
 use crate::bridge::{Bridge, append};
@@ -11,28 +13,42 @@ use crate::fault::BridgeFault;
 use crate::ports::Local;
 use pb_fdb::Fdb;
 use pb_frame::{Memory, Seq};
-use pb_lan::{Moved, PortState, Step};
+use pb_lan::{Moved, PortState, Spanning, Step};
 use std::alloc::Global;
 
 impl Bridge {
     /// The clock ticks: a second has gone by.
     ///
+    /// Where the protocol decides the states, its timers go on, and ports may change and BPDUs be queued.
+    ///
     /// `StepLimit` is answered exactly where the list holds the plan's number of steps, `Memory`
-    /// where there is no room for one more: never after `reserve_step`. Then nothing has changed.
+    /// where there is no room for one more, or none for what the protocol tells. Then nothing has
+    /// changed. Where the plan gives the states, it is never answered after `reserve_step`.
     pub fn tick(&mut self) -> Result<(), BridgeFault>
         ensures ok { OnOk result (HasTicked self.old self.new) }
         ensures err { OnErr result (self.new ≡ self.old) }
         ensures limit { IsErrOf result BridgeFault.StepLimit ↔ (length self.old.steps ≡ self.old.plan.steps) }
-        ensures reserved { self.old.is_reserved ≡ true → IsOk result }
+        ensures reserved { self.old.plan.spanning ≡ Fixed → self.old.is_reserved ≡ true → IsOk result }
     {
+        if self.is_spanning() {
+            return self.tick_tree();
+        }
         self.reserve_step()?;
         self.advance();
         Ok(())
     }
 
-    /// Appends a tick.
+    /// The protocol decides the states.
+    fn is_spanning(&self) -> bool
+        ensures { result ≡ is_by_protocol self.now.plan.spanning }
+    {
+        matches!(self.plan.spanning, Spanning::Rstp)
+    }
+
+    /// Appends a tick, where the plan gives the states.
     fn advance(&mut self)
-        requires { self.old.is_reserved ≡ true }
+        requires reserved { self.old.is_reserved ≡ true }
+        requires fixed { self.old.plan.spanning ≡ Fixed }
         ensures { HasTicked self.old self.new }
     {
         self.is_reserved = false;
@@ -48,7 +64,8 @@ impl Bridge {
     }
 
     /// Sets a port to another bridge down, which makes it Discarding and forgets its stations, or up
-    /// again, in the state in which it started.
+    /// again, in the state in which it started. Where the protocol decides the states, the port is up or
+    /// down for it from now on, and what it tells is done; setting what already holds changes nothing.
     ///
     /// `StepLimit` is answered exactly where the list holds the plan's number of steps, `Memory`
     /// where there is none for the step. Then nothing has changed.
@@ -58,6 +75,9 @@ impl Bridge {
         ensures err { OnErr result (self.new ≡ self.old) }
         ensures limit { IsErrOf result BridgeFault.StepLimit ↔ (length self.old.steps ≡ self.old.plan.steps) }
     {
+        if self.is_spanning() {
+            return self.admin_tree(port, up);
+        }
         if self.steps.len() == self.limit {
             return Err(BridgeFault::StepLimit);
         }
@@ -83,6 +103,7 @@ impl Bridge {
     /// Sets a port up or down, and appends the step that tells of it.
     fn set(&mut self, port: u8, up: bool, moved: Moved)
         requires provider { is_provider (port_at self.old.plan self.old.number port) ≡ true }
+        requires fixed { self.old.plan.spanning ≡ Fixed }
         requires reserved { self.old.is_reserved ≡ true }
         requires moved { moved ≡ moved_by_setting self.old.plan self.old.number self.old.steps port up }
         ensures { HasSet self.old port up self.new }
@@ -98,7 +119,7 @@ impl Bridge {
 }
 
 /// No change.
-fn nothing_moved(alloc: Global) -> Moved
+pub(crate) fn nothing_moved(alloc: Global) -> Moved
     ensures { result ≡ unmoved }
 {
     Moved {

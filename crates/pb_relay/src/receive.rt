@@ -1,15 +1,17 @@
 //! What a bridge does with a frame that comes in at a port (IEEE 802.1Q clause 8).
 
-ghost use Rattle.std.specs.Prelude.{ℕ, ◌++◌, ◌∷◌, [], vec_len, vec_capacity, ◌≡◌, ◌≤◌, ◌<◌, ◌↔◌, length, true, IfOk, IfErr, OnErr, IsErrOf, IsOk, if◌then◌else◌, None};
+ghost use Rattle.std.specs.Prelude.{ℕ, ◌++◌, ◌∷◌, [], vec_len, vec_capacity, ◌≡◌, ◌≤◌, ◌<◌, ◌↔◌, length, true, IfOk, IfErr, OnOk, OnErr, IsSome, IsErrOf, IsOk, if◌then◌else◌, None};
 ghost use Rattle.pb_frame.specs.Frames.{src_of, dst_of, is_group};
-ghost use Rattle.pb_lan.specs.BridgeLists.{ruling};
+ghost use Rattle.pb_lan.specs.BridgeLists.{ruling, Fits};
 ghost use Rattle.pb_lan.specs.BridgeLists.Ruling.{Refuses, LearnsOnly, Carries};
 ghost use Rattle.pb_lan.specs.Ports.{port_at, is_used};
-ghost use Rattle.pb_lan.specs.Rules.{silent};
+ghost use Rattle.pb_relay.specs.Protocol.{spanning_tree};
+ghost use Rattle.pb_lan.specs.declared.step.Outcome.TheVariants.{Filtered};
+ghost use Rattle.pb_lan.specs.declared.step.Reason.TheVariants.{Memory as WantOfMemory};
 ghost use Rattle.pb_lan.specs.declared.step.Step.TheVariants.{Receive};
 ghost use Rattle.pb_relay.specs.Loads.{IsLoadedAt};
 ghost use Rattle.pb_relay.specs.Rooms.{IsEmptyRoom};
-ghost use Rattle.pb_relay.specs.Standing.{HasReceived};
+ghost use Rattle.pb_relay.specs.Standing.{HasReceived, HasTaken};
 ghost use Rattle.pb_fdb.specs.Tables.{where_in};
 ghost use Rattle.pb_relay.specs.Verdicts.{as_ruling};
 
@@ -26,7 +28,7 @@ use pb_lan::{Item, Outcome, Reason, Step};
 
 impl Bridge {
     /// Rules on an item that comes in at a port, learns its source, queues its copies and appends
-    /// the Receive step that tells of it.
+    /// the Receive step that tells of it, whose outcome it answers too.
     ///
     /// `StepLimit` is answered exactly where the list holds the plan's number of steps, `Memory`
     /// where there is no room for one more: never after `reserve_step`. Then nothing has changed,
@@ -39,20 +41,56 @@ impl Bridge {
         ensures limit { IsErrOf result (BridgeFault.StepLimit, item) ↔ (length self.old.steps ≡ self.old.plan.steps) }
         ensures reserved { self.old.is_reserved ≡ true → IsOk result }
     {
+        let Some(outcome) = self.admit(port, item, true)? else {
+            unreachable!();
+        };
+        Ok(outcome)
+    }
+
+    /// Does as [`Bridge::receive`], with its faults, and answers no outcome: the step tells of it.
+    /// Without the copy it takes less memory.
+    pub fn take_in(&mut self, port: u8, item: Item) -> Result<(), (BridgeFault, Item)>
+        requires { is_used (port_at self.old.plan self.old.number port) ≡ true }
+        ensures ok { OnOk result ((outcome : Outcome) × HasReceived self.old port item outcome self.new) }
+        ensures err { OnErr result (self.new ≡ self.old) }
+        ensures handed { IfErr result (λ e. e.1 ≡ item) }
+        ensures limit { IsErrOf result (BridgeFault.StepLimit, item) ↔ (length self.old.steps ≡ self.old.plan.steps) }
+        ensures reserved { self.old.is_reserved ≡ true → IsOk result }
+    {
+        let _ = self.admit(port, item, false)?;
+        Ok(())
+    }
+
+    /// Receives an item, and tells the outcome where that is asked for.
+    fn admit(
+        &mut self,
+        port: u8,
+        item: Item,
+        is_told: bool,
+    ) -> Result<Option<Outcome>, (BridgeFault, Item)>
+        requires { is_used (port_at self.old.plan self.old.number port) ≡ true }
+        ensures ok { IfOk result (λ told. HasTaken self.old port item told self.new) }
+        ensures told { IfOk result (λ told. is_told ≡ true → IsSome told) }
+        ensures err { OnErr result (self.new ≡ self.old) }
+        ensures handed { IfErr result (λ e. e.1 ≡ item) }
+        ensures limit { IsErrOf result (BridgeFault.StepLimit, item) ↔ (length self.old.steps ≡ self.old.plan.steps) }
+        ensures reserved { self.old.is_reserved ≡ true → IsOk result }
+    {
         if let Err(fault) = self.reserve_step() {
             return Err((fault, item));
         }
         match self.rule(port, &item) {
-            Verdict::Refuse(reason) => Ok(self.refuse(port, item, reason)),
-            Verdict::Learn(vid) => Ok(self.learn_only(port, item, vid)),
-            Verdict::Carry(vid) => Ok(self.relay(port, item, vid)),
+            Verdict::Refuse(reason) => Ok(Some(self.refuse(port, item, reason))),
+            Verdict::Hear => Ok(Some(self.hear(port, item))),
+            Verdict::Learn(vid) => Ok(Some(self.learn_only(port, item, vid))),
+            Verdict::Carry(vid) => Ok(self.relay(port, item, vid, is_told)),
         }
     }
 
     /// What is to be done with an item that comes in at a port.
     fn rule(&self, port: u8, item: &Item) -> Verdict
         requires { is_used (port_at self.now.plan self.now.number port) ≡ true }
-        ensures { as_ruling result ≡ ruling silent self.now.plan self.now.number self.now.steps port item.now }
+        ensures { as_ruling result ≡ ruling spanning_tree self.now.plan self.now.number self.now.steps port item.now }
     {
         let ports = &self.ports;
         let place = port as usize - 1;
@@ -62,7 +100,7 @@ impl Bridge {
     /// Appends a step that tells that the item goes nowhere.
     fn refuse(&mut self, port: u8, item: Item, reason: Reason) -> Outcome
         requires reserved { self.old.is_reserved ≡ true }
-        requires ruling { ruling silent self.old.plan self.old.number self.old.steps port item ≡ Refuses reason }
+        requires ruling { ruling spanning_tree self.old.plan self.old.number self.old.steps port item ≡ Refuses reason }
         ensures { HasReceived self.old port item result self.new }
     {
         self.is_reserved = false;
@@ -70,10 +108,10 @@ impl Bridge {
         Outcome::Filtered(reason)
     }
 
-    /// Appends a step that tells that there is no memory to relay the item.
-    fn give_up(&mut self, port: u8, item: Item) -> Outcome
+    /// Appends a step that tells that there is no memory to relay or to hear the item.
+    pub(crate) fn give_up(&mut self, port: u8, item: Item) -> Outcome
         requires reserved { self.old.is_reserved ≡ true }
-        requires ruling { (vid : ℕ) × (ruling silent self.old.plan self.old.number self.old.steps port item ≡ Carries vid) }
+        requires fits { Fits spanning_tree self.old.plan self.old.number self.old.steps (Receive port item None (Filtered WantOfMemory) None) }
         ensures { HasReceived self.old port item result self.new }
     {
         self.is_reserved = false;
@@ -90,7 +128,7 @@ impl Bridge {
     /// Learns the source of an item that goes nowhere, at a port that is Learning.
     fn learn_only(&mut self, port: u8, item: Item, vid: u16) -> Outcome
         requires reserved { self.old.is_reserved ≡ true }
-        requires ruling { ruling silent self.old.plan self.old.number self.old.steps port item ≡ LearnsOnly vid }
+        requires ruling { ruling spanning_tree self.old.plan self.old.number self.old.steps port item ≡ LearnsOnly vid }
         ensures { HasReceived self.old port item result self.new }
     {
         let source = source_of(item.wire.as_slice());
@@ -107,39 +145,49 @@ impl Bridge {
     }
 
     /// Relays an item in its service, or gives it up where there is no memory to begin.
-    fn relay(&mut self, port: u8, item: Item, vid: u16) -> Outcome
+    fn relay(&mut self, port: u8, item: Item, vid: u16, is_told: bool) -> Option<Outcome>
         requires used { is_used (port_at self.old.plan self.old.number port) ≡ true }
         requires reserved { self.old.is_reserved ≡ true }
-        requires ruling { ruling silent self.old.plan self.old.number self.old.steps port item ≡ Carries vid }
-        ensures { HasReceived self.old port item result self.new }
+        requires ruling { ruling spanning_tree self.old.plan self.old.number self.old.steps port item ≡ Carries vid }
+        ensures taken { HasTaken self.old port item result self.new }
+        ensures told { is_told ≡ true → IsSome result }
     {
         let ports = &self.ports;
         let local = ports.at(port as usize - 1);
         let Ok(load) = Load::new(self.alloc, ports, local, &item.wire) else {
-            return self.give_up(port, item);
+            return Some(self.give_up(port, item));
         };
-        let Ok(room) = self.take_room() else {
-            return self.give_up(port, item);
+        let Ok(room) = self.take_room(is_told) else {
+            return Some(self.give_up(port, item));
         };
         self.carry(port, item, vid, load, room)
     }
 
     /// Lists for the outcome of an item.
-    fn take_room(&mut self) -> Result<Room, Memory>
+    fn take_room(&mut self, is_told: bool) -> Result<Room, Memory>
         ensures room { IfOk result IsEmptyRoom }
+        ensures told { IfOk result (λ room. is_told ≡ true → IsSome room.told) }
         ensures kept { self.new ≡ self.old }
     {
-        self.spare.room(self.alloc)
+        self.spare.room(self.alloc, is_told)
     }
 
     /// Learns the source of an item, chooses its ports and queues its copies there.
-    fn carry(&mut self, port: u8, item: Item, vid: u16, load: Load, mut room: Room) -> Outcome
+    fn carry(
+        &mut self,
+        port: u8,
+        item: Item,
+        vid: u16,
+        load: Load,
+        mut room: Room,
+    ) -> Option<Outcome>
         requires used { is_used (port_at self.old.plan self.old.number port) ≡ true }
         requires reserved { self.old.is_reserved ≡ true }
-        requires ruling { ruling silent self.old.plan self.old.number self.old.steps port item ≡ Carries vid }
+        requires ruling { ruling spanning_tree self.old.plan self.old.number self.old.steps port item ≡ Carries vid }
         requires load { IsLoadedAt self.old.plan self.old.number (port_at self.old.plan self.old.number port) item.wire load }
         requires room { IsEmptyRoom room }
-        ensures { HasReceived self.old port item result self.new }
+        ensures taken { HasTaken self.old port item result self.new }
+        ensures told { IsSome room.told → IsSome result }
     {
         let frame = item.wire.as_slice();
         let learnt = self.table.learn(vid, source_of(frame), port, self.clock);

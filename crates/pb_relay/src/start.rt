@@ -7,7 +7,7 @@ ghost use Rattle.pb_frame.specs.Lists.{first};
 ghost use Rattle.pb_lan.specs.Plans.{IsSound, IsNumber};
 ghost use Rattle.pb_lan.specs.Ports.{port_at, is_customer_at, is_end_at, ends_of};
 ghost use Rattle.pb_lan.specs.Queues.{capacity_of};
-ghost use Rattle.pb_lan.specs.declared.plan.Spanning.TheVariants.{Fixed};
+ghost use Rattle.pb_lan.specs.Shapes.{start_by};
 ghost use Rattle.pb_svlan.specs.ServiceTables.{vid_of, is_known, are_known, has_name, has_vid, is_taken, role_at, attached, carried};
 ghost use Rattle.pb_svlan.specs.declared.port.Join.{Join};
 ghost use Rattle.pb_svlan.specs.declared.port.Role.TheVariants.{Customer, Trunk};
@@ -17,12 +17,13 @@ ghost use Rattle.pb_relay.specs.Roles.{local_as, told};
 ghost use Rattle.pb_relay.specs.Starts.{first_state, HasServices, KeepsPorts};
 
 use crate::bridge::Bridge;
+use crate::machine::{address, machine};
 use crate::ports::{Local, LocalPorts};
 use crate::queues::PortQueues;
 use crate::room::Spare;
 use pb_fdb::Fdb;
 use pb_frame::Memory;
-use pb_lan::{CustomerPlan, End, LinkPlan, Plan, PortState, ServicePlan};
+use pb_lan::{CustomerPlan, End, LinkPlan, Plan, PortState, ServicePlan, Spanning};
 use pb_svlan::{AddFault, JoinFault, Services, Vid};
 use std::alloc::Global;
 
@@ -61,7 +62,7 @@ fn services_of(alloc: Global, plan: &Plan) -> Result<Services, Memory>
 }
 
 /// The customer port that stands there.
-fn customer_at(customers: &[CustomerPlan], bridge: u8, port: u8) -> Option<&CustomerPlan>
+pub(crate) fn customer_at(customers: &[CustomerPlan], bridge: u8, port: u8) -> Option<&CustomerPlan>
     ensures { option_copied result ≡ first (is_customer_at bridge port) customers.now }
 {
     for customer in customers {
@@ -73,7 +74,7 @@ fn customer_at(customers: &[CustomerPlan], bridge: u8, port: u8) -> Option<&Cust
 }
 
 /// The end of a link that stands there.
-fn end_at(links: &[LinkPlan], bridge: u8, port: u8) -> Option<&End>
+pub(crate) fn end_at(links: &[LinkPlan], bridge: u8, port: u8) -> Option<&End>
     ensures { option_copied result ≡ first (is_end_at bridge port) (flat_map ends_of links.now) }
 {
     for link in links {
@@ -155,25 +156,36 @@ fn local_ports(alloc: Global, plan: &Plan, number: u8) -> Result<LocalPorts, Mem
     Ok(LocalPorts::of(services, starts))
 }
 
+/// The state in which a port to another bridge starts: that of the plan, or Discarding where the protocol
+/// decides the states.
+fn start_by(spanning: Spanning, start: PortState) -> PortState
+    ensures { result ≡ start_by spanning start }
+{
+    match spanning {
+        Spanning::Fixed => start,
+        Spanning::Rstp => PortState::Discarding,
+    }
+}
+
 /// The state in which a port starts.
-fn start_state(port: Local) -> PortState
-    ensures { result ≡ first_state port }
+fn start_state(spanning: Spanning, port: Local) -> PortState
+    ensures { result ≡ first_state spanning port }
 {
     match port {
         Local::Customer { .. } => PortState::Forwarding,
-        Local::Bridge { start } => start,
+        Local::Bridge { start } => start_by(spanning, start),
         Local::Nobody => PortState::Discarding,
     }
 }
 
 /// The states in which the local ports start.
-fn start_states(ports: &LocalPorts) -> [PortState; 16]
+fn start_states(spanning: Spanning, ports: &LocalPorts) -> [PortState; 16]
     requires { length ports.now ≡ 16 }
-    ensures { result ≡ map (λ port. first_state (told port)) ports.now }
+    ensures { result ≡ map (λ port. first_state spanning (told port)) ports.now }
 {
     let mut states = [PortState::Discarding; 16];
     for r in 0..16usize {
-        states[r] = start_state(ports.at(r));
+        states[r] = start_state(spanning, ports.at(r));
     }
     states
 }
@@ -199,17 +211,17 @@ fn capacity(plan: &Plan, number: u8) -> usize
 
 impl Bridge {
     /// The bridge of this number, at its start: no step is in its list, nothing waits, no station is
-    /// known, and each local port has the state that the plan gives it.
+    /// known, and each local port has the state that the plan gives it. Where the protocol decides the
+    /// states, ports to other bridges are Discarding, and their spanning tree is at its start.
     ///
     /// `Memory` is answered where there was none for what the bridge keeps of the plan.
     pub fn new(alloc: Global, plan: &Plan, number: u8) -> Result<Bridge, Memory>
         requires sound { IsSound plan.now }
-        requires fixed { plan.now.spanning ≡ Fixed }
         requires bridge { IsNumber number (length plan.now.bridges) }
         ensures { IfOk result (λ bridge. bridge ≡ record { plan = plan.now; number = number; steps = []; is_reserved = false }) }
     {
         let ports = local_ports(alloc, plan, number)?;
-        let states = start_states(&ports);
+        let states = start_states(plan.spanning, &ports);
         Ok(Bridge {
             alloc,
             plan: plan.clone()?,
@@ -221,6 +233,8 @@ impl Bridge {
             limit: plan.steps as usize,
             table: Fdb::new(alloc, STATIONS, plan.ageing),
             clock: 0,
+            address: address(plan, number),
+            rstp: machine(alloc, plan, number)?,
             spare: Spare::new(alloc),
             steps: Vec::new(alloc),
             is_reserved: false,

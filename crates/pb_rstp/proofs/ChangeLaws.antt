@@ -1,9 +1,9 @@
 -- What a call tells names each change once, and an old Root port is Discarding.
-use Rattle.std.proofs.Common.{◌≡◌, ℕ, ◌+◌, ◌≤◌, ◌<◌, List, [], ◌∷◌, ◌++◌, Some, None, refl, sym, ap, ap₂, ◌∙◌, subst, Bool, true, false, is_some, ◌==◌, ◌&&◌, not, if◌then◌else◌, map, inl, inr, arith}
+use Rattle.std.proofs.Common.{◌≡◌, ℕ, ◌+◌, ◌≤◌, List, [], ◌∷◌, ◌++◌, Some, None, refl, sym, ap, ap₂, ◌∙◌, Bool, true, false, ◌==◌, if◌then◌else◌, map, arith}
 use Rattle.std.specs.declared.option.Option.{Option}
-use Rattle.std.specs.List.{flat_map, filter, list_any, AllByRecursion}
+use Rattle.std.specs.List.{filter}
 use Rattle.std.specs.Option.{option_map}
-use Rattle.std.proofs.lemmas.Bool.{eqb-true, eq-eqb}
+use Rattle.std.proofs.lemmas.Bool.{eqb-true}
 use Rattle.pb_bpdu.specs.declared.bpdu.Bpdu.{Bpdu}
 use Rattle.pb_frame.specs.Lists.{first}
 use Rattle.pb_frame.proofs.Lists.{Some-injective}
@@ -11,16 +11,15 @@ use Rattle.pb_lan.specs.Rules.{from_to, is_same}
 use Rattle.pb_lan.specs.Shapes.{changed}
 use Rattle.pb_lan.specs.declared.shape.PortState.{PortState}
 use Rattle.pb_lan.specs.declared.shape.PortState.TheVariants.{Discarding, Learning, Forwarding}
-use Rattle.pb_rstp.specs.Changes.{IsSamePort, AreMoving, HoldsOldRoots, state_of, told_state, new_state, NamesChanges, ChangesLeadOn}
-use Rattle.pb_rstp.specs.Machine.{settle, nothing}
+use Rattle.pb_rstp.specs.Changes.{AreMoving, state_of, told_state, new_state, NamesChanges, ChangesLeadOn}
+use Rattle.pb_rstp.specs.Machine.{settle}
 use Rattle.pb_rstp.specs.Messages.{message_of}
-use Rattle.pb_rstp.specs.Ports.{Machine, is_root, is_designated, is_discarding, id_of, port_of, delay_of}
 use Rattle.pb_rstp.specs.Rising.{AreRising}
-use Rattle.pb_rstp.specs.Settling.{nows, each, is_flushed, is_sending, after_sending, with_sent, settled, state_changes, flushed, sent}
+use Rattle.pb_rstp.specs.Settling.{nows, is_flushed, is_sending, with_sent, settled, state_changes}
 use Rattle.pb_rstp.specs.declared.moving.Heard.{Heard}
 use Rattle.pb_rstp.specs.declared.moving.Moving.{Moving}
 use Rattle.pb_rstp.specs.declared.port.Port.{Port}
-use Rattle.pb_rstp.proofs.MovingLaws.{moving_settled, moving_sent, first-none, port_of-cons}
+use Rattle.pb_rstp.proofs.MovingLaws.{moving_settled, first-none, port_of-cons}
 
 -- Each list rises.
 

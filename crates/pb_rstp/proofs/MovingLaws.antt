@@ -1,5 +1,5 @@
 -- The steps of a call keep the ports.
-use Rattle.std.proofs.Common.{◌≡◌, ◌≢◌, ℕ, ◌≤◌, ◌<◌, List, [], ◌∷◌, Some, None, refl, sym, ap, ◌∙◌, subst, Bool, true, false, is_some, nat_lt, ◌-◌, ◌==◌, ◌&&◌, not, if◌then◌else◌, map, arith}
+use Rattle.std.proofs.Common.{◌≡◌, ℕ, ◌≤◌, List, [], ◌∷◌, Some, None, refl, sym, ap, ◌∙◌, subst, Bool, true, false, is_some, nat_lt, ◌-◌, ◌==◌, ◌&&◌, not, if◌then◌else◌, map, arith}
 use Rattle.std.specs.declared.option.Option.{Option}
 use Rattle.std.specs.List.{list_any, AllByRecursion}
 use Rattle.std.proofs.lemmas.Bool.{eqb-true}
@@ -15,7 +15,7 @@ use Rattle.pb_rstp.specs.Ports.{Machine, is_designated, is_forwarding, delay_of,
 use Rattle.pb_rstp.specs.Rising.{AreRising}
 use Rattle.pb_rstp.specs.Roles.{root_vector}
 use Rattle.pb_rstp.specs.Vectors.{is_same_vector}
-use Rattle.pb_rstp.specs.Settling.{befores, nows, moved_on, each, with_role, with_roles, without_agreement, with_agreements, without_info, with_infos, with_state, with_states, synced, agreeing, with_agreement_at, with_proposal, is_proposed, is_root_agreeing, with_changing, with_topology, after_sending, with_sent, in_line, settled}
+use Rattle.pb_rstp.specs.Settling.{befores, nows, each, with_role, with_roles, without_agreement, with_agreements, without_info, with_infos, with_state, with_states, synced, agreeing, with_agreement_at, with_proposal, is_proposed, is_root_agreeing, with_changing, with_topology, after_sending, with_sent, in_line, settled}
 use Rattle.pb_rstp.specs.declared.moving.Heard.{Heard}
 use Rattle.pb_rstp.specs.declared.moving.Moving.{Moving}
 use Rattle.pb_rstp.specs.declared.port.Port.{Port}

@@ -7,10 +7,10 @@ use Rattle.pb_lan.specs.declared.shape.PortState.TheVariants.{Forwarding}
 use Rattle.pb_rstp.specs.Changes.{IsSamePort, AreMoving, HoldsOldRoots}
 use Rattle.pb_rstp.specs.Laws.{IsInLine}
 use Rattle.pb_rstp.specs.Machine.{settle}
-use Rattle.pb_rstp.specs.Ports.{Machine, is_root, is_designated, is_discarding, id_of, delay_of}
-use Rattle.pb_rstp.specs.Roles.{root_vector, came_from, role_by, other_role, HasRole, IsRootVector}
+use Rattle.pb_rstp.specs.Ports.{is_root, is_designated, is_discarding, id_of, delay_of}
+use Rattle.pb_rstp.specs.Roles.{root_vector, came_from, other_role, HasRole, IsRootVector}
 use Rattle.pb_rstp.specs.Vectors.{is_same_vector, port_id}
-use Rattle.pb_rstp.specs.Settling.{befores, nows, moved_on, each, with_role, with_roles, without_agreement, with_agreements, without_info, with_infos, held_back, forwarding_if_agreed, designated_state, state_by, with_state, with_states, synced, agreeing, with_agreement_at, with_proposal, is_proposed, is_root_agreeing, is_agreeing, with_changing, is_telling, after_sending, is_sending, with_sent, in_line, settled}
+use Rattle.pb_rstp.specs.Settling.{befores, nows, each, with_role, with_roles, without_agreement, with_agreements, without_info, with_infos, held_back, forwarding_if_agreed, designated_state, state_by, with_state, synced, agreeing, with_agreement_at, with_proposal, is_proposed, is_root_agreeing, is_agreeing, with_changing, is_telling, after_sending, is_sending, with_sent, in_line, settled}
 use Rattle.pb_rstp.specs.declared.moving.Heard.{Heard}
 use Rattle.pb_rstp.specs.declared.moving.Moving.{Moving}
 use Rattle.pb_rstp.specs.declared.port.Port.{Port}

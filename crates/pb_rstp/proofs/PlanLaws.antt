@@ -1,5 +1,5 @@
 -- The machines of a plan's bridges have the plan's ports, whatever they were told.
-use Rattle.std.proofs.Common.{◌≡◌, ℕ, suc, ◌+◌, ◌≤◌, ◌<◌, List, [], ◌∷◌, ◌++◌, Some, None, Ok, Err, refl, sym, ap, ◌∙◌, subst, Bool, true, false, ◌==◌, ◌||◌, if◌then◌else◌, map, length, inl, inr, slice_get, arith, lit<, lit≤}
+use Rattle.std.proofs.Common.{◌≡◌, ℕ, suc, ◌+◌, ◌≤◌, ◌<◌, List, [], ◌∷◌, ◌++◌, Some, None, Ok, Err, refl, sym, ap, ◌∙◌, Bool, true, false, ◌==◌, ◌||◌, if◌then◌else◌, map, length, inl, inr, slice_get, arith, lit<, lit≤}
 use Rattle.std.specs.declared.option.Option.{Option}
 use Rattle.std.specs.declared.result.Result.{Result}
 use Rattle.std.specs.List.{flat_map, list_any, AllByRecursion}
@@ -20,17 +20,16 @@ use Rattle.pb_lan.specs.declared.plan.Plan.{Plan}
 use Rattle.pb_lan.specs.declared.plan.End.{End}
 use Rattle.pb_lan.specs.declared.plan.LinkPlan.{LinkPlan}
 use Rattle.pb_lan.specs.declared.step.Step.{Step}
-use Rattle.pb_rstp.specs.Changes.{IsSamePort, AreSamePorts, IsSameBridge}
+use Rattle.pb_rstp.specs.Changes.{AreSamePorts, IsSameBridge}
 use Rattle.pb_rstp.specs.Machine.{moved_by, ticking, is_hello_time, hello_after, heard_at, hearing, setting, hear_by, hear_at, admin_at, admin_by, is_same_setting, unchanged}
 use Rattle.pb_rstp.specs.Ports.{Machine, fresh, delay_of, port_of}
-use Rattle.pb_rstp.specs.Profile.{after, hear_read, causes_of, machine_after, rstp_port, rstp_ports, machine_at_start, machine_of}
+use Rattle.pb_rstp.specs.Profile.{after, hear_read, causes_of, machine_after, rstp_port, machine_at_start, machine_of}
 use Rattle.pb_rstp.specs.Rising.{AreRising}
 use Rattle.pb_rstp.specs.Roles.{root_vector}
-use Rattle.pb_rstp.specs.Tree.{StandsAt, HasPorts, HasPortAt, AreMachines, CallsKeepBridges, machines_of, PlannedAreMachines}
-use Rattle.pb_rstp.specs.declared.config.RstpPort.{RstpPort}
+use Rattle.pb_rstp.specs.Tree.{HasPorts, HasPortAt, CallsKeepBridges, machines_of, PlannedAreMachines}
 use Rattle.pb_rstp.specs.declared.port.Port.{Port}
 use Rattle.pb_rstp.proofs.ForestLaws.{numbered-at}
-use Rattle.pb_rstp.proofs.MovingLaws.{is_same_port, same_port-trans, same_ports, is_same_bridge, moving_by, same_hearing, same_ticking, same_setting, settle_same, rising-same, port_of-cons}
+use Rattle.pb_rstp.proofs.MovingLaws.{same_port-trans, same_ports, is_same_bridge, moving_by, same_hearing, same_ticking, same_setting, settle_same, rising-same, port_of-cons}
 
 -- Calls keep the bridge.
 
@@ -74,7 +73,7 @@ same_ports-trans (p ∷ ps) (q ∷ qs) [] h k = absurd k
 same_ports-trans (p ∷ ps) (q ∷ qs) (r ∷ rs) h k = (same_port-trans p q r h.0 k.0, same_ports-trans ps qs rs h.1 k.1)
 
 -- whatever the causes were
-same_after : (machine : Machine) (causes : List Cause) → AreSamePorts machine.ports (machine_after machine causes).ports
+pub same_after : (machine : Machine) (causes : List Cause) → AreSamePorts machine.ports (machine_after machine causes).ports
 same_after machine [] = same_ports machine.ports
 same_after machine (cause ∷ causes) =
     same_ports-trans machine.ports (after machine cause).machine.ports (machine_after (after machine cause).machine causes).ports
@@ -129,7 +128,7 @@ found-same k (x ∷ xs) (y ∷ ys) h p e = by_test (x.number == k) refl (λ f. f
 
 -- The ports of a plan.
 
-rising-ports : (at : ℕ → LocalPort) (n m : ℕ) → m ≤ n → (ns : List ℕ) → AreRising n ns
+pub rising-ports : (at : ℕ → LocalPort) (n m : ℕ) → m ≤ n → (ns : List ℕ) → AreRising n ns
     → AreRising m (map (λ p. p.number) (map fresh (flat_map (λ k. rstp_port k (at k)) ns)))
 rising-ports at n m below [] r = tt
 rising-ports at n m below (k ∷ ks) r =
@@ -179,7 +178,7 @@ found-port at k e is (n ∷ ns) listed = by_test (n == k) refl (found-port at k 
         ∙ ap (λ i. Some (port_for i e)) same
     by_test false t rest = by_port (at n) t (rest (sym (ap (λ b. b || list_any (λ i. i == k) ns) t) ∙ listed))
 
-local_rise : AreRising 0 local_ports
+pub local_rise : AreRising 0 local_ports
 local_rise = (lit< tt, (lit< tt, (lit< tt, (lit< tt, (lit< tt, (lit< tt, (lit< tt, (lit< tt, (lit< tt, (lit< tt, (lit< tt, (lit< tt, (lit< tt, (lit< tt, (lit< tt, (lit< tt, tt))))))))))))))))
 
 local_small : AllByRecursion (λ n. (1 ≤ n) × (n < 256)) local_ports

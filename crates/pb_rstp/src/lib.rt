@@ -31,6 +31,3 @@ pub use network::is_settled;
 pub use role::Role;
 pub use rstp::Rstp;
 pub use vector::Vector;
-
-#[cfg(test)]
-mod tests;

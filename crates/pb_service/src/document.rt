@@ -8,7 +8,6 @@ ghost use Rattle.pb_service.specs.PlanFiles.{IsPlanOf, AreLimitsOf, Tells, IsPla
 
 use crate::bridge::read_bridges;
 use crate::fault::PlanFault;
-use crate::limits::Limits;
 use crate::link::{Links, read_links};
 use crate::network::read_network;
 use crate::port::{Customers, read_customers};
@@ -16,7 +15,7 @@ use crate::port_spec::PortSpec;
 use crate::row::check_top;
 use crate::service::read_services;
 use pb_frame::Seq;
-use pb_lan::{Plan, plan_is_sound};
+use pb_lan::{Limits, Plan, plan_is_sound};
 use std::alloc::Global;
 use toml::Table;
 

@@ -10,7 +10,6 @@ mod document;
 mod fault;
 mod formats;
 mod key_fault;
-mod limits;
 mod link;
 mod network;
 mod port;
@@ -26,8 +25,5 @@ mod values;
 
 pub use document::{read_limits, read_plan};
 pub use fault::PlanFault;
-pub use limits::Limits;
+pub use pb_lan::Limits;
 pub use port_spec::PortSpec;
-
-#[cfg(test)]
-mod tests;

@@ -13,12 +13,11 @@ ghost use Rattle.pb_service.specs.declared.section.Place.TheVariants.{Network as
 
 use crate::fault::PlanFault;
 use crate::formats::network_keys;
-use crate::limits::Limits;
 use crate::row::check_keys;
 use crate::section::Place;
 use crate::told::{number_at, spanning_of, text_at, value_at};
 use pb_frame::Text;
-use pb_lan::Spanning;
+use pb_lan::{Limits, Spanning};
 use std::alloc::Global;
 use toml::Table;
 

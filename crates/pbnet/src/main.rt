@@ -1,24 +1,35 @@
 //! A provider bridged Ethernet network in one process.
 //!
 //! The exit status is 0 where all went well, 1 where a plan file was refused, 2 where the words of the
-//! command line ask for nothing that is known, and 3 where reading, writing or memory failed in a run, a
-//! bridge had taken all its steps, or a file can't be read: then `fault: read`, `write`, `memory`,
-//! `steps` or `path` is the last line that is printed.
+//! command line ask for nothing that is known, and 3 after a line that begins with `fault:`. Such a line is the
+//! last one that is printed: `fault: read`, `write` or `memory` where reading, writing or memory failed in a run,
+//! `steps` where a bridge had taken all its steps, `path` where a file can't be read or opened or a socket not
+//! be connected to, `spawn` where a thread could not be started, and, behind the report of a run, `port NAME N`
+//! for each port whose input has the fault N.
 #![tactic(auto)]
 
 ghost use Rattle.std.specs.Prelude.{◌≤◌};
 
 mod order;
+mod progress;
 #[cfg(test)]
 mod tests;
 
 use order::{Order, order_of};
-use pb_cli::{FlatFault, run_check, run_flat, run_show};
-use std::fs::Files;
-use std::io::{BufWriter, ErrorKind, Write};
+use pb_cli::{
+    FlatFault, Switch, Traffic, run_check, run_flat_on, run_network, run_script, run_show,
+};
+use progress::Progress;
+use std::fmt::Display;
+use std::fs::{File, Files};
+use std::io::{BufWriter, ErrorKind, IsTerminal, Write};
+use std::net::Net;
 use std::process::ExitCode;
 use std::rt::Env;
-use std::{env, fs, io};
+use std::sync::{Arc, Wait};
+use std::thread::Threads;
+use std::time::Clock;
+use std::{env, fs, io, mem};
 
 /// The exit status where the words ask for nothing that is known.
 const WRONG_WORDS: u8 = 2;
@@ -36,6 +47,11 @@ fn main(rt: HostRuntime) -> ExitCode {
     match order_of(rt.alloc(), words.as_slice()) {
         Ok(Some(Order::Flat(ports))) => flat(&rt, ports),
         Ok(Some(Order::Check(path))) => check(&rt, path.as_str()),
+        Ok(Some(Order::Step(path))) => step(&rt, path.as_str()),
+        Ok(Some(Order::Run(path))) => {
+            let mut errors = rt.stderr();
+            run(&rt, path.as_str(), errors.is_terminal(), &mut errors)
+        }
         Ok(Some(Order::Show)) => show(&rt),
         Ok(None) => ExitCode::from(WRONG_WORDS),
         Err(e) => {
@@ -61,8 +77,13 @@ fn flat(rt: &(impl Input + Print + AllocGlobal), ports: u8) -> ExitCode
     let Ok(mut writer) = BufWriter::with_capacity(rt.alloc(), BUFFER, io::writer(rt)) else {
         return tell(rt, FlatFault::Memory);
     };
+    let Ok(mut switch) = Switch::new(rt.alloc(), ports) else {
+        return tell(rt, FlatFault::Memory);
+    };
     let mut reader = rt.reader();
-    let ran = run_flat(rt.alloc(), ports, &mut reader, &mut writer);
+    let ran = run_flat_on(rt.alloc(), &mut switch, &mut reader, &mut writer);
+    // The program ends, and all its memory goes back at once.
+    mem::forget(switch);
     let flushed = writer.flush();
     match ran {
         Err(fault) => tell(rt, fault),
@@ -71,19 +92,76 @@ fn flat(rt: &(impl Input + Print + AllocGlobal), ports: u8) -> ExitCode
     }
 }
 
-/// Tells whether a file is a plan.
-fn check(rt: &(impl Files + Print + AllocGlobal), path: &str) -> ExitCode {
-    let file = match fs::read(rt, path) {
-        Ok(file) => file,
-        Err(e) if e.kind() == ErrorKind::OutOfMemory => return tell(rt, FlatFault::Memory),
+/// What stands in the file at a path, or the exit status where it can't be read.
+fn contents(rt: &(impl Files + Print + AllocGlobal), path: &str) -> Result<Vec<u8>, ExitCode> {
+    match fs::read(rt, path) {
+        Ok(file) => Ok(file),
+        Err(e) if e.kind() == ErrorKind::OutOfMemory => Err(tell(rt, FlatFault::Memory)),
         Err(_) => {
             let _ = println!(rt; "fault: path");
-            return ExitCode::from(FAULT);
+            Err(ExitCode::from(FAULT))
         }
+    }
+}
+
+/// Tells whether a file is a plan.
+fn check(rt: &(impl Files + Print + AllocGlobal), path: &str) -> ExitCode {
+    let file = match contents(rt, path) {
+        Ok(file) => file,
+        Err(status) => return status,
     };
     match run_check(rt.alloc(), file.as_slice(), &mut io::writer(rt)) {
         Err(fault) => tell(rt, fault),
         Ok(status) => ExitCode::from(status),
+    }
+}
+
+/// Drives the network of a plan file over standard input.
+fn step(rt: &(impl Files + Input + Print + AllocGlobal), path: &str) -> ExitCode {
+    let file = match contents(rt, path) {
+        Ok(file) => file,
+        Err(status) => return status,
+    };
+    let Ok(mut writer) = BufWriter::with_capacity(rt.alloc(), BUFFER, io::writer(rt)) else {
+        return tell(rt, FlatFault::Memory);
+    };
+    let mut reader = rt.reader();
+    let ran = run_script(rt.alloc(), file.as_slice(), &mut reader, &mut writer);
+    let flushed = writer.flush();
+    match ran {
+        Err(fault) => tell(rt, fault),
+        Ok(_) if flushed.is_err() => tell(rt, FlatFault::Write),
+        Ok(status) => ExitCode::from(status),
+    }
+}
+
+/// Runs the network of a plan file, and reports on it. What happens meanwhile is shown on standard error, or not.
+fn run<R, E: Write>(rt: &R, path: &str, is_shown: bool, errors: &mut E) -> ExitCode
+where
+    R: Files<File = File> + Net + Threads + Wait + Clock + Print + Eprint + AllocGlobal + Sync,
+{
+    let file = match contents(rt, path) {
+        Ok(file) => file,
+        Err(status) => return status,
+    };
+    let Ok(traffic) = Arc::new(rt.alloc(), Traffic::new()) else {
+        return tell(rt, FlatFault::Memory);
+    };
+    let Ok(counted) = Arc::try_clone(&traffic) else {
+        return tell(rt, FlatFault::Memory);
+    };
+    let progress = Progress::new(rt, counted, is_shown);
+    match run_network(
+        rt,
+        rt.alloc(),
+        file.as_slice(),
+        &traffic,
+        &progress,
+        &mut io::writer(rt),
+        errors,
+    ) {
+        Ok(status) => ExitCode::from(status),
+        Err(fault) => tell(rt, fault),
     }
 }
 
@@ -96,7 +174,7 @@ fn show(rt: &impl Print) -> ExitCode {
 }
 
 /// Says which fault ended a run.
-fn tell(rt: &impl Print, fault: FlatFault) -> ExitCode {
+fn tell(rt: &impl Print, fault: impl Display + Drop) -> ExitCode {
     let _ = println!(rt; "fault: {fault}");
     ExitCode::from(FAULT)
 }

@@ -1,10 +1,11 @@
 //! What the words of a command line ask for.
 
-ghost use Rattle.std.specs.Prelude.{IfOk, IfSome};
-ghost use Rattle.pbnet.specs.Orders.{IsAllowed};
+ghost use Rattle.std.specs.Prelude.{IfOk, IfSome, IfNone};
+ghost use Rattle.pbnet.specs.Orders.{IsAllowed, IsFileOrder};
+ghost use Rattle.pbnet.specs.declared.order.Order.{Order};
 
 use clap::{Arg, ArgAction, Command, Error};
-use std::alloc::Global;
+use std::alloc::{AllocError, Global};
 
 /// What is to be done.
 #[derive(PartialEq, Eq, Debug, Drop)]
@@ -13,8 +14,20 @@ pub enum Order {
     Flat(u8),
     /// Telling whether the file at this path is a plan.
     Check(String),
+    /// Driving the network of the plan file at this path by the lines of standard input.
+    Step(String),
+    /// Running the network of the plan file at this path.
+    Run(String),
     /// Telling what becomes of frames for the reserved addresses.
     Show,
+}
+
+/// The argument that names a plan file.
+fn plan_file<'a>(alloc: Global) -> Arg<'a> {
+    Arg::new(alloc, "FILE")
+        .help("The plan file")
+        .required(true)
+        .action(ArgAction::Set)
 }
 
 /// The program's commands and their arguments.
@@ -29,15 +42,21 @@ fn commands<'a>(alloc: Global) -> Result<Command<'a>, Error> {
             "Runs one bridge over the lines `in PORT HEX` of standard input, and prints each frame that leaves it or why it went nowhere",
         )
         .arg(ports)?;
-    let file = Arg::new(alloc, "FILE")
-        .help("The plan file")
-        .required(true)
-        .action(ArgAction::Set);
     let check = Command::new(alloc, "check")
         .about(
             "Reads a plan file, and prints what it has and whether a ring of links starts open for a service, or the rule that the file breaks",
         )
-        .arg(file)?;
+        .arg(plan_file(alloc))?;
+    let step = Command::new(alloc, "step")
+        .about(
+            "Drives the network of a plan file event by event over the lines of standard input, prints what each did, and reports at the end",
+        )
+        .arg(plan_file(alloc))?;
+    let run = Command::new(alloc, "run")
+        .about(
+            "Runs the network of a plan file, each bridge, link and port in a thread of its own, and reports at the end",
+        )
+        .arg(plan_file(alloc))?;
     let show = Command::new(alloc, "show").about(
         "Prints what becomes of frames for the addresses 01-80-C2-00-00-00 to -0F: carry, filter, or provider where the bridges themselves take them",
     );
@@ -47,8 +66,28 @@ fn commands<'a>(alloc: Global) -> Result<Command<'a>, Error> {
             .subcommand_required(true)
             .subcommand(flat)?
             .subcommand(check)?
+            .subcommand(step)?
+            .subcommand(run)?
             .subcommand(show)?,
     )
+}
+
+/// What a command asks for that has a plan file. None where it is no such command.
+fn file_order(alloc: Global, command: &str, path: &str) -> Result<Option<Order>, AllocError>
+    ensures some { IfOk result (λ o. IfSome o (λ order. IsFileOrder command.now path.now order)) }
+    ensures none { IfOk result (λ o. IfNone o ((order : Order) → IsFileOrder command.now path.now order → ⊥)) }
+{
+    let path = String::from_str(alloc, path)?;
+    if command == "check" {
+        return Ok(Some(Order::Check(path)));
+    }
+    if command == "step" {
+        return Ok(Some(Order::Step(path)));
+    }
+    if command == "run" {
+        return Ok(Some(Order::Run(path)));
+    }
+    Ok(None)
 }
 
 /// Reads the words of a command line, of which the first is the program's own.
@@ -64,11 +103,11 @@ pub fn order_of(alloc: Global, words: &[String]) -> Result<Option<Order>, Error>
             Some(ports) if 2 <= ports && ports <= 16 => Ok(Some(Order::Flat(ports))),
             _ => Ok(None),
         },
-        Some(("check", given)) => match given.get_str("FILE") {
-            Some(path) => Ok(Some(Order::Check(String::from_str(alloc, path)?))),
+        Some(("show", _)) => Ok(Some(Order::Show)),
+        Some((command, given)) => match given.get_str("FILE") {
+            Some(path) => Ok(file_order(alloc, command, path)?),
             None => Ok(None),
         },
-        Some(("show", _)) => Ok(Some(Order::Show)),
-        _ => Ok(None),
+        None => Ok(None),
     }
 }

@@ -45,6 +45,32 @@ fn checks_one_file(rt: HostRuntime) -> Result<(), Fail> {
 }
 
 #[test]
+fn steps_by_one_file(rt: HostRuntime) -> Result<(), Fail> {
+    let alloc = rt.alloc();
+    for path in ["metro.toml", "a plan.toml", "-"] {
+        let order = Order::Step(String::from_str(alloc, path)?);
+        assert_eq!(rt; read(&rt, alloc, &["step", path])?, Ok(order), "{path}");
+    }
+    assert_eq!(rt; read(&rt, alloc, &["step"])?, Err(true));
+    assert_eq!(rt; read(&rt, alloc, &["step", "a", "b"])?, Err(true));
+    assert_eq!(rt; read(&rt, alloc, &["step", "--help"])?, Err(false));
+    Ok(())
+}
+
+#[test]
+fn runs_one_file(rt: HostRuntime) -> Result<(), Fail> {
+    let alloc = rt.alloc();
+    for path in ["metro.toml", "a plan.toml", "-"] {
+        let order = Order::Run(String::from_str(alloc, path)?);
+        assert_eq!(rt; read(&rt, alloc, &["run", path])?, Ok(order), "{path}");
+    }
+    assert_eq!(rt; read(&rt, alloc, &["run"])?, Err(true));
+    assert_eq!(rt; read(&rt, alloc, &["run", "a", "b"])?, Err(true));
+    assert_eq!(rt; read(&rt, alloc, &["run", "--help"])?, Err(false));
+    Ok(())
+}
+
+#[test]
 fn shows_without_further_words(rt: HostRuntime) -> Result<(), Fail> {
     assert_eq!(rt; read(&rt, rt.alloc(), &["show"])?, Ok(Order::Show));
     Ok(())

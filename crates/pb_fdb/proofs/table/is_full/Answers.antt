@@ -11,10 +11,16 @@ returns-then-len-limit c =
     let s = filter-shorter (λ e. is_fresh c.args.ageing c.args.now (sighting_of e)) c.args.journal.now in
     grind (arith, nat_tests, s)
 
-pub returns-in-Some : goal.returns-in-Some
-returns-in-Some c = c.is_fresh.ensures ∙ full-fresh c.args.limit c.args.ageing c.args.now c.args.journal.now c.in-Some.entry c.requires.order c.requires.fits (omega arith) (sym c.in-Some.is ∙ c.oldest.ensures)
+pub returns-in-Some-clause-entries : goal.returns-in-Some-clause-entries
+returns-in-Some-clause-entries c = c.oldest.ensures.entries
 
-pub returns-in-None : goal.returns-in-None
-returns-in-None c =
-    let none = oldest-none c.args.journal.now (sym c.in-None.is ∙ c.oldest.ensures) in
+pub returns-in-Some-clause-full : goal.returns-in-Some-clause-full
+returns-in-Some-clause-full c = c.is_fresh.ensures ∙ full-fresh c.args.limit c.args.ageing c.args.now c.args.journal.now c.in-Some.entry c.requires.order c.requires.fits (omega arith) (sym c.in-Some.is ∙ c.oldest.ensures.oldest)
+
+pub returns-in-None-clause-entries : goal.returns-in-None-clause-entries
+returns-in-None-clause-entries c = c.oldest.ensures.entries
+
+pub returns-in-None-clause-full : goal.returns-in-None-clause-full
+returns-in-None-clause-full c =
+    let none = oldest-none c.args.journal.now (sym c.in-None.is ∙ c.oldest.ensures.oldest) in
     rw none (grind (arith, nat_tests, none))

@@ -1,7 +1,6 @@
 use Rattle.std.proofs.Common.{ap, ◌∙◌, subst}
 use Rattle.std.specs.List.{list_all}
 use Rattle.pb_rstp.specs.Laws.{IsInLine}
-use Rattle.pb_rstp.specs.Ports.{Machine}
 use Rattle.pb_rstp.specs.Tree.{is_quiet}
 use Rattle.pb_rstp.proofs.NetworkLaws.{quiet_tests}
 use Rattle.pb_rstp.proofs.network.is_in_line.Goals as goal

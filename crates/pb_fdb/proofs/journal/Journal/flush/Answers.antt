@@ -1,24 +1,14 @@
-use Rattle.std.proofs.Common.{◌==◌, ◌++◌, ◌<◌, not, length, drop, take, add-one, append-nil, sym, ap, ◌∙◌, subst, arith}
-use Rattle.std.specs.List.{filter}
-use Rattle.pb_fdb.specs.Journals.{oldest_first, turned, IsUnbounded}
-use Rattle.pb_fdb.proofs.JournalLemmas.{length-oldest_first, turned-more}
+use Rattle.std.proofs.Common.{Some, length, ap, arith}
+use Rattle.std.specs.HashMap.{get}
+use Rattle.pb_fdb.specs.Journals.{is_same, entries_from, stays}
+use Rattle.pb_fdb.proofs.EntryLemmas.{filter-shorter}
 use Rattle.pb_fdb.proofs.journal.Journal.flush.Goals as goal
 
-pub loop-turn-init : goal.loop-turn-init
-loop-turn-init c = record {
-  unbounded = subst IsUnbounded c.in-Some.is c.self.invariant;
-  end = c.len-turn-end.ensures.len ∙ sym (length-oldest_first c.in-Some.cache.entries);
-  entries = sym (append-nil (oldest_first c.in-Some.cache.entries));
-}
-
-pub loop-turn-preserved : goal.loop-turn-preserved
-loop-turn-preserved c =
-    let es = oldest_first c.in-Some.cache.entries in
-    let i = c.loop-turn._turn in
-    let within : i < length es = omega (arith, c.loop-turn.invariant.end) in record {
-      unbounded = c.turn.ensures.cap ∙ c.loop-turn.invariant.unbounded;
-      end = c.loop-turn.invariant.end;
-      entries =
-          c.turn.ensures.entries ∙ ap (turned c.args.port) c.loop-turn.invariant.entries ∙ turned-more c.args.port es i within
-          ∙ ap (λ n. drop n es ++ filter (λ e. not (c.args.port == e.port)) (take n es)) (sym (add-one i));
+pub invariant_of-self : goal.invariant_of-self
+invariant_of-self c =
+    let fewer = filter-shorter (stays (Some c.args.port)) (entries_from (get is_same c.self.inside.index) c.self.inside.first c.self.inside.log.items) in
+    record {
+      each = c.rotate.ensures.each;
+      counted = c.rotate.ensures.count;
+      roomy = omega (arith, fewer, c.rotate.ensures.count, ap length c.rotate.ensures.entries, c.self.invariant.counted, c.self.invariant.roomy, c.rotate.ensures.capacity);
     }

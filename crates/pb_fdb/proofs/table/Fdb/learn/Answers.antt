@@ -21,7 +21,7 @@ returns-then-is_full-clause-answer c =
       g,
       where-none f.limit f.ageing f.clock now c.args.vid c.args.mac.0 f.journal c.in_default.ensures.old,
       full-table_of f.limit f.ageing f.clock now f.journal ∙ ap (λ j. nat_le f.limit (length (fresh_entries f.ageing now j))) (sym c.in_default.ensures.absent)
-          ∙ sym c.is_full.ensures ∙ c.if-is_full.true,
+          ∙ sym c.is_full.ensures.full ∙ c.if-is_full.true,
     )
 
 pub add-requires-clause-before : goal.add-requires-clause-before
@@ -29,7 +29,7 @@ add-requires-clause-before c =
     let f = c.self.inside in
     let now = c.args.now in
     let in_time = subst (λ (t : Table). t.clock ≤ now) (sym c.self.view_is) c.requires in
-    let kept : IsKept f.limit f.ageing now c.renew.new.self = subst (IsKept f.limit f.ageing now) (sym c.in_default.ensures.absent) (IsKept-later f.limit f.ageing f.clock now f.journal in_time c.self.invariant) in
+    let kept : IsKept f.limit f.ageing now c.is_full.new.journal = subst (IsKept f.limit f.ageing now) (sym (c.is_full.ensures.entries ∙ c.in_default.ensures.absent)) (IsKept-later f.limit f.ageing f.clock now f.journal in_time c.self.invariant) in
     kept.before
 
 pub invariant_of-self-in_default-add : goal.invariant_of-self-in_default-add
@@ -37,7 +37,7 @@ invariant_of-self-in_default-add c =
     let f = c.self.inside in
     let now = c.args.now in
     let in_time = subst (λ (t : Table). t.clock ≤ now) (sym c.self.view_is) c.requires in
-    subst (IsKept f.limit f.ageing now) (sym (c.in_default-add.ensures.err ∙ c.in_default.ensures.absent)) (IsKept-later f.limit f.ageing f.clock now f.journal in_time c.self.invariant)
+    subst (IsKept f.limit f.ageing now) (sym (c.in_default-add.ensures.err ∙ c.is_full.ensures.entries ∙ c.in_default.ensures.absent)) (IsKept-later f.limit f.ageing f.clock now f.journal in_time c.self.invariant)
 
 pub returns-in_default-add-clause-answer : goal.returns-in_default-add-clause-answer
 returns-in_default-add-clause-answer c =
@@ -48,7 +48,7 @@ returns-in_default-add-clause-answer c =
       g,
       where-none f.limit f.ageing f.clock now c.args.vid c.args.mac.0 f.journal c.in_default.ensures.old,
       full-table_of f.limit f.ageing f.clock now f.journal ∙ ap (λ j. nat_le f.limit (length (fresh_entries f.ageing now j))) (sym c.in_default.ensures.absent)
-          ∙ sym c.is_full.ensures ∙ c.if-is_full.false,
+          ∙ sym c.is_full.ensures.full ∙ c.if-is_full.false,
     )
 
 pub invariant_of-self-in_default : goal.invariant_of-self-in_default
@@ -57,9 +57,9 @@ invariant_of-self-in_default c =
     let now = c.args.now in
     let e : Entry = record { vid = c.args.vid; mac = c.args.mac; port = c.args.port; learnt = now } in
     let in_time = subst (λ (t : Table). t.clock ≤ now) (sym c.self.view_is) c.requires in
-    let j = c.renew.new.self in
-    let kept : IsKept f.limit f.ageing now j = subst (IsKept f.limit f.ageing now) (sym c.in_default.ensures.absent) (IsKept-later f.limit f.ageing f.clock now f.journal in_time c.self.invariant) in
-    let room = room-left f.limit f.ageing now j (sym c.is_full.ensures ∙ c.if-is_full.false) in
+    let j = c.is_full.new.journal in
+    let kept : IsKept f.limit f.ageing now j = subst (IsKept f.limit f.ageing now) (sym (c.is_full.ensures.entries ∙ c.in_default.ensures.absent)) (IsKept-later f.limit f.ageing f.clock now f.journal in_time c.self.invariant) in
+    let room = room-left f.limit f.ageing now j (ap (λ j. nat_le f.limit (length (fresh_entries f.ageing now j))) c.is_full.ensures.entries ∙ sym c.is_full.ensures.full ∙ c.if-is_full.false) in
     subst (IsKept f.limit f.ageing now) (sym c.in-Ok.ensures.ok)
     (IsKept-push f.limit f.ageing (without_station e (entries_with_room f.limit f.ageing now j)) e
     (IsKept-filter f.limit f.ageing now _ (entries_with_room f.limit f.ageing now j) (IsKept-room f.limit f.ageing now j kept))
@@ -74,7 +74,7 @@ returns-in_default-clause-answer c =
       g,
       where-none f.limit f.ageing f.clock now c.args.vid c.args.mac.0 f.journal c.in_default.ensures.old,
       full-table_of f.limit f.ageing f.clock now f.journal ∙ ap (λ j. nat_le f.limit (length (fresh_entries f.ageing now j))) (sym c.in_default.ensures.absent)
-          ∙ sym c.is_full.ensures ∙ c.if-is_full.false,
+          ∙ sym c.is_full.ensures.full ∙ c.if-is_full.false,
     )
 
 pub returns-in_default-clause-table : goal.returns-in_default-clause-table
@@ -83,7 +83,7 @@ returns-in_default-clause-table c =
     let now = c.args.now in
     let e : Entry = record { vid = c.args.vid; mac = c.args.mac; port = c.args.port; learnt = now } in
     let s = sighting_at c.args.vid c.args.mac.0 c.args.port now in
-    let anew = c.in-Ok.ensures.ok ∙ ap (λ j. without_station e (entries_with_room f.limit f.ageing now j) ++ e ∷ []) c.in_default.ensures.absent in
+    let anew = c.in-Ok.ensures.ok ∙ ap (λ j. without_station e (entries_with_room f.limit f.ageing now j) ++ e ∷ []) (c.is_full.ensures.entries ∙ c.in_default.ensures.absent) in
     ap (λ zs. record (table_of f.limit f.ageing now []) { sightings = zs }) (
     sightings-anew s (entries_with_room f.limit f.ageing now f.journal) _ _ refl anew ∙ ap (λ zs. after zs (Seen s)) (sym (with_room-table_of f.limit f.ageing f.clock now f.journal))
     )

@@ -8,7 +8,6 @@ use Rattle.pb_relay.specs.Standing.{BridgeView}
 use Rattle.pb_net.specs.Nets.{record_of}
 use Rattle.pb_net.proofs.DueLemmas.{net_of}
 use Rattle.pb_lan.specs.Ports.{is_provider, port_at}
-use Rattle.pb_relay.specs.Changes.{moved_by_setting}
 use Rattle.pb_net.specs.Slots.{IsBridgeSpot}
 use Rattle.pb_net.proofs.Done.{items_in, bridge_failed, admin_done}
 use Rattle.pb_net.proofs.Records.{admin_due, admin_refused}
@@ -35,7 +34,7 @@ invariant_of-self-2 c =
     let spot = c.in-Some.spot in
     let known = subst (λ (v : NetView). IsBridgeSpot v.plan c.args.bridge c.args.port spot) (sym c.self.view_is) c.in-Some.ensures.some in
     let named = subst (λ (v : NetView). is_provider (port_at v.plan c.args.bridge c.args.port) ≡ true) (sym c.self.view_is) c.in-Some.ensures.used in
-    let done = admin_done s.plan s.bridges.items s.lanes.items s.customers.items (map items_in s.inboxes.items) (map items_in s.outboxes.items) c.args.bridge c.args.port c.args.up spot (moved_by_setting old.plan old.number old.steps c.args.port c.args.up) old c.admin.new.self c.self.invariant.1 c.self.invariant.2 known c.index_mut.ensures.value (ap (λ (v : BridgeView). v.plan) c.in_ok-admin.ensures.ok.0) (ap (λ (v : BridgeView). v.number) c.in_ok-admin.ensures.ok.0) (ap (λ (v : BridgeView). v.steps) c.in_ok-admin.ensures.ok.0) c.in_ok-admin.ensures.ok.1 in
+    let done = admin_done s.plan s.bridges.items s.lanes.items s.customers.items (map items_in s.inboxes.items) (map items_in s.outboxes.items) c.args.bridge c.args.port c.args.up spot c.in_ok-admin.ensures.ok.0 old c.admin.new.self c.self.invariant.1 c.self.invariant.2 known c.index_mut.ensures.value (ap (λ (v : BridgeView). v.plan) c.in_ok-admin.ensures.ok.1) (ap (λ (v : BridgeView). v.number) c.in_ok-admin.ensures.ok.1) (ap (λ (v : BridgeView). v.steps) c.in_ok-admin.ensures.ok.1) c.in_ok-admin.ensures.ok.2 in
     (c.self.invariant.0, done.0, done.1, c.self.invariant.3, c.self.invariant.4, c.self.invariant.5)
 
 pub returns : goal.returns
@@ -45,7 +44,7 @@ returns c =
     let spot = c.in-Some.spot in
     let known = subst (λ (v : NetView). IsBridgeSpot v.plan c.args.bridge c.args.port spot) (sym c.self.view_is) c.in-Some.ensures.some in
     let named = subst (λ (v : NetView). is_provider (port_at v.plan c.args.bridge c.args.port) ≡ true) (sym c.self.view_is) c.in-Some.ensures.used in
-    let done = admin_done s.plan s.bridges.items s.lanes.items s.customers.items (map items_in s.inboxes.items) (map items_in s.outboxes.items) c.args.bridge c.args.port c.args.up spot (moved_by_setting old.plan old.number old.steps c.args.port c.args.up) old c.admin.new.self c.self.invariant.1 c.self.invariant.2 known c.index_mut.ensures.value (ap (λ (v : BridgeView). v.plan) c.in_ok-admin.ensures.ok.0) (ap (λ (v : BridgeView). v.number) c.in_ok-admin.ensures.ok.0) (ap (λ (v : BridgeView). v.steps) c.in_ok-admin.ensures.ok.0) c.in_ok-admin.ensures.ok.1 in
+    let done = admin_done s.plan s.bridges.items s.lanes.items s.customers.items (map items_in s.inboxes.items) (map items_in s.outboxes.items) c.args.bridge c.args.port c.args.up spot c.in_ok-admin.ensures.ok.0 old c.admin.new.self c.self.invariant.1 c.self.invariant.2 known c.index_mut.ensures.value (ap (λ (v : BridgeView). v.plan) c.in_ok-admin.ensures.ok.1) (ap (λ (v : BridgeView). v.number) c.in_ok-admin.ensures.ok.1) (ap (λ (v : BridgeView). v.steps) c.in_ok-admin.ensures.ok.1) c.in_ok-admin.ensures.ok.2 in
     let due = admin_due s.plan s.bridges.items s.lanes.items s.customers.items c.args.bridge c.args.port c.args.up spot old c.self.invariant.1 known named c.index_mut.ensures.value (λ e. let z = c.in_ok-admin.ensures.limit.1 e in cc) in
     let new = record_of (set s.bridges.items spot.place c.admin.new.self) s.lanes.items s.customers.items in (
       subst (λ (v : NetView). IsDue v (Admin c.args.bridge c.args.port c.args.up)) c.self.view_is due,

@@ -2,7 +2,7 @@ use Rattle.std.proofs.Common.{◌≡◌, ◌<◌, ◌*◌, ◌-◌, true, length
 use Rattle.pb_net.specs.Answers.{NetView}
 use Rattle.pb_lan.specs.Events.{steps_at, has_place}
 use Rattle.pb_lan.specs.Records.{IsLawfulRecord}
-use Rattle.pb_lan.specs.Rules.{silent}
+use Rattle.pb_relay.specs.Protocol.{spanning_tree}
 use Rattle.pb_lan.specs.declared.step.Place.TheVariants.{Bridge, Lane, Customer}
 use Rattle.pb_link.specs.Hands.{PlaceView}
 use Rattle.pb_link.specs.Lanes.{LaneView}
@@ -26,7 +26,7 @@ returns-in-Bridge-clause-steps c =
 pub returns-in-Bridge-clause-lawful : goal.returns-in-Bridge-clause-lawful
 returns-in-Bridge-clause-lawful c =
     let s = c.self.inside in
-    subst (λ (v : NetView). IsLawfulRecord silent v.plan v.rec) c.self.view_is (kept_lawful s.plan (record_of s.bridges.items s.lanes.items s.customers.items) _ _ c.self.invariant.0 c.self.invariant.2)
+    subst (λ (v : NetView). IsLawfulRecord spanning_tree v.plan v.rec) c.self.view_is (kept_lawful s.plan (record_of s.bridges.items s.lanes.items s.customers.items) _ _ c.self.invariant.0 c.self.invariant.2)
 
 pub returns-in-Lane-clause-steps : goal.returns-in-Lane-clause-steps
 returns-in-Lane-clause-steps c =
@@ -42,7 +42,7 @@ returns-in-Lane-clause-steps c =
 pub returns-in-Lane-clause-lawful : goal.returns-in-Lane-clause-lawful
 returns-in-Lane-clause-lawful c =
     let s = c.self.inside in
-    subst (λ (v : NetView). IsLawfulRecord silent v.plan v.rec) c.self.view_is (kept_lawful s.plan (record_of s.bridges.items s.lanes.items s.customers.items) _ _ c.self.invariant.0 c.self.invariant.2)
+    subst (λ (v : NetView). IsLawfulRecord spanning_tree v.plan v.rec) c.self.view_is (kept_lawful s.plan (record_of s.bridges.items s.lanes.items s.customers.items) _ _ c.self.invariant.0 c.self.invariant.2)
 
 pub returns-in-Customer-clause-steps : goal.returns-in-Customer-clause-steps
 returns-in-Customer-clause-steps c =
@@ -58,4 +58,4 @@ returns-in-Customer-clause-steps c =
 pub returns-in-Customer-clause-lawful : goal.returns-in-Customer-clause-lawful
 returns-in-Customer-clause-lawful c =
     let s = c.self.inside in
-    subst (λ (v : NetView). IsLawfulRecord silent v.plan v.rec) c.self.view_is (kept_lawful s.plan (record_of s.bridges.items s.lanes.items s.customers.items) _ _ c.self.invariant.0 c.self.invariant.2)
+    subst (λ (v : NetView). IsLawfulRecord spanning_tree v.plan v.rec) c.self.view_is (kept_lawful s.plan (record_of s.bridges.items s.lanes.items s.customers.items) _ _ c.self.invariant.0 c.self.invariant.2)

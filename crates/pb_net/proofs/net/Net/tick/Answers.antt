@@ -8,7 +8,6 @@ use Rattle.pb_relay.specs.Standing.{BridgeView}
 use Rattle.pb_net.specs.Nets.{record_of}
 use Rattle.pb_net.proofs.DueLemmas.{net_of}
 use Rattle.pb_lan.specs.Choice.{now_after}
-use Rattle.pb_relay.specs.Changes.{unmoved}
 use Rattle.pb_net.proofs.Done.{items_in, bridge_failed, tick_done}
 use Rattle.pb_net.proofs.Records.{tick_due, tick_refused}
 use Rattle.pb_net.proofs.net.Net.tick.Goals as goal
@@ -34,7 +33,7 @@ invariant_of-self-2 c =
     let r = c.in-Some.place in
     let place = c.in-Some.ensures.some in
     let there : r < length s.plan.bridges = omega (arith, place.1, c.self.invariant.1.bridge_count) in
-    let done = tick_done s.plan s.bridges.items s.lanes.items s.customers.items (map items_in s.inboxes.items) (map items_in s.outboxes.items) c.args.bridge r (now_after old.steps + 1) unmoved old c.tick.new.self c.self.invariant.1 c.self.invariant.2 place.0 there c.index_mut.ensures.value (ap (λ (v : BridgeView). v.plan) c.in_ok-tick.ensures.ok.0) (ap (λ (v : BridgeView). v.number) c.in_ok-tick.ensures.ok.0) (ap (λ (v : BridgeView). v.steps) c.in_ok-tick.ensures.ok.0) c.in_ok-tick.ensures.ok.1 in
+    let done = tick_done s.plan s.bridges.items s.lanes.items s.customers.items (map items_in s.inboxes.items) (map items_in s.outboxes.items) c.args.bridge r (now_after old.steps + 1) c.in_ok-tick.ensures.ok.0 old c.tick.new.self c.self.invariant.1 c.self.invariant.2 place.0 there c.index_mut.ensures.value (ap (λ (v : BridgeView). v.plan) c.in_ok-tick.ensures.ok.1) (ap (λ (v : BridgeView). v.number) c.in_ok-tick.ensures.ok.1) (ap (λ (v : BridgeView). v.steps) c.in_ok-tick.ensures.ok.1) c.in_ok-tick.ensures.ok.2 in
     (c.self.invariant.0, done.0, done.1, c.self.invariant.3, c.self.invariant.4, c.self.invariant.5)
 
 pub returns : goal.returns
@@ -44,7 +43,7 @@ returns c =
     let r = c.in-Some.place in
     let place = c.in-Some.ensures.some in
     let there : r < length s.plan.bridges = omega (arith, place.1, c.self.invariant.1.bridge_count) in
-    let done = tick_done s.plan s.bridges.items s.lanes.items s.customers.items (map items_in s.inboxes.items) (map items_in s.outboxes.items) c.args.bridge r (now_after old.steps + 1) unmoved old c.tick.new.self c.self.invariant.1 c.self.invariant.2 place.0 there c.index_mut.ensures.value (ap (λ (v : BridgeView). v.plan) c.in_ok-tick.ensures.ok.0) (ap (λ (v : BridgeView). v.number) c.in_ok-tick.ensures.ok.0) (ap (λ (v : BridgeView). v.steps) c.in_ok-tick.ensures.ok.0) c.in_ok-tick.ensures.ok.1 in
+    let done = tick_done s.plan s.bridges.items s.lanes.items s.customers.items (map items_in s.inboxes.items) (map items_in s.outboxes.items) c.args.bridge r (now_after old.steps + 1) c.in_ok-tick.ensures.ok.0 old c.tick.new.self c.self.invariant.1 c.self.invariant.2 place.0 there c.index_mut.ensures.value (ap (λ (v : BridgeView). v.plan) c.in_ok-tick.ensures.ok.1) (ap (λ (v : BridgeView). v.number) c.in_ok-tick.ensures.ok.1) (ap (λ (v : BridgeView). v.steps) c.in_ok-tick.ensures.ok.1) c.in_ok-tick.ensures.ok.2 in
     let due = tick_due s.plan s.bridges.items s.lanes.items s.customers.items c.args.bridge r old c.self.invariant.1 place.0 there c.index_mut.ensures.value (λ e. let z = c.in_ok-tick.ensures.limit.1 e in cc) in
     let new = record_of (set s.bridges.items r c.tick.new.self) s.lanes.items s.customers.items in (
       subst (λ (v : NetView). IsDue v (Tick c.args.bridge)) c.self.view_is due,

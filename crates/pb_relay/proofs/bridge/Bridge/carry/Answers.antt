@@ -2,7 +2,7 @@ use Rattle.std.proofs.Common.{◌≡◌, ◌≤◌, ◌∷◌, ◌++◌, [], Som
 use Rattle.std.specs.List.{filter}
 use Rattle.pb_frame.specs.Frames.{src_of, dst_of, is_group}
 use Rattle.pb_lan.specs.Ports.{port_at, local_ports}
-use Rattle.pb_lan.specs.Rules.{silent}
+use Rattle.pb_relay.specs.Protocol.{spanning_tree}
 use Rattle.pb_lan.specs.Shapes.{state_after}
 use Rattle.pb_lan.specs.BridgeLists.{ruling, Fits}
 use Rattle.pb_lan.specs.BridgeLists.Ruling.{Carries}
@@ -19,14 +19,16 @@ use Rattle.pb_relay.specs.Tables.{HasLearnt}
 use Rattle.pb_relay.proofs.EntryLemmas.{IsAdmitted, carried}
 use Rattle.pb_relay.proofs.ReceiveLemmas.{relayed}
 use Rattle.pb_relay.proofs.StandingLemmas.{capacity-small}
+use Rattle.pb_relay.specs.Machines.{IsSpanning}
+use Rattle.pb_relay.proofs.CauseLemmas.{spanning_stays}
 use Rattle.pb_relay.proofs.bridge.Bridge.carry.Goals as goal
 
 -- what is known of the item
 admitted : (old : BridgeView) (plan : BridgeView) → plan ≡ old → (port : ℕ) → (item : _) → (vid : ℕ)
-    → ruling silent old.plan old.number old.steps port item ≡ Carries vid → IsAdmitted plan.plan (port_at plan.plan plan.number port) item vid
+    → ruling spanning_tree old.plan old.number old.steps port item ≡ Carries vid → IsAdmitted plan.plan (port_at plan.plan plan.number port) item vid
 admitted old view e port item vid r =
     carried view.plan (port_at view.plan view.number port) (state_after view.plan view.number view.steps port) item vid
-    (subst (λ (v : BridgeView). ruling silent v.plan v.number v.steps port item ≡ Carries vid) (sym e) r)
+    (subst (λ (v : BridgeView). ruling spanning_tree v.plan v.number v.steps port item ≡ Carries vid) (sym e) r)
 
 pub source_of-requires : goal.source_of-requires
 source_of-requires c =
@@ -49,7 +51,7 @@ queue_copies-requires-clause-capacity c =
 
 -- the step fits, and what is kept is kept
 whole : (c : goal.Joined-load-2)
-    → Fits silent c.self.inside.plan c.self.inside.number c.self.inside.steps.items
+    → Fits spanning_tree c.self.inside.plan c.self.inside.number c.self.inside.steps.items
     (Receive c.args.port c.args.item (Some c.learn-learnt.result) (Relayed c.choose.new.chosen.items c.queue_copies.new.refused.items) None)
     × IsStanding c.self.inside.plan c.self.inside.number
     (c.self.inside.steps.items ++ Receive c.args.port c.args.item (Some c.learn-learnt.result) (Relayed c.choose.new.chosen.items c.queue_copies.new.refused.items) None ∷ [])
@@ -71,7 +73,7 @@ whole c =
     c.self.inside.clock c.self.inside.table.sightings c.learn-learnt.new.self.sightings c.self.inside.ports c.self.inside.capacity c.self.inside.limit c.args.port c.args.vid c.args.item c.args.load
     c.learn-learnt.result c.sought-at.result c.choose.new.chosen.items c.queue_copies.new.refused.items
     c.self.invariant.0 c.self.invariant.1
-    (subst (λ (v : BridgeView). ruling silent v.plan v.number v.steps c.args.port c.args.item ≡ Carries c.args.vid) (sym c.self.view_is) c.requires.ruling)
+    (subst (λ (v : BridgeView). ruling spanning_tree v.plan v.number v.steps c.args.port c.args.item ≡ Carries c.args.vid) (sym c.self.view_is) c.requires.ruling)
     (subst (λ (v : BridgeView). IsLoadedAt v.plan v.number (port_at v.plan v.number c.args.port) c.args.item.wire c.args.load) (sym c.self.view_is) c.requires.load)
     learns at chosen c.choose.ensures.separate copied c.queue_copies.ensures.count
 
@@ -89,18 +91,23 @@ invariant_of-self c =
         reserved = λ e. cc;
       },
       table_learnt c.self.inside.plan c.self.inside.clock c.self.inside.table c.learn-learnt.new.self (sighting_at c.args.vid c.source_of.result.0 c.args.port c.self.inside.clock) c.learn-learnt.result c.self.invariant.3 refl c.learn-learnt.ensures.table,
+      subst (λ (ms : List Step). IsSpanning c.self.inside.plan c.self.inside.number ms c.self.inside.rstp c.self.inside.address.0) (sym e)
+          (spanning_stays _ _ _ _ _ step refl c.self.invariant.4),
     )
 
-pub returns : goal.returns
-returns c =
-    let told = c.outcomes-told.ensures.told in
-    let same : c.outcomes-told.result.1 ≡ c.outcomes-told.result.0 = c.outcomes-told.ensures.kept ∙ sym told in
-    let e : c.append_receive.new.steps.items ≡ c.self.inside.steps.items ++ Receive c.args.port c.args.item (Some c.learn-learnt.result) c.outcomes-told.result.0 None ∷ [] =
-    c.append_receive.ensures.items ∙ ap (λ (o : Outcome). c.self.inside.steps.items ++ Receive c.args.port c.args.item (Some c.learn-learnt.result) o None ∷ []) same in (
-      Some c.learn-learnt.result,
-      None,
-      ap (λ (ms : List Step). record { plan = c.self.inside.plan; number = c.self.inside.number; steps = ms; is_reserved = false }) e
-          ∙ ap (λ (v : BridgeView). with_step v (Receive c.args.port c.args.item (Some c.learn-learnt.result) c.outcomes-told.result.0 None)) c.self.view_is,
-      subst (λ (v : BridgeView). Fits silent v.plan v.number v.steps (Receive c.args.port c.args.item (Some c.learn-learnt.result) c.outcomes-told.result.0 None)) c.self.view_is
-          (subst (λ (o : Outcome). Fits silent c.self.inside.plan c.self.inside.number c.self.inside.steps.items (Receive c.args.port c.args.item (Some c.learn-learnt.result) o None)) (sym told) (whole c).0),
+pub returns-clause-taken : goal.returns-clause-taken
+returns-clause-taken c =
+    let outcome = Relayed c.choose.new.chosen.items c.queue_copies.new.refused.items in
+    let step : Step = Receive c.args.port c.args.item (Some c.learn-learnt.result) outcome None in
+    let e : c.append_receive.new.steps.items ≡ c.self.inside.steps.items ++ step ∷ [] =
+    c.append_receive.ensures.items ∙ ap (λ (o : Outcome). c.self.inside.steps.items ++ Receive c.args.port c.args.item (Some c.learn-learnt.result) o None ∷ []) c.outcomes-told.ensures.kept in (
+      outcome,
+      (
+        Some c.learn-learnt.result,
+        None,
+        ap (λ (ms : List Step). record { plan = c.self.inside.plan; number = c.self.inside.number; steps = ms; is_reserved = false }) e
+            ∙ ap (λ (v : BridgeView). with_step v step) c.self.view_is,
+        subst (λ (v : BridgeView). Fits spanning_tree v.plan v.number v.steps step) c.self.view_is (whole c).0,
+      ),
+      c.outcomes-told.ensures.told,
     )

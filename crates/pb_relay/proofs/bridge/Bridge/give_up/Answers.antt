@@ -1,23 +1,22 @@
-use Rattle.std.proofs.Common.{◌≡◌, ◌∷◌, true, length, arith, sym, ap, subst, [], None, refl, inl, length-append, List}
-use Rattle.pb_lan.specs.BridgeLists.{ruling, Ruling, Follows, Fits}
-use Rattle.pb_lan.specs.BridgeLists.Ruling.{Carries}
+use Rattle.std.proofs.Common.{◌≡◌, ◌∷◌, true, length, arith, sym, ap, subst, [], None, refl, length-append, List}
+use Rattle.pb_lan.specs.BridgeLists.{Fits}
 use Rattle.pb_lan.specs.declared.step.Outcome.TheVariants.{Filtered}
 use Rattle.pb_lan.specs.declared.step.Reason.TheVariants.{Memory}
 use Rattle.pb_lan.specs.declared.step.Step.{Step}
 use Rattle.pb_lan.specs.declared.step.Step.TheVariants.{Receive}
 use Rattle.pb_relay.specs.Standing.{BridgeView, IsStanding}
-use Rattle.pb_lan.specs.Rules.{silent}
+use Rattle.pb_relay.specs.Protocol.{spanning_tree}
 use Rattle.pb_relay.proofs.StandingLemmas.{after_quiet}
+use Rattle.pb_relay.specs.Machines.{IsSpanning}
+use Rattle.pb_relay.proofs.CauseLemmas.{spanning_stays}
 use Rattle.pb_relay.proofs.bridge.Bridge.give_up.Goals as goal
 
 pub invariant_of-self : goal.invariant_of-self
 invariant_of-self c =
     let step : Step = Receive c.args.port c.args.item None (Filtered Memory) None in
-    let r : ruling silent c.self.inside.plan c.self.inside.number c.self.inside.steps.items c.args.port c.args.item ≡ Carries c.requires.ruling.0 =
-    subst (λ (v : BridgeView). ruling silent v.plan v.number v.steps c.args.port c.args.item ≡ Carries c.requires.ruling.0) (sym c.self.view_is) c.requires.ruling.1 in
     let reserved = c.self.invariant.2.reserved (subst (λ (v : BridgeView). v.is_reserved ≡ true) (sym c.self.view_is) c.requires.reserved) in
-    let f : Fits silent c.self.inside.plan c.self.inside.number c.self.inside.steps.items step =
-    subst (λ (z : Ruling). Follows silent c.self.inside.plan c.self.inside.number c.self.inside.steps.items c.args.port c.args.item None (Filtered Memory) None z) (sym r) (inl (refl, refl, refl)) in (
+    let f : Fits spanning_tree c.self.inside.plan c.self.inside.number c.self.inside.steps.items step =
+    subst (λ (v : BridgeView). Fits spanning_tree v.plan v.number v.steps step) (sym c.self.view_is) c.requires.fits in (
       c.self.invariant.0,
       subst (λ (ms : List Step). IsStanding c.self.inside.plan c.self.inside.number ms c.self.inside.states c.self.inside.queues.items c.self.inside.clock c.self.inside.table.sightings)
           (sym c.append_receive.ensures.items)
@@ -27,4 +26,6 @@ invariant_of-self c =
         reserved = λ e. cc;
       },
       c.self.invariant.3,
+      subst (λ (ms : List Step). IsSpanning c.self.inside.plan c.self.inside.number ms c.self.inside.rstp c.self.inside.address.0) (sym c.append_receive.ensures.items)
+          (spanning_stays _ _ _ _ _ step refl c.self.invariant.4),
     )

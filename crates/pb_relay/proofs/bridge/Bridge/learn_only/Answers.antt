@@ -1,6 +1,6 @@
 use Rattle.std.proofs.Common.{◌≡◌, ◌∷◌, ◌++◌, [], Some, None, refl, true, false, List, ℕ, length, length-append, arith, ap, sym, subst, ◌∙◌}
 use Rattle.pb_frame.specs.Frames.{src_of}
-use Rattle.pb_lan.specs.Rules.{silent}
+use Rattle.pb_relay.specs.Protocol.{spanning_tree}
 use Rattle.pb_lan.specs.BridgeLists.{ruling, Fits}
 use Rattle.pb_lan.specs.BridgeLists.Ruling.{LearnsOnly}
 use Rattle.pb_lan.specs.declared.step.Outcome.TheVariants.{Filtered}
@@ -12,11 +12,13 @@ use Rattle.pb_fdb.specs.Tables.{sighting_at}
 use Rattle.pb_relay.proofs.TableLemmas.{has_learnt, table_learnt}
 use Rattle.pb_relay.specs.Tables.{HasLearnt}
 use Rattle.pb_relay.proofs.ReceiveLemmas.{learnt_alone}
+use Rattle.pb_relay.specs.Machines.{IsSpanning}
+use Rattle.pb_relay.proofs.CauseLemmas.{spanning_stays}
 use Rattle.pb_relay.proofs.bridge.Bridge.learn_only.Goals as goal
 
 -- the step fits, and what is kept is kept
 whole : (c : goal.After-append_receive)
-    → Fits silent c.self.inside.plan c.self.inside.number c.self.inside.steps.items (Receive c.args.port c.args.item (Some c.learn-learnt.result) (Filtered NotForwarding) None)
+    → Fits spanning_tree c.self.inside.plan c.self.inside.number c.self.inside.steps.items (Receive c.args.port c.args.item (Some c.learn-learnt.result) (Filtered NotForwarding) None)
     × IsStanding c.self.inside.plan c.self.inside.number
     (c.self.inside.steps.items ++ Receive c.args.port c.args.item (Some c.learn-learnt.result) (Filtered NotForwarding) None ∷ [])
     c.self.inside.states c.self.inside.queues.items c.self.inside.clock c.learn-learnt.new.self.sightings
@@ -28,7 +30,7 @@ whole c =
     learnt_alone c.self.inside.plan c.self.inside.number c.self.inside.steps.items c.self.inside.states c.self.inside.queues.items
     c.self.inside.clock c.self.inside.table.sightings c.learn-learnt.new.self.sightings c.self.inside.ports c.self.inside.capacity c.self.inside.limit c.args.port c.args.vid c.args.item
     c.learn-learnt.result c.self.invariant.0 c.self.invariant.1
-    (subst (λ (v : BridgeView). ruling silent v.plan v.number v.steps c.args.port c.args.item ≡ LearnsOnly c.args.vid) (sym c.self.view_is) c.requires.ruling)
+    (subst (λ (v : BridgeView). ruling spanning_tree v.plan v.number v.steps c.args.port c.args.item ≡ LearnsOnly c.args.vid) (sym c.self.view_is) c.requires.ruling)
     learns
 
 pub invariant_of-self : goal.invariant_of-self
@@ -43,6 +45,8 @@ invariant_of-self c =
         reserved = λ e. cc;
       },
       table_learnt c.self.inside.plan c.self.inside.clock c.self.inside.table c.learn-learnt.new.self (sighting_at c.args.vid c.source_of-source.result.0 c.args.port c.self.inside.clock) c.learn-learnt.result c.self.invariant.3 refl c.learn-learnt.ensures.table,
+      subst (λ (ms : List Step). IsSpanning c.self.inside.plan c.self.inside.number ms c.self.inside.rstp c.self.inside.address.0) (sym c.append_receive.ensures.items)
+          (spanning_stays _ _ _ _ _ step refl c.self.invariant.4),
     )
 
 pub returns : goal.returns
@@ -52,5 +56,5 @@ returns c =
       None,
       ap (λ (ms : List Step). record { plan = c.self.inside.plan; number = c.self.inside.number; steps = ms; is_reserved = false }) c.append_receive.ensures.items
           ∙ ap (λ (v : BridgeView). with_step v step) c.self.view_is,
-      subst (λ (v : BridgeView). Fits silent v.plan v.number v.steps step) c.self.view_is (whole c).0,
+      subst (λ (v : BridgeView). Fits spanning_tree v.plan v.number v.steps step) c.self.view_is (whole c).0,
     )

@@ -1,10 +1,13 @@
-use Rattle.std.proofs.Common.{◌≡◌, ◌<◌, ◌∷◌, true, length, arith, sym, ap, subst, ◌∙◌, [], Some, length-append}
+use Rattle.std.proofs.Common.{List, refl, ◌≡◌, ◌<◌, ◌∷◌, true, length, arith, sym, ap, subst, ◌∙◌, [], Some, length-append}
+use Rattle.pb_lan.specs.declared.step.Step.{Step}
 use Rattle.pb_lan.specs.Ports.{port_at}
 use Rattle.pb_lan.specs.Queues.{waiting, next_out}
 use Rattle.pb_lan.specs.declared.step.Step.TheVariants.{Transmit}
 use Rattle.pb_lan.specs.Ports.{is_used}
 use Rattle.pb_relay.specs.Standing.{BridgeView}
 use Rattle.pb_relay.proofs.StandingLemmas.{used_port, next_read, number_read, none_waits, transmitted}
+use Rattle.pb_relay.specs.Machines.{IsSpanning}
+use Rattle.pb_relay.proofs.CauseLemmas.{spanning_stays}
 use Rattle.pb_relay.proofs.bridge.Bridge.pop_out.Goals as goal
 
 pub overflow_sub-port : goal.overflow_sub-port
@@ -45,6 +48,8 @@ invariant_of-self c =
         reserved = λ e. cc;
       },
       c.self.invariant.3,
+      subst (λ (ms : List Step). IsSpanning c.self.inside.plan c.self.inside.number ms c.self.inside.rstp c.self.inside.address.0) (sym c.append.ensures.items)
+          (spanning_stays _ _ _ _ _ (Transmit c.args.port c.into_pair-item.result.1) refl c.self.invariant.4),
     )
 
 pub returns-clause-fits : goal.returns-clause-fits

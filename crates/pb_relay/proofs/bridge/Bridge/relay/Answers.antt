@@ -1,10 +1,14 @@
-use Rattle.std.proofs.Common.{◌≡◌, ◌-◌, get_or, ℕ, true, arith, sym, subst, ◌∙◌}
+use Rattle.std.proofs.Common.{◌≡◌, ◌-◌, get_or, None, true, refl, arith, sym, subst, ◌∙◌}
 use Rattle.pb_lan.specs.Ports.{port_at, is_used}
-use Rattle.pb_lan.specs.Rules.{silent}
-use Rattle.pb_lan.specs.BridgeLists.{ruling}
+use Rattle.pb_relay.specs.Protocol.{spanning_tree}
+use Rattle.pb_lan.specs.BridgeLists.{ruling, Fits}
+use Rattle.pb_lan.specs.declared.step.Outcome.TheVariants.{Filtered}
+use Rattle.pb_lan.specs.declared.step.Reason.TheVariants.{Memory}
+use Rattle.pb_lan.specs.declared.step.Step.TheVariants.{Receive}
+use Rattle.pb_relay.proofs.ReceiveLemmas.{given_up}
 use Rattle.pb_lan.specs.BridgeLists.Ruling.{Carries}
 use Rattle.pb_relay.specs.Loads.{IsLoadedAt}
-use Rattle.pb_relay.specs.Standing.{BridgeView, HasReceived}
+use Rattle.pb_relay.specs.Standing.{BridgeView, HasReceived, HasTaken}
 use Rattle.pb_relay.proofs.EntryLemmas.{loadable, sound_port}
 use Rattle.std.specs.List.{list_any}
 use Rattle.pb_relay.specs.Kinds.{is_to_customer, is_to_bridge}
@@ -34,7 +38,7 @@ new-requires c =
     (loadable c.self.inside.plan (port_at c.self.inside.plan c.self.inside.number c.args.port) (get_or c.self.inside.ports (c.args.port - 1) ToNobody) _ c.args.item _ c.self.invariant.0.sound
     (sound_port c.self.inside.plan c.self.inside.number c.args.port c.self.invariant.0.sound)
     (kept_here c.self.inside.plan _ _ _ _ c.args.port c.self.invariant.0 l)
-    (subst (λ (v : BridgeView). ruling silent v.plan v.number v.steps c.args.port c.args.item ≡ Carries c.args.vid) (sym c.self.view_is) c.requires.ruling))
+    (subst (λ (v : BridgeView). ruling spanning_tree v.plan v.number v.steps c.args.port c.args.item ≡ Carries c.args.vid) (sym c.self.view_is) c.requires.ruling))
 
 pub carry-requires-clause-load : goal.carry-requires-clause-load
 carry-requires-clause-load c =
@@ -45,13 +49,24 @@ carry-requires-clause-load c =
     (kept_here c.self.inside.plan _ _ _ _ c.args.port c.self.invariant.0 l)
     (subst (λ (z : Local). IsLoad (list_any is_to_customer c.self.inside.ports) (list_any is_to_bridge c.self.inside.ports) z c.args.item.wire c.in-Ok.load) c.at-local.ensures c.in-Ok.ensures))
 
-pub give_up-requires-in_default-take_room-clause-ruling : goal.give_up-requires-in_default-take_room-clause-ruling
-give_up-requires-in_default-take_room-clause-ruling c =
-    subst (λ (v : BridgeView). (vid : ℕ) × (ruling silent v.plan v.number v.steps c.args.port c.args.item ≡ Carries vid)) (sym c.take_room.ensures.kept) (c.args.vid, c.requires.ruling)
+pub give_up-requires-in_default-take_room-clause-fits : goal.give_up-requires-in_default-take_room-clause-fits
+give_up-requires-in_default-take_room-clause-fits c =
+    subst (λ (v : BridgeView). Fits spanning_tree v.plan v.number v.steps (Receive c.args.port c.args.item None (Filtered Memory) None)) (c.self.view_is ∙ sym c.take_room.ensures.kept)
+    (given_up c.self.inside.plan c.self.inside.number c.self.inside.steps.items c.args.port c.args.item c.args.vid
+    (subst (λ (v : BridgeView). ruling spanning_tree v.plan v.number v.steps c.args.port c.args.item ≡ Carries c.args.vid) (sym c.self.view_is) c.requires.ruling))
 
-pub returns-in_default-take_room : goal.returns-in_default-take_room
-returns-in_default-take_room c =
-    subst (λ (v : BridgeView). HasReceived v c.args.port c.args.item c.give_up-in_default-take_room.result c.give_up-in_default-take_room.new.self) c.take_room.ensures.kept c.give_up-in_default-take_room.ensures
+pub give_up-requires-clause-fits : goal.give_up-requires-clause-fits
+give_up-requires-clause-fits c =
+    subst (λ (v : BridgeView). Fits spanning_tree v.plan v.number v.steps (Receive c.args.port c.args.item None (Filtered Memory) None)) c.self.view_is
+    (given_up c.self.inside.plan c.self.inside.number c.self.inside.steps.items c.args.port c.args.item c.args.vid
+    (subst (λ (v : BridgeView). ruling spanning_tree v.plan v.number v.steps c.args.port c.args.item ≡ Carries c.args.vid) (sym c.self.view_is) c.requires.ruling))
 
-pub returns : goal.returns
-returns c = subst (λ (v : BridgeView). HasReceived v c.args.port c.args.item c.carry.result c.carry.new.self) c.take_room.ensures.kept c.carry.ensures
+pub returns-in_default-take_room-clause-taken : goal.returns-in_default-take_room-clause-taken
+returns-in_default-take_room-clause-taken c = (
+  c.give_up-in_default-take_room.result,
+  subst (λ (v : BridgeView). HasReceived v c.args.port c.args.item c.give_up-in_default-take_room.result c.give_up-in_default-take_room.new.self) c.take_room.ensures.kept c.give_up-in_default-take_room.ensures,
+  refl,
+)
+
+pub returns-clause-taken : goal.returns-clause-taken
+returns-clause-taken c = subst (λ (v : BridgeView). HasTaken v c.args.port c.args.item c.carry.result c.carry.new.self) c.take_room.ensures.kept c.carry.ensures.taken

@@ -5,7 +5,7 @@ use Rattle.pb_lan.specs.Ports.{port_at}
 use Rattle.pb_lan.specs.BridgeLists.{ruling}
 use Rattle.pb_lan.specs.Ports.{is_used}
 use Rattle.pb_relay.specs.Standing.{BridgeView}
-use Rattle.pb_lan.specs.Rules.{silent}
+use Rattle.pb_relay.specs.Protocol.{spanning_tree}
 use Rattle.pb_relay.proofs.StandingLemmas.{used_port}
 use Rattle.pb_relay.proofs.VerdictLemmas.{used_here, rule_is}
 use Rattle.pb_relay.proofs.bridge.Bridge.rule.Goals as goal
@@ -40,4 +40,4 @@ returns c =
     let k = kept_here c.self.inside.plan _ _ _ _ c.args.port c.self.invariant.0 l in
     c.rule.ensures
     ∙ rule_is c.self.inside.plan c.self.inside.number c.self.inside.steps.items c.self.inside.states c.args.port (get_or c.self.inside.ports (c.args.port - 1) ToNobody) c.args.item.now _ c.self.invariant.1.kept_states l k
-    ∙ ap (λ (v : BridgeView). ruling silent v.plan v.number v.steps c.args.port c.args.item.now) c.self.view_is
+    ∙ ap (λ (v : BridgeView). ruling spanning_tree v.plan v.number v.steps c.args.port c.args.item.now) c.self.view_is

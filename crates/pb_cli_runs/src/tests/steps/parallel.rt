@@ -1,0 +1,122 @@
+//! The example `parallel`, as its three files have it.
+
+/// The plan file.
+pub(super) const PLAN: &str =
+    r#"# Two parallel links, one for each service: as each carries its own service alone, neither closes a ring, and
+# both are used. Then the port of one is set down, and the other is not used in its place.
+
+[[bridge]]
+name = "Left"
+address = "02-00-00-00-00-01"
+
+[[bridge]]
+name = "Right"
+address = "02-00-00-00-00-02"
+
+[[link]]
+name = "upper"
+a = "Left"
+a_port = 1
+b = "Right"
+b_port = 1
+a_services = ["red"]
+b_services = ["red"]
+
+[[link]]
+name = "lower"
+a = "Left"
+a_port = 2
+b = "Right"
+b_port = 2
+a_services = ["blue"]
+b_services = ["blue"]
+
+[[service]]
+name = "red"
+vid = 100
+
+[[service]]
+name = "blue"
+vid = 200
+
+[[port]]
+name = "red-left"
+bridge = "Left"
+port = 3
+service = "red"
+
+[[port]]
+name = "red-right"
+bridge = "Right"
+port = 3
+service = "red"
+
+[[port]]
+name = "blue-left"
+bridge = "Left"
+port = 4
+service = "blue"
+
+[[port]]
+name = "blue-right"
+bridge = "Right"
+port = 4
+service = "blue"
+"#;
+
+/// The script.
+pub(super) const STEPS: &str = r#"poll red-left ffffffffffff0200000001010800aa
+feed red-left
+receive Left 3
+transmit Left 1
+take upper ab
+put upper ab
+receive Right 1
+transmit Right 3
+deliver red-right
+poll blue-right ffffffffffff0200000002020800bb
+feed blue-right
+receive Right 4
+transmit Right 2
+take lower ba
+put lower ba
+receive Left 2
+transmit Left 4
+deliver blue-left
+admin Left 1 down
+poll red-left ffffffffffff0200000001010800cc
+feed red-left
+receive Left 3
+"#;
+
+/// The whole output.
+pub(super) const EXPECTED: &str = r#"polled red-left 0
+fed
+relayed 1
+sent ffffffffffff02000000010188a800640800aa
+taken 0
+put
+relayed 3
+sent ffffffffffff0200000001010800aa
+delivered ffffffffffff0200000001010800aa
+polled blue-right 0
+fed
+relayed 2
+sent ffffffffffff02000000020288a800c80800bb
+taken 0
+put
+relayed 4
+sent ffffffffffff0200000002020800bb
+delivered ffffffffffff0200000002020800bb
+set
+polled red-left 1
+fed
+relayed
+port blue-left entered 0 left 1 filtered 0
+port blue-right entered 1 left 0 filtered 0
+port red-left entered 2 left 0 filtered 0
+port red-right entered 0 left 1 filtered 0
+link lower ab taken 0 lost 0 ba taken 1 lost 0
+link upper ab taken 1 lost 0 ba taken 0 lost 0
+forest yes
+"#;

@@ -1,0 +1,81 @@
+//! The limits of a plan.
+
+use super::draft::Draft;
+use super::networks::{SHORT, THREE_CUSTOMERS};
+use super::rows::{Act, Deed, Fate, Row, Sent};
+use super::walk::walks;
+use pb_lan::{Learnt, NoRoom, Place};
+use pb_net::NetFault;
+use std::test::Fail;
+
+#[test]
+fn each_place_has_its_own_steps(rt: HostRuntime) -> Result<(), Fail> {
+    const ROWS: &[Row] = &[
+        Row::Does(Act::Poll(1, SHORT)),
+        Row::Does(Act::Feed(1)),
+        Row::Refused(Act::Poll(1, SHORT), NetFault::StepLimit),
+        Row::Does(Act::Receive(1, 1)),
+        Row::Does(Act::Transmit(1, 2)),
+        Row::Refused(Act::Transmit(1, 3), NetFault::StepLimit),
+        Row::Idle(Act::Transmit(1, 1)),
+        Row::Refused(Act::Tick(1), NetFault::StepLimit),
+        Row::Does(Act::Deliver(2)),
+        Row::Steps {
+            place: Place::Bridge(1),
+            count: 2,
+        },
+    ];
+    let draft = Draft {
+        steps: 2,
+        ..THREE_CUSTOMERS
+    };
+    walks(&rt, rt.alloc(), &draft, ROWS)
+}
+
+/// The first broadcast, as it comes to the bridge.
+const FIRST: Sent = Sent {
+    number: 0,
+    hops: 0,
+    frame: SHORT,
+};
+
+/// The next one.
+const SECOND: Sent = Sent {
+    number: 1,
+    hops: 0,
+    frame: SHORT,
+};
+
+#[test]
+fn a_full_queue_gets_no_copy(rt: HostRuntime) -> Result<(), Fail> {
+    const ROWS: &[Row] = &[
+        Row::Enters(1, SHORT),
+        Row::Does(Act::Transmit(1, 3)),
+        Row::Enters(1, SHORT),
+        Row::Took(
+            Place::Bridge(1),
+            0,
+            Deed::Receive {
+                port: 1,
+                item: FIRST,
+                learnt: Learnt::New,
+                fate: Fate::Relayed(&[2, 3]),
+            },
+        ),
+        Row::Took(
+            Place::Bridge(1),
+            2,
+            Deed::Receive {
+                port: 1,
+                item: SECOND,
+                learnt: Learnt::Kept,
+                fate: Fate::RelayedBut(&[2, 3], &[(2, NoRoom::Full)]),
+            },
+        ),
+    ];
+    let draft = Draft {
+        queue: 1,
+        ..THREE_CUSTOMERS
+    };
+    walks(&rt, rt.alloc(), &draft, ROWS)
+}

@@ -1,0 +1,116 @@
+//! Plans of drafts.
+
+use super::draft::{Draft, Joint, Port, Site};
+use pb_frame::Memory;
+use pb_lan::{
+    BridgePlan, CustomerPlan, End, LinkPlan, Mac, Plan, PortState, Seq, ServicePlan, Text,
+};
+use std::alloc::Global;
+
+/// A name with a number.
+fn name(alloc: Global, word: &str, number: usize) -> Result<Text, Memory> {
+    Ok(Text::from_string(format!(in alloc; "{word}{number}")?))
+}
+
+/// A copy of a list.
+fn seq<T: Copy>(alloc: Global, items: &[T]) -> Result<Seq<T>, Memory> {
+    Ok(Seq::from_vec(Vec::from_slice(alloc, items)?))
+}
+
+/// The bridge of a number.
+fn bridge(alloc: Global, number: u8, queue: u16) -> Result<BridgePlan, Memory> {
+    Ok(BridgePlan {
+        name: name(alloc, "B", usize::from(number))?,
+        address: Mac([2, 0, 0, 0, 0, number]),
+        priority: 32768,
+        queue,
+    })
+}
+
+/// An end, which is Forwarding where the plan gives the states.
+fn end(alloc: Global, at: Port, cost: u32, listed: Option<&[u8]>) -> Result<End, Memory> {
+    let services = match listed {
+        Some(services) => Some(seq(alloc, services)?),
+        None => None,
+    };
+    Ok(End {
+        bridge: at.0,
+        port: at.1,
+        cost,
+        priority: 128,
+        start: PortState::Forwarding,
+        services,
+    })
+}
+
+/// The link behind so many others.
+fn link(alloc: Global, place: usize, joint: Joint) -> Result<LinkPlan, Memory> {
+    let (a, b) = joint.ends();
+    let (listed_a, listed_b) = joint.listed();
+    Ok(LinkPlan {
+        name: name(alloc, "L", place)?,
+        a: end(alloc, a, joint.cost(), listed_a)?,
+        b: end(alloc, b, joint.cost(), listed_b)?,
+        lost_ab: seq(alloc, joint.losses())?,
+        lost_ba: Seq::from_vec(Vec::new(alloc)),
+    })
+}
+
+/// The customer port behind so many others.
+fn customer(alloc: Global, place: usize, site: Site) -> Result<CustomerPlan, Memory> {
+    Ok(CustomerPlan {
+        name: name(alloc, "C", place)?,
+        bridge: site.at.0,
+        port: site.at.1,
+        service: site.service,
+        pcp: site.pcp,
+        queue: 64,
+    })
+}
+
+/// The service behind so many others.
+fn service(alloc: Global, place: usize, vid: u16) -> Result<ServicePlan, Memory> {
+    Ok(ServicePlan {
+        name: name(alloc, "S", place)?,
+        vid,
+    })
+}
+
+fn bridges(alloc: Global, draft: &Draft) -> Result<Seq<BridgePlan>, Memory> {
+    let mut bridges = Vec::new(alloc);
+    for number in 1..=draft.bridges {
+        bridges.push(bridge(alloc, number, draft.queue)?)?;
+    }
+    Ok(Seq::from_vec(bridges))
+}
+
+fn links(alloc: Global, draft: &Draft) -> Result<Seq<LinkPlan>, Memory> {
+    let mut links = Vec::new(alloc);
+    for (place, joint) in draft.links.iter().enumerate() {
+        links.push(link(alloc, place, *joint)?)?;
+    }
+    Ok(Seq::from_vec(links))
+}
+
+fn customers(alloc: Global, draft: &Draft) -> Result<Seq<CustomerPlan>, Memory> {
+    let mut customers = Vec::new(alloc);
+    for (place, site) in draft.customers.iter().enumerate() {
+        customers.push(customer(alloc, place, *site)?)?;
+    }
+    Ok(Seq::from_vec(customers))
+}
+
+/// The plan of a draft.
+pub(super) fn plan_of(alloc: Global, draft: &Draft) -> Result<Plan, Memory> {
+    let services = vec![in alloc; service(alloc, 1, 100)?, service(alloc, 2, 200)?]?;
+    Ok(Plan {
+        bridges: bridges(alloc, draft)?,
+        links: links(alloc, draft)?,
+        services: Seq::from_vec(services),
+        customers: customers(alloc, draft)?,
+        spanning: draft.spanning,
+        ageing: 300,
+        ring: draft.ring,
+        steps: draft.steps,
+    })
+}

@@ -1,0 +1,82 @@
+//! Services that are kept apart.
+
+use super::draft::{Draft, Joint, Site};
+use super::networks::{BROADCAST, JOINED};
+use super::rows::{Act, Fate, Row};
+use super::walk::walks;
+use pb_lan::Reason;
+use std::test::Fail;
+
+/// A link from port 1 to port 1 for red, and one from port 3 to port 4 for blue.
+const LISTED: Draft = Draft {
+    links: &[
+        Joint::Listed((1, 1), Some(&[1]), (2, 1), Some(&[1])),
+        Joint::Listed((1, 3), Some(&[2]), (2, 4), Some(&[2])),
+    ],
+    ..JOINED
+};
+
+#[test]
+fn each_service_has_its_own_link(rt: HostRuntime) -> Result<(), Fail> {
+    const ROWS: &[Row] = &[
+        Row::Enters(1, BROADCAST),
+        Row::Ruled {
+            bridge: 1,
+            fate: Fate::Relayed(&[1]),
+        },
+        Row::Crosses(1),
+        Row::Ruled {
+            bridge: 2,
+            fate: Fate::Relayed(&[2]),
+        },
+        Row::Leaves(2),
+        Row::Idle(Act::Deliver(2)),
+        Row::Idle(Act::Transmit(1, 2)),
+    ];
+    walks(&rt, rt.alloc(), &LISTED, ROWS)
+}
+
+/// A link with an end for all services and one for red alone; customer port 1 (B1 port 2) is of blue.
+const HALF_LISTED: Draft = Draft {
+    links: &[Joint::Listed((1, 1), None, (2, 1), Some(&[1]))],
+    customers: &[Site {
+        at: (1, 2),
+        service: 2,
+        pcp: 0,
+    }],
+    ..JOINED
+};
+
+#[test]
+fn a_port_takes_the_services_that_it_lists(rt: HostRuntime) -> Result<(), Fail> {
+    const ROWS: &[Row] = &[
+        Row::Enters(1, BROADCAST),
+        Row::Crosses(1),
+        Row::Ruled {
+            bridge: 2,
+            fate: Fate::Filtered(Reason::NotMember),
+        },
+    ];
+    walks(&rt, rt.alloc(), &HALF_LISTED, ROWS)
+}
+
+#[test]
+fn a_station_is_known_in_its_service_alone(rt: HostRuntime) -> Result<(), Fail> {
+    const ROWS: &[Row] = &[
+        // A station of blue sends a broadcast at customer port 3.
+        Row::Enters(3, "ffffffffffff0200000003030800"),
+        Row::Crosses(2),
+        // A frame to it enters customer port 1, of red.
+        Row::Enters(1, "0200000003030200000001010800"),
+        Row::Ruled {
+            bridge: 1,
+            fate: Fate::Relayed(&[1]),
+        },
+        Row::Crosses(1),
+        Row::Ruled {
+            bridge: 2,
+            fate: Fate::Relayed(&[2]),
+        },
+    ];
+    walks(&rt, rt.alloc(), &JOINED, ROWS)
+}

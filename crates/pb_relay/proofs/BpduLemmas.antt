@@ -1,0 +1,149 @@
+-- BPDUs that are queued one by one.
+use Rattle.std.proofs.Common.{◌≡◌, ◌≢◌, ℕ, zero, suc, ◌+◌, ◌-◌, set, ◌<◌, ◌≤◌, Bool, false, cond, not, is_some, None, Ok, Err, List, [], ◌∷◌, ◌++◌, map, length, take, get_or, refl, sym, ap, ◌∙◌, subst, arith, eq-eqb}
+use Rattle.std.proofs.lemmas.List.{map-append, get_or-map, length-map, take_more}
+use Rattle.std.specs.declared.result.Result.{Result}
+use Rattle.std.specs.List.{AllByRecursion, filter, take-map}
+use Rattle.pb_frame.proofs.Lists.{filter-append}
+use Rattle.pb_lan.specs.BridgeLists.{own_item}
+use Rattle.pb_lan.specs.Queues.{is_refused}
+use Rattle.pb_lan.specs.declared.step.Item.{Item}
+use Rattle.pb_lan.specs.declared.step.NoRoom.{NoRoom}
+use Rattle.pb_bpdu.specs.Layout.{written}
+use Rattle.pb_bpdu.specs.declared.bpdu.Bpdu.{Bpdu}
+use Rattle.pb_relay.specs.Bpdus.{HasSent, told_queued, word_of, frames_of}
+use Rattle.pb_relay.specs.Copies.{AreCopied, AreSeparate, HasEnqueued, named, item_with}
+use Rattle.pb_relay.specs.Moves.{own_at, own_queued, places_of}
+use Rattle.pb_relay.proofs.CopyLemmas.{IsOther, unequal, refused-other, refused-own, none_refused, separate_at, separate_before, copied_more}
+
+-- a frame and its port
+abbrev Send : Type 0
+Send = ℕ × List ℕ
+
+-- the frame of a port that stands among others is the port's
+own_at-other : (p : ℕ) (fs : List Send) (f : Send) → f.0 ≢ p → own_at (f ∷ fs) p ≡ own_at fs p
+own_at-other p fs f n = ap (λ b. cond b (item_with None 0 f.1) (own_at fs p)) (unequal f.0 p n)
+
+other-place : (p : ℕ) (fs : List Send) (i : ℕ) (d : Send) → i < length fs → AllByRecursion (λ q. q ≢ p) (places_of fs) → (get_or fs i d).0 ≢ p
+other-place p [] i d l a = absurd (omega arith)
+other-place p (f ∷ fs) zero d l a = a.0
+other-place p (f ∷ fs) (suc i) d l a = other-place p fs i d (omega arith) a.1
+
+pub own_at-here : (fs : List Send) (i : ℕ) (d : Send) → i < length fs → AreSeparate (places_of fs) → own_at fs (get_or fs i d).0 ≡ item_with None 0 (get_or fs i d).1
+own_at-here [] i d l a = absurd (omega arith)
+own_at-here (f ∷ fs) zero d l a = ap (λ b. cond b (item_with None 0 f.1) (own_at fs f.0)) (eq-eqb f.0 f.0 refl)
+own_at-here (f ∷ fs) (suc i) d l a =
+    let b : i < length fs = omega arith in
+    own_at-other (get_or fs i d).0 fs f (λ e. other-place f.0 fs i d b a.1 (sym e)) ∙ own_at-here fs i d b a.2
+
+-- tests that agree on other ports keep the same frames of other ports
+filter-others : (p : ℕ) (g h : ℕ → Bool) → ((q : ℕ) → q ≢ p → g q ≡ h q) → (fs : List Send) → AllByRecursion (IsOther p) (places_of fs)
+    → filter (λ (s : Send). g s.0) fs ≡ filter (λ (s : Send). h s.0) fs
+filter-others p g h e [] a = refl
+filter-others p g h e (f ∷ fs) a =
+    ap (λ b. cond b (f ∷ filter (λ (s : Send). g s.0) fs) (filter (λ (s : Send). g s.0) fs)) (e f.0 a.0)
+    ∙ ap (λ zs. cond (h f.0) (f ∷ zs) zs) (filter-others p g h e fs a.1)
+
+-- one frame more
+pub queued_more : (p : ℕ) (wire : List ℕ) (capacity : ℕ) (old new : List (List Item)) (answer : Result Item NoRoom) (rs : List (ℕ × NoRoom)) (done : List Send)
+    → HasSent capacity wire old answer new → is_refused rs p ≡ false → AllByRecursion (IsOther p) (places_of done)
+    → own_queued (rs ++ named p (word_of answer)) (done ++ (p, wire) ∷ []) ≡ own_queued rs done ++ told_queued p answer
+queued_more p wire capacity old new answer rs done h n a =
+    ap (map own_item) (filter-append (λ (s : Send). not (is_refused (rs ++ named p (word_of answer)) s.0)) done ((p, wire) ∷ []))
+    ∙ map-append own_item (filter (λ (s : Send). not (is_refused (rs ++ named p (word_of answer)) s.0)) done) (filter (λ (s : Send). not (is_refused (rs ++ named p (word_of answer)) s.0)) ((p, wire) ∷ []))
+    ∙ ap (λ zs. map own_item zs ++ map own_item (filter (λ (s : Send). not (is_refused (rs ++ named p (word_of answer)) s.0)) ((p, wire) ∷ [])))
+    (filter-others p (λ q. not (is_refused (rs ++ named p (word_of answer)) q)) (λ q. not (is_refused rs q)) (λ q o. ap not (refused-other p q (word_of answer) rs o)) done a)
+    ∙ ap (λ b. own_queued rs done ++ map own_item (cond (not b) ((p, wire) ∷ []) [])) (refused-own p (word_of answer) rs n)
+    ∙ ap (λ zs. own_queued rs done ++ zs) (by_answer answer h)
+  where
+    by_answer : (z : Result Item NoRoom) → HasSent capacity wire old z new → map own_item (cond (not (is_some (word_of z))) ((p, wire) ∷ []) []) ≡ told_queued p z
+    by_answer (Ok item) k = ap (λ (x : Item). (p, x) ∷ []) (sym k.0)
+    by_answer (Err word) k = refl
+
+-- what was answered, as a word
+pub has_enqueued : (capacity : ℕ) (wire : List ℕ) (old new : List (List Item)) (answer : Result Item NoRoom) → HasSent capacity wire old answer new
+    → HasEnqueued capacity 7 (item_with None 0 wire) old (word_of answer) new
+has_enqueued capacity wire old new (Ok item) h = h.1
+has_enqueued capacity wire old new (Err word) h = h
+
+-- at most one item is told of a port
+pub told-few : (p : ℕ) (answer : Result Item NoRoom) → length (told_queued p answer) ≤ 1
+told-few p (Ok item) = omega arith
+told-few p (Err word) = omega arith
+
+-- a BPDU and its port
+abbrev Sent : Type 0
+Sent = ℕ × Bpdu
+
+frame-at : (address : List ℕ) (sends : List Sent) (i : ℕ) (d : Sent) → i < length sends
+    → get_or (frames_of address sends) i (d.0, written address d.1) ≡ ((get_or sends i d).0, written address (get_or sends i d).1)
+frame-at address sends i d l = get_or-map (λ (s : Sent). (s.0, written address s.1)) sends i d (d.0, written address d.1) l
+
+length-frames : (address : List ℕ) (sends : List Sent) → length (frames_of address sends) ≡ length sends
+length-frames address sends = length-map sends (λ (s : Sent). (s.0, written address s.1))
+
+length-places : (fs : List Send) → length (places_of fs) ≡ length fs
+length-places fs = length-map fs (λ (s : Send). s.0)
+
+place-at : (address : List ℕ) (sends : List Sent) (i : ℕ) (d : Sent) → i < length sends → get_or (places_of (frames_of address sends)) i 0 ≡ (get_or sends i d).0
+place-at address sends i d l =
+    let n = length-frames address sends in
+    get_or-map (λ (s : Send). s.0) (frames_of address sends) i (d.0, written address d.1) 0 (omega arith)
+    ∙ ap (λ (s : Send). s.0) (frame-at address sends i d l)
+
+-- the port of a BPDU is one of 16
+pub bpdu_place : (address : List ℕ) (sends : List Sent) (i : ℕ) (d : Sent) → i < length sends → AreSeparate (places_of (frames_of address sends))
+    → (1 ≤ (get_or sends i d).0) × ((get_or sends i d).0 ≤ 16)
+bpdu_place address sends i d l a =
+    let n = length-frames address sends in
+    let m = length-places (frames_of address sends) in
+    subst (λ (p : ℕ). (1 ≤ p) × (p ≤ 16)) (place-at address sends i d l) (separate_at (places_of (frames_of address sends)) i (omega arith) a)
+
+-- one BPDU more
+pub bpdu_more : (capacity : ℕ) (address : List ℕ) (sends : List Sent) (i : ℕ) (d : Sent) (old : List (List (List Item))) (rs : List (ℕ × NoRoom)) (new : List (List (List Item)))
+    (q after : List (List Item)) (answer : Result Item NoRoom) (queued : List (ℕ × Item))
+    → i < length sends → AreSeparate (places_of (frames_of address sends))
+    → AreCopied capacity 7 (own_at (frames_of address sends)) old (take i (places_of (frames_of address sends))) rs new → length new ≡ 16
+    → queued ≡ own_queued rs (take i (frames_of address sends))
+    → q ≡ get_or new ((get_or sends i d).0 - 1) q → HasSent capacity (written address (get_or sends i d).1) q answer after
+    → AreCopied capacity 7 (own_at (frames_of address sends)) old (take (i + 1) (places_of (frames_of address sends))) (rs ++ named (get_or sends i d).0 (word_of answer)) (set new ((get_or sends i d).0 - 1) after)
+    × (queued ++ told_queued (get_or sends i d).0 answer ≡ own_queued (rs ++ named (get_or sends i d).0 (word_of answer)) (take (i + 1) (frames_of address sends)))
+bpdu_more capacity address sends i d old rs new q after answer queued l a copied count told value h =
+    let fs = frames_of address sends in
+    let ps = places_of fs in
+    let x = get_or sends i d in
+    let n = length-frames address sends in
+    let m = length-places fs in
+    let f-at = frame-at address sends i d l in
+    let p-at = place-at address sends i d l in
+    let few : i < length fs = omega arith in
+    let fewer : i < length ps = omega arith in
+    let before : AllByRecursion (IsOther x.0) (take i ps) = subst (λ (k : ℕ). AllByRecursion (IsOther k) (take i ps)) p-at (separate_before ps i fewer a) in
+    let here : own_at fs x.0 ≡ item_with None 0 (written address x.1) =
+    subst (λ (s : Send). own_at fs s.0 ≡ item_with None 0 s.1) f-at (own_at-here fs i (d.0, written address d.1) few a) in
+    let more = copied_more capacity 7 (own_at fs) old (take i ps) rs new x.0 (word_of answer) q after copied before (bpdu_place address sends i d l a) count value
+    (subst (λ (z : Item). HasEnqueued capacity 7 z q (word_of answer) after) (sym here) (has_enqueued capacity (written address x.1) q after answer h)) in (
+      subst (λ (zs : List ℕ). AreCopied capacity 7 (own_at fs) old zs (rs ++ named x.0 (word_of answer)) (set new (x.0 - 1) after))
+          (sym (take_more ps i 0 fewer ∙ ap (λ k. take i ps ++ k ∷ []) p-at)) more,
+      ap (λ zs. zs ++ told_queued x.0 answer) told
+          ∙ sym (queued_more x.0 (written address x.1) capacity q after answer rs (take i fs) h (none_refused x.0 (take i ps) rs copied.refusals.0 before)
+          (subst (λ (zs : List ℕ). AllByRecursion (IsOther x.0) zs) (take-map (λ (s : Send). s.0) i fs) before))
+          ∙ ap (own_queued (rs ++ named x.0 (word_of answer))) (sym (take_more fs i (d.0, written address d.1) few ∙ ap (λ (s : Send). take i fs ++ s ∷ []) f-at)),
+    )
+
+-- and so for the BPDU that stands there
+pub place_of : (address : List ℕ) (sends : List Sent) (i : ℕ) (x : Sent) → i < length sends → x ≡ get_or sends i x → AreSeparate (places_of (frames_of address sends)) → (1 ≤ x.0) × (x.0 ≤ 16)
+place_of address sends i x l e a = subst (λ (y : Sent). (1 ≤ y.0) × (y.0 ≤ 16)) (sym e) (bpdu_place address sends i x l a)
+
+pub one_bpdu : (capacity : ℕ) (address : List ℕ) (sends : List Sent) (i : ℕ) (x : Sent) (old : List (List (List Item))) (rs : List (ℕ × NoRoom)) (new : List (List (List Item)))
+    (q after : List (List Item)) (answer : Result Item NoRoom) (queued : List (ℕ × Item))
+    → i < length sends → x ≡ get_or sends i x → AreSeparate (places_of (frames_of address sends))
+    → AreCopied capacity 7 (own_at (frames_of address sends)) old (take i (places_of (frames_of address sends))) rs new → length new ≡ 16
+    → queued ≡ own_queued rs (take i (frames_of address sends))
+    → q ≡ get_or new (x.0 - 1) q → HasSent capacity (written address x.1) q answer after
+    → AreCopied capacity 7 (own_at (frames_of address sends)) old (take (i + 1) (places_of (frames_of address sends))) (rs ++ named x.0 (word_of answer)) (set new (x.0 - 1) after)
+    × (queued ++ told_queued x.0 answer ≡ own_queued (rs ++ named x.0 (word_of answer)) (take (i + 1) (frames_of address sends)))
+one_bpdu capacity address sends i x old rs new q after answer queued l e a copied count told value h =
+    subst (λ (y : Sent). q ≡ get_or new (y.0 - 1) q → HasSent capacity (written address y.1) q answer after
+    → AreCopied capacity 7 (own_at (frames_of address sends)) old (take (i + 1) (places_of (frames_of address sends))) (rs ++ named y.0 (word_of answer)) (set new (y.0 - 1) after)
+    × (queued ++ told_queued y.0 answer ≡ own_queued (rs ++ named y.0 (word_of answer)) (take (i + 1) (frames_of address sends))))
+    (sym e) (bpdu_more capacity address sends i x old rs new q after answer queued l a copied count told) value h

@@ -1,0 +1,28 @@
+-- BPDUs of a bridge's own, queued at its ports.
+use Rattle.std.specs.Prelude.{◌≡◌, ℕ, List, [], ◌∷◌, None, Some, Ok, Err, map}
+use Rattle.std.specs.declared.option.Option.{Option}
+use Rattle.std.specs.declared.result.Result.{Result}
+use Rattle.pb_bpdu.specs.Layout.{written}
+use Rattle.pb_bpdu.specs.declared.bpdu.Bpdu.{Bpdu}
+use Rattle.pb_lan.specs.declared.step.Item.{Item}
+use Rattle.pb_lan.specs.declared.step.NoRoom.{NoRoom}
+use Rattle.pb_relay.specs.Copies.{HasEnqueued, item_with}
+
+-- the frames of BPDUs from a bridge of this address
+abbrev pub frames_of : List ℕ → List (ℕ × Bpdu) → List (ℕ × List ℕ)
+frames_of address sends = map (λ s. (s.0, written address s.1)) sends
+
+-- the word for what got no room, if it got none
+abbrev pub word_of : Result Item NoRoom → Option NoRoom
+word_of (Ok item) = None
+word_of (Err word) = Some word
+
+-- an item of the bridge's own was queued, and told, where there was room and memory
+abbrev pub HasSent : ℕ → List ℕ → List (List Item) → Result Item NoRoom → List (List Item) → Type 0
+HasSent capacity wire old (Ok item) new = (item ≡ item_with None 0 wire) × HasEnqueued capacity 7 (item_with None 0 wire) old None new
+HasSent capacity wire old (Err word) new = HasEnqueued capacity 7 (item_with None 0 wire) old (Some word) new
+
+-- what is told of a port where an item was queued
+abbrev pub told_queued : ℕ → Result Item NoRoom → List (ℕ × Item)
+told_queued port (Ok item) = (port, item) ∷ []
+told_queued port (Err word) = []

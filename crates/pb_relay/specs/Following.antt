@@ -1,0 +1,28 @@
+-- What a bridge does that its spanning tree tells.
+use Rattle.std.specs.Prelude.{◌≡◌, ◌≤◌, ℕ, List, length}
+use Rattle.std.specs.List.{AllByRecursion}
+use Rattle.pb_fdb.specs.Tables.{Table}
+use Rattle.pb_lan.specs.declared.shape.PortState.{PortState}
+use Rattle.pb_lan.specs.declared.step.Item.{Item}
+use Rattle.pb_lan.specs.declared.step.Moved.{Moved}
+use Rattle.pb_rstp.specs.declared.change.Change.{Change}
+use Rattle.pb_relay.specs.Bpdus.{frames_of}
+use Rattle.pb_relay.specs.Copies.{AreCopied, AreSeparate}
+use Rattle.pb_relay.specs.Moves.{all_flushed, own_at, own_queued, places_of, states_changed}
+
+-- the change is of local ports, and each sends one BPDU at most
+pub record IsOfPorts (address : List ℕ) (change : Change) : Type 0 where
+  pub within : AllByRecursion (λ (c : ℕ × PortState). (1 ≤ c.0) × (c.0 ≤ 16)) change.states
+  pub separate : AreSeparate (places_of (frames_of address change.send))
+  pub few : length change.send ≤ 16
+
+-- the states are set, the ports flushed, the BPDUs queued or dropped, and all that is told
+pub record HasFollowed (capacity : ℕ) (address : List ℕ) (change : Change) (states : List PortState) (table : Table) (queues : List (List (List Item)))
+    (moved : Moved) (states' : List PortState) (table' : Table) (queues' : List (List (List Item))) : Type 0 where
+  pub set_states : states' ≡ states_changed states change.states
+  pub flushed_table : table' ≡ all_flushed table change.flush
+  pub copied : AreCopied capacity 7 (own_at (frames_of address change.send)) queues (places_of (frames_of address change.send)) moved.dropped queues'
+  pub count : length queues' ≡ 16
+  pub told : moved.states ≡ change.states
+  pub flushed : moved.flushed ≡ change.flush
+  pub queued : moved.queued ≡ own_queued moved.dropped (frames_of address change.send)

@@ -1,0 +1,129 @@
+//! BPDUs of a bridge's own, queued at its ports.
+
+ghost use Rattle.std.specs.Prelude.{◌≡◌, ◌<◌, ◌≤◌, ◌++◌, ◌∷◌, [], length, vec_len, vec_capacity, None, IfOk};
+ghost use Rattle.pb_bpdu.specs.Layout.{written};
+ghost use Rattle.pb_relay.specs.Bpdus.{frames_of, HasSent, told_queued, word_of};
+ghost use Rattle.pb_relay.specs.Copies.{AreCopied, AreSeparate, named};
+ghost use Rattle.pb_relay.specs.Moves.{own_at, own_queued, places_of};
+
+use crate::copies::{enqueue, note};
+use crate::queues::PortQueues;
+use pb_bpdu::Bpdu;
+use pb_frame::{Mac, Memory};
+use pb_lan::{Item, NoRoom};
+use std::alloc::Global;
+
+/// The traffic class of a bridge's own BPDUs (IEEE 802.1Q clause 6.9.4).
+const HIGHEST: u8 = 7;
+
+/// The number of local ports of a bridge.
+const PORTS: usize = 16;
+
+/// Lists for what a step tells of the BPDUs that were to be sent.
+#[derive(Drop)]
+pub struct BpduRoom {
+    /// The ports where one was queued, with the item.
+    pub queued: Vec<(u8, Item)>,
+    /// The ports where one got no room, with the reason.
+    pub dropped: Vec<(u8, NoRoom)>,
+}
+
+impl BpduRoom {
+    /// Two empty lists with room for a word of each local port.
+    pub fn new(alloc: Global) -> Result<BpduRoom, Memory>
+        ensures queued { IfOk result (λ room. room.queued.items ≡ []) }
+        ensures dropped { IfOk result (λ room. room.dropped.items ≡ []) }
+        ensures queued_room { IfOk result (λ room. 16 ≤ vec_capacity room.queued) }
+        ensures dropped_room { IfOk result (λ room. 16 ≤ vec_capacity room.dropped) }
+    {
+        Ok(BpduRoom {
+            queued: Vec::with_capacity(alloc, PORTS)?,
+            dropped: Vec::with_capacity(alloc, PORTS)?,
+        })
+    }
+}
+
+/// Queues a BPDU at a port, if there is room and memory, and gives the item for the step that tells of it.
+fn send(
+    alloc: Global,
+    queues: &mut PortQueues,
+    capacity: usize,
+    address: Mac,
+    bpdu: &Bpdu,
+) -> Result<Item, NoRoom>
+    requires { capacity ≤ 4096 }
+    ensures { HasSent capacity (written address.0 bpdu.now) queues.old result queues.new }
+{
+    if queues.len() >= capacity {
+        return Err(NoRoom::Full);
+    }
+    let Ok(wire) = pb_bpdu::write(alloc, address, bpdu) else {
+        return Err(NoRoom::Memory);
+    };
+    match enqueue(queues, capacity, HIGHEST, None, 0, &wire) {
+        Some(word) => Err(word),
+        None => Ok(Item {
+            mark: None,
+            hops: 0,
+            wire,
+        }),
+    }
+}
+
+/// Notes an item that was queued at a port.
+fn note_item(queued: &mut Vec<(u8, Item)>, port: u8, item: Item)
+    requires { vec_len queued.old < vec_capacity queued.old }
+    ensures items { queued.new.items ≡ queued.old.items ++ (port, item) ∷ [] }
+    ensures capacity { vec_capacity queued.old ≤ vec_capacity queued.new }
+{
+    let _ = queued.push((port, item));
+}
+
+/// Notes what became of a BPDU.
+fn note_sent(
+    queued: &mut Vec<(u8, Item)>,
+    dropped: &mut Vec<(u8, NoRoom)>,
+    port: u8,
+    answer: Result<Item, NoRoom>,
+)
+    requires queued { vec_len queued.old < vec_capacity queued.old }
+    requires dropped { vec_len dropped.old < vec_capacity dropped.old }
+    ensures queued { queued.new.items ≡ queued.old.items ++ told_queued port answer }
+    ensures dropped { dropped.new.items ≡ dropped.old.items ++ named port (word_of answer) }
+    ensures queued_room { vec_capacity queued.old ≤ vec_capacity queued.new }
+    ensures dropped_room { vec_capacity dropped.old ≤ vec_capacity dropped.new }
+{
+    match answer {
+        Ok(item) => note_item(queued, port, item),
+        Err(word) => note(dropped, port, word),
+    }
+}
+
+/// Queues each BPDU at its port in the highest class, and notes where one was queued and where not.
+pub fn queue_bpdus(
+    alloc: Global,
+    queues: &mut Vec<PortQueues>,
+    queued: &mut Vec<(u8, Item)>,
+    dropped: &mut Vec<(u8, NoRoom)>,
+    sends: &[(u8, Bpdu)],
+    capacity: usize,
+    address: Mac,
+)
+    requires capacity { capacity ≤ 4096 }
+    requires queues { length queues.old.items ≡ 16 }
+    requires queued { queued.old.items ≡ [] }
+    requires dropped { dropped.old.items ≡ [] }
+    requires queued_room { length sends.now ≤ vec_capacity queued.old }
+    requires dropped_room { length sends.now ≤ vec_capacity dropped.old }
+    requires separate { AreSeparate (places_of (frames_of address.0 sends.now)) }
+    ensures copied { AreCopied capacity 7 (own_at (frames_of address.0 sends.now)) queues.old.items (places_of (frames_of address.0 sends.now)) dropped.new.items queues.new.items }
+    ensures count { length queues.new.items ≡ 16 }
+    ensures queued { queued.new.items ≡ own_queued dropped.new.items (frames_of address.0 sends.now) }
+{
+    for (port, bpdu) in sends {
+        let place = *port as usize - 1;
+        let queue = &mut queues[place];
+        let answer = send(alloc, queue, capacity, address, bpdu);
+        note_sent(queued, dropped, *port, answer);
+    }
+}

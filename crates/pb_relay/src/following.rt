@@ -1,0 +1,82 @@
+//! What a bridge does that its spanning tree tells.
+
+ghost use Rattle.std.specs.Prelude.{◌≡◌, ◌≤◌, [], length, vec_capacity};
+ghost use Rattle.std.specs.List.{AllByRecursion};
+ghost use Rattle.pb_relay.specs.Following.{IsOfPorts, HasFollowed};
+ghost use Rattle.pb_relay.specs.Moves.{all_flushed, states_changed};
+
+use crate::bpdus::{BpduRoom, queue_bpdus};
+use crate::queues::PortQueues;
+use pb_fdb::Fdb;
+use pb_frame::{Mac, Seq};
+use pb_lan::{Moved, PortState};
+use pb_rstp::Change;
+use std::alloc::Global;
+
+/// Sets the states of ports.
+fn set_states(states: &mut [PortState; 16], changes: &[(u8, PortState)])
+    requires { AllByRecursion (λ change. (1 ≤ change.0) × (change.0 ≤ 16)) changes.now }
+    ensures { states.new ≡ states_changed states.old changes.now }
+{
+    for (port, state) in changes {
+        states[*port as usize - 1] = *state;
+    }
+}
+
+/// Forgets the stations of ports.
+fn flush_all(table: &mut Fdb, ports: &[u8])
+    ensures { table.new ≡ all_flushed table.old ports.now }
+{
+    for port in ports {
+        table.flush(*port);
+    }
+}
+
+/// Sets the states, forgets the stations and queues the BPDUs that a change of the spanning tree tells,
+/// and gives what the bridge's step tells of it.
+pub fn follow(
+    alloc: Global,
+    states: &mut [PortState; 16],
+    table: &mut Fdb,
+    queues: &mut Vec<PortQueues>,
+    change: Change,
+    room: BpduRoom,
+    capacity: usize,
+    address: Mac,
+) -> Moved
+    requires capacity { capacity ≤ 4096 }
+    requires queues { length queues.old.items ≡ 16 }
+    requires queued { room.queued.items ≡ [] }
+    requires dropped { room.dropped.items ≡ [] }
+    requires queued_room { 16 ≤ vec_capacity room.queued }
+    requires dropped_room { 16 ≤ vec_capacity room.dropped }
+    requires change { IsOfPorts address.0 change }
+    ensures { HasFollowed capacity address.0 change states.old table.old queues.old.items result states.new table.new queues.new.items }
+{
+    let Change {
+        states: changes,
+        flush,
+        send,
+    } = change;
+    let BpduRoom {
+        mut queued,
+        mut dropped,
+    } = room;
+    set_states(states, changes.as_slice());
+    flush_all(table, flush.as_slice());
+    queue_bpdus(
+        alloc,
+        queues,
+        &mut queued,
+        &mut dropped,
+        send.as_slice(),
+        capacity,
+        address,
+    );
+    Moved {
+        states: changes,
+        flushed: flush,
+        queued: Seq::from_vec(queued),
+        dropped: Seq::from_vec(dropped),
+    }
+}

@@ -1,0 +1,81 @@
+//! A BPDU that a bridge hears.
+
+ghost use Rattle.std.specs.Prelude.{◌≡◌, true, Some, None};
+ghost use Rattle.pb_lan.specs.BridgeLists.{ruling};
+ghost use Rattle.pb_lan.specs.BridgeLists.Ruling.{Listens};
+ghost use Rattle.pb_lan.specs.declared.plan.Spanning.TheVariants.{Fixed};
+ghost use Rattle.pb_lan.specs.declared.step.Outcome.TheVariants.{Heard};
+ghost use Rattle.pb_lan.specs.declared.step.Step.TheVariants.{Receive};
+ghost use Rattle.pb_relay.specs.Protocol.{spanning_tree};
+ghost use Rattle.pb_relay.specs.Standing.{HasReceived};
+
+use crate::bpdus::BpduRoom;
+use crate::bridge::{Bridge, append};
+use crate::changes::nothing_moved;
+use crate::following::follow;
+use crate::protocol::hear;
+use pb_frame::Held;
+use pb_lan::{Item, Moved, Outcome, Step};
+
+impl Bridge {
+    /// Hears a BPDU, and does what the spanning tree tells. Where there is no memory for that, the frame goes
+    /// nowhere, and nothing changes.
+    pub(crate) fn hear(&mut self, port: u8, item: Item) -> Outcome
+        requires reserved { self.old.is_reserved ≡ true }
+        requires ruling { ruling spanning_tree self.old.plan self.old.number self.old.steps port item ≡ Listens }
+        ensures { HasReceived self.old port item result self.new }
+    {
+        let Ok(told) = Held::new(self.alloc, nothing_moved(self.alloc)) else {
+            return self.give_up(port, item);
+        };
+        let Ok(room) = BpduRoom::new(self.alloc) else {
+            return self.give_up(port, item);
+        };
+        let Ok(heard) = hear(self.alloc, &mut self.rstp, port, item.wire.as_slice()) else {
+            return self.give_up(port, item);
+        };
+        let Some(change) = heard else {
+            return self.overhear(port, item, told);
+        };
+        let moved = follow(
+            self.alloc,
+            &mut self.states,
+            &mut self.table,
+            &mut self.queues,
+            change,
+            room,
+            self.capacity,
+            self.address,
+        );
+        self.is_reserved = false;
+        append(&mut self.steps, heard_step(port, item, told, moved));
+        Outcome::Heard
+    }
+
+    /// Hears a BPDU where the plan gives the states of the ports: nothing changes.
+    fn overhear(&mut self, port: u8, item: Item, told: Held<Moved>) -> Outcome
+        requires reserved { self.old.is_reserved ≡ true }
+        requires fixed { self.old.plan.spanning ≡ Fixed }
+        requires ruling { ruling spanning_tree self.old.plan self.old.number self.old.steps port item ≡ Listens }
+        ensures { HasReceived self.old port item result self.new }
+    {
+        self.is_reserved = false;
+        let moved = nothing_moved(self.alloc);
+        append(&mut self.steps, heard_step(port, item, told, moved));
+        Outcome::Heard
+    }
+}
+
+/// The step of a BPDU that was heard, with what it changed in the place that is there for it.
+fn heard_step(port: u8, item: Item, mut told: Held<Moved>, moved: Moved) -> Step
+    ensures { result ≡ Receive port item None Heard (Some moved) }
+{
+    told.set(moved);
+    Step::Receive {
+        port,
+        item,
+        learnt: None,
+        outcome: Outcome::Heard,
+        moved: Some(told),
+    }
+}

@@ -1,0 +1,285 @@
+//! How a table is walked.
+
+use super::networks::Network;
+use super::rows::{Fate, Piece, Row, full_octets};
+use pb_frame::{Learnt, Memory};
+use pb_lan::{Item, NoRoom, Outcome, Plan, PortState, Step, plan_is_sound};
+use pb_relay::{Bridge, BridgeFault};
+use std::alloc::Global;
+use std::process::Abort;
+use std::test::Fail;
+
+/// Walks the rows at the bridge of this number in a network. A row that does not hold is named by its number
+/// from 0.
+pub fn run(
+    rt: &impl Abort,
+    alloc: Global,
+    network: Network,
+    number: u8,
+    rows: &[Row],
+) -> Result<(), Fail> {
+    let _steps = steps_after(rt, alloc, network, number, rows)?;
+    Ok(())
+}
+
+/// Does as [`run`], and then the last of the bridge's steps tells that this item left a port.
+pub fn run_to_departure(
+    rt: &impl Abort,
+    alloc: Global,
+    network: Network,
+    number: u8,
+    rows: &[Row],
+    port: u8,
+    item: Piece,
+) -> Result<(), Fail> {
+    let steps = steps_after(rt, alloc, network, number, rows)?;
+    let wanted = item.item(alloc)?;
+    assert!(rt;
+        tells_departure(steps.last(), port, &wanted),
+        "the last step"
+    );
+    Ok(())
+}
+
+/// The steps of a bridge once the rows were walked.
+fn steps_after(
+    rt: &impl Abort,
+    alloc: Global,
+    network: Network,
+    number: u8,
+    rows: &[Row],
+) -> Result<Vec<Step>, Fail> {
+    let mut bridge = started(rt, alloc, network, number)?;
+    let walked = walk(rt, alloc, &mut bridge, rows);
+    let steps = bridge.into_steps();
+    walked?;
+    Ok(steps)
+}
+
+/// The bridge of this number at its start.
+fn started(rt: &impl Abort, alloc: Global, network: Network, number: u8) -> Result<Bridge, Fail> {
+    let plan = network.plan(alloc)?;
+    Ok(planned(rt, alloc, &plan, number)?)
+}
+
+/// The bridge of this number in a plan.
+fn planned(rt: &impl Abort, alloc: Global, plan: &Plan, number: u8) -> Result<Bridge, Memory> {
+    assert!(rt; plan_is_sound(plan));
+    assert!(rt; 1 <= number && number as usize <= plan.bridges.len());
+    Bridge::new(alloc, plan, number)
+}
+
+/// Walks the rows.
+fn walk(rt: &impl Abort, alloc: Global, bridge: &mut Bridge, rows: &[Row]) -> Result<(), Fail> {
+    for place in 0..rows.len() {
+        assert!(rt; holds(alloc, bridge, rows[place])?, "row {place}");
+    }
+    Ok(())
+}
+
+/// Does what a row says, and tells whether it holds.
+fn holds(alloc: Global, bridge: &mut Bridge, row: Row) -> Result<bool, Fail> {
+    match row {
+        Row::Receives { port, item, fate } => receives(alloc, bridge, port, item, fate),
+        Row::ReceivesOctets { port, octets, fate } => {
+            receives_octets(alloc, bridge, port, octets, fate)
+        }
+        Row::TakesIn { port, item } => takes_in(alloc, bridge, port, item),
+        Row::HandsBack { port, item, fault } => hands_back(alloc, bridge, port, item, fault),
+        Row::Learns(learnt) => Ok(tells_learnt(bridge, learnt)),
+        Row::Waits { port, items } => Ok(waits(bridge, port, items)),
+        Row::Shows { port, item } => shows(alloc, bridge, port, item),
+        Row::Sends { port, item } => sends(alloc, bridge, port, item),
+        Row::Ticks { queued, dropped } => Ok(ticks(bridge, queued, dropped)),
+        Row::Passes(times) => Ok(passes(bridge, times)),
+        Row::TickFails(fault) => Ok(bridge.tick() == Err(fault)),
+        Row::ReserveFails(fault) => Ok(bridge.reserve_step() == Err(fault)),
+        Row::Sets { port, up } => Ok(sets(bridge, port, up)),
+        Row::States(states) => Ok(has_states(bridge, states)),
+        Row::Uses { ports, links } => Ok(uses(bridge, ports, links)),
+        Row::Steps(steps) => Ok(bridge.steps().len() == steps),
+        Row::HasTree(has) => Ok(bridge.rstp().is_some() == has),
+    }
+}
+
+/// An item comes in at a port, and this becomes of it.
+fn receives(
+    alloc: Global,
+    bridge: &mut Bridge,
+    port: u8,
+    item: Piece,
+    fate: Fate,
+) -> Result<bool, Fail> {
+    let wanted = fate.outcome(alloc)?;
+    Ok(answers(bridge, port, item.item(alloc)?, &wanted))
+}
+
+/// A frame of so many octets comes in at a port, and this becomes of it.
+fn receives_octets(
+    alloc: Global,
+    bridge: &mut Bridge,
+    port: u8,
+    octets: usize,
+    fate: Fate,
+) -> Result<bool, Fail> {
+    let wanted = fate.outcome(alloc)?;
+    Ok(answers(bridge, port, full_octets(alloc, octets)?, &wanted))
+}
+
+/// An item comes in at a port, and its outcome is the wanted one.
+fn answers(bridge: &mut Bridge, port: u8, item: Item, wanted: &Outcome) -> bool {
+    if !bridge.has_port(port) {
+        return false;
+    }
+    match bridge.receive(port, item) {
+        Ok(outcome) => outcome == *wanted,
+        Err(_) => false,
+    }
+}
+
+/// An item comes in at a port and is taken in.
+fn takes_in(alloc: Global, bridge: &mut Bridge, port: u8, item: Piece) -> Result<bool, Fail> {
+    let item = item.item(alloc)?;
+    Ok(bridge.has_port(port) && bridge.take_in(port, item).is_ok())
+}
+
+/// An item that comes in at a port is handed back, whichever way it is received.
+fn hands_back(
+    alloc: Global,
+    bridge: &mut Bridge,
+    port: u8,
+    item: Piece,
+    fault: BridgeFault,
+) -> Result<bool, Fail> {
+    let wanted = item.item(alloc)?;
+    let is_refused = receives_none(bridge, port, item.item(alloc)?, fault, &wanted);
+    Ok(is_refused && takes_none_in(bridge, port, item.item(alloc)?, fault, &wanted))
+}
+
+/// An item comes in at a port, and is handed back.
+fn receives_none(
+    bridge: &mut Bridge,
+    port: u8,
+    item: Item,
+    fault: BridgeFault,
+    wanted: &Item,
+) -> bool {
+    if !bridge.has_port(port) {
+        return false;
+    }
+    match bridge.receive(port, item) {
+        Ok(_) => false,
+        Err((told, back)) => told == fault && back == *wanted,
+    }
+}
+
+/// An item comes in at a port whose outcome isn't asked for, and is handed back.
+fn takes_none_in(
+    bridge: &mut Bridge,
+    port: u8,
+    item: Item,
+    fault: BridgeFault,
+    wanted: &Item,
+) -> bool {
+    if !bridge.has_port(port) {
+        return false;
+    }
+    match bridge.take_in(port, item) {
+        Ok(()) => false,
+        Err((told, back)) => told == fault && back == *wanted,
+    }
+}
+
+/// The newest step tells this of the source of an item.
+fn tells_learnt(bridge: &Bridge, wanted: Option<Learnt>) -> bool {
+    match bridge.steps().last() {
+        Some(Step::Receive { learnt, .. }) => *learnt == wanted,
+        _ => false,
+    }
+}
+
+/// So many items wait at a port.
+fn waits(bridge: &Bridge, port: u8, items: u16) -> bool {
+    bridge.has_port(port) && bridge.waiting(port) == items
+}
+
+/// This item is the next to leave a port.
+fn shows(alloc: Global, bridge: &Bridge, port: u8, item: Piece) -> Result<bool, Fail> {
+    let wanted = item.item(alloc)?;
+    Ok(bridge.has_port(port) && bridge.peek_out(port) == Some(&wanted))
+}
+
+/// This item leaves a port, and the newest step tells of it.
+fn sends(alloc: Global, bridge: &mut Bridge, port: u8, item: Piece) -> Result<bool, Fail> {
+    let wanted = item.item(alloc)?;
+    Ok(departs(bridge, port, &wanted) && tells_departure(bridge.steps().last(), port, &wanted))
+}
+
+/// The item that leaves a port is the wanted one.
+fn departs(bridge: &mut Bridge, port: u8, wanted: &Item) -> bool {
+    if bridge.reserve_step().is_err() || !bridge.has_port(port) {
+        return false;
+    }
+    bridge.waiting(port) > 0 && bridge.pop_out(port) == *wanted
+}
+
+/// The step tells that the item left the port.
+fn tells_departure(step: Option<&Step>, port: u8, wanted: &Item) -> bool {
+    match step {
+        Some(Step::Transmit { port: left, item }) => *left == port && item == wanted,
+        _ => false,
+    }
+}
+
+/// The clock ticks; so many BPDUs are queued, and at those ports one finds no room.
+fn ticks(bridge: &mut Bridge, queued: usize, dropped: &[(u8, NoRoom)]) -> bool {
+    if bridge.tick().is_err() {
+        return false;
+    }
+    match bridge.steps().last() {
+        Some(Step::Tick { now: _, moved }) => {
+            moved.queued.len() == queued && moved.dropped.as_slice() == dropped
+        }
+        _ => false,
+    }
+}
+
+/// The clock ticks so often, and no BPDU is queued or finds no room.
+fn passes(bridge: &mut Bridge, times: u8) -> bool {
+    for _ in 0..times {
+        if !ticks(bridge, 0, &[]) {
+            return false;
+        }
+    }
+    true
+}
+
+/// A port to another bridge is set up or down.
+fn sets(bridge: &mut Bridge, port: u8, up: bool) -> bool {
+    bridge.has_link(port) && bridge.admin(port, up).is_ok()
+}
+
+/// The first local ports have these states, and all others are Discarding.
+fn has_states(bridge: &Bridge, states: &[PortState]) -> bool {
+    let shape = bridge.shape();
+    let count = states.len();
+    if count > shape.len() {
+        return false;
+    }
+    &shape[..count] == states
+        && shape[count..]
+            .iter()
+            .all(|state| *state == PortState::Discarding)
+}
+
+/// The bridge uses these ports alone, and these of them go to other bridges.
+fn uses(bridge: &Bridge, ports: &[u8], links: &[u8]) -> bool {
+    for port in 0..32u8 {
+        if bridge.has_port(port) != ports.contains(&port)
+            || bridge.has_link(port) != links.contains(&port)
+        {
+            return false;
+        }
+    }
+    true
+}

@@ -1,0 +1,93 @@
+//! One bridge by itself.
+
+use super::{first_with, heard, sends, with_one_port, with_two_ports};
+use pb_lan::PortState;
+use pb_rstp::{Change, Role, Rstp};
+use std::alloc::Global;
+use std::test::Fail;
+
+/// The flags of what is sent at a tick of the first thirty, if something is.
+fn flags_at(tick: u8) -> Option<u8> {
+    if tick == 30 {
+        Some(0x3d)
+    } else if tick > 1 && tick % 2 == 1 {
+        None
+    } else if tick < 15 {
+        Some(0x0e)
+    } else {
+        Some(0x1e)
+    }
+}
+
+/// What is sent at a tick is as it should be.
+fn is_sent(alloc: Global, change: &Change, tick: u8) -> Result<bool, Fail> {
+    match flags_at(tick) {
+        None => Ok(change.send.len() == 0),
+        Some(flags) => Ok(sends(alloc, change, 1, &first_with(flags))?),
+    }
+}
+
+/// The states that change at a tick are as they should be.
+fn is_moved(change: &Change, tick: u8) -> bool {
+    let states = change.states.as_slice();
+    match tick {
+        15 => states == [(1, PortState::Learning)].as_slice(),
+        30 => states == [(1, PortState::Forwarding)].as_slice(),
+        _ => states.is_empty(),
+    }
+}
+
+#[test]
+fn thirty_ticks_lead_to_forwarding(rt: HostRuntime) -> Result<(), Fail> {
+    let mut first = with_one_port(rt.alloc(), 1)?;
+    for tick in 1..=30u8 {
+        let change = first.tick()?;
+        assert!(rt; is_sent(rt.alloc(), &change, tick)?);
+        assert!(rt; is_moved(&change, tick));
+    }
+    Ok(())
+}
+
+/// A bridge whose port 2 has heard what its port 1 says.
+fn looped(alloc: Global) -> Result<Rstp, Fail> {
+    let mut first = with_two_ports(alloc, 1)?;
+    let _ = first.hear(2, &heard(&first_with(0x0e))?)?;
+    Ok(first)
+}
+
+#[test]
+fn a_link_to_itself_has_a_backup(rt: HostRuntime) -> Result<(), Fail> {
+    let first = looped(rt.alloc())?;
+    assert!(rt; first.roles() == [(1, Role::Designated), (2, Role::Backup)].as_slice());
+    Ok(())
+}
+
+#[test]
+fn parallel_links_have_an_alternate(rt: HostRuntime) -> Result<(), Fail> {
+    let mut second = with_two_ports(rt.alloc(), 2)?;
+    let mut m = heard(&first_with(0x0e))?;
+    let _ = second.hear(1, &m)?;
+    m.port = 0x8002;
+    let _ = second.hear(2, &m)?;
+    assert!(rt; second.roles() == [(1, Role::Root), (2, Role::Alternate)].as_slice());
+    let states = [(1, PortState::Forwarding), (2, PortState::Discarding)];
+    assert!(rt; second.states() == states.as_slice());
+    Ok(())
+}
+
+#[test]
+fn a_port_is_set_down_and_up(rt: HostRuntime) -> Result<(), Fail> {
+    let mut second = with_one_port(rt.alloc(), 2)?;
+    let m = heard(&first_with(0x0e))?;
+    let _ = second.hear(1, &m)?;
+    let change = second.admin(1, false)?;
+    assert!(rt; change.states.as_slice() == [(1, PortState::Discarding)].as_slice());
+    assert!(rt; second.roles() == [(1, Role::Disabled)].as_slice());
+    let change = second.hear(1, &m)?;
+    assert!(rt; change.send.len() == 0);
+    let change = second.admin(1, false)?;
+    assert!(rt; change.states.len() == 0);
+    let _ = second.admin(1, true)?;
+    assert!(rt; second.roles() == [(1, Role::Designated)].as_slice());
+    Ok(())
+}

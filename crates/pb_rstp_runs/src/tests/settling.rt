@@ -1,0 +1,140 @@
+//! When bridges are settled.
+
+use super::two::agreed;
+use super::{PROPOSAL, first_with, heard, with_one_port};
+use pb_lan::{BridgePlan, End, LinkPlan, Mac, Plan, PortState, Seq, Spanning, Text};
+use pb_rstp::{Rstp, is_settled};
+use std::alloc::{AllocError, Global};
+use std::test::Fail;
+
+fn text(alloc: Global, name: &str) -> Result<Text, AllocError> {
+    Ok(Text::from_string(String::from_str(alloc, name)?))
+}
+
+/// The bridge with the address that ends in this octet.
+fn planned(alloc: Global, name: &str, last: u8) -> Result<BridgePlan, AllocError> {
+    Ok(BridgePlan {
+        name: text(alloc, name)?,
+        address: Mac([2, 0, 0, 0, 0, last]),
+        priority: 32768,
+        queue: 64,
+    })
+}
+
+fn end(bridge: u8, port: u8) -> End {
+    End {
+        bridge,
+        port,
+        cost: 20_000,
+        priority: 128,
+        start: PortState::Discarding,
+        services: None,
+    }
+}
+
+/// A link that loses nothing.
+pub(crate) fn link(
+    alloc: Global,
+    name: &str,
+    a: (u8, u8),
+    b: (u8, u8),
+) -> Result<LinkPlan, AllocError> {
+    Ok(LinkPlan {
+        name: text(alloc, name)?,
+        a: end(a.0, a.1),
+        b: end(b.0, b.1),
+        lost_ab: Seq::from_vec(Vec::new(alloc)),
+        lost_ba: Seq::from_vec(Vec::new(alloc)),
+    })
+}
+
+/// Three bridges, of which the first ones are joined by these links.
+pub(crate) fn plan(alloc: Global, links: Vec<LinkPlan>) -> Result<Plan, AllocError> {
+    Ok(Plan {
+        bridges: Seq::from_vec(vec![in alloc;
+            planned(alloc, "B1", 1)?,
+            planned(alloc, "B2", 2)?,
+            planned(alloc, "B3", 3)?,
+        ]?),
+        links: Seq::from_vec(links),
+        services: Seq::from_vec(Vec::new(alloc)),
+        customers: Seq::from_vec(Vec::new(alloc)),
+        spanning: Spanning::Rstp,
+        ageing: 300,
+        ring: 64,
+        steps: 1_000_000,
+    })
+}
+
+/// Port 1 of the first bridge to port 1 of the second.
+fn pair(alloc: Global) -> Result<Plan, AllocError> {
+    plan(alloc, vec![in alloc; link(alloc, "L1", (1, 1), (2, 1))?]?)
+}
+
+/// The two bridges are settled.
+fn are_settled(alloc: Global, first: &Rstp, second: &Rstp) -> Result<bool, AllocError> {
+    Ok(is_settled(&[first, second], &pair(alloc)?))
+}
+
+#[test]
+fn two_bridges_settle_by_a_proposal(rt: HostRuntime) -> Result<(), Fail> {
+    let mut first = with_one_port(rt.alloc(), 1)?;
+    let second = with_one_port(rt.alloc(), 2)?;
+    assert!(rt; !are_settled(rt.alloc(), &first, &second)?);
+    let _ = first.tick()?;
+    assert!(rt; !are_settled(rt.alloc(), &first, &second)?);
+    let (second, _) = agreed(rt.alloc())?;
+    assert!(rt; are_settled(rt.alloc(), &first, &second)?);
+    Ok(())
+}
+
+/// The second bridge after the exchange.
+fn second_at_the_end(alloc: Global) -> Result<Rstp, Fail> {
+    let (mut second, _) = agreed(alloc)?;
+    let _ = second.hear(1, &heard(&first_with(0x3d))?)?;
+    Ok(second)
+}
+
+/// The first bridge after the exchange.
+fn first_at_the_end(alloc: Global) -> Result<Rstp, Fail> {
+    let mut first = with_one_port(alloc, 1)?;
+    let _ = first.tick()?;
+    let (_, answer) = agreed(alloc)?;
+    if let [(_, m)] = answer.send.as_slice() {
+        let _ = first.hear(1, m)?;
+    }
+    Ok(first)
+}
+
+#[test]
+fn six_silent_ticks_unsettle_them(rt: HostRuntime) -> Result<(), Fail> {
+    let first = first_at_the_end(rt.alloc())?;
+    let mut second = second_at_the_end(rt.alloc())?;
+    assert!(rt; are_settled(rt.alloc(), &first, &second)?);
+    for _ in 0..6u8 {
+        let _ = second.tick()?;
+    }
+    assert!(rt; !are_settled(rt.alloc(), &first, &second)?);
+    Ok(())
+}
+
+#[test]
+fn a_link_with_an_end_down_is_settled(rt: HostRuntime) -> Result<(), Fail> {
+    let mut first = with_one_port(rt.alloc(), 1)?;
+    let second = with_one_port(rt.alloc(), 2)?;
+    let _ = first.admin(1, false)?;
+    assert!(rt; are_settled(rt.alloc(), &first, &second)?);
+    Ok(())
+}
+
+#[test]
+fn roles_alone_do_not_settle(rt: HostRuntime) -> Result<(), Fail> {
+    let first = with_one_port(rt.alloc(), 1)?;
+    let mut second = with_one_port(rt.alloc(), 2)?;
+    let mut m = heard(&PROPOSAL)?;
+    m.cost = 1;
+    let _ = second.hear(1, &m)?;
+    assert!(rt; second.roles() == [(1, pb_rstp::Role::Root)].as_slice());
+    assert!(rt; !are_settled(rt.alloc(), &first, &second)?);
+    Ok(())
+}

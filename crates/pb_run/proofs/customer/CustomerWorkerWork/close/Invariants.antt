@@ -1,0 +1,10 @@
+use Rattle.std.proofs.Common.{◌≡◌}
+use Rattle.pb_run.specs.Ports.{KeepsPort}
+use Rattle.pb_run.proofs.customer.CustomerWorkerWork.close.Given as goal
+
+abbrev pub invariant-loop : goal.invariant-loop
+invariant-loop g l = record {
+  was : l.self.was ≡ l.initial.self.was;
+  desk : l.self.desk ≡ l.initial.self.desk;
+  port : KeepsPort g.P.Port.script g.P.Port.tally l.self.was.value l.self.port l.self.desk.place.steps l.self.desk.book.last;
+}

@@ -1,0 +1,11 @@
+use Rattle.std.proofs.Common.{◌≡◌, ◌≤◌, All, map, vec_len, vec_capacity}
+use Rattle.pb_lan.specs.BridgeLists.{IsLawfulBridge}
+use Rattle.pb_relay.specs.Protocol.{spanning_tree}
+use Rattle.pb_run.proofs.record.bridge_lists.Given as goal
+
+abbrev pub invariant-loop-worker : goal.invariant-loop-worker
+invariant-loop-worker g l = record {
+  steps : l.lists.items ≡ map (λ b. b.bridge.steps) l.yielded;
+  lawful : All (λ b. IsLawfulBridge spanning_tree b.bridge.plan b.bridge.number b.bridge.steps) l.yielded;
+  room : vec_len l.fn.workers ≤ vec_capacity l.lists;
+}

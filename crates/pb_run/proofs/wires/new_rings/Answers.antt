@@ -1,0 +1,11 @@
+use Rattle.std.proofs.Common.{◌≡◌, []}
+use Rattle.rtrb.specs.Ring.{sent, received, IsPair}
+use Rattle.pb_run.proofs.Lists.{each_more}
+use Rattle.pb_run.proofs.wires.new_rings.Goals as goal
+
+pub loop-number-preserved : goal.loop-number-preserved
+loop-number-preserved c =
+    let ring = c.in_ok-new in
+    rw c.in_ok-push.ensures.items
+    (each_more (λ n r. IsPair r.0 r.1 × (sent r.0 ≡ []) × (received r.1 ≡ [])) c.loop-number.rings.items ring.field-0 c.loop-number.invariant
+    (ring.ensures.pair, ring.ensures.producer.0, ring.ensures.consumer.0))

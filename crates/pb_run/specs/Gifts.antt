@@ -1,0 +1,51 @@
+-- What the workers of a plan are given: their numbers, and the numbers of their rings.
+use Rattle.std.specs.Prelude.{◌≡◌, ℕ, ◌+◌, ◌*◌, ◌<◌, List, Some, length, slice_get, slice_index_or}
+use Rattle.pb_lan.specs.declared.plan.Plan.{Plan}
+use Rattle.pb_lan.specs.declared.plan.End.{End}
+use Rattle.pb_lan.specs.declared.plan.LinkPlan.{LinkPlan}
+use Rattle.pb_lan.specs.declared.plan.CustomerPlan.{CustomerPlan}
+use Rattle.pb_run.specs.Wires.{ring_into, ring_out}
+
+-- a bridge: its number as a worker and as a bridge, its plan, and the rings into its ports and out of them
+abbrev pub BridgeGift : Type 0
+BridgeGift = ℕ × ℕ × Plan × List ℕ × List ℕ
+
+pub record IsBridgeGift (plan : Plan) (number : ℕ) (gift : BridgeGift) : Type 0 where
+  pub worker : gift.0 ≡ number
+  pub bridge : gift.1 ≡ number
+  pub plans : gift.2 ≡ plan
+  pub count : length gift.3 ≡ 16
+  pub into : (q : ℕ) → q < 16 → slice_index_or gift.3 q 0 ≡ ring_into number (q + 1)
+  pub out : (q : ℕ) → q < 16 → slice_index_or gift.4 q 0 ≡ ring_out number (q + 1)
+
+-- the first so many bridges of the plan
+pub record AreBridges (plan : Plan) (count : ℕ) (gifts : List BridgeGift) : Type 0 where
+  pub counted : length gifts ≡ count
+  pub each : (r : ℕ) (gift : BridgeGift) → slice_get gifts r ≡ Some gift → IsBridgeGift plan (r + 1) gift
+
+-- a lane: its number, the rings from which it takes and onto which it puts, and what it loses
+abbrev pub LaneGift : Type 0
+LaneGift = ℕ × ℕ × ℕ × List ℕ
+
+abbrev pub lane_gift : ℕ → End → End → List ℕ → LaneGift
+lane_gift number from to losses = (number, ring_out from.bridge from.port, ring_into to.bridge to.port, losses)
+
+-- the lanes of the first so many links
+pub record AreLanes (plan : Plan) (count : ℕ) (gifts : List LaneGift) : Type 0 where
+  pub counted : length gifts ≡ 2 * count
+  pub ab : (k : ℕ) (link : LinkPlan) → k < count → slice_get plan.links k ≡ Some link
+      → slice_get gifts (2 * k) ≡ Some (lane_gift (2 * k + 1) link.a link.b link.lost_ab)
+  pub ba : (k : ℕ) (link : LinkPlan) → k < count → slice_get plan.links k ≡ Some link
+      → slice_get gifts (2 * k + 1) ≡ Some (lane_gift (2 * k + 2) link.b link.a link.lost_ba)
+
+-- a customer port: its number, and the rings to its bridge and from it
+abbrev pub DeskGift : Type 0
+DeskGift = ℕ × ℕ × ℕ
+
+abbrev pub desk_gift : ℕ → CustomerPlan → DeskGift
+desk_gift number c = (number, ring_into c.bridge c.port, ring_out c.bridge c.port)
+
+-- the first so many customer ports
+pub record AreDesks (plan : Plan) (count : ℕ) (gifts : List DeskGift) : Type 0 where
+  pub counted : length gifts ≡ count
+  pub each : (k : ℕ) (c : CustomerPlan) → k < count → slice_get plan.customers k ≡ Some c → slice_get gifts k ≡ Some (desk_gift (k + 1) c)

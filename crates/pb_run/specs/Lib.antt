@@ -1,0 +1,6 @@
+pub mod Ports
+pub mod Bridges
+pub mod Wires
+pub mod Gifts
+pub mod Meetings
+pub mod Runs

@@ -1,0 +1,49 @@
+-- What a run tells of its ports and of its end.
+use Rattle.std.specs.Prelude.{◌≡◌, ◌↔◌, ℕ, Bool, IsTrue, Option, None, List, length, unwrap_or, All}
+use Rattle.pb_lan.specs.Counts.{entered, left, IsDrained}
+use Rattle.pb_lan.specs.Numbering.{numbered}
+use Rattle.pb_lan.specs.Plans.{IsSound}
+use Rattle.pb_lan.specs.Records.{steps_of, IsLawfulRecord}
+use Rattle.pb_lan.specs.Rules.{Rules}
+use Rattle.pb_lan.specs.declared.plan.Plan.{Plan}
+use Rattle.pb_lan.specs.declared.record.Record.{Record}
+use Rattle.pb_lan.specs.declared.step.Mark.{Mark}
+use Rattle.pb_lan.specs.declared.step.Step.{Step}
+use Rattle.pb_run.specs.Ports.{Frames, in_front, behind, IsEnded}
+use Rattle.pb_run.specs.declared.desk.Last.{Last}
+use Rattle.pb_run.specs.declared.desk.Last.TheVariants.{More, End}
+use Rattle.pb_run.specs.declared.ended.Ended.{Ended}
+use Rattle.pb_run.specs.declared.ended.Ended.TheVariants.{Drained}
+
+-- the frames of the port of this number, where it keeps them as a list
+abbrev pub frames_of : List (Option Frames) → ℕ → Option Frames
+frames_of lists number = unwrap_or (numbered lists number) None
+
+-- what its newest poll said
+abbrev pub last_of : List Last → ℕ → Last
+last_of lasts number = unwrap_or (numbered lasts number) More
+
+-- the scripts and the tallies of the ports before a run and after it
+pub record Lists : Type 0 where
+  pub scripts : List (Option Frames)
+  pub tallies : List (Option Frames)
+
+-- what each port gave is what entered there, and what it took is what left; a script that came to its
+-- end is used up
+pub record ArePortsKept (before after : Lists) (customers : List (List Step)) (lasts : List Last) : Type 0 where
+  pub port_count : length after.scripts ≡ length before.scripts
+  pub last_count : length lasts ≡ length before.scripts
+  pub script : (number : ℕ) → frames_of before.scripts number ≡ in_front (entered (steps_of customers number)) (frames_of after.scripts number)
+  pub tally : (number : ℕ) → frames_of after.tallies number ≡ behind (frames_of before.tallies number) (left (steps_of customers number))
+  pub used_up : (number : ℕ) → IsEnded (last_of lasts number) (frames_of after.scripts number)
+
+-- of a lawful record of a sound plan the answer is true just where every port came to its end and every
+-- frame has drained
+abbrev pub TellsAllDrained : Record → List Last → Bool → Type 0
+TellsAllDrained rec lasts result =
+    (rules : Rules) (plan : Plan) → IsSound plan → IsLawfulRecord rules plan rec
+    → IsTrue result ↔ (All (λ last. last ≡ End) lasts × ((mark : Mark) → IsDrained plan rec mark))
+
+-- the run is told to have drained exactly where every port came to its end and every frame has drained
+abbrev pub TellsEnded : Plan → Record → List Last → Ended → Type 0
+TellsEnded plan rec lasts ended = (ended ≡ Drained) ↔ (All (λ last. last ≡ End) lasts × ((mark : Mark) → IsDrained plan rec mark))

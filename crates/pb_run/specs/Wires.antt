@@ -1,0 +1,26 @@
+-- The rings of a run: one into each local port of each bridge, and one out of it.
+use Rattle.std.specs.Prelude.{◌≡◌, ℕ, ◌+◌, ◌-◌, ◌*◌, List, [], Some, slice_get}
+use Rattle.rtrb.specs.Ring.{sent, received, IsPair}
+use Rattle.rtrb.specs.declared.producer.Producer.{Producer}
+use Rattle.rtrb.specs.declared.consumer.Consumer.{Consumer}
+use Rattle.pb_ring.specs.Rings.{RingName, writer_name, reader_name}
+
+-- the number of the ring by which a bridge receives at a local port
+abbrev pub ring_into : ℕ → ℕ → ℕ
+ring_into bridge port = 32 * (bridge - 1) + 2 * (port - 1)
+
+-- the number of the one by which it sends there
+abbrev pub ring_out : ℕ → ℕ → ℕ
+ring_out bridge port = 32 * (bridge - 1) + 2 * (port - 1) + 1
+
+-- both ends of each ring, which nothing has passed
+abbrev pub AreNew : {T A P : Type 0} → List (Producer T A P × Consumer T A P) → Type 0
+AreNew {T} {A} {P} rings =
+    (n : ℕ) (ring : Producer T A P × Consumer T A P) → slice_get rings n ≡ Some ring
+    → IsPair ring.0 ring.1 × (sent ring.0 ≡ []) × (received ring.1 ≡ [])
+
+-- the rings go by these names, in order
+abbrev pub AreNamed : {T A P : Type 0} → List (RingName A) → List (Producer T A P × Consumer T A P) → Type 0
+AreNamed {T} {A} {P} names rings =
+    (n : ℕ) (ring : Producer T A P × Consumer T A P) → slice_get rings n ≡ Some ring
+    → (slice_get names n ≡ Some (writer_name ring.0)) × (slice_get names n ≡ Some (reader_name ring.1))

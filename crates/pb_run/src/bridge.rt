@@ -1,0 +1,266 @@
+//! The worker of a bridge.
+
+ghost use Rattle.std.specs.Prelude.{◌≡◌, ◌<◌, ◌≤◌, ◌+◌, ◌-◌, ℕ, [], true, false, IfOk, length, map, vec_len, slice_index_or};
+ghost use Rattle.rtrb.specs.Ring.{sent, received as received_over};
+ghost use Rattle.pb_frame.specs.Lists.{IsBeginning};
+ghost use Rattle.pb_lan.specs.LaneLists.{taken, put};
+ghost use Rattle.pb_lan.specs.PortLists.{fed, delivered};
+ghost use Rattle.pb_lan.specs.Ports.{port_at, is_used};
+ghost use Rattle.pb_lan.specs.Plans.{IsSound, IsNumber};
+ghost use Rattle.pb_lan.specs.Records.{received, transmitted};
+ghost use Rattle.pb_ring.specs.Rings.{shown_at};
+ghost use Rattle.pb_run.specs.Bridges.{AreUsed};
+
+use crate::desk::Desk;
+use crate::lane::LaneWorker;
+use crate::refusal::{Refusal, Taken, turn};
+use crate::used::used_ports;
+use pb_frame::Memory;
+use pb_lan::{Outcome, Place, Plan};
+use pb_relay::{Bridge, BridgeFault};
+use pb_ring::{Inlets, Outlets, Wiring};
+use pb_work::{Did, Finish, Moment, Turn, Work};
+use std::alloc::Global;
+use std::collections::LinkedList;
+
+/// A bridge of a plan with the rings at its local ports: by one it receives, and by the other it sends.
+/// The rings of local port p stand at place p-1.
+#[derive(Drop)]
+pub struct BridgeWorker<W: Wiring> {
+    /// The bridge's number in the plan, from 1.
+    pub number: u8,
+    /// The bridge.
+    pub bridge: Bridge,
+    /// The ends through which it receives.
+    pub ins: Inlets<W>,
+    /// The ends through which it sends.
+    pub outs: Outlets<W>,
+    /// The local ports that the plan uses.
+    pub ports: Vec<u8>,
+    /// Why the worker ended, once it has.
+    pub finish: Option<Finish>,
+    /// Where the next look at the ports begins.
+    pub(crate) next: usize,
+    pub ghost used: { AreUsed bridge.plan bridge.number (vec_len ins.ends) ports.items },
+    pub ghost sides: { vec_len outs.ends ≡ vec_len ins.ends },
+    pub ghost took: { (q : ℕ) → shown_at (λ i. received_over i.end) ins.ends.items q ≡ received (q + 1) bridge.steps },
+    pub ghost gave: { (q : ℕ) → shown_at (λ o. sent o.end) outs.ends.items q ≡ transmitted (q + 1) bridge.steps },
+}
+
+impl From<BridgeFault> for Refusal {
+    fn from(fault: BridgeFault) -> Refusal {
+        match fault {
+            BridgeFault::StepLimit => Refusal::Limit,
+            BridgeFault::Memory => Refusal::Memory,
+        }
+    }
+}
+
+/// How many copies of a frame were queued.
+fn copies_of(outcome: &Outcome) -> u64 {
+    match outcome {
+        Outcome::Relayed { chosen, refused } => {
+            let (chosen, refused) = (chosen.as_slice().len(), refused.as_slice().len());
+            chosen.saturating_sub(refused) as u64
+        }
+        _ => 0,
+    }
+}
+
+impl<W: Wiring> BridgeWorker<W> {
+    /// The worker of the bridge of this number, which has taken no step, over rings that nothing has
+    /// passed. It serves the local ports that the plan uses and that have rings.
+    ///
+    /// `Memory` is answered where there was none for the bridge or for the list of its ports.
+    pub fn new(
+        alloc: Global,
+        plan: &Plan,
+        number: u8,
+        ins: Inlets<W>,
+        outs: Outlets<W>,
+    ) -> Result<BridgeWorker<W>, Memory>
+        requires sound { IsSound plan.now }
+        requires bridge { IsNumber number (length plan.now.bridges) }
+        requires sides { vec_len outs.ends ≡ vec_len ins.ends }
+        requires received { (q : ℕ) → shown_at (λ i. received_over i.end) ins.ends.items q ≡ [] }
+        requires sent { (q : ℕ) → shown_at (λ o. sent o.end) outs.ends.items q ≡ [] }
+        ensures number { IfOk result (λ worker. worker.number ≡ number) }
+        ensures bridge { IfOk result (λ worker. worker.bridge ≡ record { plan = plan.now; number = number; steps = []; is_reserved = false }) }
+        ensures rings { IfOk result (λ worker. (worker.ins ≡ ins) × (worker.outs ≡ outs)) }
+    {
+        let ports = used_ports(alloc, plan, number, ins.ends.len())?;
+        let bridge = Bridge::new(alloc, plan, number)?;
+        Ok(BridgeWorker {
+            number,
+            bridge,
+            ins,
+            outs,
+            ports,
+            finish: None,
+            next: 0,
+        })
+    }
+
+    /// Sends the item that leaves a port next, where one waits and the ring has room.
+    fn transmit(&mut self, port: u8) -> Taken
+        requires port { (0 < port) × (port ≤ vec_len self.old.ins.ends) }
+        requires used { is_used (port_at self.old.bridge.plan self.old.bridge.number port) ≡ true }
+        ensures number { self.new.number ≡ self.old.number }
+        ensures bridge { (self.new.bridge.plan ≡ self.old.bridge.plan) × (self.new.bridge.number ≡ self.old.bridge.number) }
+        ensures ports { self.new.ports ≡ self.old.ports }
+        ensures count { vec_len self.new.ins.ends ≡ vec_len self.old.ins.ends }
+        ensures ins { map (λ i. i.number) self.new.ins.ends.items ≡ map (λ i. i.number) self.old.ins.ends.items }
+        ensures outs { map (λ o. o.number) self.new.outs.ends.items ≡ map (λ o. o.number) self.old.outs.ends.items }
+    {
+        let place = port as usize - 1;
+        if self.bridge.waiting(port) == 0 || !self.outs.has_room(place) {
+            return Ok(false);
+        }
+        self.bridge.reserve_step()?;
+        let item = self.bridge.pop_out(port);
+        self.outs.push(place, item);
+        Ok(true)
+    }
+
+    /// Receives the item that came first to a port, where one did.
+    fn receive(&mut self, port: u8) -> Turn
+        requires port { (0 < port) × (port ≤ vec_len self.old.ins.ends) }
+        requires used { is_used (port_at self.old.bridge.plan self.old.bridge.number port) ≡ true }
+        ensures number { self.new.number ≡ self.old.number }
+        ensures bridge { (self.new.bridge.plan ≡ self.old.bridge.plan) × (self.new.bridge.number ≡ self.old.bridge.number) }
+        ensures ports { self.new.ports ≡ self.old.ports }
+        ensures count { vec_len self.new.ins.ends ≡ vec_len self.old.ins.ends }
+        ensures ins { map (λ i. i.number) self.new.ins.ends.items ≡ map (λ i. i.number) self.old.ins.ends.items }
+        ensures outs { map (λ o. o.number) self.new.outs.ends.items ≡ map (λ o. o.number) self.old.outs.ends.items }
+    {
+        let place = port as usize - 1;
+        if !self.ins.has_item(place) {
+            return turn(Ok(false), 0, 0);
+        }
+        if let Err(fault) = self.bridge.reserve_step() {
+            return turn(Err(Refusal::from(fault)), 0, 0);
+        }
+        let Some(item) = self.ins.pop(place) else {
+            return turn(Ok(false), 0, 0);
+        };
+        let is_marked = item.mark.is_some();
+        let Ok(outcome) = self.bridge.receive(port, item) else {
+            unreachable!();
+        };
+        if is_marked {
+            return turn(Ok(true), copies_of(&outcome), 1);
+        }
+        turn(Ok(true), 0, 0)
+    }
+
+    /// The clock ticks.
+    fn tick(&mut self) -> Taken
+        ensures number { self.new.number ≡ self.old.number }
+        ensures bridge { (self.new.bridge.plan ≡ self.old.bridge.plan) × (self.new.bridge.number ≡ self.old.bridge.number) }
+        ensures ports { self.new.ports ≡ self.old.ports }
+        ensures rings { (self.new.ins ≡ self.old.ins) × (self.new.outs ≡ self.old.outs) }
+    {
+        self.bridge.tick()?;
+        Ok(true)
+    }
+
+    /// Sends at a port, or receives there: the first that there is to do.
+    fn serve(&mut self, port: u8) -> Turn
+        requires port { (0 < port) × (port ≤ vec_len self.old.ins.ends) }
+        requires used { is_used (port_at self.old.bridge.plan self.old.bridge.number port) ≡ true }
+        ensures number { self.new.number ≡ self.old.number }
+        ensures bridge { (self.new.bridge.plan ≡ self.old.bridge.plan) × (self.new.bridge.number ≡ self.old.bridge.number) }
+        ensures ports { self.new.ports ≡ self.old.ports }
+        ensures count { vec_len self.new.ins.ends ≡ vec_len self.old.ins.ends }
+        ensures ins { map (λ i. i.number) self.new.ins.ends.items ≡ map (λ i. i.number) self.old.ins.ends.items }
+        ensures outs { map (λ o. o.number) self.new.outs.ends.items ≡ map (λ o. o.number) self.old.outs.ends.items }
+    {
+        let sent = self.transmit(port);
+        if sent != Ok(false) {
+            return turn(sent, 0, 0);
+        }
+        self.receive(port)
+    }
+
+    /// The rings of a customer port and of this bridge's local port, once both workers are back: what the
+    /// bridge received begins what the port fed, and what the port took begins what the bridge sent.
+    pub fn meet_customer(&mut self, port: u8, desk: &mut Desk<W>)
+        requires port { (0 < port) × (port ≤ vec_len self.old.ins.ends) }
+        requires feed { slice_index_or (map (λ i. i.number) self.old.ins.ends.items) (port - 1) 0 ≡ desk.old.feed.number }
+        requires drain { slice_index_or (map (λ o. o.number) self.old.outs.ends.items) (port - 1) 0 ≡ desk.old.drain.number }
+        ensures into { IsBeginning (received port self.old.bridge.steps) (fed desk.old.place.steps) }
+        ensures out { IsBeginning (delivered desk.old.place.steps) (transmitted port self.old.bridge.steps) }
+        ensures bridge { (self.new.bridge ≡ self.old.bridge) × (self.new.number ≡ self.old.number) }
+        ensures ins { map (λ i. i.number) self.new.ins.ends.items ≡ map (λ i. i.number) self.old.ins.ends.items }
+        ensures outs { map (λ o. o.number) self.new.outs.ends.items ≡ map (λ o. o.number) self.old.outs.ends.items }
+        ensures desk { (desk.new.place ≡ desk.old.place) × (desk.new.book ≡ desk.old.book) × (desk.new.offered ≡ desk.old.offered) }
+        ensures rings { (desk.new.feed.number ≡ desk.old.feed.number) × (desk.new.drain.number ≡ desk.old.drain.number) }
+    {
+        self.ins.meet(port as usize - 1, &mut desk.feed);
+        self.outs.meet(port as usize - 1, &mut desk.drain);
+    }
+
+    /// The ring from this bridge's local port to the lane that leads away from it, once both workers are
+    /// back: what the lane took begins what the bridge sent.
+    pub fn meet_lane_away(&mut self, port: u8, lane: &mut LaneWorker<W>)
+        requires port { (0 < port) × (port ≤ vec_len self.old.ins.ends) }
+        requires ring { slice_index_or (map (λ o. o.number) self.old.outs.ends.items) (port - 1) 0 ≡ lane.old.from.number }
+        ensures onto { IsBeginning (taken lane.old.lane.steps) (transmitted port self.old.bridge.steps) }
+        ensures bridge { (self.new.bridge ≡ self.old.bridge) × (self.new.number ≡ self.old.number) }
+        ensures ins { self.new.ins ≡ self.old.ins }
+        ensures outs { map (λ o. o.number) self.new.outs.ends.items ≡ map (λ o. o.number) self.old.outs.ends.items }
+        ensures lane { (lane.new.lane ≡ lane.old.lane) × (lane.new.number ≡ lane.old.number) }
+        ensures rings { (lane.new.from.number ≡ lane.old.from.number) × (lane.new.to ≡ lane.old.to) }
+    {
+        self.outs.meet(port as usize - 1, &mut lane.from);
+    }
+
+    /// The ring from the lane that leads to this bridge's local port, once both workers are back: what the
+    /// bridge received begins what the lane put.
+    pub fn meet_lane_here(&mut self, port: u8, lane: &mut LaneWorker<W>)
+        requires port { (0 < port) × (port ≤ vec_len self.old.ins.ends) }
+        requires ring { slice_index_or (map (λ i. i.number) self.old.ins.ends.items) (port - 1) 0 ≡ lane.old.to.number }
+        ensures off { IsBeginning (received port self.old.bridge.steps) (put lane.old.lane.steps) }
+        ensures bridge { (self.new.bridge ≡ self.old.bridge) × (self.new.number ≡ self.old.number) }
+        ensures ins { map (λ i. i.number) self.new.ins.ends.items ≡ map (λ i. i.number) self.old.ins.ends.items }
+        ensures outs { self.new.outs ≡ self.old.outs }
+        ensures lane { (lane.new.lane ≡ lane.old.lane) × (lane.new.number ≡ lane.old.number) }
+        ensures rings { (lane.new.to.number ≡ lane.old.to.number) × (lane.new.from ≡ lane.old.from) }
+    {
+        self.ins.meet(port as usize - 1, &mut lane.to);
+    }
+}
+
+impl<W: Wiring> Work for BridgeWorker<W> {
+    type Given = (u8, u8, Plan, LinkedList<usize>, LinkedList<usize>);
+
+    ghost given = { λ w. (w.number, w.bridge.number, w.bridge.plan, map (λ i. i.number) w.ins.ends.items, map (λ o. o.number) w.outs.ends.items) };
+
+    ghost fits = { λ w. Unit {0} };
+
+    fn place(&self) -> Place {
+        Place::Bridge(self.number)
+    }
+
+    fn turn(&mut self, moment: Moment) -> Turn {
+        if moment.is_tick {
+            let ticked = self.tick();
+            return turn(ticked, 0, 0);
+        }
+        let count = self.ports.len();
+        for look in 0..count {
+            let place = self.next.wrapping_add(look) % count;
+            let port = self.ports[place];
+            let served = self.serve(port);
+            if served.did != Did::Idle {
+                self.next = place.wrapping_add(1);
+                return served;
+            }
+        }
+        turn(Ok(false), 0, 0)
+    }
+
+    fn close(&mut self, _moment: Moment, finish: Finish) {
+        self.finish = Some(finish);
+    }
+}

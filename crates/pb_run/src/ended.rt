@@ -1,0 +1,74 @@
+//! How a run ended.
+
+ghost use Rattle.std.specs.Prelude.{◌≡◌, ◌↔◌, All, IsTrue};
+ghost use Rattle.pb_run.specs.Runs.{TellsAllDrained};
+
+use crate::desk::Last;
+use pb_forest::is_drained;
+use pb_lan::Record;
+use pb_work::Finish;
+
+/// How a run ended.
+#[derive(Clone, Copy, PartialEq, Eq, Debug)]
+pub enum Ended {
+    /// No frame comes any more, and none is on its way.
+    Drained,
+    /// A worker was refused memory.
+    NoMemory,
+    /// A worker took as many turns, or its place as many steps, as it may.
+    Limit,
+    /// A worker was told to stop, by the gate.
+    Stopped,
+}
+
+/// What ended workers before there was nothing left to do.
+#[derive(Clone, Copy, PartialEq, Eq, Debug)]
+pub(crate) struct Causes {
+    /// Memory was refused.
+    pub memory: bool,
+    /// A limit was reached.
+    pub limit: bool,
+}
+
+impl Causes {
+    /// These, and that of one more worker.
+    pub(crate) fn and(self, finish: Option<Finish>) -> Causes {
+        Causes {
+            memory: self.memory || finish == Some(Finish::Memory),
+            limit: self.limit || finish == Some(Finish::Limit),
+        }
+    }
+}
+
+/// Whether every port came to its end.
+pub(crate) fn are_all_ended(lasts: &[Last]) -> bool
+    ensures { IsTrue result ↔ All (λ last. last ≡ Last.End) lasts.now }
+{
+    lasts.iter().all(|last| *last == Last::End)
+}
+
+/// Whether every port came to its end, and no frame is on its way.
+pub(crate) fn has_drained(lasts: &[Last], rec: &Record) -> bool
+    ensures { TellsAllDrained rec.now lasts.now result }
+{
+    if are_all_ended(lasts) {
+        return is_drained(rec);
+    }
+    false
+}
+
+/// How a run ended, by whether it has drained and by what ended its workers.
+pub(crate) fn ended_by(is_drained: bool, causes: Causes) -> Ended
+    ensures { (result ≡ Ended.Drained) ↔ IsTrue is_drained }
+{
+    if is_drained {
+        return Ended::Drained;
+    }
+    if causes.memory {
+        return Ended::NoMemory;
+    }
+    if causes.limit {
+        return Ended::Limit;
+    }
+    Ended::Stopped
+}

@@ -1,0 +1,125 @@
+//! The worker of a lane.
+
+ghost use Rattle.std.specs.Prelude.{◌≡◌, [], map};
+ghost use Rattle.rtrb.specs.Ring.{sent, received};
+ghost use Rattle.pb_lan.specs.LaneLists.{taken, put};
+
+use crate::refusal::{Refusal, Taken, turn};
+use pb_lan::{Place, Step};
+use pb_link::Lane;
+use pb_ring::{Inlet, Outlet, Wiring};
+use pb_work::{Finish, Moment, Turn, Work};
+use std::collections::LinkedList;
+
+/// A lane of a plan with the two rings that it joins: from one it takes, and onto the other it puts.
+#[derive(Drop)]
+pub struct LaneWorker<W: Wiring> {
+    /// The lane's number in the plan, from 1.
+    pub number: u8,
+    /// The lane.
+    pub lane: Lane,
+    /// The end from which it takes.
+    pub from: Inlet<W>,
+    /// The end through which it puts.
+    pub to: Outlet<W>,
+    /// The most steps.
+    pub limit: usize,
+    /// Why the worker ended, once it has.
+    pub finish: Option<Finish>,
+    pub ghost took: { received from.end ≡ taken lane.steps },
+    pub ghost gave: { sent to.end ≡ put lane.steps },
+}
+
+/// How many items the newest step lost that came from customers.
+fn lost_by_newest(steps: &[Step]) -> u64 {
+    match steps.last() {
+        Some(
+            Step::Take {
+                item,
+                lost: true,
+                ..
+            },
+        ) if item.mark.is_some() => 1,
+        _ => 0,
+    }
+}
+
+impl<W: Wiring> LaneWorker<W> {
+    /// The worker of a lane that has taken no step, over rings that nothing has passed. It may take so many
+    /// steps. Takes no memory.
+    pub fn new(number: u8, lane: Lane, from: Inlet<W>, to: Outlet<W>, limit: usize) -> LaneWorker<W>
+        requires steps { lane.steps ≡ [] }
+        requires rings { (received from.end ≡ []) × (sent to.end ≡ []) }
+        ensures number { result.number ≡ number }
+        ensures lane { result.lane ≡ lane }
+        ensures rings { (result.from.number ≡ from.number) × (result.to.number ≡ to.number) }
+    {
+        LaneWorker {
+            number,
+            lane,
+            from,
+            to,
+            limit,
+            finish: None,
+        }
+    }
+
+    /// Nothing, where the lane may take a step more.
+    fn within_limit(&self) -> Result<(), Refusal> {
+        if self.lane.steps().len() >= self.limit {
+            return Err(Refusal::Limit);
+        }
+        Ok(())
+    }
+
+    /// Puts the item in hand, where one is there and the ring has room.
+    fn put(&mut self) -> Taken
+        ensures number { self.new.number ≡ self.old.number }
+        ensures rings { (self.new.from.number ≡ self.old.from.number) × (self.new.to.number ≡ self.old.to.number) }
+        ensures losses { self.new.lane.losses ≡ self.old.lane.losses }
+    {
+        if self.lane.is_hand_empty() || !self.to.has_room() {
+            return Ok(false);
+        }
+        self.within_limit()?;
+        Ok(self.lane.put(&mut self.to.end)?)
+    }
+
+    /// Takes an item, where none is in hand and one is on the ring.
+    fn take(&mut self) -> Taken
+        ensures number { self.new.number ≡ self.old.number }
+        ensures rings { (self.new.from.number ≡ self.old.from.number) × (self.new.to.number ≡ self.old.to.number) }
+        ensures losses { self.new.lane.losses ≡ self.old.lane.losses }
+    {
+        if !self.lane.is_hand_empty() || !self.from.has_item() {
+            return Ok(false);
+        }
+        self.within_limit()?;
+        Ok(self.lane.take(&mut self.from.end)?)
+    }
+}
+
+impl<W: Wiring> Work for LaneWorker<W> {
+    type Given = (u8, usize, usize, LinkedList<u64>);
+
+    ghost given = { λ w. (w.number, w.from.number, w.to.number, w.lane.losses) };
+
+    ghost fits = { λ w. Unit {0} };
+
+    fn place(&self) -> Place {
+        Place::Lane(self.number)
+    }
+
+    fn turn(&mut self, _moment: Moment) -> Turn {
+        let put = self.put();
+        if put != Ok(false) {
+            return turn(put, 0, 0);
+        }
+        let taken = self.take();
+        turn(taken, 0, lost_by_newest(self.lane.steps()))
+    }
+
+    fn close(&mut self, _moment: Moment, finish: Finish) {
+        self.finish = Some(finish);
+    }
+}

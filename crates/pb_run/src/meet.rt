@@ -1,0 +1,155 @@
+//! The meetings: both ends of each ring in one thread again, once all workers are back.
+
+ghost use Rattle.std.specs.Prelude.{◌≡◌, ◌<◌, ◌+◌, ◌*◌, ℕ, List, Some, length, map, slice_get};
+ghost use Rattle.pb_frame.specs.Lists.{IsBeginning};
+ghost use Rattle.pb_lan.specs.LaneLists.{taken, put};
+ghost use Rattle.pb_lan.specs.Plans.{IsSound, IsSoundEnd};
+ghost use Rattle.pb_lan.specs.Records.{MeetsCustomer, MeetsOver, steps_of, received, transmitted};
+ghost use Rattle.pb_lan.specs.declared.plan.CustomerPlan.{CustomerPlan};
+ghost use Rattle.pb_lan.specs.declared.plan.LinkPlan.{LinkPlan};
+ghost use Rattle.pb_run.specs.Gifts.{AreBridges, AreLanes, AreDesks, DeskGift};
+ghost use Rattle.pb_run.specs.Meetings.{of_customers, of_lanes};
+ghost use Rattle.pb_run.specs.Wires.{ring_into, ring_out};
+
+use crate::bridge::BridgeWorker;
+use crate::desk::Desk;
+use crate::lane::LaneWorker;
+use pb_lan::{End, Plan};
+use pb_ring::Wiring;
+use pb_work::Work;
+
+/// The rings of a customer port meet.
+fn meet_desk<W: Wiring>(
+    plan: &Plan,
+    bridges: &mut Vec<BridgeWorker<W>>,
+    desks: &mut Vec<Desk<W>>,
+    place: usize,
+)
+    requires sound { IsSound plan.now }
+    requires place { place < length plan.now.customers }
+    requires bridges { AreBridges plan.now (length plan.now.bridges) (map ⟦<BridgeWorker<W> as Work>⟧.given bridges.old.items) }
+    requires desks { AreDesks plan.now (length plan.now.customers) (map {B = DeskGift} (λ d. (d.place.number, d.feed.number, d.drain.number)) desks.old.items) }
+    ensures bridges { map ⟦<BridgeWorker<W> as Work>⟧.given bridges.new.items ≡ map ⟦<BridgeWorker<W> as Work>⟧.given bridges.old.items }
+    ensures bridge_steps { map (λ b. b.bridge.steps) bridges.new.items ≡ map (λ b. b.bridge.steps) bridges.old.items }
+    ensures desks { map {B = DeskGift} (λ d. (d.place.number, d.feed.number, d.drain.number)) desks.new.items ≡ map {B = DeskGift} (λ d. (d.place.number, d.feed.number, d.drain.number)) desks.old.items }
+    ensures desk_steps { map (λ d. d.place.steps) desks.new.items ≡ map (λ d. d.place.steps) desks.old.items }
+    ensures meets { (c : CustomerPlan) → slice_get plan.now.customers place ≡ Some c
+        → MeetsCustomer (of_customers (map (λ b. b.bridge.steps) bridges.old.items) (map (λ d. d.place.steps) desks.old.items)) (place + 1) c }
+{
+    let customer = &plan.customers.as_slice()[place];
+    let bridge = &mut bridges[usize::from(customer.bridge) - 1];
+    bridge.meet_customer(customer.port, &mut desks[place]);
+}
+
+/// The rings of all customer ports meet.
+pub(crate) fn meet_desks<W: Wiring>(
+    plan: &Plan,
+    bridges: &mut Vec<BridgeWorker<W>>,
+    desks: &mut Vec<Desk<W>>,
+)
+    requires sound { IsSound plan.now }
+    requires bridges { AreBridges plan.now (length plan.now.bridges) (map ⟦<BridgeWorker<W> as Work>⟧.given bridges.old.items) }
+    requires desks { AreDesks plan.now (length plan.now.customers) (map {B = DeskGift} (λ d. (d.place.number, d.feed.number, d.drain.number)) desks.old.items) }
+    ensures bridges { map ⟦<BridgeWorker<W> as Work>⟧.given bridges.new.items ≡ map ⟦<BridgeWorker<W> as Work>⟧.given bridges.old.items }
+    ensures bridge_steps { map (λ b. b.bridge.steps) bridges.new.items ≡ map (λ b. b.bridge.steps) bridges.old.items }
+    ensures desks { map {B = DeskGift} (λ d. (d.place.number, d.feed.number, d.drain.number)) desks.new.items ≡ map {B = DeskGift} (λ d. (d.place.number, d.feed.number, d.drain.number)) desks.old.items }
+    ensures desk_steps { map (λ d. d.place.steps) desks.new.items ≡ map (λ d. d.place.steps) desks.old.items }
+    ensures meet { (k : ℕ) (c : CustomerPlan) → k < length plan.now.customers → slice_get plan.now.customers k ≡ Some c
+        → MeetsCustomer (of_customers (map (λ b. b.bridge.steps) bridges.old.items) (map (λ d. d.place.steps) desks.old.items)) (k + 1) c }
+{
+    for place in 0..plan.customers.len() {
+        meet_desk(plan, bridges, desks, place);
+    }
+}
+
+/// The ring from a bridge's port to a lane that leads away from it meets.
+fn meet_away<W: Wiring>(
+    plan: &Plan,
+    bridges: &mut Vec<BridgeWorker<W>>,
+    lanes: &mut Vec<LaneWorker<W>>,
+    place: usize,
+    from: &End,
+)
+    requires end { IsSoundEnd plan.now from.now }
+    requires bridges { AreBridges plan.now (length plan.now.bridges) (map ⟦<BridgeWorker<W> as Work>⟧.given bridges.old.items) }
+    requires lane { (number to : ℕ) × (losses : List ℕ) × (slice_get (map ⟦<LaneWorker<W> as Work>⟧.given lanes.old.items) place ≡ Some (number, ring_out from.now.bridge from.now.port, to, losses)) }
+    ensures bridges { map ⟦<BridgeWorker<W> as Work>⟧.given bridges.new.items ≡ map ⟦<BridgeWorker<W> as Work>⟧.given bridges.old.items }
+    ensures bridge_steps { map (λ b. b.bridge.steps) bridges.new.items ≡ map (λ b. b.bridge.steps) bridges.old.items }
+    ensures lanes { map ⟦<LaneWorker<W> as Work>⟧.given lanes.new.items ≡ map ⟦<LaneWorker<W> as Work>⟧.given lanes.old.items }
+    ensures lane_steps { map (λ l. l.lane.steps) lanes.new.items ≡ map (λ l. l.lane.steps) lanes.old.items }
+    ensures onto { IsBeginning (taken (steps_of (map (λ l. l.lane.steps) lanes.old.items) (place + 1)))
+        (transmitted from.now.port (steps_of (map (λ b. b.bridge.steps) bridges.old.items) from.now.bridge)) }
+{
+    let bridge = &mut bridges[usize::from(from.bridge) - 1];
+    bridge.meet_lane_away(from.port, &mut lanes[place]);
+}
+
+/// The ring from a lane to the bridge's port to which it leads meets.
+fn meet_here<W: Wiring>(
+    plan: &Plan,
+    bridges: &mut Vec<BridgeWorker<W>>,
+    lanes: &mut Vec<LaneWorker<W>>,
+    place: usize,
+    to: &End,
+)
+    requires end { IsSoundEnd plan.now to.now }
+    requires bridges { AreBridges plan.now (length plan.now.bridges) (map ⟦<BridgeWorker<W> as Work>⟧.given bridges.old.items) }
+    requires lane { (number from : ℕ) × (losses : List ℕ) × (slice_get (map ⟦<LaneWorker<W> as Work>⟧.given lanes.old.items) place ≡ Some (number, from, ring_into to.now.bridge to.now.port, losses)) }
+    ensures bridges { map ⟦<BridgeWorker<W> as Work>⟧.given bridges.new.items ≡ map ⟦<BridgeWorker<W> as Work>⟧.given bridges.old.items }
+    ensures bridge_steps { map (λ b. b.bridge.steps) bridges.new.items ≡ map (λ b. b.bridge.steps) bridges.old.items }
+    ensures lanes { map ⟦<LaneWorker<W> as Work>⟧.given lanes.new.items ≡ map ⟦<LaneWorker<W> as Work>⟧.given lanes.old.items }
+    ensures lane_steps { map (λ l. l.lane.steps) lanes.new.items ≡ map (λ l. l.lane.steps) lanes.old.items }
+    ensures off { IsBeginning (received to.now.port (steps_of (map (λ b. b.bridge.steps) bridges.old.items) to.now.bridge))
+        (put (steps_of (map (λ l. l.lane.steps) lanes.old.items) (place + 1))) }
+{
+    let bridge = &mut bridges[usize::from(to.bridge) - 1];
+    bridge.meet_lane_here(to.port, &mut lanes[place]);
+}
+
+/// The rings of a link's two lanes meet.
+fn meet_link<W: Wiring>(
+    plan: &Plan,
+    bridges: &mut Vec<BridgeWorker<W>>,
+    lanes: &mut Vec<LaneWorker<W>>,
+    place: usize,
+)
+    requires sound { IsSound plan.now }
+    requires place { place < length plan.now.links }
+    requires bridges { AreBridges plan.now (length plan.now.bridges) (map ⟦<BridgeWorker<W> as Work>⟧.given bridges.old.items) }
+    requires lanes { AreLanes plan.now (length plan.now.links) (map ⟦<LaneWorker<W> as Work>⟧.given lanes.old.items) }
+    ensures bridges { map ⟦<BridgeWorker<W> as Work>⟧.given bridges.new.items ≡ map ⟦<BridgeWorker<W> as Work>⟧.given bridges.old.items }
+    ensures bridge_steps { map (λ b. b.bridge.steps) bridges.new.items ≡ map (λ b. b.bridge.steps) bridges.old.items }
+    ensures lanes { map ⟦<LaneWorker<W> as Work>⟧.given lanes.new.items ≡ map ⟦<LaneWorker<W> as Work>⟧.given lanes.old.items }
+    ensures lane_steps { map (λ l. l.lane.steps) lanes.new.items ≡ map (λ l. l.lane.steps) lanes.old.items }
+    ensures meets { (link : LinkPlan) → slice_get plan.now.links place ≡ Some link
+        → MeetsOver (of_lanes (map (λ b. b.bridge.steps) bridges.old.items) (map (λ l. l.lane.steps) lanes.old.items)) (2 * place + 1) link.a link.b
+        × MeetsOver (of_lanes (map (λ b. b.bridge.steps) bridges.old.items) (map (λ l. l.lane.steps) lanes.old.items)) (2 * place + 2) link.b link.a }
+{
+    let link = &plan.links.as_slice()[place];
+    meet_away(plan, bridges, lanes, 2 * place, &link.a);
+    meet_here(plan, bridges, lanes, 2 * place, &link.b);
+    meet_away(plan, bridges, lanes, 2 * place + 1, &link.b);
+    meet_here(plan, bridges, lanes, 2 * place + 1, &link.a);
+}
+
+/// The rings of all lanes meet.
+pub(crate) fn meet_links<W: Wiring>(
+    plan: &Plan,
+    bridges: &mut Vec<BridgeWorker<W>>,
+    lanes: &mut Vec<LaneWorker<W>>,
+)
+    requires sound { IsSound plan.now }
+    requires bridges { AreBridges plan.now (length plan.now.bridges) (map ⟦<BridgeWorker<W> as Work>⟧.given bridges.old.items) }
+    requires lanes { AreLanes plan.now (length plan.now.links) (map ⟦<LaneWorker<W> as Work>⟧.given lanes.old.items) }
+    ensures bridges { map ⟦<BridgeWorker<W> as Work>⟧.given bridges.new.items ≡ map ⟦<BridgeWorker<W> as Work>⟧.given bridges.old.items }
+    ensures bridge_steps { map (λ b. b.bridge.steps) bridges.new.items ≡ map (λ b. b.bridge.steps) bridges.old.items }
+    ensures lanes { map ⟦<LaneWorker<W> as Work>⟧.given lanes.new.items ≡ map ⟦<LaneWorker<W> as Work>⟧.given lanes.old.items }
+    ensures lane_steps { map (λ l. l.lane.steps) lanes.new.items ≡ map (λ l. l.lane.steps) lanes.old.items }
+    ensures meet { (k : ℕ) (link : LinkPlan) → k < length plan.now.links → slice_get plan.now.links k ≡ Some link
+        → MeetsOver (of_lanes (map (λ b. b.bridge.steps) bridges.old.items) (map (λ l. l.lane.steps) lanes.old.items)) (2 * k + 1) link.a link.b
+        × MeetsOver (of_lanes (map (λ b. b.bridge.steps) bridges.old.items) (map (λ l. l.lane.steps) lanes.old.items)) (2 * k + 2) link.b link.a }
+{
+    for place in 0..plan.links.len() {
+        meet_link(plan, bridges, lanes, place);
+    }
+}

@@ -1,0 +1,270 @@
+//! A run of a whole plan.
+
+ghost use Rattle.std.specs.Prelude.{◌≡◌, ◌↔◌, ◌≤◌, ◌*◌, [], IfOk, IfErr, All, length, map, vec_len, vec_capacity};
+ghost use Rattle.pb_lan.specs.Plans.{IsSound};
+ghost use Rattle.pb_lan.specs.Records.{IsLawfulRecord};
+ghost use Rattle.pb_relay.specs.Protocol.{spanning_tree};
+ghost use Rattle.pb_relay.specs.Settled.{TellsSettled};
+ghost use Rattle.pb_run.specs.Gifts.{AreBridges, AreLanes, AreDesks};
+ghost use Rattle.pb_lan.specs.Headline.{IsFaithful};
+ghost use Rattle.pb_run.specs.Runs.{ArePortsKept, TellsEnded};
+ghost use Rattle.pb_run.specs.Wires.{AreNew, AreNamed};
+
+use crate::bridge::BridgeWorker;
+use crate::build::{Built, places_of};
+use crate::customer::CustomerWorker;
+use crate::desk::{Desk, Last};
+use crate::ended::{Causes, Ended, ended_by, has_drained};
+use crate::fault::{RunCause, RunFault, cause_of};
+use crate::lane::LaneWorker;
+use crate::meet::{meet_desks, meet_links};
+use crate::outside::{Apart, Held, apart, attended};
+use crate::record::{Lists, bridge_lists, desk_lists, lane_lists};
+use crate::settled::whether_settled;
+use crate::wires::{Ring, new_rings};
+use pb_frame::Memory;
+use pb_lan::{Limits, Plan, Record};
+use pb_port::Port;
+use pb_ring::Wiring;
+use pb_work::{Gate, Work, run_all};
+use std::alloc::Global;
+use std::marker::Brand;
+use std::sync::Wait;
+use std::thread::Threads;
+use std::time::Clock;
+
+/// What a run gives.
+#[derive(Drop)]
+pub struct Ran {
+    /// The steps of all places.
+    pub rec: Record,
+    /// The ports outside, in the plan's order.
+    pub ports: Vec<Held>,
+    /// What the newest poll of each of them said.
+    pub last: Vec<Last>,
+    /// How the run ended.
+    pub ended: Ended,
+    /// Whether the bridges are settled, or None where the plan gives the states of the ports. `Memory` is
+    /// answered where there was none for a list of the bridges.
+    pub settled: Result<Option<bool>, Memory>,
+}
+
+/// Room for what comes back: workers of customer ports, their parts, and lists of steps.
+type Rooms<W> = (
+    Vec<CustomerWorker<W, Held>>,
+    Apart<W, Held>,
+    (Lists, Lists, Lists),
+);
+
+/// Room for what comes back of a plan's places, made before a worker is started.
+fn rooms_of<W: Wiring>(alloc: Global, plan: &Plan) -> Result<Rooms<W>, Memory>
+    requires { IsSound plan.now }
+    ensures workers { IfOk result (λ rooms. (rooms.0.items ≡ []) × (vec_capacity rooms.0 ≡ length plan.now.customers)) }
+    ensures ports { IfOk result (λ rooms. (rooms.1.0.items ≡ []) × (vec_capacity rooms.1.0 ≡ length plan.now.customers)) }
+    ensures desks { IfOk result (λ rooms. (rooms.1.1.items ≡ []) × (vec_capacity rooms.1.1 ≡ length plan.now.customers)) }
+    ensures lasts { IfOk result (λ rooms. (rooms.1.2.items ≡ []) × (vec_capacity rooms.1.2 ≡ length plan.now.customers)) }
+    ensures customers { IfOk result (λ rooms. (rooms.2.0.items ≡ []) × (vec_capacity rooms.2.0 ≡ length plan.now.customers)) }
+    ensures lanes { IfOk result (λ rooms. (rooms.2.1.items ≡ []) × (vec_capacity rooms.2.1 ≡ 2 * length plan.now.links)) }
+    ensures bridges { IfOk result (λ rooms. (rooms.2.2.items ≡ []) × (vec_capacity rooms.2.2 ≡ length plan.now.bridges)) }
+{
+    let (customers, lanes) = (plan.customers.len(), 2 * plan.links.len());
+    let apart = (
+        Vec::with_capacity(alloc, customers)?,
+        Vec::with_capacity(alloc, customers)?,
+        Vec::with_capacity(alloc, customers)?,
+    );
+    let lists = (
+        Vec::with_capacity(alloc, customers)?,
+        Vec::with_capacity(alloc, lanes)?,
+        Vec::with_capacity(alloc, plan.bridges.len())?,
+    );
+    Ok((Vec::with_capacity(alloc, customers)?, apart, lists))
+}
+
+/// What ended the workers.
+fn causes_of<W: Wiring>(
+    customers: &[CustomerWorker<W, Held>],
+    lanes: &[LaneWorker<W>],
+    bridges: &[BridgeWorker<W>],
+) -> Causes {
+    let mut causes = Causes {
+        memory: false,
+        limit: false,
+    };
+    for worker in customers {
+        causes = causes.and(worker.finish);
+    }
+    for worker in lanes {
+        causes = causes.and(worker.finish);
+    }
+    for worker in bridges {
+        causes = causes.and(worker.finish);
+    }
+    causes
+}
+
+/// The record of places that are back. Takes no memory.
+fn record_of<W: Wiring>(
+    plan: &Plan,
+    desks: Vec<Desk<W>>,
+    lanes: Vec<LaneWorker<W>>,
+    bridges: Vec<BridgeWorker<W>>,
+    lists: (Lists, Lists, Lists),
+) -> Record
+    requires sound { IsSound plan.now }
+    requires desks { AreDesks plan.now (length plan.now.customers) (map (λ d. (d.place.number, d.feed.number, d.drain.number)) desks.items) }
+    requires lanes { AreLanes plan.now (length plan.now.links) (map ⟦<LaneWorker<W> as Work>⟧.given lanes.items) }
+    requires bridges { AreBridges plan.now (length plan.now.bridges) (map ⟦<BridgeWorker<W> as Work>⟧.given bridges.items) }
+    requires empty { (lists.0.items ≡ []) × (lists.1.items ≡ []) × (lists.2.items ≡ []) }
+    requires room { (vec_capacity lists.0 ≡ length plan.now.customers) × (vec_capacity lists.1 ≡ 2 * length plan.now.links) × (vec_capacity lists.2 ≡ length plan.now.bridges) }
+    ensures lawful { IsLawfulRecord spanning_tree plan.now result }
+    ensures headline { IsFaithful plan.now result }
+    ensures customers { result.customers ≡ map (λ d. d.place.steps) desks.items }
+    ensures bridges { result.bridges ≡ map (λ b. b.bridge.steps) bridges.items }
+{
+    let (mut desks, mut lanes, mut bridges) = (desks, lanes, bridges);
+    meet_desks(plan, &mut bridges, &mut desks);
+    meet_links(plan, &mut bridges, &mut lanes);
+    Record {
+        bridges: bridge_lists(bridges, lists.2),
+        lanes: lane_lists(lanes, lists.1),
+        customers: desk_lists(desks, lists.0),
+    }
+}
+
+/// Runs the places of a plan, and looks at what came of it.
+fn run_built<W: Wiring + Send, G: Gate, R: Threads + Wait + Clock + Sync>(
+    rt: &R,
+    alloc: Global,
+    plan: &Plan,
+    ports: Vec<Held>,
+    built: Built<W>,
+    rooms: Rooms<W>,
+    gate: &G,
+    limits: Limits,
+) -> Result<Ran, RunFault>
+    requires sound { IsSound plan.now }
+    requires count { vec_len ports ≡ length plan.now.customers }
+    requires desks { AreDesks plan.now (length plan.now.customers) (map (λ d. (d.place.number, d.feed.number, d.drain.number)) built.0.items) }
+    requires fresh { All (λ d. (d.place.steps ≡ []) × (d.book.last ≡ Last.More)) built.0.items }
+    requires lanes { AreLanes plan.now (length plan.now.links) (map ⟦<LaneWorker<W> as Work>⟧.given built.1.items) }
+    requires bridges { AreBridges plan.now (length plan.now.bridges) (map ⟦<BridgeWorker<W> as Work>⟧.given built.2.items) }
+    requires workers { (rooms.0.items ≡ []) × (vec_capacity rooms.0 ≡ length plan.now.customers) }
+    requires apart { (rooms.1.0.items ≡ []) × (rooms.1.1.items ≡ []) × (rooms.1.2.items ≡ []) }
+    requires apart_room { (vec_capacity rooms.1.0 ≡ length plan.now.customers) × (vec_capacity rooms.1.1 ≡ length plan.now.customers) × (vec_capacity rooms.1.2 ≡ length plan.now.customers) }
+    requires lists { (rooms.2.0.items ≡ []) × (rooms.2.1.items ≡ []) × (rooms.2.2.items ≡ []) }
+    requires lists_room { (vec_capacity rooms.2.0 ≡ length plan.now.customers) × (vec_capacity rooms.2.1 ≡ 2 * length plan.now.links) × (vec_capacity rooms.2.2 ≡ length plan.now.bridges) }
+    ensures lawful { IfOk result (λ ran. IsLawfulRecord spanning_tree plan.now ran.rec) }
+    ensures headline { IfOk result (λ ran. IsFaithful plan.now ran.rec) }
+    ensures ports { IfOk result (λ ran. ArePortsKept (record { scripts = map (λ b. script b) ports.items; tallies = map (λ b. tally b) ports.items })
+        (record { scripts = map (λ b. script b) ran.ports.items; tallies = map (λ b. tally b) ran.ports.items }) ran.rec.customers ran.last.items) }
+    ensures ended { IfOk result (λ ran. TellsEnded plan.now ran.rec ran.last.items ran.ended) }
+    ensures settled { IfOk result (λ ran. IfOk ran.settled (TellsSettled plan.now ran.rec)) }
+    ensures fault { IfErr result (λ fault. fault.cause ≡ RunCause.PortCount → ⊥) }
+    ensures unpolled { IfErr result (λ fault. fault.ports.items ≡ ports.items) }
+{
+    let left = ports.len() as u64;
+    let customers = attended(ports, built.0, rooms.0);
+    let places = (customers, built.1, built.2);
+    let (places, verdict) = run_all(rt, alloc, places, gate, limits, left);
+    let causes = causes_of(
+        places.0.as_slice(),
+        places.1.as_slice(),
+        places.2.as_slice(),
+    );
+    let (ports, desks, last) = apart(places.0, rooms.1);
+    if let Err(fault) = verdict {
+        let cause = cause_of(fault);
+        return Err(RunFault { cause, ports });
+    }
+    let settled = whether_settled(alloc, plan, places.2.as_slice());
+    let rec = record_of(plan, desks, places.1, places.2, rooms.2);
+    let ended = ended_by(has_drained(last.as_slice(), &rec), causes);
+    Ok(Ran {
+        rec,
+        ports,
+        last,
+        ended,
+        settled,
+    })
+}
+
+/// Runs a plan over rings, whose ends are known by number.
+fn run_wired<W: Wiring + Send, G: Gate, R: Threads + Wait + Clock + Sync>(
+    rt: &R,
+    alloc: Global,
+    plan: &Plan,
+    ports: Vec<Held>,
+    rings: Vec<Ring>,
+    gate: &G,
+    limits: Limits,
+) -> Result<Ran, RunFault>
+    requires sound { IsSound plan.now }
+    requires count { vec_len ports ≡ length plan.now.customers }
+    requires new { AreNew rings.items }
+    requires named { AreNamed W.rings rings.items }
+    ensures lawful { IfOk result (λ ran. IsLawfulRecord spanning_tree plan.now ran.rec) }
+    ensures headline { IfOk result (λ ran. IsFaithful plan.now ran.rec) }
+    ensures ports { IfOk result (λ ran. ArePortsKept (record { scripts = map (λ b. script b) ports.items; tallies = map (λ b. tally b) ports.items })
+        (record { scripts = map (λ b. script b) ran.ports.items; tallies = map (λ b. tally b) ran.ports.items }) ran.rec.customers ran.last.items) }
+    ensures ended { IfOk result (λ ran. TellsEnded plan.now ran.rec ran.last.items ran.ended) }
+    ensures settled { IfOk result (λ ran. IfOk ran.settled (TellsSettled plan.now ran.rec)) }
+    ensures fault { IfErr result (λ fault. fault.cause ≡ RunCause.PortCount → ⊥) }
+    ensures unpolled { IfErr result (λ fault. fault.ports.items ≡ ports.items) }
+{
+    let (Ok(built), Ok(rooms)) = (
+        places_of::<W>(alloc, plan, rings),
+        rooms_of::<W>(alloc, plan),
+    ) else {
+        let cause = RunCause::Memory;
+        return Err(RunFault { cause, ports });
+    };
+    run_built(rt, alloc, plan, ports, built, rooms, gate, limits)
+}
+
+/// Runs a sound plan: one worker for each bridge, lane and customer port, in threads of their own, with rings
+/// between them. No worker takes a step before all are started. A bridge ticks once every so many turns.
+///
+/// The record of what all places did is lawful, so that the laws hold of it, whatever the schedule was: each
+/// departure has the octets of an arrival at a port of the same service; a frame that was handled under a
+/// forest leaves each other port at most once, its own never, and none outside its tree; one to a group that
+/// was neither refused nor lost, and has drained, leaves each port of its service in its tree once; no frame
+/// is multiplied; and frames of one port and one priority keep their order. For each port that keeps a script,
+/// the script before is what entered followed by the script left, and for each that keeps a tally, the tally
+/// after is the tally before followed by what left.
+///
+/// The run has drained exactly where every port came to its end and no frame is on its way. What is told of
+/// settled bridges is told of the bridges after all their steps.
+///
+/// `PortCount` is answered exactly where there are not as many ports as customer ports, `Memory` where there
+/// was none for the workers, `Spawn` where one could not be started. The ports come back as they were then:
+/// none was polled, and none was offered a frame.
+pub fn run<G: Gate, R: Threads + Wait + Clock + Sync>(
+    rt: &R,
+    alloc: Global,
+    plan: &Plan,
+    ports: Vec<Held>,
+    gate: &G,
+    limits: Limits,
+) -> Result<Ran, RunFault>
+    requires { IsSound plan.now }
+    ensures lawful { IfOk result (λ ran. IsLawfulRecord spanning_tree plan.now ran.rec) }
+    ensures headline { IfOk result (λ ran. IsFaithful plan.now ran.rec) }
+    ensures ports { IfOk result (λ ran. ArePortsKept (record { scripts = map (λ b. script b) ports.items; tallies = map (λ b. tally b) ports.items })
+        (record { scripts = map (λ b. script b) ran.ports.items; tallies = map (λ b. tally b) ran.ports.items }) ran.rec.customers ran.last.items) }
+    ensures ended { IfOk result (λ ran. TellsEnded plan.now ran.rec ran.last.items ran.ended) }
+    ensures settled { IfOk result (λ ran. IfOk ran.settled (TellsSettled plan.now ran.rec)) }
+    ensures count { IfOk result (λ ran. vec_len ports ≡ length plan.now.customers) }
+    ensures fault { IfErr result (λ fault. (fault.cause ≡ RunCause.PortCount) ↔ (vec_len ports ≡ length plan.now.customers → ⊥)) }
+    ensures unpolled { IfErr result (λ fault. fault.ports.items ≡ ports.items) }
+{
+    if ports.len() != plan.customers.len() {
+        let cause = RunCause::PortCount;
+        return Err(RunFault { cause, ports });
+    }
+    let Ok(rings) = new_rings(alloc, plan) else {
+        let cause = RunCause::Memory;
+        return Err(RunFault { cause, ports });
+    };
+    run_wired::<Brand, G, R>(rt, alloc, plan, ports, rings, gate, limits)
+}

@@ -1,0 +1,19 @@
+//! Runs, a table each.
+
+mod carried;
+mod counts;
+mod devices;
+mod draft;
+mod frames;
+mod gates;
+mod guests;
+mod meetings;
+mod networks;
+mod plans;
+mod refused;
+mod runs;
+mod spanning;
+mod stops;
+mod streams;
+mod told;
+mod watch;

@@ -1,0 +1,187 @@
+//! Runs that drain.
+
+use super::draft::{Draft, Joint};
+use super::frames::Frames;
+use super::gates::Open;
+use super::guests::Habit;
+use super::networks::{LINE, PAIR};
+use super::runs::{LONG, Outer, Setup, ran};
+use super::told::{Outside, Told};
+use super::watch::Watch;
+use pb_run::{Ended, Last};
+use std::alloc::Global;
+use std::process::Abort;
+use std::sync::{Arc, Wait};
+use std::test::Fail;
+use std::thread::Threads;
+use std::time::Clock;
+
+/// A run that drains.
+struct Row {
+    setup: Setup<'static>,
+    /// How often ports of the tests' own are polled.
+    polls: u64,
+    /// By lane of the first link, how many items it takes, and how many of them it loses.
+    link: [(usize, usize); 2],
+    /// How many steps the busiest place takes.
+    most: usize,
+}
+
+/// Whether a customer port came to its end, having given all it had, and keeps what left.
+fn is_at_end(outside: &Outside, outer: Outer) -> bool {
+    outside.last == Some(Last::End)
+        && outside.script == Some(outer.count())
+        && outside.gone == 0
+        && outside.kept == outside.left
+}
+
+/// Whether all customer ports did.
+fn are_at_end(told: &Told, ports: &[Outer]) -> bool {
+    told.ports == ports.len()
+        && told
+            .outside
+            .iter()
+            .zip(ports)
+            .all(|(outside, outer)| is_at_end(outside, *outer))
+}
+
+/// The run drains as the row tells.
+fn drains<R: Abort + Threads + Wait + Clock + Sync>(
+    rt: &R,
+    alloc: Global,
+    row: &Row,
+) -> Result<(), Fail> {
+    let watch = Arc::new(alloc, Watch::new())?;
+    let told = ran(rt, alloc, &row.setup, &Open, &watch)?;
+    assert_eq!(rt; (told.ended, told.settled), (Some(Ended::Drained), None));
+    assert!(rt; told.is_left && are_at_end(&told, row.setup.ports));
+    assert_eq!(rt; (told.link, told.polls), (row.link, row.polls));
+    assert_eq!(rt; told.steps.iter().copied().max(), Some(row.most));
+    Ok(())
+}
+
+#[test]
+fn a_line_carries_a_hundred_broadcasts(rt: HostRuntime) -> Result<(), Fail> {
+    const ROW: Row = Row {
+        setup: Setup {
+            draft: LINE,
+            ports: &[
+                Outer::Memory(100),
+                Outer::Memory(0),
+                Outer::Memory(0),
+                Outer::Memory(0),
+            ],
+            limits: LONG,
+            left: &[
+                Frames::First(0),
+                Frames::First(100),
+                Frames::First(100),
+                Frames::First(100),
+            ],
+        },
+        polls: 0,
+        link: [(100, 0), (0, 0)],
+        most: 300,
+    };
+    drains(&rt, rt.alloc(), &ROW)
+}
+
+#[test]
+fn a_line_carries_four_thousand_broadcasts(rt: HostRuntime) -> Result<(), Fail> {
+    const ROW: Row = Row {
+        setup: Setup {
+            draft: Draft {
+                queue: 4_096,
+                ring: 4_096,
+                steps: 20_000,
+                ..LINE
+            },
+            ports: &[
+                Outer::Memory(4_000),
+                Outer::Memory(0),
+                Outer::Memory(0),
+                Outer::Memory(0),
+            ],
+            limits: LONG,
+            left: &[
+                Frames::First(0),
+                Frames::First(4_000),
+                Frames::First(4_000),
+                Frames::First(4_000),
+            ],
+        },
+        polls: 0,
+        link: [(4_000, 0), (0, 0)],
+        most: 12_000,
+    };
+    drains(&rt, rt.alloc(), &ROW)
+}
+
+#[test]
+fn broadcasts_go_both_ways(rt: HostRuntime) -> Result<(), Fail> {
+    const ROW: Row = Row {
+        setup: Setup {
+            draft: LINE,
+            ports: &[
+                Outer::Memory(0),
+                Outer::Memory(5),
+                Outer::Memory(0),
+                Outer::Memory(0),
+            ],
+            limits: LONG,
+            left: &[
+                Frames::First(5),
+                Frames::First(0),
+                Frames::First(5),
+                Frames::First(5),
+            ],
+        },
+        polls: 0,
+        link: [(0, 0), (5, 0)],
+        most: 15,
+    };
+    drains(&rt, rt.alloc(), &ROW)
+}
+
+#[test]
+fn a_lane_loses_the_second_of_three(rt: HostRuntime) -> Result<(), Fail> {
+    const ROW: Row = Row {
+        setup: Setup {
+            draft: Draft {
+                links: &[Joint {
+                    a: (1, 1),
+                    b: (2, 1),
+                    lost: &[1],
+                }],
+                ..PAIR
+            },
+            ports: &[Outer::Memory(3), Outer::Memory(0), Outer::Memory(0)],
+            limits: LONG,
+            left: &[Frames::First(0), Frames::These(&[0, 2]), Frames::First(0)],
+        },
+        polls: 0,
+        link: [(3, 1), (0, 0)],
+        most: 6,
+    };
+    drains(&rt, rt.alloc(), &ROW)
+}
+
+#[test]
+fn a_run_without_frames_ends_once_each_port_was_polled(rt: HostRuntime) -> Result<(), Fail> {
+    const ROW: Row = Row {
+        setup: Setup {
+            draft: PAIR,
+            ports: &[
+                Outer::Memory(0),
+                Outer::Guest(0, Habit::Plain),
+                Outer::Guest(0, Habit::Plain),
+            ],
+            limits: LONG,
+            left: &[Frames::First(0), Frames::First(0), Frames::First(0)],
+        },
+        polls: 2,
+        link: [(0, 0), (0, 0)],
+        most: 0,
+    };
+    drains(&rt, rt.alloc(), &ROW)
+}

@@ -1,0 +1,131 @@
+//! Gates.
+
+use super::told::slot_of;
+use super::watch::Watch;
+use pb_lan::Place;
+use pb_run::{Gate, Go};
+use std::alloc::{AllocError, Global};
+use std::sync::Arc;
+use std::sync::atomic::{AtomicU64, Ordering};
+use std::thread;
+
+/// Waits until a number is reached, and yields at most so often. Answers whether it was.
+pub(super) fn comes_to(count: &AtomicU64, wanted: u64) -> bool {
+    for _ in 0..100_000_000u32 {
+        if count.load(Ordering::SeqCst) >= wanted {
+            return true;
+        }
+        thread::yield_now();
+    }
+    false
+}
+
+/// Go, where it is so.
+fn go_if(condition: bool) -> Go {
+    if condition { Go::Go } else { Go::Stop }
+}
+
+/// Every worker may go on.
+#[derive(Clone, Copy)]
+pub(super) struct Open;
+
+impl Gate for Open {
+    fn pass(&self, _place: Place, _turn: u64) -> Go {
+        Go::Go
+    }
+}
+
+/// Stops each worker at a turn.
+#[derive(Drop)]
+pub(super) struct StopAt(pub(super) u64);
+
+impl Gate for StopAt {
+    fn pass(&self, _place: Place, turn: u64) -> Go {
+        go_if(turn < self.0)
+    }
+}
+
+/// At turn 0 each pass waits until all have come. It counts the passes of all turns.
+#[derive(Drop)]
+pub(super) struct Meeting {
+    here: AtomicU64,
+    passes: Vec<AtomicU64>,
+}
+
+impl Meeting {
+    /// The meeting of so many places, which have the slots below that number.
+    pub(super) fn of(alloc: Global, all: u64) -> Result<Meeting, AllocError> {
+        let mut passes = Vec::new(alloc);
+        for _ in 0..all {
+            passes.push(AtomicU64::new(0))?;
+        }
+        Ok(Meeting {
+            here: AtomicU64::new(0),
+            passes,
+        })
+    }
+
+    /// How many have come.
+    pub(super) fn here(&self) -> u64 {
+        self.here.load(Ordering::SeqCst)
+    }
+
+    /// How often the place of a slot has passed.
+    pub(super) fn passes_of(&self, slot: usize) -> u64 {
+        match self.passes.get(slot) {
+            Some(passes) => passes.load(Ordering::SeqCst),
+            None => 0,
+        }
+    }
+}
+
+impl Gate for Meeting {
+    fn pass(&self, place: Place, turn: u64) -> Go {
+        if let Some(passes) = self.passes.get(slot_of(place)) {
+            passes.fetch_add(1, Ordering::SeqCst);
+        }
+        if turn > 0 {
+            return Go::Go;
+        }
+        self.here.fetch_add(1, Ordering::SeqCst);
+        go_if(comes_to(&self.here, self.passes.len() as u64))
+    }
+}
+
+/// Holds B4 at its first turn until a port of the tests' own has taken a frame.
+#[derive(Drop)]
+pub(super) struct Holding(pub(super) Arc<Watch, Global>);
+
+impl Gate for Holding {
+    fn pass(&self, place: Place, turn: u64) -> Go {
+        if turn > 0 || place != Place::Bridge(4) {
+            return Go::Go;
+        }
+        go_if(comes_to(&self.0.taken, 1))
+    }
+}
+
+/// Each turn waits until all have come to it.
+#[derive(Drop)]
+pub(super) struct Lockstep {
+    all: u64,
+    here: AtomicU64,
+}
+
+impl Lockstep {
+    /// The lockstep of so many.
+    pub(super) fn of(all: u64) -> Lockstep {
+        Lockstep {
+            all,
+            here: AtomicU64::new(0),
+        }
+    }
+}
+
+impl Gate for Lockstep {
+    fn pass(&self, _place: Place, turn: u64) -> Go {
+        self.here.fetch_add(1, Ordering::SeqCst);
+        let wanted = turn.saturating_add(1).saturating_mul(self.all);
+        go_if(comes_to(&self.here, wanted))
+    }
+}

@@ -1,0 +1,71 @@
+//! All places run at once.
+
+use super::frames::Frames;
+use super::gates::{Holding, Meeting};
+use super::guests::Habit;
+use super::networks::LINE;
+use super::runs::{LONG, Outer, Setup, ran};
+use super::watch::Watch;
+use pb_run::Ended;
+use std::sync::Arc;
+use std::sync::atomic::Ordering;
+use std::test::Fail;
+
+/// What has to leave where C1 sends one broadcast.
+const ONE_EACH: &[Frames] = &[
+    Frames::First(0),
+    Frames::First(1),
+    Frames::First(1),
+    Frames::First(1),
+];
+
+#[test]
+fn all_places_run_at_once(rt: HostRuntime) -> Result<(), Fail> {
+    const SETUP: Setup<'static> = Setup {
+        draft: LINE,
+        ports: &[
+            Outer::Memory(1),
+            Outer::Memory(0),
+            Outer::Memory(0),
+            Outer::Memory(0),
+        ],
+        limits: LONG,
+        left: ONE_EACH,
+    };
+    let gate = Meeting::of(rt.alloc(), 14)?;
+    let watch = Arc::new(rt.alloc(), Watch::new())?;
+    let told = ran(&rt, rt.alloc(), &SETUP, &gate, &watch)?;
+    assert_eq!(rt;
+        (told.ended, told.is_left, gate.here()),
+        (Some(Ended::Drained), true, 14)
+    );
+    for (slot, steps) in told.steps.iter().enumerate() {
+        assert!(rt;
+            0 < gate.passes_of(slot) && *steps as u64 <= gate.passes_of(slot),
+            "{slot}"
+        );
+    }
+    Ok(())
+}
+
+#[test]
+fn first_polls_meet_while_a_bridge_is_held(rt: HostRuntime) -> Result<(), Fail> {
+    const SETUP: Setup<'static> = Setup {
+        draft: LINE,
+        ports: &[
+            Outer::Guest(1, Habit::Meets),
+            Outer::Guest(0, Habit::Meets),
+            Outer::Memory(0),
+            Outer::Memory(0),
+        ],
+        limits: LONG,
+        left: ONE_EACH,
+    };
+    let watch = Arc::new(rt.alloc(), Watch::new())?;
+    let gate = Holding(Arc::try_clone(&watch)?);
+    let told = ran(&rt, rt.alloc(), &SETUP, &gate, &watch)?;
+    assert_eq!(rt; (told.ended, told.is_left), (Some(Ended::Drained), true));
+    assert_eq!(rt; watch.met.load(Ordering::SeqCst), 2);
+    assert_eq!(rt; watch.taken.load(Ordering::SeqCst), 1);
+    Ok(())
+}

@@ -1,0 +1,153 @@
+//! Runs that are refused memory.
+
+use super::frames::Frames;
+use super::gates::Open;
+use super::guests::{Call, Habit};
+use super::networks::{LINE, STAR};
+use super::runs::{LONG, Outer, Setup, ran};
+use super::told::Told;
+use super::watch::Watch;
+use pb_run::{Ended, RunCause};
+use std::alloc::Global;
+use std::process::Abort;
+use std::sync::{Arc, Wait};
+use std::test::Fail;
+use std::thread::Threads;
+use std::time::Clock;
+
+/// Runs with a port that is refused memory at a call end for want of memory. Nothing is lost, and the frames that
+/// have to leave do.
+fn all_run_out<R: Abort + Threads + Wait + Clock + Sync>(
+    rt: &R,
+    alloc: Global,
+    rows: &[(&[Outer], &[Frames])],
+) -> Result<(), Fail> {
+    for (number, (ports, left)) in rows.iter().enumerate() {
+        let setup = Setup {
+            draft: STAR,
+            ports,
+            limits: LONG,
+            left,
+        };
+        let watch = Arc::new(alloc, Watch::new())?;
+        let told = ran(rt, alloc, &setup, &Open, &watch)?;
+        assert_eq!(rt;
+            (told.ended, told.ports),
+            (Some(Ended::NoMemory), 3),
+            "row {number}"
+        );
+        assert!(rt;
+            told.is_left && told.outside[0].script == Some(3),
+            "row {number}"
+        );
+        let is_kept = told
+            .outside
+            .iter()
+            .all(|outside| outside.kept == outside.left);
+        assert!(rt; is_kept, "row {number}");
+    }
+    Ok(())
+}
+
+#[test]
+fn a_port_that_is_refused_memory_ends_the_run(rt: HostRuntime) -> Result<(), Fail> {
+    const ROWS: &[(&[Outer], &[Frames])] = &[
+        (
+            &[
+                Outer::Guest(3, Habit::Refuses(Call::Poll(1))),
+                Outer::Memory(0),
+                Outer::Memory(0),
+            ],
+            &[Frames::First(0), Frames::First(0), Frames::First(0)],
+        ),
+        (
+            &[
+                Outer::Guest(3, Habit::Refuses(Call::Poll(2))),
+                Outer::Memory(0),
+                Outer::Memory(0),
+            ],
+            &[Frames::First(0)],
+        ),
+        (
+            &[
+                Outer::Guest(3, Habit::Refuses(Call::Poll(4))),
+                Outer::Memory(0),
+                Outer::Memory(0),
+            ],
+            &[Frames::First(0)],
+        ),
+        (
+            &[
+                Outer::Memory(3),
+                Outer::Guest(0, Habit::Refuses(Call::Offer(1))),
+                Outer::Memory(0),
+            ],
+            &[Frames::First(0), Frames::First(0)],
+        ),
+        (
+            &[
+                Outer::Memory(3),
+                Outer::Guest(0, Habit::Refuses(Call::Offer(3))),
+                Outer::Memory(0),
+            ],
+            &[Frames::First(0), Frames::First(2)],
+        ),
+        (
+            &[
+                Outer::Memory(3),
+                Outer::Guest(0, Habit::Refuses(Call::Pump(1))),
+                Outer::Memory(0),
+            ],
+            &[Frames::First(0), Frames::First(1)],
+        ),
+        (
+            &[
+                Outer::Memory(3),
+                Outer::Guest(0, Habit::Refuses(Call::Pump(2))),
+                Outer::Memory(0),
+            ],
+            &[Frames::First(0), Frames::First(2)],
+        ),
+    ];
+    all_run_out(&rt, rt.alloc(), ROWS)
+}
+
+/// Whether a run of four bridges in a line, with one broadcast to carry, was refused memory as it may be.
+fn is_named(told: &Told) -> bool {
+    let is_whole = told.ports == 4 && told.outside[0].script == Some(1);
+    let is_carried = told.is_left
+        && told
+            .outside
+            .iter()
+            .all(|outside| outside.kept == outside.left);
+    match (told.cause, told.ended) {
+        (Some(RunCause::Memory | RunCause::Spawn), None) => is_whole,
+        (None, Some(Ended::NoMemory)) => is_whole,
+        (None, Some(Ended::Drained)) => is_whole && (is_carried || told.short > 0),
+        _ => false,
+    }
+}
+
+#[test]
+fn a_run_names_what_it_was_refused(rt: HostRuntime) -> Result<(), Fail> {
+    const SETUP: Setup<'static> = Setup {
+        draft: LINE,
+        ports: &[
+            Outer::Memory(1),
+            Outer::Memory(0),
+            Outer::Memory(0),
+            Outer::Memory(0),
+        ],
+        limits: LONG,
+        left: &[
+            Frames::First(0),
+            Frames::First(1),
+            Frames::First(1),
+            Frames::First(1),
+        ],
+    };
+    let watch = Arc::new(rt.alloc(), Watch::new())?;
+    let told = ran(&rt, rt.alloc(), &SETUP, &Open, &watch)?;
+    assert!(rt; is_named(&told));
+    Ok(())
+}

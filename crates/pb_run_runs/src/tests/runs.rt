@@ -1,0 +1,110 @@
+//! The harness: a plan is run with ports of these kinds.
+
+use super::draft::Draft;
+use super::frames::{Frames, script_of};
+use super::guests::{Guest, Habit};
+use super::plans::plan_of;
+use super::streams::{Broken, Stream};
+use super::told::{NOTHING, Told, tell, tell_fault};
+use super::watch::Watch;
+use pb_frame::Memory;
+use pb_lan::{Limits, plan_is_sound};
+use pb_port::{MemoryPort, SocketPort};
+use pb_run::{Gate, Held, run};
+use std::alloc::Global;
+use std::sync::atomic::Ordering;
+use std::sync::{Arc, Wait};
+use std::thread::Threads;
+use std::time::Clock;
+
+/// Turns enough for any schedule, and no ticks.
+pub(super) const LONG: Limits = Limits {
+    turns: 1_000_000_000,
+    tick_every: 0,
+};
+
+/// A port outside, with so many numbered broadcasts to give.
+#[derive(Clone, Copy)]
+pub(super) enum Outer {
+    /// Over memory.
+    Memory(u32),
+    /// Of the tests' own.
+    Guest(u32, Habit),
+    /// A socket port over a device that fails at one of its calls.
+    Stream(u32, Broken),
+}
+
+impl Outer {
+    /// How many broadcasts it has to give.
+    pub(super) fn count(self) -> usize {
+        match self {
+            Outer::Memory(count) | Outer::Guest(count, _) | Outer::Stream(count, _) => {
+                count as usize
+            }
+        }
+    }
+}
+
+/// A run in short.
+#[derive(Clone, Copy)]
+pub(super) struct Setup<'a> {
+    pub(super) draft: Draft,
+    pub(super) ports: &'a [Outer],
+    pub(super) limits: Limits,
+    /// By customer port, the frames that have to leave.
+    pub(super) left: &'a [Frames],
+}
+
+fn memory(alloc: Global, count: u32) -> Result<MemoryPort, Memory> {
+    Ok(MemoryPort::new(alloc, 4_096, script_of(alloc, count)?))
+}
+
+fn guest(
+    alloc: Global,
+    count: u32,
+    habit: Habit,
+    watch: &Arc<Watch, Global>,
+) -> Result<Guest, Memory> {
+    let script = script_of(alloc, count)?;
+    Ok(Guest::new(alloc, script, habit, Arc::try_clone(watch)?))
+}
+
+fn socket(
+    alloc: Global,
+    count: u32,
+    broken: Broken,
+    watch: &Arc<Watch, Global>,
+) -> Result<SocketPort<Stream>, Memory> {
+    let stream = Stream::new(alloc, count, broken, Arc::try_clone(watch)?)?;
+    Ok(SocketPort::new(alloc, 4_096, stream))
+}
+
+/// Runs what a setup tells, and tells what came of it.
+pub(super) fn ran<G: Gate, R: Threads + Wait + Clock + Sync>(
+    rt: &R,
+    alloc: Global,
+    setup: &Setup,
+    gate: &G,
+    watch: &Arc<Watch, Global>,
+) -> Result<Told, Memory> {
+    let plan = plan_of(alloc, &setup.draft)?;
+    let mut ports = Vec::new(alloc);
+    for outer in setup.ports {
+        let port: Held = match *outer {
+            Outer::Memory(count) => Box::new(alloc, memory(alloc, count)?)?,
+            Outer::Guest(count, habit) => Box::new(alloc, guest(alloc, count, habit, watch)?)?,
+            Outer::Stream(count, broken) => Box::new(alloc, socket(alloc, count, broken, watch)?)?,
+        };
+        ports.push(port)?;
+    }
+    if !plan_is_sound(&plan) {
+        return Ok(NOTHING);
+    }
+    let outcome = run(rt, alloc, &plan, ports, gate, setup.limits);
+    let polls = watch.polls.load(Ordering::SeqCst);
+    let told = match outcome {
+        Ok(mut ran) => tell(alloc, &mut ran, setup.left)?,
+        Err(mut fault) => tell_fault(alloc, &mut fault)?,
+    };
+    Ok(Told { polls, ..told })
+}

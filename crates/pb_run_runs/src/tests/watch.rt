@@ -1,0 +1,41 @@
+//! What ports of the tests' own are seen to do.
+
+use super::gates::comes_to;
+use std::sync::atomic::{AtomicU64, Ordering};
+
+/// What the ports of a run are seen to do, all together.
+#[derive(Drop)]
+pub(super) struct Watch {
+    /// How often they were polled.
+    pub(super) polls: AtomicU64,
+    /// How many frames they took.
+    pub(super) taken: AtomicU64,
+    /// How many of them have come to the meeting, and how many saw another one there.
+    pub(super) here: AtomicU64,
+    pub(super) met: AtomicU64,
+    /// How often their devices were to read, and to write.
+    pub(super) reads: AtomicU64,
+    pub(super) writes: AtomicU64,
+}
+
+impl Watch {
+    /// Nothing was seen.
+    pub(super) fn new() -> Watch {
+        Watch {
+            polls: AtomicU64::new(0),
+            taken: AtomicU64::new(0),
+            here: AtomicU64::new(0),
+            met: AtomicU64::new(0),
+            reads: AtomicU64::new(0),
+            writes: AtomicU64::new(0),
+        }
+    }
+
+    /// Waits for the other one of two, and notes whether it came.
+    pub(super) fn meet(&self) {
+        self.here.fetch_add(1, Ordering::SeqCst);
+        if comes_to(&self.here, 2) {
+            self.met.fetch_add(1, Ordering::SeqCst);
+        }
+    }
+}

@@ -1,0 +1,6 @@
+pub mod Words
+pub mod Verbs
+pub mod Named
+pub mod Lines
+pub mod Answers
+pub mod Counts

@@ -1,0 +1,20 @@
+//! Step scripts: what their lines ask of a network, and what is answered.
+//!
+//! A line names bridges, links and customer ports as the plan does. What it asks for is one event of
+//! the network; what is said of it is the step that the event's place took.
+#![tactic(auto)]
+
+mod answer;
+mod counts;
+mod line;
+mod names;
+mod report;
+mod verb;
+mod words;
+
+pub use answer::{put_done, put_idle, put_no_such, put_reason};
+pub use line::read_line;
+pub use names::Names;
+pub use report::put_counts;
+pub use verb::Verb;
+pub use words::{cut, read_port};

@@ -1,0 +1,122 @@
+//! What is said of a record.
+
+ghost use Rattle.std.specs.Prelude.{◌≡◌, ◌++◌, ◌<◌, ◌≤◌, List, ℕ, length, map, flat_map, string_bytes, IfOk, OnOk, IsPermutation};
+ghost use Rattle.std.specs.Cmp.Lexicographic.{slice_cmp};
+ghost use Rattle.std.specs.List.Sorted.{IsSortedByKey};
+ghost use Rattle.std.specs.Ordering.{nat_cmp};
+ghost use Rattle.pb_lan.specs.Plans.{IsSound};
+ghost use Rattle.pb_script.specs.Counts.{port_line, link_line, with_numbers, AreByName, IsCountsText};
+
+use crate::counts::{departed, entered, filtered_at, lost, steps_of, taken};
+use pb_frame::Memory;
+use pb_lan::{Plan, Record};
+use std::alloc::Global;
+
+/// The names of the customer ports, with their numbers.
+fn numbered_ports<'a>(alloc: Global, plan: &'a Plan) -> Result<Vec<(&'a str, u8)>, Memory>
+    requires { length plan.now.customers ≤ 128 }
+    ensures { IfOk result (λ ports. map (λ n. (n.0.now, n.1)) ports.items ≡ with_numbers 1 (map (λ c. c.name) plan.now.customers)) }
+{
+    let mut ports = Vec::new(alloc);
+    for (place, customer) in plan.customers.as_slice().iter().enumerate() {
+        ports.push((customer.name.as_str(), place as u8 + 1))?;
+    }
+    Ok(ports)
+}
+
+/// The names of the links, with their numbers.
+fn numbered_links<'a>(alloc: Global, plan: &'a Plan) -> Result<Vec<(&'a str, u8)>, Memory>
+    requires { length plan.now.links ≤ 64 }
+    ensures { IfOk result (λ links. map (λ n. (n.0.now, n.1)) links.items ≡ with_numbers 1 (map (λ l. l.name) plan.now.links)) }
+{
+    let mut links = Vec::new(alloc);
+    for (place, link) in plan.links.as_slice().iter().enumerate() {
+        links.push((link.name.as_str(), place as u8 + 1))?;
+    }
+    Ok(links)
+}
+
+/// Sorts names by their octets.
+fn sort(names: &mut Vec<(&str, u8)>)
+    ensures same { IsPermutation {X = List ℕ × ℕ} (map (λ n. (n.0.now, n.1)) names.old.items) (map (λ n. (n.0.now, n.1)) names.new.items) }
+    ensures by_name { IsSortedByKey {X = List ℕ × ℕ} (λ n. n.0) (slice_cmp nat_cmp) (map (λ n. (n.0.now, n.1)) names.new.items) }
+{
+    names.sort_unstable();
+}
+
+/// The line of a customer port.
+fn put_port(
+    out: &mut String,
+    plan: &Plan,
+    rec: &Record,
+    name: &str,
+    number: u8,
+) -> Result<(), Memory>
+    ensures { OnOk result (string_bytes out.new ≡ string_bytes out.old ++ port_line plan.now rec.now (name.now, number)) }
+{
+    let steps = steps_of(rec.customers.as_slice(), usize::from(number));
+    let came = entered(steps);
+    let left = departed(steps);
+    let refused = filtered_at(plan, rec, number);
+    writeln!(
+        out,
+        "port {name} entered {came} left {left} filtered {refused}"
+    )?;
+    Ok(())
+}
+
+/// The line of a link.
+fn put_link(out: &mut String, rec: &Record, name: &str, number: u8) -> Result<(), Memory>
+    ensures { OnOk result (string_bytes out.new ≡ string_bytes out.old ++ link_line rec.now (name.now, number)) }
+{
+    let lane = 2 * usize::from(number);
+    let there = steps_of(rec.lanes.as_slice(), lane.saturating_sub(1));
+    let back = steps_of(rec.lanes.as_slice(), lane);
+    let (taken_there, lost_there) = (taken(there), lost(there));
+    let (taken_back, lost_back) = (taken(back), lost(back));
+    write!(out, "link {name} ab taken {taken_there} lost {lost_there}")?;
+    writeln!(out, " ba taken {taken_back} lost {lost_back}")?;
+    Ok(())
+}
+
+/// The lines of customer ports.
+fn put_ports(
+    out: &mut String,
+    plan: &Plan,
+    rec: &Record,
+    ports: &[(&str, u8)],
+) -> Result<(), Memory>
+    ensures { OnOk result (string_bytes out.new ≡ string_bytes out.old ++ flat_map (port_line plan.now rec.now) (map (λ n. (n.0.now, n.1)) ports.now)) }
+{
+    for (name, number) in ports {
+        put_port(out, plan, rec, name, *number)?;
+    }
+    Ok(())
+}
+
+/// The lines of links.
+fn put_links(out: &mut String, rec: &Record, links: &[(&str, u8)]) -> Result<(), Memory>
+    ensures { OnOk result (string_bytes out.new ≡ string_bytes out.old ++ flat_map (link_line rec.now) (map (λ n. (n.0.now, n.1)) links.now)) }
+{
+    for (name, number) in links {
+        put_link(out, rec, name, *number)?;
+    }
+    Ok(())
+}
+
+/// Puts what a record tells of customer ports and links behind a text: a line `port NAME entered N left N
+/// filtered N` for each customer port, and a line `link NAME ab taken N lost N ba taken N lost N` for each
+/// link, both by name. A frame entered where it was polled, and left where it was delivered to a customer
+/// that took it; it is filtered at a port where its bridge received it there and dropped it; what is taken
+/// counts the lost ones too. `Memory` is answered where memory ran out.
+pub fn put_counts(alloc: Global, out: &mut String, plan: &Plan, rec: &Record) -> Result<(), Memory>
+    requires { IsSound plan.now }
+    ensures { OnOk result ((text : List ℕ) × (string_bytes out.new ≡ string_bytes out.old ++ text) × IsCountsText plan.now rec.now text) }
+{
+    let mut ports = numbered_ports(alloc, plan)?;
+    sort(&mut ports);
+    let mut links = numbered_links(alloc, plan)?;
+    sort(&mut links);
+    put_ports(out, plan, rec, ports.as_slice())?;
+    put_links(out, rec, links.as_slice())
+}

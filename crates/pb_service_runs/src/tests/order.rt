@@ -1,0 +1,106 @@
+//! Which of two faults is told.
+
+use super::told;
+use pb_service::PlanFault;
+
+/// Files with two faults each, and the one that is told.
+const FILES: [(&str, &str); 20] = [
+    ("zebra = 1\nnetwork = 1", "6 unknown zebra"),
+    ("[network]\nring = 0\nageing = 1", "5 range network.ageing"),
+    (
+        "[network]\nring = 0\nageing = \"1\"",
+        "4 kind network.ageing",
+    ),
+    (
+        "[network]\nzebra = 1\ntick_every = -1",
+        "5 range network.tick_every",
+    ),
+    ("bridge = 1\n[network]\nturns = 0", "5 range network.turns"),
+    (
+        "link = 1\n[[bridge]]\naddress = 1",
+        "3 missing bridge[0].name",
+    ),
+    (
+        "service = 1\nlink = [1]\n[[bridge]]\nname = \"\"\naddress = 1",
+        "5 range bridge[0].name",
+    ),
+    (
+        "[[bridge]]\nname = \"B\"\nzebra = 1",
+        "3 missing bridge[0].address",
+    ),
+    (
+        "[[bridge]]\nname = \"B\"\naddress = \"02-00-00-00-00-01\"\nzebra = 1\napple = 1",
+        "6 unknown bridge[0].apple",
+    ),
+    (
+        "[[bridge]]\nname = \"B\"\naddress = \"02-00-00-00-00-01\"\n[[bridge]]\nname = \"B\"\naddress = \"02-00-00-00-00-01\"\nzebra = 1",
+        "6 unknown bridge[1].zebra",
+    ),
+    (
+        "[[bridge]]\nname = \"B\"\naddress = \"02-00-00-00-00-01\"\n[[bridge]]\nname = \"B\"\naddress = \"02-00-00-00-00-01\"",
+        "7 twice B",
+    ),
+    (
+        "[[bridge]]\nname = \"B\"\naddress = \"02-00-00-00-00-01\"\n[[link]]\nname = \"L\"\na = \"X\"\na_port = 1\nb = \"Y\"\nb_port = 1\nzebra = 1",
+        "6 unknown link[0].zebra",
+    ),
+    (
+        "[[link]]\nname = \"L\"\na = \"X\"\na_port = 1\nb = \"Y\"\nb_port = 1\n[[service]]\nname = 1",
+        "8 no-such X",
+    ),
+    (
+        "[[bridge]]\nname = \"B\"\naddress = \"02-00-00-00-00-01\"\n[[link]]\nname = \"L\"\na = \"B\"\na_port = 1\nb = \"B\"\nb_port = 1\na_services = [\"red\"]\n",
+        "8 no-such red",
+    ),
+    (
+        "[[bridge]]\nname = \"B\"\naddress = \"02-00-00-00-00-01\"\n[[link]]\nname = \"L\"\na = \"B\"\na_port = 1\nb = \"C\"\nb_port = 1\na_services = [\"red\"]\n",
+        "8 no-such C",
+    ),
+    (
+        "[[bridge]]\nname = \"B\"\naddress = \"02-00-00-00-00-01\"\n[[link]]\nname = \"L\"\na = \"B\"\na_port = 1\nb = \"B\"\nb_port = 1\na_services = [\"red\"]\n[[service]]\nname = \"red\"",
+        "9 link-end",
+    ),
+    (
+        "[[bridge]]\nname = \"B\"\naddress = \"02-00-00-00-00-01\"\n[[link]]\nname = \"L\"\na = \"B\"\na_port = 1\nb = \"B\"\nb_port = 2\na_services = [\"red\"]\n[[service]]\nname = \"red\"",
+        "3 missing service[0].vid",
+    ),
+    (
+        "[[service]]\nname = \"S\"\nvid = 1\n[[service]]\nname = \"S\"\nvid = 1",
+        "7 twice S",
+    ),
+    (
+        "[[service]]\nname = \"S\"\nvid = 1\n[[port]]\nname = \"P\"\nbridge = \"B\"\nport = 1\nservice = \"T\"",
+        "8 no-such B",
+    ),
+    (
+        "[[port]]\nname = \"P\"\nbridge = \"B\"\nport = 1\nservice = \"T\"\nkind = \"file\"\nin = 1",
+        "5 range port[0].kind",
+    ),
+];
+
+#[test]
+fn the_first_fault_is_told(rt: HostRuntime) -> Result<(), PlanFault> {
+    let alloc = rt.alloc();
+    for (text, want) in FILES {
+        assert_eq!(rt; told(alloc, text.as_bytes())?.as_str(), want, "{text}");
+    }
+    Ok(())
+}
+
+#[test]
+fn a_long_array_is_too_many_before_its_tables(rt: HostRuntime) -> Result<(), PlanFault> {
+    let alloc = rt.alloc();
+    let mut text = String::new(alloc);
+    for _ in 0..33u8 {
+        text.push_str("[[bridge]]\n")?;
+    }
+    assert_eq!(rt; told(alloc, text.as_bytes())?.as_str(), "10 too-many");
+    text.push_str("[[port]]\n")?;
+    assert_eq!(rt; told(alloc, text.as_bytes())?.as_str(), "10 too-many");
+    text.push_str("[network]\nring = 0\n")?;
+    assert_eq!(rt;
+        told(alloc, text.as_bytes())?.as_str(),
+        "5 range network.ring"
+    );
+    Ok(())
+}

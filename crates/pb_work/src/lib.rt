@@ -1,0 +1,18 @@
+//! Workers: each owns one place, and takes turn after turn in a thread of its own.
+//!
+//! What a worker knows of its place at the start, and what holds of the place between turns, is known of
+//! what comes back when all threads are joined. Nothing else passes from worker to worker here: how the
+//! places are joined is a matter of theirs.
+#![tactic(auto)]
+
+mod gate;
+mod threads;
+mod turns;
+mod words;
+
+pub use gate::{Gate, Go};
+pub use threads::{Places, WorkFault, run_all};
+pub use turns::{Did, Finish, Moment, Turn, Work};
+
+#[cfg(test)]
+mod tests;

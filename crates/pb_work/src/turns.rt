@@ -1,0 +1,190 @@
+//! What a worker does, whatever its place.
+
+ghost use Rattle.std.specs.Prelude.{◌≡◌};
+ghost use Rattle.pb_work.specs.Started.{IsBack};
+
+use crate::gate::{Gate, Go};
+use crate::words::Words;
+use pb_lan::{Limits, Place};
+use std::sync::Wait;
+use std::thread;
+use std::time::{Clock, Duration};
+
+/// What a turn did.
+#[derive(Clone, Copy, PartialEq, Eq, Debug)]
+pub enum Did {
+    /// There was nothing to do.
+    Idle,
+    /// The place took a step, or something else that it had to do was done.
+    Done,
+    /// Memory was refused. The worker ends.
+    Memory,
+    /// The place has taken as many steps as it may. The worker ends.
+    Limit,
+}
+
+/// What a turn did, and how much more and less is left to do in the whole run.
+#[derive(Clone, Copy, PartialEq, Eq, Debug)]
+pub struct Turn {
+    /// What it did.
+    pub did: Did,
+    /// How much more is left.
+    pub more: u64,
+    /// How much less is left.
+    pub fewer: u64,
+}
+
+/// Why a worker took no more turns.
+#[derive(Clone, Copy, PartialEq, Eq, Debug)]
+pub enum Finish {
+    /// Another worker ended the run, the gate did, or nothing was left to do.
+    Told,
+    /// Memory was refused.
+    Memory,
+    /// It took as many turns, or its place as many steps, as it may.
+    Limit,
+}
+
+/// When a turn is taken.
+#[derive(Clone, Copy, PartialEq, Eq, Debug)]
+pub struct Moment {
+    /// How often the worker's clock has ticked, held at 4,294,967,295.
+    pub now: u32,
+    /// The clock ticks at this turn.
+    pub is_tick: bool,
+}
+
+/// A place that a worker owns.
+pub trait Work: Drop {
+    /// What clauses remember of the place as the worker was given it.
+    type Given;
+
+    /// What the worker was given.
+    ghost given: { Self → Self.Given };
+
+    /// What holds of the place between turns.
+    ghost fits: { Self → Type 0 };
+
+    /// The place.
+    fn place(&self) -> Place;
+
+    /// Takes a turn: at most one step.
+    fn turn(&mut self, moment: Moment) -> Turn
+        requires { fits self.old }
+        ensures given { given self.new ≡ given self.old }
+        ensures fits { fits self.new };
+
+    /// What is to be done after the last turn.
+    fn close(&mut self, moment: Moment, finish: Finish)
+        requires { fits self.old }
+        ensures given { given self.new ≡ given self.old }
+        ensures fits { fits self.new };
+}
+
+/// The moment of a turn.
+fn moment_of(turn: u64, every: u64) -> Moment {
+    if every == 0 {
+        return Moment {
+            now: 0,
+            is_tick: false,
+        };
+    }
+    Moment {
+        now: (turn / every).min(4_294_967_295) as u32,
+        is_tick: turn % every == every - 1,
+    }
+}
+
+/// Lets other threads run, and after many idle turns in a row leaves the processor for a while.
+fn rest<R: Clock>(rt: &R, idle: u32) {
+    if idle < 64 {
+        thread::yield_now();
+        return;
+    }
+    let micros = (u64::from(idle) - 60).min(500);
+    thread::sleep(rt, Duration::from_micros(micros));
+}
+
+/// Whether a worker that may take this turn ends before it.
+fn is_ended<G: Gate>(gate: &G, words: &Words, place: Place, turn: u64) -> bool {
+    if !words.go_on() {
+        return true;
+    }
+    let is_stopped = gate.pass(place, turn) == Go::Stop;
+    if is_stopped {
+        words.end();
+    }
+    is_stopped
+}
+
+/// Takes turn after turn, and answers why there are no more.
+fn take_turns<T: Work, G: Gate, R: Clock>(
+    rt: &R,
+    owned: &mut T,
+    gate: &G,
+    words: &Words,
+    limits: Limits,
+) -> Finish
+    requires { T.fits owned.old }
+    ensures given { T.given owned.new ≡ T.given owned.old }
+    ensures fits { T.fits owned.new }
+{
+    let place = owned.place();
+    let mut idle = 0u32;
+    for turn in 0..limits.turns {
+        if is_ended(gate, words, place, turn) {
+            return Finish::Told;
+        }
+        let turned = owned.turn(moment_of(turn, limits.tick_every));
+        words.count(turned.more, turned.fewer);
+        match turned.did {
+            Did::Idle => {
+                rest(rt, idle);
+                idle = idle.saturating_add(1);
+            }
+            Did::Done => idle = 0,
+            Did::Memory => return Finish::Memory,
+            Did::Limit => return Finish::Limit,
+        }
+    }
+    Finish::Limit
+}
+
+/// A place that comes back from its worker.
+#[derive(Drop)]
+pub(crate) struct Back<T> {
+    /// The place.
+    pub place: T,
+    /// The worker was let begin.
+    pub has_begun: bool,
+}
+
+/// Waits for the start, takes turn after turn, and closes the place. A worker that ends for a cause of
+/// its own has the others end, and one that is not let begin gives its place back as it is.
+pub(crate) fn run_place<T: Work, G: Gate, R: Wait + Clock>(
+    rt: &R,
+    place: T,
+    gate: &G,
+    words: &Words,
+    limits: Limits,
+) -> Back<T>
+    requires { T.fits place }
+    ensures { IsBack T.given T.fits place result }
+{
+    let mut owned = place;
+    if !words.wait(rt) {
+        return Back {
+            place: owned,
+            has_begun: false,
+        };
+    }
+    let finish = take_turns(rt, &mut owned, gate, words, limits);
+    if finish != Finish::Told {
+        words.end();
+    }
+    owned.close(moment_of(limits.turns, limits.tick_every), finish);
+    Back {
+        place: owned,
+        has_begun: true,
+    }
+}
