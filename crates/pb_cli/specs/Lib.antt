@@ -13,5 +13,6 @@ pub mod Steps
 pub mod Reports
 pub mod Scripts
 pub mod AnyPorts
+pub mod Scripted
 pub mod Networks
 pub mod Unwritten

@@ -1,7 +1,8 @@
 //! What the ports of a network lead to.
 
-ghost use Rattle.std.specs.Prelude.{◌≡◌, ◌<◌, ◌≤◌, length, vec_len, IfOk, IfErr};
+ghost use Rattle.std.specs.Prelude.{◌≡◌, ◌<◌, ◌≤◌, length, map, vec_len, IfOk, IfErr};
 ghost use Rattle.pb_lan.specs.Plans.{IsSound};
+ghost use Rattle.pb_cli.specs.Scripted.{script_at, script_in};
 
 use crate::any_port::AnyPort;
 use crate::network_fault::NetworkFault;
@@ -44,7 +45,8 @@ fn open_port<R: Files<File = File> + Net>(
     spec: PortSpec,
 ) -> Result<SystemPort, NetworkFault>
     requires { (0 < capacity) × (capacity ≤ 4096) }
-    ensures { IfErr result (λ e. e ≡ NetworkFault.Ports → ⊥) }
+    ensures script { IfOk result (λ port. script_at port ≡ script_in spec) }
+    ensures err { IfErr result (λ e. e ≡ NetworkFault.Ports → ⊥) }
 {
     match spec {
         PortSpec::Memory(frames) => {
@@ -84,6 +86,7 @@ pub(crate) fn open_ports<R: Files<File = File> + Net>(
     requires sound { IsSound plan.now }
     requires count { vec_len specs ≡ length plan.now.customers }
     ensures count { IfOk result (λ ports. vec_len ports ≡ length plan.now.customers) }
+    ensures scripts { IfOk result (λ ports. map (λ w. script_at w.port) ports.items ≡ map script_in specs.items) }
     ensures err { IfErr result (λ e. e ≡ NetworkFault.Ports → ⊥) }
 {
     let mut ports = Vec::new(alloc);
