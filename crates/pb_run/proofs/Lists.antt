@@ -19,6 +19,11 @@ one : {X : Type 0} → (P : X → Type 0) (y : X) → P y → All P (y ∷ [])
 one P y p zero d b = p
 one P y p (suc k) d b = absurd (omega arith)
 
+-- none have it
+pub all_none : {X : Type 0} → (P : X → Type 0) (xs : List X) → xs ≡ [] → All P xs
+all_none P [] none k d b = absurd (omega arith)
+all_none P (x ∷ xs) none = cc
+
 -- one more that has it
 pub all_more : {X : Type 0} → (P : X → Type 0) (y : X) (xs ys : List X) → ys ≡ xs ++ y ∷ [] → All P xs → P y → All P ys
 all_more {X} P y xs ys e h p = let Q : List X → Type 0 = λ zs. All P zs in subst Q (sym e) (All-append P xs (y ∷ []) h (one P y p))
