@@ -5,6 +5,7 @@ use Rattle.pb_frame.proofs.Lists.{Some-injective, All-at}
 use Rattle.pb_lan.proofs.PortsInPlans.{sound-end}
 use Rattle.pb_lan.specs.Plans.{IsSound, IsSoundEnd, IsSoundCustomer, Rises}
 use Rattle.pb_lan.specs.declared.plan.CustomerPlan.{CustomerPlan}
+use Rattle.pb_lan.specs.declared.plan.End.{End}
 use Rattle.pb_lan.specs.declared.plan.LinkPlan.{LinkPlan}
 use Rattle.pb_lan.specs.declared.plan.Plan.{Plan}
 use Rattle.pb_link.proofs.PlaceLemmas.{slice_get-front, slice_get-next}
@@ -95,6 +96,23 @@ rings_at plan gifts bridge port gift are at some from to =
       is.into (port - 1) (omega arith) ∙ ap (λ n. ring_into n (port - 1 + 1)) b ∙ ap (ring_into bridge) p,
       is.out (port - 1) (omega arith) ∙ ap (λ n. ring_out n (port - 1 + 1)) b ∙ ap (ring_out bridge) p,
     )
+
+-- none of them yet
+pub no_bridges : {X : Type 0} (gift : X → BridgeGift) (plan : Plan) (xs : List X) → xs ≡ [] → AreBridges plan 0 (map gift xs)
+no_bridges gift plan [] none = record { counted = refl; each = λ r g at. cc }
+no_bridges gift plan (x ∷ xs) none = cc
+
+pub no_desks : {X : Type 0} (gift : X → DeskGift) (plan : Plan) (xs : List X) → xs ≡ [] → AreDesks plan 0 (map gift xs)
+no_desks gift plan [] none = record { counted = refl; each = λ k c less at. absurd (omega arith) }
+no_desks gift plan (x ∷ xs) none = cc
+
+-- a lane by the numbers of its rings
+pub is_lane_gift : (number from to : ℕ) (a b : End) (losses : List ℕ) → from ≡ ring_out a.bridge a.port → to ≡ ring_into b.bridge b.port
+    → ◌≡◌ {A = LaneGift} (number, from, to, losses) (lane_gift number a b losses)
+is_lane_gift number from to a b losses is_from is_to =
+    let first : ◌≡◌ {A = LaneGift} (number, from, to, losses) (number, ring_out a.bridge a.port, to, losses) = ap (λ n. (number, n, to, losses)) is_from in
+    let second : ◌≡◌ {A = LaneGift} (number, ring_out a.bridge a.port, to, losses) (lane_gift number a b losses) = ap (λ n. (number, ring_out a.bridge a.port, n, losses)) is_to in
+    first ∙ second
 
 -- the worker of one more bridge
 pub bridge_pushed : {X : Type 0} (gift : X → BridgeGift) (plan : Plan) (k : ℕ) (xs ys : List X) (x : X) → ys ≡ xs ++ x ∷ [] → AreBridges plan k (map gift xs) → IsBridgeGift plan (k + 1) (gift x)

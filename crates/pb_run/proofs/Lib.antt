@@ -1,6 +1,7 @@
 pub mod UsedPorts
 mod Lists
 mod Wiring
+mod EndsThere
 mod Gifts
 mod Meeting
 mod Lawful

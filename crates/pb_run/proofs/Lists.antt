@@ -19,6 +19,11 @@ one : {X : Type 0} → (P : X → Type 0) (y : X) → P y → All P (y ∷ [])
 one P y p zero d b = p
 one P y p (suc k) d b = absurd (omega arith)
 
+-- none have it
+pub all_none : {X : Type 0} → (P : X → Type 0) (xs : List X) → xs ≡ [] → All P xs
+all_none P [] none k d b = absurd (omega arith)
+all_none P (x ∷ xs) none k d b = cc
+
 -- one more that has it
 pub all_more : {X : Type 0} → (P : X → Type 0) (y : X) (xs ys : List X) → ys ≡ xs ++ y ∷ [] → All P xs → P y → All P ys
 all_more {X} P y xs ys e h p = let Q : List X → Type 0 = λ zs. All P zs in subst Q (sym e) (All-append P xs (y ∷ []) h (one P y p))
@@ -76,7 +81,11 @@ numbers_more f g (y ∷ xs) x k counted each here zero below = each zero (omega 
 numbers_more f g (y ∷ xs) x k counted each here (suc q) below =
     numbers_more f (λ n. g (suc n)) xs x (length xs) refl (λ p less. each (suc p) (omega arith)) (here ∙ ap g (sym counted)) q (omega arith)
 
--- things that show nothing, and one more
+-- nothing is shown where nothing is, and things that show nothing, and one more
+pub none_shown : {X Y : Type 0} (f : X → List Y) (xs : List X) → xs ≡ [] → (q : ℕ) → shown_at f xs q ≡ []
+none_shown f [] none q = refl
+none_shown f (x ∷ xs) none q = cc
+
 pub nothing_more : {X Y : Type 0} (f : X → List Y) (xs : List X) (x : X) → ((q : ℕ) → shown_at f xs q ≡ []) → f x ≡ [] → (q : ℕ) → shown_at f (xs ++ x ∷ []) q ≡ []
 nothing_more f [] x each here zero = here
 nothing_more f [] x each here (suc q) = each (suc q)

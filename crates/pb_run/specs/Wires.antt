@@ -1,8 +1,10 @@
 -- The rings of a run: one into each local port of each bridge, and one out of it.
-use Rattle.std.specs.Prelude.{◌≡◌, ℕ, ◌+◌, ◌-◌, ◌*◌, List, [], Some, slice_get}
+use Rattle.std.specs.Prelude.{◌≡◌, ℕ, ◌+◌, ◌-◌, ◌*◌, ◌≤◌, List, [], Some, slice_get}
+use Rattle.std.specs.declared.option.Option.{Option}
 use Rattle.rtrb.specs.Ring.{sent, received, IsPair}
 use Rattle.rtrb.specs.declared.producer.Producer.{Producer}
 use Rattle.rtrb.specs.declared.consumer.Consumer.{Consumer}
+use Rattle.pb_lan.specs.Plans.{IsNumber}
 use Rattle.pb_ring.specs.Rings.{RingName, writer_name, reader_name}
 
 -- the number of the ring by which a bridge receives at a local port
@@ -24,3 +26,21 @@ abbrev pub AreNamed : {T A P : Type 0} → List (RingName A) → List (Producer 
 AreNamed {T} {A} {P} names rings =
     (n : ℕ) (ring : Producer T A P × Consumer T A P) → slice_get rings n ≡ Some ring
     → (slice_get names n ≡ Some (writer_name ring.0)) × (slice_get names n ≡ Some (reader_name ring.1))
+
+-- the end of this number has not been given away
+abbrev pub IsThere : {X : Type 0} → List (Option X) → ℕ → Type 0
+IsThere {X} ends n = (x : X) × (slice_get ends n ≡ Some (Some x))
+
+-- nor have the two ends that a bridge has at a local port, which are known by both numbers
+pub record HasInner {X Y : Type 0} (outlets : List (Option X)) (inlets : List (Option Y)) (at : ℕ × ℕ) : Type 0 where
+  pub bridge : 1 ≤ at.0
+  pub port : IsNumber at.1 16
+  pub receiving : IsThere inlets (ring_into at.0 at.1)
+  pub sending : IsThere outlets (ring_out at.0 at.1)
+
+-- nor have the other two ends of the rings there
+pub record HasOuter {X Y : Type 0} (outlets : List (Option X)) (inlets : List (Option Y)) (at : ℕ × ℕ) : Type 0 where
+  pub bridge : 1 ≤ at.0
+  pub port : IsNumber at.1 16
+  pub sending : IsThere outlets (ring_into at.0 at.1)
+  pub receiving : IsThere inlets (ring_out at.0 at.1)

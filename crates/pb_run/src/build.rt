@@ -1,20 +1,22 @@
 //! The workers of a plan, and the rings between them.
 
-ghost use Rattle.std.specs.Prelude.{◌≡◌, ◌<◌, ◌≤◌, ◌+◌, ◌*◌, ℕ, [], IfOk, IfSome, All, length, map, vec_len, slice_index_or};
+ghost use Rattle.std.specs.Prelude.{◌≡◌, ◌≢◌, ◌<◌, ◌≤◌, ◌+◌, ◌*◌, ℕ, [], IfOk, All, length, map, vec_len, slice_index_or};
+ghost use Rattle.std.specs.List.{AllByRecursion};
 ghost use Rattle.rtrb.specs.Ring.{sent, received};
 ghost use Rattle.pb_lan.specs.Plans.{IsSound, IsNumber, Rises};
+ghost use Rattle.pb_lan.specs.UsedPorts.{ports_in};
 ghost use Rattle.pb_ring.specs.Rings.{shown_at};
-ghost use Rattle.pb_run.specs.Gifts.{IsBridgeGift, AreBridges, lane_gift, AreLanes, desk_gift, AreDesks};
-ghost use Rattle.pb_run.specs.Wires.{ring_into, ring_out, AreNew, AreNamed};
+ghost use Rattle.pb_run.specs.Gifts.{IsBridgeGift, AreBridges, AreLanes, desk_gift, AreDesks};
+ghost use Rattle.pb_run.specs.Wires.{ring_into, ring_out, AreNew, AreNamed, HasInner, HasOuter};
 
 use crate::bridge::BridgeWorker;
 use crate::desk::{Desk, Last};
 use crate::lane::LaneWorker;
-use crate::wires::{Ends, Ring, ring_into, ring_out};
+use crate::wires::{Ends, Ring};
 use pb_frame::{Memory, Seq};
-use pb_lan::{CustomerPlan, End, Plan};
+use pb_lan::{CustomerPlan, Plan};
 use pb_link::{CustomerPlace, Lane};
-use pb_ring::{Inlets, Outlets, Wiring};
+use pb_ring::{Inlet, Inlets, Outlet, Outlets, Wiring};
 use pb_work::Work;
 use std::alloc::Global;
 use std::collections::VecDeque;
@@ -22,42 +24,29 @@ use std::collections::VecDeque;
 /// The places of a run without their ports outside: customer ports, lanes and bridges.
 pub(crate) type Built<W> = (VecDeque<Desk<W>>, Vec<LaneWorker<W>>, Vec<BridgeWorker<W>>);
 
-/// The ends through which a bridge receives.
-fn inlets_of<W: Wiring>(alloc: Global, ends: &mut Ends<W>, bridge: u8) -> Result<Inlets<W>, Memory>
-    requires { 0 < bridge }
-    ensures count { IfOk result (λ ins. vec_len ins.ends ≡ 16) }
-    ensures numbers { IfOk result (λ ins. (q : ℕ) → q < 16 → slice_index_or (map (λ i. i.number) ins.ends.items) q 0 ≡ ring_into bridge (q + 1)) }
-    ensures received { IfOk result (λ ins. (q : ℕ) → shown_at (λ i. received i.end) ins.ends.items q ≡ []) }
-{
-    let mut inlets = Vec::with_capacity(alloc, 16)?;
-    for place in 0..16u8 {
-        let Some(inlet) = ends.inlet(ring_into(bridge, place + 1)) else {
-            return Err(Memory);
-        };
-        inlets.push(inlet)?;
-    }
-    Ok(Inlets { ends: inlets })
-}
-
-/// The ends through which a bridge sends.
-fn outlets_of<W: Wiring>(
+/// The ends that a bridge has: through those it receives, through these it sends.
+fn sides_of<W: Wiring>(
     alloc: Global,
     ends: &mut Ends<W>,
     bridge: u8,
-) -> Result<Outlets<W>, Memory>
-    requires { 0 < bridge }
-    ensures count { IfOk result (λ outs. vec_len outs.ends ≡ 16) }
-    ensures numbers { IfOk result (λ outs. (q : ℕ) → q < 16 → slice_index_or (map (λ o. o.number) outs.ends.items) q 0 ≡ ring_out bridge (q + 1)) }
-    ensures sent { IfOk result (λ outs. (q : ℕ) → shown_at (λ o. sent o.end) outs.ends.items q ≡ []) }
+) -> Result<(Inlets<W>, Outlets<W>), Memory>
+    requires { (port : ℕ) → IsNumber port 16 → HasInner ends.old.outlets.items ends.old.inlets.items (bridge, port) }
+    ensures count { IfOk result (λ sides. (vec_len sides.0.ends ≡ 16) × (vec_len sides.1.ends ≡ 16)) }
+    ensures into { IfOk result (λ sides. (q : ℕ) → q < 16 → slice_index_or (map (λ i. i.number) sides.0.ends.items) q 0 ≡ ring_into bridge (q + 1)) }
+    ensures out { IfOk result (λ sides. (q : ℕ) → q < 16 → slice_index_or (map (λ o. o.number) sides.1.ends.items) q 0 ≡ ring_out bridge (q + 1)) }
+    ensures received { IfOk result (λ sides. (q : ℕ) → shown_at (λ i. received i.end) sides.0.ends.items q ≡ []) }
+    ensures sent { IfOk result (λ sides. (q : ℕ) → shown_at (λ o. sent o.end) sides.1.ends.items q ≡ []) }
+    ensures inner { IfOk result (λ sides. (at : ℕ × ℕ) → at.0 ≢ bridge → HasInner ends.old.outlets.items ends.old.inlets.items at → HasInner ends.new.outlets.items ends.new.inlets.items at) }
+    ensures outer { IfOk result (λ sides. (at : ℕ × ℕ) → HasOuter ends.old.outlets.items ends.old.inlets.items at → HasOuter ends.new.outlets.items ends.new.inlets.items at) }
 {
+    let mut inlets = Vec::with_capacity(alloc, 16)?;
     let mut outlets = Vec::with_capacity(alloc, 16)?;
     for place in 0..16u8 {
-        let Some(outlet) = ends.outlet(ring_out(bridge, place + 1)) else {
-            return Err(Memory);
-        };
+        let (inlet, outlet) = ends.inner(bridge, place + 1);
+        inlets.push(inlet)?;
         outlets.push(outlet)?;
     }
-    Ok(Outlets { ends: outlets })
+    Ok((Inlets { ends: inlets }, Outlets { ends: outlets }))
 }
 
 /// The worker of the bridge of this number.
@@ -69,10 +58,12 @@ fn bridge_worker<W: Wiring>(
 ) -> Result<BridgeWorker<W>, Memory>
     requires sound { IsSound plan.now }
     requires bridge { IsNumber number (length plan.now.bridges) }
-    ensures { IfOk result (λ worker. IsBridgeGift plan.now number (⟦<BridgeWorker<W> as Work>⟧.given worker)) }
+    requires there { (port : ℕ) → IsNumber port 16 → HasInner ends.old.outlets.items ends.old.inlets.items (number, port) }
+    ensures gift { IfOk result (λ worker. IsBridgeGift plan.now number (⟦<BridgeWorker<W> as Work>⟧.given worker)) }
+    ensures inner { IfOk result (λ worker. (at : ℕ × ℕ) → at.0 ≢ number → HasInner ends.old.outlets.items ends.old.inlets.items at → HasInner ends.new.outlets.items ends.new.inlets.items at) }
+    ensures outer { IfOk result (λ worker. (at : ℕ × ℕ) → HasOuter ends.old.outlets.items ends.old.inlets.items at → HasOuter ends.new.outlets.items ends.new.inlets.items at) }
 {
-    let ins = inlets_of(alloc, ends, number)?;
-    let outs = outlets_of(alloc, ends, number)?;
+    let (ins, outs) = sides_of(alloc, ends, number)?;
     BridgeWorker::new(alloc, plan, number, ins, outs)
 }
 
@@ -82,8 +73,10 @@ fn bridge_workers<W: Wiring>(
     plan: &Plan,
     ends: &mut Ends<W>,
 ) -> Result<Vec<BridgeWorker<W>>, Memory>
-    requires { IsSound plan.now }
-    ensures { IfOk result (λ workers. AreBridges plan.now (length plan.now.bridges) (map ⟦<BridgeWorker<W> as Work>⟧.given workers.items)) }
+    requires sound { IsSound plan.now }
+    requires there { (at : ℕ × ℕ) → IsNumber at.0 (length plan.now.bridges) → IsNumber at.1 16 → HasInner ends.old.outlets.items ends.old.inlets.items at }
+    ensures gifts { IfOk result (λ workers. AreBridges plan.now (length plan.now.bridges) (map ⟦<BridgeWorker<W> as Work>⟧.given workers.items)) }
+    ensures outer { IfOk result (λ workers. (at : ℕ × ℕ) → HasOuter ends.old.outlets.items ends.old.inlets.items at → HasOuter ends.new.outlets.items ends.new.inlets.items at) }
 {
     let mut workers = Vec::with_capacity(alloc, plan.bridges.len())?;
     for place in 0..plan.bridges.len() {
@@ -92,28 +85,21 @@ fn bridge_workers<W: Wiring>(
     Ok(workers)
 }
 
-/// The worker of a lane from one end of a link to the other, which loses the items of these numbers.
+/// The worker of a lane from one ring onto another, which loses the items of these numbers.
 fn lane_worker<W: Wiring>(
     alloc: Global,
-    ends: &mut Ends<W>,
     number: u8,
     limit: usize,
-    from: &End,
-    to: &End,
+    from: Inlet<W>,
+    to: Outlet<W>,
     losses: &Seq<u64>,
 ) -> Result<LaneWorker<W>, Memory>
-    requires from { (0 < from.now.bridge) × (0 < from.now.port) }
-    requires to { (0 < to.now.bridge) × (0 < to.now.port) }
+    requires rings { (received from.end ≡ []) × (sent to.end ≡ []) }
     requires losses { Rises losses.now }
-    ensures { IfOk result (λ worker. ⟦<LaneWorker<W> as Work>⟧.given worker ≡ lane_gift number from.now to.now losses.now) }
+    ensures { IfOk result (λ worker. ⟦<LaneWorker<W> as Work>⟧.given worker ≡ (number, from.number, to.number, losses.now)) }
 {
     let lane = Lane::new(alloc, losses.clone()?);
-    let inlet = ends.inlet(ring_out(from.bridge, from.port));
-    let outlet = ends.outlet(ring_into(to.bridge, to.port));
-    let (Some(inlet), Some(outlet)) = (inlet, outlet) else {
-        return Err(Memory);
-    };
-    Ok(LaneWorker::new(number, lane, inlet, outlet, limit))
+    Ok(LaneWorker::new(number, lane, from, to, limit))
 }
 
 /// The workers of a plan's lanes.
@@ -122,17 +108,20 @@ fn lane_workers<W: Wiring>(
     plan: &Plan,
     ends: &mut Ends<W>,
 ) -> Result<Vec<LaneWorker<W>>, Memory>
-    requires { IsSound plan.now }
-    ensures { IfOk result (λ workers. AreLanes plan.now (length plan.now.links) (map ⟦<LaneWorker<W> as Work>⟧.given workers.items)) }
+    requires sound { IsSound plan.now }
+    requires there { AllByRecursion (HasOuter ends.old.outlets.items ends.old.inlets.items) (ports_in plan.now.links plan.now.customers) }
+    ensures gifts { IfOk result (λ workers. AreLanes plan.now (length plan.now.links) (map ⟦<LaneWorker<W> as Work>⟧.given workers.items)) }
+    ensures there { IfOk result (λ workers. AllByRecursion (HasOuter ends.new.outlets.items ends.new.inlets.items) (ports_in [] plan.now.customers)) }
 {
     let links = plan.links.as_slice();
     let limit = plan.steps as usize;
     let mut workers = Vec::with_capacity(alloc, 2 * links.len())?;
     for link in links {
         let number = workers.len() as u8 + 1;
-        let (a, b) = (&link.a, &link.b);
-        workers.push(lane_worker(alloc, ends, number, limit, a, b, &link.lost_ab)?)?;
-        workers.push(lane_worker(alloc, ends, number + 1, limit, b, a, &link.lost_ba)?)?;
+        let (to_a, from_a) = ends.outer(link.a.bridge, link.a.port);
+        let (to_b, from_b) = ends.outer(link.b.bridge, link.b.port);
+        workers.push(lane_worker(alloc, number, limit, from_a, to_b, &link.lost_ab)?)?;
+        workers.push(lane_worker(alloc, number + 1, limit, from_b, to_a, &link.lost_ba)?)?;
     }
     Ok(workers)
 }
@@ -144,18 +133,15 @@ fn desk_of<W: Wiring>(
     number: u8,
     limit: usize,
     customer: &CustomerPlan,
-) -> Result<Desk<W>, Memory>
-    requires { (0 < customer.now.bridge) × (0 < customer.now.port) }
-    ensures gift { IfOk result (λ desk. (desk.place.number, desk.feed.number, desk.drain.number) ≡ desk_gift number customer.now) }
-    ensures fresh { IfOk result (λ desk. (desk.place.steps ≡ []) × (desk.book.last ≡ Last.More) × (desk.book.number ≡ number)) }
+) -> Desk<W>
+    requires { HasOuter ends.old.outlets.items ends.old.inlets.items (customer.now.bridge, customer.now.port) }
+    ensures gift { (result.place.number, result.feed.number, result.drain.number) ≡ desk_gift number customer.now }
+    ensures fresh { (result.place.steps ≡ []) × (result.book.last ≡ Last.More) × (result.book.number ≡ number) }
+    ensures outer { (at : ℕ × ℕ) → at ≢ (customer.now.bridge, customer.now.port) → HasOuter ends.old.outlets.items ends.old.inlets.items at → HasOuter ends.new.outlets.items ends.new.inlets.items at }
 {
-    let feed = ends.outlet(ring_into(customer.bridge, customer.port));
-    let drain = ends.inlet(ring_out(customer.bridge, customer.port));
-    let (Some(feed), Some(drain)) = (feed, drain) else {
-        return Err(Memory);
-    };
+    let (feed, drain) = ends.outer(customer.bridge, customer.port);
     let place = CustomerPlace::new(alloc, number);
-    Ok(Desk::new(number, place, feed, drain, limit))
+    Desk::new(number, place, feed, drain, limit)
 }
 
 /// The desks of a plan's customer ports.
@@ -164,7 +150,8 @@ fn desks_of<W: Wiring>(
     plan: &Plan,
     ends: &mut Ends<W>,
 ) -> Result<VecDeque<Desk<W>>, Memory>
-    requires { IsSound plan.now }
+    requires sound { IsSound plan.now }
+    requires there { AllByRecursion (HasOuter ends.old.outlets.items ends.old.inlets.items) (ports_in [] plan.now.customers) }
     ensures gifts { IfOk result (λ desks. AreDesks plan.now (length plan.now.customers) (map (λ d. (d.place.number, d.feed.number, d.drain.number)) desks.items)) }
     ensures fresh { IfOk result (λ desks. All (λ d. (d.place.steps ≡ []) × (d.book.last ≡ Last.More)) desks.items) }
 {
@@ -173,7 +160,7 @@ fn desks_of<W: Wiring>(
     let mut desks = VecDeque::with_capacity(alloc, customers.len())?;
     for customer in customers {
         let number = desks.len() as u8 + 1;
-        desks.push_back(desk_of(alloc, ends, number, limit, customer)?)?;
+        desks.push_back(desk_of(alloc, ends, number, limit, customer))?;
     }
     Ok(desks)
 }
@@ -188,6 +175,7 @@ pub(crate) fn places_of<W: Wiring>(
     requires sound { IsSound plan.now }
     requires new { AreNew rings.items }
     requires named { AreNamed W.rings rings.items }
+    requires count { vec_len rings ≡ 32 * length plan.now.bridges }
     ensures desks { IfOk result (λ built. AreDesks plan.now (length plan.now.customers) (map (λ d. (d.place.number, d.feed.number, d.drain.number)) built.0.items)) }
     ensures fresh { IfOk result (λ built. All (λ d. (d.place.steps ≡ []) × (d.book.last ≡ Last.More)) built.0.items) }
     ensures lanes { IfOk result (λ built. AreLanes plan.now (length plan.now.links) (map ⟦<LaneWorker<W> as Work>⟧.given built.1.items)) }

@@ -203,6 +203,7 @@ fn run_wired<W: Wiring + Send, G: Gate, R: Threads + Wait + Clock + Sync>(
     requires count { vec_len ports ≡ length plan.now.customers }
     requires new { AreNew rings.items }
     requires named { AreNamed W.rings rings.items }
+    requires rings { vec_len rings ≡ 32 * length plan.now.bridges }
     ensures lawful { IfOk result (λ ran. IsLawfulRecord spanning_tree plan.now ran.rec) }
     ensures headline { IfOk result (λ ran. IsFaithful plan.now ran.rec) }
     ensures ports { IfOk result (λ ran. ArePortsKept (record { scripts = map (λ b. script b) ports.items; tallies = map (λ b. tally b) ports.items })

@@ -1,8 +1,9 @@
 //! The rings of a run, and their ends before the places have them.
 
-ghost use Rattle.std.specs.Prelude.{◌≡◌, ◌<◌, ℕ, [], Some, IfOk, IfSome, slice_get};
+ghost use Rattle.std.specs.Prelude.{◌≡◌, ◌≢◌, ◌<◌, ◌*◌, ℕ, [], Some, None, IfOk, length, vec_len, slice_get, slice_set};
 ghost use Rattle.rtrb.specs.Ring.{sent, received};
-ghost use Rattle.pb_run.specs.Wires.{ring_into, ring_out, AreNew, AreNamed};
+ghost use Rattle.pb_lan.specs.Plans.{IsSound};
+ghost use Rattle.pb_run.specs.Wires.{ring_into, ring_out, AreNew, AreNamed, IsThere, HasInner, HasOuter};
 
 use crate::used::is_used;
 use pb_frame::Memory;
@@ -44,9 +45,11 @@ fn capacity_of(plan: &Plan, number: usize) -> usize {
 /// One ring into each local port of each bridge, and one out of it, by number. `Memory` is answered where
 /// there was none for them.
 pub(crate) fn new_rings(alloc: Global, plan: &Plan) -> Result<Vec<Ring>, Memory>
-    ensures { IfOk result (λ rings. AreNew rings.items) }
+    requires { IsSound plan.now }
+    ensures new { IfOk result (λ rings. AreNew rings.items) }
+    ensures count { IfOk result (λ rings. vec_len rings ≡ 32 * length plan.now.bridges) }
 {
-    let count = plan.bridges.len().min(32) * 32;
+    let count = 32 * plan.bridges.len();
     let mut rings = Vec::with_capacity(alloc, count)?;
     for number in 0..count {
         rings.push(RingBuffer::<Item>::new(alloc, capacity_of(plan, number))?)?;
@@ -63,6 +66,7 @@ fn ends_of<W: Wiring>(alloc: Global, rings: Vec<Ring>) -> Result<Sides<W>, Memor
     requires named { AreNamed W.rings rings.items }
     ensures sending { IfOk result (λ sides. (n : ℕ) (o : _) → slice_get sides.0.items n ≡ Some (Some o) → (o.number ≡ n) × (sent o.end ≡ [])) }
     ensures receiving { IfOk result (λ sides. (n : ℕ) (i : _) → slice_get sides.1.items n ≡ Some (Some i) → (i.number ≡ n) × (received i.end ≡ [])) }
+    ensures all { IfOk result (λ sides. (n : ℕ) → n < vec_len rings → IsThere sides.0.items n × IsThere sides.1.items n) }
 {
     let mut outlets = Vec::with_capacity(alloc, rings.len())?;
     let mut inlets = Vec::with_capacity(alloc, rings.len())?;
@@ -90,28 +94,61 @@ impl<W: Wiring> Ends<W> {
     pub(crate) fn of(alloc: Global, rings: Vec<Ring>) -> Result<Ends<W>, Memory>
         requires new { AreNew rings.items }
         requires named { AreNamed W.rings rings.items }
+        ensures { IfOk result (λ ends. (n : ℕ) → n < vec_len rings → IsThere ends.outlets.items n × IsThere ends.inlets.items n) }
     {
         let (outlets, inlets) = ends_of(alloc, rings)?;
         Ok(Ends { outlets, inlets })
     }
 
-    /// The sending end of the ring of this number, unless a place has it.
-    pub(crate) fn outlet(&mut self, number: usize) -> Option<Outlet<W>>
-        ensures { IfSome result (λ o. (o.number ≡ number) × (sent o.end ≡ [])) }
+    /// The sending end of the ring of this number.
+    fn outlet(&mut self, number: usize) -> Outlet<W>
+        requires { IsThere self.old.outlets.items number }
+        ensures end { (result.number ≡ number) × (sent result.end ≡ []) }
+        ensures outlets { self.new.outlets.items ≡ slice_set self.old.outlets.items number None }
+        ensures inlets { self.new.inlets.items ≡ self.old.inlets.items }
     {
-        if number >= self.outlets.len() {
-            return None;
-        }
-        self.outlets[number].take()
+        let Some(outlet) = self.outlets[number].take() else {
+            unreachable!();
+        };
+        outlet
     }
 
-    /// The receiving end of the ring of this number, unless a place has it.
-    pub(crate) fn inlet(&mut self, number: usize) -> Option<Inlet<W>>
-        ensures { IfSome result (λ i. (i.number ≡ number) × (received i.end ≡ [])) }
+    /// The receiving end of the ring of this number.
+    fn inlet(&mut self, number: usize) -> Inlet<W>
+        requires { IsThere self.old.inlets.items number }
+        ensures end { (result.number ≡ number) × (received result.end ≡ []) }
+        ensures inlets { self.new.inlets.items ≡ slice_set self.old.inlets.items number None }
+        ensures outlets { self.new.outlets.items ≡ self.old.outlets.items }
     {
-        if number >= self.inlets.len() {
-            return None;
-        }
-        self.inlets[number].take()
+        let Some(inlet) = self.inlets[number].take() else {
+            unreachable!();
+        };
+        inlet
+    }
+
+    /// The two ends that a bridge has at a local port: through one it receives, through the other it sends.
+    pub(crate) fn inner(&mut self, bridge: u8, port: u8) -> (Inlet<W>, Outlet<W>)
+        requires { HasInner self.old.outlets.items self.old.inlets.items (bridge, port) }
+        ensures inlet { (result.0.number ≡ ring_into bridge port) × (received result.0.end ≡ []) }
+        ensures outlet { (result.1.number ≡ ring_out bridge port) × (sent result.1.end ≡ []) }
+        ensures inner { (at : ℕ × ℕ) → at ≢ (bridge, port) → HasInner self.old.outlets.items self.old.inlets.items at → HasInner self.new.outlets.items self.new.inlets.items at }
+        ensures outer { (at : ℕ × ℕ) → HasOuter self.old.outlets.items self.old.inlets.items at → HasOuter self.new.outlets.items self.new.inlets.items at }
+    {
+        let inlet = self.inlet(ring_into(bridge, port));
+        let outlet = self.outlet(ring_out(bridge, port));
+        (inlet, outlet)
+    }
+
+    /// The other two ends of the rings at a bridge's local port: through one is sent to the bridge, through
+    /// the other is received from it.
+    pub(crate) fn outer(&mut self, bridge: u8, port: u8) -> (Outlet<W>, Inlet<W>)
+        requires { HasOuter self.old.outlets.items self.old.inlets.items (bridge, port) }
+        ensures outlet { (result.0.number ≡ ring_into bridge port) × (sent result.0.end ≡ []) }
+        ensures inlet { (result.1.number ≡ ring_out bridge port) × (received result.1.end ≡ []) }
+        ensures outer { (at : ℕ × ℕ) → at ≢ (bridge, port) → HasOuter self.old.outlets.items self.old.inlets.items at → HasOuter self.new.outlets.items self.new.inlets.items at }
+    {
+        let outlet = self.outlet(ring_into(bridge, port));
+        let inlet = self.inlet(ring_out(bridge, port));
+        (outlet, inlet)
     }
 }

@@ -1,5 +1,6 @@
 use Rattle.std.proofs.Common.{◌≡◌, ◌+◌, [], ◌∷◌, Some, length, slice_get, sym, ap, ◌∙◌, arith, length-append}
 use Rattle.rtrb.specs.Ring.{sent, received}
+use Rattle.pb_run.proofs.EndsThere.{one_more_there}
 use Rattle.pb_run.proofs.Lists.{none_there, there_more}
 use Rattle.pb_run.proofs.Wiring.{first_named, others_named, first_new, others_new}
 use Rattle.pb_run.proofs.wires.ends_of.Goals as goal
@@ -12,6 +13,9 @@ loop-ring-init g c =
       counted = ap length c.in_ok-inlets.ensures.items ∙ sym none;
       sending = λ n o h. absurd (none_there _ n _ c.in_ok-outlets.ensures.items h);
       receiving = λ n i h. absurd (none_there _ n _ c.in_ok-inlets.ensures.items h);
+      outlets_there = λ n less. absurd (omega (arith, less, none));
+      inlets_there = λ n less. absurd (omega (arith, less, ap length c.in_ok-inlets.ensures.items));
+      come = omega (arith, none);
       new = λ n ring h. c.requires.new n ring (ap (λ xs. slice_get xs n) (sym same) ∙ h);
       named = λ n ring h.
           let named = c.requires.named n ring (ap (λ xs. slice_get xs n) (sym same) ∙ h) in
@@ -46,6 +50,9 @@ loop-ring-preserved g c =
           (c.new.ensures.number ∙ number, ap sent c.new.ensures.end ∙ new.1);
       receiving = there_more _ c.loop-ring.inlets.items c.push-in-loop-ring.new.self.items c.new-in-loop-ring.result c.in_ok-push-2.ensures.items i.receiving
           (c.new-in-loop-ring.ensures.number ∙ number ∙ sym i.counted, ap received c.new-in-loop-ring.ensures.end ∙ new.2);
+      outlets_there = one_more_there c.loop-ring.outlets.items c.push.new.self.items c.new.result c.in_ok-push.ensures.items i.outlets_there;
+      inlets_there = one_more_there c.loop-ring.inlets.items c.push-in-loop-ring.new.self.items c.new-in-loop-ring.result c.in_ok-push-2.ensures.items i.inlets_there;
+      come = omega (arith, outlets, i.come, ap length e);
       new = others_new c.in-Some.ring _ _ e i.new;
       named = λ n ring h.
           let named = others_named k g.W.Wiring.rings c.in-Some.ring _ _ e i.named n ring h in
