@@ -1,11 +1,13 @@
 //! The customer ports of a document.
 
 ghost use Rattle.std.specs.Prelude.{◌≡◌, ◌<◌, length, map, IfOk, IfErr, OnOk};
-ghost use Rattle.std.specs.List.{AllZip, flat_map};
+ghost use Rattle.std.specs.List.{AllZip, IsDistinct, flat_map};
 ghost use Rattle.toml.specs.View.{items_view, table_view};
+ghost use Rattle.pb_frame.specs.Admission.{same};
 ghost use Rattle.pb_service.specs.Told.{rows_of};
 ghost use Rattle.pb_service.specs.Tables.{AreFrames, IsPortSpecOf, IsCustomerOf, IsReadPort};
-ghost use Rattle.pb_service.specs.Refusals.{Refuses, HasTables, CustomerLacks, names_of, link_ports};
+ghost use Rattle.pb_service.specs.UsedPorts.{AreUsedOnce};
+ghost use Rattle.pb_service.specs.Refusals.{Refuses, HasTables, CustomerLacks, names_of, link_ports, ports_told};
 ghost use Rattle.pb_service.specs.declared.fault.PlanFault.TheVariants.{Memory as memory_fault};
 ghost use Rattle.pb_service.specs.declared.section.Section.TheVariants.{Bridge as bridge_section, Link as link_section, Service as service_section, Port as port_section};
 
@@ -100,9 +102,12 @@ pub(crate) fn read_customers(
     requires bridges { HasTables (table_view document.now) bridge_section }
     requires services { HasTables (table_view document.now) service_section }
     requires used { used.items ≡ flat_map (link_ports (names_of (table_view document.now) bridge_section)) (rows_of (table_view document.now) link_section) }
+    requires once { AreUsedOnce used.items }
     ensures ok { IfOk result (λ r. AllZip (IsReadPort (IsCustomerOf (names_of (table_view document.now) bridge_section) (names_of (table_view document.now) service_section)))
         (rows_of (table_view document.now) port_section) r.customers.items) }
     ensures specs { IfOk result (λ r. AllZip IsPortSpecOf (rows_of (table_view document.now) port_section) r.specs.items) }
+    ensures names { OnOk result (IsDistinct same (names_of (table_view document.now) port_section)) }
+    ensures once { OnOk result (AreUsedOnce (ports_told (table_view document.now))) }
     ensures tables { OnOk result (HasTables (table_view document.now) port_section) }
     ensures err { IfErr result (Refuses (table_view document.now)) }
 {
