@@ -1,6 +1,6 @@
 -- The numbers that a table tells where it keeps the rules of its keys.
-use Rattle.std.proofs.Common.{◌≡◌, ℕ, ◌+◌, ◌<◌, ◌≤◌, ◌%◌, Bool, true, false, suc, min, List, [], ◌∷◌, ◌++◌, length, Option, Some, None, unwrap_or, IfSome, refl, arith, lit≤, inl, inr}
-use Rattle.std.specs.Prelude.{nat_le, ◌==◌, ◌&&◌, if◌then◌else◌}
+use Rattle.std.proofs.Common.{◌≡◌, ℕ, ◌+◌, ◌<◌, ◌≤◌, ◌%◌, true, false, suc, min, List, [], ◌∷◌, ◌++◌, length, Option, Some, None, unwrap_or, refl, arith, lit≤, inl, inr}
+use Rattle.std.specs.Prelude.{nat_le, ◌==◌, ◌&&◌}
 use Rattle.std.specs.Option.{option_map_or, option_to_list}
 use Rattle.std.proofs.lemmas.Bool.{cases_Bool, false≢true, leb-true, eqb-true}
 use Rattle.std.specs.List.{AllByRecursion}
@@ -58,9 +58,10 @@ rises_more : (least : ℕ) (told : Option ℕ) (rest : List ℕ) → option_map_
     → AllByRecursion (λ m. least ≤ m) (option_to_list told ++ rest) × Rises (option_to_list told ++ rest)
 rises_more least None rest h r = absurd (false≢true h)
 rises_more least (Some n) rest h r =
-    let a : least ≤ n = leb-true least n h in
-    ((a, All-imply (λ m. suc n ≤ m) (λ m. least ≤ m) (λ m l. omega arith) rest r.0),
-    (All-imply (λ m. suc n ≤ m) (λ m. n < m) (λ m l. omega arith) rest r.0, r.1))
+    let a : least ≤ n = leb-true least n h in (
+      (a, All-imply (λ m. suc n ≤ m) (λ m. least ≤ m) (λ m l. omega arith) rest r.0),
+      (All-imply (λ m. suc n ≤ m) (λ m. n < m) (λ m l. omega arith) rest r.0, r.1),
+    )
 
 rises_from : (least : ℕ) (ds : Items) → rise_from least ds ≡ true → AllByRecursion (λ m. least ≤ m) (naturals_in ds) × Rises (naturals_in ds)
 rises_from least no_items h = (tt, tt)
@@ -103,7 +104,7 @@ number_below n (x ∷ names) name k e =
     elim (cases_Bool (same name x)) [
       | inl this ↦ let s : Some n ≡ Some k = rw this at e in let m : n ≡ k = cc in (omega arith, omega arith)
       | inr other ↦ let s : number_from (suc n) names name ≡ Some k = rw other at e in
-        let l = number_below (suc n) names name k s in (omega arith, omega arith)
+          let l = number_below (suc n) names name k s in (omega arith, omega arith)
     ]
 
 pub named_number : (count : ℕ) (names : List (List ℕ)) (name : List ℕ) (k : ℕ) → length names ≡ count → number_from 1 names name ≡ Some k → IsNumber k count

@@ -1,5 +1,5 @@
 -- The plan of a document that repeats nothing is sound.
-use Rattle.std.proofs.Common.{◌≡◌, ℕ, ◌+◌, ◌≤◌, ◌%◌, false, List, [], ◌∷◌, ◌++◌, suc, length, map, take, Option, Some, None, IfSome, refl, sym, ap, subst, ◌∙◌, arith, length-take}
+use Rattle.std.proofs.Common.{◌≡◌, ℕ, ◌≤◌, ◌%◌, List, [], ◌∷◌, ◌++◌, suc, length, map, take, Option, Some, None, IfSome, refl, sym, ap, subst, ◌∙◌, arith, length-take}
 use Rattle.std.specs.Prelude.{codes, nat_eq}
 use Rattle.std.proofs.lemmas.List.{map-append, length-map}
 use Rattle.std.specs.List.{AllByRecursion, AllZip, IsDistinct, flat_map}
@@ -20,9 +20,9 @@ use Rattle.pb_service.specs.declared.section.Section.{Section}
 use Rattle.pb_service.specs.declared.used.LocalPort.{LocalPort}
 use Rattle.pb_service.specs.declared.section.Section.TheVariants.{Bridge, Link, Service, Port}
 use Rattle.pb_service.specs.Keys.{with_default, without_default, IsTaken}
-use Rattle.pb_service.specs.Formats.{network_keys, bridge_keys, link_keys, service_keys}
+use Rattle.pb_service.specs.Formats.{bridge_keys, link_keys, service_keys}
 use Rattle.pb_service.specs.Told.{rows_of, items_told}
-use Rattle.pb_service.specs.Tables.{text_at, number_at, services_told, EndNames, a_names, b_names, IsBridgeOf, IsServiceOf, IsEndOf, IsLinkOf, IsCustomerOf, IsRead, IsReadPort}
+use Rattle.pb_service.specs.Tables.{text_at, services_told, EndNames, a_names, b_names, IsBridgeOf, IsServiceOf, IsEndOf, IsLinkOf, IsCustomerOf, IsRead, IsReadPort}
 use Rattle.pb_service.specs.Refusals.{names_of, link_ports, customer_ports, ports_told}
 use Rattle.pb_service.specs.UsedPorts.{AreUsedOnce}
 use Rattle.pb_service.specs.PlanFiles.{IsPlanOf}
