@@ -1,11 +1,15 @@
 //! The customer ports of a document.
 
-ghost use Rattle.std.specs.Prelude.{◌≡◌, ◌<◌, length, map, IfOk, IfErr, OnOk};
+ghost use Rattle.std.specs.Prelude.{◌≡◌, ◌<◌, true, codes, length, map, IfOk, IfErr, OnOk};
 ghost use Rattle.std.specs.List.{AllZip, IsDistinct, flat_map};
 ghost use Rattle.toml.specs.View.{items_view, table_view};
 ghost use Rattle.pb_frame.specs.Admission.{same};
+ghost use Rattle.pb_frame.specs.Hex.{IsHex};
+ghost use Rattle.pb_service.specs.Values.{all_items, is_text, is_hex};
+ghost use Rattle.pb_service.specs.Keys.{IsAccepted};
+ghost use Rattle.pb_service.specs.Formats.{port_keys};
 ghost use Rattle.pb_service.specs.Told.{rows_of};
-ghost use Rattle.pb_service.specs.Tables.{AreFrames, IsPortSpecOf, IsCustomerOf, IsReadPort};
+ghost use Rattle.pb_service.specs.Tables.{text_at, AreFrames, IsPortSpecOf, IsCustomerOf, IsReadPort};
 ghost use Rattle.pb_service.specs.UsedPorts.{AreUsedOnce};
 ghost use Rattle.pb_service.specs.Refusals.{Refuses, HasTables, CustomerLacks, names_of, link_ports, ports_told};
 ghost use Rattle.pb_service.specs.declared.fault.PlanFault.TheVariants.{Memory as memory_fault};
@@ -21,28 +25,41 @@ use crate::told::{copy_at, items_at, number_at, text_at};
 use crate::used::{LocalPort, use_port};
 use crate::values::text_in;
 use bytes::Bytes;
-use pb_frame::{Seq, hex_read};
+use pb_frame::{HexFault, Seq, hex_read};
 use pb_lan::CustomerPlan;
 use std::alloc::Global;
 use toml::{Table, Value};
 
-/// The frames that texts tell. Other texts than hexadecimal ones were refused before.
+/// The frame that a hexadecimal text tells.
+fn frame_of(alloc: Global, text: &str) -> Result<Bytes, PlanFault>
+    requires { is_hex text.now ≡ true }
+    ensures ok { IfOk result (IsHex text.now) }
+    ensures err { IfErr result (λ e. e ≡ memory_fault) }
+{
+    match hex_read(alloc, text) {
+        Ok(frame) => Ok(frame),
+        Err(HexFault::Memory) => Err(PlanFault::Memory),
+        Err(HexFault::Digit) => unreachable!(),
+        Err(HexFault::Odd) => unreachable!(),
+    }
+}
+
+/// The frames that hexadecimal texts tell.
 fn frames_of(alloc: Global, items: &[Value]) -> Result<Vec<Bytes>, PlanFault>
+    requires { all_items (is_text is_hex) (items_view items.now) ≡ true }
     ensures ok { IfOk result (λ frames. AreFrames (items_view items.now) frames.items) }
     ensures err { IfErr result (λ e. e ≡ memory_fault) }
 {
     let mut frames = Vec::with_capacity(alloc, items.len())?;
     for item in items {
-        match hex_read(alloc, text_in(item)) {
-            Ok(frame) => frames.push(frame)?,
-            Err(_) => return Err(PlanFault::Memory),
-        }
+        frames.push(frame_of(alloc, text_in(item))?)?;
     }
     Ok(frames)
 }
 
 /// What a table tells that a customer port is.
 fn port_spec_of(alloc: Global, row: &Table) -> Result<PortSpec, PlanFault>
+    requires { IsAccepted (port_keys (text_at (table_view row.now) (codes "kind"))) (table_view row.now) }
     ensures ok { IfOk result (IsPortSpecOf (table_view row.now)) }
     ensures err { IfErr result (λ e. e ≡ memory_fault) }
 {
