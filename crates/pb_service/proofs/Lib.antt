@@ -6,3 +6,6 @@ pub mod Refusing
 pub mod Zips
 pub mod Acceptance
 pub mod Ends
+pub mod Distinctness
+pub mod Allowed
+pub mod Soundness

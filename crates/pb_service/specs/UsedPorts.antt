@@ -1,12 +1,17 @@
 -- The local ports that are used so far.
-use Rattle.std.specs.Prelude.{Bool, List, ◌==◌, ◌&&◌}
-use Rattle.std.specs.List.{list_any}
+use Rattle.std.specs.Prelude.{Bool, List, ◌==◌, ◌&&◌, map}
+use Rattle.std.specs.List.{list_any, IsDistinct}
+use Rattle.pb_lan.specs.Plans.{is_same_port}
 use Rattle.pb_lan.specs.declared.plan.End.{End}
 use Rattle.pb_service.specs.declared.used.LocalPort.{LocalPort}
 
 -- the port is among those that are used
 abbrev pub is_used : List LocalPort → LocalPort → Bool
 is_used used port = list_any (λ p. p.bridge == port.bridge && p.port == port.port) used
+
+-- no port is used twice
+abbrev pub AreUsedOnce : List LocalPort → Type 0
+AreUsedOnce used = IsDistinct is_same_port (map (λ p. (p.bridge, p.port)) used)
 
 -- the local port of an end of a link
 abbrev pub port_of : End → LocalPort

@@ -1,15 +1,15 @@
 //! The bridges of a document.
 
-ghost use Rattle.std.specs.Prelude.{◌≡◌, ◌≤◌, ◌⊎◌, codes, length, map, IfOk, IfErr, OnOk};
-ghost use Rattle.std.specs.List.{AllZip, list_any};
+ghost use Rattle.std.specs.Prelude.{◌≡◌, ◌≤◌, ◌⊎◌, false, codes, length, map, take, IfOk, IfErr, OnOk};
+ghost use Rattle.std.specs.List.{AllZip, IsDistinct, list_any};
 ghost use Rattle.toml.specs.View.{table_view};
 ghost use Rattle.pb_frame.specs.Admission.{same};
 ghost use Rattle.pb_frame.specs.Hex.{mac_text};
 ghost use Rattle.pb_service.specs.Values.{IsAddress};
 ghost use Rattle.pb_service.specs.Formats.{bridge_keys};
 ghost use Rattle.pb_service.specs.Told.{rows_of};
-ghost use Rattle.pb_service.specs.Tables.{text_at, IsBridgeOf, IsRead};
-ghost use Rattle.pb_service.specs.Refusals.{Refuses, RefusesTable, HasTables};
+ghost use Rattle.pb_service.specs.Tables.{is_one_of, text_at, IsBridgeOf, IsRead};
+ghost use Rattle.pb_service.specs.Refusals.{Refuses, RefusesTable, HasTables, names_of};
 ghost use Rattle.pb_service.specs.declared.fault.PlanFault.TheVariants.{Twice as twice_fault, Memory as memory_fault};
 ghost use Rattle.pb_service.specs.declared.section.Section.TheVariants.{Bridge as bridge_section};
 
@@ -48,6 +48,7 @@ fn read_bridge(
 ) -> Result<BridgePlan, PlanFault>
     requires { index ≤ length names.now }
     ensures ok { IfOk result (IsRead IsBridgeOf bridge_keys (table_view row.now)) }
+    ensures new { OnOk result (is_one_of (map (λ n. n.now) (take index names.now)) (text_at (table_view row.now) (codes "name")) ≡ false) }
     ensures err { IfErr result (RefusesTable bridge_section (map (λ n. n.now) names.now) index (table_view row.now)) }
 {
     check_row(alloc, Section::Bridge, row, names, index)?;
@@ -79,6 +80,8 @@ fn twice(alloc: Global, address: &Mac) -> PlanFault
 /// The bridges of a document.
 pub(crate) fn read_bridges(alloc: Global, document: &Table) -> Result<Vec<BridgePlan>, PlanFault>
     ensures ok { IfOk result (λ bridges. AllZip (IsRead IsBridgeOf bridge_keys) (rows_of (table_view document.now) bridge_section) bridges.items) }
+    ensures names { OnOk result (IsDistinct same (names_of (table_view document.now) bridge_section)) }
+    ensures addresses { IfOk result (λ bridges. IsDistinct same (map (λ b. b.address.0) bridges.items)) }
     ensures tables { OnOk result (HasTables (table_view document.now) bridge_section) }
     ensures err { IfErr result (Refuses (table_view document.now)) }
 {

@@ -1,13 +1,14 @@
 //! The links of a document.
 
 ghost use Rattle.std.specs.Prelude.{◌≡◌, ◌≤◌, ◌<◌, ◌⊎◌, ◌++◌, ◌∷◌, [], true, codes, length, map, Some, IfSome, IfNone, IfOk, IfErr, OnOk};
-ghost use Rattle.std.specs.List.{AllZip, flat_map};
+ghost use Rattle.std.specs.List.{AllZip, IsDistinct, flat_map};
 ghost use Rattle.toml.specs.Data.{get_member};
 ghost use Rattle.toml.specs.View.{items_view, table_view};
+ghost use Rattle.pb_frame.specs.Admission.{same};
 ghost use Rattle.pb_service.specs.Formats.{link_keys};
 ghost use Rattle.pb_service.specs.Told.{rows_of, number_from};
 ghost use Rattle.pb_service.specs.Tables.{text_at, services_told, are_known, names_of_end, IsEndOf, IsLinkOf, IsRead};
-ghost use Rattle.pb_service.specs.UsedPorts.{is_used, port_of};
+ghost use Rattle.pb_service.specs.UsedPorts.{is_used, port_of, AreUsedOnce};
 ghost use Rattle.pb_service.specs.Refusals.{Refuses, RefusesTable, HasTables, LacksName, LacksListed, IsUnlisted, LinkLacks, names_of, link_ports};
 ghost use Rattle.pb_service.specs.declared.fault.PlanFault.TheVariants.{LinkEnd as link_end_fault, Memory as memory_fault};
 ghost use Rattle.pb_service.specs.declared.section.Section.TheVariants.{Bridge as bridge_section, Link as link_section, Service as service_section};
@@ -158,6 +159,7 @@ fn link_of(
 /// Uses the ports of a link.
 fn use_ends(used: &mut Vec<LocalPort>, link: &LinkPlan) -> Result<(), PlanFault>
     ensures ok { OnOk result (used.new.items ≡ used.old.items ++ port_of link.now.a ∷ port_of link.now.b ∷ []) }
+    ensures once { OnOk result (AreUsedOnce used.old.items → AreUsedOnce used.new.items) }
     ensures err { IfErr result (λ e. (e ≡ memory_fault) ⊎ ((e ≡ link_end_fault)
         × ((is_used used.old.items (port_of link.now.a) ≡ true)
         ⊎ (is_used (used.old.items ++ port_of link.now.a ∷ []) (port_of link.now.b) ≡ true)))) }
@@ -193,6 +195,8 @@ pub(crate) fn read_links(alloc: Global, document: &Table) -> Result<Links, PlanF
     ensures ok { IfOk result (λ r. AllZip (IsRead (IsLinkOf (names_of (table_view document.now) bridge_section) (names_of (table_view document.now) service_section)) link_keys)
         (rows_of (table_view document.now) link_section) r.links.items) }
     ensures used { IfOk result (λ r. r.used.items ≡ flat_map (link_ports (names_of (table_view document.now) bridge_section)) (rows_of (table_view document.now) link_section)) }
+    ensures names { OnOk result (IsDistinct same (names_of (table_view document.now) link_section)) }
+    ensures once { IfOk result (λ r. AreUsedOnce r.used.items) }
     ensures tables { OnOk result (HasTables (table_view document.now) link_section) }
     ensures err { IfErr result (Refuses (table_view document.now)) }
 {

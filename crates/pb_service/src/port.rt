@@ -1,11 +1,17 @@
 //! The customer ports of a document.
 
-ghost use Rattle.std.specs.Prelude.{◌≡◌, ◌<◌, length, map, IfOk, IfErr, OnOk};
-ghost use Rattle.std.specs.List.{AllZip, flat_map};
+ghost use Rattle.std.specs.Prelude.{◌≡◌, ◌<◌, true, codes, length, map, IfOk, IfErr, OnOk};
+ghost use Rattle.std.specs.List.{AllZip, IsDistinct, flat_map};
 ghost use Rattle.toml.specs.View.{items_view, table_view};
+ghost use Rattle.pb_frame.specs.Admission.{same};
+ghost use Rattle.pb_frame.specs.Hex.{IsHex};
+ghost use Rattle.pb_service.specs.Values.{all_items, is_text, is_hex};
+ghost use Rattle.pb_service.specs.Keys.{IsAccepted};
+ghost use Rattle.pb_service.specs.Formats.{port_keys};
 ghost use Rattle.pb_service.specs.Told.{rows_of};
-ghost use Rattle.pb_service.specs.Tables.{AreFrames, IsPortSpecOf, IsCustomerOf, IsReadPort};
-ghost use Rattle.pb_service.specs.Refusals.{Refuses, HasTables, CustomerLacks, names_of, link_ports};
+ghost use Rattle.pb_service.specs.Tables.{text_at, AreFrames, IsPortSpecOf, IsCustomerOf, IsReadPort};
+ghost use Rattle.pb_service.specs.UsedPorts.{AreUsedOnce};
+ghost use Rattle.pb_service.specs.Refusals.{Refuses, HasTables, CustomerLacks, names_of, link_ports, ports_told};
 ghost use Rattle.pb_service.specs.declared.fault.PlanFault.TheVariants.{Memory as memory_fault};
 ghost use Rattle.pb_service.specs.declared.section.Section.TheVariants.{Bridge as bridge_section, Link as link_section, Service as service_section, Port as port_section};
 
@@ -19,28 +25,41 @@ use crate::told::{copy_at, items_at, number_at, text_at};
 use crate::used::{LocalPort, use_port};
 use crate::values::text_in;
 use bytes::Bytes;
-use pb_frame::{Seq, hex_read};
+use pb_frame::{HexFault, Seq, hex_read};
 use pb_lan::CustomerPlan;
 use std::alloc::Global;
 use toml::{Table, Value};
 
-/// The frames that texts tell. Other texts than hexadecimal ones were refused before.
+/// The frame that a hexadecimal text tells.
+fn frame_of(alloc: Global, text: &str) -> Result<Bytes, PlanFault>
+    requires { is_hex text.now ≡ true }
+    ensures ok { IfOk result (IsHex text.now) }
+    ensures err { IfErr result (λ e. e ≡ memory_fault) }
+{
+    match hex_read(alloc, text) {
+        Ok(frame) => Ok(frame),
+        Err(HexFault::Memory) => Err(PlanFault::Memory),
+        Err(HexFault::Digit) => unreachable!(),
+        Err(HexFault::Odd) => unreachable!(),
+    }
+}
+
+/// The frames that hexadecimal texts tell.
 fn frames_of(alloc: Global, items: &[Value]) -> Result<Vec<Bytes>, PlanFault>
+    requires { all_items (is_text is_hex) (items_view items.now) ≡ true }
     ensures ok { IfOk result (λ frames. AreFrames (items_view items.now) frames.items) }
     ensures err { IfErr result (λ e. e ≡ memory_fault) }
 {
     let mut frames = Vec::with_capacity(alloc, items.len())?;
     for item in items {
-        match hex_read(alloc, text_in(item)) {
-            Ok(frame) => frames.push(frame)?,
-            Err(_) => return Err(PlanFault::Memory),
-        }
+        frames.push(frame_of(alloc, text_in(item))?)?;
     }
     Ok(frames)
 }
 
 /// What a table tells that a customer port is.
 fn port_spec_of(alloc: Global, row: &Table) -> Result<PortSpec, PlanFault>
+    requires { IsAccepted (port_keys (text_at (table_view row.now) (codes "kind"))) (table_view row.now) }
     ensures ok { IfOk result (IsPortSpecOf (table_view row.now)) }
     ensures err { IfErr result (λ e. e ≡ memory_fault) }
 {
@@ -100,9 +119,12 @@ pub(crate) fn read_customers(
     requires bridges { HasTables (table_view document.now) bridge_section }
     requires services { HasTables (table_view document.now) service_section }
     requires used { used.items ≡ flat_map (link_ports (names_of (table_view document.now) bridge_section)) (rows_of (table_view document.now) link_section) }
+    requires once { AreUsedOnce used.items }
     ensures ok { IfOk result (λ r. AllZip (IsReadPort (IsCustomerOf (names_of (table_view document.now) bridge_section) (names_of (table_view document.now) service_section)))
         (rows_of (table_view document.now) port_section) r.customers.items) }
     ensures specs { IfOk result (λ r. AllZip IsPortSpecOf (rows_of (table_view document.now) port_section) r.specs.items) }
+    ensures names { OnOk result (IsDistinct same (names_of (table_view document.now) port_section)) }
+    ensures once { OnOk result (AreUsedOnce (ports_told (table_view document.now))) }
     ensures tables { OnOk result (HasTables (table_view document.now) port_section) }
     ensures err { IfErr result (Refuses (table_view document.now)) }
 {

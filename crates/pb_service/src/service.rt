@@ -1,13 +1,14 @@
 //! The services of a document.
 
-ghost use Rattle.std.specs.Prelude.{◌≡◌, ◌≤◌, ◌⊎◌, ◌==◌, codes, length, map, IfOk, IfErr, OnOk};
+ghost use Rattle.std.specs.Prelude.{◌≡◌, ◌≤◌, ◌⊎◌, ◌==◌, false, codes, length, map, nat_eq, take, IfOk, IfErr, OnOk};
 ghost use Rattle.std.specs.Fmt.{decimal};
-ghost use Rattle.std.specs.List.{AllZip, list_any};
+ghost use Rattle.std.specs.List.{AllZip, IsDistinct, list_any};
 ghost use Rattle.toml.specs.View.{table_view};
+ghost use Rattle.pb_frame.specs.Admission.{same};
 ghost use Rattle.pb_service.specs.Formats.{service_keys};
 ghost use Rattle.pb_service.specs.Told.{rows_of};
-ghost use Rattle.pb_service.specs.Tables.{IsServiceOf, IsRead};
-ghost use Rattle.pb_service.specs.Refusals.{Refuses, RefusesTable, HasTables};
+ghost use Rattle.pb_service.specs.Tables.{is_one_of, text_at, IsServiceOf, IsRead};
+ghost use Rattle.pb_service.specs.Refusals.{Refuses, RefusesTable, HasTables, names_of};
 ghost use Rattle.pb_service.specs.declared.fault.PlanFault.TheVariants.{Twice as twice_fault, Memory as memory_fault};
 ghost use Rattle.pb_service.specs.declared.section.Section.TheVariants.{Service as service_section};
 
@@ -41,6 +42,7 @@ fn read_service(
 ) -> Result<ServicePlan, PlanFault>
     requires { index ≤ length names.now }
     ensures ok { IfOk result (IsRead IsServiceOf service_keys (table_view row.now)) }
+    ensures new { OnOk result (is_one_of (map (λ n. n.now) (take index names.now)) (text_at (table_view row.now) (codes "name")) ≡ false) }
     ensures err { IfErr result (RefusesTable service_section (map (λ n. n.now) names.now) index (table_view row.now)) }
 {
     check_row(alloc, Section::Service, row, names, index)?;
@@ -72,6 +74,8 @@ fn twice(alloc: Global, vid: u16) -> PlanFault
 /// The services of a document.
 pub(crate) fn read_services(alloc: Global, document: &Table) -> Result<Vec<ServicePlan>, PlanFault>
     ensures ok { IfOk result (λ services. AllZip (IsRead IsServiceOf service_keys) (rows_of (table_view document.now) service_section) services.items) }
+    ensures names { OnOk result (IsDistinct same (names_of (table_view document.now) service_section)) }
+    ensures vids { IfOk result (λ services. IsDistinct nat_eq (map (λ s. s.vid) services.items)) }
     ensures tables { OnOk result (HasTables (table_view document.now) service_section) }
     ensures err { IfErr result (Refuses (table_view document.now)) }
 {

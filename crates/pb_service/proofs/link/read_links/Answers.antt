@@ -1,10 +1,12 @@
 use Rattle.std.proofs.Common.{ℕ, List, [], map, ◌∙◌, ap, arith}
 use Rattle.std.proofs.lemmas.Result.{err_from_is_err_and}
 use Rattle.std.specs.List.{flat_map}
+use Rattle.pb_frame.specs.Admission.{same}
 use Rattle.toml.specs.View.{table_view}
 use Rattle.pb_service.specs.Told.{rows_of}
 use Rattle.pb_service.proofs.Zips.{zip_next, zip_all}
 use Rattle.pb_service.proofs.Refusing.{memory_passed, table_passed, row_at}
+use Rattle.pb_service.proofs.Distinctness.{distinct_none, name_next, names_all, used_none}
 use Rattle.pb_service.specs.declared.section.Section.TheVariants.{Bridge, Link}
 use Rattle.pb_service.specs.Formats.{link_keys}
 use Rattle.pb_service.specs.Tables.{IsLinkOf, IsRead}
@@ -46,18 +48,32 @@ returns-in_err-use_ends-clause-err c =
     let rows = ap (map (λ t. table_view t.now)) c.as_slice-rows.ensures.value ∙ c.in_ok-rows.ensures.ok in
     let bridges = ap (map (λ n. n.now)) c.as_slice-bridges.ensures.value ∙ c.in_ok-bridge_names.ensures.ok in
     let at = row_at (table_view c.args.document.now) Link c.as_slice-rows.result.now c.loop-index.index _ _ rows c.loop-index-test.true c.index-rows-index.is in
-    let before = c.loop-index.invariant.1 ∙ ap (λ z. flat_map (link_ports (map (λ n. n.now) c.as_slice-bridges.result.now)) z) (first_rows (table_view c.args.document.now) Link c.as_slice-rows.result.now c.loop-index.index rows) in
+    let before = c.loop-index.invariant.used ∙ ap (λ z. flat_map (link_ports (map (λ n. n.now) c.as_slice-bridges.result.now)) z) (first_rows (table_view c.args.document.now) Link c.as_slice-rows.result.now c.loop-index.index rows) in
     ends_passed (table_view c.args.document.now) _ _ _ c.loop-index.index c.in_ok-link.link c.loop-index.used.items _ _ bridges at c.in_ok-link.ensures.ok before
     (err_from_is_err_and _ c.from_residual-in_err-use_ends.ensures.1) c.in_err-use_ends.ensures.err
 
+pub loop-index-init : goal.loop-index-init
+loop-index-init c = record {
+  read = rw c.new-links.ensures.items tt;
+  used = c.new-used.ensures.items;
+  names = distinct_none same;
+  once = used_none c.new-used.result.items c.new-used.ensures.items;
+}
+
 pub loop-index-preserved : goal.loop-index-preserved
-loop-index-preserved c = (
-  zip_next (λ r x. IsRead (IsLinkOf (map (λ n. n.now) c.as_slice-bridges.result.now) (map (λ n. n.now) c.as_slice-services.result.now)) link_keys (table_view r.now) x)
-      c.as_slice-rows.result.now c.loop-index.index _ _ _ _ _ c.loop-index-test.true c.index-rows-index.is c.loop-index.invariant.0
-      (record { accepted = c.in_ok-check_row.ensures.ok; told = c.in_ok-link.ensures.ok }) c.in_ok-put.ensures.ok,
-  flat_next (link_ports (map (λ n. n.now) c.as_slice-bridges.result.now)) c.as_slice-rows.result.now c.loop-index.index _ _ [] c.loop-index.used.items _ _ c.loop-index-test.true c.index-rows-index.is
-      c.loop-index.invariant.1 (ends_of_link _ _ _ c.in_ok-link.link c.in_ok-link.ensures.ok) c.in_ok-use_ends.ensures.ok,
-)
+loop-index-preserved c =
+    let rows = ap (map (λ t. table_view t.now)) c.as_slice-rows.ensures.value ∙ c.in_ok-rows.ensures.ok in
+    let names = ap (map (λ n. n.now)) c.as_slice-names.ensures.value ∙ c.in_ok-rows.ensures.names in
+    let at = row_at (table_view c.args.document.now) Link c.as_slice-rows.result.now c.loop-index.index _ _ rows c.loop-index-test.true c.index-rows-index.is in
+    record {
+      read = zip_next (λ r x. IsRead (IsLinkOf (map (λ n. n.now) c.as_slice-bridges.result.now) (map (λ n. n.now) c.as_slice-services.result.now)) link_keys (table_view r.now) x)
+          c.as_slice-rows.result.now c.loop-index.index _ _ _ _ _ c.loop-index-test.true c.index-rows-index.is c.loop-index.invariant.read
+          (record { accepted = c.in_ok-check_row.ensures.ok; told = c.in_ok-link.ensures.ok }) c.in_ok-put.ensures.ok;
+      used = flat_next (link_ports (map (λ n. n.now) c.as_slice-bridges.result.now)) c.as_slice-rows.result.now c.loop-index.index _ _ [] c.loop-index.used.items _ _ c.loop-index-test.true c.index-rows-index.is
+          c.loop-index.invariant.used (ends_of_link _ _ _ c.in_ok-link.link c.in_ok-link.ensures.ok) c.in_ok-use_ends.ensures.ok;
+      names = name_next (table_view c.args.document.now) Link c.as_slice-names.result.now c.loop-index.index _ names at c.in_ok-check_row.ensures.new c.loop-index.invariant.names;
+      once = c.in_ok-use_ends.ensures.once c.loop-index.invariant.once;
+    }
 
 pub returns-clause-ok : goal.returns-clause-ok
 returns-clause-ok c =
@@ -66,11 +82,16 @@ returns-clause-ok c =
     let services = ap (map (λ n. n.now)) c.as_slice-services.ensures.value ∙ c.in_ok-service_names.ensures.ok in
     links_whole (table_view c.args.document.now) _ _ c.loop-index.links.items bridges services
     (zip_all (IsRead (IsLinkOf (map (λ n. n.now) c.as_slice-bridges.result.now) (map (λ n. n.now) c.as_slice-services.result.now)) link_keys)
-    (table_view c.args.document.now) Link c.as_slice-rows.result.now c.loop-index.index _ (omega arith) rows c.loop-index.invariant.0)
+    (table_view c.args.document.now) Link c.as_slice-rows.result.now c.loop-index.index _ (omega arith) rows c.loop-index.invariant.read)
 
 pub returns-clause-used : goal.returns-clause-used
 returns-clause-used c =
     let rows = ap (map (λ t. table_view t.now)) c.as_slice-rows.ensures.value ∙ c.in_ok-rows.ensures.ok in
     let bridges = ap (map (λ n. n.now)) c.as_slice-bridges.ensures.value ∙ c.in_ok-bridge_names.ensures.ok in
-    flat_all (link_ports (map (λ n. n.now) c.as_slice-bridges.result.now)) (table_view c.args.document.now) Link c.as_slice-rows.result.now c.loop-index.index _ (omega arith) rows c.loop-index.invariant.1
+    flat_all (link_ports (map (λ n. n.now) c.as_slice-bridges.result.now)) (table_view c.args.document.now) Link c.as_slice-rows.result.now c.loop-index.index _ (omega arith) rows c.loop-index.invariant.used
     ∙ ap (λ (b : List (List ℕ)). flat_map (link_ports b) (rows_of (table_view c.args.document.now) Link)) bridges
+
+pub returns-clause-names : goal.returns-clause-names
+returns-clause-names c =
+    let rows = ap (map (λ t. table_view t.now)) c.as_slice-rows.ensures.value ∙ c.in_ok-rows.ensures.ok in
+    names_all (table_view c.args.document.now) Link c.as_slice-rows.result.now c.loop-index.index (omega arith) rows c.loop-index.invariant.names
