@@ -58,8 +58,8 @@ bridge = "B1"
 port = 2
 service = "red"
 kind = "capture"
-read = "faults.in"
-write = "faults.out"
+read = "p2.in"
+write = "p2.out"
 
 [[port]]
 name = "P3"
@@ -73,8 +73,8 @@ bridge = "B1"
 port = 1
 service = "red"
 kind = "capture"
-read = "faults.in"
-write = "faults.out"
+read = "p1.in"
+write = "p1.out"
 "#;
 
 /// One bridge with a capture, a socket and another capture.
@@ -93,8 +93,8 @@ bridge = "B1"
 port = 3
 service = "red"
 kind = "capture"
-read = "order.in"
-write = "order.out"
+read = "paths.in"
+write = "paths.out"
 
 [[port]]
 name = "P2"
@@ -102,7 +102,7 @@ bridge = "B1"
 port = 2
 service = "red"
 kind = "socket"
-path = "order.none"
+path = "paths.none"
 
 [[port]]
 name = "P1"
@@ -110,8 +110,34 @@ bridge = "B1"
 port = 1
 service = "red"
 kind = "capture"
-read = "order.in"
-write = "order.last"
+read = "paths.in"
+write = "paths.last"
+"#;
+
+/// One bridge with a memory port and a socket.
+pub(super) const SOCKET: &str = r#"
+[[bridge]]
+name = "B1"
+address = "02-00-00-00-00-01"
+
+[[service]]
+name = "red"
+vid = 100
+
+[[port]]
+name = "C1"
+bridge = "B1"
+port = 1
+service = "red"
+in = ["ffffffffffff02000000010108004142"]
+
+[[port]]
+name = "P2"
+bridge = "B1"
+port = 2
+service = "red"
+kind = "socket"
+path = "peer.sock"
 "#;
 
 /// One bridge with two ports, of which the first has a script, and nothing can be written to the other's file.
@@ -153,3 +179,7 @@ pub(super) const NO_TURN: &str = "[network]\nturns = 0\n";
 /// A capture of no frames.
 pub(super) const NO_FRAMES: &[u8] =
     b"\xd4\xc3\xb2\xa1\x02\0\x04\0\0\0\0\0\0\0\0\0\xff\xff\0\0\x01\0\0\0";
+
+/// A capture of one frame.
+pub(super) const ONE_FRAME: &[u8] =
+    b"\xd4\xc3\xb2\xa1\x02\0\x04\0\0\0\0\0\0\0\0\0\xff\xff\0\0\x01\0\0\0\0\0\0\0\0\0\0\0\x10\0\0\0\x10\0\0\0\xff\xff\xff\xff\xff\xff\x02\0\0\0\x01\x01\x08\0AB";
