@@ -53,6 +53,22 @@ struct Told {
     closed: u64,
 }
 
+/// A plan file of two parts.
+fn joined(alloc: Global, parts: [&str; 2]) -> Result<String, AllocError> {
+    let mut file = String::from_str(alloc, parts[0])?;
+    file.push_str(parts[1])?;
+    Ok(file)
+}
+
+/// What a run told, with what was counted.
+fn counted(outcome: Result<u8, NetworkFault>, traffic: &Traffic, door: &Door) -> Told {
+    Told {
+        result: outcome,
+        traffic: (traffic.entered(), traffic.left()),
+        closed: door.closed.load(Ordering::SeqCst),
+    }
+}
+
 /// Runs the network of a plan file of two parts.
 fn run<R, W: Write, E: Write>(
     rt: &R,
@@ -64,18 +80,13 @@ fn run<R, W: Write, E: Write>(
 where
     R: Files<File = File> + Net + Threads + Wait + Clock + Sync,
 {
-    let mut file = String::from_str(alloc, parts[0])?;
-    file.push_str(parts[1])?;
+    let file = joined(alloc, parts)?;
     let traffic = Arc::new(alloc, Traffic::new())?;
     let door = Door {
         closed: AtomicU64::new(0),
     };
     let result = run_network(rt, alloc, file.as_bytes(), &traffic, &door, writer, errors);
-    Ok(Told {
-        result,
-        traffic: (traffic.entered(), traffic.left()),
-        closed: door.closed.load(Ordering::SeqCst),
-    })
+    Ok(counted(result, &traffic, &door))
 }
 
 /// A plan file, and what its network tells and writes. It has nothing to tell on the error writer.
@@ -93,7 +104,11 @@ where
     let (mut output, mut errors) = (Vec::new(alloc), Vec::new(alloc));
     let told = run(rt, alloc, row.parts, &mut output, &mut errors)?;
     assert_eq!(rt; told, row.told, "{}", row.report);
-    assert!(rt; output.as_slice() == row.report.as_bytes(), "{}", row.report);
+    assert!(rt;
+        output.as_slice() == row.report.as_bytes(),
+        "{}",
+        row.report
+    );
     assert!(rt; errors.is_empty(), "{}", row.report);
     Ok(())
 }

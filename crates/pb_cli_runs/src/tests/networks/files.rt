@@ -66,7 +66,11 @@ fn captures_are_carried_and_their_faults_told(rt: HostRuntime) -> Result<(), Fai
         fs::write(&rt, "p1.in", captures.read[1])?;
         check(&rt, rt.alloc(), &captures.row)?;
         let wrote = fs::read(&rt, "p1.out")?;
-        assert!(rt; wrote.as_slice() == captures.wrote, "{}", captures.row.report);
+        assert!(rt;
+            wrote.as_slice() == captures.wrote,
+            "{}",
+            captures.row.report
+        );
     }
     leave(&rt, folder)?;
     Ok(())

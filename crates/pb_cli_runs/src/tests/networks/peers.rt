@@ -4,12 +4,11 @@ use super::folder::{enter, leave};
 use super::plans::SOCKET;
 use super::{Told, run};
 use std::alloc::Global;
-use std::io;
 use std::io::{Read, Write};
 use std::net::Shutdown;
 use std::os::unix::net::{UnixListener, UnixStream};
 use std::test::Fail;
-use std::thread;
+use std::{io, thread};
 
 /// A frame behind its length, which the peer sends.
 const SENT: &[u8] = b"\0\x10\xff\xff\xff\xff\xff\xff\x02\0\0\0\x01\x02\x08\0CD";

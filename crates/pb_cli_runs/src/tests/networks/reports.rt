@@ -58,7 +58,13 @@ fn runs_over_memory_are_reported(rt: HostRuntime) -> Result<(), Fail> {
 fn a_report_that_cannot_be_written_is_told(rt: HostRuntime) -> Result<(), Fail> {
     for (front, closed) in [("", 1u64), (NO_TURN, 0)] {
         let parts = [front, LOSSY];
-        let told = run(&rt, rt.alloc(), parts, &mut Full { room: 5 }, &mut Unflushed)?;
+        let told = run(
+            &rt,
+            rt.alloc(),
+            parts,
+            &mut Full { room: 5 },
+            &mut Unflushed,
+        )?;
         assert_eq!(rt; told.result, Err(NetworkFault::Write));
         assert_eq!(rt; told.closed, closed);
     }
