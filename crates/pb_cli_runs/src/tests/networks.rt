@@ -69,6 +69,22 @@ fn counted(outcome: Result<u8, NetworkFault>, traffic: &Traffic, door: &Door) ->
     }
 }
 
+/// Runs the network of a plan file. It says nothing of what is written: the tests look at that.
+fn carry<R, W: Write, E: Write>(
+    rt: &R,
+    alloc: Global,
+    file: &str,
+    traffic: &Arc<Traffic, Global>,
+    door: &Door,
+    writer: &mut W,
+    errors: &mut E,
+) -> Result<u8, NetworkFault>
+where
+    R: Files<File = File> + Net + Threads + Wait + Clock + Sync,
+{
+    run_network(rt, alloc, file.as_bytes(), traffic, door, writer, errors)
+}
+
 /// Runs the network of a plan file of two parts.
 fn run<R, W: Write, E: Write>(
     rt: &R,
@@ -85,7 +101,7 @@ where
     let door = Door {
         closed: AtomicU64::new(0),
     };
-    let result = run_network(rt, alloc, file.as_bytes(), &traffic, &door, writer, errors);
+    let result = carry(rt, alloc, file.as_str(), &traffic, &door, writer, errors);
     Ok(counted(result, &traffic, &door))
 }
 
