@@ -1,4 +1,5 @@
 mod check;
+mod networks;
 mod steps;
 
 use bytes::Bytes;

@@ -1,0 +1,185 @@
+//! Plan files of networks that are run.
+
+/// Two bridges, a link that loses its second item, and three ports of one service, the first with a script.
+pub(super) const LOSSY: &str = r#"
+[[bridge]]
+name = "B1"
+address = "02-00-00-00-00-01"
+
+[[bridge]]
+name = "B2"
+address = "02-00-00-00-00-02"
+
+[[link]]
+name = "L1"
+a = "B1"
+a_port = 1
+b = "B2"
+b_port = 1
+lost_ab = [1]
+
+[[service]]
+name = "red"
+vid = 100
+
+[[port]]
+name = "C1"
+bridge = "B1"
+port = 2
+service = "red"
+in = ["ffffffffffff02000000010108004100", "ffffffffffff02000000010108004101", "ffffffffffff02000000010108004102"]
+
+[[port]]
+name = "C2"
+bridge = "B2"
+port = 2
+service = "red"
+
+[[port]]
+name = "C3"
+bridge = "B2"
+port = 3
+service = "red"
+"#;
+
+/// One bridge with a memory port between two captures.
+pub(super) const CAPTURES: &str = r#"
+[[bridge]]
+name = "B1"
+address = "02-00-00-00-00-01"
+
+[[service]]
+name = "red"
+vid = 100
+
+[[port]]
+name = "P2"
+bridge = "B1"
+port = 2
+service = "red"
+kind = "capture"
+read = "p2.in"
+write = "p2.out"
+
+[[port]]
+name = "P3"
+bridge = "B1"
+port = 3
+service = "red"
+
+[[port]]
+name = "P1"
+bridge = "B1"
+port = 1
+service = "red"
+kind = "capture"
+read = "p1.in"
+write = "p1.out"
+"#;
+
+/// One bridge with a capture, a socket and another capture.
+pub(super) const PATHS: &str = r#"
+[[bridge]]
+name = "B1"
+address = "02-00-00-00-00-01"
+
+[[service]]
+name = "red"
+vid = 100
+
+[[port]]
+name = "P3"
+bridge = "B1"
+port = 3
+service = "red"
+kind = "capture"
+read = "paths.in"
+write = "paths.out"
+
+[[port]]
+name = "P2"
+bridge = "B1"
+port = 2
+service = "red"
+kind = "socket"
+path = "paths.none"
+
+[[port]]
+name = "P1"
+bridge = "B1"
+port = 1
+service = "red"
+kind = "capture"
+read = "paths.in"
+write = "paths.last"
+"#;
+
+/// One bridge with a memory port and a socket.
+pub(super) const SOCKET: &str = r#"
+[[bridge]]
+name = "B1"
+address = "02-00-00-00-00-01"
+
+[[service]]
+name = "red"
+vid = 100
+
+[[port]]
+name = "C1"
+bridge = "B1"
+port = 1
+service = "red"
+in = ["ffffffffffff02000000010108004142"]
+
+[[port]]
+name = "P2"
+bridge = "B1"
+port = 2
+service = "red"
+kind = "socket"
+path = "peer.sock"
+"#;
+
+/// One bridge with two ports, of which the first has a script, and nothing can be written to the other's file.
+pub(super) const FULL: &str = r#"
+[[bridge]]
+name = "B1"
+address = "02-00-00-00-00-01"
+
+[[service]]
+name = "red"
+vid = 100
+
+[[port]]
+name = "C1"
+bridge = "B1"
+port = 1
+service = "red"
+in = ["ffffffffffff02000000010108004100", "ffffffffffff02000000010108004101", "ffffffffffff02000000010108004102"]
+
+[[port]]
+name = "C2"
+bridge = "B1"
+port = 2
+service = "red"
+kind = "capture"
+read = "full.in"
+write = "/dev/full"
+"#;
+
+/// A limit of one step, in front of a plan file.
+pub(super) const ONE_STEP: &str = "[network]\nsteps = 1\n";
+
+/// Bridges that decide their own spanning tree, in front of a plan file.
+pub(super) const RSTP: &str = "[network]\nspanning = \"rstp\"\n";
+
+/// A limit that no network may have, in front of a plan file.
+pub(super) const NO_TURN: &str = "[network]\nturns = 0\n";
+
+/// A capture of no frames.
+pub(super) const NO_FRAMES: &[u8] =
+    b"\xd4\xc3\xb2\xa1\x02\0\x04\0\0\0\0\0\0\0\0\0\xff\xff\0\0\x01\0\0\0";
+
+/// A capture of one frame.
+pub(super) const ONE_FRAME: &[u8] =
+    b"\xd4\xc3\xb2\xa1\x02\0\x04\0\0\0\0\0\0\0\0\0\xff\xff\0\0\x01\0\0\0\0\0\0\0\0\0\0\0\x10\0\0\0\x10\0\0\0\xff\xff\xff\xff\xff\xff\x02\0\0\0\x01\x01\x08\0AB";
