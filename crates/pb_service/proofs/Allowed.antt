@@ -98,7 +98,7 @@ listed_numbers count names listed h =
     (all.1, All-imply (λ m. (1 ≤ m) × (m < 1 + length names)) (λ m. IsNumber m count) (λ m l. (l.0, omega arith)) (listed_from 1 names listed) all.0)
 
 -- the number of the thing with a name
-number_below : (n : ℕ) (names : List (List ℕ)) (name : List ℕ) (k : ℕ) → number_from n names name ≡ Some k → (n ≤ k) × (k < n + length names)
+pub number_below : (n : ℕ) (names : List (List ℕ)) (name : List ℕ) (k : ℕ) → number_from n names name ≡ Some k → (n ≤ k) × (k < n + length names)
 number_below n [] name k e = absurd cc
 number_below n (x ∷ names) name k e =
     elim (cases_Bool (same name x)) [

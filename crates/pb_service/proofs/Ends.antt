@@ -2,10 +2,8 @@
 use Rattle.std.proofs.Common.{◌≡◌, ℕ, ◌+◌, ◌<◌, ◌≤◌, true, List, [], ◌∷◌, ◌++◌, zero, suc, length, get_or, map, take, drop, Some, Result, Err, IfErr, Bor, refl, sym, ap, subst, ◌∙◌, append_assoc, arith, inl, inr}
 use Rattle.std.specs.Prelude.{◌⊎◌, slice_get, codes}
 use Rattle.std.specs.List.{AllZip, flat_map}
-use Rattle.std.proofs.lemmas.Bool.{cases_Bool}
 use Rattle.std.proofs.lemmas.Grind.{flat_map-append}
 use Rattle.std.proofs.lemmas.List.{take_more, take_all, map-append, length-map, take-map}
-use Rattle.pb_frame.specs.Admission.{same}
 use Rattle.pb_lan.specs.declared.plan.LinkPlan.{LinkPlan}
 use Rattle.pb_lan.specs.declared.plan.CustomerPlan.{CustomerPlan}
 use Rattle.toml.specs.Data.{Members}
@@ -17,11 +15,12 @@ use Rattle.pb_service.specs.declared.section.Section.TheVariants.{Bridge, Link, 
 use Rattle.pb_service.specs.declared.used.LocalPort.{LocalPort}
 use Rattle.pb_service.specs.Sections.{most_of}
 use Rattle.pb_service.specs.Formats.{link_keys}
-use Rattle.pb_service.specs.Told.{rows_of, number_from}
+use Rattle.pb_service.specs.Told.{rows_of}
 use Rattle.pb_service.specs.Tables.{IsLinkOf, IsCustomerOf, IsRead, IsReadPort}
 use Rattle.pb_service.specs.UsedPorts.{is_used, port_of}
 use Rattle.pb_service.specs.Refusals.{Refuses, HasTables, LinkLacks, CustomerLacks, link_ports, customer_ports, names_of, used_twice, no_bridge, no_service, no_listed, no_memory}
 use Rattle.pb_service.proofs.Refusing.{Table, passed_on}
+use Rattle.pb_service.proofs.Allowed.{number_below}
 
 -- a list has few names where its array is not too long
 pub few_names : (document : Members) (section : Section) (names : List (Bor (List ℕ))) → HasTables document section → map (λ n. n.now) names ≡ names_of document section → length names ≤ most_of section
@@ -29,14 +28,6 @@ few_names document section names h e =
     let a : length names ≡ length (names_of document section) = sym (length-map names (λ n. n.now)) ∙ ap length e in
     let b : length (names_of document section) ≡ length (rows_of document section) = length-map (rows_of document section) _ in
     omega (arith, h.few)
-
-number_above : (n : ℕ) (names : List (List ℕ)) (name : List ℕ) (k : ℕ) → number_from n names name ≡ Some k → n ≤ k
-number_above n [] name k e = absurd cc
-number_above n (x ∷ names) name k e =
-    elim (cases_Bool (same name x)) [
-      | inl this ↦ let s : Some n ≡ Some k = rw this at e in let m : n ≡ k = cc in omega arith
-      | inr other ↦ let s : number_from (suc n) names name ≡ Some k = rw other at e in omega (arith, number_above (suc n) names name k s)
-    ]
 
 split_at : {X : Type 0} (xs : List X) (i : ℕ) (x : X) → slice_get xs i ≡ Some x → xs ≡ take i xs ++ x ∷ drop (suc i) xs
 split_at [] i x h = absurd cc
@@ -93,8 +84,8 @@ ends_refused document row i services l used e at told before (inr (t, twice)) =
     let rest = flat_map (link_ports (names_of document Bridge)) (drop (suc i) (rows_of document Link)) ++ flat_map (customer_ports (names_of document Bridge)) (rows_of document Port) in
     let whole = split_ports (link_ports (names_of document Bridge)) (customer_ports (names_of document Bridge)) (rows_of document Link) (rows_of document Port) i row used
     (port_of l.a ∷ port_of l.b ∷ []) at before (ends_of_link (names_of document Bridge) services row l told) in
-    let low_a : 1 ≤ l.a.bridge = number_above 1 (names_of document Bridge) _ l.a.bridge told.a_bridge in
-    let low_b : 1 ≤ l.b.bridge = number_above 1 (names_of document Bridge) _ l.b.bridge told.b_bridge in
+    let low_a : 1 ≤ l.a.bridge = (number_below 1 (names_of document Bridge) _ l.a.bridge told.a_bridge).0 in
+    let low_b : 1 ≤ l.b.bridge = (number_below 1 (names_of document Bridge) _ l.b.bridge told.b_bridge).0 in
     rw t (elim twice [
       | inl first ↦ used_twice document (port_of l.a) (record { before = used; behind = port_of l.b ∷ rest; stands = whole; again = first; bridge = low_a })
       | inr second ↦ used_twice document (port_of l.b) (record { before = used ++ port_of l.a ∷ []; behind = rest; stands = whole ∙ sym (append_assoc used (port_of l.a ∷ []) (port_of l.b ∷ rest)); again = second; bridge = low_b })
@@ -111,7 +102,7 @@ port_refused document row i services c used e at told before (inr (t, twice)) =
     let rest = flat_map (customer_ports (names_of document Bridge)) (drop (suc i) (rows_of document Port)) in
     let whole = split_last (link_ports (names_of document Bridge)) (customer_ports (names_of document Bridge)) (rows_of document Link) (rows_of document Port) i row used
     (p ∷ []) at before (port_of_customer (names_of document Bridge) services row c told) in
-    let low : 1 ≤ c.bridge = number_above 1 (names_of document Bridge) _ c.bridge told.bridge in
+    let low : 1 ≤ c.bridge = (number_below 1 (names_of document Bridge) _ c.bridge told.bridge).0 in
     rw t (used_twice document p (record { before = used; behind = rest; stands = whole; again = twice; bridge = low }))
 
 -- a link names what isn't there
