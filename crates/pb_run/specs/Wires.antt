@@ -31,14 +31,14 @@ AreNamed {T} {A} {P} names rings =
 abbrev pub IsThere : {X : Type 0} → List (Option X) → ℕ → Type 0
 IsThere {X} ends n = (x : X) × (slice_get ends n ≡ Some (Some x))
 
--- nor have the two ends that a bridge has at a local port, which are known by both numbers
+-- a bridge's two ends at a local port have not been given away, by the numbers of both
 pub record HasInner {X Y : Type 0} (outlets : List (Option X)) (inlets : List (Option Y)) (at : ℕ × ℕ) : Type 0 where
   pub bridge : 1 ≤ at.0
   pub port : IsNumber at.1 16
   pub receiving : IsThere inlets (ring_into at.0 at.1)
   pub sending : IsThere outlets (ring_out at.0 at.1)
 
--- nor have the other two ends of the rings there
+-- the other two ends of the rings at a bridge's local port have not been given away
 pub record HasOuter {X Y : Type 0} (outlets : List (Option X)) (inlets : List (Option Y)) (at : ℕ × ℕ) : Type 0 where
   pub bridge : 1 ≤ at.0
   pub port : IsNumber at.1 16

@@ -24,7 +24,7 @@ use std::collections::VecDeque;
 /// The places of a run without their ports outside: customer ports, lanes and bridges.
 pub(crate) type Built<W> = (VecDeque<Desk<W>>, Vec<LaneWorker<W>>, Vec<BridgeWorker<W>>);
 
-/// The ends that a bridge has: through those it receives, through these it sends.
+/// The ends that a bridge has, by local port: those through which it receives, and those through which it sends.
 fn sides_of<W: Wiring>(
     alloc: Global,
     ends: &mut Ends<W>,
