@@ -12,16 +12,20 @@ use Rattle.pb_relay.specs.Protocol.{spanning_tree}
 use Rattle.pb_run.specs.Runs.{TellsEnded}
 use Rattle.pb_run.specs.declared.desk.Last.{Last}
 use Rattle.pb_run.specs.declared.ended.Ended.{Ended}
+use Rattle.pb_service.specs.PlanFiles.{Tells, IsPlanOf}
+use Rattle.pb_service.specs.declared.port_spec.PortSpec.{PortSpec}
 use Rattle.pb_cli.specs.Reports.{IsRunReport}
-use Rattle.pb_cli.specs.Scripts.{IsToldBy, PrintsRefusal}
+use Rattle.pb_cli.specs.Scripted.{AreScripted}
+use Rattle.pb_cli.specs.Scripts.{PrintsRefusal}
 
--- a plan has run: what its places did is a lawful record with the promises of every run, and the report tells
--- of that record
-pub record PrintsRan (plan : Plan) (status : ℕ) (before after : Option (List ℕ)) : Type 0 where
+-- a plan has run with its ports: what its places did is a lawful record with the promises of every run, what
+-- entered is what the ports had to give, and the report tells of that record
+pub record PrintsRan (plan : Plan) (specs : List PortSpec) (status : ℕ) (before after : Option (List ℕ)) : Type 0 where
   pub rec : Record
   pub lawful : IsLawfulRecord spanning_tree plan rec
   pub headline : IsFaithful plan rec
   pub lasts : List Last
+  pub scripted : AreScripted specs rec.customers lasts
   pub ended : Ended
   pub tells_ended : TellsEnded plan rec lasts ended
   pub settled : Result (Option Bool) Memory
@@ -29,11 +33,12 @@ pub record PrintsRan (plan : Plan) (status : ℕ) (before after : Option (List �
   pub written : Appends before after text
   pub is_report : IsRunReport plan rec ended settled lasts status text
 
--- the plan that the file tells has run
+-- the plan that the file tells has run with the ports that it tells
 pub record PrintsRunOf (file : List ℕ) (status : ℕ) (before after : Option (List ℕ)) : Type 0 where
   pub plan : Plan
-  pub told : IsToldBy file plan
-  pub prints : PrintsRan plan status before after
+  pub specs : List PortSpec
+  pub told : Tells file (λ document. IsPlanOf document plan specs)
+  pub prints : PrintsRan plan specs status before after
 
 -- what is written for a file, with the program's exit status
 abbrev pub PrintsNetwork : List ℕ → ℕ → Option (List ℕ) → Option (List ℕ) → Type 0

@@ -5,9 +5,11 @@ ghost use Rattle.std.specs.Io.KnownBytes.{Appends};
 ghost use Rattle.pb_lan.specs.Plans.{IsSound};
 ghost use Rattle.pb_relay.specs.Settled.{TellsSettled};
 ghost use Rattle.pb_service.specs.PlanFiles.{Tells, IsPlanOf, RefusesFile};
+ghost use Rattle.pb_service.specs.declared.port_spec.PortSpec.{PortSpec};
 ghost use Rattle.pb_cli.specs.Checks.{refusal_line};
 ghost use Rattle.pb_cli.specs.Networks.{PrintsRan, PrintsNetwork};
 ghost use Rattle.pb_cli.specs.Reports.{IsRunReport};
+ghost use Rattle.pb_cli.specs.Scripted.{script_at, script_in};
 
 use crate::network_fault::NetworkFault;
 use crate::outside::{SystemPort, open_ports};
@@ -106,7 +108,8 @@ where
     R: Threads + Wait + Clock + Sync,
     requires sound { IsSound plan.now }
     requires count { vec_len ports ≡ length plan.now.customers }
-    ensures ok { IfOk result (λ status. PrintsRan plan.now status (W.contents writer.old) (W.contents writer.new)) }
+    ensures ok { IfOk result (λ status. (specs : List PortSpec) → map (λ w. script_at w.port) ports.items ≡ map script_in specs
+        → PrintsRan plan.now specs status (W.contents writer.old) (W.contents writer.new)) }
     ensures err { IfErr result (λ e. e ≡ NetworkFault.Ports → ⊥) }
 {
     let mut held: Vec<Held> = Vec::with_capacity(alloc, ports.len())?;
