@@ -94,10 +94,10 @@ for thread in threads:
 CLIENT
 }
 
-# Seconds that a command takes.
+# Seconds that a command takes. What it says on standard error is kept apart.
 seconds_of() {
     TIMEFORMAT=%R
-    { time "$@" >"$folder/out"; } 2>&1
+    { time "$@" >"$folder/out" 2>"$folder/errors"; } 2>&1
 }
 
 # Runs a plan, and prints how many frames were delivered a second. What the seconds count that a plan file takes
@@ -119,6 +119,7 @@ measure() {
             printf "%s: %d frames delivered, %.0f a second on %d cores (ended %s, %s s, of which %s s read the plan)\n",
                 name, left, left / (spent > 0.001 ? spent : 0.001), cores, ended, seconds, reading
         }' "$folder/out"
+    cat -- "$folder/errors"
 }
 
 ./pbnet --help >/dev/null
