@@ -3,6 +3,7 @@ use Rattle.std.proofs.Common.{◌≡◌, ℕ, ◌+◌, ◌-◌, ◌≤◌, Bool,
 use Rattle.std.specs.List.{AllByRecursion}
 use Rattle.std.specs.declared.option.Option.{Option}
 use Rattle.pb_frame.proofs.Lists.{All-append}
+use Rattle.pb_frame.specs.Hex.{IsHex}
 use Rattle.pb_lan.specs.BridgeLists.{IsLawfulBridge}
 use Rattle.pb_relay.specs.Protocol.{spanning_tree}
 use Rattle.pb_lan.specs.declared.plan.Plan.{Plan}
@@ -11,7 +12,7 @@ use Rattle.pb_lan.specs.declared.step.Step.{Step}
 use Rattle.pb_lan.specs.declared.step.Step.TheVariants.{Receive}
 use Rattle.pb_relay.specs.Standing.{BridgeView}
 use Rattle.pb_cli.specs.FlatPlans.{flat_plan}
-use Rattle.pb_cli.specs.Quiet.{IsQuiet, IsDraining, IsReceive, HasAdmitted, Tells, arriving, newest}
+use Rattle.pb_cli.specs.Quiet.{IsQuiet, IsDraining, IsToldBy, HasAdmitted, Tells, arriving, newest}
 use Rattle.pb_cli.specs.Receipts.{Receipt, receipts, receipt_by, IsClear}
 use Rattle.pb_cli.specs.Switches.{SwitchView, HasHandled}
 use Rattle.pb_cli.proofs.DrainLaws.{quiet_again}
@@ -43,8 +44,8 @@ pub newest_admitted : (port : ℕ) (frame : List ℕ) (old new : BridgeView) →
 newest_admitted port frame old new (outcome, (learnt, moved, appended, fits)) =
     ap (λ (b : BridgeView). newest b.steps) appended ∙ newest-more old.steps (Receive port (arriving frame) learnt outcome moved)
 
-pub received_admitted : (port : ℕ) (frame : List ℕ) (old new : BridgeView) → HasAdmitted port frame old new → IsReceive (newest new.steps)
-received_admitted port frame old new adm = subst IsReceive (sym (newest_admitted port frame old new adm)) tt
+pub received_admitted : (port : ℕ) (frame digits : List ℕ) (old new : BridgeView) → IsHex digits frame → HasAdmitted port frame old new → IsToldBy digits (newest new.steps)
+received_admitted port frame digits old new hex adm = subst (IsToldBy digits) (sym (newest_admitted port frame old new adm)) hex
 
 -- one frame more was received
 pub told_admitted : (port : ℕ) (frame : List ℕ) (old new : BridgeView) → (adm : HasAdmitted port frame old new)

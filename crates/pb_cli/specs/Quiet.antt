@@ -2,6 +2,7 @@
 use Rattle.std.specs.Prelude.{◌≡◌, ℕ, ◌+◌, ◌-◌, ◌*◌, ◌<◌, ◌≤◌, List, ◌++◌, Some, None, length, slice_get, nat_lt, if◌then◌else◌}
 use Rattle.std.specs.declared.option.Option.{Option}
 use Rattle.std.specs.List.{AllByRecursion}
+use Rattle.pb_frame.specs.Hex.{IsHex}
 use Rattle.pb_lan.specs.Queues.{waiting}
 use Rattle.pb_lan.specs.declared.step.Item.{Item}
 use Rattle.pb_lan.specs.declared.step.Outcome.{Outcome}
@@ -40,9 +41,10 @@ HasAdmitted port frame old new = (outcome : Outcome) × HasReceived old port (ar
 abbrev pub newest : List Step → Option Step
 newest steps = slice_get steps (length steps - 1)
 
-abbrev pub IsReceive : Option Step → Type 0
-IsReceive (Some (Receive port item learnt outcome moved)) = Unit {0}
-IsReceive _ = ⊥
+-- the newest step received a frame, and these are its digits
+abbrev pub IsToldBy : List ℕ → Option Step → Type 0
+IsToldBy digits (Some (Receive port item learnt outcome moved)) = IsHex digits item.wire
+IsToldBy digits _ = ⊥
 
 -- what the newest step tells was printed, and it tells of no want of memory
 abbrev pub Tells : Option Step → List ℕ → List ℕ → Type 0

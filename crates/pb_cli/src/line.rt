@@ -1,17 +1,18 @@
 //! Lines that hand a frame to a port.
 
 ghost use Rattle.std.specs.Prelude.{◌≡◌, ◌+◌, ◌<◌, ◌≤◌, ◌≢◌, ◌^◌, ◌++◌, ◌∷◌, [], ℕ, List, length, take, drop, slice_index, codes, IfOk, IfSome, IfNone};
+ghost use Rattle.pb_frame.specs.Hex.{IsHex};
 ghost use Rattle.pb_cli.specs.Words.{port_of, HasNoSpace, IsFrameLine};
 
-use bytes::Bytes;
-use pb_frame::{HexFault, Memory, hex_octets};
-use std::alloc::Global;
+use bytes::{Bytes, BytesMut};
+use pb_frame::{HexFault, Memory, hex_octets_in};
 
-/// A frame and the port at which it comes in.
+/// A frame, the port at which it comes in, and the digits that told it.
 #[derive(Drop)]
-pub(crate) struct Handed {
+pub(crate) struct Handed<'a> {
     pub port: u8,
     pub frame: Bytes,
+    pub digits: &'a [u8],
 }
 
 /// What a port's digits say: one to three, the first not 0.
@@ -39,15 +40,18 @@ fn split_at_space(text: &[u8]) -> Option<(&[u8], &[u8])>
 
 /// Reads the line `in PORT HEX`: one space each, PORT from 1 to `ports` in decimal without leading
 /// zeros, and HEX one pair of hexadecimal digits at least, in either case. Any other line, and one
-/// of more than `limit` octets, is none.
-pub(crate) fn read_frame_line(
-    alloc: Global,
+/// of more than `limit` octets, is none. The frame takes room of a buffer in which nothing stands.
+pub(crate) fn read_frame_line<'a>(
+    frames: &mut BytesMut,
     limit: usize,
     ports: u8,
-    line: &[u8],
-) -> Result<Option<Handed>, Memory>
+    line: &'a [u8],
+) -> Result<Option<Handed<'a>>, Memory>
+    requires { frames.old.items ≡ [] }
+    ensures empty { frames.new.items ≡ [] }
     ensures some { IfOk result (λ o. IfSome o (λ h. IsFrameLine limit ports line.now h.port h.frame)) }
     ensures first { IfOk result (λ o. IfSome o (λ h. 1 ≤ h.port)) }
+    ensures digits { IfOk result (λ o. IfSome o (λ h. IsHex h.digits.now h.frame)) }
     ensures none { IfOk result (λ o. IfNone o ((port : ℕ) (frame : List ℕ) → IsFrameLine limit ports line.now port frame → ⊥)) }
 {
     if line.len() > limit || !line.starts_with(b"in ") {
@@ -65,10 +69,11 @@ pub(crate) fn read_frame_line(
     if hex.is_empty() {
         return Ok(None);
     }
-    match hex_octets(alloc, hex) {
+    match hex_octets_in(frames, hex) {
         Ok(frame) => Ok(Some(Handed {
             port: port as u8,
             frame,
+            digits: hex,
         })),
         Err(HexFault::Memory) => Err(Memory),
         Err(HexFault::Digit) => Ok(None),

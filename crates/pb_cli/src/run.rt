@@ -1,6 +1,6 @@
 //! One bridge, driven by lines of text.
 
-ghost use Rattle.std.specs.Prelude.{◌≡◌, ◌≢◌, ◌<◌, ◌≤◌, ◌^◌, ◌++◌, [], ℕ, List, length, true, string_bytes, IsErrOf, OnOk, IfErr};
+ghost use Rattle.std.specs.Prelude.{◌≡◌, ◌≢◌, ◌<◌, ◌≤◌, ◌^◌, ◌++◌, [], ℕ, List, length, true, IsErrOf, OnOk, IfErr};
 ghost use Rattle.std.specs.Io.KnownBytes.{Keeps};
 ghost use Rattle.pb_lines.specs.Reader.{held, limit_of};
 ghost use Rattle.pb_cli.specs.Answers.{Answer};
@@ -10,8 +10,9 @@ ghost use Rattle.pb_cli.specs.Progress.{Prints, PrintsBeginning};
 
 use crate::fault::FlatFault;
 use crate::line::read_frame_line;
-use crate::print::put_bad;
+use crate::print::append_bad;
 use crate::switch::Switch;
+use bytes::BytesMut;
 use pb_lines::{Found, LineReader};
 use std::alloc::Global;
 use std::io::{Read, Write};
@@ -19,31 +20,34 @@ use std::io::{Read, Write};
 /// The most octets of a line that is read, without its LF.
 pub const MAX_LINE: usize = 140_000;
 
-/// Puts the answer to one line behind a text.
+/// Puts the answer to one line behind a text. Its frame takes room of a buffer in which nothing stands.
 fn answer(
-    alloc: Global,
     limit: usize,
     ports: u8,
     number: u64,
     line: &[u8],
+    frames: &mut BytesMut,
     switch: &mut Switch,
-    out: &mut String,
+    out: &mut Vec<u8>,
 ) -> Result<(), FlatFault>
+    requires frames { frames.old.items ≡ [] }
     requires ports { ports ≡ switch.old.ports }
     requires ready { switch.old.is_ready ≡ true }
+    ensures frames { frames.new.items ≡ [] }
     ensures ready { OnOk result (switch.new.is_ready ≡ true) }
     ensures steps { IsErrOf result FlatFault.Steps → 62500 ≤ length (receipts switch.old.steps) }
     ensures ports { OnOk result (switch.new.ports ≡ ports) }
     ensures past { OnOk result (IsFlatPast ports switch.old.steps → IsFlatPast ports switch.new.steps) }
-    ensures ok { OnOk result ((text : List ℕ) × (string_bytes out.new ≡ string_bytes out.old ++ text)
+    ensures ok { OnOk result ((text : List ℕ) × (out.new.items ≡ out.old.items ++ text)
         × Answer limit ports number line.now (receipts switch.old.steps) (receipts switch.new.steps) text) }
 {
     if line.is_empty() {
         return Ok(());
     }
-    match read_frame_line(alloc, limit, ports, line)? {
-        None => put_bad(out, number)?,
-        Some(handed) => switch.handle(alloc, handed.port, handed.frame, out)?,
+    let alloc = *frames.allocator();
+    match read_frame_line(frames, limit, ports, line)? {
+        None => append_bad(alloc, out, number)?,
+        Some(handed) => switch.handle(alloc, handed.port, handed.frame, handed.digits, out)?,
     }
     Ok(())
 }
@@ -79,7 +83,8 @@ fn answer_lines<R: Read, W: Write>(
     ensures part { IfErr result (λ e. e ≢ FlatFault.Write →
         PrintsBeginning e limit ports (R.remaining reader.old) (W.contents writer.old) (W.contents writer.new)) }
 {
-    let mut out = String::new(alloc);
+    let mut out = Vec::new(alloc);
+    let mut frames = BytesMut::new(alloc);
     for number in 1..u64::MAX {
         let found = lines.next(reader)?;
         if found == Found::End {
@@ -88,8 +93,8 @@ fn answer_lines<R: Read, W: Write>(
         }
         out.clear();
         let line = lines.line();
-        answer(alloc, limit, ports, number, line, switch, &mut out)?;
-        if writer.write_all(out.as_bytes()).is_err() {
+        answer(limit, ports, number, line, &mut frames, switch, &mut out)?;
+        if writer.write_all(out.as_slice()).is_err() {
             return Err(FlatFault::Write);
         }
         if found == Found::Last {

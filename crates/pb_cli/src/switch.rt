@@ -1,12 +1,13 @@
 //! One bridge that stands alone.
 
-ghost use Rattle.std.specs.Prelude.{◌≡◌, ◌≤◌, ◌<◌, ◌+◌, ◌*◌, ◌⊎◌, [], true, false, length, string_bytes, IfErr, OnOk, IsErrOf, IfOk};
+ghost use Rattle.std.specs.Prelude.{◌≡◌, ◌≤◌, ◌<◌, ◌+◌, ◌*◌, ◌⊎◌, [], true, false, length, IfErr, OnOk, IsErrOf, IfOk};
+ghost use Rattle.pb_frame.specs.Hex.{IsHex};
 ghost use Rattle.pb_lan.specs.BridgeLists.{IsLawfulBridge};
 ghost use Rattle.pb_lan.specs.Ports.{port_at, is_used};
 ghost use Rattle.pb_relay.specs.Protocol.{spanning_tree};
 ghost use Rattle.pb_cli.specs.Faults.{of_bridge};
 ghost use Rattle.pb_cli.specs.FlatPlans.{flat_plan};
-ghost use Rattle.pb_cli.specs.Quiet.{IsQuiet, IsAlone, HasAdmitted, IsReceive, IsWaiting, IsDraining, HasDrained, Tells, newest, waits};
+ghost use Rattle.pb_cli.specs.Quiet.{IsQuiet, IsAlone, HasAdmitted, IsToldBy, IsWaiting, IsDraining, HasDrained, Tells, newest, waits};
 ghost use Rattle.pb_cli.specs.Receipts.{receipts, IsClearOutcome};
 ghost use Rattle.pb_cli.specs.Switches.{HasHandled};
 
@@ -39,6 +40,9 @@ impl Model for Switch {
 
     ghost invariant = { λ s. (2 ≤ s.ports) × (s.ports ≤ 16) × (s.is_ready ≡ true → IsQuiet s.ports s.bridge) };
 }
+
+/// For how many steps room is asked for at first: as many as a bridge takes at most.
+const EXPECTED_STEPS: usize = 1_000_000;
 
 /// What ends a run where the bridge can take no step.
 fn fault_of(fault: BridgeFault) -> FlatFault
@@ -82,9 +86,9 @@ fn is_lost(outcome: &Outcome) -> bool
 }
 
 /// Prints what became of the frame that the bridge received last.
-fn tell(alloc: Global, bridge: &Bridge, out: &mut String) -> Result<(), FlatFault>
-    requires { IsReceive (newest bridge.now.steps) }
-    ensures ok { OnOk result (Tells (newest bridge.now.steps) (string_bytes out.old) (string_bytes out.new)) }
+fn tell(alloc: Global, bridge: &Bridge, digits: &[u8], out: &mut Vec<u8>) -> Result<(), FlatFault>
+    requires { IsToldBy digits.now (newest bridge.now.steps) }
+    ensures ok { OnOk result (Tells (newest bridge.now.steps) out.old.items out.new.items) }
     ensures err { IfErr result (λ e. e ≡ FlatFault.Memory) }
 {
     let Some(
@@ -102,7 +106,7 @@ fn tell(alloc: Global, bridge: &Bridge, out: &mut String) -> Result<(), FlatFaul
     if *learnt == Some(Learnt::Memory) || is_lost(outcome) {
         return Err(FlatFault::Memory);
     }
-    put_answer(alloc, out, *port, item.wire.as_slice(), outcome)?;
+    put_answer(alloc, out, *port, item.wire.as_slice(), digits, outcome)?;
     Ok(())
 }
 
@@ -149,9 +153,11 @@ impl Switch {
         ensures { IfOk result (λ s. s ≡ record { ports = ports; steps = []; is_ready = true }) }
     {
         let plan = flat_plan(alloc, ports)?;
+        let mut bridge = Bridge::new(alloc, &plan, 1)?;
+        bridge.expect_steps(EXPECTED_STEPS);
         Ok(Switch {
             ports,
-            bridge: Bridge::new(alloc, &plan, 1)?,
+            bridge,
             is_ready: true,
         })
     }
@@ -163,7 +169,7 @@ impl Switch {
         self.ports
     }
 
-    /// Takes a frame at a port, and prints what becomes of it.
+    /// Takes a frame at a port, and prints what becomes of it. The digits are those of the frame.
     ///
     /// `Steps` is answered where the list of steps is full, `Memory` where memory ran out: at least
     /// 62,500 frames were taken before the first. After either the bridge takes no more frames.
@@ -172,18 +178,20 @@ impl Switch {
         alloc: Global,
         port: u8,
         frame: Bytes,
-        out: &mut String,
+        digits: &[u8],
+        out: &mut Vec<u8>,
     ) -> Result<(), FlatFault>
+        requires digits { IsHex digits.now frame }
         requires from { 1 ≤ port }
         requires to { port ≤ self.old.ports }
         requires ready { self.old.is_ready ≡ true }
-        ensures ok { OnOk result (HasHandled self.old port frame (string_bytes out.old) self.new (string_bytes out.new)) }
+        ensures ok { OnOk result (HasHandled self.old port frame out.old.items self.new out.new.items) }
         ensures kinds { IfErr result (λ e. (e ≡ FlatFault.Steps) ⊎ (e ≡ FlatFault.Memory)) }
         ensures steps { IsErrOf result FlatFault.Steps → 62500 ≤ length (receipts self.old.steps) }
     {
         self.is_ready = false;
         admit(&mut self.bridge, port, frame)?;
-        tell(alloc, &self.bridge, out)?;
+        tell(alloc, &self.bridge, digits, out)?;
         drain(&mut self.bridge, self.ports, port)?;
         self.is_ready = true;
         Ok(())

@@ -2,8 +2,8 @@ mod check;
 mod networks;
 mod steps;
 
-use bytes::Bytes;
 use pb_cli::{FlatFault, Switch, run_flat, run_flat_on, run_show};
+use pb_frame::hex_octets;
 use pb_lan::Reason;
 use pb_script::put_reason;
 use std::alloc::Global;
@@ -120,20 +120,19 @@ fn a_switch_stays_after_its_run(rt: HostRuntime) -> Result<(), Fail> {
 fn a_switch_answers_behind_what_stands_there(rt: HostRuntime) -> Result<(), Fail> {
     let alloc = rt.alloc();
     let mut switch = Switch::new(alloc, 3)?;
-    let mut out = String::from_str(alloc, "before\n")?;
-    let broadcast = Bytes::copy_from_slice(
-        alloc,
-        b"\xff\xff\xff\xff\xff\xff\x02\0\0\0\x01\x01\x08\0AB",
-    )?;
-    switch.handle(alloc, 2, broadcast, &mut out)?;
+    let mut out = Vec::from_slice(alloc, b"before\n")?;
+    let digits = "ffffffffffff02000000010108004142".as_bytes();
+    let broadcast = hex_octets(alloc, digits)?;
+    switch.handle(alloc, 2, broadcast, digits, &mut out)?;
     assert_eq!(rt;
-        out.as_str(),
-        "before\nout 1 ffffffffffff02000000010108004142\nout 3 ffffffffffff02000000010108004142\n"
+        out.as_slice(),
+        "before\nout 1 ffffffffffff02000000010108004142\nout 3 ffffffffffff02000000010108004142\n".as_bytes()
     );
-    let short = Bytes::copy_from_slice(alloc, b"AB")?;
+    let digits = "4142".as_bytes();
+    let short = hex_octets(alloc, digits)?;
     out.clear();
-    switch.handle(alloc, 3, short, &mut out)?;
-    assert_eq!(rt; out.as_str(), "filtered 3 malformed\n");
+    switch.handle(alloc, 3, short, digits, &mut out)?;
+    assert_eq!(rt; out.as_slice(), "filtered 3 malformed\n".as_bytes());
     Ok(())
 }
 

@@ -5,5 +5,4 @@ pub mod Orders
 pub mod TagLaws
 pub mod StationLaws
 pub mod HexLemmas
-pub mod DigitTable
 pub mod Rows

@@ -1,13 +1,13 @@
 //! Octets as hexadecimal texts.
 
-ghost use Rattle.std.specs.Prelude.{◌≡◌, ◌%◌, ◌*◌, ◌<◌, ◌≤◌, ◌↔◌, true, false, length, string_bytes, IfOk, IfSome, IfNone, Some, None, IsSome, IsErrOf, if◌then◌else◌, ℕ};
-ghost use Rattle.std.specs.List.{list_all};
-ghost use Rattle.pb_frame.specs.Hex.{digit_value, is_digit, IsPair, IsHex, hex_text as text_of, lower_digit, upper_digit};
+ghost use Rattle.std.specs.Prelude.{◌≡◌, ◌%◌, ◌*◌, ◌<◌, ◌≤◌, ◌↔◌, true, false, length, string_bytes, IfOk, OnOk, IfSome, IfNone, Some, None, IsSome, IsErrOf, [], ℕ};
+ghost use Rattle.std.specs.List.{list_all, list_any};
+ghost use Rattle.pb_frame.specs.Hex.{digit_value, is_digit, is_upper, IsPair, IsHex, hex_text as text_of, lower_digit, upper_digit};
 ghost use Rattle.pb_frame.specs.declared.hex.HexFault.{HexFault};
 ghost use Rattle.pb_frame.specs.declared.hex.HexFault.TheVariants.{Memory as memory_fault};
 
 use crate::memory::Memory;
-use bytes::Bytes;
+use bytes::{Bytes, BytesMut};
 use std::alloc::{AllocError, AllocFailed, Global};
 use thiserror::Error;
 
@@ -38,30 +38,20 @@ impl<T: Drop> From<AllocFailed<T>> for HexFault {
     }
 }
 
-/// What each octet stands for as a hexadecimal digit, in either case, or 255.
-static VALUES: [u8; 256] = [
-    255, 255, 255, 255, 255, 255, 255, 255, 255, 255, 255, 255, 255, 255, 255, 255, 255, 255, 255,
-    255, 255, 255, 255, 255, 255, 255, 255, 255, 255, 255, 255, 255, 255, 255, 255, 255, 255, 255,
-    255, 255, 255, 255, 255, 255, 255, 255, 255, 255, 0, 1, 2, 3, 4, 5, 6, 7, 8, 9, 255, 255, 255,
-    255, 255, 255, 255, 10, 11, 12, 13, 14, 15, 255, 255, 255, 255, 255, 255, 255, 255, 255, 255,
-    255, 255, 255, 255, 255, 255, 255, 255, 255, 255, 255, 255, 255, 255, 255, 255, 10, 11, 12, 13,
-    14, 15, 255, 255, 255, 255, 255, 255, 255, 255, 255, 255, 255, 255, 255, 255, 255, 255, 255,
-    255, 255, 255, 255, 255, 255, 255, 255, 255, 255, 255, 255, 255, 255, 255, 255, 255, 255, 255,
-    255, 255, 255, 255, 255, 255, 255, 255, 255, 255, 255, 255, 255, 255, 255, 255, 255, 255, 255,
-    255, 255, 255, 255, 255, 255, 255, 255, 255, 255, 255, 255, 255, 255, 255, 255, 255, 255, 255,
-    255, 255, 255, 255, 255, 255, 255, 255, 255, 255, 255, 255, 255, 255, 255, 255, 255, 255, 255,
-    255, 255, 255, 255, 255, 255, 255, 255, 255, 255, 255, 255, 255, 255, 255, 255, 255, 255, 255,
-    255, 255, 255, 255, 255, 255, 255, 255, 255, 255, 255, 255, 255, 255, 255, 255, 255, 255, 255,
-    255, 255, 255, 255, 255, 255, 255, 255, 255, 255, 255, 255, 255, 255, 255, 255, 255, 255, 255,
-    255, 255, 255,
-];
+/// How much memory a buffer of octets takes at least.
+const BLOCK: usize = 65_536;
 
-/// What a digit stands for, and 255 for what is none.
+/// What a digit stands for, in either case, and 255 for what is none.
 fn value(c: u8) -> u8
     ensures digit { result < 16 → digit_value c ≡ Some result }
     ensures none { 16 ≤ result → digit_value c ≡ None }
 {
-    VALUES[usize::from(c)]
+    match c {
+        b'0'..=b'9' => c - 48,
+        b'A'..=b'F' => c - 55,
+        b'a'..=b'f' => c - 87,
+        _ => 255,
+    }
 }
 
 /// The octet of two digits.
@@ -79,10 +69,19 @@ pub(crate) fn octet(high: u8, low: u8) -> Option<u8>
     }
 }
 
+/// Whether all are digits. Each is looked at, and none takes a branch, so that a processor looks at many
+/// at once.
 fn all_digits(text: &[u8]) -> bool
     ensures { result ≡ list_all is_digit text.now }
 {
-    text.iter().all(|c| value(*c) < 16)
+    let mut all = true;
+    for c in text {
+        let is_decimal = c.wrapping_sub(48) < 10;
+        let is_large = c.wrapping_sub(65) < 6;
+        let is_small = c.wrapping_sub(97) < 6;
+        all &= is_decimal | is_large | is_small;
+    }
+    all
 }
 
 /// Reads pairs of hexadecimal digits, in either case.
@@ -104,54 +103,78 @@ pub fn hex_octets(alloc: Global, digits: &[u8]) -> Result<Bytes, HexFault>
     ensures digit { IsErrOf result HexFault.Digit ↔ (list_all is_digit digits.now ≡ false) }
     ensures odd { IsErrOf result HexFault.Odd ↔ ((list_all is_digit digits.now ≡ true) × (length digits.now % 2 ≡ 1)) }
 {
-    if digits.len() % 2 != 0 {
-        return Err(fault_or(digits, HexFault::Odd));
-    }
-    match pairs_of(alloc, digits) {
-        Ok(Some(octets)) => Ok(Bytes::from_vec(octets)?),
-        Ok(None) => Err(HexFault::Digit),
-        Err(AllocError) => Err(fault_or(digits, HexFault::Memory)),
-    }
-}
-
-/// `Digit` where something else than a digit stands, or else the other fault.
-fn fault_or(text: &[u8], other: HexFault) -> HexFault
-    ensures { result ≡ (if list_all is_digit text.now then other else HexFault.Digit) }
-{
-    if all_digits(text) {
-        other
-    } else {
-        HexFault::Digit
-    }
-}
-
-/// The octets of an even number of digits, if all are digits.
-fn pairs_of(alloc: Global, digits: &[u8]) -> Result<Option<Vec<u8>>, AllocError>
-    requires { length digits.now % 2 ≡ 0 }
-    ensures some { IfOk result (λ o. IfSome o (λ v. IsHex digits.now v.items)) }
-    ensures all { IfOk result (λ o. IfSome o (λ v. list_all is_digit digits.now ≡ true)) }
-    ensures none { IfOk result (λ o. IfNone o (list_all is_digit digits.now ≡ false)) }
-{
+    check_pairs(digits)?;
     let mut octets = vec![in alloc; 0u8; digits.len() / 2]?;
-    if !read_pairs(digits, octets.as_mut_slice()) {
-        return Ok(None);
-    }
-    Ok(Some(octets))
+    read_pairs(digits, octets.as_mut_slice());
+    Ok(Bytes::from_vec(octets)?)
 }
 
-/// Puts the octets of the digits in place, if all are digits.
-fn read_pairs(digits: &[u8], octets: &mut [u8]) -> bool
-    requires { length digits.now ≡ 2 * length octets.old }
-    ensures octets { result ≡ true → IsHex digits.now octets.new }
-    ensures none { result ≡ false → list_all is_digit digits.now ≡ false }
+/// Reads pairs of hexadecimal digits as [`hex_octets`] does, with its faults, into the room of a buffer
+/// in which nothing stands. The octets share the buffer's memory, which is taken some 64 KiB at a time,
+/// and given back when the last of them is gone.
+pub fn hex_octets_in(buffer: &mut BytesMut, digits: &[u8]) -> Result<Bytes, HexFault>
+    requires { buffer.old.items ≡ [] }
+    ensures ok { IfOk result (λ b. IsHex digits.now b) }
+    ensures empty { buffer.new.items ≡ [] }
+    ensures digit { IsErrOf result HexFault.Digit ↔ (list_all is_digit digits.now ≡ false) }
+    ensures odd { IsErrOf result HexFault.Odd ↔ ((list_all is_digit digits.now ≡ true) × (length digits.now % 2 ≡ 1)) }
+{
+    check_pairs(digits)?;
+    let count = digits.len() / 2;
+    if buffer.capacity() < count {
+        buffer.reserve(count.max(BLOCK))?;
+    }
+    buffer.advance_mut(count);
+    read_pairs(digits, buffer.as_mut_slice());
+    match buffer.freeze_to(count) {
+        Ok(octets) => Ok(octets),
+        Err(AllocError) => {
+            buffer.clear();
+            Err(HexFault::Memory)
+        }
+    }
+}
+
+/// `Digit` where something else than a digit stands, else `Odd` where their number is odd.
+fn check_pairs(digits: &[u8]) -> Result<(), HexFault>
+    ensures digits { OnOk result (list_all is_digit digits.now ≡ true) }
+    ensures even { OnOk result (length digits.now % 2 ≡ 0) }
+    ensures digit { IsErrOf result HexFault.Digit ↔ (list_all is_digit digits.now ≡ false) }
+    ensures odd { IsErrOf result HexFault.Odd ↔ ((list_all is_digit digits.now ≡ true) × (length digits.now % 2 ≡ 1)) }
+{
+    if !all_digits(digits) {
+        return Err(HexFault::Digit);
+    }
+    if digits.len() % 2 != 0 {
+        return Err(HexFault::Odd);
+    }
+    Ok(())
+}
+
+/// Puts the octets of the digits in place. Both digits of an octet are read at once: the low four bits of a
+/// decimal digit are what it stands for, and a letter, which has bit 6, stands for nine more.
+fn read_pairs(digits: &[u8], octets: &mut [u8])
+    requires long { length digits.now ≡ 2 * length octets.old }
+    requires digits { list_all is_digit digits.now ≡ true }
+    ensures { IsHex digits.now octets.new }
 {
     for i in 0..octets.len() {
-        let Some(octet) = octet(digits[2 * i], digits[2 * i + 1]) else {
-            return false;
-        };
-        octets[i] = octet;
+        let pair = u16::from(digits[2 * i]) + u16::from(digits[2 * i + 1]) * 256;
+        let values = (pair & 0x0f0f) + (pair / 64 & 0x0101) * 9;
+        octets[i] = (values % 256 * 16 + values / 256) as u8;
     }
-    true
+}
+
+/// Whether a digit among them is a letter in upper case. Digits without any are the very text of their
+/// octets, as [`hex_text`] writes it.
+pub fn has_upper_case(digits: &[u8]) -> bool
+    ensures { result ≡ list_any is_upper digits.now }
+{
+    let mut found = false;
+    for digit in digits {
+        found |= digit.wrapping_sub(65) < 6;
+    }
+    found
 }
 
 /// The lower case digit of a number below 16.

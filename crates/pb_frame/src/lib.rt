@@ -18,7 +18,7 @@ mod text;
 
 pub use frame::{FrameFault, view};
 pub use held::Held;
-pub use hex::{HexFault, hex_octets, hex_read, hex_text};
+pub use hex::{HexFault, has_upper_case, hex_octets, hex_octets_in, hex_read, hex_text};
 pub use layout::View;
 pub use learnt::Learnt;
 pub use mac::Mac;

@@ -2,10 +2,10 @@
 
 use crate::{
     FrameFault, Held, HexFault, Mac, Seq, TagFault, Tci, Text, has_priority_tag, has_service_type,
-    hex_octets, hex_read, hex_text, look_c, pop_priority, pop_s, priority_of, push_s, vid_of, view,
-    without_tag,
+    has_upper_case, hex_octets, hex_octets_in, hex_read, hex_text, look_c, pop_priority, pop_s,
+    priority_of, push_s, vid_of, view, without_tag,
 };
-use bytes::Bytes;
+use bytes::{Bytes, BytesMut};
 use std::alloc::Global;
 use std::process::Abort;
 use std::test::Fail;
@@ -158,6 +158,72 @@ fn hexadecimal_is_read_in_either_case(rt: HostRuntime) -> Result<(), Fail> {
     is(&rt, alloc, &hex_octets(alloc, b"00aFfA")?, "00affa")?;
     assert!(rt; matches!(hex_read(alloc, "0g0"), Err(HexFault::Digit)));
     assert!(rt; matches!(hex_read(alloc, "000"), Err(HexFault::Odd)));
+    assert!(rt; !has_upper_case(b"00affa9"));
+    assert!(rt; has_upper_case(b"00afFa"));
+    assert!(rt; has_upper_case(b"A"));
+    Ok(())
+}
+
+#[test]
+fn each_octet_is_read_from_its_digits(rt: HostRuntime) -> Result<(), Fail> {
+    let alloc = rt.alloc();
+    for octet in 0..=255u8 {
+        let octets = Bytes::copy_from_slice(alloc, &[octet, 255 - octet])?;
+        let digits = hex_text(alloc, octets.as_slice())?;
+        assert_eq!(rt;
+            hex_read(alloc, digits.as_str())?.as_slice(),
+            octets.as_slice()
+        );
+        let large = digits.to_ascii_uppercase(alloc)?;
+        assert_eq!(rt;
+            hex_read(alloc, large.as_str())?.as_slice(),
+            octets.as_slice()
+        );
+    }
+    Ok(())
+}
+
+#[test]
+fn what_is_no_digit_is_refused(rt: HostRuntime) -> Result<(), Fail> {
+    let alloc = rt.alloc();
+    for c in 0..=255u8 {
+        let is_read = hex_octets(alloc, &[b'0', b'0', b'0', c]).is_ok();
+        assert_eq!(rt; is_read, c.is_ascii_hexdigit());
+    }
+    Ok(())
+}
+
+#[test]
+fn octets_share_the_memory_of_a_buffer(rt: HostRuntime) -> Result<(), Fail> {
+    let alloc = rt.alloc();
+    let mut buffer = BytesMut::new(alloc);
+    let first = hex_octets_in(&mut buffer, b"00aFfA")?;
+    let room = buffer.capacity();
+    assert!(rt; matches!(hex_octets_in(&mut buffer, b"0g0"), Err(HexFault::Digit)));
+    assert!(rt; matches!(hex_octets_in(&mut buffer, b"000"), Err(HexFault::Odd)));
+    assert_eq!(rt; hex_octets_in(&mut buffer, b"")?.len(), 0);
+    assert_eq!(rt; buffer.capacity(), room);
+    let second = hex_octets_in(&mut buffer, b"17")?;
+    assert!(rt; buffer.capacity() < room);
+    is(&rt, alloc, &first, "00affa")?;
+    is(&rt, alloc, &second, "17")
+}
+
+/// So many digits, all 7.
+fn sevens(alloc: Global, digits: usize) -> Result<Vec<u8>, Fail> {
+    Ok(vec![in alloc; b'7'; digits]?)
+}
+
+#[test]
+fn octets_that_find_no_room_in_a_buffer_take_more(rt: HostRuntime) -> Result<(), Fail> {
+    let alloc = rt.alloc();
+    let mut buffer = BytesMut::new(alloc);
+    let digits = sevens(alloc, 60_000)?;
+    for _ in 0..5 {
+        let octets = hex_octets_in(&mut buffer, digits.as_slice())?;
+        assert_eq!(rt; octets.len(), 30_000);
+        assert!(rt; octets.as_slice().iter().all(|octet| *octet == 0x77));
+    }
     Ok(())
 }
 

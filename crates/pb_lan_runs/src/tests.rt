@@ -2,6 +2,7 @@
 
 mod counts;
 mod plans;
+mod port_list;
 mod states;
 mod unsound;
 

@@ -78,7 +78,8 @@ impl Model for Bridge {
         × IsSpanning b.plan b.number b.steps.items b.rstp b.address.0 };
 }
 
-/// Puts a step into the room that is there for it.
+/// Puts a step into the room that is there for it. Where it is part of its callers, a step is made in its place.
+#[inline(always)]
 pub(crate) fn append(steps: &mut Vec<Step>, step: Step)
     requires { vec_len steps.old < vec_capacity steps.old }
     ensures items { steps.new.items ≡ steps.old.items ++ step ∷ [] }
@@ -140,6 +141,14 @@ impl Bridge {
         self.steps.reserve(1)?;
         self.is_reserved = true;
         Ok(())
+    }
+
+    /// Asks for room for so many more steps at once, so that the list is not moved as it grows. Where there is
+    /// no memory for them all, nothing has changed, and each step asks for itself.
+    pub fn expect_steps(&mut self, count: usize)
+        ensures { self.new ≡ self.old }
+    {
+        let _ = self.steps.reserve(count);
     }
 
     /// Whether the bridge uses the port of this number, for a customer or for another bridge.

@@ -163,7 +163,7 @@ impl Bridge {
         self.carry(port, item, vid, load, room)
     }
 
-    /// Lists for the outcome of an item.
+    /// A list for the outcome of an item.
     fn take_room(&mut self, is_told: bool) -> Result<Room, Memory>
         ensures room { IfOk result IsEmptyRoom }
         ensures told { IfOk result (λ room. is_told ≡ true → IsSome room.told) }
@@ -192,17 +192,17 @@ impl Bridge {
         let frame = item.wire.as_slice();
         let learnt = self.table.learn(vid, source_of(frame), port, self.clock);
         let at = sought(&self.table, vid, frame, self.clock);
-        choose(&mut room.chosen, &self.ports, &self.states, port, vid, at);
+        let chosen = choose(&self.ports, &self.states, port, vid, at);
         queue_copies(
             &mut self.queues,
             &mut room.refused,
-            room.chosen.as_slice(),
+            chosen.as_slice(),
             &self.ports,
             self.capacity,
             &load,
             &item,
         );
-        let (told, kept) = self.spare.outcomes(self.alloc, room);
+        let (told, kept) = self.spare.outcomes(self.alloc, chosen, room);
         self.is_reserved = false;
         append_receive(&mut self.steps, port, item, Some(learnt), kept);
         told

@@ -5,23 +5,21 @@ ghost use Rattle.pb_lan.specs.declared.step.Outcome.TheVariants.{Relayed};
 ghost use Rattle.pb_relay.specs.Rooms.{IsEmptyRoom, IsEmptyCopy};
 
 use pb_frame::{Memory, Seq};
-use pb_lan::{NoRoom, Outcome};
+use pb_lan::{NoRoom, Outcome, PortList};
 use std::alloc::Global;
 use std::mem;
 
-/// Lists that hold a word of each local port, for the outcome that a step keeps, and for a copy of it where
-/// the caller is told.
+/// A list that holds a word of each local port, for the outcome that a step keeps, and one for a copy of it
+/// where the caller is told.
 #[derive(Drop)]
 pub struct Room {
-    pub chosen: Vec<u8>,
     pub refused: Vec<(u8, NoRoom)>,
     pub told: Option<CopyRoom>,
 }
 
-/// Lists that hold a word of each local port, for a copy of an outcome.
+/// A list that holds a word of each local port, for a copy of an outcome.
 #[derive(Drop)]
 pub struct CopyRoom {
-    pub chosen: Vec<u8>,
     pub refused: Vec<(u8, NoRoom)>,
 }
 
@@ -45,7 +43,7 @@ impl Spare {
         }
     }
 
-    /// Empty lists, with those for a copy where it is told.
+    /// An empty list, with one for a copy where it is told.
     pub fn room(&mut self, alloc: Global, is_told: bool) -> Result<Room, Memory>
         ensures empty { IfOk result IsEmptyRoom }
         ensures told { IfOk result (λ room. is_told ≡ true → IsSome room.told) }
@@ -56,65 +54,61 @@ impl Spare {
             None
         };
         Ok(Room {
-            chosen: Vec::with_capacity(alloc, PORTS)?,
             refused: emptied(alloc, &mut self.refused)?,
             told,
         })
     }
 
-    /// Empty lists for a copy.
+    /// An empty list for a copy.
     fn copy_room(&mut self, alloc: Global) -> Result<CopyRoom, Memory>
         ensures { IfOk result IsEmptyCopy }
     {
         Ok(CopyRoom {
-            chosen: Vec::with_capacity(alloc, PORTS)?,
             refused: emptied(alloc, &mut self.told_refused)?,
         })
     }
 
-    /// The outcome that the lists tell, and its copy where there are lists for one.
-    pub fn outcomes(&mut self, alloc: Global, room: Room) -> (Option<Outcome>, Outcome)
+    /// The outcome of a frame that went to these ports, of which the list tells those that got no copy, and
+    /// its copy where there is a list for one.
+    pub fn outcomes(
+        &mut self,
+        alloc: Global,
+        chosen: PortList,
+        room: Room,
+    ) -> (Option<Outcome>, Outcome)
         requires told { IfSome room.told IsEmptyCopy }
-        requires chosen { length room.chosen.items ≤ 16 }
         requires refused { length room.refused.items ≤ 16 }
-        ensures told { IfSome result.0 (λ o. o ≡ Relayed room.chosen.items room.refused.items) }
+        ensures told { IfSome result.0 (λ o. o ≡ Relayed chosen room.refused.items) }
         ensures some { IsSome room.told → IsSome result.0 }
-        ensures kept { result.1 ≡ Relayed room.chosen.items room.refused.items }
+        ensures kept { result.1 ≡ Relayed chosen room.refused.items }
     {
-        let Room {
-            chosen,
-            refused,
-            told,
-        } = room;
+        let Room { refused, told } = room;
         let copy = match told {
             None => None,
-            Some(lists) => Some(self.copied(alloc, lists, chosen.as_slice(), refused.as_slice())),
+            Some(list) => Some(self.copied(alloc, list, &chosen, refused.as_slice())),
         };
         let refused = given(alloc, &mut self.refused, refused);
         (copy, relayed(chosen, refused))
     }
 
-    /// The outcome of a frame that went to these ports, of which some got no copy, in lists of its own.
+    /// The outcome of a frame that went to these ports, of which some got no copy, in a list of its own.
     fn copied(
         &mut self,
         alloc: Global,
-        lists: CopyRoom,
-        chosen: &[u8],
+        list: CopyRoom,
+        chosen: &PortList,
         refused: &[(u8, NoRoom)],
     ) -> Outcome
-        requires empty { IsEmptyCopy lists }
-        requires chosen { length chosen.now ≤ 16 }
+        requires empty { IsEmptyCopy list }
         requires refused { length refused.now ≤ 16 }
         ensures { result ≡ Relayed chosen.now refused.now }
     {
         let CopyRoom {
-            chosen: mut copied_chosen,
-            refused: mut copied_refused,
-        } = lists;
-        let _ = copied_chosen.extend_from_slice(chosen);
-        let _ = copied_refused.extend_from_slice(refused);
-        let copied_refused = given(alloc, &mut self.told_refused, copied_refused);
-        relayed(copied_chosen, copied_refused)
+            refused: mut copied,
+        } = list;
+        let _ = copied.extend_from_slice(refused);
+        let copied = given(alloc, &mut self.told_refused, copied);
+        relayed(chosen.copied(), copied)
     }
 }
 
@@ -141,11 +135,11 @@ fn given(alloc: Global, spare: &mut Vec<(u8, NoRoom)>, list: Vec<(u8, NoRoom)>) 
 }
 
 /// The outcome of a frame that went to these ports, of which some got no copy.
-fn relayed(chosen: Vec<u8>, refused: Vec<(u8, NoRoom)>) -> Outcome
-    ensures { result ≡ Relayed chosen.items refused.items }
+fn relayed(chosen: PortList, refused: Vec<(u8, NoRoom)>) -> Outcome
+    ensures { result ≡ Relayed chosen refused.items }
 {
     Outcome::Relayed {
-        chosen: Seq::from_vec(chosen),
+        chosen,
         refused: Seq::from_vec(refused),
     }
 }

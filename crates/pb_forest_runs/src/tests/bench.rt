@@ -10,8 +10,8 @@ use bytes::Bytes;
 use pb_forest::{forest, is_drained};
 use pb_frame::Memory;
 use pb_lan::{
-    CustomerPlan, Item, Learnt, Mark, Outcome, Plan, Record, Seq, Step, frames_arrive_exactly_once,
-    last_shape, left, plan_is_sound,
+    CustomerPlan, Item, Learnt, Mark, Outcome, Plan, PortList, Record, Seq, Step,
+    frames_arrive_exactly_once, last_shape, left, plan_is_sound,
 };
 use std::alloc::{AllocError, Global};
 use std::test::Fail;
@@ -91,7 +91,7 @@ fn receive(alloc: Global, port: u8, item: Item, to: u8) -> Result<Step, AllocErr
         item,
         learnt: Some(Learnt::New),
         outcome: Outcome::Relayed {
-            chosen: Seq::from_vec(vec![in alloc; to]?),
+            chosen: PortList::from_slice(&[to]).ok_or(AllocError)?,
             refused: Seq::from_vec(Vec::new(alloc)),
         },
         moved: None,

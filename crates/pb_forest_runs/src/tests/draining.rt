@@ -2,7 +2,7 @@
 
 use bytes::Bytes;
 use pb_forest::is_drained;
-use pb_lan::{Item, Learnt, Mark, NoRoom, Outcome, Record, Seq, Step};
+use pb_lan::{Item, Learnt, Mark, NoRoom, Outcome, PortList, Record, Seq, Step};
 use std::alloc::{AllocError, Global};
 use std::test::Fail;
 
@@ -22,7 +22,7 @@ fn receive(alloc: Global, refused: Vec<(u8, NoRoom)>) -> Result<Step, AllocError
         item: item(alloc)?,
         learnt: Some(Learnt::New),
         outcome: Outcome::Relayed {
-            chosen: Seq::from_vec(vec![in alloc; 3]?),
+            chosen: PortList::from_slice(&[3]).ok_or(AllocError)?,
             refused: Seq::from_vec(refused),
         },
         moved: None,

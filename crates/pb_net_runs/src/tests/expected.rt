@@ -3,7 +3,7 @@
 use super::rows::{Act, Deed, Fate, Sent};
 use bytes::Bytes;
 use pb_frame::{HexFault, hex_read};
-use pb_lan::{Event, Item, Mark, Moved, NoRoom, Outcome, PortState, Seq, Step};
+use pb_lan::{Event, Item, Mark, Moved, NoRoom, Outcome, PortList, PortState, Seq, Step};
 use std::alloc::{AllocError, Global};
 
 /// The event that asks for an act.
@@ -46,7 +46,7 @@ pub(super) fn long(alloc: Global, head: &str, octets: usize) -> Result<Bytes, He
 /// Relayed to ports, but for those that refuse.
 fn relayed(alloc: Global, chosen: &[u8], refused: &[(u8, NoRoom)]) -> Result<Outcome, AllocError> {
     Ok(Outcome::Relayed {
-        chosen: Seq::from_vec(Vec::from_slice(alloc, chosen)?),
+        chosen: PortList::from_slice(chosen).ok_or(AllocError)?,
         refused: Seq::from_vec(Vec::from_slice(alloc, refused)?),
     })
 }

@@ -2,7 +2,7 @@
 
 use bytes::Bytes;
 use pb_frame::{Learnt, hex_read};
-use pb_lan::{Item, Mark, NoRoom, Outcome, PortState, Reason, Seq};
+use pb_lan::{Item, Mark, NoRoom, Outcome, PortList, PortState, Reason, Seq};
 use pb_relay::BridgeFault;
 use std::alloc::{AllocError, Global};
 use std::test::Fail;
@@ -132,7 +132,7 @@ impl Fate {
 /// Relayed to these ports, of which those refused.
 fn relayed(alloc: Global, chosen: &[u8], refused: &[(u8, NoRoom)]) -> Result<Outcome, AllocError> {
     Ok(Outcome::Relayed {
-        chosen: Seq::from_vec(Vec::from_slice(alloc, chosen)?),
+        chosen: PortList::from_slice(chosen).ok_or(AllocError)?,
         refused: Seq::from_vec(Vec::from_slice(alloc, refused)?),
     })
 }

@@ -2,7 +2,7 @@
 
 use super::plans::network;
 use bytes::Bytes;
-use pb_lan::{Item, Mark, Moved, NoRoom, Outcome, Place, Reason, Seq, Step};
+use pb_lan::{Item, Mark, Moved, NoRoom, Outcome, Place, PortList, Reason, Seq, Step};
 use pb_script::{put_done, put_idle, put_no_such};
 use std::alloc::{AllocError, Global};
 use std::process::Abort;
@@ -135,7 +135,7 @@ fn relayed(
     want: &str,
 ) -> Result<(), Fail> {
     let outcome = Outcome::Relayed {
-        chosen: Seq::from_vec(Vec::from_slice(alloc, chosen)?),
+        chosen: PortList::from_slice(chosen).ok_or(AllocError)?,
         refused: Seq::from_vec(Vec::from_slice(alloc, refused)?),
     };
     ruled(rt, alloc, outcome, want)

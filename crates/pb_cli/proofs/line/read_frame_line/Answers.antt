@@ -44,7 +44,7 @@ returns-in-Err-Digit-clause-none c = λ port frame l.
     let parts = rw slice_from at c.in-Some.ensures.some in
     let same = same_parts c.args.limit c.args.ports c.args.line.now c.in-Some.digits.now c.in-Some.hex.now port frame l parts.1 parts.0 in
     let digits : list_all is_digit c.in-Some.hex.now ≡ true = rw same.1 at (IsHex-digits l.hex frame l.octets) in
-    let wrong : list_all is_digit c.in-Some.hex.now ≡ false = c.hex_octets.ensures.digit.0 (search rules) in
+    let wrong : list_all is_digit c.in-Some.hex.now ≡ false = c.hex_octets_in.ensures.digit.0 (search rules) in
     cc
 
 pub returns-in-Err-Odd-clause-none : goal.returns-in-Err-Odd-clause-none
@@ -52,5 +52,5 @@ returns-in-Err-Odd-clause-none c = λ port frame l.
     let parts = rw slice_from at c.in-Some.ensures.some in
     let same = same_parts c.args.limit c.args.ports c.args.line.now c.in-Some.digits.now c.in-Some.hex.now port frame l parts.1 parts.0 in
     let even : length c.in-Some.hex.now ≡ 2 * length frame = rw same.1 at (IsHex-length l.hex frame l.octets) in
-    let odd = (c.hex_octets.ensures.odd.0 (search rules)).1 in
+    let odd = (c.hex_octets_in.ensures.odd.0 (search rules)).1 in
     omega (arith, odd)

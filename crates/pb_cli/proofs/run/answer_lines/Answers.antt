@@ -12,8 +12,8 @@ loop-number-preserved g c =
     let found = rw c.loop-number.invariant.limit at c.in_ok-found.ensures.line in
     let gives = line_found c.in_ok-found.found c.args.limit (g.R.Read.remaining c.loop-number.reader) (held c.loop-number.lines) (g.R.Read.remaining c.next.new.reader) (held c.next.new.self) (newest c.next.new.self) c.if-eq.ensures found in
     let a = c.in_ok-answer.ensures.ok in
-    let w : Appends (g.W.Write.contents c.loop-number.writer) (g.W.Write.contents c.write_all.new.self) c.as_bytes.result.now = search rules in
-    let e : c.as_bytes.result.now ≡ a.0 = c.as_bytes.ensures.value ∙ a.1 ∙ ap (λ z. z ++ a.0) c.clear.ensures.bytes in
+    let w : Appends (g.W.Write.contents c.loop-number.writer) (g.W.Write.contents c.write_all.new.self) c.as_slice.result.now = search rules in
+    let e : c.as_slice.result.now ≡ a.0 = c.as_slice.ensures.value ∙ a.1 ∙ ap (λ z. z ++ a.0) c.clear.ensures.items in
     record {
       progress = goes_on c.args.limit c.args.ports c.loop-number.number (g.R.Read.remaining c.args.reader.now) (g.R.Read.remaining c.loop-number.reader) (g.R.Read.remaining c.next.new.reader)
           (g.W.Write.contents c.args.writer.now) (g.W.Write.contents c.loop-number.writer) (g.W.Write.contents c.write_all.new.self)
@@ -23,6 +23,7 @@ loop-number-preserved g c =
       ports = c.in_ok-answer.ensures.ports;
       ready = c.in_ok-answer.ensures.ready;
       past = c.in_ok-answer.ensures.past c.loop-number.invariant.past;
+      frames = c.answer.ensures.frames;
     }
 
 pub returns-in_err-found-clause-part : goal.returns-in_err-found-clause-part
@@ -45,8 +46,8 @@ returns-then-eq-2-clause-ok g c =
     let last = last_found c.in_ok-found.found c.args.limit (g.R.Read.remaining c.loop-number.reader) (held c.loop-number.lines) (g.R.Read.remaining c.next.new.reader) (held c.next.new.self) (newest c.next.new.self) c.if-eq-2.ensures found in
     let gives = last.0 in
     let a = c.in_ok-answer.ensures.ok in
-    let w : Appends (g.W.Write.contents c.loop-number.writer) (g.W.Write.contents c.write_all.new.self) c.as_bytes.result.now = search rules in
-    let e : c.as_bytes.result.now ≡ a.0 = c.as_bytes.ensures.value ∙ a.1 ∙ ap (λ z. z ++ a.0) c.clear.ensures.bytes in
+    let w : Appends (g.W.Write.contents c.loop-number.writer) (g.W.Write.contents c.write_all.new.self) c.as_slice.result.now = search rules in
+    let e : c.as_slice.result.now ≡ a.0 = c.as_slice.ensures.value ∙ a.1 ∙ ap (λ z. z ++ a.0) c.clear.ensures.items in
     let progress =
     goes_on c.args.limit c.args.ports c.loop-number.number (g.R.Read.remaining c.args.reader.now) (g.R.Read.remaining c.loop-number.reader) (g.R.Read.remaining c.next.new.reader)
     (g.W.Write.contents c.args.writer.now) (g.W.Write.contents c.loop-number.writer) (g.W.Write.contents c.write_all.new.self)

@@ -1,4 +1,4 @@
-use Rattle.std.proofs.Common.{◌≡◌, true}
+use Rattle.std.proofs.Common.{◌≡◌, [], true}
 use Rattle.pb_lines.specs.Reader.{held, limit_of}
 use Rattle.pb_cli.specs.Progress.{Progress}
 use Rattle.pb_cli.specs.Receipts.{receipts}
@@ -13,4 +13,5 @@ invariant-loop-number g l = record {
   ports : l.switch.ports ≡ l.ports;
   ready : l.switch.is_ready ≡ true;
   past : IsFlatPast l.ports l.switch.steps;
+  frames : l.frames.items ≡ [];
 }

@@ -1,32 +1,35 @@
-use Rattle.std.proofs.Common.{IsSome, None, Some, ◌≡◌, ◌+◌, ◌*◌, true, false, ◌∷◌, [], refl, arith, append-nil}
+use Rattle.std.proofs.Common.{◌≡◌, ◌+◌, ◌*◌, ◌∷◌, [], true, arith, append-nil, get_or}
 use Rattle.std.proofs.lemmas.List.{take_all}
-use Rattle.std.specs.List.{list_all}
-use Rattle.std.specs.declared.option.Option.{Option}
 use Rattle.pb_frame.specs.Hex.{is_digit}
-use Rattle.pb_frame.proofs.HexLemmas.{digit_at, IsHex_more, IsHex_end, IsHex_set}
+use Rattle.pb_frame.proofs.HexLemmas.{IsHex_more, IsHex_end, IsHex_set, octet_of, octet_fits, octet_pair, true_at}
 use Rattle.pb_frame.proofs.hex.read_pairs.Goals as goal
+
+pub overflow_cast-octets : goal.overflow_cast-octets
+overflow_cast-octets c =
+    let text = c.args.digits.now in
+    let i = c.loop-i.i in
+    let high = get_or text (2 * i) 0 in
+    let low = get_or text (2 * i + 1) 0 in
+    let first : is_digit high ≡ true = true_at is_digit text (2 * i) (omega arith) c.requires.digits in
+    let second : is_digit low ≡ true = true_at is_digit text (2 * i + 1) (omega arith) c.requires.digits in
+    let fits = octet_fits high low (omega (arith, c.type_inv.digits (2 * i))) (omega (arith, c.type_inv.digits (2 * i + 1))) first second in
+    rw (c.from.ensures, c.from-in-loop-i.ensures) (omega (arith, fits))
 
 pub loop-i-preserved : goal.loop-i-preserved
 loop-i-preserved c = λ more rest.
-    let b = c.in-Some.octet in
-    let pair = c.in-Some.ensures.pair in
-    IsHex_set c.args.digits.now _ c.loop-i.i b more (omega arith) (c.loop-i.invariant (b ∷ more) (IsHex_more c.args.digits.now c.loop-i.i b more (omega arith) pair rest))
+    let text = c.args.digits.now in
+    let i = c.loop-i.i in
+    let high = get_or text (2 * i) 0 in
+    let low = get_or text (2 * i + 1) 0 in
+    let first : is_digit high ≡ true = true_at is_digit text (2 * i) (omega arith) c.requires.digits in
+    let second : is_digit low ≡ true = true_at is_digit text (2 * i + 1) (omega arith) c.requires.digits in
+    let octet = octet_of high low in
+    let pair = octet_pair high low (omega (arith, c.type_inv.digits (2 * i))) (omega (arith, c.type_inv.digits (2 * i + 1))) first second in
+    rw (c.from.ensures, c.from-in-loop-i.ensures) (IsHex_set text _ i octet more (omega arith)
+    (c.loop-i.invariant (octet ∷ more) (IsHex_more text i octet more (omega arith) pair rest)))
 
-pub returns-clause-octets : goal.returns-clause-octets
-returns-clause-octets c = λ e.
+pub returns : goal.returns
+returns c =
     let whole = c.loop-i.invariant [] (IsHex_end c.args.digits.now c.loop-i.i (omega arith)) in
     let all = take_all c.loop-i.i c.loop-i.octets (omega arith) in
     rw (append-nil, all) at whole
-
--- all are not digits where two of them are no octet
-unread : {X : Type 0} (o : Option X) → o ≡ None → IsSome o → ⊥
-unread None e h = cc
-unread (Some x) e h = cc
-
-pub returns-in_default-clause-none : goal.returns-in_default-clause-none
-returns-in_default-clause-none c = λ e.
-    elim (list_all is_digit c.args.digits.now) as (λ b. list_all is_digit c.args.digits.now ≡ b → b ≡ false) [
-      | true ↦ λ e. absurd (unread c.octet.result c.in_default.is
-          (c.octet.ensures.some (digit_at c.args.digits.now (2 * c.loop-i.i) (omega arith) e) (digit_at c.args.digits.now (2 * c.loop-i.i + 1) (omega arith) e)))
-      | false ↦ λ e. refl
-    ] refl

@@ -1,4 +1,4 @@
-use Rattle.std.proofs.Common.{◌≡◌, ◌≤◌, true, sym, subst, string_bytes}
+use Rattle.std.proofs.Common.{◌≡◌, ◌≤◌, true, sym, subst}
 use Rattle.pb_cli.specs.Switches.{SwitchView, HasHandled}
 use Rattle.pb_cli.proofs.AdmitLaws.{admitted_waiting, used-alone}
 use Rattle.pb_cli.proofs.HandleLaws.{received_admitted, handled, view_of}
@@ -12,7 +12,7 @@ admit-requires c =
     used-alone s.ports s.bridge quiet.alone c.args.port c.requires.from to
 
 pub tell-requires : goal.tell-requires
-tell-requires c = received_admitted c.args.port c.args.frame c.self.inside.bridge c.admit.new.bridge c.in_ok-admit.ensures.ok
+tell-requires c = received_admitted c.args.port c.args.frame c.args.digits.now c.self.inside.bridge c.admit.new.bridge c.requires.digits c.in_ok-admit.ensures.ok
 
 pub drain-requires-clause-waiting : goal.drain-requires-clause-waiting
 drain-requires-clause-waiting c =
@@ -28,7 +28,7 @@ invariant_of-self-2 c =
     let to = subst (λ (v : SwitchView). c.args.port ≤ v.ports) (sym c.self.view_is) c.requires.to in (
       c.self.invariant.0,
       c.self.invariant.1,
-      λ e. (handled s.ports c.args.port c.args.frame (string_bytes c.args.out.now) (string_bytes c.tell.new.out) s.bridge c.admit.new.bridge c.drain.new.bridge true
+      λ e. (handled s.ports c.args.port c.args.frame c.args.out.now.items c.tell.new.out.items s.bridge c.admit.new.bridge c.drain.new.bridge true
           c.self.invariant.1 quiet to c.in_ok-admit.ensures.ok c.in_ok-tell.ensures.ok c.in_ok-drain.ensures.ok c.in_ok-drain.ensures.lawful).0,
     )
 
@@ -37,6 +37,6 @@ returns-clause-ok c =
     let s = c.self.inside in
     let quiet = c.self.invariant.2 (subst (λ (v : SwitchView). v.is_ready ≡ true) (sym c.self.view_is) c.requires.ready) in
     let to = subst (λ (v : SwitchView). c.args.port ≤ v.ports) (sym c.self.view_is) c.requires.to in
-    let done = (handled s.ports c.args.port c.args.frame (string_bytes c.args.out.now) (string_bytes c.tell.new.out) s.bridge c.admit.new.bridge c.drain.new.bridge s.is_ready
+    let done = (handled s.ports c.args.port c.args.frame c.args.out.now.items c.tell.new.out.items s.bridge c.admit.new.bridge c.drain.new.bridge s.is_ready
     c.self.invariant.1 quiet to c.in_ok-admit.ensures.ok c.in_ok-tell.ensures.ok c.in_ok-drain.ensures.ok c.in_ok-drain.ensures.lawful).1 in
-    subst (λ (v : SwitchView). HasHandled v c.args.port c.args.frame (string_bytes c.args.out.now) (view_of s.ports c.drain.new.bridge true) (string_bytes c.tell.new.out)) c.self.view_is done
+    subst (λ (v : SwitchView). HasHandled v c.args.port c.args.frame c.args.out.now.items (view_of s.ports c.drain.new.bridge true) c.tell.new.out.items) c.self.view_is done

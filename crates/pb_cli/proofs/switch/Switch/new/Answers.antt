@@ -15,5 +15,5 @@ new-requires-clause-sound c =
 pub invariant_of-result : goal.invariant_of-result
 invariant_of-result c =
     let same : c.in_ok-plan.plan ≡ flat_plan c.args.ports = c.in_ok-plan.ensures in
-    let bridge : c.in_ok-new.field-0 ≡ at_start (flat_plan c.args.ports) = c.in_ok-new.ensures ∙ ap at_start same in
+    let bridge : c.expect_steps.new.self ≡ at_start (flat_plan c.args.ports) = c.expect_steps.ensures ∙ c.in_ok-bridge.ensures ∙ ap at_start same in
     (c.requires.0, c.requires.1, λ e. subst (λ (v : BridgeView). IsQuiet c.args.ports v) (sym bridge) (quiet_start c.args.ports))

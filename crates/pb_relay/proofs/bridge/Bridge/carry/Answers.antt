@@ -52,9 +52,9 @@ queue_copies-requires-clause-capacity c =
 -- the step fits, and what is kept is kept
 whole : (c : goal.Joined-load-2)
     → Fits spanning_tree c.self.inside.plan c.self.inside.number c.self.inside.steps.items
-    (Receive c.args.port c.args.item (Some c.learn-learnt.result) (Relayed c.choose.new.chosen.items c.queue_copies.new.refused.items) None)
+    (Receive c.args.port c.args.item (Some c.learn-learnt.result) (Relayed c.choose-chosen.result c.queue_copies.new.refused.items) None)
     × IsStanding c.self.inside.plan c.self.inside.number
-    (c.self.inside.steps.items ++ Receive c.args.port c.args.item (Some c.learn-learnt.result) (Relayed c.choose.new.chosen.items c.queue_copies.new.refused.items) None ∷ [])
+    (c.self.inside.steps.items ++ Receive c.args.port c.args.item (Some c.learn-learnt.result) (Relayed c.choose-chosen.result c.queue_copies.new.refused.items) None ∷ [])
     c.self.inside.states c.queue_copies.new.queues.items c.self.inside.clock c.learn-learnt.new.self.sightings
 whole c =
     let mac : c.source_of.result.0 ≡ src_of c.args.item.wire = c.source_of.ensures ∙ ap src_of c.as_slice-frame.ensures in
@@ -65,22 +65,22 @@ whole c =
     let at = c.sought-at.ensures
     ∙ ap (λ w. cond (is_group (dst_of w)) None (place_in c.learn-learnt.new.self c.self.inside.clock c.args.vid (dst_of w))) c.as_slice-frame.ensures
     ∙ ap (λ o. cond (is_group (dst_of c.args.item.wire)) None o) (found_in c.self.inside.plan c.self.inside.clock c.args.vid (dst_of c.args.item.wire) c.learn-learnt.new.self newer.ageing) in
-    let chosen : c.choose.new.chosen.items ≡ filter (is_choice c.self.inside.ports c.self.inside.states c.args.port c.args.vid c.sought-at.result) local_ports =
-    c.choose.ensures.chosen in
+    let chosen : c.choose-chosen.result ≡ filter (is_choice c.self.inside.ports c.self.inside.states c.args.port c.args.vid c.sought-at.result) local_ports =
+    c.choose-chosen.ensures.chosen in
     let copied = subst (λ (qs : List ℕ). AreCopied c.self.inside.capacity c.args.load.class (copy_at c.self.inside.ports c.args.load c.args.item) c.self.inside.queues.items qs c.queue_copies.new.refused.items c.queue_copies.new.queues.items)
-    c.as_slice.ensures.value c.queue_copies.ensures.copied in
+    c.as_slice.ensures.ports c.queue_copies.ensures.copied in
     relayed c.self.inside.plan c.self.inside.number c.self.inside.steps.items c.self.inside.states c.self.inside.queues.items c.queue_copies.new.queues.items
     c.self.inside.clock c.self.inside.table.sightings c.learn-learnt.new.self.sightings c.self.inside.ports c.self.inside.capacity c.self.inside.limit c.args.port c.args.vid c.args.item c.args.load
-    c.learn-learnt.result c.sought-at.result c.choose.new.chosen.items c.queue_copies.new.refused.items
+    c.learn-learnt.result c.sought-at.result c.choose-chosen.result c.queue_copies.new.refused.items
     c.self.invariant.0 c.self.invariant.1
     (subst (λ (v : BridgeView). ruling spanning_tree v.plan v.number v.steps c.args.port c.args.item ≡ Carries c.args.vid) (sym c.self.view_is) c.requires.ruling)
     (subst (λ (v : BridgeView). IsLoadedAt v.plan v.number (port_at v.plan v.number c.args.port) c.args.item.wire c.args.load) (sym c.self.view_is) c.requires.load)
-    learns at chosen c.choose.ensures.separate copied c.queue_copies.ensures.count
+    learns at chosen c.choose-chosen.ensures.separate copied c.queue_copies.ensures.count
 
 pub invariant_of-self : goal.invariant_of-self
 invariant_of-self c =
     let reserved = c.self.invariant.2.reserved (subst (λ (v : BridgeView). v.is_reserved ≡ true) (sym c.self.view_is) c.requires.reserved) in
-    let step : Step = Receive c.args.port c.args.item (Some c.learn-learnt.result) (Relayed c.choose.new.chosen.items c.queue_copies.new.refused.items) None in
+    let step : Step = Receive c.args.port c.args.item (Some c.learn-learnt.result) (Relayed c.choose-chosen.result c.queue_copies.new.refused.items) None in
     let e : c.append_receive.new.steps.items ≡ c.self.inside.steps.items ++ step ∷ [] =
     c.append_receive.ensures.items ∙ ap (λ (o : Outcome). c.self.inside.steps.items ++ Receive c.args.port c.args.item (Some c.learn-learnt.result) o None ∷ []) c.outcomes-told.ensures.kept in (
       c.self.invariant.0,
@@ -97,7 +97,7 @@ invariant_of-self c =
 
 pub returns-clause-taken : goal.returns-clause-taken
 returns-clause-taken c =
-    let outcome = Relayed c.choose.new.chosen.items c.queue_copies.new.refused.items in
+    let outcome = Relayed c.choose-chosen.result c.queue_copies.new.refused.items in
     let step : Step = Receive c.args.port c.args.item (Some c.learn-learnt.result) outcome None in
     let e : c.append_receive.new.steps.items ≡ c.self.inside.steps.items ++ step ∷ [] =
     c.append_receive.ensures.items ∙ ap (λ (o : Outcome). c.self.inside.steps.items ++ Receive c.args.port c.args.item (Some c.learn-learnt.result) o None ∷ []) c.outcomes-told.ensures.kept in (

@@ -1,0 +1,107 @@
+//! Local ports of a bridge, in an order.
+
+ghost use Rattle.std.specs.Prelude.{◌≡◌, ◌≤◌, ◌<◌, ◌++◌, ◌∷◌, [], length, nat_eq, IfSome, IfNone};
+ghost use Rattle.std.specs.Cmp.Lexicographic.{pointwise, nat_list_eq_equiv};
+ghost use Rattle.std.specs.Cmp.{partial_equiv_from_equiv};
+
+use std::alloc::AllocError;
+use std::marker::Model;
+
+/// The most ports of a bridge.
+const PORTS: usize = 16;
+
+/// Up to sixteen local ports of a bridge, in an order. They stand in the value itself, and take no other
+/// memory. Contracts see the list of the ports.
+#[derive(Debug, Drop)]
+pub struct PortList {
+    ports: [u8; PORTS],
+    count: u8,
+}
+
+impl Model for PortList {
+    ghost use Rattle.std.specs.Prelude.{ℕ, List, ◌≤◌, take};
+
+    ghost Value = { List ℕ };
+
+    ghost view = { λ p. take p.count p.ports };
+
+    ghost invariant = { λ p. p.count ≤ 16 };
+}
+
+impl PortList {
+    /// No ports.
+    pub fn new() -> PortList
+        ensures { result ≡ [] }
+    {
+        PortList {
+            ports: [0; PORTS],
+            count: 0,
+        }
+    }
+
+    /// The ports of a slice. None where there are more than sixteen.
+    pub fn from_slice(ports: &[u8]) -> Option<PortList>
+        ensures some { IfSome result (λ list. list ≡ ports.now) }
+        ensures none { IfNone result (16 < length ports.now) }
+    {
+        if ports.len() > PORTS {
+            return None;
+        }
+        let mut list = PortList::new();
+        for port in ports {
+            list.push(*port);
+        }
+        Some(list)
+    }
+
+    /// Puts a port behind the others.
+    pub fn push(&mut self, port: u8)
+        requires { length self.old < 16 }
+        ensures { self.new ≡ self.old ++ port ∷ [] }
+    {
+        self.ports[usize::from(self.count)] = port;
+        self.count += 1;
+    }
+
+    /// The same ports. Takes no memory.
+    pub fn copied(&self) -> PortList
+        ensures { result ≡ self.now }
+    {
+        PortList {
+            ports: self.ports,
+            count: self.count,
+        }
+    }
+
+    /// The ports, in their order.
+    pub fn as_slice(&self) -> &[u8]
+        ensures ports { result.now ≡ self.now }
+        ensures few { length result.now ≤ 16 }
+    {
+        &self.ports[..usize::from(self.count)]
+    }
+}
+
+/// The same ports in the same order.
+impl PartialEq for PortList {
+    ghost eq = { pointwise nat_eq };
+
+    ghost laws = { partial_equiv_from_equiv nat_list_eq_equiv };
+
+    fn eq(&self, other: &Self) -> bool {
+        self.as_slice() == other.as_slice()
+    }
+}
+
+impl Eq for PortList {
+    ghost laws = { nat_list_eq_equiv };
+}
+
+/// The copy is equal.
+impl Clone for PortList {
+    ghost is_clone = { λ ports copy. copy ≡ ports };
+
+    fn clone(&self) -> Result<PortList, AllocError> {
+        Ok(self.copied())
+    }
+}
