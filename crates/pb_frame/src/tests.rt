@@ -214,16 +214,23 @@ fn sevens(alloc: Global, digits: usize) -> Result<Vec<u8>, Fail> {
     Ok(vec![in alloc; b'7'; digits]?)
 }
 
+/// The octets are so many, and each is that of the digits 77.
+fn are_sevens(rt: &impl Abort, octets: &Bytes, count: usize) {
+    assert_eq!(rt; octets.len(), count);
+    assert!(rt; octets.as_slice().iter().all(|octet| *octet == 0x77));
+}
+
 #[test]
 fn octets_that_find_no_room_in_a_buffer_take_more(rt: HostRuntime) -> Result<(), Fail> {
     let alloc = rt.alloc();
     let mut buffer = BytesMut::new(alloc);
     let digits = sevens(alloc, 60_000)?;
-    for _ in 0..5 {
-        let octets = hex_octets_in(&mut buffer, digits.as_slice())?;
-        assert_eq!(rt; octets.len(), 30_000);
-        assert!(rt; octets.as_slice().iter().all(|octet| *octet == 0x77));
-    }
+    let first = hex_octets_in(&mut buffer, digits.as_slice())?;
+    let second = hex_octets_in(&mut buffer, digits.as_slice())?;
+    let third = hex_octets_in(&mut buffer, digits.as_slice())?;
+    are_sevens(&rt, &first, 30_000);
+    are_sevens(&rt, &second, 30_000);
+    are_sevens(&rt, &third, 30_000);
     Ok(())
 }
 

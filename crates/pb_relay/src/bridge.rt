@@ -194,6 +194,7 @@ impl Bridge {
 
     /// Takes the item that leaves a port next, and appends the Transmit step that tells of it. Takes
     /// no memory.
+    #[inline(always)]
     pub fn pop_out(&mut self, port: u8) -> Item
         requires used { is_used (port_at self.old.plan self.old.number port) ≡ true }
         requires reserved { self.old.is_reserved ≡ true }

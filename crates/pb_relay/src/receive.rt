@@ -49,6 +49,7 @@ impl Bridge {
 
     /// Does as [`Bridge::receive`], with its faults, and answers no outcome: the step tells of it.
     /// Without the copy it takes less memory.
+    #[inline(always)]
     pub fn take_in(&mut self, port: u8, item: Item) -> Result<(), (BridgeFault, Item)>
         requires { is_used (port_at self.old.plan self.old.number port) ≡ true }
         ensures ok { OnOk result ((outcome : Outcome) × HasReceived self.old port item outcome self.new) }
@@ -62,6 +63,7 @@ impl Bridge {
     }
 
     /// Receives an item, and tells the outcome where that is asked for.
+    #[inline(always)]
     fn admit(
         &mut self,
         port: u8,
@@ -210,6 +212,7 @@ impl Bridge {
 }
 
 /// Puts the step of an item that came in at a port into the room that is there for it.
+#[inline(always)]
 fn append_receive(
     steps: &mut Vec<Step>,
     port: u8,
