@@ -1,12 +1,13 @@
 #!/usr/bin/env bash
 # Measures how many lines a second the flat command answers: 200,000 frames of 64 octets between
 # 256 stations at three ports, half of them broadcast, and the same with 4,096 stations, which fill the
-# table. Where YARDSTICK names a Rust source of the same command, that is measured too, and the outputs
-# are compared.
+# table. Where YARDSTICK names a Rust source of the same command, that is measured in turn with it, and the
+# outputs are compared. Each is run ROUNDS times, and the best counts.
 set -eu
 cd -- "$(dirname -- "$0")/.."
 
 lines=200000
+rounds=${ROUNDS:-9}
 yardstick=${YARDSTICK:-../shared/bench/flat_yardstick.rs}
 folder=$(mktemp -d)
 trap 'rm -rf -- "$folder"' EXIT
@@ -29,34 +30,55 @@ frames() {
         }' >"$folder/$1.in"
 }
 
-# Runs a command over the frames between so many stations three times, and prints the best rate.
-measure() {
+# Runs a command once over the frames between so many stations, and keeps the seconds.
+run() {
     name=$1
     stations=$2
     shift 2
-    best=
-    for _ in 1 2 3; do
-        TIMEFORMAT=%R
-        seconds=$({ time "$@" <"$folder/$stations.in" >"$folder/$name.$stations.out"; } 2>&1)
-        best=$(printf '%s %s\n' "${best:-$seconds}" "$seconds" | awk '{ print ($1 < $2) ? $1 : $2 }')
-    done
-    awk -v name="$name" -v stations="$stations" -v lines="$lines" -v seconds="$best" 'BEGIN {
+    TIMEFORMAT=%R
+    { time "$@" <"$folder/$stations.in" >"$folder/$name.$stations.out"; } 2>>"$folder/$name.$stations.seconds"
+}
+
+# The least of the seconds that were kept.
+best() {
+    sort -n "$folder/$1.$2.seconds" | head -n 1
+}
+
+# Prints the best rate of a program with so many stations.
+tell() {
+    awk -v name="$1" -v stations="$2" -v lines="$lines" -v seconds="$(best "$1" "$2")" 'BEGIN {
         rate = lines / (seconds > 0 ? seconds : 0.001)
         printf "%s, %d stations: %.0f lines per second (%s s)\n", name, stations, rate, seconds
     }'
 }
 
+# Prints how many times as fast one best run was as another.
+compare() {
+    awk -v name="$1" -v one="$2" -v other="$3" 'BEGIN { printf "%s: %.2f\n", name, other / (one > 0 ? one : 0.001) }'
+}
+
 # The script builds the program where that is due, and then looks at its sources each time; that isn't timed.
 ./pbnet --help >/dev/null
 export GLIBC_TUNABLES=${GLIBC_TUNABLES-glibc.malloc.hugetlb=1}
-for stations in 256 4096; do
-    frames "$stations"
-    measure pbnet "$stations" out/pbnet flat 3
-done
+has_yardstick=
 if [ -f "$yardstick" ] && command -v rustc >/dev/null 2>&1; then
     rustc -O --edition 2021 -o "$folder/yardstick" "$yardstick"
-    for stations in 256 4096; do
-        measure yardstick "$stations" "$folder/yardstick" 3
-        cmp "$folder/pbnet.$stations.out" "$folder/yardstick.$stations.out" && echo "the outputs are the same"
-    done
+    has_yardstick=1
 fi
+frames 256
+frames 4096
+for _ in $(seq "$rounds"); do
+    for stations in 256 4096; do
+        run pbnet "$stations" out/pbnet flat 3
+        [ -z "$has_yardstick" ] || run yardstick "$stations" "$folder/yardstick" 3
+    done
+done
+for stations in 256 4096; do
+    tell pbnet "$stations"
+    if [ -n "$has_yardstick" ]; then
+        tell yardstick "$stations"
+        cmp "$folder/pbnet.$stations.out" "$folder/yardstick.$stations.out" && echo "the outputs are the same"
+        compare "pbnet to the yardstick, $stations stations" "$(best pbnet "$stations")" "$(best yardstick "$stations")"
+    fi
+done
+compare "pbnet with 4096 stations to 256" "$(best pbnet 4096)" "$(best pbnet 256)"

@@ -29,11 +29,11 @@ pub(crate) fn put_answer(
 {
     match outcome {
         Outcome::Relayed { chosen, .. } if is_as_printed(wire, digits) => {
-            put_out_lines(out, digits, chosen.as_slice())
+            put_out_lines(out, digits, chosen.list().as_slice())
         }
         Outcome::Relayed { chosen, .. } => {
             let hex = bare_hex(alloc, wire)?;
-            put_out_lines(out, hex.as_bytes(), chosen.as_slice())
+            put_out_lines(out, hex.as_bytes(), chosen.list().as_slice())
         }
         Outcome::Filtered(reason) => put_filtered(alloc, out, port, *reason),
         Outcome::Heard => Ok(()),

@@ -79,7 +79,7 @@ fn is_lost(outcome: &Outcome) -> bool
     ensures kept { result ≡ false → IsClearOutcome outcome.now }
 {
     match outcome {
-        Outcome::Relayed { refused, .. } => refused.len() > 0,
+        Outcome::Relayed { refused, .. } => !refused.is_empty(),
         Outcome::Filtered(reason) => *reason == Reason::Memory,
         Outcome::Heard => false,
     }

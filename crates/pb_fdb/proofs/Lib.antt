@@ -1,6 +1,7 @@
 pub mod EntryLemmas
 pub mod LawLemmas
 pub mod StationLemmas
+pub mod SlotLemmas
 pub mod LogLemmas
 pub mod OrderLemmas
 pub mod LearnLemmas

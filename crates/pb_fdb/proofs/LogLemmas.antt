@@ -221,18 +221,6 @@ turned-last keep f g at s seen new rest each is place stay with_new same_entry b
           ∙ none-pass (is_of s) (entries_from f next front) none;
     }
 
--- where an entry was found at a place, the index has its station there
-pub entry-found : (at : ℕ) (s : Station) (o : Option LastSeen) (e : Entry) → entry_at at s o ≡ e ∷ [] → (seen : LastSeen) × (o ≡ Some seen) × (at ≡ seen.at) × (entry_of s seen ≡ e)
-entry-found at s None e h = let n : zero ≡ suc zero = ap length h in cc
-entry-found at s (Some seen) e h =
-    elim (at == seen.at) as (λ b. (at == seen.at) ≡ b → cond b (entry_of s seen ∷ []) [] ≡ e ∷ [] → (seen' : LastSeen) × (Some seen ≡ Some seen') × (at ≡ seen'.at) × (entry_of s seen' ≡ e)) [
-      | true ↦ λ is k. (seen, refl, eqb-true at seen.at is, head-same k)
-      | false ↦ λ is k. let n : zero ≡ suc zero = ap length k in cc
-    ] refl h
-  where
-    head-same : {a b : Entry} → a ∷ [] ≡ b ∷ [] → a ≡ b
-    head-same k = Some-injective (ap (λ zs. slice_get zs 0) k)
-
 -- the entries once the first place had its turn, where its station goes
 pub gone-entries : (f g : Index) (at : ℕ) (s : Station) (seen : LastSeen) (rest : List Station) → HasEach f (entries_from f at (s ∷ rest)) → f s ≡ Some seen → at ≡ seen.at → IsIndexWith s None f g
     → entries_from g (place_after at 1) rest ≡ filter (λ e. not (is_of s e)) (entries_from f at (s ∷ rest))

@@ -1,10 +1,11 @@
 -- Entries as a log of stations tells them, with an index of where each was seen last.
-use Rattle.std.specs.Prelude.{◌≡◌, ℕ, ◌+◌, ◌-◌, ◌^◌, ◌≤◌, ◌%◌, ◌==◌, ◌&&◌, Bool, true, cond, not, List, [], ◌∷◌, ◌++◌, Some, None, length}
+use Rattle.std.specs.Prelude.{◌≡◌, ℕ, ◌+◌, ◌-◌, ◌^◌, ◌≤◌, ◌%◌, ◌==◌, ◌&&◌, Bool, true, cond, not, List, [], ◌∷◌, ◌++◌, Some, None, length, map}
 use Rattle.std.specs.declared.option.Option.{Option}
 use Rattle.std.specs.List.{filter}
 use Rattle.pb_frame.specs.Admission.{same}
 use Rattle.pb_fdb.specs.declared.entry.Entry.{Entry}
 use Rattle.pb_fdb.specs.declared.station.LastSeen.{LastSeen}
+use Rattle.pb_fdb.specs.declared.station.Place.{Place}
 use Rattle.pb_fdb.specs.declared.station.Station.{Station}
 
 -- the station in the service
@@ -43,6 +44,10 @@ entry_at at s (Some seen) = cond (at == seen.at) (entry_of s seen ∷ []) []
 abbrev pub entries_from : Index → ℕ → List Station → List Entry
 entries_from index at [] = []
 entries_from index at (s ∷ ss) = entry_at at s (index s) ++ entries_from index (place_after at 1) ss
+
+-- the stations at the places of a log
+abbrev pub stations : List Place → List Station
+stations places = map (λ p. p.station) places
 
 -- each station of the index has its one entry
 abbrev pub HasEach : Index → List Entry → Type 0

@@ -1,15 +1,15 @@
 //! The table's entries, one by one.
 
-ghost use Rattle.std.specs.HashMap.{get};
+ghost use Rattle.indexmap.specs.IndexMap.{get};
 ghost use Rattle.std.specs.Iterator.{YieldsFirstBy, item_count};
 ghost use Rattle.std.specs.Prelude.{◌≡◌};
 ghost use Rattle.std.specs.VecDeque.Iter.{deque_iter_rest};
 ghost use Rattle.pb_fdb.specs.Entries.{sighting_of, sightings};
-ghost use Rattle.pb_fdb.specs.Journals.{entries_from, is_same};
+ghost use Rattle.pb_fdb.specs.Journals.{entries_from, is_same, stations};
 
 use crate::entry::Entry;
 use crate::journal::{Index, entry_there};
-use crate::station::Station;
+use crate::station::Place;
 use std::collections::vec_deque::Iter;
 use std::marker::Model;
 
@@ -18,27 +18,27 @@ use std::marker::Model;
 #[derive(Drop)]
 pub struct Entries<'a> {
     index: &'a Index,
-    log: Iter<'a, Station>,
+    log: Iter<'a, Place>,
     at: u64,
 }
 
 impl<'a> Model for Entries<'a> {
-    ghost use Rattle.std.specs.HashMap.{get};
+    ghost use Rattle.indexmap.specs.IndexMap.{get};
     ghost use Rattle.std.specs.Prelude.{List};
     ghost use Rattle.std.specs.VecDeque.Iter.{deque_iter_rest};
     ghost use Rattle.pb_frame.specs.Stations.{Sighting};
     ghost use Rattle.pb_fdb.specs.Entries.{sightings};
-    ghost use Rattle.pb_fdb.specs.Journals.{entries_from, is_same};
+    ghost use Rattle.pb_fdb.specs.Journals.{entries_from, is_same, stations};
 
     ghost Value = { List Sighting };
 
-    ghost view = { λ e. sightings (entries_from (get is_same e.index.now) e.at (deque_iter_rest e.log)) };
+    ghost view = { λ e. sightings (entries_from (get is_same e.index.now) e.at (stations (deque_iter_rest e.log))) };
 }
 
 impl<'a> Entries<'a> {
     /// The entries of a log that begins at this place.
-    pub(crate) fn of(index: &'a Index, log: Iter<'a, Station>, at: u64) -> Entries<'a>
-        ensures { result ≡ sightings (entries_from (get is_same index.now) at (deque_iter_rest log.entry)) }
+    pub(crate) fn of(index: &'a Index, log: Iter<'a, Place>, at: u64) -> Entries<'a>
+        ensures { result ≡ sightings (entries_from (get is_same index.now) at (stations (deque_iter_rest log.entry))) }
     {
         Entries { index, log, at }
     }
@@ -52,8 +52,8 @@ impl<'a> Iterator for Entries<'a> {
     ghost remaining = { item_count (λ rest. rest) };
 
     fn next(&mut self) -> Option<Entry> {
-        while let Some(station) = self.log.next() {
-            let entry = entry_there(self.index, self.at, *station);
+        while let Some(place) = self.log.next() {
+            let entry = entry_there(self.index, self.at, place);
             self.at = self.at.wrapping_add(1);
             if entry.is_some() {
                 return entry;

@@ -1,91 +1,121 @@
 //! Entries in the order of last learning, found by their stations.
 
-ghost use Rattle.std.specs.HashMap.{get, hash_map_len};
+ghost use Rattle.indexmap.specs.IndexMap.{get, keys, values, index_map_len};
 ghost use Rattle.std.specs.List.{filter};
 ghost use Rattle.std.specs.Option.{option_to_list};
-ghost use Rattle.std.specs.Prelude.{◌≡◌, ◌==◌, ◌<◌, ◌≤◌, ◌+◌, ◌^◌, ◌++◌, ◌∷◌, [], List, Some, not, length, drop, slice_get, OnOk, OnErr, OnSome, IfNone};
+ghost use Rattle.std.specs.Prelude.{◌≡◌, ◌==◌, ◌<◌, ◌≤◌, ◌+◌, ◌^◌, ◌++◌, ◌∷◌, [], List, Some, None, not, length, drop, slice_get, OnOk, OnErr, OnSome, IfSome, IfNone};
 ghost use Rattle.std.specs.VecDeque.{deque_len, deque_capacity};
 ghost use Rattle.pb_frame.specs.Stations.{is_sighted};
 ghost use Rattle.pb_fdb.specs.Entries.{sighting_of, sightings, without_station};
-ghost use Rattle.pb_fdb.specs.Journals.{is_same, entry_at, entries_from, place_after, stays, HasEach, HasTurned, IsIndexWith};
+ghost use Rattle.pb_fdb.specs.Journals.{is_same, entry_at, entries_from, place_after, stations, stays, HasEach, HasTurned, IsIndexWith};
 ghost use Rattle.pb_fdb.specs.declared.station.Station.{Station};
 
 use crate::entries::Entries;
 use crate::entry::Entry;
-use crate::station::{LastSeen, Station};
+use crate::station::{LastSeen, Place, Station};
+use indexmap::IndexMap;
 use pb_frame::Mac;
 use std::alloc::{AllocError, Global};
-use std::collections::{HashMap, VecDeque};
+use std::collections::VecDeque;
 use std::marker::Model;
 
 /// Where each station was seen last. A look-up takes constant time. Its hashes are without secret: whoever
 /// picks the addresses can make look-ups as slow as a search among all stations, and no slower.
-pub(crate) type Index = HashMap<Station, LastSeen>;
+pub(crate) type Index = IndexMap<Station, LastSeen>;
 
 /// Entries in the order of last learning, the oldest first, each found by its station in constant time.
 /// Contracts see the entries. An empty journal takes no memory.
 ///
 /// The log has each station at every place where it was learnt, and the index the last of these places, at
 /// which alone it counts. So a station that is learnt again is put last without a search for where it stood.
-/// Once the log is full it is gone through, and the places that count no more are dropped.
+/// Once the log is full it is gone through, and the places that count no more are dropped. Each place tells at
+/// which slot the index had its station, so that only stations that the index has moved since are looked up.
 #[derive(Drop)]
 pub struct Journal {
     index: Index,
-    log: VecDeque<Station>,
+    log: VecDeque<Place>,
     first: u64,
 }
 
 impl Model for Journal {
-    ghost use Rattle.std.specs.HashMap.{get, hash_map_len};
+    ghost use Rattle.indexmap.specs.IndexMap.{get, index_map_len};
     ghost use Rattle.std.specs.Prelude.{List};
     ghost use Rattle.std.specs.VecDeque.{deque_capacity};
     ghost use Rattle.pb_fdb.specs.declared.entry.Entry.{Entry};
-    ghost use Rattle.pb_fdb.specs.Journals.{entries_from, is_same, IsJournal};
+    ghost use Rattle.pb_fdb.specs.Journals.{entries_from, is_same, stations, IsJournal};
 
     ghost Value = { List Entry };
 
-    ghost view = { λ j. entries_from (get is_same j.index) j.first j.log.items };
+    ghost view = { λ j. entries_from (get is_same j.index) j.first (stations j.log.items) };
 
-    ghost invariant = { λ j. IsJournal (get is_same j.index) (hash_map_len j.index) (deque_capacity j.log) (entries_from (get is_same j.index) j.first j.log.items) };
+    ghost invariant = { λ j. IsJournal (get is_same j.index) (index_map_len j.index) (deque_capacity j.log) (entries_from (get is_same j.index) j.first (stations j.log.items)) };
+}
+
+/// The slot at which the index has a station, by a look-up. It stays a call of its own, so that `slot_of`, which
+/// seldom makes it, is short.
+#[inline(never)]
+fn find_slot(index: &Index, station: &Station) -> Option<usize>
+    ensures station { IfSome result (λ slot. slice_get (keys index.now) slot ≡ Some station.now) }
+    ensures seen { IfSome result (λ slot. slice_get (values index.now) slot ≡ get is_same index.now station.now) }
+    ensures within { IfSome result (λ slot. slot < index_map_len index.now) }
+    ensures absent { IfNone result (get is_same index.now station.now ≡ None) }
+{
+    index.get_index_of(station)
+}
+
+/// The slot at which the index has the station of a place: mostly the one that the place tells, and else a
+/// look-up finds it.
+fn slot_of(index: &Index, place: &Place) -> Option<usize>
+    ensures station { IfSome result (λ slot. slice_get (keys index.now) slot ≡ Some place.now.station) }
+    ensures seen { IfSome result (λ slot. slice_get (values index.now) slot ≡ get is_same index.now place.now.station) }
+    ensures within { IfSome result (λ slot. slot < index_map_len index.now) }
+    ensures absent { IfNone result (get is_same index.now place.now.station ≡ None) }
+{
+    let slot = place.slot as usize;
+    match index.get_index(slot) {
+        Some((station, _)) if *station == place.station => Some(slot),
+        _ => find_slot(index, &place.station),
+    }
 }
 
 /// The entry that stands at a place of the log, if the station's last place is this one.
-pub(crate) fn entry_there(index: &Index, at: u64, station: Station) -> Option<Entry>
-    ensures { entry_at at station (get is_same index.now station) ≡ option_to_list result }
+pub(crate) fn entry_there(index: &Index, at: u64, place: &Place) -> Option<Entry>
+    ensures { entry_at at place.now.station (get is_same index.now place.now.station) ≡ option_to_list result }
 {
-    let seen = index.get(&station)?;
+    let slot = slot_of(index, place)?;
+    let seen = index[slot];
     if seen.at != at {
         return None;
     }
     Some(Entry {
-        vid: station.vid,
-        mac: station.mac,
+        vid: place.station.vid,
+        mac: place.station.mac,
         port: seen.port,
         learnt: seen.learnt,
     })
 }
 
-/// Notes where a station that the index has was seen last, and answers where that was before. Takes no memory.
-fn note(index: &mut Index, station: Station, seen: LastSeen) -> Option<LastSeen>
-    ensures old { result ≡ get is_same index.old station }
-    ensures noted { OnSome result (IsIndexWith station (Some seen) (get is_same index.old) (get is_same index.new)) }
-    ensures len { hash_map_len index.new ≡ hash_map_len index.old }
-    ensures absent { IfNone result (index.new ≡ index.old) }
+/// Notes where the station at a slot of the index was seen last, and answers where that was before.
+fn note(index: &mut Index, slot: usize, seen: LastSeen) -> LastSeen
+    requires { slot < index_map_len index.old }
+    ensures old { slice_get (values index.old) slot ≡ Some result }
+    ensures noted { (s : Station) → slice_get (keys index.old) slot ≡ Some s → IsIndexWith s (Some seen) (get is_same index.old) (get is_same index.new) }
+    ensures len { index_map_len index.new ≡ index_map_len index.old }
 {
-    let last = index.get_mut(&station)?;
+    let (_, last) = index.pair_mut(slot);
     let old = *last;
     *last = seen;
-    Some(old)
+    old
 }
 
 /// Drops the places at the front of a log that count no more, and answers the entry at the first that does.
-fn front(index: &Index, log: &mut VecDeque<Station>, first: &mut u64) -> Option<Entry>
-    ensures entries { entries_from (get is_same index.now) first.new log.new.items ≡ entries_from (get is_same index.now) first.old log.old.items }
-    ensures oldest { result ≡ slice_get (entries_from (get is_same index.now) first.old log.old.items) 0 }
+fn front(index: &Index, log: &mut VecDeque<Place>, first: &mut u64) -> Option<Entry>
+    ensures entries { entries_from (get is_same index.now) first.new (stations log.new.items) ≡ entries_from (get is_same index.now) first.old (stations log.old.items) }
+    ensures oldest { result ≡ slice_get (entries_from (get is_same index.now) first.old (stations log.old.items)) 0 }
     ensures capacity { deque_capacity log.new ≡ deque_capacity log.old }
 {
-    while let Some(station) = log.front() {
-        let entry = entry_there(index, *first, *station);
+    while let Some(place) = log.front() {
+        let entry = entry_there(index, *first, place);
         if entry.is_some() {
             return entry;
         }
@@ -96,46 +126,49 @@ fn front(index: &Index, log: &mut VecDeque<Station>, first: &mut u64) -> Option<
 }
 
 /// Drops the first place of a log, and where it counts and is at another port, has its entry stand last.
-fn turn(index: &mut Index, log: &mut VecDeque<Station>, first: &mut u64, port: Option<u8>)
+fn turn(index: &mut Index, log: &mut VecDeque<Place>, first: &mut u64, port: Option<u8>)
     requires some { 0 < deque_len log.old }
-    requires each { HasEach (get is_same index.old) (entries_from (get is_same index.old) first.old log.old.items) }
+    requires each { HasEach (get is_same index.old) (entries_from (get is_same index.old) first.old (stations log.old.items)) }
     ensures first { first.new ≡ place_after first.old 1 }
-    ensures turned { (s : Station) (rest : List Station) → log.old.items ≡ s ∷ rest
-        → HasTurned (stays port) (get is_same index.old) (get is_same index.new) first.old s rest log.new.items }
-    ensures each { HasEach (get is_same index.new) (entries_from (get is_same index.new) first.new log.new.items) }
-    ensures count { length (entries_from (get is_same index.old) first.old log.old.items) ≡ hash_map_len index.old
-        → length (entries_from (get is_same index.new) first.new log.new.items) ≡ hash_map_len index.new }
+    ensures turned { (s : Station) (rest : List Station) → stations log.old.items ≡ s ∷ rest
+        → HasTurned (stays port) (get is_same index.old) (get is_same index.new) first.old s rest (stations log.new.items) }
+    ensures each { HasEach (get is_same index.new) (entries_from (get is_same index.new) first.new (stations log.new.items)) }
+    ensures count { length (entries_from (get is_same index.old) first.old (stations log.old.items)) ≡ index_map_len index.old
+        → length (entries_from (get is_same index.new) first.new (stations log.new.items)) ≡ index_map_len index.new }
     ensures capacity { deque_capacity log.new ≡ deque_capacity log.old }
 {
-    let Some(station) = log.pop_front() else {
+    let Some(place) = log.pop_front() else {
         unreachable!();
     };
     let at = *first;
     *first = at.wrapping_add(1);
-    let Some(entry) = entry_there(index, at, station) else {
+    let Some(slot) = slot_of(index, &place) else {
         return;
     };
-    if port == Some(entry.port) {
-        let _ = index.remove(&station);
+    let seen = index[slot];
+    if seen.at != at {
         return;
     }
-    let seen = LastSeen {
+    if port == Some(seen.port) {
+        let _ = index.swap_remove_index(slot);
+        return;
+    }
+    let last = LastSeen {
         at: first.wrapping_add(log.len() as u64),
-        learnt: entry.learnt,
-        port: entry.port,
+        ..seen
     };
-    let _ = note(index, station, seen);
-    log.push_back_reserved(station);
+    let _ = note(index, slot, last);
+    log.push_back_reserved(Place::new(place.station, slot));
 }
 
 /// Drops the places of a log that count no more, and the entries at a port: each in turn goes, or goes last.
-fn rotate(index: &mut Index, log: &mut VecDeque<Station>, first: &mut u64, port: Option<u8>)
-    requires each { HasEach (get is_same index.old) (entries_from (get is_same index.old) first.old log.old.items) }
-    requires count { length (entries_from (get is_same index.old) first.old log.old.items) ≡ hash_map_len index.old }
-    ensures entries { entries_from (get is_same index.new) first.new log.new.items ≡ filter (stays port) (entries_from (get is_same index.old) first.old log.old.items) }
-    ensures each { HasEach (get is_same index.new) (entries_from (get is_same index.new) first.new log.new.items) }
-    ensures count { length (entries_from (get is_same index.new) first.new log.new.items) ≡ hash_map_len index.new }
-    ensures len { deque_len log.new ≡ hash_map_len index.new }
+fn rotate(index: &mut Index, log: &mut VecDeque<Place>, first: &mut u64, port: Option<u8>)
+    requires each { HasEach (get is_same index.old) (entries_from (get is_same index.old) first.old (stations log.old.items)) }
+    requires count { length (entries_from (get is_same index.old) first.old (stations log.old.items)) ≡ index_map_len index.old }
+    ensures entries { entries_from (get is_same index.new) first.new (stations log.new.items) ≡ filter (stays port) (entries_from (get is_same index.old) first.old (stations log.old.items)) }
+    ensures each { HasEach (get is_same index.new) (entries_from (get is_same index.new) first.new (stations log.new.items)) }
+    ensures count { length (entries_from (get is_same index.new) first.new (stations log.new.items)) ≡ index_map_len index.new }
+    ensures len { deque_len log.new ≡ index_map_len index.new }
     ensures capacity { deque_capacity log.new ≡ deque_capacity log.old }
 {
     for _turn in 0..log.len() {
@@ -145,13 +178,13 @@ fn rotate(index: &mut Index, log: &mut VecDeque<Station>, first: &mut u64, port:
 
 /// Has a log that is full take one more place, by dropping those that count no more, where any do.
 #[tactic(auto, using(crate::proofs::LogLemmas::all_stay))]
-fn free_place(index: &mut Index, log: &mut VecDeque<Station>, first: &mut u64)
-    requires each { HasEach (get is_same index.old) (entries_from (get is_same index.old) first.old log.old.items) }
-    requires count { length (entries_from (get is_same index.old) first.old log.old.items) ≡ hash_map_len index.old }
-    ensures entries { entries_from (get is_same index.new) first.new log.new.items ≡ entries_from (get is_same index.old) first.old log.old.items }
-    ensures each { HasEach (get is_same index.new) (entries_from (get is_same index.new) first.new log.new.items) }
-    ensures len { hash_map_len index.new ≡ hash_map_len index.old }
-    ensures place { hash_map_len index.old < deque_capacity log.old → deque_len log.new < deque_capacity log.new }
+fn free_place(index: &mut Index, log: &mut VecDeque<Place>, first: &mut u64)
+    requires each { HasEach (get is_same index.old) (entries_from (get is_same index.old) first.old (stations log.old.items)) }
+    requires count { length (entries_from (get is_same index.old) first.old (stations log.old.items)) ≡ index_map_len index.old }
+    ensures entries { entries_from (get is_same index.new) first.new (stations log.new.items) ≡ entries_from (get is_same index.old) first.old (stations log.old.items) }
+    ensures each { HasEach (get is_same index.new) (entries_from (get is_same index.new) first.new (stations log.new.items)) }
+    ensures len { index_map_len index.new ≡ index_map_len index.old }
+    ensures place { index_map_len index.old < deque_capacity log.old → deque_len log.new < deque_capacity log.new }
     ensures capacity { deque_capacity log.new ≡ deque_capacity log.old }
 {
     if log.len() == log.capacity() {
@@ -160,7 +193,7 @@ fn free_place(index: &mut Index, log: &mut VecDeque<Station>, first: &mut u64)
 }
 
 /// Has a log take one more place, and twice as many as a station more than these.
-fn make_room(log: &mut VecDeque<Station>, count: usize) -> Result<(), AllocError>
+fn make_room(log: &mut VecDeque<Place>, count: usize) -> Result<(), AllocError>
     requires { count < 2 ^ 63 }
     ensures items { log.new.items ≡ log.old.items }
     ensures place { OnOk result (deque_len log.new < deque_capacity log.new) }
@@ -180,7 +213,7 @@ impl Journal {
         ensures { result ≡ [] }
     {
         Journal {
-            index: HashMap::new(alloc),
+            index: IndexMap::new(alloc),
             log: VecDeque::new(alloc),
             first: 0,
         }
@@ -221,7 +254,7 @@ impl Journal {
         let Some(entry) = front(&self.index, &mut self.log, &mut self.first) else {
             return;
         };
-        let _ = self.index.remove(&Station {
+        let _ = self.index.swap_remove(&Station {
             vid: entry.vid,
             mac: entry.mac,
         });
@@ -239,13 +272,14 @@ impl Journal {
             vid: new.vid,
             mac: new.mac,
         };
+        let slot = self.index.get_index_of(&station)?;
         let seen = LastSeen {
             at: self.first.wrapping_add(self.log.len() as u64),
             learnt: new.learnt,
             port: new.port,
         };
-        let old = note(&mut self.index, station, seen)?;
-        self.log.push_back_reserved(station);
+        let old = note(&mut self.index, slot, seen);
+        self.log.push_back_reserved(Place::new(station, slot));
         Some(Entry {
             vid: new.vid,
             mac: new.mac,
@@ -269,8 +303,8 @@ impl Journal {
             learnt: entry.learnt,
             port: entry.port,
         };
-        self.index.insert(station, seen)?;
-        self.log.push_back_reserved(station);
+        let (slot, _) = self.index.insert_full(station, seen)?;
+        self.log.push_back_reserved(Place::new(station, slot));
         Ok(())
     }
 

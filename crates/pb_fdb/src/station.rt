@@ -1,7 +1,7 @@
-//! Stations, and where each was seen last.
+//! Stations, where each was seen last, and the places of a log.
 
 ghost use Rattle.std.specs.Hash as fed;
-ghost use Rattle.std.specs.Prelude.{◌++◌, ◌∷◌, []};
+ghost use Rattle.std.specs.Prelude.{◌≡◌, ◌++◌, ◌∷◌, []};
 ghost use Rattle.std.proofs.Common.{rules};
 ghost use Rattle.std.specs.Cmp.Rules.{hashing};
 
@@ -38,4 +38,27 @@ pub struct LastSeen {
     pub learnt: u32,
     /// The port.
     pub port: u8,
+}
+
+/// A place of a log.
+#[derive(Clone, Copy, Debug)]
+pub struct Place {
+    /// The station that stands there.
+    pub station: Station,
+    /// The slot at which the index had the station when it was put there. A hint alone: the index may have
+    /// moved the station since.
+    pub slot: u32,
+}
+
+impl Place {
+    /// The place of a station that the index has at this slot. Only the lower bits of the slot are kept, which
+    /// is enough for a hint.
+    pub fn new(station: Station, slot: usize) -> Place
+        ensures { result.station ≡ station }
+    {
+        Place {
+            station,
+            slot: (slot & 0xFFFF_FFFF) as u32,
+        }
+    }
 }

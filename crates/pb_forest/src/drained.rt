@@ -41,7 +41,8 @@ fn gets_copy(outcome: &Outcome, port: u8) -> bool
 {
     match outcome {
         Outcome::Relayed { chosen, refused } => {
-            is_chosen(chosen.as_slice(), port) && !is_refused(refused.as_slice(), port)
+            is_chosen(chosen.list().as_slice(), port)
+                && !is_refused(refused.list().as_slice(), port)
         }
         Outcome::Filtered(_) | Outcome::Heard => false,
     }

@@ -1,10 +1,9 @@
 //! Local ports of a bridge, in an order.
 
-ghost use Rattle.std.specs.Prelude.{◌≡◌, ◌≤◌, ◌<◌, ◌++◌, ◌∷◌, [], length, nat_eq, IfSome, IfNone};
+ghost use Rattle.std.specs.Prelude.{◌≡◌, ◌≤◌, ◌<◌, ◌++◌, ◌∷◌, [], length, nat_eq};
 ghost use Rattle.std.specs.Cmp.Lexicographic.{pointwise, nat_list_eq_equiv};
 ghost use Rattle.std.specs.Cmp.{partial_equiv_from_equiv};
 
-use std::alloc::AllocError;
 use std::marker::Model;
 
 /// The most ports of a bridge.
@@ -39,21 +38,6 @@ impl PortList {
         }
     }
 
-    /// The ports of a slice. None where there are more than sixteen.
-    pub fn from_slice(ports: &[u8]) -> Option<PortList>
-        ensures some { IfSome result (λ list. list ≡ ports.now) }
-        ensures none { IfNone result (16 < length ports.now) }
-    {
-        if ports.len() > PORTS {
-            return None;
-        }
-        let mut list = PortList::new();
-        for port in ports {
-            list.push(*port);
-        }
-        Some(list)
-    }
-
     /// Puts a port behind the others.
     pub fn push(&mut self, port: u8)
         requires { length self.old < 16 }
@@ -61,16 +45,6 @@ impl PortList {
     {
         self.ports[usize::from(self.count)] = port;
         self.count += 1;
-    }
-
-    /// The same ports. Takes no memory.
-    pub fn copied(&self) -> PortList
-        ensures { result ≡ self.now }
-    {
-        PortList {
-            ports: self.ports,
-            count: self.count,
-        }
     }
 
     /// The ports, in their order.
@@ -95,13 +69,4 @@ impl PartialEq for PortList {
 
 impl Eq for PortList {
     ghost laws = { nat_list_eq_equiv };
-}
-
-/// The copy is equal.
-impl Clone for PortList {
-    ghost is_clone = { λ ports copy. copy ≡ ports };
-
-    fn clone(&self) -> Result<PortList, AllocError> {
-        Ok(self.copied())
-    }
 }

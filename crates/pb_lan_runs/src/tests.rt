@@ -1,6 +1,7 @@
 //! Runs with ample memory.
 
 mod counts;
+mod frame_number;
 mod plans;
 mod port_list;
 mod states;

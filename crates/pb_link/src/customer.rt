@@ -8,7 +8,7 @@ ghost use Rattle.pb_link.specs.Hands.{arrival, with_step, HasFed};
 use crate::steps::append;
 use bytes::Bytes;
 use pb_frame::Memory;
-use pb_lan::{Item, Mark, Step};
+use pb_lan::{FrameNumber, Item, Mark, Step};
 use std::alloc::Global;
 use std::marker::Model;
 
@@ -121,7 +121,7 @@ impl CustomerPlace {
         let item = Item {
             mark: Some(Mark {
                 port: self.number,
-                number: self.polls,
+                number: FrameNumber::new(self.polls),
             }),
             hops: 0,
             wire: frame,

@@ -6,7 +6,7 @@ mod rings;
 use crate::CustomerPlace;
 use bytes::Bytes;
 use pb_frame::Memory;
-use pb_lan::{Item, Mark, Step};
+use pb_lan::{FrameNumber, Item, Mark, Step};
 use std::alloc::{AllocError, Global};
 use std::test::Fail;
 
@@ -16,7 +16,10 @@ const BROADCAST: [u8; 14] = [255, 255, 255, 255, 255, 255, 2, 0, 0, 0, 1, 1, 8, 
 /// The broadcast, as the frame of this number of customer port 7.
 fn item(alloc: Global, number: u64) -> Result<Item, AllocError> {
     Ok(Item {
-        mark: Some(Mark { port: 7, number }),
+        mark: Some(Mark {
+            port: 7,
+            number: FrameNumber::new(number),
+        }),
         hops: 0,
         wire: Bytes::copy_from_slice(alloc, &BROADCAST)?,
     })

@@ -5,6 +5,7 @@ use Rattle.std.proofs.lemmas.List.{get_or-set_same, get_or-set_other, get_or_rea
 use Rattle.std.specs.declared.option.Option.{Option}
 use Rattle.std.specs.List.{AllByRecursion, filter, list_any}
 use Rattle.pb_frame.proofs.Lists.{All-append, filter-append}
+use Rattle.pb_lan.specs.PortSets.{AreAscending}
 use Rattle.pb_lan.specs.Queues.{is_refused}
 use Rattle.pb_lan.specs.BridgeLists.{AreRefused, is_named_full, is_full_word}
 use Rattle.pb_lan.specs.declared.step.Item.{Item}
@@ -35,7 +36,7 @@ pub others-none : (p : ℕ) (xs : List ℕ) → AllByRecursion (IsOther p) xs �
 others-none p [] a = refl
 others-none p (x ∷ xs) a = ap (λ b. b || list_any (λ q. q == p) xs) (unequal x p a.0) ∙ others-none p xs a.1
 
-filter-others : (P : ℕ → Type 0) (g : ℕ → Bool) (xs : List ℕ) → AllByRecursion P xs → AllByRecursion P (filter g xs)
+pub filter-others : (P : ℕ → Type 0) (g : ℕ → Bool) (xs : List ℕ) → AllByRecursion P xs → AllByRecursion P (filter g xs)
 filter-others P g [] a = tt
 filter-others P g (x ∷ xs) a = elim (g x) as (λ b. AllByRecursion P (cond b (x ∷ filter g xs) (filter g xs))) [ true ↦ (a.0, filter-others P g xs a.1) | false ↦ filter-others P g xs a.1 ]
 
@@ -191,6 +192,29 @@ pub separate_before : (ps : List ℕ) (i : ℕ) → i < length ps → AreSeparat
 separate_before [] i l a = absurd (omega arith)
 separate_before (p ∷ ps) zero l a = tt
 separate_before (p ∷ ps) (suc i) l a = (other-at p ps i (omega arith) a.1, separate_before ps i (omega arith) a.2)
+
+-- ports that ascend are separate
+apart : (p low : ℕ) (ps : List ℕ) → p ≤ low → AreAscending low ps → AllByRecursion (λ q. q ≢ p) ps
+apart p low [] l a = tt
+apart p low (q ∷ ps) l a = let above : low < q = a.0 in (omega (arith, l, above), apart p q ps (omega (arith, l, above)) a.2)
+
+pub separate_of : (low : ℕ) (ps : List ℕ) → AreAscending low ps → AreSeparate ps
+separate_of low [] a = tt
+separate_of low (p ∷ ps) a = let above : low < p = a.0 in ((omega (arith, above), a.1), apart p p ps (omega arith) a.2, separate_of p ps a.2)
+
+-- and each is above those before it
+above-at : (low : ℕ) (ps : List ℕ) (i : ℕ) → i < length ps → AreAscending low ps → low < get_or ps i 0
+above-at low [] i l a = absurd (omega (arith, l))
+above-at low (p ∷ ps) zero l a = a.0
+above-at low (p ∷ ps) (suc i) l a =
+    let above : low < p = a.0 in
+    let rest : p < get_or ps i 0 = above-at p ps i (omega (arith, l)) a.2 in
+    omega (arith, above, rest)
+
+pub ascending_before : (low : ℕ) (ps : List ℕ) (i : ℕ) → i < length ps → AreAscending low ps → AllByRecursion (λ q. q < get_or ps i 0) (take i ps)
+ascending_before low [] i l a = absurd (omega (arith, l))
+ascending_before low (p ∷ ps) zero l a = tt
+ascending_before low (p ∷ ps) (suc i) l a = (above-at p ps i (omega (arith, l)) a.2, ascending_before p ps i (omega (arith, l)) a.2)
 
 -- at most one word is named of a port
 pub named-few : (p : ℕ) (word : Option NoRoom) → length (named p word) ≤ 1

@@ -1,5 +1,5 @@
 -- What a frame brings to the ports of a bridge.
-use Rattle.std.proofs.Common.{◌≡◌, ℕ, zero, suc, ◌+◌, ◌-◌, ◌<◌, ◌≤◌, Bool, true, false, cond, ◌||◌, List, [], ◌∷◌, get_or, refl, sym, ap, ◌∙◌, subst, arith}
+use Rattle.std.proofs.Common.{◌≡◌, ℕ, zero, suc, ◌+◌, ◌-◌, ◌<◌, ◌≤◌, Bool, true, false, cond, ◌||◌, List, [], ◌∷◌, get_or, unwrap_or, refl, sym, ap, ◌∙◌, subst, arith}
 use Rattle.std.specs.List.{list_any}
 use Rattle.pb_frame.specs.Tags.{bare, tagged, has_priority_tag, priority_of}
 use Rattle.pb_lan.specs.Ports.{Port, port_at, vid_at, is_used}
@@ -34,7 +34,7 @@ some_port q (x ∷ ports) (suc i) n h =
 customer_brings : (plan : Plan) (vid pcp : ℕ) (wire : List ℕ) (load : Load) (customers bridges : Bool) (entry exit : Port) (local : LocalPort)
     → IsKept plan entry (ToCustomer vid pcp) → IsLoad customers bridges (told (ToCustomer vid pcp)) wire load
     → IsKept plan exit local → (is_to_bridge local ≡ true → bridges ≡ true) → is_used exit ≡ true
-    → brought exit load ≡ wire_out plan entry exit wire
+    → brought exit wire load ≡ wire_out plan entry exit wire
 customer_brings plan vid pcp wire load customers bridges (Customer c) (Customer d) local k l q b u = l.0
 customer_brings plan vid pcp wire load customers bridges (Customer c) (Provider e) (ToBridge start vids) k l q b u =
     l.1 (b refl) ∙ ap (λ v. tagged (bare wire) (cond (has_priority_tag wire) (priority_of wire) pcp) 0 v) k.0
@@ -49,7 +49,7 @@ customer_brings plan vid pcp wire load customers bridges Unused exit local k l q
 bridge_brings : (plan : Plan) (start : PortState) (vids : List ℕ) (wire : List ℕ) (load : Load) (customers bridges : Bool) (entry exit : Port) (local : LocalPort)
     → IsKept plan entry (ToBridge start vids) → IsLoad customers bridges (told (ToBridge start vids)) wire load
     → IsKept plan exit local → (is_to_customer local ≡ true → customers ≡ true) → is_used exit ≡ true
-    → brought exit load ≡ wire_out plan entry exit wire
+    → brought exit wire load ≡ wire_out plan entry exit wire
 bridge_brings plan start vids wire load customers bridges (Provider f) (Customer d) (ToCustomer v p) k l q c u = l.0 (c refl)
 bridge_brings plan start vids wire load customers bridges (Provider f) (Customer d) (ToBridge s w) k l q c u = absurd q
 bridge_brings plan start vids wire load customers bridges (Provider f) (Customer d) ToNobody k l q c u = absurd q
@@ -62,7 +62,7 @@ bridge_brings plan start vids wire load customers bridges Unused exit local k l 
 brings : (plan : Plan) (entry : Port) (here : LocalPort) (wire : List ℕ) (load : Load) (customers bridges : Bool) (exit : Port) (local : LocalPort)
     → IsKept plan entry here → IsLoad customers bridges (told here) wire load → IsKept plan exit local
     → (is_to_customer local ≡ true → customers ≡ true) → (is_to_bridge local ≡ true → bridges ≡ true) → is_used exit ≡ true
-    → brought exit load ≡ wire_out plan entry exit wire
+    → brought exit wire load ≡ wire_out plan entry exit wire
 brings plan entry (ToCustomer vid pcp) wire load customers bridges exit local k l q c b u = customer_brings plan vid pcp wire load customers bridges entry exit local k l q b u
 brings plan entry (ToBridge start vids) wire load customers bridges exit local k l q c b u = bridge_brings plan start vids wire load customers bridges entry exit local k l q c u
 brings plan entry ToNobody wire load customers bridges exit local k l q c b u = absurd l
@@ -100,12 +100,12 @@ member_used plan Unused (ToCustomer vid pcp) service k m = absurd k
 member_used plan Unused (ToBridge start vids) service k m = absurd k
 
 -- and is sent its own of what the frame brings
-pub sent_is : (plan : Plan) (port : Port) (local : LocalPort) (service : ℕ) (load : Load) → IsKept plan port local → is_member_of local service ≡ true
-    → cond (is_to_customer local) load.bare load.tagged ≡ brought port load
-sent_is plan (Customer c) (ToCustomer vid pcp) service load k m = refl
-sent_is plan (Provider e) (ToBridge start vids) service load k m = refl
-sent_is plan port ToNobody service load k m = cc
-sent_is plan (Customer c) (ToBridge start vids) service load k m = absurd k
-sent_is plan (Provider e) (ToCustomer vid pcp) service load k m = absurd k
-sent_is plan Unused (ToCustomer vid pcp) service load k m = absurd k
-sent_is plan Unused (ToBridge start vids) service load k m = absurd k
+pub sent_is : (plan : Plan) (port : Port) (local : LocalPort) (service : ℕ) (wire : List ℕ) (load : Load) → IsKept plan port local → is_member_of local service ≡ true
+    → cond (is_to_customer local) (unwrap_or load.bare wire) (unwrap_or load.tagged wire) ≡ brought port wire load
+sent_is plan (Customer c) (ToCustomer vid pcp) service wire load k m = refl
+sent_is plan (Provider e) (ToBridge start vids) service wire load k m = refl
+sent_is plan port ToNobody service wire load k m = cc
+sent_is plan (Customer c) (ToBridge start vids) service wire load k m = absurd k
+sent_is plan (Provider e) (ToCustomer vid pcp) service wire load k m = absurd k
+sent_is plan Unused (ToCustomer vid pcp) service wire load k m = absurd k
+sent_is plan Unused (ToBridge start vids) service wire load k m = absurd k

@@ -117,7 +117,7 @@ copies_are plan b ports states capacity limit port vid at item load p k h c =
     let known : IsPlace p × (is_choice ports states port vid at p ≡ true) = subst (λ (q : ℕ). IsPlace q × (is_choice ports states port vid at q ≡ true)) (eqb-true f.0 p f.2) f.1 in
     let member = chosen_member ports states port vid at p known.1 in
     ap (λ wire. record { mark = item.mark; hops = item.hops + 1; wire = wire })
-    (sent_is plan (port_at plan b p) (get_or ports (p - 1) ToNobody) vid load (kept_here plan b ports capacity limit p k known.0) member
+    (sent_is plan (port_at plan b p) (get_or ports (p - 1) ToNobody) vid item.wire load (kept_here plan b ports capacity limit p k known.0) member
     ∙ h.wires p known.0.0 known.0.1 (member_used plan (port_at plan b p) (get_or ports (p - 1) ToNobody) vid (kept_here plan b ports capacity limit p k known.0) member))
 
 -- a frame has been relayed: the step fits, and what is kept is kept

@@ -11,7 +11,6 @@ pub mod Copies
 pub mod Moves
 pub mod Bpdus
 pub mod Following
-pub mod Rooms
 pub mod Loads
 pub mod Changes
 pub mod Starts

@@ -1,5 +1,5 @@
 -- What a bridge keeps of its steps.
-use Rattle.std.specs.Prelude.{◌≡◌, ℕ, ◌+◌, ◌<◌, ◌≤◌, Bool, true, false, List, [], ◌∷◌, ◌++◌, length, slice_index_or, IfSome}
+use Rattle.std.specs.Prelude.{◌≡◌, ℕ, ◌+◌, ◌<◌, ◌≤◌, Bool, true, false, List, [], ◌∷◌, ◌++◌, length, slice_index_or}
 use Rattle.std.specs.List.{AllByRecursion, filter}
 use Rattle.pb_frame.specs.Stations.{Sighting, is_fresh, standing}
 use Rattle.pb_lan.specs.Shapes.{states_after}
@@ -56,7 +56,3 @@ HasReceived old port item outcome new =
     (learnt : Option Learnt) × (moved : Option Moved)
     × (new ≡ with_step old (Receive port item learnt outcome moved))
     × Fits spanning_tree old.plan old.number old.steps (Receive port item learnt outcome moved)
-
--- and what is told of its outcome, if it is, is so
-abbrev pub HasTaken : BridgeView → ℕ → Item → Option Outcome → BridgeView → Type 0
-HasTaken old port item told new = (outcome : Outcome) × HasReceived old port item outcome new × IfSome told (λ o. o ≡ outcome)

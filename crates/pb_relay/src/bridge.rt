@@ -14,7 +14,6 @@ ghost use Rattle.pb_relay.specs.Standing.{with_step};
 use crate::fault::BridgeFault;
 use crate::ports::{LocalPorts, PORTS, is_bridge, is_customer};
 use crate::queues::PortQueues;
-use crate::room::Spare;
 use pb_fdb::Fdb;
 use pb_frame::Mac;
 use pb_lan::{Item, Plan, PortState, Step};
@@ -53,8 +52,6 @@ pub struct Bridge {
     pub(crate) address: Mac,
     /// The spanning tree, where the protocol decides the states.
     pub(crate) rstp: Option<Rstp>,
-    /// Lists for the next frame that is relayed.
-    pub(crate) spare: Spare,
     pub(crate) steps: Vec<Step>,
     /// There is room for one more step.
     pub(crate) is_reserved: bool,
@@ -114,7 +111,6 @@ impl Bridge {
             clock: _,
             address: _,
             rstp: _,
-            spare: _,
             steps,
             is_reserved: _,
         } = self;

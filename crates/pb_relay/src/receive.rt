@@ -1,6 +1,6 @@
 //! What a bridge does with a frame that comes in at a port (IEEE 802.1Q clause 8).
 
-ghost use Rattle.std.specs.Prelude.{ℕ, ◌++◌, ◌∷◌, [], vec_len, vec_capacity, ◌≡◌, ◌≤◌, ◌<◌, ◌↔◌, length, true, IfOk, IfErr, OnOk, OnErr, IsSome, IsErrOf, IsOk, if◌then◌else◌, None};
+ghost use Rattle.std.specs.Prelude.{ℕ, ◌++◌, ◌∷◌, [], vec_len, vec_capacity, ◌≡◌, ◌≤◌, ◌<◌, ◌↔◌, length, true, IfOk, IfErr, OnOk, OnErr, IsErrOf, IsOk, if◌then◌else◌, None};
 ghost use Rattle.pb_frame.specs.Frames.{src_of, dst_of, is_group};
 ghost use Rattle.pb_lan.specs.BridgeLists.{ruling, Fits};
 ghost use Rattle.pb_lan.specs.BridgeLists.Ruling.{Refuses, LearnsOnly, Carries};
@@ -10,8 +10,7 @@ ghost use Rattle.pb_lan.specs.declared.step.Outcome.TheVariants.{Filtered};
 ghost use Rattle.pb_lan.specs.declared.step.Reason.TheVariants.{Memory as WantOfMemory};
 ghost use Rattle.pb_lan.specs.declared.step.Step.TheVariants.{Receive};
 ghost use Rattle.pb_relay.specs.Loads.{IsLoadedAt};
-ghost use Rattle.pb_relay.specs.Rooms.{IsEmptyRoom};
-ghost use Rattle.pb_relay.specs.Standing.{HasReceived, HasTaken};
+ghost use Rattle.pb_relay.specs.Standing.{HasReceived};
 ghost use Rattle.pb_fdb.specs.Tables.{where_in};
 ghost use Rattle.pb_relay.specs.Verdicts.{as_ruling};
 
@@ -20,10 +19,9 @@ use crate::choice::choose;
 use crate::copies::queue_copies;
 use crate::fault::BridgeFault;
 use crate::load::Load;
-use crate::room::Room;
 use crate::verdict::{Verdict, rule};
 use pb_fdb::Fdb;
-use pb_frame::{Learnt, Mac, Memory};
+use pb_frame::{Learnt, Mac};
 use pb_lan::{Item, Outcome, Reason, Step};
 
 impl Bridge {
@@ -41,14 +39,10 @@ impl Bridge {
         ensures limit { IsErrOf result (BridgeFault.StepLimit, item) ↔ (length self.old.steps ≡ self.old.plan.steps) }
         ensures reserved { self.old.is_reserved ≡ true → IsOk result }
     {
-        let Some(outcome) = self.admit(port, item, true)? else {
-            unreachable!();
-        };
-        Ok(outcome)
+        self.admit(port, item)
     }
 
     /// Does as [`Bridge::receive`], with its faults, and answers no outcome: the step tells of it.
-    /// Without the copy it takes less memory.
     #[inline(always)]
     pub fn take_in(&mut self, port: u8, item: Item) -> Result<(), (BridgeFault, Item)>
         requires { is_used (port_at self.old.plan self.old.number port) ≡ true }
@@ -58,21 +52,15 @@ impl Bridge {
         ensures limit { IsErrOf result (BridgeFault.StepLimit, item) ↔ (length self.old.steps ≡ self.old.plan.steps) }
         ensures reserved { self.old.is_reserved ≡ true → IsOk result }
     {
-        let _ = self.admit(port, item, false)?;
+        let _ = self.admit(port, item)?;
         Ok(())
     }
 
-    /// Receives an item, and tells the outcome where that is asked for.
+    /// Receives an item, as [`Bridge::receive`] tells.
     #[inline(always)]
-    fn admit(
-        &mut self,
-        port: u8,
-        item: Item,
-        is_told: bool,
-    ) -> Result<Option<Outcome>, (BridgeFault, Item)>
+    fn admit(&mut self, port: u8, item: Item) -> Result<Outcome, (BridgeFault, Item)>
         requires { is_used (port_at self.old.plan self.old.number port) ≡ true }
-        ensures ok { IfOk result (λ told. HasTaken self.old port item told self.new) }
-        ensures told { IfOk result (λ told. is_told ≡ true → IsSome told) }
+        ensures ok { IfOk result (λ outcome. HasReceived self.old port item outcome self.new) }
         ensures err { OnErr result (self.new ≡ self.old) }
         ensures handed { IfErr result (λ e. e.1 ≡ item) }
         ensures limit { IsErrOf result (BridgeFault.StepLimit, item) ↔ (length self.old.steps ≡ self.old.plan.steps) }
@@ -82,10 +70,10 @@ impl Bridge {
             return Err((fault, item));
         }
         match self.rule(port, &item) {
-            Verdict::Refuse(reason) => Ok(Some(self.refuse(port, item, reason))),
-            Verdict::Hear => Ok(Some(self.hear(port, item))),
-            Verdict::Learn(vid) => Ok(Some(self.learn_only(port, item, vid))),
-            Verdict::Carry(vid) => Ok(self.relay(port, item, vid, is_told)),
+            Verdict::Refuse(reason) => Ok(self.refuse(port, item, reason)),
+            Verdict::Hear => Ok(self.hear(port, item)),
+            Verdict::Learn(vid) => Ok(self.learn_only(port, item, vid)),
+            Verdict::Carry(vid) => Ok(self.relay(port, item, vid)),
         }
     }
 
@@ -147,67 +135,42 @@ impl Bridge {
     }
 
     /// Relays an item in its service, or gives it up where there is no memory to begin.
-    fn relay(&mut self, port: u8, item: Item, vid: u16, is_told: bool) -> Option<Outcome>
+    fn relay(&mut self, port: u8, item: Item, vid: u16) -> Outcome
         requires used { is_used (port_at self.old.plan self.old.number port) ≡ true }
         requires reserved { self.old.is_reserved ≡ true }
         requires ruling { ruling spanning_tree self.old.plan self.old.number self.old.steps port item ≡ Carries vid }
-        ensures taken { HasTaken self.old port item result self.new }
-        ensures told { is_told ≡ true → IsSome result }
+        ensures { HasReceived self.old port item result self.new }
     {
         let ports = &self.ports;
         let local = ports.at(port as usize - 1);
-        let Ok(load) = Load::new(self.alloc, ports, local, &item.wire) else {
-            return Some(self.give_up(port, item));
-        };
-        let Ok(room) = self.take_room(is_told) else {
-            return Some(self.give_up(port, item));
-        };
-        self.carry(port, item, vid, load, room)
-    }
-
-    /// A list for the outcome of an item.
-    fn take_room(&mut self, is_told: bool) -> Result<Room, Memory>
-        ensures room { IfOk result IsEmptyRoom }
-        ensures told { IfOk result (λ room. is_told ≡ true → IsSome room.told) }
-        ensures kept { self.new ≡ self.old }
-    {
-        self.spare.room(self.alloc, is_told)
+        match Load::new(self.alloc, ports, local, &item.wire) {
+            Ok(load) => self.carry(port, item, vid, load),
+            Err(_) => self.give_up(port, item),
+        }
     }
 
     /// Learns the source of an item, chooses its ports and queues its copies there.
-    fn carry(
-        &mut self,
-        port: u8,
-        item: Item,
-        vid: u16,
-        load: Load,
-        mut room: Room,
-    ) -> Option<Outcome>
+    fn carry(&mut self, port: u8, item: Item, vid: u16, load: Load) -> Outcome
         requires used { is_used (port_at self.old.plan self.old.number port) ≡ true }
         requires reserved { self.old.is_reserved ≡ true }
         requires ruling { ruling spanning_tree self.old.plan self.old.number self.old.steps port item ≡ Carries vid }
         requires load { IsLoadedAt self.old.plan self.old.number (port_at self.old.plan self.old.number port) item.wire load }
-        requires room { IsEmptyRoom room }
-        ensures taken { HasTaken self.old port item result self.new }
-        ensures told { IsSome room.told → IsSome result }
+        ensures { HasReceived self.old port item result self.new }
     {
         let frame = item.wire.as_slice();
         let learnt = self.table.learn(vid, source_of(frame), port, self.clock);
         let at = sought(&self.table, vid, frame, self.clock);
         let chosen = choose(&self.ports, &self.states, port, vid, at);
-        queue_copies(
-            &mut self.queues,
-            &mut room.refused,
-            chosen.as_slice(),
-            &self.ports,
-            self.capacity,
-            &load,
-            &item,
-        );
-        let (told, kept) = self.spare.outcomes(self.alloc, chosen, room);
+        let queues = &mut self.queues;
+        let refused = queue_copies(queues, &chosen, &self.ports, self.capacity, &load, &item);
+        let outcome = Outcome::Relayed {
+            chosen: chosen.copied(),
+            refused: refused.copied(),
+        };
+        let relayed = Outcome::Relayed { chosen, refused };
         self.is_reserved = false;
-        append_receive(&mut self.steps, port, item, Some(learnt), kept);
-        told
+        append_receive(&mut self.steps, port, item, Some(learnt), relayed);
+        outcome
     }
 }
 

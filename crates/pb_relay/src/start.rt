@@ -20,7 +20,6 @@ use crate::bridge::Bridge;
 use crate::machine::{address, machine};
 use crate::ports::{Local, LocalPorts};
 use crate::queues::PortQueues;
-use crate::room::Spare;
 use pb_fdb::Fdb;
 use pb_frame::Memory;
 use pb_lan::{CustomerPlan, End, LinkPlan, Plan, PortState, ServicePlan, Spanning};
@@ -235,7 +234,6 @@ impl Bridge {
             clock: 0,
             address: address(plan, number),
             rstp: machine(alloc, plan, number)?,
-            spare: Spare::new(alloc),
             steps: Vec::new(alloc),
             is_reserved: false,
         })

@@ -7,7 +7,7 @@ ghost use Rattle.pb_ring.specs.Rings.{writer_name, reader_name};
 use crate::{Inlet, Inlets, Outlet, Outlets, Wiring, meet};
 use bytes::Bytes;
 use pb_frame::Memory;
-use pb_lan::{Item, Mark};
+use pb_lan::{FrameNumber, Item, Mark};
 use rtrb::{Consumer, Producer, RingBuffer};
 use std::alloc::{AllocError, Global};
 use std::marker::Brand;
@@ -18,7 +18,10 @@ type Ring = (Producer<Item>, Consumer<Item>);
 /// The frame of this number of customer port 1.
 fn item(alloc: Global, number: u64) -> Result<Item, AllocError> {
     Ok(Item {
-        mark: Some(Mark { port: 1, number }),
+        mark: Some(Mark {
+            port: 1,
+            number: FrameNumber::new(number),
+        }),
         hops: 0,
         wire: Bytes::copy_from_slice(alloc, &[7; 14])?,
     })

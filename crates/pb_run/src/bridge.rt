@@ -60,8 +60,9 @@ impl From<BridgeFault> for Refusal {
 fn copies_of(outcome: &Outcome) -> u64 {
     match outcome {
         Outcome::Relayed { chosen, refused } => {
-            let (chosen, refused) = (chosen.as_slice().len(), refused.as_slice().len());
-            chosen.saturating_sub(refused) as u64
+            let (chosen, refused) = (chosen.list(), refused.list());
+            let copies = chosen.as_slice().len();
+            copies.saturating_sub(refused.as_slice().len()) as u64
         }
         _ => 0,
     }

@@ -3,7 +3,7 @@
 mod lanes;
 
 use bytes::Bytes;
-use pb_lan::{Item, Mark};
+use pb_lan::{FrameNumber, Item, Mark};
 use pb_work::Moment;
 use rtrb::{Consumer, Producer};
 use std::alloc::{AllocError, Global};
@@ -23,7 +23,10 @@ const STILL: Moment = Moment {
 /// The broadcast, as the frame of this number of customer port 1.
 fn item(alloc: Global, number: u64) -> Result<Item, AllocError> {
     Ok(Item {
-        mark: Some(Mark { port: 1, number }),
+        mark: Some(Mark {
+            port: 1,
+            number: FrameNumber::new(number),
+        }),
         hops: 0,
         wire: Bytes::copy_from_slice(alloc, &BROADCAST)?,
     })

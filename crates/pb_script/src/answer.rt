@@ -66,6 +66,7 @@ fn put_outcome(out: &mut String, outcome: &Outcome) -> Result<(), Memory>
     match outcome {
         Outcome::Relayed { chosen, refused } => {
             out.push_str("relayed")?;
+            let (chosen, refused) = (chosen.list(), refused.list());
             put_ports(out, chosen.as_slice(), refused.as_slice())?;
             put_refused(out, refused.as_slice())
         }
@@ -96,7 +97,7 @@ fn put_step(alloc: Global, out: &mut String, name: &str, step: &Step) -> Result<
     match step {
         Step::Poll { item } => {
             let number = match item.mark {
-                Some(mark) => mark.number,
+                Some(mark) => mark.number.get(),
                 None => 0,
             };
             write!(out, "polled {name} {number}")?;

@@ -10,8 +10,8 @@ use bytes::Bytes;
 use pb_forest::{forest, is_drained};
 use pb_frame::Memory;
 use pb_lan::{
-    CustomerPlan, Item, Learnt, Mark, Outcome, Plan, PortList, Record, Seq, Step,
-    frames_arrive_exactly_once, last_shape, left, plan_is_sound,
+    CustomerPlan, FrameNumber, Item, Learnt, Mark, Outcome, Plan, PortSet, Record, Refusals, Seq,
+    Step, frames_arrive_exactly_once, last_shape, left, plan_is_sound,
 };
 use std::alloc::{AllocError, Global};
 use std::test::Fail;
@@ -48,7 +48,10 @@ const TAGGED: [u8; 20] = [
 /// The first frame of C1, so many hops on.
 fn item(alloc: Global, hops: u32, wire: &[u8]) -> Result<Item, AllocError> {
     Ok(Item {
-        mark: Some(Mark { port: 1, number: 0 }),
+        mark: Some(Mark {
+            port: 1,
+            number: FrameNumber::new(0),
+        }),
         hops,
         wire: Bytes::copy_from_slice(alloc, wire)?,
     })
@@ -91,8 +94,8 @@ fn receive(alloc: Global, port: u8, item: Item, to: u8) -> Result<Step, AllocErr
         item,
         learnt: Some(Learnt::New),
         outcome: Outcome::Relayed {
-            chosen: PortList::from_slice(&[to]).ok_or(AllocError)?,
-            refused: Seq::from_vec(Vec::new(alloc)),
+            chosen: PortSet::from_slice(&[to]).ok_or(AllocError)?,
+            refused: Refusals::new(),
         },
         moved: None,
     })

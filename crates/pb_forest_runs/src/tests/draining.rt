@@ -2,28 +2,33 @@
 
 use bytes::Bytes;
 use pb_forest::is_drained;
-use pb_lan::{Item, Learnt, Mark, NoRoom, Outcome, PortList, Record, Seq, Step};
+use pb_lan::{
+    FrameNumber, Item, Learnt, Mark, NoRoom, Outcome, PortSet, Record, Refusals, Seq, Step,
+};
 use std::alloc::{AllocError, Global};
 use std::test::Fail;
 
 /// The first frame of customer port 1.
 fn item(alloc: Global) -> Result<Item, AllocError> {
     Ok(Item {
-        mark: Some(Mark { port: 1, number: 0 }),
+        mark: Some(Mark {
+            port: 1,
+            number: FrameNumber::new(0),
+        }),
         hops: 0,
         wire: Bytes::copy_from_slice(alloc, &[7])?,
     })
 }
 
 /// The frame is received at port 2, and relayed to port 3.
-fn receive(alloc: Global, refused: Vec<(u8, NoRoom)>) -> Result<Step, AllocError> {
+fn receive(alloc: Global, refused: &[(u8, NoRoom)]) -> Result<Step, AllocError> {
     Ok(Step::Receive {
         port: 2,
         item: item(alloc)?,
         learnt: Some(Learnt::New),
         outcome: Outcome::Relayed {
-            chosen: PortList::from_slice(&[3]).ok_or(AllocError)?,
-            refused: Seq::from_vec(refused),
+            chosen: PortSet::from_slice(&[3]).ok_or(AllocError)?,
+            refused: Refusals::from_slice(refused).ok_or(AllocError)?,
         },
         moved: None,
     })
@@ -72,7 +77,7 @@ fn a_hand_is_not_drained(rt: HostRuntime) -> Result<(), Fail> {
 fn a_queue_is_not_drained(rt: HostRuntime) -> Result<(), Fail> {
     let alloc = rt.alloc();
     let first = vec![in alloc; poll(alloc)?, feed(alloc)?]?;
-    let bridge = vec![in alloc; receive(alloc, Vec::new(alloc))?]?;
+    let bridge = vec![in alloc; receive(alloc, &[])?]?;
     let waits = record(alloc, bridge, first, Vec::new(alloc))?;
     assert!(rt; !is_drained(&waits));
     Ok(())
@@ -82,7 +87,7 @@ fn a_queue_is_not_drained(rt: HostRuntime) -> Result<(), Fail> {
 fn a_refused_copy_is_not_left(rt: HostRuntime) -> Result<(), Fail> {
     let alloc = rt.alloc();
     let first = vec![in alloc; poll(alloc)?, feed(alloc)?]?;
-    let bridge = vec![in alloc; receive(alloc, vec![in alloc; (3, NoRoom::Full)]?)?]?;
+    let bridge = vec![in alloc; receive(alloc, &[(3, NoRoom::Full)])?]?;
     let refused = record(alloc, bridge, first, Vec::new(alloc))?;
     assert!(rt; is_drained(&refused));
     Ok(())
@@ -96,7 +101,7 @@ fn a_delivered_frame_is_not_left(rt: HostRuntime) -> Result<(), Fail> {
         port: 3,
         item: item(alloc)?,
     };
-    let bridge = vec![in alloc; receive(alloc, Vec::new(alloc))?, send]?;
+    let bridge = vec![in alloc; receive(alloc, &[])?, send]?;
     let second = vec![in alloc;
         Step::Deliver {
             item: item(alloc)?,

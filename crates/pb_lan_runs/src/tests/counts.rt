@@ -1,14 +1,17 @@
 //! The frames that entered and left.
 
 use bytes::Bytes;
-use pb_lan::{Item, Mark, Record, Seq, Step, entered, left};
+use pb_lan::{FrameNumber, Item, Mark, Record, Seq, Step, entered, left};
 use std::alloc::{AllocError, Global};
 use std::test::Fail;
 
 /// A frame of customer port 1, of one octet.
 fn item(alloc: Global, number: u64, octet: u8) -> Result<Item, AllocError> {
     Ok(Item {
-        mark: Some(Mark { port: 1, number }),
+        mark: Some(Mark {
+            port: 1,
+            number: FrameNumber::new(number),
+        }),
         hops: 0,
         wire: Bytes::copy_from_slice(alloc, &[octet])?,
     })

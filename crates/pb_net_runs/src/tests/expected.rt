@@ -3,7 +3,9 @@
 use super::rows::{Act, Deed, Fate, Sent};
 use bytes::Bytes;
 use pb_frame::{HexFault, hex_read};
-use pb_lan::{Event, Item, Mark, Moved, NoRoom, Outcome, PortList, PortState, Seq, Step};
+use pb_lan::{
+    Event, FrameNumber, Item, Mark, Moved, NoRoom, Outcome, PortSet, PortState, Refusals, Seq, Step,
+};
 use std::alloc::{AllocError, Global};
 
 /// The event that asks for an act.
@@ -44,18 +46,18 @@ pub(super) fn long(alloc: Global, head: &str, octets: usize) -> Result<Bytes, He
 }
 
 /// Relayed to ports, but for those that refuse.
-fn relayed(alloc: Global, chosen: &[u8], refused: &[(u8, NoRoom)]) -> Result<Outcome, AllocError> {
+fn relayed(chosen: &[u8], refused: &[(u8, NoRoom)]) -> Result<Outcome, AllocError> {
     Ok(Outcome::Relayed {
-        chosen: PortList::from_slice(chosen).ok_or(AllocError)?,
-        refused: Seq::from_vec(Vec::from_slice(alloc, refused)?),
+        chosen: PortSet::from_slice(chosen).ok_or(AllocError)?,
+        refused: Refusals::from_slice(refused).ok_or(AllocError)?,
     })
 }
 
 /// The outcome of a fate.
-pub(super) fn outcome_of(alloc: Global, fate: Fate) -> Result<Outcome, AllocError> {
+pub(super) fn outcome_of(fate: Fate) -> Result<Outcome, AllocError> {
     match fate {
-        Fate::Relayed(chosen) => relayed(alloc, chosen, &[]),
-        Fate::RelayedBut(chosen, refused) => relayed(alloc, chosen, refused),
+        Fate::Relayed(chosen) => relayed(chosen, &[]),
+        Fate::RelayedBut(chosen, refused) => relayed(chosen, refused),
         Fate::Filtered(reason) => Ok(Outcome::Filtered(reason)),
     }
 }
@@ -65,7 +67,7 @@ fn item_of(alloc: Global, sent: Sent) -> Result<Item, HexFault> {
     Ok(Item {
         mark: Some(Mark {
             port: 1,
-            number: sent.number,
+            number: FrameNumber::new(sent.number),
         }),
         hops: sent.hops,
         wire: hex_read(alloc, sent.frame)?,
@@ -98,7 +100,7 @@ pub(super) fn step_of(alloc: Global, deed: Deed) -> Result<Step, HexFault> {
             port,
             item: item_of(alloc, item)?,
             learnt: Some(learnt),
-            outcome: outcome_of(alloc, fate)?,
+            outcome: outcome_of(fate)?,
             moved: None,
         },
         Deed::Deliver(item) => Step::Deliver {

@@ -110,7 +110,7 @@ fn receives(
     item: Piece,
     fate: Fate,
 ) -> Result<bool, Fail> {
-    let wanted = fate.outcome(alloc)?;
+    let wanted = fate.outcome()?;
     Ok(answers(bridge, port, item.item(alloc)?, &wanted))
 }
 
@@ -122,7 +122,7 @@ fn receives_octets(
     octets: usize,
     fate: Fate,
 ) -> Result<bool, Fail> {
-    let wanted = fate.outcome(alloc)?;
+    let wanted = fate.outcome()?;
     Ok(answers(bridge, port, full_octets(alloc, octets)?, &wanted))
 }
 
@@ -131,10 +131,10 @@ fn answers(bridge: &mut Bridge, port: u8, item: Item, wanted: &Outcome) -> bool 
     if !bridge.has_port(port) {
         return false;
     }
-    match bridge.receive(port, item) {
-        Ok(outcome) => outcome == *wanted,
-        Err(_) => false,
-    }
+    let Ok(outcome) = bridge.receive(port, item) else {
+        return false;
+    };
+    outcome == *wanted
 }
 
 /// An item comes in at a port and is taken in.

@@ -2,7 +2,7 @@
 
 use bytes::Bytes;
 use pb_frame::{Learnt, hex_read};
-use pb_lan::{Item, Mark, NoRoom, Outcome, PortList, PortState, Reason, Seq};
+use pb_lan::{FrameNumber, Item, Mark, NoRoom, Outcome, PortSet, PortState, Reason, Refusals};
 use pb_relay::BridgeFault;
 use std::alloc::{AllocError, Global};
 use std::test::Fail;
@@ -110,7 +110,10 @@ impl Piece {
     /// The item itself.
     pub fn item(self, alloc: Global) -> Result<Item, Fail> {
         Ok(Item {
-            mark: self.number.map(|number| Mark { port: 1, number }),
+            mark: self.number.map(|number| Mark {
+                port: 1,
+                number: FrameNumber::new(number),
+            }),
             hops: self.hops,
             wire: hex_read(alloc, self.digits)?,
         })
@@ -119,10 +122,10 @@ impl Piece {
 
 impl Fate {
     /// The outcome itself.
-    pub fn outcome(self, alloc: Global) -> Result<Outcome, AllocError> {
+    pub fn outcome(self) -> Result<Outcome, AllocError> {
         match self {
-            Fate::Relayed(chosen) => relayed(alloc, chosen, &[]),
-            Fate::Refused { chosen, full } => relayed(alloc, chosen, full),
+            Fate::Relayed(chosen) => relayed(chosen, &[]),
+            Fate::Refused { chosen, full } => relayed(chosen, full),
             Fate::Filtered(reason) => Ok(Outcome::Filtered(reason)),
             Fate::Heard => Ok(Outcome::Heard),
         }
@@ -130,10 +133,10 @@ impl Fate {
 }
 
 /// Relayed to these ports, of which those refused.
-fn relayed(alloc: Global, chosen: &[u8], refused: &[(u8, NoRoom)]) -> Result<Outcome, AllocError> {
+fn relayed(chosen: &[u8], refused: &[(u8, NoRoom)]) -> Result<Outcome, AllocError> {
     Ok(Outcome::Relayed {
-        chosen: PortList::from_slice(chosen).ok_or(AllocError)?,
-        refused: Seq::from_vec(Vec::from_slice(alloc, refused)?),
+        chosen: PortSet::from_slice(chosen).ok_or(AllocError)?,
+        refused: Refusals::from_slice(refused).ok_or(AllocError)?,
     })
 }
 

@@ -113,6 +113,7 @@ fn is_short(step: &Step) -> bool {
             Outcome::Filtered(reason) => *reason == Reason::Memory,
             Outcome::Relayed { refused, .. } => {
                 refused
+                    .list()
                     .as_slice()
                     .iter()
                     .any(|copy| copy.1 == NoRoom::Memory)

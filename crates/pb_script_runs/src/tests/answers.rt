@@ -2,7 +2,9 @@
 
 use super::plans::network;
 use bytes::Bytes;
-use pb_lan::{Item, Mark, Moved, NoRoom, Outcome, Place, PortList, Reason, Seq, Step};
+use pb_lan::{
+    FrameNumber, Item, Mark, Moved, NoRoom, Outcome, Place, PortSet, Reason, Refusals, Seq, Step,
+};
 use pb_script::{put_done, put_idle, put_no_such};
 use std::alloc::{AllocError, Global};
 use std::process::Abort;
@@ -11,7 +13,10 @@ use std::test::Fail;
 /// A frame of two octets with a mark.
 fn item(alloc: Global) -> Result<Item, AllocError> {
     Ok(Item {
-        mark: Some(Mark { port: 2, number: 7 }),
+        mark: Some(Mark {
+            port: 2,
+            number: FrameNumber::new(7),
+        }),
         hops: 0,
         wire: Bytes::copy_from_slice(alloc, b"\xab\x01")?,
     })
@@ -135,8 +140,8 @@ fn relayed(
     want: &str,
 ) -> Result<(), Fail> {
     let outcome = Outcome::Relayed {
-        chosen: PortList::from_slice(chosen).ok_or(AllocError)?,
-        refused: Seq::from_vec(Vec::from_slice(alloc, refused)?),
+        chosen: PortSet::from_slice(chosen).ok_or(AllocError)?,
+        refused: Refusals::from_slice(refused).ok_or(AllocError)?,
     };
     ruled(rt, alloc, outcome, want)
 }

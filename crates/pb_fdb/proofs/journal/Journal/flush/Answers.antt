@@ -1,12 +1,12 @@
 use Rattle.std.proofs.Common.{Some, length, ap, arith}
-use Rattle.std.specs.HashMap.{get}
-use Rattle.pb_fdb.specs.Journals.{is_same, entries_from, stays}
+use Rattle.indexmap.specs.IndexMap.{get}
+use Rattle.pb_fdb.specs.Journals.{is_same, entries_from, stations, stays}
 use Rattle.pb_fdb.proofs.EntryLemmas.{filter-shorter}
 use Rattle.pb_fdb.proofs.journal.Journal.flush.Goals as goal
 
 pub invariant_of-self : goal.invariant_of-self
 invariant_of-self c =
-    let fewer = filter-shorter (stays (Some c.args.port)) (entries_from (get is_same c.self.inside.index) c.self.inside.first c.self.inside.log.items) in
+    let fewer = filter-shorter (stays (Some c.args.port)) (entries_from (get is_same c.self.inside.index) c.self.inside.first (stations c.self.inside.log.items)) in
     record {
       each = c.rotate.ensures.each;
       counted = c.rotate.ensures.count;

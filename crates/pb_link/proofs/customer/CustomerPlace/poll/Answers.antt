@@ -1,4 +1,4 @@
-use Rattle.std.proofs.Common.{rules, ◌≡◌, ◌<◌, ◌+◌, ◌^◌, None, Some, refl, sym, arith, length, subst, true, ap, ℕ}
+use Rattle.std.proofs.Common.{rules, ◌≡◌, ◌<◌, ◌+◌, ◌^◌, None, Some, refl, sym, arith, length, subst, true, ap, ◌∙◌, ℕ}
 use Rattle.std.specs.declared.option.Option.{Option}
 use Rattle.pb_lan.specs.Events.{is_hand_empty}
 use Rattle.pb_link.specs.Hands.{PlaceView, IsPortKept}
@@ -19,8 +19,8 @@ kept c =
     let none : s.hand ≡ None = none_in_hand s.steps.items s.hand c.self.invariant.0.held empty in
     let before = subst (λ (h : Option ℕ). IsPortKept s.number s.steps.items h s.polls) none c.self.invariant.0 in
     let count : c.len-2.result ≡ length s.steps.items = omega arith in
-    rw (c.append.ensures.items, count) (after_poll s.number s.steps.items s.polls (record { mark = Some (record { port = s.number; number = s.polls }); hops = 0; wire = c.args.frame }) before
-    (ap (λ (n : ℕ). Some (mark_of s.number n)) c.self.invariant.0.count) refl)
+    rw (c.append.ensures.items, count) (after_poll s.number s.steps.items s.polls (record { mark = Some (record { port = s.number; number = c.new.result }); hops = 0; wire = c.args.frame }) before
+    (ap (λ (n : ℕ). Some (mark_of s.number n)) (c.new.ensures ∙ c.self.invariant.0.count)) refl)
 
 pub invariant_of-self : goal.invariant_of-self
 invariant_of-self c = (kept c, λ e. cc)

@@ -10,10 +10,10 @@ use Rattle.pb_lan.specs.declared.step.Outcome.{Outcome}
 use Rattle.pb_lan.specs.declared.step.Outcome.TheVariants.{Relayed}
 use Rattle.pb_lan.specs.declared.step.Step.{Step}
 use Rattle.pb_lan.specs.declared.step.Step.TheVariants.{Receive}
-use Rattle.pb_relay.specs.Copies.{AreCopied, copy_at}
 use Rattle.pb_relay.specs.Loads.{IsLoadedAt, is_choice}
-use Rattle.pb_relay.specs.Standing.{BridgeView, IsStanding, with_step}
+use Rattle.pb_relay.specs.Standing.{BridgeView, HasReceived, IsStanding, with_step}
 use Rattle.pb_fdb.specs.Tables.{sighting_at, where_in as place_in}
+use Rattle.pb_relay.proofs.CopyLemmas.{separate_of}
 use Rattle.pb_relay.proofs.TableLemmas.{has_learnt, table_learnt, found_in}
 use Rattle.pb_relay.specs.Tables.{HasLearnt}
 use Rattle.pb_relay.proofs.EntryLemmas.{IsAdmitted, carried}
@@ -40,22 +40,22 @@ sought-at-requires c =
     let a = admitted _ _ c.self.view_is c.args.port c.args.item c.args.vid c.requires.ruling in
     subst (λ (w : List ℕ). 14 ≤ length w) (sym c.as_slice-frame.ensures) a.long
 
-pub queue_copies-requires-clause-hops : goal.queue_copies-requires-clause-hops
-queue_copies-requires-clause-hops c =
+pub queue_copies-refused-requires-clause-hops : goal.queue_copies-refused-requires-clause-hops
+queue_copies-refused-requires-clause-hops c =
     let a = admitted _ _ c.self.view_is c.args.port c.args.item c.args.vid c.requires.ruling in
     omega (arith, a.unworn)
 
-pub queue_copies-requires-clause-capacity : goal.queue_copies-requires-clause-capacity
-queue_copies-requires-clause-capacity c =
+pub queue_copies-refused-requires-clause-capacity : goal.queue_copies-refused-requires-clause-capacity
+queue_copies-refused-requires-clause-capacity c =
     omega (arith, c.self.invariant.0.most, capacity-small c.self.inside.plan c.self.inside.number c.self.invariant.0.sound)
 
 -- the step fits, and what is kept is kept
-whole : (c : goal.Joined-load-2)
+whole : (c : goal.Joined-load-3)
     → Fits spanning_tree c.self.inside.plan c.self.inside.number c.self.inside.steps.items
-    (Receive c.args.port c.args.item (Some c.learn-learnt.result) (Relayed c.choose-chosen.result c.queue_copies.new.refused.items) None)
+    (Receive c.args.port c.args.item (Some c.learn-learnt.result) (Relayed c.choose-chosen.result c.queue_copies-refused.result) None)
     × IsStanding c.self.inside.plan c.self.inside.number
-    (c.self.inside.steps.items ++ Receive c.args.port c.args.item (Some c.learn-learnt.result) (Relayed c.choose-chosen.result c.queue_copies.new.refused.items) None ∷ [])
-    c.self.inside.states c.queue_copies.new.queues.items c.self.inside.clock c.learn-learnt.new.self.sightings
+    (c.self.inside.steps.items ++ Receive c.args.port c.args.item (Some c.learn-learnt.result) (Relayed c.choose-chosen.result c.queue_copies-refused.result) None ∷ [])
+    c.self.inside.states c.queue_copies-refused.new.queues.items c.self.inside.clock c.learn-learnt.new.self.sightings
 whole c =
     let mac : c.source_of.result.0 ≡ src_of c.args.item.wire = c.source_of.ensures ∙ ap src_of c.as_slice-frame.ensures in
     let learns : HasLearnt c.self.inside.plan.ageing c.self.inside.clock c.args.vid c.args.port (src_of c.args.item.wire) c.self.inside.table.sightings c.learn-learnt.result c.learn-learnt.new.self.sightings =
@@ -67,24 +67,21 @@ whole c =
     ∙ ap (λ o. cond (is_group (dst_of c.args.item.wire)) None o) (found_in c.self.inside.plan c.self.inside.clock c.args.vid (dst_of c.args.item.wire) c.learn-learnt.new.self newer.ageing) in
     let chosen : c.choose-chosen.result ≡ filter (is_choice c.self.inside.ports c.self.inside.states c.args.port c.args.vid c.sought-at.result) local_ports =
     c.choose-chosen.ensures.chosen in
-    let copied = subst (λ (qs : List ℕ). AreCopied c.self.inside.capacity c.args.load.class (copy_at c.self.inside.ports c.args.load c.args.item) c.self.inside.queues.items qs c.queue_copies.new.refused.items c.queue_copies.new.queues.items)
-    c.as_slice.ensures.ports c.queue_copies.ensures.copied in
-    relayed c.self.inside.plan c.self.inside.number c.self.inside.steps.items c.self.inside.states c.self.inside.queues.items c.queue_copies.new.queues.items
+    relayed c.self.inside.plan c.self.inside.number c.self.inside.steps.items c.self.inside.states c.self.inside.queues.items c.queue_copies-refused.new.queues.items
     c.self.inside.clock c.self.inside.table.sightings c.learn-learnt.new.self.sightings c.self.inside.ports c.self.inside.capacity c.self.inside.limit c.args.port c.args.vid c.args.item c.args.load
-    c.learn-learnt.result c.sought-at.result c.choose-chosen.result c.queue_copies.new.refused.items
+    c.learn-learnt.result c.sought-at.result c.choose-chosen.result c.queue_copies-refused.result
     c.self.invariant.0 c.self.invariant.1
     (subst (λ (v : BridgeView). ruling spanning_tree v.plan v.number v.steps c.args.port c.args.item ≡ Carries c.args.vid) (sym c.self.view_is) c.requires.ruling)
     (subst (λ (v : BridgeView). IsLoadedAt v.plan v.number (port_at v.plan v.number c.args.port) c.args.item.wire c.args.load) (sym c.self.view_is) c.requires.load)
-    learns at chosen c.choose-chosen.ensures.separate copied c.queue_copies.ensures.count
+    learns at chosen (separate_of 0 c.choose-chosen.result c.choose-chosen.ensures.ascending) c.queue_copies-refused.ensures.copied c.queue_copies-refused.ensures.count
 
 pub invariant_of-self : goal.invariant_of-self
 invariant_of-self c =
     let reserved = c.self.invariant.2.reserved (subst (λ (v : BridgeView). v.is_reserved ≡ true) (sym c.self.view_is) c.requires.reserved) in
-    let step : Step = Receive c.args.port c.args.item (Some c.learn-learnt.result) (Relayed c.choose-chosen.result c.queue_copies.new.refused.items) None in
-    let e : c.append_receive.new.steps.items ≡ c.self.inside.steps.items ++ step ∷ [] =
-    c.append_receive.ensures.items ∙ ap (λ (o : Outcome). c.self.inside.steps.items ++ Receive c.args.port c.args.item (Some c.learn-learnt.result) o None ∷ []) c.outcomes-told.ensures.kept in (
+    let step : Step = Receive c.args.port c.args.item (Some c.learn-learnt.result) (Relayed c.choose-chosen.result c.queue_copies-refused.result) None in
+    let e : c.append_receive.new.steps.items ≡ c.self.inside.steps.items ++ step ∷ [] = c.append_receive.ensures.items in (
       c.self.invariant.0,
-      subst (λ (ms : List Step). IsStanding c.self.inside.plan c.self.inside.number ms c.self.inside.states c.queue_copies.new.queues.items c.self.inside.clock c.learn-learnt.new.self.sightings)
+      subst (λ (ms : List Step). IsStanding c.self.inside.plan c.self.inside.number ms c.self.inside.states c.queue_copies-refused.new.queues.items c.self.inside.clock c.learn-learnt.new.self.sightings)
           (sym e) (whole c).1,
       record {
         within = omega (arith, reserved.0, ap length e, length-append c.self.inside.steps.items (step ∷ []));
@@ -95,19 +92,17 @@ invariant_of-self c =
           (spanning_stays _ _ _ _ _ step refl c.self.invariant.4),
     )
 
-pub returns-clause-taken : goal.returns-clause-taken
-returns-clause-taken c =
-    let outcome = Relayed c.choose-chosen.result c.queue_copies.new.refused.items in
-    let step : Step = Receive c.args.port c.args.item (Some c.learn-learnt.result) outcome None in
-    let e : c.append_receive.new.steps.items ≡ c.self.inside.steps.items ++ step ∷ [] =
-    c.append_receive.ensures.items ∙ ap (λ (o : Outcome). c.self.inside.steps.items ++ Receive c.args.port c.args.item (Some c.learn-learnt.result) o None ∷ []) c.outcomes-told.ensures.kept in (
-      outcome,
-      (
-        Some c.learn-learnt.result,
-        None,
-        ap (λ (ms : List Step). record { plan = c.self.inside.plan; number = c.self.inside.number; steps = ms; is_reserved = false }) e
-            ∙ ap (λ (v : BridgeView). with_step v step) c.self.view_is,
-        subst (λ (v : BridgeView). Fits spanning_tree v.plan v.number v.steps step) c.self.view_is (whole c).0,
-      ),
-      c.outcomes-told.ensures.told,
+pub returns : goal.returns
+returns c =
+    let step : Step = Receive c.args.port c.args.item (Some c.learn-learnt.result) (Relayed c.choose-chosen.result c.queue_copies-refused.result) None in
+    let told : Outcome = Relayed c.copied.result c.copied-2.result in
+    let same : Relayed c.choose-chosen.result c.queue_copies-refused.result ≡ told =
+    ap (λ ps. Relayed ps c.queue_copies-refused.result) (sym c.copied.ensures) ∙ ap (λ rs. Relayed c.copied.result rs) (sym c.copied-2.ensures) in
+    let e : c.append_receive.new.steps.items ≡ c.self.inside.steps.items ++ step ∷ [] = c.append_receive.ensures.items in
+    subst (λ (o : Outcome). HasReceived c.args.self.now c.args.port c.args.item o (record { plan = c.self.inside.plan; number = c.self.inside.number; steps = c.append_receive.new.steps.items; is_reserved = false })) same (
+      Some c.learn-learnt.result,
+      None,
+      ap (λ (ms : List Step). record { plan = c.self.inside.plan; number = c.self.inside.number; steps = ms; is_reserved = false }) e
+          ∙ ap (λ (v : BridgeView). with_step v step) c.self.view_is,
+      subst (λ (v : BridgeView). Fits spanning_tree v.plan v.number v.steps step) c.self.view_is (whole c).0,
     )

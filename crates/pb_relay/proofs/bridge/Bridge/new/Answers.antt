@@ -9,7 +9,7 @@ pub invariant_of-result-2 : goal.invariant_of-result-2
 invariant_of-result-2 c =
     let keeps = subst (λ (ps : List LocalPort). KeepsPorts c.args.plan.now c.args.number ps 16) (sym c.ports.view_is) c.in_ok-ports.ensures in
     let states = c.start_states-states.ensures ∙ ap (map (λ (l : LocalPort). first_state c.args.plan.now.spanning (told l))) (sym c.ports.view_is) in
-    rw (c.in_ok-clone.ensures.cases, c.new-3.ensures.items) (
+    rw (c.in_ok-clone.ensures.cases, c.new-2.ensures.items) (
       record {
         sound = c.requires.sound;
         count = keeps.count;

@@ -1,4 +1,4 @@
-use Rattle.std.proofs.Common.{◌≡◌, ◌-◌, get_or, None, true, refl, arith, sym, subst, ◌∙◌}
+use Rattle.std.proofs.Common.{◌≡◌, ◌-◌, get_or, None, true, arith, sym, subst}
 use Rattle.pb_lan.specs.Ports.{port_at, is_used}
 use Rattle.pb_relay.specs.Protocol.{spanning_tree}
 use Rattle.pb_lan.specs.BridgeLists.{ruling, Fits}
@@ -8,7 +8,7 @@ use Rattle.pb_lan.specs.declared.step.Step.TheVariants.{Receive}
 use Rattle.pb_relay.proofs.ReceiveLemmas.{given_up}
 use Rattle.pb_lan.specs.BridgeLists.Ruling.{Carries}
 use Rattle.pb_relay.specs.Loads.{IsLoadedAt}
-use Rattle.pb_relay.specs.Standing.{BridgeView, HasReceived, HasTaken}
+use Rattle.pb_relay.specs.Standing.{BridgeView}
 use Rattle.pb_relay.proofs.EntryLemmas.{loadable, sound_port}
 use Rattle.std.specs.List.{list_any}
 use Rattle.pb_relay.specs.Kinds.{is_to_customer, is_to_bridge}
@@ -44,29 +44,13 @@ pub carry-requires-clause-load : goal.carry-requires-clause-load
 carry-requires-clause-load c =
     let l = used_port _ _ _ c.self.invariant.0.sound
     (subst (λ (v : BridgeView). is_used (port_at v.plan v.number c.args.port) ≡ true) (sym c.self.view_is) c.requires.used) in
-    subst (λ (v : BridgeView). IsLoadedAt v.plan v.number (port_at v.plan v.number c.args.port) c.args.item.wire c.in-Ok.load) (c.self.view_is ∙ sym c.take_room.ensures.kept)
+    subst (λ (v : BridgeView). IsLoadedAt v.plan v.number (port_at v.plan v.number c.args.port) c.args.item.wire c.in-Ok.load) c.self.view_is
     (loaded c.self.inside.plan c.self.inside.number c.self.inside.ports _ _ _ (get_or c.self.inside.ports (c.args.port - 1) ToNobody) c.args.item.wire c.in-Ok.load c.self.invariant.0
     (kept_here c.self.inside.plan _ _ _ _ c.args.port c.self.invariant.0 l)
     (subst (λ (z : Local). IsLoad (list_any is_to_customer c.self.inside.ports) (list_any is_to_bridge c.self.inside.ports) z c.args.item.wire c.in-Ok.load) c.at-local.ensures c.in-Ok.ensures))
-
-pub give_up-requires-in_default-take_room-clause-fits : goal.give_up-requires-in_default-take_room-clause-fits
-give_up-requires-in_default-take_room-clause-fits c =
-    subst (λ (v : BridgeView). Fits spanning_tree v.plan v.number v.steps (Receive c.args.port c.args.item None (Filtered Memory) None)) (c.self.view_is ∙ sym c.take_room.ensures.kept)
-    (given_up c.self.inside.plan c.self.inside.number c.self.inside.steps.items c.args.port c.args.item c.args.vid
-    (subst (λ (v : BridgeView). ruling spanning_tree v.plan v.number v.steps c.args.port c.args.item ≡ Carries c.args.vid) (sym c.self.view_is) c.requires.ruling))
 
 pub give_up-requires-clause-fits : goal.give_up-requires-clause-fits
 give_up-requires-clause-fits c =
     subst (λ (v : BridgeView). Fits spanning_tree v.plan v.number v.steps (Receive c.args.port c.args.item None (Filtered Memory) None)) c.self.view_is
     (given_up c.self.inside.plan c.self.inside.number c.self.inside.steps.items c.args.port c.args.item c.args.vid
     (subst (λ (v : BridgeView). ruling spanning_tree v.plan v.number v.steps c.args.port c.args.item ≡ Carries c.args.vid) (sym c.self.view_is) c.requires.ruling))
-
-pub returns-in_default-take_room-clause-taken : goal.returns-in_default-take_room-clause-taken
-returns-in_default-take_room-clause-taken c = (
-  c.give_up-in_default-take_room.result,
-  subst (λ (v : BridgeView). HasReceived v c.args.port c.args.item c.give_up-in_default-take_room.result c.give_up-in_default-take_room.new.self) c.take_room.ensures.kept c.give_up-in_default-take_room.ensures,
-  refl,
-)
-
-pub returns-clause-taken : goal.returns-clause-taken
-returns-clause-taken c = subst (λ (v : BridgeView). HasTaken v c.args.port c.args.item c.carry.result c.carry.new.self) c.take_room.ensures.kept c.carry.ensures.taken

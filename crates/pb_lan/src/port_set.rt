@@ -1,0 +1,114 @@
+//! Local ports of a bridge, each once and ascending.
+
+ghost use Rattle.std.specs.Prelude.{◌≡◌, ◌≤◌, ◌<◌, ◌++◌, ◌∷◌, [], length, nat_eq, IfSome, IfNone};
+ghost use Rattle.std.specs.Cmp.Lexicographic.{pointwise, nat_list_eq_equiv};
+ghost use Rattle.std.specs.Cmp.{partial_equiv_from_equiv};
+ghost use Rattle.pb_lan.specs.PortSets.{AreAscending, ComesAfter};
+
+use crate::port_list::PortList;
+use std::alloc::AllocError;
+use std::marker::Model;
+
+/// The most ports of a bridge.
+const PORTS: usize = 16;
+
+/// Local ports of a bridge, 1 to 16, each once and ascending. They take two octets. Contracts see the list of
+/// the ports.
+#[derive(Debug, Drop)]
+pub struct PortSet {
+    /// A bit for each port, the lowest for port 1.
+    bits: u16,
+}
+
+impl Model for PortSet {
+    ghost use Rattle.std.specs.Prelude.{ℕ, List};
+    ghost use Rattle.pb_lan.specs.PortSets.{ports_in};
+
+    ghost Value = { List ℕ };
+
+    ghost view = { λ p. ports_in 16 1 p.bits };
+}
+
+impl PortSet {
+    /// No ports.
+    pub fn new() -> PortSet
+        ensures { result ≡ [] }
+    {
+        PortSet { bits: 0 }
+    }
+
+    /// The ports of a slice. None where they aren't local ports that ascend.
+    pub fn from_slice(ports: &[u8]) -> Option<PortSet>
+        ensures some { IfSome result (λ set. set ≡ ports.now) }
+        ensures none { IfNone result (AreAscending 0 ports.now → ⊥) }
+    {
+        let mut set = PortSet::new();
+        let mut last = 0;
+        for port in ports {
+            if *port <= last || usize::from(*port) > PORTS {
+                return None;
+            }
+            set.push(*port);
+            last = *port;
+        }
+        Some(set)
+    }
+
+    /// Puts a port behind those before it.
+    pub fn push(&mut self, port: u8)
+        requires { ComesAfter self.old port }
+        ensures { self.new ≡ self.old ++ port ∷ [] }
+    {
+        self.bits += 1 << (port - 1);
+    }
+
+    /// The same ports. Takes no memory.
+    pub fn copied(&self) -> PortSet
+        ensures { result ≡ self.now }
+    {
+        PortSet { bits: self.bits }
+    }
+
+    /// The ports, one by one.
+    pub fn list(&self) -> PortList
+        ensures ports { result ≡ self.now }
+        ensures few { length result ≤ 16 }
+    {
+        let mut list = PortList::new();
+        let mut rest = self.bits;
+        for port in 1..17 {
+            if rest == 0 {
+                return list;
+            }
+            if rest % 2 == 1 {
+                list.push(port);
+            }
+            rest /= 2;
+        }
+        list
+    }
+}
+
+/// The same ports.
+impl PartialEq for PortSet {
+    ghost eq = { pointwise nat_eq };
+
+    ghost laws = { partial_equiv_from_equiv nat_list_eq_equiv };
+
+    fn eq(&self, other: &Self) -> bool {
+        self.list() == other.list()
+    }
+}
+
+impl Eq for PortSet {
+    ghost laws = { nat_list_eq_equiv };
+}
+
+/// The copy is equal.
+impl Clone for PortSet {
+    ghost is_clone = { λ ports copy. copy ≡ ports };
+
+    fn clone(&self) -> Result<PortSet, AllocError> {
+        Ok(self.copied())
+    }
+}
