@@ -172,16 +172,6 @@ front-none f at s front back below h =
     sym (filter-append (is_of s) (entries_from f at front) (entries_from f (place_after at (length front)) back))
     ∙ ap (filter (is_of s)) (sym (entries-append f at front back below)) ∙ h)
 
--- the first place had its turn: nothing stood there
-pub turned-nothing : (keep : Entry → Bool) (f : Index) (at : ℕ) (s : Station) (rest : List Station) → entry_at at s (f s) ≡ [] → HasTurned keep f f at s rest rest
-turned-nothing keep f at s rest none = record {
-  kept = [];
-  log_is = sym (append-nil rest);
-  kept_count = sym (ap (λ zs. length (filter keep zs)) none);
-  entries = sym (ap (λ zs. entries_from f (place_after at 1) rest ++ filter keep zs) none ∙ append-nil (entries_from f (place_after at 1) rest));
-  fronts = λ front back is. refl;
-}
-
 -- what stood there went
 pub turned-gone : (keep : Entry → Bool) (f g : Index) (at : ℕ) (s : Station) (seen : LastSeen) (rest : List Station) → HasEach f (entries_from f at (s ∷ rest)) → f s ≡ Some seen → at ≡ seen.at
     → keep (entry_of s seen) ≡ false → IsIndexWith s None f g → HasTurned keep f g at s rest rest
@@ -307,10 +297,6 @@ turned-on keep f g at s rest behind log gone all t whole entries count =
 pub all_stay : (es : List Entry) → filter (stays None) es ≡ es
 all_stay [] = refl
 all_stay (e ∷ es) = ap (λ zs. e ∷ zs) (all_stay es)
-
--- a station of the index is among the entries
-pub some-there : (f : Index) (s : Station) (seen : LastSeen) (es : List Entry) → HasEach f es → f s ≡ Some seen → 1 ≤ length es
-some-there f s seen es each is = omega (arith, parted (is_of s) es, ap length (each s seen is))
 
 -- the entries that are sighted are those that the index tells of
 pub found-sighted : (f : Index) (at : ℕ) (xs : List Station) → HasEach f (entries_from f at xs) → (vid : ℕ) (mac : Mac)

@@ -1,7 +1,7 @@
 //! Stations, where each was seen last, and the places of a log.
 
 ghost use Rattle.std.specs.Hash as fed;
-ghost use Rattle.std.specs.Prelude.{◌≡◌, ◌++◌, ◌∷◌, []};
+ghost use Rattle.std.specs.Prelude.{◌≡◌, ◌%◌, ◌^◌, ◌++◌, ◌∷◌, []};
 ghost use Rattle.std.proofs.Common.{rules};
 ghost use Rattle.std.specs.Cmp.Rules.{hashing};
 
@@ -54,7 +54,8 @@ impl Place {
     /// The place of a station that the index has at this slot. Only the lower bits of the slot are kept, which
     /// is enough for a hint.
     pub fn new(station: Station, slot: usize) -> Place
-        ensures { result.station ≡ station }
+        ensures station { result.station ≡ station }
+        ensures slot { result.slot ≡ slot % 2 ^ 32 }
     {
         Place {
             station,

@@ -3,7 +3,7 @@ use Rattle.std.specs.Prelude.{◌≡◌, ℕ, ◌<◌, ◌≤◌, List, Some, sl
 use Rattle.std.specs.List.{count_by}
 use Rattle.pb_frame.specs.Admission.{same}
 use Rattle.pb_lan.specs.Counts.{left, IsUnhindered, IsDrained}
-use Rattle.pb_lan.specs.Laws.{DeparturesAreArrivals, IsTraced, IsAllTraced, IsDeliveredOnce, IsReached, IsDelivered, HaveOnePriority, polled_elsewhere}
+use Rattle.pb_lan.specs.Laws.{DeparturesAreArrivals, IsTraced, IsTracedEachTime, IsDeliveredOnce, IsReached, IsDelivered, HaveOnePriority, polled_elsewhere}
 use Rattle.pb_lan.specs.Numbering.{numbered}
 use Rattle.pb_lan.specs.PortLists.{departed}
 use Rattle.pb_lan.specs.Ports.{vid_at}
@@ -27,11 +27,11 @@ ArriveExactlyOnce plan rec =
     (shape : Shape) (mark : Mark) (entry : CustomerPlan) → IsTraced plan shape rec mark entry → IsDrained plan rec mark → IsUnhindered plan shape (vid_at plan entry) rec mark
     → (number : ℕ) (c : CustomerPlan) (path : List ℕ) → IsReached plan shape mark entry number c path → IsDelivered plan shape rec mark entry number c path
 
--- where all frames were handled under a forest, a frame leaves a port at most as often as the other
--- ports of its service polled it
+-- a frame that was handled under a forest each time that it entered its service leaves a port at most as often as the
+-- other ports of the service polled it
 abbrev pub MultiplyNone : Plan → Record → Type 0
 MultiplyNone plan rec =
-    (shape : Shape) → IsAllTraced plan shape rec → (number : ℕ) (c : CustomerPlan) (frame : List ℕ) → numbered plan.customers number ≡ Some c
+    (number : ℕ) (c : CustomerPlan) (frame : List ℕ) → numbered plan.customers number ≡ Some c → IsTracedEachTime plan rec c.service frame
     → count_by (same frame) (left (steps_of rec.customers number)) ≤ polled_elsewhere rec c.service number frame 1 plan.customers
 
 -- of two frames of one entry port and one priority that were handled under a forest, the one that

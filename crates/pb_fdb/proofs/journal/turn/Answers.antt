@@ -74,7 +74,7 @@ returns-clause-turned c s rest is =
     let stay = stays-at c.args.port (entry_of s0 seen) (sym c.eq.ensures ∙ c.if-eq.false) in
     let noted : IsIndexWith s0 (Some new) f g = c.note.ensures.noted s0 c.in-Some-slot_of.ensures.station in
     let count = length-map c.pop_front.new.self.items (λ p. p.station) in
-    let put = stations-put c.pop_front.new.self.items c.push_back_reserved.new.self.items c.new.result s0 c.push_back_reserved.ensures.items c.new.ensures in
+    let put = stations-put c.pop_front.new.self.items c.push_back_reserved.new.self.items c.new.result s0 c.push_back_reserved.ensures.items c.new.ensures.station in
     let behind = ap (place_after (place_after c.args.first.now 1)) (c.len.ensures ∙ c.pop_front.new.self.ok.0 ∙ sym count) in
     let fits : length log < 2 ^ 64 = omega (arith, count, c.pop_front.new.self.small.0, c.pop_front.new.self.small.1, c.pop_front.new.self.ok.0) in
     subst (HasTurned (stays c.args.port) f g c.args.first.now s rest) (sym put)
@@ -95,7 +95,7 @@ returns-clause-each c =
     let each = subst (λ xs. HasEach f (entries_from f c.args.first.now xs)) whole c.requires.each in
     let noted : IsIndexWith s0 (Some new) f g = c.note.ensures.noted s0 c.in-Some-slot_of.ensures.station in
     let count = length-map c.pop_front.new.self.items (λ p. p.station) in
-    let put = stations-put c.pop_front.new.self.items c.push_back_reserved.new.self.items c.new.result s0 c.push_back_reserved.ensures.items c.new.ensures in
+    let put = stations-put c.pop_front.new.self.items c.push_back_reserved.new.self.items c.new.result s0 c.push_back_reserved.ensures.items c.new.ensures.station in
     let behind = ap (place_after (place_after c.args.first.now 1)) (c.len.ensures ∙ c.pop_front.new.self.ok.0 ∙ sym count) in
     let fits : length log < 2 ^ 64 = omega (arith, count, c.pop_front.new.self.small.0, c.pop_front.new.self.small.1, c.pop_front.new.self.ok.0) in
     subst (HasEach g)
@@ -116,7 +116,7 @@ returns-clause-count c counted =
     let each = subst (λ xs. HasEach f (entries_from f c.args.first.now xs)) whole c.requires.each in
     let noted : IsIndexWith s0 (Some new) f g = c.note.ensures.noted s0 c.in-Some-slot_of.ensures.station in
     let count = length-map c.pop_front.new.self.items (λ p. p.station) in
-    let put = stations-put c.pop_front.new.self.items c.push_back_reserved.new.self.items c.new.result s0 c.push_back_reserved.ensures.items c.new.ensures in
+    let put = stations-put c.pop_front.new.self.items c.push_back_reserved.new.self.items c.new.result s0 c.push_back_reserved.ensures.items c.new.ensures.station in
     let behind = ap (place_after (place_after c.args.first.now 1)) (c.len.ensures ∙ c.pop_front.new.self.ok.0 ∙ sym count) in
     let fits : length log < 2 ^ 64 = omega (arith, count, c.pop_front.new.self.small.0, c.pop_front.new.self.small.1, c.pop_front.new.self.ok.0) in
     let entries = ap length (ap (entries_from g (place_after c.args.first.now 1)) put ∙ last-entries f g c.args.first.now s0 seen new log known here noted behind fits) in

@@ -39,7 +39,7 @@ invariant_of-self-2 c =
     let log = c.free_place.new.log in
     let xs = stations log.items in
     let count = length-map log.items (λ p. p.station) in
-    let put = stations-put log.items c.push_back_reserved.new.self.items c.new.result key c.push_back_reserved.ensures.items c.new.ensures in
+    let put = stations-put log.items c.push_back_reserved.new.self.items c.new.result key c.push_back_reserved.ensures.items c.new.ensures.station in
     let new : LastSeen = record { at = place_after at c.len.result; learnt = c.args.new.learnt; port = c.args.new.port } in
     let found : f key ≡ Some c.note-old.result = sym c.in_ok-slot.ensures.value ∙ c.note-old.ensures.old in
     let noted : IsIndexWith key (Some new) f g = c.note-old.ensures.noted key (found-station (keys c.free_place.new.index) key (Some c.in_ok-slot.slot) c.in_ok-slot.ensures.index) in
@@ -70,7 +70,7 @@ returns-clause-renewed c =
     let log = c.free_place.new.log in
     let xs = stations log.items in
     let count = length-map log.items (λ p. p.station) in
-    let put = stations-put log.items c.push_back_reserved.new.self.items c.new.result key c.push_back_reserved.ensures.items c.new.ensures in
+    let put = stations-put log.items c.push_back_reserved.new.self.items c.new.result key c.push_back_reserved.ensures.items c.new.ensures.station in
     let new : LastSeen = record { at = place_after at c.len.result; learnt = c.args.new.learnt; port = c.args.new.port } in
     let noted : IsIndexWith key (Some new) f g = c.note-old.ensures.noted key (found-station (keys c.free_place.new.index) key (Some c.in_ok-slot.slot) c.in_ok-slot.ensures.index) in
     let below : at < 2 ^ 64 = omega arith in

@@ -18,7 +18,7 @@ invariant_of-self-2 c =
     let log = c.make_room.new.log in
     let xs = stations log.items in
     let count = length-map log.items (λ p. p.station) in
-    let put = stations-put log.items c.push_back_reserved.new.self.items c.new.result key c.push_back_reserved.ensures.items c.new.ensures in
+    let put = stations-put log.items c.push_back_reserved.new.self.items c.new.result key c.push_back_reserved.ensures.items c.new.ensures.station in
     let new : LastSeen = record { at = place_after at c.len-2.result; learnt = c.args.entry.learnt; port = c.args.entry.port } in
     let each = subst (λ xs. HasEach f (entries_from f at xs)) (sym (ap stations c.make_room.ensures.items)) c.self.invariant.each in
     let noted : IsIndexWith key (Some new) f g = c.in_ok-slot.ensures.updates.0 in
@@ -43,7 +43,7 @@ returns-clause-ok c =
     let log = c.make_room.new.log in
     let xs = stations log.items in
     let count = length-map log.items (λ p. p.station) in
-    let put = stations-put log.items c.push_back_reserved.new.self.items c.new.result key c.push_back_reserved.ensures.items c.new.ensures in
+    let put = stations-put log.items c.push_back_reserved.new.self.items c.new.result key c.push_back_reserved.ensures.items c.new.ensures.station in
     let new : LastSeen = record { at = place_after at c.len-2.result; learnt = c.args.entry.learnt; port = c.args.entry.port } in
     let noted : IsIndexWith key (Some new) f g = c.in_ok-slot.ensures.updates.0 in
     let below : at < 2 ^ 64 = omega (arith, c.self.ranges) in
