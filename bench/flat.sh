@@ -2,12 +2,13 @@
 # Measures how many lines a second the flat command answers: 200,000 frames of 64 octets between
 # 256 stations at three ports, half of them broadcast, and the same with 4,096 stations, which fill the
 # table. Where YARDSTICK names a Rust source of the same command, that is measured in turn with it, and the
-# outputs are compared. Each is run ROUNDS times, and the best counts.
+# outputs are compared. Each is run ROUNDS times; the best time is told and the middle one, which a few quick or slow
+# runs of a machine that others share don't move.
 set -eu
 cd -- "$(dirname -- "$0")/.."
 
 lines=200000
-rounds=${ROUNDS:-9}
+rounds=${ROUNDS:-31}
 yardstick=${YARDSTICK:-../shared/bench/flat_yardstick.rs}
 folder=$(mktemp -d)
 trap 'rm -rf -- "$folder"' EXIT
@@ -39,22 +40,23 @@ run() {
     { time "$@" <"$folder/$stations.in" >"$folder/$name.$stations.out"; } 2>>"$folder/$name.$stations.seconds"
 }
 
-# The least of the seconds that were kept.
-best() {
-    sort -n "$folder/$1.$2.seconds" | head -n 1
+# The best and the middle one of the seconds that were kept.
+times() {
+    sort -n "$folder/$1.$2.seconds" | awk '{ s[NR] = $1 } END { print s[1], s[int((NR + 1) / 2)] }'
 }
 
-# Prints the best rate of a program with so many stations.
+# Prints the rates of a program with so many stations.
 tell() {
-    awk -v name="$1" -v stations="$2" -v lines="$lines" -v seconds="$(best "$1" "$2")" 'BEGIN {
-        rate = lines / (seconds > 0 ? seconds : 0.001)
-        printf "%s, %d stations: %.0f lines per second (%s s)\n", name, stations, rate, seconds
+    times "$1" "$2" | awk -v name="$1" -v stations="$2" -v lines="$lines" '{
+        printf "%s, %d stations: %.0f lines per second at best (%s s), %.0f by the median (%s s)\n", name, stations, lines / $1, $1, lines / $2, $2
     }'
 }
 
-# Prints how many times as fast one best run was as another.
+# Prints how many times as fast one program was as another, or with other stations.
 compare() {
-    awk -v name="$1" -v one="$2" -v other="$3" 'BEGIN { printf "%s: %.2f\n", name, other / (one > 0 ? one : 0.001) }'
+    { times "$2" "$3"; times "$4" "$5"; } | awk -v name="$1" '
+        NR == 1 { best = $1; middle = $2 }
+        END { printf "%s: %.2f by the best, %.2f by the medians\n", name, $1 / best, $2 / middle }'
 }
 
 # The script builds the program where that is due, and then looks at its sources each time; that isn't timed.
@@ -78,7 +80,7 @@ for stations in 256 4096; do
     if [ -n "$has_yardstick" ]; then
         tell yardstick "$stations"
         cmp "$folder/pbnet.$stations.out" "$folder/yardstick.$stations.out" && echo "the outputs are the same"
-        compare "pbnet to the yardstick, $stations stations" "$(best pbnet "$stations")" "$(best yardstick "$stations")"
+        compare "pbnet to the yardstick, $stations stations" pbnet "$stations" yardstick "$stations"
     fi
 done
-compare "pbnet with 4096 stations to 256" "$(best pbnet 4096)" "$(best pbnet 256)"
+compare "pbnet with 4096 stations to 256" pbnet 4096 pbnet 256

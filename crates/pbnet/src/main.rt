@@ -15,6 +15,7 @@ mod progress;
 #[cfg(test)]
 mod tests;
 
+use clap::error::ErrorKind as WordsFault;
 use order::{Order, order_of};
 use pb_cli::{
     FlatFault, Switch, Traffic, run_check, run_flat_on, run_network, run_script, run_show,
@@ -41,8 +42,9 @@ const FAULT: u8 = 3;
 const BUFFER: usize = 65_536;
 
 fn main(rt: HostRuntime) -> ExitCode {
-    let Ok(words) = words_of(&rt) else {
-        return ExitCode::from(WRONG_WORDS);
+    let words = match words_of(&rt) {
+        Ok(words) => words,
+        Err(e) => return unread(&rt, &e),
     };
     match order_of(rt.alloc(), words.as_slice()) {
         Ok(Some(Order::Flat(ports))) => flat(&rt, ports),
@@ -54,6 +56,7 @@ fn main(rt: HostRuntime) -> ExitCode {
         }
         Ok(Some(Order::Show)) => show(&rt),
         Ok(None) => ExitCode::from(WRONG_WORDS),
+        Err(e) if e.kind() == WordsFault::OutOfMemory => tell(&rt, FlatFault::Memory),
         Err(e) => {
             let _ = e.print(&rt);
             ExitCode::from(if e.use_stderr() { WRONG_WORDS } else { 0 })
@@ -68,6 +71,15 @@ fn words_of(rt: &(impl Env + AllocGlobal)) -> io::Result<Vec<String>> {
         words.push(word)?;
     }
     Ok(words)
+}
+
+/// Says why the words of the command line can't be read.
+fn unread(rt: &(impl Print + Eprint), error: &io::Error) -> ExitCode {
+    if error.kind() == ErrorKind::OutOfMemory {
+        return tell(rt, FlatFault::Memory);
+    }
+    let _ = eprintln!(rt; "error: a word of the command line is not UTF-8");
+    ExitCode::from(WRONG_WORDS)
 }
 
 /// Runs one bridge over standard input.
