@@ -7,6 +7,9 @@ ghost use Rattle.pbnet.specs.declared.order.Order.{Order};
 use clap::{Arg, ArgAction, Command, Error};
 use std::alloc::{AllocError, Global};
 
+/// The program's version.
+const VERSION: &str = "0.1.0";
+
 /// What is to be done.
 #[derive(PartialEq, Eq, Debug, Drop)]
 pub enum Order {
@@ -62,6 +65,7 @@ fn commands<'a>(alloc: Global) -> Result<Command<'a>, Error> {
     );
     Ok(
         Command::new(alloc, "pbnet")
+            .version(VERSION)
             .about("A provider bridged Ethernet network in one process")
             .subcommand_required(true)
             .subcommand(flat)?

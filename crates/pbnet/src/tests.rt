@@ -86,6 +86,7 @@ fn refuses_other_words_and_helps(rt: HostRuntime) -> Result<(), Fail> {
     assert_eq!(rt; read(&rt, alloc, &["show", "3"])?, Err(true));
     assert_eq!(rt; read(&rt, alloc, &["show", "--help"])?, Err(false));
     assert_eq!(rt; read(&rt, alloc, &["--help"])?, Err(false));
+    assert_eq!(rt; read(&rt, alloc, &["--version"])?, Err(false));
     assert_eq!(rt; read(&rt, alloc, &["flat", "--help"])?, Err(false));
     Ok(())
 }
