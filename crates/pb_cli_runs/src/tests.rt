@@ -137,6 +137,23 @@ fn a_switch_answers_behind_what_stands_there(rt: HostRuntime) -> Result<(), Fail
 }
 
 #[test]
+fn a_flood_leaves_fifteen_ports(rt: HostRuntime) -> Result<(), Fail> {
+    const OTHERS: [&str; 15] = [
+        "2", "3", "4", "5", "6", "7", "8", "9", "10", "11", "12", "13", "14", "15", "16",
+    ];
+    let alloc = rt.alloc();
+    let mut want = String::new(alloc);
+    for port in OTHERS {
+        want.push_str("out ")?;
+        want.push_str(port)?;
+        want.push_str(" ffffffffffff02000000010108004142\n")?;
+    }
+    let broadcast = "in 1 ffffffffffff02000000010108004142\n";
+    ran(&rt, alloc, 16, broadcast, want.as_str());
+    Ok(())
+}
+
+#[test]
 fn floods_and_finds_stations(rt: HostRuntime) -> Result<(), Fail> {
     let alloc = rt.alloc();
     ran(&rt, alloc, 3, "", "");
