@@ -2,7 +2,7 @@
 //!
 //! The exit status is 0 where all went well, 1 where a plan file was refused, 2 where the words of the
 //! command line ask for nothing that is known, and 3 after a line that begins with `fault:`. Such a line is the
-//! last one that is printed: `fault: read`, `write` or `memory` where reading, writing or memory failed in a run,
+//! last one that is printed: `fault: read`, `write` or `memory` where reading, writing or memory failed,
 //! `steps` where a bridge had taken all its steps, `path` where a file can't be read or opened or a socket not
 //! be connected to, `spawn` where a thread could not be started, and, behind the report of a run, `port NAME N`
 //! for each port whose input has the fault N.
