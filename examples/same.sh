@@ -1,6 +1,6 @@
 #!/usr/bin/env bash
-# Whether the tests of pb_cli_runs run these examples as they stand here: each file is compared with its copy in
-# crates/pb_cli_runs/src/tests/steps.
+# Whether the tests of pb_step_runs run these examples as they stand here: each file is compared with its copy in
+# crates/pb_step_runs/src/tests.
 set -eu
 cd -- "$(dirname -- "$0")"
 
@@ -17,7 +17,7 @@ constant() {
 status=0
 for script in *.steps; do
     name=${script%.steps}
-    test=../crates/pb_cli_runs/src/tests/steps/${name//-/_}.rt
+    test=../crates/pb_step_runs/src/tests/${name//-/_}.rt
     for part in PLAN:toml STEPS:steps EXPECTED:expected; do
         if ! constant "${part%:*}" "$test" | cmp -s - "$name.${part#*:}"; then
             echo "examples: $name.${part#*:} is not what $test has" >&2

@@ -10,16 +10,15 @@
 
 ghost use Rattle.std.specs.Prelude.{◌≤◌};
 
-mod order;
 mod progress;
-#[cfg(test)]
-mod tests;
 
 use clap::error::ErrorKind as WordsFault;
-use order::{Order, order_of};
-use pb_cli::{
-    FlatFault, Switch, Traffic, run_check, run_flat_on, run_network, run_script, run_show,
-};
+use pb_check::{run_check, run_show};
+use pb_flat::{Switch, run_flat_on};
+use pb_print::CommandFault;
+use pb_running::{Traffic, run_network};
+use pb_step::run_script;
+use pb_words::{Order, order_of};
 use progress::Progress;
 use std::fmt::Display;
 use std::fs::{File, Files};
@@ -56,7 +55,7 @@ fn main(rt: HostRuntime) -> ExitCode {
         }
         Ok(Some(Order::Show)) => show(&rt),
         Ok(None) => ExitCode::from(WRONG_WORDS),
-        Err(e) if e.kind() == WordsFault::OutOfMemory => tell(&rt, FlatFault::Memory),
+        Err(e) if e.kind() == WordsFault::OutOfMemory => tell(&rt, CommandFault::Memory),
         Err(e) => {
             let _ = e.print(&rt);
             ExitCode::from(if e.use_stderr() { WRONG_WORDS } else { 0 })
@@ -76,7 +75,7 @@ fn words_of(rt: &(impl Env + AllocGlobal)) -> io::Result<Vec<String>> {
 /// Says why the words of the command line can't be read.
 fn unread(rt: &(impl Print + Eprint), error: &io::Error) -> ExitCode {
     if error.kind() == ErrorKind::OutOfMemory {
-        return tell(rt, FlatFault::Memory);
+        return tell(rt, CommandFault::Memory);
     }
     let _ = eprintln!(rt; "error: a word of the command line is not UTF-8");
     ExitCode::from(WRONG_WORDS)
@@ -87,10 +86,10 @@ fn flat(rt: &(impl Input + Print + AllocGlobal), ports: u8) -> ExitCode
     requires { (2 ≤ ports) × (ports ≤ 16) }
 {
     let Ok(mut writer) = BufWriter::with_capacity(rt.alloc(), BUFFER, io::writer(rt)) else {
-        return tell(rt, FlatFault::Memory);
+        return tell(rt, CommandFault::Memory);
     };
     let Ok(mut switch) = Switch::new(rt.alloc(), ports) else {
-        return tell(rt, FlatFault::Memory);
+        return tell(rt, CommandFault::Memory);
     };
     let mut reader = rt.reader();
     let ran = run_flat_on(rt.alloc(), &mut switch, &mut reader, &mut writer);
@@ -99,7 +98,7 @@ fn flat(rt: &(impl Input + Print + AllocGlobal), ports: u8) -> ExitCode
     let flushed = writer.flush();
     match ran {
         Err(fault) => tell(rt, fault),
-        Ok(()) if flushed.is_err() => tell(rt, FlatFault::Write),
+        Ok(()) if flushed.is_err() => tell(rt, CommandFault::Write),
         Ok(()) => ExitCode::SUCCESS,
     }
 }
@@ -108,7 +107,7 @@ fn flat(rt: &(impl Input + Print + AllocGlobal), ports: u8) -> ExitCode
 fn contents(rt: &(impl Files + Print + AllocGlobal), path: &str) -> Result<Vec<u8>, ExitCode> {
     match fs::read(rt, path) {
         Ok(file) => Ok(file),
-        Err(e) if e.kind() == ErrorKind::OutOfMemory => Err(tell(rt, FlatFault::Memory)),
+        Err(e) if e.kind() == ErrorKind::OutOfMemory => Err(tell(rt, CommandFault::Memory)),
         Err(_) => {
             let _ = println!(rt; "fault: path");
             Err(ExitCode::from(FAULT))
@@ -135,14 +134,14 @@ fn step(rt: &(impl Files + Input + Print + AllocGlobal), path: &str) -> ExitCode
         Err(status) => return status,
     };
     let Ok(mut writer) = BufWriter::with_capacity(rt.alloc(), BUFFER, io::writer(rt)) else {
-        return tell(rt, FlatFault::Memory);
+        return tell(rt, CommandFault::Memory);
     };
     let mut reader = rt.reader();
     let ran = run_script(rt.alloc(), file.as_slice(), &mut reader, &mut writer);
     let flushed = writer.flush();
     match ran {
         Err(fault) => tell(rt, fault),
-        Ok(_) if flushed.is_err() => tell(rt, FlatFault::Write),
+        Ok(_) if flushed.is_err() => tell(rt, CommandFault::Write),
         Ok(status) => ExitCode::from(status),
     }
 }
@@ -157,10 +156,10 @@ where
         Err(status) => return status,
     };
     let Ok(traffic) = Arc::new(rt.alloc(), Traffic::new()) else {
-        return tell(rt, FlatFault::Memory);
+        return tell(rt, CommandFault::Memory);
     };
     let Ok(counted) = Arc::try_clone(&traffic) else {
-        return tell(rt, FlatFault::Memory);
+        return tell(rt, CommandFault::Memory);
     };
     let progress = Progress::new(rt, counted, is_shown);
     match run_network(

@@ -1,8 +1,8 @@
 //! What is told of a network while it runs.
 
-use pb_cli::{Traffic, Watch};
 use pb_lan::Place;
 use pb_run::{Gate, Go};
+use pb_running::{Traffic, Watch};
 use std::alloc::Global;
 use std::sync::Arc;
 use std::sync::atomic::{AtomicU64, Ordering};

@@ -1,0 +1,70 @@
+//! Readers and writers that fail, for tests.
+#![tactic(auto)]
+
+use std::io;
+use std::io::{Error, ErrorKind, Read, Write};
+
+/// Gives a few octets a call, and an error at one of its calls.
+#[derive(Drop)]
+pub struct Slow<'a> {
+    /// What is still to be given.
+    pub rest: &'a [u8],
+    /// The most octets a call.
+    pub most: usize,
+    /// How many calls were made.
+    pub calls: u64,
+    /// The call, from 0, that is answered with an error.
+    pub fails_at: u64,
+    /// The kind of that error.
+    pub kind: ErrorKind,
+}
+
+impl Read for Slow<'_> {
+    fn read(&mut self, buf: &mut [u8]) -> io::Result<usize> {
+        let call = self.calls;
+        self.calls = self.calls.saturating_add(1);
+        if call == self.fails_at {
+            return Err(Error::from(self.kind));
+        }
+        let n = self.rest.len().min(self.most).min(buf.len());
+        buf[..n].copy_from_slice(&self.rest[..n]);
+        self.rest = &self.rest[n..];
+        Ok(n)
+    }
+}
+
+/// Takes some octets, and then fails.
+#[derive(Drop)]
+pub struct Full {
+    /// How many octets it still takes.
+    pub room: usize,
+}
+
+impl Write for Full {
+    fn write(&mut self, buf: &[u8]) -> io::Result<usize> {
+        let n = buf.len().min(self.room);
+        if n == 0 && !buf.is_empty() {
+            return Err(Error::from(ErrorKind::StorageFull));
+        }
+        self.room -= n;
+        Ok(n)
+    }
+
+    fn flush(&mut self) -> io::Result<()> {
+        Ok(())
+    }
+}
+
+/// Takes everything, and can't be flushed.
+#[derive(Drop)]
+pub struct Unflushed;
+
+impl Write for Unflushed {
+    fn write(&mut self, buf: &[u8]) -> io::Result<usize> {
+        Ok(buf.len())
+    }
+
+    fn flush(&mut self) -> io::Result<()> {
+        Err(Error::from(ErrorKind::StorageFull))
+    }
+}

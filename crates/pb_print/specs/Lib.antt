@@ -1,0 +1,5 @@
+pub mod Faults
+pub mod BadLines
+pub mod Refusals
+pub mod ForestTexts
+pub mod RecordTexts

@@ -1,0 +1,43 @@
+-- Plans of files and their ports.
+use Rattle.std.proofs.Common.{◌≡◌, ℕ, List, [], ◌∷◌, ◌++◌, length, map, ap, sym, ◌∙◌, append_assoc, append-nil, arith, Ok, Err, IfOk}
+use Rattle.std.proofs.lemmas.List.{map-append}
+use Rattle.std.proofs.lemmas.Slice.Zip.{AllZip-long}
+use Rattle.std.specs.declared.result.Result.{Result}
+use Rattle.pb_lan.specs.declared.plan.Plan.{Plan}
+use Rattle.pb_lan.specs.declared.step.Step.{Step}
+use Rattle.pb_run.specs.Runs.{Lists, ArePortsKept, frames_of}
+use Rattle.pb_run.specs.declared.desk.Last.{Last}
+use Rattle.pb_service.specs.PlanFiles.{Tells, IsPlanOf}
+use Rattle.pb_service.specs.declared.port_spec.PortSpec.{PortSpec}
+use Rattle.pb_running.specs.Scripted.{script_in, AreScripted}
+
+-- a file has as many ports as its plan
+pub ports_per_plan : (file : List ℕ) (plan : Plan) (specs : List PortSpec) → Tells file (λ document. IsPlanOf document plan specs) → length specs ≡ length plan.customers
+ports_per_plan file plan specs (document, parsed, told) = AllZip-long _ _ specs told.ports ∙ sym (AllZip-long _ _ plan.customers told.customers)
+
+-- what a fact of a value that is Ok gives
+pub on_value : {A E : Type 0} {P Q : A → Type 0} (r : Result A E) → ((x : A) → P x → Q x) → IfOk r P → IfOk r Q
+on_value (Ok x) f p = f x p
+on_value (Err e) f p = p
+
+-- what entered at ports that had to give what a file lists
+pub are_scripted : (specs : List PortSpec) (before after : Lists) (customers : List (List Step)) (lasts : List Last)
+    → before.scripts ≡ map script_in specs → ArePortsKept before after customers lasts → AreScripted specs customers lasts
+are_scripted specs before after customers lasts same kept = record {
+  rest = after.scripts;
+  begun = λ number. ap (λ scripts. frames_of scripts number) (sym same) ∙ kept.script number;
+  used_up = kept.used_up;
+}
+
+-- once nothing is to come, all that was made shows what all showed that came
+pub all_moved : {X Y Z : Type 0} (f : X → Z) (xs : List X) (g : Y → Z) (left all ys : List Y)
+    → map f xs ++ map g left ≡ map g all → length left ≡ 0 → all ≡ ys → map f xs ≡ map g ys
+all_moved f xs g [] all ys before none same = sym (append-nil (map f xs)) ∙ before ∙ ap (map g) same
+all_moved f xs g (y ∷ left) all ys before none same = absurd (omega arith)
+
+-- one thing more goes from the things to come to those that were made of them, and shows the same
+pub moved_over : {X Y Z : Type 0} (f : X → Z) (xs ys : List X) (x : X) (g : Y → Z) (rest left : List Y) (y : Y) (all : List Z)
+    → map f xs ++ map g rest ≡ all → ys ≡ xs ++ x ∷ [] → rest ≡ y ∷ left → f x ≡ g y → map f ys ++ map g left ≡ all
+moved_over f xs ys x g rest left y all before grown next same =
+    ap (λ zs. map f zs ++ map g left) grown ∙ ap (λ zs. zs ++ map g left) (map-append f xs (x ∷ [])) ∙ append_assoc (map f xs) (f x ∷ []) (map g left)
+    ∙ ap (λ z. map f xs ++ z ∷ map g left) same ∙ ap (λ zs. map f xs ++ map g zs) (sym next) ∙ before

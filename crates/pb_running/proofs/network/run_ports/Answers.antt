@@ -1,0 +1,37 @@
+use Rattle.std.proofs.Common.{refl, ap, ◌∙◌, arith, rules}
+use Rattle.std.proofs.lemmas.Grind.{common_steps}
+use denote.Param.Object.{read_made}
+use Rattle.std.specs.Vec.Iter.{into_iter_items}
+use Rattle.pb_running.specs.Scripted.{script_at}
+use Rattle.pb_running.proofs.NetworkLemmas.{on_value, are_scripted, moved_over, all_moved}
+use Rattle.pb_running.proofs.network.run_ports.OwnLists.{own-1, at-1-1}
+use Rattle.pb_running.proofs.network.run_ports.Goals as goal
+
+pub loop-port-preserved : goal.loop-port-preserved
+loop-port-preserved g c = record {
+  count = grind (arith, common_steps);
+  scripts = moved_over (λ b. (own-1.entry b.vtable).1.script b.value) c.loop-port.held.items c.push.new.self.items c.into_dyn_box.result (λ w. script_at w.port)
+      (into_iter_items c.loop-port.port-iterator) (into_iter_items c.next.new.self) c.in-Some.port _
+      c.loop-port.invariant.scripts c.in_ok-push.ensures.items c.in-Some.ensures.steps.0
+      (read_made own-1 (own-1.entry at-1-1) at-1-1 refl _ (λ e port. e.1.script port) c.into_dyn_box.result.vtable c.into_dyn_box.result.value c.in_ok-new.field-0.value
+      c.into_dyn_box.ensures.1 ∙ ap (λ w. script_at w.port) c.in_ok-new.ensures.ok);
+}
+
+pub returns-in-Ok-clause-ok : goal.returns-in-Ok-clause-ok
+returns-in-Ok-clause-ok g c =
+    let ran = c.in-Ok.ran in
+    let given = all_moved (λ b. (own-1.entry b.vtable).1.script b.value) c.loop-port.held.items (λ w. script_at w.port) (into_iter_items c.loop-port.port-iterator)
+    (into_iter_items c.into_iter-port-iterator.result) c.args.ports.items c.loop-port.invariant.scripts (search rules) (search rules) in
+    on_value c.tell.result (λ status told specs same. record {
+      rec = ran.rec;
+      lawful = c.in-Ok.ensures.lawful;
+      headline = c.in-Ok.ensures.headline;
+      lasts = ran.last.items;
+      scripted = are_scripted specs _ _ ran.rec.customers ran.last.items (given ∙ same) c.in-Ok.ensures.ports;
+      ended = ran.ended;
+      tells_ended = c.in-Ok.ensures.ended;
+      settled = ran.settled;
+      text = told.0;
+      written = told.1;
+      is_report = told.2;
+    }) c.tell.ensures.ok

@@ -1,0 +1,5 @@
+pub mod Reports
+pub mod AnyPorts
+pub mod Scripted
+pub mod Networks
+pub mod Unwritten

@@ -1,0 +1,29 @@
+-- What a plan file gives its ports.
+use Rattle.std.specs.Prelude.{◌≡◌, ℕ, Option, Some, None, List, map}
+use Rattle.pb_running.specs.AnyPorts.{of_any}
+use Rattle.pb_running.specs.declared.any_port.AnyPort.{AnyPort}
+use Rattle.pb_lan.specs.Counts.{entered}
+use Rattle.pb_lan.specs.Records.{steps_of}
+use Rattle.pb_lan.specs.declared.step.Step.{Step}
+use Rattle.pb_run.specs.Ports.{in_front, IsEnded}
+use Rattle.pb_run.specs.Runs.{frames_of, last_of}
+use Rattle.pb_run.specs.declared.desk.Last.{Last}
+use Rattle.pb_port.specs.declared.memory.MemoryPort.{MemoryPort}
+use Rattle.pb_service.specs.declared.port_spec.PortSpec.{PortSpec}
+use Rattle.pb_service.specs.declared.port_spec.PortSpec.TheVariants.{Memory, Capture, Socket}
+
+-- the frames that come in at a port, where the file lists them
+abbrev pub script_in : PortSpec → Option (List (List ℕ))
+script_in (Memory frames) = Some frames
+script_in (Capture read write) = None
+script_in (Socket path) = None
+
+-- the frames that a port has still to give, where it keeps them in memory
+abbrev pub script_at : {C S : Type 0} → AnyPort MemoryPort C S → Option (List (List ℕ))
+script_at {C} {S} = of_any (λ (port : MemoryPort). Some port.script.items) (λ (port : C). None) (λ (port : S). None)
+
+-- at each port whose frames the file lists, the first of them entered, and all where the port came to its end
+pub record AreScripted (specs : List PortSpec) (customers : List (List Step)) (lasts : List Last) : Type 0 where
+  pub rest : List (Option (List (List ℕ)))
+  pub begun : (number : ℕ) → frames_of (map script_in specs) number ≡ in_front (entered (steps_of customers number)) (frames_of rest number)
+  pub used_up : (number : ℕ) → IsEnded (last_of lasts number) (frames_of rest number)

@@ -1,0 +1,172 @@
+//! Runs of the networks of plan files.
+
+ghost use Rattle.std.specs.Prelude.{◌≡◌, length, map, vec_len, List, ℕ, IfOk, IfErr, OnOk};
+ghost use Rattle.std.specs.Io.KnownBytes.{Appends};
+ghost use Rattle.pb_lan.specs.Plans.{IsSound};
+ghost use Rattle.pb_relay.specs.Settled.{TellsSettled};
+ghost use Rattle.pb_service.specs.PlanFiles.{Tells, IsPlanOf, RefusesFile};
+ghost use Rattle.pb_service.specs.declared.port_spec.PortSpec.{PortSpec};
+ghost use Rattle.pb_print.specs.Refusals.{refusal_line};
+ghost use Rattle.pb_running.specs.Networks.{PrintsRan, PrintsNetwork};
+ghost use Rattle.pb_running.specs.Reports.{IsRunReport};
+ghost use Rattle.pb_running.specs.Scripted.{script_at, script_in};
+
+use crate::network_fault::NetworkFault;
+use crate::outside::{SystemPort, open_ports};
+use crate::report::write_report;
+use crate::unwritten::write_unwritten;
+use crate::watched::{Traffic, Watched};
+use pb_lan::{Limits, Plan};
+use pb_print::write_refusal;
+use pb_run::{Gate, Held, Ran, run};
+use pb_service::{PlanFault, PortSpec, read_limits, read_plan};
+use std::alloc::Global;
+use std::fs::{File, Files};
+use std::io::Write;
+use std::net::Net;
+use std::sync::{Arc, Wait};
+use std::thread::Threads;
+use std::time::Clock;
+
+/// The exit status where the plan is refused.
+const REFUSED: u8 = 1;
+
+/// A gate that is told when its run is over.
+pub trait Watch: Gate {
+    /// The run is over, and no worker comes any more. Nothing was printed yet of what came of it.
+    fn close(&self);
+}
+
+/// What a plan file tells.
+struct Network {
+    plan: Plan,
+    ports: Vec<PortSpec>,
+    limits: Limits,
+}
+
+/// What a plan file tells: the network, its limits and its ports.
+fn read_network(alloc: Global, file: &[u8]) -> Result<Network, PlanFault>
+    ensures told { IfOk result (λ n. Tells file.now (λ document. IsPlanOf document n.plan n.ports.items)) }
+    ensures sound { IfOk result (λ n. IsSound n.plan) }
+    ensures err { IfErr result (RefusesFile file.now) }
+{
+    let (plan, ports) = read_plan(alloc, file)?;
+    let limits = read_limits(alloc, file)?;
+    Ok(Network {
+        plan,
+        ports,
+        limits,
+    })
+}
+
+/// Writes which rule a plan file breaks, and answers the exit status.
+fn refuse<W: Write>(alloc: Global, fault: &PlanFault, writer: &mut W) -> Result<u8, NetworkFault>
+    ensures status { IfOk result (λ status. status ≡ 1) }
+    ensures text { OnOk result (Appends (W.contents writer.old) (W.contents writer.new) (refusal_line fault.now)) }
+    ensures err { IfErr result (λ e. e ≡ NetworkFault.Ports → ⊥) }
+{
+    write_refusal(alloc, fault, writer)?;
+    Ok(REFUSED)
+}
+
+/// Writes what came of a run, and which frames could not be written.
+fn tell<W: Write, E: Write>(
+    alloc: Global,
+    plan: &Plan,
+    ran: &Ran,
+    writer: &mut W,
+    errors: &mut E,
+) -> Result<u8, NetworkFault>
+    requires sound { IsSound plan.now }
+    requires settled { IfOk ran.now.settled (TellsSettled plan.now ran.now.rec) }
+    requires lasts { length ran.now.last.items ≡ length plan.now.customers }
+    requires ports { length ran.now.ports.items ≡ length plan.now.customers }
+    requires lists { length ran.now.rec.customers ≡ length plan.now.customers }
+    ensures ok { IfOk result (λ status. (text : List ℕ) × Appends (W.contents writer.old) (W.contents writer.new) text
+        × IsRunReport plan.now ran.now.rec ran.now.ended ran.now.settled ran.now.last.items status text) }
+    ensures err { IfErr result (λ e. e ≡ NetworkFault.Ports → ⊥) }
+{
+    let customers = plan.customers.as_slice();
+    let lists = ran.rec.customers.as_slice();
+    let _ = write_unwritten(alloc, customers, ran.ports.as_slice(), lists, errors);
+    let status = write_report(alloc, plan, ran, writer)?;
+    Ok(status)
+}
+
+/// Runs a plan with its ports, and reports on the run.
+fn run_ports<R, G: Watch, W: Write, E: Write>(
+    rt: &R,
+    alloc: Global,
+    plan: &Plan,
+    ports: Vec<Watched<SystemPort>>,
+    limits: Limits,
+    gate: &G,
+    writer: &mut W,
+    errors: &mut E,
+) -> Result<u8, NetworkFault>
+where
+    R: Threads + Wait + Clock + Sync,
+    requires sound { IsSound plan.now }
+    requires count { vec_len ports ≡ length plan.now.customers }
+    ensures ok { IfOk result (λ status. (specs : List PortSpec) → map (λ w. script_at w.port) ports.items ≡ map script_in specs
+        → PrintsRan plan.now specs status (W.contents writer.old) (W.contents writer.new)) }
+    ensures err { IfErr result (λ e. e ≡ NetworkFault.Ports → ⊥) }
+{
+    let mut held: Vec<Held> = Vec::with_capacity(alloc, ports.len())?;
+    for port in ports {
+        let port: Held = Box::new(alloc, port)?;
+        held.push(port)?;
+    }
+    match run(rt, alloc, plan, held, gate, limits) {
+        Ok(ran) => {
+            gate.close();
+            tell(alloc, plan, &ran, writer, errors)
+        }
+        Err(fault) => {
+            gate.close();
+            Err(NetworkFault::from(fault.cause))
+        }
+    }
+}
+
+/// Runs the network of a plan file, whose ports lead to the files and sockets that it names, each bridge, each
+/// direction of a link and each customer port in a thread of its own, within the limits of the file, and
+/// reports on the run as [`write_report`] does. The exit status is answered. The frames that enter and leave
+/// are counted in `traffic` meanwhile, and each worker passes the gate before each of its turns. What
+/// [`write_unwritten`] tells goes to `errors`.
+///
+/// Where the file is no plan, the rule that it breaks is written as `check` does, and
+/// the answer is 1.
+///
+/// `Path` is answered where a file can't be opened or a socket not be connected to: in the order of the plan,
+/// a port's file to read before the one to write. `Memory` is answered where memory ran out, before the run or
+/// for the text, `Spawn` where a worker could not be started, `Write` where a write to `writer` failed. `Ports`
+/// is never answered, since a plan file has as many ports as its plan.
+pub fn run_network<R, G: Watch, W: Write, E: Write>(
+    rt: &R,
+    alloc: Global,
+    file: &[u8],
+    traffic: &Arc<Traffic, Global>,
+    gate: &G,
+    writer: &mut W,
+    errors: &mut E,
+) -> Result<u8, NetworkFault>
+where
+    R: Files<File = File> + Net + Threads + Wait + Clock + Sync,
+    ensures ok { IfOk result (λ status. PrintsNetwork file.now status (W.contents writer.old) (W.contents writer.new)) }
+    ensures err { IfErr result (λ e. e ≡ NetworkFault.Ports → ⊥) }
+{
+    match read_network(alloc, file) {
+        Ok(
+            Network {
+                plan,
+                ports,
+                limits,
+            },
+        ) => {
+            let ports = open_ports(rt, alloc, &plan, ports, traffic)?;
+            run_ports(rt, alloc, &plan, ports, limits, gate, writer, errors)
+        }
+        Err(fault) => refuse(alloc, &fault, writer),
+    }
+}

@@ -1,0 +1,82 @@
+//! Why a network was not run.
+
+ghost use Rattle.std.specs.Prelude.{◌≡◌};
+ghost use Rattle.pb_run.specs.declared.fault.RunCause.TheVariants.{PortCount};
+ghost use Rattle.pb_running.specs.declared.network_fault.NetworkFault.TheVariants.{Memory as memory_fault, Ports as ports_fault};
+
+use pb_print::CommandFault;
+use pb_run::RunCause;
+use std::alloc::{AllocError, AllocFailed};
+use std::io;
+use std::io::ErrorKind;
+use thiserror::Error;
+
+/// Why the network of a plan file was not run.
+#[derive(Clone, Copy, Debug, PartialEq, Eq, Error)]
+pub enum NetworkFault {
+    /// A file can't be opened, or a socket not be connected to.
+    #[error("path")]
+    Path,
+    /// A write failed.
+    #[error("write")]
+    Write,
+    /// Memory ran out.
+    #[error("memory")]
+    Memory,
+    /// A thread could not be started.
+    #[error("spawn")]
+    Spawn,
+    /// There are not as many ports as the plan has customer ports.
+    #[error("ports")]
+    Ports,
+}
+
+impl From<CommandFault> for NetworkFault {
+    ghost from_gives = { λ _ e. e ≡ ports_fault → ⊥ };
+
+    fn from(fault: CommandFault) -> NetworkFault {
+        match fault {
+            CommandFault::Write => NetworkFault::Write,
+            _ => NetworkFault::Memory,
+        }
+    }
+}
+
+impl From<RunCause> for NetworkFault {
+    ghost from_gives = { λ cause e. e ≡ ports_fault → cause ≡ PortCount };
+
+    fn from(cause: RunCause) -> NetworkFault {
+        match cause {
+            RunCause::PortCount => NetworkFault::Ports,
+            RunCause::Memory => NetworkFault::Memory,
+            RunCause::Spawn => NetworkFault::Spawn,
+        }
+    }
+}
+
+impl From<io::Error> for NetworkFault {
+    ghost from_gives = { λ _ e. e ≡ ports_fault → ⊥ };
+
+    fn from(e: io::Error) -> NetworkFault {
+        if e.kind() == ErrorKind::OutOfMemory {
+            return NetworkFault::Memory;
+        }
+        NetworkFault::Path
+    }
+}
+
+impl From<AllocError> for NetworkFault {
+    ghost from_gives = { λ _ e. e ≡ memory_fault };
+
+    fn from(_e: AllocError) -> NetworkFault {
+        NetworkFault::Memory
+    }
+}
+
+impl<T: Drop> From<AllocFailed<T>> for NetworkFault {
+    ghost from_gives = { λ _ e. e ≡ memory_fault };
+
+    fn from(_e: AllocFailed<T>) -> NetworkFault {
+        NetworkFault::Memory
+    }
+}

@@ -1,0 +1,113 @@
+//! Ports over capture files.
+
+use super::folder::{enter, leave};
+use super::plans::{CAPTURES, FULL, NO_FRAMES, ONE_FRAME, PATHS};
+use super::{Row, Told, check, run};
+use pb_fakes::Unflushed;
+use pb_running::NetworkFault;
+use std::fs::Files;
+use std::test::Fail;
+use std::{fs, io};
+
+/// What the ports P2 and P1 read, what is told, and what is written at P1.
+struct Captures {
+    read: [&'static [u8]; 2],
+    row: Row,
+    wrote: &'static [u8],
+}
+
+const CAPTURE_ROWS: [Captures; 3] = [
+    Captures {
+        read: [ONE_FRAME, NO_FRAMES],
+        row: Row {
+            parts: ["", CAPTURES],
+            told: Told {
+                result: Ok(0),
+                traffic: (1, 2),
+                closed: 1,
+            },
+            report: "ended drained\nport P1 entered 0 left 1 filtered 0\nport P2 entered 1 left 0 filtered 0\nport P3 entered 0 left 1 filtered 0\nforest yes\n",
+        },
+        wrote: ONE_FRAME,
+    },
+    Captures {
+        read: [b"\0", &[0; 24]],
+        row: Row {
+            parts: ["", CAPTURES],
+            told: Told {
+                result: Ok(3),
+                traffic: (0, 0),
+                closed: 1,
+            },
+            report: "ended stopped\nport P1 entered 0 left 0 filtered 0\nport P2 entered 0 left 0 filtered 0\nport P3 entered 0 left 0 filtered 0\nforest yes\nfault: port P2 4\nfault: port P1 1\n",
+        },
+        wrote: b"",
+    },
+    Captures {
+        read: [ONE_FRAME, b"\0"],
+        row: Row {
+            parts: ["", CAPTURES],
+            told: Told {
+                result: Ok(3),
+                traffic: (1, 2),
+                closed: 1,
+            },
+            report: "ended stopped\nport P1 entered 0 left 1 filtered 0\nport P2 entered 1 left 0 filtered 0\nport P3 entered 0 left 1 filtered 0\nforest yes\nfault: port P1 4\n",
+        },
+        wrote: ONE_FRAME,
+    },
+];
+
+#[test]
+fn captures_are_carried_and_their_faults_told(rt: HostRuntime) -> Result<(), Fail> {
+    let folder = enter(&rt, rt.process())?;
+    for captures in &CAPTURE_ROWS {
+        fs::write(&rt, "p2.in", captures.read[0])?;
+        fs::write(&rt, "p1.in", captures.read[1])?;
+        check(&rt, rt.alloc(), &captures.row)?;
+        let wrote = fs::read(&rt, "p1.out")?;
+        assert!(rt;
+            wrote.as_slice() == captures.wrote,
+            "{}",
+            captures.row.report
+        );
+    }
+    leave(&rt, folder)?;
+    Ok(())
+}
+
+#[test]
+fn frames_that_are_not_written_are_told(rt: HostRuntime) -> Result<(), Fail> {
+    let alloc = rt.alloc();
+    let folder = enter(&rt, rt.process())?;
+    fs::write(&rt, "full.in", NO_FRAMES)?;
+    let (mut output, mut errors) = (Vec::new(alloc), Vec::new(alloc));
+    let told = run(&rt, alloc, ["", FULL], &mut output, &mut errors)?;
+    assert_eq!(rt; told.result, Ok(0));
+    assert!(rt; errors.as_slice() == b"port C2: 3 frames not written\n".as_slice());
+    let front = b"ended drained\nport C1 entered 3 left 0 filtered 0\n".as_slice();
+    assert!(rt; output.as_slice().starts_with(front));
+    leave(&rt, folder)?;
+    Ok(())
+}
+
+/// Whether the files of PATHS that are made are there, in the order in which they are made.
+fn made(rt: &impl Files) -> io::Result<[bool; 2]> {
+    Ok([fs::exists(rt, "paths.out")?, fs::exists(rt, "paths.last")?])
+}
+
+#[test]
+fn ports_are_opened_in_the_order_of_the_plan(rt: HostRuntime) -> Result<(), Fail> {
+    let folder = enter(&rt, rt.process())?;
+    for want in [[false, false], [true, false]] {
+        let mut output = Vec::new(rt.alloc());
+        let told = run(&rt, rt.alloc(), ["", PATHS], &mut output, &mut Unflushed)?;
+        assert_eq!(rt; told.result, Err(NetworkFault::Path));
+        assert!(rt; output.is_empty());
+        assert_eq!(rt; made(&rt)?, want);
+        // The next time the first file to read is there.
+        fs::write(&rt, "paths.in", NO_FRAMES)?;
+    }
+    leave(&rt, folder)?;
+    Ok(())
+}

@@ -1,0 +1,51 @@
+//! What is reported of a run that wanted memory.
+
+ghost use Rattle.std.specs.Prelude.{◌≡◌, []};
+
+use pb_frame::{Memory, Seq};
+use pb_lan::{Plan, Record, Spanning, plan_is_sound};
+use pb_run::{Ended, Ran};
+use pb_running::write_report;
+use std::alloc::Global;
+
+/// The plan of no places.
+fn nothing(alloc: Global) -> Plan
+    ensures { result.customers ≡ [] }
+{
+    Plan {
+        bridges: Seq::from_vec(Vec::new(alloc)),
+        links: Seq::from_vec(Vec::new(alloc)),
+        services: Seq::from_vec(Vec::new(alloc)),
+        customers: Seq::from_vec(Vec::new(alloc)),
+        spanning: Spanning::Rstp,
+        ageing: 300,
+        ring: 64,
+        steps: 1,
+    }
+}
+
+/// The record of no places.
+fn no_steps(alloc: Global) -> Record {
+    Record {
+        bridges: Seq::from_vec(Vec::new(alloc)),
+        lanes: Seq::from_vec(Vec::new(alloc)),
+        customers: Seq::from_vec(Vec::new(alloc)),
+    }
+}
+
+#[test]
+fn want_of_memory_is_told_last(rt: HostRuntime) {
+    let alloc = rt.alloc();
+    let plan = nothing(alloc);
+    assert!(rt; plan_is_sound(&plan));
+    let ran = Ran {
+        rec: no_steps(alloc),
+        ports: Vec::new(alloc),
+        last: Vec::new(alloc),
+        ended: Ended::NoMemory,
+        settled: Err(Memory),
+    };
+    let mut output = Vec::new(alloc);
+    assert_eq!(rt; write_report(alloc, &plan, &ran, &mut output), Ok(3));
+    assert!(rt; output.as_slice() == b"ended memory\nforest yes\nfault: memory\n".as_slice());
+}

@@ -1,0 +1,82 @@
+//! What is reported of runs over memory.
+
+use super::plans::{LOSSY, NO_TURN, ONE_STEP, RSTP};
+use super::{Row, Told, check, run};
+use pb_fakes::{Full, Unflushed};
+use pb_running::NetworkFault;
+use std::test::Fail;
+
+/// Runs over memory.
+const ROWS: [Row; 4] = [
+    Row {
+        parts: ["", LOSSY],
+        told: Told {
+            result: Ok(0),
+            traffic: (3, 4),
+            closed: 1,
+        },
+        report: "ended drained\nport C1 entered 3 left 0 filtered 0\nport C2 entered 0 left 2 filtered 0\nport C3 entered 0 left 2 filtered 0\nlink L1 ab taken 3 lost 1 ba taken 0 lost 0\nforest yes\n",
+    },
+    Row {
+        parts: [ONE_STEP, LOSSY],
+        told: Told {
+            result: Ok(0),
+            traffic: (1, 0),
+            closed: 1,
+        },
+        report: "ended limit\nport C1 entered 1 left 0 filtered 0\nport C2 entered 0 left 0 filtered 0\nport C3 entered 0 left 0 filtered 0\nlink L1 ab taken 0 lost 0 ba taken 0 lost 0\nforest yes\n",
+    },
+    Row {
+        parts: [RSTP, LOSSY],
+        told: Told {
+            result: Ok(0),
+            traffic: (3, 0),
+            closed: 1,
+        },
+        report: "ended drained\nport C1 entered 3 left 0 filtered 0\nport C2 entered 0 left 0 filtered 0\nport C3 entered 0 left 0 filtered 0\nlink L1 ab taken 0 lost 0 ba taken 0 lost 0\nforest yes\nsettled no\n",
+    },
+    Row {
+        parts: [NO_TURN, LOSSY],
+        told: Told {
+            result: Ok(1),
+            traffic: (0, 0),
+            closed: 0,
+        },
+        report: "plan: 5 range network.turns\n",
+    },
+];
+
+#[test]
+fn runs_over_memory_are_reported(rt: HostRuntime) -> Result<(), Fail> {
+    for row in &ROWS {
+        check(&rt, rt.alloc(), row)?;
+    }
+    Ok(())
+}
+
+#[test]
+fn a_report_that_cannot_be_written_is_told(rt: HostRuntime) -> Result<(), Fail> {
+    for (front, closed) in [("", 1u64), (NO_TURN, 0)] {
+        let parts = [front, LOSSY];
+        let told = run(
+            &rt,
+            rt.alloc(),
+            parts,
+            &mut Full { room: 5 },
+            &mut Unflushed,
+        )?;
+        assert_eq!(rt; told.result, Err(NetworkFault::Write));
+        assert_eq!(rt; told.closed, closed);
+    }
+    Ok(())
+}
+
+#[test]
+fn a_report_that_cannot_be_flushed_is_told(rt: HostRuntime) -> Result<(), Fail> {
+    for front in ["", NO_TURN] {
+        let parts = [front, LOSSY];
+        let told = run(&rt, rt.alloc(), parts, &mut Unflushed, &mut Unflushed)?;
+        assert_eq!(rt; told.result, Err(NetworkFault::Write));
+    }
+    Ok(())
+}

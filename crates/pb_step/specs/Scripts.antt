@@ -1,0 +1,22 @@
+-- What is printed of a step script over a plan file.
+use Rattle.std.specs.Prelude.{◌≡◌, ◌⊎◌, ℕ, List, Option}
+use Rattle.pb_lan.specs.declared.plan.Plan.{Plan}
+use Rattle.pb_service.specs.PlanFiles.{Tells, IsPlanOf}
+use Rattle.pb_service.specs.declared.port_spec.PortSpec.{PortSpec}
+use Rattle.pb_print.specs.Refusals.{PrintsRefusal}
+use Rattle.pb_step.specs.Steps.{PrintsSteps}
+
+-- the file tells the plan
+pub record IsToldBy (file : List ℕ) (plan : Plan) : Type 0 where
+  pub specs : List PortSpec
+  pub told : Tells file (λ document. IsPlanOf document plan specs)
+
+-- the answers to a script and the report, of the plan that the file tells
+pub record PrintsDriven (file : List ℕ) (input before after : Option (List ℕ)) : Type 0 where
+  pub plan : Plan
+  pub told : IsToldBy file plan
+  pub prints : PrintsSteps 140000 plan input before after
+
+-- what is written for a file and a script, with the program's exit status
+abbrev pub PrintsScript : List ℕ → ℕ → Option (List ℕ) → Option (List ℕ) → Option (List ℕ) → Type 0
+PrintsScript file status input before after = ((status ≡ 0) × PrintsDriven file input before after) ⊎ ((status ≡ 1) × PrintsRefusal file before after)

@@ -1,0 +1,139 @@
+//! What the words of a command line ask for.
+
+ghost use Rattle.std.specs.Prelude.{IfOk, IfSome, IfNone};
+ghost use Rattle.pb_words.specs.Orders.{IsAllowed, IsFileOrder};
+ghost use Rattle.pb_words.specs.declared.order.Order.{Order};
+
+use clap::{Arg, ArgAction, Command, Error};
+use std::alloc::{AllocError, Global};
+
+/// The program's version.
+const VERSION: &str = "0.1.0";
+
+/// What `flat` does.
+const FLAT: &str =
+    "Runs one bridge over the lines `in PORT HEX` of standard input, and prints each frame that leaves it or why it went nowhere";
+
+/// What `check` does.
+const CHECK: &str =
+    "Reads a plan file, and prints what it has and whether a ring of links starts open for a service, or the rule that the file breaks";
+
+/// What `step` does.
+const STEP: &str =
+    "Drives the network of a plan file event by event over the lines of standard input, prints what each did, and reports at the end";
+
+/// What `run` does.
+const RUN: &str =
+    "Runs the network of a plan file, each bridge, link and port in a thread of its own, and reports at the end";
+
+/// What `show` does.
+const SHOW: &str =
+    "Prints what becomes of frames for the addresses 01-80-C2-00-00-00 to -0F: carry, filter, or provider where the bridges themselves take them";
+
+/// What is to be done.
+#[derive(PartialEq, Eq, Debug, Drop)]
+pub enum Order {
+    /// One bridge with so many ports, driven by the lines of standard input.
+    Flat(u8),
+    /// Telling whether the file at this path is a plan.
+    Check(String),
+    /// Driving the network of the plan file at this path by the lines of standard input.
+    Step(String),
+    /// Running the network of the plan file at this path.
+    Run(String),
+    /// Telling what becomes of frames for the reserved addresses.
+    Show,
+}
+
+/// The argument that names a plan file.
+fn plan_file<'a>(alloc: Global) -> Arg<'a> {
+    Arg::new(alloc, "FILE")
+        .help("The plan file")
+        .required(true)
+        .action(ArgAction::Set)
+}
+
+/// The argument that tells how many ports a bridge has.
+fn ports<'a>(alloc: Global) -> Arg<'a> {
+    Arg::new(alloc, "PORTS")
+        .help("How many ports the bridge has, 2 to 16")
+        .required(true)
+        .action(ArgAction::Set)
+        .value_parser(clap::value_parser!(u8).range(2..=16))
+}
+
+/// A program with one more command, which takes an argument.
+fn with<'a>(
+    program: Command<'a>,
+    command: Command<'a>,
+    argument: Arg<'a>,
+) -> Result<Command<'a>, Error> {
+    let command = command.arg(argument)?;
+    Ok(program.subcommand(command)?)
+}
+
+/// A program with one more command, which takes a plan file.
+fn with_plan<'a>(
+    alloc: Global,
+    program: Command<'a>,
+    name: &'a str,
+    about: &'a str,
+) -> Result<Command<'a>, Error> {
+    let command = Command::new(alloc, name).about(about);
+    with(program, command, plan_file(alloc))
+}
+
+/// The program's commands and their arguments.
+fn commands<'a>(alloc: Global) -> Result<Command<'a>, Error> {
+    let program = Command::new(alloc, "pbnet")
+        .version(VERSION)
+        .about("A provider bridged Ethernet network in one process")
+        .subcommand_required(true);
+    let flat = Command::new(alloc, "flat").about(FLAT);
+    let program = with(program, flat, ports(alloc))?;
+    let program = with_plan(alloc, program, "check", CHECK)?;
+    let program = with_plan(alloc, program, "step", STEP)?;
+    let program = with_plan(alloc, program, "run", RUN)?;
+    let show = Command::new(alloc, "show").about(SHOW);
+    Ok(program.subcommand(show)?)
+}
+
+/// What a command asks for that has a plan file. None where it is no such command.
+fn file_order(alloc: Global, command: &str, path: &str) -> Result<Option<Order>, AllocError>
+    ensures some { IfOk result (λ o. IfSome o (λ order. IsFileOrder command.now path.now order)) }
+    ensures none { IfOk result (λ o. IfNone o ((order : Order) → IsFileOrder command.now path.now order → ⊥)) }
+{
+    let path = String::from_str(alloc, path)?;
+    if command == "check" {
+        return Ok(Some(Order::Check(path)));
+    }
+    if command == "step" {
+        return Ok(Some(Order::Step(path)));
+    }
+    if command == "run" {
+        return Ok(Some(Order::Run(path)));
+    }
+    Ok(None)
+}
+
+/// Reads the words of a command line, of which the first is the program's own.
+///
+/// The error is a message for the user: that the words ask for nothing that is known, or the help
+/// that they ask for. `None` is never answered: an argument that is required has a value.
+pub fn order_of(alloc: Global, words: &[String]) -> Result<Option<Order>, Error>
+    ensures { IfOk result (λ o. IfSome o IsAllowed) }
+{
+    let matches = commands(alloc)?.try_get_matches_from(words)?;
+    match matches.subcommand() {
+        Some(("flat", given)) => match given.get_one::<u8>("PORTS") {
+            Some(ports) if 2 <= ports && ports <= 16 => Ok(Some(Order::Flat(ports))),
+            _ => Ok(None),
+        },
+        Some(("show", _)) => Ok(Some(Order::Show)),
+        Some((command, given)) => match given.get_str("FILE") {
+            Some(path) => Ok(file_order(alloc, command, path)?),
+            None => Ok(None),
+        },
+        None => Ok(None),
+    }
+}
