@@ -13,6 +13,7 @@ ghost use Rattle.pb_svlan.specs.declared.port.Join.{Join};
 ghost use Rattle.pb_svlan.specs.declared.port.Role.TheVariants.{Customer, Trunk};
 ghost use Rattle.pb_relay.specs.Classes.{no_items};
 ghost use Rattle.pb_relay.specs.LocalPorts.{IsKept};
+ghost use Rattle.pb_relay.specs.Machines.{machine_in};
 ghost use Rattle.pb_relay.specs.Roles.{local_as, told};
 ghost use Rattle.pb_relay.specs.Starts.{first_state, HasServices, KeepsPorts};
 
@@ -23,6 +24,7 @@ use crate::queues::PortQueues;
 use pb_fdb::Fdb;
 use pb_frame::Memory;
 use pb_lan::{CustomerPlan, End, LinkPlan, Plan, PortState, ServicePlan, Spanning};
+use pb_rstp::Rstp;
 use pb_svlan::{AddFault, JoinFault, Services, Vid};
 use std::alloc::Global;
 
@@ -208,6 +210,31 @@ fn capacity(plan: &Plan, number: u8) -> usize
     plan.bridges.as_slice()[number as usize - 1].queue as usize
 }
 
+/// The plan, and what it has at the local ports.
+fn placed(alloc: Global, plan: &Plan, number: u8) -> Result<(Plan, LocalPorts), Memory>
+    requires { IsSound plan.now }
+    ensures plan { IfOk result (λ kept. kept.0 ≡ plan.now) }
+    ensures ports { IfOk result (λ kept. KeepsPorts plan.now number kept.1 16) }
+{
+    let ports = local_ports(alloc, plan, number)?;
+    Ok((plan.clone()?, ports))
+}
+
+/// Queues with nothing in them, and the spanning tree at its start, where the protocol decides the states.
+fn sending(
+    alloc: Global,
+    plan: &Plan,
+    number: u8,
+) -> Result<(Vec<PortQueues>, Option<Rstp>), Memory>
+    requires sound { IsSound plan.now }
+    requires bridge { IsNumber number (length plan.now.bridges) }
+    ensures queues { IfOk result (λ kept. kept.0.items ≡ replicate 16 no_items) }
+    ensures machine { IfOk result (λ kept. kept.1 ≡ machine_in plan.now number []) }
+{
+    let rstp = machine(alloc, plan, number)?;
+    Ok((empty_queues(alloc)?, rstp))
+}
+
 impl Bridge {
     /// The bridge of this number, at its start: no step is in its list, nothing waits, no station is
     /// known, and each local port has the state that the plan gives it. Where the protocol decides the
@@ -219,21 +246,22 @@ impl Bridge {
         requires bridge { IsNumber number (length plan.now.bridges) }
         ensures { IfOk result (λ bridge. bridge ≡ record { plan = plan.now; number = number; steps = []; is_reserved = false }) }
     {
-        let ports = local_ports(alloc, plan, number)?;
+        let (queues, rstp) = sending(alloc, plan, number)?;
+        let (kept, ports) = placed(alloc, plan, number)?;
         let states = start_states(plan.spanning, &ports);
         Ok(Bridge {
             alloc,
-            plan: plan.clone()?,
+            plan: kept,
             number,
             ports,
             states,
-            queues: empty_queues(alloc)?,
+            queues,
             capacity: capacity(plan, number),
             limit: plan.steps as usize,
             table: Fdb::new(alloc, STATIONS, plan.ageing),
             clock: 0,
             address: address(plan, number),
-            rstp: machine(alloc, plan, number)?,
+            rstp,
             steps: Vec::new(alloc),
             is_reserved: false,
         })

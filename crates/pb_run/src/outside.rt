@@ -1,6 +1,6 @@
 //! The ports outside, before a run and after it.
 
-ghost use Rattle.std.specs.Prelude.{◌≡◌, ◌≤◌, ◌<◌, [], All, map, vec_len, vec_capacity, length};
+ghost use Rattle.std.specs.Prelude.{◌≡◌, ◌≤◌, ◌<◌, ◌++◌, ◌∷◌, [], All, map, vec_len, vec_capacity, length};
 ghost use Rattle.std.specs.VecDeque.{deque_len};
 ghost use Rattle.pb_run.specs.Gifts.{DeskGift};
 ghost use Rattle.pb_run.specs.Ports.{KeepsPort};
@@ -42,6 +42,28 @@ pub(crate) fn attended<W: Wiring, P: Port>(
 /// What comes back of customer ports: the ports outside, their desks, and what the newest polls said.
 pub(crate) type Apart<W, P> = (Vec<P>, Vec<Desk<W>>, Vec<Last>);
 
+/// Puts the parts of a worker behind those of the workers before it. Takes no memory.
+fn part<W: Wiring, P: Drop>(
+    worker: CustomerWorker<W, P>,
+    ports: &mut Vec<P>,
+    desks: &mut Vec<Desk<W>>,
+    lasts: &mut Vec<Last>,
+)
+    requires ports { vec_len ports.old < vec_capacity ports.old }
+    requires desks { vec_len desks.old < vec_capacity desks.old }
+    requires lasts { vec_len lasts.old < vec_capacity lasts.old }
+    ensures ports { ports.new.items ≡ ports.old.items ++ worker.port ∷ [] }
+    ensures desks { desks.new.items ≡ desks.old.items ++ worker.desk ∷ [] }
+    ensures lasts { lasts.new.items ≡ lasts.old.items ++ worker.desk.book.last ∷ [] }
+    ensures ports_room { vec_capacity ports.new ≡ vec_capacity ports.old }
+    ensures desks_room { vec_capacity desks.new ≡ vec_capacity desks.old }
+    ensures lasts_room { vec_capacity lasts.new ≡ vec_capacity lasts.old }
+{
+    lasts.push_reserved(worker.desk.book.last);
+    ports.push_reserved(worker.port);
+    desks.push_reserved(worker.desk);
+}
+
 /// The ports outside, their desks, and what the newest polls said, each in the order of the workers. Takes no
 /// memory.
 pub(crate) fn apart<W: Wiring, P: Drop>(
@@ -56,16 +78,7 @@ pub(crate) fn apart<W: Wiring, P: Drop>(
 {
     let (mut ports, mut desks, mut lasts) = rooms;
     for worker in workers {
-        let CustomerWorker {
-            port,
-            desk,
-            finish: _,
-            was,
-        } = worker;
-        drop(was);
-        lasts.push_reserved(desk.book.last);
-        ports.push_reserved(port);
-        desks.push_reserved(desk);
+        part(worker, &mut ports, &mut desks, &mut lasts);
     }
     (ports, desks, lasts)
 }

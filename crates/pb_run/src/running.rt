@@ -56,6 +56,30 @@ type Rooms<W> = (
     (Lists, Lists, Lists),
 );
 
+/// Room for the parts of so many workers of customer ports.
+fn apart_rooms<W: Wiring>(alloc: Global, customers: usize) -> Result<Apart<W, Held>, Memory>
+    ensures ports { IfOk result (λ rooms. (rooms.0.items ≡ []) × (vec_capacity rooms.0 ≡ customers)) }
+    ensures desks { IfOk result (λ rooms. (rooms.1.items ≡ []) × (vec_capacity rooms.1 ≡ customers)) }
+    ensures lasts { IfOk result (λ rooms. (rooms.2.items ≡ []) × (vec_capacity rooms.2 ≡ customers)) }
+{
+    let lasts = Vec::with_capacity(alloc, customers)?;
+    let desks = Vec::with_capacity(alloc, customers)?;
+    Ok((Vec::with_capacity(alloc, customers)?, desks, lasts))
+}
+
+/// Room for the lists of steps of a plan's places.
+fn list_rooms(alloc: Global, plan: &Plan) -> Result<(Lists, Lists, Lists), Memory>
+    requires { IsSound plan.now }
+    ensures customers { IfOk result (λ rooms. (rooms.0.items ≡ []) × (vec_capacity rooms.0 ≡ length plan.now.customers)) }
+    ensures lanes { IfOk result (λ rooms. (rooms.1.items ≡ []) × (vec_capacity rooms.1 ≡ 2 * length plan.now.links)) }
+    ensures bridges { IfOk result (λ rooms. (rooms.2.items ≡ []) × (vec_capacity rooms.2 ≡ length plan.now.bridges)) }
+{
+    let bridges = Vec::with_capacity(alloc, plan.bridges.len())?;
+    let lanes = Vec::with_capacity(alloc, 2 * plan.links.len())?;
+    let customers = Vec::with_capacity(alloc, plan.customers.len())?;
+    Ok((customers, lanes, bridges))
+}
+
 /// Room for what comes back of a plan's places, made before a worker is started.
 fn rooms_of<W: Wiring>(alloc: Global, plan: &Plan) -> Result<Rooms<W>, Memory>
     requires { IsSound plan.now }
@@ -67,17 +91,9 @@ fn rooms_of<W: Wiring>(alloc: Global, plan: &Plan) -> Result<Rooms<W>, Memory>
     ensures lanes { IfOk result (λ rooms. (rooms.2.1.items ≡ []) × (vec_capacity rooms.2.1 ≡ 2 * length plan.now.links)) }
     ensures bridges { IfOk result (λ rooms. (rooms.2.2.items ≡ []) × (vec_capacity rooms.2.2 ≡ length plan.now.bridges)) }
 {
-    let (customers, lanes) = (plan.customers.len(), 2 * plan.links.len());
-    let apart = (
-        Vec::with_capacity(alloc, customers)?,
-        Vec::with_capacity(alloc, customers)?,
-        Vec::with_capacity(alloc, customers)?,
-    );
-    let lists = (
-        Vec::with_capacity(alloc, customers)?,
-        Vec::with_capacity(alloc, lanes)?,
-        Vec::with_capacity(alloc, plan.bridges.len())?,
-    );
+    let customers = plan.customers.len();
+    let lists = list_rooms(alloc, plan)?;
+    let apart = apart_rooms(alloc, customers)?;
     Ok((Vec::with_capacity(alloc, customers)?, apart, lists))
 }
 

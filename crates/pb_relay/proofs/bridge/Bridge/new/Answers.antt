@@ -5,11 +5,11 @@ use Rattle.pb_relay.specs.Starts.{KeepsPorts, first_state}
 use Rattle.pb_relay.proofs.StartLemmas.{started}
 use Rattle.pb_relay.proofs.bridge.Bridge.new.Goals as goal
 
-pub invariant_of-result-2 : goal.invariant_of-result-2
-invariant_of-result-2 c =
-    let keeps = subst (λ (ps : List LocalPort). KeepsPorts c.args.plan.now c.args.number ps 16) (sym c.ports.view_is) c.in_ok-ports.ensures in
-    let states = c.start_states-states.ensures ∙ ap (map (λ (l : LocalPort). first_state c.args.plan.now.spanning (told l))) (sym c.ports.view_is) in
-    rw (c.in_ok-clone.ensures.cases, c.new-2.ensures.items) (
+pub invariant_of-result : goal.invariant_of-result
+invariant_of-result c =
+    let keeps = c.in_ok-kept.ensures.ports in
+    let states = c.start_states-states.ensures in
+    rw (c.in_ok-kept.ensures.plan, c.new-2.ensures.items) (
       record {
         sound = c.requires.sound;
         count = keeps.count;
@@ -17,9 +17,9 @@ invariant_of-result-2 c =
         most = c.capacity.ensures;
         steps = refl;
       },
-      started c.args.plan.now c.args.number _ c.start_states-states.result c.in_ok-empty_queues.field-0.items c.new.result.sightings
-          keeps states c.in_ok-empty_queues.ensures (ap (λ (t : Table). t.sightings) c.new.ensures),
+      started c.args.plan.now c.args.number _ c.start_states-states.result c.in_ok-queues.queues.items c.new.result.sightings
+          keeps states c.in_ok-queues.ensures.queues (ap (λ (t : Table). t.sightings) c.new.ensures),
       record { within = omega arith; reserved = λ t. absurd cc },
       rw c.new.ensures (record { limit = refl; ageing = refl; in_time = omega arith }),
-      record { kept_machine = c.in_ok-machine.ensures; kept_address = c.address.ensures },
+      record { kept_machine = c.in_ok-queues.ensures.machine; kept_address = c.address.ensures },
     )
