@@ -56,6 +56,33 @@ fn customer_names<'a>(alloc: Global, plan: &'a Plan) -> Result<Vec<&'a [u8]>, Me
     Ok(names)
 }
 
+/// The number of the name of each of the plan's bridges.
+fn bridge_numbers<'a>(alloc: Global, plan: &'a Plan) -> Result<HashMap<&'a [u8], u8>, Memory>
+    requires { IsSound plan.now }
+    ensures { IfOk result (λ numbers. (q : List ℕ) → unwrap_or (get_by (λ k. bytes_eq q k.now) numbers) 0 ≡ bridge_named plan.now q) }
+{
+    let names = bridge_names(alloc, plan)?;
+    numbers(alloc, names.as_slice())
+}
+
+/// The number of the name of each of the plan's links.
+fn link_numbers<'a>(alloc: Global, plan: &'a Plan) -> Result<HashMap<&'a [u8], u8>, Memory>
+    requires { IsSound plan.now }
+    ensures { IfOk result (λ numbers. (q : List ℕ) → unwrap_or (get_by (λ k. bytes_eq q k.now) numbers) 0 ≡ link_named plan.now q) }
+{
+    let names = link_names(alloc, plan)?;
+    numbers(alloc, names.as_slice())
+}
+
+/// The number of the name of each of the plan's customer ports.
+fn customer_numbers<'a>(alloc: Global, plan: &'a Plan) -> Result<HashMap<&'a [u8], u8>, Memory>
+    requires { IsSound plan.now }
+    ensures { IfOk result (λ numbers. (q : List ℕ) → unwrap_or (get_by (λ k. bytes_eq q k.now) numbers) 0 ≡ customer_named plan.now q) }
+{
+    let names = customer_names(alloc, plan)?;
+    numbers(alloc, names.as_slice())
+}
+
 /// The number of a name, or 0.
 fn find(numbers: &HashMap<&[u8], u8>, name: &[u8]) -> u8
     ensures { result ≡ unwrap_or (get_by (λ k. bytes_eq name.now k.now) numbers.now) 0 }
@@ -83,14 +110,11 @@ impl<'a> Names<'a> {
         requires { IsSound plan.now }
         ensures { IfOk result (λ names. names.plan.now ≡ plan.now) }
     {
-        let bridges = bridge_names(alloc, plan)?;
-        let links = link_names(alloc, plan)?;
-        let customers = customer_names(alloc, plan)?;
         Ok(Names {
             plan,
-            bridges: numbers(alloc, bridges.as_slice())?,
-            links: numbers(alloc, links.as_slice())?,
-            customers: numbers(alloc, customers.as_slice())?,
+            bridges: bridge_numbers(alloc, plan)?,
+            links: link_numbers(alloc, plan)?,
+            customers: customer_numbers(alloc, plan)?,
         })
     }
 
