@@ -22,10 +22,11 @@ from concurrent.futures import FIRST_COMPLETED, ThreadPoolExecutor, wait
 
 ROOT = os.path.dirname(os.path.dirname(os.path.realpath(__file__)))
 # What the scripts take of the toolchain's script rt, and of rtlib.py beside it.
-OF_RT = "Crate checked edits_of free handles_of must_fail need processors read_edit".split()
+OF_RT = "Crate checked edits_of free handles_of in_lanes must_fail need processors read_edit".split()
 OF_RTLIB = "Crate KIT RATTLE crates_below files_of guarded lock text_of".split()
 # The checker's lines that tell how far it is, and that of a proved crate.
 PROGRESS = re.compile(r"checked (\S+), (\d+) of (\d+)$")
+PROGRESS_LINES = re.compile(r"(?m)^checked (\S+), \d+ of \d+$")
 PROVED = re.compile(r"(?m)^logic=proved .*\bfunctions=(\d+)")
 # Its lines that say nothing of why a crate is not proved.
 QUIET = re.compile(r"(checked \S+, \d|statements \w+: |logic /|by-macro: |(fn|enum|struct|impl|trait|type|const) \S+: proved$)")
@@ -91,13 +92,15 @@ def without(words, *flags):
 Ran = collections.namedtuple("Ran", "status said user sys wall")
 
 
-def run(words, folder, room, hear=None):
-    """Runs a command of the toolchain to its end, with its temporary files in the room, and returns what it said and took."""
+def run(words, folder, room, hear=None, began=None):
+    """Runs a command of the toolchain to its end, with its temporary files in the room, and returns what it said and took. It hands each line to hear, and its process to began."""
     how = {"cwd": folder, "stdin": subprocess.DEVNULL, "stdout": subprocess.PIPE, "stderr": subprocess.STDOUT}
     how.update(text=True, errors="replace", env={**os.environ, "TMPDIR": room})
-    began, said = time.time(), []
+    start, said = time.time(), []
     started = subprocess.Popen([*toolchain().rtlib.guarded(), *words], **how)
     CHILDREN.add(started.pid)
+    if began:
+        began(started.pid)
     for line in started.stdout:
         said.append(line)
         if hear:
@@ -106,7 +109,7 @@ def run(words, folder, room, hear=None):
     _, status, used = os.wait4(started.pid, 0)
     CHILDREN.discard(started.pid)
     started.returncode = -os.WTERMSIG(status) if os.WIFSIGNALED(status) else os.WEXITSTATUS(status)
-    return Ran(started.returncode, "".join(said), used.ru_utime, used.ru_stime, time.time() - began)
+    return Ran(started.returncode, "".join(said), used.ru_utime, used.ru_stime, time.time() - start)
 
 
 def kept_in(crate, name):
@@ -362,10 +365,11 @@ def stop_children():
             os.killpg(group, signal.SIGKILL) if group != os.getpgrp() else os.kill(it, signal.SIGKILL)
 
 
-def end_at_signals():
-    """Has the signals that end a process do so by an exception, so that temporary folders are removed."""
+def prepare():
+    """Has the signals that end a process do so by an exception, so that temporary folders are removed, and starts what ends the commands whenever this process ends. Only the main thread may."""
     for it in (signal.SIGINT, signal.SIGTERM, signal.SIGHUP):
         signal.signal(it, lambda number, _: sys.exit(128 + number))
+    toolchain().rtlib.guarded()
 
 
 def figures(root):
@@ -387,7 +391,7 @@ def prove(root, names, processors=None):
     rt.Crate.stamp.cache_clear()
     kept, before = kept_proofs(crates), figures(root)
     proofs = [Proof(it, before.get(it.name, {})) for it in crates if it.name not in kept]
-    rt.rtlib.guarded()
+    prepare()
     try:
         with tempfile.TemporaryDirectory(prefix="prove-") as room:
             Queue(proofs, kept, processors or rt.processors(), room, Told(proofs)).run()
