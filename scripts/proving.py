@@ -5,6 +5,7 @@ That takes less than half the time of `rt check`, which checks over the proofs o
 import collections
 import contextlib
 import functools
+import hashlib
 import importlib.machinery
 import importlib.util
 import json
@@ -124,30 +125,43 @@ def result_of(crate):
     return f"{crate.folder}/out/{crate.name}", f"{crate.folder}/out/{crate.name}.proved"
 
 
+def sum_of(path):
+    """Returns a sum of a file, or of all in a folder."""
+    found = hashlib.sha256()
+    files = [f"{at}/{it}" for at, _, names in os.walk(path) for it in names] if os.path.isdir(path) else [path]
+    for file in sorted(files):
+        with open(file, "rb") as it:
+            found.update(repr((os.path.relpath(file, path), hashlib.sha256(it.read()).digest())).encode())
+    return found.hexdigest()
+
+
 def kept_proofs(crates):
-    """Returns, by name, the number of each crate's kept proof: one of its sources as they are, over the kept proofs below. The crates come lowest first."""
+    """Returns, by name, the sum of what each crate's kept proof left: a proof of its sources as they are, over the kept libraries below. The crates come lowest first."""
     kept = {}
     for crate in crates:
         result, proved = result_of(crate)
         said = (toolchain().rtlib.text_of(proved) or "").split("\n")
-        if os.path.exists(result) and said[0] == crate.stamp() and said[2:-1] == numbers_below(crate, kept):
+        if os.path.exists(result) and said[0] == crate.stamp() and said[2:-1] == sums_below(crate, kept):
             kept[crate.name] = said[1]
     return kept
 
 
-def numbers_below(crate, kept):
-    """Returns the proofs that the crate's rests on, a line each: statements fit only the very libraries that they were made over."""
+def sums_below(crate, kept):
+    """Returns what the crate's proof rests on, a line each: statements fit only the very libraries that they were made over."""
     return [f"{it.name} {kept.get(it.name)}" for it in crate.below()]
 
 
 def keep_proof(crate, stamp, kept):
-    """Writes beside the crate's result what it was made from: its sources with all below, a number of its own, and the proofs below."""
-    number = f"{time.time_ns():x}"
+    """Writes beside the crate's result what it was made from: its sources with all below, a sum of its own, and those of the libraries below."""
+    own = sum_of(result_of(crate)[0])
     if crate.makes_rlib():
-        # As rt's own stamp: a later rt check above takes the library as built.
+        # As rt's own stamp, by which rt check and rt lib in a crate above take this library as built, and prove over its
+        # statements: tried with pb_svlan over pb_frame and pb_reserved, also with pb_reserved built by rt between them. Where rt
+        # itself has built a lower library anew and a higher one kept its stamp, as after an edit that was taken back, rt stops
+        # with `unusable-built-library`; this script then mends that.
         write(kept_in(crate, "stamp"), stamp)
-    write(result_of(crate)[1], "\n".join([stamp, number, *numbers_below(crate, kept), ""]))
-    kept[crate.name] = number
+    write(result_of(crate)[1], "\n".join([stamp, own, *sums_below(crate, kept), ""]))
+    kept[crate.name] = own
 
 
 def write(file, text):
@@ -380,8 +394,8 @@ def figures(root):
     return {}
 
 
-def prove(root, names, processors=None):
-    """Proves these crates and all below them where no proof of theirs is kept. Returns the proofs that were made."""
+def prove(root, names, processors=None, before=None):
+    """Proves these crates and all below them where no proof of theirs is kept, and says first what is to be said before. Returns the proofs that were made."""
     rt = toolchain()
     crates = with_below(crates_of(root), names)
     if len(kept_proofs(crates)) == len(crates):
@@ -389,16 +403,18 @@ def prove(root, names, processors=None):
     # One run at a time in a tree, and no rt in these crates meanwhile.
     held = rt.rtlib.lock([types.SimpleNamespace(folder=root), *crates])
     rt.Crate.stamp.cache_clear()
-    kept, before = kept_proofs(crates), figures(root)
-    proofs = [Proof(it, before.get(it.name, {})) for it in crates if it.name not in kept]
+    kept, measured = kept_proofs(crates), figures(root)
+    proofs = [Proof(it, measured.get(it.name, {})) for it in crates if it.name not in kept]
+    if before and proofs:
+        print(before, file=sys.stderr, flush=True)
     prepare()
     try:
         with tempfile.TemporaryDirectory(prefix="prove-") as room:
             Queue(proofs, kept, processors or rt.processors(), room, Told(proofs)).run()
     finally:
         os.makedirs(f"{root}/out", exist_ok=True)
-        before.update({it.name: it.row() for it in proofs if it.ended and it.name in kept})
-        write(f"{root}/out/proofs.json", json.dumps(before, indent=1, sort_keys=True))
+        measured.update({it.name: it.row() for it in proofs if it.ended and it.name in kept})
+        write(f"{root}/out/proofs.json", json.dumps(measured, indent=1, sort_keys=True) + "\n")
         for it in held:
             os.close(it)
     return proofs
