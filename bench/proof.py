@@ -4,13 +4,11 @@ import collections
 import datetime
 import os
 import re
-import shutil
 import subprocess
 import sys
 import tempfile
 import threading
 import time
-from concurrent.futures import ThreadPoolExecutor
 
 sys.dont_write_bytecode = True
 ROOT = os.path.dirname(os.path.dirname(os.path.realpath(__file__)))
@@ -169,14 +167,128 @@ def tell_slowest(names):
     table(["of", "part", "CPU s"], rows)
 
 
+def tell_machine(names):
+    """Prints what the figures are of."""
+    with open("/proc/cpuinfo", encoding="utf-8") as it:
+        model = re.search(r"(?m)^model name\s*: (.*)$", it.read())
+    memory = os.sysconf("SC_PAGE_SIZE") * os.sysconf("SC_PHYS_PAGES") / 1e9
+    with open(f"{proving.toolchain().KIT}/KIT-ID", encoding="utf-8") as it:
+        kit = it.read().strip()
+    state = subprocess.run(["git", "-C", ROOT, "log", "-1", "--format=%h"], stdout=subprocess.PIPE, text=True).stdout.strip()
+    load = os.getloadavg()[0]
+    print(f"- {proving.toolchain().processors()} processors, {model[1] if model else 'of an unknown model'}, {memory:.0f} GB")
+    print(f"- {datetime.date.today()}, commit {state}, load at the start {load:.1f}")
+    print(f"- {kit}\n", flush=True)
+
+
+def proved_anew(room, names):
+    """Proves the crates in a fresh clone, which is told of on standard error. Returns the clone and the figures of each crate by name."""
+    tree = f"{room}/clone"
+    subprocess.run(["git", "clone", "--quiet", ROOT, tree], check=True)
+    began = time.time()
+    ran = subprocess.run([f"{tree}/scripts/prove", "--table", f"{room}/table", *(names or all_names(tree))])
+    if ran.returncode:
+        sys.exit(ran.returncode)
+    with open(f"{room}/table", encoding="utf-8") as it:
+        rows = [line.rstrip("\n").split("\t") for line in it]
+    return tree, {it[0]: [int(it[1]), *map(float, it[2:5]), *map(int, it[5:])] for it in rows}, time.time() - began
+
+
+def all_names(tree):
+    """Returns the names of all crates."""
+    return [*proving.crates_of(tree)]
+
+
+def prove_tests(crate, room):
+    """Proves and compiles the crate's tests as the gate does, and returns the run."""
+    rtlib = proving.toolchain().rtlib
+    words = [rtlib.RATTLE, "build", *crate.words(["--jobs", "1"], tests=True, keeps=False), "--toolchain", f"{rtlib.KIT}/toolchain"]
+    words += ["--backend", "llvm", "--empty-contracts", "-o", f"{room}/{crate.name}_tests.o"]
+    return proving.run(words, crate.folder, room)
+
+
+def try_edits(crate, room):
+    """Tries the crate's wrong bodies as the gate does, in a process of their own, and returns the run."""
+    ran = proving.run([sys.executable, os.path.realpath(__file__), "--try-edits", proving.ROOT, crate.name], ROOT, room)
+    return ran
+
+
+def try_edits_here(root, name):
+    """Tries a crate's wrong bodies in turn, each over the work of those before it."""
+    proving.prepare()
+    rt, crate = proving.toolchain(), proving.crates_of(root)[name]
+    tried = rt.must_fail_all(crate, rt.edits_of(crate)[0], ["--jobs", "1"])
+    print(*[text for _, text in tried], sep="\n")
+    return 0 if all(it for it, _ in tried) else 1
+
+
+def measured(tree, names, room, what, call):
+    """Runs a measurement of each crate, one job each and as many at once as there are processors and memory. Returns the runs by name."""
+    rt, crates = proving.toolchain(), proving.crates_of(tree)
+    wanted = [it for it in crates.values() if (it.name in names or not names) and what(it)]
+    proving.prove(tree, [below.name for it in wanted for below in it.below()])
+    tasks = {(it.name, "edits"): ([], proving.lines_of(it), rt.need(it), lambda given, jobs, it=it: call(it, room)) for it in wanted}
+    found = {key[0]: it for key, it in rt.in_lanes(tasks).items()}
+    for name, ran in found.items():
+        if ran.status:
+            print(f"{name}: status {ran.status}: {ran.said[-600:]}", file=sys.stderr)
+    return found
+
+
+def tell_crates(parts, names):
+    """Prints the table of the crates."""
+    rt = proving.toolchain()
+    with tempfile.TemporaryDirectory(prefix="bench-proof-") as room:
+        tree, proofs, wall = ROOT, {}, 0
+        if "--proof" in parts:
+            tree, proofs, wall = proved_anew(room, names)
+        tests = measured(tree, names, room, lambda it: it.has_tests(), prove_tests) if "--tests" in parts else {}
+        count = lambda it: len(rt.edits_of(it)[0])
+        edits = measured(tree, names, room, count, try_edits) if "--edits" in parts else {}
+        crates = proving.crates_of(tree)
+        rows = []
+        for name, it in crates.items():
+            if name in proofs or name in tests or name in edits:
+                rows.append(row_of(it, proofs.get(name), tests.get(name), edits.get(name), count(it)))
+    head = ["crate", "functions", "lines", "proof CPU s", "wall s", "jobs", "tests CPU s", "wall s", "wrong bodies", "CPU s", "wall s"]
+    total = [sum(row[at] or 0 for row in rows) for at in range(1, len(head))]
+    table(head, [[shown(it) for it in row] for row in [*rows, ["all", *total[:4], "", *total[5:]]]])
+    if proofs:
+        print(f"The proof from nothing took {wall / 60:.1f} minutes on the wall.\n")
+    print("Proofs are those of `scripts/prove` in a fresh clone. Tests and wrong bodies are tried as `rt ci` tries them, at one job a crate, and crates side by side; so their wall times are longer than alone.\n", flush=True)
+
+
+def row_of(crate, proof, tests, edits, count):
+    """Returns a crate's row: empty where something was not measured."""
+    functions, user, system, wall, jobs, _ = proof or [None] * 6
+    cpu = user + system if proof else None
+    of = lambda ran: (ran.user + ran.sys, ran.wall) if ran else (None, None)
+    return [crate.name, functions, proving.lines_of(crate), cpu, wall, jobs, *of(tests), count if edits else None, *of(edits)]
+
+
+def shown(cell):
+    """Returns a cell's text."""
+    return "" if cell is None else seconds(cell) if isinstance(cell, float) else f"{cell:,}" if isinstance(cell, int) else cell
+
+
 def main(words):
+    if words[:1] == ["--try-edits"]:
+        return try_edits_here(*words[1:])
     parts = [it for it in words if it in PARTS] or PARTS
     names = [it for it in words if it not in PARTS]
     if any(it.startswith("-") for it in names):
         sys.exit(f"usage: bench/proof.sh [{'] ['.join(PARTS)}] [NAME..]")
-    proving.prepare()
-    if "--slowest" in parts:
-        tell_slowest(names)
+    try:
+        proving.prepare()
+        tell_machine(names)
+        if {*parts} - {"--slowest"}:
+            tell_crates(parts, names)
+        if "--slowest" in parts:
+            tell_slowest(names)
+    except proving.NoKit as why:
+        sys.exit(f"bench/proof.sh: {why}")
+    except proving.Failed:
+        return 1
     return 0
 
 

@@ -53,14 +53,14 @@ def toolchain():
         raise NoKit(f"the toolchain's script rt cannot be loaded: {error}")
     if lacks:
         raise NoKit(f"the toolchain's script rt lacks {', '.join(lacks)}")
+    # (a stamp covers all crates below, so each is worked out once)
+    rt.Crate.stamp = functools.lru_cache(maxsize=None)(rt.rtlib.Crate.stamp)
     return rt
 
 
 def crates_of(root):
     """Returns the tree's crates by name, lowest first. Each is read as the gate reads it: over the statements of those below it."""
     rt = toolchain()
-    # (a stamp covers all crates below, so each is worked out once)
-    rt.Crate.stamp = functools.lru_cache(maxsize=None)(rt.rtlib.Crate.stamp)
     rt.Crate.allowed = rt.handles_of(root)
     rt.Crate.cuts_libraries = True
     rt.rtlib.Crate = rt.Crate
@@ -99,7 +99,6 @@ def run(words, folder, room, hear=None, began=None):
     how.update(text=True, errors="replace", env={**os.environ, "TMPDIR": room})
     start, said = time.time(), []
     started = subprocess.Popen([*toolchain().rtlib.guarded(), *words], **how)
-    CHILDREN.add(started.pid)
     if began:
         began(started.pid)
     for line in started.stdout:
@@ -108,7 +107,6 @@ def run(words, folder, room, hear=None, began=None):
             hear(line)
     started.stdout.close()
     _, status, used = os.wait4(started.pid, 0)
-    CHILDREN.discard(started.pid)
     started.returncode = -os.WTERMSIG(status) if os.WIFSIGNALED(status) else os.WEXITSTATUS(status)
     return Ran(started.returncode, "".join(said), used.ru_utime, used.ru_stime, time.time() - start)
 
@@ -301,8 +299,9 @@ class Queue:
         return None
 
     def needs(self, proof, jobs):
-        """Returns the memory that the proof takes with so many jobs."""
-        return proof.memory * (1 + 0.6 * (jobs - 1))
+        """Returns the memory that the proof takes with so many jobs. The copies of a run share most of theirs: pb_rstp, of which
+        rt's need says 4.7 GB, took 2.2 GB with four jobs, and 1.9 GB with one."""
+        return proof.memory * (0.6 + 0.1 * jobs)
 
     def run(self):
         """Proves all, and stops at the first that is not proved."""
@@ -316,8 +315,10 @@ class Queue:
                     if not it.result():
                         raise Failed(proof.name)
                 self.told.show(self.running.values())
-        finally:
+        except BaseException:
             stop_children()
+            raise
+        finally:
             pool.shutdown()
 
     def begin(self, pool):
@@ -367,23 +368,22 @@ class Told:
         print(f"\r\x1b[K{text[:wide]}", end="", file=sys.stderr, flush=True)
 
 
-CHILDREN = set()
-
-
 def stop_children():
-    """Ends what this process started of the toolchain, with the copies that these made of themselves."""
-    for it in list(CHILDREN):
-        with contextlib.suppress(OSError):
-            group = os.getpgid(it)
-            # (a child joins the group of the guard right after it begins)
-            os.killpg(group, signal.SIGKILL) if group != os.getpgrp() else os.kill(it, signal.SIGKILL)
+    """Ends what this process started of the toolchain, with the copies that these made of themselves: all are in the group of rt's guard."""
+    group = re.search(r"setpgid\(0, (\d+)\)", " ".join(toolchain().rtlib.guarded()))
+    with contextlib.suppress(OSError):
+        os.killpg(int(group[1]), signal.SIGKILL)
 
 
 def prepare():
     """Has the signals that end a process do so by an exception, so that temporary folders are removed, and starts what ends the commands whenever this process ends. Only the main thread may."""
-    for it in (signal.SIGINT, signal.SIGTERM, signal.SIGHUP):
-        signal.signal(it, lambda number, _: sys.exit(128 + number))
+    def end(number, _):
+        stop_children()
+        sys.exit(128 + number)
+
     toolchain().rtlib.guarded()
+    for it in (signal.SIGINT, signal.SIGTERM, signal.SIGHUP):
+        signal.signal(it, end)
 
 
 def figures(root):
