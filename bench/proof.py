@@ -135,11 +135,11 @@ def profile(crate):
     return took, len(functions), batches
 
 
-def tell_slowest(names):
+def tell_slowest(tree, names):
     """Prints which parts, functions and modules take longest."""
-    crates = proving.crates_of(ROOT)
+    crates = proving.crates_of(tree)
     wanted = [it for it in proving.with_below(crates, names or ["pbnet"]) if not names or it.name in names]
-    proving.prove(ROOT, [below.name for it in wanted for below in it.below()])
+    proving.prove(tree, [below.name for it in wanted for below in it.below()])
     tasks = {(it.name, "edits"): ([], proving.lines_of(it), proving.toolchain().need(it), lambda given, jobs, it=it: profile(it)) for it in wanted}
     took, functions, batches = collections.Counter(), 0, 0
     for more, count, copies in proving.toolchain().in_lanes(tasks).values():
@@ -167,7 +167,7 @@ def tell_slowest(names):
     table(["of", "part", "CPU s"], rows)
 
 
-def tell_machine(names):
+def tell_machine():
     """Prints what the figures are of."""
     with open("/proc/cpuinfo", encoding="utf-8") as it:
         model = re.search(r"(?m)^model name\s*: (.*)$", it.read())
@@ -182,21 +182,16 @@ def tell_machine(names):
 
 
 def proved_anew(room, names):
-    """Proves the crates in a fresh clone, which is told of on standard error. Returns the clone and the figures of each crate by name."""
+    """Proves the crates in a fresh clone. Returns the figures of each crate by name, and how long that took on the wall."""
     tree = f"{room}/clone"
     subprocess.run(["git", "clone", "--quiet", ROOT, tree], check=True)
     began = time.time()
-    ran = subprocess.run([f"{tree}/scripts/prove", "--table", f"{room}/table", *(names or all_names(tree))])
+    ran = subprocess.run([f"{tree}/scripts/prove", "--table", f"{room}/table", *(names or proving.crates_of(tree))])
     if ran.returncode:
         sys.exit(ran.returncode)
     with open(f"{room}/table", encoding="utf-8") as it:
         rows = [line.rstrip("\n").split("\t") for line in it]
-    return tree, {it[0]: [int(it[1]), *map(float, it[2:5]), *map(int, it[5:])] for it in rows}, time.time() - began
-
-
-def all_names(tree):
-    """Returns the names of all crates."""
-    return [*proving.crates_of(tree)]
+    return {it[0]: [int(it[1]), *map(float, it[2:5]), *map(int, it[5:])] for it in rows}, time.time() - began
 
 
 def prove_tests(crate, room):
@@ -209,8 +204,8 @@ def prove_tests(crate, room):
 
 def try_edits(crate, room):
     """Tries the crate's wrong bodies as the gate does, in a process of their own, and returns the run."""
-    ran = proving.run([sys.executable, os.path.realpath(__file__), "--try-edits", proving.ROOT, crate.name], ROOT, room)
-    return ran
+    tree = os.path.dirname(os.path.dirname(crate.folder))
+    return proving.run([sys.executable, os.path.realpath(__file__), "--try-edits", tree, crate.name], tree, room)
 
 
 def try_edits_here(root, name):
@@ -235,21 +230,17 @@ def measured(tree, names, room, what, call):
     return found
 
 
-def tell_crates(parts, names):
+def tell_crates(tree, parts, names, room):
     """Prints the table of the crates."""
     rt = proving.toolchain()
-    with tempfile.TemporaryDirectory(prefix="bench-proof-") as room:
-        tree, proofs, wall = ROOT, {}, 0
-        if "--proof" in parts:
-            tree, proofs, wall = proved_anew(room, names)
-        tests = measured(tree, names, room, lambda it: it.has_tests(), prove_tests) if "--tests" in parts else {}
-        count = lambda it: len(rt.edits_of(it)[0])
-        edits = measured(tree, names, room, count, try_edits) if "--edits" in parts else {}
-        crates = proving.crates_of(tree)
-        rows = []
-        for name, it in crates.items():
-            if name in proofs or name in tests or name in edits:
-                rows.append(row_of(it, proofs.get(name), tests.get(name), edits.get(name), count(it)))
+    proofs, wall = proved_anew(room, names) if "--proof" in parts else ({}, 0)
+    count = lambda it: len(rt.edits_of(it)[0])
+    tests = measured(tree, names, room, lambda it: it.has_tests(), prove_tests) if "--tests" in parts else {}
+    edits = measured(tree, names, room, count, try_edits) if "--edits" in parts else {}
+    rows = []
+    for name, it in proving.crates_of(tree).items():
+        if name in proofs or name in tests or name in edits:
+            rows.append(row_of(it, proofs.get(name), tests.get(name), edits.get(name), count(it)))
     head = ["crate", "functions", "lines", "proof CPU s", "wall s", "jobs", "tests CPU s", "wall s", "wrong bodies", "CPU s", "wall s"]
     total = [sum(row[at] or 0 for row in rows) for at in range(1, len(head))]
     table(head, [[shown(it) for it in row] for row in [*rows, ["all", *total[:4], "", *total[5:]]]])
@@ -280,11 +271,14 @@ def main(words):
         sys.exit(f"usage: bench/proof.sh [{'] ['.join(PARTS)}] [NAME..]")
     try:
         proving.prepare()
-        tell_machine(names)
-        if {*parts} - {"--slowest"}:
-            tell_crates(parts, names)
-        if "--slowest" in parts:
-            tell_slowest(names)
+        tell_machine()
+        with tempfile.TemporaryDirectory(prefix="bench-proof-") as room:
+            # (the clone is there once the proofs are measured, which come first)
+            tree = f"{room}/clone" if "--proof" in parts else ROOT
+            if {*parts} - {"--slowest"}:
+                tell_crates(tree, parts, names, room)
+            if "--slowest" in parts:
+                tell_slowest(tree, names)
     except proving.NoKit as why:
         sys.exit(f"bench/proof.sh: {why}")
     except proving.Failed:
