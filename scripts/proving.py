@@ -202,7 +202,7 @@ class Proof:
         words = crate.words(["--jobs", str(jobs)], keeps=False)
         whole = ["check", *words, "--progress", *["--statements"] * crate.makes_rlib(), "-o", f"{room}/checked"]
         well = self.step(whole, room, self.hear)
-        if self.ran.status == -signal.SIGKILL and jobs > 1:
+        if self.ran.status == -signal.SIGKILL and jobs > 1 and not IS_STOPPED.is_set():
             # most likely for memory
             well = self.step([*whole[:1], *crate.words(["--jobs", "1"], keeps=False), *whole[1 + len(words) :]], room, self.hear)
         found = PROVED.search(self.ran.said)
@@ -320,6 +320,7 @@ class Queue:
             raise
         finally:
             pool.shutdown()
+            self.told.close()
 
     def begin(self, pool):
         """Begins each crate that can begin."""
@@ -355,6 +356,11 @@ class Told:
         elif not self.is_terminal:
             self.line(f"{proof.name} proved: {proof.functions or 0:,} functions, {proof.ran.wall:.0f} s")
 
+    def close(self):
+        """Takes the terminal's line away."""
+        if self.is_terminal:
+            print("\r\x1b[K", end="", file=sys.stderr, flush=True)
+
     def show(self, running):
         """Writes the terminal's line again."""
         if not self.is_terminal:
@@ -368,8 +374,12 @@ class Told:
         print(f"\r\x1b[K{text[:wide]}", end="", file=sys.stderr, flush=True)
 
 
+IS_STOPPED = threading.Event()
+
+
 def stop_children():
     """Ends what this process started of the toolchain, with the copies that these made of themselves: all are in the group of rt's guard."""
+    IS_STOPPED.set()
     group = re.search(r"setpgid\(0, (\d+)\)", " ".join(toolchain().rtlib.guarded()))
     with contextlib.suppress(OSError):
         os.killpg(int(group[1]), signal.SIGKILL)
@@ -379,6 +389,7 @@ def prepare():
     """Has the signals that end a process do so by an exception, so that temporary folders are removed, and starts what ends the commands whenever this process ends. Only the main thread may."""
     def end(number, _):
         stop_children()
+        print(f"\nstopped by signal {number}", file=sys.stderr, flush=True)
         sys.exit(128 + number)
 
     toolchain().rtlib.guarded()
