@@ -1,0 +1,431 @@
+"""What the scripts share that prove crates: the toolchain's own Python, the crates of the tree, and how each is proved.
+
+A crate is proved as the toolchain's gate does it, over the bare statements of the libraries below it, from nothing.
+That takes less than half the time of `rt check`, which checks over the proofs of those libraries."""
+import collections
+import contextlib
+import functools
+import hashlib
+import importlib.machinery
+import importlib.util
+import json
+import os
+import re
+import shutil
+import signal
+import subprocess
+import sys
+import tempfile
+import threading
+import time
+import types
+from concurrent.futures import FIRST_COMPLETED, ThreadPoolExecutor, wait
+
+ROOT = os.path.dirname(os.path.dirname(os.path.realpath(__file__)))
+# What the scripts take of the toolchain's script rt, and of rtlib.py beside it.
+OF_RT = "Crate checked edits_of free handles_of in_lanes must_fail need processors read_edit".split()
+OF_RTLIB = "Crate KIT RATTLE crates_below files_of guarded lock text_of".split()
+# The checker's lines that tell how far it is, and that of a proved crate.
+PROGRESS = re.compile(r"checked (\S+), (\d+) of (\d+)$")
+PROGRESS_LINES = re.compile(r"(?m)^checked (\S+), \d+ of \d+$")
+PROVED = re.compile(r"(?m)^logic=proved .*\bfunctions=(\d+)")
+# Its lines that say nothing of why a crate is not proved.
+QUIET = re.compile(r"(checked \S+, \d|statements \w+: |logic /|by-macro: |(fn|enum|struct|impl|trait|type|const) \S+: proved$)")
+
+
+class NoKit(Exception):
+    """There is no toolchain on the path, or one that lacks what these scripts take of it."""
+
+
+@functools.lru_cache(maxsize=None)
+def toolchain():
+    """Loads the toolchain's script rt as a module, and rtlib.py with it."""
+    found = shutil.which("rt")
+    if not found:
+        raise NoKit("the command rt of the Rattle toolchain is not on the path")
+    sys.dont_write_bytecode = True
+    loader = importlib.machinery.SourceFileLoader("rt_script", os.path.realpath(found))
+    rt = importlib.util.module_from_spec(importlib.util.spec_from_loader("rt_script", loader))
+    try:
+        loader.exec_module(rt)
+        lacks = [it for it in OF_RT if not hasattr(rt, it)] + [it for it in OF_RTLIB if not hasattr(rt.rtlib, it)]
+    except Exception as error:
+        raise NoKit(f"the toolchain's script rt cannot be loaded: {error}")
+    if lacks:
+        raise NoKit(f"the toolchain's script rt lacks {', '.join(lacks)}")
+    # (a stamp covers all crates below, so each is worked out once)
+    rt.Crate.stamp = functools.lru_cache(maxsize=None)(rt.rtlib.Crate.stamp)
+    return rt
+
+
+def crates_of(root):
+    """Returns the tree's crates by name, lowest first. Each is read as the gate reads it: over the statements of those below it."""
+    rt = toolchain()
+    rt.Crate.allowed = rt.handles_of(root)
+    rt.Crate.cuts_libraries = True
+    rt.rtlib.Crate = rt.Crate
+    found = sorted(rt.rtlib.crates_below(root), key=lambda it: len(it.below()))
+    return {it.name: it for it in found}
+
+
+def with_below(crates, names):
+    """Returns these crates and all below them, each after those that it uses."""
+    for name in names:
+        if name not in crates:
+            sys.exit(f"prove: crates.txt has no crate {name}")
+    wanted = {below.name for name in names for below in [*crates[name].below(), crates[name]]}
+    return [it for it in crates.values() if it.name in wanted]
+
+
+def lines_of(crate):
+    """Returns how many lines the crate has in src/, specs/ and proofs/."""
+    return sum(toolchain().rtlib.text_of(it).count("\n") for it in toolchain().rtlib.files_of(crate.folder))
+
+
+def without(words, *flags):
+    """Returns the words without these flags and the value of each."""
+    for flag in flags:
+        at = words.index(flag)
+        words = [*words[:at], *words[at + 2 :]]
+    return words
+
+
+Ran = collections.namedtuple("Ran", "status said user sys wall")
+
+
+def run(words, folder, room, hear=None, began=None):
+    """Runs a command of the toolchain to its end, with its temporary files in the room, and returns what it said and took. It hands each line to hear, and its process to began."""
+    how = {"cwd": folder, "stdin": subprocess.DEVNULL, "stdout": subprocess.PIPE, "stderr": subprocess.STDOUT}
+    how.update(text=True, errors="replace", env={**os.environ, "TMPDIR": room})
+    start, said = time.time(), []
+    started = subprocess.Popen([*toolchain().rtlib.guarded(), *words], **how)
+    if began:
+        began(started.pid)
+    for line in started.stdout:
+        said.append(line)
+        if hear:
+            hear(line)
+    started.stdout.close()
+    _, status, used = os.wait4(started.pid, 0)
+    started.returncode = -os.WTERMSIG(status) if os.WIFSIGNALED(status) else os.WEXITSTATUS(status)
+    return Ran(started.returncode, "".join(said), used.ru_utime, used.ru_stime, time.time() - start)
+
+
+def kept_in(crate, name):
+    """Returns the path of a file beside the crate's library that tells what it was made from. rt removes it when it builds the library anew."""
+    return f"{os.path.dirname(crate.rlib)}/{name}"
+
+
+def result_of(crate):
+    """Returns the path of what a proof of the crate leaves, and of the file that tells what this was made from."""
+    if crate.makes_rlib():
+        return crate.rlib, kept_in(crate, "proved")
+    return f"{crate.folder}/out/{crate.name}", f"{crate.folder}/out/{crate.name}.proved"
+
+
+def sum_of(path):
+    """Returns a sum of a file, or of all in a folder."""
+    found = hashlib.sha256()
+    files = [f"{at}/{it}" for at, _, names in os.walk(path) for it in names] if os.path.isdir(path) else [path]
+    for file in sorted(files):
+        with open(file, "rb") as it:
+            found.update(repr((os.path.relpath(file, path), hashlib.sha256(it.read()).digest())).encode())
+    return found.hexdigest()
+
+
+def kept_proofs(crates):
+    """Returns, by name, the sum of what each crate's kept proof left: a proof of its sources as they are, over the kept libraries below. The crates come lowest first."""
+    kept = {}
+    for crate in crates:
+        result, proved = result_of(crate)
+        said = (toolchain().rtlib.text_of(proved) or "").split("\n")
+        if os.path.exists(result) and said[0] == crate.stamp() and said[2:-1] == sums_below(crate, kept):
+            kept[crate.name] = said[1]
+    return kept
+
+
+def sums_below(crate, kept):
+    """Returns what the crate's proof rests on, a line each: statements fit only the very libraries that they were made over."""
+    return [f"{it.name} {kept.get(it.name)}" for it in crate.below()]
+
+
+def keep_proof(crate, stamp, kept):
+    """Writes beside the crate's result what it was made from: its sources with all below, a sum of its own, and those of the libraries below."""
+    own = sum_of(result_of(crate)[0])
+    if crate.makes_rlib():
+        # As rt's own stamp, by which rt check and rt lib in a crate above take this library as built, and prove over its
+        # statements: tried with pb_svlan over pb_frame and pb_reserved, also with pb_reserved built by rt between them. Where rt
+        # itself has built a lower library anew and a higher one kept its stamp, as after an edit that was taken back, rt stops
+        # with `unusable-built-library`; this script then mends that.
+        write(kept_in(crate, "stamp"), stamp)
+    write(result_of(crate)[1], "\n".join([stamp, own, *sums_below(crate, kept), ""]))
+    kept[crate.name] = own
+
+
+def write(file, text):
+    with open(file, "w", encoding="utf-8") as it:
+        it.write(text)
+
+
+class Proof:
+    """One crate that is to be proved, and how far that is."""
+
+    def __init__(self, crate, before):
+        self.crate, self.name = crate, crate.name
+        self.lines = lines_of(crate)
+        self.functions = before.get("functions")
+        self.seconds = before.get("user", 0) + before.get("sys", 0)
+        self.memory = toolchain().need(crate)
+        self.done, self.jobs, self.began, self.ended = 0, 0, None, None
+        self.ran = Ran(0, "", 0.0, 0.0, 0.0)
+
+    def hear(self, line):
+        """Takes the number of functions proved so far from a line of the checker."""
+        found = PROGRESS.match(line)
+        if found:
+            self.done, self.functions = int(found[2]), int(found[3])
+
+    def step(self, words, room, hear=None):
+        """Runs one command of the proof, and returns whether it did well."""
+        ran = run([toolchain().rtlib.RATTLE, *words], self.crate.folder, room, hear)
+        self.ran = Ran(ran.status, ran.said, self.ran.user + ran.user, self.ran.sys + ran.sys, self.ran.wall + ran.wall)
+        return ran.status == 0
+
+    def prove(self, jobs, room, kept):
+        """Proves the crate from nothing, builds its library or its program, and returns whether both did well."""
+        crate, self.jobs, self.began = self.crate, jobs, time.time()
+        room = tempfile.mkdtemp(prefix=f"{self.name}-", dir=room)
+        result, proved = result_of(crate)
+        with contextlib.suppress(FileNotFoundError):
+            os.remove(proved)
+        stamp = crate.stamp()
+        words = crate.words(["--jobs", str(jobs)], keeps=False)
+        whole = ["check", *words, "--progress", *["--statements"] * crate.makes_rlib(), "-o", f"{room}/checked"]
+        well = self.step(whole, room, self.hear)
+        if self.ran.status == -signal.SIGKILL and jobs > 1 and not IS_STOPPED.is_set():
+            # most likely for memory
+            well = self.step([*whole[:1], *crate.words(["--jobs", "1"], keeps=False), *whole[1 + len(words) :]], room, self.hear)
+        found = PROVED.search(self.ran.said)
+        self.functions = int(found[1]) if found else self.functions
+        words = [*without(words, "--logic-built", "--jobs"), "--crate-checked", f"{room}/checked"]
+        well = well and (self.library(words, result, room) if crate.makes_rlib() else self.program(words, result, room))
+        shutil.rmtree(room, ignore_errors=True)
+        type(crate).stamp.cache_clear()
+        if well and stamp != crate.stamp():
+            self.ran = self.ran._replace(said="its files changed meanwhile: run this again\n")
+            well = False
+        if well:
+            keep_proof(crate, stamp, kept)
+        self.ended = time.time()
+        return well
+
+    def library(self, words, result, room):
+        """Builds the library that those above are proved over."""
+        shutil.rmtree(os.path.dirname(result), ignore_errors=True)
+        os.makedirs(os.path.dirname(result))
+        return self.step(["build", *words, "-o", result], room)
+
+    def program(self, words, result, room):
+        """Compiles the proved program by LLVM and links it, as the gate does."""
+        crate, rt = self.crate, toolchain()
+        os.makedirs(os.path.dirname(result), exist_ok=True)
+        made = f"{room}/{crate.name}"
+        words = ["build", *words, "--toolchain", f"{rt.rtlib.KIT}/toolchain", "--backend", "llvm", "-o", f"{made}.o"]
+        if not self.step(words, room):
+            return False
+        with tempfile.TemporaryFile("w+", errors="replace") as crate.out:
+            # (the link's own path stands below the crate's folder)
+            status = crate.link(f"{made}.o", os.path.relpath(made, crate.folder))
+            crate.out.seek(0)
+            self.ran = self.ran._replace(status=status, said=crate.out.read() if status else self.ran.said)
+        if not status:
+            os.replace(shutil.copy(made, f"{result}.new"), result)
+        return status == 0
+
+    def row(self):
+        """Returns what the proof took, as it is kept for the next run."""
+        return {"functions": self.functions or 0, "user": self.ran.user, "sys": self.ran.sys, "wall": self.ran.wall, "jobs": self.jobs, "lines": self.lines}
+
+
+class Failed(Exception):
+    """A crate is not proved."""
+
+
+class Queue:
+    """Proves crates side by side, each once all below it are proved.
+
+    A crate that has the longest chain of work behind it gets as many jobs as there are processors, four at most, and
+    any other gets one: the chain decides when all has ended, and a run cannot be given more jobs once it has begun. The
+    copies of a run with four jobs wait for one another so often that they keep two and a half processors busy. So
+    there are half as many jobs again as processors, and no more crates at once than processors; a leaf that nobody
+    waits for never holds what the chain needs next. Simulated over the measured times of the program's 19 crates
+    this takes 808 s on four processors, and rt's own rule, which shares out the idle processors, 938 s; at no more jobs
+    than processors the best rule took 917 s."""
+
+    def __init__(self, proofs, kept, processors, room, told):
+        self.left, self.kept, self.room, self.told = list(proofs), kept, room, told
+        self.processors, self.jobs = processors, processors * 3 // 2
+        # (some checks take a fifth more than need says)
+        self.memory = 0.85 * toolchain().free()
+        self.running = {}
+        self.behind = self.chains()
+
+    def chains(self):
+        """Returns how much work stands between the beginning of each crate and the end of the last above it: in seconds where they are known."""
+        known = [it for it in self.left if it.seconds]
+        a_line = sum(it.seconds for it in known) / sum(it.lines for it in known) if known else 0.03
+        behind = {it.name: 0.0 for it in self.left}
+        for it in reversed(self.left):
+            behind[it.name] += 5 + (it.seconds or a_line * it.lines)
+            for below in it.crate.below():
+                behind[below.name] = max(behind.get(below.name, 0.0), behind[it.name])
+        return behind
+
+    def next(self):
+        """Returns the crate to begin now and its jobs, or None where none can begin."""
+        ready = [it for it in self.left if all(below.name in self.kept for below in it.crate.below())]
+        ready.sort(key=lambda it: -self.behind[it.name])
+        idle = self.jobs - sum(it.jobs for it in self.running.values())
+        if not ready or idle <= 0 or len(self.running) >= self.processors:
+            return None
+        longest = max(self.behind[it.name] for it in [*self.left, *self.running.values()])
+        used = sum(self.needs(it, it.jobs) for it in self.running.values())
+        for it in ready:
+            jobs = min(4, self.processors, idle) if self.behind[it.name] == longest else 1
+            while jobs > 1 and used + self.needs(it, jobs) > self.memory:
+                jobs -= 1
+            if not self.running or used + self.needs(it, jobs) <= self.memory:
+                return it, jobs
+        return None
+
+    def needs(self, proof, jobs):
+        """Returns the memory that the proof takes with so many jobs. The copies of a run share most of theirs: pb_rstp, of which
+        rt's need says 4.7 GB, took 2.2 GB with four jobs, and 1.9 GB with one."""
+        return proof.memory * (0.6 + 0.1 * jobs)
+
+    def run(self):
+        """Proves all, and stops at the first that is not proved."""
+        pool = ThreadPoolExecutor(self.processors)
+        try:
+            while self.left or self.running:
+                self.begin(pool)
+                for it in wait(self.running, timeout=1, return_when=FIRST_COMPLETED).done:
+                    proof = self.running.pop(it)
+                    self.told.ended(proof, it.result())
+                    if not it.result():
+                        raise Failed(proof.name)
+                self.told.show(self.running.values())
+        except BaseException:
+            stop_children()
+            raise
+        finally:
+            pool.shutdown()
+            self.told.close()
+
+    def begin(self, pool):
+        """Begins each crate that can begin."""
+        found = self.next()
+        while found:
+            proof, jobs = found
+            self.left.remove(proof)
+            proof.jobs = jobs
+            self.told.begins(proof)
+            self.running[pool.submit(proof.prove, jobs, self.room, self.kept)] = proof
+            found = self.next()
+
+
+class Told:
+    """Tells on standard error how far the proof is: on a terminal one line that is written again and again, elsewhere a line at each beginning and end."""
+
+    def __init__(self, proofs):
+        self.proofs, self.began, self.is_terminal = proofs, time.time(), sys.stderr.isatty()
+
+    def line(self, text):
+        """Writes a line of its own, in the place of the one that is written again and again."""
+        print(("\r\x1b[K" if self.is_terminal else "") + text, file=sys.stderr, flush=True)
+
+    def begins(self, proof):
+        if not self.is_terminal:
+            self.line(f"proving {proof.name}")
+
+    def ended(self, proof, well):
+        if not well:
+            self.line(f"{proof.name} NOT PROVED:")
+            kept = [it for it in proof.ran.said.splitlines() if it.strip() and not QUIET.match(it)]
+            print(*kept[-60:], sep="\n", file=sys.stderr, flush=True)
+        elif not self.is_terminal:
+            self.line(f"{proof.name} proved: {proof.functions or 0:,} functions, {proof.ran.wall:.0f} s")
+
+    def close(self):
+        """Takes the terminal's line away."""
+        if self.is_terminal:
+            print("\r\x1b[K", end="", file=sys.stderr, flush=True)
+
+    def show(self, running):
+        """Writes the terminal's line again."""
+        if not self.is_terminal:
+            return
+        done = sum(it.functions or 0 if it.ended else it.done for it in self.proofs)
+        known = all(it.functions for it in self.proofs)
+        of = f"{done:,} of {sum(it.functions or 0 for it in self.proofs):,} functions" if known else f"{done:,} functions so far"
+        each = ", ".join(f"{it.name} {it.done}/{it.functions or '?'}" for it in sorted(running, key=lambda it: it.began or 0))
+        text = f"proving {each}; {of}, {(time.time() - self.began) / 60:.0f} min"
+        wide = shutil.get_terminal_size().columns - 1
+        print(f"\r\x1b[K{text[:wide]}", end="", file=sys.stderr, flush=True)
+
+
+IS_STOPPED = threading.Event()
+
+
+def stop_children():
+    """Ends what this process started of the toolchain, with the copies that these made of themselves: all are in the group of rt's guard."""
+    IS_STOPPED.set()
+    group = re.search(r"setpgid\(0, (\d+)\)", " ".join(toolchain().rtlib.guarded()))
+    with contextlib.suppress(OSError):
+        os.killpg(int(group[1]), signal.SIGKILL)
+
+
+def prepare():
+    """Has the signals that end a process do so by an exception, so that temporary folders are removed, and starts what ends the commands whenever this process ends. Only the main thread may."""
+    def end(number, _):
+        stop_children()
+        print(f"\nstopped by signal {number}", file=sys.stderr, flush=True)
+        sys.exit(128 + number)
+
+    toolchain().rtlib.guarded()
+    for it in (signal.SIGINT, signal.SIGTERM, signal.SIGHUP):
+        signal.signal(it, end)
+
+
+def figures(root):
+    """Returns what the last run measured of each crate, by name."""
+    with contextlib.suppress(OSError, ValueError):
+        with open(f"{root}/out/proofs.json", encoding="utf-8") as it:
+            return json.load(it)
+    return {}
+
+
+def prove(root, names, processors=None, before=None):
+    """Proves these crates and all below them where no proof of theirs is kept, and says first what is to be said before. Returns the proofs that were made."""
+    rt = toolchain()
+    crates = with_below(crates_of(root), names)
+    if len(kept_proofs(crates)) == len(crates):
+        return []
+    # One run at a time in a tree, and no rt in these crates meanwhile.
+    held = rt.rtlib.lock([types.SimpleNamespace(folder=root), *crates])
+    rt.Crate.stamp.cache_clear()
+    kept, measured = kept_proofs(crates), figures(root)
+    proofs = [Proof(it, measured.get(it.name, {})) for it in crates if it.name not in kept]
+    if before and proofs:
+        print(before, file=sys.stderr, flush=True)
+    prepare()
+    try:
+        with tempfile.TemporaryDirectory(prefix="prove-") as room:
+            Queue(proofs, kept, processors or rt.processors(), room, Told(proofs)).run()
+    finally:
+        os.makedirs(f"{root}/out", exist_ok=True)
+        measured.update({it.name: it.row() for it in proofs if it.ended and it.name in kept})
+        write(f"{root}/out/proofs.json", json.dumps(measured, indent=1, sort_keys=True) + "\n")
+        for it in held:
+            os.close(it)
+    return proofs
