@@ -1,6 +1,6 @@
 //! Octets as hexadecimal texts.
 
-ghost use Rattle.std.specs.Prelude.{◌≡◌, ◌%◌, ◌*◌, ◌<◌, ◌≤◌, ◌↔◌, true, false, length, string_bytes, IfOk, OnOk, IfSome, IfNone, Some, None, IsSome, IsErrOf, [], ℕ};
+ghost use Rattle.std.specs.Prelude.{◌≡◌, ◌/◌, ◌%◌, ◌*◌, ◌<◌, ◌≤◌, ◌↔◌, ◌++◌, ◌∷◌, true, false, length, string_bytes, IfOk, OnOk, IfSome, IfNone, Some, None, IsSome, IsErrOf, [], ℕ};
 ghost use Rattle.std.specs.List.{list_all, list_any};
 ghost use Rattle.pb_frame.specs.Hex.{digit_value, is_digit, is_upper, IsPair, IsHex, hex_text as text_of, lower_digit, upper_digit};
 ghost use Rattle.pb_frame.specs.declared.hex.HexFault.{HexFault};
@@ -186,11 +186,29 @@ fn lower(n: u8) -> char
 }
 
 /// The upper case digit of a number below 16.
-pub(crate) fn upper(n: u8) -> char
+fn upper(n: u8) -> char
     requires { n < 16 }
     ensures { result ≡ upper_digit n }
 {
     char::from(if n <= 9 { n + 48 } else { n + 55 })
+}
+
+/// Puts the two digits of an octet behind a text, in lower case.
+fn put_lower(text: &mut String, octet: u8) -> Result<(), Memory>
+    ensures { OnOk result (string_bytes text.new ≡ string_bytes text.old ++ lower_digit (octet / 16) ∷ lower_digit (octet % 16) ∷ []) }
+{
+    text.push(lower(octet / 16))?;
+    text.push(lower(octet % 16))?;
+    Ok(())
+}
+
+/// Puts the two digits of an octet behind a text, in upper case.
+pub(crate) fn put_upper(text: &mut String, octet: u8) -> Result<(), Memory>
+    ensures { OnOk result (string_bytes text.new ≡ string_bytes text.old ++ upper_digit (octet / 16) ∷ upper_digit (octet % 16) ∷ []) }
+{
+    text.push(upper(octet / 16))?;
+    text.push(upper(octet % 16))?;
+    Ok(())
 }
 
 /// Two hexadecimal digits for each octet, in lower case.
@@ -199,8 +217,7 @@ pub fn hex_text(alloc: Global, octets: &[u8]) -> Result<String, Memory>
 {
     let mut text = String::new(alloc);
     for octet in octets {
-        text.push(lower(*octet / 16))?;
-        text.push(lower(*octet % 16))?;
+        put_lower(&mut text, *octet)?;
     }
     Ok(text)
 }

@@ -3,7 +3,7 @@
 ghost use Rattle.std.specs.Prelude.{◌≡◌, ◌+◌, ◌*◌, string_bytes, IfOk, IfSome, IfNone, ℕ, List};
 ghost use Rattle.pb_frame.specs.Hex.{IsMacText, mac_text};
 
-use crate::hex::{octet, upper};
+use crate::hex::{octet, put_upper};
 use crate::memory::Memory;
 use std::alloc::Global;
 
@@ -39,12 +39,10 @@ impl Mac {
         ensures { IfOk result (λ text. string_bytes text ≡ mac_text self.now.0) }
     {
         let mut text = String::new(alloc);
-        text.push(upper(self.0[0] / 16))?;
-        text.push(upper(self.0[0] % 16))?;
+        put_upper(&mut text, self.0[0])?;
         for octet in &self.0[1..] {
             text.push('-')?;
-            text.push(upper(*octet / 16))?;
-            text.push(upper(*octet % 16))?;
+            put_upper(&mut text, *octet)?;
         }
         Ok(text)
     }

@@ -32,6 +32,31 @@ struct Settled {
     change: Change,
 }
 
+/// The ports once all is in line and what is due was sent, and what that changes.
+fn sent(
+    alloc: Global,
+    id: u64,
+    heard: Option<Heard>,
+    ports: &[Moving],
+) -> Result<(Vec<Port>, Change), Memory>
+    ensures ports { IfOk result (λ s. s.0.items ≡ nows (with_sent (settled id heard ports.now))) }
+    ensures change { IfOk result (λ s. s.1 ≡ change_of id heard (settled id heard ports.now)) }
+{
+    let settled = settled(alloc, id, heard, ports)?;
+    let sent = with_sent(alloc, &settled)?;
+    let ports = nows(alloc, &sent)?;
+    Ok((ports, change_of(alloc, id, heard, &settled)?))
+}
+
+/// The role and the state of each port.
+fn told_of(alloc: Global, ports: &[Port]) -> Result<(Vec<(u8, Role)>, Vec<(u8, PortState)>), Memory>
+    ensures roles { IfOk result (λ told. told.0.items ≡ roles_of ports.now) }
+    ensures states { IfOk result (λ told. told.1.items ≡ states_of ports.now) }
+{
+    let roles = roles_of(alloc, ports)?;
+    Ok((roles, states_of(alloc, ports)?))
+}
+
 /// Brings all into line.
 fn settle(alloc: Global, id: u64, heard: Option<Heard>, ports: &[Moving]) -> Result<Settled, Memory>
     ensures ports { IfOk result (λ s. s.ports.items ≡ nows (with_sent (settled id heard ports.now))) }
@@ -39,12 +64,8 @@ fn settle(alloc: Global, id: u64, heard: Option<Heard>, ports: &[Moving]) -> Res
     ensures states { IfOk result (λ s. s.states.items ≡ states_of s.ports.items) }
     ensures change { IfOk result (λ s. s.change ≡ change_of id heard (settled id heard ports.now)) }
 {
-    let settled = settled(alloc, id, heard, ports)?;
-    let change = change_of(alloc, id, heard, &settled)?;
-    let sent = with_sent(alloc, &settled)?;
-    let ports = nows(alloc, &sent)?;
-    let roles = roles_of(alloc, &ports)?;
-    let states = states_of(alloc, &ports)?;
+    let (ports, change) = sent(alloc, id, heard, ports)?;
+    let (roles, states) = told_of(alloc, &ports)?;
     Ok(Settled {
         ports,
         roles,
