@@ -2,83 +2,99 @@
 
 mod both;
 mod plain;
+mod timed;
 
 use both::{Answers, Both, Dice};
-use pb_fdb::{Entry, Fdb, Learnt};
+use pb_fdb::Entry;
+use pb_fdb::Learnt::{Full, Group, Kept, Moved, New};
 use pb_frame::Mac;
+use timed::{Row, Timed};
 
-/// The station 02-00-00-00-XX-XX of this number.
-fn station(number: u16) -> Mac {
-    Mac([2, 0, 0, 0, (number / 256) as u8, (number % 256) as u8])
-}
+const ONE: Mac = Mac([2, 0, 0, 0, 0, 1]);
+
+const TWO: Mac = Mac([2, 0, 0, 0, 0, 2]);
+
+const THREE: Mac = Mac([2, 0, 0, 0, 0, 3]);
 
 #[test]
 fn a_full_table_keeps_the_live_ones(rt: HostRuntime) {
-    let mut table = Fdb::new(rt.alloc(), 2, 300);
-    assert_eq!(rt; table.learn(5, station(1), 1, 0), Learnt::New);
-    assert_eq!(rt; table.learn(5, station(2), 2, 0), Learnt::New);
-    assert_eq!(rt; table.learn(5, station(3), 3, 0), Learnt::Full);
-    assert_eq!(rt; table.learn(5, station(3), 3, 300), Learnt::New);
-    assert_eq!(rt; table.find(5, station(1), 300), None);
-    assert_eq!(rt;
-        table.learn(5, Mac([3, 0, 0, 0, 0, 1]), 3, 300),
-        Learnt::Group
-    );
+    const ROWS: &[Row] = &[
+        Row::Learns(5, ONE, 1, New),
+        Row::Learns(5, TWO, 2, New),
+        Row::Learns(5, THREE, 3, Full),
+        Row::At(300),
+        Row::Learns(5, THREE, 3, New),
+        Row::Finds(5, ONE, None),
+        Row::Learns(5, Mac([3, 0, 0, 0, 0, 1]), 3, Group),
+    ];
+    Timed::new(rt.alloc(), 2, 300).walk(&rt, ROWS);
 }
 
 #[test]
 fn stations_age_out_after_300_ticks(rt: HostRuntime) {
-    let mut table = Fdb::new(rt.alloc(), 4096, 300);
-    assert_eq!(rt; table.learn(5, station(1), 1, 0), Learnt::New);
-    assert_eq!(rt; table.find(5, station(1), 299), Some(1));
-    assert_eq!(rt; table.find(5, station(1), 300), None);
-    assert_eq!(rt; table.find(6, station(1), 299), None);
-    table.expire(300);
-    assert_eq!(rt; table.entries().count(), 0);
-    assert_eq!(rt; table.learn(5, station(1), 2, 300), Learnt::New);
+    const ROWS: &[Row] = &[
+        Row::Learns(5, ONE, 1, New),
+        Row::At(299),
+        Row::Finds(5, ONE, Some(1)),
+        Row::Finds(6, ONE, None),
+        Row::At(300),
+        Row::Finds(5, ONE, None),
+        Row::Expires,
+        Row::Has(&[]),
+        Row::Learns(5, ONE, 2, New),
+    ];
+    Timed::new(rt.alloc(), 4096, 300).walk(&rt, ROWS);
 }
+
+/// The first station, as it was seen last.
+const FIRST: Entry = Entry {
+    vid: 5,
+    mac: ONE,
+    port: 1,
+    learnt: 2,
+};
+
+/// The second station, once it has moved.
+const SECOND: Entry = Entry {
+    vid: 5,
+    mac: TWO,
+    port: 3,
+    learnt: 3,
+};
 
 #[test]
 fn a_station_seen_anew_goes_last(rt: HostRuntime) {
-    let mut table = Fdb::new(rt.alloc(), 4096, 300);
-    assert_eq!(rt; table.learn(5, station(1), 1, 0), Learnt::New);
-    assert_eq!(rt; table.learn(5, station(2), 2, 1), Learnt::New);
-    assert_eq!(rt; table.learn(5, station(1), 1, 2), Learnt::Kept);
-    assert_eq!(rt; table.learn(6, station(1), 1, 2), Learnt::New);
-    assert_eq!(rt; table.learn(5, station(2), 3, 3), Learnt::Moved);
-    let mut entries = table.entries();
-    let first = Entry {
-        vid: 5,
-        mac: station(1),
-        port: 1,
-        learnt: 2,
-    };
-    assert_eq!(rt; entries.next(), Some(first));
-    assert_eq!(rt; entries.next(), Some(Entry { vid: 6, ..first }));
-    let moved = Entry {
-        mac: station(2),
-        port: 3,
-        learnt: 3,
-        ..first
-    };
-    assert_eq!(rt; entries.next(), Some(moved));
-    assert_eq!(rt; entries.next(), None);
-    table.flush(1);
-    assert_eq!(rt; table.entries().count(), 1);
-    assert_eq!(rt; table.find(5, station(1), 3), None);
-    assert_eq!(rt; table.find(5, station(2), 3), Some(3));
+    const ROWS: &[Row] = &[
+        Row::Learns(5, ONE, 1, New),
+        Row::At(1),
+        Row::Learns(5, TWO, 2, New),
+        Row::At(2),
+        Row::Learns(5, ONE, 1, Kept),
+        Row::Learns(6, ONE, 1, New),
+        Row::At(3),
+        Row::Learns(5, TWO, 3, Moved),
+        Row::Has(&[FIRST, Entry { vid: 6, ..FIRST }, SECOND]),
+        Row::Flushes(1),
+        Row::Has(&[SECOND]),
+        Row::Finds(5, ONE, None),
+        Row::Finds(5, TWO, Some(3)),
+    ];
+    Timed::new(rt.alloc(), 4096, 300).walk(&rt, ROWS);
 }
 
 #[test]
 fn the_table_holds_4096_stations(rt: HostRuntime) {
-    let mut table = Fdb::new(rt.alloc(), 4096, 10);
-    for number in 0..4096u16 {
-        assert_eq!(rt; table.learn(200, station(number), 3, 0), Learnt::New);
-    }
-    assert_eq!(rt; table.learn(200, station(4096), 3, 9), Learnt::Full);
-    assert_eq!(rt; table.learn(200, station(7), 4, 9), Learnt::Moved);
-    assert_eq!(rt; table.learn(200, station(4096), 3, 10), Learnt::New);
-    assert_eq!(rt; table.entries().count(), 2);
+    const NEXT: Mac = Mac([2, 0, 0, 0, 16, 0]);
+    const ROWS: &[Row] = &[
+        Row::LearnsFirst(4096, 200, 3),
+        Row::At(9),
+        Row::Learns(200, NEXT, 3, Full),
+        Row::Learns(200, Mac([2, 0, 0, 0, 0, 7]), 4, Moved),
+        Row::At(10),
+        Row::Learns(200, NEXT, 3, New),
+        Row::Counts(2),
+    ];
+    Timed::new(rt.alloc(), 4096, 10).walk(&rt, ROWS);
 }
 
 #[test]

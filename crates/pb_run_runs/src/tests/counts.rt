@@ -5,9 +5,7 @@ use super::guests::Habit;
 use super::networks::STAR;
 use super::runs::{LONG, Outer, Setup, ran};
 use super::told::Told;
-use super::watch::Watch;
 use pb_run::RunCause;
-use std::sync::Arc;
 use std::test::Fail;
 
 /// Whether each port still gives all it had.
@@ -36,8 +34,7 @@ fn ports_have_to_be_as_many_as_in_the_plan(rt: HostRuntime) -> Result<(), Fail> 
             limits: LONG,
             left: &[],
         };
-        let watch = Arc::new(rt.alloc(), Watch::new())?;
-        let told = ran(&rt, rt.alloc(), &setup, &Open, &watch)?;
+        let told = ran(&rt, rt.alloc(), &setup, &Open)?;
         assert_eq!(rt;
             (told.cause, told.ended),
             (Some(RunCause::PortCount), None),

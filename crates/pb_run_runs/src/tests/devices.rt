@@ -5,10 +5,7 @@ use super::gates::Open;
 use super::networks::STAR;
 use super::runs::{LONG, Outer, Setup, ran};
 use super::streams::Broken;
-use super::watch::Watch;
 use pb_run::{Ended, Last};
-use std::sync::Arc;
-use std::sync::atomic::Ordering;
 use std::test::Fail;
 
 #[test]
@@ -26,8 +23,7 @@ fn a_failed_write_leaves_the_other_ports(rt: HostRuntime) -> Result<(), Fail> {
             limits: LONG,
             left: &[Frames::First(0), Frames::First(taken), Frames::First(3)],
         };
-        let watch = Arc::new(rt.alloc(), Watch::new())?;
-        let told = ran(&rt, rt.alloc(), &setup, &Open, &watch)?;
+        let told = ran(&rt, rt.alloc(), &setup, &Open)?;
         assert_eq!(rt;
             (told.ended, told.is_left),
             (Some(Ended::Drained), true),
@@ -35,7 +31,7 @@ fn a_failed_write_leaves_the_other_ports(rt: HostRuntime) -> Result<(), Fail> {
         );
         assert_eq!(rt; told.outside[1].gone, 3 - taken as usize, "{call}");
         assert_eq!(rt; told.outside[1].kept, usize::from(call <= 12), "{call}");
-        assert_eq!(rt; watch.writes.load(Ordering::SeqCst), call.min(12), "{call}");
+        assert_eq!(rt; told.writes, call.min(12), "{call}");
     }
     Ok(())
 }
@@ -59,8 +55,7 @@ fn a_failed_read_leaves_the_other_ports(rt: HostRuntime) -> Result<(), Fail> {
                 Frames::First(entered),
             ],
         };
-        let watch = Arc::new(rt.alloc(), Watch::new())?;
-        let told = ran(&rt, rt.alloc(), &setup, &Open, &watch)?;
+        let told = ran(&rt, rt.alloc(), &setup, &Open)?;
         let (ended, last) = if call <= 13 {
             (Ended::Stopped, Last::Fault(6))
         } else {
@@ -69,7 +64,7 @@ fn a_failed_read_leaves_the_other_ports(rt: HostRuntime) -> Result<(), Fail> {
         assert_eq!(rt; (told.ended, told.is_left), (Some(ended), true), "{call}");
         assert_eq!(rt; told.outside[0].last, Some(last), "{call}");
         assert_eq!(rt; told.outside[0].script, Some(entered as usize), "{call}");
-        assert_eq!(rt; watch.reads.load(Ordering::SeqCst), call.min(13), "{call}");
+        assert_eq!(rt; told.reads, call.min(13), "{call}");
     }
     Ok(())
 }

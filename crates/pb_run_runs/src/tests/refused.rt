@@ -6,11 +6,10 @@ use super::guests::{Call, Habit};
 use super::networks::{LINE, STAR};
 use super::runs::{LONG, Outer, Setup, ran};
 use super::told::Told;
-use super::watch::Watch;
 use pb_run::{Ended, RunCause};
 use std::alloc::Global;
 use std::process::Abort;
-use std::sync::{Arc, Wait};
+use std::sync::Wait;
 use std::test::Fail;
 use std::thread::Threads;
 use std::time::Clock;
@@ -29,8 +28,7 @@ fn all_run_out<R: Abort + Threads + Wait + Clock + Sync>(
             limits: LONG,
             left,
         };
-        let watch = Arc::new(alloc, Watch::new())?;
-        let told = ran(rt, alloc, &setup, &Open, &watch)?;
+        let told = ran(rt, alloc, &setup, &Open)?;
         assert_eq!(rt;
             (told.ended, told.ports),
             (Some(Ended::NoMemory), 3),
@@ -146,8 +144,7 @@ fn a_run_names_what_it_was_refused(rt: HostRuntime) -> Result<(), Fail> {
             Frames::First(1),
         ],
     };
-    let watch = Arc::new(rt.alloc(), Watch::new())?;
-    let told = ran(&rt, rt.alloc(), &SETUP, &Open, &watch)?;
+    let told = ran(&rt, rt.alloc(), &SETUP, &Open)?;
     assert!(rt; is_named(&told));
     Ok(())
 }
