@@ -3,7 +3,7 @@ use Rattle.std.specs.List.{list_any}
 use Rattle.pb_rstp.specs.Ports.{port_of}
 use Rattle.pb_rstp.specs.Readings.{roles_of}
 use Rattle.pb_rstp.specs.declared.port.Port.{Port}
-use Rattle.pb_rstp_runs.proofs.tests.two.offer_of.Goals as goal
+use Rattle.pb_rstp_runs.proofs.tests.walk.offer_of.Goals as goal
 
 any-roles : (ps : List Port) (k : ℕ) → list_any (λ r. r.0 == k) (roles_of ps) ≡ is_some (port_of ps k)
 any-roles [] k = refl
