@@ -63,7 +63,54 @@ fn does<W: Wiring>(worker: &mut LaneWorker<W>, did: Did, fewer: u64) -> bool {
         }
 }
 
-/// Takes and puts items, loses one, and comes to the limit.
+/// What is done with a worker, or seen of it.
+#[derive(Clone, Copy)]
+enum Row {
+    /// The item of a number is sent to it.
+    Sent(u64),
+    /// Its turn does this, and so much less is left after it.
+    Turn(Did, u64),
+    /// The item of a number has come from it.
+    Came(u64),
+}
+
+/// It takes and puts items, loses one, and comes to the limit.
+const ROWS: &[Row] = &[
+    Row::Turn(Did::Idle, 0),
+    Row::Sent(0),
+    Row::Sent(1),
+    Row::Sent(2),
+    Row::Sent(3),
+    Row::Turn(Did::Done, 0),
+    Row::Turn(Did::Done, 0),
+    Row::Turn(Did::Done, 1),
+    Row::Turn(Did::Done, 0),
+    Row::Turn(Did::Idle, 0),
+    Row::Came(0),
+    Row::Turn(Did::Done, 0),
+    Row::Turn(Did::Limit, 0),
+    Row::Came(2),
+];
+
+/// Whether a row holds.
+fn holds<W: Wiring>(
+    alloc: Global,
+    near: &mut Producer<Item>,
+    worker: &mut LaneWorker<W>,
+    far: &mut Consumer<Item>,
+    row: Row,
+) -> Result<bool, Memory> {
+    match row {
+        Row::Turn(did, fewer) => Ok(does(worker, did, fewer)),
+        Row::Sent(number) => Ok(near.push(item(alloc, number)?).is_ok()),
+        Row::Came(number) => {
+            let wanted = item(alloc, number)?;
+            Ok(far.pop().is_ok_and(|item| item == wanted))
+        }
+    }
+}
+
+/// Whether all rows hold of a worker between two rings.
 fn carry<W: Wiring>(alloc: Global, from: Ring, to: Ring) -> Result<bool, Memory>
     requires from { (slice_get W.rings 0 ≡ Some (reader_name from.1)) × (received from.1 ≡ []) }
     requires to { (slice_get W.rings 1 ≡ Some (writer_name to.0)) × (sent to.0 ≡ []) }
@@ -71,18 +118,17 @@ fn carry<W: Wiring>(alloc: Global, from: Ring, to: Ring) -> Result<bool, Memory>
     let mut near = from.0;
     let mut far = to.1;
     let mut worker = worker_of::<W>(alloc, from.1, to.0)?;
-    let mut is_good = does(&mut worker, Did::Idle, 0) && worker.place() == Place::Lane(3);
-    for number in 0..4u64 {
-        let _ = near.push(item(alloc, number)?);
+    let mut is_good = worker.place() == Place::Lane(3);
+    for row in ROWS {
+        is_good = is_good && holds(alloc, &mut near, &mut worker, &mut far, *row)?;
     }
-    is_good = is_good && does(&mut worker, Did::Done, 0) && does(&mut worker, Did::Done, 0);
-    is_good = is_good && does(&mut worker, Did::Done, 1);
-    is_good = is_good && does(&mut worker, Did::Done, 0) && does(&mut worker, Did::Idle, 0);
-    is_good = is_good && far.pop().ok() == Some(item(alloc, 0)?);
-    is_good = is_good && does(&mut worker, Did::Done, 0) && does(&mut worker, Did::Limit, 0);
-    is_good = is_good && far.pop().ok() == Some(item(alloc, 2)?);
+    Ok(is_good && is_closed(&mut worker))
+}
+
+/// Whether it keeps why it was closed, and the five steps that it took.
+fn is_closed<W: Wiring>(worker: &mut LaneWorker<W>) -> bool {
     worker.close(STILL, Finish::Limit);
-    Ok(is_good && worker.finish == Some(Finish::Limit) && worker.lane.steps().len() == 5)
+    worker.finish == Some(Finish::Limit) && worker.lane.steps().len() == 5
 }
 
 #[test]
