@@ -1,5 +1,7 @@
 //! Hexadecimal digits.
 
+ghost use Rattle.std.specs.Prelude.{◌≡◌, []};
+
 use super::is;
 use bytes::{Bytes, BytesMut};
 use pb_frame::{HexFault, has_upper_case, hex_octets, hex_octets_in, hex_read, hex_text};
@@ -60,18 +62,25 @@ fn what_is_no_digit_is_refused(rt: HostRuntime) {
 }
 
 /// What is no octets is refused, and takes no room of a buffer; nor do no digits.
-fn keeps_its_room(rt: &impl Abort, buffer: &mut BytesMut) {
+fn keeps_its_room(rt: &impl Abort, buffer: &mut BytesMut)
+    requires { buffer.old.items ≡ [] }
+    ensures { buffer.new.items ≡ [] }
+{
     let room = buffer.capacity();
-    for (digits, wanted) in [("0g0", HexFault::Digit), ("000", HexFault::Odd)] {
-        let told = hex_octets_in(buffer, digits.as_bytes());
-        assert_eq!(rt; told.err(), Some(wanted));
-    }
-    assert!(rt; hex_octets_in(buffer, b"").is_ok_and(|octets| octets.is_empty()));
-    assert_eq!(rt; buffer.capacity(), room);
+    let first = hex_octets_in(buffer, b"0g0").err();
+    let second = hex_octets_in(buffer, b"000").err();
+    let is_none = hex_octets_in(buffer, b"").is_ok_and(|octets| octets.is_empty());
+    let told = (first, second, is_none, buffer.capacity());
+    assert_eq!(rt;
+        told,
+        (Some(HexFault::Digit), Some(HexFault::Odd), true, room)
+    );
 }
 
 /// The octets 17 take room of a buffer.
-fn takes_room(rt: &impl Abort, alloc: Global, buffer: &mut BytesMut) -> Result<(), Fail> {
+fn takes_room(rt: &impl Abort, alloc: Global, buffer: &mut BytesMut) -> Result<(), Fail>
+    requires { buffer.old.items ≡ [] }
+{
     let room = buffer.capacity();
     let octets = hex_octets_in(buffer, b"17")?;
     assert!(rt; buffer.capacity() < room);
@@ -88,7 +97,10 @@ fn octets_share_the_memory_of_a_buffer(rt: HostRuntime) -> Result<(), Fail> {
 }
 
 /// So many digits, all 7, are read into a buffer.
-fn read_sevens(alloc: Global, buffer: &mut BytesMut, digits: usize) -> Result<Bytes, Fail> {
+fn read_sevens(alloc: Global, buffer: &mut BytesMut, digits: usize) -> Result<Bytes, Fail>
+    requires { buffer.old.items ≡ [] }
+    ensures { buffer.new.items ≡ [] }
+{
     let digits = vec![in alloc; b'7'; digits]?;
     Ok(hex_octets_in(buffer, digits.as_slice())?)
 }
@@ -99,21 +111,13 @@ fn are_sevens(rt: &impl Abort, octets: &Bytes, count: usize) {
     assert!(rt; octets.as_slice().iter().all(|octet| *octet == 0x77));
 }
 
-/// The octets of three times so many digits, read into one buffer.
-fn read_three(alloc: Global, digits: usize) -> Result<Vec<Bytes>, Fail> {
-    let mut buffer = BytesMut::new(alloc);
-    let mut all = Vec::new(alloc);
-    for _ in 0..3 {
-        all.push(read_sevens(alloc, &mut buffer, digits)?)?;
-    }
-    Ok(all)
-}
-
 #[test]
 fn octets_that_find_no_room_in_a_buffer_take_more(rt: HostRuntime) -> Result<(), Fail> {
-    let all = read_three(rt.alloc(), 60_000)?;
-    assert_eq!(rt; all.len(), 3);
-    for octets in &all {
+    let mut buffer = BytesMut::new(rt.alloc());
+    let first = read_sevens(rt.alloc(), &mut buffer, 60_000)?;
+    let second = read_sevens(rt.alloc(), &mut buffer, 60_000)?;
+    let third = read_sevens(rt.alloc(), &mut buffer, 60_000)?;
+    for octets in [&first, &second, &third] {
         are_sevens(&rt, octets, 30_000);
     }
     Ok(())

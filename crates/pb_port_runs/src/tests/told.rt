@@ -1,10 +1,10 @@
 //! What a port tells of its stream, and frames for tests.
 ghost use Rattle.std.specs.Prelude.{◌<◌, length, IfOk};
 
-use crate::tests::stub::Stub;
-use crate::*;
+use super::stub::Stub;
 use bytes::Bytes;
 use pb_frame::hex_read;
+use pb_port::{Polled, Port};
 use std::alloc::Global;
 use std::process::Abort;
 use std::test::Fail;

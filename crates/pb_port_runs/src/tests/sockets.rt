@@ -1,8 +1,11 @@
-use crate::tests::stub::Stub;
-use crate::tests::told::{frame_of, source_of, told_by};
-use crate::*;
+//! Ports over sockets.
+
+use super::seen::{Seen, Watched};
+use super::stub::Stub;
+use super::told::{frame_of, source_of, told_by};
 use bytes::Bytes;
 use mio::net::{UnixListener, UnixStream};
+use pb_port::*;
 use std::fs;
 use std::test::Fail;
 
@@ -33,7 +36,9 @@ fn reads_a_frame_of_no_octets(rt: HostRuntime) -> Result<(), Fail> {
 fn writes_what_it_reads(rt: HostRuntime) -> Result<(), Fail> {
     let alloc = rt.alloc();
     let input = Vec::from_slice(alloc, &[0, 2, 7, 8, 0, 0, 0, 1, 9])?;
-    let mut port = SocketPort::new(alloc, 4, Stub::new(alloc, input, 1, true, 0));
+    let seen = Seen::new(alloc);
+    let stream = Watched::new(Stub::new(alloc, input, 1, true, 0), &seen);
+    let mut port = SocketPort::new(alloc, 4, stream);
     let mut said = Vec::new(alloc);
     told_by(&mut port, &mut said)?;
     assert!(rt; said.as_slice() == [7u16, 8, 300, 300, 9, 300, 256].as_slice());
@@ -43,14 +48,15 @@ fn writes_what_it_reads(rt: HostRuntime) -> Result<(), Fail> {
         let _ = port.pump(0);
     }
     assert_eq!(rt; port.unsent().len(), 0);
-    assert!(rt; port.stream.output.as_slice() == [0u8, 2, 7, 8, 0, 0].as_slice());
+    assert!(rt; seen.output(alloc)?.as_slice() == [0u8, 2, 7, 8, 0, 0].as_slice());
     Ok(())
 }
 
 #[test]
 fn writes_the_longest_frame(rt: HostRuntime) -> Result<(), Fail> {
     let alloc = rt.alloc();
-    let stream = Stub::new(alloc, Vec::new(alloc), 100_000, false, 0);
+    let seen = Seen::new(alloc);
+    let stream = Watched::new(Stub::new(alloc, Vec::new(alloc), 100_000, false, 0), &seen);
     let mut port = SocketPort::new(alloc, 4, stream);
     let octets = vec![in alloc; 7u8; 65_535]?;
     let frame = Bytes::copy_from_slice(alloc, octets.as_slice())?;
@@ -58,11 +64,11 @@ fn writes_the_longest_frame(rt: HostRuntime) -> Result<(), Fail> {
     assert_eq!(rt; port.offer(&frame), Offered::Taken);
     assert_eq!(rt; port.offer(&frame), Offered::Taken);
     assert_eq!(rt; port.pump(0), Pumped::Wrote(2));
-    let output = port.stream.output.as_slice();
+    let output = seen.output(alloc)?;
     assert_eq!(rt; output.len(), 131_074);
-    assert!(rt; output.starts_with([0xffu8, 0xff, 7].as_slice()));
+    assert!(rt; output.as_slice().starts_with([0xffu8, 0xff, 7].as_slice()));
     assert_eq!(rt; output.iter().filter(|octet| **octet == 7).count(), 131_070);
-    assert_eq!(rt; port.stream.calls, 9);
+    assert_eq!(rt; seen.calls(), 9);
     Ok(())
 }
 

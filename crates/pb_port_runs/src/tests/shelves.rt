@@ -1,7 +1,9 @@
+//! What ports keep when they are taken out of use.
+
 ghost use Rattle.std.specs.Prelude.{◌≡◌, []};
 
-use crate::tests::told::{frame_of, sink};
-use crate::*;
+use super::told::{frame_of, sink};
+use pb_port::*;
 use std::alloc::Global;
 use std::collections::VecDeque;
 use std::test::Fail;

@@ -1,5 +1,7 @@
-use crate::tests::told::{frame_of, told_by};
-use crate::*;
+//! Ports over memory.
+
+use super::told::{frame_of, told_by};
+use pb_port::*;
 use std::collections::VecDeque;
 use std::test::Fail;
 

@@ -1,6 +1,9 @@
-use crate::tests::stub::Stub;
-use crate::tests::told::{frame_of, sink, source_of, told_by};
-use crate::*;
+//! Ports over captures.
+
+use super::seen::{Seen, Watched};
+use super::stub::Stub;
+use super::told::{frame_of, sink, source_of, told_by};
+use pb_port::*;
 use std::fs::{self, File};
 use std::test::Fail;
 
@@ -66,21 +69,22 @@ fn reads_each_cut(rt: HostRuntime) -> Result<(), Fail> {
 fn reads_and_writes_64_times_a_call(rt: HostRuntime) -> Result<(), Fail> {
     let alloc = rt.alloc();
     let input = Vec::from_slice(alloc, &CAPTURE)?;
-    let reader = Stub::new(alloc, input, 1, false, 0);
-    let writer = Stub::new(alloc, Vec::new(alloc), 1, false, 0);
+    let (read, wrote) = (Seen::new(alloc), Seen::new(alloc));
+    let reader = Watched::new(Stub::new(alloc, input, 1, false, 0), &read);
+    let writer = Watched::new(Stub::new(alloc, Vec::new(alloc), 1, false, 0), &wrote);
     let mut port = CapturePort::new(alloc, 4, reader, writer);
     assert!(rt; matches!(port.poll(), Polled::Nothing));
-    assert_eq!(rt; port.reader.calls, 64);
+    assert_eq!(rt; read.calls(), 64);
     assert!(rt; matches!(port.poll(), Polled::Frame(_)));
-    assert_eq!(rt; port.reader.calls, 84);
+    assert_eq!(rt; read.calls(), 84);
     let frame = frame_of(&rt, alloc, "0102030405060708090a0b0c0d0e")?;
     assert_eq!(rt; port.offer(&frame), Offered::Taken);
     assert_eq!(rt; port.offer(&frame), Offered::Taken);
     assert_eq!(rt; port.pump(7), Pumped::Wrote(1));
-    assert_eq!(rt; port.writer.calls, 64);
+    assert_eq!(rt; wrote.calls(), 64);
     assert_eq!(rt; port.unsent().len(), 1);
     assert_eq!(rt; port.pump(8), Pumped::Wrote(1));
-    assert_eq!(rt; port.writer.calls, 84);
+    assert_eq!(rt; wrote.calls(), 84);
     assert_eq!(rt; port.pump(9), Pumped::Nothing);
     Ok(())
 }
@@ -88,17 +92,19 @@ fn reads_and_writes_64_times_a_call(rt: HostRuntime) -> Result<(), Fail> {
 #[test]
 fn writes_many_frames_a_call(rt: HostRuntime) -> Result<(), Fail> {
     let alloc = rt.alloc();
-    let writer = Stub::new(alloc, Vec::new(alloc), 100_000, false, 0);
+    let wrote = Seen::new(alloc);
+    let writer = Watched::new(Stub::new(alloc, Vec::new(alloc), 100_000, false, 0), &wrote);
     let mut port = CapturePort::new(alloc, 1000, sink(alloc), writer);
     let frame = frame_of(&rt, alloc, "0708")?;
     for offers in 0..1000 {
         assert_eq!(rt; port.offer(&frame), Offered::Taken);
     }
     assert_eq!(rt; port.pump(1), Pumped::Wrote(1000));
-    assert_eq!(rt; port.writer.calls, 2);
-    assert_eq!(rt; port.writer.output.len(), 18_024);
+    assert_eq!(rt; wrote.calls(), 2);
+    let output = wrote.output(alloc)?;
+    assert_eq!(rt; output.len(), 18_024);
     let end = frame_of(&rt, alloc, "010000000000000002000000020000000708")?;
-    assert!(rt; port.writer.output.as_slice().ends_with(end.as_slice()));
+    assert!(rt; output.as_slice().ends_with(end.as_slice()));
     Ok(())
 }
 
@@ -195,7 +201,8 @@ fn tells_what_is_wrong(rt: HostRuntime) -> Result<(), Fail> {
 #[test]
 fn writes_a_capture(rt: HostRuntime) -> Result<(), Fail> {
     let alloc = rt.alloc();
-    let writer = Stub::new(alloc, Vec::new(alloc), 3, true, 0);
+    let wrote = Seen::new(alloc);
+    let writer = Watched::new(Stub::new(alloc, Vec::new(alloc), 3, true, 0), &wrote);
     let mut port = CapturePort::new(alloc, 4, sink(alloc), writer);
     let frame = frame_of(&rt, alloc, "0102030405060708090a0b0c0d0e")?;
     assert_eq!(rt; port.offer(&frame), Offered::Taken);
@@ -213,7 +220,7 @@ fn writes_a_capture(rt: HostRuntime) -> Result<(), Fail> {
         "d4c3b2a1020004000000000000000000ffff000001000000\
 07000000000000000e0000000e0000000102030405060708090a0b0c0d0e",
     )?;
-    assert!(rt; port.writer.output.as_slice() == wanted.as_slice());
+    assert!(rt; wrote.output(alloc)?.as_slice() == wanted.as_slice());
     Ok(())
 }
 
