@@ -155,17 +155,21 @@ fn is_for(rt: &impl Abort, end: &End, services: &[u8]) {
     assert_eq!(rt; listed, Some(services));
 }
 
+/// A link loses the listed items each way.
+fn loses(rt: &impl Abort, link: &LinkPlan) {
+    assert_eq!(rt; link.lost_ab.as_slice(), [0u64, 5].as_slice());
+    let lost = [1u64, 2, 9_223_372_036_854_775_807];
+    assert_eq!(rt; link.lost_ba.as_slice(), lost.as_slice());
+}
+
 #[test]
 fn links_have_their_lists(rt: HostRuntime) -> Result<(), PlanFault> {
     let (plan, _) = read_plan(rt.alloc(), LINK.as_bytes())?;
     let links = plan.links.as_slice();
     assert_eq!(rt; links.len(), 1);
-    let link = &links[0];
-    is_for(&rt, &link.a, &[1, 3]);
-    is_for(&rt, &link.b, &[]);
-    assert_eq!(rt; link.lost_ab.as_slice(), [0u64, 5].as_slice());
-    let lost = [1u64, 2, 9_223_372_036_854_775_807];
-    assert_eq!(rt; link.lost_ba.as_slice(), lost.as_slice());
+    is_for(&rt, &links[0].a, &[1, 3]);
+    is_for(&rt, &links[0].b, &[]);
+    loses(&rt, &links[0]);
     Ok(())
 }
 
@@ -255,6 +259,12 @@ fn put_ports(alloc: Global, text: &mut String) -> Result<(), PlanFault> {
     Ok(())
 }
 
+/// How many bridges, links, services and customer ports there are.
+fn sizes(plan: &Plan) -> (usize, usize, usize, usize) {
+    let (bridges, links) = (plan.bridges.len(), plan.links.len());
+    (bridges, links, plan.services.len(), plan.customers.len())
+}
+
 #[test]
 fn the_largest_plan_is_read(rt: HostRuntime) -> Result<(), PlanFault> {
     let alloc = rt.alloc();
@@ -262,10 +272,7 @@ fn the_largest_plan_is_read(rt: HostRuntime) -> Result<(), PlanFault> {
     put_bridges(alloc, &mut text)?;
     put_ports(alloc, &mut text)?;
     let (plan, ports) = read_plan(alloc, text.as_bytes())?;
-    assert_eq!(rt; plan.bridges.len(), 32);
-    assert_eq!(rt; plan.links.len(), 64);
-    assert_eq!(rt; plan.services.len(), 64);
-    assert_eq!(rt; plan.customers.len(), 128);
+    assert_eq!(rt; sizes(&plan), (32, 64, 64, 128));
     assert_eq!(rt; ports.len(), 128);
     Ok(())
 }

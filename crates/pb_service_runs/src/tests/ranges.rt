@@ -88,9 +88,14 @@ const NUMBERS: &[Number] = &[
     (BRIDGE, "", "priority", "bridge[0].priority", 4096, 57_344),
 ];
 
-/// The fault of a file in which the key of a number has the value.
-fn with(alloc: Global, number: &Number, value: i64) -> Result<String, PlanFault> {
-    let (front, back, key, _, _, _) = *number;
+/// The fault of a file in which the key has the value.
+fn with(
+    alloc: Global,
+    front: &str,
+    back: &str,
+    key: &str,
+    value: i64,
+) -> Result<String, PlanFault> {
     let bridge = if front == BRIDGE { "" } else { BRIDGE };
     let service = if key == "vid" {
         ""
@@ -101,14 +106,16 @@ fn with(alloc: Global, number: &Number, value: i64) -> Result<String, PlanFault>
     told(alloc, text.as_bytes())
 }
 
+/// The fault of a file in which a number has the value.
+fn told_with(alloc: Global, number: &Number, value: i64) -> Result<String, PlanFault> {
+    let (front, back, key, _, _, _) = *number;
+    with(alloc, front, back, key, value)
+}
+
 /// A value is taken.
 fn is_within(rt: &impl Abort, alloc: Global, number: &Number, value: i64) -> Result<(), PlanFault> {
-    let path = number.3;
-    assert_eq!(rt;
-        with(alloc, number, value)?.as_str(),
-        "0 ok",
-        "{path} {value}"
-    );
+    let told = told_with(alloc, number, value)?;
+    assert_eq!(rt; told.as_str(), "0 ok", "{} {value}", number.3);
     Ok(())
 }
 
@@ -119,9 +126,8 @@ fn is_outside(
     number: &Number,
     value: i64,
 ) -> Result<(), PlanFault> {
-    let path = number.3;
-    let fault = with(alloc, number, value)?;
-    assert_eq!(rt; fault.as_str().strip_prefix("5 range "), Some(path));
+    let told = told_with(alloc, number, value)?;
+    assert_eq!(rt; told.as_str().strip_prefix("5 range "), Some(number.3));
     Ok(())
 }
 
