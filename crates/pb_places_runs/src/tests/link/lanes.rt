@@ -5,6 +5,7 @@ use pb_frame::Memory;
 use pb_lan::{Item, Seq, Step};
 use pb_link::Lane;
 use std::alloc::{AllocError, Global};
+use std::process::Abort;
 use std::test::Fail;
 
 /// A lane that loses its second item and its fourth.
@@ -44,32 +45,94 @@ fn was_put(alloc: Global, number: u64) -> Result<Step, AllocError> {
     Ok(Step::Put { item })
 }
 
-#[test]
-fn a_lane_loses_what_the_plan_says(rt: HostRuntime) -> Result<(), Fail> {
-    let alloc = rt.alloc();
-    let mut lane = lane(alloc)?;
-    for (number, lost) in [(0u64, false), (1, true), (2, false), (3, true), (4, false)] {
-        assert!(rt; take(alloc, &mut lane, number)?);
-        assert_eq!(rt; lane.is_hand_empty(), lost);
-        let far = put(&mut lane)?;
-        assert_eq!(rt; far.is_none(), lost);
-        assert!(rt; lost || far == Some(item(alloc, number)?));
+/// What is done with a lane, or seen of it. Items are those of customer port 7, by number.
+#[derive(Clone, Copy)]
+enum Row {
+    /// Whether an item is taken.
+    Takes(u64, bool),
+    /// The item that is in hand, if one is.
+    Holds(Option<u64>),
+    /// The item that is put, if one is.
+    Puts(Option<u64>),
+    /// So many steps were taken.
+    Steps(usize),
+}
+
+/// Whether this item, or none, is in hand.
+fn has_in_hand(alloc: Global, lane: &Lane, number: Option<u64>) -> Result<bool, Memory> {
+    match number {
+        None => Ok(lane.hand().is_none() && lane.is_hand_empty()),
+        Some(number) => {
+            let wanted = item(alloc, number)?;
+            Ok(lane.hand() == Some(&wanted) && !lane.is_hand_empty())
+        }
     }
-    assert_eq!(rt; lane.steps().len(), 8);
+}
+
+/// Whether this item, or none, is put.
+fn puts(alloc: Global, lane: &mut Lane, number: Option<u64>) -> Result<bool, Memory> {
+    match number {
+        None => Ok(put(lane)?.is_none()),
+        Some(number) => {
+            let wanted = item(alloc, number)?;
+            Ok(put(lane)? == Some(wanted))
+        }
+    }
+}
+
+/// Whether a row holds.
+fn holds(alloc: Global, lane: &mut Lane, row: Row) -> Result<bool, Memory> {
+    match row {
+        Row::Takes(number, wanted) => Ok(take(alloc, lane, number)? == wanted),
+        Row::Holds(number) => has_in_hand(alloc, lane, number),
+        Row::Puts(number) => puts(alloc, lane, number),
+        Row::Steps(steps) => Ok(lane.steps().len() == steps),
+    }
+}
+
+/// Each row holds, one after the other. A row that does not is named by its number from 0.
+fn walk(rt: &impl Abort, alloc: Global, rows: &[Row]) -> Result<(), Fail> {
+    let mut lane = lane(alloc)?;
+    for (place, row) in rows.iter().enumerate() {
+        assert!(rt; holds(alloc, &mut lane, *row)?, "row {place}");
+    }
     Ok(())
 }
 
 #[test]
+fn a_lane_loses_what_the_plan_says(rt: HostRuntime) -> Result<(), Fail> {
+    const ROWS: &[Row] = &[
+        Row::Takes(0, true),
+        Row::Holds(Some(0)),
+        Row::Puts(Some(0)),
+        Row::Takes(1, true),
+        Row::Holds(None),
+        Row::Puts(None),
+        Row::Takes(2, true),
+        Row::Holds(Some(2)),
+        Row::Puts(Some(2)),
+        Row::Takes(3, true),
+        Row::Holds(None),
+        Row::Puts(None),
+        Row::Takes(4, true),
+        Row::Holds(Some(4)),
+        Row::Puts(Some(4)),
+        Row::Steps(8),
+    ];
+    walk(&rt, rt.alloc(), ROWS)
+}
+
+#[test]
 fn a_lane_holds_one_item(rt: HostRuntime) -> Result<(), Fail> {
-    let alloc = rt.alloc();
-    let mut lane = lane(alloc)?;
-    assert!(rt; lane.hand().is_none());
-    assert!(rt; put(&mut lane)?.is_none());
-    assert!(rt; take(alloc, &mut lane, 0)?);
-    assert!(rt; !take(alloc, &mut lane, 1)?);
-    assert!(rt; lane.hand() == Some(&item(alloc, 0)?));
-    assert_eq!(rt; lane.steps().len(), 1);
-    Ok(())
+    const ROWS: &[Row] = &[
+        Row::Holds(None),
+        Row::Puts(None),
+        Row::Takes(0, true),
+        Row::Takes(1, false),
+        Row::Holds(Some(0)),
+        Row::Steps(1),
+    ];
+    walk(&rt, rt.alloc(), ROWS)
 }
 
 /// The steps of a lane that took three items and put those that it did not lose.
