@@ -48,12 +48,10 @@ fn two(rt: &impl Abort, alloc: Global) -> Services {
 fn services_differ_in_name_and_vid(rt: HostRuntime) {
     assert!(rt; Services::new(rt.alloc()).is_empty());
     let mut services = two(&rt, rt.alloc());
-    for row in [
-        ("red", 200, Err(AddFault::TakenName)),
-        ("green", 200, Err(AddFault::TakenVid)),
-    ] {
-        adds(&rt, rt.alloc(), &mut services, row);
-    }
+    let row = ("red", 200, Err(AddFault::TakenName));
+    adds(&rt, rt.alloc(), &mut services, row);
+    let row = ("green", 200, Err(AddFault::TakenVid));
+    adds(&rt, rt.alloc(), &mut services, row);
     assert_eq!(rt; services.len(), 2);
 }
 
@@ -120,39 +118,38 @@ fn attach(rt: &impl Abort, alloc: Global, services: &mut Services) {
     adds(rt, alloc, services, ("green", 300, Ok(3)));
 }
 
-/// The members of a service are these ports.
-fn has_members(
-    rt: &impl Abort,
-    alloc: Global,
-    services: &Services,
-    number: u16,
-    want: &[u8],
-) -> Result<(), Memory> {
-    let ports = services.ports_of(alloc, number)?;
-    assert!(rt; ports.as_slice() == want, "{number}");
+/// The members of services.
+const MEMBERS: &[(u16, &[u8])] = &[(100, &[1, 2, 9]), (200, &[3, 8, 9]), (300, &[9])];
+
+/// The members of the services are these ports.
+fn have_members(rt: &impl Abort, alloc: Global, services: &Services) -> Result<(), Memory> {
+    for (number, want) in MEMBERS {
+        let ports = services.ports_of(alloc, *number)?;
+        assert!(rt; ports.as_slice() == *want, "{number}");
+    }
     Ok(())
 }
 
+/// Whether ports are members of services.
+const MEMBERSHIPS: &[(u8, u16, bool)] = &[(9, 300, true), (8, 300, false), (5, 100, false)];
+
 /// Which ports are members of what.
-fn is_attached(rt: &impl Abort, alloc: Global, services: &Services) -> Result<(), Memory> {
-    has_members(rt, alloc, services, 100, &[1, 2, 9])?;
-    has_members(rt, alloc, services, 200, &[3, 8, 9])?;
-    has_members(rt, alloc, services, 300, &[9])?;
-    for (port, number, want) in [(9, 300, true), (8, 300, false), (5, 100, false)] {
-        assert!(rt; services.is_member(port, number) == want, "port {port}");
+fn are_attached(rt: &impl Abort, services: &Services) {
+    for (port, number, want) in MEMBERSHIPS {
+        assert!(rt; services.is_member(*port, *number) == *want, "port {port}");
     }
     assert!(rt; services.is_taken(9) && !services.is_taken(5));
-    assert!(rt; services.pcp_of(2) == Some(5));
-    assert!(rt; services.pcp_of(9).is_none());
+    assert!(rt; services.pcp_of(2) == Some(5) && services.pcp_of(9).is_none());
     assert!(rt; services.vid_at(3) == Some(vid(200)));
-    Ok(())
 }
 
 #[test]
 fn ports_are_members_of_their_services(rt: HostRuntime) -> Result<(), Memory> {
     let mut services = two(&rt, rt.alloc());
     attach(&rt, rt.alloc(), &mut services);
-    is_attached(&rt, rt.alloc(), &services)
+    have_members(&rt, rt.alloc(), &services)?;
+    are_attached(&rt, &services);
+    Ok(())
 }
 
 /// A frame of this length to 02-00-00-00-00-05, with these octets behind its addresses.
@@ -190,61 +187,81 @@ fn enters(
     Ok(())
 }
 
-#[test]
-fn frames_enter_or_are_refused(rt: HostRuntime) -> Result<(), Memory> {
-    for row in [
-        (60, [8u8, 0].as_slice(), Ok((3, false))),
-        (13, [8].as_slice(), Err(Refuse::Short)),
-        (14, [8, 0].as_slice(), Ok((3, false))),
-        (60, [0x81, 0, 0x20, 5].as_slice(), Ok((3, false))),
-        (60, [0x88, 0xa8, 0xa0, 0, 8, 0].as_slice(), Ok((5, true))),
-        (60, [0x88, 0xa8, 0xb0, 0, 8, 0].as_slice(), Ok((5, true))),
-    ] {
-        enters(&rt, rt.alloc(), row)?;
+/// How long a frame is, what stands behind its addresses, and what becomes of it.
+type Entry = (usize, &'static [u8], Result<(u8, bool), Refuse>);
+
+/// Frames of these rows enter so.
+fn all_enter(rt: &impl Abort, alloc: Global, rows: &[Entry]) -> Result<(), Memory> {
+    for row in rows {
+        enters(rt, alloc, *row)?;
     }
     Ok(())
+}
+
+#[test]
+fn frames_enter_or_are_refused(rt: HostRuntime) -> Result<(), Memory> {
+    const ROWS: &[Entry] = &[
+        (60, &[8, 0], Ok((3, false))),
+        (13, &[8], Err(Refuse::Short)),
+        (14, &[8, 0], Ok((3, false))),
+        (60, &[0x81, 0, 0x20, 5], Ok((3, false))),
+        (60, &[0x88, 0xa8, 0xa0, 0, 8, 0], Ok((5, true))),
+        (60, &[0x88, 0xa8, 0xb0, 0, 8, 0], Ok((5, true))),
+    ];
+    all_enter(&rt, rt.alloc(), ROWS)
 }
 
 #[test]
 fn tagged_frames_are_refused(rt: HostRuntime) -> Result<(), Memory> {
-    for behind in [
-        [0x88u8, 0xa8, 0, 0x64, 8, 0].as_slice(),
-        [0x88, 0xa8, 0, 5, 8, 0].as_slice(),
-        [0x88, 0xa8, 0, 0, 0x88, 0xa8, 0, 0].as_slice(),
-    ] {
-        enters(&rt, rt.alloc(), (60, behind, Err(Refuse::STagged)))?;
-    }
-    Ok(())
+    const REFUSED: Result<(u8, bool), Refuse> = Err(Refuse::STagged);
+    const ROWS: &[Entry] = &[
+        (60, &[0x88, 0xa8, 0, 0x64, 8, 0], REFUSED),
+        (60, &[0x88, 0xa8, 0, 5, 8, 0], REFUSED),
+        (60, &[0x88, 0xa8, 0, 0, 0x88, 0xa8, 0, 0], REFUSED),
+    ];
+    all_enter(&rt, rt.alloc(), ROWS)
 }
 
 #[test]
 fn long_frames_are_refused(rt: HostRuntime) -> Result<(), Memory> {
-    for row in [
-        (1992, [8u8, 0].as_slice(), Ok((3, false))),
-        (1993, [8, 0].as_slice(), Err(Refuse::Long)),
-        (1996, [0x88, 0xa8, 0xe0, 0].as_slice(), Ok((7, true))),
-        (1997, [0x88, 0xa8, 0xe0, 0].as_slice(), Err(Refuse::Long)),
-    ] {
-        enters(&rt, rt.alloc(), row)?;
-    }
-    Ok(())
+    const ROWS: &[Entry] = &[
+        (1992, &[8, 0], Ok((3, false))),
+        (1993, &[8, 0], Err(Refuse::Long)),
+        (1996, &[0x88, 0xa8, 0xe0, 0], Ok((7, true))),
+        (1997, &[0x88, 0xa8, 0xe0, 0], Err(Refuse::Long)),
+    ];
+    all_enter(&rt, rt.alloc(), ROWS)
+}
+
+/// What becomes of frames to the block of reserved addresses, by the last octet and what stands behind the addresses.
+const RESERVED: &[(u8, &[u8], Result<(u8, bool), Refuse>)] = &[
+    (1, &[0x88, 0xa8, 0, 5], Err(Refuse::Reserved(1))),
+    (8, &[0x88, 0xa8, 0, 5], Err(Refuse::Reserved(8))),
+    (14, &[0x88, 0xa8, 0, 5], Err(Refuse::Reserved(14))),
+    (0, &[8, 0], Ok((3, false))),
+    (0, &[0x81, 0, 0, 5, 8, 0], Ok((3, false))),
+    (11, &[8, 0], Ok((3, false))),
+    (11, &[0x81, 0, 0, 5, 8, 0], Ok((3, false))),
+    (15, &[8, 0], Ok((3, false))),
+    (15, &[0x81, 0, 0, 5, 8, 0], Ok((3, false))),
+];
+
+/// What becomes of a frame to the block.
+fn entered_block(
+    alloc: Global,
+    last: u8,
+    behind: &[u8],
+) -> Result<Result<(u8, bool), Refuse>, AllocError> {
+    let addresses = [1, 0x80, 0xc2, 0, 0, last, 2, 0, 0, 0, 0, 6];
+    let mut octets = Vec::from_slice(alloc, &addresses)?;
+    octets.extend_from_slice(behind)?;
+    Ok(entered(alloc, &octets))
 }
 
 #[test]
-fn reserved_destinations_are_refused(rt: HostRuntime) {
-    let alloc = rt.alloc();
-    for last in [1u8, 8, 14] {
-        let octets = [
-            1, 0x80, 0xc2, 0, 0, last, 2, 0, 0, 0, 0, 6, 0x88, 0xa8, 0, 5,
-        ];
-        assert_eq!(rt; entered(alloc, &octets), Err(Refuse::Reserved(last)));
+fn reserved_destinations_are_refused(rt: HostRuntime) -> Result<(), Memory> {
+    for (last, behind, wanted) in RESERVED {
+        assert_eq!(rt; entered_block(rt.alloc(), *last, behind)?, *wanted);
     }
-    for last in [0u8, 11, 15] {
-        let octets = [1, 0x80, 0xc2, 0, 0, last, 2, 0, 0, 0, 0, 6, 8, 0];
-        assert_eq!(rt; entered(alloc, &octets), Ok((3, false)));
-        let tagged = [
-            1, 0x80, 0xc2, 0, 0, last, 2, 0, 0, 0, 0, 6, 0x81, 0, 0, 5, 8, 0,
-        ];
-        assert_eq!(rt; entered(alloc, &tagged), Ok((3, false)));
-    }
+    Ok(())
 }
