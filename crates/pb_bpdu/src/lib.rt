@@ -17,6 +17,3 @@ pub use fault::BpduFault;
 pub use laws::what_is_written_is_read;
 pub use reading::read;
 pub use writing::write;
-
-#[cfg(test)]
-mod tests;

@@ -14,6 +14,3 @@ pub use entry::Entry;
 pub use law::tables_tell_what_stands;
 pub use pb_frame::Learnt;
 pub use table::Fdb;
-
-#[cfg(test)]
-mod tests;

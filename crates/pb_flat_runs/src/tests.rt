@@ -1,3 +1,7 @@
+//! Runs of flat networks.
+
+ghost use Rattle.std.specs.Prelude.{◌≡◌, [], true, OnOk};
+
 use pb_fakes::{Full, Slow, Unflushed};
 use pb_flat::{Switch, run_flat, run_flat_on};
 use pb_frame::hex_octets;
@@ -42,36 +46,61 @@ fn ran_long(
     Ok(())
 }
 
+/// A switch that has read nothing yet reads this, and what is written comes of it.
+fn reads(rt: &impl Abort, alloc: Global, switch: &mut Switch, row: (&str, &str)) -> Result<(), Fail>
+    requires ready { switch.old.is_ready ≡ true }
+    requires fresh { switch.old.steps ≡ [] }
+{
+    let (input, want) = row;
+    let mut output = Vec::new(alloc);
+    let mut reader = input.as_bytes();
+    run_flat_on(alloc, switch, &mut reader, &mut output)?;
+    assert_eq!(rt; output.as_slice(), want.as_bytes());
+    Ok(())
+}
+
 #[test]
 fn a_switch_stays_after_its_run(rt: HostRuntime) -> Result<(), Fail> {
     let alloc = rt.alloc();
     let mut switch = Switch::new(alloc, 2)?;
-    let mut output = Vec::new(alloc);
-    let mut reader = "in 1 4g\n".as_bytes();
-    run_flat_on(alloc, &mut switch, &mut reader, &mut output)?;
-    assert_eq!(rt; output.as_slice(), "line 1: bad\n".as_bytes());
+    reads(&rt, alloc, &mut switch, ("in 1 4g\n", "line 1: bad\n"))?;
     assert_eq!(rt; switch.ports(), 2);
+    Ok(())
+}
+
+/// A frame comes in at a port, and the answer stands behind what stood there.
+fn answers(
+    rt: &impl Abort,
+    alloc: Global,
+    switch: &mut Switch,
+    row: (u8, &str, &str, &str),
+) -> Result<(), Fail>
+    requires { switch.old.is_ready ≡ true }
+    ensures { OnOk result (switch.new.is_ready ≡ true) }
+{
+    let (port, digits, before, want) = row;
+    assert!(rt; 1 <= port && port <= switch.ports());
+    let frame = hex_octets(alloc, digits.as_bytes())?;
+    let mut out = Vec::from_slice(alloc, before.as_bytes())?;
+    switch.handle(alloc, port, frame, digits.as_bytes(), &mut out)?;
+    assert_eq!(rt; out.as_slice(), want.as_bytes());
     Ok(())
 }
 
 #[test]
 fn a_switch_answers_behind_what_stands_there(rt: HostRuntime) -> Result<(), Fail> {
+    const BROADCAST: &str = "ffffffffffff02000000010108004142";
+    const FLOODED: &str =
+        "before\nout 1 ffffffffffff02000000010108004142\nout 3 ffffffffffff02000000010108004142\n";
     let alloc = rt.alloc();
     let mut switch = Switch::new(alloc, 3)?;
-    let mut out = Vec::from_slice(alloc, b"before\n")?;
-    let digits = "ffffffffffff02000000010108004142".as_bytes();
-    let broadcast = hex_octets(alloc, digits)?;
-    switch.handle(alloc, 2, broadcast, digits, &mut out)?;
-    assert_eq!(rt;
-        out.as_slice(),
-        "before\nout 1 ffffffffffff02000000010108004142\nout 3 ffffffffffff02000000010108004142\n".as_bytes()
-    );
-    let digits = "4142".as_bytes();
-    let short = hex_octets(alloc, digits)?;
-    out.clear();
-    switch.handle(alloc, 3, short, digits, &mut out)?;
-    assert_eq!(rt; out.as_slice(), "filtered 3 malformed\n".as_bytes());
-    Ok(())
+    answers(&rt, alloc, &mut switch, (2, BROADCAST, "before\n", FLOODED))?;
+    answers(
+        &rt,
+        alloc,
+        &mut switch,
+        (3, "4142", "", "filtered 3 malformed\n"),
+    )
 }
 
 #[test]

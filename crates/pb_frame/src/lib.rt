@@ -30,6 +30,3 @@ pub use service_tag::{
 };
 pub use tci::Tci;
 pub use text::Text;
-
-#[cfg(test)]
-mod tests;

@@ -14,6 +14,3 @@ mod steps;
 pub use customer::CustomerPlace;
 pub use lane::Lane;
 pub use pb_frame::Memory;
-
-#[cfg(test)]
-mod tests;

@@ -9,6 +9,7 @@ mod idle;
 mod lengths;
 mod limits;
 mod links;
+mod made;
 mod networks;
 mod plans;
 mod ports_down;

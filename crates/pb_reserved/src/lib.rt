@@ -7,6 +7,3 @@ mod ruling;
 
 pub use kinds::Fate;
 pub use ruling::fate;
-
-#[cfg(test)]
-mod tests;

@@ -10,6 +10,3 @@ mod sides;
 
 pub use ends::{Inlet, Outlet, Wiring, meet};
 pub use sides::{Inlets, Outlets};
-
-#[cfg(test)]
-mod tests;

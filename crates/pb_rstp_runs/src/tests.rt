@@ -5,6 +5,7 @@ mod refused;
 mod rings;
 mod settling;
 mod two;
+mod walk;
 
 ghost use Rattle.std.specs.Prelude.{◌≡◌};
 ghost use Rattle.pb_rstp.specs.Readings.{AreAbove};

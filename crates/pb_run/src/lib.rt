@@ -33,6 +33,3 @@ pub use pb_frame::Memory;
 pub use pb_lan::Limits;
 pub use pb_work::{Gate, Go};
 pub use running::{Ran, run};
-
-#[cfg(test)]
-mod tests;

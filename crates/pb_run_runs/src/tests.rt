@@ -7,6 +7,7 @@ mod draft;
 mod frames;
 mod gates;
 mod guests;
+mod lanes;
 mod meetings;
 mod networks;
 mod plans;

@@ -15,6 +15,3 @@ pub use fault::{AddFault, JoinFault};
 pub use port::{Attachment, Join, Role};
 pub use services::Services;
 pub use vid::Vid;
-
-#[cfg(test)]
-mod tests;

@@ -13,6 +13,3 @@ mod words;
 pub use gate::{Gate, Go};
 pub use threads::{Places, WorkFault, run_all};
 pub use turns::{Did, Finish, Moment, Turn, Work};
-
-#[cfg(test)]
-mod tests;

@@ -1,52 +1,60 @@
 //! The harness: a network is walked through a table.
 
-use super::asked::{crosses, does, empties, enters, leaves, rounds};
+use super::asked::{crosses, empties, leaves, rounds};
 use super::draft::Draft;
-use super::expected::{event_of, events_of, long, outcome_of, step_of};
+use super::expected::step_of;
+use super::made::{
+    acts, answers, enters_long, enters_octets, moved_octets, ruled_so, runs, took_deed,
+};
 use super::plans::plan_of;
 use super::rows::{Deed, Row};
-use super::seen::{
-    has_learnt, has_moved, has_roles, has_taken, left, moved, ruled, taken_at, took,
-};
+use super::seen::{has_learnt, has_roles, has_taken, left, moved, taken_at};
 use pb_forest::forest;
-use pb_frame::hex_read;
 use pb_lan::{PortState, Record, Seq, Shape, Step, last_shape, plan_is_sound};
 use pb_net::{Did, Net};
 use std::alloc::Global;
 use std::process::Abort;
 use std::test::Fail;
 
-/// Whether a row is as it is told.
+/// Whether a row is as it is told. What a row owns belongs to the functions of `made`.
 fn holds(alloc: Global, net: &mut Net, draft: &Draft, row: Row) -> Result<bool, Fail> {
-    Ok(match row {
-        Row::Does(act) => does(net, event_of(alloc, act)?),
-        Row::Idle(act) => net.step(event_of(alloc, act)?) == Ok(Did::Idle),
-        Row::Refused(act, fault) => net.step(event_of(alloc, act)?) == Err(fault),
-        Row::Runs(acts) => net.run(&events_of(alloc, acts)?) == Ok(()),
-        Row::Stops { acts, done, fault } => net.run(&events_of(alloc, acts)?) == Err((done, fault)),
-        Row::Enters(customer, digits) => enters(net, draft, customer, hex_read(alloc, digits)?),
+    match row {
+        Row::Does(act) => acts(alloc, net, act),
+        Row::Idle(act) => answers(alloc, net, act, Ok(Did::Idle)),
+        Row::Refused(act, fault) => answers(alloc, net, act, Err(fault)),
+        Row::Runs(acts) => runs(alloc, net, acts, Ok(())),
+        Row::Stops { acts, done, fault } => runs(alloc, net, acts, Err((done, fault))),
+        Row::Enters(customer, digits) => enters_octets(alloc, net, draft, customer, digits),
         Row::EntersLong {
             customer,
             head,
             octets,
-        } => enters(net, draft, customer, long(alloc, head, octets)?),
+        } => enters_long(alloc, net, draft, customer, (head, octets)),
+        Row::Took(place, number, deed) => took_deed(alloc, net, place, number, deed),
+        Row::Moved(place, digits) => moved_octets(alloc, net, place, digits),
+        Row::Ruled { bridge, fate } => ruled_so(net, bridge, fate),
+        Row::Settled(wanted) => Ok(net.settled(alloc)? == wanted),
+        _ => Ok(is_so(net, draft, row)),
+    }
+}
+
+/// The same, of a row that needs no memory.
+fn is_so(net: &mut Net, draft: &Draft, row: Row) -> bool {
+    match row {
         Row::Crosses(lane) => crosses(net, draft, lane),
         Row::Leaves(customer) => leaves(net, draft, customer),
         Row::Rounds(count) => rounds(net, draft, count),
         Row::Empties => empties(net, draft),
         Row::Knows(place, known) => net.has_place(place) == known,
         Row::Steps { place, count } => taken_at(net, place) == Some(count),
-        Row::Took(place, number, deed) => took(net, place, number, &step_of(alloc, deed)?),
         Row::Taken { lane, number, lost } => has_taken(net, lane, number, lost),
-        Row::Moved(place, digits) => has_moved(net, place, &hex_read(alloc, digits)?),
         Row::Octets(place, wanted) => moved(net, place).map(|item| item.wire.len()) == Some(wanted),
         Row::Hops(place, wanted) => moved(net, place).map(|item| item.hops) == Some(wanted),
-        Row::Ruled { bridge, fate } => ruled(net, bridge, &outcome_of(fate)?),
         Row::Learnt(bridge, learnt) => has_learnt(net, bridge, learnt),
         Row::Left(counts) => left(net, draft, counts),
-        Row::Settled(wanted) => net.settled(alloc)? == wanted,
         Row::Roles(bridge, roles) => has_roles(net, bridge, roles),
-    })
+        _ => false,
+    }
 }
 
 /// Each row is as it is told, one after the other.
@@ -120,14 +128,21 @@ pub(super) fn records(
     assert_eq!(rt; record.customers.len(), wanted.customers.len());
     for (place, deeds) in wanted.customers.iter().enumerate() {
         if let Some(deeds) = deeds {
-            let steps = steps_of(alloc, deeds)?;
-            assert!(rt;
-                record.customers.as_slice().get(place) == Some(&steps),
-                "{place}"
-            );
+            assert!(rt; has_taken_all(alloc, &record, place, deeds)?, "{place}");
         }
     }
     Ok(())
+}
+
+/// Whether the steps of a customer port are those of the deeds.
+fn has_taken_all(
+    alloc: Global,
+    record: &Record,
+    place: usize,
+    deeds: &[Deed],
+) -> Result<bool, Fail> {
+    let steps = steps_of(alloc, deeds)?;
+    Ok(record.customers.as_slice().get(place) == Some(&steps))
 }
 
 /// The state of a bridge's port in a shape.
@@ -147,22 +162,45 @@ pub(super) fn ends_as_forest(
     rows: &[Row],
     states: &[(u8, u8, PortState)],
 ) -> Result<(), Fail> {
+    let shape = shape_after(rt, alloc, draft, rows)?;
+    are_forests(rt, alloc, draft, &shape)?;
+    have_states(rt, &shape, states);
+    Ok(())
+}
+
+/// The states of all ports of a network of the draft that went through the rows.
+fn shape_after(rt: &impl Abort, alloc: Global, draft: &Draft, rows: &[Row]) -> Result<Shape, Fail> {
     let record = record_of(rt, alloc, draft, rows)?;
+    shape_of(rt, alloc, draft, &record)
+}
+
+/// The states of all ports behind a record.
+fn shape_of(rt: &impl Abort, alloc: Global, draft: &Draft, record: &Record) -> Result<Shape, Fail> {
     let plan = plan_of(alloc, draft)?;
     assert!(rt; plan_is_sound(&plan));
-    let shape = last_shape(alloc, &plan, &record)?;
+    Ok(last_shape(alloc, &plan, record)?)
+}
+
+/// The active links of each service are a forest.
+fn are_forests(rt: &impl Abort, alloc: Global, draft: &Draft, shape: &Shape) -> Result<(), Fail> {
+    let plan = plan_of(alloc, draft)?;
+    assert!(rt; plan_is_sound(&plan));
     for service in 1..=2u8 {
         assert!(rt;
-            forest(alloc, &shape, &plan, service)?.is_some(),
+            forest(alloc, shape, &plan, service)?.is_some(),
             "service {service}"
         );
     }
+    Ok(())
+}
+
+/// The ports of bridges have these states.
+fn have_states(rt: &impl Abort, shape: &Shape, states: &[(u8, u8, PortState)]) {
     for (bridge, port, state) in states {
         assert_eq!(rt;
-            state_in(&shape, *bridge, *port),
+            state_in(shape, *bridge, *port),
             Some(*state),
             "B{bridge} port {port}"
         );
     }
-    Ok(())
 }

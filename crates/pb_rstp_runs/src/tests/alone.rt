@@ -1,5 +1,6 @@
 //! One bridge by itself.
 
+use super::walk::{ANY, Call, Row, Speech, Told, walk};
 use super::{first_with, heard, sends, with_one_port, with_two_ports};
 use pb_lan::PortState;
 use pb_rstp::{Change, Role, Rstp};
@@ -64,30 +65,43 @@ fn a_link_to_itself_has_a_backup(rt: HostRuntime) -> Result<(), Fail> {
 
 #[test]
 fn parallel_links_have_an_alternate(rt: HostRuntime) -> Result<(), Fail> {
-    let mut second = with_two_ports(rt.alloc(), 2)?;
-    let mut m = heard(&first_with(0x0e))?;
-    let _ = second.hear(1, &m)?;
-    m.port = 0x8002;
-    let _ = second.hear(2, &m)?;
-    assert!(rt; second.roles() == [(1, Role::Root), (2, Role::Alternate)].as_slice());
-    let states = [(1, PortState::Forwarding), (2, PortState::Discarding)];
-    assert!(rt; second.states() == states.as_slice());
-    Ok(())
+    const ROWS: &[Row] = &[
+        Row::Does(Call::Hear(1, Speech::First(0x0e)), ANY),
+        Row::Does(Call::Hear(2, Speech::FirstOnPort2(0x0e)), ANY),
+        Row::Roles(&[(1, Role::Root), (2, Role::Alternate)]),
+        Row::States(&[(1, PortState::Forwarding), (2, PortState::Discarding)]),
+    ];
+    walk(&rt, rt.alloc(), &mut with_two_ports(rt.alloc(), 2)?, ROWS)
 }
 
 #[test]
 fn a_port_is_set_down_and_up(rt: HostRuntime) -> Result<(), Fail> {
-    let mut second = with_one_port(rt.alloc(), 2)?;
-    let m = heard(&first_with(0x0e))?;
-    let _ = second.hear(1, &m)?;
-    let change = second.admin(1, false)?;
-    assert!(rt; change.states.as_slice() == [(1, PortState::Discarding)].as_slice());
-    assert!(rt; second.roles() == [(1, Role::Disabled)].as_slice());
-    let change = second.hear(1, &m)?;
-    assert!(rt; change.send.len() == 0);
-    let change = second.admin(1, false)?;
-    assert!(rt; change.states.len() == 0);
-    let _ = second.admin(1, true)?;
-    assert!(rt; second.roles() == [(1, Role::Designated)].as_slice());
-    Ok(())
+    const ROWS: &[Row] = &[
+        Row::Does(Call::Hear(1, Speech::First(0x0e)), ANY),
+        Row::Does(
+            Call::Admin(1, false),
+            Told {
+                states: Some(&[(1, PortState::Discarding)]),
+                ..ANY
+            },
+        ),
+        Row::Roles(&[(1, Role::Disabled)]),
+        Row::Does(
+            Call::Hear(1, Speech::First(0x0e)),
+            Told {
+                sent: Some(None),
+                ..ANY
+            },
+        ),
+        Row::Does(
+            Call::Admin(1, false),
+            Told {
+                states: Some(&[]),
+                ..ANY
+            },
+        ),
+        Row::Does(Call::Admin(1, true), ANY),
+        Row::Roles(&[(1, Role::Designated)]),
+    ];
+    walk(&rt, rt.alloc(), &mut with_one_port(rt.alloc(), 2)?, ROWS)
 }

@@ -1,62 +1,65 @@
 //! Two bridges on one link.
 
-ghost use Rattle.std.specs.Prelude.{◌≡◌, ◌==◌};
-ghost use Rattle.std.specs.List.{list_any};
-
-use super::{PROPOSAL, first_with, heard, sends, with_one_port, with_two_ports};
+use super::walk::{ANY, Call, Row, Speech, Told, walk};
+use super::{PROPOSAL, heard, with_one_port, with_two_ports};
 use pb_lan::PortState;
 use pb_rstp::{Change, Role, Rstp, Vector};
 use std::alloc::Global;
 use std::test::Fail;
 
-/// What the second bridge answers to the first's proposal.
-const ANSWER: [u8; 53] = [
-    0x01, 0x80, 0xc2, 0x00, 0x00, 0x08, 0x02, 0x00, 0x00, 0x00, 0x00, 0x02, 0x00, 0x27, 0x42, 0x42,
-    0x03, 0x00, 0x00, 0x02, 0x02, 0x79, 0x80, 0x00, 0x02, 0x00, 0x00, 0x00, 0x00, 0x01, 0x00, 0x00,
-    0x4e, 0x20, 0x80, 0x00, 0x02, 0x00, 0x00, 0x00, 0x00, 0x02, 0x80, 0x01, 0x01, 0x00, 0x14, 0x00,
-    0x02, 0x00, 0x0f, 0x00, 0x00,
-];
+/// The identifiers of the bridges.
+const FIRST: u64 = 0x8000_0200_0000_0001;
 
-/// What the second bridge says when it hears the first no more.
-const ALONE: [u8; 53] = [
-    0x01, 0x80, 0xc2, 0x00, 0x00, 0x08, 0x02, 0x00, 0x00, 0x00, 0x00, 0x02, 0x00, 0x27, 0x42, 0x42,
-    0x03, 0x00, 0x00, 0x02, 0x02, 0x0e, 0x80, 0x00, 0x02, 0x00, 0x00, 0x00, 0x00, 0x02, 0x00, 0x00,
-    0x00, 0x00, 0x80, 0x00, 0x02, 0x00, 0x00, 0x00, 0x00, 0x02, 0x80, 0x01, 0x00, 0x00, 0x14, 0x00,
-    0x02, 0x00, 0x0f, 0x00, 0x00,
-];
+const SECOND: u64 = 0x8000_0200_0000_0002;
 
-/// The identifier of a bridge.
-fn id(last: u8) -> u64 {
-    0x8000_0200_0000_0000 + last as u64
-}
+/// What the first bridge's port 1 offers the second's.
+const OFFERED: Vector = Vector {
+    root: FIRST,
+    cost: 0,
+    bridge: FIRST,
+    port: 0x8001,
+    receiving: 0x8001,
+};
 
-/// The vector that the first bridge's port 1 offers.
-fn first_vector(receiving: u16) -> Vector {
-    Vector {
-        root: id(1),
-        cost: 0,
-        bridge: id(1),
-        port: 0x8001,
-        receiving,
-    }
-}
+/// The second bridge hears the first's proposal.
+const AGREES: Row = Row::Does(Call::Hear(1, Speech::First(0x0e)), ANY);
 
-/// The call changed the state of port 1 to this alone.
-fn moves_to(change: &Change, state: PortState) -> bool {
-    change.states.as_slice() == [(1, state)].as_slice()
-}
+/// The second bridge hears that the first has opened its port.
+const HEARS_AGAIN: Row = Row::Does(Call::Hear(1, Speech::First(0x3d)), ANY);
+
+/// A tick of which nothing is looked at.
+const TICKS: Row = Row::Does(Call::Tick, ANY);
+
+/// A tick at which no state changes.
+const STILL: Row = Row::Does(
+    Call::Tick,
+    Told {
+        states: Some(&[]),
+        ..ANY
+    },
+);
 
 #[test]
 fn the_first_proposes(rt: HostRuntime) -> Result<(), Fail> {
-    let mut first = with_one_port(rt.alloc(), 1)?;
-    let change = first.tick()?;
-    assert!(rt; sends(rt.alloc(), &change, 1, &PROPOSAL)?);
-    assert!(rt; change.states.len() == 0);
-    assert!(rt; change.flush.len() == 0);
-    let change = first.hear(1, &heard(&ANSWER)?)?;
-    assert!(rt; moves_to(&change, PortState::Forwarding));
-    assert!(rt; sends(rt.alloc(), &change, 1, &first_with(0x3d))?);
-    Ok(())
+    const ROWS: &[Row] = &[
+        Row::Does(
+            Call::Tick,
+            Told {
+                states: Some(&[]),
+                flush: Some(&[]),
+                sent: Some(Some(Speech::First(0x0e))),
+            },
+        ),
+        Row::Does(
+            Call::Hear(1, Speech::Answer),
+            Told {
+                states: Some(&[(1, PortState::Forwarding)]),
+                sent: Some(Some(Speech::First(0x3d))),
+                ..ANY
+            },
+        ),
+    ];
+    walk(&rt, rt.alloc(), &mut with_one_port(rt.alloc(), 1)?, ROWS)
 }
 
 /// The second bridge after the first's proposal, and what it told then.
@@ -68,114 +71,126 @@ pub(crate) fn agreed(alloc: Global) -> Result<(Rstp, Change), Fail> {
 
 #[test]
 fn the_second_agrees(rt: HostRuntime) -> Result<(), Fail> {
-    let (mut second, change) = agreed(rt.alloc())?;
-    assert!(rt; moves_to(&change, PortState::Forwarding));
-    assert!(rt; sends(rt.alloc(), &change, 2, &ANSWER)?);
-    assert!(rt; second.roles() == [(1, Role::Root)].as_slice());
-    assert!(rt; second.states() == [(1, PortState::Forwarding)].as_slice());
-    let change = second.hear(1, &heard(&first_with(0x3d))?)?;
-    assert!(rt; change.states.len() == 0);
-    assert!(rt; change.flush.len() == 0);
-    assert!(rt; change.send.len() == 0);
-    Ok(())
+    const ROWS: &[Row] = &[
+        Row::Does(
+            Call::Hear(1, Speech::First(0x0e)),
+            Told {
+                states: Some(&[(1, PortState::Forwarding)]),
+                sent: Some(Some(Speech::Answer)),
+                ..ANY
+            },
+        ),
+        Row::Roles(&[(1, Role::Root)]),
+        Row::States(&[(1, PortState::Forwarding)]),
+        Row::Does(
+            Call::Hear(1, Speech::First(0x3d)),
+            Told {
+                states: Some(&[]),
+                flush: Some(&[]),
+                sent: Some(None),
+            },
+        ),
+    ];
+    walk(&rt, rt.alloc(), &mut with_one_port(rt.alloc(), 2)?, ROWS)
 }
 
 #[test]
 fn vectors_are_read(rt: HostRuntime) -> Result<(), Fail> {
-    let (second, _) = agreed(rt.alloc())?;
-    let root = second.root();
-    assert!(rt; root.root == id(1) && root.cost == 20_000 && root.receiving == 0x8001);
-    assert!(rt; second.stored(1) == Some(first_vector(0x8001)));
-    assert!(rt; second.stored(2) == None);
-    Ok(())
+    const ROWS: &[Row] = &[
+        AGREES,
+        Row::Root(FIRST, 20_000, 0x8001),
+        Row::Stored(1, Some(OFFERED)),
+        Row::Stored(2, None),
+    ];
+    walk(&rt, rt.alloc(), &mut with_one_port(rt.alloc(), 2)?, ROWS)
 }
 
 #[test]
 fn an_offer_is_the_own_one(rt: HostRuntime) -> Result<(), Fail> {
     let first = with_two_ports(rt.alloc(), 1)?;
     assert!(rt; first.stored(1) == None);
-    assert!(rt; first.root().root == id(1));
+    assert!(rt; first.root().root == FIRST);
     Ok(())
 }
 
 #[test]
 fn six_silent_ticks_end_it(rt: HostRuntime) -> Result<(), Fail> {
-    let (mut second, _) = agreed(rt.alloc())?;
-    let _ = second.hear(1, &heard(&first_with(0x3d))?)?;
-    for _ in 0..5u8 {
-        let change = second.tick()?;
-        assert!(rt; change.states.len() == 0);
-    }
-    let change = second.tick()?;
-    assert!(rt; moves_to(&change, PortState::Discarding));
-    assert!(rt; change.flush.as_slice() == [1].as_slice());
-    assert!(rt; sends(rt.alloc(), &change, 2, &ALONE)?);
-    Ok(())
+    const ROWS: &[Row] = &[
+        AGREES,
+        HEARS_AGAIN,
+        STILL,
+        STILL,
+        STILL,
+        STILL,
+        STILL,
+        Row::Does(
+            Call::Tick,
+            Told {
+                states: Some(&[(1, PortState::Discarding)]),
+                flush: Some(&[1]),
+                sent: Some(Some(Speech::Alone)),
+            },
+        ),
+    ];
+    walk(&rt, rt.alloc(), &mut with_one_port(rt.alloc(), 2)?, ROWS)
 }
 
 #[test]
 fn greatest_costs_are_held(rt: HostRuntime) -> Result<(), Fail> {
-    let mut second = with_one_port(rt.alloc(), 2)?;
-    let mut m = heard(&PROPOSAL)?;
-    m.cost = 0xffff_ffff;
-    let change = second.hear(1, &m)?;
-    let mut answer = ANSWER;
-    answer[30..34].copy_from_slice(&[0xff; 4]);
-    assert!(rt; second.root().cost == 0xffff_ffff);
-    assert!(rt; sends(rt.alloc(), &change, 2, &answer)?);
-    Ok(())
+    const ROWS: &[Row] = &[
+        Row::Does(
+            Call::Hear(1, Speech::Costly(0xffff_ffff)),
+            Told {
+                sent: Some(Some(Speech::CostlyAnswer)),
+                ..ANY
+            },
+        ),
+        Row::Root(FIRST, 0xffff_ffff, 0x8001),
+    ];
+    walk(&rt, rt.alloc(), &mut with_one_port(rt.alloc(), 2)?, ROWS)
 }
 
 #[test]
 fn old_bpdus_are_not_stored(rt: HostRuntime) -> Result<(), Fail> {
-    let mut second = with_one_port(rt.alloc(), 2)?;
-    let mut m = heard(&PROPOSAL)?;
-    m.age = 20 * 256;
-    let _ = second.hear(1, &m)?;
-    assert!(rt; second.stored(1) == None);
-    m.age = 19 * 256;
-    let _ = second.hear(1, &m)?;
-    assert!(rt; second.stored(1) == Some(first_vector(0x8001)));
-    Ok(())
+    const ROWS: &[Row] = &[
+        Row::Does(Call::Hear(1, Speech::Aged(20 * 256)), ANY),
+        Row::Stored(1, None),
+        Row::Does(Call::Hear(1, Speech::Aged(19 * 256)), ANY),
+        Row::Stored(1, Some(OFFERED)),
+    ];
+    walk(&rt, rt.alloc(), &mut with_one_port(rt.alloc(), 2)?, ROWS)
 }
 
-/// The list has the port.
-fn has_port(roles: &[(u8, Role)], port: u8) -> bool
-    ensures { result ≡ list_any (λ r. r.0 == port) roles.now }
-{
-    roles.iter().any(|r| r.0 == port)
-}
+/// What port 1 of the second bridge offers while it is the root itself.
+const OWN: Vector = Vector {
+    root: SECOND,
+    cost: 0,
+    bridge: SECOND,
+    port: 0x8001,
+    receiving: 0x8001,
+};
 
-/// What a port offers, where the bridge has it.
-fn offer_of(bridge: &Rstp, port: u8) -> Option<Vector> {
-    if has_port(bridge.roles(), port) {
-        Some(bridge.vector(port))
-    } else {
-        None
-    }
-}
-
-/// What port 1 of a bridge offers on the way to a root.
-fn offered(last: u8, root: u8, cost: u32) -> Vector {
-    Vector {
-        root: id(root),
-        cost,
-        bridge: id(last),
-        port: 0x8001,
-        receiving: 0x8001,
-    }
-}
+/// What it offers behind the first bridge.
+const BEHIND: Vector = Vector {
+    root: FIRST,
+    cost: 20_000,
+    ..OWN
+};
 
 #[test]
 fn ports_offer_the_way_to_the_root(rt: HostRuntime) -> Result<(), Fail> {
-    let second = with_one_port(rt.alloc(), 2)?;
-    assert!(rt; offer_of(&second, 1) == Some(offered(2, 2, 0)));
-    assert!(rt; offer_of(&second, 2) == None);
-    let (mut second, _) = agreed(rt.alloc())?;
-    assert!(rt; offer_of(&second, 1) == Some(offered(2, 1, 20_000)));
-    for _ in 0..6u8 {
-        let _ = second.tick()?;
-    }
-    assert!(rt; offer_of(&second, 1) == Some(offered(2, 2, 0)));
-    Ok(())
+    const ROWS: &[Row] = &[
+        Row::Offers(1, Some(OWN)),
+        Row::Offers(2, None),
+        AGREES,
+        Row::Offers(1, Some(BEHIND)),
+        TICKS,
+        TICKS,
+        TICKS,
+        TICKS,
+        TICKS,
+        TICKS,
+        Row::Offers(1, Some(OWN)),
+    ];
+    walk(&rt, rt.alloc(), &mut with_one_port(rt.alloc(), 2)?, ROWS)
 }

@@ -7,11 +7,10 @@ use super::guests::Habit;
 use super::networks::{LINE, PAIR};
 use super::runs::{LONG, Outer, Setup, ran};
 use super::told::{Outside, Told};
-use super::watch::Watch;
 use pb_run::{Ended, Last};
 use std::alloc::Global;
 use std::process::Abort;
-use std::sync::{Arc, Wait};
+use std::sync::Wait;
 use std::test::Fail;
 use std::thread::Threads;
 use std::time::Clock;
@@ -51,8 +50,7 @@ fn drains<R: Abort + Threads + Wait + Clock + Sync>(
     alloc: Global,
     row: &Row,
 ) -> Result<(), Fail> {
-    let watch = Arc::new(alloc, Watch::new())?;
-    let told = ran(rt, alloc, &row.setup, &Open, &watch)?;
+    let told = ran(rt, alloc, &row.setup, &Open)?;
     assert_eq!(rt; (told.ended, told.settled), (Some(Ended::Drained), None));
     assert!(rt; told.is_left && are_at_end(&told, row.setup.ports));
     assert_eq!(rt; (told.link, told.polls), (row.link, row.polls));

@@ -5,15 +5,38 @@ use super::guests::Habit;
 use super::networks::STAR;
 use super::runs::{LONG, Outer, Setup, ran};
 use super::told::Told;
-use super::watch::Watch;
-use pb_run::RunCause;
-use std::sync::Arc;
+use pb_frame::Memory;
+use pb_run::{Ended, RunCause};
+use std::alloc::Global;
+use std::sync::Wait;
 use std::test::Fail;
+use std::thread::Threads;
+use std::time::Clock;
 
 /// Whether each port still gives all it had.
 fn are_whole(told: &Told, ports: &[Outer]) -> bool {
     told.outside.iter().zip(ports).all(|(outside, outer)| outside.script == Some(outer.count())
         && outside.kept == 0)
+}
+
+/// Why a run didn't begin, how it ended, how many ports came back, how often they were polled, and whether each still
+/// gives all it had.
+type Seen = (Option<RunCause>, Option<Ended>, usize, u64, bool);
+
+fn seen<R: Threads + Wait + Clock + Sync>(
+    rt: &R,
+    alloc: Global,
+    ports: &[Outer],
+) -> Result<Seen, Memory> {
+    let setup = Setup {
+        draft: STAR,
+        ports,
+        limits: LONG,
+        left: &[],
+    };
+    let told = ran(rt, alloc, &setup, &Open)?;
+    let is_whole = are_whole(&told, ports);
+    Ok((told.cause, told.ended, told.ports, told.polls, is_whole))
 }
 
 #[test]
@@ -30,21 +53,8 @@ fn ports_have_to_be_as_many_as_in_the_plan(rt: HostRuntime) -> Result<(), Fail> 
         ],
     ];
     for (number, ports) in ROWS.iter().enumerate() {
-        let setup = Setup {
-            draft: STAR,
-            ports,
-            limits: LONG,
-            left: &[],
-        };
-        let watch = Arc::new(rt.alloc(), Watch::new())?;
-        let told = ran(&rt, rt.alloc(), &setup, &Open, &watch)?;
-        assert_eq!(rt;
-            (told.cause, told.ended),
-            (Some(RunCause::PortCount), None),
-            "row {number}"
-        );
-        assert_eq!(rt; (told.ports, told.polls), (ports.len(), 0), "row {number}");
-        assert!(rt; are_whole(&told, ports), "row {number}");
+        let wanted = (Some(RunCause::PortCount), None, ports.len(), 0, true);
+        assert_eq!(rt; seen(&rt, rt.alloc(), ports)?, wanted, "row {number}");
     }
     Ok(())
 }

@@ -5,39 +5,78 @@ use super::gates::Open;
 use super::networks::STAR;
 use super::runs::{LONG, Outer, Setup, ran};
 use super::streams::Broken;
-use super::watch::Watch;
+use pb_frame::Memory;
 use pb_run::{Ended, Last};
-use std::sync::Arc;
-use std::sync::atomic::Ordering;
+use std::alloc::Global;
+use std::sync::Wait;
 use std::test::Fail;
+use std::thread::Threads;
+use std::time::Clock;
+
+/// How a run ended, whether the wanted frames left, how many could not leave by the port whose write of this number
+/// fails, how many it keeps, and how many writes there were.
+type Written = (Option<Ended>, bool, usize, usize, u64);
+
+fn written<R: Threads + Wait + Clock + Sync>(
+    rt: &R,
+    alloc: Global,
+    call: u64,
+    taken: u32,
+) -> Result<Written, Memory> {
+    let setup = Setup {
+        draft: STAR,
+        ports: &[
+            Outer::Memory(3),
+            Outer::Stream(0, Broken::Write(call)),
+            Outer::Memory(0),
+        ],
+        limits: LONG,
+        left: &[Frames::First(0), Frames::First(taken), Frames::First(3)],
+    };
+    let told = ran(rt, alloc, &setup, &Open)?;
+    let port = told.outside[1];
+    Ok((told.ended, told.is_left, port.gone, port.kept, told.writes))
+}
 
 #[test]
 fn a_failed_write_leaves_the_other_ports(rt: HostRuntime) -> Result<(), Fail> {
     for call in 1..15u64 {
         // The frame whose write fails was taken, and no later one is.
         let taken = call.div_ceil(4).min(3) as u32;
-        let setup = Setup {
-            draft: STAR,
-            ports: &[
-                Outer::Memory(3),
-                Outer::Stream(0, Broken::Write(call)),
-                Outer::Memory(0),
-            ],
-            limits: LONG,
-            left: &[Frames::First(0), Frames::First(taken), Frames::First(3)],
-        };
-        let watch = Arc::new(rt.alloc(), Watch::new())?;
-        let told = ran(&rt, rt.alloc(), &setup, &Open, &watch)?;
-        assert_eq!(rt;
-            (told.ended, told.is_left),
-            (Some(Ended::Drained), true),
-            "{call}"
-        );
-        assert_eq!(rt; told.outside[1].gone, 3 - taken as usize, "{call}");
-        assert_eq!(rt; told.outside[1].kept, usize::from(call <= 12), "{call}");
-        assert_eq!(rt; watch.writes.load(Ordering::SeqCst), call.min(12), "{call}");
+        let (gone, kept) = (3 - taken as usize, usize::from(call <= 12));
+        let wanted = (Some(Ended::Drained), true, gone, kept, call.min(12));
+        assert_eq!(rt; written(&rt, rt.alloc(), call, taken)?, wanted, "{call}");
     }
     Ok(())
+}
+
+/// How a run ended, whether the wanted frames left, what the port whose read of this number fails said last, how
+/// many of its script's frames entered or are still to come, and how many reads there were.
+type Read = (Option<Ended>, bool, Option<Last>, Option<usize>, u64);
+
+fn read<R: Threads + Wait + Clock + Sync>(
+    rt: &R,
+    alloc: Global,
+    call: u64,
+    entered: u32,
+) -> Result<Read, Memory> {
+    let setup = Setup {
+        draft: STAR,
+        ports: &[
+            Outer::Stream(3, Broken::Read(call)),
+            Outer::Memory(0),
+            Outer::Memory(0),
+        ],
+        limits: LONG,
+        left: &[
+            Frames::First(0),
+            Frames::First(entered),
+            Frames::First(entered),
+        ],
+    };
+    let told = ran(rt, alloc, &setup, &Open)?;
+    let port = told.outside[0];
+    Ok((told.ended, told.is_left, port.last, port.script, told.reads))
 }
 
 #[test]
@@ -45,31 +84,14 @@ fn a_failed_read_leaves_the_other_ports(rt: HostRuntime) -> Result<(), Fail> {
     for call in 1..16u64 {
         // The frames before the one whose read fails enter. Read 13 comes to the end.
         let entered = ((call - 1) / 4).min(3) as u32;
-        let setup = Setup {
-            draft: STAR,
-            ports: &[
-                Outer::Stream(3, Broken::Read(call)),
-                Outer::Memory(0),
-                Outer::Memory(0),
-            ],
-            limits: LONG,
-            left: &[
-                Frames::First(0),
-                Frames::First(entered),
-                Frames::First(entered),
-            ],
-        };
-        let watch = Arc::new(rt.alloc(), Watch::new())?;
-        let told = ran(&rt, rt.alloc(), &setup, &Open, &watch)?;
         let (ended, last) = if call <= 13 {
             (Ended::Stopped, Last::Fault(6))
         } else {
             (Ended::Drained, Last::End)
         };
-        assert_eq!(rt; (told.ended, told.is_left), (Some(ended), true), "{call}");
-        assert_eq!(rt; told.outside[0].last, Some(last), "{call}");
-        assert_eq!(rt; told.outside[0].script, Some(entered as usize), "{call}");
-        assert_eq!(rt; watch.reads.load(Ordering::SeqCst), call.min(13), "{call}");
+        let script = Some(entered as usize);
+        let wanted = (Some(ended), true, Some(last), script, call.min(13));
+        assert_eq!(rt; read(&rt, rt.alloc(), call, entered)?, wanted, "{call}");
     }
     Ok(())
 }

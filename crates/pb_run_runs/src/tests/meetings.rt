@@ -4,12 +4,16 @@ use super::frames::Frames;
 use super::gates::{Holding, Meeting};
 use super::guests::Habit;
 use super::networks::LINE;
-use super::runs::{LONG, Outer, Setup, ran};
+use super::runs::{LONG, Outer, Setup, ran, ran_under};
+use super::told::Told;
 use super::watch::Watch;
+use pb_frame::Memory;
 use pb_run::Ended;
-use std::sync::Arc;
-use std::sync::atomic::Ordering;
+use std::alloc::Global;
+use std::sync::{Arc, Wait};
 use std::test::Fail;
+use std::thread::Threads;
+use std::time::Clock;
 
 /// What has to leave where C1 sends one broadcast.
 const ONE_EACH: &[Frames] = &[
@@ -33,8 +37,7 @@ fn all_places_run_at_once(rt: HostRuntime) -> Result<(), Fail> {
         left: ONE_EACH,
     };
     let gate = Meeting::of(rt.alloc(), 14)?;
-    let watch = Arc::new(rt.alloc(), Watch::new())?;
-    let told = ran(&rt, rt.alloc(), &SETUP, &gate, &watch)?;
+    let told = ran(&rt, rt.alloc(), &SETUP, &gate)?;
     assert_eq!(rt;
         (told.ended, told.is_left, gate.here()),
         (Some(Ended::Drained), true, 14)
@@ -46,6 +49,17 @@ fn all_places_run_at_once(rt: HostRuntime) -> Result<(), Fail> {
         );
     }
     Ok(())
+}
+
+/// Runs a setup with B4 held until a port of the tests' own has taken a frame.
+fn ran_held<R: Threads + Wait + Clock + Sync>(
+    rt: &R,
+    alloc: Global,
+    setup: &Setup,
+) -> Result<Told, Memory> {
+    let watch = Arc::new(alloc, Watch::new())?;
+    let gate = Holding(Arc::try_clone(&watch)?);
+    ran_under(rt, alloc, setup, &gate, &watch)
 }
 
 #[test]
@@ -61,11 +75,9 @@ fn first_polls_meet_while_a_bridge_is_held(rt: HostRuntime) -> Result<(), Fail> 
         limits: LONG,
         left: ONE_EACH,
     };
-    let watch = Arc::new(rt.alloc(), Watch::new())?;
-    let gate = Holding(Arc::try_clone(&watch)?);
-    let told = ran(&rt, rt.alloc(), &SETUP, &gate, &watch)?;
+    let told = ran_held(&rt, rt.alloc(), &SETUP)?;
     assert_eq!(rt; (told.ended, told.is_left), (Some(Ended::Drained), true));
-    assert_eq!(rt; watch.met.load(Ordering::SeqCst), 2);
-    assert_eq!(rt; watch.taken.load(Ordering::SeqCst), 1);
+    assert_eq!(rt; told.met, 2);
+    assert_eq!(rt; told.taken, 1);
     Ok(())
 }

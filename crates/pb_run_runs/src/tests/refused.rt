@@ -6,14 +6,43 @@ use super::guests::{Call, Habit};
 use super::networks::{LINE, STAR};
 use super::runs::{LONG, Outer, Setup, ran};
 use super::told::Told;
-use super::watch::Watch;
+use pb_frame::Memory;
 use pb_run::{Ended, RunCause};
 use std::alloc::Global;
 use std::process::Abort;
-use std::sync::{Arc, Wait};
+use std::sync::Wait;
 use std::test::Fail;
 use std::thread::Threads;
 use std::time::Clock;
+
+/// How a run ended, how many ports came back, whether the frames that have to leave do, how many of the first port's
+/// script are there, and whether each port keeps what left.
+type Seen = (Option<Ended>, usize, bool, Option<usize>, bool);
+
+/// What is seen of a run with a port that is refused memory at a call.
+fn seen<R: Threads + Wait + Clock + Sync>(
+    rt: &R,
+    alloc: Global,
+    ports: &[Outer],
+    left: &[Frames],
+) -> Result<Seen, Memory> {
+    let setup = Setup {
+        draft: STAR,
+        ports,
+        limits: LONG,
+        left,
+    };
+    let told = ran(rt, alloc, &setup, &Open)?;
+    let script = told.outside[0].script;
+    Ok((told.ended, told.ports, told.is_left, script, is_kept(&told)))
+}
+
+/// Whether each port keeps what left.
+fn is_kept(told: &Told) -> bool {
+    told.outside
+        .iter()
+        .all(|outside| outside.kept == outside.left)
+}
 
 /// Runs with a port that is refused memory at a call end for want of memory. Nothing is lost, and the frames that
 /// have to leave do.
@@ -22,29 +51,9 @@ fn all_run_out<R: Abort + Threads + Wait + Clock + Sync>(
     alloc: Global,
     rows: &[(&[Outer], &[Frames])],
 ) -> Result<(), Fail> {
+    let wanted = (Some(Ended::NoMemory), 3, true, Some(3), true);
     for (number, (ports, left)) in rows.iter().enumerate() {
-        let setup = Setup {
-            draft: STAR,
-            ports,
-            limits: LONG,
-            left,
-        };
-        let watch = Arc::new(alloc, Watch::new())?;
-        let told = ran(rt, alloc, &setup, &Open, &watch)?;
-        assert_eq!(rt;
-            (told.ended, told.ports),
-            (Some(Ended::NoMemory), 3),
-            "row {number}"
-        );
-        assert!(rt;
-            told.is_left && told.outside[0].script == Some(3),
-            "row {number}"
-        );
-        let is_kept = told
-            .outside
-            .iter()
-            .all(|outside| outside.kept == outside.left);
-        assert!(rt; is_kept, "row {number}");
+        assert_eq!(rt; seen(rt, alloc, ports, left)?, wanted, "row {number}");
     }
     Ok(())
 }
@@ -115,11 +124,7 @@ fn a_port_that_is_refused_memory_ends_the_run(rt: HostRuntime) -> Result<(), Fai
 /// Whether a run of four bridges in a line, with one broadcast to carry, was refused memory as it may be.
 fn is_named(told: &Told) -> bool {
     let is_whole = told.ports == 4 && told.outside[0].script == Some(1);
-    let is_carried = told.is_left
-        && told
-            .outside
-            .iter()
-            .all(|outside| outside.kept == outside.left);
+    let is_carried = told.is_left && is_kept(told);
     match (told.cause, told.ended) {
         (Some(RunCause::Memory | RunCause::Spawn), None) => is_whole,
         (None, Some(Ended::NoMemory)) => is_whole,
@@ -146,8 +151,7 @@ fn a_run_names_what_it_was_refused(rt: HostRuntime) -> Result<(), Fail> {
             Frames::First(1),
         ],
     };
-    let watch = Arc::new(rt.alloc(), Watch::new())?;
-    let told = ran(&rt, rt.alloc(), &SETUP, &Open, &watch)?;
+    let told = ran(&rt, rt.alloc(), &SETUP, &Open)?;
     assert!(rt; is_named(&told));
     Ok(())
 }

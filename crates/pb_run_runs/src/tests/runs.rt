@@ -8,7 +8,7 @@ use super::streams::{Broken, Stream};
 use super::told::{NOTHING, Told, tell, tell_fault};
 use super::watch::Watch;
 use pb_frame::Memory;
-use pb_lan::{Limits, plan_is_sound};
+use pb_lan::{Limits, Plan, plan_is_sound};
 use pb_port::{MemoryPort, SocketPort};
 use pb_run::{Gate, Held, run};
 use std::alloc::Global;
@@ -79,8 +79,53 @@ fn socket(
     Ok(SocketPort::new(alloc, 4_096, stream))
 }
 
-/// Runs what a setup tells, and tells what came of it.
-pub(super) fn ran<G: Gate, R: Threads + Wait + Clock + Sync>(
+/// A port outside, in a box.
+fn port_of(alloc: Global, outer: Outer, watch: &Arc<Watch, Global>) -> Result<Held, Memory> {
+    Ok(match outer {
+        Outer::Memory(count) => Box::new(alloc, memory(alloc, count)?)?,
+        Outer::Guest(count, habit) => Box::new(alloc, guest(alloc, count, habit, watch)?)?,
+        Outer::Stream(count, broken) => Box::new(alloc, socket(alloc, count, broken, watch)?)?,
+    })
+}
+
+/// The ports outside.
+fn ports_of(
+    alloc: Global,
+    outers: &[Outer],
+    watch: &Arc<Watch, Global>,
+) -> Result<Vec<Held>, Memory> {
+    let mut ports = Vec::new(alloc);
+    for outer in outers {
+        ports.push(port_of(alloc, *outer, watch)?)?;
+    }
+    Ok(ports)
+}
+
+/// What came of a run of a plan.
+fn told_of<G: Gate, R: Threads + Wait + Clock + Sync>(
+    rt: &R,
+    alloc: Global,
+    plan: &Plan,
+    ports: Vec<Held>,
+    setup: &Setup,
+    gate: &G,
+    watch: &Watch,
+) -> Result<Told, Memory> {
+    if !plan_is_sound(plan) {
+        return Ok(NOTHING);
+    }
+    let outcome = run(rt, alloc, plan, ports, gate, setup.limits);
+    let polls = watch.polls.load(Ordering::SeqCst);
+    let told = match outcome {
+        Ok(mut ran) => tell(alloc, &mut ran, setup.left),
+        Err(mut fault) => tell_fault(alloc, &mut fault),
+    }?;
+    Ok(Told { polls, ..told })
+}
+
+/// Runs what a setup tells while a watch sees it, and tells what came of it. What it tells owns nothing, so that
+/// tests are cheap to prove.
+pub(super) fn ran_under<G: Gate, R: Threads + Wait + Clock + Sync>(
     rt: &R,
     alloc: Global,
     setup: &Setup,
@@ -88,23 +133,24 @@ pub(super) fn ran<G: Gate, R: Threads + Wait + Clock + Sync>(
     watch: &Arc<Watch, Global>,
 ) -> Result<Told, Memory> {
     let plan = plan_of(alloc, &setup.draft)?;
-    let mut ports = Vec::new(alloc);
-    for outer in setup.ports {
-        let port: Held = match *outer {
-            Outer::Memory(count) => Box::new(alloc, memory(alloc, count)?)?,
-            Outer::Guest(count, habit) => Box::new(alloc, guest(alloc, count, habit, watch)?)?,
-            Outer::Stream(count, broken) => Box::new(alloc, socket(alloc, count, broken, watch)?)?,
-        };
-        ports.push(port)?;
-    }
-    if !plan_is_sound(&plan) {
-        return Ok(NOTHING);
-    }
-    let outcome = run(rt, alloc, &plan, ports, gate, setup.limits);
-    let polls = watch.polls.load(Ordering::SeqCst);
-    let told = match outcome {
-        Ok(mut ran) => tell(alloc, &mut ran, setup.left)?,
-        Err(mut fault) => tell_fault(alloc, &mut fault)?,
-    };
-    Ok(Told { polls, ..told })
+    let ports = ports_of(alloc, setup.ports, watch)?;
+    let told = told_of(rt, alloc, &plan, ports, setup, gate, watch)?;
+    Ok(Told {
+        taken: watch.taken.load(Ordering::SeqCst),
+        met: watch.met.load(Ordering::SeqCst),
+        reads: watch.reads.load(Ordering::SeqCst),
+        writes: watch.writes.load(Ordering::SeqCst),
+        ..told
+    })
+}
+
+/// Runs what a setup tells, and tells what came of it.
+pub(super) fn ran<G: Gate, R: Threads + Wait + Clock + Sync>(
+    rt: &R,
+    alloc: Global,
+    setup: &Setup,
+    gate: &G,
+) -> Result<Told, Memory> {
+    let watch = Arc::new(alloc, Watch::new())?;
+    ran_under(rt, alloc, setup, gate, &watch)
 }

@@ -5,10 +5,8 @@ use super::gates::{Lockstep, Open};
 use super::guests::Habit;
 use super::networks::RING;
 use super::runs::{Outer, Setup, ran};
-use super::watch::Watch;
 use pb_lan::Limits;
 use pb_run::Ended;
-use std::sync::Arc;
 use std::test::Fail;
 
 /// The first port gives three broadcasts once it was polled often enough, and no port comes to an end.
@@ -30,8 +28,7 @@ fn a_ring_that_has_settled_carries_broadcasts(rt: HostRuntime) -> Result<(), Fai
         left: &[Frames::First(0), Frames::First(3), Frames::First(3)],
     };
     let gate = Lockstep::of(12);
-    let watch = Arc::new(rt.alloc(), Watch::new())?;
-    let told = ran(&rt, rt.alloc(), &SETUP, &gate, &watch)?;
+    let told = ran(&rt, rt.alloc(), &SETUP, &gate)?;
     assert_eq!(rt;
         (told.ended, told.settled),
         (Some(Ended::Limit), Some(true))
@@ -52,8 +49,7 @@ fn a_ring_tells_whether_it_has_settled(rt: HostRuntime) -> Result<(), Fail> {
         },
         left: &[],
     };
-    let watch = Arc::new(rt.alloc(), Watch::new())?;
-    let told = ran(&rt, rt.alloc(), &SETUP, &Open, &watch)?;
+    let told = ran(&rt, rt.alloc(), &SETUP, &Open)?;
     assert_eq!(rt; (told.ended, told.ports), (Some(Ended::Limit), 3));
     assert!(rt; told.settled.is_some());
     assert_eq!(rt; told.outside[0].script, Some(3));

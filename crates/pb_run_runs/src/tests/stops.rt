@@ -6,12 +6,11 @@ use super::gates::{Open, StopAt};
 use super::networks::{LINE, PAIR, STAR};
 use super::runs::{LONG, Outer, Setup, ran};
 use super::told::Told;
-use super::watch::Watch;
 use pb_lan::Limits;
 use pb_run::Ended;
 use std::alloc::Global;
 use std::process::Abort;
-use std::sync::{Arc, Wait};
+use std::sync::Wait;
 use std::test::Fail;
 use std::thread::Threads;
 use std::time::Clock;
@@ -39,9 +38,8 @@ fn a_gate_stops_a_run_at_any_turn(rt: HostRuntime) -> Result<(), Fail> {
         limits: LONG,
         left: &[Frames::First(0)],
     };
-    let watch = Arc::new(rt.alloc(), Watch::new())?;
     for turns in 0..201u64 {
-        let told = ran(&rt, rt.alloc(), &SETUP, &StopAt(turns), &watch)?;
+        let told = ran(&rt, rt.alloc(), &SETUP, &StopAt(turns))?;
         let is_drained = told.ended == Some(Ended::Drained);
         assert!(rt; is_drained || told.ended == Some(Ended::Stopped), "{turns}");
         assert!(rt; told.ports == 4 && are_within(&told, turns), "{turns}");
@@ -66,8 +64,7 @@ fn comes_to_its_limit<R: Abort + Threads + Wait + Clock + Sync>(
     setup: &Setup,
     most: u64,
 ) -> Result<(), Fail> {
-    let watch = Arc::new(alloc, Watch::new())?;
-    let told = ran(rt, alloc, setup, &Open, &watch)?;
+    let told = ran(rt, alloc, setup, &Open)?;
     assert_eq!(rt;
         (told.ended, told.ports),
         (Some(Ended::Limit), setup.ports.len())

@@ -10,7 +10,7 @@ use std::alloc::Global;
 use std::collections::VecDeque;
 
 /// What came of a run at a customer port.
-#[derive(Clone, Copy, PartialEq, Eq, Debug)]
+#[derive(Clone, Copy)]
 pub(super) struct Outside {
     /// What the newest poll said.
     pub(super) last: Option<Last>,
@@ -24,7 +24,7 @@ pub(super) struct Outside {
 }
 
 /// What came of a run.
-#[derive(Clone, Copy, PartialEq, Eq, Debug)]
+#[derive(Clone, Copy)]
 pub(super) struct Told {
     /// How it ended, where it ran.
     pub(super) ended: Option<Ended>,
@@ -34,6 +34,12 @@ pub(super) struct Told {
     pub(super) ports: usize,
     /// How often ports of the tests' own were polled.
     pub(super) polls: u64,
+    /// How many frames they took, and how many of them saw another one at a meeting.
+    pub(super) taken: u64,
+    pub(super) met: u64,
+    /// How often their devices were to read, and to write.
+    pub(super) reads: u64,
+    pub(super) writes: u64,
     /// Whether the bridges are settled.
     pub(super) settled: Option<bool>,
     /// The wanted frames left, octet for octet and in order, and no others.
@@ -63,6 +69,10 @@ pub(super) const NOTHING: Told = Told {
     cause: None,
     ports: 0,
     polls: 0,
+    taken: 0,
+    met: 0,
+    reads: 0,
+    writes: 0,
     settled: None,
     is_left: false,
     outside: [NOWHERE; 4],

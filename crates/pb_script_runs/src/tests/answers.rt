@@ -32,12 +32,18 @@ fn moved(alloc: Global) -> Moved {
     }
 }
 
-/// What is said of a step of a place.
-fn said(rt: &impl Abort, alloc: Global, place: Place, step: Step, want: &str) -> Result<(), Fail> {
+/// What stands there, and behind it what is said of a step of a place.
+fn text_of(alloc: Global, place: Place, step: &Step) -> Result<String, Fail> {
     let plan = network(alloc)?;
     let mut out = String::from_str(alloc, "before\n")?;
-    put_done(alloc, &mut out, &plan, place, &step)?;
-    assert_eq!(rt; out.as_str().strip_prefix("before\n"), Some(want));
+    put_done(alloc, &mut out, &plan, place, step)?;
+    Ok(out)
+}
+
+/// What is said of a step of a place.
+fn said(rt: &impl Abort, alloc: Global, place: Place, step: Step, want: &str) -> Result<(), Fail> {
+    let text = text_of(alloc, place, &step)?;
+    assert_eq!(rt; text.as_str().strip_prefix("before\n"), Some(want));
     Ok(())
 }
 

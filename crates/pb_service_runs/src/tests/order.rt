@@ -4,7 +4,7 @@ use super::told;
 use pb_service::PlanFault;
 
 /// Files with two faults each, and the one that is told.
-const FILES: [(&str, &str); 20] = [
+const FILES: &[(&str, &str)] = &[
     ("zebra = 1\nnetwork = 1", "6 unknown zebra"),
     ("[network]\nring = 0\nageing = 1", "5 range network.ageing"),
     (
@@ -80,9 +80,12 @@ const FILES: [(&str, &str); 20] = [
 
 #[test]
 fn the_first_fault_is_told(rt: HostRuntime) -> Result<(), PlanFault> {
-    let alloc = rt.alloc();
     for (text, want) in FILES {
-        assert_eq!(rt; told(alloc, text.as_bytes())?.as_str(), want, "{text}");
+        assert_eq!(rt;
+            told(rt.alloc(), text.as_bytes())?.as_str(),
+            *want,
+            "{text}"
+        );
     }
     Ok(())
 }

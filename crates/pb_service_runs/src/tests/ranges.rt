@@ -2,6 +2,8 @@
 
 use super::told;
 use pb_service::PlanFault;
+use std::alloc::Global;
+use std::process::Abort;
 
 /// A bridge, and the beginnings of other tables.
 const BRIDGE: &str = "[[bridge]]\nname = \"B\"\naddress = \"02-00-00-00-00-01\"\n";
@@ -12,8 +14,18 @@ const LINK: &str = "[[link]]\nname = \"L\"\na = \"B\"\nb = \"B\"\n";
 
 const PORT: &str = "[[port]]\nname = \"P\"\nbridge = \"B\"\nservice = \"S\"\n";
 
-/// The tables before a key, those behind it, the key with its place, its lowest and highest values.
-const NUMBERS: [(&str, &str, &str, &str, i64, i64); 18] = [
+/// The tables before a key, those behind it, the key, its place, its lowest and its highest value.
+type Number = (
+    &'static str,
+    &'static str,
+    &'static str,
+    &'static str,
+    i64,
+    i64,
+);
+
+/// The numbers of plan files.
+const NUMBERS: &[Number] = &[
     ("[network]\n", "", "ageing", "network.ageing", 10, 1_000_000),
     ("[network]\n", "", "ring", "network.ring", 1, 4096),
     ("[network]\n", "", "steps", "network.steps", 1, 1_000_000),
@@ -78,7 +90,7 @@ const NUMBERS: [(&str, &str, &str, &str, i64, i64); 18] = [
 
 /// The fault of a file in which the key has the value.
 fn with(
-    alloc: std::alloc::Global,
+    alloc: Global,
     front: &str,
     back: &str,
     key: &str,
@@ -94,39 +106,48 @@ fn with(
     told(alloc, text.as_bytes())
 }
 
+/// The fault of a file in which a number has the value.
+fn told_with(alloc: Global, number: &Number, value: i64) -> Result<String, PlanFault> {
+    let (front, back, key, _, _, _) = *number;
+    with(alloc, front, back, key, value)
+}
+
+/// A value is taken.
+fn is_within(rt: &impl Abort, alloc: Global, number: &Number, value: i64) -> Result<(), PlanFault> {
+    let told = told_with(alloc, number, value)?;
+    assert_eq!(rt; told.as_str(), "0 ok", "{} {value}", number.3);
+    Ok(())
+}
+
+/// A value is refused.
+fn is_outside(
+    rt: &impl Abort,
+    alloc: Global,
+    number: &Number,
+    value: i64,
+) -> Result<(), PlanFault> {
+    let told = told_with(alloc, number, value)?;
+    assert_eq!(rt; told.as_str().strip_prefix("5 range "), Some(number.3));
+    Ok(())
+}
+
 #[test]
 fn numbers_have_bounds(rt: HostRuntime) -> Result<(), PlanFault> {
-    let alloc = rt.alloc();
-    for (front, back, key, path, low, high) in NUMBERS {
-        assert_eq!(rt;
-            with(alloc, front, back, key, low)?.as_str(),
-            "0 ok",
-            "{path} {low}"
-        );
-        assert_eq!(rt;
-            with(alloc, front, back, key, high)?.as_str(),
-            "0 ok",
-            "{path} {high}"
-        );
+    for number in NUMBERS {
+        let (_, _, _, _, low, high) = *number;
+        is_within(&rt, rt.alloc(), number, low)?;
+        is_within(&rt, rt.alloc(), number, high)?;
     }
     Ok(())
 }
 
 #[test]
 fn numbers_outside_are_refused(rt: HostRuntime) -> Result<(), PlanFault> {
-    let alloc = rt.alloc();
-    for (front, back, key, path, low, high) in NUMBERS {
-        let want = format!(in alloc; "5 range {path}")?;
-        let below = with(
-            alloc,
-            front,
-            back,
-            key,
-            if low == 3 { 0 } else { low.saturating_sub(1) },
-        )?;
-        assert_eq!(rt; below.as_str(), want.as_str());
-        let above = with(alloc, front, back, key, high.saturating_add(1))?;
-        assert_eq!(rt; above.as_str(), want.as_str());
+    for number in NUMBERS {
+        let (_, _, _, _, low, high) = *number;
+        let below = if low == 3 { 0 } else { low.saturating_sub(1) };
+        is_outside(&rt, rt.alloc(), number, below)?;
+        is_outside(&rt, rt.alloc(), number, high.saturating_add(1))?;
     }
     Ok(())
 }

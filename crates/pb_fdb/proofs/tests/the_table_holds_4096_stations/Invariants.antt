@@ -1,5 +1,0 @@
-use Rattle.std.proofs.Common.{◌≡◌}
-use Rattle.pb_fdb.proofs.tests.the_table_holds_4096_stations.Given as goal
-
-abbrev pub invariant-loop-number : goal.invariant-loop-number
-invariant-loop-number g l = (l.table.clock ≡ 0) × (l.table.limit ≡ 4096)

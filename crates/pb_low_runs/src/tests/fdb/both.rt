@@ -1,0 +1,143 @@
+//! The table and the plain list, told the same.
+
+ghost use Rattle.std.specs.Prelude.{◌<◌, ◌≤◌};
+
+use super::plain::Plain;
+use pb_fdb::{Fdb, Learnt};
+use pb_frame::Mac;
+use std::alloc::Global;
+use std::process::Abort;
+
+/// Numbers in a fixed order that looks random: the generator of Park and Miller.
+#[derive(Clone, Copy)]
+pub struct Dice(pub u32);
+
+impl Dice {
+    /// A number below this one.
+    pub fn below(&mut self, sides: u32) -> u32
+        requires { 0 < sides }
+        ensures { result < sides }
+    {
+        self.0 = (u64::from(self.0) * 16807 % 2147483647) as u32;
+        self.0 % sides
+    }
+}
+
+/// Both, and the moment.
+#[derive(Drop)]
+pub struct Both {
+    pub table: Fdb,
+    pub plain: Plain,
+    pub now: u32,
+    ghost in_time: { table.clock ≤ now },
+}
+
+/// How often each answer came.
+#[derive(Clone, Copy, Debug, PartialEq, Eq)]
+pub struct Answers {
+    pub new: u32,
+    pub kept: u32,
+    pub moved: u32,
+    pub full: u32,
+    pub group: u32,
+}
+
+impl Answers {
+    pub fn none() -> Answers {
+        Answers {
+            new: 0,
+            kept: 0,
+            moved: 0,
+            full: 0,
+            group: 0,
+        }
+    }
+
+    fn count(&mut self, answer: Learnt) {
+        let place = match answer {
+            Learnt::New => &mut self.new,
+            Learnt::Kept => &mut self.kept,
+            Learnt::Moved => &mut self.moved,
+            Learnt::Full => &mut self.full,
+            Learnt::Group => &mut self.group,
+            Learnt::Memory => return,
+        };
+        *place = place.saturating_add(1);
+    }
+}
+
+impl Both {
+    pub fn new(alloc: Global, limit: usize, ageing: u32) -> Both
+        requires { 0 < ageing }
+    {
+        Both {
+            table: Fdb::new(alloc, limit, ageing),
+            plain: Plain::new(alloc, limit, ageing),
+            now: 0,
+        }
+    }
+
+    /// A little later, one command to both, and then a look at all entries.
+    pub fn step(&mut self, rt: &impl Abort, dice: &mut Dice, answers: &mut Answers) {
+        self.now = self.now.saturating_add(dice.below(3));
+        match dice.below(64) {
+            0 => self.flush(dice),
+            1 => self.expire(),
+            2..=20 => self.find(rt, dice),
+            _ => answers.count(self.learn(rt, dice)),
+        }
+        self.look(rt);
+    }
+
+    fn learn(&mut self, rt: &impl Abort, dice: &mut Dice) -> Learnt {
+        let vid = some_vid(dice);
+        let mac = some_station(dice);
+        let port = some_port(dice);
+        let answer = self.table.learn(vid, mac, port, self.now);
+        assert_eq!(rt; answer, self.plain.learn(vid, mac, port, self.now));
+        answer
+    }
+
+    fn find(&self, rt: &impl Abort, dice: &mut Dice) {
+        let vid = some_vid(dice);
+        let mac = some_station(dice);
+        assert_eq!(rt;
+            self.table.find(vid, mac, self.now),
+            self.plain.find(vid, mac, self.now)
+        );
+    }
+
+    fn flush(&mut self, dice: &mut Dice) {
+        let port = some_port(dice);
+        self.table.flush(port);
+        self.plain.flush(port);
+    }
+
+    fn expire(&mut self) {
+        self.table.expire(self.now);
+        self.plain.expire(self.now);
+    }
+
+    /// Both have the same entries in the same order.
+    fn look(&self, rt: &impl Abort) {
+        let mut entries = self.table.entries();
+        for entry in self.plain.entries() {
+            assert_eq!(rt; entries.next(), Some(*entry));
+        }
+        assert_eq!(rt; entries.next(), None);
+    }
+}
+
+fn some_vid(dice: &mut Dice) -> u16 {
+    5 + dice.below(3) as u16
+}
+
+fn some_port(dice: &mut Dice) -> u8 {
+    1 + dice.below(4) as u8
+}
+
+/// One of nine stations, and now and then a group.
+fn some_station(dice: &mut Dice) -> Mac {
+    let first = if dice.below(16) == 0 { 3 } else { 2 };
+    Mac([first, 0, 0, 0, dice.below(3) as u8, dice.below(3) as u8])
+}

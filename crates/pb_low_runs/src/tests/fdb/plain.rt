@@ -1,0 +1,101 @@
+//! The table once more, as a list that is searched from end to end: a second opinion.
+
+use pb_fdb::{Entry, Learnt};
+use pb_frame::Mac;
+use std::alloc::Global;
+
+/// Entries in the order of last learning.
+#[derive(Drop)]
+pub struct Plain {
+    limit: usize,
+    ageing: u32,
+    entries: Vec<Entry>,
+    /// How often old entries made room for a station.
+    pub sweeps: u32,
+}
+
+impl Plain {
+    pub fn new(alloc: Global, limit: usize, ageing: u32) -> Plain {
+        Plain {
+            limit,
+            ageing,
+            entries: Vec::new(alloc),
+            sweeps: 0,
+        }
+    }
+
+    pub fn find(&self, vid: u16, mac: Mac, now: u32) -> Option<u8> {
+        for entry in &self.entries {
+            if entry.vid == vid
+                && entry.mac == mac
+                && now.saturating_sub(entry.learnt) < self.ageing
+            {
+                return Some(entry.port);
+            }
+        }
+        None
+    }
+
+    pub fn learn(&mut self, vid: u16, mac: Mac, port: u8, now: u32) -> Learnt {
+        if mac.0[0] % 2 == 1 {
+            return Learnt::Group;
+        }
+        let entry = Entry {
+            vid,
+            mac,
+            port,
+            learnt: now,
+        };
+        match self.find(vid, mac, now) {
+            Some(at) if at == port => self.replace(entry, Learnt::Kept),
+            Some(_) => self.replace(entry, Learnt::Moved),
+            None => {
+                if !self.makes_room(now) {
+                    return Learnt::Full;
+                }
+                self.replace(entry, Learnt::New)
+            }
+        }
+    }
+
+    /// Room for one more, if not as many as may be are live.
+    fn makes_room(&mut self, now: u32) -> bool {
+        let ageing = self.ageing;
+        let live = self
+            .entries
+            .iter()
+            .filter(|entry| now.saturating_sub(entry.learnt) < ageing)
+            .count();
+        if live >= self.limit {
+            return false;
+        }
+        if self.entries.len() >= self.limit {
+            self.expire(now);
+            self.sweeps = self.sweeps.saturating_add(1);
+        }
+        true
+    }
+
+    fn replace(&mut self, new: Entry, answer: Learnt) -> Learnt {
+        self.entries
+            .retain(|entry| entry.vid != new.vid || entry.mac != new.mac);
+        match self.entries.push(new) {
+            Ok(()) => answer,
+            Err(_) => Learnt::Memory,
+        }
+    }
+
+    pub fn flush(&mut self, port: u8) {
+        self.entries.retain(|entry| entry.port != port);
+    }
+
+    pub fn expire(&mut self, now: u32) {
+        let ageing = self.ageing;
+        self.entries
+            .retain(|entry| now.saturating_sub(entry.learnt) < ageing);
+    }
+
+    pub fn entries(&self) -> &[Entry] {
+        self.entries.as_slice()
+    }
+}

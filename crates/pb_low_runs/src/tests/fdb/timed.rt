@@ -1,0 +1,105 @@
+//! A table and the moment, walked through rows.
+
+ghost use Rattle.std.specs.Prelude.{◌<◌, ◌≤◌};
+
+use pb_fdb::{Entry, Fdb, Learnt};
+use pb_frame::Mac;
+use std::alloc::Global;
+use std::process::Abort;
+
+/// What is done with a table, or what it tells.
+#[derive(Clone, Copy)]
+pub enum Row {
+    /// So many ticks have passed since the first moment.
+    At(u32),
+    /// A station is seen in a service at a port, and this is learnt.
+    Learns(u16, Mac, u8, Learnt),
+    /// So many stations 02-00-00-00-XX-XX, from number 0 on, are new in a service at a port.
+    LearnsFirst(u16, u16, u8),
+    /// A station is found in a service at this port, or nowhere.
+    Finds(u16, Mac, Option<u8>),
+    /// A port is flushed.
+    Flushes(u8),
+    /// The old ones are dropped.
+    Expires,
+    /// These entries are kept, in this order.
+    Has(&'static [Entry]),
+    /// So many entries are kept.
+    Counts(usize),
+}
+
+/// A table, and the moment.
+#[derive(Drop)]
+pub struct Timed {
+    table: Fdb,
+    now: u32,
+    ghost in_time: { table.clock ≤ now },
+}
+
+impl Timed {
+    pub fn new(alloc: Global, limit: usize, ageing: u32) -> Timed
+        requires { 0 < ageing }
+    {
+        Timed {
+            table: Fdb::new(alloc, limit, ageing),
+            now: 0,
+        }
+    }
+
+    /// Walks the rows. A row that does not hold is named by its number from 0.
+    pub fn walk(&mut self, rt: &impl Abort, rows: &[Row]) {
+        for (place, row) in rows.iter().enumerate() {
+            match *row {
+                Row::At(moment) => self.now = self.now.max(moment),
+                Row::Flushes(port) => self.table.flush(port),
+                Row::Expires => self.table.expire(self.now),
+                Row::Has(entries) => has(rt, &self.table, entries, place),
+                Row::Counts(wanted) => assert_eq!(rt; count(&self.table), wanted, "row {place}"),
+                _ => self.is_told(rt, *row, place),
+            }
+        }
+    }
+
+    /// A station is seen or sought.
+    fn is_told(&mut self, rt: &impl Abort, row: Row, place: usize) {
+        match row {
+            Row::Learns(vid, mac, port, wanted) => {
+                let learnt = self.table.learn(vid, mac, port, self.now);
+                assert_eq!(rt; learnt, wanted, "row {place}");
+            }
+            Row::LearnsFirst(stations, vid, port) => {
+                for number in 0..stations {
+                    let learnt = self.table.learn(vid, station(number), port, self.now);
+                    assert_eq!(rt; learnt, Learnt::New, "row {place}");
+                }
+            }
+            Row::Finds(vid, mac, wanted) => {
+                assert_eq!(rt; self.table.find(vid, mac, self.now), wanted, "row {place}")
+            }
+            _ => {}
+        }
+    }
+}
+
+/// The station 02-00-00-00-XX-XX of this number.
+fn station(number: u16) -> Mac {
+    Mac([2, 0, 0, 0, (number / 256) as u8, (number % 256) as u8])
+}
+
+/// The table has these entries in this order.
+fn has(rt: &impl Abort, table: &Fdb, wanted: &[Entry], place: usize) {
+    let mut entries = table.entries();
+    for entry in wanted {
+        assert_eq!(rt; entries.next(), Some(*entry), "row {place}");
+    }
+    assert_eq!(rt; entries.next(), None, "row {place}");
+}
+
+/// How many entries the table has.
+fn count(table: &Fdb) -> usize {
+    let mut count = 0usize;
+    for _entry in table.entries() {
+        count = count.saturating_add(1);
+    }
+    count
+}

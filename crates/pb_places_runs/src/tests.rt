@@ -1,0 +1,5 @@
+//! Runs with ample memory, a file for each library. Each ends by itself, whatever the schedule.
+
+mod link;
+mod ring;
+mod work;

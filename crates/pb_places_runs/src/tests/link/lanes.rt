@@ -1,0 +1,172 @@
+//! Lanes that lose some of their items.
+
+use super::item;
+use pb_frame::Memory;
+use pb_lan::{Item, Seq, Step};
+use pb_link::Lane;
+use std::alloc::{AllocError, Global};
+use std::process::Abort;
+use std::test::Fail;
+
+/// A lane that loses its second item and its fourth.
+fn lane(alloc: Global) -> Result<Lane, AllocError> {
+    let losses = vec![in alloc; 1u64, 3]?;
+    Ok(Lane::new(alloc, Seq::from_vec(losses)))
+}
+
+/// The item of this number is taken, if none is in hand.
+fn take(alloc: Global, lane: &mut Lane, number: u64) -> Result<bool, Memory> {
+    let item = item(alloc, number)?;
+    lane.reserve()?;
+    if !lane.is_hand_empty() {
+        return Ok(false);
+    }
+    lane.accept(item);
+    Ok(true)
+}
+
+/// The item that is put, if one is in hand.
+fn put(lane: &mut Lane) -> Result<Option<Item>, Memory> {
+    if lane.is_hand_empty() {
+        return Ok(None);
+    }
+    Ok(Some(lane.release()?))
+}
+
+/// The step that takes the item of a number.
+fn taken(alloc: Global, number: u64, lost: bool) -> Result<Step, AllocError> {
+    let item = item(alloc, number)?;
+    Ok(Step::Take { number, item, lost })
+}
+
+/// The step that puts it.
+fn was_put(alloc: Global, number: u64) -> Result<Step, AllocError> {
+    let item = item(alloc, number)?;
+    Ok(Step::Put { item })
+}
+
+/// What is done with a lane, or seen of it. Items are those of customer port 7, by number.
+#[derive(Clone, Copy)]
+enum Row {
+    /// Whether an item is taken.
+    Takes(u64, bool),
+    /// The item that is in hand, if one is.
+    Holds(Option<u64>),
+    /// The item that is put, if one is.
+    Puts(Option<u64>),
+    /// So many steps were taken.
+    Steps(usize),
+}
+
+/// Whether this item, or none, is in hand.
+fn has_in_hand(alloc: Global, lane: &Lane, number: Option<u64>) -> Result<bool, Memory> {
+    match number {
+        None => Ok(lane.hand().is_none() && lane.is_hand_empty()),
+        Some(number) => {
+            let wanted = item(alloc, number)?;
+            Ok(lane.hand() == Some(&wanted) && !lane.is_hand_empty())
+        }
+    }
+}
+
+/// Whether this item, or none, is put.
+fn puts(alloc: Global, lane: &mut Lane, number: Option<u64>) -> Result<bool, Memory> {
+    match number {
+        None => Ok(put(lane)?.is_none()),
+        Some(number) => {
+            let wanted = item(alloc, number)?;
+            Ok(put(lane)? == Some(wanted))
+        }
+    }
+}
+
+/// Whether a row holds.
+fn holds(alloc: Global, lane: &mut Lane, row: Row) -> Result<bool, Memory> {
+    match row {
+        Row::Takes(number, wanted) => Ok(take(alloc, lane, number)? == wanted),
+        Row::Holds(number) => has_in_hand(alloc, lane, number),
+        Row::Puts(number) => puts(alloc, lane, number),
+        Row::Steps(steps) => Ok(lane.steps().len() == steps),
+    }
+}
+
+/// Each row holds, one after the other. A row that does not is named by its number from 0.
+fn walk(rt: &impl Abort, alloc: Global, rows: &[Row]) -> Result<(), Fail> {
+    let mut lane = lane(alloc)?;
+    for (place, row) in rows.iter().enumerate() {
+        assert!(rt; holds(alloc, &mut lane, *row)?, "row {place}");
+    }
+    Ok(())
+}
+
+#[test]
+fn a_lane_loses_what_the_plan_says(rt: HostRuntime) -> Result<(), Fail> {
+    const ROWS: &[Row] = &[
+        Row::Takes(0, true),
+        Row::Holds(Some(0)),
+        Row::Puts(Some(0)),
+        Row::Takes(1, true),
+        Row::Holds(None),
+        Row::Puts(None),
+        Row::Takes(2, true),
+        Row::Holds(Some(2)),
+        Row::Puts(Some(2)),
+        Row::Takes(3, true),
+        Row::Holds(None),
+        Row::Puts(None),
+        Row::Takes(4, true),
+        Row::Holds(Some(4)),
+        Row::Puts(Some(4)),
+        Row::Steps(8),
+    ];
+    walk(&rt, rt.alloc(), ROWS)
+}
+
+#[test]
+fn a_lane_holds_one_item(rt: HostRuntime) -> Result<(), Fail> {
+    const ROWS: &[Row] = &[
+        Row::Holds(None),
+        Row::Puts(None),
+        Row::Takes(0, true),
+        Row::Takes(1, false),
+        Row::Holds(Some(0)),
+        Row::Steps(1),
+    ];
+    walk(&rt, rt.alloc(), ROWS)
+}
+
+/// The steps of a lane that took three items and put those that it did not lose.
+fn steps_of_three(alloc: Global) -> Result<Vec<Step>, Memory> {
+    let mut lane = lane(alloc)?;
+    for number in 0..3u64 {
+        take(alloc, &mut lane, number)?;
+        put(&mut lane)?;
+    }
+    Ok(lane.into_steps())
+}
+
+/// Whether a list has this step at this place.
+fn has(steps: &[Step], place: usize, step: &Step) -> bool {
+    steps.get(place) == Some(step)
+}
+
+#[test]
+fn a_lane_tells_what_it_took(rt: HostRuntime) -> Result<(), Fail> {
+    let alloc = rt.alloc();
+    let steps = steps_of_three(alloc)?;
+    for (place, number, lost) in [(0usize, 0u64, false), (2, 1, true), (3, 2, false)] {
+        assert!(rt; has(&steps, place, &taken(alloc, number, lost)?));
+    }
+    Ok(())
+}
+
+#[test]
+fn a_lane_tells_what_it_put(rt: HostRuntime) -> Result<(), Fail> {
+    let alloc = rt.alloc();
+    let steps = steps_of_three(alloc)?;
+    assert_eq!(rt; steps.len(), 5);
+    for (place, number) in [(1usize, 0u64), (4, 2)] {
+        assert!(rt; has(&steps, place, &was_put(alloc, number)?));
+    }
+    Ok(())
+}

@@ -1,0 +1,193 @@
+//! Runs of a few workers. Each ends by itself, whatever the schedule.
+
+use pb_lan::{Limits, Place};
+use pb_work::{Did, Finish, Gate, Go, Moment, Places, Turn, Work, run_all};
+use std::alloc::{AllocError, Global};
+use std::sync::atomic::{AtomicU64, Ordering};
+use std::test::Fail;
+use std::thread;
+
+/// A place with so many jobs, one of which is done in a turn.
+#[derive(Drop)]
+struct Desk {
+    place: Place,
+    jobs: u64,
+    turns: u64,
+    ticks: u64,
+    finish: Option<Finish>,
+}
+
+impl Work for Desk {
+    type Given = u8;
+
+    ghost given = { λ d. 0 };
+
+    ghost fits = { λ d. Unit {0} };
+
+    fn place(&self) -> Place {
+        self.place
+    }
+
+    fn turn(&mut self, moment: Moment) -> Turn {
+        self.turns = self.turns.saturating_add(1);
+        if moment.is_tick {
+            self.ticks = self.ticks.saturating_add(1);
+        }
+        let did = if self.jobs > 0 { Did::Done } else { Did::Idle };
+        let fewer = self.jobs.min(1);
+        self.jobs = self.jobs.saturating_sub(1);
+        Turn {
+            did,
+            more: 0,
+            fewer,
+        }
+    }
+
+    fn close(&mut self, _moment: Moment, finish: Finish) {
+        self.finish = Some(finish);
+    }
+}
+
+/// Two places with so many jobs each.
+fn desks(alloc: Global, jobs: u64, first: Place, second: Place) -> Result<Vec<Desk>, AllocError> {
+    let mut desks = Vec::new(alloc);
+    for place in [first, second] {
+        desks.push(Desk {
+            place,
+            jobs,
+            turns: 0,
+            ticks: 0,
+            finish: None,
+        })?;
+    }
+    Ok(desks)
+}
+
+/// Two places of each kind, with so many jobs each.
+fn office(alloc: Global, jobs: u64) -> Result<Places<Desk, Desk, Desk>, AllocError> {
+    Ok((
+        desks(alloc, jobs, Place::Customer(1), Place::Customer(2))?,
+        desks(alloc, jobs, Place::Lane(1), Place::Lane(2))?,
+        desks(alloc, jobs, Place::Bridge(1), Place::Bridge(2))?,
+    ))
+}
+
+/// All places of a run, in one list.
+fn together(places: Places<Desk, Desk, Desk>) -> Result<Vec<Desk>, AllocError> {
+    let (mut desks, lanes, bridges) = places;
+    for desk in lanes {
+        desks.push(desk)?;
+    }
+    for desk in bridges {
+        desks.push(desk)?;
+    }
+    Ok(desks)
+}
+
+/// At turn 0 each pass waits until all have come. It counts the passes of all turns.
+#[derive(Drop)]
+struct Meeting {
+    all: u64,
+    here: AtomicU64,
+    passes: AtomicU64,
+}
+
+impl Gate for Meeting {
+    fn pass(&self, _place: Place, turn: u64) -> Go {
+        self.passes.fetch_add(1, Ordering::SeqCst);
+        if turn > 0 {
+            return Go::Go;
+        }
+        self.here.fetch_add(1, Ordering::SeqCst);
+        for _ in 0..1_000_000u32 {
+            if self.here.load(Ordering::SeqCst) >= self.all {
+                return Go::Go;
+            }
+            thread::yield_now();
+        }
+        Go::Stop
+    }
+}
+
+fn meeting_of(all: u64) -> Meeting {
+    Meeting {
+        all,
+        here: AtomicU64::new(0),
+        passes: AtomicU64::new(0),
+    }
+}
+
+#[test]
+fn all_workers_run_at_once_and_end_when_nothing_is_left(rt: HostRuntime) -> Result<(), Fail> {
+    let gate = meeting_of(6);
+    let limits = Limits {
+        turns: 1_000_000_000,
+        tick_every: 0,
+    };
+    let places = office(rt.alloc(), 20)?;
+    let (places, verdict) = run_all(&rt, rt.alloc(), places, &gate, limits, 120);
+    assert!(rt; verdict.is_ok());
+    assert_eq!(rt; gate.here.load(Ordering::SeqCst), 6);
+    for desk in together(places)? {
+        assert!(rt; desk.jobs == 0 && desk.finish == Some(Finish::Told));
+        assert!(rt; desk.turns >= 20 && desk.ticks == 0);
+    }
+    assert!(rt; gate.passes.load(Ordering::SeqCst) >= 120);
+    Ok(())
+}
+
+/// Every worker may go on.
+#[derive(Clone, Copy)]
+struct Open;
+
+impl Gate for Open {
+    fn pass(&self, _place: Place, _turn: u64) -> Go {
+        Go::Go
+    }
+}
+
+#[test]
+fn a_worker_takes_so_many_turns_at_most(rt: HostRuntime) -> Result<(), Fail> {
+    let limits = Limits {
+        turns: 12,
+        tick_every: 5,
+    };
+    let places = office(rt.alloc(), 20)?;
+    let (places, verdict) = run_all(&rt, rt.alloc(), places, &Open, limits, 121);
+    assert!(rt; verdict.is_ok());
+    let mut is_limit = false;
+    for desk in together(places)? {
+        assert!(rt; desk.turns <= 12 && desk.jobs.saturating_add(desk.turns) == 20);
+        assert!(rt; desk.ticks == desk.turns / 5);
+        is_limit = is_limit || desk.finish == Some(Finish::Limit);
+    }
+    assert!(rt; is_limit);
+    Ok(())
+}
+
+/// Stops each worker at a turn.
+#[derive(Drop)]
+struct StopAt(u64);
+
+impl Gate for StopAt {
+    fn pass(&self, _place: Place, turn: u64) -> Go {
+        if turn < self.0 { Go::Go } else { Go::Stop }
+    }
+}
+
+#[test]
+fn a_gate_stops_the_workers(rt: HostRuntime) -> Result<(), Fail> {
+    let limits = Limits {
+        turns: 1_000,
+        tick_every: 0,
+    };
+    for turns in 0..5u64 {
+        let places = office(rt.alloc(), 20)?;
+        let (places, verdict) = run_all(&rt, rt.alloc(), places, &StopAt(turns), limits, 120);
+        assert!(rt; verdict.is_ok());
+        for desk in together(places)? {
+            assert!(rt; desk.turns <= turns && desk.finish == Some(Finish::Told));
+        }
+    }
+    Ok(())
+}

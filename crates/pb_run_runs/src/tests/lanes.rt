@@ -1,0 +1,141 @@
+//! A lane's worker, turn by turn.
+
+ghost use Rattle.std.specs.Prelude.{◌≡◌, Some, [], slice_get};
+ghost use Rattle.rtrb.specs.Ring.{sent, received};
+ghost use Rattle.pb_ring.specs.Rings.{writer_name, reader_name};
+
+use bytes::Bytes;
+use pb_frame::Memory;
+use pb_lan::{FrameNumber, Item, Mark, Place, Seq};
+use pb_link::Lane;
+use pb_ring::{Inlet, Outlet, Wiring};
+use pb_run::LaneWorker;
+use pb_work::{Did, Finish, Moment, Turn, Work};
+use rtrb::{Consumer, Producer, RingBuffer};
+use std::alloc::{AllocError, Global};
+use std::marker::Brand;
+use std::test::Fail;
+
+/// A ring's two ends.
+type Ring = (Producer<Item>, Consumer<Item>);
+
+/// A broadcast.
+const BROADCAST: [u8; 14] = [255, 255, 255, 255, 255, 255, 2, 0, 0, 0, 1, 1, 8, 0];
+
+/// The moment of a turn at which no clock ticks.
+const STILL: Moment = Moment {
+    now: 0,
+    is_tick: false,
+};
+
+/// The broadcast, as the frame of this number of customer port 1.
+fn item(alloc: Global, number: u64) -> Result<Item, AllocError> {
+    Ok(Item {
+        mark: Some(Mark {
+            port: 1,
+            number: FrameNumber::new(number),
+        }),
+        hops: 0,
+        wire: Bytes::copy_from_slice(alloc, &BROADCAST)?,
+    })
+}
+
+/// The worker of lane 3, which loses its second item and may take five steps.
+fn worker_of<W: Wiring>(
+    alloc: Global,
+    from: Consumer<Item>,
+    to: Producer<Item>,
+) -> Result<LaneWorker<W>, Memory>
+    requires from { (slice_get W.rings 0 ≡ Some (reader_name from)) × (received from ≡ []) }
+    requires to { (slice_get W.rings 1 ≡ Some (writer_name to)) × (sent to ≡ []) }
+{
+    let lane = Lane::new(alloc, Seq::from_vec(vec![in alloc; 1u64]?));
+    Ok(LaneWorker::new(3, lane, Inlet::new(from, 0), Outlet::new(to, 1), 5))
+}
+
+/// Whether the worker's next turn does this, and so much less is left after it.
+fn does<W: Wiring>(worker: &mut LaneWorker<W>, did: Did, fewer: u64) -> bool {
+    worker.turn(STILL)
+        == Turn {
+            did,
+            more: 0,
+            fewer,
+        }
+}
+
+/// What is done with a worker, or seen of it.
+#[derive(Clone, Copy)]
+enum Row {
+    /// The item of a number is sent to it.
+    Sent(u64),
+    /// Its turn does this, and so much less is left after it.
+    Turn(Did, u64),
+    /// The item of a number has come from it.
+    Came(u64),
+}
+
+/// It takes and puts items, loses one, and comes to the limit.
+const ROWS: &[Row] = &[
+    Row::Turn(Did::Idle, 0),
+    Row::Sent(0),
+    Row::Sent(1),
+    Row::Sent(2),
+    Row::Sent(3),
+    Row::Turn(Did::Done, 0),
+    Row::Turn(Did::Done, 0),
+    Row::Turn(Did::Done, 1),
+    Row::Turn(Did::Done, 0),
+    Row::Turn(Did::Idle, 0),
+    Row::Came(0),
+    Row::Turn(Did::Done, 0),
+    Row::Turn(Did::Limit, 0),
+    Row::Came(2),
+];
+
+/// Whether a row holds.
+fn holds<W: Wiring>(
+    alloc: Global,
+    near: &mut Producer<Item>,
+    worker: &mut LaneWorker<W>,
+    far: &mut Consumer<Item>,
+    row: Row,
+) -> Result<bool, Memory> {
+    match row {
+        Row::Turn(did, fewer) => Ok(does(worker, did, fewer)),
+        Row::Sent(number) => Ok(near.push(item(alloc, number)?).is_ok()),
+        Row::Came(number) => {
+            let wanted = item(alloc, number)?;
+            Ok(far.pop().is_ok_and(|item| item == wanted))
+        }
+    }
+}
+
+/// Whether all rows hold of a worker between two rings.
+fn carry<W: Wiring>(alloc: Global, from: Ring, to: Ring) -> Result<bool, Memory>
+    requires from { (slice_get W.rings 0 ≡ Some (reader_name from.1)) × (received from.1 ≡ []) }
+    requires to { (slice_get W.rings 1 ≡ Some (writer_name to.0)) × (sent to.0 ≡ []) }
+{
+    let mut near = from.0;
+    let mut far = to.1;
+    let mut worker = worker_of::<W>(alloc, from.1, to.0)?;
+    let mut is_good = worker.place() == Place::Lane(3);
+    for row in ROWS {
+        is_good = is_good && holds(alloc, &mut near, &mut worker, &mut far, *row)?;
+    }
+    Ok(is_good && is_closed(&mut worker))
+}
+
+/// Whether it keeps why it was closed, and the five steps that it took.
+fn is_closed<W: Wiring>(worker: &mut LaneWorker<W>) -> bool {
+    worker.close(STILL, Finish::Limit);
+    worker.finish == Some(Finish::Limit) && worker.lane.steps().len() == 5
+}
+
+#[test]
+fn a_lane_takes_and_puts(rt: HostRuntime) -> Result<(), Fail> {
+    let alloc = rt.alloc();
+    let from = RingBuffer::<Item>::new(alloc, 4)?;
+    let to = RingBuffer::<Item>::new(alloc, 1)?;
+    assert!(rt; carry::<Brand>(alloc, from, to)?);
+    Ok(())
+}

@@ -1,0 +1,4 @@
+//! Runs with ample memory, a file for each library.
+
+mod lines;
+mod words;
