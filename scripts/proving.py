@@ -398,11 +398,13 @@ def prepare():
 
 
 def figures(root):
-    """Returns what the last run measured of each crate, by name."""
-    with contextlib.suppress(OSError, ValueError):
-        with open(f"{root}/out/proofs.json", encoding="utf-8") as it:
-            return json.load(it)
-    return {}
+    """Returns what was measured of each crate, by name: in the last run here, or else in one whose figures the repository holds."""
+    found = {}
+    for file in (f"{root}/scripts/proofs.json", f"{root}/out/proofs.json"):
+        with contextlib.suppress(OSError, ValueError):
+            with open(file, encoding="utf-8") as it:
+                found.update(json.load(it))
+    return found
 
 
 def prove(root, names, processors=None, before=None):
