@@ -106,16 +106,11 @@ fn with(
     told(alloc, text.as_bytes())
 }
 
-/// The fault of a file in which a number has the value.
-fn told_with(alloc: Global, number: &Number, value: i64) -> Result<String, PlanFault> {
-    let (front, back, key, _, _, _) = *number;
-    with(alloc, front, back, key, value)
-}
-
 /// A value is taken.
 fn is_within(rt: &impl Abort, alloc: Global, number: &Number, value: i64) -> Result<(), PlanFault> {
-    let told = told_with(alloc, number, value)?;
-    assert_eq!(rt; told.as_str(), "0 ok", "{} {value}", number.3);
+    let (front, back, key, path, _, _) = *number;
+    let told = with(alloc, front, back, key, value)?;
+    assert_eq!(rt; told.as_str(), "0 ok", "{path} {value}");
     Ok(())
 }
 
@@ -126,8 +121,9 @@ fn is_outside(
     number: &Number,
     value: i64,
 ) -> Result<(), PlanFault> {
-    let told = told_with(alloc, number, value)?;
-    assert_eq!(rt; told.as_str().strip_prefix("5 range "), Some(number.3));
+    let (front, back, key, path, _, _) = *number;
+    let told = with(alloc, front, back, key, value)?;
+    assert_eq!(rt; told.as_str().strip_prefix("5 range "), Some(path));
     Ok(())
 }
 
