@@ -106,11 +106,16 @@ fn with(
     told(alloc, text.as_bytes())
 }
 
+/// A file has no fault, in which the number of a place has a value.
+fn is_ok(rt: &impl Abort, told: &str, path: &str, value: i64) {
+    assert_eq!(rt; told, "0 ok", "{path} {value}");
+}
+
 /// A value is taken.
 fn is_within(rt: &impl Abort, alloc: Global, number: &Number, value: i64) -> Result<(), PlanFault> {
     let (front, back, key, path, _, _) = *number;
     let told = with(alloc, front, back, key, value)?;
-    assert_eq!(rt; told.as_str(), "0 ok", "{path} {value}");
+    is_ok(rt, told.as_str(), path, value);
     Ok(())
 }
 
