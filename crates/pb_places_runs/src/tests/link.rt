@@ -69,21 +69,36 @@ fn frames_are_fed_one_after_the_other(rt: HostRuntime) -> Result<(), Fail> {
     Ok(())
 }
 
-#[test]
-fn items_are_delivered_beside_a_full_hand(rt: HostRuntime) -> Result<(), Fail> {
-    let alloc = rt.alloc();
+/// The steps of a port that holds a frame, once two items were delivered, the second of which is gone.
+fn steps_with_two_delivered(alloc: Global) -> Result<Vec<Step>, Memory> {
     let mut place = CustomerPlace::new(alloc, 7);
     poll(alloc, &mut place)?;
     for gone in [false, true] {
         place.reserve_step()?;
         place.deliver(item(alloc, 9)?, gone);
     }
-    assert!(rt; !place.is_hand_empty());
-    let steps = place.into_steps();
-    assert_eq!(rt; steps.len(), 3);
-    for (step, gone) in [(1usize, false), (2, true)] {
-        let item = item(alloc, 9)?;
-        assert!(rt; steps[step] == Step::Deliver { item, gone });
+    if place.is_hand_empty() {
+        return Ok(Vec::new(alloc));
     }
+    Ok(place.into_steps())
+}
+
+/// Whether the step at a place delivers item 9, which is gone or not.
+fn delivers_at(
+    alloc: Global,
+    steps: &[Step],
+    place: usize,
+    gone: bool,
+) -> Result<bool, AllocError> {
+    let item = item(alloc, 9)?;
+    Ok(steps.get(place) == Some(&Step::Deliver { item, gone }))
+}
+
+#[test]
+fn items_are_delivered_beside_a_full_hand(rt: HostRuntime) -> Result<(), Fail> {
+    let steps = steps_with_two_delivered(rt.alloc())?;
+    assert_eq!(rt; steps.len(), 3);
+    assert!(rt; delivers_at(rt.alloc(), &steps, 1, false)?);
+    assert!(rt; delivers_at(rt.alloc(), &steps, 2, true)?);
     Ok(())
 }

@@ -1,10 +1,13 @@
 //! Ports over captures.
 
+use super::rows::{Row, walk};
 use super::seen::{Seen, Watched};
 use super::stub::Stub;
 use super::told::{frame_of, sink, source_of, told_by};
 use pb_port::*;
-use std::fs::{self, File};
+use std::alloc::Global;
+use std::fs::{self, File, Files};
+use std::process::Abort;
 use std::test::Fail;
 
 /// A capture with a record that captured 14 octets of 60, one that captured 14 of 14, and seven octets.
@@ -20,21 +23,23 @@ const TOLD: [u16; 16] = [
     21, 22, 23, 24, 25, 26, 27, 28, 29, 30, 31, 32, 33, 34, 300, 260,
 ];
 
+/// The frame of the capture.
+const FRAME: &str = "15161718191a1b1c1d1e1f202122";
+
 #[test]
 fn reads_a_capture(rt: HostRuntime) -> Result<(), Fail> {
+    const ROWS: &[Row] = &[
+        Row::Gives(FRAME),
+        Row::Faults(4),
+        Row::Faults(4),
+        Row::Faults(4),
+    ];
     let alloc = rt.alloc();
     let input = Vec::from_slice(alloc, &CAPTURE)?;
     let reader = Stub::new(alloc, input, 1000, false, 0);
     let mut port = CapturePort::new(alloc, 4, reader, sink(alloc));
-    match port.poll() {
-        Polled::Frame(frame) => assert!(rt; frame.as_slice() == &CAPTURE[70..84]),
-        _ => assert!(rt; false),
-    }
-    for polls in 0..3 {
-        assert!(rt; matches!(port.poll(), Polled::Fault(4)));
-    }
-    assert_eq!(rt; port.skipped(), 1);
-    assert_eq!(rt; port.failures(), 0);
+    walk(&rt, alloc, &mut port, ROWS)?;
+    assert_eq!(rt; (port.skipped(), port.failures()), (1, 0));
     Ok(())
 }
 
@@ -66,43 +71,48 @@ fn reads_each_cut(rt: HostRuntime) -> Result<(), Fail> {
 }
 
 #[test]
-fn reads_and_writes_64_times_a_call(rt: HostRuntime) -> Result<(), Fail> {
+fn reads_64_times_a_call(rt: HostRuntime) -> Result<(), Fail> {
     let alloc = rt.alloc();
+    let seen = Seen::new(alloc);
     let input = Vec::from_slice(alloc, &CAPTURE)?;
-    let (read, wrote) = (Seen::new(alloc), Seen::new(alloc));
-    let reader = Watched::new(Stub::new(alloc, input, 1, false, 0), &read);
-    let writer = Watched::new(Stub::new(alloc, Vec::new(alloc), 1, false, 0), &wrote);
-    let mut port = CapturePort::new(alloc, 4, reader, writer);
-    assert!(rt; matches!(port.poll(), Polled::Nothing));
-    assert_eq!(rt; read.calls(), 64);
-    assert!(rt; matches!(port.poll(), Polled::Frame(_)));
-    assert_eq!(rt; read.calls(), 84);
-    let frame = frame_of(&rt, alloc, "0102030405060708090a0b0c0d0e")?;
-    assert_eq!(rt; port.offer(&frame), Offered::Taken);
-    assert_eq!(rt; port.offer(&frame), Offered::Taken);
-    assert_eq!(rt; port.pump(7), Pumped::Wrote(1));
-    assert_eq!(rt; wrote.calls(), 64);
-    assert_eq!(rt; port.unsent().len(), 1);
-    assert_eq!(rt; port.pump(8), Pumped::Wrote(1));
-    assert_eq!(rt; wrote.calls(), 84);
-    assert_eq!(rt; port.pump(9), Pumped::Nothing);
+    let reader = Watched::new(Stub::new(alloc, input, 1, false, 0), &seen);
+    let mut port = CapturePort::new(alloc, 4, reader, sink(alloc));
+    walk(&rt, alloc, &mut port, &[Row::Waits])?;
+    assert_eq!(rt; seen.calls(), 64);
+    walk(&rt, alloc, &mut port, &[Row::Gives(FRAME)])?;
+    assert_eq!(rt; seen.calls(), 84);
     Ok(())
 }
 
 #[test]
-fn writes_many_frames_a_call(rt: HostRuntime) -> Result<(), Fail> {
+fn writes_64_times_a_call(rt: HostRuntime) -> Result<(), Fail> {
+    const FIRST: &[Row] = &[
+        Row::Takes(2, "0102030405060708090a0b0c0d0e"),
+        Row::Pumps(7, Pumped::Wrote(1)),
+        Row::Unsent(1),
+    ];
+    const SECOND: &[Row] = &[Row::Pumps(8, Pumped::Wrote(1))];
     let alloc = rt.alloc();
-    let wrote = Seen::new(alloc);
-    let writer = Watched::new(Stub::new(alloc, Vec::new(alloc), 100_000, false, 0), &wrote);
+    let seen = Seen::new(alloc);
+    let writer = Watched::new(Stub::new(alloc, Vec::new(alloc), 1, false, 0), &seen);
+    let mut port = CapturePort::new(alloc, 4, sink(alloc), writer);
+    walk(&rt, alloc, &mut port, FIRST)?;
+    assert_eq!(rt; seen.calls(), 64);
+    walk(&rt, alloc, &mut port, SECOND)?;
+    assert_eq!(rt; seen.calls(), 84);
+    walk(&rt, alloc, &mut port, &[Row::Pumps(9, Pumped::Nothing)])
+}
+
+#[test]
+fn writes_many_frames_a_call(rt: HostRuntime) -> Result<(), Fail> {
+    const ROWS: &[Row] = &[Row::Takes(1000, "0708"), Row::Pumps(1, Pumped::Wrote(1000))];
+    let alloc = rt.alloc();
+    let seen = Seen::new(alloc);
+    let writer = Watched::new(Stub::new(alloc, Vec::new(alloc), 100_000, false, 0), &seen);
     let mut port = CapturePort::new(alloc, 1000, sink(alloc), writer);
-    let frame = frame_of(&rt, alloc, "0708")?;
-    for offers in 0..1000 {
-        assert_eq!(rt; port.offer(&frame), Offered::Taken);
-    }
-    assert_eq!(rt; port.pump(1), Pumped::Wrote(1000));
-    assert_eq!(rt; wrote.calls(), 2);
-    let output = wrote.output(alloc)?;
-    assert_eq!(rt; output.len(), 18_024);
+    walk(&rt, alloc, &mut port, ROWS)?;
+    let output = seen.output(alloc)?;
+    assert_eq!(rt; (seen.calls(), output.len()), (2, 18_024));
     let end = frame_of(&rt, alloc, "010000000000000002000000020000000708")?;
     assert!(rt; output.as_slice().ends_with(end.as_slice()));
     Ok(())
@@ -200,41 +210,34 @@ fn tells_what_is_wrong(rt: HostRuntime) -> Result<(), Fail> {
 
 #[test]
 fn writes_a_capture(rt: HostRuntime) -> Result<(), Fail> {
+    const ROWS: &[Row] = &[
+        Row::Offers("0102030405060708090a0b0c0d0e", Offered::Taken),
+        Row::PumpsUntil(7, 1),
+    ];
     let alloc = rt.alloc();
-    let wrote = Seen::new(alloc);
-    let writer = Watched::new(Stub::new(alloc, Vec::new(alloc), 3, true, 0), &wrote);
+    let seen = Seen::new(alloc);
+    let writer = Watched::new(Stub::new(alloc, Vec::new(alloc), 3, true, 0), &seen);
     let mut port = CapturePort::new(alloc, 4, sink(alloc), writer);
-    let frame = frame_of(&rt, alloc, "0102030405060708090a0b0c0d0e")?;
-    assert_eq!(rt; port.offer(&frame), Offered::Taken);
-    let mut left = 0;
-    for pumps in 0..100 {
-        if let Pumped::Wrote(n) = port.pump(7) {
-            left = n;
-            break;
-        }
-    }
-    assert_eq!(rt; left, 1);
+    walk(&rt, alloc, &mut port, ROWS)?;
     let wanted = frame_of(
         &rt,
         alloc,
         "d4c3b2a1020004000000000000000000ffff000001000000\
 07000000000000000e0000000e0000000102030405060708090a0b0c0d0e",
     )?;
-    assert!(rt; wrote.output(alloc)?.as_slice() == wanted.as_slice());
+    assert!(rt; seen.output(alloc)?.as_slice() == wanted.as_slice());
     Ok(())
 }
 
 #[test]
 fn fails_at_each_read(rt: HostRuntime) -> Result<(), Fail> {
+    const ROWS: &[Row] = &[Row::Tells(&[262]), Row::Faults(6)];
     let alloc = rt.alloc();
     for k in 1..85u64 {
         let input = Vec::from_slice(alloc, &CAPTURE)?;
         let reader = Stub::new(alloc, input, 1, false, k);
         let mut port = CapturePort::new(alloc, 4, reader, sink(alloc));
-        let mut said = Vec::new(alloc);
-        told_by(&mut port, &mut said)?;
-        assert!(rt; said.as_slice() == [262u16].as_slice());
-        assert!(rt; matches!(port.poll(), Polled::Fault(6)));
+        walk(&rt, alloc, &mut port, ROWS)?;
         assert_eq!(rt; port.failures(), 1);
     }
     Ok(())
@@ -242,35 +245,64 @@ fn fails_at_each_read(rt: HostRuntime) -> Result<(), Fail> {
 
 #[test]
 fn fails_at_each_write(rt: HostRuntime) -> Result<(), Fail> {
+    const ROWS: &[Row] = &[
+        Row::Offers("010203", Offered::Taken),
+        Row::Pumps(0, Pumped::Fault(7)),
+        Row::Offers("010203", Offered::Gone),
+        Row::Pumps(0, Pumped::Fault(7)),
+        Row::Unsent(1),
+    ];
     let alloc = rt.alloc();
-    let frame = frame_of(&rt, alloc, "010203")?;
     for k in 1..44u64 {
         let writer = Stub::new(alloc, Vec::new(alloc), 1, false, k);
         let mut port = CapturePort::new(alloc, 4, sink(alloc), writer);
-        assert_eq!(rt; port.offer(&frame), Offered::Taken);
-        assert_eq!(rt; port.pump(0), Pumped::Fault(7));
-        assert_eq!(rt; port.offer(&frame), Offered::Gone);
-        assert_eq!(rt; port.pump(0), Pumped::Fault(7));
-        assert_eq!(rt; port.unsent().len(), 1);
+        walk(&rt, alloc, &mut port, ROWS)?;
         assert_eq!(rt; port.failures(), 1);
     }
     Ok(())
 }
 
+/// Writes a capture of two frames to a file.
+fn write_file(
+    rt: &(impl Files<File = File> + Abort),
+    alloc: Global,
+    path: &str,
+) -> Result<(), Fail> {
+    const ROWS: &[Row] = &[
+        Row::Offers("0708", Offered::Taken),
+        Row::Offers("", Offered::Taken),
+        Row::Pumps(1, Pumped::Wrote(2)),
+    ];
+    let writer = Over::new(File::create(rt, path)?);
+    walk(
+        rt,
+        alloc,
+        &mut CapturePort::new(alloc, 4, sink(alloc), writer),
+        ROWS,
+    )
+}
+
+/// Reads it.
+fn read_file(
+    rt: &(impl Files<File = File> + Abort),
+    alloc: Global,
+    path: &str,
+) -> Result<(), Fail> {
+    const ROWS: &[Row] = &[Row::Tells(&[7, 8, 300, 300, 256])];
+    let reader = Over::new(File::open(rt, path)?);
+    walk(
+        rt,
+        alloc,
+        &mut CapturePort::new(alloc, 4, reader, sink(alloc)),
+        ROWS,
+    )
+}
+
 #[test]
 fn reads_back_a_file(rt: HostRuntime) -> Result<(), Fail> {
-    let alloc = rt.alloc();
     let path = "ports.pcap";
-    let other = "none.pcap";
-    let writer = Over::new(File::create(&rt, path)?);
-    let mut port = CapturePort::new(alloc, 4, sink(alloc), writer);
-    assert_eq!(rt; port.offer(&frame_of(&rt, alloc, "0708")?), Offered::Taken);
-    assert_eq!(rt; port.offer(&frame_of(&rt, alloc, "")?), Offered::Taken);
-    assert_eq!(rt; port.pump(1), Pumped::Wrote(2));
-    let mut port = CapturePort::new(alloc, 4, Over::new(File::open(&rt, path)?), sink(alloc));
-    let mut said = Vec::new(alloc);
-    told_by(&mut port, &mut said)?;
-    assert!(rt; said.as_slice() == [7u16, 8, 300, 300, 256].as_slice());
+    write_file(&rt, rt.alloc(), path)?;
+    read_file(&rt, rt.alloc(), path)?;
     fs::remove_file(&rt, path)?;
     Ok(())
 }

@@ -1,53 +1,46 @@
 //! Ports over sockets.
 
+use super::rows::{Row, walk};
 use super::seen::{Seen, Watched};
 use super::stub::Stub;
-use super::told::{frame_of, source_of, told_by};
+use super::told::source_of;
 use bytes::Bytes;
 use mio::net::{UnixListener, UnixStream};
-use pb_port::*;
+use pb_port::{Offered, Over, Port, Pumped, SocketPort};
+use std::alloc::Global;
 use std::fs;
+use std::process::Abort;
 use std::test::Fail;
 
 #[test]
 fn reads_a_stream_that_ends_within_a_frame(rt: HostRuntime) -> Result<(), Fail> {
-    let alloc = rt.alloc();
-    let mut port = SocketPort::new(alloc, 4, source_of(alloc, "000e0102030405")?);
-    for polls in 0..3 {
-        assert!(rt; matches!(port.poll(), Polled::Fault(4)));
-    }
-    Ok(())
+    const ROWS: &[Row] = &[Row::Faults(4), Row::Faults(4), Row::Faults(4)];
+    let stream = source_of(rt.alloc(), "000e0102030405")?;
+    let mut port = SocketPort::new(rt.alloc(), 4, stream);
+    walk(&rt, rt.alloc(), &mut port, ROWS)
 }
 
 #[test]
 fn reads_a_frame_of_no_octets(rt: HostRuntime) -> Result<(), Fail> {
-    let alloc = rt.alloc();
-    let mut port = SocketPort::new(alloc, 4, source_of(alloc, "0000")?);
-    match port.poll() {
-        Polled::Frame(frame) => assert_eq!(rt; frame.len(), 0),
-        _ => assert!(rt; false),
-    }
-    assert!(rt; matches!(port.poll(), Polled::End));
-    assert!(rt; matches!(port.poll(), Polled::End));
-    Ok(())
+    const ROWS: &[Row] = &[Row::Gives(""), Row::Ends, Row::Ends];
+    let mut port = SocketPort::new(rt.alloc(), 4, source_of(rt.alloc(), "0000")?);
+    walk(&rt, rt.alloc(), &mut port, ROWS)
 }
 
 #[test]
 fn writes_what_it_reads(rt: HostRuntime) -> Result<(), Fail> {
+    const ROWS: &[Row] = &[
+        Row::Tells(&[7, 8, 300, 300, 9, 300, 256]),
+        Row::Offers("0708", Offered::Taken),
+        Row::Offers("", Offered::Taken),
+        Row::PumpsOn(20),
+        Row::Unsent(0),
+    ];
     let alloc = rt.alloc();
     let input = Vec::from_slice(alloc, &[0, 2, 7, 8, 0, 0, 0, 1, 9])?;
     let seen = Seen::new(alloc);
     let stream = Watched::new(Stub::new(alloc, input, 1, true, 0), &seen);
-    let mut port = SocketPort::new(alloc, 4, stream);
-    let mut said = Vec::new(alloc);
-    told_by(&mut port, &mut said)?;
-    assert!(rt; said.as_slice() == [7u16, 8, 300, 300, 9, 300, 256].as_slice());
-    assert_eq!(rt; port.offer(&frame_of(&rt, alloc, "0708")?), Offered::Taken);
-    assert_eq!(rt; port.offer(&frame_of(&rt, alloc, "")?), Offered::Taken);
-    for pumps in 0..20 {
-        let _ = port.pump(0);
-    }
-    assert_eq!(rt; port.unsent().len(), 0);
+    walk(&rt, alloc, &mut SocketPort::new(alloc, 4, stream), ROWS)?;
     assert!(rt; seen.output(alloc)?.as_slice() == [0u8, 2, 7, 8, 0, 0].as_slice());
     Ok(())
 }
@@ -72,6 +65,24 @@ fn writes_the_longest_frame(rt: HostRuntime) -> Result<(), Fail> {
     Ok(())
 }
 
+/// Frames pass between two ports, first to the far one.
+fn pass<N: Port, F: Port>(
+    rt: &impl Abort,
+    alloc: Global,
+    near: &mut N,
+    far: &mut F,
+) -> Result<(), Fail> {
+    const SENDS: &[Row] = &[
+        Row::Offers("010203", Offered::Taken),
+        Row::Pumps(0, Pumped::Wrote(1)),
+    ];
+    walk(rt, alloc, far, &[Row::Waits])?;
+    walk(rt, alloc, near, SENDS)?;
+    walk(rt, alloc, far, &[Row::Gives("010203")])?;
+    walk(rt, alloc, far, SENDS)?;
+    walk(rt, alloc, near, &[Row::Gives("010203")])
+}
+
 #[test]
 fn passes_frames_both_ways(rt: HostRuntime) -> Result<(), Fail> {
     let alloc = rt.alloc();
@@ -80,21 +91,12 @@ fn passes_frames_both_ways(rt: HostRuntime) -> Result<(), Fail> {
     let listener = UnixListener::bind(&rt, path)?;
     let mut near = SocketPort::new(alloc, 4, Over::new(UnixStream::connect(&rt, path)?));
     let (stream, _) = listener.accept()?;
-    let mut far = SocketPort::new(alloc, 4, Over::new(stream));
-    let frame = frame_of(&rt, alloc, "010203")?;
-    assert!(rt; matches!(far.poll(), Polled::Nothing));
-    assert_eq!(rt; near.offer(&frame), Offered::Taken);
-    assert_eq!(rt; near.pump(0), Pumped::Wrote(1));
-    match far.poll() {
-        Polled::Frame(got) => assert!(rt; got.as_slice() == frame.as_slice()),
-        _ => assert!(rt; false),
-    }
-    assert_eq!(rt; far.offer(&frame), Offered::Taken);
-    assert_eq!(rt; far.pump(0), Pumped::Wrote(1));
-    match near.poll() {
-        Polled::Frame(got) => assert!(rt; got.as_slice() == frame.as_slice()),
-        _ => assert!(rt; false),
-    }
+    pass(
+        &rt,
+        alloc,
+        &mut near,
+        &mut SocketPort::new(alloc, 4, Over::new(stream)),
+    )?;
     assert_eq!(rt; near.failures(), 0);
     fs::remove_file(&rt, path)?;
     Ok(())

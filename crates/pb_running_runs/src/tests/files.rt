@@ -5,14 +5,8 @@ use super::plans::{CAPTURES, FULL, NO_FRAMES, ONE_FRAME, PATHS};
 use super::{Row, Told, check, run};
 use pb_fakes::Unflushed;
 use pb_running::NetworkFault;
-use std::alloc::Global;
-use std::fs::{File, Files};
-use std::net::Net;
-use std::process::Abort;
-use std::sync::Wait;
+use std::fs::Files;
 use std::test::Fail;
-use std::thread::Threads;
-use std::time::Clock;
 use std::{fs, io};
 
 /// What the ports P2 and P1 read, what is told, and what is written at P1.
@@ -64,52 +58,35 @@ const CAPTURE_ROWS: [Captures; 3] = [
     },
 ];
 
-/// Captures are carried, and told, as a row says.
-fn carries<R>(rt: &R, alloc: Global, captures: &Captures) -> Result<(), Fail>
-where
-    R: Files<File = File> + Net + Threads + Wait + Clock + Sync + Abort + AllocGlobal,
-{
-    fs::write(rt, "p2.in", captures.read[0])?;
-    fs::write(rt, "p1.in", captures.read[1])?;
-    check(rt, alloc, &captures.row)?;
-    let wrote = fs::read(rt, "p1.out")?;
-    assert!(rt;
-        wrote.as_slice() == captures.wrote,
-        "{}",
-        captures.row.report
-    );
-    Ok(())
-}
-
 #[test]
 fn captures_are_carried_and_their_faults_told(rt: HostRuntime) -> Result<(), Fail> {
     let folder = enter(&rt, rt.process())?;
     for captures in &CAPTURE_ROWS {
-        carries(&rt, rt.alloc(), captures)?;
+        fs::write(&rt, "p2.in", captures.read[0])?;
+        fs::write(&rt, "p1.in", captures.read[1])?;
+        check(&rt, rt.alloc(), &captures.row)?;
+        let wrote = fs::read(&rt, "p1.out")?;
+        assert!(rt;
+            wrote.as_slice() == captures.wrote,
+            "{}",
+            captures.row.report
+        );
     }
     leave(&rt, folder)?;
     Ok(())
 }
 
-/// Frames are not written to a full file, and that is told.
-fn misses<R>(rt: &R, alloc: Global) -> Result<(), Fail>
-where
-    R: Files<File = File> + Net + Threads + Wait + Clock + Sync + Abort,
-{
+#[test]
+fn frames_that_are_not_written_are_told(rt: HostRuntime) -> Result<(), Fail> {
+    let alloc = rt.alloc();
+    let folder = enter(&rt, rt.process())?;
+    fs::write(&rt, "full.in", NO_FRAMES)?;
     let (mut output, mut errors) = (Vec::new(alloc), Vec::new(alloc));
-    let told = run(rt, alloc, ["", FULL], &mut output, &mut errors)?;
+    let told = run(&rt, alloc, ["", FULL], &mut output, &mut errors)?;
     assert_eq!(rt; told.result, Ok(0));
     assert!(rt; errors.as_slice() == b"port C2: 3 frames not written\n".as_slice());
     let front = b"ended drained\nport C1 entered 3 left 0 filtered 0\n".as_slice();
     assert!(rt; output.as_slice().starts_with(front));
-    Ok(())
-}
-
-#[test]
-fn frames_that_are_not_written_are_told(rt: HostRuntime) -> Result<(), Fail> {
-    let folder = enter(&rt, rt.process())?;
-    fs::write(&rt, "full.in", NO_FRAMES)?;
-    misses(&rt, rt.alloc())?;
     leave(&rt, folder)?;
     Ok(())
 }
@@ -119,23 +96,14 @@ fn made(rt: &impl Files) -> io::Result<[bool; 2]> {
     Ok([fs::exists(rt, "paths.out")?, fs::exists(rt, "paths.last")?])
 }
 
-/// A file of PATHS that is to be read is not there, and nothing is written.
-fn lacks_a_file<R>(rt: &R, alloc: Global) -> Result<(), Fail>
-where
-    R: Files<File = File> + Net + Threads + Wait + Clock + Sync + Abort,
-{
-    let mut output = Vec::new(alloc);
-    let told = run(rt, alloc, ["", PATHS], &mut output, &mut Unflushed)?;
-    assert_eq!(rt; told.result, Err(NetworkFault::Path));
-    assert!(rt; output.is_empty());
-    Ok(())
-}
-
 #[test]
 fn ports_are_opened_in_the_order_of_the_plan(rt: HostRuntime) -> Result<(), Fail> {
     let folder = enter(&rt, rt.process())?;
     for want in [[false, false], [true, false]] {
-        lacks_a_file(&rt, rt.alloc())?;
+        let mut output = Vec::new(rt.alloc());
+        let told = run(&rt, rt.alloc(), ["", PATHS], &mut output, &mut Unflushed)?;
+        assert_eq!(rt; told.result, Err(NetworkFault::Path));
+        assert!(rt; output.is_empty());
         assert_eq!(rt; made(&rt)?, want);
         // The next time the first file to read is there.
         fs::write(&rt, "paths.in", NO_FRAMES)?;

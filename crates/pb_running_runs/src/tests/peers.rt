@@ -4,15 +4,10 @@ use super::folder::{enter, leave};
 use super::plans::SOCKET;
 use super::{Told, run};
 use std::alloc::Global;
-use std::fs::{File, Files};
 use std::io::{Read, Write};
-use std::net::{Net, Shutdown};
+use std::net::Shutdown;
 use std::os::unix::net::{UnixListener, UnixStream};
-use std::process::Abort;
-use std::sync::Wait;
 use std::test::Fail;
-use std::thread::Threads;
-use std::time::Clock;
 use std::{io, thread};
 
 /// A frame behind its length, which the peer sends.
@@ -34,19 +29,19 @@ fn converse(alloc: Global, listener: &UnixListener) -> io::Result<Vec<u8>> {
     Ok(heard)
 }
 
-/// Frames pass a socket, behind which a peer answers, both ways.
-fn meets<R>(rt: &R, alloc: Global, listener: &UnixListener) -> Result<(), Fail>
-where
-    R: Files<File = File> + Net + Threads + Wait + Clock + Sync + Abort,
-{
+#[test]
+fn frames_pass_a_socket_both_ways(rt: HostRuntime) -> Result<(), Fail> {
+    let alloc = rt.alloc();
+    let folder = enter(&rt, rt.process())?;
+    let listener = UnixListener::bind(&rt, "peer.sock")?;
     let (mut output, mut errors) = (Vec::new(alloc), Vec::new(alloc));
     let network = || {
-        let told = run(rt, alloc, ["", SOCKET], &mut output, &mut errors);
+        let told = run(&rt, alloc, ["", SOCKET], &mut output, &mut errors);
         // The peer waits no longer, where the network has not connected.
-        let _ = UnixStream::connect(rt, "peer.sock");
+        let _ = UnixStream::connect(&rt, "peer.sock");
         told
     };
-    let (heard, told) = thread::join(rt, || converse(alloc, listener), network);
+    let (heard, told) = thread::join(&rt, || converse(alloc, &listener), network);
     let want = Told {
         result: Ok(0),
         traffic: (2, 2),
@@ -55,14 +50,6 @@ where
     assert_eq!(rt; told?, want);
     assert!(rt; heard?.as_slice() == WANTED);
     assert!(rt; output.as_slice() == REPORT && errors.is_empty());
-    Ok(())
-}
-
-#[test]
-fn frames_pass_a_socket_both_ways(rt: HostRuntime) -> Result<(), Fail> {
-    let folder = enter(&rt, rt.process())?;
-    let listener = UnixListener::bind(&rt, "peer.sock")?;
-    meets(&rt, rt.alloc(), &listener)?;
     leave(&rt, folder)?;
     Ok(())
 }

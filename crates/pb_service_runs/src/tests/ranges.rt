@@ -106,16 +106,16 @@ fn with(
     told(alloc, text.as_bytes())
 }
 
-/// The fault of a file in which a number has the value.
-fn told_with(alloc: Global, number: &Number, value: i64) -> Result<String, PlanFault> {
-    let (front, back, key, _, _, _) = *number;
-    with(alloc, front, back, key, value)
+/// A file has no fault, in which the number of a place has a value.
+fn is_ok(rt: &impl Abort, told: &str, path: &str, value: i64) {
+    assert_eq!(rt; told, "0 ok", "{path} {value}");
 }
 
 /// A value is taken.
 fn is_within(rt: &impl Abort, alloc: Global, number: &Number, value: i64) -> Result<(), PlanFault> {
-    let told = told_with(alloc, number, value)?;
-    assert_eq!(rt; told.as_str(), "0 ok", "{} {value}", number.3);
+    let (front, back, key, path, _, _) = *number;
+    let told = with(alloc, front, back, key, value)?;
+    is_ok(rt, told.as_str(), path, value);
     Ok(())
 }
 
@@ -126,8 +126,9 @@ fn is_outside(
     number: &Number,
     value: i64,
 ) -> Result<(), PlanFault> {
-    let told = told_with(alloc, number, value)?;
-    assert_eq!(rt; told.as_str().strip_prefix("5 range "), Some(number.3));
+    let (front, back, key, path, _, _) = *number;
+    let told = with(alloc, front, back, key, value)?;
+    assert_eq!(rt; told.as_str().strip_prefix("5 range "), Some(path));
     Ok(())
 }
 

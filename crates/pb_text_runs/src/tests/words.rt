@@ -1,94 +1,154 @@
 //! What the words of the command line ask for.
 
 use pb_words::{Order, order_of};
-use std::alloc::Global;
+use std::alloc::{AllocError, Global};
 use std::process::Abort;
 use std::test::Fail;
 
-/// What the words behind the program's name ask for: an order, or whether they are wrong.
-fn read(rt: &impl Abort, alloc: Global, words: &[&str]) -> Result<Result<Order, bool>, Fail> {
-    let mut given = vec![in alloc; String::from_str(alloc, "pbnet")?]?;
+/// What words ask for.
+#[derive(Clone, Copy)]
+enum Wanted {
+    Flat(u8),
+    Check(&'static str),
+    Step(&'static str),
+    Run(&'static str),
+    Show,
+    /// They are wrong, or ask for help.
+    Nothing { wrong: bool },
+}
+
+const WRONG: Wanted = Wanted::Nothing { wrong: true };
+
+const HELP: Wanted = Wanted::Nothing { wrong: false };
+
+/// The words behind the program's name, and what they ask for.
+type Row = (&'static [&'static str], Wanted);
+
+/// The order that is wanted, or whether the words are wrong.
+fn wanted_of(alloc: Global, wanted: Wanted) -> Result<Result<Order, bool>, AllocError> {
+    Ok(Ok(match wanted {
+        Wanted::Flat(ports) => Order::Flat(ports),
+        Wanted::Check(path) => Order::Check(String::from_str(alloc, path)?),
+        Wanted::Step(path) => Order::Step(String::from_str(alloc, path)?),
+        Wanted::Run(path) => Order::Run(String::from_str(alloc, path)?),
+        Wanted::Show => Order::Show,
+        Wanted::Nothing { wrong } => return Ok(Err(wrong)),
+    }))
+}
+
+/// All words of the command line.
+fn line_of(alloc: Global, words: &[&str]) -> Result<Vec<String>, AllocError> {
+    let mut line = Vec::new(alloc);
+    line.push(String::from_str(alloc, "pbnet")?)?;
     for word in words {
-        given.push(String::from_str(alloc, word)?)?;
+        line.push(String::from_str(alloc, word)?)?;
     }
-    match order_of(alloc, given.as_slice()) {
+    Ok(line)
+}
+
+/// What the words behind the program's name ask for: an order, or whether they are wrong.
+fn read(rt: &impl Abort, alloc: Global, words: &[&str]) -> Result<Result<Order, bool>, AllocError> {
+    let line = line_of(alloc, words)?;
+    match order_of(alloc, line.as_slice()) {
         Ok(Some(order)) => Ok(Ok(order)),
         Ok(None) => panic!(rt; "no order"),
         Err(e) => Ok(Err(e.use_stderr())),
     }
 }
 
-#[test]
-fn takes_two_to_sixteen_ports(rt: HostRuntime) -> Result<(), Fail> {
-    let alloc = rt.alloc();
-    for (word, ports) in [("2", 2u8), ("3", 3), ("03", 3), ("+3", 3), ("16", 16)] {
-        assert_eq!(rt;
-            read(&rt, alloc, &["flat", word])?,
-            Ok(Order::Flat(ports)),
-            "{word}"
-        );
-    }
-    for word in ["1", "17", "0", "-3", "258", "", "x", "3 ", "3.0", "٣"] {
-        assert_eq!(rt; read(&rt, alloc, &["flat", word])?, Err(true), "{word}");
+/// Words ask for what stands beside them.
+fn asks(rt: &impl Abort, alloc: Global, words: &[&str], wanted: Wanted) -> Result<(), Fail> {
+    let wanted = wanted_of(alloc, wanted)?;
+    let told = read(rt, alloc, words)?;
+    assert_eq!(rt; told, wanted, "{words:?}");
+    Ok(())
+}
+
+/// The words of each row do.
+fn all_ask(rt: &impl Abort, alloc: Global, rows: &[Row]) -> Result<(), Fail> {
+    for (words, wanted) in rows {
+        asks(rt, alloc, words, *wanted)?;
     }
     Ok(())
+}
+
+#[test]
+fn takes_two_to_sixteen_ports(rt: HostRuntime) -> Result<(), Fail> {
+    const ROWS: &[Row] = &[
+        (&["flat", "2"], Wanted::Flat(2)),
+        (&["flat", "3"], Wanted::Flat(3)),
+        (&["flat", "03"], Wanted::Flat(3)),
+        (&["flat", "+3"], Wanted::Flat(3)),
+        (&["flat", "16"], Wanted::Flat(16)),
+        (&["flat", "1"], WRONG),
+        (&["flat", "17"], WRONG),
+        (&["flat", "0"], WRONG),
+        (&["flat", "-3"], WRONG),
+        (&["flat", "258"], WRONG),
+        (&["flat", ""], WRONG),
+        (&["flat", "x"], WRONG),
+        (&["flat", "3 "], WRONG),
+        (&["flat", "3.0"], WRONG),
+        (&["flat", "٣"], WRONG),
+    ];
+    all_ask(&rt, rt.alloc(), ROWS)
 }
 
 #[test]
 fn checks_one_file(rt: HostRuntime) -> Result<(), Fail> {
-    let alloc = rt.alloc();
-    for path in ["metro.toml", "a plan.toml", "-"] {
-        let order = Order::Check(String::from_str(alloc, path)?);
-        assert_eq!(rt; read(&rt, alloc, &["check", path])?, Ok(order), "{path}");
-    }
-    assert_eq!(rt; read(&rt, alloc, &["check"])?, Err(true));
-    assert_eq!(rt; read(&rt, alloc, &["check", "a", "b"])?, Err(true));
-    Ok(())
+    const ROWS: &[Row] = &[
+        (&["check", "metro.toml"], Wanted::Check("metro.toml")),
+        (&["check", "a plan.toml"], Wanted::Check("a plan.toml")),
+        (&["check", "-"], Wanted::Check("-")),
+        (&["check"], WRONG),
+        (&["check", "a", "b"], WRONG),
+    ];
+    all_ask(&rt, rt.alloc(), ROWS)
 }
 
 #[test]
 fn steps_by_one_file(rt: HostRuntime) -> Result<(), Fail> {
-    let alloc = rt.alloc();
-    for path in ["metro.toml", "a plan.toml", "-"] {
-        let order = Order::Step(String::from_str(alloc, path)?);
-        assert_eq!(rt; read(&rt, alloc, &["step", path])?, Ok(order), "{path}");
-    }
-    assert_eq!(rt; read(&rt, alloc, &["step"])?, Err(true));
-    assert_eq!(rt; read(&rt, alloc, &["step", "a", "b"])?, Err(true));
-    assert_eq!(rt; read(&rt, alloc, &["step", "--help"])?, Err(false));
-    Ok(())
+    const ROWS: &[Row] = &[
+        (&["step", "metro.toml"], Wanted::Step("metro.toml")),
+        (&["step", "a plan.toml"], Wanted::Step("a plan.toml")),
+        (&["step", "-"], Wanted::Step("-")),
+        (&["step"], WRONG),
+        (&["step", "a", "b"], WRONG),
+        (&["step", "--help"], HELP),
+    ];
+    all_ask(&rt, rt.alloc(), ROWS)
 }
 
 #[test]
 fn runs_one_file(rt: HostRuntime) -> Result<(), Fail> {
-    let alloc = rt.alloc();
-    for path in ["metro.toml", "a plan.toml", "-"] {
-        let order = Order::Run(String::from_str(alloc, path)?);
-        assert_eq!(rt; read(&rt, alloc, &["run", path])?, Ok(order), "{path}");
-    }
-    assert_eq!(rt; read(&rt, alloc, &["run"])?, Err(true));
-    assert_eq!(rt; read(&rt, alloc, &["run", "a", "b"])?, Err(true));
-    assert_eq!(rt; read(&rt, alloc, &["run", "--help"])?, Err(false));
-    Ok(())
+    const ROWS: &[Row] = &[
+        (&["run", "metro.toml"], Wanted::Run("metro.toml")),
+        (&["run", "a plan.toml"], Wanted::Run("a plan.toml")),
+        (&["run", "-"], Wanted::Run("-")),
+        (&["run"], WRONG),
+        (&["run", "a", "b"], WRONG),
+        (&["run", "--help"], HELP),
+    ];
+    all_ask(&rt, rt.alloc(), ROWS)
 }
 
 #[test]
 fn shows_without_further_words(rt: HostRuntime) -> Result<(), Fail> {
-    assert_eq!(rt; read(&rt, rt.alloc(), &["show"])?, Ok(Order::Show));
-    Ok(())
+    all_ask(&rt, rt.alloc(), &[(&["show"], Wanted::Show)])
 }
 
 #[test]
 fn refuses_other_words_and_helps(rt: HostRuntime) -> Result<(), Fail> {
-    let alloc = rt.alloc();
-    assert_eq!(rt; read(&rt, alloc, &[])?, Err(true));
-    assert_eq!(rt; read(&rt, alloc, &["flat"])?, Err(true));
-    assert_eq!(rt; read(&rt, alloc, &["flat", "3", "4"])?, Err(true));
-    assert_eq!(rt; read(&rt, alloc, &["flap", "3"])?, Err(true));
-    assert_eq!(rt; read(&rt, alloc, &["show", "3"])?, Err(true));
-    assert_eq!(rt; read(&rt, alloc, &["show", "--help"])?, Err(false));
-    assert_eq!(rt; read(&rt, alloc, &["--help"])?, Err(false));
-    assert_eq!(rt; read(&rt, alloc, &["--version"])?, Err(false));
-    assert_eq!(rt; read(&rt, alloc, &["flat", "--help"])?, Err(false));
-    Ok(())
+    const ROWS: &[Row] = &[
+        (&[], WRONG),
+        (&["flat"], WRONG),
+        (&["flat", "3", "4"], WRONG),
+        (&["flap", "3"], WRONG),
+        (&["show", "3"], WRONG),
+        (&["show", "--help"], HELP),
+        (&["--help"], HELP),
+        (&["--version"], HELP),
+        (&["flat", "--help"], HELP),
+    ];
+    all_ask(&rt, rt.alloc(), ROWS)
 }

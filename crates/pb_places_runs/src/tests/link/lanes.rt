@@ -33,18 +33,6 @@ fn put(lane: &mut Lane) -> Result<Option<Item>, Memory> {
     Ok(Some(lane.release()?))
 }
 
-/// The step that takes the item of a number.
-fn taken(alloc: Global, number: u64, lost: bool) -> Result<Step, AllocError> {
-    let item = item(alloc, number)?;
-    Ok(Step::Take { number, item, lost })
-}
-
-/// The step that puts it.
-fn was_put(alloc: Global, number: u64) -> Result<Step, AllocError> {
-    let item = item(alloc, number)?;
-    Ok(Step::Put { item })
-}
-
 /// What is done with a lane, or seen of it. Items are those of customer port 7, by number.
 #[derive(Clone, Copy)]
 enum Row {
@@ -145,28 +133,44 @@ fn steps_of_three(alloc: Global) -> Result<Vec<Step>, Memory> {
     Ok(lane.into_steps())
 }
 
-/// Whether a list has this step at this place.
-fn has(steps: &[Step], place: usize, step: &Step) -> bool {
-    steps.get(place) == Some(step)
+/// Whether the step at a place takes the item of a number, and loses it or not.
+fn takes_at(
+    alloc: Global,
+    steps: &[Step],
+    place: usize,
+    (number, lost): (u64, bool),
+) -> Result<bool, AllocError> {
+    let item = item(alloc, number)?;
+    Ok(steps.get(place) == Some(&Step::Take { number, item, lost }))
 }
+
+/// Whether the step at a place puts the item of a number.
+fn puts_at(alloc: Global, steps: &[Step], place: usize, number: u64) -> Result<bool, AllocError> {
+    let item = item(alloc, number)?;
+    Ok(steps.get(place) == Some(&Step::Put { item }))
+}
+
+/// The items that are taken, and whether they are lost, by place.
+const TAKEN: &[(usize, (u64, bool))] = &[(0, (0, false)), (2, (1, true)), (3, (2, false))];
 
 #[test]
 fn a_lane_tells_what_it_took(rt: HostRuntime) -> Result<(), Fail> {
-    let alloc = rt.alloc();
-    let steps = steps_of_three(alloc)?;
-    for (place, number, lost) in [(0usize, 0u64, false), (2, 1, true), (3, 2, false)] {
-        assert!(rt; has(&steps, place, &taken(alloc, number, lost)?));
+    let steps = steps_of_three(rt.alloc())?;
+    for (place, took) in TAKEN {
+        assert!(rt; takes_at(rt.alloc(), &steps, *place, *took)?);
     }
     Ok(())
 }
 
+/// The items that are put, by place.
+const PUT: &[(usize, u64)] = &[(1, 0), (4, 2)];
+
 #[test]
 fn a_lane_tells_what_it_put(rt: HostRuntime) -> Result<(), Fail> {
-    let alloc = rt.alloc();
-    let steps = steps_of_three(alloc)?;
+    let steps = steps_of_three(rt.alloc())?;
     assert_eq!(rt; steps.len(), 5);
-    for (place, number) in [(1usize, 0u64), (4, 2)] {
-        assert!(rt; has(&steps, place, &was_put(alloc, number)?));
+    for (place, number) in PUT {
+        assert!(rt; puts_at(rt.alloc(), &steps, *place, *number)?);
     }
     Ok(())
 }
