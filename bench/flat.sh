@@ -1,15 +1,15 @@
 #!/usr/bin/env bash
 # Measures how many lines a second the flat command answers: 200,000 frames of 64 octets between
 # 256 stations at three ports, half of them broadcast, and the same with 4,096 stations, which fill the
-# table. Where YARDSTICK names a Rust source of the same command, that is measured in turn with it, and the
-# outputs are compared. Each is run ROUNDS times; the best time is told and the middle one, which a few quick or slow
-# runs of a machine that others share don't move.
+# table. Where there is a Rust compiler, bench/flat_yardstick.rs is measured in turn with it, a plain program that answers
+# alike, and the outputs are compared; YARDSTICK names another source. Each is run ROUNDS times; the best time is told and
+# the middle one, which a few quick or slow runs of a machine that others share don't move.
 set -eu
 cd -- "$(dirname -- "$0")/.."
 
 lines=200000
 rounds=${ROUNDS:-31}
-yardstick=${YARDSTICK:-../shared/bench/flat_yardstick.rs}
+yardstick=${YARDSTICK:-bench/flat_yardstick.rs}
 folder=$(mktemp -d)
 trap 'rm -rf -- "$folder"' EXIT
 
@@ -63,9 +63,11 @@ compare() {
 ./pbnet --help >/dev/null
 export GLIBC_TUNABLES=${GLIBC_TUNABLES-glibc.malloc.hugetlb=1}
 has_yardstick=
-if [ -f "$yardstick" ] && command -v rustc >/dev/null 2>&1; then
+if command -v rustc >/dev/null 2>&1; then
     rustc -O --edition 2021 -o "$folder/yardstick" "$yardstick"
     has_yardstick=1
+else
+    echo "there is no rustc, so pbnet is measured alone" >&2
 fi
 frames 256
 frames 4096

@@ -1,6 +1,7 @@
 #!/usr/bin/env bash
-# Runs the network of each example with `pbnet run`, and compares what it prints and what it writes with what
-# stands beside it: record.toml, captures.toml, and sockets.toml with its peers, where python3 is there.
+# Runs the proved program on the examples, and compares what it prints and writes with what stands beside them: `flat`,
+# `show`, `check`, each step script, and `run` with record.toml, captures.toml, and sockets.toml with its peers, where
+# python3 is there. The gate runs the same texts as tests, which same.sh compares with these files.
 set -eu
 cd -- "$(dirname -- "$0")/.."
 
@@ -15,6 +16,24 @@ is_same() {
         status=1
     fi
 }
+
+# Runs the program, and compares what it prints with a file of examples/.
+prints() {
+    local want=$1
+    shift
+    ./pbnet "$@" >"out/$want"
+    is_same "out/$want" "examples/$want"
+}
+
+for name in broadcast learning reasons; do
+    prints "$name.expected" flat 3 <"examples/$name.txt"
+done
+prints show.expected show
+prints plan-file.expected check examples/plan-file.toml
+for script in examples/*.steps; do
+    name=$(basename -- "$script" .steps)
+    prints "$name.expected" step "examples/$name.toml" <"$script"
+done
 
 ./pbnet run examples/record.toml >out/record.report
 is_same out/record.report examples/record.report

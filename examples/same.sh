@@ -1,6 +1,7 @@
 #!/usr/bin/env bash
-# Whether the tests of pb_step_runs run these examples as they stand here: each file is compared with its copy in
-# crates/pb_step_runs/src/tests.
+# Whether the gate runs these examples as they stand here, and the pages of docs/ show them so. Each file is compared
+# with its copy in a test of crates/NAME_runs or beside the program; then scripts/pages compares the blocks of the pages
+# with these files.
 set -eu
 cd -- "$(dirname -- "$0")"
 
@@ -15,14 +16,51 @@ constant() {
 }
 
 status=0
+
+# Whether the constant of this name in the test file of this crate is the file.
+is_copied() {
+    local test=../crates/$3/src/tests/$2.rt
+    if ! [ -f "$test" ] || ! constant "$1" "$test" | cmp -s - "$4"; then
+        echo "examples: $4 is not what $1 of ${test#../} has" >&2
+        status=1
+    fi
+}
+
+# step: each script with its plan and its whole output.
 for script in *.steps; do
     name=${script%.steps}
-    test=../crates/pb_step_runs/src/tests/${name//-/_}.rt
     for part in PLAN:toml STEPS:steps EXPECTED:expected; do
-        if ! constant "${part%:*}" "$test" | cmp -s - "$name.${part#*:}"; then
-            echo "examples: $name.${part#*:} is not what $test has" >&2
-            status=1
-        fi
+        is_copied "${part%:*}" "${name//-/_}" pb_step_runs "$name.${part#*:}"
     done
 done
+
+# flat: one example is what the gate runs the program on, the others are tests.
+for part in broadcast.txt:stdin broadcast.expected:stdout; do
+    if ! cmp -s -- "${part%:*}" "../crates/pbnet/${part#*:}"; then
+        echo "examples: ${part%:*} is not crates/pbnet/${part#*:}" >&2
+        status=1
+    fi
+done
+is_copied LEARNING examples pb_flat_runs learning.txt
+is_copied LEARNING_ANSWERS examples pb_flat_runs learning.expected
+is_copied REASONS examples pb_flat_runs reasons.txt
+is_copied REASONS_ANSWERS examples pb_flat_runs reasons.expected
+
+# check and show.
+is_copied PLAN_FILE examples pb_check_runs plan-file.toml
+is_copied PLAN_FILE_ANSWER examples pb_check_runs plan-file.expected
+is_copied SHOWN examples pb_check_runs show.expected
+
+# run: the metro ring between captures.
+is_copied PLAN captures pb_running_runs captures.toml
+is_copied REPORT captures pb_running_runs captures.report
+for name in none provider camera; do
+    digits=$(od -An -v -tx1 "captures/$name.pcap" | tr -d ' \n')
+    if ! grep -q "\"$digits\"" ../crates/pb_running_runs/src/tests/captures.rt; then
+        echo "examples: captures/$name.pcap is not what crates/pb_running_runs/src/tests/captures.rt has" >&2
+        status=1
+    fi
+done
+
+../scripts/pages || status=1
 exit "$status"

@@ -1,5 +1,7 @@
 //! What is said of plan files and of the reserved addresses.
 
+mod examples;
+
 use pb_check::{run_check, run_show};
 use pb_fakes::{Full, Unflushed};
 use pb_print::CommandFault;
@@ -176,6 +178,7 @@ fn a_failed_write_is_told(rt: HostRuntime) -> Result<(), Fail> {
 fn shows_sixteen_fates(rt: HostRuntime) -> Result<(), Fail> {
     let mut output = Vec::new(rt.alloc());
     assert!(rt; run_show(&mut output).is_ok());
+    assert!(rt; output.as_slice() == examples::SHOWN.as_bytes());
     let text = std::str::from_utf8(output.as_slice()).unwrap_or("");
     assert_eq!(rt; text.lines().count(), 16);
     assert_eq!(rt; text.lines().next(), Some("01-80-C2-00-00-00 carry"));
@@ -184,4 +187,10 @@ fn shows_sixteen_fates(rt: HostRuntime) -> Result<(), Fail> {
     assert_eq!(rt; run_show(&mut Full { room: 5 }), Err(CommandFault::Write));
     assert_eq!(rt; run_show(&mut Unflushed), Err(CommandFault::Write));
     Ok(())
+}
+
+#[test]
+fn the_example_is_a_plan(rt: HostRuntime) -> Result<(), Fail> {
+    let want = (0, examples::PLAN_FILE_ANSWER);
+    says(&rt, rt.alloc(), &[examples::PLAN_FILE], want)
 }

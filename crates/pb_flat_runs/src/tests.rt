@@ -2,6 +2,8 @@
 
 ghost use Rattle.std.specs.Prelude.{◌≡◌, [], true, OnOk};
 
+mod examples;
+
 use pb_fakes::{Full, Slow, Unflushed};
 use pb_flat::{Switch, run_flat, run_flat_on};
 use pb_frame::hex_octets;
@@ -376,4 +378,14 @@ fn tells_a_failed_write(rt: HostRuntime) -> Result<(), Fail> {
         Err(CommandFault::Write)
     );
     Ok(())
+}
+
+#[test]
+fn the_examples_are_answered(rt: HostRuntime) {
+    for (input, want) in [
+        (examples::LEARNING, examples::LEARNING_ANSWERS),
+        (examples::REASONS, examples::REASONS_ANSWERS),
+    ] {
+        ran(&rt, rt.alloc(), 3, input, want);
+    }
 }
