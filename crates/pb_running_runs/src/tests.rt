@@ -3,6 +3,7 @@
 //! Each test is a table of rows, each a run and what has to come of it. Each run ends by itself, and tells the
 //! same whatever the schedule.
 
+mod captures;
 mod files;
 mod folder;
 mod memory;
@@ -70,12 +71,12 @@ fn counted(outcome: Result<u8, NetworkFault>, traffic: &Traffic, door: &Door) ->
 }
 
 /// Runs the network of a plan file. It says nothing of what is written: the tests look at that.
-fn carry<R, W: Write, E: Write>(
+fn carry<R, G: Watch, W: Write, E: Write>(
     rt: &R,
     alloc: Global,
     file: &str,
     traffic: &Arc<Traffic, Global>,
-    door: &Door,
+    door: &G,
     writer: &mut W,
     errors: &mut E,
 ) -> Result<u8, NetworkFault>

@@ -74,7 +74,7 @@ pub trait Work: Drop {
         ensures given { given self.new ≡ given self.old }
         ensures fits { fits self.new };
 
-    /// What is to be done after the last turn.
+    /// What is to be done after the last turn. `moment` is that of the turn which would come next.
     fn close(&mut self, moment: Moment, finish: Finish)
         requires { fits self.old }
         ensures given { given self.new ≡ given self.old }
@@ -117,14 +117,32 @@ fn is_ended<G: Gate>(gate: &G, words: &Words, place: Place, turn: u64) -> bool {
     is_stopped
 }
 
-/// Takes turn after turn, and answers why there are no more.
+/// Why a worker ends after a turn that did this, where it does.
+fn own_end(did: Did) -> Option<Finish> {
+    match did {
+        Did::Idle | Did::Done => None,
+        Did::Memory => Some(Finish::Memory),
+        Did::Limit => Some(Finish::Limit),
+    }
+}
+
+/// The end of a worker's turns.
+#[derive(Clone, Copy)]
+struct LastTurn {
+    /// How many turns it took.
+    turns: u64,
+    /// Why there are no more.
+    finish: Finish,
+}
+
+/// Takes turn after turn, and answers how many there were and why there are no more.
 fn take_turns<T: Work, G: Gate, R: Clock>(
     rt: &R,
     owned: &mut T,
     gate: &G,
     words: &Words,
     limits: Limits,
-) -> Finish
+) -> LastTurn
     requires { T.fits owned.old }
     ensures given { T.given owned.new ≡ T.given owned.old }
     ensures fits { T.fits owned.new }
@@ -133,21 +151,31 @@ fn take_turns<T: Work, G: Gate, R: Clock>(
     let mut idle = 0u32;
     for turn in 0..limits.turns {
         if is_ended(gate, words, place, turn) {
-            return Finish::Told;
+            return LastTurn {
+                turns: turn,
+                finish: Finish::Told,
+            };
         }
         let turned = owned.turn(moment_of(turn, limits.tick_every));
         words.count(turned.more, turned.fewer);
-        match turned.did {
+        if let Some(finish) = own_end(turned.did) {
+            return LastTurn {
+                turns: turn + 1,
+                finish,
+            };
+        }
+        idle = match turned.did {
             Did::Idle => {
                 rest(rt, idle);
-                idle = idle.saturating_add(1);
+                idle.saturating_add(1)
             }
-            Did::Done => idle = 0,
-            Did::Memory => return Finish::Memory,
-            Did::Limit => return Finish::Limit,
-        }
+            _ => 0,
+        };
     }
-    Finish::Limit
+    LastTurn {
+        turns: limits.turns,
+        finish: Finish::Limit,
+    }
 }
 
 /// A place that comes back from its worker.
@@ -178,11 +206,11 @@ pub(crate) fn run_place<T: Work, G: Gate, R: Wait + Clock>(
             has_begun: false,
         };
     }
-    let finish = take_turns(rt, &mut owned, gate, words, limits);
-    if finish != Finish::Told {
+    let last = take_turns(rt, &mut owned, gate, words, limits);
+    if last.finish != Finish::Told {
         words.end();
     }
-    owned.close(moment_of(limits.turns, limits.tick_every), finish);
+    owned.close(moment_of(last.turns, limits.tick_every), last.finish);
     Back {
         place: owned,
         has_begun: true,

@@ -3,7 +3,7 @@
 //! The exit status is 0 where all went well, 1 where a plan file was refused, 2 where the words of the
 //! command line ask for nothing that is known, and 3 after a line that begins with `fault:`. Such a line is the
 //! last one that is printed: `fault: read`, `write` or `memory` where reading, writing or memory failed,
-//! `steps` where a bridge had taken all its steps, `path` where a file can't be read or opened or a socket not
+//! `steps` where a bridge had taken all its steps, `path` where a file can't be opened or a socket not
 //! be connected to, `spawn` where a thread could not be started, and, behind the report of a run, `port NAME N`
 //! for each port whose input has the fault N.
 #![tactic(auto)]
@@ -22,7 +22,7 @@ use pb_words::{Order, order_of};
 use progress::Progress;
 use std::fmt::Display;
 use std::fs::{File, Files};
-use std::io::{BufWriter, ErrorKind, IsTerminal, Write};
+use std::io::{BufWriter, ErrorKind, IsTerminal, Read, Write};
 use std::net::Net;
 use std::process::ExitCode;
 use std::rt::Env;
@@ -103,15 +103,21 @@ fn flat(rt: &(impl Input + Print + AllocGlobal), ports: u8) -> ExitCode
     }
 }
 
-/// What stands in the file at a path, or the exit status where it can't be read.
+/// What stands in the file at a path, or the exit status where it can't be opened or read.
 fn contents(rt: &(impl Files + Print + AllocGlobal), path: &str) -> Result<Vec<u8>, ExitCode> {
-    match fs::read(rt, path) {
-        Ok(file) => Ok(file),
-        Err(e) if e.kind() == ErrorKind::OutOfMemory => Err(tell(rt, CommandFault::Memory)),
+    let mut file = match fs::open(rt, path) {
+        Ok(file) => file,
+        Err(e) if e.kind() == ErrorKind::OutOfMemory => return Err(tell(rt, CommandFault::Memory)),
         Err(_) => {
             let _ = println!(rt; "fault: path");
-            Err(ExitCode::from(FAULT))
+            return Err(ExitCode::from(FAULT));
         }
+    };
+    let mut octets = Vec::new(rt.alloc());
+    match file.read_to_end(&mut octets) {
+        Ok(_) => Ok(octets),
+        Err(e) if e.kind() == ErrorKind::OutOfMemory => Err(tell(rt, CommandFault::Memory)),
+        Err(_) => Err(tell(rt, CommandFault::Read)),
     }
 }
 

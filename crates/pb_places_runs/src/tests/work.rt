@@ -14,6 +14,7 @@ struct Desk {
     jobs: u64,
     turns: u64,
     ticks: u64,
+    closed: u32,
     finish: Option<Finish>,
 }
 
@@ -43,7 +44,8 @@ impl Work for Desk {
         }
     }
 
-    fn close(&mut self, _moment: Moment, finish: Finish) {
+    fn close(&mut self, moment: Moment, finish: Finish) {
+        self.closed = moment.now;
         self.finish = Some(finish);
     }
 }
@@ -57,6 +59,7 @@ fn desks(alloc: Global, jobs: u64, first: Place, second: Place) -> Result<Vec<De
             jobs,
             turns: 0,
             ticks: 0,
+            closed: 0,
             finish: None,
         })?;
     }
@@ -122,7 +125,7 @@ fn all_workers_run_at_once_and_end_when_nothing_is_left(rt: HostRuntime) -> Resu
     let gate = meeting_of(6);
     let limits = Limits {
         turns: 1_000_000_000,
-        tick_every: 0,
+        tick_every: 5,
     };
     let places = office(rt.alloc(), 20)?;
     let (places, verdict) = run_all(&rt, rt.alloc(), places, &gate, limits, 120);
@@ -130,7 +133,8 @@ fn all_workers_run_at_once_and_end_when_nothing_is_left(rt: HostRuntime) -> Resu
     assert_eq!(rt; gate.here.load(Ordering::SeqCst), 6);
     for desk in together(places)? {
         assert!(rt; desk.jobs == 0 && desk.finish == Some(Finish::Told));
-        assert!(rt; desk.turns >= 20 && desk.ticks == 0);
+        assert!(rt; desk.turns >= 20 && desk.ticks == desk.turns / 5);
+        assert!(rt; u64::from(desk.closed) == desk.turns / 5);
     }
     assert!(rt; gate.passes.load(Ordering::SeqCst) >= 120);
     Ok(())
@@ -158,7 +162,7 @@ fn a_worker_takes_so_many_turns_at_most(rt: HostRuntime) -> Result<(), Fail> {
     let mut is_limit = false;
     for desk in together(places)? {
         assert!(rt; desk.turns <= 12 && desk.jobs.saturating_add(desk.turns) == 20);
-        assert!(rt; desk.ticks == desk.turns / 5);
+        assert!(rt; desk.ticks == desk.turns / 5 && u64::from(desk.closed) == desk.turns / 5);
         is_limit = is_limit || desk.finish == Some(Finish::Limit);
     }
     assert!(rt; is_limit);

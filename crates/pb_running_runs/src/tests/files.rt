@@ -1,11 +1,15 @@
 //! Ports over capture files.
 
 use super::folder::{enter, leave};
-use super::plans::{CAPTURES, FULL, NO_FRAMES, ONE_FRAME, PATHS};
-use super::{Row, Told, check, run};
+use super::plans::{CAPTURES, FULL, NO_FRAMES, ONE_FRAME, PATHS, TICKS};
+use super::{Row, Told, carry, check, joined, run};
 use pb_fakes::Unflushed;
-use pb_running::NetworkFault;
+use pb_lan::Place;
+use pb_run::{Gate, Go};
+use pb_running::{NetworkFault, Traffic, Watch};
 use std::fs::Files;
+use std::sync::Arc;
+use std::sync::atomic::{AtomicU64, Ordering};
 use std::test::Fail;
 use std::{fs, io};
 
@@ -87,6 +91,55 @@ fn frames_that_are_not_written_are_told(rt: HostRuntime) -> Result<(), Fail> {
     assert!(rt; errors.as_slice() == b"port C2: 3 frames not written\n".as_slice());
     let front = b"ended drained\nport C1 entered 3 left 0 filtered 0\n".as_slice();
     assert!(rt; output.as_slice().starts_with(front));
+    leave(&rt, folder)?;
+    Ok(())
+}
+
+/// Every worker may go on. It counts the turns of all.
+#[derive(Drop)]
+struct Turns(AtomicU64);
+
+impl Gate for Turns {
+    fn pass(&self, _place: Place, _turn: u64) -> Go {
+        self.0.fetch_add(1, Ordering::SeqCst);
+        Go::Go
+    }
+}
+
+impl Watch for Turns {
+    fn close(&self) {}
+}
+
+/// The seconds of a capture's first record.
+fn seconds_of(capture: &[u8]) -> u64 {
+    let octet = |place: usize| capture.get(place).copied().unwrap_or(255);
+    u64::from(u32::from_le_bytes([octet(24), octet(25), octet(26), octet(27)]))
+}
+
+#[test]
+fn seconds_of_captures_are_those_of_the_workers_turns(rt: HostRuntime) -> Result<(), Fail> {
+    let alloc = rt.alloc();
+    let folder = enter(&rt, rt.process())?;
+    fs::write(&rt, "p2.in", ONE_FRAME)?;
+    fs::write(&rt, "p1.in", NO_FRAMES)?;
+    let file = joined(alloc, [TICKS, CAPTURES])?;
+    let traffic = Arc::new(alloc, Traffic::new())?;
+    let turns = Turns(AtomicU64::new(0));
+    let (mut output, mut errors) = (Vec::new(alloc), Vec::new(alloc));
+    let ran = carry(
+        &rt,
+        alloc,
+        file.as_str(),
+        &traffic,
+        &turns,
+        &mut output,
+        &mut errors,
+    );
+    assert_eq!(rt; ran, Ok(0));
+    let wrote = fs::read(&rt, "p1.out")?;
+    let most = turns.0.load(Ordering::SeqCst) / 1_000;
+    assert_eq!(rt; wrote.len(), ONE_FRAME.len());
+    assert!(rt; seconds_of(wrote.as_slice()) <= most);
     leave(&rt, folder)?;
     Ok(())
 }

@@ -173,6 +173,9 @@ pub(super) const ONE_STEP: &str = "[network]\nsteps = 1\n";
 /// Bridges that decide their own spanning tree, in front of a plan file.
 pub(super) const RSTP: &str = "[network]\nspanning = \"rstp\"\n";
 
+/// A clock that ticks at each thousandth turn, and very many turns, in front of a plan file.
+pub(super) const TICKS: &str = "[network]\nturns = 1000000000\ntick_every = 1000\n";
+
 /// A limit that no network may have, in front of a plan file.
 pub(super) const NO_TURN: &str = "[network]\nturns = 0\n";
 
