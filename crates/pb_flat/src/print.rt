@@ -42,7 +42,7 @@ pub(crate) fn put_answer(
     }
 }
 
-/// Says that a line was none of those that are known, behind octets.
+/// Puts `line N: bad` behind octets: the line of this number, from 1 on, is none that is known.
 pub(crate) fn append_bad(alloc: Global, out: &mut Vec<u8>, number: u64) -> Result<(), Memory>
     ensures { OnOk result (out.new.items ≡ out.old.items ++ bad_line number) }
 {

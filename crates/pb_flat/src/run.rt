@@ -130,8 +130,9 @@ pub fn run_flat_on<R: Read, W: Write>(
 /// answer, and any other, also one of more than [`MAX_LINE`] octets, has `line N: bad`.
 ///
 /// `Read` is answered where a read failed, `Write` where a write did, `Steps` where the bridge has
-/// received as many frames as it may, `Memory` where memory ran out. But for `Write`, the answers
-/// to the lines before the one with the fault are then written whole, and no others.
+/// taken as many steps as it may, `Memory` where memory ran out. After any fault but `Write`, the answers to
+/// the first lines, as many as were answered, are written whole, and nothing else is; at least 62,500 of these
+/// lines hand over a frame where the fault is `Steps`. After `Write` nothing is said of what was written.
 pub fn run_flat<R: Read, W: Write>(
     alloc: Global,
     ports: u8,

@@ -156,7 +156,7 @@ fn balances(rec: &Record) -> bool
 }
 
 /// Whether no queue, meeting place or hand of a network holds a customer's frame, by what its places
-/// did. Takes no memory, and time linear in the record.
+/// did. Takes no memory. The time is linear in the record; no contract says so.
 ///
 /// It is true if and only if no such frame is left, for every record that the places of a network of
 /// a sound plan can show: then each queue holds what was queued there and not sent, each meeting

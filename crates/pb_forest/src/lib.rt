@@ -1,4 +1,11 @@
 //! Forests of the active links of a service, and paths in them.
+//!
+//! ```text
+//! let shape = start_shape(alloc, &plan)?;                     // of pb_lan
+//! if let Some(rooted) = forest(alloc, &shape, &plan, 1)? {    // service 1 has no ring
+//!     let links = path(alloc, &rooted, &plan, 1, 4)?;         // the links from bridge 1 to bridge 4, if joined
+//! }
+//! ```
 #![tactic(auto)]
 
 mod active;

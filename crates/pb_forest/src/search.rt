@@ -58,8 +58,8 @@ fn graph_of(alloc: Global, plan: &Plan, shape: &Shape, vid: u16) -> Result<Optio
     Ok(Some(graph))
 }
 
-/// Parents and depths that show the active links of a service to join no bridges in a ring; None if
-/// and only if there are none, since the links do join some bridges in a ring.
+/// Parents and depths that show the active links of a service to join no bridges in a ring. None is answered if
+/// and only if no parents and depths show that.
 ///
 /// [`check_rooted`](crate::check_rooted) accepts what is answered, and says what it is. A link with
 /// both ends on one bridge is a ring, and so are two links between the same bridges. There is no
@@ -71,8 +71,8 @@ fn graph_of(alloc: Global, plan: &Plan, shape: &Shape, vid: u16) -> Result<Optio
 /// is a root.
 ///
 /// There must be at most 255 links, so that a number of eight bits names each; a sound plan has at
-/// most 64. Memory is answered where there was none for the lists. Takes time linear in the bridges,
-/// and in the links, each of which costs a look at its services.
+/// most 64. `Memory` is answered where there was none for the lists. The time is linear in the bridges, and in the
+/// links, each of which costs a look at its services; no contract says so.
 pub fn forest(
     alloc: Global,
     shape: &Shape,

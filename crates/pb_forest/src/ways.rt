@@ -99,7 +99,7 @@ fn joined(a: Side, b: Side) -> Result<Vec<u8>, Memory>
 /// as [`check_rooted`](crate::check_rooted) finds out. Then the answer holds for each such shape and
 /// service. Bridges are numbered from 1; a number that names none is joined to no other.
 ///
-/// Memory is answered where there was none for the list. Takes time linear in the depths.
+/// `Memory` is answered where there was none for the list. The time is linear in the depths; no contract says so.
 pub fn path(
     alloc: Global,
     rooted: &Rooted,

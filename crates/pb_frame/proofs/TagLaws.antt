@@ -1,7 +1,7 @@
 -- A service tag comes off as it went on.
 use Rattle.std.proofs.Common.{◌≡◌, ℕ, ◌+◌, ◌*◌, ◌/◌, ◌%◌, ◌<◌, ◌≤◌, true, List, ◌∷◌, take, length, get_or, refl, sym, ap, ◌∙◌, arith}
 use Rattle.std.proofs.lemmas.Bool.Decides.{nat_tests}
-use Rattle.pb_frame.specs.Tags.{control, tagged, untagged, control_of, vid_of, priority_of, has_service_type}
+use Rattle.pb_frame.specs.Tags.{control, tagged, untagged, control_of, IsTag, vid_of, priority_of, has_service_type}
 
 -- the frame is what is left without the tag
 pub untagged-tagged : (x : List ℕ) (p d v : ℕ) → 12 ≤ length x → untagged (tagged x p d v) ≡ x
@@ -61,3 +61,10 @@ tagged-inj x y p d v q e w hx hy same = (
   sym (untagged-tagged x p d v hx) ∙ ap untagged same ∙ untagged-tagged y q e w hy,
   sym (control_of-tagged x p d v hx) ∙ ap control_of same ∙ control_of-tagged y q e w hy,
 )
+
+-- and, within their bits, the tag's parts
+pub parts-of-control : (p d v q e w : ℕ) → IsTag p d v → IsTag q e w → control p d v ≡ control q e w → (p ≡ q) × (d ≡ e) × (v ≡ w)
+parts-of-control p d v q e w here there same =
+    let a = here.0 in let b = here.1 in let c = here.2 in
+    let f = there.0 in let g = there.1 in let h = there.2 in
+    (omega arith, omega arith, omega arith)

@@ -1,11 +1,15 @@
 -- Service tags: the type 88 A8 and two octets of control directly after the source address
 -- (IEEE 802.1ad clause 9).
-use Rattle.std.specs.Prelude.{ℕ, ◌+◌, ◌*◌, ◌/◌, ◌%◌, Bool, List, [], ◌∷◌, ◌++◌, take, drop, length, slice_index, nat_le, ◌==◌, ◌&&◌, if◌then◌else◌, Some, None}
+use Rattle.std.specs.Prelude.{ℕ, ◌+◌, ◌*◌, ◌/◌, ◌%◌, ◌<◌, Bool, List, [], ◌∷◌, ◌++◌, take, drop, length, slice_index, nat_le, ◌==◌, ◌&&◌, if◌then◌else◌, Some, None}
 use Rattle.std.specs.declared.option.Option.{Option}
 
 -- priority p, drop eligibility d and identifier v as one number
 abbrev pub control : ℕ → ℕ → ℕ → ℕ
 control p d v = p * 8192 + d * 4096 + v
+
+-- they are within their 3, 1 and 12 bits
+abbrev pub IsTag : ℕ → ℕ → ℕ → Type 0
+IsTag p d v = (p < 8) × (d < 2) × (v < 4096)
 
 -- the frame x with a service tag
 abbrev pub tagged : List ℕ → ℕ → ℕ → ℕ → List ℕ

@@ -15,8 +15,8 @@ use Rattle.pb_lan.specs.declared.shape.Shape.{Shape}
 use Rattle.pb_lan.specs.declared.step.Item.{Item}
 use Rattle.pb_lan.specs.declared.step.Mark.{Mark}
 
--- a frame that was handled under a forest leaves each other port of its tree at most once, its own
--- never, and none outside
+-- a frame that was handled under a forest leaves each port at most once, its own never, and none outside
+-- the tree of its bridge
 abbrev pub LeaveAtMostOnce : Plan → Record → Type 0
 LeaveAtMostOnce plan rec = (shape : Shape) (mark : Mark) (entry : CustomerPlan) → IsTraced plan shape rec mark entry → IsDeliveredOnce plan shape rec mark entry
 
@@ -46,7 +46,7 @@ KeepTheirOrder plan rec =
     → slice_get (departed (steps_of rec.customers number)) j ≡ Some b → b.mark ≡ Some (record { port = port; number = second })
     → i < j
 
--- what leaves is what entered, and as often as the forest has it
+-- what leaves is what entered, less a priority tag, and as often as the forest has it
 pub record IsFaithful (plan : Plan) (rec : Record) : Type 0 where
   pub arrivals : DeparturesAreArrivals plan rec
   pub at_most_once : LeaveAtMostOnce plan rec

@@ -48,7 +48,7 @@ fn has_distinct_names(plan: &Plan) -> bool
 /// - no local port of a bridge is used twice, by ends of links and customer ports;
 /// - bridge addresses are individual (802.3 clause 3.2.3), VIDs are 1 to 4,094 (802.1Q clause 9.6),
 ///   bridge priorities multiples of 4,096 and port priorities multiples of 16
-///   (802.1D-2004 clause 9.2.5);
+///   (802.1D-2004 clauses 9.2.5 and 9.2.7);
 /// - the lost items of each direction and the services of each end rise strictly.
 pub fn plan_is_sound(plan: &Plan) -> bool
     ensures { IsTrue result ↔ IsSound plan.now }

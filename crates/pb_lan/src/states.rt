@@ -143,7 +143,7 @@ fn shape_after(alloc: Global, plan: &Plan, bridges: &[Seq<Step>]) -> Result<Shap
 
 /// The states in which the ports of a network start: of a customer port Forwarding, of an unused
 /// port Discarding, and of a provider port the state that the plan gives it, or Discarding where the
-/// spanning tree decides (802.1D-2004 clause 17.5).
+/// spanning tree decides (802.1D-2004 clause 17.30).
 ///
 /// Memory is answered where there was none for the shape, and nothing else is refused.
 pub fn start_shape(alloc: Global, plan: &Plan) -> Result<Shape, Memory>

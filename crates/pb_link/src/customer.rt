@@ -71,7 +71,7 @@ impl CustomerPlace {
         self.steps.as_slice()
     }
 
-    /// Gives the steps. Takes no memory.
+    /// The steps, and no customer port any more. Takes no memory.
     pub fn into_steps(self) -> Vec<Step>
         ensures steps { result.items ≡ self.steps }
         ensures lawful { IsLawfulPort self.number self.steps }

@@ -73,7 +73,7 @@ impl Lane {
         self.steps.as_slice()
     }
 
-    /// Gives the steps. Takes no memory.
+    /// The steps, and no lane any more. Takes no memory.
     pub fn into_steps(self) -> Vec<Step>
         ensures steps { result.items ≡ self.steps }
         ensures lawful { IsLawfulLane self.losses self.steps }

@@ -15,7 +15,7 @@ use Rattle.pb_rstp.specs.Profile.{machine_of}
 use Rattle.pb_net.specs.Nets.{ArePlaced, record_of}
 use Rattle.pb_lan.specs.Plans.{IsSound}
 use Rattle.pb_lan.specs.declared.record.Record.{Record}
-use Rattle.pb_rstp.specs.Tree.{IsSettled, NoneHeld, AreMachines, IsForestBehindRoots, PlannedAreMachines}
+use Rattle.pb_rstp.specs.Tree.{IsSettled, NoneHeld, AreMachines, AreForests, PlannedAreMachines}
 use Rattle.pb_relay.specs.Settled.{machines_in, TellsOf}
 use Rattle.pb_net.proofs.OneMore.{here_is, steps_of-map}
 use Rattle.pb_net.proofs.Records.{steps_at_number}
@@ -96,8 +96,8 @@ are_machines plan rec sound planned = planned plan (steps_of rec.bridges) sound
 -- what the answer tells of a network's own machines
 pub tells : (plan : Plan) (rec : Record) (machines : List Machine) (answer : Bool) → machines ≡ machines_in plan rec → IsSound plan → PlannedAreMachines
     → (IsTrue answer ↔ IsSettled plan machines)
-    → (IsTrue answer → IsSound plan → AreMachines plan machines → NoneHeld machines → (vid : ℕ) → IsForestBehindRoots plan machines vid)
+    → (IsTrue answer → IsSound plan → AreMachines plan machines → NoneHeld machines → AreForests plan machines)
     → TellsOf plan (machines_in plan rec) answer
 tells plan rec machines answer e sound planned settled forest =
     subst (λ (ms : List Machine). TellsOf plan ms answer) e
-    (record { settled = settled; forest = λ t none vid. forest t sound (subst (AreMachines plan) (sym e) (are_machines plan rec sound planned)) none vid })
+    (record { settled = settled; forest = λ t none. forest t sound (subst (AreMachines plan) (sym e) (are_machines plan rec sound planned)) none })

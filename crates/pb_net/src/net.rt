@@ -72,7 +72,8 @@ impl Net {
 
     /// Does what the events ask for, one after the other.
     ///
-    /// The first fault ends it: the number of events done before it, and the fault, are answered.
+    /// The first fault ends it. The number of events done before it and the fault are answered, and what those
+    /// events did stays done. The faults are those of [`step`](Net::step).
     pub fn run(&mut self, events: &[Event]) -> Result<(), (u64, NetFault)>
         ensures ok { OnOk result (HaveRun self.old events.now self.new) }
         ensures fault { IfErr result (λ e. HasStopped self.old events.now e.0 e.1 self.new) }
@@ -111,8 +112,8 @@ impl Net {
 
     /// Ends the network, and gives the record of its steps, which is lawful. Takes no memory.
     ///
-    /// Whatever the events were: each departure has the octets of an arrival at a port of the same
-    /// service; a frame that was handled under a forest leaves each other port at most once, its own
+    /// Whatever the events were: each departure has the octets of an arrival at a port of the same service, less
+    /// a priority S-tag; a frame that was handled under a forest leaves each other port at most once, its own
     /// never, and none outside its tree; one to a group that was neither refused nor lost, and has
     /// drained, leaves each port of its service in its tree once; no frame is multiplied; and frames
     /// of one port and one priority keep their order.

@@ -189,9 +189,10 @@ fn empty_lists(alloc: Global, plan: &Plan) -> Result<Lists, Memory>
 }
 
 impl Net {
-    /// The network of a sound plan (802.1Q clause 15), in which no place has taken a step. The plan gives
-    /// the states of the ports, or a spanning tree at each bridge decides them. It keeps the plan. `Memory` is answered where memory ran out,
-    /// and nothing else is refused.
+    /// The network of a sound plan (802.1Q clause 15), in which no place has taken a step. The plan gives the
+    /// states of the ports, or a spanning tree at each bridge decides them. The network keeps the plan.
+    ///
+    /// `Memory` is answered where memory ran out, and nothing else is refused.
     pub fn new(alloc: Global, plan: Plan) -> Result<Net, Memory>
         requires { IsSound plan }
         ensures { IfOk result (λ net. net ≡ record { plan = plan; rec = empty_record plan }) }

@@ -5,8 +5,8 @@ use Rattle.std.specs.List.{IsDistinct, flat_map}
 use Rattle.std.proofs.lemmas.Bool.{eq-eqb}
 use Rattle.pb_lan.specs.Numbering.{numbered}
 use Rattle.pb_lan.specs.Plans.{IsSound, is_same_port}
-use Rattle.pb_lan.specs.Ports.{all_ends, ends_of, local_ports, port_at}
-use Rattle.pb_lan.specs.Shapes.{state_in, is_open, is_active, is_forwarding as is_open_state}
+use Rattle.pb_lan.specs.Ports.{all_ends, ends_of, local_ports, port_at, serves}
+use Rattle.pb_lan.specs.Shapes.{state_in, is_open, is_active, is_end_forwarding, are_ends_forwarding, is_forwarding as is_open_state}
 use Rattle.pb_lan.specs.Forests.{HasEnds}
 use Rattle.pb_lan.specs.declared.plan.Plan.{Plan}
 use Rattle.pb_lan.specs.declared.plan.End.{End}
@@ -19,11 +19,11 @@ use Rattle.pb_lan.proofs.PortsInPlans.{IsEndOf, port_at-end, sound-end}
 use Rattle.pb_rstp.specs.Ports.{Machine, id_of, port_of, is_root, is_designated, is_forwarding}
 use Rattle.pb_rstp.specs.declared.port.Port.{Port}
 use Rattle.pb_rstp.specs.Roles.{root_vector}
-use Rattle.pb_rstp.specs.Tree.{root_cost, StandsAt, HasPortAt, Rises, AreBothForwarding, SettledIsForest, LeadsBehindRoots, state_at, states_of, shape_of}
+use Rattle.pb_rstp.specs.Tree.{root_cost, StandsAt, HasPortAt, Rises, AreBothForwarding, SettledIsForest, LeadsBehindRoots, IsForestBehindRoots, state_at, states_of, shape_of}
 use Rattle.pb_rstp.specs.declared.role.Role.{Role}
 use Rattle.pb_rstp.specs.declared.role.Role.TheVariants.{Disabled, Root, Designated, Alternate, Backup}
 use Rattle.pb_rstp.proofs.ForestLaws.{lower, upper, Falls, numbered-at, numbered-only, is_up, up_of, rooted_by, falling-shows}
-use Rattle.pb_rstp.proofs.SettledLaws.{Network, stands, rises, root_way, root_is, same_number, at_number}
+use Rattle.pb_rstp.proofs.SettledLaws.{Network, stands, rises, root_way, root_is, same_number, at_number, cost_rises}
 
 -- The state of a port in the shape.
 
@@ -55,12 +55,25 @@ same_test Forwarding e = refl
 same_test Learning e = cc
 same_test Discarding e = cc
 
-both_forwarding : (plan : Plan) (machines : List Machine) (vid : ℕ) → Network plan machines → (k : ℕ) (link : LinkPlan) → numbered plan.links k ≡ Some link
-    → is_active plan (shape_of plan machines) vid link ≡ true → AreBothForwarding machines link
-both_forwarding plan machines vid net k link at active =
+-- a link passes only where its ends are both Forwarding
+abbrev Forwards : Plan → List Machine → (LinkPlan → Bool) → Type 0
+Forwards plan machines passes = (link : LinkPlan) → passes link ≡ true → are_ends_forwarding (shape_of plan machines) link ≡ true
+
+active_forwards : (plan : Plan) (machines : List Machine) (vid : ℕ) → Forwards plan machines (is_active plan (shape_of plan machines) vid)
+active_forwards plan machines vid link active =
+    let shape = shape_of plan machines in
+    let open_a = and-left (is_open plan shape vid link.a) (is_open plan shape vid link.b) active in
+    let open_b = and-right (is_open plan shape vid link.a) (is_open plan shape vid link.b) active in
+    let forwarding_a = and-left (is_end_forwarding shape link.a) (serves plan vid link.a) open_a in
+    let forwarding_b = and-left (is_end_forwarding shape link.b) (serves plan vid link.b) open_b in
+    ap₂ (λ x y. x && y) forwarding_a forwarding_b
+
+both_forwarding : (plan : Plan) (machines : List Machine) → Network plan machines → (k : ℕ) (link : LinkPlan) → numbered plan.links k ≡ Some link
+    → are_ends_forwarding (shape_of plan machines) link ≡ true → AreBothForwarding machines link
+both_forwarding plan machines net k link at both =
     let ends = at_number (λ l. HasPortAt machines l.a × HasPortAt machines l.b) plan.links k link at net.are.ends in
-    let open_a = and-left _ _ (and-left (is_open plan (shape_of plan machines) vid link.a) (is_open plan (shape_of plan machines) vid link.b) active) in
-    let open_b = and-left _ _ (and-right (is_open plan (shape_of plan machines) vid link.a) (is_open plan (shape_of plan machines) vid link.b) active) in
+    let open_a = and-left (is_end_forwarding (shape_of plan machines) link.a) (is_end_forwarding (shape_of plan machines) link.b) both in
+    let open_b = and-right (is_end_forwarding (shape_of plan machines) link.a) (is_end_forwarding (shape_of plan machines) link.b) both in
     let a = shape_state plan machines net k link link.a at (inl refl) ends.0.0 ends.0.1 ends.0.2 in
     let b = shape_state plan machines net k link link.b at (inr refl) ends.1.0 ends.1.1 ends.1.2 in (
       ends.0.0,
@@ -101,9 +114,9 @@ not_root Backup e = cc
 record Oriented (machines : List Machine) (link : LinkPlan) (t : Bool) : Type 0 where
   rises : Rises machines (upper t link) (lower t link)
 
-oriented : (plan : Plan) (machines : List Machine) (vid : ℕ) → Network plan machines → (k : ℕ) (link : LinkPlan) → numbered plan.links k ≡ Some link
-    → is_active plan (shape_of plan machines) vid link ≡ true → Oriented machines link (low_of machines link)
-oriented plan machines vid net k link at active = by_case (rises plan machines net k link at (both_forwarding plan machines vid net k link at active))
+oriented : (plan : Plan) (machines : List Machine) → Network plan machines → (k : ℕ) (link : LinkPlan) → numbered plan.links k ≡ Some link
+    → are_ends_forwarding (shape_of plan machines) link ≡ true → Oriented machines link (low_of machines link)
+oriented plan machines net k link at both = by_case (rises plan machines net k link at (both_forwarding plan machines net k link at both))
   where
     by_case : Rises machines link.a link.b ⊎ Rises machines link.b link.a → Oriented machines link (low_of machines link)
     by_case (inl r) =
@@ -181,12 +194,12 @@ one_port plan machines net u e v f r s bridge =
 cost_is : (machines : List Machine) (e : End) (m : Machine) (p : Port) → StandsAt machines e m p → cost_of machines e.bridge ≡ root_cost m
 cost_is machines e m p s = ap (λ o. option_map_or root_cost o 0) s.machine
 
-settled_falls : (plan : Plan) (machines : List Machine) (vid : ℕ) → Network plan machines
-    → Falls plan (shape_of plan machines) vid (low_of machines) (cost_of machines)
-settled_falls plan machines vid net = record {
+settled_falls : (plan : Plan) (machines : List Machine) (passes : LinkPlan → Bool) → Network plan machines → Forwards plan machines passes
+    → Falls plan passes (low_of machines) (cost_of machines)
+settled_falls plan machines passes net forwards = record {
   known = λ n l at t. (sound-end plan net.sound n l (lower t l) at (lower_end t l)).bridge;
-  falls = λ n l at active. fall (low_of machines l) l (oriented plan machines vid net n l at active);
-  one = λ n n' l l' at at' active active' bridge. one n n' l l' at at' (oriented plan machines vid net n l at active) (oriented plan machines vid net n' l' at' active') bridge;
+  falls = λ n l at active. fall (low_of machines l) l (oriented plan machines net n l at (forwards l active));
+  one = λ n n' l l' at at' active active' bridge. one n n' l l' at at' (oriented plan machines net n l at (forwards l active)) (oriented plan machines net n' l' at' (forwards l' active')) bridge;
 }
   where
     fall : (t : Bool) (l : LinkPlan) → Oriented machines l t → cost_of machines (upper t l).bridge < cost_of machines (lower t l).bridge
@@ -212,24 +225,33 @@ ends_of_link : (t : Bool) (l : LinkPlan) → HasEnds l (lower t l) (upper t l)
 ends_of_link true l = inl (refl, refl)
 ends_of_link false l = inr (refl, refl)
 
-behind_roots : (plan : Plan) (machines : List Machine) (vid : ℕ) → Network plan machines
-    → LeadsBehindRoots plan machines (rooted_by plan (shape_of plan machines) vid (low_of machines) (cost_of machines))
-behind_roots plan machines vid net bridge number e =
-    let h = numbered-only (up_of plan (shape_of plan machines) vid (low_of machines)) plan.bridges bridge (Some number) e in
-    let u = is_up plan (shape_of plan machines) vid (low_of machines) bridge number (sym h.2) in (
+behind_roots : (plan : Plan) (machines : List Machine) (passes : LinkPlan → Bool) → Network plan machines → Forwards plan machines passes
+    → LeadsBehindRoots plan machines (rooted_by plan passes (low_of machines) (cost_of machines))
+behind_roots plan machines passes net forwards bridge number e =
+    let h = numbered-only (up_of plan passes (low_of machines)) plan.bridges bridge (Some number) e in
+    let u = is_up plan passes (low_of machines) bridge number (sym h.2) in (
       u.link,
       lower (low_of machines u.link) u.link,
       upper (low_of machines u.link) u.link,
       u.numbered_so,
       ends_of_link (low_of machines u.link) u.link,
       u.from,
-      (oriented plan machines vid net number u.link u.numbered_so u.active).rises,
+      (oriented plan machines net number u.link u.numbered_so (forwards u.link u.active)).rises,
     )
 
+forest_over : (plan : Plan) (machines : List Machine) (passes : LinkPlan → Bool) → Network plan machines → Forwards plan machines passes
+    → IsForestBehindRoots plan machines passes
+forest_over plan machines passes net forwards = (
+  rooted_by plan passes (low_of machines) (cost_of machines),
+  falling-shows plan passes (low_of machines) (cost_of machines) (settled_falls plan machines passes net forwards),
+  behind_roots plan machines passes net forwards,
+)
+
 pub settled_is_forest : SettledIsForest
-settled_is_forest plan machines vid sound are settled none_held =
-    let net : Network plan machines = record { sound = sound; are = are; settled = settled; none_held = none_held } in (
-      rooted_by plan (shape_of plan machines) vid (low_of machines) (cost_of machines),
-      falling-shows plan (shape_of plan machines) vid (low_of machines) (cost_of machines) (settled_falls plan machines vid net),
-      behind_roots plan machines vid net,
-    )
+settled_is_forest plan machines sound are settled none_held =
+    let net : Network plan machines = record { sound = sound; are = are; settled = settled; none_held = none_held } in
+    record {
+      whole = forest_over plan machines (are_ends_forwarding (shape_of plan machines)) net (λ link both. both);
+      services = λ vid. forest_over plan machines (is_active plan (shape_of plan machines) vid) net (active_forwards plan machines vid);
+      rises = λ number link at both. cost_rises plan machines sound are settled none_held number link at both;
+    }

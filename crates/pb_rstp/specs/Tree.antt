@@ -8,7 +8,8 @@ use Rattle.pb_lan.specs.Numbering.{numbered, numbers_from}
 use Rattle.pb_lan.specs.Ports.{Port as LocalPort, port_at, local_ports}
 use Rattle.pb_lan.specs.Ports.Port.{Customer, Provider, Unused}
 use Rattle.pb_lan.specs.Plans.{IsSound}
-use Rattle.pb_lan.specs.Forests.{Shows, HasEnds}
+use Rattle.pb_lan.specs.Forests.{ShowsBy, HasEnds}
+use Rattle.pb_lan.specs.Shapes.{is_active, are_ends_forwarding}
 use Rattle.pb_lan.specs.declared.plan.Plan.{Plan}
 use Rattle.pb_lan.specs.declared.plan.End.{End}
 use Rattle.pb_lan.specs.declared.plan.LinkPlan.{LinkPlan}
@@ -168,25 +169,35 @@ LeadsBehindRoots plan machines rooted =
     → (link : LinkPlan) × (near : End) × (far : End) × (numbered plan.links number ≡ Some link) × HasEnds link near far
     × (near.bridge ≡ bridge) × Rises machines far near
 
--- the Forwarding ports are a forest for the service, and its parents lie behind the Root ports
-abbrev pub IsForestBehindRoots : Plan → List Machine → ℕ → Type 0
-IsForestBehindRoots plan machines vid =
-    (rooted : Rooted) × Shows plan (shape_of plan machines) vid rooted × LeadsBehindRoots plan machines rooted
-
--- where the machines of a sound plan are settled and no cost is held, so they are for every service
-abbrev pub SettledIsForest : Type 0
-SettledIsForest =
-    (plan : Plan) (machines : List Machine) (vid : ℕ) → IsSound plan → AreMachines plan machines → IsSettled plan machines
-    → NoneHeld machines → IsForestBehindRoots plan machines vid
+-- the links that pass are a forest, and its parents lie behind the Root ports
+abbrev pub IsForestBehindRoots : Plan → List Machine → (LinkPlan → Bool) → Type 0
+IsForestBehindRoots plan machines passes = (rooted : Rooted) × ShowsBy plan passes rooted × LeadsBehindRoots plan machines rooted
 
 abbrev pub AreBothForwarding : List Machine → LinkPlan → Type 0
 AreBothForwarding machines link =
     (m : Machine) × (n : Machine) × (p : Port) × (q : Port) × StandsAt machines link.a m p × StandsAt machines link.b n q
     × (is_forwarding p.state ≡ true) × (is_forwarding q.state ≡ true)
 
--- and cost rises along every link whose ends are both Forwarding
+-- root path cost rises along every link whose ends are both Forwarding
+abbrev pub CostRisesAlong : Plan → List Machine → Type 0
+CostRisesAlong plan machines =
+    (number : ℕ) (link : LinkPlan) → numbered plan.links number ≡ Some link → AreBothForwarding machines link
+    → Rises machines link.a link.b ⊎ Rises machines link.b link.a
+
+-- all links whose two ends are Forwarding, whatever services they list, are one forest; so are those of each
+-- service; and root path cost rises along them
+pub record AreForests (plan : Plan) (machines : List Machine) : Type 0 where
+  pub whole : IsForestBehindRoots plan machines (are_ends_forwarding (shape_of plan machines))
+  pub services : (vid : ℕ) → IsForestBehindRoots plan machines (is_active plan (shape_of plan machines) vid)
+  pub rises : CostRisesAlong plan machines
+
+-- where the machines of a sound plan are settled and no cost is held, they are
+abbrev pub SettledIsForest : Type 0
+SettledIsForest =
+    (plan : Plan) (machines : List Machine) → IsSound plan → AreMachines plan machines → IsSettled plan machines
+    → NoneHeld machines → AreForests plan machines
+
 abbrev pub CostRises : Type 0
 CostRises =
     (plan : Plan) (machines : List Machine) → IsSound plan → AreMachines plan machines → IsSettled plan machines → NoneHeld machines
-    → (number : ℕ) (link : LinkPlan) → numbered plan.links number ≡ Some link → AreBothForwarding machines link
-    → Rises machines link.a link.b ⊎ Rises machines link.b link.a
+    → CostRisesAlong plan machines

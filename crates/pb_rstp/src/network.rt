@@ -6,7 +6,7 @@ ghost use Rattle.std.specs.Option.{option_copied, option_map};
 ghost use Rattle.pb_lan.specs.Numbering.{numbered};
 ghost use Rattle.pb_lan.specs.Plans.{IsSound};
 ghost use Rattle.pb_rstp.specs.Laws.{IsInLine};
-ghost use Rattle.pb_rstp.specs.Tree.{IsSettled, AreMachines, NoneHeld, IsForestBehindRoots, offered, is_quiet, stores_test, leads_test, place_at, is_settled_between};
+ghost use Rattle.pb_rstp.specs.Tree.{IsSettled, AreMachines, NoneHeld, AreForests, offered, is_quiet, stores_test, leads_test, place_at, is_settled_between};
 ghost use Rattle.pb_rstp.specs.Places.{place_of};
 
 use crate::port::{Port, is_discarding, port_of};
@@ -126,16 +126,16 @@ fn are_settled_links(bridges: &[&Rstp], links: &[LinkPlan]) -> bool
 /// Root and Designated ports are Forwarding, and each link with both ends up has just one Designated
 /// end, whose vector the other end stores (IEEE 802.1D-2004 clause 17). Takes no memory.
 ///
-/// `bridges` has one machine for each bridge of the plan, in the plan's order, made for that plan. The
-/// answer is of this moment: bridges may settle and unsettle again.
+/// An end of a link at which no machine has a port counts as settled. What is told of forests asks for one
+/// machine for each bridge, in the plan's order, made for that plan. The answer is of this moment: bridges may
+/// settle and unsettle again.
 pub fn is_settled(bridges: &[&Rstp], plan: &Plan) -> bool
     ensures settled { IsTrue result ↔ IsSettled plan.now (map (λ m. m.now) bridges.now) }
 
-    // Where no Root port's way costs more than a BPDU can tell, settled bridges of a sound plan have
-    // their Forwarding ports as a forest for every service.
+    // Where no Root port's way costs more than a BPDU can tell, the links of a sound plan whose ends are both
+    // Forwarding are one forest, those of each service are one, and root path cost rises along them.
     ensures forest { let machines = map (λ m. m.now) bridges.now in
-        IsTrue result → IsSound plan.now → AreMachines plan.now machines → NoneHeld machines
-        → (vid : ℕ) → IsForestBehindRoots plan.now machines vid }
+        IsTrue result → IsSound plan.now → AreMachines plan.now machines → NoneHeld machines → AreForests plan.now machines }
 {
     are_in_line(bridges) && are_settled_links(bridges, plan.links.as_slice())
 }

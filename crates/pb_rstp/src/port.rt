@@ -8,7 +8,8 @@ use crate::role::Role;
 use crate::vector::Vector;
 use pb_lan::PortState;
 
-/// What a port stores of a BPDU (IEEE 802.1D-2004 clause 17.19). Times are in 1/256 s.
+/// What a port stores of a BPDU: the standard's portPriority and portTimes (IEEE 802.1D-2004 clauses 17.19.21 and
+/// 17.19.22). Times are in 1/256 s.
 #[derive(Clone, Copy, PartialEq, Eq, Debug)]
 pub(crate) struct Info {
     pub(crate) root: u64,
@@ -19,33 +20,33 @@ pub(crate) struct Info {
     pub(crate) max_age: u16,
     pub(crate) hello: u16,
     pub(crate) delay: u16,
-    /// Ticks for which it is kept.
+    /// Ticks for which it is kept: rcvdInfoWhile (IEEE 802.1D-2004 clause 17.17.6).
     pub(crate) left: u16,
 }
 
-/// A port (IEEE 802.1D-2004 clause 17.19).
+/// A port: its timers and variables (IEEE 802.1D-2004 clauses 17.17 and 17.19).
 #[derive(Clone, Copy, PartialEq, Eq, Debug)]
 pub(crate) struct Port {
     pub(crate) number: u8,
     pub(crate) cost: u32,
     pub(crate) priority: u8,
-    /// It is set up and not down.
+    /// It is set up and not down: portEnabled (clause 17.19.18).
     pub(crate) up: bool,
     /// What it stores, if anything.
     pub(crate) info: Option<Info>,
     pub(crate) role: Role,
     pub(crate) state: PortState,
-    /// Ticks to the next state of a Designated port.
+    /// Ticks to the next state of a Designated port: fdWhile (clause 17.17.2).
     pub(crate) wait: u16,
-    /// The neighbour has agreed.
+    /// The neighbour has agreed: agreed (clause 17.19.3).
     pub(crate) agreed: bool,
-    /// This port agrees.
+    /// This port agrees: agree (clause 17.19.2).
     pub(crate) agree: bool,
-    /// Ticks for which it tells of a topology change.
+    /// Ticks for which it tells of a topology change: tcWhile (clause 17.17.8).
     pub(crate) changing: u8,
-    /// BPDUs sent of late.
+    /// BPDUs sent of late: txCount (clause 17.19.44).
     pub(crate) sent: u8,
-    /// A BPDU is due.
+    /// A BPDU is due: newInfo (clause 17.19.16).
     pub(crate) due: bool,
 }
 

@@ -29,7 +29,7 @@ pub struct Rstp {
     /// The bridge's identifier.
     pub(crate) id: u64,
     pub(crate) ports: Vec<Port>,
-    /// Ticks to the next hello time.
+    /// Ticks to the next hello time: helloWhen, which the standard has at each port (IEEE 802.1D-2004 clause 17.17.3).
     pub(crate) hello_left: u8,
     /// The role of each port.
     pub(crate) roles: Vec<(u8, Role)>,

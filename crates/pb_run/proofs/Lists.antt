@@ -1,11 +1,14 @@
 -- Lists that grow, and things at their places.
-use Rattle.std.proofs.Common.{◌≡◌, ◌⊎◌, inl, inr, ℕ, zero, suc, ◌+◌, ◌<◌, List, [], ◌∷◌, ◌++◌, Some, None, All, map, length, slice_get, slice_set, slice_index_or, get_or, refl, sym, ap, ◌∙◌, subst, arith, append_assoc}
+use Rattle.std.proofs.Common.{◌≡◌, ◌⊎◌, inl, inr, ℕ, zero, suc, ◌+◌, ◌<◌, false, List, [], ◌∷◌, ◌++◌, Some, None, All, map, length, slice_get, slice_set, slice_index_or, get_or, refl, sym, ap, ◌∙◌, subst, arith, append_assoc}
 use Rattle.std.proofs.Math.Seq.{map-set_same}
 use Rattle.std.proofs.lemmas.List.{map-append}
 use Rattle.std.proofs.lemmas.List.Elements.{All-append}
 use Rattle.std.proofs.lemmas.Option.{slice_get-get_or, slice_get_within, get_or_from_slice_get}
 use Rattle.std.specs.declared.option.Option.{Option}
-use Rattle.pb_frame.proofs.Lists.{Some-injective}
+use Rattle.std.specs.List.{AllByRecursion, list_any}
+use Rattle.pb_frame.proofs.Lists.{Some-injective, All-append as each-append}
+use Rattle.pb_lan.specs.Laws.{is_setting}
+use Rattle.pb_lan.specs.declared.step.Step.{Step}
 use Rattle.pb_ring.specs.Rings.{shown_at}
 
 -- the first of those that have a property, and the others
@@ -139,3 +142,11 @@ pub moved_on : {X Y : Type 0} (f : X → Y) (xs ys : List X) (x : X) (rest left 
 moved_on f xs ys x rest left all y before e er is =
     ap (λ zs. map f zs ++ left) e ∙ ap (λ zs. zs ++ left) (map-append f xs (x ∷ [])) ∙ append_assoc (map f xs) (f x ∷ []) left
     ∙ ap (λ z. map f xs ++ z ∷ left) is ∙ ap (λ zs. map f xs ++ zs) (sym er) ∙ before
+
+-- one list more in which no port is set
+abbrev IsUnset : List Step → Type 0
+IsUnset steps = list_any is_setting steps ≡ false
+
+pub unset_more : (olds news : List (List Step)) (steps : List Step) → AllByRecursion (λ steps. list_any is_setting steps ≡ false) olds
+    → news ≡ olds ++ steps ∷ [] → list_any is_setting steps ≡ false → AllByRecursion (λ steps. list_any is_setting steps ≡ false) news
+unset_more olds news steps all grown unset = subst (AllByRecursion IsUnset) (sym grown) (each-append IsUnset olds (steps ∷ []) all (unset, tt))

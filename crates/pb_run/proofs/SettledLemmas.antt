@@ -14,7 +14,7 @@ use Rattle.pb_relay.specs.Settled.{machines_in, TellsOf, TellsBy, TellsSettled}
 use Rattle.pb_relay.proofs.CauseLemmas.{a_machine}
 use Rattle.pb_rstp.specs.Ports.{Machine}
 use Rattle.pb_rstp.specs.Profile.{machine_of}
-use Rattle.pb_rstp.specs.Tree.{IsSettled, NoneHeld, AreMachines, IsForestBehindRoots, PlannedAreMachines}
+use Rattle.pb_rstp.specs.Tree.{IsSettled, NoneHeld, AreMachines, AreForests, PlannedAreMachines}
 use Rattle.pb_run.specs.Gifts.{BridgeGift, AreBridges}
 use Rattle.pb_run.proofs.Lists.{here_is, part_at, each_more}
 use Rattle.pb_run.proofs.Meeting.{steps_there}
@@ -69,9 +69,9 @@ are_machines plan rec sound planned = planned plan (steps_of rec.bridges) sound
 -- what the answer tells of the machines of a record
 pub tells : (plan : Plan) (rec : Record) (machines : List Machine) (answer : Bool) → plan.spanning ≡ Rstp → machines ≡ machines_in plan rec → IsSound plan → PlannedAreMachines
     → (IsTrue answer ↔ IsSettled plan machines)
-    → (IsTrue answer → IsSound plan → AreMachines plan machines → NoneHeld machines → (vid : ℕ) → IsForestBehindRoots plan machines vid)
+    → (IsTrue answer → IsSound plan → AreMachines plan machines → NoneHeld machines → AreForests plan machines)
     → TellsSettled plan rec (Some answer)
 tells plan rec machines answer rstp e sound planned settled forest =
     let all = subst (λ (ms : List Machine). TellsOf plan ms answer) e
-    (record { settled = settled; forest = λ t none vid. forest t sound (subst (AreMachines plan) (sym e) (are_machines plan rec sound planned)) none vid }) in
+    (record { settled = settled; forest = λ t none. forest t sound (subst (AreMachines plan) (sym e) (are_machines plan rec sound planned)) none }) in
     subst (λ (z : Spanning). TellsBy z plan (machines_in plan rec) (Some answer)) (sym rstp) (answer, refl, all)

@@ -1,9 +1,11 @@
 //! The worker of a bridge.
 
 ghost use Rattle.std.specs.Prelude.{◌≡◌, ◌<◌, ◌≤◌, ◌+◌, ◌-◌, ℕ, [], true, false, IfOk, length, map, vec_len, slice_index_or};
+ghost use Rattle.std.specs.List.{list_any};
 ghost use Rattle.rtrb.specs.Ring.{sent, received as received_over};
 ghost use Rattle.pb_frame.specs.Lists.{IsBeginning};
 ghost use Rattle.pb_lan.specs.LaneLists.{taken, put};
+ghost use Rattle.pb_lan.specs.Laws.{is_setting};
 ghost use Rattle.pb_lan.specs.PortLists.{fed, delivered};
 ghost use Rattle.pb_lan.specs.Ports.{port_at, is_used};
 ghost use Rattle.pb_lan.specs.Plans.{IsSound, IsNumber};
@@ -45,6 +47,7 @@ pub struct BridgeWorker<W: Wiring> {
     pub ghost sides: { vec_len outs.ends ≡ vec_len ins.ends },
     pub ghost took: { (q : ℕ) → shown_at (λ i. received_over i.end) ins.ends.items q ≡ received (q + 1) bridge.steps },
     pub ghost gave: { (q : ℕ) → shown_at (λ o. sent o.end) outs.ends.items q ≡ transmitted (q + 1) bridge.steps },
+    pub ghost unset: { list_any is_setting bridge.steps ≡ false },
 }
 
 impl From<BridgeFault> for Refusal {

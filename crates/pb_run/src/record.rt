@@ -1,8 +1,10 @@
 //! The record of a run, and how the run ended.
 
-ghost use Rattle.std.specs.Prelude.{◌≡◌, ◌≤◌, [], All, length, map, vec_len, vec_capacity};
+ghost use Rattle.std.specs.Prelude.{◌≡◌, ◌≤◌, [], All, false, length, map, vec_len, vec_capacity};
+ghost use Rattle.std.specs.List.{AllByRecursion, list_any};
 ghost use Rattle.pb_lan.specs.BridgeLists.{IsLawfulBridge};
 ghost use Rattle.pb_lan.specs.LaneLists.{IsLawfulLane};
+ghost use Rattle.pb_lan.specs.Laws.{is_setting};
 ghost use Rattle.pb_lan.specs.PortLists.{IsLawfulPort};
 ghost use Rattle.pb_relay.specs.Protocol.{spanning_tree};
 
@@ -25,6 +27,7 @@ pub(crate) fn bridge_lists<W: Wiring>(
     requires { (lists.items ≡ []) × (vec_len workers ≤ vec_capacity lists) }
     ensures steps { result ≡ map (λ b. b.bridge.steps) workers.items }
     ensures lawful { All (λ b. IsLawfulBridge spanning_tree b.bridge.plan b.bridge.number b.bridge.steps) workers.items }
+    ensures unset { AllByRecursion (λ steps. list_any is_setting steps ≡ false) result }
 {
     for worker in workers {
         let BridgeWorker {

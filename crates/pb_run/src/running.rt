@@ -1,8 +1,10 @@
 //! A run of a whole plan.
 
 ghost use Rattle.std.specs.Prelude.{◌≡◌, ◌↔◌, ◌≤◌, ◌*◌, [], IfOk, IfErr, All, length, map, vec_len, vec_capacity};
+ghost use Rattle.pb_lan.specs.Laws.{AreTracedFromStart};
 ghost use Rattle.pb_lan.specs.Plans.{IsSound};
 ghost use Rattle.pb_lan.specs.Records.{IsLawfulRecord};
+ghost use Rattle.pb_lan.specs.declared.plan.Spanning.TheVariants.{Fixed};
 ghost use Rattle.pb_relay.specs.Protocol.{spanning_tree};
 ghost use Rattle.pb_relay.specs.Settled.{TellsSettled};
 ghost use Rattle.pb_run.specs.Gifts.{AreBridges, AreLanes, AreDesks};
@@ -135,6 +137,7 @@ fn record_of<W: Wiring>(
     requires room { (vec_capacity lists.0 ≡ length plan.now.customers) × (vec_capacity lists.1 ≡ 2 * length plan.now.links) × (vec_capacity lists.2 ≡ length plan.now.bridges) }
     ensures lawful { IsLawfulRecord spanning_tree plan.now result }
     ensures headline { IsFaithful plan.now result }
+    ensures planned { plan.now.spanning ≡ Fixed → AreTracedFromStart plan.now result }
     ensures customers { result.customers ≡ map (λ d. d.place.steps) desks.items }
     ensures bridges { result.bridges ≡ map (λ b. b.bridge.steps) bridges.items }
 {
@@ -172,6 +175,7 @@ fn run_built<W: Wiring + Send, G: Gate, R: Threads + Wait + Clock + Sync>(
     requires lists_room { (vec_capacity rooms.2.0 ≡ length plan.now.customers) × (vec_capacity rooms.2.1 ≡ 2 * length plan.now.links) × (vec_capacity rooms.2.2 ≡ length plan.now.bridges) }
     ensures lawful { IfOk result (λ ran. IsLawfulRecord spanning_tree plan.now ran.rec) }
     ensures headline { IfOk result (λ ran. IsFaithful plan.now ran.rec) }
+    ensures planned { IfOk result (λ ran. plan.now.spanning ≡ Fixed → AreTracedFromStart plan.now ran.rec) }
     ensures ports { IfOk result (λ ran. ArePortsKept (record { scripts = map (λ b. script b) ports.items; tallies = map (λ b. tally b) ports.items })
         (record { scripts = map (λ b. script b) ran.ports.items; tallies = map (λ b. tally b) ran.ports.items }) ran.rec.customers ran.last.items) }
     ensures ended { IfOk result (λ ran. TellsEnded plan.now ran.rec ran.last.items ran.ended) }
@@ -222,6 +226,7 @@ fn run_wired<W: Wiring + Send, G: Gate, R: Threads + Wait + Clock + Sync>(
     requires rings { vec_len rings ≡ 32 * length plan.now.bridges }
     ensures lawful { IfOk result (λ ran. IsLawfulRecord spanning_tree plan.now ran.rec) }
     ensures headline { IfOk result (λ ran. IsFaithful plan.now ran.rec) }
+    ensures planned { IfOk result (λ ran. plan.now.spanning ≡ Fixed → AreTracedFromStart plan.now ran.rec) }
     ensures ports { IfOk result (λ ran. ArePortsKept (record { scripts = map (λ b. script b) ports.items; tallies = map (λ b. tally b) ports.items })
         (record { scripts = map (λ b. script b) ran.ports.items; tallies = map (λ b. tally b) ran.ports.items }) ran.rec.customers ran.last.items) }
     ensures ended { IfOk result (λ ran. TellsEnded plan.now ran.rec ran.last.items ran.ended) }
@@ -243,12 +248,15 @@ fn run_wired<W: Wiring + Send, G: Gate, R: Threads + Wait + Clock + Sync>(
 /// between them. No worker takes a step before all are started. A bridge ticks once every so many turns.
 ///
 /// The record of what all places did is lawful, so that the laws hold of it, whatever the schedule was: each
-/// departure has the octets of an arrival at a port of the same service; a frame that was handled under a
-/// forest leaves each other port at most once, its own never, and none outside its tree; one to a group that
-/// was neither refused nor lost, and has drained, leaves each port of its service in its tree once; no frame
-/// is multiplied; and frames of one port and one priority keep their order. For each port that keeps a script,
-/// the script before is what entered followed by the script left, and for each that keeps a tally, the tally
-/// after is the tally before followed by what left.
+/// departure has the octets of an arrival at a port of the same service, less a priority S-tag; a frame that was
+/// handled under a forest leaves each other port at most once, its own never, and none outside its tree; one to a
+/// group that was neither refused nor lost, and has drained, leaves each other port of its service in its tree
+/// once; no frame is multiplied; and frames of one port and one priority keep their order. For each port that keeps
+/// a script, the script before is what entered followed by the script left, and for each that keeps a tally, the
+/// tally after is the tally before followed by what left.
+///
+/// Where the plan gives the states of the ports, none changes: each frame of a service for which the start is a
+/// forest was handled under that forest.
 ///
 /// The run has drained exactly where every port came to its end and no frame is on its way. What is told of
 /// settled bridges is told of the bridges after all their steps.
@@ -267,6 +275,7 @@ pub fn run<G: Gate, R: Threads + Wait + Clock + Sync>(
     requires { IsSound plan.now }
     ensures lawful { IfOk result (λ ran. IsLawfulRecord spanning_tree plan.now ran.rec) }
     ensures headline { IfOk result (λ ran. IsFaithful plan.now ran.rec) }
+    ensures planned { IfOk result (λ ran. plan.now.spanning ≡ Fixed → AreTracedFromStart plan.now ran.rec) }
     ensures ports { IfOk result (λ ran. ArePortsKept (record { scripts = map (λ b. script b) ports.items; tallies = map (λ b. tally b) ports.items })
         (record { scripts = map (λ b. script b) ran.ports.items; tallies = map (λ b. tally b) ran.ports.items }) ran.rec.customers ran.last.items) }
     ensures ended { IfOk result (λ ran. TellsEnded plan.now ran.rec ran.last.items ran.ended) }

@@ -93,7 +93,12 @@ fn tell<W: Write, E: Write>(
     Ok(status)
 }
 
-/// Runs a plan with its ports, and reports on the run.
+/// Runs a plan with its ports, and reports on the run, as [`run_network`] does.
+///
+/// `Memory` is answered where there was none for the ports' boxes or for the workers, and then nothing has run; and
+/// where there was none for the text of the report, once the run is over. `Spawn` is answered where a thread could
+/// not be started, and then nothing has run; `Write` where the report could not be written. It is proved that
+/// `Ports` is never answered: there are as many ports as customer ports.
 fn run_ports<R, G: Watch, W: Write, E: Write>(
     rt: &R,
     alloc: Global,
@@ -138,10 +143,11 @@ where
 /// Where the file is no plan, the rule that it breaks is written as `check` does, and
 /// the answer is 1.
 ///
-/// `Path` is answered where a file can't be opened or a socket not be connected to: in the order of the plan,
-/// a port's file to read before the one to write. `Memory` is answered where memory ran out, before the run or
-/// for the text, `Spawn` where a worker could not be started, `Write` where a write to `writer` failed. `Ports`
-/// is never answered, since a plan file has as many ports as its plan.
+/// `Path` is answered where a file can't be opened or made, or a socket not be connected to: in the order of the
+/// plan, a port's file to read before the one to write. `Memory` is answered where there was none for the ports or
+/// the workers, and where there was none for the text to be written; `Spawn` where a worker could not be started;
+/// `Write` where a write to `writer` failed. Nothing has run after `Path` and `Spawn`. `Ports` is never answered,
+/// since a plan file has as many ports as its plan; of the faults no more than that is proved.
 pub fn run_network<R, G: Watch, W: Write, E: Write>(
     rt: &R,
     alloc: Global,

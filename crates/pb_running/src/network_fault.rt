@@ -14,16 +14,16 @@ use thiserror::Error;
 /// Why the network of a plan file was not run.
 #[derive(Clone, Copy, Debug, PartialEq, Eq, Error)]
 pub enum NetworkFault {
-    /// A file can't be opened, or a socket not be connected to.
+    /// A port's file can't be opened or made, or its socket not be connected to. Nothing has run.
     #[error("path")]
     Path,
-    /// A write failed.
+    /// The report could not be written, or the rule that the file breaks.
     #[error("write")]
     Write,
-    /// Memory ran out.
+    /// Memory ran out: before the run, for the ports or the workers; or behind it, for the text of the report.
     #[error("memory")]
     Memory,
-    /// A thread could not be started.
+    /// A thread could not be started. Nothing has run.
     #[error("spawn")]
     Spawn,
     /// There are not as many ports as the plan has customer ports.

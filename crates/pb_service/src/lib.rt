@@ -2,6 +2,13 @@
 //!
 //! A file is read table by table against the rules of its keys; the first rule that it breaks is told
 //! as a [`PlanFault`].
+//!
+//! ```text
+//! match read_plan(alloc, file.as_slice()) {
+//!     Ok((plan, ports)) => ..     // a sound plan, and where each customer port leads
+//!     Err(fault) => ..            // the first rule that the file breaks: fault.to_string()
+//! }
+//! ```
 #![tactic(auto)]
 
 mod bridge;

@@ -20,8 +20,8 @@ const DRIVEN: u8 = 0;
 const REFUSED: u8 = 1;
 
 /// Drives the network of a plan file by the lines of a step script, as [`run_steps`] does, and answers the
-/// exit status 0; or writes the rule that the file breaks, as `check` does, and
-/// answers 1. The faults are those of [`run_steps`].
+/// exit status 0; or writes the rule that the file breaks, as `check` does, and answers 1. The faults are those of
+/// [`run_steps`]; no contract says what was written after one.
 pub fn run_script<R: Read, W: Write>(
     alloc: Global,
     file: &[u8],

@@ -186,9 +186,10 @@ fn drive<R: Read, W: Write>(
 /// last line is `settled yes` or `settled no`.
 ///
 /// `Read` is answered where a read failed, `Write` where a write did, `Steps` where the place of the next
-/// line's event has taken as many steps as the plan allows, `Memory` where memory ran out. But for `Write`,
-/// the answers to the lines before the one with the fault are then written whole, and no others, and no
-/// report.
+/// line's event has taken as many steps as the plan allows, `Memory` where memory ran out. After any fault but
+/// `Write`, the answers to the first lines, as many as were answered, are written whole, and nothing else is, no
+/// report either; where the fault is `Steps`, the line behind these asks for the step that is too many. After
+/// `Write` nothing is said of what was written.
 pub fn run_steps<R: Read, W: Write>(
     alloc: Global,
     plan: Plan,

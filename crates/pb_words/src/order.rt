@@ -119,7 +119,8 @@ fn file_order(alloc: Global, command: &str, path: &str) -> Result<Option<Order>,
 /// Reads the words of a command line, of which the first is the program's own.
 ///
 /// The error is a message for the user: that the words ask for nothing that is known, or the help
-/// that they ask for. `None` is never answered: an argument that is required has a value.
+/// that they ask for. `None` would stand for words that are read and name no order. It doesn't come, since an
+/// argument that is required has a value; no contract says so.
 pub fn order_of(alloc: Global, words: &[String]) -> Result<Option<Order>, Error>
     ensures { IfOk result (λ o. IfSome o IsAllowed) }
 {

@@ -16,6 +16,6 @@ returns-then-are_in_line-clause-settled c =
     )
 
 pub returns-then-are_in_line-clause-forest : goal.returns-then-are_in_line-clause-forest
-returns-then-are_in_line-clause-forest c settled sound are none vid =
-    settled_is_forest c.args.plan.now (map (λ m. m.now) c.args.bridges.now) vid sound are
+returns-then-are_in_line-clause-forest c settled sound are none =
+    settled_is_forest c.args.plan.now (map (λ m. m.now) c.args.bridges.now) sound are
     ((returns-then-are_in_line-clause-settled c).0 settled) none

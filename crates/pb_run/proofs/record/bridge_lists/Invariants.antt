@@ -1,5 +1,7 @@
-use Rattle.std.proofs.Common.{◌≡◌, ◌≤◌, All, map, vec_len, vec_capacity}
+use Rattle.std.proofs.Common.{◌≡◌, ◌≤◌, All, false, map, vec_len, vec_capacity}
+use Rattle.std.specs.List.{AllByRecursion, list_any}
 use Rattle.pb_lan.specs.BridgeLists.{IsLawfulBridge}
+use Rattle.pb_lan.specs.Laws.{is_setting}
 use Rattle.pb_relay.specs.Protocol.{spanning_tree}
 use Rattle.pb_run.proofs.record.bridge_lists.Given as goal
 
@@ -7,5 +9,6 @@ abbrev pub invariant-loop-worker : goal.invariant-loop-worker
 invariant-loop-worker g l = record {
   steps : l.lists.items ≡ map (λ b. b.bridge.steps) l.yielded;
   lawful : All (λ b. IsLawfulBridge spanning_tree b.bridge.plan b.bridge.number b.bridge.steps) l.yielded;
+  unset : AllByRecursion (λ steps. list_any is_setting steps ≡ false) l.lists.items;
   room : vec_len l.fn.workers ≤ vec_capacity l.lists;
 }

@@ -1,6 +1,8 @@
 use Rattle.std.proofs.Common.{◌∙◌}
 use Rattle.pb_relay.specs.Protocol.{spanning_tree}
+use Rattle.pb_lan.specs.declared.record.Record.{Record}
 use Rattle.pb_lan.proofs.Headline.{faithful}
+use Rattle.pb_lan.proofs.Stillness.{planned_states_stay, still_frames_are_traced}
 use Rattle.pb_run.proofs.Lawful.{lawful_workers}
 use Rattle.pb_run.proofs.running.record_of.Goals as goal
 
@@ -19,3 +21,10 @@ returns-clause-lawful g c =
 pub returns-clause-headline : goal.returns-clause-headline
 returns-clause-headline g c =
     faithful spanning_tree c.args.plan.now (record { bridges = c.bridge_lists.result; lanes = c.lane_lists.result; customers = c.desk_lists.result }) c.requires.sound (returns-clause-lawful g c)
+
+pub returns-clause-planned : goal.returns-clause-planned
+returns-clause-planned g c fixed =
+    let plan = c.args.plan.now in
+    let rec : Record = record { bridges = c.bridge_lists.result; lanes = c.lane_lists.result; customers = c.desk_lists.result } in
+    let lawful = returns-clause-lawful g c in
+    still_frames_are_traced spanning_tree plan rec lawful (planned_states_stay spanning_tree plan rec fixed lawful c.bridge_lists.ensures.unset)
