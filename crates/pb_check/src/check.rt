@@ -1,7 +1,7 @@
 //! What a plan file tells.
 
-ghost use Rattle.std.specs.Prelude.{◌≡◌, ◌++◌, List, ℕ, string_bytes, IfOk, IfErr, OnOk};
-ghost use Rattle.std.specs.Io.KnownBytes.{Appends};
+ghost use Rattle.std.specs.Prelude.{◌≡◌, ◌≢◌, ◌⊎◌, ◌++◌, List, ℕ, string_bytes, IfOk, IfErr, OnOk};
+ghost use Rattle.std.specs.Io.KnownBytes.{Appends, Keeps};
 ghost use Rattle.pb_lan.specs.Plans.{IsSound};
 ghost use Rattle.pb_check.specs.Checks.{IsCheckText, plan_line};
 
@@ -56,10 +56,14 @@ fn put_check(alloc: Global, out: &mut String, file: &[u8]) -> Result<u8, Memory>
 /// Of a plan: `ok bridges N links N services N ports N`, and `forest yes`, or `forest no` and a line
 /// `loop NAME` for each service whose Forwarding ports close a ring at the start, by name; the answer is
 /// the exit status 0. Of any other file: `plan: N WORD` with the number and the word of the rule that it
-/// breaks, and the key or name where there is one; the answer is 1. `Memory` is answered where memory
-/// ran out for the text, `Write` where a write failed.
+/// breaks, and the key or name where there is one; the answer is 1.
+///
+/// `Memory` is answered where memory ran out for the text, and then nothing was written; `Write` where a write
+/// failed, and then nothing is said of what was written. No other fault comes.
 pub fn run_check<W: Write>(alloc: Global, file: &[u8], writer: &mut W) -> Result<u8, CommandFault>
     ensures ok { IfOk result (λ status. (text : List ℕ) × Appends (W.contents writer.old) (W.contents writer.new) text × IsCheckText file.now status text) }
+    ensures kinds { IfErr result (λ e. (e ≡ CommandFault.Write) ⊎ (e ≡ CommandFault.Memory)) }
+    ensures none { IfErr result (λ e. e ≢ CommandFault.Write → Keeps (W.contents writer.old) (W.contents writer.new)) }
 {
     let mut out = String::new(alloc);
     let status = put_check(alloc, &mut out, file)?;

@@ -123,6 +123,11 @@ fn a_refused_file_tells_the_rule(rt: HostRuntime) -> Result<(), Fail> {
             "plan: 3 missing bridge[0].address\n",
         ),
         ("bridge = 1", "plan: 4 kind bridge\n"),
+        (
+            "[[service]]\nname = \"red\"\nvid = 100\n[[service]]\nname = \"tan\"\nvid = 4095",
+            "plan: 5 range service[1].vid\n",
+        ),
+        ("network = 5", "plan: 4 kind network\n"),
         ("wires = 1", "plan: 6 unknown wires\n"),
     ] {
         says(&rt, alloc, &[part], (1, want))?;

@@ -1,7 +1,7 @@
 //! Files that are no plans.
 
-ghost use Rattle.std.specs.Prelude.{◌≡◌, ◌++◌, string_bytes, OnOk};
-ghost use Rattle.std.specs.Io.KnownBytes.{Appends};
+ghost use Rattle.std.specs.Prelude.{◌≡◌, ◌≢◌, ◌⊎◌, ◌++◌, string_bytes, IfErr, OnOk};
+ghost use Rattle.std.specs.Io.KnownBytes.{Appends, Keeps};
 ghost use Rattle.pb_print.specs.Refusals.{fault_words, refusal_line};
 
 use crate::fault::CommandFault;
@@ -42,14 +42,17 @@ pub fn put_refusal(out: &mut String, fault: &PlanFault) -> Result<(), Memory>
     Ok(())
 }
 
-/// Writes which rule a plan file breaks, by one `write_all`. `Write` is answered where a write failed, `Memory`
-/// where memory for the text ran out.
+/// Writes which rule a plan file breaks, by one `write_all`. `Write` is answered where a write failed, and then
+/// nothing is said of what was written; `Memory` where memory for the text ran out, and then nothing was written.
+/// No other fault comes.
 pub fn write_refusal<W: Write>(
     alloc: Global,
     fault: &PlanFault,
     writer: &mut W,
 ) -> Result<(), CommandFault>
-    ensures { OnOk result (Appends (W.contents writer.old) (W.contents writer.new) (refusal_line fault.now)) }
+    ensures ok { OnOk result (Appends (W.contents writer.old) (W.contents writer.new) (refusal_line fault.now)) }
+    ensures kinds { IfErr result (λ e. (e ≡ CommandFault.Write) ⊎ (e ≡ CommandFault.Memory)) }
+    ensures none { IfErr result (λ e. e ≢ CommandFault.Write → Keeps (W.contents writer.old) (W.contents writer.new)) }
 {
     let mut out = String::new(alloc);
     put_refusal(&mut out, fault)?;

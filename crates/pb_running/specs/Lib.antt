@@ -1,5 +1,6 @@
 pub mod Reports
 pub mod AnyPorts
 pub mod Scripted
+pub mod Faults
 pub mod Networks
 pub mod Unwritten

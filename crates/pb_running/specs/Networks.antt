@@ -1,5 +1,5 @@
 -- What is printed of the network of a plan file.
-use Rattle.std.specs.Prelude.{◌≡◌, ◌⊎◌, ℕ, Bool, List}
+use Rattle.std.specs.Prelude.{◌≡◌, ◌⊎◌, ℕ, Bool, List, length}
 use Rattle.std.specs.Io.KnownBytes.{Appends}
 use Rattle.std.specs.declared.option.Option.{Option}
 use Rattle.std.specs.declared.result.Result.{Result}
@@ -19,12 +19,14 @@ use Rattle.pb_running.specs.Reports.{IsRunReport}
 use Rattle.pb_running.specs.Scripted.{AreScripted}
 
 -- a plan has run with its ports: what its places did is a lawful record with the promises of every run, what
--- entered is what the ports had to give, and the report tells of that record
+-- entered is what the ports had to give, and the report tells of that record. Of each customer port there is what its
+-- newest poll said
 pub record PrintsRan (plan : Plan) (specs : List PortSpec) (status : ℕ) (before after : Option (List ℕ)) : Type 0 where
   pub rec : Record
   pub lawful : IsLawfulRecord spanning_tree plan rec
   pub headline : IsFaithful plan rec
   pub lasts : List Last
+  pub last_count : length lasts ≡ length plan.customers
   pub scripted : AreScripted specs rec.customers lasts
   pub ended : Ended
   pub tells_ended : TellsEnded plan rec lasts ended

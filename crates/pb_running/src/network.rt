@@ -1,12 +1,13 @@
 //! Runs of the networks of plan files.
 
-ghost use Rattle.std.specs.Prelude.{◌≡◌, length, map, vec_len, List, ℕ, IfOk, IfErr, OnOk};
-ghost use Rattle.std.specs.Io.KnownBytes.{Appends};
+ghost use Rattle.std.specs.Prelude.{◌≡◌, ◌≢◌, ◌⊎◌, length, map, vec_len, List, ℕ, IfOk, IfErr, OnOk};
+ghost use Rattle.std.specs.Io.KnownBytes.{Appends, Keeps};
 ghost use Rattle.pb_lan.specs.Plans.{IsSound};
 ghost use Rattle.pb_relay.specs.Settled.{TellsSettled};
 ghost use Rattle.pb_service.specs.PlanFiles.{Tells, IsPlanOf, RefusesFile};
 ghost use Rattle.pb_service.specs.declared.port_spec.PortSpec.{PortSpec};
 ghost use Rattle.pb_print.specs.Refusals.{refusal_line};
+ghost use Rattle.pb_running.specs.Faults.{ComesOf};
 ghost use Rattle.pb_running.specs.Networks.{PrintsRan, PrintsNetwork};
 ghost use Rattle.pb_running.specs.Reports.{IsRunReport};
 ghost use Rattle.pb_running.specs.Scripted.{script_at, script_in};
@@ -59,17 +60,20 @@ fn read_network(alloc: Global, file: &[u8]) -> Result<Network, PlanFault>
     })
 }
 
-/// Writes which rule a plan file breaks, and answers the exit status.
+/// Writes which rule a plan file breaks, and answers the exit status. `Write` is answered where a write failed,
+/// `Memory` where memory for the text ran out, and then nothing was written. No other fault comes.
 fn refuse<W: Write>(alloc: Global, fault: &PlanFault, writer: &mut W) -> Result<u8, NetworkFault>
     ensures status { IfOk result (λ status. status ≡ 1) }
     ensures text { OnOk result (Appends (W.contents writer.old) (W.contents writer.new) (refusal_line fault.now)) }
-    ensures err { IfErr result (λ e. e ≡ NetworkFault.Ports → ⊥) }
+    ensures kinds { IfErr result (λ e. (e ≡ NetworkFault.Write) ⊎ (e ≡ NetworkFault.Memory)) }
+    ensures none { IfErr result (λ e. e ≢ NetworkFault.Write → Keeps (W.contents writer.old) (W.contents writer.new)) }
 {
     write_refusal(alloc, fault, writer)?;
     Ok(REFUSED)
 }
 
-/// Writes what came of a run, and which frames could not be written.
+/// Writes what came of a run, and which frames could not be written. `Write` is answered where the report could not
+/// be written, `Memory` where memory for its text ran out, and then nothing of it was written. No other fault comes.
 fn tell<W: Write, E: Write>(
     alloc: Global,
     plan: &Plan,
@@ -84,7 +88,8 @@ fn tell<W: Write, E: Write>(
     requires lists { length ran.now.rec.customers ≡ length plan.now.customers }
     ensures ok { IfOk result (λ status. (text : List ℕ) × Appends (W.contents writer.old) (W.contents writer.new) text
         × IsRunReport plan.now ran.now.rec ran.now.ended ran.now.settled ran.now.last.items status text) }
-    ensures err { IfErr result (λ e. e ≡ NetworkFault.Ports → ⊥) }
+    ensures kinds { IfErr result (λ e. (e ≡ NetworkFault.Write) ⊎ (e ≡ NetworkFault.Memory)) }
+    ensures none { IfErr result (λ e. e ≢ NetworkFault.Write → Keeps (W.contents writer.old) (W.contents writer.new)) }
 {
     let customers = plan.customers.as_slice();
     let lists = ran.rec.customers.as_slice();
@@ -97,8 +102,8 @@ fn tell<W: Write, E: Write>(
 ///
 /// `Memory` is answered where there was none for the ports' boxes or for the workers, and then nothing has run; and
 /// where there was none for the text of the report, once the run is over. `Spawn` is answered where a thread could
-/// not be started, and then nothing has run; `Write` where the report could not be written. It is proved that
-/// `Ports` is never answered: there are as many ports as customer ports.
+/// not be started, and then nothing has run; `Write` where the report could not be written. After any fault but
+/// `Write`, nothing was written to `writer`. `Ports` is never answered: there are as many ports as customer ports.
 fn run_ports<R, G: Watch, W: Write, E: Write>(
     rt: &R,
     alloc: Global,
@@ -116,6 +121,7 @@ where
     ensures ok { IfOk result (λ status. (specs : List PortSpec) → map (λ w. script_at w.port) ports.items ≡ map script_in specs
         → PrintsRan plan.now specs status (W.contents writer.old) (W.contents writer.new)) }
     ensures err { IfErr result (λ e. e ≡ NetworkFault.Ports → ⊥) }
+    ensures none { IfErr result (λ e. e ≢ NetworkFault.Write → Keeps (W.contents writer.old) (W.contents writer.new)) }
 {
     let mut held: Vec<Held> = Vec::with_capacity(alloc, ports.len())?;
     for port in ports {
@@ -146,8 +152,9 @@ where
 /// `Path` is answered where a file can't be opened or made, or a socket not be connected to: in the order of the
 /// plan, a port's file to read before the one to write. `Memory` is answered where there was none for the ports or
 /// the workers, and where there was none for the text to be written; `Spawn` where a worker could not be started;
-/// `Write` where a write to `writer` failed. Nothing has run after `Path` and `Spawn`. `Ports` is never answered,
-/// since a plan file has as many ports as its plan; of the faults no more than that is proved.
+/// `Write` where a write to `writer` failed. Nothing has run after `Path` and `Spawn`, and they come only where the
+/// file is a plan. After any fault but `Write`, nothing was written to `writer`; after `Write` nothing is said of
+/// what was. `Ports` is never answered, since a plan file has as many ports as its plan.
 pub fn run_network<R, G: Watch, W: Write, E: Write>(
     rt: &R,
     alloc: Global,
@@ -161,6 +168,8 @@ where
     R: Files<File = File> + Net + Threads + Wait + Clock + Sync,
     ensures ok { IfOk result (λ status. PrintsNetwork file.now status (W.contents writer.old) (W.contents writer.new)) }
     ensures err { IfErr result (λ e. e ≡ NetworkFault.Ports → ⊥) }
+    ensures due { IfErr result (ComesOf file.now) }
+    ensures none { IfErr result (λ e. e ≢ NetworkFault.Write → Keeps (W.contents writer.old) (W.contents writer.new)) }
 {
     match read_network(alloc, file) {
         Ok(

@@ -1,8 +1,8 @@
 //! Why a network was not run.
 
-ghost use Rattle.std.specs.Prelude.{◌≡◌};
-ghost use Rattle.pb_run.specs.declared.fault.RunCause.TheVariants.{PortCount};
-ghost use Rattle.pb_running.specs.declared.network_fault.NetworkFault.TheVariants.{Memory as memory_fault, Ports as ports_fault};
+ghost use Rattle.std.specs.Prelude.{◌≡◌, ◌⊎◌};
+ghost use Rattle.pb_running.specs.Faults.{of_cause, of_command};
+ghost use Rattle.pb_running.specs.declared.network_fault.NetworkFault.TheVariants.{Memory as memory_fault, Path as path_fault};
 
 use pb_print::CommandFault;
 use pb_run::RunCause;
@@ -32,7 +32,7 @@ pub enum NetworkFault {
 }
 
 impl From<CommandFault> for NetworkFault {
-    ghost from_gives = { λ _ e. e ≡ ports_fault → ⊥ };
+    ghost from_gives = { λ fault e. e ≡ of_command fault };
 
     fn from(fault: CommandFault) -> NetworkFault {
         match fault {
@@ -43,7 +43,7 @@ impl From<CommandFault> for NetworkFault {
 }
 
 impl From<RunCause> for NetworkFault {
-    ghost from_gives = { λ cause e. e ≡ ports_fault → cause ≡ PortCount };
+    ghost from_gives = { λ cause e. e ≡ of_cause cause };
 
     fn from(cause: RunCause) -> NetworkFault {
         match cause {
@@ -55,7 +55,7 @@ impl From<RunCause> for NetworkFault {
 }
 
 impl From<io::Error> for NetworkFault {
-    ghost from_gives = { λ _ e. e ≡ ports_fault → ⊥ };
+    ghost from_gives = { λ _ e. (e ≡ path_fault) ⊎ (e ≡ memory_fault) };
 
     fn from(e: io::Error) -> NetworkFault {
         if e.kind() == ErrorKind::OutOfMemory {

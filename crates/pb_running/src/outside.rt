@@ -1,6 +1,6 @@
 //! What the ports of a network lead to.
 
-ghost use Rattle.std.specs.Prelude.{◌≡◌, ◌<◌, ◌≤◌, length, map, vec_len, IfOk, IfErr};
+ghost use Rattle.std.specs.Prelude.{◌≡◌, ◌⊎◌, ◌<◌, ◌≤◌, length, map, vec_len, IfOk, IfErr};
 ghost use Rattle.pb_lan.specs.Plans.{IsSound};
 ghost use Rattle.pb_running.specs.Scripted.{script_at, script_in};
 
@@ -37,7 +37,8 @@ fn script_of(alloc: Global, frames: Seq<Bytes>) -> Result<VecDeque<Bytes>, Alloc
     Ok(script)
 }
 
-/// Opens a port. The file to read is opened before the one to write.
+/// Opens a port. The file to read is opened before the one to write. `Path` is answered where one can't be opened or
+/// made, or a socket not be connected to; `Memory` where memory ran out. No other fault comes.
 fn open_port<R: Files<File = File> + Net>(
     rt: &R,
     alloc: Global,
@@ -46,7 +47,7 @@ fn open_port<R: Files<File = File> + Net>(
 ) -> Result<SystemPort, NetworkFault>
     requires { (0 < capacity) × (capacity ≤ 4096) }
     ensures script { IfOk result (λ port. script_at port ≡ script_in spec) }
-    ensures err { IfErr result (λ e. e ≡ NetworkFault.Ports → ⊥) }
+    ensures err { IfErr result (λ e. (e ≡ NetworkFault.Path) ⊎ (e ≡ NetworkFault.Memory)) }
 {
     match spec {
         PortSpec::Memory(frames) => {
@@ -75,7 +76,8 @@ fn capacity_of(plan: &Plan, place: usize) -> u16
     plan.customers.as_slice()[place].queue
 }
 
-/// Opens the ports of a plan, in its order. Their frames are counted.
+/// Opens the ports of a plan, in its order. Their frames are counted. `Path` is answered where one can't be opened,
+/// `Memory` where memory ran out. No other fault comes.
 pub(crate) fn open_ports<R: Files<File = File> + Net>(
     rt: &R,
     alloc: Global,
@@ -87,7 +89,7 @@ pub(crate) fn open_ports<R: Files<File = File> + Net>(
     requires count { vec_len specs ≡ length plan.now.customers }
     ensures count { IfOk result (λ ports. vec_len ports ≡ length plan.now.customers) }
     ensures scripts { IfOk result (λ ports. map (λ w. script_at w.port) ports.items ≡ map script_in specs.items) }
-    ensures err { IfErr result (λ e. e ≡ NetworkFault.Ports → ⊥) }
+    ensures err { IfErr result (λ e. (e ≡ NetworkFault.Path) ⊎ (e ≡ NetworkFault.Memory)) }
 {
     let mut ports = Vec::new(alloc);
     for spec in specs {

@@ -1,5 +1,5 @@
 -- What a plan file tells, and when it is refused.
-use Rattle.std.specs.Prelude.{◌≡◌, ◌⊎◌, ℕ, codes, List, Some, None}
+use Rattle.std.specs.Prelude.{◌≡◌, ◌⊎◌, ℕ, codes, true, List, Some, None}
 use Rattle.std.specs.List.{AllZip}
 use Rattle.std.specs.Str.{IsUtf8}
 use Rattle.toml.specs.Data.{Members, get_member}
@@ -15,11 +15,15 @@ use Rattle.pb_service.specs.Keys.{IsAccepted, first_unknown}
 use Rattle.pb_service.specs.Formats.{top_keys, network_keys, bridge_keys, link_keys, service_keys}
 use Rattle.pb_service.specs.Told.{rows_of, table_told, spanning_of}
 use Rattle.pb_service.specs.Tables.{number_at, text_at, IsRead, IsReadPort, IsBridgeOf, IsLinkOf, IsServiceOf, IsCustomerOf, IsPortSpecOf}
-use Rattle.pb_service.specs.Refusals.{Refuses, HasTables, names_of}
+use Rattle.pb_service.specs.Refusals.{Refuses, HasTables, is_table, names_of}
 
 -- the table of the network; an empty one where there is none
 abbrev pub network_row : Members → Members
 network_row document = table_told (get_member (codes "network") document)
+
+-- under the key of the network stands nothing, or a table
+abbrev pub HasNetworkTable : Members → Type 0
+HasNetworkTable document = is_table (get_member (codes "network") document) ≡ true
 
 pub record TellsNetwork (row : Members) (plan : Plan) : Type 0 where
   pub keys : IsAccepted network_keys row
@@ -29,12 +33,14 @@ pub record TellsNetwork (row : Members) (plan : Plan) : Type 0 where
   pub steps : plan.steps ≡ number_at row (codes "steps") 1000000 1000000
 
 pub record AreLimitsOf (document : Members) (limits : Limits) : Type 0 where
+  pub network_table : HasNetworkTable document
   pub turns : limits.turns ≡ number_at (network_row document) (codes "turns") 10000000 1000000000
   pub tick_every : limits.tick_every ≡ number_at (network_row document) (codes "tick_every") 0 1000000
 
 -- the plan that a document tells, table by table, and what its customer ports are
 pub record IsPlanOf (document : Members) (plan : Plan) (specs : List PortSpec) : Type 0 where
   pub top : first_unknown top_keys document ≡ None
+  pub network_table : HasNetworkTable document
   pub network : TellsNetwork (network_row document) plan
   pub bridge_tables : HasTables document Bridge
   pub link_tables : HasTables document Link

@@ -21,6 +21,10 @@ use Rattle.pb_service.specs.Formats.{top_keys, network_keys, keys_of}
 use Rattle.pb_service.specs.Told.{rows_of, names_in, number_from, table_told}
 use Rattle.pb_service.specs.Tables.{number_at, text_at, items_at, is_one_of}
 
+-- nothing, or a table
+abbrev pub is_table : Option Data → Bool
+is_table value = option_map_or (λ d. is_some (as_table d)) value true
+
 -- nothing, or an array of tables
 abbrev pub is_array_of_tables : Option Data → Bool
 is_array_of_tables value = option_map_or (is_list (all_items (λ d. is_some (as_table d)))) value true

@@ -1,6 +1,6 @@
 //! The table of the network.
 
-ghost use Rattle.std.specs.Prelude.{◌≡◌, ◌⊎◌, codes, IfOk, IfErr};
+ghost use Rattle.std.specs.Prelude.{◌≡◌, ◌⊎◌, codes, IfOk, IfErr, OnOk};
 ghost use Rattle.toml.specs.Data.{get_member};
 ghost use Rattle.toml.specs.View.{table_view};
 ghost use Rattle.pb_service.specs.Keys.{RefusesRow};
@@ -8,6 +8,7 @@ ghost use Rattle.pb_service.specs.Formats.{network_keys};
 ghost use Rattle.pb_service.specs.Told.{table_told};
 ghost use Rattle.pb_service.specs.Tables.{IsNetworkOf};
 ghost use Rattle.pb_service.specs.Refusals.{Refuses};
+ghost use Rattle.pb_service.specs.PlanFiles.{HasNetworkTable};
 ghost use Rattle.pb_service.specs.declared.fault.PlanFault.TheVariants.{Kind as kind_fault, Memory as memory_fault};
 ghost use Rattle.pb_service.specs.declared.section.Place.TheVariants.{Network as network_place};
 
@@ -62,6 +63,7 @@ fn no_network(alloc: Global) -> PlanFault
 /// What a document tells of the network.
 pub(crate) fn read_network(alloc: Global, document: &Table) -> Result<Network, PlanFault>
     ensures ok { IfOk result (IsNetworkOf (table_told (get_member (codes "network") (table_view document.now)))) }
+    ensures table { OnOk result (HasNetworkTable (table_view document.now)) }
     ensures err { IfErr result (Refuses (table_view document.now)) }
 {
     match value_at(document, "network") {

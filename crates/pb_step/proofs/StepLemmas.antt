@@ -7,6 +7,7 @@ use Rattle.pb_lan.specs.Records.{IsLawfulRecord}
 use Rattle.pb_relay.specs.Protocol.{spanning_tree}
 use Rattle.pb_lan.specs.declared.event.Event.{Event}
 use Rattle.pb_lan.specs.declared.plan.Plan.{Plan}
+use Rattle.pb_lan.specs.declared.plan.Spanning.TheVariants.{Rstp}
 use Rattle.pb_lan.specs.declared.record.Record.{Record}
 use Rattle.pb_lan.specs.Events.{has_place, with_step}
 use Rattle.pb_lan.specs.Plans.{IsSound}
@@ -18,10 +19,11 @@ use Rattle.pb_net.specs.declared.fault.NetFault.TheVariants.{StepLimit, NoSuch}
 use Rattle.pb_script.specs.Answers.{step_line, idle_line, no_such_line}
 use Rattle.pb_step.proofs.PlaceLemmas.{named_place}
 use Rattle.pb_script.specs.Lines.{Asks}
-use Rattle.pb_step.specs.Steps.{newest_at, HasGrown, StepAnswer, bad, absent, idle, done, StepAnswers, start_of, IsReport, IsAtLimit, PrintsSteps, HaveAnswered, PrintsStepsBeginning, StepsProgress}
+use Rattle.pb_step.specs.Steps.{newest_at, HasGrown, StepAnswer, bad, absent, idle, done, StepAnswers, start_of, IsReport, IsAtLimit, no_report, part_report, PrintsSteps, HaveAnswered, PrintsStepsBeginning, StepsProgress}
 use Rattle.pb_print.specs.BadLines.{bad_line}
 use Rattle.pb_print.specs.declared.fault.CommandFault.{CommandFault}
-use Rattle.pb_print.specs.declared.fault.CommandFault.TheVariants.{Steps}
+use Rattle.pb_print.specs.RecordTexts.{IsRecordText}
+use Rattle.pb_print.specs.declared.fault.CommandFault.TheVariants.{Steps, Memory}
 use Rattle.pb_print.proofs.LineLemmas.{whole_line, uncut, Appends-twice, Appends-keeps, Appends-nothing}
 
 -- one line more
@@ -137,8 +139,12 @@ steps_begun fault limit n plan (Some octets) (Some rest) before now held net p n
         back = parts.1;
         lines = parts.2;
         last = net;
-        answers = StepAnswers-uncut limit 1 parts.0 (start_of plan) net p.text (rw parts.3 at p.answers);
+        answers = p.text;
+        are_answers = StepAnswers-uncut limit 1 parts.0 (start_of plan) net p.text (rw parts.3 at p.answers);
         steps = λ e. absurd (ne e);
+        more = [];
+        follows = no_report refl;
+        text_is = sym (append-nil p.text);
       },
     )
 
@@ -158,8 +164,12 @@ steps_stopped fault limit n plan (Some octets) (Some rest) (Some rest') before n
         back = parts.1;
         lines = parts.2;
         last = net;
-        answers = StepAnswers-uncut limit 1 parts.0 (start_of plan) net p.text (rw parts.3 at p.answers);
+        answers = p.text;
+        are_answers = StepAnswers-uncut limit 1 parts.0 (start_of plan) net p.text (rw parts.3 at p.answers);
         steps = λ e. IsAtLimit-uncut limit net parts.1 line (cut_lines limit (held' ++ rest')) (sym gives ∙ parts.4) (at e);
+        more = [];
+        follows = no_report refl;
+        text_is = sym (append-nil p.text);
       },
     )
 
@@ -167,7 +177,7 @@ steps_stopped fault limit n plan (Some octets) (Some rest) (Some rest') before n
 pub steps_unread : (fault : CommandFault) (limit : ℕ) (plan : Plan) (input before : Option (List ℕ)) → fault ≢ Steps → PrintsStepsBeginning fault limit plan input before before
 steps_unread fault limit plan None before ne = tt
 steps_unread fault limit plan (Some octets) before ne =
-    ([], Appends-nothing before, record { front = []; back = lines_of octets; lines = refl; last = start_of plan; answers = (refl, refl); steps = λ e. absurd (ne e) })
+    ([], Appends-nothing before, record { front = []; back = lines_of octets; lines = refl; last = start_of plan; answers = []; are_answers = (refl, refl); steps = λ e. absurd (ne e); more = []; follows = no_report refl; text_is = refl })
 
 -- the answers and the report
 pub reported : (limit : ℕ) (plan : Plan) (input before now after : Option (List ℕ)) (net : NetView) (rec : Record) (report : List ℕ)
@@ -195,17 +205,29 @@ unreported fault limit plan None before now after net a k ne = tt
 unreported fault limit plan (Some octets) before now after net (text, written, answers) k ne = (
   text,
   Appends-keeps before now after text written k,
-  record { front = lines_of octets; back = []; lines = sym (append-nil (lines_of octets)); last = net; answers = answers; steps = λ e. absurd (ne e) },
+  record { front = lines_of octets; back = []; lines = sym (append-nil (lines_of octets)); last = net; answers = text; are_answers = answers; steps = λ e. absurd (ne e); more = []; follows = no_report refl; text_is = sym (append-nil text) },
 )
 
--- the answers, before there is a report
-pub unsettled : (fault : CommandFault) (limit : ℕ) (plan : Plan) (input before now : Option (List ℕ)) (net : NetView)
-    → HaveAnswered limit plan input before now net → fault ≢ Steps → PrintsStepsBeginning fault limit plan input before now
-unsettled fault limit plan None before now net a ne = tt
-unsettled fault limit plan (Some octets) before now net (text, written, answers) ne = (
-  text,
-  written,
-  record { front = lines_of octets; back = []; lines = sym (append-nil (lines_of octets)); last = net; answers = answers; steps = λ e. absurd (ne e) },
+-- the answers, and what is told of the record, where there was no memory to look whether the bridges are settled
+pub part_reported : (fault : CommandFault) (limit : ℕ) (plan : Plan) (input before now after : Option (List ℕ)) (net : NetView) (rec : Record) (more : List ℕ)
+    → HaveAnswered limit plan input before now net → rec ≡ net.rec → IsLawfulRecord spanning_tree plan rec → fault ≡ Memory → plan.spanning ≡ Rstp
+    → Appends now after more → IsRecordText plan rec more → PrintsStepsBeginning fault limit plan input before after
+part_reported fault limit plan None before now after net rec more a e lawful m rstp w told = tt
+part_reported fault limit plan (Some octets) before now after net rec more (text, written, answers) e lawful m rstp w told = (
+  text ++ more,
+  Appends-twice before now after text more written w,
+  record {
+    front = lines_of octets;
+    back = [];
+    lines = sym (append-nil (lines_of octets));
+    last = net;
+    answers = text;
+    are_answers = answers;
+    steps = λ s. let clash : Memory ≡ Steps = sym m ∙ s in cc;
+    more = more;
+    follows = part_report m rstp refl (subst (λ x. IsLawfulRecord spanning_tree plan x) e lawful) (subst (λ x. IsRecordText plan x more) e told);
+    text_is = refl;
+  },
 )
 
 -- what two facts give of an error

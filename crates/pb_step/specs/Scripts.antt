@@ -1,10 +1,13 @@
 -- What is printed of a step script over a plan file.
 use Rattle.std.specs.Prelude.{◌≡◌, ◌⊎◌, ℕ, List, Option}
+use Rattle.std.specs.Io.KnownBytes.{Keeps}
 use Rattle.pb_lan.specs.declared.plan.Plan.{Plan}
 use Rattle.pb_service.specs.PlanFiles.{Tells, IsPlanOf}
 use Rattle.pb_service.specs.declared.port_spec.PortSpec.{PortSpec}
 use Rattle.pb_print.specs.Refusals.{PrintsRefusal}
-use Rattle.pb_step.specs.Steps.{PrintsSteps}
+use Rattle.pb_print.specs.declared.fault.CommandFault.{CommandFault}
+use Rattle.pb_print.specs.declared.fault.CommandFault.TheVariants.{Memory}
+use Rattle.pb_step.specs.Steps.{PrintsSteps, PrintsStepsBeginning}
 
 -- the file tells the plan
 pub record IsToldBy (file : List ℕ) (plan : Plan) : Type 0 where
@@ -20,3 +23,13 @@ pub record PrintsDriven (file : List ℕ) (input before after : Option (List ℕ
 -- what is written for a file and a script, with the program's exit status
 abbrev pub PrintsScript : List ℕ → ℕ → Option (List ℕ) → Option (List ℕ) → Option (List ℕ) → Type 0
 PrintsScript file status input before after = ((status ≡ 0) × PrintsDriven file input before after) ⊎ ((status ≡ 1) × PrintsRefusal file before after)
+
+-- the answers to the first lines of a script, and what may follow them after a fault, of the plan that the file tells
+pub record PrintsDrivenBeginning (fault : CommandFault) (file : List ℕ) (input before after : Option (List ℕ)) : Type 0 where
+  pub plan : Plan
+  pub told : IsToldBy file plan
+  pub prints : PrintsStepsBeginning fault 140000 plan input before after
+
+-- what is written for a file and a script before a fault: nothing, where memory ran out; or the answers to first lines
+abbrev pub PrintsScriptBeginning : CommandFault → List ℕ → Option (List ℕ) → Option (List ℕ) → Option (List ℕ) → Type 0
+PrintsScriptBeginning fault file input before after = ((fault ≡ Memory) × Keeps before after) ⊎ PrintsDrivenBeginning fault file input before after

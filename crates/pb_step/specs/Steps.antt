@@ -1,11 +1,12 @@
 -- What is answered to a step script.
-use Rattle.std.specs.Prelude.{◌≡◌, ℕ, ◌-◌, suc, Bool, true, false, List, [], ◌∷◌, ◌++◌, Option, Some, None, IfSome, ⊤, length, slice_get, codes, Ok, Err}
+use Rattle.std.specs.Prelude.{◌≡◌, ℕ, ◌-◌, suc, Bool, List, [], ◌∷◌, ◌++◌, Option, Some, None, IfSome, ⊤, length, slice_get, Ok, Err}
 use Rattle.std.specs.Io.KnownBytes.{Appends}
 use Rattle.pb_lan.specs.Events.{empty_record, steps_at, with_step}
 use Rattle.pb_lan.specs.Records.{IsLawfulRecord}
 use Rattle.pb_relay.specs.Protocol.{spanning_tree}
 use Rattle.pb_lan.specs.declared.event.Event.{Event}
 use Rattle.pb_lan.specs.declared.plan.Plan.{Plan}
+use Rattle.pb_lan.specs.declared.plan.Spanning.TheVariants.{Rstp}
 use Rattle.pb_lan.specs.declared.record.Record.{Record}
 use Rattle.pb_lan.specs.declared.step.Place.{Place}
 use Rattle.pb_lan.specs.declared.step.Step.{Step}
@@ -19,7 +20,7 @@ use Rattle.pb_script.specs.Lines.{Asks}
 use Rattle.pb_print.specs.BadLines.{bad_line}
 use Rattle.pb_print.specs.RecordTexts.{settled_line, IsRecordText}
 use Rattle.pb_print.specs.declared.fault.CommandFault.{CommandFault}
-use Rattle.pb_print.specs.declared.fault.CommandFault.TheVariants.{Steps}
+use Rattle.pb_print.specs.declared.fault.CommandFault.TheVariants.{Steps, Memory}
 
 -- the newest step of a place
 abbrev pub newest_at : Record → Place → Option Step
@@ -73,14 +74,25 @@ abbrev pub IsAtLimit : ℕ → NetView → List (List ℕ) → Type 0
 IsAtLimit limit net [] = ⊥
 IsAtLimit limit net (line ∷ lines) = (event : Event) × Asks limit net.plan line event × IsAnswer net event (Err StepLimit) net
 
+-- what stands behind the answers to the first lines, after a fault: nothing; or, where the spanning tree decides the
+-- states, every line is answered and the fault is `Memory`, what is told of the record, which is lawful
+pub data MayFollow (fault : CommandFault) (plan : Plan) (last : NetView) (back : List (List ℕ)) (text : List ℕ) : Type 0 where
+  no_report : text ≡ [] → MayFollow fault plan last back text
+  part_report : fault ≡ Memory → plan.spanning ≡ Rstp → back ≡ [] → IsLawfulRecord spanning_tree plan last.rec → IsRecordText plan last.rec text
+      → MayFollow fault plan last back text
+
 -- the text for the first lines of a script, after a fault. The fault `Steps` comes only at the limit of steps
 pub record IsStepsBeginning (fault : CommandFault) (limit : ℕ) (plan : Plan) (input text : List ℕ) : Type 0 where
   pub front : List (List ℕ)
   pub back : List (List ℕ)
   pub lines : lines_of input ≡ front ++ back
   pub last : NetView
-  pub answers : StepAnswers limit 1 front (start_of plan) last text
+  pub answers : List ℕ
+  pub are_answers : StepAnswers limit 1 front (start_of plan) last answers
   pub steps : fault ≡ Steps → IsAtLimit limit last back
+  pub more : List ℕ
+  pub follows : MayFollow fault plan last back more
+  pub text_is : text ≡ answers ++ more
 
 -- the answers and the report were written behind what stood there, where the octets are known
 abbrev pub PrintsSteps : ℕ → Plan → Option (List ℕ) → Option (List ℕ) → Option (List ℕ) → Type 0
@@ -91,7 +103,7 @@ abbrev pub HaveAnswered : ℕ → Plan → Option (List ℕ) → Option (List �
 HaveAnswered limit plan input before after last =
     IfSome input (λ octets. (text : List ℕ) × Appends before after text × StepAnswers limit 1 (lines_of octets) (start_of plan) last text)
 
--- the answers to some of the first lines were, whole
+-- the answers to some of the first lines were, whole, and what may follow them
 abbrev pub PrintsStepsBeginning : CommandFault → ℕ → Plan → Option (List ℕ) → Option (List ℕ) → Option (List ℕ) → Type 0
 PrintsStepsBeginning fault limit plan input before after = IfSome input (λ octets. (text : List ℕ) × Appends before after text × IsStepsBeginning fault limit plan octets text)
 

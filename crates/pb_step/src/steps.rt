@@ -1,6 +1,6 @@
 //! A network, driven by lines of text.
 
-ghost use Rattle.std.specs.Prelude.{◌≡◌, ◌≢◌, ◌<◌, ◌^◌, ◌++◌, ◌∷◌, [], ℕ, List, true, Some, string_bytes, IsErrOf, OnOk, IfErr};
+ghost use Rattle.std.specs.Prelude.{◌≡◌, ◌≢◌, ◌<◌, ◌^◌, ◌++◌, ◌∷◌, [], ℕ, List, true, Some, string_bytes, IsErrOf, OnOk, IfOk, IfErr};
 ghost use Rattle.std.specs.Io.KnownBytes.{Appends, Keeps};
 ghost use Rattle.pb_lan.specs.Events.{has_place};
 ghost use Rattle.pb_lan.specs.Plans.{IsSound};
@@ -9,10 +9,10 @@ ghost use Rattle.pb_relay.specs.Protocol.{spanning_tree};
 ghost use Rattle.pb_lines.specs.Reader.{held, limit_of};
 ghost use Rattle.pb_relay.specs.Settled.{TellsSettled};
 ghost use Rattle.pb_step.specs.Steps.{newest_at, HasGrown, StepAnswer, IsReport, IsAtLimit, PrintsSteps, HaveAnswered, PrintsStepsBeginning, start_of};
-ghost use Rattle.pb_print.specs.RecordTexts.{settled_line};
+ghost use Rattle.pb_print.specs.RecordTexts.{settled_line, IsRecordText};
 
 use pb_frame::Memory;
-use pb_lan::{Place, Plan, Record, Step};
+use pb_lan::{Place, Plan, Record, Spanning, Step};
 use pb_lines::{Found, LineReader};
 use pb_net::{Did, Net, NetFault};
 use pb_print::{CommandFault, MAX_LINE, put_bad, put_record, put_settled};
@@ -149,6 +149,40 @@ fn write_report<W: Write>(
     Ok(())
 }
 
+/// Writes what a record tells but for whether its bridges are settled. `Write` is answered where a write failed,
+/// `Memory` where memory for the text ran out, and then nothing was written. No other fault comes.
+fn write_record<W: Write>(
+    alloc: Global,
+    plan: &Plan,
+    rec: &Record,
+    writer: &mut W,
+) -> Result<(), CommandFault>
+    requires { IsSound plan.now }
+    ensures ok { OnOk result ((text : List ℕ) × Appends (W.contents writer.old) (W.contents writer.new) text × IsRecordText plan.now rec.now text) }
+    ensures steps { IfErr result (λ e. e ≢ CommandFault.Steps) }
+    ensures part { IfErr result (λ e. e ≢ CommandFault.Write → Keeps (W.contents writer.old) (W.contents writer.new)) }
+{
+    let mut out = String::new(alloc);
+    put_record(alloc, &mut out, plan, rec)?;
+    if writer.write_all(out.as_bytes()).is_err() || writer.flush().is_err() {
+        return Err(CommandFault::Write);
+    }
+    Ok(())
+}
+
+/// Whether the bridges of a network are settled, or None where its plan gives the states of ports. `Memory` is
+/// answered where memory ran out for it, and only where the spanning tree decides the states.
+fn look_settled(alloc: Global, plan: &Plan, net: &Net) -> Result<Option<bool>, Memory>
+    requires { net.now.plan ≡ plan.now }
+    ensures ok { IfOk result (TellsSettled plan.now net.now.rec) }
+    ensures err { IfErr result (λ e. plan.now.spanning ≡ Spanning.Rstp) }
+{
+    match plan.spanning {
+        Spanning::Fixed => Ok(None),
+        Spanning::Rstp => net.settled(alloc),
+    }
+}
+
 /// Answers each line of what is read, and reports on the network that has come of it.
 fn drive<R: Read, W: Write>(
     alloc: Global,
@@ -168,9 +202,15 @@ fn drive<R: Read, W: Write>(
     let names = Names::new(alloc, plan)?;
     let mut lines = LineReader::new(alloc, limit)?;
     answer_steps(alloc, limit, &names, &mut lines, &mut net, reader, writer)?;
-    let settled = net.settled(alloc)?;
+    let settled = look_settled(alloc, plan, &net);
     let rec = net.finish();
-    write_report(alloc, plan, &rec, settled, writer)
+    match settled {
+        Ok(settled) => write_report(alloc, plan, &rec, settled, writer),
+        Err(_) => {
+            write_record(alloc, plan, &rec, writer)?;
+            Err(CommandFault::Memory)
+        }
+    }
 }
 
 /// Drives the network of a sound plan by the lines of a step script, each of which asks for one event, and
@@ -187,9 +227,11 @@ fn drive<R: Read, W: Write>(
 ///
 /// `Read` is answered where a read failed, `Write` where a write did, `Steps` where the place of the next
 /// line's event has taken as many steps as the plan allows, `Memory` where memory ran out. After any fault but
-/// `Write`, the answers to the first lines, as many as were answered, are written whole, and nothing else is, no
-/// report either; where the fault is `Steps`, the line behind these asks for the step that is too many. After
-/// `Write` nothing is said of what was written.
+/// `Write`, the answers to the first lines, as many as were answered, are written whole; where the fault is
+/// `Steps`, the line behind these asks for the step that is too many. Nothing stands behind these answers but in
+/// one case: where the spanning tree decides the states of ports, every line was answered, and the fault is
+/// `Memory`, the report may stand there without its last line, since there was no memory to look whether the
+/// bridges are settled. After `Write` nothing is said of what was written.
 pub fn run_steps<R: Read, W: Write>(
     alloc: Global,
     plan: Plan,

@@ -1,7 +1,8 @@
 //! Frames that go from customer port 1 over the link to customer port 2.
 
-use super::networks::JOINED;
-use super::rows::{Act, Row};
+use super::draft::{Draft, Site};
+use super::networks::{BROADCAST, JOINED};
+use super::rows::{Act, Fate, Row};
 use super::walk::walks;
 use pb_lan::Place;
 use std::test::Fail;
@@ -78,4 +79,73 @@ fn what_enters_twice_leaves_twice(rt: HostRuntime) -> Result<(), Fail> {
         },
     ];
     walks(&rt, rt.alloc(), &JOINED, ROWS)
+}
+
+/// B1 and B2 with two customer ports of red each: 1 and 2 at B1, 3 and 4 at B2, at ports 2 and 3.
+const TWO_EACH: Draft = Draft {
+    customers: &[
+        Site {
+            at: (1, 2),
+            service: 1,
+            pcp: 0,
+        },
+        Site {
+            at: (1, 3),
+            service: 1,
+            pcp: 0,
+        },
+        Site {
+            at: (2, 2),
+            service: 1,
+            pcp: 0,
+        },
+        Site {
+            at: (2, 3),
+            service: 1,
+            pcp: 0,
+        },
+    ],
+    ..JOINED
+};
+
+#[test]
+fn both_bridges_learn(rt: HostRuntime) -> Result<(), Fail> {
+    const ROWS: &[Row] = &[
+        // A broadcast of 02-00-00-00-01-01 goes everywhere.
+        Row::Enters(1, BROADCAST),
+        Row::Ruled {
+            bridge: 1,
+            fate: Fate::Relayed(&[1, 3]),
+        },
+        Row::Crosses(1),
+        Row::Ruled {
+            bridge: 2,
+            fate: Fate::Relayed(&[2, 3]),
+        },
+        // The answer of 02-00-00-00-02-02 goes to one port alone at each bridge.
+        Row::Enters(3, "02000000010102000000020208004142"),
+        Row::Ruled {
+            bridge: 2,
+            fate: Fate::Relayed(&[1]),
+        },
+        Row::Crosses(2),
+        Row::Ruled {
+            bridge: 1,
+            fate: Fate::Relayed(&[2]),
+        },
+        // So does the answer to it.
+        Row::Enters(1, "02000000020202000000010108004142"),
+        Row::Ruled {
+            bridge: 1,
+            fate: Fate::Relayed(&[1]),
+        },
+        Row::Crosses(1),
+        Row::Ruled {
+            bridge: 2,
+            fate: Fate::Relayed(&[2]),
+        },
+        Row::Empties,
+        Row::Left(&[1, 1, 2, 1]),
+    ];
+    walks(&rt, rt.alloc(), &TWO_EACH, ROWS)
 }

@@ -1,5 +1,6 @@
 //! Rows of tables.
 
+use super::drawn::Drawn;
 use pb_lan::{Learnt, NoRoom, Place, PortState, Reason};
 use pb_net::NetFault;
 use pb_rstp::Role;
@@ -137,4 +138,6 @@ pub(super) enum Row {
     Settled(Option<bool>),
     /// The role of each port of a bridge, where a spanning tree decides the states.
     Roles(u8, Option<&'static [(u8, Role)]>),
+    /// Each port of each bridge stands so.
+    Trees(&'static [Drawn]),
 }

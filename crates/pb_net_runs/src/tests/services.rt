@@ -4,7 +4,7 @@ use super::draft::{Draft, Joint, Site};
 use super::networks::{BROADCAST, JOINED};
 use super::rows::{Act, Fate, Row};
 use super::walk::walks;
-use pb_lan::Reason;
+use pb_lan::{Place, Reason};
 use std::test::Fail;
 
 /// A link from port 1 to port 1 for red, and one from port 3 to port 4 for blue.
@@ -36,28 +36,85 @@ fn each_service_has_its_own_link(rt: HostRuntime) -> Result<(), Fail> {
     walks(&rt, rt.alloc(), &LISTED, ROWS)
 }
 
-/// A link with an end for all services and one for red alone; customer port 1 (B1 port 2) is of blue.
+/// A link with an end for all services and one, at B2, for red alone; the customer ports 1 (B1 port 2, red), 2 (B2
+/// port 2, red) and 3 (B1 port 3, blue).
 const HALF_LISTED: Draft = Draft {
     links: &[Joint::Listed((1, 1), None, (2, 1), Some(&[1]))],
-    customers: &[Site {
-        at: (1, 2),
-        service: 2,
-        pcp: 0,
-    }],
+    customers: &[
+        Site {
+            at: (1, 2),
+            service: 1,
+            pcp: 0,
+        },
+        Site {
+            at: (2, 2),
+            service: 1,
+            pcp: 0,
+        },
+        Site {
+            at: (1, 3),
+            service: 2,
+            pcp: 0,
+        },
+    ],
     ..JOINED
 };
 
 #[test]
 fn a_port_takes_the_services_that_it_lists(rt: HostRuntime) -> Result<(), Fail> {
     const ROWS: &[Row] = &[
-        Row::Enters(1, BROADCAST),
+        Row::Enters(3, BROADCAST),
+        Row::Ruled {
+            bridge: 1,
+            fate: Fate::Relayed(&[1]),
+        },
         Row::Crosses(1),
+        Row::Moved(Place::Lane(1), "ffffffffffff02000000010188a800c808004142"),
         Row::Ruled {
             bridge: 2,
             fate: Fate::Filtered(Reason::NotMember),
         },
     ];
     walks(&rt, rt.alloc(), &HALF_LISTED, ROWS)
+}
+
+/// One bridge with the customer ports 1 and 2 of red and 3 of blue, at its ports 1, 2 and 3.
+const ONE_BLUE: Draft = Draft {
+    bridges: 1,
+    links: &[],
+    customers: &[
+        Site {
+            at: (1, 1),
+            service: 1,
+            pcp: 0,
+        },
+        Site {
+            at: (1, 2),
+            service: 1,
+            pcp: 0,
+        },
+        Site {
+            at: (1, 3),
+            service: 2,
+            pcp: 0,
+        },
+    ],
+    ..JOINED
+};
+
+#[test]
+fn a_broadcast_stays_in_its_service(rt: HostRuntime) -> Result<(), Fail> {
+    const ROWS: &[Row] = &[
+        Row::Enters(1, BROADCAST),
+        Row::Ruled {
+            bridge: 1,
+            fate: Fate::Relayed(&[2]),
+        },
+        Row::Empties,
+        Row::Moved(Place::Customer(2), BROADCAST),
+        Row::Left(&[0, 1, 0]),
+    ];
+    walks(&rt, rt.alloc(), &ONE_BLUE, ROWS)
 }
 
 #[test]

@@ -2,6 +2,7 @@
 
 use super::asked::{crosses, empties, leaves, rounds};
 use super::draft::Draft;
+use super::drawn::stand_as;
 use super::expected::step_of;
 use super::made::{
     acts, answers, enters_long, enters_octets, moved_octets, ruled_so, runs, took_deed,
@@ -53,6 +54,7 @@ fn is_so(net: &mut Net, draft: &Draft, row: Row) -> bool {
         Row::Learnt(bridge, learnt) => has_learnt(net, bridge, learnt),
         Row::Left(counts) => left(net, draft, counts),
         Row::Roles(bridge, roles) => has_roles(net, bridge, roles),
+        Row::Trees(ports) => stand_as(net, draft, ports),
         _ => false,
     }
 }

@@ -27,6 +27,7 @@ returns-in-Ok-clause-ok g c =
       lawful = c.in-Ok.ensures.lawful;
       headline = c.in-Ok.ensures.headline;
       lasts = ran.last.items;
+      last_count = grind (arith, common_steps);
       scripted = are_scripted specs _ _ ran.rec.customers ran.last.items (given ∙ same) c.in-Ok.ensures.ports;
       ended = ran.ended;
       tells_ended = c.in-Ok.ensures.ended;

@@ -1,12 +1,12 @@
-use Rattle.std.proofs.Common.{◌≢◌, sym, subst, ◌∙◌}
+use Rattle.std.proofs.Common.{◌≢◌, refl, sym, subst, ◌∙◌}
 use Rattle.std.proofs.lemmas.Result.{err_from_is_err_and}
 use Rattle.pb_lan.specs.Records.{IsLawfulRecord}
 use Rattle.pb_relay.specs.Protocol.{spanning_tree}
 use Rattle.pb_relay.specs.Settled.{TellsSettled}
 use Rattle.pb_step.specs.Steps.{HaveAnswered, PrintsStepsBeginning}
-use Rattle.pb_print.specs.declared.fault.CommandFault.TheVariants.{Write}
+use Rattle.pb_print.specs.declared.fault.CommandFault.TheVariants.{Write, Memory}
 use Rattle.pb_print.proofs.CheckLemmas.{on_ok}
-use Rattle.pb_step.proofs.StepLemmas.{steps_unread, reported, unreported, unsettled, on_err}
+use Rattle.pb_step.proofs.StepLemmas.{steps_unread, reported, unreported, part_reported, on_err}
 use Rattle.pb_step.proofs.steps.drive.Goals as goal
 
 pub returns-in_err-names-clause-part : goal.returns-in_err-names-clause-part
@@ -28,24 +28,12 @@ returns-in_err-answer_steps-clause-part g c =
     let part = subst (λ plan. c.in_err-answer_steps.field-0.0 ≢ Write → PrintsStepsBeginning c.in_err-answer_steps.field-0.0 c.args.limit plan input before after) c.in_ok-names.ensures c.in_err-answer_steps.ensures.part in
     rw p.1 (subst (λ e. e ≢ Write → PrintsStepsBeginning e c.args.limit c.args.plan.now input before after) (sym p.2) part)
 
-pub returns-in_err-settled-clause-part : goal.returns-in_err-settled-clause-part
-returns-in_err-settled-clause-part g c =
-    let p = err_from_is_err_and c.from_residual-in_err-settled.result c.from_residual-in_err-settled.ensures.1 in
-    let plan = c.args.plan.now in
-    let input = g.R.Read.remaining c.args.reader.now in
-    let before = g.W.Write.contents c.args.writer.now in
-    let now = g.W.Write.contents c.answer_steps.new.writer in
-    let net = c.answer_steps.new.net in
-    let answered = subst (λ q. HaveAnswered c.args.limit q input before now net) c.in_ok-names.ensures c.in_ok-answer_steps.ensures.ok in
-    rw p.1 (λ ne. unsettled p.0 c.args.limit plan input before now net answered (λ s. let e = sym p.2 ∙ s in cc))
-
 pub write_report-requires-clause-settled : goal.write_report-requires-clause-settled
 write_report-requires-clause-settled g c =
-    let told = subst (λ p. TellsSettled p c.answer_steps.new.net.rec c.in_ok-settled.settled) (c.in_ok-answer_steps.ensures.plan ∙ c.in_ok-names.ensures) c.in_ok-settled.ensures in
-    subst (λ r. TellsSettled c.args.plan.now r c.in_ok-settled.settled) (sym c.finish-rec.ensures.record) told
+    subst (λ r. TellsSettled c.args.plan.now r c.in-Ok.settled) (sym c.finish-rec.ensures.record) c.in-Ok.ensures.ok
 
-pub returns-clause-ok : goal.returns-clause-ok
-returns-clause-ok g c =
+pub returns-in-Ok-clause-ok : goal.returns-in-Ok-clause-ok
+returns-in-Ok-clause-ok g c =
     let plan = c.args.plan.now in
     let input = g.R.Read.remaining c.args.reader.now in
     let before = g.W.Write.contents c.args.writer.now in
@@ -57,8 +45,8 @@ returns-clause-ok g c =
     (λ r. reported c.args.limit plan input before now (g.W.Write.contents c.write_report.new.writer) net c.finish-rec.result r.0 answered c.finish-rec.ensures.record lawful r.1 r.2)
     c.write_report.ensures.ok
 
-pub returns-clause-part : goal.returns-clause-part
-returns-clause-part g c =
+pub returns-in-Ok-clause-part : goal.returns-in-Ok-clause-part
+returns-in-Ok-clause-part g c =
     let plan = c.args.plan.now in
     let input = g.R.Read.remaining c.args.reader.now in
     let before = g.W.Write.contents c.args.writer.now in
@@ -68,3 +56,30 @@ returns-clause-part g c =
     on_err c.write_report.result
     (λ e other keeps ne. unreported e c.args.limit plan input before now (g.W.Write.contents c.write_report.new.writer) net answered (keeps ne) other)
     c.write_report.ensures.steps c.write_report.ensures.part
+
+pub returns-in_err-write_record-in-Err-clause-part : goal.returns-in_err-write_record-in-Err-clause-part
+returns-in_err-write_record-in-Err-clause-part g c =
+    let p = err_from_is_err_and c.from_residual-in_err-write_record-in-Err.result c.from_residual-in_err-write_record-in-Err.ensures.1 in
+    let plan = c.args.plan.now in
+    let input = g.R.Read.remaining c.args.reader.now in
+    let before = g.W.Write.contents c.args.writer.now in
+    let now = g.W.Write.contents c.answer_steps.new.writer in
+    let net = c.answer_steps.new.net in
+    let answered = subst (λ p. HaveAnswered c.args.limit p input before now net) c.in_ok-names.ensures c.in_ok-answer_steps.ensures.ok in
+    let after = g.W.Write.contents c.write_record.new.writer in
+    let part : c.in_err-write_record-in-Err.field-0.0 ≢ Write → PrintsStepsBeginning c.in_err-write_record-in-Err.field-0.0 c.args.limit plan input before after =
+    λ ne. unreported c.in_err-write_record-in-Err.field-0.0 c.args.limit plan input before now after net answered (c.in_err-write_record-in-Err.ensures.part ne) c.in_err-write_record-in-Err.ensures.steps in
+    rw p.1 (subst (λ e. e ≢ Write → PrintsStepsBeginning e c.args.limit plan input before after) (sym p.2) part)
+
+pub returns-clause-part : goal.returns-clause-part
+returns-clause-part g c =
+    let plan = c.args.plan.now in
+    let input = g.R.Read.remaining c.args.reader.now in
+    let before = g.W.Write.contents c.args.writer.now in
+    let now = g.W.Write.contents c.answer_steps.new.writer in
+    let net = c.answer_steps.new.net in
+    let answered = subst (λ p. HaveAnswered c.args.limit p input before now net) c.in_ok-names.ensures c.in_ok-answer_steps.ensures.ok in
+    let lawful = subst (λ p. IsLawfulRecord spanning_tree p c.finish-rec.result) (c.in_ok-answer_steps.ensures.plan ∙ c.in_ok-names.ensures) c.finish-rec.ensures.lawful in
+    let told = c.in_ok-write_record-in-Err.ensures.ok in
+    λ ne. part_reported Memory c.args.limit plan input before now (g.W.Write.contents c.write_record.new.writer) net c.finish-rec.result told.0
+    answered c.finish-rec.ensures.record lawful refl c.in-Err.ensures.err told.1 told.2
