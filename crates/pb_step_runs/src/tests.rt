@@ -134,33 +134,6 @@ fn bridges_settle_where_one_hears_the_other(rt: HostRuntime) -> Result<(), Fail>
     Ok(())
 }
 
-/// Whether a script over a tree of two bridges ended as one that had all memory; or told that memory ran out, with
-/// nothing written, or with the answer, or with the report behind it but for its last line.
-fn is_told(ended: Result<u8, CommandFault>, text: &[u8], answer: &[u8], report: &[u8]) -> bool {
-    let Some(behind) = text.strip_prefix(answer) else {
-        return ended == Err(CommandFault::Memory) && text.is_empty();
-    };
-    if ended == Err(CommandFault::Memory) {
-        return behind.is_empty() || behind == report;
-    }
-    let settled = behind.strip_prefix(report);
-    ended == Ok(0) && settled == Some("settled no\n".as_bytes())
-}
-
-/// Under `rt try --test --fail-alloc N` the Nth allocation is refused, wherever that is.
-#[test]
-fn want_of_memory_keeps_the_answers(rt: HostRuntime) -> Result<(), Fail> {
-    let alloc = rt.alloc();
-    let plan = tree(alloc)?;
-    let mut output = Vec::with_capacity(alloc, 1000)?;
-    let mut reader = b"feed C1\n".as_slice();
-    let ended = run_script(alloc, plan.as_bytes(), &mut reader, &mut output);
-    let text = output.as_slice();
-    let is_refused = ended == Ok(1) && text == "plan: 11 memory\n".as_bytes();
-    assert!(rt; is_refused || is_told(ended, text, "idle\n".as_bytes(), NOTHING.as_bytes()));
-    Ok(())
-}
-
 #[test]
 fn a_refused_plan_is_told(rt: HostRuntime) {
     let alloc = rt.alloc();
