@@ -196,9 +196,7 @@ def proved_anew(room, names):
 
 def prove_tests(crate, room):
     """Proves and compiles the crate's tests as the gate does, and returns the run."""
-    rtlib = proving.toolchain().rtlib
-    words = [rtlib.RATTLE, "build", *crate.words(["--jobs", "1"], tests=True, keeps=False), "--toolchain", f"{rtlib.KIT}/toolchain"]
-    words += ["--backend", "llvm", "--empty-contracts", "-o", f"{room}/{crate.name}_tests.o"]
+    words = [proving.toolchain().rtlib.RATTLE, *proving.words_of_tests(crate, f"{room}/{crate.name}_tests.o")]
     return proving.run(words, crate.folder, room)
 
 

@@ -431,3 +431,37 @@ def prove(root, names, processors=None, before=None):
         for it in held:
             os.close(it)
     return proofs
+
+
+def words_of_tests(crate, made, jobs=1):
+    """Returns the words that prove the crate's tests and compile them into an object file, as the gate does."""
+    words = ["build", *crate.words(["--jobs", str(jobs)], tests=True, keeps=False), "--toolchain", f"{toolchain().rtlib.KIT}/toolchain"]
+    return [*words, "--backend", "llvm", "--empty-contracts", "-o", made]
+
+
+def prove_tests(root, names, processors=None):
+    """Proves the tests of these crates, and leaves the program that runs them as out/NAME_tests of each."""
+    crates = crates_of(root)
+    prove(root, [below.name for it in with_below(crates, names) if it.name in names for below in it.below()], processors)
+    prepare()
+    for crate in (crates[it] for it in names):
+        said = prove_tests_of(crate, processors or toolchain().processors())
+        if said:
+            print(f"{crate.name}: its tests are NOT PROVED:", *[it for it in said.splitlines() if not QUIET.match(it)][-60:], sep="\n", file=sys.stderr)
+            raise Failed(crate.name)
+        print(f"{crate.name}: its tests are proved", file=sys.stderr, flush=True)
+
+
+def prove_tests_of(crate, processors):
+    """Does so for one crate. Returns what was said where that failed, and else nothing."""
+    made = f"{crate.folder}/out/{crate.name}_tests"
+    os.makedirs(f"{crate.folder}/out", exist_ok=True)
+    with tempfile.TemporaryDirectory(prefix="tests-") as room:
+        ran = run([toolchain().rtlib.RATTLE, *words_of_tests(crate, f"{made}.o", min(4, processors))], crate.folder, room)
+    if ran.status:
+        return ran.said
+    with tempfile.TemporaryFile("w+", errors="replace") as crate.out:
+        # (the link's own paths stand below the crate's folder)
+        status = crate.link(os.path.relpath(f"{made}.o", crate.folder), os.path.relpath(made, crate.folder))
+        crate.out.seek(0)
+        return crate.out.read() if status else ""

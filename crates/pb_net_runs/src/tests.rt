@@ -1,22 +1,27 @@
 //! Runs with ample memory, a table each.
 
 mod asked;
+mod bench;
 mod classes;
 mod crossing;
 mod draft;
+mod draining;
 mod drawn;
 mod expected;
 mod failures;
 mod figures;
+mod forests;
 mod idle;
 mod lengths;
 mod limits;
 mod links;
 mod made;
+mod memory;
 mod more_figures;
 mod networks;
 mod plans;
 mod ports_down;
+mod records;
 mod rings;
 mod rows;
 mod rulings;

@@ -9,7 +9,7 @@ use Rattle.pb_lan.specs.declared.plan.End.{End}
 use Rattle.pb_lan.specs.declared.plan.LinkPlan.{LinkPlan}
 use Rattle.pb_lan.specs.declared.plan.Plan.{Plan}
 use Rattle.pb_link.proofs.PlaceLemmas.{slice_get-front, slice_get-next}
-use Rattle.pb_run.specs.Gifts.{BridgeGift, IsBridgeGift, AreBridges, LaneGift, lane_gift, AreLanes, DeskGift, desk_gift, AreDesks}
+use Rattle.pb_run.specs.Gifts.{BridgeGift, IsBridgeGift, AreBridges, LaneGift, lane_gift, AreLanes, AccessGift, access_gift, AreAccesses}
 use Rattle.pb_run.specs.Wires.{ring_into, ring_out}
 use Rattle.pb_run.proofs.Lists.{each_more, below_next}
 
@@ -21,22 +21,22 @@ bridges_more plan k gifts gift are is = record {
 }
 
 -- one customer port more
-pub desks_more : (plan : Plan) (k : ℕ) (c : CustomerPlan) (gifts : List DeskGift) (gift : DeskGift) → slice_get plan.customers k ≡ Some c → AreDesks plan k gifts → gift ≡ desk_gift (k + 1) c
-    → AreDesks plan (k + 1) (gifts ++ gift ∷ [])
-desks_more plan k c gifts gift at are is = record {
+pub accesses_more : (plan : Plan) (k : ℕ) (c : CustomerPlan) (gifts : List AccessGift) (gift : AccessGift) → slice_get plan.customers k ≡ Some c → AreAccesses plan k gifts → gift ≡ access_gift (k + 1) c
+    → AreAccesses plan (k + 1) (gifts ++ gift ∷ [])
+accesses_more plan k c gifts gift at are is = record {
   counted = omega (arith, are.counted, length-append gifts (gift ∷ []));
   each = λ j d less there. by j d there (below_next j k less);
 }
   where
-    last : (d : CustomerPlan) → slice_get plan.customers k ≡ Some d → slice_get (gifts ++ gift ∷ []) k ≡ Some (desk_gift (k + 1) d)
+    last : (d : CustomerPlan) → slice_get plan.customers k ≡ Some d → slice_get (gifts ++ gift ∷ []) k ≡ Some (access_gift (k + 1) d)
     last d there =
         let same : c ≡ d = Some-injective (sym at ∙ there) in
-        ap (slice_get (gifts ++ gift ∷ [])) (sym are.counted) ∙ slice_get-next gifts [] gift ∙ ap (λ g. Some g) (is ∙ ap (desk_gift (k + 1)) same)
+        ap (slice_get (gifts ++ gift ∷ [])) (sym are.counted) ∙ slice_get-next gifts [] gift ∙ ap (λ g. Some g) (is ∙ ap (access_gift (k + 1)) same)
 
-    by : (j : ℕ) (d : CustomerPlan) → slice_get plan.customers j ≡ Some d → (j < k) ⊎ (j ≡ k) → slice_get (gifts ++ gift ∷ []) j ≡ Some (desk_gift (j + 1) d)
-    by j d there (inl less) = slice_get-front gifts (gift ∷ []) j (desk_gift (j + 1) d) (are.each j d less there)
+    by : (j : ℕ) (d : CustomerPlan) → slice_get plan.customers j ≡ Some d → (j < k) ⊎ (j ≡ k) → slice_get (gifts ++ gift ∷ []) j ≡ Some (access_gift (j + 1) d)
+    by j d there (inl less) = slice_get-front gifts (gift ∷ []) j (access_gift (j + 1) d) (are.each j d less there)
     by j d there (inr same) =
-        subst (λ n. slice_get (gifts ++ gift ∷ []) n ≡ Some (desk_gift (n + 1) d)) (sym same) (last d (subst (λ n. slice_get plan.customers n ≡ Some d) same there))
+        subst (λ n. slice_get (gifts ++ gift ∷ []) n ≡ Some (access_gift (n + 1) d)) (sym same) (last d (subst (λ n. slice_get plan.customers n ≡ Some d) same there))
 
 -- two lanes more
 pub lanes_more : (plan : Plan) (k : ℕ) (link : LinkPlan) (gifts : List LaneGift) (one two : LaneGift) → slice_get plan.links k ≡ Some link → AreLanes plan k gifts
@@ -102,9 +102,9 @@ pub no_bridges : {X : Type 0} (gift : X → BridgeGift) (plan : Plan) (xs : List
 no_bridges gift plan [] none = record { counted = refl; each = λ r g at. cc }
 no_bridges gift plan (x ∷ xs) none = cc
 
-pub no_desks : {X : Type 0} (gift : X → DeskGift) (plan : Plan) (xs : List X) → xs ≡ [] → AreDesks plan 0 (map gift xs)
-no_desks gift plan [] none = record { counted = refl; each = λ k c less at. absurd (omega arith) }
-no_desks gift plan (x ∷ xs) none = cc
+pub no_accesses : {X : Type 0} (gift : X → AccessGift) (plan : Plan) (xs : List X) → xs ≡ [] → AreAccesses plan 0 (map gift xs)
+no_accesses gift plan [] none = record { counted = refl; each = λ k c less at. absurd (omega arith) }
+no_accesses gift plan (x ∷ xs) none = cc
 
 -- a lane by the numbers of its rings
 pub is_lane_gift : (number from to : ℕ) (a b : End) (losses : List ℕ) → from ≡ ring_out a.bridge a.port → to ≡ ring_into b.bridge b.port
@@ -132,9 +132,9 @@ lanes_pushed gift plan k n link xs ys zs x y at n_is ys_is zs_is are is_x is_y =
     subst (λ gs. AreLanes plan (k + 1) gs) (sym all)
     (lanes_more plan k link (map gift xs) (gift x) (gift y) at are (is_x ∙ ap (λ m. lane_gift m link.a link.b link.lost_ab) first) (is_y ∙ ap (λ m. lane_gift m link.b link.a link.lost_ba) second))
 
--- the desk of one more customer port
-pub desk_pushed : {X : Type 0} (gift : X → DeskGift) (plan : Plan) (k n : ℕ) (c : CustomerPlan) (xs ys : List X) (x : X) → slice_get plan.customers k ≡ Some c → n ≡ length xs + 1
-    → ys ≡ xs ++ x ∷ [] → AreDesks plan k (map gift xs) → gift x ≡ desk_gift n c → AreDesks plan (k + 1) (map gift ys)
-desk_pushed gift plan k n c xs ys x at n_is e are is =
+-- the access of one more customer port
+pub access_pushed : {X : Type 0} (gift : X → AccessGift) (plan : Plan) (k n : ℕ) (c : CustomerPlan) (xs ys : List X) (x : X) → slice_get plan.customers k ≡ Some c → n ≡ length xs + 1
+    → ys ≡ xs ++ x ∷ [] → AreAccesses plan k (map gift xs) → gift x ≡ access_gift n c → AreAccesses plan (k + 1) (map gift ys)
+access_pushed gift plan k n c xs ys x at n_is e are is =
     let number : n ≡ k + 1 = omega (arith, n_is, are.counted, length-map xs gift) in
-    subst (λ gs. AreDesks plan (k + 1) gs) (sym (ap (map gift) e ∙ map-append gift xs (x ∷ []))) (desks_more plan k c (map gift xs) (gift x) at are (is ∙ ap (λ m. desk_gift m c) number))
+    subst (λ gs. AreAccesses plan (k + 1) gs) (sym (ap (map gift) e ∙ map-append gift xs (x ∷ []))) (accesses_more plan k c (map gift xs) (gift x) at are (is ∙ ap (λ m. access_gift m c) number))

@@ -5,12 +5,12 @@ use Rattle.std.specs.declared.option.Option.{Option}
 use Rattle.pb_lan.specs.Counts.{entered, left}
 use Rattle.pb_lan.specs.declared.step.Step.{Step}
 use Rattle.pb_lan.specs.declared.plan.Plan.{Plan}
-use Rattle.pb_run.specs.Gifts.{DeskGift, AreDesks}
+use Rattle.pb_run.specs.Gifts.{AccessGift, AreAccesses}
 use Rattle.pb_run.specs.Ports.{Frames, in_front, behind, IsEnded, KeepsPort}
 use Rattle.pb_lan.specs.Records.{steps_of}
 use Rattle.pb_run.specs.Runs.{ArePortsKept, frames_of, last_of}
-use Rattle.pb_run.specs.declared.desk.Last.{Last}
-use Rattle.pb_run.specs.declared.desk.Last.TheVariants.{More}
+use Rattle.pb_run.specs.declared.access.Last.{Last}
+use Rattle.pb_run.specs.declared.access.Last.TheVariants.{More}
 use Rattle.pb_run.proofs.Lists.{all_rest, all_head}
 
 module _ {X P : Type 0} (script tally : P → Option Frames) (was port : X → P) (steps : X → List Step) (last : X → Last) where
@@ -99,20 +99,20 @@ keeps_fresh {P} script tally was port steps last same none more =
     (subst (λ (ss : List Step). KeepsPort script tally port port ss last) (sym none)
     (subst (λ (l : Last). KeepsPort script tally port port [] l) (sym more) (nothing_given (script port), nothing_taken (tally port), tt)))
 
--- the desks that come back have the numbers that they had
-pub desks_back : {X D G : Type 0} (given : X → G) (ws olds : List X) (after : List D) (before : List DeskGift) (desk : X → D) (gift : D → DeskGift) (plan : Plan) (n : ℕ)
-    → map given ws ≡ map given olds → after ≡ map desk ws → map (λ w. gift (desk w)) olds ≡ before → (seen : G → DeskGift) → ((w : X) → gift (desk w) ≡ seen (given w))
-    → AreDesks plan n before → AreDesks plan n (map gift after)
-desks_back given ws olds after before desk gift plan n kept parts was seen same are =
-    let all : map gift after ≡ before = of_parts desk gift ws after parts ∙ seen_through given seen (λ w. gift (desk w)) ws olds same kept ∙ was in
-    subst (λ gs. AreDesks plan n gs) (sym all) are
+-- the accesses that come back have the numbers that they had
+pub accesses_back : {X D G : Type 0} (given : X → G) (ws olds : List X) (after : List D) (before : List AccessGift) (access : X → D) (gift : D → AccessGift) (plan : Plan) (n : ℕ)
+    → map given ws ≡ map given olds → after ≡ map access ws → map (λ w. gift (access w)) olds ≡ before → (seen : G → AccessGift) → ((w : X) → gift (access w) ≡ seen (given w))
+    → AreAccesses plan n before → AreAccesses plan n (map gift after)
+accesses_back given ws olds after before access gift plan n kept parts was seen same are =
+    let all : map gift after ≡ before = of_parts access gift ws after parts ∙ seen_through given seen (λ w. gift (access w)) ws olds same kept ∙ was in
+    subst (λ gs. AreAccesses plan n gs) (sym all) are
 
 -- what each port gave and took in a run
-pub run_kept : {X P D G : Type 0} (script tally : P → Option Frames) (given : X → G) (ws olds : List X) (before after : List P) (desks : List D) (customers : List (List Step)) (lasts : List Last)
-    (was port : X → P) (desk : X → D) (steps : D → List Step) (last : X → Last)
-    → map given ws ≡ map given olds → map was olds ≡ before → after ≡ map port ws → desks ≡ map desk ws → customers ≡ map steps desks → lasts ≡ map last ws
-    → (seen : G → P) → ((w : X) → was w ≡ seen (given w)) → All (λ w. KeepsPort script tally (was w) (port w) (steps (desk w)) (last w)) ws
+pub run_kept : {X P D G : Type 0} (script tally : P → Option Frames) (given : X → G) (ws olds : List X) (before after : List P) (accesses : List D) (customers : List (List Step)) (lasts : List Last)
+    (was port : X → P) (access : X → D) (steps : D → List Step) (last : X → Last)
+    → map given ws ≡ map given olds → map was olds ≡ before → after ≡ map port ws → accesses ≡ map access ws → customers ≡ map steps accesses → lasts ≡ map last ws
+    → (seen : G → P) → ((w : X) → was w ≡ seen (given w)) → All (λ w. KeepsPort script tally (was w) (port w) (steps (access w)) (last w)) ws
     → ArePortsKept (record { scripts = map script before; tallies = map tally before }) (record { scripts = map script after; tallies = map tally after }) customers lasts
-run_kept script tally given ws olds before after desks customers lasts was port desk steps last kept ports ports_now parts list said seen same all =
-    kept_back script tally was port (λ w. steps (desk w)) last ws before after customers lasts
-    (seen_through given seen was ws olds same kept ∙ ports) ports_now (list ∙ of_parts desk steps ws desks parts) said all
+run_kept script tally given ws olds before after accesses customers lasts was port access steps last kept ports ports_now parts list said seen same all =
+    kept_back script tally was port (λ w. steps (access w)) last ws before after customers lasts
+    (seen_through given seen was ws olds same kept ∙ ports) ports_now (list ∙ of_parts access steps ws accesses parts) said all

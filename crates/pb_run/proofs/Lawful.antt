@@ -16,10 +16,10 @@ use Rattle.pb_lan.specs.declared.plan.Plan.{Plan}
 use Rattle.pb_lan.specs.declared.record.Record.{Record}
 use Rattle.pb_lan.specs.declared.step.Step.{Step}
 use Rattle.pb_relay.specs.Protocol.{spanning_tree}
-use Rattle.pb_run.specs.Gifts.{BridgeGift, AreBridges, LaneGift, lane_gift, AreLanes, DeskGift, desk_gift, AreDesks}
+use Rattle.pb_run.specs.Gifts.{BridgeGift, AreBridges, LaneGift, lane_gift, AreLanes, AccessGift, access_gift, AreAccesses}
 use Rattle.pb_run.specs.Meetings.{of_customers, of_lanes}
 use Rattle.pb_run.specs.Runs.{TellsAllDrained, TellsEnded}
-use Rattle.pb_run.specs.declared.desk.Last.{Last}
+use Rattle.pb_run.specs.declared.access.Last.{Last}
 use Rattle.pb_run.specs.declared.ended.Ended.{Ended}
 use Rattle.pb_run.specs.declared.ended.Ended.TheVariants.{Drained}
 use Rattle.pb_run.proofs.Lists.{all_at, part_at, thing_at}
@@ -66,7 +66,7 @@ lawful_lanes gift steps plan ws k link are all at =
       lawful_lane gift steps ws (2 * k + 1) (2 * k + 2) (lane_gift (2 * k + 2) link.b link.a link.lost_ba) (are.ba k link within at) (omega arith) all,
     )
 
-pub lawful_ports : {X : Type 0} (gift : X → DeskGift) (steps : X → List Step) (plan : Plan) (ws : List X) → AreDesks plan (length plan.customers) (map gift ws)
+pub lawful_ports : {X : Type 0} (gift : X → AccessGift) (steps : X → List Step) (plan : Plan) (ws : List X) → AreAccesses plan (length plan.customers) (map gift ws)
     → All (λ w. IsLawfulPort (gift w).0 (steps w)) ws → (n : ℕ) → IsLawfulPort n (steps_of (map steps ws) n)
 lawful_ports gift steps plan ws are all n =
     by_number (λ m ms. IsLawfulPort m ms) steps ws n (λ m. record { kinds = tt; marked = tt; held = (None, refl) })
@@ -74,8 +74,8 @@ lawful_ports gift steps plan ws are all n =
     let at = part_at gift ws j w h in
     let within : j < length plan.customers = let b = slice_get_within (map gift ws) j (gift w) at in omega (arith, are.counted) in
     let c = numbered-exists plan.customers (suc j) (omega arith, omega arith) in
-    let same : gift w ≡ desk_gift (j + 1) c.0 = Some-injective (sym at ∙ are.each j c.0 within c.1) in
-    let number : (gift w).0 ≡ suc j = ap (λ (z : DeskGift). z.0) same ∙ next j in
+    let same : gift w ≡ access_gift (j + 1) c.0 = Some-injective (sym at ∙ are.each j c.0 within c.1) in
+    let number : (gift w).0 ≡ suc j = ap (λ (z : AccessGift). z.0) same ∙ next j in
     subst (λ m. IsLawfulPort m (steps w)) number (all_at (λ x. IsLawfulPort (gift x).0 (steps x)) ws j w all h))
   where
     next : (j : ℕ) → j + 1 ≡ suc j
@@ -91,7 +91,7 @@ pub lawful_record : (plan : Plan) (rec : Record)
     → ((k : ℕ) (link : LinkPlan) → k < length plan.links → slice_get plan.links k ≡ Some link
     → MeetsOver (of_lanes rec.bridges rec.lanes) (2 * k + 1) link.a link.b × MeetsOver (of_lanes rec.bridges rec.lanes) (2 * k + 2) link.b link.a)
     → IsLawfulRecord spanning_tree plan rec
-lawful_record plan rec bridge_count lane_count customer_count bridges lanes ports desks links = record {
+lawful_record plan rec bridge_count lane_count customer_count bridges lanes ports accesses links = record {
   bridge_count = bridge_count;
   lane_count = lane_count;
   customer_count = customer_count;
@@ -105,7 +105,7 @@ lawful_record plan rec bridge_count lane_count customer_count bridges lanes port
     by_customer zero c h = cc
     by_customer (suc k) c h =
         let e : k + 1 ≡ suc k = omega arith in
-        let meets = subst (λ n. MeetsCustomer (of_customers rec.bridges rec.customers) n c) e (desks k c (slice_get_within plan.customers k c h) h) in
+        let meets = subst (λ n. MeetsCustomer (of_customers rec.bridges rec.customers) n c) e (accesses k c (slice_get_within plan.customers k c h) h) in
         record { into = meets.into; out = meets.out }
 
     by_link : (number : ℕ) (link : LinkPlan) → numbered plan.links number ≡ Some link → IsLawfulLink rec number link
@@ -125,29 +125,29 @@ lawful_record plan rec bridge_count lane_count customer_count bridges lanes port
         }
 
 -- the same of the workers of a plan that are back and have met
-pub lawful_workers : {X Y Z : Type 0} (bridge : X → BridgeGift) (bridge_steps : X → List Step) (lane : Y → LaneGift) (lane_steps : Y → List Step) (desk : Z → DeskGift) (desk_steps : Z → List Step)
-    (plan : Plan) (rec : Record) (bs : List X) (ls : List Y) (ds : List Z) (bridges : List BridgeGift) (lanes : List LaneGift) (desks : List DeskGift) (b1 b2 l1 d1 : List (List Step))
-    → rec.bridges ≡ map bridge_steps bs → rec.lanes ≡ map lane_steps ls → rec.customers ≡ map desk_steps ds
-    → map bridge bs ≡ bridges → map lane ls ≡ lanes → map desk ds ≡ desks
-    → map bridge_steps bs ≡ b1 → map desk_steps ds ≡ d1 → map bridge_steps bs ≡ b2 → map lane_steps ls ≡ l1
-    → AreBridges plan (length plan.bridges) bridges → AreLanes plan (length plan.links) lanes → AreDesks plan (length plan.customers) desks
-    → All (λ w. IsLawfulBridge spanning_tree (bridge w).2 (bridge w).1 (bridge_steps w)) bs → All (λ w. IsLawfulLane (lane w).3 (lane_steps w)) ls → All (λ w. IsLawfulPort (desk w).0 (desk_steps w)) ds
+pub lawful_workers : {X Y Z : Type 0} (bridge : X → BridgeGift) (bridge_steps : X → List Step) (lane : Y → LaneGift) (lane_steps : Y → List Step) (access : Z → AccessGift) (access_steps : Z → List Step)
+    (plan : Plan) (rec : Record) (bs : List X) (ls : List Y) (ds : List Z) (bridges : List BridgeGift) (lanes : List LaneGift) (accesses : List AccessGift) (b1 b2 l1 d1 : List (List Step))
+    → rec.bridges ≡ map bridge_steps bs → rec.lanes ≡ map lane_steps ls → rec.customers ≡ map access_steps ds
+    → map bridge bs ≡ bridges → map lane ls ≡ lanes → map access ds ≡ accesses
+    → map bridge_steps bs ≡ b1 → map access_steps ds ≡ d1 → map bridge_steps bs ≡ b2 → map lane_steps ls ≡ l1
+    → AreBridges plan (length plan.bridges) bridges → AreLanes plan (length plan.links) lanes → AreAccesses plan (length plan.customers) accesses
+    → All (λ w. IsLawfulBridge spanning_tree (bridge w).2 (bridge w).1 (bridge_steps w)) bs → All (λ w. IsLawfulLane (lane w).3 (lane_steps w)) ls → All (λ w. IsLawfulPort (access w).0 (access_steps w)) ds
     → ((k : ℕ) (c : CustomerPlan) → k < length plan.customers → slice_get plan.customers k ≡ Some c → MeetsCustomer (of_customers b1 d1) (k + 1) c)
     → ((k : ℕ) (link : LinkPlan) → k < length plan.links → slice_get plan.links k ≡ Some link
     → MeetsOver (of_lanes b2 l1) (2 * k + 1) link.a link.b × MeetsOver (of_lanes b2 l1) (2 * k + 2) link.b link.a)
     → IsLawfulRecord spanning_tree plan rec
-lawful_workers bridge bridge_steps lane lane_steps desk desk_steps plan rec bs ls ds bridges lanes desks b1 b2 l1 d1 rec_bs rec_ls rec_ds is_bs is_ls is_ds eb1 ed1 eb2 el1 are_bs are_ls are_ds law_bs law_ls law_ds met_ds met_ls =
+lawful_workers bridge bridge_steps lane lane_steps access access_steps plan rec bs ls ds bridges lanes accesses b1 b2 l1 d1 rec_bs rec_ls rec_ds is_bs is_ls is_ds eb1 ed1 eb2 el1 are_bs are_ls are_ds law_bs law_ls law_ds met_ds met_ls =
     let fits_bs = subst (λ gs. AreBridges plan (length plan.bridges) gs) (sym is_bs) are_bs in
     let fits_ls = subst (λ gs. AreLanes plan (length plan.links) gs) (sym is_ls) are_ls in
-    let fits_ds = subst (λ gs. AreDesks plan (length plan.customers) gs) (sym is_ds) are_ds in
+    let fits_ds = subst (λ gs. AreAccesses plan (length plan.customers) gs) (sym is_ds) are_ds in
     lawful_record plan rec
     (ap length rec_bs ∙ length-map bs bridge_steps ∙ sym (length-map bs bridge) ∙ fits_bs.counted)
     (ap length rec_ls ∙ length-map ls lane_steps ∙ sym (length-map ls lane) ∙ fits_ls.counted)
-    (ap length rec_ds ∙ length-map ds desk_steps ∙ sym (length-map ds desk) ∙ fits_ds.counted)
+    (ap length rec_ds ∙ length-map ds access_steps ∙ sym (length-map ds access) ∙ fits_ds.counted)
     (λ n. subst (λ (zs : List (List Step)). IsLawfulBridge spanning_tree plan n (steps_of zs n)) (sym rec_bs) (lawful_bridges bridge bridge_steps plan bs fits_bs law_bs n))
     (λ k link at. subst (λ (zs : List (List Step)). IsLawfulLane link.lost_ab (steps_of zs (2 * k + 1)) × IsLawfulLane link.lost_ba (steps_of zs (2 * k + 2))) (sym rec_ls)
     (lawful_lanes lane lane_steps plan ls k link fits_ls law_ls at))
-    (λ n. subst (λ (zs : List (List Step)). IsLawfulPort n (steps_of zs n)) (sym rec_ds) (lawful_ports desk desk_steps plan ds fits_ds law_ds n))
+    (λ n. subst (λ (zs : List (List Step)). IsLawfulPort n (steps_of zs n)) (sym rec_ds) (lawful_ports access access_steps plan ds fits_ds law_ds n))
     (λ k c less at. subst (λ (zs : List (List Step)). MeetsCustomer (of_customers rec.bridges zs) (k + 1) c) (sym (rec_ds ∙ ed1))
     (subst (λ (zs : List (List Step)). MeetsCustomer (of_customers zs d1) (k + 1) c) (sym (rec_bs ∙ eb1)) (met_ds k c less at)))
     (λ k link less at.

@@ -65,11 +65,11 @@ pub link_meets : (rec : Record) (n m : ℕ) (k l : LinkPlan) → k ≡ l → Mee
 link_meets rec n m k l e meet = subst (λ (x : LinkPlan). MeetsOver rec n x.a x.b × MeetsOver rec m x.b x.a) e meet
 
 -- one customer port more has met, and one link more
-pub desks_met : (plan : Plan) (place : ℕ) (bs bs' ds ds' : List (List Step)) → bs' ≡ bs → ds' ≡ ds
+pub accesses_met : (plan : Plan) (place : ℕ) (bs bs' ds ds' : List (List Step)) → bs' ≡ bs → ds' ≡ ds
     → ((k : ℕ) (c : CustomerPlan) → k < place → slice_get plan.customers k ≡ Some c → MeetsCustomer (of_customers bs ds) (k + 1) c)
     → ((c : CustomerPlan) → slice_get plan.customers place ≡ Some c → MeetsCustomer (of_customers bs' ds') (place + 1) c)
     → (k : ℕ) (c : CustomerPlan) → k < place + 1 → slice_get plan.customers k ≡ Some c → MeetsCustomer (of_customers bs ds) (k + 1) c
-desks_met plan place bs bs' ds ds' eb ed before here k c less at = by (below_next k place less)
+accesses_met plan place bs bs' ds ds' eb ed before here k c less at = by (below_next k place less)
   where
     by : (k < place) ⊎ (k ≡ place) → MeetsCustomer (of_customers bs ds) (k + 1) c
     by (inl earlier) = before k c earlier at

@@ -39,13 +39,13 @@ pub record AreLanes (plan : Plan) (count : ℕ) (gifts : List LaneGift) : Type 0
       → slice_get gifts (2 * k + 1) ≡ Some (lane_gift (2 * k + 2) link.b link.a link.lost_ba)
 
 -- a customer port: its number, and the rings to its bridge and from it
-abbrev pub DeskGift : Type 0
-DeskGift = ℕ × ℕ × ℕ
+abbrev pub AccessGift : Type 0
+AccessGift = ℕ × ℕ × ℕ
 
-abbrev pub desk_gift : ℕ → CustomerPlan → DeskGift
-desk_gift number c = (number, ring_into c.bridge c.port, ring_out c.bridge c.port)
+abbrev pub access_gift : ℕ → CustomerPlan → AccessGift
+access_gift number c = (number, ring_into c.bridge c.port, ring_out c.bridge c.port)
 
 -- the first so many customer ports
-pub record AreDesks (plan : Plan) (count : ℕ) (gifts : List DeskGift) : Type 0 where
+pub record AreAccesses (plan : Plan) (count : ℕ) (gifts : List AccessGift) : Type 0 where
   pub counted : length gifts ≡ count
-  pub each : (k : ℕ) (c : CustomerPlan) → k < count → slice_get plan.customers k ≡ Some c → slice_get gifts k ≡ Some (desk_gift (k + 1) c)
+  pub each : (k : ℕ) (c : CustomerPlan) → k < count → slice_get plan.customers k ≡ Some c → slice_get gifts k ≡ Some (access_gift (k + 1) c)

@@ -2,8 +2,8 @@
 use Rattle.std.specs.Prelude.{◌≡◌, ℕ, ⊤, Option, Some, None, List, ◌++◌, []}
 use Rattle.pb_lan.specs.Counts.{entered, left}
 use Rattle.pb_lan.specs.declared.step.Step.{Step}
-use Rattle.pb_run.specs.declared.desk.Last.{Last}
-use Rattle.pb_run.specs.declared.desk.Last.TheVariants.{More, End, Fault}
+use Rattle.pb_run.specs.declared.access.Last.{Last}
+use Rattle.pb_run.specs.declared.access.Last.TheVariants.{More, End, Fault}
 
 abbrev pub Frames : Type 0
 Frames = List (List ℕ)

@@ -10,8 +10,8 @@ use Rattle.pb_lan.specs.declared.record.Record.{Record}
 use Rattle.pb_lan.specs.declared.step.Mark.{Mark}
 use Rattle.pb_lan.specs.declared.step.Step.{Step}
 use Rattle.pb_run.specs.Ports.{Frames, in_front, behind, IsEnded}
-use Rattle.pb_run.specs.declared.desk.Last.{Last}
-use Rattle.pb_run.specs.declared.desk.Last.TheVariants.{More, End}
+use Rattle.pb_run.specs.declared.access.Last.{Last}
+use Rattle.pb_run.specs.declared.access.Last.TheVariants.{More, End}
 use Rattle.pb_run.specs.declared.ended.Ended.{Ended}
 use Rattle.pb_run.specs.declared.ended.Ended.TheVariants.{Drained}
 

@@ -13,7 +13,7 @@ ghost use Rattle.pb_lan.specs.Records.{received, transmitted};
 ghost use Rattle.pb_ring.specs.Rings.{shown_at};
 ghost use Rattle.pb_run.specs.Bridges.{AreUsed};
 
-use crate::desk::Desk;
+use crate::access::Access;
 use crate::lane::LaneWorker;
 use crate::refusal::{Refusal, Taken, turn};
 use crate::used::used_ports;
@@ -188,20 +188,20 @@ impl<W: Wiring> BridgeWorker<W> {
 
     /// The rings of a customer port and of this bridge's local port, once both workers are back: what the
     /// bridge received begins what the port fed, and what the port took begins what the bridge sent.
-    pub fn meet_customer(&mut self, port: u8, desk: &mut Desk<W>)
+    pub fn meet_customer(&mut self, port: u8, access: &mut Access<W>)
         requires port { (0 < port) × (port ≤ vec_len self.old.ins.ends) }
-        requires feed { slice_index_or (map (λ i. i.number) self.old.ins.ends.items) (port - 1) 0 ≡ desk.old.feed.number }
-        requires drain { slice_index_or (map (λ o. o.number) self.old.outs.ends.items) (port - 1) 0 ≡ desk.old.drain.number }
-        ensures into { IsBeginning (received port self.old.bridge.steps) (fed desk.old.place.steps) }
-        ensures out { IsBeginning (delivered desk.old.place.steps) (transmitted port self.old.bridge.steps) }
+        requires feed { slice_index_or (map (λ i. i.number) self.old.ins.ends.items) (port - 1) 0 ≡ access.old.feed.number }
+        requires drain { slice_index_or (map (λ o. o.number) self.old.outs.ends.items) (port - 1) 0 ≡ access.old.drain.number }
+        ensures into { IsBeginning (received port self.old.bridge.steps) (fed access.old.place.steps) }
+        ensures out { IsBeginning (delivered access.old.place.steps) (transmitted port self.old.bridge.steps) }
         ensures bridge { (self.new.bridge ≡ self.old.bridge) × (self.new.number ≡ self.old.number) }
         ensures ins { map (λ i. i.number) self.new.ins.ends.items ≡ map (λ i. i.number) self.old.ins.ends.items }
         ensures outs { map (λ o. o.number) self.new.outs.ends.items ≡ map (λ o. o.number) self.old.outs.ends.items }
-        ensures desk { (desk.new.place ≡ desk.old.place) × (desk.new.book ≡ desk.old.book) × (desk.new.offered ≡ desk.old.offered) }
-        ensures rings { (desk.new.feed.number ≡ desk.old.feed.number) × (desk.new.drain.number ≡ desk.old.drain.number) }
+        ensures access { (access.new.place ≡ access.old.place) × (access.new.book ≡ access.old.book) × (access.new.offered ≡ access.old.offered) }
+        ensures rings { (access.new.feed.number ≡ access.old.feed.number) × (access.new.drain.number ≡ access.old.drain.number) }
     {
-        self.ins.meet(port as usize - 1, &mut desk.feed);
-        self.outs.meet(port as usize - 1, &mut desk.drain);
+        self.ins.meet(port as usize - 1, &mut access.feed);
+        self.outs.meet(port as usize - 1, &mut access.drain);
     }
 
     /// The ring from this bridge's local port to the lane that leads away from it, once both workers are

@@ -6,11 +6,11 @@ ghost use Rattle.rtrb.specs.Ring.{sent, received};
 ghost use Rattle.pb_lan.specs.Plans.{IsSound, IsNumber, Rises};
 ghost use Rattle.pb_lan.specs.UsedPorts.{ports_in};
 ghost use Rattle.pb_ring.specs.Rings.{shown_at};
-ghost use Rattle.pb_run.specs.Gifts.{IsBridgeGift, AreBridges, AreLanes, desk_gift, AreDesks};
+ghost use Rattle.pb_run.specs.Gifts.{IsBridgeGift, AreBridges, AreLanes, access_gift, AreAccesses};
 ghost use Rattle.pb_run.specs.Wires.{ring_into, ring_out, AreNew, AreNamed, HasInner, HasOuter};
 
+use crate::access::{Access, Last};
 use crate::bridge::BridgeWorker;
-use crate::desk::{Desk, Last};
 use crate::lane::LaneWorker;
 use crate::wires::{Ends, Ring};
 use pb_frame::{Memory, Seq};
@@ -22,7 +22,11 @@ use std::alloc::Global;
 use std::collections::VecDeque;
 
 /// The places of a run without their ports outside: customer ports, lanes and bridges.
-pub(crate) type Built<W> = (VecDeque<Desk<W>>, Vec<LaneWorker<W>>, Vec<BridgeWorker<W>>);
+pub(crate) type Built<W> = (
+    VecDeque<Access<W>>,
+    Vec<LaneWorker<W>>,
+    Vec<BridgeWorker<W>>,
+);
 
 /// The ends that a bridge has, by local port: those through which it receives, and those through which it sends.
 fn sides_of<W: Wiring>(
@@ -126,43 +130,43 @@ fn lane_workers<W: Wiring>(
     Ok(workers)
 }
 
-/// The desk of the customer port of this number.
-fn desk_of<W: Wiring>(
+/// The access of the customer port of this number.
+fn access_of<W: Wiring>(
     alloc: Global,
     ends: &mut Ends<W>,
     number: u8,
     limit: usize,
     customer: &CustomerPlan,
-) -> Desk<W>
+) -> Access<W>
     requires { HasOuter ends.old.outlets.items ends.old.inlets.items (customer.now.bridge, customer.now.port) }
-    ensures gift { (result.place.number, result.feed.number, result.drain.number) ≡ desk_gift number customer.now }
+    ensures gift { (result.place.number, result.feed.number, result.drain.number) ≡ access_gift number customer.now }
     ensures fresh { (result.place.steps ≡ []) × (result.book.last ≡ Last.More) × (result.book.number ≡ number) }
     ensures outer { (at : ℕ × ℕ) → at ≢ (customer.now.bridge, customer.now.port) → HasOuter ends.old.outlets.items ends.old.inlets.items at → HasOuter ends.new.outlets.items ends.new.inlets.items at }
 {
     let (feed, drain) = ends.outer(customer.bridge, customer.port);
     let place = CustomerPlace::new(alloc, number);
-    Desk::new(number, place, feed, drain, limit)
+    Access::new(number, place, feed, drain, limit)
 }
 
-/// The desks of a plan's customer ports.
-fn desks_of<W: Wiring>(
+/// The accesses of a plan's customer ports.
+fn accesses_of<W: Wiring>(
     alloc: Global,
     plan: &Plan,
     ends: &mut Ends<W>,
-) -> Result<VecDeque<Desk<W>>, Memory>
+) -> Result<VecDeque<Access<W>>, Memory>
     requires sound { IsSound plan.now }
     requires there { AllByRecursion (HasOuter ends.old.outlets.items ends.old.inlets.items) (ports_in [] plan.now.customers) }
-    ensures gifts { IfOk result (λ desks. AreDesks plan.now (length plan.now.customers) (map (λ d. (d.place.number, d.feed.number, d.drain.number)) desks.items)) }
-    ensures fresh { IfOk result (λ desks. All (λ d. (d.place.steps ≡ []) × (d.book.last ≡ Last.More)) desks.items) }
+    ensures gifts { IfOk result (λ accesses. AreAccesses plan.now (length plan.now.customers) (map (λ d. (d.place.number, d.feed.number, d.drain.number)) accesses.items)) }
+    ensures fresh { IfOk result (λ accesses. All (λ d. (d.place.steps ≡ []) × (d.book.last ≡ Last.More)) accesses.items) }
 {
     let customers = plan.customers.as_slice();
     let limit = plan.steps as usize;
-    let mut desks = VecDeque::with_capacity(alloc, customers.len())?;
+    let mut accesses = VecDeque::with_capacity(alloc, customers.len())?;
     for customer in customers {
-        let number = desks.len() as u8 + 1;
-        desks.push_back(desk_of(alloc, ends, number, limit, customer))?;
+        let number = accesses.len() as u8 + 1;
+        accesses.push_back(access_of(alloc, ends, number, limit, customer))?;
     }
-    Ok(desks)
+    Ok(accesses)
 }
 
 /// The places of a plan, none of which has taken a step, joined by rings that nothing has passed.
@@ -176,7 +180,7 @@ pub(crate) fn places_of<W: Wiring>(
     requires new { AreNew rings.items }
     requires named { AreNamed W.rings rings.items }
     requires count { vec_len rings ≡ 32 * length plan.now.bridges }
-    ensures desks { IfOk result (λ built. AreDesks plan.now (length plan.now.customers) (map (λ d. (d.place.number, d.feed.number, d.drain.number)) built.0.items)) }
+    ensures accesses { IfOk result (λ built. AreAccesses plan.now (length plan.now.customers) (map (λ d. (d.place.number, d.feed.number, d.drain.number)) built.0.items)) }
     ensures fresh { IfOk result (λ built. All (λ d. (d.place.steps ≡ []) × (d.book.last ≡ Last.More)) built.0.items) }
     ensures lanes { IfOk result (λ built. AreLanes plan.now (length plan.now.links) (map ⟦<LaneWorker<W> as Work>⟧.given built.1.items)) }
     ensures bridges { IfOk result (λ built. AreBridges plan.now (length plan.now.bridges) (map ⟦<BridgeWorker<W> as Work>⟧.given built.2.items)) }
@@ -184,6 +188,6 @@ pub(crate) fn places_of<W: Wiring>(
     let mut ends = Ends::<W>::of(alloc, rings)?;
     let bridges = bridge_workers(alloc, plan, &mut ends)?;
     let lanes = lane_workers(alloc, plan, &mut ends)?;
-    let desks = desks_of(alloc, plan, &mut ends)?;
-    Ok((desks, lanes, bridges))
+    let accesses = accesses_of(alloc, plan, &mut ends)?;
+    Ok((accesses, lanes, bridges))
 }

@@ -3,7 +3,7 @@
 ghost use Rattle.std.specs.Prelude.{◌≡◌, ◌↔◌, All, IsTrue};
 ghost use Rattle.pb_run.specs.Runs.{TellsAllDrained};
 
-use crate::desk::Last;
+use crate::access::Last;
 use pb_forest::is_drained;
 use pb_lan::Record;
 use pb_work::Finish;

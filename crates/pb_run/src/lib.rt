@@ -6,10 +6,10 @@
 //! back, the ends of each ring can meet.
 #![tactic(auto)]
 
+mod access;
 mod bridge;
 mod build;
 mod customer;
-mod desk;
 mod ended;
 mod fault;
 mod lane;
@@ -22,9 +22,9 @@ mod settled;
 mod used;
 mod wires;
 
+pub use access::{Access, Book, Last};
 pub use bridge::BridgeWorker;
 pub use customer::CustomerWorker;
-pub use desk::{Book, Desk, Last};
 pub use ended::Ended;
 pub use fault::{RunCause, RunFault};
 pub use lane::LaneWorker;

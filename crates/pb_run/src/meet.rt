@@ -7,58 +7,58 @@ ghost use Rattle.pb_lan.specs.Plans.{IsSound, IsSoundEnd};
 ghost use Rattle.pb_lan.specs.Records.{MeetsCustomer, MeetsOver, steps_of, received, transmitted};
 ghost use Rattle.pb_lan.specs.declared.plan.CustomerPlan.{CustomerPlan};
 ghost use Rattle.pb_lan.specs.declared.plan.LinkPlan.{LinkPlan};
-ghost use Rattle.pb_run.specs.Gifts.{AreBridges, AreLanes, AreDesks, DeskGift};
+ghost use Rattle.pb_run.specs.Gifts.{AreBridges, AreLanes, AreAccesses, AccessGift};
 ghost use Rattle.pb_run.specs.Meetings.{of_customers, of_lanes};
 ghost use Rattle.pb_run.specs.Wires.{ring_into, ring_out};
 
+use crate::access::Access;
 use crate::bridge::BridgeWorker;
-use crate::desk::Desk;
 use crate::lane::LaneWorker;
 use pb_lan::{End, Plan};
 use pb_ring::Wiring;
 use pb_work::Work;
 
 /// The rings of a customer port meet.
-fn meet_desk<W: Wiring>(
+fn meet_access<W: Wiring>(
     plan: &Plan,
     bridges: &mut Vec<BridgeWorker<W>>,
-    desks: &mut Vec<Desk<W>>,
+    accesses: &mut Vec<Access<W>>,
     place: usize,
 )
     requires sound { IsSound plan.now }
     requires place { place < length plan.now.customers }
     requires bridges { AreBridges plan.now (length plan.now.bridges) (map ⟦<BridgeWorker<W> as Work>⟧.given bridges.old.items) }
-    requires desks { AreDesks plan.now (length plan.now.customers) (map {B = DeskGift} (λ d. (d.place.number, d.feed.number, d.drain.number)) desks.old.items) }
+    requires accesses { AreAccesses plan.now (length plan.now.customers) (map {B = AccessGift} (λ d. (d.place.number, d.feed.number, d.drain.number)) accesses.old.items) }
     ensures bridges { map ⟦<BridgeWorker<W> as Work>⟧.given bridges.new.items ≡ map ⟦<BridgeWorker<W> as Work>⟧.given bridges.old.items }
     ensures bridge_steps { map (λ b. b.bridge.steps) bridges.new.items ≡ map (λ b. b.bridge.steps) bridges.old.items }
-    ensures desks { map {B = DeskGift} (λ d. (d.place.number, d.feed.number, d.drain.number)) desks.new.items ≡ map {B = DeskGift} (λ d. (d.place.number, d.feed.number, d.drain.number)) desks.old.items }
-    ensures desk_steps { map (λ d. d.place.steps) desks.new.items ≡ map (λ d. d.place.steps) desks.old.items }
+    ensures accesses { map {B = AccessGift} (λ d. (d.place.number, d.feed.number, d.drain.number)) accesses.new.items ≡ map {B = AccessGift} (λ d. (d.place.number, d.feed.number, d.drain.number)) accesses.old.items }
+    ensures access_steps { map (λ d. d.place.steps) accesses.new.items ≡ map (λ d. d.place.steps) accesses.old.items }
     ensures meets { (c : CustomerPlan) → slice_get plan.now.customers place ≡ Some c
-        → MeetsCustomer (of_customers (map (λ b. b.bridge.steps) bridges.old.items) (map (λ d. d.place.steps) desks.old.items)) (place + 1) c }
+        → MeetsCustomer (of_customers (map (λ b. b.bridge.steps) bridges.old.items) (map (λ d. d.place.steps) accesses.old.items)) (place + 1) c }
 {
     let customer = &plan.customers.as_slice()[place];
     let bridge = &mut bridges[usize::from(customer.bridge) - 1];
-    bridge.meet_customer(customer.port, &mut desks[place]);
+    bridge.meet_customer(customer.port, &mut accesses[place]);
 }
 
 /// The rings of all customer ports meet.
-pub(crate) fn meet_desks<W: Wiring>(
+pub(crate) fn meet_accesses<W: Wiring>(
     plan: &Plan,
     bridges: &mut Vec<BridgeWorker<W>>,
-    desks: &mut Vec<Desk<W>>,
+    accesses: &mut Vec<Access<W>>,
 )
     requires sound { IsSound plan.now }
     requires bridges { AreBridges plan.now (length plan.now.bridges) (map ⟦<BridgeWorker<W> as Work>⟧.given bridges.old.items) }
-    requires desks { AreDesks plan.now (length plan.now.customers) (map {B = DeskGift} (λ d. (d.place.number, d.feed.number, d.drain.number)) desks.old.items) }
+    requires accesses { AreAccesses plan.now (length plan.now.customers) (map {B = AccessGift} (λ d. (d.place.number, d.feed.number, d.drain.number)) accesses.old.items) }
     ensures bridges { map ⟦<BridgeWorker<W> as Work>⟧.given bridges.new.items ≡ map ⟦<BridgeWorker<W> as Work>⟧.given bridges.old.items }
     ensures bridge_steps { map (λ b. b.bridge.steps) bridges.new.items ≡ map (λ b. b.bridge.steps) bridges.old.items }
-    ensures desks { map {B = DeskGift} (λ d. (d.place.number, d.feed.number, d.drain.number)) desks.new.items ≡ map {B = DeskGift} (λ d. (d.place.number, d.feed.number, d.drain.number)) desks.old.items }
-    ensures desk_steps { map (λ d. d.place.steps) desks.new.items ≡ map (λ d. d.place.steps) desks.old.items }
+    ensures accesses { map {B = AccessGift} (λ d. (d.place.number, d.feed.number, d.drain.number)) accesses.new.items ≡ map {B = AccessGift} (λ d. (d.place.number, d.feed.number, d.drain.number)) accesses.old.items }
+    ensures access_steps { map (λ d. d.place.steps) accesses.new.items ≡ map (λ d. d.place.steps) accesses.old.items }
     ensures meet { (k : ℕ) (c : CustomerPlan) → k < length plan.now.customers → slice_get plan.now.customers k ≡ Some c
-        → MeetsCustomer (of_customers (map (λ b. b.bridge.steps) bridges.old.items) (map (λ d. d.place.steps) desks.old.items)) (k + 1) c }
+        → MeetsCustomer (of_customers (map (λ b. b.bridge.steps) bridges.old.items) (map (λ d. d.place.steps) accesses.old.items)) (k + 1) c }
 {
     for place in 0..plan.customers.len() {
-        meet_desk(plan, bridges, desks, place);
+        meet_access(plan, bridges, accesses, place);
     }
 }
 

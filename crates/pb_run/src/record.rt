@@ -8,8 +8,8 @@ ghost use Rattle.pb_lan.specs.Laws.{is_setting};
 ghost use Rattle.pb_lan.specs.PortLists.{IsLawfulPort};
 ghost use Rattle.pb_relay.specs.Protocol.{spanning_tree};
 
+use crate::access::Access;
 use crate::bridge::BridgeWorker;
-use crate::desk::Desk;
 use crate::lane::LaneWorker;
 use pb_frame::{Memory, Seq};
 use pb_lan::{Plan, Step};
@@ -65,28 +65,28 @@ pub(crate) fn lane_lists<W: Wiring>(workers: Vec<LaneWorker<W>>, mut lists: List
 }
 
 /// The steps of a customer port.
-fn desk_steps<W: Wiring>(desk: Desk<W>) -> Vec<Step>
-    ensures steps { result.items ≡ desk.place.steps }
-    ensures lawful { IsLawfulPort desk.place.number desk.place.steps }
+fn access_steps<W: Wiring>(access: Access<W>) -> Vec<Step>
+    ensures steps { result.items ≡ access.place.steps }
+    ensures lawful { IsLawfulPort access.place.number access.place.steps }
 {
-    let Desk {
+    let Access {
         place,
         feed: _,
         drain: _,
         offered: _,
         book: _,
-    } = desk;
+    } = access;
     place.into_steps()
 }
 
 /// The steps of each customer port. Takes no memory.
-pub(crate) fn desk_lists<W: Wiring>(desks: Vec<Desk<W>>, mut lists: Lists) -> Seq<Seq<Step>>
-    requires { (lists.items ≡ []) × (vec_len desks ≤ vec_capacity lists) }
-    ensures steps { result ≡ map (λ d. d.place.steps) desks.items }
-    ensures lawful { All (λ d. IsLawfulPort d.place.number d.place.steps) desks.items }
+pub(crate) fn access_lists<W: Wiring>(accesses: Vec<Access<W>>, mut lists: Lists) -> Seq<Seq<Step>>
+    requires { (lists.items ≡ []) × (vec_len accesses ≤ vec_capacity lists) }
+    ensures steps { result ≡ map (λ d. d.place.steps) accesses.items }
+    ensures lawful { All (λ d. IsLawfulPort d.place.number d.place.steps) accesses.items }
 {
-    for desk in desks {
-        lists.push_reserved(Seq::from_vec(desk_steps(desk)));
+    for access in accesses {
+        lists.push_reserved(Seq::from_vec(access_steps(access)));
     }
     Seq::from_vec(lists)
 }

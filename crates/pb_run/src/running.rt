@@ -7,21 +7,21 @@ ghost use Rattle.pb_lan.specs.Records.{IsLawfulRecord};
 ghost use Rattle.pb_lan.specs.declared.plan.Spanning.TheVariants.{Fixed};
 ghost use Rattle.pb_relay.specs.Protocol.{spanning_tree};
 ghost use Rattle.pb_relay.specs.Settled.{TellsSettled};
-ghost use Rattle.pb_run.specs.Gifts.{AreBridges, AreLanes, AreDesks};
+ghost use Rattle.pb_run.specs.Gifts.{AreBridges, AreLanes, AreAccesses};
 ghost use Rattle.pb_lan.specs.Headline.{IsFaithful};
 ghost use Rattle.pb_run.specs.Runs.{ArePortsKept, TellsEnded};
 ghost use Rattle.pb_run.specs.Wires.{AreNew, AreNamed};
 
+use crate::access::{Access, Last};
 use crate::bridge::BridgeWorker;
 use crate::build::{Built, places_of};
 use crate::customer::CustomerWorker;
-use crate::desk::{Desk, Last};
 use crate::ended::{Causes, Ended, ended_by, has_drained};
 use crate::fault::{RunCause, RunFault, cause_of};
 use crate::lane::LaneWorker;
-use crate::meet::{meet_desks, meet_links};
+use crate::meet::{meet_accesses, meet_links};
 use crate::outside::{Apart, Held, apart, attended};
-use crate::record::{Lists, bridge_lists, desk_lists, lane_lists};
+use crate::record::{Lists, access_lists, bridge_lists, lane_lists};
 use crate::settled::whether_settled;
 use crate::wires::{Ring, new_rings};
 use pb_frame::Memory;
@@ -61,12 +61,12 @@ type Rooms<W> = (
 /// Room for the parts of so many workers of customer ports.
 fn apart_rooms<W: Wiring>(alloc: Global, customers: usize) -> Result<Apart<W, Held>, Memory>
     ensures ports { IfOk result (λ rooms. (rooms.0.items ≡ []) × (vec_capacity rooms.0 ≡ customers)) }
-    ensures desks { IfOk result (λ rooms. (rooms.1.items ≡ []) × (vec_capacity rooms.1 ≡ customers)) }
+    ensures accesses { IfOk result (λ rooms. (rooms.1.items ≡ []) × (vec_capacity rooms.1 ≡ customers)) }
     ensures lasts { IfOk result (λ rooms. (rooms.2.items ≡ []) × (vec_capacity rooms.2 ≡ customers)) }
 {
     let lasts = Vec::with_capacity(alloc, customers)?;
-    let desks = Vec::with_capacity(alloc, customers)?;
-    Ok((Vec::with_capacity(alloc, customers)?, desks, lasts))
+    let accesses = Vec::with_capacity(alloc, customers)?;
+    Ok((Vec::with_capacity(alloc, customers)?, accesses, lasts))
 }
 
 /// Room for the lists of steps of a plan's places.
@@ -87,7 +87,7 @@ fn rooms_of<W: Wiring>(alloc: Global, plan: &Plan) -> Result<Rooms<W>, Memory>
     requires { IsSound plan.now }
     ensures workers { IfOk result (λ rooms. (rooms.0.items ≡ []) × (vec_capacity rooms.0 ≡ length plan.now.customers)) }
     ensures ports { IfOk result (λ rooms. (rooms.1.0.items ≡ []) × (vec_capacity rooms.1.0 ≡ length plan.now.customers)) }
-    ensures desks { IfOk result (λ rooms. (rooms.1.1.items ≡ []) × (vec_capacity rooms.1.1 ≡ length plan.now.customers)) }
+    ensures accesses { IfOk result (λ rooms. (rooms.1.1.items ≡ []) × (vec_capacity rooms.1.1 ≡ length plan.now.customers)) }
     ensures lasts { IfOk result (λ rooms. (rooms.1.2.items ≡ []) × (vec_capacity rooms.1.2 ≡ length plan.now.customers)) }
     ensures customers { IfOk result (λ rooms. (rooms.2.0.items ≡ []) × (vec_capacity rooms.2.0 ≡ length plan.now.customers)) }
     ensures lanes { IfOk result (λ rooms. (rooms.2.1.items ≡ []) × (vec_capacity rooms.2.1 ≡ 2 * length plan.now.links)) }
@@ -124,13 +124,13 @@ fn causes_of<W: Wiring>(
 /// The record of places that are back. Takes no memory.
 fn record_of<W: Wiring>(
     plan: &Plan,
-    desks: Vec<Desk<W>>,
+    accesses: Vec<Access<W>>,
     lanes: Vec<LaneWorker<W>>,
     bridges: Vec<BridgeWorker<W>>,
     lists: (Lists, Lists, Lists),
 ) -> Record
     requires sound { IsSound plan.now }
-    requires desks { AreDesks plan.now (length plan.now.customers) (map (λ d. (d.place.number, d.feed.number, d.drain.number)) desks.items) }
+    requires accesses { AreAccesses plan.now (length plan.now.customers) (map (λ d. (d.place.number, d.feed.number, d.drain.number)) accesses.items) }
     requires lanes { AreLanes plan.now (length plan.now.links) (map ⟦<LaneWorker<W> as Work>⟧.given lanes.items) }
     requires bridges { AreBridges plan.now (length plan.now.bridges) (map ⟦<BridgeWorker<W> as Work>⟧.given bridges.items) }
     requires empty { (lists.0.items ≡ []) × (lists.1.items ≡ []) × (lists.2.items ≡ []) }
@@ -138,16 +138,16 @@ fn record_of<W: Wiring>(
     ensures lawful { IsLawfulRecord spanning_tree plan.now result }
     ensures headline { IsFaithful plan.now result }
     ensures planned { plan.now.spanning ≡ Fixed → AreTracedFromStart plan.now result }
-    ensures customers { result.customers ≡ map (λ d. d.place.steps) desks.items }
+    ensures customers { result.customers ≡ map (λ d. d.place.steps) accesses.items }
     ensures bridges { result.bridges ≡ map (λ b. b.bridge.steps) bridges.items }
 {
-    let (mut desks, mut lanes, mut bridges) = (desks, lanes, bridges);
-    meet_desks(plan, &mut bridges, &mut desks);
+    let (mut accesses, mut lanes, mut bridges) = (accesses, lanes, bridges);
+    meet_accesses(plan, &mut bridges, &mut accesses);
     meet_links(plan, &mut bridges, &mut lanes);
     Record {
         bridges: bridge_lists(bridges, lists.2),
         lanes: lane_lists(lanes, lists.1),
-        customers: desk_lists(desks, lists.0),
+        customers: access_lists(accesses, lists.0),
     }
 }
 
@@ -164,7 +164,7 @@ fn run_built<W: Wiring + Send, G: Gate, R: Threads + Wait + Clock + Sync>(
 ) -> Result<Ran, RunFault>
     requires sound { IsSound plan.now }
     requires count { vec_len ports ≡ length plan.now.customers }
-    requires desks { AreDesks plan.now (length plan.now.customers) (map (λ d. (d.place.number, d.feed.number, d.drain.number)) built.0.items) }
+    requires accesses { AreAccesses plan.now (length plan.now.customers) (map (λ d. (d.place.number, d.feed.number, d.drain.number)) built.0.items) }
     requires fresh { All (λ d. (d.place.steps ≡ []) × (d.book.last ≡ Last.More)) built.0.items }
     requires lanes { AreLanes plan.now (length plan.now.links) (map ⟦<LaneWorker<W> as Work>⟧.given built.1.items) }
     requires bridges { AreBridges plan.now (length plan.now.bridges) (map ⟦<BridgeWorker<W> as Work>⟧.given built.2.items) }
@@ -192,13 +192,13 @@ fn run_built<W: Wiring + Send, G: Gate, R: Threads + Wait + Clock + Sync>(
         places.1.as_slice(),
         places.2.as_slice(),
     );
-    let (ports, desks, last) = apart(places.0, rooms.1);
+    let (ports, accesses, last) = apart(places.0, rooms.1);
     if let Err(fault) = verdict {
         let cause = cause_of(fault);
         return Err(RunFault { cause, ports });
     }
     let settled = whether_settled(alloc, plan, places.2.as_slice());
-    let rec = record_of(plan, desks, places.1, places.2, rooms.2);
+    let rec = record_of(plan, accesses, places.1, places.2, rooms.2);
     let ended = ended_by(has_drained(last.as_slice(), &rec), causes);
     Ok(Ran {
         rec,

@@ -1,7 +1,7 @@
 -- The lines of a run's report.
 use Rattle.std.proofs.Common.{◌≡◌, ◌≢◌, ℕ, ◌+◌, List, [], ◌∷◌, ◌++◌, length, drop, refl, sym, ap, subst, ◌∙◌, arith, append_assoc, length-append}
 use Rattle.pb_lan.specs.declared.plan.CustomerPlan.{CustomerPlan}
-use Rattle.pb_run.specs.declared.desk.Last.{Last}
+use Rattle.pb_run.specs.declared.access.Last.{Last}
 use Rattle.pb_running.specs.Reports.{fault_at, fault_lines, status_of}
 
 -- the fault of one more customer port is told

@@ -11,7 +11,7 @@ use Rattle.pb_lan.specs.declared.record.Record.{Record}
 use Rattle.pb_relay.specs.Protocol.{spanning_tree}
 use Rattle.pb_print.specs.Refusals.{PrintsRefusal}
 use Rattle.pb_run.specs.Runs.{TellsEnded}
-use Rattle.pb_run.specs.declared.desk.Last.{Last}
+use Rattle.pb_run.specs.declared.access.Last.{Last}
 use Rattle.pb_run.specs.declared.ended.Ended.{Ended}
 use Rattle.pb_service.specs.PlanFiles.{Tells, IsPlanOf}
 use Rattle.pb_service.specs.declared.port_spec.PortSpec.{PortSpec}

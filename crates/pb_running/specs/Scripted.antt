@@ -7,7 +7,7 @@ use Rattle.pb_lan.specs.Records.{steps_of}
 use Rattle.pb_lan.specs.declared.step.Step.{Step}
 use Rattle.pb_run.specs.Ports.{in_front, IsEnded}
 use Rattle.pb_run.specs.Runs.{frames_of, last_of}
-use Rattle.pb_run.specs.declared.desk.Last.{Last}
+use Rattle.pb_run.specs.declared.access.Last.{Last}
 use Rattle.pb_port.specs.declared.memory.MemoryPort.{MemoryPort}
 use Rattle.pb_service.specs.declared.port_spec.PortSpec.{PortSpec}
 use Rattle.pb_service.specs.declared.port_spec.PortSpec.TheVariants.{Memory, Capture, Socket}

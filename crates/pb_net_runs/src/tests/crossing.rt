@@ -50,6 +50,12 @@ fn a_priority_tag_gives_its_priority(rt: HostRuntime) -> Result<(), Fail> {
         Row::Moved(Place::Lane(1), "ffffffffffff02000000010188a8a06408004142"),
         Row::Leaves(2),
         Row::Moved(Place::Customer(2), "ffffffffffff02000000010108004142"),
+        // Whether it may be dropped first is not kept.
+        Row::Enters(1, "ffffffffffff02000000010188a8b00008004142"),
+        Row::Crosses(1),
+        Row::Moved(Place::Lane(1), "ffffffffffff02000000010188a8a06408004142"),
+        Row::Leaves(2),
+        Row::Moved(Place::Customer(2), "ffffffffffff02000000010108004142"),
     ];
     walks(&rt, rt.alloc(), &JOINED, ROWS)
 }

@@ -1,7 +1,7 @@
 //! What rows see of a network.
 
 use super::draft::Draft;
-use pb_lan::{Item, Learnt, Outcome, Place, Step};
+use pb_lan::{Item, Learnt, NoRoom, Outcome, Place, Reason, Step};
 use pb_net::Net;
 use pb_rstp::Role;
 
@@ -101,4 +101,29 @@ pub(super) fn has_roles(net: &Net, bridge: u8, wanted: Option<&[(u8, Role)]>) ->
         (None, None) => true,
         _ => false,
     }
+}
+
+/// Whether a step tells that a frame, or a copy of it, went nowhere for want of memory.
+fn is_short(step: &Step) -> bool {
+    match step {
+        Step::Receive { outcome, .. } => match outcome {
+            Outcome::Filtered(reason) => *reason == Reason::Memory,
+            Outcome::Relayed { refused, .. } => {
+                refused
+                    .list()
+                    .as_slice()
+                    .iter()
+                    .any(|copy| copy.1 == NoRoom::Memory)
+            }
+            Outcome::Heard => false,
+        },
+        _ => false,
+    }
+}
+
+/// Whether the last step of a bridge tells so.
+pub(super) fn tells_short(net: &Net, bridge: u8) -> bool {
+    steps(net, Place::Bridge(bridge))
+        .and_then(|steps| steps.last())
+        .is_some_and(is_short)
 }

@@ -2,7 +2,7 @@
 
 use super::bpdus::{
     ANSWER, COSTLY_ANSWER, COSTLY_PROPOSAL, CUSTOMER_PROPOSAL, OPENED, PROPOSAL,
-    TAGGED_CUSTOMER_PROPOSAL, TAGGED_PROPOSAL,
+    PROPOSAL_BEHIND_TAG, TAGGED_CUSTOMER_PROPOSAL, TAGGED_PROPOSAL,
 };
 use super::harness::run;
 use super::networks::Network;
@@ -177,7 +177,7 @@ fn an_agreement_opens_the_port(rt: HostRuntime) -> Result<(), Fail> {
     run(&rt, rt.alloc(), TWO_BRIDGES_BY_PROTOCOL, 1, OPENS)
 }
 
-/// A BPDU that is queued behind a customer's frame leaves before it.
+/// A BPDU that is queued behind frames of three other classes leaves before them, and the highest of these next.
 const OWN_FIRST: &[Row] = &[
     TICKS,
     PROPOSES,
@@ -192,11 +192,45 @@ const OWN_FIRST: &[Row] = &[
         },
         fate: Fate::Relayed(&[1]),
     },
-    Row::Waits { port: 1, items: 1 },
+    Row::Receives {
+        port: 2,
+        item: Piece {
+            number: Some(1),
+            hops: 0,
+            digits: "ffffffffffff02000000010188a8a00008004142",
+        },
+        fate: Fate::Relayed(&[1]),
+    },
+    Row::Receives {
+        port: 2,
+        item: Piece {
+            number: Some(2),
+            hops: 0,
+            digits: "ffffffffffff02000000010188a8c00008004142",
+        },
+        fate: Fate::Relayed(&[1]),
+    },
+    Row::Waits { port: 1, items: 3 },
     TICKS,
     Row::Passes(1),
-    Row::Waits { port: 1, items: 2 },
+    Row::Waits { port: 1, items: 4 },
     TELLS,
+    Row::Sends {
+        port: 1,
+        item: Piece {
+            number: Some(2),
+            hops: 1,
+            digits: "ffffffffffff02000000010188a8c06408004142",
+        },
+    },
+    Row::Sends {
+        port: 1,
+        item: Piece {
+            number: Some(1),
+            hops: 1,
+            digits: "ffffffffffff02000000010188a8a06408004142",
+        },
+    },
     Row::Sends {
         port: 1,
         item: Piece {
@@ -255,6 +289,15 @@ const TAGGED: &[Row] = &[
             number: None,
             hops: 0,
             digits: TAGGED_PROPOSAL,
+        },
+        fate: Fate::Filtered(Reason::Reserved(8)),
+    },
+    Row::Receives {
+        port: 1,
+        item: Piece {
+            number: None,
+            hops: 0,
+            digits: PROPOSAL_BEHIND_TAG,
         },
         fate: Fate::Filtered(Reason::Reserved(8)),
     },

@@ -1,13 +1,15 @@
-//! Calls that are refused for want of memory, where the run refuses it, leave the bridge as it was.
+//! Calls that are refused memory, where the run refuses it, leave the bridge as it was, and do all at the next try.
 
-use super::{PROPOSAL, with_one_port};
-use pb_bpdu::{Bpdu, read};
+use super::{PROPOSAL, heard, with_one_port};
+use pb_frame::Memory;
 use pb_lan::PortState;
 use pb_rstp::{Role, Rstp, Vector};
 use std::alloc::Global;
+use std::process::Abort;
+use std::test::Fail;
 
 /// What a caller can see of a bridge with port 1.
-#[derive(PartialEq, Drop)]
+#[derive(Clone, Copy, PartialEq, Debug)]
 struct Seen {
     role: Option<(u8, Role)>,
     state: Option<(u8, PortState)>,
@@ -24,69 +26,93 @@ fn look_at(bridge: &Rstp) -> Seen {
     }
 }
 
-/// The second bridge, and the first's proposal.
-fn second_and_proposal(alloc: Global) -> Option<(Rstp, Bpdu)> {
-    let second = with_one_port(alloc, 2).ok()?;
-    let m = read(&PROPOSAL).ok()?;
-    Some((second, m))
+/// A call of the second bridge.
+#[derive(Clone, Copy)]
+enum Call {
+    /// It hears the first's proposal.
+    Hear,
+    Tick,
+    /// Its port is set down.
+    Down,
 }
 
-/// The second bridge behind the first.
-fn behind_the_first(alloc: Global) -> Option<Rstp> {
-    let (mut second, m) = second_and_proposal(alloc)?;
-    let _ = second.hear(1, &m).ok()?;
-    Some(second)
+/// Makes the call. How many BPDUs are to be sent, or None where there was no memory for it.
+fn make(bridge: &mut Rstp, call: Call) -> Result<Option<usize>, Fail> {
+    let answer = match call {
+        Call::Hear => bridge.hear(1, &heard(&PROPOSAL)?),
+        Call::Tick => bridge.tick(),
+        Call::Down => bridge.admin(1, false),
+    };
+    Ok(answer.ok().map(|change| change.send.len()))
 }
 
-/// A refused BPDU: the bridge as it was seen before, and as it is.
-fn hear(alloc: Global) -> Option<(Seen, Rstp)> {
-    let (mut second, m) = second_and_proposal(alloc)?;
-    let before = look_at(&second);
-    match second.hear(1, &m) {
-        Ok(_) => None,
-        Err(_) => Some((before, second)),
+/// What a call left behind: the bridge as it was seen before and after a refusal, and after it was done, with the BPDUs
+/// to be sent.
+#[derive(Clone, Copy)]
+struct Left {
+    refused: Option<(Seen, Seen)>,
+    done: Seen,
+    sent: usize,
+}
+
+/// Makes the call, and once more where it is refused memory. Refused again, that is told.
+fn done(bridge: &mut Rstp, wanted: Call) -> Result<Left, Fail> {
+    let before = look_at(bridge);
+    let first = make(bridge, wanted)?;
+    let after = look_at(bridge);
+    let (refused, sent) = match first {
+        Some(sent) => (None, sent),
+        None => (Some((before, after)), make(bridge, wanted)?.ok_or(Memory)?),
+    };
+    Ok(Left {
+        refused,
+        done: look_at(bridge),
+        sent,
+    })
+}
+
+/// The calls in front of the last one are made, and then this is what the last one does: the port's role and state, and
+/// how many BPDUs are to be sent.
+fn comes_to(
+    rt: &impl Abort,
+    alloc: Global,
+    calls: &[Call],
+    wanted: (Role, PortState, usize),
+) -> Result<(), Fail> {
+    let mut bridge = with_one_port(alloc, 2)?;
+    for (number, call) in calls.iter().enumerate() {
+        let left = done(&mut bridge, *call)?;
+        if let Some((before, after)) = left.refused {
+            assert_eq!(rt; before, after, "call {number}");
+        }
+        if number + 1 == calls.len() {
+            let seen = (left.done.role, left.done.state, left.sent);
+            assert_eq!(rt; seen, (Some((1, wanted.0)), Some((1, wanted.1)), wanted.2));
+        }
     }
-}
-
-/// A refused tick.
-fn tick(alloc: Global) -> Option<(Seen, Rstp)> {
-    let mut second = behind_the_first(alloc)?;
-    let before = look_at(&second);
-    match second.tick() {
-        Ok(_) => None,
-        Err(_) => Some((before, second)),
-    }
-}
-
-/// A refused setting.
-fn set_down(alloc: Global) -> Option<(Seen, Rstp)> {
-    let mut second = behind_the_first(alloc)?;
-    let before = look_at(&second);
-    match second.admin(1, false) {
-        Ok(_) => None,
-        Err(_) => Some((before, second)),
-    }
-}
-
-/// The call succeeded, or left the bridge as it was.
-fn is_unchanged(refused: &Option<(Seen, Rstp)>) -> bool {
-    match refused {
-        None => true,
-        Some((before, bridge)) => *before == look_at(bridge),
-    }
+    Ok(())
 }
 
 #[test]
-fn a_refused_bpdu_changes_nothing(rt: HostRuntime) {
-    assert!(rt; is_unchanged(&hear(rt.alloc())));
+fn a_refused_bpdu_changes_nothing(rt: HostRuntime) -> Result<(), Fail> {
+    let wanted = (Role::Root, PortState::Forwarding, 1);
+    comes_to(&rt, rt.alloc(), &[Call::Hear], wanted)
 }
 
 #[test]
-fn a_refused_tick_changes_nothing(rt: HostRuntime) {
-    assert!(rt; is_unchanged(&tick(rt.alloc())));
+fn a_refused_tick_changes_nothing(rt: HostRuntime) -> Result<(), Fail> {
+    let wanted = (Role::Root, PortState::Forwarding, 0);
+    comes_to(&rt, rt.alloc(), &[Call::Hear, Call::Tick], wanted)?;
+    comes_to(
+        &rt,
+        rt.alloc(),
+        &[Call::Tick],
+        (Role::Designated, PortState::Discarding, 1),
+    )
 }
 
 #[test]
-fn a_refused_setting_changes_nothing(rt: HostRuntime) {
-    assert!(rt; is_unchanged(&set_down(rt.alloc())));
+fn a_refused_setting_changes_nothing(rt: HostRuntime) -> Result<(), Fail> {
+    let wanted = (Role::Disabled, PortState::Discarding, 0);
+    comes_to(&rt, rt.alloc(), &[Call::Hear, Call::Down], wanted)
 }

@@ -7,6 +7,7 @@ use super::guests::Habit;
 use super::networks::{LINE, PAIR};
 use super::runs::{LONG, Outer, Setup, ran};
 use super::told::{Outside, Told};
+use pb_lan::Limits;
 use pb_run::{Ended, Last};
 use std::alloc::Global;
 use std::process::Abort;
@@ -52,7 +53,7 @@ fn drains<R: Abort + Threads + Wait + Clock + Sync>(
 ) -> Result<(), Fail> {
     let told = ran(rt, alloc, &row.setup, &Open)?;
     assert_eq!(rt; (told.ended, told.settled), (Some(Ended::Drained), None));
-    assert!(rt; told.is_left && are_at_end(&told, row.setup.ports));
+    assert!(rt; told.is_drained && told.is_left && are_at_end(&told, row.setup.ports));
     assert_eq!(rt; (told.link, told.polls), (row.link, row.polls));
     assert_eq!(rt; told.steps.iter().copied().max(), Some(row.most));
     Ok(())
@@ -69,7 +70,10 @@ fn a_line_carries_a_hundred_broadcasts(rt: HostRuntime) -> Result<(), Fail> {
                 Outer::Memory(0),
                 Outer::Memory(0),
             ],
-            limits: LONG,
+            limits: Limits {
+                turns: 10_000_000,
+                tick_every: 0,
+            },
             left: &[
                 Frames::First(0),
                 Frames::First(100),

@@ -1,8 +1,9 @@
 //! Ports that are not as many as the plan's.
 
+use super::draft::Draft;
 use super::gates::Open;
 use super::guests::Habit;
-use super::networks::STAR;
+use super::networks::{PAIR, STAR};
 use super::runs::{LONG, Outer, Setup, ran};
 use super::told::Told;
 use pb_frame::Memory;
@@ -26,10 +27,11 @@ type Seen = (Option<RunCause>, Option<Ended>, usize, u64, bool);
 fn seen<R: Threads + Wait + Clock + Sync>(
     rt: &R,
     alloc: Global,
+    draft: Draft,
     ports: &[Outer],
 ) -> Result<Seen, Memory> {
     let setup = Setup {
-        draft: STAR,
+        draft,
         ports,
         limits: LONG,
         left: &[],
@@ -41,20 +43,29 @@ fn seen<R: Threads + Wait + Clock + Sync>(
 
 #[test]
 fn ports_have_to_be_as_many_as_in_the_plan(rt: HostRuntime) -> Result<(), Fail> {
-    const ROWS: &[&[Outer]] = &[
-        &[],
-        &[Outer::Guest(2, Habit::Plain)],
-        &[Outer::Guest(2, Habit::Plain), Outer::Guest(1, Habit::Plain)],
-        &[
-            Outer::Guest(2, Habit::Plain),
-            Outer::Guest(1, Habit::Plain),
-            Outer::Guest(0, Habit::Plain),
-            Outer::Guest(3, Habit::Plain),
-        ],
+    const TWO: &[Outer] = &[Outer::Guest(2, Habit::Plain), Outer::Guest(1, Habit::Plain)];
+    const ROWS: &[(Draft, &[Outer])] = &[
+        (STAR, &[]),
+        (STAR, &[Outer::Guest(2, Habit::Plain)]),
+        (STAR, TWO),
+        (PAIR, TWO),
+        (
+            STAR,
+            &[
+                Outer::Guest(2, Habit::Plain),
+                Outer::Guest(1, Habit::Plain),
+                Outer::Guest(0, Habit::Plain),
+                Outer::Guest(3, Habit::Plain),
+            ],
+        ),
     ];
-    for (number, ports) in ROWS.iter().enumerate() {
+    for (number, (draft, ports)) in ROWS.iter().enumerate() {
         let wanted = (Some(RunCause::PortCount), None, ports.len(), 0, true);
-        assert_eq!(rt; seen(&rt, rt.alloc(), ports)?, wanted, "row {number}");
+        assert_eq!(rt;
+            seen(&rt, rt.alloc(), *draft, ports)?,
+            wanted,
+            "row {number}"
+        );
     }
     Ok(())
 }

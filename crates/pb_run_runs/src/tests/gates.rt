@@ -10,14 +10,19 @@ use std::sync::atomic::{AtomicU64, Ordering};
 use std::thread;
 
 /// Waits until a number is reached, and yields at most so often. Answers whether it was.
-pub(super) fn comes_to(count: &AtomicU64, wanted: u64) -> bool {
-    for _ in 0..100_000_000u32 {
+fn comes_within(count: &AtomicU64, wanted: u64, yields: u32) -> bool {
+    for _ in 0..yields {
         if count.load(Ordering::SeqCst) >= wanted {
             return true;
         }
         thread::yield_now();
     }
     false
+}
+
+/// Waits very long until a number is reached. Answers whether it was.
+pub(super) fn comes_to(count: &AtomicU64, wanted: u64) -> bool {
+    comes_within(count, wanted, 100_000_000)
 }
 
 /// Go, where it is so.
@@ -45,7 +50,7 @@ impl Gate for StopAt {
     }
 }
 
-/// At turn 0 each pass waits until all have come. It counts the passes of all turns.
+/// At turn 0 each pass waits until all have come, and yields at most a million times. It counts the passes of all turns.
 #[derive(Drop)]
 pub(super) struct Meeting {
     here: AtomicU64,
@@ -88,7 +93,7 @@ impl Gate for Meeting {
             return Go::Go;
         }
         self.here.fetch_add(1, Ordering::SeqCst);
-        go_if(comes_to(&self.here, self.passes.len() as u64))
+        go_if(comes_within(&self.here, self.passes.len() as u64, 1_000_000))
     }
 }
 

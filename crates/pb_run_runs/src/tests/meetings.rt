@@ -28,13 +28,18 @@ fn all_places_run_at_once(rt: HostRuntime) -> Result<(), Fail> {
     const SETUP: Setup<'static> = Setup {
         draft: LINE,
         ports: &[
-            Outer::Memory(1),
+            Outer::Memory(100),
             Outer::Memory(0),
             Outer::Memory(0),
             Outer::Memory(0),
         ],
         limits: LONG,
-        left: ONE_EACH,
+        left: &[
+            Frames::First(0),
+            Frames::First(100),
+            Frames::First(100),
+            Frames::First(100),
+        ],
     };
     let gate = Meeting::of(rt.alloc(), 14)?;
     let told = ran(&rt, rt.alloc(), &SETUP, &gate)?;

@@ -69,7 +69,7 @@ fn comes_to_its_limit<R: Abort + Threads + Wait + Clock + Sync>(
         (told.ended, told.ports),
         (Some(Ended::Limit), setup.ports.len())
     );
-    assert!(rt; told.is_left && are_within(&told, most));
+    assert!(rt; told.is_left && !told.is_drained && are_within(&told, most));
     assert_eq!(rt; told.outside[0].script, Some(1));
     Ok(())
 }

@@ -2,6 +2,7 @@
 
 use super::frames::{Frames, are_frames, count_of};
 use bytes::Bytes;
+use pb_forest::is_drained;
 use pb_frame::{Memory, Seq};
 use pb_lan::{Learnt, NoRoom, Outcome, Place, Reason, Record, Step, entered, left};
 use pb_port::{Polled, Port, Shelf};
@@ -28,6 +29,8 @@ pub(super) struct Outside {
 pub(super) struct Told {
     /// How it ended, where it ran.
     pub(super) ended: Option<Ended>,
+    /// Whether its record is drained.
+    pub(super) is_drained: bool,
     /// Why it didn't.
     pub(super) cause: Option<RunCause>,
     /// How many ports came back.
@@ -66,6 +69,7 @@ pub(super) const NOWHERE: Outside = Outside {
 /// Nothing came of a run.
 pub(super) const NOTHING: Told = Told {
     ended: None,
+    is_drained: false,
     cause: None,
     ports: 0,
     polls: 0,
@@ -218,6 +222,7 @@ fn is_left(alloc: Global, rec: &Record, wanted: &[Frames]) -> Result<bool, Memor
 pub(super) fn tell(alloc: Global, ran: &mut Ran, wanted: &[Frames]) -> Result<Told, Memory> {
     let mut told = NOTHING;
     told.ended = Some(ran.ended);
+    told.is_drained = is_drained(&ran.rec);
     told.ports = ran.ports.len();
     told.settled = ran.settled?;
     told.is_left = is_left(alloc, &ran.rec, wanted)?;

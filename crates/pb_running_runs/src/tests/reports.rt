@@ -1,13 +1,13 @@
 //! What is reported of runs over memory.
 
-use super::plans::{LOSSY, NO_TURN, ONE_STEP, RSTP};
+use super::plans::{LOSSY, NO_TURN, ONE_STEP, QUIET, RSTP};
 use super::{Row, Told, check, run};
 use pb_fakes::{Full, Unflushed};
 use pb_running::NetworkFault;
 use std::test::Fail;
 
 /// Runs over memory.
-const ROWS: [Row; 4] = [
+const ROWS: [Row; 5] = [
     Row {
         parts: ["", LOSSY],
         told: Told {
@@ -16,6 +16,15 @@ const ROWS: [Row; 4] = [
             closed: 1,
         },
         report: "ended drained\nport C1 entered 3 left 0 filtered 0\nport C2 entered 0 left 2 filtered 0\nport C3 entered 0 left 2 filtered 0\nlink L1 ab taken 3 lost 1 ba taken 0 lost 0\nforest yes\n",
+    },
+    Row {
+        parts: ["", QUIET],
+        told: Told {
+            result: Ok(0),
+            traffic: (0, 0),
+            closed: 1,
+        },
+        report: "ended drained\nport C1 entered 0 left 0 filtered 0\nport C2 entered 0 left 0 filtered 0\nlink L1 ab taken 0 lost 0 ba taken 0 lost 0\nforest yes\n",
     },
     Row {
         parts: [ONE_STEP, LOSSY],

@@ -46,6 +46,14 @@ fn a_service_tag_stands_behind_the_addresses(rt: HostRuntime) -> Result<(), Fail
 }
 
 #[test]
+fn nothing_need_stand_behind_a_service_tag(rt: HostRuntime) -> Result<(), Fail> {
+    const BARE: &str = "ffffffffffff0200000001010800";
+    const TAGGED: &str = "ffffffffffff02000000010188a800640800";
+    is_tagged(&rt, rt.alloc(), (BARE, 100, TAGGED))?;
+    is_taken_off(&rt, rt.alloc(), (TAGGED, Ok((100, BARE))))
+}
+
+#[test]
 fn a_cut_service_tag_is_told(rt: HostRuntime) -> Result<(), Fail> {
     for row in [
         ("ffffffffffff02000000010188a8006408", Err(TagFault::Cut)),

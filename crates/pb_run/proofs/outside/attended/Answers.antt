@@ -1,32 +1,32 @@
 use Rattle.std.proofs.Common.{◌≡◌, [], map, sym, ap, ◌∙◌, rules}
-use Rattle.pb_run.specs.Gifts.{DeskGift}
+use Rattle.pb_run.specs.Gifts.{AccessGift}
 use Rattle.pb_run.specs.Ports.{KeepsPort}
 use Rattle.pb_run.specs.declared.customer.CustomerWorker.{CustomerWorker}
-use Rattle.pb_run.specs.declared.desk.Desk.{Desk}
-use Rattle.pb_run.specs.declared.desk.Last.TheVariants.{More}
+use Rattle.pb_run.specs.declared.access.Access.{Access}
+use Rattle.pb_run.specs.declared.access.Last.TheVariants.{More}
 use Rattle.pb_run.proofs.Kept.{keeps_fresh}
 use Rattle.pb_run.proofs.Lists.{all_rest, all_head, all_more, moved_on}
 use Rattle.pb_run.proofs.outside.attended.Goals as goal
 
 pub loop-port-preserved : goal.loop-port-preserved
 loop-port-preserved g c =
-    let D : Type 0 = Desk g.row.W.Denot g.W.Wiring in
+    let D : Type 0 = Access g.row.W.Denot g.W.Wiring in
     let C : Type 0 = CustomerWorker g.row.W.Denot g.row.P.Denot g.W.Wiring in
-    let gift : D → DeskGift = λ d. (d.place.number, d.feed.number, d.drain.number) in
+    let gift : D → AccessGift = λ d. (d.place.number, d.feed.number, d.drain.number) in
     let i = c.loop-port.invariant in
     let grown = c.push_reserved.ensures.items in
     let next = c.in-Some.ensures.steps.0 in
     let taken = c.in-Some-pop_front.ensures.items in
     let made = c.new.ensures in
-    let fresh = all_head (λ (d : D). (d.place.steps ≡ []) × (d.book.last ≡ More)) c.in-Some-pop_front.desk _ _ taken i.fresh in
+    let fresh = all_head (λ (d : D). (d.place.steps ≡ []) × (d.book.last ≡ More)) c.in-Some-pop_front.access _ _ taken i.fresh in
     record {
       ports = moved_on _ c.loop-port.workers.items _ c.new.result _ _ _ c.in-Some.port i.ports grown next made.port.1;
       ports_now = moved_on _ c.loop-port.workers.items _ c.new.result _ _ _ c.in-Some.port i.ports_now grown next made.port.0;
-      gifts = moved_on _ c.loop-port.workers.items _ c.new.result _ _ _ (gift c.in-Some-pop_front.desk) i.gifts grown (ap (map gift) taken) (ap gift made.desk);
-      fresh = all_rest (λ (d : D). (d.place.steps ≡ []) × (d.book.last ≡ More)) c.in-Some-pop_front.desk _ _ taken i.fresh;
-      keeps = all_more (λ (w : C). KeepsPort g.P.Port.script g.P.Port.tally w.was.value w.port w.desk.place.steps w.desk.book.last) c.new.result c.loop-port.workers.items _ grown i.keeps
-          (keeps_fresh g.P.Port.script g.P.Port.tally c.new.result.was.value c.new.result.port c.new.result.desk.place.steps c.new.result.desk.book.last (made.port.1 ∙ sym made.port.0)
-          (ap (λ (d : D). d.place.steps) made.desk ∙ fresh.0) (ap (λ (d : D). d.book.last) made.desk ∙ fresh.1));
+      gifts = moved_on _ c.loop-port.workers.items _ c.new.result _ _ _ (gift c.in-Some-pop_front.access) i.gifts grown (ap (map gift) taken) (ap gift made.access);
+      fresh = all_rest (λ (d : D). (d.place.steps ≡ []) × (d.book.last ≡ More)) c.in-Some-pop_front.access _ _ taken i.fresh;
+      keeps = all_more (λ (w : C). KeepsPort g.P.Port.script g.P.Port.tally w.was.value w.port w.access.place.steps w.access.book.last) c.new.result c.loop-port.workers.items _ grown i.keeps
+          (keeps_fresh g.P.Port.script g.P.Port.tally c.new.result.was.value c.new.result.port c.new.result.access.place.steps c.new.result.access.book.last (made.port.1 ∙ sym made.port.0)
+          (ap (λ (d : D). d.place.steps) made.access ∙ fresh.0) (ap (λ (d : D). d.book.last) made.access ∙ fresh.1));
       count = search rules;
       room = search rules;
     }

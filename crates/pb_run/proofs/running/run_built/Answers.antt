@@ -1,16 +1,16 @@
 use Rattle.std.proofs.Common.{length, refl}
-use Rattle.pb_run.proofs.Kept.{desks_back, run_kept}
+use Rattle.pb_run.proofs.Kept.{accesses_back, run_kept}
 use Rattle.pb_run.proofs.Lawful.{tells_ended}
 use Rattle.pb_run.proofs.running.run_built.Goals as goal
 
-pub record_of-rec-requires-clause-desks : goal.record_of-rec-requires-clause-desks
-record_of-rec-requires-clause-desks g c =
-    desks_back _ _ _ _ _ _ _ c.args.plan.now (length c.args.plan.now.customers) c.run_all-places.ensures.customers.0 c.apart-ports.ensures.desks c.attended-customers.ensures.gifts
-    (λ t. (t.1, t.3, t.4)) (λ w. refl) c.requires.desks
+pub record_of-rec-requires-clause-accesses : goal.record_of-rec-requires-clause-accesses
+record_of-rec-requires-clause-accesses g c =
+    accesses_back _ _ _ _ _ _ _ c.args.plan.now (length c.args.plan.now.customers) c.run_all-places.ensures.customers.0 c.apart-ports.ensures.accesses c.attended-customers.ensures.gifts
+    (λ t. (t.1, t.3, t.4)) (λ w. refl) c.requires.accesses
 
 pub returns-clause-ports : goal.returns-clause-ports
 returns-clause-ports g c =
-    run_kept _ _ _ _ _ _ _ _ _ _ _ _ _ _ _ c.run_all-places.ensures.customers.0 c.attended-customers.ensures.ports c.apart-ports.ensures.ports c.apart-ports.ensures.desks c.record_of-rec.ensures.customers
+    run_kept _ _ _ _ _ _ _ _ _ _ _ _ _ _ _ c.run_all-places.ensures.customers.0 c.attended-customers.ensures.ports c.apart-ports.ensures.ports c.apart-ports.ensures.accesses c.record_of-rec.ensures.customers
     c.apart-ports.ensures.lasts (λ t. t.0.value) (λ w. refl) c.run_all-places.ensures.customers.1
 
 pub returns-clause-ended : goal.returns-clause-ended

@@ -5,6 +5,6 @@ use Rattle.pb_run.proofs.customer.CustomerWorkerWork.close.Given as goal
 abbrev pub invariant-loop : goal.invariant-loop
 invariant-loop g l = record {
   was : l.self.was ≡ l.initial.self.was;
-  desk : l.self.desk ≡ l.initial.self.desk;
-  port : KeepsPort g.P.Port.script g.P.Port.tally l.self.was.value l.self.port l.self.desk.place.steps l.self.desk.book.last;
+  access : l.self.access ≡ l.initial.self.access;
+  port : KeepsPort g.P.Port.script g.P.Port.tally l.self.was.value l.self.port l.self.access.place.steps l.self.access.book.last;
 }

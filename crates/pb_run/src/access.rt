@@ -1,4 +1,4 @@
-//! The place of a customer port with its ring ends.
+//! A customer's access to its bridge: the place of a customer port with its ring ends.
 
 ghost use Rattle.std.specs.Prelude.{◌≡◌, ◌++◌, ◌∷◌, [], true, false, Ok, Some, IsSome, OnOk, OnErr, option_to_list, if◌then◌else◌};
 ghost use Rattle.rtrb.specs.Ring.{sent, received};
@@ -23,7 +23,7 @@ pub enum Last {
     Fault(u8),
 }
 
-/// What a desk goes by.
+/// What an access goes by: its number, its limit, and what the port said.
 #[derive(Clone, Copy, PartialEq, Eq, Debug)]
 pub struct Book {
     /// The customer port's number in the plan, from 1.
@@ -34,10 +34,10 @@ pub struct Book {
     pub last: Last,
 }
 
-/// The place of a customer port with the two rings that join it to its bridge, and the item that was
-/// offered to the port and not yet taken.
+/// How a customer reaches its bridge: the place of a customer port with the two rings that join it to its
+/// bridge, and the item that was offered to the port and not yet taken.
 #[derive(Drop)]
-pub struct Desk<W: Wiring> {
+pub struct Access<W: Wiring> {
     /// The place.
     pub place: CustomerPlace,
     /// The end through which it feeds its bridge.
@@ -46,7 +46,7 @@ pub struct Desk<W: Wiring> {
     pub drain: Inlet<W>,
     /// The item that waits to be offered.
     pub offered: Option<Item>,
-    /// What the desk goes by.
+    /// What the access goes by.
     pub book: Book,
     pub ghost fed: { sent feed.end ≡ fed place.steps },
     pub ghost drained: { received drain.end ≡ delivered place.steps ++ option_to_list offered },
@@ -63,8 +63,8 @@ fn reserve(place: &mut CustomerPlace, limit: usize) -> Result<(), Refusal>
     Ok(place.reserve_step()?)
 }
 
-impl<W: Wiring> Desk<W> {
-    /// The desk of a customer port that has taken no step, over rings that nothing has passed. It may take
+impl<W: Wiring> Access<W> {
+    /// The access of a customer port that has taken no step, over rings that nothing has passed. It may take
     /// so many steps. Takes no memory.
     pub fn new(
         number: u8,
@@ -72,14 +72,14 @@ impl<W: Wiring> Desk<W> {
         feed: Outlet<W>,
         drain: Inlet<W>,
         limit: usize,
-    ) -> Desk<W>
+    ) -> Access<W>
         requires steps { place.steps ≡ [] }
         requires rings { (sent feed.end ≡ []) × (received drain.end ≡ []) }
         ensures place { result.place ≡ place }
         ensures rings { (result.feed.number ≡ feed.number) × (result.drain.number ≡ drain.number) }
         ensures book { result.book ≡ record { number = number; limit = limit; last = Last.More } }
     {
-        Desk {
+        Access {
             place,
             feed,
             drain,

@@ -1,24 +1,24 @@
 use Rattle.std.proofs.Common.{◌≡◌, ◌+◌, [], arith}
 use Rattle.pb_run.specs.Wires.{HasOuter}
-use Rattle.pb_run.specs.declared.desk.Desk.{Desk}
-use Rattle.pb_run.specs.declared.desk.Last.TheVariants.{More}
+use Rattle.pb_run.specs.declared.access.Access.{Access}
+use Rattle.pb_run.specs.declared.access.Last.TheVariants.{More}
 use Rattle.pb_run.proofs.EndsThere.{customers_apart, this_customer, after_customer, apart_after_customer}
-use Rattle.pb_run.proofs.Gifts.{no_desks, desk_pushed}
+use Rattle.pb_run.proofs.Gifts.{no_accesses, access_pushed}
 use Rattle.pb_run.proofs.Lists.{here_is, all_none, all_more}
-use Rattle.pb_run.proofs.build.desks_of.Goals as goal
+use Rattle.pb_run.proofs.build.accesses_of.Goals as goal
 
 pub loop-customer-init : goal.loop-customer-init
 loop-customer-init g c =
-    let D : Type 0 = Desk g.row.W.Denot g.W.Wiring in
+    let D : Type 0 = Access g.row.W.Denot g.W.Wiring in
     record {
-      gifts = no_desks _ c.args.plan.now c.in_ok-desks.desks.items c.in_ok-desks.ensures.items;
-      fresh = all_none (λ (d : D). (d.place.steps ≡ []) × (d.book.last ≡ More)) c.in_ok-desks.desks.items c.in_ok-desks.ensures.items;
+      gifts = no_accesses _ c.args.plan.now c.in_ok-accesses.accesses.items c.in_ok-accesses.ensures.items;
+      fresh = all_none (λ (d : D). (d.place.steps ≡ []) × (d.book.last ≡ More)) c.in_ok-accesses.accesses.items c.in_ok-accesses.ensures.items;
       there = c.requires.there;
       apart = customers_apart c.args.plan.now c.requires.sound;
     }
 
-pub desk_of-requires : goal.desk_of-requires
-desk_of-requires g c =
+pub access_of-requires : goal.access_of-requires
+access_of-requires g c =
     let customers = c.as_slice-customers.result.now in
     let at = rw c.as_slice-customers.ensures at (here_is customers c.loop-customer.customer-index c.customer-item.result c.loop-customer-test.true c.customer-item.is) in
     this_customer c.args.plan.now.customers c.loop-customer.customer-index c.customer-item.result at (HasOuter c.loop-customer.ends.outlets.items c.loop-customer.ends.inlets.items)
@@ -30,14 +30,14 @@ loop-customer-preserved g c =
     let customer = c.customer-item.result in
     let i = c.loop-customer.invariant in
     let at = rw c.as_slice-customers.ensures at (here_is customers c.loop-customer.customer-index customer c.loop-customer-test.true c.customer-item.is) in
-    let D : Type 0 = Desk g.row.W.Denot g.W.Wiring in
-    let made = c.desk_of.ensures in
+    let D : Type 0 = Access g.row.W.Denot g.W.Wiring in
+    let made = c.access_of.ensures in
     record {
-      gifts = desk_pushed _ c.args.plan.now c.loop-customer.customer-index (c.len.result + 1) customer c.loop-customer.desks.items c.push_back.new.self.items c.desk_of.result at
+      gifts = access_pushed _ c.args.plan.now c.loop-customer.customer-index (c.len.result + 1) customer c.loop-customer.accesses.items c.push_back.new.self.items c.access_of.result at
           (omega (arith, c.len.ensures)) c.in_ok-push_back.ensures.items i.gifts made.gift;
-      fresh = all_more (λ (d : D). (d.place.steps ≡ []) × (d.book.last ≡ More)) c.desk_of.result c.loop-customer.desks.items c.push_back.new.self.items c.in_ok-push_back.ensures.items
+      fresh = all_more (λ (d : D). (d.place.steps ≡ []) × (d.book.last ≡ More)) c.access_of.result c.loop-customer.accesses.items c.push_back.new.self.items c.in_ok-push_back.ensures.items
           i.fresh (made.fresh.0, made.fresh.1);
       there = after_customer c.args.plan.now.customers c.loop-customer.customer-index customer at (HasOuter c.loop-customer.ends.outlets.items c.loop-customer.ends.inlets.items)
-          (HasOuter c.desk_of.new.ends.outlets.items c.desk_of.new.ends.inlets.items) i.apart made.outer i.there;
+          (HasOuter c.access_of.new.ends.outlets.items c.access_of.new.ends.inlets.items) i.apart made.outer i.there;
       apart = apart_after_customer c.args.plan.now.customers c.loop-customer.customer-index customer at i.apart;
     }

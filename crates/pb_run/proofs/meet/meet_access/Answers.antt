@@ -3,11 +3,11 @@ use Rattle.std.proofs.lemmas.List.{length-map}
 use Rattle.pb_frame.proofs.Lists.{Some-injective}
 use Rattle.pb_lan.specs.PortLists.{fed, delivered}
 use Rattle.pb_lan.specs.Records.{received, transmitted}
-use Rattle.pb_run.specs.Gifts.{DeskGift, desk_gift}
+use Rattle.pb_run.specs.Gifts.{AccessGift, access_gift}
 use Rattle.pb_run.proofs.Gifts.{customer_stands}
 use Rattle.pb_run.proofs.Lists.{here_is, thing_is, kept_at}
 use Rattle.pb_run.proofs.Meeting.{bridge_here, bridge_rings, gift_here, begins_there, customer_meets}
-use Rattle.pb_run.proofs.meet.meet_desk.Goals as goal
+use Rattle.pb_run.proofs.meet.meet_access.Goals as goal
 
 pub meet_customer-requires-clause-port : goal.meet_customer-requires-clause-port
 meet_customer-requires-clause-port g c =
@@ -23,10 +23,10 @@ meet_customer-requires-clause-feed g c =
     let at = here_is c.args.plan.now.customers c.args.place customer c.requires.place (c.index-as_slice-place.is ∙ ap (λ xs. get_or xs c.args.place customer) c.as_slice.ensures) in
     let stands = customer_stands c.args.plan.now c.args.place customer c.requires.sound at in
     let rings = bridge_rings _ c.args.plan.now c.args.bridges.now.items customer.bridge customer.port c.from.result c.index_mut-bridge.result.now c.requires.bridges stands.bridge stands.port c.from.ensures c.index_mut-bridge.ensures.value in
-    let given = c.requires.desks.each c.args.place customer c.requires.place at in
-    let gift = gift_here _ c.args.desks.now.items c.args.place c.index_mut.result.now (desk_gift (c.args.place + 1) customer)
-    (thing_is _ c.args.desks.now.items c.args.place (desk_gift (c.args.place + 1) customer) c.index_mut.result.now given c.index_mut.ensures.value) given in
-    rings.0 ∙ sym (ap (λ (z : DeskGift). z.1) gift)
+    let given = c.requires.accesses.each c.args.place customer c.requires.place at in
+    let gift = gift_here _ c.args.accesses.now.items c.args.place c.index_mut.result.now (access_gift (c.args.place + 1) customer)
+    (thing_is _ c.args.accesses.now.items c.args.place (access_gift (c.args.place + 1) customer) c.index_mut.result.now given c.index_mut.ensures.value) given in
+    rings.0 ∙ sym (ap (λ (z : AccessGift). z.1) gift)
 
 pub meet_customer-requires-clause-drain : goal.meet_customer-requires-clause-drain
 meet_customer-requires-clause-drain g c =
@@ -34,10 +34,10 @@ meet_customer-requires-clause-drain g c =
     let at = here_is c.args.plan.now.customers c.args.place customer c.requires.place (c.index-as_slice-place.is ∙ ap (λ xs. get_or xs c.args.place customer) c.as_slice.ensures) in
     let stands = customer_stands c.args.plan.now c.args.place customer c.requires.sound at in
     let rings = bridge_rings _ c.args.plan.now c.args.bridges.now.items customer.bridge customer.port c.from.result c.index_mut-bridge.result.now c.requires.bridges stands.bridge stands.port c.from.ensures c.index_mut-bridge.ensures.value in
-    let given = c.requires.desks.each c.args.place customer c.requires.place at in
-    let gift = gift_here _ c.args.desks.now.items c.args.place c.index_mut.result.now (desk_gift (c.args.place + 1) customer)
-    (thing_is _ c.args.desks.now.items c.args.place (desk_gift (c.args.place + 1) customer) c.index_mut.result.now given c.index_mut.ensures.value) given in
-    rings.1 ∙ sym (ap (λ (z : DeskGift). z.2) gift)
+    let given = c.requires.accesses.each c.args.place customer c.requires.place at in
+    let gift = gift_here _ c.args.accesses.now.items c.args.place c.index_mut.result.now (access_gift (c.args.place + 1) customer)
+    (thing_is _ c.args.accesses.now.items c.args.place (access_gift (c.args.place + 1) customer) c.index_mut.result.now given c.index_mut.ensures.value) given in
+    rings.1 ∙ sym (ap (λ (z : AccessGift). z.2) gift)
 
 pub returns-clause-bridges : goal.returns-clause-bridges
 returns-clause-bridges g c = kept_at _ _ _ _ c.index_mut-bridge.result.now c.index_mut-bridge.ensures.value (cc)
@@ -45,26 +45,26 @@ returns-clause-bridges g c = kept_at _ _ _ _ c.index_mut-bridge.result.now c.ind
 pub returns-clause-bridge_steps : goal.returns-clause-bridge_steps
 returns-clause-bridge_steps g c = kept_at _ _ _ _ c.index_mut-bridge.result.now c.index_mut-bridge.ensures.value (cc)
 
-pub returns-clause-desks : goal.returns-clause-desks
-returns-clause-desks g c = kept_at _ _ _ _ c.index_mut.result.now c.index_mut.ensures.value (cc)
+pub returns-clause-accesses : goal.returns-clause-accesses
+returns-clause-accesses g c = kept_at _ _ _ _ c.index_mut.result.now c.index_mut.ensures.value (cc)
 
-pub returns-clause-desk_steps : goal.returns-clause-desk_steps
-returns-clause-desk_steps g c = kept_at _ _ _ _ c.index_mut.result.now c.index_mut.ensures.value (cc)
+pub returns-clause-access_steps : goal.returns-clause-access_steps
+returns-clause-access_steps g c = kept_at _ _ _ _ c.index_mut.result.now c.index_mut.ensures.value (cc)
 
 pub returns-clause-meets : goal.returns-clause-meets
 returns-clause-meets g c = λ planned there.
     let customer = c.index-as_slice-place.result in
     let at = here_is c.args.plan.now.customers c.args.place customer c.requires.place (c.index-as_slice-place.is ∙ ap (λ xs. get_or xs c.args.place customer) c.as_slice.ensures) in
     let stands = customer_stands c.args.plan.now c.args.place customer c.requires.sound at in
-    let given = c.requires.desks.each c.args.place customer c.requires.place at in
+    let given = c.requires.accesses.each c.args.place customer c.requires.place at in
     let bridge = bridge_here _ c.args.plan.now c.args.bridges.now.items customer.bridge c.from.result c.index_mut-bridge.result.now c.requires.bridges stands.bridge c.from.ensures c.index_mut-bridge.ensures.value in
-    let desk = thing_is _ c.args.desks.now.items c.args.place (desk_gift (c.args.place + 1) customer) c.index_mut.result.now given c.index_mut.ensures.value in
+    let access = thing_is _ c.args.accesses.now.items c.args.place (access_gift (c.args.place + 1) customer) c.index_mut.result.now given c.index_mut.ensures.value in
     let number : customer.bridge ≡ suc (c.from.result - 1) = omega (arith, c.from.ensures, stands.bridge.0) in
     let place : c.args.place + 1 ≡ suc c.args.place = omega arith in
     customer_meets _ _ customer planned (Some-injective (sym at ∙ there))
     (record {
-      into = begins_there (received customer.port) fed _ _ c.args.bridges.now.items c.args.desks.now.items (c.from.result - 1) c.args.place customer.bridge (c.args.place + 1)
-          c.index_mut-bridge.result.now c.index_mut.result.now bridge desk number place c.meet_customer.ensures.into;
-      out = begins_there delivered (transmitted customer.port) _ _ c.args.desks.now.items c.args.bridges.now.items c.args.place (c.from.result - 1) (c.args.place + 1) customer.bridge
-          c.index_mut.result.now c.index_mut-bridge.result.now desk bridge place number c.meet_customer.ensures.out;
+      into = begins_there (received customer.port) fed _ _ c.args.bridges.now.items c.args.accesses.now.items (c.from.result - 1) c.args.place customer.bridge (c.args.place + 1)
+          c.index_mut-bridge.result.now c.index_mut.result.now bridge access number place c.meet_customer.ensures.into;
+      out = begins_there delivered (transmitted customer.port) _ _ c.args.accesses.now.items c.args.bridges.now.items c.args.place (c.from.result - 1) (c.args.place + 1) customer.bridge
+          c.index_mut.result.now c.index_mut-bridge.result.now access bridge place number c.meet_customer.ensures.out;
     })

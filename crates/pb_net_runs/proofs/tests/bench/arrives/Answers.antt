@@ -3,7 +3,7 @@ use Rattle.pb_lan.specs.Forests.{IsForest, Shows}
 use Rattle.pb_lan.specs.LastShapes.{last_shape}
 use Rattle.pb_lan.specs.Ports.{vid_at}
 use Rattle.pb_forest.specs.ServiceVids.{vid_numbered}
-use Rattle.pb_forest_runs.proofs.tests.bench.arrives.Goals as goal
+use Rattle.pb_net_runs.proofs.tests.bench.arrives.Goals as goal
 
 pub returns : goal.returns
 returns c told rules mark entry lawful carried =

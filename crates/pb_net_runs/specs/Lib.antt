@@ -1,0 +1,2 @@
+-- Words of the test bench.
+pub mod Benches

@@ -1,0 +1,68 @@
+//! Whether a frame is on its way, from one customer port of a bridge to another.
+
+use super::records::{Did, Done, Piece, record_of};
+use pb_forest::is_drained;
+use pb_lan::NoRoom;
+use std::test::Fail;
+
+const FRAME: Piece = (0, &[7]);
+
+/// What a bridge and its two customer ports did, and whether nothing is on its way.
+const ROWS: &[(Done, bool)] = &[
+    (
+        Done {
+            bridges: &[&[]],
+            lanes: &[],
+            customers: &[&[], &[]],
+        },
+        true,
+    ),
+    // in hand
+    (
+        Done {
+            bridges: &[&[]],
+            lanes: &[],
+            customers: &[&[Did::Poll(FRAME)], &[]],
+        },
+        false,
+    ),
+    // in a queue
+    (
+        Done {
+            bridges: &[&[Did::Receive(2, FRAME, 3, &[])]],
+            lanes: &[],
+            customers: &[&[Did::Poll(FRAME), Did::Feed(FRAME)], &[]],
+        },
+        false,
+    ),
+    // its copy was refused
+    (
+        Done {
+            bridges: &[&[Did::Receive(2, FRAME, 3, &[(3, NoRoom::Full)])]],
+            lanes: &[],
+            customers: &[&[Did::Poll(FRAME), Did::Feed(FRAME)], &[]],
+        },
+        true,
+    ),
+    // it left
+    (
+        Done {
+            bridges: &[&[Did::Receive(2, FRAME, 3, &[]), Did::Transmit(3, FRAME)]],
+            lanes: &[],
+            customers: &[
+                &[Did::Poll(FRAME), Did::Feed(FRAME)],
+                &[Did::Deliver(FRAME)],
+            ],
+        },
+        true,
+    ),
+];
+
+#[test]
+fn a_record_tells_whether_a_frame_is_on_its_way(rt: HostRuntime) -> Result<(), Fail> {
+    for (number, (done, wanted)) in ROWS.iter().enumerate() {
+        let told = is_drained(&record_of(rt.alloc(), done)?);
+        assert_eq!(rt; told, *wanted, "row {number}");
+    }
+    Ok(())
+}

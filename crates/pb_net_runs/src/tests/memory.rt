@@ -1,0 +1,115 @@
+//! A network that is refused memory, where the run refuses it: an event that wants memory changes nothing, and is done
+//! at the next try.
+
+use super::expected::event_of;
+use super::networks::{BROADCAST, JOINED};
+use super::plans::plan_of;
+use super::rows::Act;
+use super::seen::{has_moved, taken_at, tells_short};
+use pb_frame::{Memory, hex_read};
+use pb_lan::{Place, plan_is_sound};
+use pb_net::{Did, Net, NetFault};
+use std::alloc::Global;
+use std::test::Fail;
+
+/// All events by which a broadcast gets from customer port 1 over the link to customer port 2.
+const EVENTS: &[Act] = &[
+    Act::Poll(1, BROADCAST),
+    Act::Feed(1),
+    Act::Receive(1, 2),
+    Act::Transmit(1, 1),
+    Act::Take(1),
+    Act::Put(1),
+    Act::Receive(2, 1),
+    Act::Transmit(2, 2),
+    Act::Deliver(2),
+];
+
+/// The places that take part.
+const PLACES: [Place; 5] = [
+    Place::Customer(1),
+    Place::Customer(2),
+    Place::Lane(1),
+    Place::Bridge(1),
+    Place::Bridge(2),
+];
+
+/// How many steps these places took.
+fn taken(net: &Net) -> usize {
+    let mut taken = 0usize;
+    for place in PLACES {
+        taken = taken.saturating_add(taken_at(net, place).unwrap_or(0));
+    }
+    taken
+}
+
+/// What came of an event.
+#[derive(Clone, Copy, PartialEq, Eq, Debug)]
+enum Came {
+    Done,
+    /// It had nothing to do.
+    Idle,
+    /// It wanted memory at both tries, and nothing changed.
+    Memory,
+    /// It wanted memory, and something changed; or it failed.
+    Wrong,
+}
+
+fn told_by(answer: Result<Did, NetFault>) -> Came {
+    match answer {
+        Ok(Did::Done(_)) => Came::Done,
+        Ok(Did::Idle) => Came::Idle,
+        Err(NetFault::Memory) => Came::Memory,
+        Err(_) => Came::Wrong,
+    }
+}
+
+/// Gives an event, and once more where it wanted memory.
+fn gives(alloc: Global, net: &mut Net, act: Act) -> Result<Came, Fail> {
+    let event = event_of(alloc, act)?;
+    let before = taken(net);
+    let first = told_by(net.step(event));
+    if first != Came::Memory {
+        return Ok(first);
+    }
+    if taken(net) != before {
+        return Ok(Came::Wrong);
+    }
+    let again = event_of(alloc, act)?;
+    Ok(told_by(net.step(again)))
+}
+
+/// What came of the events, up to the first that was not done.
+fn all_come(alloc: Global, net: &mut Net) -> Result<Came, Fail> {
+    for act in EVENTS {
+        let came = gives(alloc, net, *act)?;
+        if came != Came::Done {
+            return Ok(came);
+        }
+    }
+    Ok(Came::Done)
+}
+
+/// What came of the events in a network, and whether the frame left as it came, or else a bridge's step tells of want of
+/// memory.
+fn seen(alloc: Global) -> Result<(Came, bool, bool), Fail> {
+    let wanted = hex_read(alloc, BROADCAST)?;
+    let plan = plan_of(alloc, &JOINED)?;
+    if !plan_is_sound(&plan) {
+        return Ok((Came::Wrong, false, false));
+    }
+    let mut net = Net::new(alloc, plan)?;
+    let came = all_come(alloc, &mut net)?;
+    let has_left = has_moved(&net, Place::Customer(2), &wanted);
+    Ok((came, has_left, tells_short(&net, 1) || tells_short(&net, 2)))
+}
+
+#[test]
+fn what_wants_memory_is_done_at_the_next_try(rt: HostRuntime) -> Result<(), Fail> {
+    let (came, has_left, is_short) = seen(rt.alloc())?;
+    if came == Came::Memory {
+        return Err(Fail::from(Memory));
+    }
+    assert!(rt; (came == Came::Done && has_left) || (came == Came::Idle && is_short));
+    Ok(())
+}
