@@ -1,10 +1,7 @@
 -- A learning table: the sightings that it keeps, and what it makes of one more.
 use Rattle.std.specs.Prelude.{◌≡◌, ℕ, Bool, true, false, List, [], length, nat_le, Some, None, ◌==◌, if◌then◌else◌}
 use Rattle.std.specs.declared.option.Option.{Option}
-use Rattle.std.specs.List.{filter}
-use Rattle.std.specs.Option.{option_map}
-use Rattle.pb_frame.specs.Lists.{first}
-use Rattle.pb_frame.specs.Stations.{Sighting, is_sighted, is_fresh, after}
+use Rattle.pb_frame.specs.Stations.{Sighting, live as live_sightings, where_in as port_in, after}
 use Rattle.pb_frame.specs.Stations.News.{Seen, Flushed}
 use Rattle.pb_frame.specs.declared.learnt.Learnt.{Learnt}
 use Rattle.pb_frame.specs.declared.learnt.Learnt.TheVariants.{New, Kept, Moved, Full, Group, Memory}
@@ -25,13 +22,13 @@ empty_table limit ageing = record { limit = limit; ageing = ageing; clock = 0; s
 abbrev pub sighting_at : ℕ → List ℕ → ℕ → ℕ → Sighting
 sighting_at vid mac port moment = record { vid = vid; mac = mac; port = port; moment = moment }
 
--- the sightings that aren't too old
+-- its sightings that aren't too old
 abbrev pub live : Table → ℕ → List Sighting
-live table now = filter (is_fresh table.ageing now) table.sightings
+live table now = live_sightings table.ageing now table.sightings
 
--- the port of the station's sighting that isn't too old
+-- the port of the station's sighting among them
 abbrev pub where_in : Table → ℕ → ℕ → List ℕ → Option ℕ
-where_in table now vid mac = option_map (λ s. s.port) (first (is_sighted vid mac) (live table now))
+where_in table now vid mac = port_in table.ageing now vid mac table.sightings
 
 -- as many stations are live as may be kept
 abbrev pub is_full : Table → ℕ → Bool
@@ -61,13 +58,3 @@ learnt_sightings table s Memory = table.sightings
 -- and so the table
 abbrev pub learnt_table : Table → Sighting → Learnt → Table
 learnt_table table s answer = record table { clock = s.moment; sightings = learnt_sightings table s answer }
-
--- what may be answered of a station: whether it is a group, where it was found, whether the table is
--- full, and the port at which it is seen now
-abbrev pub IsAnswer : Bool → Option ℕ → Bool → ℕ → Learnt → Type 0
-IsAnswer group at full port New = (group ≡ false) × (at ≡ None) × (full ≡ false)
-IsAnswer group at full port Kept = (group ≡ false) × (at ≡ Some port)
-IsAnswer group at full port Moved = (group ≡ false) × ((other : ℕ) × (at ≡ Some other) × ((other == port) ≡ false))
-IsAnswer group at full port Full = (group ≡ false) × (at ≡ None) × (full ≡ true)
-IsAnswer group at full port Group = group ≡ true
-IsAnswer group at full port Memory = (group ≡ false) × (at ≡ None) × (full ≡ false)

@@ -3,9 +3,9 @@
 ghost use Rattle.std.specs.List.{AllByRecursion};
 ghost use Rattle.std.specs.Prelude.{◌≡◌, ◌<◌, ◌≤◌, ◌++◌, ◌∷◌, [], length, nat_le, OnOk, OnErr, if◌then◌else◌};
 ghost use Rattle.pb_frame.specs.Frames.{is_group};
-ghost use Rattle.pb_frame.specs.Stations.{is_fresh};
+ghost use Rattle.pb_frame.specs.Stations.{is_fresh, IsLearnt};
 ghost use Rattle.pb_fdb.specs.Entries.{sighting_of, without_station, fresh_entries, entries_with_room, InOrder};
-ghost use Rattle.pb_fdb.specs.Tables.{empty_table, sighting_at, where_in, is_full, expired, flushed, learnt_table, IsAnswer};
+ghost use Rattle.pb_fdb.specs.Tables.{empty_table, sighting_at, where_in, is_full, expired, flushed, learnt_table};
 
 use crate::entries::Entries;
 use crate::entry::Entry;
@@ -132,7 +132,7 @@ impl Fdb {
     /// too old go first. `Full`, `Group` and `Memory` leave the entries as they were.
     pub fn learn(&mut self, vid: u16, mac: Mac, port: u8, now: u32) -> Learnt
         requires { self.old.clock ≤ now }
-        ensures answer { IsAnswer (is_group mac.0) (where_in self.old now vid mac.0) (is_full self.old now) port result }
+        ensures answer { IsLearnt (is_group mac.0) (where_in self.old now vid mac.0) (is_full self.old now) port result }
         ensures table { self.new ≡ learnt_table self.old (sighting_at vid mac.0 port now) result }
     {
         self.clock = now;

@@ -14,9 +14,8 @@ use Rattle.pb_lan.specs.Headline.{IsFaithful}
 pub faithful : (rules : Rules) (plan : Plan) (rec : Record) → IsSound plan → IsLawfulRecord rules plan rec → IsFaithful plan rec
 faithful rules plan rec sound lawful = record {
   arrivals = every_departure_is_an_arrival rules plan rec sound lawful;
-  at_most_once = λ shape mark entry traced. each_leaves_at_most_once rules plan rec shape mark entry sound lawful traced;
-  exactly_once = λ shape mark entry traced drained unhindered number c path reached. each_arrives_exactly_once rules plan rec shape mark entry sound lawful traced drained unhindered number c path reached;
-  none_multiplied = λ number c frame planned traced. no_frame_is_multiplied rules plan rec sound lawful number c frame planned traced;
-  in_order = λ shape entry port first second one two same less number i j a b at_i is_a at_j is_b.
-      each_keeps_its_order rules plan rec shape entry port first second sound lawful one two same less number i j a b at_i is_a at_j is_b;
+  at_most_once = each_leaves_at_most_once rules plan rec sound lawful;
+  exactly_once = each_arrives_exactly_once rules plan rec sound lawful;
+  none_multiplied = no_frame_is_multiplied rules plan rec sound lawful;
+  in_order = each_keeps_its_order rules plan rec sound lawful;
 }

@@ -1,7 +1,7 @@
 -- Numbers that rise strictly, tested one against the next.
 use Rattle.std.proofs.Common.{◌≡◌, ℕ, ◌<◌, ◌≤◌, List, [], ◌∷◌, length, get_or, arith, suc, zero, ◌-◌}
 use Rattle.std.specs.List.{AllByRecursion}
-use Rattle.pb_lan.specs.Plans.{Rises}
+use Rattle.pb_frame.specs.Lists.{Rises}
 
 -- the numbers before the place n rise
 abbrev pub RisesBelow : List ℕ → ℕ → Type 0

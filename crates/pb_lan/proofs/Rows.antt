@@ -427,7 +427,7 @@ drained = record { queues = queues; lanes_ab = lanes_ab; lanes_ba = lanes_ba; po
 arrived_once : count mark (steps_of rec.customers 2) ≡ 1
 unfolding plan plan_with an_end bridge_of customer_of link_of item_of addresses broadcast into_1 over out_2 rec shape mark entry IsDistinct
 arrived_once =
-    (each_arrives_exactly_once no_bpdus plan rec shape mark entry plan_sound record_lawful traced drained free 2 (customer_of 2 2 2 1) (1 ∷ []) (record {
+    (each_arrives_exactly_once no_bpdus plan rec plan_sound record_lawful shape mark entry traced drained free 2 (customer_of 2 2 2 1) (1 ∷ []) (record {
       other = λ h. absurd (omega (arith, h));
       planned = refl;
       service = refl;

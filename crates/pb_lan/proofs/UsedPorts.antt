@@ -2,8 +2,8 @@
 use Rattle.std.proofs.Common.{◌≡◌, ◌≤◌, ◌<◌, ℕ, Bool, true, false, List, [], ◌∷◌, map, ◌||◌, ◌↔◌, length, get_or, arith, refl}
 use Rattle.std.specs.List.{list_any, IsDistinct}
 use Rattle.pb_lan.proofs.Distinctness.{none_is, none_tested, list_any-map, after_first, after_first-cons}
-use Rattle.pb_lan.specs.Plans.{is_same_port}
-use Rattle.pb_lan.specs.UsedPorts.{ports_in, HasFreeEnds}
+use Rattle.pb_lan.specs.Plans.{is_same_port, ports_in}
+use Rattle.pb_lan.specs.UsedPorts.{HasFreeEnds}
 use Rattle.pb_lan.specs.declared.plan.LinkPlan.{LinkPlan}
 use Rattle.pb_lan.specs.declared.plan.CustomerPlan.{CustomerPlan}
 

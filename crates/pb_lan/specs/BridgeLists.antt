@@ -66,20 +66,23 @@ customer_cases item =
 abbrev pub is_for_bridges : List ℕ → Bool
 is_for_bridges wire = same (dst_of wire) provider_address
 
--- at a provider port (IEEE 802.1Q clauses 8.6.1 to 8.6.3)
-abbrev pub provider_cases : Rules → Plan → End → Item → List (Bool × Ruling)
-provider_cases rules plan e item =
+-- at a provider port (IEEE 802.1Q clauses 8.6.1 to 8.6.3), by which BPDUs can be read and which services go there
+abbrev pub bridge_cases : (List ℕ → Bool) → (ℕ → Bool) → Item → List (Bool × Ruling)
+bridge_cases is_readable is_served item =
     (nat_lt (length item.wire) 14, Refuses Malformed)
     ∷ (nat_lt 1996 (length item.wire), Refuses Long)
     ∷ (is_for_bridges item.wire && has_service_type item.wire, Refuses (Reserved 8))
-    ∷ (is_for_bridges item.wire && rules.is_readable item.wire, Listens)
+    ∷ (is_for_bridges item.wire && is_readable item.wire, Listens)
     ∷ (is_for_bridges item.wire, Refuses Malformed)
     ∷ (is_reserved (dst_of item.wire), Refuses (reserved_as item.wire))
     ∷ (not (has_service_type item.wire), Refuses Untagged)
     ∷ (nat_lt (length item.wire) 18, Refuses Malformed)
-    ∷ (not (serves plan (vid_of item.wire) e), Refuses NotMember)
+    ∷ (not (is_served (vid_of item.wire)), Refuses NotMember)
     ∷ (is_worn item, Refuses Worn)
     ∷ []
+
+abbrev pub provider_cases : Rules → Plan → End → Item → List (Bool × Ruling)
+provider_cases rules plan e item = bridge_cases rules.is_readable (λ vid. serves plan vid e) item
 
 -- a frame of a service at a provider port, by the port's state
 abbrev pub ruling_in : PortState → ℕ → Ruling

@@ -4,7 +4,7 @@ use Rattle.std.specs.Prelude.{◌≡◌, ℕ, ◌+◌, Bool, true, false, List, 
 use Rattle.std.specs.declared.option.Option.{Option}
 use Rattle.std.specs.List.{filter, flat_map}
 use Rattle.pb_frame.specs.Frames.{dst_of, src_of, is_group}
-use Rattle.pb_frame.specs.Stations.{News, Sighting, standing, where_is}
+use Rattle.pb_frame.specs.Stations.{News, Sighting, IsLearnt, standing, where_is}
 use Rattle.pb_lan.specs.Ports.{port_at, local_ports, is_member}
 use Rattle.pb_lan.specs.Queues.{vid_in}
 use Rattle.pb_lan.specs.Shapes.{moved_of, state_after, is_forwarding}
@@ -67,16 +67,6 @@ table_limit = 4096
 -- the bridge knows as many stations as it may
 abbrev pub is_table_full : Plan → ℕ → List Step → Bool
 is_table_full plan bridge steps = nat_le table_limit (length (standing plan.ageing (now_after steps) (news_of plan bridge steps)))
-
--- what may be answered of a source: whether it is a group, where its station was found, whether the
--- table is full, and the port at which it is seen now
-abbrev pub IsLearnt : Bool → Option ℕ → Bool → ℕ → Learnt → Type 0
-IsLearnt group at full port New = (group ≡ false) × (at ≡ None) × (full ≡ false)
-IsLearnt group at full port Kept = (group ≡ false) × (at ≡ Some port)
-IsLearnt group at full port Moved = (group ≡ false) × ((other : ℕ) × (at ≡ Some other) × ((other == port) ≡ false))
-IsLearnt group at full port Full = (group ≡ false) × (at ≡ None) × (full ≡ true)
-IsLearnt group at full port Group = group ≡ true
-IsLearnt group at full port Memory = (group ≡ false) × (at ≡ None) × (full ≡ false)
 
 abbrev pub Learns : Plan → ℕ → List Step → ℕ → List ℕ → Learnt → Type 0
 Learns plan bridge earlier port wire learnt =

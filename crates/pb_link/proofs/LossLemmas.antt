@@ -2,7 +2,7 @@
 use Rattle.std.proofs.Common.{◌≡◌, ℕ, zero, suc, ◌+◌, ◌<◌, ◌≤◌, Bool, true, false, if◌then◌else◌, ◌==◌, ◌||◌, List, [], ◌∷◌, drop, refl, sym, ap, subst, ◌∙◌, arith, ne_eqb, eqb-true, add-one}
 use Rattle.std.specs.List.{list_any, AllByRecursion}
 use Rattle.pb_frame.proofs.Lists.{All-imply}
-use Rattle.pb_lan.specs.Plans.{Rises}
+use Rattle.pb_frame.specs.Lists.{Rises}
 use Rattle.pb_link.specs.Losses.{is_first, IsNext}
 
 -- no number above this one is it

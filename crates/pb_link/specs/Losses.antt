@@ -1,7 +1,7 @@
 -- The items that a lane loses, and those of them that are still to come.
 use Rattle.std.specs.Prelude.{◌≡◌, ℕ, ◌≤◌, Bool, false, List, [], ◌∷◌, drop, ◌==◌}
 use Rattle.std.specs.List.{list_any, AllByRecursion}
-use Rattle.pb_lan.specs.Plans.{Rises}
+use Rattle.pb_frame.specs.Lists.{Rises}
 
 -- what callers see: the numbers of the items that are lost, and how many items were taken
 pub record LossView : Type 0 where

@@ -3,7 +3,7 @@
 ghost use Rattle.std.specs.Option.{option_copied};
 ghost use Rattle.std.specs.Prelude.{◌≡◌, ◌++◌, ◌∷◌, [], true, false, Some, None, IfOk, IsOk, OnOk, OnErr, if◌then◌else◌};
 ghost use Rattle.pb_lan.specs.LaneLists.{IsLawfulLane};
-ghost use Rattle.pb_lan.specs.Plans.{Rises};
+ghost use Rattle.pb_frame.specs.Lists.{Rises};
 ghost use Rattle.pb_link.specs.Lanes.{with_step, taking, is_hand_empty, in_hand, HasPut, HasTaken, HasSent};
 ghost use Rattle.rtrb.specs.Ring.{sent, received, known_free, known_items, SameProducer, SameConsumer};
 

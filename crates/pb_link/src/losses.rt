@@ -2,7 +2,7 @@
 
 ghost use Rattle.std.specs.Prelude.{◌≡◌, ◌+◌, ◌<◌, ◌==◌, ◌^◌, true, drop, if◌then◌else◌};
 ghost use Rattle.std.specs.List.{list_any};
-ghost use Rattle.pb_lan.specs.Plans.{Rises};
+ghost use Rattle.pb_frame.specs.Lists.{Rises};
 ghost use Rattle.pb_link.specs.Losses.{is_first};
 
 use pb_frame::Seq;

@@ -7,14 +7,14 @@ use Rattle.std.specs.declared.collections.VecDeque.{VecDeque}
 use Rattle.std.specs.declared.option.Option.{Option}
 use Rattle.std.specs.Global.{Global}
 use Rattle.pb_frame.proofs.Lists.{All-at}
-use Rattle.pb_frame.specs.Lists.{first}
+use Rattle.pb_frame.specs.Lists.{first, Rises}
 use Rattle.pb_lan.proofs.PortsInPlans.{sound-end}
 use Rattle.pb_lan.proofs.StateLemmas.{is_some-first}
 use Rattle.pb_lan.specs.BridgeLists.{IsLawfulBridge}
 use Rattle.pb_lan.specs.Events.{unstepped, empty_record, sent_by, sent_to, fetched_by, fetched_from, customer_there, lane_to, lane_from}
 use Rattle.pb_lan.specs.LaneLists.{IsLawfulLane, taken, put}
 use Rattle.pb_lan.specs.Numbering.{numbered}
-use Rattle.pb_lan.specs.Plans.{IsSound, IsSoundCustomer, Rises}
+use Rattle.pb_lan.specs.Plans.{IsSound, IsSoundCustomer}
 use Rattle.pb_lan.specs.PortLists.{fed, delivered, IsLawfulPort}
 use Rattle.pb_lan.specs.Ports.{Port, port_at, is_customer_at, is_end_at, ends_of, all_ends, customer_or_else, provider_or_unused}
 use Rattle.pb_lan.specs.Ports.Port.{Customer, Provider, Unused}

@@ -3,7 +3,8 @@
 ghost use Rattle.std.specs.Prelude.{◌≡◌, ◌<◌, ◌*◌, ◌+◌, ◌-◌, ◌||◌, [], length, IfOk};
 ghost use Rattle.std.specs.List.{list_any};
 ghost use Rattle.pb_lan.specs.Events.{empty_record};
-ghost use Rattle.pb_lan.specs.Plans.{IsSound, Rises};
+ghost use Rattle.pb_lan.specs.Plans.{IsSound};
+ghost use Rattle.pb_frame.specs.Lists.{Rises};
 ghost use Rattle.pb_lan.specs.Ports.{is_customer_at, is_end_at, port_at};
 ghost use Rattle.pb_net.specs.Lists.{AreEmpty};
 ghost use Rattle.pb_net.specs.Slots.{use_of, AreTables};

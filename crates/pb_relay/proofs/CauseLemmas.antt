@@ -165,11 +165,11 @@ rising-separate : (n : ℕ) (address : List ℕ) (send : List (ℕ × Bpdu)) →
 rising-separate n address [] h r = (tt, omega arith)
 rising-separate n address (s ∷ ss) h r =
     let rest = rising-separate s.0 address ss h.1 r.1 in
-    ((h.0, others s.0 s.0 (omega arith) ss r.1, rest.0), omega (arith, rest.1, h.0.1, r.0))
+    ((h.0, others s.0 s.0 (omega arith) ss r.1, rest.0), omega (arith, rest.1, h.0.1, r.0.0))
   where
     others : (p m : ℕ) → p ≤ m → (zs : List (ℕ × Bpdu)) → AreRising m (map (λ s. s.0) zs) → AllByRecursion (λ q. q ≢ p) (places_of (frames_of address zs))
     others p m l [] k = tt
-    others p m l (z ∷ zs) k = ((λ e. let k0 : m < z.0 = k.0 in omega arith), others p z.0 (let k0 : m < z.0 = k.0 in omega arith) zs k.1)
+    others p m l (z ∷ zs) k = ((λ e. let k0 : m < z.0 = k.0.0 in omega arith), others p z.0 (let k0 : m < z.0 = k.0.0 in omega arith) zs k.1)
 
 bridge-places : (plan : Plan) (b : ℕ) (send : List (ℕ × Bpdu)) → AllByRecursion (λ (s : ℕ × Bpdu). GoesToBridge (port_at plan b) s.0) send → AllByRecursion (λ (s : ℕ × Bpdu). (1 ≤ s.0) × (s.0 ≤ 16)) send
 bridge-places plan b [] h = tt

@@ -11,7 +11,7 @@ use Rattle.pb_lan.specs.Ports.Port.{Customer, Provider, Unused}
 use Rattle.pb_lan.specs.Queues.{vid_in}
 use Rattle.pb_relay.specs.Protocol.{spanning_tree}
 use Rattle.pb_lan.specs.Shapes.{is_forwarding, state_by}
-use Rattle.pb_lan.specs.BridgeLists.{Ruling, first_case, customer_cases, ruling_in, ruling_by}
+use Rattle.pb_lan.specs.BridgeLists.{Ruling, first_case, customer_cases, ruling_in, ruling_by, bridge_cases}
 use Rattle.pb_lan.specs.BridgeLists.Ruling.{Refuses, Listens, LearnsOnly, Carries}
 use Rattle.pb_lan.specs.declared.plan.Plan.{Plan}
 use Rattle.pb_lan.specs.declared.shape.PortState.{PortState}
@@ -22,7 +22,6 @@ use Rattle.pb_relay.specs.Roles.{LocalPort, told}
 use Rattle.pb_relay.specs.Roles.LocalPort.{ToCustomer, ToBridge, ToNobody}
 use Rattle.pb_relay.specs.Loads.{IsLoadable}
 use Rattle.pb_relay.specs.LocalPorts.{IsKept}
-use Rattle.pb_relay.specs.Verdicts.{bridge_cases}
 
 -- where none of the cases rules so and yet it is so ruled, none of them holds
 past : (cs : List (Bool × Ruling)) (rest target : Ruling) → AllByRecursion (λ c. c.1 ≡ target → ⊥) cs → first_case cs rest ≡ target
@@ -69,9 +68,9 @@ from_customer item rest target never h =
 
 -- at a port to a bridge
 from_bridge : (services : ℕ → Bool) (item : Item) (rest target : Ruling) → ((r : Reason) → Refuses r ≡ target → ⊥) → (Listens ≡ target → ⊥)
-    → first_case (bridge_cases services item) rest ≡ target → (18 ≤ length item.wire) × (item.hops ≢ 4294967295) × (rest ≡ target)
+    → first_case (bridge_cases spanning_tree.is_readable services item) rest ≡ target → (18 ≤ length item.wire) × (item.hops ≢ 4294967295) × (rest ≡ target)
 from_bridge services item rest target never unheard h =
-    let a = past (bridge_cases services item) rest target
+    let a = past (bridge_cases spanning_tree.is_readable services item) rest target
     (never _, (never _, (never _, (unheard, (never _, (never _, (never _, (never _, (never _, (never _, tt)))))))))) h in
     (at-least 18 (length item.wire) a.0.1.1.1.1.1.1.1.0, unworn item.hops a.0.1.1.1.1.1.1.1.1.1.0, a.1)
 

@@ -3,18 +3,17 @@ use Rattle.std.proofs.Common.{◌≡◌, ℕ, Bool, List, length, nat_le, ap, su
 use Rattle.std.specs.Option.{option_map}
 use Rattle.std.specs.declared.option.Option.{Option}
 use Rattle.pb_frame.specs.Frames.{src_of, is_group}
-use Rattle.pb_frame.specs.Stations.{Sighting, is_sighted, standing}
+use Rattle.pb_frame.specs.Stations.{Sighting, is_sighted, standing, IsLearnt, live, where_in}
 use Rattle.pb_frame.specs.Lists.{first}
 use Rattle.pb_frame.specs.declared.learnt.Learnt.{Learnt}
 use Rattle.pb_lan.specs.Ports.{port_at}
 use Rattle.pb_lan.specs.Queues.{vid_in}
-use Rattle.pb_lan.specs.Choice.{news_of, found, IsLearnt, Learns, table_limit}
+use Rattle.pb_lan.specs.Choice.{news_of, found, Learns, table_limit}
 use Rattle.pb_lan.specs.declared.plan.Plan.{Plan}
 use Rattle.pb_lan.specs.declared.shape.PortState.{PortState}
 use Rattle.pb_lan.specs.declared.step.Item.{Item}
 use Rattle.pb_lan.specs.declared.step.Step.{Step}
 use Rattle.pb_relay.specs.Standing.{IsStanding}
-use Rattle.pb_relay.specs.Tables.{live, where_in}
 
 -- where the table has a station, it is found
 pub found_is : (plan : Plan) (b : ℕ) (steps : List Step) (states : List PortState) (queues : List (List (List Item))) (now : ℕ) (table : List Sighting) (vid : ℕ) (mac : List ℕ)

@@ -7,7 +7,7 @@ use Rattle.std.proofs.lemmas.Bool.{eqb-true}
 use Rattle.pb_frame.proofs.Lists.{All-filter, list_any-found, and-left, and-right}
 use Rattle.pb_frame.specs.Frames.{dst_of, src_of, is_group}
 use Rattle.pb_frame.specs.Lists.{first}
-use Rattle.pb_frame.specs.Stations.{Sighting, standing, is_sighted}
+use Rattle.pb_frame.specs.Stations.{Sighting, standing, is_sighted, where_in}
 use Rattle.pb_frame.specs.declared.learnt.Learnt.{Learnt}
 use Rattle.pb_lan.specs.Ports.{port_at, local_ports}
 use Rattle.pb_lan.specs.Queues.{is_full, vid_in, copy_of}
@@ -32,7 +32,7 @@ use Rattle.pb_relay.specs.Copies.{AreCopied, AreSeparate, copy_at}
 use Rattle.pb_relay.specs.Loads.{IsLoadedAt, is_choice, is_member_of}
 use Rattle.pb_relay.specs.LocalPorts.{IsConfigured}
 use Rattle.pb_relay.specs.Standing.{IsStanding}
-use Rattle.pb_relay.specs.Tables.{HasLearnt, where_in}
+use Rattle.pb_relay.specs.Tables.{HasLearnt}
 use Rattle.pb_relay.proofs.ChosenLemmas.{chosen_ports_are, all_up}
 use Rattle.pb_relay.proofs.EntryLemmas.{IsAdmitted, carried, forwards, overheard}
 use Rattle.pb_relay.proofs.FoundLemmas.{learns_is}

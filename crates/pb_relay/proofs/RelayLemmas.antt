@@ -6,7 +6,7 @@ use Rattle.std.specs.List.{AllByRecursion, filter, list_any}
 use Rattle.std.specs.declared.option.Option.{Option}
 use Rattle.pb_frame.proofs.StationLaws.{table_tells_what_stands}
 use Rattle.pb_frame.specs.Frames.{src_of}
-use Rattle.pb_frame.specs.Stations.{Sighting, News, is_fresh, standing, after, after_all}
+use Rattle.pb_frame.specs.Stations.{Sighting, News, is_fresh, standing, after, after_all, live}
 use Rattle.pb_frame.specs.Stations.News.{Seen}
 use Rattle.pb_frame.specs.declared.learnt.Learnt.{Learnt}
 use Rattle.pb_frame.proofs.Lists.{All-append}
@@ -29,7 +29,7 @@ use Rattle.pb_relay.proofs.StandingLemmas.{kept_at}
 use Rattle.pb_relay.specs.Copies.{AreSeparate, AreCopied, with_copy}
 use Rattle.pb_relay.specs.Standing.{IsStanding, AreClassed}
 use Rattle.pb_relay.specs.Protocol.{spanning_tree}
-use Rattle.pb_relay.specs.Tables.{live, seen_anew, HasLearnt}
+use Rattle.pb_relay.specs.Tables.{seen_anew, HasLearnt}
 use Rattle.pb_relay.proofs.CopyLemmas.{none_full}
 use Rattle.pb_relay.proofs.TableLemmas.{filter-twice, fresh_now, live_after, after_seen}
 use Rattle.pb_relay.proofs.WaitingLemmas.{by_class-push, number_by_class}

@@ -5,17 +5,17 @@ use Rattle.std.proofs.lemmas.Bool.Decides.{nat_tests}
 use Rattle.std.specs.List.{filter}
 use Rattle.std.specs.declared.option.Option.{Option}
 use Rattle.pb_fdb.proofs.LawLemmas.{live-with_room}
-use Rattle.pb_fdb.specs.Tables.{Table, sighting_at, where_in, is_full, IsAnswer, with_room, learnt_sightings, learnt_table, expired, flushed}
+use Rattle.pb_fdb.specs.Tables.{Table, sighting_at, where_in, is_full, with_room, learnt_sightings, learnt_table, expired, flushed}
 use Rattle.pb_frame.proofs.Lists.{filter-append, filter-same}
 use Rattle.pb_frame.specs.Admission.{same}
 use Rattle.pb_frame.specs.Frames.{is_group}
 use Rattle.pb_frame.specs.Stations.News.{Seen, Flushed}
-use Rattle.pb_frame.specs.Stations.{after, Sighting, is_sighted, is_fresh}
+use Rattle.pb_frame.specs.Stations.{after, Sighting, is_sighted, is_fresh, IsLearnt, live, where_in as list_where}
 use Rattle.pb_frame.specs.declared.learnt.Learnt.{Learnt}
 use Rattle.pb_frame.specs.declared.learnt.Learnt.TheVariants.{New, Kept, Moved, Full, Group, Memory}
-use Rattle.pb_lan.specs.Choice.{is_noted, IsLearnt}
+use Rattle.pb_lan.specs.Choice.{is_noted}
 use Rattle.pb_lan.specs.declared.plan.Plan.{Plan}
-use Rattle.pb_relay.specs.Tables.{live, where_in as list_where, seen_anew, HasLearnt, IsTableOf}
+use Rattle.pb_relay.specs.Tables.{seen_anew, HasLearnt, IsTableOf}
 
 -- a test twice is the test once
 pub filter-twice : {X : Type 0} (p : X → Bool) (xs : List X) → filter p (filter p xs) ≡ filter p xs
@@ -76,15 +76,6 @@ after_seen s table =
 seen_live : (ageing now : ℕ) (s : Sighting) (table : List Sighting) → is_fresh ageing now s ≡ true → live ageing now (after table (Seen s)) ≡ seen_anew s (live ageing now table)
 seen_live ageing now s table f = ap (live ageing now) (after_seen s table) ∙ live_after ageing now s table f
 
--- the table's answers are those of the definitions
-answer-same : (group : Bool) (at : Option ℕ) (full : Bool) (port : ℕ) (learnt : Learnt) → IsAnswer group at full port learnt → IsLearnt group at full port learnt
-answer-same group at full port New h = h
-answer-same group at full port Kept h = h
-answer-same group at full port Moved h = h
-answer-same group at full port Full h = h
-answer-same group at full port Group h = h
-answer-same group at full port Memory h = h
-
 -- what is live once the table was told and has answered
 live_learnt : (old : Table) (s : Sighting) (learnt : Learnt) → is_fresh old.ageing s.moment s ≡ true
     → live old.ageing s.moment (learnt_sightings old s learnt) ≡ cond (is_noted (Some learnt)) (seen_anew s (live old.ageing s.moment old.sightings)) (live old.ageing s.moment old.sightings)
@@ -98,10 +89,10 @@ live_learnt old s Memory f = refl
 
 -- a table that was told of a station and has answered
 pub has_learnt : (plan : Plan) (now vid port : ℕ) (mac : List ℕ) (old new : Table) (learnt : Learnt) → 0 < plan.ageing → IsTableOf plan now old
-    → IsAnswer (is_group mac) (where_in old now vid mac) (is_full old now) port learnt → new ≡ learnt_table old (sighting_at vid mac port now) learnt
+    → IsLearnt (is_group mac) (where_in old now vid mac) (is_full old now) port learnt → new ≡ learnt_table old (sighting_at vid mac port now) learnt
     → HasLearnt plan.ageing now vid port mac old.sightings learnt new.sightings
 has_learnt plan now vid port mac old new learnt h t a e = subst (λ (ageing : ℕ). HasLearnt ageing now vid port mac old.sightings learnt new.sightings) t.ageing (record {
-  answer = subst (λ (limit : ℕ). IsLearnt (is_group mac) (where_in old now vid mac) (nat_le limit (length (live old.ageing now old.sightings))) port learnt) t.limit (answer-same _ _ _ port learnt a);
+  answer = subst (λ (limit : ℕ). IsLearnt (is_group mac) (where_in old now vid mac) (nat_le limit (length (live old.ageing now old.sightings))) port learnt) t.limit a;
   table = ap (λ (z : Table). live old.ageing now z.sightings) e
       ∙ live_learnt old (sighting_at vid mac port now) learnt (fresh_now old.ageing now vid port mac (subst (λ (n : ℕ). 0 < n) (sym t.ageing) h));
 })

@@ -4,7 +4,7 @@ use Rattle.std.proofs.lemmas.List.{get_or_read}
 use Rattle.pb_lan.specs.Ports.{Port, port_at, local_ports, serves}
 use Rattle.pb_lan.specs.Ports.Port.{Customer, Provider, Unused}
 use Rattle.pb_lan.specs.Shapes.{state_after, states_after}
-use Rattle.pb_lan.specs.BridgeLists.{ruling}
+use Rattle.pb_lan.specs.BridgeLists.{ruling, bridge_cases}
 use Rattle.pb_lan.specs.declared.step.Step.{Step}
 use Rattle.pb_lan.specs.BridgeLists.{Ruling, is_worn, ruling_by, first_case, customer_cases, ruling_in}
 use Rattle.pb_lan.specs.BridgeLists.Ruling.{Carries, Refuses}
@@ -20,7 +20,7 @@ use Rattle.pb_relay.specs.Roles.LocalPort.{ToCustomer, ToBridge, ToNobody}
 use Rattle.pb_relay.specs.LocalPorts.{IsKept, IsConfigured}
 use Rattle.pb_lan.specs.Ports.{is_used}
 use Rattle.pb_relay.specs.Protocol.{spanning_tree}
-use Rattle.pb_relay.specs.Verdicts.{local_ruling, bridge_cases, is_to_somebody, by_refusal}
+use Rattle.pb_relay.specs.Verdicts.{local_ruling, is_to_somebody, by_refusal}
 use Rattle.pb_relay.proofs.WaitingLemmas.{count_up}
 
 -- the ruling by what is kept of a port is the ruling there
@@ -28,8 +28,8 @@ pub ruled : (plan : Plan) (port : Port) (local : LocalPort) (state : PortState) 
 ruled plan (Customer c) (ToCustomer vid pcp) state item k = ap (λ v. first_case (customer_cases item) (Carries v)) k.0
 ruled plan (Provider e) (ToBridge start vids) state item k = served (serves_of vids (vid_of item.wire)) (serves plan (vid_of item.wire) e) (k.1 (vid_of item.wire))
   where
-    served : (a b : Bool) → a ≡ b → first_case (bridge_cases (λ _. a) item) (ruling_in state (vid_of item.wire)) ≡ first_case (bridge_cases (λ _. b) item) (ruling_in state (vid_of item.wire))
-    served a b h = ap (λ z. first_case (bridge_cases (λ _. z) item) (ruling_in state (vid_of item.wire))) h
+    served : (a b : Bool) → a ≡ b → first_case (bridge_cases spanning_tree.is_readable (λ _. a) item) (ruling_in state (vid_of item.wire)) ≡ first_case (bridge_cases spanning_tree.is_readable (λ _. b) item) (ruling_in state (vid_of item.wire))
+    served a b h = ap (λ z. first_case (bridge_cases spanning_tree.is_readable (λ _. z) item) (ruling_in state (vid_of item.wire))) h
 ruled plan Unused ToNobody state item k = refl
 ruled plan (Customer c) (ToBridge start vids) state item k = absurd k
 ruled plan (Customer c) ToNobody state item k = absurd k

@@ -1,23 +1,12 @@
 -- What the learning table tells.
 use Rattle.std.specs.Prelude.{◌≡◌, ◌≤◌, ℕ, List, [], ◌∷◌, ◌++◌, not, length, nat_le, Some, if◌then◌else◌}
-use Rattle.std.specs.declared.option.Option.{Option}
 use Rattle.std.specs.List.{filter}
-use Rattle.std.specs.Option.{option_map}
 use Rattle.pb_frame.specs.Frames.{is_group}
 use Rattle.pb_frame.specs.declared.learnt.Learnt.{Learnt}
-use Rattle.pb_lan.specs.Choice.{is_noted, IsLearnt, table_limit}
-use Rattle.pb_frame.specs.Stations.{Sighting, is_sighted, is_fresh}
-use Rattle.pb_frame.specs.Lists.{first}
+use Rattle.pb_lan.specs.Choice.{is_noted, table_limit}
+use Rattle.pb_frame.specs.Stations.{Sighting, is_sighted, live, where_in, IsLearnt}
 use Rattle.pb_fdb.specs.Tables.{Table, sighting_at}
 use Rattle.pb_lan.specs.declared.plan.Plan.{Plan}
-
--- the sightings that aren't too old
-abbrev pub live : ℕ → ℕ → List Sighting → List Sighting
-live ageing now table = filter (is_fresh ageing now) table
-
--- the port of the station's sighting
-abbrev pub where_in : ℕ → ℕ → ℕ → List ℕ → List Sighting → Option ℕ
-where_in ageing now vid mac table = option_map (λ s. s.port) (first (is_sighted vid mac) (live ageing now table))
 
 -- the sightings once one is seen anew: those of its station go
 abbrev pub seen_anew : Sighting → List Sighting → List Sighting

@@ -12,7 +12,7 @@ use Rattle.pb_lan.specs.declared.step.Reason.TheVariants.{NotMember, Untagged, R
 use Rattle.pb_svlan.specs.declared.entered.Refuse.{Refuse as Refusal}
 use Rattle.pb_svlan.specs.declared.entered.Refuse.TheVariants.{Short, Long as TooLong, Reserved as ReservedAs, STagged as InnerTag}
 use Rattle.pb_lan.specs.BridgeLists.Ruling.{Closed}
-use Rattle.pb_lan.specs.BridgeLists.{first_case, customer_cases, ruling_in}
+use Rattle.pb_lan.specs.BridgeLists.{first_case, customer_cases, bridge_cases, ruling_in}
 use Rattle.pb_lan.specs.declared.shape.PortState.{PortState}
 use Rattle.pb_relay.specs.Protocol.{spanning_tree}
 use Rattle.pb_relay.specs.Roles.{LocalPort, serves_of}
@@ -39,21 +39,6 @@ abbrev pub by_refusal : Option Refusal → Bool → Ruling → Ruling
 by_refusal None worn rest = if worn then Refuses Worn else rest
 by_refusal (Some refuse) worn rest = Refuses (as_reason refuse)
 
--- the cases at a port to a bridge, by the services that it serves
-abbrev pub bridge_cases : (ℕ → Bool) → Item → List (Bool × Ruling)
-bridge_cases serves item =
-    (nat_lt (length item.wire) 14, Refuses Malformed)
-    ∷ (nat_lt 1996 (length item.wire), Refuses Long)
-    ∷ (is_for_bridges item.wire && has_service_type item.wire, Refuses (Reserved 8))
-    ∷ (is_for_bridges item.wire && spanning_tree.is_readable item.wire, Listens)
-    ∷ (is_for_bridges item.wire, Refuses Malformed)
-    ∷ (is_reserved (dst_of item.wire), Refuses (reserved_as item.wire))
-    ∷ (not (has_service_type item.wire), Refuses Untagged)
-    ∷ (nat_lt (length item.wire) 18, Refuses Malformed)
-    ∷ (not (serves (vid_of item.wire)), Refuses NotMember)
-    ∷ (is_worn item, Refuses Worn)
-    ∷ []
-
 -- somebody is there
 abbrev pub is_to_somebody : LocalPort → Bool
 is_to_somebody (ToCustomer vid pcp) = true
@@ -63,5 +48,5 @@ is_to_somebody ToNobody = false
 -- the ruling by what is kept of the port
 abbrev pub local_ruling : LocalPort → PortState → Item → Ruling
 local_ruling (ToCustomer vid pcp) state item = first_case (customer_cases item) (Carries vid)
-local_ruling (ToBridge start vids) state item = first_case (bridge_cases (serves_of vids) item) (ruling_in state (vid_of item.wire))
+local_ruling (ToBridge start vids) state item = first_case (bridge_cases spanning_tree.is_readable (serves_of vids) item) (ruling_in state (vid_of item.wire))
 local_ruling ToNobody state item = Closed

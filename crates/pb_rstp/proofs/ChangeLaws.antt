@@ -15,6 +15,7 @@ use Rattle.pb_rstp.specs.Changes.{AreMoving, state_of, told_state, new_state, Na
 use Rattle.pb_rstp.specs.Machine.{settle}
 use Rattle.pb_rstp.specs.Messages.{message_of}
 use Rattle.pb_rstp.specs.Rising.{AreRising}
+use Rattle.pb_rstp.proofs.RisingLaws.{rises-above}
 use Rattle.pb_rstp.specs.Settling.{nows, is_flushed, is_sending, with_sent, settled, state_changes}
 use Rattle.pb_rstp.specs.declared.moving.Heard.{Heard}
 use Rattle.pb_rstp.specs.declared.moving.Moving.{Moving}
@@ -25,32 +26,32 @@ use Rattle.pb_rstp.proofs.MovingLaws.{moving_settled, first-none, port_of-cons}
 
 rising-states : (n m : ℕ) → m ≤ n → (ps : List Port) (ms : List Moving) → AreMoving ps ms → AreRising n (map (λ p. p.number) ps)
     → AreRising m (map (λ s. s.0) (state_changes ms))
-rising-states n m below [] [] h r = tt
+rising-states n m below [] [] h r = (tt, tt)
 rising-states n m below [] (x ∷ xs) h r = absurd h
 rising-states n m below (p ∷ ps) [] h r = absurd h
 rising-states n m below (p ∷ ps) (x ∷ xs) h r =
     by_test (is_same x.was.state x.now.state)
-    (rising-states p.number m (omega (arith, r.0)) ps xs h.1 r.1)
+    (rising-states p.number m (omega (arith, r.0.0)) ps xs h.1 r.1)
     (rising-states p.number x.now.number (omega (arith, h.0.1.number)) ps xs h.1 r.1)
   where
     by_test : (t : Bool) → AreRising m (map (λ s. s.0) (state_changes xs)) → AreRising x.now.number (map (λ s. s.0) (state_changes xs))
         → AreRising m (map (λ s. s.0) ((if t then [] else ((x.now.number, x.now.state) ∷ [])) ++ state_changes xs))
     by_test true skip take = skip
-    by_test false skip take = (omega (arith, r.0, h.0.1.number), take)
+    by_test false skip take = rises-above m x.now.number (omega (arith, r.0.0, h.0.1.number)) (map (λ s. s.0) (state_changes xs)) take
 
 rising-filter : (test : Moving → Bool) (n m : ℕ) → m ≤ n → (ps : List Port) (ms : List Moving) → AreMoving ps ms → AreRising n (map (λ p. p.number) ps)
     → AreRising m (map (λ x. x.now.number) (filter test ms))
-rising-filter test n m below [] [] h r = tt
+rising-filter test n m below [] [] h r = (tt, tt)
 rising-filter test n m below [] (x ∷ xs) h r = absurd h
 rising-filter test n m below (p ∷ ps) [] h r = absurd h
 rising-filter test n m below (p ∷ ps) (x ∷ xs) h r =
     by_test (test x)
-    (rising-filter test p.number m (omega (arith, r.0)) ps xs h.1 r.1)
+    (rising-filter test p.number m (omega (arith, r.0.0)) ps xs h.1 r.1)
     (rising-filter test p.number x.now.number (omega (arith, h.0.1.number)) ps xs h.1 r.1)
   where
     by_test : (t : Bool) → AreRising m (map (λ y. y.now.number) (filter test xs)) → AreRising x.now.number (map (λ y. y.now.number) (filter test xs))
         → AreRising m (map (λ y. y.now.number) (if t then x ∷ filter test xs else filter test xs))
-    by_test true skip take = (omega (arith, r.0, h.0.1.number), take)
+    by_test true skip take = rises-above m x.now.number (omega (arith, r.0.0, h.0.1.number)) (map (λ y. y.now.number) (filter test xs)) take
     by_test false skip take = skip
 
 -- the ports that send
@@ -59,18 +60,19 @@ sent_numbers id all ps = map (λ (s : ℕ × Bpdu). s.0) (map (λ (p : Port). (p
 
 rising-sent : (id : ℕ) (all : List Port) (n m : ℕ) → m ≤ n → (ps : List Port) (ms : List Moving) → AreMoving ps ms → AreRising n (map (λ p. p.number) ps)
     → AreRising m (sent_numbers id all (filter is_sending (nows ms)))
-rising-sent id all n m below [] [] h r = tt
+rising-sent id all n m below [] [] h r = (tt, tt)
 rising-sent id all n m below [] (x ∷ xs) h r = absurd h
 rising-sent id all n m below (p ∷ ps) [] h r = absurd h
 rising-sent id all n m below (p ∷ ps) (x ∷ xs) h r =
     by_test (is_sending x.now)
-    (rising-sent id all p.number m (omega (arith, r.0)) ps xs h.1 r.1)
+    (rising-sent id all p.number m (omega (arith, r.0.0)) ps xs h.1 r.1)
     (rising-sent id all p.number x.now.number (omega (arith, h.0.1.number)) ps xs h.1 r.1)
   where
     by_test : (t : Bool) → AreRising m (sent_numbers id all (filter is_sending (nows xs)))
         → AreRising x.now.number (sent_numbers id all (filter is_sending (nows xs)))
         → AreRising m (sent_numbers id all (if t then x.now ∷ filter is_sending (nows xs) else filter is_sending (nows xs)))
-    by_test true skip take = (omega (arith, r.0, h.0.1.number), take)
+    by_test true skip take =
+        rises-above m x.now.number (omega (arith, r.0.0, h.0.1.number)) (sent_numbers id all (filter is_sending (nows xs))) take
     by_test false skip take = skip
 
 -- What is told of a port.

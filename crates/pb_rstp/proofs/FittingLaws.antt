@@ -73,7 +73,7 @@ settle_of P id hello_left heard ps ms h a r =
     }
 
 unchanged_of : (P : ℕ → Type 0) (machine : Machine) → IsOf P (unchanged machine).change
-unchanged_of P machine = record { states = tt; send = tt; rises = tt }
+unchanged_of P machine = record { states = tt; send = tt; rises = (tt, tt) }
 
 -- so it is of every cause
 after_of : (P : ℕ → Type 0) (machine : Machine) (cause : Cause) → AllByRecursion (λ (p : Port). P p.number) machine.ports → AreRising 0 (map (λ p. p.number) machine.ports)

@@ -21,6 +21,7 @@ use Rattle.pb_rstp.specs.Profile.{after, hear_read}
 use Rattle.pb_rstp.specs.Laws.{IsQuiet, IsInLine}
 use Rattle.pb_rstp.specs.Readings.{AreAbove}
 use Rattle.pb_rstp.specs.Rising.{AreRising}
+use Rattle.pb_rstp.proofs.RisingLaws.{rises-above}
 use Rattle.pb_rstp.specs.declared.config.RstpPort.{RstpPort}
 use Rattle.pb_rstp.specs.declared.role.Role.{Role}
 use Rattle.pb_rstp.specs.declared.role.Role.TheVariants.{Disabled, Root, Designated, Alternate, Backup}
@@ -156,9 +157,9 @@ start_is_in_line id ports above = record {
 -- rising numbers are above zero
 pub above_zero : (n : ℕ) (ports : List RstpPort) → AreAbove n ports → AllByRecursion (λ p. 1 ≤ p.port) ports
 above_zero n [] h = tt
-above_zero n (p ∷ ps) h = (omega (arith, h.0), above_zero p.port ps h.1)
+above_zero n (p ∷ ps) h = (omega (arith, h.0.0), above_zero p.port ps h.1)
 
 -- the ports of the start have the numbers that were given
 pub fresh_rising : (n : ℕ) (ports : List RstpPort) → AreAbove n ports → AreRising n (map (λ p. p.number) (map fresh ports))
-fresh_rising n [] h = tt
-fresh_rising n (p ∷ ps) h = (h.0, fresh_rising p.port ps h.1)
+fresh_rising n [] h = (tt, tt)
+fresh_rising n (p ∷ ps) h = rises-above n p.port h.0.0 (map (λ p. p.number) (map fresh ps)) (fresh_rising p.port ps h.1)

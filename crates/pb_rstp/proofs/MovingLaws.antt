@@ -11,8 +11,10 @@ use Rattle.pb_frame.specs.Lists.{first}
 use Rattle.pb_rstp.specs.Changes.{IsSamePort, AreSamePorts, AreMoving, IsSameBridge}
 use Rattle.pb_rstp.specs.Machine.{moved_by, settle, takes_place, with_news, has_agreed, with_answer, hearing, with_timers, opened_by, opened, with_opening, is_hello, with_hello, ticking, with_admin, setting}
 use Rattle.pb_rstp.specs.Messages.{is_young, info_of}
-use Rattle.pb_rstp.specs.Ports.{Machine, is_designated, is_forwarding, delay_of, port_of}
+use Rattle.pb_rstp.specs.Ports.{Machine, is_designated, delay_of, port_of}
+use Rattle.pb_lan.specs.Shapes.{is_forwarding}
 use Rattle.pb_rstp.specs.Rising.{AreRising}
+use Rattle.pb_rstp.proofs.RisingLaws.{rises-above}
 use Rattle.pb_rstp.specs.Roles.{root_vector}
 use Rattle.pb_rstp.specs.Vectors.{is_same_vector}
 use Rattle.pb_rstp.specs.Settling.{befores, nows, each, with_role, with_roles, without_agreement, with_agreements, without_info, with_infos, with_state, with_states, synced, agreeing, with_agreement_at, with_proposal, is_proposed, is_root_agreeing, with_changing, with_topology, after_sending, with_sent, in_line, settled}
@@ -116,19 +118,20 @@ moving_sent ps ms h = moving-each after_sending (λ was now. of_keeps now _ (kee
 -- Numbers.
 
 pub rising-same : (n m : ℕ) → m ≡ n → (ps qs : List Port) → AreSamePorts ps qs → AreRising n (map (λ p. p.number) ps) → AreRising m (map (λ p. p.number) qs)
-rising-same n m e [] [] h r = tt
+rising-same n m e [] [] h r = (tt, tt)
 rising-same n m e [] (q ∷ qs) h r = absurd h
 rising-same n m e (p ∷ ps) [] h r = absurd h
-rising-same n m e (p ∷ ps) (q ∷ qs) h r = (omega (arith, e, h.0.number, r.0), rising-same p.number q.number h.0.number ps qs h.1 r.1)
+rising-same n m e (p ∷ ps) (q ∷ qs) h r =
+    rises-above m q.number (omega (arith, e, h.0.number, r.0.0)) (map (λ x. x.number) qs) (rising-same p.number q.number h.0.number ps qs h.1 r.1)
 
 -- what has a number that is no greater than n isn't among those that rise above n
 pub first-none : {X : Type 0} (key : X → ℕ) (k n : ℕ) → k ≤ n → (xs : List X) → AreRising n (map key xs) → first (λ x. key x == k) xs ≡ None
 first-none key k n below [] r = refl
-first-none key k n below (x ∷ xs) r = by_test (key x == k) refl (first-none key k (key x) (omega (arith, r.0)) xs r.1)
+first-none key k n below (x ∷ xs) r = by_test (key x == k) refl (first-none key k (key x) (omega (arith, r.0.0)) xs r.1)
   where
     by_test : (t : Bool) → (key x == k) ≡ t → first (λ y. key y == k) xs ≡ None
         → (if t then Some x else first (λ y. key y == k) xs) ≡ None
-    by_test true e rest = absurd (omega (arith, eqb-true (key x) k e, r.0))
+    by_test true e rest = absurd (omega (arith, eqb-true (key x) k e, r.0.0))
     by_test false e rest = rest
 
 pub port_of-cons : (k : ℕ) (p : Port) (ps : List Port) (t : Bool) → (p.number == k) ≡ t → port_of (p ∷ ps) k ≡ (if t then Some p else port_of ps k)

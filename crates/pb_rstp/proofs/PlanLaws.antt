@@ -25,6 +25,7 @@ use Rattle.pb_rstp.specs.Machine.{moved_by, ticking, is_hello_time, hello_after,
 use Rattle.pb_rstp.specs.Ports.{Machine, fresh, delay_of, port_of}
 use Rattle.pb_rstp.specs.Profile.{after, hear_read, causes_of, machine_after, rstp_port, machine_at_start, machine_of}
 use Rattle.pb_rstp.specs.Rising.{AreRising}
+use Rattle.pb_rstp.proofs.RisingLaws.{rises-above}
 use Rattle.pb_rstp.specs.Roles.{root_vector}
 use Rattle.pb_rstp.specs.Tree.{HasPorts, HasPortAt, CallsKeepBridges, machines_of, PlannedAreMachines}
 use Rattle.pb_rstp.specs.declared.port.Port.{Port}
@@ -82,9 +83,9 @@ same_after machine (cause ∷ causes) =
 -- Ports by number.
 
 -- what rises above n is above it
-above : (n m : ℕ) → m ≤ n → (ps : List Port) → AreRising n (map (λ p. p.number) ps) → AllByRecursion (λ p. m < p.number) ps
-above n m below [] r = tt
-above n m below (p ∷ ps) r = (omega (arith, r.0), above p.number m (omega (arith, r.0)) ps r.1)
+all-above : (n m : ℕ) → m ≤ n → (ps : List Port) → AreRising n (map (λ p. p.number) ps) → AllByRecursion (λ p. m < p.number) ps
+all-above n m below [] r = tt
+all-above n m below (p ∷ ps) r = (omega (arith, r.0.0), all-above p.number m (omega (arith, r.0.0)) ps r.1)
 
 not_same : (m n : ℕ) → m < n → (m == n) ≡ false
 not_same m n h = false-unless (m == n) (λ e. omega (arith, eqb-true m n e))
@@ -99,7 +100,7 @@ rising-distinct : (n : ℕ) (ps : List Port) → AreRising n (map (λ p. p.numbe
 rising-distinct n [] r = tt
 rising-distinct n (p ∷ ps) r = (
   port_of-cons p.number p ps true (eqb-refl p.number),
-  found-behind p ps ps (above p.number p.number (omega arith) ps r.1) (rising-distinct p.number ps r.1),
+  found-behind p ps ps (all-above p.number p.number (omega arith) ps r.1) (rising-distinct p.number ps r.1),
 )
 
 small-same : (ps qs : List Port) → AreSamePorts ps qs → AllByRecursion (λ p. (1 ≤ p.number) × (p.number < 256)) ps
@@ -130,15 +131,15 @@ found-same k (x ∷ xs) (y ∷ ys) h p e = by_test (x.number == k) refl (λ f. f
 
 pub rising-ports : (at : ℕ → LocalPort) (n m : ℕ) → m ≤ n → (ns : List ℕ) → AreRising n ns
     → AreRising m (map (λ p. p.number) (map fresh (flat_map (λ k. rstp_port k (at k)) ns)))
-rising-ports at n m below [] r = tt
+rising-ports at n m below [] r = (tt, tt)
 rising-ports at n m below (k ∷ ks) r =
-    by_port (at k) (rising-ports at k m (omega (arith, r.0)) ks r.1) (rising-ports at k k (omega arith) ks r.1)
+    by_port (at k) (rising-ports at k m (omega (arith, r.0.0)) ks r.1) (rising-ports at k k (omega arith) ks r.1)
   where
     by_port : (o : LocalPort) → AreRising m (map (λ p. p.number) (map fresh (flat_map (λ i. rstp_port i (at i)) ks)))
         → AreRising k (map (λ p. p.number) (map fresh (flat_map (λ i. rstp_port i (at i)) ks)))
         → AreRising m (map (λ p. p.number) (map fresh (rstp_port k o ++ flat_map (λ i. rstp_port i (at i)) ks)))
     by_port (Customer c) skip take = skip
-    by_port (Provider e) skip take = (omega (arith, r.0), take)
+    by_port (Provider e) skip take = rises-above m k (omega (arith, r.0.0)) (map (λ p. p.number) (map fresh (flat_map (λ i. rstp_port i (at i)) ks))) take
     by_port Unused skip take = skip
 
 small-ports : (at : ℕ → LocalPort) (ns : List ℕ) → AllByRecursion (λ n. (1 ≤ n) × (n < 256)) ns
@@ -179,7 +180,7 @@ found-port at k e is (n ∷ ns) listed = by_test (n == k) refl (found-port at k 
     by_test false t rest = by_port (at n) t (rest (sym (ap (λ b. b || list_any (λ i. i == k) ns) t) ∙ listed))
 
 pub local_rise : AreRising 0 local_ports
-local_rise = (lit< tt, (lit< tt, (lit< tt, (lit< tt, (lit< tt, (lit< tt, (lit< tt, (lit< tt, (lit< tt, (lit< tt, (lit< tt, (lit< tt, (lit< tt, (lit< tt, (lit< tt, (lit< tt, tt))))))))))))))))
+local_rise = rises-above 0 1 (lit< tt) (2 ∷ 3 ∷ 4 ∷ 5 ∷ 6 ∷ 7 ∷ 8 ∷ 9 ∷ 10 ∷ 11 ∷ 12 ∷ 13 ∷ 14 ∷ 15 ∷ 16 ∷ []) (rises-above 1 2 (lit< tt) (3 ∷ 4 ∷ 5 ∷ 6 ∷ 7 ∷ 8 ∷ 9 ∷ 10 ∷ 11 ∷ 12 ∷ 13 ∷ 14 ∷ 15 ∷ 16 ∷ []) (rises-above 2 3 (lit< tt) (4 ∷ 5 ∷ 6 ∷ 7 ∷ 8 ∷ 9 ∷ 10 ∷ 11 ∷ 12 ∷ 13 ∷ 14 ∷ 15 ∷ 16 ∷ []) (rises-above 3 4 (lit< tt) (5 ∷ 6 ∷ 7 ∷ 8 ∷ 9 ∷ 10 ∷ 11 ∷ 12 ∷ 13 ∷ 14 ∷ 15 ∷ 16 ∷ []) (rises-above 4 5 (lit< tt) (6 ∷ 7 ∷ 8 ∷ 9 ∷ 10 ∷ 11 ∷ 12 ∷ 13 ∷ 14 ∷ 15 ∷ 16 ∷ []) (rises-above 5 6 (lit< tt) (7 ∷ 8 ∷ 9 ∷ 10 ∷ 11 ∷ 12 ∷ 13 ∷ 14 ∷ 15 ∷ 16 ∷ []) (rises-above 6 7 (lit< tt) (8 ∷ 9 ∷ 10 ∷ 11 ∷ 12 ∷ 13 ∷ 14 ∷ 15 ∷ 16 ∷ []) (rises-above 7 8 (lit< tt) (9 ∷ 10 ∷ 11 ∷ 12 ∷ 13 ∷ 14 ∷ 15 ∷ 16 ∷ []) (rises-above 8 9 (lit< tt) (10 ∷ 11 ∷ 12 ∷ 13 ∷ 14 ∷ 15 ∷ 16 ∷ []) (rises-above 9 10 (lit< tt) (11 ∷ 12 ∷ 13 ∷ 14 ∷ 15 ∷ 16 ∷ []) (rises-above 10 11 (lit< tt) (12 ∷ 13 ∷ 14 ∷ 15 ∷ 16 ∷ []) (rises-above 11 12 (lit< tt) (13 ∷ 14 ∷ 15 ∷ 16 ∷ []) (rises-above 12 13 (lit< tt) (14 ∷ 15 ∷ 16 ∷ []) (rises-above 13 14 (lit< tt) (15 ∷ 16 ∷ []) (rises-above 14 15 (lit< tt) (16 ∷ []) (rises-above 15 16 (lit< tt) [] (tt, tt))))))))))))))))
 
 local_small : AllByRecursion (λ n. (1 ≤ n) × (n < 256)) local_ports
 local_small = ((lit≤ tt, lit< tt), ((lit≤ tt, lit< tt), ((lit≤ tt, lit< tt), ((lit≤ tt, lit< tt), ((lit≤ tt, lit< tt), ((lit≤ tt, lit< tt), ((lit≤ tt, lit< tt), ((lit≤ tt, lit< tt), ((lit≤ tt, lit< tt), ((lit≤ tt, lit< tt), ((lit≤ tt, lit< tt), ((lit≤ tt, lit< tt), ((lit≤ tt, lit< tt), ((lit≤ tt, lit< tt), ((lit≤ tt, lit< tt), ((lit≤ tt, lit< tt), tt))))))))))))))))

@@ -6,7 +6,7 @@ use Rattle.std.proofs.lemmas.Bool.{eq-eqb}
 use Rattle.pb_lan.specs.Numbering.{numbered}
 use Rattle.pb_lan.specs.Plans.{IsSound, is_same_port}
 use Rattle.pb_lan.specs.Ports.{all_ends, ends_of, local_ports, port_at, serves}
-use Rattle.pb_lan.specs.Shapes.{state_in, is_open, is_active, is_end_forwarding, are_ends_forwarding, is_forwarding as is_open_state}
+use Rattle.pb_lan.specs.Shapes.{state_in, is_open, is_active, is_end_forwarding, are_ends_forwarding, is_forwarding as is_open_state, is_forwarding}
 use Rattle.pb_lan.specs.Forests.{HasEnds}
 use Rattle.pb_lan.specs.declared.plan.Plan.{Plan}
 use Rattle.pb_lan.specs.declared.plan.End.{End}
@@ -16,7 +16,7 @@ use Rattle.pb_lan.specs.declared.shape.PortState.TheVariants.{Discarding, Learni
 use Rattle.pb_frame.proofs.Lists.{Some-injective, and-left, and-right}
 use Rattle.pb_frame.proofs.Lists.{same_place, IsDistinct-front}
 use Rattle.pb_lan.proofs.PortsInPlans.{IsEndOf, port_at-end, sound-end}
-use Rattle.pb_rstp.specs.Ports.{Machine, id_of, port_of, is_root, is_designated, is_forwarding}
+use Rattle.pb_rstp.specs.Ports.{Machine, id_of, port_of, is_root, is_designated}
 use Rattle.pb_rstp.specs.declared.port.Port.{Port}
 use Rattle.pb_rstp.specs.Roles.{root_vector}
 use Rattle.pb_rstp.specs.Tree.{root_cost, StandsAt, HasPortAt, Rises, AreBothForwarding, SettledIsForest, LeadsBehindRoots, IsForestBehindRoots, state_at, states_of, shape_of}

@@ -10,7 +10,8 @@ use Rattle.pb_lan.specs.declared.plan.LinkPlan.{LinkPlan}
 use Rattle.pb_frame.proofs.Lists.{first-found, All-at, Some-injective}
 use Rattle.pb_lan.proofs.PortsInPlans.{IsEndOf, sound-end}
 use Rattle.pb_rstp.specs.Vectors.{own_vector, raised, greatest_cost}
-use Rattle.pb_rstp.specs.Ports.{Machine, id_of, port_of, is_root, is_designated, is_root_or_designated, is_forwarding, is_discarding}
+use Rattle.pb_rstp.specs.Ports.{Machine, id_of, port_of, is_root, is_designated, is_root_or_designated, is_discarding}
+use Rattle.pb_lan.specs.Shapes.{is_forwarding}
 use Rattle.pb_rstp.specs.declared.port.Info.{Info}
 use Rattle.pb_rstp.specs.declared.port.Port.{Port}
 use Rattle.pb_rstp.specs.Roles.{root_vector, IsWay, IsWayOfSome, IsRootVector, HasRole}

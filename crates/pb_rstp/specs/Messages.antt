@@ -4,7 +4,8 @@ use Rattle.std.specs.declared.option.Option.{Option}
 use Rattle.std.proofs.Common.{lit<}
 use Rattle.pb_bpdu.specs.declared.bpdu.Bpdu.{Bpdu}
 use Rattle.pb_rstp.specs.Vectors.{is_before}
-use Rattle.pb_rstp.specs.Ports.{id_of, is_designated, is_discarding, is_forwarding, root_info}
+use Rattle.pb_rstp.specs.Ports.{id_of, is_designated, is_discarding, root_info}
+use Rattle.pb_lan.specs.Shapes.{is_forwarding}
 use Rattle.pb_rstp.specs.declared.port.Info.{Info}
 use Rattle.pb_rstp.specs.declared.port.Port.{Port}
 use Rattle.pb_rstp.specs.Roles.{root_vector}

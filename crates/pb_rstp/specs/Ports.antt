@@ -44,11 +44,6 @@ is_discarding Discarding = true
 is_discarding Learning = false
 is_discarding Forwarding = false
 
-abbrev pub is_forwarding : PortState → Bool
-is_forwarding Forwarding = true
-is_forwarding Discarding = false
-is_forwarding Learning = false
-
 abbrev pub id_of : Port → ℕ
 id_of p = port_id p.priority p.number
 

@@ -1,7 +1,7 @@
--- Numbers that rise.
-use Rattle.std.specs.Prelude.{ℕ, ◌<◌, List, [], ◌∷◌}
+-- Numbers that rise from one on.
+use Rattle.std.specs.Prelude.{ℕ, List, ◌∷◌}
+use Rattle.pb_frame.specs.Lists.{Rises}
 
--- the numbers rise, each above n and above those before it
+-- the numbers rise, each above n
 abbrev pub AreRising : ℕ → List ℕ → Type 0
-AreRising n [] = Unit {0}
-AreRising n (m ∷ ms) = (n < m) × AreRising m ms
+AreRising n ms = Rises (n ∷ ms)

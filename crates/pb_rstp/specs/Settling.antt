@@ -7,7 +7,8 @@ use Rattle.pb_lan.specs.Rules.{from_to}
 use Rattle.pb_lan.specs.declared.shape.PortState.{PortState}
 use Rattle.pb_lan.specs.declared.shape.PortState.TheVariants.{Discarding, Forwarding}
 use Rattle.pb_rstp.specs.Vectors.{is_same_vector}
-use Rattle.pb_rstp.specs.Ports.{is_root, is_designated, is_root_or_designated, is_discarding, is_forwarding, delay_of}
+use Rattle.pb_rstp.specs.Ports.{is_root, is_designated, is_root_or_designated, is_discarding, delay_of}
+use Rattle.pb_lan.specs.Shapes.{is_forwarding}
 use Rattle.pb_rstp.specs.declared.port.Port.{Port}
 use Rattle.pb_rstp.specs.Roles.{root_vector, role_by}
 use Rattle.pb_rstp.specs.Messages.{message_of}

@@ -9,7 +9,7 @@ use Rattle.pb_lan.specs.Ports.{Port as LocalPort, port_at, local_ports}
 use Rattle.pb_lan.specs.Ports.Port.{Customer, Provider, Unused}
 use Rattle.pb_lan.specs.Plans.{IsSound}
 use Rattle.pb_lan.specs.Forests.{ShowsBy, HasEnds}
-use Rattle.pb_lan.specs.Shapes.{is_active, are_ends_forwarding}
+use Rattle.pb_lan.specs.Shapes.{is_active, are_ends_forwarding, is_forwarding}
 use Rattle.pb_lan.specs.declared.plan.Plan.{Plan}
 use Rattle.pb_lan.specs.declared.plan.End.{End}
 use Rattle.pb_lan.specs.declared.plan.LinkPlan.{LinkPlan}
@@ -21,7 +21,7 @@ use Rattle.pb_lan.specs.declared.step.Step.{Step}
 use Rattle.pb_lan.specs.Rules.{Cause}
 use Rattle.pb_rstp.specs.Changes.{IsSameBridge}
 use Rattle.pb_rstp.specs.Profile.{after, machine_of}
-use Rattle.pb_rstp.specs.Ports.{Machine, id_of, is_designated, is_discarding, is_forwarding, is_root, is_root_or_designated, port_of}
+use Rattle.pb_rstp.specs.Ports.{Machine, id_of, is_designated, is_discarding, is_root, is_root_or_designated, port_of}
 use Rattle.pb_rstp.specs.declared.port.Info.{Info}
 use Rattle.pb_rstp.specs.declared.port.Port.{Port}
 use Rattle.pb_rstp.specs.Roles.{root_vector}

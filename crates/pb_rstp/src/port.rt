@@ -1,7 +1,8 @@
 //! What a bridge keeps of each port.
 
 ghost use Rattle.std.specs.Prelude.{◌≡◌};
-ghost use Rattle.pb_rstp.specs.Ports.{id_of, stored_vector, root_path, designated_vector, port_of, root_info, delay_of, fresh, is_discarding, is_forwarding};
+ghost use Rattle.pb_rstp.specs.Ports.{id_of, stored_vector, root_path, designated_vector, port_of, root_info, delay_of, fresh, is_discarding};
+ghost use Rattle.pb_lan.specs.Shapes.{is_forwarding};
 
 use crate::config::RstpPort;
 use crate::role::Role;

@@ -7,9 +7,8 @@ use Rattle.std.specs.Cmp.Derive.{both_true}
 use Rattle.std.specs.List.{AllByRecursion, IsDistinct}
 use Rattle.std.specs.declared.option.Option.{Option}
 use Rattle.pb_frame.proofs.Lists.{All-imply, All-append, All-map, IsDistinct-back}
-use Rattle.pb_lan.specs.Plans.{IsNumber, IsSound, IsSoundEnd, IsSoundCustomer, is_same_port}
+use Rattle.pb_lan.specs.Plans.{IsNumber, IsSound, IsSoundEnd, IsSoundCustomer, is_same_port, ports_in}
 use Rattle.pb_lan.specs.Ports.{all_ends}
-use Rattle.pb_lan.specs.UsedPorts.{ports_in}
 use Rattle.pb_lan.specs.declared.plan.CustomerPlan.{CustomerPlan}
 use Rattle.pb_lan.specs.declared.plan.LinkPlan.{LinkPlan}
 use Rattle.pb_lan.specs.declared.plan.Plan.{Plan}

@@ -3,7 +3,8 @@ use Rattle.std.proofs.Common.{◌≡◌, ℕ, suc, ◌+◌, ◌-◌, ◌*◌, �
 use Rattle.std.proofs.lemmas.List.{map-append, length-map}
 use Rattle.pb_frame.proofs.Lists.{Some-injective, All-at}
 use Rattle.pb_lan.proofs.PortsInPlans.{sound-end}
-use Rattle.pb_lan.specs.Plans.{IsSound, IsSoundEnd, IsSoundCustomer, Rises}
+use Rattle.pb_lan.specs.Plans.{IsSound, IsSoundEnd, IsSoundCustomer}
+use Rattle.pb_frame.specs.Lists.{Rises}
 use Rattle.pb_lan.specs.declared.plan.CustomerPlan.{CustomerPlan}
 use Rattle.pb_lan.specs.declared.plan.End.{End}
 use Rattle.pb_lan.specs.declared.plan.LinkPlan.{LinkPlan}

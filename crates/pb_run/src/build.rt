@@ -3,8 +3,8 @@
 ghost use Rattle.std.specs.Prelude.{◌≡◌, ◌≢◌, ◌<◌, ◌≤◌, ◌+◌, ◌*◌, ℕ, [], IfOk, All, length, map, vec_len, slice_index_or};
 ghost use Rattle.std.specs.List.{AllByRecursion};
 ghost use Rattle.rtrb.specs.Ring.{sent, received};
-ghost use Rattle.pb_lan.specs.Plans.{IsSound, IsNumber, Rises};
-ghost use Rattle.pb_lan.specs.UsedPorts.{ports_in};
+ghost use Rattle.pb_lan.specs.Plans.{IsSound, IsNumber, ports_in};
+ghost use Rattle.pb_frame.specs.Lists.{Rises};
 ghost use Rattle.pb_ring.specs.Rings.{shown_at};
 ghost use Rattle.pb_run.specs.Gifts.{IsBridgeGift, AreBridges, AreLanes, access_gift, AreAccesses};
 ghost use Rattle.pb_run.specs.Wires.{ring_into, ring_out, AreNew, AreNamed, HasInner, HasOuter};

@@ -6,7 +6,8 @@ use Rattle.std.proofs.lemmas.Bool.{cases_Bool, false≢true, leb-true, eqb-true}
 use Rattle.std.specs.List.{AllByRecursion}
 use Rattle.pb_frame.specs.Admission.{same}
 use Rattle.pb_frame.proofs.Lists.{and-left, and-right, All-imply}
-use Rattle.pb_lan.specs.Plans.{IsNumber, Rises}
+use Rattle.pb_lan.specs.Plans.{IsNumber}
+use Rattle.pb_frame.specs.Lists.{Rises}
 use Rattle.toml.specs.Data.{Data, Items, no_items, item, as_array}
 use Rattle.pb_service.specs.declared.rule.Rule.TheVariants.{Number, BridgePriority, PortPriority, Losses}
 use Rattle.pb_service.specs.Values.{natural_of, rise_from, any_item, is_text}

@@ -6,7 +6,8 @@ use Rattle.std.specs.List.{AllByRecursion, AllZip, IsDistinct, flat_map}
 use Rattle.pb_frame.specs.Admission.{same}
 use Rattle.pb_frame.proofs.Lists.{All-flat_map}
 use Rattle.pb_lan.specs.Ports.{ends_of, all_ends}
-use Rattle.pb_lan.specs.Plans.{IsNumber, Rises, IsSoundBridge, IsSoundEnd, IsSoundCustomer, HasDistinctNames, IsWithinLimits, IsSound, is_same_port, used_ports}
+use Rattle.pb_lan.specs.Plans.{IsNumber, IsSoundBridge, IsSoundEnd, IsSoundCustomer, HasDistinctNames, IsWithinLimits, IsSound, is_same_port, used_ports}
+use Rattle.pb_frame.specs.Lists.{Rises}
 use Rattle.pb_lan.specs.declared.plan.Plan.{Plan}
 use Rattle.pb_lan.specs.declared.plan.BridgePlan.{BridgePlan}
 use Rattle.pb_lan.specs.declared.plan.End.{End}

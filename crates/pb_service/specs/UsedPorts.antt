@@ -1,5 +1,5 @@
 -- The local ports that are used so far.
-use Rattle.std.specs.Prelude.{Bool, List, ◌==◌, ◌&&◌, map}
+use Rattle.std.specs.Prelude.{Bool, List, map}
 use Rattle.std.specs.List.{list_any, IsDistinct}
 use Rattle.pb_lan.specs.Plans.{is_same_port}
 use Rattle.pb_lan.specs.declared.plan.End.{End}
@@ -7,7 +7,7 @@ use Rattle.pb_service.specs.declared.used.LocalPort.{LocalPort}
 
 -- the port is among those that are used
 abbrev pub is_used : List LocalPort → LocalPort → Bool
-is_used used port = list_any (λ p. p.bridge == port.bridge && p.port == port.port) used
+is_used used port = list_any (λ p. is_same_port (p.bridge, p.port) (port.bridge, port.port)) used
 
 -- no port is used twice
 abbrev pub AreUsedOnce : List LocalPort → Type 0

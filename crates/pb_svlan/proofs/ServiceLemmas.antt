@@ -5,8 +5,7 @@ use Rattle.std.specs.declared.option.Option.{Option}
 use Rattle.std.specs.Option.{option_map}
 use Rattle.indexmap.specs.IndexMap.{insert_entry}
 use Rattle.pb_frame.proofs.Lists.{All-imply}
-use Rattle.pb_frame.specs.Lists.{first}
-use Rattle.pb_svlan.specs.Ports.{IsAscending}
+use Rattle.pb_frame.specs.Lists.{first, Rises}
 use Rattle.pb_svlan.specs.ServiceTables.{place_of, role_in}
 use Rattle.pb_svlan.specs.declared.port.Attachment.{Attachment}
 use Rattle.std.proofs.Common.{eq-eqb, length, is_some, get_or, subst, ◌≡◌, ℕ, zero, suc, ◌<◌, ◌≤◌, Bool, true, false, cond, nat_lt, ◌||◌, ◌==◌, List, [], ◌∷◌, ◌++◌, map, insert, Some, None, refl, sym, ap, ◌∙◌, arith}
@@ -66,13 +65,13 @@ All-placed P (b ∷ others) a all h =
     [ true ↦ (all.0, All-placed P others a all.1 h) | false ↦ (h, all) ]
 
 -- ports that are ascending stay so
-pub ascending-placed : (ports : List Attachment) (a : Attachment) → IsAscending (map (λ a. a.port) ports) → role_in ports a.port ≡ None
-    → IsAscending (map (λ a. a.port) (insert ports (place_of a.port ports) a))
+pub ascending-placed : (ports : List Attachment) (a : Attachment) → Rises (map (λ a. a.port) ports) → role_in ports a.port ≡ None
+    → Rises (map (λ a. a.port) (insert ports (place_of a.port ports) a))
 ascending-placed [] a rise none = (tt, tt)
 ascending-placed (b ∷ others) a rise none =
     let differs = unlike (b.port == a.port) none in
     elim (nat_lt b.port a.port)
-    as (λ t. nat_lt b.port a.port ≡ t → IsAscending (map (λ a. a.port) (insert (b ∷ others) (cond t (suc (place_of a.port others)) 0) a))) [
+    as (λ t. nat_lt b.port a.port ≡ t → Rises (map (λ a. a.port) (insert (b ∷ others) (cond t (suc (place_of a.port others)) 0) a))) [
       | true ↦ λ e. (All-placed (λ m. b.port < m) others a rise.0 (below b.port a.port e), ascending-placed others a rise.1 differs.1)
       | false ↦ λ e. let l = above b.port a.port e differs.0 in ((l, All-imply (λ m. b.port < m) (λ m. a.port < m) (λ m k. omega (arith, l, k)) (map (λ a. a.port) others) rise.0), rise)
     ] refl
@@ -94,10 +93,10 @@ All-some P p (a ∷ others) all =
     elim (p a) as (λ t. AllByRecursion P (map (λ a. a.port) (cond t (a ∷ filter p others) (filter p others))))
     [ true ↦ (all.0, All-some P p others all.1) | false ↦ All-some P p others all.1 ]
 
-pub ascending-some : (p : Attachment → Bool) (ports : List Attachment) → IsAscending (map (λ a. a.port) ports) → IsAscending (map (λ a. a.port) (filter p ports))
+pub ascending-some : (p : Attachment → Bool) (ports : List Attachment) → Rises (map (λ a. a.port) ports) → Rises (map (λ a. a.port) (filter p ports))
 ascending-some p [] rise = tt
 ascending-some p (a ∷ others) rise =
-    elim (p a) as (λ t. IsAscending (map (λ a. a.port) (cond t (a ∷ filter p others) (filter p others))))
+    elim (p a) as (λ t. Rises (map (λ a. a.port) (cond t (a ∷ filter p others) (filter p others))))
     [ true ↦ (All-some (λ m. a.port < m) p others rise.0, ascending-some p others rise.1) | false ↦ ascending-some p others rise.1 ]
 
 -- nothing is there
@@ -106,12 +105,12 @@ none_from None h = refl
 none_from (Some x) h = cc
 
 -- ports with one more in its place
-pub ascending-attached : (ports others : List Attachment) (a : Attachment) → IsAscending (map (λ a. a.port) ports) → is_some (role_in ports a.port) ≡ false
-    → others ≡ insert ports (place_of a.port ports) a → IsAscending (map (λ a. a.port) others)
+pub ascending-attached : (ports others : List Attachment) (a : Attachment) → Rises (map (λ a. a.port) ports) → is_some (role_in ports a.port) ≡ false
+    → others ≡ insert ports (place_of a.port ports) a → Rises (map (λ a. a.port) others)
 ascending-attached ports others a rise free h = rw h (ascending-placed ports a rise (none_from (role_in ports a.port) free))
 
 -- where a port stands in its place among ascending ones, it is what is found
-pub found-there : (ports : List Attachment) (i port : ℕ) (a : Attachment) → IsAscending (map (λ a. a.port) ports) → i < length ports → a ≡ get_or ports i a → a.port ≡ port
+pub found-there : (ports : List Attachment) (i port : ℕ) (a : Attachment) → Rises (map (λ a. a.port) ports) → i < length ports → a ≡ get_or ports i a → a.port ≡ port
     → role_in ports port ≡ Some a.role
 found-there [] i port a rise within there is = absurd (omega arith)
 found-there (b ∷ others) zero port a rise within there is =

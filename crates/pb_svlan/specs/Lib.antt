@@ -1,4 +1,3 @@
 pub mod ServiceTables
 pub mod Entering
-pub mod Ports
 pub mod Reserving

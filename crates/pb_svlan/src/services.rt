@@ -5,7 +5,7 @@ ghost use Rattle.std.specs.List.{list_any, list_all};
 ghost use Rattle.pb_frame.specs.Admission.{same, is_admitted};
 ghost use Rattle.pb_svlan.specs.declared.port.Join.{Join};
 ghost use Rattle.pb_svlan.specs.Entering.{refusal, IsEntered};
-ghost use Rattle.pb_svlan.specs.Ports.{IsAscending};
+ghost use Rattle.pb_frame.specs.Lists.{Rises};
 ghost use Rattle.pb_svlan.specs.ServiceTables.{vid_of, is_known, are_known, has_name, has_vid, role_in, is_taken, is_member, is_member_as, role_at, attached, carried, vids_of, ports_of, pcp_of, vid_at, place_of};
 ghost use Rattle.pb_svlan.specs.declared.port.Role.TheVariants.{Customer, Trunk};
 
@@ -32,14 +32,14 @@ pub struct Services {
 
 impl Model for Services {
     ghost use Rattle.std.specs.Prelude.{◌≤◌, length, map};
-    ghost use Rattle.pb_svlan.specs.Ports.{IsAscending};
+    ghost use Rattle.pb_frame.specs.Lists.{Rises};
     ghost use Rattle.pb_svlan.specs.ServiceTables.{ServiceTable};
 
     ghost Value = { ServiceTable };
 
     ghost view = { λ s. record { services = s.services.entries; ports = s.ports.items } };
 
-    ghost invariant = { λ s. (length s.services.entries ≤ 64) × IsAscending (map (λ a. a.port) s.ports.items) };
+    ghost invariant = { λ s. (length s.services.entries ≤ 64) × Rises (map (λ a. a.port) s.ports.items) };
 }
 
 impl Services {
@@ -220,7 +220,7 @@ impl Services {
     /// The ports that are members of the service with this VID, ascending.
     pub fn ports_of(&self, alloc: Global, vid: u16) -> Result<Vec<u8>, Memory>
         ensures ports { IfOk result (λ ports. ports.items ≡ ports_of self.now vid) }
-        ensures ascending { IfOk result (λ ports. IsAscending ports.items) }
+        ensures ascending { IfOk result (λ ports. Rises ports.items) }
     {
         let _ = &self.ports;
         let members = self.members_of(alloc, vid)?;
@@ -310,7 +310,7 @@ impl Services {
 
 /// What the port is. Where the first ports all are something, a port's place is found at once.
 fn role_at(ports: &[Attachment], port: u8) -> Option<&Role>
-    requires { IsAscending (map (λ a. a.port) ports.now) }
+    requires { Rises (map (λ a. a.port) ports.now) }
     ensures { option_copied result ≡ role_in ports.now port }
 {
     match ports.get(usize::from(port.saturating_sub(1))) {

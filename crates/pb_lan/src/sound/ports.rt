@@ -2,8 +2,8 @@
 
 ghost use Rattle.std.specs.Prelude.{◌≡◌, ◌↔◌, ◌||◌, IsTrue, map};
 ghost use Rattle.std.specs.List.{list_any, IsDistinct};
-ghost use Rattle.pb_lan.specs.Plans.{is_same_port};
-ghost use Rattle.pb_lan.specs.UsedPorts.{ports_in, HasFreeEnds};
+ghost use Rattle.pb_lan.specs.Plans.{is_same_port, ports_in};
+ghost use Rattle.pb_lan.specs.UsedPorts.{HasFreeEnds};
 
 use crate::plan::{CustomerPlan, End, LinkPlan};
 

@@ -3,7 +3,8 @@
 ghost use Rattle.std.specs.Prelude.{◌↔◌, IsTrue, IfSome, length};
 ghost use Rattle.std.specs.List.{AllByRecursion};
 ghost use Rattle.pb_lan.specs.Ports.{all_ends};
-ghost use Rattle.pb_lan.specs.Plans.{IsNumber, Rises, IsSoundBridge, IsSoundEnd, IsSoundCustomer};
+ghost use Rattle.pb_lan.specs.Plans.{IsNumber, IsSoundBridge, IsSoundEnd, IsSoundCustomer};
+ghost use Rattle.pb_frame.specs.Lists.{Rises};
 
 use crate::plan::{BridgePlan, CustomerPlan, End, LinkPlan, Plan, ServicePlan};
 use pb_frame::Seq;

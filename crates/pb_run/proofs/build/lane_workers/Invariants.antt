@@ -1,7 +1,6 @@
 use Rattle.std.proofs.Common.{drop, map}
 use Rattle.std.specs.List.{AllByRecursion, IsDistinct}
-use Rattle.pb_lan.specs.Plans.{is_same_port}
-use Rattle.pb_lan.specs.UsedPorts.{ports_in}
+use Rattle.pb_lan.specs.Plans.{is_same_port, ports_in}
 use Rattle.pb_run.specs.Gifts.{AreLanes}
 use Rattle.pb_run.specs.Wires.{HasOuter}
 use Rattle.pb_run.proofs.build.lane_workers.Given as goal

@@ -1,7 +1,6 @@
 use Rattle.std.proofs.Common.{◌↔◌, length}
 use Rattle.std.specs.List.{IsDistinct}
-use Rattle.pb_lan.specs.Plans.{is_same_port}
-use Rattle.pb_lan.specs.UsedPorts.{ports_in}
+use Rattle.pb_lan.specs.Plans.{is_same_port, ports_in}
 use Rattle.pb_lan.proofs.sound.ports.ports_differ.Given as goal
 
 abbrev pub invariant-loop-rest : goal.invariant-loop-rest

@@ -15,6 +15,6 @@ returns c told fixed unset rules mark entry lawful unhindered =
     let of_entry : IsForest plan (start_shape plan) (vid_at plan entry) = subst (λ n. IsForest plan (start_shape plan) (vid_numbered plan n)) (sym unhindered.of_service) forest in
     let still = c.planned_states_stay.ensures rules plan rec fixed lawful unset in
     let traced = c.still_frames_are_traced.ensures rules plan rec lawful still mark entry unhindered.planned of_entry in
-    c.frames_arrive_exactly_once.ensures rules plan rec (start_shape plan) mark entry c.requires lawful traced
+    c.frames_arrive_exactly_once.ensures rules plan rec c.requires lawful (start_shape plan) mark entry traced
     ((c.is_drained.ensures rules plan c.requires lawful).0 told mark)
     unhindered.unhindered
