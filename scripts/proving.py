@@ -440,15 +440,22 @@ def words_of_tests(crate, made, jobs=1):
 
 
 def prove_tests(root, names, processors=None):
-    """Proves the tests of these crates, and leaves the program that runs them as out/NAME_tests of each."""
+    """Proves the tests of these crates, and leaves the program that runs them as out/NAME_tests of each. One that was made so of the same sources is kept."""
     crates = crates_of(root)
-    prove(root, [below.name for it in with_below(crates, names) if it.name in names for below in it.below()], processors)
+    below = with_below(crates, [it.name for name in names for it in crates[name].below()])
+    prove(root, [it.name for it in below], processors)
     prepare()
+    toolchain().Crate.stamp.cache_clear()
+    kept = kept_proofs(below)
     for crate in (crates[it] for it in names):
+        made, key = f"{crate.folder}/out/{crate.name}_tests", "\n".join([crate.stamp(), *sums_below(crate, kept), ""])
+        if os.path.exists(made) and toolchain().rtlib.text_of(f"{made}.proved") == key:
+            continue
         said = prove_tests_of(crate, processors or toolchain().processors())
         if said:
             print(f"{crate.name}: its tests are NOT PROVED:", *[it for it in said.splitlines() if not QUIET.match(it)][-60:], sep="\n", file=sys.stderr)
             raise Failed(crate.name)
+        write(f"{made}.proved", key)
         print(f"{crate.name}: its tests are proved", file=sys.stderr, flush=True)
 
 
