@@ -29,6 +29,8 @@ OF_RTLIB = "Crate KIT RATTLE crates_below files_of guarded lock text_of".split()
 PROGRESS = re.compile(r"checked (\S+), (\d+) of (\d+)$")
 PROGRESS_LINES = re.compile(r"(?m)^checked (\S+), \d+ of \d+$")
 PROVED = re.compile(r"(?m)^logic=proved .*\bfunctions=(\d+)")
+# Where a library has the texts of proofs.
+PROOFS = "lang/antt/proofs/"
 # Its lines that say nothing of why a crate is not proved.
 QUIET = re.compile(r"(checked \S+, \d|statements \w+: |logic /|by-macro: |(fn|enum|struct|impl|trait|type|const) \S+: proved$)")
 
@@ -133,15 +135,72 @@ def sum_of(path):
     return found.hexdigest()
 
 
+def sources_of(crate):
+    """Returns a sum of all that a proof of the crate is made from but the libraries below: rt's stamp has the sources of those too."""
+    rtlib = toolchain().rtlib
+    found = hashlib.sha256(repr((crate.said, crate.has_c, [it.name for it in crate.deps], rtlib.text_of(f"{rtlib.KIT}/WHAT"))).encode())
+    for file in rtlib.files_of(crate.folder):
+        found.update(repr((os.path.relpath(file, crate.folder), rtlib.text_of(file))).encode())
+    return found.hexdigest()
+
+
 def kept_proofs(crates):
     """Returns, by name, the sum of what each crate's kept proof left: a proof of its sources as they are, over the kept libraries below. The crates come lowest first."""
     kept = {}
     for crate in crates:
-        result, proved = result_of(crate)
-        said = (toolchain().rtlib.text_of(proved) or "").split("\n")
-        if os.path.exists(result) and said[0] == crate.stamp() and said[2:-1] == sums_below(crate, kept):
-            kept[crate.name] = said[1]
+        found = kept_sum(crate, kept)
+        if found:
+            kept[crate.name] = found
     return kept
+
+
+def kept_sum(crate, kept):
+    """Returns the sum of what the crate's kept proof left, where it is one of the sources as they are, over these libraries below."""
+    result, proved = result_of(crate)
+    said = (toolchain().rtlib.text_of(proved) or "").split("\n")
+    if not os.path.exists(result) or said[2:-1] != sums_below(crate, kept) or said[0] != sources_of(crate):
+        return None
+    if crate.makes_rlib() and toolchain().rtlib.text_of(kept_in(crate, "stamp")) != crate.stamp():
+        # (below it proofs have changed, and nothing that is stated)
+        write(kept_in(crate, "stamp"), crate.stamp())
+    return said[1]
+
+
+def states_alike(crate, before, after):
+    """Returns whether two libraries of a crate state the same: they differ in texts of proofs alone, which no other crate of the tree names."""
+    for file in {*files_in(before), *files_in(after)}:
+        old, new = octets_of(f"{before}/{file}"), octets_of(f"{after}/{file}")
+        if file == "format":
+            # (its line `sum` covers the texts of proofs)
+            old, new = (re.sub(rb"(?m)^sum \w+$", b"", it) for it in (old, new))
+        if file == f"{PROOFS}Lib.antt" and {*old.splitlines()} <= {*new.splitlines()}:
+            continue
+        if old != new and not (file.startswith(PROOFS) and is_own(crate, file[len(PROOFS) : -len(".antt")])):
+            return False
+    return True
+
+
+def octets_of(file):
+    """Returns what a file holds, or nothing where there is none."""
+    if not os.path.isfile(file):
+        return b""
+    with open(file, "rb") as it:
+        return it.read()
+
+
+def files_in(folder):
+    """Returns the paths of all files below a folder, from there on."""
+    return [os.path.relpath(f"{at}/{it}", folder) for at, _, names in os.walk(folder) for it in names]
+
+
+def is_own(crate, module):
+    """Returns whether no other crate of the tree names this module of the crate's proofs. (Nor does any name the list of all, Lib.)"""
+    if module == "Lib":
+        return False
+    ways = [f"{crate.name}{way}proofs{way}{module.replace('/', way)}" for way in (".", "::")]
+    tree = os.path.dirname(crate.folder)
+    others = (f"{tree}/{it}" for it in os.listdir(tree) if it != os.path.basename(crate.folder))
+    return not any(way in (toolchain().rtlib.text_of(file) or "") for it in others for file in toolchain().rtlib.files_of(it) for way in ways)
 
 
 def sums_below(crate, kept):
@@ -158,7 +217,7 @@ def keep_proof(crate, stamp, kept):
         # itself has built a lower library anew and a higher one kept its stamp, as after an edit that was taken back, rt stops
         # with `unusable-built-library`; this script then mends that.
         write(kept_in(crate, "stamp"), stamp)
-    write(result_of(crate)[1], "\n".join([stamp, own, *sums_below(crate, kept), ""]))
+    write(result_of(crate)[1], "\n".join([sources_of(crate), own, *sums_below(crate, kept), ""]))
     kept[crate.name] = own
 
 
@@ -177,6 +236,7 @@ class Proof:
         self.seconds = before.get("user", 0) + before.get("sys", 0)
         self.memory = toolchain().need(crate)
         self.done, self.jobs, self.began, self.ended = 0, 0, None, None
+        self.was_proved = self.is_kept = False
         self.ran = Ran(0, "", 0.0, 0.0, 0.0)
 
     def hear(self, line):
@@ -194,8 +254,13 @@ class Proof:
     def prove(self, jobs, room, kept):
         """Proves the crate from nothing, builds its library or its program, and returns whether both did well."""
         crate, self.jobs, self.began = self.crate, jobs, time.time()
+        if kept_sum(crate, kept):
+            # (what was proved below since the queue was made states what it stated)
+            kept[crate.name], self.is_kept = kept_sum(crate, kept), True
+            return True
         room = tempfile.mkdtemp(prefix=f"{self.name}-", dir=room)
         result, proved = result_of(crate)
+        self.was_proved = os.path.exists(proved)
         with contextlib.suppress(FileNotFoundError):
             os.remove(proved)
         stamp = crate.stamp()
@@ -220,10 +285,16 @@ class Proof:
         return well
 
     def library(self, words, result, room):
-        """Builds the library that those above are proved over."""
-        shutil.rmtree(os.path.dirname(result), ignore_errors=True)
-        os.makedirs(os.path.dirname(result))
-        return self.step(["build", *words, "-o", result], room)
+        """Builds the library that those above are proved over. One that states the same and was there stays, so that those above need no new proof."""
+        made = f"{room}/made/{os.path.basename(result)}"
+        os.makedirs(os.path.dirname(made))
+        if not self.step(["build", *words, "-o", made], room):
+            return False
+        if not (self.was_proved and states_alike(self.crate, result, made)):
+            shutil.rmtree(os.path.dirname(result), ignore_errors=True)
+            os.makedirs(os.path.dirname(result))
+            shutil.move(made, result)
+        return True
 
     def program(self, words, result, room):
         """Compiles the proved program by LLVM and links it, as the gate does."""
@@ -353,6 +424,8 @@ class Told:
             self.line(f"{proof.name} NOT PROVED:")
             kept = [it for it in proof.ran.said.splitlines() if it.strip() and not QUIET.match(it)]
             print(*kept[-60:], sep="\n", file=sys.stderr, flush=True)
+        elif proof.is_kept and not self.is_terminal:
+            self.line(f"{proof.name}: its proof is kept, since what is stated below it is what it was")
         elif not self.is_terminal:
             self.line(f"{proof.name} proved: {proof.functions or 0:,} functions, {proof.ran.wall:.0f} s")
 
