@@ -1,9 +1,32 @@
 //! The frames that entered and left.
 
 use bytes::Bytes;
+use pb_frame::Memory;
 use pb_lan::{FrameNumber, Item, Mark, Record, Seq, Step, entered, left};
 use std::alloc::{AllocError, Global};
 use std::test::Fail;
+
+/// What a customer port does with a frame.
+#[derive(Clone, Copy)]
+enum Deed {
+    /// It comes in.
+    Poll,
+    /// It is handed on.
+    Feed,
+    /// It leaves, and the port takes it.
+    Deliver,
+    /// It comes to a port that is gone.
+    Miss,
+}
+
+/// What a customer port did with a frame of customer port 1: the frame's number, and its only octet.
+type Did = (Deed, u64, u8);
+
+/// By customer port, what it did.
+const DONE: &[&[Did]] = &[
+    &[(Deed::Poll, 0, 7), (Deed::Feed, 0, 7), (Deed::Poll, 1, 8)],
+    &[(Deed::Deliver, 0, 7), (Deed::Miss, 1, 8)],
+];
 
 /// A frame of customer port 1, of one octet.
 fn item(alloc: Global, number: u64, octet: u8) -> Result<Item, AllocError> {
@@ -17,50 +40,93 @@ fn item(alloc: Global, number: u64, octet: u8) -> Result<Item, AllocError> {
     })
 }
 
-#[test]
-fn frames_enter_and_leave(rt: HostRuntime) -> Result<(), Fail> {
-    let alloc = rt.alloc();
-    let first = Seq::from_vec(vec![in alloc;
-        Step::Poll {
-            item: item(alloc, 0, 7)?
-        },
-        Step::Feed {
-            item: item(alloc, 0, 7)?
-        },
-        Step::Poll {
-            item: item(alloc, 1, 8)?
-        },
-    ]?);
-    let second = Seq::from_vec(vec![in alloc;
-        Step::Deliver {
-            item: item(alloc, 0, 7)?,
-            gone: false
-        },
-        Step::Deliver {
-            item: item(alloc, 1, 8)?,
-            gone: true
-        },
-    ]?);
-    let rec = Record {
+fn step(alloc: Global, deed: Deed, number: u64, octet: u8) -> Result<Step, AllocError> {
+    let item = item(alloc, number, octet)?;
+    Ok(match deed {
+        Deed::Poll => Step::Poll { item },
+        Deed::Feed => Step::Feed { item },
+        Deed::Deliver => Step::Deliver { item, gone: false },
+        Deed::Miss => Step::Deliver { item, gone: true },
+    })
+}
+
+/// The steps of a customer port.
+fn steps(alloc: Global, all: &[Did]) -> Result<Seq<Step>, AllocError> {
+    let mut steps = Vec::new(alloc);
+    for (deed, number, octet) in all {
+        steps.push(step(alloc, *deed, *number, *octet)?)?;
+    }
+    Ok(Seq::from_vec(steps))
+}
+
+/// The steps of all customer ports.
+fn customers(alloc: Global, all: &[&[Did]]) -> Result<Seq<Seq<Step>>, AllocError> {
+    let mut customers = Vec::new(alloc);
+    for did in all {
+        customers.push(steps(alloc, did)?)?;
+    }
+    Ok(Seq::from_vec(customers))
+}
+
+/// The record of it.
+fn record(alloc: Global, all: &[&[Did]]) -> Result<Record, AllocError> {
+    let customers = customers(alloc, all)?;
+    Ok(Record {
         bridges: Seq::from_vec(Vec::new(alloc)),
         lanes: Seq::from_vec(Vec::new(alloc)),
-        customers: Seq::from_vec(vec![in alloc; first, second]?),
-    };
-    let seven = Bytes::copy_from_slice(alloc, &[7])?;
-    let eight = Bytes::copy_from_slice(alloc, &[8])?;
-    assert!(rt; entered(alloc, &rec, 1)? == vec![in alloc; seven.clone()?, eight]?);
-    assert!(rt; left(alloc, &rec, 1)?.is_empty());
-    assert!(rt; entered(alloc, &rec, 2)?.is_empty());
-    assert!(rt; left(alloc, &rec, 2)? == vec![in alloc; seven]?);
-    assert!(rt; entered(alloc, &rec, 0)?.is_empty());
-    assert!(rt; left(alloc, &rec, 3)?.is_empty());
+        customers,
+    })
+}
+
+/// Whether these are the frames, each of one octet.
+fn are(frames: &[Bytes], wanted: &[u8]) -> bool {
+    for (frame, octet) in frames.iter().zip(wanted) {
+        if frame.as_slice() != [*octet].as_slice() {
+            return false;
+        }
+    }
+    frames.len() == wanted.len()
+}
+
+/// A customer port, and the octets of the frames that entered and left there.
+const FRAMES: &[(u8, &[u8], &[u8])] = &[
+    (0, &[], &[]),
+    (1, &[7, 8], &[]),
+    (2, &[], &[7]),
+    (3, &[], &[]),
+];
+
+/// Whether these frames entered at a customer port.
+fn came(alloc: Global, record: &Record, port: u8, wanted: &[u8]) -> Result<bool, Memory> {
+    let frames = entered(alloc, record, port)?;
+    Ok(are(&frames, wanted))
+}
+
+/// Whether these frames left there.
+fn went(alloc: Global, record: &Record, port: u8, wanted: &[u8]) -> Result<bool, Memory> {
+    let frames = left(alloc, record, port)?;
+    Ok(are(&frames, wanted))
+}
+
+#[test]
+fn frames_enter_and_leave(rt: HostRuntime) -> Result<(), Fail> {
+    let record = record(rt.alloc(), DONE)?;
+    for (port, entered, left) in FRAMES {
+        assert!(rt; came(rt.alloc(), &record, *port, entered)?, "in {port}");
+        assert!(rt; went(rt.alloc(), &record, *port, left)?, "out {port}");
+    }
     Ok(())
+}
+
+/// Whether the copy of an item is equal to it.
+fn copies(alloc: Global) -> Result<bool, AllocError> {
+    let first = item(alloc, 3, 9)?;
+    let copy = first.clone()?;
+    Ok(copy == first)
 }
 
 #[test]
 fn copies_of_items_are_equal(rt: HostRuntime) -> Result<(), Fail> {
-    let alloc = rt.alloc();
-    let first = item(alloc, 3, 9)?;
-    assert!(rt; first.clone()? == first);
+    assert!(rt; copies(rt.alloc())?);
     Ok(())
 }

@@ -1,59 +1,98 @@
 //! Sound plans, and copies.
 
-use super::{bridge, customer, end, link, service, two_bridges};
-use pb_lan::{Plan, Seq, plan_is_sound};
+use super::draft::{B1, Bridge, C1, Draft, Joint, L1, SIDE, Service, Side, Site, TWO_BRIDGES};
+use super::made::plan_of;
+use pb_lan::plan_is_sound;
+use std::alloc::{AllocError, Global};
+use std::process::Abort;
 use std::test::Fail;
 
-#[test]
-fn plans_are_sound(rt: HostRuntime) -> Result<(), Fail> {
-    let alloc = rt.alloc();
-    assert!(rt; plan_is_sound(&two_bridges(alloc)?));
-    let bare = Plan {
-        bridges: Seq::from_vec(Vec::new(alloc)),
-        links: Seq::from_vec(Vec::new(alloc)),
-        services: Seq::from_vec(Vec::new(alloc)),
-        customers: Seq::from_vec(Vec::new(alloc)),
-        ..two_bridges(alloc)?
-    };
-    assert!(rt; plan_is_sound(&bare), "a plan of nothing");
+/// Whether the plan of a draft is sound.
+pub(super) fn is_sound(alloc: Global, draft: &Draft) -> Result<bool, AllocError> {
+    let plan = plan_of(alloc, draft)?;
+    Ok(plan_is_sound(&plan))
+}
+
+/// The plan of a draft is sound, or it is not.
+pub(super) fn stands(
+    rt: &impl Abort,
+    alloc: Global,
+    draft: &Draft,
+    sound: bool,
+    what: &str,
+) -> Result<(), Fail> {
+    let found = is_sound(alloc, draft)?;
+    assert!(rt; found == sound, "{what}");
     Ok(())
 }
 
+/// A plan of nothing.
+const BARE: Draft = Draft {
+    bridges: &[],
+    links: &[],
+    services: &[],
+    customers: &[],
+    ..TWO_BRIDGES
+};
+
+#[test]
+fn plans_are_sound(rt: HostRuntime) -> Result<(), Fail> {
+    stands(&rt, rt.alloc(), &TWO_BRIDGES, true, "two bridges")?;
+    stands(&rt, rt.alloc(), &BARE, true, "a plan of nothing")
+}
+
+/// One bridge whose ports are joined, with all numbers at their limits.
+const LIMITS: Draft = Draft {
+    bridges: &[Bridge {
+        priority: 61440,
+        queue: 4096,
+        ..B1
+    }],
+    links: &[Joint {
+        a: Side {
+            port: 16,
+            cost: 200_000_000,
+            priority: 240,
+            services: Some(&[1, 2]),
+            ..SIDE
+        },
+        b: Side { port: 15, ..SIDE },
+        lost_ab: &[0, 1, u64::MAX],
+        ..L1
+    }],
+    services: &[
+        Service { name: "a", vid: 1 },
+        Service {
+            name: "b",
+            vid: 4094,
+        },
+    ],
+    customers: &[Site {
+        port: 14,
+        service: 2,
+        pcp: 7,
+        queue: 4096,
+        ..C1
+    }],
+    ageing: 1_000_000,
+    ring: 4096,
+    ..TWO_BRIDGES
+};
+
 #[test]
 fn the_limits_themselves_are_sound(rt: HostRuntime) -> Result<(), Fail> {
-    let alloc = rt.alloc();
-    let mut b1 = bridge(alloc, "B1", 1)?;
-    b1.priority = 61440;
-    b1.queue = 4096;
-    let mut a = end(1, 16);
-    a.cost = 200_000_000;
-    a.priority = 240;
-    a.services = Some(Seq::from_vec(vec![in alloc; 1, 2]?));
-    let mut lossy = link(alloc, "L1", a, end(1, 15))?;
-    lossy.lost_ab = Seq::from_vec(vec![in alloc; 0, 1, u64::MAX]?);
-    let mut c1 = customer(alloc, "C1", 1, 14, 2)?;
-    c1.pcp = 7;
-    c1.queue = 4096;
-    let plan = Plan {
-        bridges: Seq::from_vec(vec![in alloc; b1]?),
-        links: Seq::from_vec(vec![in alloc; lossy]?),
-        services: Seq::from_vec(vec![in alloc;
-            service(alloc, "a", 1)?,
-            service(alloc, "b", 4094)?,
-        ]?),
-        customers: Seq::from_vec(vec![in alloc; c1]?),
-        ageing: 1_000_000,
-        ring: 4096,
-        ..two_bridges(alloc)?
-    };
-    assert!(rt; plan_is_sound(&plan));
-    Ok(())
+    stands(&rt, rt.alloc(), &LIMITS, true, "limits")
+}
+
+/// Whether the copy of a draft's plan is equal to it.
+fn copies(alloc: Global, draft: &Draft) -> Result<bool, AllocError> {
+    let plan = plan_of(alloc, draft)?;
+    let copy = plan.clone()?;
+    Ok(copy == plan)
 }
 
 #[test]
 fn copies_are_equal(rt: HostRuntime) -> Result<(), Fail> {
-    let alloc = rt.alloc();
-    let plan = two_bridges(alloc)?;
-    assert!(rt; plan.clone()? == plan);
+    assert!(rt; copies(rt.alloc(), &TWO_BRIDGES)?);
     Ok(())
 }

@@ -1,81 +1,130 @@
 //! The states of ports, at the start and after a port went down.
 
-use super::two_bridges;
-use pb_lan::PortState::{Discarding, Forwarding};
+use super::draft::{Draft, TWO_BRIDGES};
+use super::made::{plan_of, seq};
+use pb_frame::Memory;
 use pb_lan::{
-    Moved, Plan, PortState, Record, Seq, Spanning, Step, last_shape, plan_is_sound, start_shape,
+    Moved, PortState, Record, Seq, Shape, Spanning, Step, last_shape, plan_is_sound, start_shape,
 };
 use std::alloc::{AllocError, Global};
 use std::test::Fail;
 
-/// Whether the first three ports of a bridge have these states, and the others are Discarding.
-fn begin_with(bridge: &Seq<PortState>, three: [PortState; 3]) -> bool {
-    let states = bridge.as_slice();
-    states.starts_with(&three) && states.len() == 16 && states.ends_with(&[Discarding; 13])
+/// Columns of tables, one for each local port of a bridge.
+const D: PortState = PortState::Discarding;
+
+const F: PortState = PortState::Forwarding;
+
+/// Whether the ports of all bridges have these states.
+fn are(shape: &Shape, wanted: &[&[PortState]]) -> bool {
+    let bridges = shape.states.as_slice();
+    for (bridge, states) in bridges.iter().zip(wanted) {
+        if bridge.as_slice() != *states {
+            return false;
+        }
+    }
+    bridges.len() == wanted.len()
+}
+
+/// Whether the plan of a draft is sound, and its ports start so.
+fn start(alloc: Global, draft: &Draft, wanted: &[&[PortState]]) -> Result<bool, Memory> {
+    let plan = plan_of(alloc, draft)?;
+    if !plan_is_sound(&plan) {
+        return Ok(false);
+    }
+    let shape = start_shape(alloc, &plan)?;
+    Ok(are(&shape, wanted))
 }
 
 #[test]
 fn ports_start_as_planned(rt: HostRuntime) -> Result<(), Fail> {
-    let alloc = rt.alloc();
-    let plan = two_bridges(alloc)?;
-    assert!(rt; plan_is_sound(&plan));
-    let shape = start_shape(alloc, &plan)?;
-    let bridges = shape.states.as_slice();
-    assert_eq!(rt; bridges.len(), 2);
-    assert!(rt; begin_with(&bridges[0], [Forwarding, Forwarding, Discarding]));
-    assert!(rt; begin_with(&bridges[1], [Forwarding, Forwarding, Forwarding]));
+    const STATES: &[&[PortState]] = &[
+        &[F, F, D, D, D, D, D, D, D, D, D, D, D, D, D, D],
+        &[F, F, F, D, D, D, D, D, D, D, D, D, D, D, D, D],
+    ];
+    assert!(rt; start(rt.alloc(), &TWO_BRIDGES, STATES)?);
     Ok(())
 }
+
+/// The two bridges under the spanning tree.
+const UNDER_THE_TREE: Draft = Draft {
+    spanning: Spanning::Rstp,
+    ..TWO_BRIDGES
+};
 
 #[test]
 fn provider_ports_start_discarding_under_the_spanning_tree(rt: HostRuntime) -> Result<(), Fail> {
-    let alloc = rt.alloc();
-    let plan = Plan {
-        spanning: Spanning::Rstp,
-        ..two_bridges(alloc)?
-    };
-    assert!(rt; plan_is_sound(&plan));
-    let shape = start_shape(alloc, &plan)?;
-    let bridges = shape.states.as_slice();
-    assert_eq!(rt; bridges.len(), 2);
-    assert!(rt; begin_with(&bridges[0], [Discarding, Forwarding, Discarding]));
+    const STATES: &[&[PortState]] = &[
+        &[D, F, D, D, D, D, D, D, D, D, D, D, D, D, D, D],
+        &[D, F, F, D, D, D, D, D, D, D, D, D, D, D, D, D],
+    ];
+    assert!(rt; start(rt.alloc(), &UNDER_THE_TREE, STATES)?);
     Ok(())
 }
 
-/// A bridge's step by which its port 1 went down.
-fn went_down(alloc: Global) -> Result<Step, AllocError> {
-    Ok(Step::Admin {
+/// The state that a port changed to, and the port where what was learnt is forgotten.
+fn moved(alloc: Global, states: &[(u8, PortState)], flushed: &[u8]) -> Result<Moved, AllocError> {
+    let states = seq(alloc, states)?;
+    let flushed = seq(alloc, flushed)?;
+    Ok(Moved {
+        states,
+        flushed,
+        queued: Seq::from_vec(Vec::new(alloc)),
+        dropped: Seq::from_vec(Vec::new(alloc)),
+    })
+}
+
+/// The steps of a bridge whose port 1 went down.
+fn went_down(alloc: Global) -> Result<Vec<Step>, AllocError> {
+    const STATES: &[(u8, PortState)] = &[(1, D)];
+    let mut steps = Vec::new(alloc);
+    steps.push(Step::Admin {
         port: 1,
         up: false,
-        moved: Moved {
-            states: Seq::from_vec(vec![in alloc; (1, Discarding)]?),
-            flushed: Seq::from_vec(vec![in alloc; 1]?),
-            queued: Seq::from_vec(Vec::new(alloc)),
-            dropped: Seq::from_vec(Vec::new(alloc)),
-        },
-    })
+        moved: moved(alloc, STATES, &[1])?,
+    })?;
+    Ok(steps)
+}
+
+/// The steps of two bridges: port 1 of the first went down.
+fn steps(alloc: Global) -> Result<Vec<Seq<Step>>, AllocError> {
+    let mut bridges = Vec::new(alloc);
+    bridges.push(Seq::from_vec(went_down(alloc)?))?;
+    bridges.push(Seq::from_vec(Vec::new(alloc)))?;
+    Ok(bridges)
 }
 
 /// The record in which port 1 of the first bridge went down.
 fn record(alloc: Global) -> Result<Record, AllocError> {
-    let first = Seq::from_vec(vec![in alloc; went_down(alloc)?]?);
-    let second = Seq::from_vec(Vec::new(alloc));
+    let bridges = steps(alloc)?;
     Ok(Record {
-        bridges: Seq::from_vec(vec![in alloc; first, second]?),
+        bridges: Seq::from_vec(bridges),
         lanes: Seq::from_vec(Vec::new(alloc)),
         customers: Seq::from_vec(Vec::new(alloc)),
     })
 }
 
+/// Whether the plan of a draft is sound, and its ports stand so at the end of the record.
+fn end(
+    alloc: Global,
+    draft: &Draft,
+    record: &Record,
+    wanted: &[&[PortState]],
+) -> Result<bool, Memory> {
+    let plan = plan_of(alloc, draft)?;
+    if !plan_is_sound(&plan) {
+        return Ok(false);
+    }
+    let shape = last_shape(alloc, &plan, record)?;
+    Ok(are(&shape, wanted))
+}
+
 #[test]
 fn a_port_that_went_down_is_discarding(rt: HostRuntime) -> Result<(), Fail> {
-    let alloc = rt.alloc();
-    let plan = two_bridges(alloc)?;
-    assert!(rt; plan_is_sound(&plan));
-    let shape = last_shape(alloc, &plan, &record(alloc)?)?;
-    let bridges = shape.states.as_slice();
-    assert_eq!(rt; bridges.len(), 2);
-    assert!(rt; begin_with(&bridges[0], [Discarding, Forwarding, Discarding]));
-    assert!(rt; begin_with(&bridges[1], [Forwarding, Forwarding, Forwarding]));
+    const STATES: &[&[PortState]] = &[
+        &[D, F, D, D, D, D, D, D, D, D, D, D, D, D, D, D],
+        &[F, F, F, D, D, D, D, D, D, D, D, D, D, D, D, D],
+    ];
+    let record = record(rt.alloc())?;
+    assert!(rt; end(rt.alloc(), &TWO_BRIDGES, &record, STATES)?);
     Ok(())
 }

@@ -1,213 +1,266 @@
 //! Plans that break one rule each.
 
-use super::{bridge, customer, end, link, service, two_bridges};
-use pb_lan::{BridgePlan, CustomerPlan, End, LinkPlan, Mac, Plan, Seq, ServicePlan, plan_is_sound};
+use super::draft::{
+    B1, BLUE, Bridge, C1, C2, Draft, Joint, L1, More, RED, SIDE, Service, Side, Site, TWO_BRIDGES,
+};
+use super::plans::{is_sound, stands};
+use pb_lan::Mac;
+use std::alloc::Global;
 use std::process::Abort;
 use std::test::Fail;
 
-/// The plan is unsound with this further bridge.
-fn refuses_bridge(rt: &(impl Abort + AllocGlobal), odd: BridgePlan, why: &str) -> Result<(), Fail> {
-    let alloc = rt.alloc();
-    let plan = Plan {
-        bridges: Seq::from_vec(vec![in alloc;
-            bridge(alloc, "B1", 1)?,
-            bridge(alloc, "B2", 2)?,
-            odd,
-        ]?),
-        ..two_bridges(alloc)?
-    };
-    assert!(rt; !plan_is_sound(&plan), "{why}");
-    Ok(())
-}
-
-/// The plan is unsound with this further link.
-fn refuses_link(rt: &(impl Abort + AllocGlobal), odd: LinkPlan, why: &str) -> Result<(), Fail> {
-    let alloc = rt.alloc();
-    let plan = Plan {
-        links: Seq::from_vec(vec![in alloc; link(alloc, "L1", end(1, 1), end(2, 1))?, odd]?),
-        ..two_bridges(alloc)?
-    };
-    assert!(rt; !plan_is_sound(&plan), "{why}");
-    Ok(())
-}
-
-/// The plan is unsound with a further link from this end.
-fn refuses_end(rt: &(impl Abort + AllocGlobal), odd: End, why: &str) -> Result<(), Fail> {
-    let alloc = rt.alloc();
-    refuses_link(rt, link(alloc, "L2", odd, end(2, 5))?, why)
-}
-
-/// The plan is unsound with these services.
-fn refuses_services(
-    rt: &(impl Abort + AllocGlobal),
-    services: Vec<ServicePlan>,
-    why: &str,
+/// The plan of a draft is unsound with each of these more, for what is told.
+fn all_break(
+    rt: &impl Abort,
+    alloc: Global,
+    draft: &Draft,
+    rows: &[(More, &str)],
 ) -> Result<(), Fail> {
-    let alloc = rt.alloc();
-    let plan = Plan {
-        services: Seq::from_vec(services),
-        ..two_bridges(alloc)?
-    };
-    assert!(rt; !plan_is_sound(&plan), "{why}");
+    for (more, why) in rows {
+        let odd = Draft {
+            more: *more,
+            ..*draft
+        };
+        stands(rt, alloc, &odd, false, why)?;
+    }
     Ok(())
 }
 
-/// The plan is unsound with this one customer port.
-fn refuses_customer(
-    rt: &(impl Abort + AllocGlobal),
-    odd: CustomerPlan,
-    why: &str,
-) -> Result<(), Fail> {
-    let alloc = rt.alloc();
-    let plan = Plan {
-        customers: Seq::from_vec(vec![in alloc; customer(alloc, "C1", 1, 2, 1)?, odd]?),
-        ..two_bridges(alloc)?
-    };
-    assert!(rt; !plan_is_sound(&plan), "{why}");
-    Ok(())
-}
+/// A bridge B3.
+const B3: Bridge = Bridge {
+    name: "B3",
+    address: Mac([2, 0, 0, 0, 0, 3]),
+    ..B1
+};
 
 #[test]
 fn unsound_bridges(rt: HostRuntime) -> Result<(), Fail> {
-    let alloc = rt.alloc();
-    let mut odd = bridge(alloc, "B3", 3)?;
-    odd.priority = 4095;
-    refuses_bridge(&rt, odd, "a priority that is no multiple of 4096")?;
-    let mut odd = bridge(alloc, "B3", 3)?;
-    odd.queue = 0;
-    refuses_bridge(&rt, odd, "no room")?;
-    let mut odd = bridge(alloc, "B3", 3)?;
-    odd.queue = 4097;
-    refuses_bridge(&rt, odd, "too much room")?;
-    let mut odd = bridge(alloc, "B3", 3)?;
-    odd.address = Mac([1, 0, 0, 0, 0, 3]);
-    refuses_bridge(&rt, odd, "a group address")?;
-    refuses_bridge(&rt, bridge(alloc, "B1", 3)?, "a name twice")?;
-    refuses_bridge(&rt, bridge(alloc, "B3", 2)?, "an address twice")
+    const ROWS: &[(More, &str)] = &[
+        (
+            More::Bridge(Bridge {
+                priority: 4095,
+                ..B3
+            }),
+            "a priority that is no multiple of 4096",
+        ),
+        (More::Bridge(Bridge { queue: 0, ..B3 }), "no room"),
+        (More::Bridge(Bridge { queue: 4097, ..B3 }), "too much room"),
+        (
+            More::Bridge(Bridge {
+                address: Mac([1, 0, 0, 0, 0, 3]),
+                ..B3
+            }),
+            "a group address",
+        ),
+        (More::Bridge(Bridge { name: "B1", ..B3 }), "a name twice"),
+        (
+            More::Bridge(Bridge {
+                address: Mac([2, 0, 0, 0, 0, 2]),
+                ..B3
+            }),
+            "an address twice",
+        ),
+    ];
+    all_break(&rt, rt.alloc(), &TWO_BRIDGES, ROWS)
 }
+
+/// An end at B1 port 4.
+const NEAR: Side = Side { port: 4, ..SIDE };
+
+/// An end at B2 port 4.
+const FAR: Side = Side { bridge: 2, ..NEAR };
+
+/// A link from B1 port 4 to B2 port 4.
+const L2: Joint = Joint {
+    name: "L2",
+    a: NEAR,
+    b: FAR,
+    ..L1
+};
 
 #[test]
 fn unsound_links(rt: HostRuntime) -> Result<(), Fail> {
-    let alloc = rt.alloc();
-    refuses_link(
-        &rt,
-        link(alloc, "L1", end(1, 4), end(2, 4))?,
-        "a name twice",
-    )?;
-    refuses_link(
-        &rt,
-        link(alloc, "L2", end(1, 4), end(1, 4))?,
-        "both ends at one port",
-    )?;
-    refuses_link(
-        &rt,
-        link(alloc, "L2", end(1, 1), end(2, 4))?,
-        "a port of another link",
-    )?;
-    refuses_link(
-        &rt,
-        link(alloc, "L2", end(1, 4), end(2, 3))?,
-        "a customer port",
-    )?;
-    let mut odd = link(alloc, "L2", end(1, 4), end(2, 4))?;
-    odd.lost_ba = Seq::from_vec(vec![in alloc; 3, 3]?);
-    refuses_link(&rt, odd, "a loss twice")
+    const ROWS: &[(More, &str)] = &[
+        (More::Link(Joint { name: "L1", ..L2 }), "a name twice"),
+        (More::Link(Joint { b: NEAR, ..L2 }), "both ends at one port"),
+        (
+            More::Link(Joint { a: SIDE, ..L2 }),
+            "a port of another link",
+        ),
+        (
+            More::Link(Joint {
+                b: Side { port: 3, ..FAR },
+                ..L2
+            }),
+            "a customer port",
+        ),
+        (
+            More::Link(Joint {
+                lost_ba: &[3, 3],
+                ..L2
+            }),
+            "a loss twice",
+        ),
+    ];
+    all_break(&rt, rt.alloc(), &TWO_BRIDGES, ROWS)
 }
+
+/// A link from B1 port 4 to B2 port 5.
+const TO_5: Joint = Joint {
+    b: Side { port: 5, ..FAR },
+    ..L2
+};
 
 #[test]
 fn unsound_ends(rt: HostRuntime) -> Result<(), Fail> {
-    let alloc = rt.alloc();
-    refuses_end(&rt, end(3, 4), "a bridge that is not there")?;
-    refuses_end(&rt, end(0, 4), "bridge 0")?;
-    refuses_end(&rt, end(1, 17), "port 17")?;
-    let mut odd = end(1, 4);
-    odd.cost = 0;
-    refuses_end(&rt, odd, "no cost")?;
-    let mut odd = end(1, 4);
-    odd.cost = 200_000_001;
-    refuses_end(&rt, odd, "too high a cost")?;
-    let mut odd = end(1, 4);
-    odd.priority = 8;
-    refuses_end(&rt, odd, "a priority that is no multiple of 16")?;
-    let mut odd = end(1, 4);
-    odd.services = Some(Seq::from_vec(vec![in alloc; 2, 1]?));
-    refuses_end(&rt, odd, "services that fall")?;
-    let mut odd = end(1, 4);
-    odd.services = Some(Seq::from_vec(vec![in alloc; 3]?));
-    refuses_end(&rt, odd, "a service that is not there")
+    const ROWS: &[(More, &str)] = &[
+        (
+            More::Link(Joint {
+                a: Side { bridge: 3, ..NEAR },
+                ..TO_5
+            }),
+            "a bridge that is not there",
+        ),
+        (
+            More::Link(Joint {
+                a: Side { bridge: 0, ..NEAR },
+                ..TO_5
+            }),
+            "bridge 0",
+        ),
+        (
+            More::Link(Joint {
+                a: Side { port: 17, ..NEAR },
+                ..TO_5
+            }),
+            "port 17",
+        ),
+        (
+            More::Link(Joint {
+                a: Side { cost: 0, ..NEAR },
+                ..TO_5
+            }),
+            "no cost",
+        ),
+        (
+            More::Link(Joint {
+                a: Side {
+                    cost: 200_000_001,
+                    ..NEAR
+                },
+                ..TO_5
+            }),
+            "too high a cost",
+        ),
+        (
+            More::Link(Joint {
+                a: Side {
+                    priority: 8,
+                    ..NEAR
+                },
+                ..TO_5
+            }),
+            "a priority that is no multiple of 16",
+        ),
+        (
+            More::Link(Joint {
+                a: Side {
+                    services: Some(&[2, 1]),
+                    ..NEAR
+                },
+                ..TO_5
+            }),
+            "services that fall",
+        ),
+        (
+            More::Link(Joint {
+                a: Side {
+                    services: Some(&[3]),
+                    ..NEAR
+                },
+                ..TO_5
+            }),
+            "a service that is not there",
+        ),
+    ];
+    all_break(&rt, rt.alloc(), &TWO_BRIDGES, ROWS)
 }
+
+/// The two bridges with red alone.
+const ONE_SERVICE: Draft = Draft {
+    services: &[RED],
+    ..TWO_BRIDGES
+};
 
 #[test]
 fn unsound_services(rt: HostRuntime) -> Result<(), Fail> {
-    let alloc = rt.alloc();
-    let red = service(alloc, "red", 100)?;
-    refuses_services(
-        &rt,
-        vec![in alloc; red, service(alloc, "blue", 4095)?]?,
-        "VID 4095",
-    )?;
-    let red = service(alloc, "red", 100)?;
-    refuses_services(
-        &rt,
-        vec![in alloc; red, service(alloc, "blue", 0)?]?,
-        "VID 0",
-    )?;
-    let red = service(alloc, "red", 100)?;
-    refuses_services(
-        &rt,
-        vec![in alloc; red, service(alloc, "blue", 100)?]?,
-        "a VID twice",
-    )?;
-    let red = service(alloc, "red", 100)?;
-    refuses_services(
-        &rt,
-        vec![in alloc; red, service(alloc, "red", 200)?]?,
-        "a name twice",
-    )?;
-    refuses_services(
-        &rt,
-        vec![in alloc; service(alloc, "red", 100)?]?,
-        "a service that is missing",
-    )
+    const ROWS: &[(More, &str)] = &[
+        (More::Service(Service { vid: 4095, ..BLUE }), "VID 4095"),
+        (More::Service(Service { vid: 0, ..BLUE }), "VID 0"),
+        (More::Service(Service { vid: 100, ..BLUE }), "a VID twice"),
+        (
+            More::Service(Service {
+                name: "red",
+                ..BLUE
+            }),
+            "a name twice",
+        ),
+        (More::Nothing, "a service that is missing"),
+    ];
+    all_break(&rt, rt.alloc(), &ONE_SERVICE, ROWS)
 }
+
+/// The two bridges with C1 alone.
+const ONE_CUSTOMER: Draft = Draft {
+    customers: &[C1],
+    ..TWO_BRIDGES
+};
 
 #[test]
 fn unsound_customers(rt: HostRuntime) -> Result<(), Fail> {
-    let alloc = rt.alloc();
-    refuses_customer(&rt, customer(alloc, "C1", 2, 2, 1)?, "a name twice")?;
-    refuses_customer(&rt, customer(alloc, "C2", 1, 2, 1)?, "a port twice")?;
-    refuses_customer(&rt, customer(alloc, "C2", 2, 0, 1)?, "port 0")?;
-    refuses_customer(
-        &rt,
-        customer(alloc, "C2", 2, 2, 3)?,
-        "a service that is not there",
-    )?;
-    let mut odd = customer(alloc, "C2", 2, 2, 1)?;
-    odd.pcp = 8;
-    refuses_customer(&rt, odd, "priority 8")?;
-    let mut odd = customer(alloc, "C2", 2, 2, 1)?;
-    odd.queue = 0;
-    refuses_customer(&rt, odd, "no room")
+    const ROWS: &[(More, &str)] = &[
+        (More::Customer(Site { name: "C1", ..C2 }), "a name twice"),
+        (More::Customer(Site { bridge: 1, ..C2 }), "a port twice"),
+        (More::Customer(Site { port: 0, ..C2 }), "port 0"),
+        (
+            More::Customer(Site { service: 3, ..C2 }),
+            "a service that is not there",
+        ),
+        (More::Customer(Site { pcp: 8, ..C2 }), "priority 8"),
+        (More::Customer(Site { queue: 0, ..C2 }), "no room"),
+    ];
+    all_break(&rt, rt.alloc(), &ONE_CUSTOMER, ROWS)
+}
+
+/// The plan of a draft is unsound with each of these ageing times, rooms between places and steps of a place.
+fn numbers_break(
+    rt: &impl Abort,
+    alloc: Global,
+    draft: &Draft,
+    rows: &[(u32, u16, u32)],
+) -> Result<(), Fail> {
+    for (ageing, ring, steps) in rows {
+        let odd = Draft {
+            ageing: *ageing,
+            ring: *ring,
+            steps: *steps,
+            ..*draft
+        };
+        let found = is_sound(alloc, &odd)?;
+        assert!(rt; !found, "{ageing} {ring} {steps}");
+    }
+    Ok(())
 }
 
 #[test]
 fn unsound_numbers(rt: HostRuntime) -> Result<(), Fail> {
-    let alloc = rt.alloc();
-    for (ageing, ring, steps) in [
+    const ROWS: &[(u32, u16, u32)] = &[
         (9, 64, 1),
         (1_000_001, 64, 1),
         (300, 0, 1),
         (300, 4097, 1),
         (300, 64, 0),
         (300, 64, 1_000_001),
-    ] {
-        let plan = Plan {
-            ageing,
-            ring,
-            steps,
-            ..two_bridges(alloc)?
-        };
-        assert!(rt; !plan_is_sound(&plan), "{ageing} {ring} {steps}");
-    }
-    Ok(())
+    ];
+    numbers_break(&rt, rt.alloc(), &TWO_BRIDGES, ROWS)
 }
