@@ -155,7 +155,9 @@ TO, FROM = "ffffffffffff", "020000000001"
 
 def ours_on_link(frames):
     """What crosses the link, or why not, for each frame that enters at red-a."""
-    lines = "poll red-a {}|feed red-a|receive A 2|transmit A 1|take L ab|put L ab|receive B 1|transmit B 2|deliver red-b"
+    lines = (
+        "poll red-a {}|feed red-a|receive A 2|transmit A 1|take L ab|put L ab|receive B 1|transmit B 2|deliver red-b"
+    )
     lines = (lines + "|transmit B 3|").replace("|", "\n")
     script = "".join(lines.format(frame) for frame in frames)
     with common.Folder() as folder:

@@ -17,6 +17,9 @@ LONGEST_LINE = 140000
 MOST_STATIONS = 4096
 FLAT_STEPS = 1000000
 
+# The traffic class of each priority, as IEEE 802.1Q has them for eight classes: 1 is below 0.
+CLASSES = (1, 0, 2, 3, 4, 5, 6, 7)
+
 
 class EndsEarly(Exception):
     """A line `fault:` ends the run."""
@@ -161,7 +164,7 @@ class Bridge(Place):
         put = [n for n in chosen if n not in full]
         for n in put:
             wire = frame if self.ports[n].customer is not None else with_tag(frame, priority, vid)
-            self.ports[n].queue.append((priority, wire))
+            self.ports[n].queue.append((CLASSES[priority], wire))
         return " ".join(["relayed", *map(str, put)] + [f"full {n}" for n in full])
 
     def transmit(self, number):
@@ -169,8 +172,8 @@ class Bridge(Place):
         if not port.queue or len(port.outbox) >= self.ring:
             return "idle"
         self.step()
-        highest = max(priority for priority, _ in port.queue)
-        index = next(i for i, (priority, _) in enumerate(port.queue) if priority == highest)
+        highest = max(traffic_class for traffic_class, _ in port.queue)
+        index = next(place for place, (traffic_class, _) in enumerate(port.queue) if traffic_class == highest)
         wire = port.queue.pop(index)[1]
         port.outbox.append(wire)
         return "sent " + self.octets(wire).hex()

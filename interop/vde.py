@@ -26,9 +26,10 @@ class Switches:
         folder.start("dpipe", "vde_plug", folder.path / "one", "=", "vde_plug", folder.path / "two")
 
     def plug(self, name, stream):
-        """Joins a stream of frames to a switch."""
-        self.folder.start("vde_plug", self.folder.path / name, stdin=stream, stdout=stream)
+        """Joins a stream of frames to a switch; the process that does."""
+        process = self.folder.start("vde_plug", self.folder.path / name, stdin=stream, stdout=stream)
         stream.close()
+        return process
 
     def peer(self, name):
         here, there = socket.socketpair()
@@ -99,13 +100,15 @@ def rows(table, folder):
     switches = Switches(folder)
     running, listeners = start_run(folder)
     near = Peer(listeners[0].accept())
-    switches.plug("one", listeners[1].accept())
+    plug = switches.plug("one", listeners[1].accept())
     far = switches.peer("two")
     meet(near, far)
     length_rows(table, near, far)
     address_rows(table, near, far, switches)
-    far.close()
+    plug.terminate()
     near.shut()
+    report = running.communicate(timeout=120)[0].decode().split("\n")
+    table.row("the run ends", "ended drained, forest yes", f"{report[0]}, {report[-2]}")
 
 
 def main():

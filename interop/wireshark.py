@@ -99,7 +99,7 @@ def example_rows(table, folder):
             continue
         frames = captures.frames_of(octets)
         name = f"`{path.parent.name}/{path.name}`"
-        table.row(f"{name}, capinfos", f"Wireshark/tcpdump/... - pcap, Ethernet, {len(frames)}", info(path))
+        table.row(f"{name}, capinfos", f"pcap, ether, {len(frames)}", info(path))
         table.row(
             f"{name}, octets of {len(frames)} frames", frames == captures.frames_of(octets), raw_frames(path) == frames
         )
@@ -266,24 +266,23 @@ def other_rows(table, folder):
         digest(whole),
         digest(through(folder, "snapped.pcap")[2]),
     )
-    forms = [
-        ("nanoseconds", ["-F", "nsecpcap"], "fault: port near 1"),
-        ("pcapng", ["-F", "pcapng"], "fault: port near 1"),
-        ("pcapng, by `editcap -F pcap`", ["-F", "pcap"], "none"),
-        ("link type 802.11", ["-F", "pcap", "-T", "ieee-802-11"], "fault: port near 3"),
-    ]
-    for name, words, want in forms:
-        source = "other.pcapng" if name.startswith("pcapng, by") else "low.pcap"
+    for name, words, fault in FORMS:
+        source = "other.pcapng" if "-F pcap`" in name else "low.pcap"
         common.output("editcap", "-F", "pcapng", "low.pcap", "other.pcapng", cwd=folder)
         common.output("editcap", *words, source, "form.pcap", cwd=folder)
         text, status, left = through(folder, "form.pcap")
-        fault = ([line for line in text.split("\n") if line.startswith("fault")] or ["none"])[0]
-        many = len(frames) if want == "none" else 0
-        table.row(
-            f"{name}, written by editcap: fault, exit status, frames that leave",
-            f"{want}, {0 if many else 3}, {many}",
-            f"{fault}, {status}, {len(left)}",
-        )
+        told = [line for line in text.split("\n") if line.startswith("fault")] or ["no fault"]
+        want = f"{fault}, exit 3, 0 frames" if fault != "no fault" else f"{fault}, exit 0, {len(frames)} frames"
+        table.row(f"{name}, written by editcap", want, f"{told[0]}, exit {status}, {len(left)} frames")
+
+
+# Forms of captures that editcap writes, and the fault that is due.
+FORMS = [
+    ("times in nanoseconds", ["-F", "nsecpcap"], "no fault"),
+    ("pcapng", ["-F", "pcapng"], "fault: port near 1"),
+    ("pcapng, and then `editcap -F pcap`", ["-F", "pcap"], "no fault"),
+    ("link type of 802.11", ["-F", "pcap", "-T", "ieee-802-11"], "fault: port near 3"),
+]
 
 
 def main():
