@@ -72,18 +72,21 @@ def make(seed, kind, number):
         return Case(kind, script=lines.encode(), ports=ports)
     if kind == "check":
         return Case(kind, plan=generate.plan_file(chance))
+    if number == 0:
+        return Case(kind, plan=generate.HAND_PLAN.encode(), script=generate.HAND_SCRIPT.encode())
     plan = generate.plan(chance)
     return Case(kind, plan=generate.toml(plan).encode(), script=generate.script(chance, plan).encode())
 
 
-def smaller(case, folder):
-    """The case with fewer lines, as long as it still differs."""
+def smaller(case, folder, seconds=45):
+    """The case with fewer lines, as long as it still differs and not longer than some seconds."""
     if case.script is None:
         return case
-    lines, size = case.script.split(b"\n"), len(case.script.split(b"\n")) // 2
+    lines, end = case.script.split(b"\n"), time.monotonic() + seconds
+    size = len(lines) // 2
     while size:
         start = 0
-        while start < len(lines):
+        while start < len(lines) and time.monotonic() < end:
             fewer = lines[:start] + lines[start + size :]
             if case.with_script(fewer).differs(folder):
                 lines = fewer

@@ -517,3 +517,59 @@ def plan_file(chance):
             continue
     octets = toml(document).encode()
     return change_octets(chance, octets) if chance.random() < 0.1 else octets
+
+
+# A case by hand, for what chance seldom meets: a port that is Learning learns from a frame that it filters, and the
+# stations behind a port that is set down are forgotten.
+
+HAND_PLAN = """
+[[bridge]]
+name = "A"
+address = "02-00-00-00-00-01"
+[[bridge]]
+name = "B"
+address = "02-00-00-00-00-02"
+[[link]]
+name = "L"
+a = "A"
+a_port = 1
+b = "B"
+b_port = 1
+b_state = "learning"
+[[service]]
+name = "s"
+vid = 1
+[[port]]
+name = "x"
+bridge = "A"
+port = 2
+service = "s"
+[[port]]
+name = "c"
+bridge = "B"
+port = 2
+service = "s"
+[[port]]
+name = "d"
+bridge = "B"
+port = 3
+service = "s"
+"""
+
+HAND_SCRIPT = """\
+poll x ffffffffffff0200000000aa88b5
+feed x
+receive A 2
+transmit A 1
+take L ab
+put L ab
+receive B 1
+poll c 0200000000aa0200000000bb88b5
+feed c
+receive B 2
+admin B 1 down
+poll c 0200000000aa0200000000bb88b5
+feed c
+receive B 2
+admin B 1 up
+"""

@@ -6,7 +6,6 @@ here. All rows are run in one boot.
 """
 
 import os
-import pathlib
 import re
 import shutil
 import subprocess

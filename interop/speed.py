@@ -107,6 +107,10 @@ def measure(name, octets, receivers, frames):
             end.thread.join()
         seconds = time.monotonic() - since
         for stream in streams:
+            stream.shutdown(socket.SHUT_WR)
+        if name != "VDE":
+            folder.started[-1].wait(120)
+        for stream in streams:
             stream.close()
     return frames / seconds, all(end.count == end.want for end in ends)
 
