@@ -1,0 +1,192 @@
+#!/usr/bin/env python3
+"""Compares `check`, `step` and `flat` with the second implementation, on plans and scripts made by chance.
+
+    interop/differences.py [--seed TEXT] [--cases N] [--case KIND/NUMBER]
+
+Each case depends on the seed, its kind and its number alone. A case that differs is made smaller, by leaving out lines
+while it still differs, and kept in a folder that is named. The exit status is 0 where no case differs.
+"""
+
+import argparse
+import collections
+import pathlib
+import random
+import sys
+import tempfile
+import time
+
+import common
+import generate
+import second_network
+
+WORDS = (
+    "relayed",
+    "sent",
+    "delivered",
+    "idle",
+    "heard",
+    "taken",
+    "put",
+    "lost",
+    "set",
+    "ticked",
+    "polled",
+    "fed",
+    "out",
+    "ok",
+)
+
+
+class Case:
+    """A command with what it reads, and what both programs say to it."""
+
+    def __init__(self, kind, plan=None, script=None, ports=None):
+        self.kind, self.plan, self.script, self.ports = kind, plan, script, ports
+
+    def here(self, folder):
+        if self.kind == "flat":
+            return common.run("flat", self.ports, given=self.script)
+        path = folder / "plan.toml"
+        path.write_bytes(self.plan)
+        return common.run(self.kind, path, given=self.script or b"")
+
+    def there(self):
+        if self.kind == "flat":
+            return second_network.flat(self.ports, self.script)
+        if self.kind == "check":
+            return second_network.check(self.plan)
+        return second_network.step(self.plan, self.script)
+
+    def differs(self, folder):
+        return self.here(folder) != self.there()
+
+    def with_script(self, lines):
+        return Case(self.kind, self.plan, b"\n".join(lines) + b"\n", self.ports)
+
+
+def make(seed, kind, number):
+    chance = random.Random(f"{seed}/{kind}/{number}")
+    if kind == "flat":
+        ports = chance.randint(2, 16) if number else 3
+        lines = generate.flat_lines(chance, ports) if number else generate.many_stations(chance)
+        return Case(kind, script=lines.encode(), ports=ports)
+    if kind == "check":
+        return Case(kind, plan=generate.plan_file(chance))
+    if number == 0:
+        return Case(kind, plan=generate.HAND_PLAN.encode(), script=generate.HAND_SCRIPT.encode())
+    plan = generate.plan(chance)
+    return Case(kind, plan=generate.toml(plan).encode(), script=generate.script(chance, plan).encode())
+
+
+def smaller(case, folder, seconds=45):
+    """The case with fewer lines, as long as it still differs and not longer than some seconds."""
+    if case.script is None:
+        return case
+    lines, end = case.script.split(b"\n"), time.monotonic() + seconds
+    size = len(lines) // 2
+    while size:
+        start = 0
+        while start < len(lines) and time.monotonic() < end:
+            fewer = lines[:start] + lines[start + size :]
+            if case.with_script(fewer).differs(folder):
+                lines = fewer
+            else:
+                start += size
+        size //= 2
+    return case.with_script(lines)
+
+
+def first_difference(case, folder):
+    here, there = case.here(folder), case.there()
+    if here[1] != there[1]:
+        return f"exit status {here[1]} here, {there[1]} there: {here[0][-80:]!r}, {there[0][-80:]!r}"
+    for number, (one, two) in enumerate(zip(here[0].split("\n"), there[0].split("\n")), 1):
+        if one != two:
+            return f"line {number} of the output is {one!r} here, {two!r} there"
+    return "one output is longer"
+
+
+def keep(case, name):
+    folder = pathlib.Path(tempfile.mkdtemp(prefix=f"difference-{name}-"))
+    if case.plan is not None:
+        (folder / "plan.toml").write_bytes(case.plan)
+    if case.script is not None:
+        (folder / "script").write_bytes(case.script)
+    return folder
+
+
+def kind_of(line):
+    """What a line of an output is counted as."""
+    words = line.split(" ")
+    if words[0] in ("filtered", "forest", "settled", "plan:", "fault:"):
+        at = 2 if words[0] == "filtered" and words[1].isdigit() else 1
+        return words[0] + " " + words[min(at, len(words) - 1)]
+    if " full " in line:
+        return "relayed with a full queue"
+    if words[0] == "line" and words[-1] == "bad":
+        return "line bad"
+    if line == "no such":
+        return line
+    return words[0] if words[0] in WORDS else None
+
+
+def compare(seed, kind, numbers, folder, seen):
+    """The numbers of the cases that differ, and how many lines were compared."""
+    differing, lines = [], 0
+    for number in numbers:
+        case = make(seed, kind, number)
+        here, there = case.here(folder), case.there()
+        lines += there[0].count("\n")
+        seen.update(filter(None, map(kind_of, there[0].split("\n"))))
+        if here != there:
+            differing.append(number)
+            tell(case, f"{kind}/{number}", folder)
+        if len(differing) == 5:
+            print(f"five cases of {kind} differ, the others are left out", file=sys.stderr)
+            break
+    return differing, lines
+
+
+def tell(case, name, folder):
+    few = smaller(case, folder)
+    kept = keep(few, name.replace("/", "-"))
+    print(f"case {name} differs: {first_difference(few, folder)}; kept in {kept}", file=sys.stderr, flush=True)
+
+
+def counts_text(seen):
+    lines = ["What the outputs held:", "", "| Line | Times | Line | Times |", "|---|---:|---|---:|"]
+    rows = sorted(seen.items()) + [("", "")] * (len(seen) % 2)
+    half = len(rows) // 2
+    for (one, first), (two, second) in zip(rows[:half], rows[half:]):
+        lines.append(f"| `{one}` | {first} | {f'`{two}`' if two else ''} | {second} |")
+    return "\n".join(lines) + "\n"
+
+
+def arguments():
+    parser = argparse.ArgumentParser(description=__doc__.split("\n")[0])
+    parser.add_argument("--seed", default=str(int(time.time())))
+    parser.add_argument("--cases", type=int, default=3000)
+    parser.add_argument("--case", help="one case alone, as step/17")
+    return parser.parse_args()
+
+
+def main():
+    given = arguments()
+    print(f"seed {given.seed}", flush=True)
+    table = common.Table("The second implementation")
+    seen = collections.Counter()
+    kinds = {"step": given.cases, "check": given.cases, "flat": given.cases // 5}
+    with common.Folder() as folder:
+        for kind, count in kinds.items():
+            numbers = range(count)
+            if given.case:
+                numbers = [int(given.case.split("/")[1])] if given.case.split("/")[0] == kind else []
+            differing, lines = compare(given.seed, kind, numbers, folder.path, seen)
+            name = f"`{kind}`: {len(numbers)} cases, {lines} lines of output"
+            table.row(name, "0 differ", f"{len(differing)} differ")
+    print(counts_text(seen))
+    common.finish(table)
+
+
+if __name__ == "__main__":
+    main()

@@ -1,0 +1,302 @@
+"""A second reading of plan files, written from docs/PLAN_FILE.md alone.
+
+read_plan(octets) gives a Plan, or raises Fault with the text that `check` prints behind `plan: `.
+"""
+
+import re
+import tomllib
+from dataclasses import dataclass, field
+
+NAME = re.compile(r"[A-Za-z0-9_-]{1,32}\Z")
+ADDRESS = re.compile(r"[0-9A-Fa-f]{2}(-[0-9A-Fa-f]{2}){5}\Z")
+HEX = re.compile(r"([0-9A-Fa-f]{2})*\Z")
+STATES = ("discarding", "learning", "forwarding")
+KINDS = ("memory", "capture", "socket")
+MOST = {"bridge": 32, "link": 64, "service": 64, "port": 128}
+
+
+class Fault(Exception):
+    """The first rule that a file breaks."""
+
+
+@dataclass
+class End:
+    bridge: int
+    port: int
+    cost: int
+    priority: int
+    state: str
+    services: list | None
+
+
+@dataclass
+class Plan:
+    rstp: bool = False
+    ageing: int = 300
+    ring: int = 64
+    steps: int = 1000000
+    bridges: list = field(default_factory=list)
+    links: list = field(default_factory=list)
+    services: list = field(default_factory=list)
+    ports: list = field(default_factory=list)
+
+
+# Each kind of value: whether it is of the key's type, and whether it is one that the key allows.
+
+
+def is_number(value):
+    return isinstance(value, int) and not isinstance(value, bool)
+
+
+def is_text(value):
+    return isinstance(value, str)
+
+
+def number(least, most, step=1):
+    return is_number, lambda value: least <= value <= most and value % step == 0
+
+
+def word(words):
+    return is_text, lambda value: value in words
+
+
+def text(pattern=None):
+    return is_text, lambda value: pattern is None or bool(pattern.match(value))
+
+
+def is_station(value):
+    return bool(ADDRESS.match(value)) and int(value[:2], 16) % 2 == 0
+
+
+def items(is_item, is_list):
+    return lambda value: isinstance(value, list) and all(map(is_item, value)), is_list
+
+
+def does_rise(value):
+    return all(0 <= item for item in value) and all(a < b for a, b in zip(value, value[1:]))
+
+
+def are_names(value):
+    return all(NAME.match(item) for item in value) and len(set(value)) == len(value)
+
+
+def are_frames(value):
+    return all(HEX.match(item) for item in value)
+
+
+LOSSES = items(is_number, does_rise)
+SERVICES = items(is_text, are_names)
+NONE = object()
+
+KEYS = {
+    "network": [
+        ("spanning", word(("fixed", "rstp")), "fixed"),
+        ("ageing", number(10, 1000000), 300),
+        ("ring", number(1, 4096), 64),
+        ("steps", number(1, 1000000), 1000000),
+        ("turns", number(1, 1000000000), 10000000),
+        ("tick_every", number(0, 1000000), 0),
+    ],
+    "bridge": [
+        ("name", text(NAME), NONE),
+        ("address", (is_text, is_station), NONE),
+        ("priority", number(0, 61440, 4096), 32768),
+        ("queue", number(1, 4096), 64),
+    ],
+    "link": [
+        ("name", text(NAME), NONE),
+        ("a", text(NAME), NONE),
+        ("a_port", number(1, 16), NONE),
+        ("b", text(NAME), NONE),
+        ("b_port", number(1, 16), NONE),
+        ("a_cost", number(1, 200000000), 20000),
+        ("b_cost", number(1, 200000000), 20000),
+        ("a_priority", number(0, 240, 16), 128),
+        ("b_priority", number(0, 240, 16), 128),
+        ("a_state", word(STATES), "forwarding"),
+        ("b_state", word(STATES), "forwarding"),
+        ("a_services", SERVICES, None),
+        ("b_services", SERVICES, None),
+        ("lost_ab", LOSSES, []),
+        ("lost_ba", LOSSES, []),
+    ],
+    "service": [("name", text(NAME), NONE), ("vid", number(1, 4094), NONE)],
+    "port": [
+        ("name", text(NAME), NONE),
+        ("bridge", text(NAME), NONE),
+        ("port", number(1, 16), NONE),
+        ("service", text(NAME), NONE),
+        ("pcp", number(0, 7), 0),
+        ("queue", number(1, 4096), 64),
+        ("kind", word(KINDS), "memory"),
+    ],
+}
+OF_KIND = {
+    "memory": [("in", items(is_text, are_frames), [])],
+    "capture": [("read", text(), NONE), ("write", text(), NONE)],
+    "socket": [("path", text(), NONE)],
+}
+
+
+def read_key(table, place, key, kind, default):
+    """The value of one key, by the order missing, kind, range."""
+    if key not in table:
+        if default is NONE:
+            raise Fault(f"3 missing {place}.{key}")
+        return default
+    is_kind, is_allowed = kind
+    if not is_kind(table[key]):
+        raise Fault(f"4 kind {place}.{key}")
+    if not is_allowed(table[key]):
+        raise Fault(f"5 range {place}.{key}")
+    return table[key]
+
+
+def read_table(table, place, array):
+    """The values of one table's keys, and no unknown ones."""
+    values = {}
+    for key, kind, default in KEYS[array]:
+        values[key] = read_key(table, place, key, kind, default)
+    if array == "port":
+        for key, kind, default in OF_KIND[values["kind"]]:
+            values[key] = read_key(table, place, key, kind, default)
+    unknown = sorted((key for key in table if key not in values), key=str.encode)
+    if unknown:
+        raise Fault(f"6 unknown {place}.{unknown[0]}")
+    return values
+
+
+def tables_of(document, array):
+    found = document.get(array, [])
+    if not isinstance(found, list) or not all(isinstance(table, dict) for table in found):
+        raise Fault(f"4 kind {array}")
+    if len(found) > MOST[array]:
+        raise Fault("10 too-many")
+    return found
+
+
+def index_of(rows, name):
+    for index, row in enumerate(rows):
+        if row["name"] == name:
+            return index
+    raise Fault(f"8 no-such {name}")
+
+
+def refuse_twice(rows, new, key, show=str):
+    if any(row[key] == new[key] for row in rows):
+        raise Fault(f"7 twice {show(new[key])}")
+
+
+def read_bridges(document):
+    rows = []
+    for place, table in enumerate(tables_of(document, "bridge")):
+        row = read_table(table, f"bridge[{place}]", "bridge")
+        row["address"] = row["address"].upper()
+        refuse_twice(rows, row, "name")
+        refuse_twice(rows, row, "address")
+        rows.append(row)
+    return rows
+
+
+def service_names(document):
+    """The names in the file's service tables, which are looked at later than links."""
+    found = document.get("service", [])
+    found = found if isinstance(found, list) else []
+    return [table.get("name") for table in found if isinstance(table, dict)]
+
+
+def use(used, bridge, port):
+    if (bridge, port) in used:
+        raise Fault("9 link-end")
+    used.add((bridge, port))
+
+
+def read_links(document, bridges, used):
+    rows = []
+    names = service_names(document)
+    for place, table in enumerate(tables_of(document, "link")):
+        row = read_table(table, f"link[{place}]", "link")
+        refuse_twice(rows, row, "name")
+        ends = [index_of(bridges, row["a"]), index_of(bridges, row["b"])]
+        for side in "ab":
+            for name in row[side + "_services"] or []:
+                if name not in names:
+                    raise Fault(f"8 no-such {name}")
+        for side, bridge in zip("ab", ends):
+            use(used, bridge, row[side + "_port"])
+            row["end_" + side] = End(
+                bridge,
+                row[side + "_port"],
+                row[side + "_cost"],
+                row[side + "_priority"],
+                row[side + "_state"],
+                row[side + "_services"],
+            )
+        rows.append(row)
+    return rows
+
+
+def read_services(document):
+    rows = []
+    for place, table in enumerate(tables_of(document, "service")):
+        row = read_table(table, f"service[{place}]", "service")
+        refuse_twice(rows, row, "name")
+        refuse_twice(rows, row, "vid")
+        rows.append(row)
+    return rows
+
+
+def read_ports(document, plan, used):
+    rows = []
+    for place, table in enumerate(tables_of(document, "port")):
+        row = read_table(table, f"port[{place}]", "port")
+        refuse_twice(rows, row, "name")
+        row["at"] = index_of(plan.bridges, row["bridge"])
+        row["of"] = index_of(plan.services, row["service"])
+        use(used, row["at"], row["port"])
+        rows.append(row)
+    return rows
+
+
+def read_document(octets):
+    try:
+        read = octets.decode("utf-8")
+    except UnicodeDecodeError:
+        raise Fault("1 utf8") from None
+    try:
+        return tomllib.loads(read)
+    except (tomllib.TOMLDecodeError, RecursionError):
+        raise Fault("2 toml") from None
+
+
+def has_wide_number(value):
+    """Whether a whole number outside 64 bits with a sign stands somewhere."""
+    if isinstance(value, dict):
+        return any(map(has_wide_number, value.values()))
+    if isinstance(value, list):
+        return any(map(has_wide_number, value))
+    return is_number(value) and not -(2**63) <= value < 2**63
+
+
+def read_plan(octets):
+    document = read_document(octets)
+    if has_wide_number(document):
+        raise Fault("2 toml")
+    unknown = sorted((key for key in document if key not in KEYS), key=str.encode)
+    if unknown:
+        raise Fault(f"6 unknown {unknown[0]}")
+    network = document.get("network", {})
+    if not isinstance(network, dict):
+        raise Fault("4 kind network")
+    row = read_table(network, "network", "network")
+    plan = Plan(row["spanning"] == "rstp", row["ageing"], row["ring"], row["steps"])
+    used = set()
+    plan.bridges = read_bridges(document)
+    plan.links = read_links(document, plan.bridges, used)
+    plan.services = read_services(document)
+    plan.ports = read_ports(document, plan, used)
+    for link in plan.links:
+        for end in (link["end_a"], link["end_b"]):
+            if end.services is not None:
+                end.services = [index_of(plan.services, name) for name in end.services]
+    return plan

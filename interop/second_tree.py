@@ -1,0 +1,265 @@
+"""A second rapid spanning tree, written from docs/SPANNING_TREE.md alone."""
+
+from dataclasses import dataclass
+
+DISCARDING, LEARNING, FORWARDING = 0, 1, 2
+DISABLED, ROOT, DESIGNATED, ALTERNATE, BACKUP = "disabled", "root", "designated", "alternate", "backup"
+ROLE_BITS = {ALTERNATE: 1, BACKUP: 1, ROOT: 2, DESIGNATED: 3}
+HIGHEST_COST = 4294967295
+HELLO, MAX_AGE, FORWARD_DELAY = 2 * 256, 20 * 256, 15 * 256
+
+
+@dataclass(frozen=True)
+class Message:
+    """What a BPDU tells. The role is that of its flags: 1 alternate or backup, 2 root, 3 designated."""
+
+    root: int
+    cost: int
+    bridge: int
+    port: int
+    age: int
+    max_age: int
+    hello: int
+    delay: int
+    role: int
+    change: bool = False
+    proposal: bool = False
+    learning: bool = False
+    forwarding: bool = False
+    agreement: bool = False
+
+    def vector(self):
+        return self.root, self.cost, self.bridge, self.port
+
+    def octets(self, source):
+        """The frame, from its destination address on."""
+        flags = self.change | self.proposal << 1 | self.role << 2 | self.learning << 4
+        flags |= self.forwarding << 5 | self.agreement << 6
+        octets = bytes.fromhex("0180c2000008") + source + bytes.fromhex("002742420300000202")
+        octets += bytes([flags]) + self.root.to_bytes(8, "big") + self.cost.to_bytes(4, "big")
+        octets += self.bridge.to_bytes(8, "big") + self.port.to_bytes(2, "big")
+        for time in (self.age, self.max_age, self.hello, self.delay):
+            octets += time.to_bytes(2, "big")
+        return octets + b"\0"
+
+
+class TreePort:
+    def __init__(self, number, cost, priority):
+        self.number, self.cost, self.id = number, cost, priority * 256 + number
+        self.up, self.info, self.left = True, None, 0
+        self.role, self.state, self.wait = DESIGNATED, DISCARDING, 15
+        self.agreed = self.agree = False
+        self.changing = self.sent = 0
+        self.due = True
+
+
+class Change:
+    """What a call tells: new states, ports to be flushed, messages to be sent, each by port."""
+
+    def __init__(self):
+        self.states, self.flushed, self.messages = {}, set(), []
+
+
+class Tree:
+    def __init__(self, priority, address, ends):
+        self.id = priority * 2**48 + address
+        self.ports = {number: TreePort(number, cost, at) for number, cost, at in sorted(ends)}
+        self.hello = 2
+        self.root = self.root_vector()
+
+    # Vectors
+
+    def way(self, port):
+        told = port.info
+        return told.root, min(told.cost + port.cost, HIGHEST_COST), told.bridge, told.port, port.id
+
+    def root_vector(self):
+        ways = [self.way(port) for port in self.ports.values() if port.up and port.info and port.info.bridge != self.id]
+        return min(ways + [(self.id, 0, self.id, 0, 0)])
+
+    def root_port(self):
+        return next((port for port in self.ports.values() if port.role == ROOT), None)
+
+    def designated(self, port):
+        return self.root[0], self.root[1], self.id, port.id
+
+    def role_of(self, port):
+        if not port.up:
+            return DISABLED
+        if port.info and port.info.bridge != self.id and self.way(port) == self.root:
+            return ROOT
+        if not port.info or self.designated(port) < port.info.vector():
+            return DESIGNATED
+        return BACKUP if port.info.bridge == self.id else ALTERNATE
+
+    def new_wait(self):
+        port = self.root_port()
+        return max(1, port.info.delay // 256) if port and port.info else 15
+
+    # Calls
+
+    def hear(self, number, message):
+        before = self.before()
+        port = self.ports[number]
+        if not port.up:
+            return Change()
+        stored = message.role == 3 and self.store(port, message)
+        if message.role in (1, 2) and message.agreement and port.role == DESIGNATED and message.root == self.root[0]:
+            port.agreed = True
+        return self.settle(before, port, message, stored)
+
+    def store(self, port, message):
+        told = port.info
+        if told and not message.vector() < told.vector():
+            if (message.bridge, message.port) != (told.bridge, told.port):
+                return False
+        if message.age + 256 > message.max_age:
+            port.info = None
+            return False
+        port.info, port.left = message, 3 * message.hello // 256
+        return True
+
+    def tick(self):
+        before = self.before()
+        wait = self.new_wait()
+        for port in self.ports.values():
+            port.sent, port.changing = max(0, port.sent - 1), max(0, port.changing - 1)
+            if port.info:
+                port.left -= 1
+                if port.left == 0:
+                    port.info = None
+        for port in self.ports.values():
+            if port.role == DESIGNATED and port.state != FORWARDING:
+                port.wait -= 1
+                if port.wait <= 0:
+                    port.state += 1
+                    port.wait = wait
+        self.tell_hello()
+        return self.settle(before)
+
+    def tell_hello(self):
+        if self.hello > 0:
+            self.hello -= 1
+        if self.hello > 0:
+            return
+        self.hello = 2
+        for port in self.ports.values():
+            if port.role == DESIGNATED or port.role == ROOT and port.changing:
+                port.due = True
+
+    def admin(self, number, up):
+        port = self.ports[number]
+        if port.up == up:
+            return Change()
+        before = self.before()
+        port.up, port.info = up, None
+        if not up:
+            port.agreed = port.agree = port.due = False
+        return self.settle(before)
+
+    # Bringing into line
+
+    def before(self):
+        return self.root, {number: (port.role, port.state) for number, port in self.ports.items()}
+
+    def settle(self, before, heard_at=None, message=None, stored=False):
+        old_root, old = before
+        change = Change()
+        self.find_roles(old_root)
+        wait = self.new_wait()
+        self.move_states(old, wait)
+        if stored and message.proposal and heard_at.role != DESIGNATED:
+            self.answer_proposal(heard_at, wait)
+        self.tell_changes(old, heard_at, message, change)
+        for number, port in self.ports.items():
+            if port.state != old[number][1]:
+                change.states[number] = port.state
+        self.send(change)
+        return change
+
+    def find_roles(self, old_root):
+        self.root = self.root_vector()
+        for port in self.ports.values():
+            port.role = self.role_of(port)
+        if self.root != old_root:
+            for port in self.ports.values():
+                port.agreed = port.agree = False
+        for port in self.ports.values():
+            if port.role == DESIGNATED and port.info:
+                port.info, port.due = None, True
+
+    def hold_back(self, port, wait):
+        port.state, port.wait, port.due = DISCARDING, wait, True
+
+    def move_states(self, old, wait):
+        for number, port in self.ports.items():
+            if port.role == ROOT:
+                port.state = FORWARDING
+            elif port.role != DESIGNATED:
+                port.state = DISCARDING
+            elif old[number][0] != DESIGNATED:
+                self.hold_back(port, wait)
+        for port in self.ports.values():
+            if port.role == DESIGNATED and port.agreed:
+                port.state = FORWARDING
+
+    def answer_proposal(self, heard_at, wait):
+        if heard_at.role == ROOT:
+            for port in self.ports.values():
+                if port.role == DESIGNATED and not port.agreed and port.state != DISCARDING:
+                    self.hold_back(port, wait)
+        heard_at.agree = heard_at.due = True
+
+    def tell_changes(self, old, heard_at, message, change):
+        for number, port in self.ports.items():
+            if port.state == FORWARDING and old[number][1] != FORWARDING:
+                self.change_topology(change, port, None)
+            if port.state == DISCARDING and old[number][1] != DISCARDING:
+                change.flushed.add(number)
+        if message and message.change and heard_at.role in (ROOT, DESIGNATED):
+            self.change_topology(change, heard_at, heard_at)
+
+    def change_topology(self, change, kept, silent):
+        for number, port in self.ports.items():
+            if port is not kept:
+                change.flushed.add(number)
+            if port is not silent and port.role in (ROOT, DESIGNATED):
+                port.changing, port.due = 3, True
+
+    def send(self, change):
+        for number, port in self.ports.items():
+            if port.up and port.due and port.sent < 6:
+                port.sent, port.due = port.sent + 1, False
+                change.messages.append((number, self.message(port)))
+
+    def message(self, port):
+        told = self.root_port()
+        times = (0, MAX_AGE, HELLO, FORWARD_DELAY)
+        if told:
+            info = told.info
+            times = (min(info.age + 256, 65535), info.max_age, info.hello, info.delay)
+        return Message(
+            *self.designated(port),
+            *times,
+            role=ROLE_BITS[port.role],
+            change=port.changing > 0,
+            proposal=port.role == DESIGNATED and port.state != FORWARDING,
+            learning=port.state != DISCARDING,
+            forwarding=port.state == FORWARDING,
+            agreement=port.agree,
+        )
+
+
+def are_settled(trees, links):
+    """Whether each link with both ends up has one Designated end, whose vector the other end stores."""
+    for (one, at_one), (two, at_two) in links:
+        ends = [(trees[one], trees[one].ports[at_one]), (trees[two], trees[two].ports[at_two])]
+        if not all(port.up for _, port in ends):
+            continue
+        designated = [port.role == DESIGNATED for _, port in ends]
+        if designated.count(True) != 1:
+            return False
+        (tree, port), (_, other) = ends if designated[0] else reversed(ends)
+        if not other.info or other.info.vector() != tree.designated(port):
+            return False
+    return True
