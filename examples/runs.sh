@@ -1,7 +1,8 @@
 #!/usr/bin/env bash
 # Runs the proved program on the examples, and compares what it prints and writes with what stands beside them: `flat`,
 # `show`, `check`, each step script, and `run` with record.toml, captures.toml, and sockets.toml with its peers, where
-# python3 is there. The gate runs the same texts as tests, which same.sh compares with these files.
+# python3 is there; and that runs which are refused leave files as they were. The gate runs the same texts as tests,
+# which same.sh compares with these files.
 set -eu
 cd -- "$(dirname -- "$0")/.."
 
@@ -45,6 +46,57 @@ is_same out/captures.report examples/captures.report
 is_same out/shop.pcap examples/captures/provider.pcap
 is_same out/hotel.pcap examples/captures/provider.pcap
 is_same out/desk.pcap examples/captures/camera.pcap
+for name in provider exchange office camera; do
+    is_same "out/$name.pcap" examples/captures/none.pcap
+done
+
+# A plan of one bridge, whose ports are rows of NAME KIND KEYS..
+plan() {
+    local number=0 row
+    printf '[[bridge]]\nname = "B1"\naddress = "02-00-00-00-00-01"\n\n[[service]]\nname = "red"\nvid = 100\n'
+    for row in "$@"; do
+        number=$((number + 1))
+        printf '\n[[port]]\nname = "C%s"\nbridge = "B1"\nport = %s\nservice = "red"\n%b\n' "$number" "$number" "$row"
+    done
+}
+
+# The keys of a capture port, and of a socket port.
+capture() {
+    printf 'kind = "capture"\\nread = "%s"\\nwrite = "%s"' "$1" "$2"
+}
+socket() {
+    printf 'kind = "socket"\\npath = "%s"' "$1"
+}
+
+# Runs a plan that is refused: it prints `fault: path` with status 3, and this on standard error.
+refuses() {
+    local told=0
+    ./pbnet run out/refused.toml >out/refused.report 2>out/refused.errors || told=$?
+    if [ "$told" != 3 ] || [ "$(cat out/refused.report)" != "fault: path" ] || [ "$(cat out/refused.errors)" != "$1" ]; then
+        echo "examples: not refused with status 3 and '$1': $told, $(cat out/refused.report out/refused.errors)" >&2
+        status=1
+    fi
+}
+
+# What stood in a capture before a run that is refused stands there still.
+keep=out/keep.pcap
+cp examples/captures/provider.pcap "$keep"
+rm -f out/made.pcap out/none.sock
+plan "$(capture examples/captures/none.pcap $keep)" "$(socket out/none.sock)" >out/refused.toml
+refuses "port C2: connect out/none.sock: No such file or directory (os error 2)"
+is_same "$keep" examples/captures/provider.pcap
+plan "$(capture $keep ./out//keep.pcap)" >out/refused.toml
+refuses "port C1: write ./out//keep.pcap: also read by port C1"
+is_same "$keep" examples/captures/provider.pcap
+plan "$(capture examples/captures/none.pcap $keep)" "$(capture examples/captures/camera.pcap out/../$keep)" >out/refused.toml
+refuses "port C2: write out/../$keep: also written by port C1"
+is_same "$keep" examples/captures/provider.pcap
+plan "$(capture examples/captures/none.pcap out/made.pcap)" "$(capture examples/captures/none.pcap out/none/c2.pcap)" >out/refused.toml
+refuses "port C2: write out/none/c2.pcap: No such file or directory (os error 2)"
+if [ -e out/made.pcap ]; then
+    echo "examples: out/made.pcap was made by a run that was refused" >&2
+    status=1
+fi
 
 if command -v python3 >/dev/null 2>&1; then
     python3 examples/peer.py >out/peer &

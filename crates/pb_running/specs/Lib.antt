@@ -4,3 +4,8 @@ pub mod Scripted
 pub mod Faults
 pub mod Networks
 pub mod Unwritten
+pub mod Deeds
+pub mod OpenFaults
+pub mod Opened
+pub mod Uses
+pub mod Telling

@@ -2,15 +2,27 @@
 #![tactic(auto)]
 
 mod any_port;
+mod completing;
+mod deed;
 mod network;
 mod network_fault;
+mod open_fault;
+mod opened;
+mod openings;
 mod outside;
 mod report;
+mod system;
+mod telling;
 mod unwritten;
+mod uses;
 mod watched;
 
+pub use deed::Deed;
 pub use network::{Watch, run_network};
 pub use network_fault::NetworkFault;
+pub use open_fault::{OpenFault, PathFault, SharedFile, Verb};
+pub use opened::{Opened, open_all};
+pub use openings::Openings;
 pub use report::write_report;
 pub use unwritten::write_unwritten;
 pub use watched::Traffic;

@@ -12,8 +12,9 @@ ghost use Rattle.pb_running.specs.Networks.{PrintsRan, PrintsNetwork};
 ghost use Rattle.pb_running.specs.Reports.{IsRunReport};
 ghost use Rattle.pb_running.specs.Scripted.{script_at, script_in};
 
+use crate::completing::{Written, complete_all};
 use crate::network_fault::NetworkFault;
-use crate::outside::{SystemPort, open_ports};
+use crate::outside::{Outside, SystemPort, open_ports};
 use crate::report::write_report;
 use crate::unwritten::write_unwritten;
 use crate::watched::{Traffic, Watched};
@@ -98,7 +99,7 @@ fn tell<W: Write, E: Write>(
     Ok(status)
 }
 
-/// Runs a plan with its ports, and reports on the run, as [`run_network`] does.
+/// Runs a plan with its ports, which write these files, and reports on the run, as [`run_network`] does.
 ///
 /// `Memory` is answered where there was none for the ports' boxes or for the workers, and then nothing has run; and
 /// where there was none for the text of the report, once the run is over. `Spawn` is answered where a thread could
@@ -109,6 +110,7 @@ fn run_ports<R, G: Watch, W: Write, E: Write>(
     alloc: Global,
     plan: &Plan,
     ports: Vec<Watched<SystemPort>>,
+    files: &[Written],
     limits: Limits,
     gate: &G,
     writer: &mut W,
@@ -131,10 +133,12 @@ where
     match run(rt, alloc, plan, held, gate, limits) {
         Ok(ran) => {
             gate.close();
+            complete_all(alloc, plan.customers.as_slice(), files, errors);
             tell(alloc, plan, &ran, writer, errors)
         }
         Err(fault) => {
             gate.close();
+            complete_all(alloc, plan.customers.as_slice(), files, errors);
             Err(NetworkFault::from(fault.cause))
         }
     }
@@ -149,8 +153,12 @@ where
 /// Where the file is no plan, the rule that it breaks is written as `check` does, and
 /// the answer is 1.
 ///
-/// `Path` is answered where a file can't be opened or made, or a socket not be connected to: in the order of the
-/// plan, a port's file to read before the one to write. `Memory` is answered where there was none for the ports or
+/// At the end of a run a file to which nothing left is made a capture without records, or `errors` is told why it can't
+/// be.
+///
+/// `Path` is answered where a file can't be opened, made or emptied, a socket not be connected to, or a file has two
+/// uses, and `errors` is told which: files and sockets are opened as [`open_all`] says, so that no file is emptied
+/// before all are open. `Memory` is answered where there was none for the ports or
 /// the workers, and where there was none for the text to be written; `Spawn` where a worker could not be started;
 /// `Write` where a write to `writer` failed. Nothing has run after `Path` and `Spawn`, and they come only where the
 /// file is a plan. After any fault but `Write`, nothing was written to `writer`; after `Write` nothing is said of
@@ -179,8 +187,9 @@ where
                 limits,
             },
         ) => {
-            let ports = open_ports(rt, alloc, &plan, ports, traffic)?;
-            run_ports(rt, alloc, &plan, ports, limits, gate, writer, errors)
+            let Outside { ports, files } = open_ports(rt, alloc, &plan, ports, traffic, errors)?;
+            let files = files.as_slice();
+            run_ports(rt, alloc, &plan, ports, files, limits, gate, writer, errors)
         }
         Err(fault) => refuse(alloc, &fault, writer),
     }

@@ -4,17 +4,17 @@ ghost use Rattle.std.specs.Prelude.{◌≡◌, ◌⊎◌};
 ghost use Rattle.pb_running.specs.Faults.{of_cause, of_command};
 ghost use Rattle.pb_running.specs.declared.network_fault.NetworkFault.TheVariants.{Memory as memory_fault, Path as path_fault};
 
+use crate::open_fault::OpenFault;
 use pb_print::CommandFault;
 use pb_run::RunCause;
 use std::alloc::{AllocError, AllocFailed};
-use std::io;
-use std::io::ErrorKind;
 use thiserror::Error;
 
 /// Why the network of a plan file was not run.
 #[derive(Clone, Copy, Debug, PartialEq, Eq, Error)]
 pub enum NetworkFault {
-    /// A port's file can't be opened or made, or its socket not be connected to. Nothing has run.
+    /// A port's file can't be opened, made or emptied, its socket not be connected to, or a file has two uses. Nothing
+    /// has run.
     #[error("path")]
     Path,
     /// The report could not be written, or the rule that the file breaks.
@@ -54,14 +54,14 @@ impl From<RunCause> for NetworkFault {
     }
 }
 
-impl From<io::Error> for NetworkFault {
+impl From<OpenFault> for NetworkFault {
     ghost from_gives = { λ _ e. (e ≡ path_fault) ⊎ (e ≡ memory_fault) };
 
-    fn from(e: io::Error) -> NetworkFault {
-        if e.kind() == ErrorKind::OutOfMemory {
-            return NetworkFault::Memory;
+    fn from(fault: OpenFault) -> NetworkFault {
+        match fault {
+            OpenFault::Memory => NetworkFault::Memory,
+            _ => NetworkFault::Path,
         }
-        NetworkFault::Path
     }
 }
 

@@ -2,10 +2,15 @@
 
 ghost use Rattle.std.specs.Prelude.{◌≡◌, ◌⊎◌, ◌<◌, ◌≤◌, length, map, vec_len, IfOk, IfErr};
 ghost use Rattle.pb_lan.specs.Plans.{IsSound};
+ghost use Rattle.pb_running.specs.Opened.{shown};
 ghost use Rattle.pb_running.specs.Scripted.{script_at, script_in};
 
 use crate::any_port::AnyPort;
+use crate::completing::Written;
 use crate::network_fault::NetworkFault;
+use crate::opened::{Opened, open_all};
+use crate::system::{Output, System};
+use crate::telling::write_open_fault;
 use crate::watched::{Traffic, Watched};
 use bytes::Bytes;
 use mio::net::UnixStream;
@@ -16,6 +21,7 @@ use pb_service::PortSpec;
 use std::alloc::{AllocError, Global};
 use std::collections::VecDeque;
 use std::fs::{File, Files};
+use std::io::Write;
 use std::net::Net;
 use std::sync::Arc;
 
@@ -25,6 +31,15 @@ pub(crate) type SystemPort = AnyPort<
     CapturePort<Over<File>, Over<File>>,
     SocketPort<Over<UnixStream>>,
 >;
+
+/// What a port has open at the system.
+type SystemOpened = Opened<File, Output, UnixStream>;
+
+/// The ports of a network, and the files that some of them write.
+pub(crate) struct Outside {
+    pub ports: Vec<Watched<SystemPort>>,
+    pub files: Vec<Written>,
+}
 
 /// The frames of a script, in a queue.
 fn script_of(alloc: Global, frames: Seq<Bytes>) -> Result<VecDeque<Bytes>, AllocError>
@@ -37,31 +52,38 @@ fn script_of(alloc: Global, frames: Seq<Bytes>) -> Result<VecDeque<Bytes>, Alloc
     Ok(script)
 }
 
-/// Opens a port. The file to read is opened before the one to write. `Path` is answered where one can't be opened or
-/// made, or a socket not be connected to; `Memory` where memory ran out. No other fault comes.
-fn open_port<R: Files<File = File> + Net>(
-    rt: &R,
+/// The port at a place of the plan, of what it has open. The file that it writes is put behind others.
+fn port_of(
     alloc: Global,
     capacity: u16,
-    spec: PortSpec,
-) -> Result<SystemPort, NetworkFault>
+    place: usize,
+    opened: SystemOpened,
+    files: &mut Vec<Written>,
+) -> Result<SystemPort, AllocError>
     requires { (0 < capacity) × (capacity ≤ 4096) }
-    ensures script { IfOk result (λ port. script_at port ≡ script_in spec) }
-    ensures err { IfErr result (λ e. (e ≡ NetworkFault.Path) ⊎ (e ≡ NetworkFault.Memory)) }
+    ensures { IfOk result (λ port. script_at port ≡ (shown opened).0) }
 {
-    match spec {
-        PortSpec::Memory(frames) => {
+    match opened {
+        Opened::Memory(frames) => {
             let script = script_of(alloc, frames)?;
             Ok(AnyPort::Memory(MemoryPort::new(alloc, capacity, script)))
         }
-        PortSpec::Capture { read, write } => {
-            let reader = Over::new(File::open(rt, read.as_str())?);
-            let writer = Over::new(File::create(rt, write.as_str())?);
-            let port = CapturePort::new(alloc, capacity, reader, writer);
+        Opened::Capture {
+            input,
+            output,
+            write,
+        } => {
+            let Output { file, twin, .. } = output;
+            files.push(Written {
+                place,
+                path: write,
+                file: twin,
+            })?;
+            let port = CapturePort::new(alloc, capacity, Over::new(input), Over::new(file));
             Ok(AnyPort::Capture(port))
         }
-        PortSpec::Socket { path } => {
-            let stream = Over::new(UnixStream::connect(rt, path.as_str())?);
+        Opened::Socket(stream) => {
+            let stream = Over::new(stream);
             Ok(AnyPort::Socket(SocketPort::new(alloc, capacity, stream)))
         }
     }
@@ -76,27 +98,71 @@ fn capacity_of(plan: &Plan, place: usize) -> u16
     plan.customers.as_slice()[place].queue
 }
 
-/// Opens the ports of a plan, in its order. Their frames are counted. `Path` is answered where one can't be opened,
-/// `Memory` where memory ran out. No other fault comes.
-pub(crate) fn open_ports<R: Files<File = File> + Net>(
+/// The ports of a plan, of what each has open. Their frames are counted, and the files that some write are put behind
+/// others.
+fn ports_of(
+    alloc: Global,
+    plan: &Plan,
+    opened: Vec<SystemOpened>,
+    traffic: &Arc<Traffic, Global>,
+    files: &mut Vec<Written>,
+) -> Result<Vec<Watched<SystemPort>>, AllocError>
+    requires sound { IsSound plan.now }
+    requires count { vec_len opened ≡ length plan.now.customers }
+    ensures count { IfOk result (λ ports. vec_len ports ≡ length plan.now.customers) }
+    ensures scripts { IfOk result (λ ports. map (λ w. script_at w.port) ports.items ≡ map (λ port. (shown port).0) opened.items) }
+{
+    let mut ports = Vec::new(alloc);
+    for port in opened {
+        let place = ports.len();
+        let capacity = capacity_of(plan, place);
+        let port = port_of(alloc, capacity, place, port, files)?;
+        let traffic = Arc::try_clone(traffic)?;
+        ports.push(Watched { port, traffic })?;
+    }
+    Ok(ports)
+}
+
+/// Opens the files and sockets of a plan, as [`open_all`] does, and tells on the error writer what could not be
+/// opened. `Path` is answered then, and `Memory` where memory ran out. No other fault comes.
+fn open_system<R: Files<File = File> + Net, E: Write>(
+    rt: &R,
+    alloc: Global,
+    plan: &Plan,
+    specs: Vec<PortSpec>,
+    errors: &mut E,
+) -> Result<Vec<SystemOpened>, NetworkFault>
+    ensures count { IfOk result (λ opened. vec_len opened ≡ vec_len specs) }
+    ensures scripts { IfOk result (λ opened. map (λ port. (shown port).0) opened.items ≡ map script_in specs.items) }
+    ensures err { IfErr result (λ e. (e ≡ NetworkFault.Path) ⊎ (e ≡ NetworkFault.Memory)) }
+{
+    match open_all(alloc, &mut System { rt }, specs) {
+        Ok(opened) => Ok(opened),
+        Err(fault) => {
+            let _ = write_open_fault(alloc, plan.customers.as_slice(), &fault, errors);
+            Err(NetworkFault::from(fault))
+        }
+    }
+}
+
+/// Opens the ports of a plan. Their frames are counted. `Path` is answered where a file or socket can't be opened, or
+/// a file has two uses, and told on the error writer; `Memory` where memory ran out. No other fault comes.
+pub(crate) fn open_ports<R: Files<File = File> + Net, E: Write>(
     rt: &R,
     alloc: Global,
     plan: &Plan,
     specs: Vec<PortSpec>,
     traffic: &Arc<Traffic, Global>,
-) -> Result<Vec<Watched<SystemPort>>, NetworkFault>
+    errors: &mut E,
+) -> Result<Outside, NetworkFault>
     requires sound { IsSound plan.now }
     requires count { vec_len specs ≡ length plan.now.customers }
-    ensures count { IfOk result (λ ports. vec_len ports ≡ length plan.now.customers) }
-    ensures scripts { IfOk result (λ ports. map (λ w. script_at w.port) ports.items ≡ map script_in specs.items) }
+    ensures count { IfOk result (λ outside. vec_len outside.ports ≡ length plan.now.customers) }
+    ensures scripts { IfOk result (λ outside. map (λ w. script_at w.port) outside.ports.items ≡ map script_in specs.items) }
     ensures err { IfErr result (λ e. (e ≡ NetworkFault.Path) ⊎ (e ≡ NetworkFault.Memory)) }
 {
-    let mut ports = Vec::new(alloc);
-    for spec in specs {
-        let capacity = capacity_of(plan, ports.len());
-        let port = open_port(rt, alloc, capacity, spec)?;
-        let traffic = Arc::try_clone(traffic)?;
-        ports.push(Watched { port, traffic })?;
-    }
-    Ok(ports)
+    let opened = open_system(rt, alloc, plan, specs, errors)?;
+    let mut files = Vec::new(alloc);
+    let ports = ports_of(alloc, plan, opened, traffic, &mut files)?;
+    Ok(Outside { ports, files })
 }

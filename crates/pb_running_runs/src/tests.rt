@@ -7,6 +7,7 @@ mod captures;
 mod files;
 mod folder;
 mod memory;
+mod openings;
 mod peers;
 mod plans;
 mod reports;

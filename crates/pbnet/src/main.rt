@@ -3,8 +3,8 @@
 //! The exit status is 0 where all went well, 1 where a plan file was refused, 2 where the words of the
 //! command line ask for nothing that is known, and 3 after a line that begins with `fault:`. Such a line is the
 //! last one that is printed: `fault: read`, `write` or `memory` where reading, writing or memory failed,
-//! `steps` where a bridge had taken all its steps, `path` where a file can't be opened or a socket not
-//! be connected to, `spawn` where a thread could not be started, and, behind the report of a run, `port NAME N`
+//! `steps` where a bridge had taken all its steps, `path` where a file can't be opened, a socket not be
+//! connected to, or a file has two uses (standard error says which), `spawn` where a thread could not be started, and, behind the report of a run, `port NAME N`
 //! for each port whose input has the fault N.
 #![tactic(auto)]
 
@@ -103,13 +103,18 @@ fn flat(rt: &(impl Input + Print + AllocGlobal), ports: u8) -> ExitCode
     }
 }
 
-/// What stands in the file at a path, or the exit status where it can't be opened or read.
-fn contents(rt: &(impl Files + Print + AllocGlobal), path: &str) -> Result<Vec<u8>, ExitCode> {
+/// What stands in the file at a path, or the exit status where it can't be opened or read. Standard error says why it
+/// can't be opened.
+fn contents<R: Files + Print + Eprint + AllocGlobal>(
+    rt: &R,
+    path: &str,
+) -> Result<Vec<u8>, ExitCode> {
     let mut file = match fs::open(rt, path) {
         Ok(file) => file,
         Err(e) if e.kind() == ErrorKind::OutOfMemory => return Err(tell(rt, CommandFault::Memory)),
-        Err(_) => {
+        Err(e) => {
             let _ = println!(rt; "fault: path");
+            let _ = eprintln!(rt; "{path}: {e}");
             return Err(ExitCode::from(FAULT));
         }
     };
@@ -122,7 +127,7 @@ fn contents(rt: &(impl Files + Print + AllocGlobal), path: &str) -> Result<Vec<u
 }
 
 /// Tells whether a file is a plan.
-fn check(rt: &(impl Files + Print + AllocGlobal), path: &str) -> ExitCode {
+fn check(rt: &(impl Files + Print + Eprint + AllocGlobal), path: &str) -> ExitCode {
     let file = match contents(rt, path) {
         Ok(file) => file,
         Err(status) => return status,
@@ -134,7 +139,7 @@ fn check(rt: &(impl Files + Print + AllocGlobal), path: &str) -> ExitCode {
 }
 
 /// Drives the network of a plan file over standard input.
-fn step(rt: &(impl Files + Input + Print + AllocGlobal), path: &str) -> ExitCode {
+fn step<R: Files + Input + Print + Eprint + AllocGlobal>(rt: &R, path: &str) -> ExitCode {
     let file = match contents(rt, path) {
         Ok(file) => file,
         Err(status) => return status,

@@ -220,7 +220,7 @@ fn wrote<R: Files + AllocGlobal + Abort>(rt: &R, alloc: Global) -> Result<(), Fa
         ("out/shop.pcap", PROVIDER),
         ("out/hotel.pcap", PROVIDER),
         ("out/desk.pcap", CAMERA),
-        ("out/office.pcap", ""),
+        ("out/office.pcap", NONE),
     ] {
         let octets = fs::read(rt, file)?;
         let want = hex_octets(alloc, digits.as_bytes())?;

@@ -1,17 +1,17 @@
 //! Ports over capture files.
 
 use super::folder::{enter, leave};
-use super::plans::{CAPTURES, FULL, NO_FRAMES, ONE_FRAME, PATHS, TICKS};
+use super::plans::{
+    CAPTURES, FULL, LINKED, NO_FRAMES, ONE_FRAME, PATHS, SAME, TICKS, TWICE, UNMADE,
+};
 use super::{Row, Told, carry, check, joined, run};
-use pb_fakes::Unflushed;
 use pb_lan::Place;
 use pb_run::{Gate, Go};
 use pb_running::{NetworkFault, Traffic, Watch};
-use std::fs::Files;
+use std::fs;
 use std::sync::Arc;
 use std::sync::atomic::{AtomicU64, Ordering};
 use std::test::Fail;
-use std::{fs, io};
 
 /// What the ports P2 and P1 read, what is told, and what is written at P1.
 struct Captures {
@@ -45,7 +45,7 @@ const CAPTURE_ROWS: [Captures; 3] = [
             },
             report: "ended stopped\nport P1 entered 0 left 0 filtered 0\nport P2 entered 0 left 0 filtered 0\nport P3 entered 0 left 0 filtered 0\nforest yes\nfault: port P2 4\nfault: port P1 1\n",
         },
-        wrote: b"",
+        wrote: NO_FRAMES,
     },
     Captures {
         read: [ONE_FRAME, b"\0"],
@@ -144,23 +144,82 @@ fn seconds_of_captures_are_those_of_the_workers_turns(rt: HostRuntime) -> Result
     Ok(())
 }
 
-/// Whether the files of PATHS that are made are there, in the order in which they are made.
-fn made(rt: &impl Files) -> io::Result<[bool; 2]> {
-    Ok([fs::exists(rt, "paths.out")?, fs::exists(rt, "paths.last")?])
+/// Runs that come to no end: a plan file, what is told on the error writer, and the files that have to be there and
+/// as they were. What `missing` names must not be there afterwards.
+struct Refused {
+    plan: &'static str,
+    told: &'static [u8],
+    missing: &'static str,
+}
+
+/// Where the first of these is run, `paths.in` and `paths.out` hold one frame, and `again.in` is another name of
+/// `paths.in`.
+const REFUSED: [Refused; 5] = [
+    // A socket behind a capture is missing: the capture was emptied before.
+    Refused {
+        plan: PATHS,
+        told: b"port P2: connect paths.none: No such file or directory (os error 2)\n",
+        missing: "paths.last",
+    },
+    // One path is read and written: the input was emptied before.
+    Refused {
+        plan: SAME,
+        told: b"port P1: write .//paths.in: also read by port P1\n",
+        missing: "paths.last",
+    },
+    // Two names of one file.
+    Refused {
+        plan: LINKED,
+        told: b"port P1: write again.in: also read by port P1\n",
+        missing: "paths.last",
+    },
+    // Two ports write one file that is not there: each took half of it before.
+    Refused {
+        plan: TWICE,
+        told: b"port P2: write ./paths.last: also written by port P1\n",
+        missing: "paths.last",
+    },
+    // The second output can't be made: the first, which was made, is removed.
+    Refused {
+        plan: UNMADE,
+        told: b"port P2: write paths.none/out: No such file or directory (os error 2)\n",
+        missing: "paths.last",
+    },
+];
+
+#[test]
+fn a_run_that_cannot_open_its_files_leaves_them(rt: HostRuntime) -> Result<(), Fail> {
+    let alloc = rt.alloc();
+    let folder = enter(&rt, rt.process())?;
+    fs::write(&rt, "paths.in", ONE_FRAME)?;
+    fs::write(&rt, "paths.out", ONE_FRAME)?;
+    fs::hard_link(&rt, "paths.in", "again.in")?;
+    for row in &REFUSED {
+        let (mut output, mut errors) = (Vec::new(alloc), Vec::new(alloc));
+        let told = run(&rt, alloc, ["", row.plan], &mut output, &mut errors)?;
+        assert_eq!(rt; told.result, Err(NetworkFault::Path));
+        assert!(rt; output.is_empty());
+        assert!(rt; errors.as_slice() == row.told, "{}", row.plan);
+        for file in ["paths.in", "paths.out"] {
+            let octets = fs::read(&rt, file)?;
+            assert!(rt; octets.as_slice() == ONE_FRAME, "{file} {}", row.plan);
+        }
+        assert!(rt; !fs::exists(&rt, row.missing)?, "{}", row.plan);
+    }
+    leave(&rt, folder)?;
+    Ok(())
 }
 
 #[test]
-fn ports_are_opened_in_the_order_of_the_plan(rt: HostRuntime) -> Result<(), Fail> {
+fn files_to_read_are_opened_before_any_is_made(rt: HostRuntime) -> Result<(), Fail> {
+    let alloc = rt.alloc();
     let folder = enter(&rt, rt.process())?;
-    for want in [[false, false], [true, false]] {
-        let mut output = Vec::new(rt.alloc());
-        let told = run(&rt, rt.alloc(), ["", PATHS], &mut output, &mut Unflushed)?;
-        assert_eq!(rt; told.result, Err(NetworkFault::Path));
-        assert!(rt; output.is_empty());
-        assert_eq!(rt; made(&rt)?, want);
-        // The next time the first file to read is there.
-        fs::write(&rt, "paths.in", NO_FRAMES)?;
-    }
+    let (mut output, mut errors) = (Vec::new(alloc), Vec::new(alloc));
+    let told = run(&rt, alloc, ["", PATHS], &mut output, &mut errors)?;
+    assert_eq!(rt; told.result, Err(NetworkFault::Path));
+    let want = b"port P3: read paths.in: No such file or directory (os error 2)\n".as_slice();
+    assert!(rt; output.is_empty() && errors.as_slice() == want);
+    assert!(rt; !fs::exists(&rt, "paths.out")? && !fs::exists(&rt, "paths.last")?);
     leave(&rt, folder)?;
     Ok(())
 }

@@ -148,6 +148,104 @@ read = "paths.in"
 write = "paths.last"
 "#;
 
+/// One bridge with a capture that is read and written.
+pub(super) const SAME: &str = r#"
+[[bridge]]
+name = "B1"
+address = "02-00-00-00-00-01"
+
+[[service]]
+name = "red"
+vid = 100
+
+[[port]]
+name = "P1"
+bridge = "B1"
+port = 1
+service = "red"
+kind = "capture"
+read = "paths.in"
+write = ".//paths.in"
+"#;
+
+/// One bridge with a capture that is read, and written by another name.
+pub(super) const LINKED: &str = r#"
+[[bridge]]
+name = "B1"
+address = "02-00-00-00-00-01"
+
+[[service]]
+name = "red"
+vid = 100
+
+[[port]]
+name = "P1"
+bridge = "B1"
+port = 1
+service = "red"
+kind = "capture"
+read = "paths.in"
+write = "again.in"
+"#;
+
+/// One bridge with two ports that write one capture.
+pub(super) const TWICE: &str = r#"
+[[bridge]]
+name = "B1"
+address = "02-00-00-00-00-01"
+
+[[service]]
+name = "red"
+vid = 100
+
+[[port]]
+name = "P1"
+bridge = "B1"
+port = 1
+service = "red"
+kind = "capture"
+read = "paths.in"
+write = "paths.last"
+
+[[port]]
+name = "P2"
+bridge = "B1"
+port = 2
+service = "red"
+kind = "capture"
+read = "paths.in"
+write = "./paths.last"
+"#;
+
+/// One bridge with two captures to be made, of which one can't be.
+pub(super) const UNMADE: &str = r#"
+[[bridge]]
+name = "B1"
+address = "02-00-00-00-00-01"
+
+[[service]]
+name = "red"
+vid = 100
+
+[[port]]
+name = "P1"
+bridge = "B1"
+port = 1
+service = "red"
+kind = "capture"
+read = "paths.in"
+write = "paths.last"
+
+[[port]]
+name = "P2"
+bridge = "B1"
+port = 2
+service = "red"
+kind = "capture"
+read = "paths.in"
+write = "paths.none/out"
+"#;
+
 /// One bridge with a memory port and a socket.
 pub(super) const SOCKET: &str = r#"
 [[bridge]]
