@@ -155,6 +155,7 @@ class Tree:
         port.up, port.info = up, None
         if not up:
             port.agreed = port.agree = port.due = False
+            port.wait = port.changing = 0
         return self.settle(before)
 
     # Bringing into line

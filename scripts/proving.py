@@ -23,7 +23,7 @@ from concurrent.futures import FIRST_COMPLETED, ThreadPoolExecutor, wait
 
 ROOT = os.path.dirname(os.path.dirname(os.path.realpath(__file__)))
 # What the scripts take of the toolchain's script rt, and of rtlib.py beside it.
-OF_RT = "Crate checked edits_of free handles_of in_lanes must_fail need processors read_edit".split()
+OF_RT = "AT_LIMIT Crate REFUSED checked edits_of free handles_of in_lanes must_fail need processors read_edit".split()
 OF_RTLIB = "Crate KIT RATTLE crates_below files_of guarded lock text_of".split()
 # The checker's lines that tell how far it is, and that of a proved crate.
 PROGRESS = re.compile(r"checked (\S+), (\d+) of (\d+)$")
