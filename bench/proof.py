@@ -4,6 +4,7 @@ import collections
 import datetime
 import os
 import re
+import shutil
 import subprocess
 import sys
 import tempfile
@@ -207,12 +208,20 @@ def try_edits(crate, room):
 
 
 def try_edits_here(root, name):
-    """Tries a crate's wrong bodies in turn, each over the work of those before it."""
+    """Tries a crate's wrong bodies in turn: one from nothing, more over copies of what one check of the crate made."""
     proving.prepare()
     rt, crate = proving.toolchain(), proving.crates_of(root)[name]
-    tried = rt.must_fail_all(crate, rt.edits_of(crate)[0], ["--jobs", "1"])
-    print(*[text for _, text in tried], sep="\n")
-    return 0 if all(it for it, _ in tried) else 1
+    edits, jobs = rt.edits_of(crate)[0], ["--jobs", "1"]
+    told = []
+    with tempfile.TemporaryDirectory() as room:
+        if len(edits) > 1:
+            os.mkdir(f"{room}/seed")
+            rt.checked(crate, {}, jobs, f"{room}/seed")
+        for number, edit in enumerate(edits):
+            kept = shutil.copytree(f"{room}/seed", f"{room}/{number}") if len(edits) > 1 else None
+            told.append(rt.must_fail(crate, edit, jobs, kept))
+    print(*[text for _, text in told], sep="\n")
+    return 0 if all(it in (rt.REFUSED, rt.AT_LIMIT) for it, _ in told) else 1
 
 
 def measured(tree, names, room, what, call):
