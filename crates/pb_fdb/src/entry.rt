@@ -12,5 +12,5 @@ pub struct Entry {
     /// The port at which the station was seen last.
     pub port: u8,
     /// The moment of that, in ticks.
-    pub learnt: u32,
+    pub learnt: u64,
 }

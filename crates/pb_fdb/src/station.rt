@@ -35,7 +35,7 @@ pub struct LastSeen {
     /// The place in the log.
     pub at: u64,
     /// The moment, in ticks.
-    pub learnt: u32,
+    pub learnt: u64,
     /// The port.
     pub port: u8,
 }

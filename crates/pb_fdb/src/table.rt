@@ -20,7 +20,7 @@ use std::marker::Model;
 pub struct Fdb {
     limit: usize,
     ageing: u32,
-    clock: u32,
+    clock: u64,
     journal: Journal,
 }
 
@@ -37,14 +37,14 @@ impl Model for Fdb {
 }
 
 /// The entry is no older than the ageing time allows.
-fn is_fresh(entry: &Entry, ageing: u32, now: u32) -> bool
+fn is_fresh(entry: &Entry, ageing: u32, now: u64) -> bool
     ensures { result ≡ is_fresh ageing now (sighting_of entry.now) }
 {
-    now.saturating_sub(entry.learnt) < ageing
+    now.saturating_sub(entry.learnt) < u64::from(ageing)
 }
 
 /// Forgets the stations that weren't seen for the ageing time: they come first.
-fn forget_old(journal: &mut Journal, ageing: u32, now: u32)
+fn forget_old(journal: &mut Journal, ageing: u32, now: u64)
     requires { InOrder journal.old }
     ensures { journal.new ≡ fresh_entries ageing now journal.old }
 {
@@ -57,7 +57,7 @@ fn forget_old(journal: &mut Journal, ageing: u32, now: u32)
 }
 
 /// Forgets the old ones where there were as many entries as may be.
-fn sweep(journal: &mut Journal, full: bool, ageing: u32, now: u32)
+fn sweep(journal: &mut Journal, full: bool, ageing: u32, now: u64)
     requires { InOrder journal.old }
     ensures { journal.new ≡ (if full then fresh_entries ageing now journal.old else journal.old) }
 {
@@ -67,7 +67,7 @@ fn sweep(journal: &mut Journal, full: bool, ageing: u32, now: u32)
 }
 
 /// As many stations are live as may be kept. They all are where the oldest is.
-fn is_full(journal: &mut Journal, limit: usize, ageing: u32, now: u32) -> bool
+fn is_full(journal: &mut Journal, limit: usize, ageing: u32, now: u64) -> bool
     requires order { InOrder journal.old }
     requires fits { length journal.old ≤ limit }
     ensures entries { journal.new ≡ journal.old }
@@ -113,7 +113,7 @@ impl Fdb {
     }
 
     /// The port at which the station was seen last in the service, if that is fewer than `ageing` ticks ago.
-    pub fn find(&self, vid: u16, mac: Mac, now: u32) -> Option<u8>
+    pub fn find(&self, vid: u16, mac: Mac, now: u64) -> Option<u8>
         ensures { result ≡ where_in self.now now vid mac.0 }
     {
         let entry = self.journal.find(vid, mac)?;
@@ -130,7 +130,7 @@ impl Fdb {
     /// station is not; `Kept` and `Moved` where it is live, and they take no memory; `New` otherwise, unless
     /// `Memory` ran out. Where the table holds its limit and the station is not live, those that are
     /// too old go first. `Full`, `Group` and `Memory` leave the entries as they were.
-    pub fn learn(&mut self, vid: u16, mac: Mac, port: u8, now: u32) -> Learnt
+    pub fn learn(&mut self, vid: u16, mac: Mac, port: u8, now: u64) -> Learnt
         requires { self.old.clock ≤ now }
         ensures answer { IsLearnt (is_group mac.0) (where_in self.old now vid mac.0) (is_full self.old now) port result }
         ensures table { self.new ≡ learnt_table self.old (sighting_at vid mac.0 port now) result }
@@ -175,7 +175,7 @@ impl Fdb {
 
     /// Forgets the stations that were not seen for the ageing time. The moment is no earlier than any
     /// that the table was told before.
-    pub fn expire(&mut self, now: u32)
+    pub fn expire(&mut self, now: u64)
         requires { self.old.clock ≤ now }
         ensures { self.new ≡ expired self.old now }
     {

@@ -109,6 +109,7 @@ admitted_waiting ports port frame old new quiet from to (outcome, (learnt, moved
     let alone : IsAlone ports new = record {
       plan = ap (λ (b : BridgeView). b.plan) appended ∙ quiet.alone.plan;
       number = ap (λ (b : BridgeView). b.number) appended ∙ quiet.alone.number;
+      counted = ap (λ (b : BridgeView). b.is_kept) appended ∙ quiet.alone.counted;
     } in
     let fits : Fits spanning_tree plan 1 old.steps step =
     subst (λ k. Fits spanning_tree plan k old.steps step) quiet.alone.number (subst (λ (p : Plan). Fits spanning_tree p old.number old.steps step) quiet.alone.plan fits_there) in

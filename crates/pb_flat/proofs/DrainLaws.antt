@@ -1,5 +1,5 @@
 -- The bridge's ports send what waits there.
-use Rattle.std.proofs.Common.{◌≡◌, ℕ, suc, ◌+◌, ◌<◌, ◌≤◌, ◌==◌, ◌⊎◌, inl, inr, max, cond, true, false, nat_le, nat_lt, List, [], ◌∷◌, ◌++◌, length, refl, sym, ap, subst, ◌∙◌, arith, append-nil, ne_eqb}
+use Rattle.std.proofs.Common.{◌≡◌, ℕ, suc, ◌+◌, ◌^◌, ◌<◌, ◌≤◌, ◌==◌, ◌⊎◌, inl, inr, max, cond, true, false, nat_le, nat_lt, List, [], ◌∷◌, ◌++◌, length, refl, sym, ap, subst, ◌∙◌, arith, append-nil, ne_eqb}
 use Rattle.std.proofs.lemmas.Bool.{le-leb, eq-eqb}
 use Rattle.std.proofs.lemmas.Bool.Decides.{leb_tells}
 use Rattle.std.specs.List.{AllByRecursion}
@@ -63,6 +63,7 @@ drained ports q old new alone_there (one item some appended) =
     let alone_here : IsAlone ports new = record {
       plan = ap (λ (b : BridgeView). b.plan) appended ∙ alone_there.plan;
       number = ap (λ (b : BridgeView). b.number) appended ∙ alone_there.number;
+      counted = ap (λ (b : BridgeView). b.is_kept) appended ∙ alone_there.counted;
     } in
     let earlier = old.steps in
     let left : (n : ℕ) → waits new n ≡ length (cond (q == n) (without (highest (waiting plan 1 n earlier)) (waiting plan 1 n earlier)) (waiting plan 1 n earlier)) =
@@ -147,10 +148,10 @@ draining_next ports port q old mid new so_far low high sent =
 
 -- where the list of steps is full, many frames were received
 pub full_then_many : (ports port q : ℕ) (old bridge : BridgeView) → ports ≤ 16 → 1 ≤ port → port ≤ ports → IsDraining ports port q old bridge → q ≤ ports → 0 < waits bridge q
-    → length bridge.steps ≡ bridge.plan.steps → 62501 ≤ length (receipts old.steps)
+    → length bridge.steps ≡ bridge.plan.steps → 2 ^ 60 ≤ length (receipts old.steps)
 full_then_many ports port q old bridge most from to so_far high some full =
     let told : length (receipts bridge.steps) ≡ length (receipts old.steps) = ap length so_far.same in
-    let limit : bridge.plan.steps ≡ 1000000 = ap (λ (p : Plan). p.steps) so_far.alone.plan in
+    let limit : bridge.plan.steps ≡ 18446744073709551615 = ap (λ (p : Plan). p.steps) so_far.alone.plan in
     elim (leb_tells (suc port) q) [
       | inl l ↦ let at = rw l.0 at so_far.few in omega (arith, at, full, limit, told, high, most)
       | inr l ↦ let at = rw l.0 at so_far.few in elim (same_or_not q port) [

@@ -1,5 +1,5 @@
 -- A run over lines, line by line.
-use Rattle.std.proofs.Common.{true, false, ◌≢◌, ◌≡◌, ℕ, suc, ◌+◌, ◌≤◌, List, [], ◌∷◌, ◌++◌, length, take, map, Option, Some, None, refl, sym, ap, subst, ◌∙◌, arith, append_assoc, append-nil, add-one, length-take, length-append}
+use Rattle.std.proofs.Common.{true, false, ◌≢◌, ◌≡◌, ℕ, suc, ◌+◌, ◌-◌, ◌^◌, ◌≤◌, List, [], ◌∷◌, ◌++◌, length, take, map, Option, Some, None, refl, sym, ap, subst, ◌∙◌, arith, append_assoc, append-nil, add-one, length-take, length-append}
 use Rattle.std.proofs.lemmas.List.{take_all}
 use Rattle.std.specs.Io.KnownBytes.{Appends, Keeps}
 use Rattle.pb_lines.specs.Lines.{lines_of, cut_lines, GivesLine, HasNoLine}
@@ -67,7 +67,7 @@ front_of_map n (l ∷ lines) (f ∷ front) back e =
     let parts = front_of_map n lines front back tail in
     (l ∷ parts.0, parts.1, ap (λ z. l ∷ z) {y = parts.0 ++ parts.1} parts.2, let same : front ≡ map (λ line. take n line) parts.0 = parts.3 in cc)
 
-least_taken : (fault : CommandFault) (got : List Receipt) → (fault ≡ Steps → 62500 ≤ length got) → least_frames fault ≤ length got
+least_taken : (fault : CommandFault) (got : List Receipt) → (fault ≡ Steps → 2 ^ 60 - 1 ≤ length got) → least_frames fault ≤ length got
 least_taken Read got many = omega arith
 least_taken Write got many = omega arith
 least_taken Steps got many = many refl
@@ -118,7 +118,7 @@ finishes limit ports n (Some octets) (Some rest) before now after held steps pas
 
 -- at any line what is written are the answers to the first lines
 pub has_begun : (fault : CommandFault) (limit ports n : ℕ) (input left before now : Option (List ℕ)) (held : List ℕ) (steps : List Step)
-    → IsFlatPast ports steps → Progress limit ports n input held left before now (receipts steps) → (fault ≡ Steps → 62500 ≤ length (receipts steps))
+    → IsFlatPast ports steps → Progress limit ports n input held left before now (receipts steps) → (fault ≡ Steps → 2 ^ 60 - 1 ≤ length (receipts steps))
     → PrintsBeginning fault limit ports input before now
 has_begun fault limit ports n None left before now held steps past p many = tt
 has_begun fault limit ports n (Some octets) None before now held steps past p many = absurd p

@@ -35,5 +35,5 @@ flat_plan ports = record {
   spanning = Fixed;
   ageing = 300;
   ring = 64;
-  steps = 1000000;
+  steps = 18446744073709551615;
 }

@@ -1,5 +1,5 @@
 -- What a run over lines has written, where the octets are known.
-use Rattle.std.specs.Prelude.{◌≡◌, ℕ, suc, List, [], ◌++◌, length, Option, Some, None, IfSome, ⊤}
+use Rattle.std.specs.Prelude.{◌≡◌, ℕ, ◌-◌, ◌^◌, suc, List, [], ◌++◌, length, Option, Some, None, IfSome, ⊤}
 use Rattle.std.specs.Io.KnownBytes.{Appends}
 use Rattle.pb_lines.specs.Lines.{cut_lines}
 use Rattle.pb_print.specs.declared.fault.CommandFault.{CommandFault}
@@ -13,7 +13,7 @@ Prints limit ports input before after = IfSome input (λ octets. (text : List �
 
 -- a run that used up its steps had taken so many frames at least
 abbrev pub least_frames : CommandFault → ℕ
-least_frames Steps = 62500
+least_frames Steps = 2 ^ 60 - 1
 least_frames other = 0
 
 -- the answers to some of the first lines, whole

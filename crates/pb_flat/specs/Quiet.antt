@@ -1,6 +1,5 @@
 -- A bridge that stands alone, between two frames and while it handles one.
-use Rattle.std.specs.Prelude.{◌≡◌, ℕ, ◌+◌, ◌-◌, ◌*◌, ◌<◌, ◌≤◌, List, ◌++◌, Some, None, length, slice_get, nat_lt, if◌then◌else◌}
-use Rattle.std.specs.declared.option.Option.{Option}
+use Rattle.std.specs.Prelude.{◌≡◌, ℕ, ◌+◌, ◌*◌, ◌<◌, ◌≤◌, false, List, ◌++◌, None, length, nat_lt, if◌then◌else◌}
 use Rattle.std.specs.List.{AllByRecursion}
 use Rattle.pb_frame.specs.Hex.{IsHex}
 use Rattle.pb_lan.specs.Queues.{waiting}
@@ -13,10 +12,11 @@ use Rattle.pb_flat.specs.FlatPlans.{flat_plan}
 use Rattle.pb_flat.specs.Receipts.{receipts, IsClear}
 use Rattle.pb_flat.specs.Texts.{answer_text}
 
--- it is the bridge of the plan with so many ports
+-- it is the bridge of the plan with so many ports, and only counts its steps
 pub record IsAlone (ports : ℕ) (bridge : BridgeView) : Type 0 where
   pub plan : bridge.plan ≡ flat_plan ports
   pub number : bridge.number ≡ 1
+  pub counted : bridge.is_kept ≡ false
 
 -- the number of items that wait at a port
 abbrev pub waits : BridgeView → ℕ → ℕ
@@ -37,18 +37,14 @@ arriving frame = record { mark = None; hops = 0; wire = frame }
 abbrev pub HasAdmitted : ℕ → List ℕ → BridgeView → BridgeView → Type 0
 HasAdmitted port frame old new = (outcome : Outcome) × HasReceived old port (arriving frame) outcome new
 
--- the newest step
-abbrev pub newest : List Step → Option Step
-newest steps = slice_get steps (length steps - 1)
-
--- the newest step received a frame, and these are its digits
-abbrev pub IsToldBy : List ℕ → Option Step → Type 0
-IsToldBy digits (Some (Receive port item learnt outcome moved)) = IsHex digits item.wire
+-- the step received a frame, and these are its digits
+abbrev pub IsToldBy : List ℕ → Step → Type 0
+IsToldBy digits (Receive port item learnt outcome moved) = IsHex digits item.wire
 IsToldBy digits _ = ⊥
 
--- what the newest step tells was printed, and it tells of no want of memory
-abbrev pub Tells : Option Step → List ℕ → List ℕ → Type 0
-Tells (Some (Receive port item learnt outcome moved)) out out' =
+-- what the step tells was printed, and it tells of no want of memory
+abbrev pub Tells : Step → List ℕ → List ℕ → Type 0
+Tells (Receive port item learnt outcome moved) out out' =
     (out' ≡ out ++ answer_text (record { port = port; wire = item.wire; outcome = outcome })) × IsClear (Receive port item learnt outcome moved)
 Tells _ out out' = ⊥
 

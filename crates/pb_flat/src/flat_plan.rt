@@ -80,6 +80,6 @@ pub(crate) fn flat_plan(alloc: Global, ports: u8) -> Result<Plan, Memory>
         spanning: Spanning::Fixed,
         ageing: 300,
         ring: 64,
-        steps: 1_000_000,
+        steps: u64::MAX,
     })
 }

@@ -1,6 +1,6 @@
 //! One bridge, driven by lines of text.
 
-ghost use Rattle.std.specs.Prelude.{◌≡◌, ◌≢◌, ◌<◌, ◌≤◌, ◌^◌, ◌++◌, [], ℕ, List, length, true, IsErrOf, OnOk, IfErr};
+ghost use Rattle.std.specs.Prelude.{◌≡◌, ◌≢◌, ◌<◌, ◌≤◌, ◌-◌, ◌^◌, ◌++◌, [], ℕ, List, length, true, IsErrOf, OnOk, IfErr};
 ghost use Rattle.std.specs.Io.KnownBytes.{Keeps};
 ghost use Rattle.pb_lines.specs.Reader.{held, limit_of};
 ghost use Rattle.pb_flat.specs.Answers.{Answer};
@@ -32,7 +32,7 @@ fn answer(
     requires ready { switch.old.is_ready ≡ true }
     ensures frames { frames.new.items ≡ [] }
     ensures ready { OnOk result (switch.new.is_ready ≡ true) }
-    ensures steps { IsErrOf result CommandFault.Steps → 62500 ≤ length (receipts switch.old.steps) }
+    ensures steps { IsErrOf result CommandFault.Steps → 2 ^ 60 - 1 ≤ length (receipts switch.old.steps) }
     ensures ports { OnOk result (switch.new.ports ≡ ports) }
     ensures past { OnOk result (IsFlatPast ports switch.old.steps → IsFlatPast ports switch.new.steps) }
     ensures ok { OnOk result ((text : List ℕ) × (out.new.items ≡ out.old.items ++ text)
@@ -131,7 +131,7 @@ pub fn run_flat_on<R: Read, W: Write>(
 ///
 /// `Read` is answered where a read failed, `Write` where a write did, `Steps` where the bridge has
 /// taken as many steps as it may, `Memory` where memory ran out. After any fault but `Write`, the answers to
-/// the first lines, as many as were answered, are written whole, and nothing else is; at least 62,500 of these
+/// the first lines, as many as were answered, are written whole, and nothing else is; at least 2^60-1 of these
 /// lines hand over a frame where the fault is `Steps`. After `Write` nothing is said of what was written.
 pub fn run_flat<R: Read, W: Write>(
     alloc: Global,

@@ -1,13 +1,14 @@
 //! One bridge that stands alone.
 
-ghost use Rattle.std.specs.Prelude.{◌≡◌, ◌≤◌, ◌<◌, ◌+◌, ◌*◌, ◌⊎◌, [], true, false, length, IfErr, OnOk, IsErrOf, IfOk};
+ghost use Rattle.std.specs.Prelude.{◌≡◌, ◌≤◌, ◌<◌, ◌+◌, ◌-◌, ◌^◌, ◌⊎◌, [], true, false, length, IfErr, OnOk, IsErrOf, IfOk};
 ghost use Rattle.pb_frame.specs.Hex.{IsHex};
 ghost use Rattle.pb_lan.specs.BridgeLists.{IsLawfulBridge};
 ghost use Rattle.pb_lan.specs.Ports.{port_at, is_used};
 ghost use Rattle.pb_relay.specs.Protocol.{spanning_tree};
 ghost use Rattle.pb_flat.specs.Faults.{of_bridge};
 ghost use Rattle.pb_flat.specs.FlatPlans.{flat_plan};
-ghost use Rattle.pb_flat.specs.Quiet.{IsQuiet, IsAlone, HasAdmitted, IsToldBy, IsWaiting, IsDraining, HasDrained, Tells, newest, waits};
+ghost use Rattle.pb_relay.specs.Standing.{HasCounted};
+ghost use Rattle.pb_flat.specs.Quiet.{IsToldBy, IsWaiting, IsDraining, HasDrained, Tells, arriving, waits};
 ghost use Rattle.pb_flat.specs.Receipts.{receipts, IsClearOutcome};
 ghost use Rattle.pb_flat.specs.Switches.{HasHandled};
 
@@ -41,9 +42,6 @@ impl Model for Switch {
     ghost invariant = { λ s. (2 ≤ s.ports) × (s.ports ≤ 16) × (s.is_ready ≡ true → IsQuiet s.ports s.bridge) };
 }
 
-/// For how many steps room is asked for at first: as many as a bridge takes at most.
-const EXPECTED_STEPS: usize = 1_000_000;
-
 /// What ends a run where the bridge can take no step.
 fn fault_of(fault: BridgeFault) -> CommandFault
     ensures { result ≡ of_bridge fault }
@@ -54,10 +52,11 @@ fn fault_of(fault: BridgeFault) -> CommandFault
     }
 }
 
-/// Has the bridge receive a frame at a port.
-fn admit(bridge: &mut Bridge, port: u8, frame: Bytes) -> Result<(), CommandFault>
-    requires { is_used (port_at bridge.old.plan bridge.old.number port) ≡ true }
-    ensures ok { OnOk result (HasAdmitted port frame bridge.old bridge.new) }
+/// Has the bridge receive a frame at a port, and hands out the step that tells of it.
+fn admit(bridge: &mut Bridge, port: u8, frame: Bytes) -> Result<Step, CommandFault>
+    requires used { is_used (port_at bridge.old.plan bridge.old.number port) ≡ true }
+    requires counted { bridge.old.is_kept ≡ false }
+    ensures ok { IfOk result (λ step. HasCounted bridge.old port (arriving frame) step bridge.new) }
     ensures kinds { IfErr result (λ e. (e ≡ CommandFault.Steps) ⊎ (e ≡ CommandFault.Memory)) }
     ensures limit { IsErrOf result CommandFault.Steps → length bridge.old.steps ≡ bridge.old.plan.steps }
 {
@@ -66,8 +65,8 @@ fn admit(bridge: &mut Bridge, port: u8, frame: Bytes) -> Result<(), CommandFault
         hops: 0,
         wire: frame,
     };
-    match bridge.take_in(port, item) {
-        Ok(()) => Ok(()),
+    match bridge.receive_counted(port, item) {
+        Ok(step) => Ok(step),
         Err((fault, _)) => Err(fault_of(fault)),
     }
 }
@@ -85,26 +84,24 @@ fn is_lost(outcome: &Outcome) -> bool
     }
 }
 
-/// Prints what became of the frame that the bridge received last.
+/// Prints what became of the frame that a step received.
 fn tell(
     alloc: Global,
-    bridge: &Bridge,
+    step: &Step,
     digits: &[u8],
     out: &mut Vec<u8>,
 ) -> Result<(), CommandFault>
-    requires { IsToldBy digits.now (newest bridge.now.steps) }
-    ensures ok { OnOk result (Tells (newest bridge.now.steps) out.old.items out.new.items) }
+    requires { IsToldBy digits.now step.now }
+    ensures ok { OnOk result (Tells step.now out.old.items out.new.items) }
     ensures err { IfErr result (λ e. e ≡ CommandFault.Memory) }
 {
-    let Some(
-        Step::Receive {
-            port,
-            item,
-            learnt,
-            outcome,
-            ..
-        },
-    ) = bridge.steps().last()
+    let Step::Receive {
+        port,
+        item,
+        learnt,
+        outcome,
+        ..
+    } = step
     else {
         unreachable!();
     };
@@ -142,7 +139,7 @@ fn drain(bridge: &mut Bridge, ports: u8, port: u8) -> Result<(), CommandFault>
     ensures ok { OnOk result (IsDraining ports port (ports + 1) bridge.old bridge.new) }
     ensures kinds { IfErr result (λ e. (e ≡ CommandFault.Steps) ⊎ (e ≡ CommandFault.Memory)) }
     ensures lawful { OnOk result (IsLawfulBridge spanning_tree bridge.new.plan bridge.new.number bridge.new.steps) }
-    ensures steps { IsErrOf result CommandFault.Steps → 62501 ≤ length (receipts bridge.old.steps) }
+    ensures steps { IsErrOf result CommandFault.Steps → 2 ^ 60 ≤ length (receipts bridge.old.steps) }
 {
     for other in 1..ports + 1 {
         drain_at(bridge, other)?;
@@ -158,8 +155,7 @@ impl Switch {
         ensures { IfOk result (λ s. s ≡ record { ports = ports; steps = []; is_ready = true }) }
     {
         let plan = flat_plan(alloc, ports)?;
-        let mut bridge = Bridge::new(alloc, &plan, 1)?;
-        bridge.expect_steps(EXPECTED_STEPS);
+        let bridge = Bridge::counting(alloc, &plan, 1)?;
         Ok(Switch {
             ports,
             bridge,
@@ -176,8 +172,8 @@ impl Switch {
 
     /// Takes a frame at a port, and prints what becomes of it. The digits are those of the frame.
     ///
-    /// `Steps` is answered where the list of steps is full, `Memory` where memory ran out: at least
-    /// 62,500 frames were taken before the first. After either the bridge takes no more frames.
+    /// `Steps` is answered where the bridge has taken 2^64-1 steps, `Memory` where memory ran out: at least
+    /// 2^60-1 frames were taken before the first. After either the bridge takes no more frames.
     pub fn handle(
         &mut self,
         alloc: Global,
@@ -192,11 +188,11 @@ impl Switch {
         requires ready { self.old.is_ready ≡ true }
         ensures ok { OnOk result (HasHandled self.old port frame out.old.items self.new out.new.items) }
         ensures kinds { IfErr result (λ e. (e ≡ CommandFault.Steps) ⊎ (e ≡ CommandFault.Memory)) }
-        ensures steps { IsErrOf result CommandFault.Steps → 62500 ≤ length (receipts self.old.steps) }
+        ensures steps { IsErrOf result CommandFault.Steps → 2 ^ 60 - 1 ≤ length (receipts self.old.steps) }
     {
         self.is_ready = false;
-        admit(&mut self.bridge, port, frame)?;
-        tell(alloc, &self.bridge, digits, out)?;
+        let step = admit(&mut self.bridge, port, frame)?;
+        tell(alloc, &step, digits, out)?;
         drain(&mut self.bridge, self.ports, port)?;
         self.is_ready = true;
         Ok(())

@@ -3,6 +3,7 @@
 ghost use Rattle.std.specs.Prelude.{◌≡◌, [], true, OnOk};
 
 mod examples;
+mod many;
 
 use pb_fakes::{Full, Slow, Unflushed};
 use pb_flat::{Switch, run_flat, run_flat_on};

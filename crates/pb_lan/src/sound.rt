@@ -23,8 +23,8 @@ fn is_within_limits(plan: &Plan) -> bool
         && plan.links.len() <= 64
         && plan.services.len() <= 64
         && plan.customers.len() <= 128
-        && is_number(plan.ring as u32, 4096)
-        && is_number(plan.steps, 1_000_000)
+        && is_number(plan.ring as u64, 4096)
+        && is_number(plan.steps, u64::MAX)
         && 10 <= plan.ageing
         && plan.ageing <= 1_000_000
 }

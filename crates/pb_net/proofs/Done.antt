@@ -101,12 +101,12 @@ lane_failed plan bridges lanes customers ins outs r old new placed kept within v
     (placed_lane plan bridges lanes customers r old new placed here losses, rw e kept, e)
 
 pub bridge_failed : (plan : Plan) (bridges : List BridgeView) (lanes : List LaneView) (customers : List PlaceView) (ins outs : List (List Item)) (r : ℕ) (old new : BridgeView)
-    → ArePlaced plan bridges lanes customers → IsKept plan (record_of bridges lanes customers) ins outs → r < length plan.bridges → old ≡ get_or bridges r old → new.plan ≡ old.plan → new.number ≡ old.number → new.steps ≡ old.steps
+    → ArePlaced plan bridges lanes customers → IsKept plan (record_of bridges lanes customers) ins outs → r < length plan.bridges → old ≡ get_or bridges r old → new.plan ≡ old.plan → new.number ≡ old.number → new.is_kept ≡ old.is_kept → new.steps ≡ old.steps
     → ArePlaced plan (set bridges r new) lanes customers × IsKept plan (record_of (set bridges r new) lanes customers) ins outs × (record_of (set bridges r new) lanes customers ≡ record_of bridges lanes customers)
-bridge_failed plan bridges lanes customers ins outs r old new placed kept within value of_plan number same =
+bridge_failed plan bridges lanes customers ins outs r old new placed kept within value of_plan number is_kept same =
     let here = here_is bridges r old (omega (arith, placed.bridge_count)) value in
     let e = unrecorded_bridge bridges lanes customers r old new here same in
-    (placed_bridge plan bridges lanes customers r old new placed here of_plan number, rw e kept, e)
+    (placed_bridge plan bridges lanes customers r old new placed here of_plan number is_kept, rw e kept, e)
 
 -- a place's lawful list, with one step more
 grown_port : (plan : Plan) (bridges : List BridgeView) (lanes : List LaneView) (customers : List PlaceView) (r : ℕ) (old new : PlaceView) (step : Step)
@@ -188,10 +188,10 @@ deliver_done f plan bridges lanes customers ins outs port spot old new box box' 
 
 pub receive_done : {Q : Type 0} (f : Q → List Item) (plan : Plan) (bridges : List BridgeView) (lanes : List LaneView) (customers : List PlaceView) (ins outs : List Q) (bridge port : ℕ) (spot : Spot) (old new : BridgeView) (box box' : Q)
     → ArePlaced plan bridges lanes customers → IsKept plan (record_of bridges lanes customers) (map f ins) (map f outs) → IsBridgeSpot plan bridge port spot
-    → old ≡ get_or bridges spot.place old → box ≡ get_or ins spot.slot box → new.plan ≡ old.plan → new.number ≡ old.number → HasReceivedFrom old port (f box) new (f box')
+    → old ≡ get_or bridges spot.place old → box ≡ get_or ins spot.slot box → new.plan ≡ old.plan → new.number ≡ old.number → new.is_kept ≡ old.is_kept → HasReceivedFrom old port (f box) new (f box')
     → ArePlaced plan (set bridges spot.place new) lanes customers × IsKept plan (record_of (set bridges spot.place new) lanes customers) (map f (set ins spot.slot box')) (map f outs)
     × HasDone (record_of bridges lanes customers) (Receive bridge port) (record_of (set bridges spot.place new) lanes customers)
-receive_done f plan bridges lanes customers ins outs bridge port spot old new box box' placed kept known value boxed of_plan number moved =
+receive_done f plan bridges lanes customers ins outs bridge port spot old new box box' placed kept known value boxed of_plan number is_kept moved =
     let r = spot.place in
     let step : Step = Received port moved.item moved.learnt moved.outcome moved.moved in
     let here = here_is bridges r old (omega (arith, known.there, placed.bridge_count)) value in
@@ -199,17 +199,17 @@ receive_done f plan bridges lanes customers ins outs bridge port spot old new bo
     let bridge_is : suc r ≡ bridge = omega (arith, known.place) in
     let at : IsSlot plan (suc r) port spot.slot = subst (λ n. IsSlot plan n port spot.slot) (sym bridge_is) known.slot in
     let rec = recorded_bridge bridges lanes customers r old new step here moved.steps in (
-      placed_bridge plan bridges lanes customers r old new placed here of_plan number,
+      placed_bridge plan bridges lanes customers r old new placed here of_plan number is_kept,
       rw (rec, map-set f ins spot.slot box') (after_receive plan (record_of bridges lanes customers) (map f ins) (map f outs) r spot.slot port moved.item moved.learnt moved.outcome moved.moved (f box') kept known.there at (there ∙ ap (λ z. Some z) moved.taken) (grown_bridge plan bridges lanes customers (map f ins) (map f outs) r old step kept placed here moved.fits)),
       subst (λ n. HasDone (record_of bridges lanes customers) (Receive n port) (record_of (set bridges r new) lanes customers)) bridge_is (step, refl, rec),
     )
 
 pub transmit_done : {Q : Type 0} (f : Q → List Item) (plan : Plan) (bridges : List BridgeView) (lanes : List LaneView) (customers : List PlaceView) (ins outs : List Q) (bridge port : ℕ) (spot : Spot) (old new : BridgeView) (box box' : Q)
     → ArePlaced plan bridges lanes customers → IsKept plan (record_of bridges lanes customers) (map f ins) (map f outs) → IsBridgeSpot plan bridge port spot
-    → old ≡ get_or bridges spot.place old → box ≡ get_or outs spot.slot box → new.plan ≡ old.plan → new.number ≡ old.number → HasTransmittedTo old port (f box) new (f box')
+    → old ≡ get_or bridges spot.place old → box ≡ get_or outs spot.slot box → new.plan ≡ old.plan → new.number ≡ old.number → new.is_kept ≡ old.is_kept → HasTransmittedTo old port (f box) new (f box')
     → ArePlaced plan (set bridges spot.place new) lanes customers × IsKept plan (record_of (set bridges spot.place new) lanes customers) (map f ins) (map f (set outs spot.slot box'))
     × HasDone (record_of bridges lanes customers) (Transmit bridge port) (record_of (set bridges spot.place new) lanes customers)
-transmit_done f plan bridges lanes customers ins outs bridge port spot old new box box' placed kept known value boxed of_plan number moved =
+transmit_done f plan bridges lanes customers ins outs bridge port spot old new box box' placed kept known value boxed of_plan number is_kept moved =
     let r = spot.place in
     let step : Step = Transmitted port moved.item in
     let here = here_is bridges r old (omega (arith, known.there, placed.bridge_count)) value in
@@ -217,7 +217,7 @@ transmit_done f plan bridges lanes customers ins outs bridge port spot old new b
     let bridge_is : suc r ≡ bridge = omega (arith, known.place) in
     let at : IsSlot plan (suc r) port spot.slot = subst (λ n. IsSlot plan n port spot.slot) (sym bridge_is) known.slot in
     let rec = recorded_bridge bridges lanes customers r old new step here moved.steps in (
-      placed_bridge plan bridges lanes customers r old new placed here of_plan number,
+      placed_bridge plan bridges lanes customers r old new placed here of_plan number is_kept,
       rw (rec, map-set f outs spot.slot box', moved.queued) (after_transmit plan (record_of bridges lanes customers) (map f ins) (map f outs) r spot.slot port moved.item (f box) kept known.there at there (grown_bridge plan bridges lanes customers (map f ins) (map f outs) r old step kept placed here moved.fits)),
       subst (λ n. HasDone (record_of bridges lanes customers) (Transmit n port) (record_of (set bridges r new) lanes customers)) bridge_is (step, refl, rec),
     )
@@ -258,30 +258,30 @@ put_done f plan bridges lanes customers ins outs lane spot old new box box' soun
 
 pub tick_done : (plan : Plan) (bridges : List BridgeView) (lanes : List LaneView) (customers : List PlaceView) (ins outs : List (List Item)) (bridge r now : ℕ) (moved : Moved) (old new : BridgeView)
     → ArePlaced plan bridges lanes customers → IsKept plan (record_of bridges lanes customers) ins outs → r + 1 ≡ bridge → r < length plan.bridges → old ≡ get_or bridges r old
-    → new.plan ≡ old.plan → new.number ≡ old.number → new.steps ≡ old.steps ++ Ticked now moved ∷ [] → Fits spanning_tree old.plan old.number old.steps (Ticked now moved)
+    → new.plan ≡ old.plan → new.number ≡ old.number → new.is_kept ≡ old.is_kept → new.steps ≡ old.steps ++ Ticked now moved ∷ [] → Fits spanning_tree old.plan old.number old.steps (Ticked now moved)
     → ArePlaced plan (set bridges r new) lanes customers × IsKept plan (record_of (set bridges r new) lanes customers) ins outs
     × HasDone (record_of bridges lanes customers) (Tick bridge) (record_of (set bridges r new) lanes customers)
-tick_done plan bridges lanes customers ins outs bridge r now moved old new placed kept place within value of_plan number grown fits =
+tick_done plan bridges lanes customers ins outs bridge r now moved old new placed kept place within value of_plan number is_kept grown fits =
     let here = here_is bridges r old (omega (arith, placed.bridge_count)) value in
     let bridge_is : suc r ≡ bridge = omega (arith, place) in
     let rec = recorded_bridge bridges lanes customers r old new (Ticked now moved) here grown in (
-      placed_bridge plan bridges lanes customers r old new placed here of_plan number,
+      placed_bridge plan bridges lanes customers r old new placed here of_plan number is_kept,
       rw rec (after_quiet plan (record_of bridges lanes customers) ins outs r (Ticked now moved) kept within (λ q. refl) (λ q. refl) (grown_bridge plan bridges lanes customers ins outs r old (Ticked now moved) kept placed here fits)),
       subst (λ n. HasDone (record_of bridges lanes customers) (Tick n) (record_of (set bridges r new) lanes customers)) bridge_is (Ticked now moved, tt, rec),
     )
 
 pub admin_done : (plan : Plan) (bridges : List BridgeView) (lanes : List LaneView) (customers : List PlaceView) (ins outs : List (List Item)) (bridge port : ℕ) (up : Bool) (spot : Spot) (moved : Moved) (old new : BridgeView)
     → ArePlaced plan bridges lanes customers → IsKept plan (record_of bridges lanes customers) ins outs → IsBridgeSpot plan bridge port spot → old ≡ get_or bridges spot.place old
-    → new.plan ≡ old.plan → new.number ≡ old.number → new.steps ≡ old.steps ++ Administered port up moved ∷ [] → Fits spanning_tree old.plan old.number old.steps (Administered port up moved)
+    → new.plan ≡ old.plan → new.number ≡ old.number → new.is_kept ≡ old.is_kept → new.steps ≡ old.steps ++ Administered port up moved ∷ [] → Fits spanning_tree old.plan old.number old.steps (Administered port up moved)
     → ArePlaced plan (set bridges spot.place new) lanes customers × IsKept plan (record_of (set bridges spot.place new) lanes customers) ins outs
     × HasDone (record_of bridges lanes customers) (Admin bridge port up) (record_of (set bridges spot.place new) lanes customers)
-admin_done plan bridges lanes customers ins outs bridge port up spot moved old new placed kept known value of_plan number grown fits =
+admin_done plan bridges lanes customers ins outs bridge port up spot moved old new placed kept known value of_plan number is_kept grown fits =
     let r = spot.place in
     let here = here_is bridges r old (omega (arith, known.there, placed.bridge_count)) value in
     let bridge_is : suc r ≡ bridge = omega (arith, known.place) in
     let step : Step = Administered port up moved in
     let rec = recorded_bridge bridges lanes customers r old new step here grown in (
-      placed_bridge plan bridges lanes customers r old new placed here of_plan number,
+      placed_bridge plan bridges lanes customers r old new placed here of_plan number is_kept,
       rw rec (after_quiet plan (record_of bridges lanes customers) ins outs r step kept known.there (λ q. refl) (λ q. refl) (grown_bridge plan bridges lanes customers ins outs r old step kept placed here fits)),
       subst (λ n. HasDone (record_of bridges lanes customers) (Admin n port up) (record_of (set bridges r new) lanes customers)) bridge_is (step, (refl, refl), rec),
     )

@@ -1,5 +1,6 @@
 -- The places of a network, with one of them changed.
-use Rattle.std.proofs.Common.{◌≡◌, ℕ, suc, ◌+◌, inl, inr, List, [], ◌∷◌, ◌++◌, Some, map, slice_get, sym, ap, ◌∙◌, length-set}
+use Rattle.std.proofs.Common.{◌≡◌, ℕ, zero, suc, ◌+◌, inl, inr, true, List, [], ◌∷◌, ◌++◌, Some, map, slice_get, sym, ap, subst, ◌∙◌, length-set}
+use Rattle.std.specs.List.{AllByRecursion}
 use Rattle.std.proofs.Math.ListN.{set}
 use Rattle.std.proofs.lemmas.Option.{slice_get_within}
 use Rattle.pb_frame.proofs.Lists.{Some-injective}
@@ -25,14 +26,28 @@ each_set P xs r old new here each changed s x h = elim (same_or_not s r) [
   | inr ne ↦ each s x (sym (slice_get-set_other xs r s new ne) ∙ h)
 ]
 
+-- what holds of all holds of each
+pub one_of_all : {X : Type 0} (P : X → Type 0) (xs : List X) (r : ℕ) (x : X) → AllByRecursion P xs → slice_get xs r ≡ Some x → P x
+one_of_all P [] r x all h = cc
+one_of_all P (y ∷ xs) zero x all h = subst P (Some-injective h) all.0
+one_of_all P (y ∷ xs) (suc r) x all h = one_of_all P xs r x all.1 h
+
+-- and still of all where one has changed
+all_set : {X : Type 0} (P : X → Type 0) (xs : List X) (r : ℕ) (new : X) → AllByRecursion P xs → P new → AllByRecursion P (set xs r new)
+all_set P [] r new all changed = tt
+all_set P (x ∷ xs) zero new all changed = (changed, all.1)
+all_set P (x ∷ xs) (suc r) new all changed = (all.0, all_set P xs r new all.1 changed)
+
 pub placed_bridge : (plan : Plan) (bridges : List BridgeView) (lanes : List LaneView) (customers : List PlaceView) (r : ℕ) (old new : BridgeView)
-    → ArePlaced plan bridges lanes customers → slice_get bridges r ≡ Some old → new.plan ≡ old.plan → new.number ≡ old.number → ArePlaced plan (set bridges r new) lanes customers
-placed_bridge plan bridges lanes customers r old new placed here of_plan number = record {
+    → ArePlaced plan bridges lanes customers → slice_get bridges r ≡ Some old → new.plan ≡ old.plan → new.number ≡ old.number → new.is_kept ≡ old.is_kept
+    → ArePlaced plan (set bridges r new) lanes customers
+placed_bridge plan bridges lanes customers r old new placed here of_plan number is_kept = record {
   bridge_count = length-set bridges r new ∙ placed.bridge_count;
   lane_count = placed.lane_count;
   customer_count = placed.customer_count;
   planned = each_set (λ s b. b.plan ≡ plan) bridges r old new here placed.planned (of_plan ∙ placed.planned r old here);
   bridge_numbers = each_set (λ s b. b.number ≡ s + 1) bridges r old new here placed.bridge_numbers (number ∙ placed.bridge_numbers r old here);
+  kept_steps = all_set (λ b. b.is_kept ≡ true) bridges r new placed.kept_steps (is_kept ∙ one_of_all (λ b. b.is_kept ≡ true) bridges r old placed.kept_steps here);
   lane_losses = placed.lane_losses;
   customer_numbers = placed.customer_numbers;
 }
@@ -45,6 +60,7 @@ placed_lane plan bridges lanes customers r old new placed here losses = record {
   customer_count = placed.customer_count;
   planned = placed.planned;
   bridge_numbers = placed.bridge_numbers;
+  kept_steps = placed.kept_steps;
   lane_losses = each_set (λ s l. l.losses ≡ losses_of plan (s + 1)) lanes r old new here placed.lane_losses (losses ∙ placed.lane_losses r old here);
   customer_numbers = placed.customer_numbers;
 }
@@ -57,6 +73,7 @@ placed_customer plan bridges lanes customers r old new placed here number = reco
   customer_count = length-set customers r new ∙ placed.customer_count;
   planned = placed.planned;
   bridge_numbers = placed.bridge_numbers;
+  kept_steps = placed.kept_steps;
   lane_losses = placed.lane_losses;
   customer_numbers = each_set (λ s p. p.number ≡ s + 1) customers r old new here placed.customer_numbers (number ∙ placed.customer_numbers r old here);
 }

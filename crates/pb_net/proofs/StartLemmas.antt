@@ -1,7 +1,7 @@
 -- A network at its start.
 use Rattle.std.proofs.Common.{◌≡◌, ℕ, zero, suc, ◌+◌, ◌*◌, ◌<◌, inl, inr, Bool, true, false, if◌then◌else◌, ◌||◌, List, [], ◌∷◌, ◌++◌, Some, None, is_some, unwrap_or, map, length, slice_get, flat_map, refl, sym, ap, subst, ◌∙◌, arith, length-append}
 use Rattle.std.proofs.lemmas.List.{length-map}
-use Rattle.std.specs.List.{list_any}
+use Rattle.std.specs.List.{list_any, AllByRecursion}
 use Rattle.std.specs.Option.{option_map}
 use Rattle.std.specs.declared.collections.VecDeque.{VecDeque}
 use Rattle.std.specs.declared.option.Option.{Option}
@@ -243,6 +243,11 @@ unstepped-append : {X : Type 0} (xs ys : List X) → unstepped (xs ++ ys) ≡ un
 unstepped-append [] ys = refl
 unstepped-append (x ∷ xs) ys = ap (λ (z : List (List Step)). [] ∷ z) (unstepped-append xs ys)
 
+-- what holds of each holds of all
+all_by_each : {X : Type 0} (P : X → Type 0) (xs : List X) → ((r : ℕ) (x : X) → slice_get xs r ≡ Some x → P x) → AllByRecursion P xs
+all_by_each P [] each = tt
+all_by_each P (x ∷ xs) each = (each 0 x refl, all_by_each P xs (λ r y h. each (suc r) y h))
+
 -- the places are those of the plan
 pub fresh_placed : (plan : Plan) (bridges : List BridgeView) (lanes : List LaneView) (customers : List PlaceView) → AreFreshBridges plan (length plan.bridges) bridges → AreFreshLanes plan (2 * length plan.links) lanes → AreFreshCustomers (length plan.customers) customers
     → ArePlaced plan bridges lanes customers
@@ -252,6 +257,7 @@ fresh_placed plan bridges lanes customers bs ls cs = record {
   customer_count = cs.counted;
   planned = λ r b h. ap (λ (x : BridgeView). x.plan) (bs.fresh r b h);
   bridge_numbers = λ r b h. ap (λ (x : BridgeView). x.number) (bs.fresh r b h);
+  kept_steps = all_by_each (λ b. b.is_kept ≡ true) bridges (λ r b h. ap (λ (x : BridgeView). x.is_kept) (bs.fresh r b h));
   lane_losses = λ r l h. ap (λ (x : LaneView). x.losses) (ls.fresh r l h);
   customer_numbers = λ r p h. ap (λ (x : PlaceView). x.number) (cs.fresh r p h);
 }

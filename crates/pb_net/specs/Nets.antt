@@ -1,5 +1,6 @@
 -- What a network keeps of its steps.
-use Rattle.std.specs.Prelude.{◌≡◌, ℕ, ◌+◌, ◌*◌, List, ◌++◌, Some, map, length, slice_get}
+use Rattle.std.specs.Prelude.{◌≡◌, ℕ, ◌+◌, ◌*◌, true, List, ◌++◌, Some, map, length, slice_get}
+use Rattle.std.specs.List.{AllByRecursion}
 use Rattle.pb_lan.specs.BridgeLists.{IsLawfulBridge}
 use Rattle.pb_lan.specs.Events.{sent_to, fetched_from}
 use Rattle.pb_lan.specs.LaneLists.{IsLawfulLane}
@@ -30,6 +31,7 @@ pub record ArePlaced (plan : Plan) (bridges : List BridgeView) (lanes : List Lan
   pub customer_count : length customers ≡ length plan.customers
   pub planned : (r : ℕ) (b : BridgeView) → slice_get bridges r ≡ Some b → b.plan ≡ plan
   pub bridge_numbers : (r : ℕ) (b : BridgeView) → slice_get bridges r ≡ Some b → b.number ≡ r + 1
+  pub kept_steps : AllByRecursion (λ b. b.is_kept ≡ true) bridges
   pub lane_losses : (r : ℕ) (l : LaneView) → slice_get lanes r ≡ Some l → l.losses ≡ losses_of plan (r + 1)
   pub customer_numbers : (r : ℕ) (p : PlaceView) → slice_get customers r ≡ Some p → p.number ≡ r + 1
 

@@ -1,5 +1,5 @@
 -- The parts of a network at its start.
-use Rattle.std.specs.Prelude.{◌≡◌, ℕ, ◌+◌, false, List, [], Some, length, slice_get}
+use Rattle.std.specs.Prelude.{◌≡◌, ℕ, ◌+◌, true, false, List, [], Some, length, slice_get}
 use Rattle.std.specs.declared.collections.VecDeque.{VecDeque}
 use Rattle.std.specs.Global.{Global}
 use Rattle.pb_lan.specs.declared.plan.Plan.{Plan}
@@ -10,10 +10,10 @@ use Rattle.pb_net.specs.Slots.{losses_of, bridge_of, port_of, use_of, JoinsSlots
 use Rattle.pb_net.specs.declared.slots.PortUse.{PortUse}
 use Rattle.pb_net.specs.declared.slots.LaneSlots.{LaneSlots}
 use Rattle.pb_lan.specs.Ports.{port_at}
-use Rattle.pb_relay.specs.Standing.{BridgeView}
+use Rattle.pb_relay.specs.Standing.{BridgeView, at_start}
 
 abbrev pub fresh_bridge : Plan → ℕ → BridgeView
-fresh_bridge plan number = record { plan = plan; number = number; steps = []; is_reserved = false }
+fresh_bridge plan number = at_start plan number true
 
 abbrev pub fresh_customer : ℕ → PlaceView
 fresh_customer number = record { number = number; steps = []; is_reserved = false }

@@ -19,6 +19,7 @@ pub(crate) fn receive_at(
     requires some { 0 < length inbox.old.items }
     ensures plan { bridge.new.plan ≡ bridge.old.plan }
     ensures number { bridge.new.number ≡ bridge.old.number }
+    ensures kept { bridge.new.is_kept ≡ bridge.old.is_kept }
     ensures ok { OnOk result (HasReceivedFrom bridge.old port inbox.old.items bridge.new inbox.new.items) }
     ensures limit { IsErrOf result BridgeFault.StepLimit ↔ (length bridge.old.steps ≡ bridge.old.plan.steps) }
     ensures err { OnErr result (bridge.new.steps ≡ bridge.old.steps) }
@@ -46,6 +47,7 @@ pub(crate) fn transmit_at(
     requires some { 0 < length (waiting bridge.old.plan bridge.old.number port bridge.old.steps) }
     ensures plan { bridge.new.plan ≡ bridge.old.plan }
     ensures number { bridge.new.number ≡ bridge.old.number }
+    ensures kept { bridge.new.is_kept ≡ bridge.old.is_kept }
     ensures ok { OnOk result (HasTransmittedTo bridge.old port outbox.old.items bridge.new outbox.new.items) }
     ensures limit { IsErrOf result BridgeFault.StepLimit ↔ (length bridge.old.steps ≡ bridge.old.plan.steps) }
     ensures err { OnErr result (bridge.new.steps ≡ bridge.old.steps) }

@@ -37,7 +37,7 @@ impl Net {
         };
         let customer = &self.customers[spot.place];
         let is_idle = !customer.is_hand_empty();
-        sift(is_idle, customer.steps().len() == self.limit, spot)
+        sift(is_idle, customer.steps().len() as u64 == self.limit, spot)
     }
 
     /// The customer port of a Feed that is due.
@@ -51,7 +51,7 @@ impl Net {
         let customer = &self.customers[spot.place];
         let inbox = &self.inboxes[spot.slot];
         let is_idle = customer.is_hand_empty() | (self.ring <= inbox.len());
-        sift(is_idle, customer.steps().len() == self.limit, spot)
+        sift(is_idle, customer.steps().len() as u64 == self.limit, spot)
     }
 
     /// The customer port of a Deliver that is due.
@@ -66,7 +66,7 @@ impl Net {
         let outbox = &self.outboxes[spot.slot];
         sift(
             outbox.is_empty(),
-            customer.steps().len() == self.limit,
+            customer.steps().len() as u64 == self.limit,
             spot,
         )
     }
@@ -81,7 +81,7 @@ impl Net {
         };
         let at = &self.bridges[spot.place];
         let inbox = &self.inboxes[spot.slot];
-        sift(inbox.is_empty(), at.steps().len() == self.limit, spot)
+        sift(inbox.is_empty(), at.step_count() == self.limit, spot)
     }
 
     /// Where a Transmit is due.
@@ -95,7 +95,7 @@ impl Net {
         let at = &self.bridges[spot.place];
         let outbox = &self.outboxes[spot.slot];
         let is_idle = (at.waiting(port) == 0) | (self.ring <= outbox.len());
-        sift(is_idle, at.steps().len() == self.limit, spot)
+        sift(is_idle, at.step_count() == self.limit, spot)
     }
 
     /// The lane of a Take that is due.
@@ -109,7 +109,7 @@ impl Net {
         let at = &self.lanes[spot.place];
         let outbox = &self.outboxes[spot.slot];
         let is_idle = !at.is_hand_empty() | outbox.is_empty();
-        sift(is_idle, at.steps().len() == self.limit, spot)
+        sift(is_idle, at.steps().len() as u64 == self.limit, spot)
     }
 
     /// The lane of a Put that is due.
@@ -123,6 +123,6 @@ impl Net {
         let at = &self.lanes[spot.place];
         let inbox = &self.inboxes[spot.slot];
         let is_idle = at.is_hand_empty() | (self.ring <= inbox.len());
-        sift(is_idle, at.steps().len() == self.limit, spot)
+        sift(is_idle, at.steps().len() as u64 == self.limit, spot)
     }
 }

@@ -1,6 +1,7 @@
 //! The lists of a network's record, made before its first step.
 
-ghost use Rattle.std.specs.Prelude.{◌≡◌, ◌≤◌, [], map, length, vec_capacity};
+ghost use Rattle.std.specs.List.{AllByRecursion};
+ghost use Rattle.std.specs.Prelude.{◌≡◌, ◌≤◌, [], true, map, length, vec_capacity};
 
 use pb_frame::Seq;
 use pb_lan::Step;
@@ -19,6 +20,7 @@ pub(crate) struct Lists {
 pub(crate) fn bridge_steps(bridges: Vec<Bridge>, mut lists: Vec<Seq<Step>>) -> Seq<Seq<Step>>
     requires empty { lists.items ≡ [] }
     requires room { length bridges.items ≤ vec_capacity lists }
+    requires kept { AllByRecursion (λ b. b.is_kept ≡ true) bridges.items }
     ensures { result ≡ map (λ b. b.steps) bridges.items }
 {
     for bridge in bridges {

@@ -22,7 +22,7 @@ use std::marker::Model;
 #[derive(Drop)]
 pub struct Net {
     pub(crate) plan: Plan,
-    pub(crate) limit: usize,
+    pub(crate) limit: u64,
     pub(crate) ring: usize,
     pub(crate) bridges: Vec<Bridge>,
     pub(crate) lanes: Vec<Lane>,

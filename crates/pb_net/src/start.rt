@@ -200,7 +200,7 @@ impl Net {
     {
         let slots = 16 * plan.bridges.len();
         Ok(Net {
-            limit: plan.steps as usize,
+            limit: plan.steps,
             ring: usize::from(plan.ring),
             bridges: fresh_bridges(alloc, &plan)?,
             lanes: fresh_lanes(alloc, &plan)?,

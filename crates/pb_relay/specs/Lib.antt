@@ -5,6 +5,7 @@ pub mod Roles
 pub mod Kinds
 pub mod LocalPorts
 pub mod Standing
+pub mod Receptions
 pub mod Verdicts
 pub mod Tables
 pub mod Copies

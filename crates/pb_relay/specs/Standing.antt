@@ -19,11 +19,13 @@ use Rattle.pb_lan.specs.declared.step.Step.TheVariants.{Receive}
 use Rattle.pb_relay.specs.Classes.{by_class}
 use Rattle.pb_lan.specs.Queues.{capacity_of}
 
--- what callers see of a bridge: the plan, its number there, its steps, and whether there is room for one more
+-- what callers see of a bridge: the plan, its number there, its steps, whether each is kept in memory, and whether
+-- there is room for one more
 pub record BridgeView : Type 0 where
   pub plan : Plan
   pub number : ℕ
   pub steps : List Step
+  pub is_kept : Bool
   pub is_reserved : Bool
 
 -- the class of each that waits is one of eight
@@ -42,9 +44,13 @@ pub record IsStanding (plan : Plan) (number : ℕ) (steps : List Step) (states :
   pub stations : filter (is_fresh plan.ageing now) table ≡ standing plan.ageing now (news_of plan number steps)
 
 -- the room for steps
-pub record HasRoom (steps : List Step) (capacity limit : ℕ) (is_reserved : Bool) : Type 0 where
+pub record HasRoom (steps : List Step) (limit : ℕ) (is_reserved : Bool) : Type 0 where
   pub within : length steps ≤ limit
-  pub reserved : is_reserved ≡ true → (length steps < limit) × (length steps < capacity)
+  pub reserved : is_reserved ≡ true → length steps < limit
+
+-- a bridge that has taken no step
+abbrev pub at_start : Plan → ℕ → Bool → BridgeView
+at_start plan number is_kept = record { plan = plan; number = number; steps = []; is_kept = is_kept; is_reserved = false }
 
 -- the step that a bridge appends
 abbrev pub with_step : BridgeView → Step → BridgeView
@@ -56,3 +62,9 @@ HasReceived old port item outcome new =
     (learnt : Option Learnt) × (moved : Option Moved)
     × (new ≡ with_step old (Receive port item learnt outcome moved))
     × Fits spanning_tree old.plan old.number old.steps (Receive port item learnt outcome moved)
+
+-- and this was the step
+abbrev pub HasCounted : BridgeView → ℕ → Item → Step → BridgeView → Type 0
+HasCounted old port item step new =
+    (learnt : Option Learnt) × (outcome : Outcome) × (moved : Option Moved)
+    × (step ≡ Receive port item learnt outcome moved) × (new ≡ with_step old step) × Fits spanning_tree old.plan old.number old.steps step

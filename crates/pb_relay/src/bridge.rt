@@ -1,12 +1,13 @@
 //! A bridge, its list of steps and its queues.
 
 ghost use Rattle.std.specs.Option.{option_copied};
-ghost use Rattle.std.specs.Prelude.{◌≡◌, ◌<◌, ◌++◌, ◌∷◌, [], ◌↔◌, vec_len, vec_capacity, length, true, OnOk, OnErr, IsErrOf, IsOk};
+ghost use Rattle.std.specs.Prelude.{◌≡◌, ◌<◌, ◌↔◌, length, true, OnOk, OnErr, IsErrOf, IsOk};
 ghost use Rattle.pb_lan.specs.BridgeLists.{IsLawfulBridge, Fits};
 ghost use Rattle.pb_lan.specs.Ports.{port_at, is_used, is_provider};
 ghost use Rattle.pb_lan.specs.Queues.{waiting, next_out};
 ghost use Rattle.pb_relay.specs.Protocol.{spanning_tree};
 ghost use Rattle.pb_lan.specs.Shapes.{states_after};
+ghost use Rattle.pb_lan.specs.StepLists.{with_step as steps_with};
 ghost use Rattle.pb_lan.specs.declared.step.Step.TheVariants.{Transmit};
 ghost use Rattle.pb_relay.specs.Machines.{machine_in};
 ghost use Rattle.pb_relay.specs.Standing.{with_step};
@@ -16,7 +17,7 @@ use crate::ports::{LocalPorts, PORTS, is_bridge, is_customer};
 use crate::queues::PortQueues;
 use pb_fdb::Fdb;
 use pb_frame::Mac;
-use pb_lan::{Item, Plan, PortState, Step};
+use pb_lan::{Item, Plan, PortState, Step, Steps};
 use pb_rstp::Rstp;
 use std::alloc::Global;
 use std::marker::Model;
@@ -24,9 +25,9 @@ use std::marker::Model;
 /// A bridge of a sound plan. The plan gives the states of its ports itself, or the Rapid Spanning Tree
 /// Protocol decides them.
 ///
-/// Contracts see the plan, the bridge's number there, the list of its steps, and whether there is
-/// room for one more step. The list is always lawful. All else that is kept, the states, the queues,
-/// the learning table and the spanning tree, follows from it.
+/// Contracts see the plan, the bridge's number there, the list of its steps, whether each of these is kept in
+/// memory or they are only counted, and whether there is room for one more step. The list is always lawful. All
+/// else that is kept, the states, the queues, the learning table and the spanning tree, follows from it.
 #[derive(Drop)]
 pub struct Bridge {
     pub(crate) alloc: Global,
@@ -43,22 +44,19 @@ pub struct Bridge {
     /// The most items that wait at a port.
     pub(crate) capacity: usize,
     /// The most steps.
-    pub(crate) limit: usize,
+    pub(crate) limit: u64,
     /// Where stations were seen.
     pub(crate) table: Fdb,
     /// The number of ticks.
-    pub(crate) clock: u32,
+    pub(crate) clock: u64,
     /// The bridge's address, from which its BPDUs come.
     pub(crate) address: Mac,
     /// The spanning tree, where the protocol decides the states.
     pub(crate) rstp: Option<Rstp>,
-    pub(crate) steps: Vec<Step>,
-    /// There is room for one more step.
-    pub(crate) is_reserved: bool,
+    pub(crate) steps: Steps,
 }
 
 impl Model for Bridge {
-    ghost use Rattle.std.specs.Prelude.{vec_capacity};
     ghost use Rattle.pb_relay.specs.Standing.{BridgeView, IsStanding, HasRoom};
     ghost use Rattle.pb_relay.specs.Tables.{IsTableOf};
     ghost use Rattle.pb_relay.specs.LocalPorts.{IsConfigured};
@@ -66,36 +64,44 @@ impl Model for Bridge {
 
     ghost Value = { BridgeView };
 
-    ghost view = { λ b. record { plan = b.plan; number = b.number; steps = b.steps.items; is_reserved = b.is_reserved } };
+    ghost view = { λ b. record { plan = b.plan; number = b.number; steps = b.steps.steps; is_kept = b.steps.is_kept; is_reserved = b.steps.is_reserved } };
 
     ghost invariant = { λ b. IsConfigured b.plan b.number b.ports b.capacity b.limit
-        × IsStanding b.plan b.number b.steps.items b.states b.queues.items b.clock b.table.sightings
-        × HasRoom b.steps.items (vec_capacity b.steps) b.limit b.is_reserved
+        × IsStanding b.plan b.number b.steps.steps b.states b.queues.items b.clock b.table.sightings
+        × HasRoom b.steps.steps b.limit b.steps.is_reserved
         × IsTableOf b.plan b.clock b.table
-        × IsSpanning b.plan b.number b.steps.items b.rstp b.address.0 };
+        × IsSpanning b.plan b.number b.steps.steps b.rstp b.address.0 };
 }
 
-/// Puts a step into the room that is there for it. Where it is part of its callers, a step is made in its place.
+/// Puts a step behind the others. Where it is only counted, it is let go.
 #[inline(always)]
-pub(crate) fn append(steps: &mut Vec<Step>, step: Step)
-    requires { vec_len steps.old < vec_capacity steps.old }
-    ensures items { steps.new.items ≡ steps.old.items ++ step ∷ [] }
+pub(crate) fn append(steps: &mut Steps, step: Step)
+    requires { steps.old.is_reserved ≡ true }
+    ensures steps { steps.new ≡ steps_with steps.old step }
 {
-    let _ = steps.push(step);
+    let _ = steps.append(step);
 }
 
 impl Bridge {
-    /// The steps so far.
+    /// The steps so far, where they are kept. Where they are only counted, there is none to be seen.
     pub fn steps(&self) -> &[Step]
-        ensures steps { result.now ≡ self.now.steps }
+        ensures steps { self.now.is_kept ≡ true → result.now ≡ self.now.steps }
         ensures lawful { IsLawfulBridge spanning_tree self.now.plan self.now.number self.now.steps }
     {
         self.steps.as_slice()
     }
 
-    /// The steps, and no bridge any more.
+    /// The number of steps so far.
+    #[inline(always)]
+    pub fn step_count(&self) -> u64
+        ensures { result ≡ length self.now.steps }
+    {
+        self.steps.len()
+    }
+
+    /// The steps, where they are kept, and no bridge any more. Where they are only counted, there is none.
     pub fn into_steps(self) -> Vec<Step>
-        ensures steps { result.items ≡ self.steps }
+        ensures steps { self.is_kept ≡ true → result.items ≡ self.steps }
         ensures lawful { IsLawfulBridge spanning_tree self.plan self.number self.steps }
     {
         let Bridge {
@@ -112,9 +118,8 @@ impl Bridge {
             address: _,
             rstp: _,
             steps,
-            is_reserved: _,
         } = self;
-        steps
+        steps.into_vec()
     }
 
     /// Makes room for one step, so that `pop_out` needs no memory.
@@ -128,23 +133,11 @@ impl Bridge {
         ensures limit { IsErrOf result BridgeFault.StepLimit ↔ (length self.old.steps ≡ self.old.plan.steps) }
         ensures reserved { self.old.is_reserved ≡ true → IsOk result }
     {
-        if self.is_reserved {
-            return Ok(());
-        }
         if self.steps.len() == self.limit {
             return Err(BridgeFault::StepLimit);
         }
-        self.steps.reserve(1)?;
-        self.is_reserved = true;
+        self.steps.reserve()?;
         Ok(())
-    }
-
-    /// Asks for room for so many more steps at once, so that the list is not moved as it grows. Where there is
-    /// no memory for them all, nothing has changed, and each step asks for itself.
-    pub fn expect_steps(&mut self, count: usize)
-        ensures { self.new ≡ self.old }
-    {
-        let _ = self.steps.reserve(count);
     }
 
     /// Whether the bridge uses the port of this number, for a customer or for another bridge.
@@ -203,7 +196,6 @@ impl Bridge {
             unreachable!();
         };
         let (item, copy) = twin.into_pair();
-        self.is_reserved = false;
         append(&mut self.steps, Step::Transmit { port, item: copy });
         item
     }

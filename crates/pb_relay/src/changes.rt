@@ -51,7 +51,6 @@ impl Bridge {
         requires fixed { self.old.plan.spanning ≡ Fixed }
         ensures { HasTicked self.old self.new }
     {
-        self.is_reserved = false;
         self.clock += 1;
         self.table.expire(self.clock);
         append(
@@ -113,7 +112,6 @@ impl Bridge {
         let next = state_set(ports.at(place), up);
         flush_unless(&mut self.table, up, port);
         self.states[place] = next;
-        self.is_reserved = false;
         append(&mut self.steps, Step::Admin { port, up, moved });
     }
 }

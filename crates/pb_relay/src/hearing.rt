@@ -7,23 +7,24 @@ ghost use Rattle.pb_lan.specs.declared.plan.Spanning.TheVariants.{Fixed};
 ghost use Rattle.pb_lan.specs.declared.step.Outcome.TheVariants.{Heard};
 ghost use Rattle.pb_lan.specs.declared.step.Step.TheVariants.{Receive};
 ghost use Rattle.pb_relay.specs.Protocol.{spanning_tree};
-ghost use Rattle.pb_relay.specs.Standing.{HasReceived};
+ghost use Rattle.pb_relay.specs.Receptions.{HasTaken};
 
 use crate::bpdus::BpduRoom;
-use crate::bridge::{Bridge, append};
+use crate::bridge::Bridge;
 use crate::changes::nothing_moved;
 use crate::following::follow;
 use crate::protocol::hear;
+use crate::reception::Reception;
 use pb_frame::Held;
 use pb_lan::{Item, Moved, Outcome, Step};
 
 impl Bridge {
     /// Hears a BPDU, and does what the spanning tree tells. Where there is no memory for that, the frame goes
     /// nowhere, and nothing changes.
-    pub(crate) fn hear(&mut self, port: u8, item: Item) -> Outcome
+    pub(crate) fn hear(&mut self, port: u8, item: Item) -> Reception
         requires reserved { self.old.is_reserved ≡ true }
         requires ruling { ruling spanning_tree self.old.plan self.old.number self.old.steps port item ≡ Listens }
-        ensures { HasReceived self.old port item result self.new }
+        ensures { HasTaken self.old port item result self.new }
     {
         let Ok(told) = Held::new(self.alloc, nothing_moved(self.alloc)) else {
             return self.give_up(port, item);
@@ -47,22 +48,26 @@ impl Bridge {
             self.capacity,
             self.address,
         );
-        self.is_reserved = false;
-        append(&mut self.steps, heard_step(port, item, told, moved));
-        Outcome::Heard
+        let told = self.steps.append(heard_step(port, item, told, moved));
+        Reception {
+            outcome: Outcome::Heard,
+            told,
+        }
     }
 
     /// Hears a BPDU where the plan gives the states of the ports: nothing changes.
-    fn overhear(&mut self, port: u8, item: Item, told: Held<Moved>) -> Outcome
+    fn overhear(&mut self, port: u8, item: Item, told: Held<Moved>) -> Reception
         requires reserved { self.old.is_reserved ≡ true }
         requires fixed { self.old.plan.spanning ≡ Fixed }
         requires ruling { ruling spanning_tree self.old.plan self.old.number self.old.steps port item ≡ Listens }
-        ensures { HasReceived self.old port item result self.new }
+        ensures { HasTaken self.old port item result self.new }
     {
-        self.is_reserved = false;
         let moved = nothing_moved(self.alloc);
-        append(&mut self.steps, heard_step(port, item, told, moved));
-        Outcome::Heard
+        let told = self.steps.append(heard_step(port, item, told, moved));
+        Reception {
+            outcome: Outcome::Heard,
+            told,
+        }
     }
 }
 

@@ -1,28 +1,31 @@
 //! What a bridge does with a frame that comes in at a port (IEEE 802.1Q clause 8).
 
-ghost use Rattle.std.specs.Prelude.{ℕ, ◌++◌, ◌∷◌, [], vec_len, vec_capacity, ◌≡◌, ◌≤◌, ◌<◌, ◌↔◌, length, true, IfOk, IfErr, OnOk, OnErr, IsErrOf, IsOk, if◌then◌else◌, None};
+ghost use Rattle.std.specs.Prelude.{◌≡◌, ◌≤◌, ◌↔◌, length, true, false, IfOk, IfErr, OnOk, OnErr, IsErrOf, IsOk, if◌then◌else◌, None};
 ghost use Rattle.pb_frame.specs.Frames.{src_of, dst_of, is_group};
 ghost use Rattle.pb_lan.specs.BridgeLists.{ruling, Fits};
 ghost use Rattle.pb_lan.specs.BridgeLists.Ruling.{Refuses, LearnsOnly, Carries};
 ghost use Rattle.pb_lan.specs.Ports.{port_at, is_used};
+ghost use Rattle.pb_lan.specs.StepLists.{with_step, given_back};
 ghost use Rattle.pb_relay.specs.Protocol.{spanning_tree};
 ghost use Rattle.pb_lan.specs.declared.step.Outcome.TheVariants.{Filtered};
 ghost use Rattle.pb_lan.specs.declared.step.Reason.TheVariants.{Memory as WantOfMemory};
 ghost use Rattle.pb_lan.specs.declared.step.Step.TheVariants.{Receive};
 ghost use Rattle.pb_relay.specs.Loads.{IsLoadedAt};
-ghost use Rattle.pb_relay.specs.Standing.{HasReceived};
+ghost use Rattle.pb_relay.specs.Receptions.{HasTaken};
+ghost use Rattle.pb_relay.specs.Standing.{HasReceived, HasCounted};
 ghost use Rattle.pb_fdb.specs.Tables.{where_in};
 ghost use Rattle.pb_relay.specs.Verdicts.{as_ruling};
 
-use crate::bridge::{Bridge, append};
+use crate::bridge::Bridge;
 use crate::choice::choose;
 use crate::copies::queue_copies;
 use crate::fault::BridgeFault;
 use crate::load::Load;
+use crate::reception::Reception;
 use crate::verdict::{Verdict, rule};
 use pb_fdb::Fdb;
 use pb_frame::{Learnt, Mac};
-use pb_lan::{Item, Outcome, Reason, Step};
+use pb_lan::{Item, Outcome, Reason, Step, Steps};
 
 impl Bridge {
     /// Rules on an item that comes in at a port, learns its source, queues its copies and appends
@@ -39,7 +42,8 @@ impl Bridge {
         ensures limit { IsErrOf result (BridgeFault.StepLimit, item) ↔ (length self.old.steps ≡ self.old.plan.steps) }
         ensures reserved { self.old.is_reserved ≡ true → IsOk result }
     {
-        self.admit(port, item)
+        let reception = self.admit(port, item)?;
+        Ok(reception.outcome)
     }
 
     /// Does as [`Bridge::receive`], with its faults, and answers no outcome: the step tells of it.
@@ -56,11 +60,30 @@ impl Bridge {
         Ok(())
     }
 
+    /// Does as [`Bridge::receive`], with its faults, where the bridge only counts its steps, and hands out the step
+    /// that tells of the item.
+    #[inline(always)]
+    pub fn receive_counted(&mut self, port: u8, item: Item) -> Result<Step, (BridgeFault, Item)>
+        requires used { is_used (port_at self.old.plan self.old.number port) ≡ true }
+        requires counted { self.old.is_kept ≡ false }
+        ensures ok { IfOk result (λ step. HasCounted self.old port item step self.new) }
+        ensures err { OnErr result (self.new ≡ self.old) }
+        ensures handed { IfErr result (λ e. e.1 ≡ item) }
+        ensures limit { IsErrOf result (BridgeFault.StepLimit, item) ↔ (length self.old.steps ≡ self.old.plan.steps) }
+        ensures reserved { self.old.is_reserved ≡ true → IsOk result }
+    {
+        let reception = self.admit(port, item)?;
+        match reception.told {
+            Some(step) => Ok(step),
+            None => unreachable!(),
+        }
+    }
+
     /// Receives an item, as [`Bridge::receive`] tells.
     #[inline(always)]
-    fn admit(&mut self, port: u8, item: Item) -> Result<Outcome, (BridgeFault, Item)>
+    fn admit(&mut self, port: u8, item: Item) -> Result<Reception, (BridgeFault, Item)>
         requires { is_used (port_at self.old.plan self.old.number port) ≡ true }
-        ensures ok { IfOk result (λ outcome. HasReceived self.old port item outcome self.new) }
+        ensures ok { IfOk result (λ reception. HasTaken self.old port item reception self.new) }
         ensures err { OnErr result (self.new ≡ self.old) }
         ensures handed { IfErr result (λ e. e.1 ≡ item) }
         ensures limit { IsErrOf result (BridgeFault.StepLimit, item) ↔ (length self.old.steps ≡ self.old.plan.steps) }
@@ -88,58 +111,55 @@ impl Bridge {
     }
 
     /// Appends a step that tells that the item goes nowhere.
-    fn refuse(&mut self, port: u8, item: Item, reason: Reason) -> Outcome
+    fn refuse(&mut self, port: u8, item: Item, reason: Reason) -> Reception
         requires reserved { self.old.is_reserved ≡ true }
         requires ruling { ruling spanning_tree self.old.plan self.old.number self.old.steps port item ≡ Refuses reason }
-        ensures { HasReceived self.old port item result self.new }
+        ensures { HasTaken self.old port item result self.new }
     {
-        self.is_reserved = false;
-        append_receive(&mut self.steps, port, item, None, Outcome::Filtered(reason));
-        Outcome::Filtered(reason)
+        let outcome = Outcome::Filtered(reason);
+        let told = append_receive(&mut self.steps, port, item, None, outcome);
+        Reception {
+            outcome: Outcome::Filtered(reason),
+            told,
+        }
     }
 
     /// Appends a step that tells that there is no memory to relay or to hear the item.
-    pub(crate) fn give_up(&mut self, port: u8, item: Item) -> Outcome
+    pub(crate) fn give_up(&mut self, port: u8, item: Item) -> Reception
         requires reserved { self.old.is_reserved ≡ true }
         requires fits { Fits spanning_tree self.old.plan self.old.number self.old.steps (Receive port item None (Filtered WantOfMemory) None) }
-        ensures { HasReceived self.old port item result self.new }
+        ensures { HasTaken self.old port item result self.new }
     {
-        self.is_reserved = false;
-        append_receive(
-            &mut self.steps,
-            port,
-            item,
-            None,
-            Outcome::Filtered(Reason::Memory),
-        );
-        Outcome::Filtered(Reason::Memory)
+        let outcome = Outcome::Filtered(Reason::Memory);
+        let told = append_receive(&mut self.steps, port, item, None, outcome);
+        Reception {
+            outcome: Outcome::Filtered(Reason::Memory),
+            told,
+        }
     }
 
     /// Learns the source of an item that goes nowhere, at a port that is Learning.
-    fn learn_only(&mut self, port: u8, item: Item, vid: u16) -> Outcome
+    fn learn_only(&mut self, port: u8, item: Item, vid: u16) -> Reception
         requires reserved { self.old.is_reserved ≡ true }
         requires ruling { ruling spanning_tree self.old.plan self.old.number self.old.steps port item ≡ LearnsOnly vid }
-        ensures { HasReceived self.old port item result self.new }
+        ensures { HasTaken self.old port item result self.new }
     {
         let source = source_of(item.wire.as_slice());
         let learnt = self.table.learn(vid, source, port, self.clock);
-        self.is_reserved = false;
-        append_receive(
-            &mut self.steps,
-            port,
-            item,
-            Some(learnt),
-            Outcome::Filtered(Reason::NotForwarding),
-        );
-        Outcome::Filtered(Reason::NotForwarding)
+        let outcome = Outcome::Filtered(Reason::NotForwarding);
+        let told = append_receive(&mut self.steps, port, item, Some(learnt), outcome);
+        Reception {
+            outcome: Outcome::Filtered(Reason::NotForwarding),
+            told,
+        }
     }
 
     /// Relays an item in its service, or gives it up where there is no memory to begin.
-    fn relay(&mut self, port: u8, item: Item, vid: u16) -> Outcome
+    fn relay(&mut self, port: u8, item: Item, vid: u16) -> Reception
         requires used { is_used (port_at self.old.plan self.old.number port) ≡ true }
         requires reserved { self.old.is_reserved ≡ true }
         requires ruling { ruling spanning_tree self.old.plan self.old.number self.old.steps port item ≡ Carries vid }
-        ensures { HasReceived self.old port item result self.new }
+        ensures { HasTaken self.old port item result self.new }
     {
         let ports = &self.ports;
         let local = ports.at(port as usize - 1);
@@ -150,12 +170,12 @@ impl Bridge {
     }
 
     /// Learns the source of an item, chooses its ports and queues its copies there.
-    fn carry(&mut self, port: u8, item: Item, vid: u16, load: Load) -> Outcome
+    fn carry(&mut self, port: u8, item: Item, vid: u16, load: Load) -> Reception
         requires used { is_used (port_at self.old.plan self.old.number port) ≡ true }
         requires reserved { self.old.is_reserved ≡ true }
         requires ruling { ruling spanning_tree self.old.plan self.old.number self.old.steps port item ≡ Carries vid }
         requires load { IsLoadedAt self.old.plan self.old.number (port_at self.old.plan self.old.number port) item.wire load }
-        ensures { HasReceived self.old port item result self.new }
+        ensures { HasTaken self.old port item result self.new }
     {
         let frame = item.wire.as_slice();
         let learnt = self.table.learn(vid, source_of(frame), port, self.clock);
@@ -168,34 +188,31 @@ impl Bridge {
             refused: refused.copied(),
         };
         let relayed = Outcome::Relayed { chosen, refused };
-        self.is_reserved = false;
-        append_receive(&mut self.steps, port, item, Some(learnt), relayed);
-        outcome
+        let told = append_receive(&mut self.steps, port, item, Some(learnt), relayed);
+        Reception { outcome, told }
     }
 }
 
-/// Puts the step of an item that came in at a port into the room that is there for it.
+/// Puts the step of an item that came in at a port behind the others, and gives it back where it is only counted.
 #[inline(always)]
 fn append_receive(
-    steps: &mut Vec<Step>,
+    steps: &mut Steps,
     port: u8,
     item: Item,
     learnt: Option<Learnt>,
     outcome: Outcome,
-)
-    requires { vec_len steps.old < vec_capacity steps.old }
-    ensures items { steps.new.items ≡ steps.old.items ++ Receive port item learnt outcome None ∷ [] }
+) -> Option<Step>
+    requires { steps.old.is_reserved ≡ true }
+    ensures steps { steps.new ≡ with_step steps.old (Receive port item learnt outcome None) }
+    ensures back { result ≡ given_back steps.old.is_kept (Receive port item learnt outcome None) }
 {
-    append(
-        steps,
-        Step::Receive {
-            port,
-            item,
-            learnt,
-            outcome,
-            moved: None,
-        },
-    );
+    steps.append(Step::Receive {
+        port,
+        item,
+        learnt,
+        outcome,
+        moved: None,
+    })
 }
 
 /// The source of a frame: its octets 6 to 11 (IEEE 802.3 clause 3).
@@ -219,7 +236,7 @@ fn destination_of(frame: &[u8]) -> Mac
 }
 
 /// The port at which the destination of a frame was seen. Groups are never sought.
-fn sought(table: &Fdb, vid: u16, frame: &[u8], now: u32) -> Option<u8>
+fn sought(table: &Fdb, vid: u16, frame: &[u8], now: u64) -> Option<u8>
     requires { 14 ≤ length frame.now }
     ensures { result ≡ (if is_group (dst_of frame.now) then None else where_in table.now now vid (dst_of frame.now)) }
 {

@@ -21,10 +21,10 @@ impl Bridge {
         ensures err { OnErr result (self.new ≡ self.old) }
         ensures limit { IsErrOf result BridgeFault.StepLimit ↔ (length self.old.steps ≡ self.old.plan.steps) }
     {
-        let was_reserved = self.is_reserved;
+        let was_reserved = self.steps.has_room();
         self.reserve_step()?;
         if self.advance_tree().is_err() {
-            self.is_reserved = was_reserved;
+            self.steps.keep_room(was_reserved);
             return Err(BridgeFault::Memory);
         }
         Ok(())
@@ -53,7 +53,6 @@ impl Bridge {
             self.capacity,
             self.address,
         );
-        self.is_reserved = false;
         append(
             &mut self.steps,
             Step::Tick {
@@ -72,10 +71,10 @@ impl Bridge {
         ensures err { OnErr result (self.new ≡ self.old) }
         ensures limit { IsErrOf result BridgeFault.StepLimit ↔ (length self.old.steps ≡ self.old.plan.steps) }
     {
-        let was_reserved = self.is_reserved;
+        let was_reserved = self.steps.has_room();
         self.reserve_step()?;
         if self.set_tree(port, up).is_err() {
-            self.is_reserved = was_reserved;
+            self.steps.keep_room(was_reserved);
             return Err(BridgeFault::Memory);
         }
         Ok(())
@@ -103,7 +102,6 @@ impl Bridge {
             self.capacity,
             self.address,
         );
-        self.is_reserved = false;
         append(&mut self.steps, Step::Admin { port, up, moved });
         Ok(())
     }

@@ -15,6 +15,7 @@ ghost use Rattle.pb_relay.specs.Classes.{no_items};
 ghost use Rattle.pb_relay.specs.LocalPorts.{IsKept};
 ghost use Rattle.pb_relay.specs.Machines.{machine_in};
 ghost use Rattle.pb_relay.specs.Roles.{local_as, told};
+ghost use Rattle.pb_relay.specs.Standing.{at_start};
 ghost use Rattle.pb_relay.specs.Starts.{first_state, HasServices, KeepsPorts};
 
 use crate::bridge::Bridge;
@@ -23,7 +24,7 @@ use crate::ports::{Local, LocalPorts};
 use crate::queues::PortQueues;
 use pb_fdb::Fdb;
 use pb_frame::Memory;
-use pb_lan::{CustomerPlan, End, LinkPlan, Plan, PortState, ServicePlan, Spanning};
+use pb_lan::{CustomerPlan, End, LinkPlan, Plan, PortState, ServicePlan, Spanning, Steps};
 use pb_rstp::Rstp;
 use pb_svlan::{AddFault, JoinFault, Services, Vid};
 use std::alloc::Global;
@@ -235,35 +236,56 @@ fn sending(
     Ok((empty_queues(alloc)?, rstp))
 }
 
+/// The bridge of this number, at its start, with this list of steps.
+fn started(alloc: Global, plan: &Plan, number: u8, steps: Steps) -> Result<Bridge, Memory>
+    requires sound { IsSound plan.now }
+    requires bridge { IsNumber number (length plan.now.bridges) }
+    requires none { steps.steps ≡ [] }
+    requires unreserved { steps.is_reserved ≡ false }
+    ensures { IfOk result (λ bridge. bridge ≡ at_start plan.now number steps.is_kept) }
+{
+    let (queues, rstp) = sending(alloc, plan, number)?;
+    let (kept, ports) = placed(alloc, plan, number)?;
+    let states = start_states(plan.spanning, &ports);
+    Ok(Bridge {
+        alloc,
+        plan: kept,
+        number,
+        ports,
+        states,
+        queues,
+        capacity: capacity(plan, number),
+        limit: plan.steps,
+        table: Fdb::new(alloc, STATIONS, plan.ageing),
+        clock: 0,
+        address: address(plan, number),
+        rstp,
+        steps,
+    })
+}
+
 impl Bridge {
     /// The bridge of this number, at its start: no step is in its list, nothing waits, no station is
     /// known, and each local port has the state that the plan gives it. Where the protocol decides the
-    /// states, ports to other bridges are Discarding, and their spanning tree is at its start.
+    /// states, ports to other bridges are Discarding, and their spanning tree is at its start. Each step
+    /// will be kept.
     ///
     /// `Memory` is answered where there was none for what the bridge keeps of the plan.
     pub fn new(alloc: Global, plan: &Plan, number: u8) -> Result<Bridge, Memory>
         requires sound { IsSound plan.now }
         requires bridge { IsNumber number (length plan.now.bridges) }
-        ensures { IfOk result (λ bridge. bridge ≡ record { plan = plan.now; number = number; steps = []; is_reserved = false }) }
+        ensures { IfOk result (λ bridge. bridge ≡ at_start plan.now number true) }
     {
-        let (queues, rstp) = sending(alloc, plan, number)?;
-        let (kept, ports) = placed(alloc, plan, number)?;
-        let states = start_states(plan.spanning, &ports);
-        Ok(Bridge {
-            alloc,
-            plan: kept,
-            number,
-            ports,
-            states,
-            queues,
-            capacity: capacity(plan, number),
-            limit: plan.steps as usize,
-            table: Fdb::new(alloc, STATIONS, plan.ageing),
-            clock: 0,
-            address: address(plan, number),
-            rstp,
-            steps: Vec::new(alloc),
-            is_reserved: false,
-        })
+        started(alloc, plan, number, Steps::kept(alloc))
+    }
+
+    /// The same, but that steps are only counted: the bridge takes as many as the plan allows in memory that
+    /// does not grow with them.
+    pub fn counting(alloc: Global, plan: &Plan, number: u8) -> Result<Bridge, Memory>
+        requires sound { IsSound plan.now }
+        requires bridge { IsNumber number (length plan.now.bridges) }
+        ensures { IfOk result (λ bridge. bridge ≡ at_start plan.now number false) }
+    {
+        started(alloc, plan, number, Steps::counted(alloc))
     }
 }

@@ -1,5 +1,5 @@
 -- What each port gave and took, in lists of ports.
-use Rattle.std.proofs.Common.{◌≡◌, ℕ, zero, suc, List, [], ◌∷◌, All, Some, None, map, unwrap_or, slice_get, refl, sym, ap, subst, ◌∙◌, append-nil}
+use Rattle.std.proofs.Common.{◌≡◌, ℕ, zero, suc, List, [], ◌∷◌, All, Some, None, map, length, unwrap_or, slice_get, refl, sym, ap, subst, ◌∙◌, append-nil}
 use Rattle.std.proofs.lemmas.List.{length-map}
 use Rattle.std.specs.declared.option.Option.{Option}
 use Rattle.pb_lan.specs.Counts.{entered, left}
@@ -98,6 +98,11 @@ keeps_fresh {P} script tally was port steps last same none more =
     subst (λ (p : P). KeepsPort script tally p port steps last) (sym same)
     (subst (λ (ss : List Step). KeepsPort script tally port port ss last) (sym none)
     (subst (λ (l : Last). KeepsPort script tally port port [] l) (sym more) (nothing_given (script port), nothing_taken (tally port), tt)))
+
+-- as many come back as were given, one for each port
+pub as_many : {X G P : Type 0} (given : X → G) (port : X → P) (ws olds : List X) (ports : List P) → map given ws ≡ map given olds → map port olds ≡ ports
+    → length ws ≡ length ports
+as_many given port ws olds ports kept are = sym (length-map ws given) ∙ ap length kept ∙ length-map olds given ∙ sym (length-map olds port) ∙ ap length are
 
 -- the accesses that come back have the numbers that they had
 pub accesses_back : {X D G : Type 0} (given : X → G) (ws olds : List X) (after : List D) (before : List AccessGift) (access : X → D) (gift : D → AccessGift) (plan : Plan) (n : ℕ)

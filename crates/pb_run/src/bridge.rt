@@ -10,6 +10,7 @@ ghost use Rattle.pb_lan.specs.PortLists.{fed, delivered};
 ghost use Rattle.pb_lan.specs.Ports.{port_at, is_used};
 ghost use Rattle.pb_lan.specs.Plans.{IsSound, IsNumber};
 ghost use Rattle.pb_lan.specs.Records.{received, transmitted};
+ghost use Rattle.pb_relay.specs.Standing.{at_start};
 ghost use Rattle.pb_ring.specs.Rings.{shown_at};
 ghost use Rattle.pb_run.specs.Bridges.{AreUsed};
 
@@ -48,6 +49,7 @@ pub struct BridgeWorker<W: Wiring> {
     pub ghost took: { (q : ℕ) → shown_at (λ i. received_over i.end) ins.ends.items q ≡ received (q + 1) bridge.steps },
     pub ghost gave: { (q : ℕ) → shown_at (λ o. sent o.end) outs.ends.items q ≡ transmitted (q + 1) bridge.steps },
     pub ghost unset: { list_any is_setting bridge.steps ≡ false },
+    pub ghost kept: { bridge.is_kept ≡ true },
 }
 
 impl From<BridgeFault> for Refusal {
@@ -89,7 +91,7 @@ impl<W: Wiring> BridgeWorker<W> {
         requires received { (q : ℕ) → shown_at (λ i. received_over i.end) ins.ends.items q ≡ [] }
         requires sent { (q : ℕ) → shown_at (λ o. sent o.end) outs.ends.items q ≡ [] }
         ensures number { IfOk result (λ worker. worker.number ≡ number) }
-        ensures bridge { IfOk result (λ worker. worker.bridge ≡ record { plan = plan.now; number = number; steps = []; is_reserved = false }) }
+        ensures bridge { IfOk result (λ worker. worker.bridge ≡ at_start plan.now number true) }
         ensures rings { IfOk result (λ worker. (worker.ins ≡ ins) × (worker.outs ≡ outs)) }
     {
         let ports = used_ports(alloc, plan, number, ins.ends.len())?;

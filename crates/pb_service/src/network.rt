@@ -28,7 +28,7 @@ pub(crate) struct Network {
     pub spanning: Spanning,
     pub ageing: u32,
     pub ring: u16,
-    pub steps: u32,
+    pub steps: u64,
     pub limits: Limits,
 }
 
@@ -42,7 +42,7 @@ fn network_of(alloc: Global, row: &Table) -> Result<Network, PlanFault>
         spanning: spanning_of(text_at(row, "spanning")),
         ageing: number_at(row, "ageing", 300, 1_000_000) as u32,
         ring: number_at(row, "ring", 64, 4096) as u16,
-        steps: number_at(row, "steps", 1_000_000, 1_000_000) as u32,
+        steps: number_at(row, "steps", 1_000_000, 1_000_000),
         limits: Limits {
             turns: number_at(row, "turns", 10_000_000, 1_000_000_000),
             tick_every: number_at(row, "tick_every", 0, 1_000_000),

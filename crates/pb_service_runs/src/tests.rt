@@ -7,6 +7,7 @@ mod ranges;
 
 use pb_service::{PlanFault, read_plan};
 use std::alloc::Global;
+use std::process::Abort;
 
 /// The network of two bridges that the tests begin from.
 const NETWORK: &str = "\
@@ -45,13 +46,23 @@ port = 3
 service = \"blue\"
 ";
 
-/// The number and the text of the fault that a file has, or `0 ok`.
-fn told(alloc: Global, file: &[u8]) -> Result<String, PlanFault> {
-    match read_plan(alloc, file) {
-        Ok(_) => Ok(String::from_str(alloc, "0 ok")?),
-        Err(fault) => {
-            let number = fault.number();
-            Ok(format!(in alloc; "{number} {fault}")?)
-        }
+/// Whether these are the number and the text of a fault.
+fn is_fault(alloc: Global, fault: &PlanFault, want: &str) -> Result<bool, PlanFault> {
+    let number = fault.number();
+    let text = format!(in alloc; "{number} {fault}")?;
+    Ok(text.as_str() == want)
+}
+
+/// Whether a file has the fault of this number and text, or none where that is `0 ok`.
+fn tells(alloc: Global, file: &[u8], want: &str) -> Result<bool, PlanFault> {
+    match read_plan(alloc, file).err() {
+        Some(fault) => is_fault(alloc, &fault, want),
+        None => Ok(want == "0 ok"),
     }
+}
+
+/// The file has the fault of this number and text, or none where that is `0 ok`.
+fn told(rt: &impl Abort, alloc: Global, file: &[u8], want: &str) -> Result<(), PlanFault> {
+    assert!(rt; tells(alloc, file, want)?, "{want}");
+    Ok(())
 }

@@ -10,7 +10,7 @@ use crate::plan::{BridgePlan, CustomerPlan, End, LinkPlan, Plan, ServicePlan};
 use pb_frame::Seq;
 
 /// Whether a number is from 1 to the highest one.
-pub(crate) fn is_number(n: u32, highest: u32) -> bool
+pub(crate) fn is_number(n: u64, highest: u64) -> bool
     ensures { IsTrue result ↔ IsNumber n highest }
 {
     1 <= n && n <= highest
@@ -54,7 +54,7 @@ fn is_sound_bridge(bridge: &BridgePlan) -> bool
     bridge.address.0[0] % 2 == 0
         && bridge.priority % 4096 == 0
         && bridge.priority <= 61440
-        && is_number(bridge.queue as u32, 4096)
+        && is_number(bridge.queue as u64, 4096)
 }
 
 /// Whether each bridge is sound.
@@ -90,8 +90,8 @@ fn is_sound_end(plan: &Plan, end: &End) -> bool
     ensures { IsTrue result ↔ IsSoundEnd plan.now end.now }
 {
     numbers_one_of(end.bridge, plan.bridges.as_slice())
-        && is_number(end.port as u32, 16)
-        && is_number(end.cost, 200_000_000)
+        && is_number(end.port as u64, 16)
+        && is_number(end.cost as u64, 200_000_000)
         && end.priority % 16 == 0
         && end.priority <= 240
         && are_end_services(&end.services, plan.services.as_slice())
@@ -118,7 +118,7 @@ pub(crate) fn are_sound_vids(services: &[ServicePlan]) -> bool
 {
     services
         .iter()
-        .all(|service| is_number(service.vid as u32, 4094))
+        .all(|service| is_number(service.vid as u64, 4094))
 }
 
 /// Whether the customer port names what exists, with an allowed priority and capacity.
@@ -126,10 +126,10 @@ fn is_sound_customer(plan: &Plan, customer: &CustomerPlan) -> bool
     ensures { IsTrue result ↔ IsSoundCustomer plan.now customer.now }
 {
     numbers_one_of(customer.bridge, plan.bridges.as_slice())
-        && is_number(customer.port as u32, 16)
+        && is_number(customer.port as u64, 16)
         && numbers_one_of(customer.service, plan.services.as_slice())
         && customer.pcp <= 7
-        && is_number(customer.queue as u32, 4096)
+        && is_number(customer.queue as u64, 4096)
 }
 
 /// Whether each customer port is sound.

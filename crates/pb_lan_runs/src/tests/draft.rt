@@ -73,7 +73,7 @@ pub(super) struct Draft {
     pub(super) spanning: Spanning,
     pub(super) ageing: u32,
     pub(super) ring: u16,
-    pub(super) steps: u32,
+    pub(super) steps: u64,
 }
 
 pub(super) const B1: Bridge = Bridge {

@@ -237,7 +237,7 @@ fn numbers_break(
     rt: &impl Abort,
     alloc: Global,
     draft: &Draft,
-    rows: &[(u32, u16, u32)],
+    rows: &[(u32, u16, u64)],
 ) -> Result<(), Fail> {
     for (ageing, ring, steps) in rows {
         let odd = Draft {
@@ -254,13 +254,21 @@ fn numbers_break(
 
 #[test]
 fn unsound_numbers(rt: HostRuntime) -> Result<(), Fail> {
-    const ROWS: &[(u32, u16, u32)] = &[
+    const ROWS: &[(u32, u16, u64)] = &[
         (9, 64, 1),
         (1_000_001, 64, 1),
         (300, 0, 1),
         (300, 4097, 1),
         (300, 64, 0),
-        (300, 64, 1_000_001),
     ];
     numbers_break(&rt, rt.alloc(), &TWO_BRIDGES, ROWS)
+}
+
+#[test]
+fn any_number_of_steps_is_sound(rt: HostRuntime) -> Result<(), Fail> {
+    let endless = Draft {
+        steps: u64::MAX,
+        ..TWO_BRIDGES
+    };
+    stands(&rt, rt.alloc(), &endless, true, "as many steps as can be counted")
 }

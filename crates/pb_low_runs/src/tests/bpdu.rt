@@ -2,7 +2,7 @@
 
 use pb_bpdu::{Bpdu, BpduFault, read, what_is_written_is_read, write};
 use pb_frame::{Mac, hex_read};
-use std::alloc::Global;
+use std::alloc::{AllocError, Global};
 use std::test::Fail;
 
 /// What bridge 32768/02-00-00-00-00-01 sends on its port 1 at first.
@@ -56,88 +56,140 @@ fn answer() -> Bpdu {
     }
 }
 
+/// Whether a BPDU is written so by the bridge with an address that ends in this octet.
+fn is_written(alloc: Global, last: u8, bpdu: &Bpdu, wanted: &[u8]) -> Result<bool, Fail> {
+    let frame = write(alloc, Mac([2, 0, 0, 0, 0, last]), bpdu)?;
+    Ok(frame.as_slice() == wanted)
+}
+
 #[test]
 fn writes_what_is_sent(rt: HostRuntime) -> Result<(), Fail> {
-    let alloc = rt.alloc();
-    let frame = write(alloc, Mac([2, 0, 0, 0, 0, 1]), &proposal())?;
-    assert!(rt; frame.as_slice() == PROPOSAL.as_slice());
-    let frame = write(alloc, Mac([2, 0, 0, 0, 0, 2]), &answer())?;
-    assert!(rt; frame.as_slice() == hex_read(alloc, ANSWER)?.as_slice());
+    let answered = hex_read(rt.alloc(), ANSWER)?;
+    assert!(rt; is_written(rt.alloc(), 1, &proposal(), &PROPOSAL)?);
+    assert!(rt; is_written(rt.alloc(), 2, &answer(), &answered)?);
     Ok(())
+}
+
+/// Whether a frame is read as this BPDU.
+fn is_read(frame: &[u8], wanted: &Bpdu) -> bool {
+    match read(frame) {
+        Ok(bpdu) => bpdu == *wanted,
+        Err(_) => false,
+    }
+}
+
+/// Whether a frame is refused for this.
+fn is_refused(frame: &[u8], wanted: BpduFault) -> bool {
+    read(frame).err() == Some(wanted)
 }
 
 #[test]
 fn reads_what_is_sent(rt: HostRuntime) -> Result<(), Fail> {
-    assert!(rt; read(&PROPOSAL) == Ok(proposal()));
-    assert!(rt; read(hex_read(rt.alloc(), ANSWER)?.as_slice()) == Ok(answer()));
+    let answered = hex_read(rt.alloc(), ANSWER)?;
+    assert!(rt; is_read(&PROPOSAL, &proposal()) && is_read(&answered, &answer()));
     Ok(())
 }
 
-/// The proposal with another octet at a place.
-fn changed(alloc: Global, place: usize, octet: u8) -> Result<Vec<u8>, Fail> {
+/// The proposal with another octet at a place, and with octets behind it.
+fn changed(alloc: Global, place: usize, octet: u8, behind: &[u8]) -> Result<Vec<u8>, AllocError> {
     let mut frame = Vec::from_slice(alloc, &PROPOSAL)?;
     if place < frame.len() {
         frame[place] = octet;
     }
+    frame.extend_from_slice(behind)?;
     Ok(frame)
+}
+
+/// Places and octets there that mean nothing, and what stands behind the frame.
+const IGNORED: &[(usize, u8, &[u8])] = &[
+    (19, 3, &[]),
+    (19, 255, &[]),
+    (21, 0x8e, &[]),
+    (52, 7, &[]),
+    (0, 2, &[]),
+    (5, 0, &[]),
+    (0, 1, &[7; 7]),
+];
+
+/// Whether the proposal is read with another octet at a place, and with octets behind it.
+fn is_ignored(alloc: Global, place: usize, octet: u8, behind: &[u8]) -> Result<bool, AllocError> {
+    let frame = changed(alloc, place, octet, behind)?;
+    Ok(is_read(&frame, &proposal()))
 }
 
 #[test]
 fn ignores_what_means_nothing(rt: HostRuntime) -> Result<(), Fail> {
-    let alloc = rt.alloc();
-    for (place, octet) in [(19, 3), (19, 255), (21, 0x8e), (52, 7), (0, 2), (5, 0)] {
-        let frame = changed(alloc, place, octet)?;
-        assert!(rt; read(frame.as_slice()) == Ok(proposal()));
+    for (place, octet, behind) in IGNORED {
+        assert!(rt;
+            is_ignored(rt.alloc(), *place, *octet, behind)?,
+            "{place} {octet}"
+        );
     }
-    let mut padded = changed(alloc, 0, 1)?;
-    padded.extend_from_slice(&[7; 7])?;
-    assert!(rt; read(padded.as_slice()) == Ok(proposal()));
     Ok(())
+}
+
+/// Places, octets there that are wrong, and the fault of each.
+const FAULTS: &[(usize, u8, BpduFault)] = &[
+    (13, 0x26, BpduFault::Short),
+    (13, 0x28, BpduFault::Llc),
+    (14, 0x43, BpduFault::Llc),
+    (15, 0x43, BpduFault::Llc),
+    (16, 0x13, BpduFault::Llc),
+    (17, 1, BpduFault::Protocol),
+    (18, 1, BpduFault::Protocol),
+    (20, 0, BpduFault::Kind),
+    (20, 0x80, BpduFault::Kind),
+    (19, 1, BpduFault::Old),
+    (19, 0, BpduFault::Old),
+];
+
+/// Whether the proposal with another octet at a place has this fault.
+fn has_fault(alloc: Global, place: usize, octet: u8, fault: BpduFault) -> Result<bool, AllocError> {
+    let frame = changed(alloc, place, octet, &[])?;
+    Ok(is_refused(&frame, fault))
 }
 
 #[test]
 fn names_the_first_fault(rt: HostRuntime) -> Result<(), Fail> {
-    let alloc = rt.alloc();
-    for (place, octet, fault) in [
-        (13, 0x26, BpduFault::Short),
-        (13, 0x28, BpduFault::Llc),
-        (14, 0x43, BpduFault::Llc),
-        (15, 0x43, BpduFault::Llc),
-        (16, 0x13, BpduFault::Llc),
-        (17, 1, BpduFault::Protocol),
-        (18, 1, BpduFault::Protocol),
-        (20, 0, BpduFault::Kind),
-        (20, 0x80, BpduFault::Kind),
-        (19, 1, BpduFault::Old),
-        (19, 0, BpduFault::Old),
-    ] {
-        let frame = changed(alloc, place, octet)?;
-        assert!(rt; read(frame.as_slice()) == Err(fault));
+    for (place, octet, fault) in FAULTS {
+        assert!(rt;
+            has_fault(rt.alloc(), *place, *octet, *fault)?,
+            "{place} {octet}"
+        );
     }
-    assert!(rt; read(&[]) == Err(BpduFault::Llc));
-    assert!(rt; read(&PROPOSAL[..16]) == Err(BpduFault::Llc));
+    assert!(rt; is_refused(&[], BpduFault::Llc));
+    assert!(rt; is_refused(&PROPOSAL[..16], BpduFault::Llc));
     Ok(())
 }
 
-#[test]
-fn reads_by_the_length(rt: HostRuntime) {
-    for length in 0u8..=60 {
-        let mut frame = [0; 74];
-        frame[..53].copy_from_slice(&PROPOSAL);
-        frame[13] = length;
-        let end = 14 + length as usize;
-        let read_so = read(&frame[..end]);
-        if length < 3 {
-            assert!(rt; read_so == Err(BpduFault::Llc));
-        } else if length < 39 {
-            assert!(rt; read_so == Err(BpduFault::Short));
-        } else {
-            assert!(rt; read_so == Ok(proposal()));
-        }
-        if length > 0 {
-            assert!(rt; read(&frame[..end - 1]) == Err(BpduFault::Llc));
-        }
+/// Whether a frame with this length is read, or refused, as the length says.
+fn is_told(frame: &[u8], length: u8) -> bool {
+    if length < 3 {
+        is_refused(frame, BpduFault::Llc)
+    } else if length < 39 {
+        is_refused(frame, BpduFault::Short)
+    } else {
+        is_read(frame, &proposal())
     }
+}
+
+/// Whether the proposal is read by this length, and where an octet is missing it is not.
+fn is_read_by(alloc: Global, length: u8) -> Result<bool, AllocError> {
+    let frame = changed(alloc, 13, length, &[0; 21])?;
+    let end = 14 + length as usize;
+    if frame.len() < end {
+        return Ok(false);
+    }
+    let is_cut_told = length == 0 || is_refused(&frame[..end - 1], BpduFault::Llc);
+    Ok(is_cut_told && is_told(&frame[..end], length))
+}
+
+#[test]
+fn reads_by_the_length(rt: HostRuntime) -> Result<(), Fail> {
+    for length in 0u8..=60 {
+        assert!(rt; is_read_by(rt.alloc(), length)?, "{length}");
+    }
+    Ok(())
 }
 
 #[test]

@@ -36,37 +36,55 @@ fn fault_of(alloc: Global, octets: usize) -> Result<Option<FrameFault>, AllocErr
     Ok(view(&frame).err())
 }
 
+/// Lengths of frames, and what is wrong with each.
+const LENGTHS: &[(usize, Option<FrameFault>)] = &[
+    (13, Some(FrameFault::Short)),
+    (14, None),
+    (1996, None),
+    (1997, Some(FrameFault::Long)),
+];
+
 #[test]
 fn frames_have_14_to_1996_octets(rt: HostRuntime) -> Result<(), Fail> {
-    for (octets, wanted) in [
-        (13, Some(FrameFault::Short)),
-        (14, None),
-        (1996, None),
-        (1997, Some(FrameFault::Long)),
-    ] {
-        assert_eq!(rt; fault_of(rt.alloc(), octets)?, wanted, "{octets}");
+    for (octets, wanted) in LENGTHS {
+        assert!(rt; fault_of(rt.alloc(), *octets)? == *wanted, "{octets}");
     }
     Ok(())
 }
 
-#[test]
-fn control_is_priority_eligibility_and_vid(rt: HostRuntime) {
-    for (pcp, dei, vid, value) in [(7, 1, 4094, 0xfffe), (5, 0, 100, 0xa064)] {
-        let tci = Tci { pcp, dei, vid };
-        assert_eq!(rt; tci.value(), value);
-        assert_eq!(rt; Tci::of(value), tci);
-    }
+/// Whether a control has this value, and is read from it.
+fn has_value(tci: Tci, value: u16) -> bool {
+    tci.value() == value && Tci::of(value) == tci
 }
 
 #[test]
+fn control_is_priority_eligibility_and_vid(rt: HostRuntime) {
+    let highest = Tci {
+        pcp: 7,
+        dei: 1,
+        vid: 4094,
+    };
+    assert!(rt; has_value(highest, 0xfffe));
+    let usual = Tci {
+        pcp: 5,
+        dei: 0,
+        vid: 100,
+    };
+    assert!(rt; has_value(usual, 0xa064));
+}
+
+/// Texts, and the address that each is, if it is one.
+const TEXTS: &[(&str, Option<Mac>)] = &[
+    ("01-80-c2-00-00-0E", Some(Mac([1, 0x80, 0xc2, 0, 0, 0x0e]))),
+    ("01:80:c2:00:00:0E", None),
+    ("01-80-c2-00-00-0", None),
+    ("01-80-c2-00-00-0g", None),
+];
+
+#[test]
 fn addresses_are_read(rt: HostRuntime) {
-    for (text, wanted) in [
-        ("01-80-c2-00-00-0E", Some(Mac([1, 0x80, 0xc2, 0, 0, 0x0e]))),
-        ("01:80:c2:00:00:0E", None),
-        ("01-80-c2-00-00-0", None),
-        ("01-80-c2-00-00-0g", None),
-    ] {
-        assert_eq!(rt; Mac::read(text), wanted);
+    for (text, wanted) in TEXTS {
+        assert!(rt; Mac::read(text) == *wanted, "{text}");
     }
 }
 

@@ -99,20 +99,26 @@ fn trunks(
     assert!(rt; services.trunk(alloc, port, listed) == want, "port {port}");
 }
 
+/// Ports, the service that each joins, its priority, and the answer.
+const JOINS: &[(u8, u8, u8, Result<(), JoinFault>)] = &[
+    (2, 1, 5, Ok(())),
+    (1, 1, 0, Ok(())),
+    (3, 2, 0, Ok(())),
+    (4, 3, 0, Err(JoinFault::NoService)),
+    (3, 3, 0, Err(JoinFault::NoService)),
+    (3, 1, 0, Err(JoinFault::Taken)),
+];
+
 /// Red at ports 1 and 2, blue at port 3, and trunks 9 for all services and 8 for blue; green is added last.
 fn attach(rt: &impl Abort, alloc: Global, services: &mut Services) {
     trunks(rt, alloc, services, (9, None, Ok(())));
     trunks(rt, alloc, services, (8, Some(&[2]), Ok(())));
-    let rows = [
-        (2, 1, 5, Ok(())),
-        (1, 1, 0, Ok(())),
-        (3, 2, 0, Ok(())),
-        (4, 3, 0, Err(JoinFault::NoService)),
-        (3, 3, 0, Err(JoinFault::NoService)),
-        (3, 1, 0, Err(JoinFault::Taken)),
-    ];
-    all_join(rt, services, &rows);
-    let unknown = (3, Some([1u8, 3].as_slice()), Err(JoinFault::NoService));
+    all_join(rt, services, JOINS);
+    let unknown: (u8, Option<&[u8]>, Result<(), JoinFault>) = (
+        3,
+        Some(&[1, 3]),
+        Err(JoinFault::NoService),
+    );
     trunks(rt, alloc, services, unknown);
     trunks(rt, alloc, services, (3, None, Err(JoinFault::Taken)));
     adds(rt, alloc, services, ("green", 300, Ok(3)));

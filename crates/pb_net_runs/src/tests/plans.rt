@@ -100,13 +100,20 @@ fn customers(alloc: Global, draft: &Draft) -> Result<Seq<CustomerPlan>, Memory> 
     Ok(Seq::from_vec(customers))
 }
 
+/// Red and blue.
+fn services(alloc: Global) -> Result<Seq<ServicePlan>, Memory> {
+    let mut services = Vec::new(alloc);
+    services.push(service(alloc, 1, 100)?)?;
+    services.push(service(alloc, 2, 200)?)?;
+    Ok(Seq::from_vec(services))
+}
+
 /// The plan of a draft.
 pub(super) fn plan_of(alloc: Global, draft: &Draft) -> Result<Plan, Memory> {
-    let services = vec![in alloc; service(alloc, 1, 100)?, service(alloc, 2, 200)?]?;
     Ok(Plan {
         bridges: bridges(alloc, draft)?,
         links: links(alloc, draft)?,
-        services: Seq::from_vec(services),
+        services: services(alloc)?,
         customers: customers(alloc, draft)?,
         spanning: draft.spanning,
         ageing: 300,

@@ -25,11 +25,45 @@ fn item(alloc: Global, number: u64) -> Result<Item, AllocError> {
     })
 }
 
-/// The steps of a frame that came in and was fed.
-fn came_and_went(alloc: Global, number: u64) -> Result<[Step; 2], AllocError> {
-    let came = item(alloc, number)?;
-    let went = item(alloc, number)?;
-    Ok([Step::Poll { item: came }, Step::Feed { item: went }])
+/// What a customer port does with a frame.
+#[derive(Clone, Copy)]
+enum Deed {
+    Poll,
+    Feed,
+    /// The device took it.
+    Deliver,
+    /// The device was gone.
+    Miss,
+}
+
+/// What it did, with the frame of a number.
+type Did = (Deed, u64);
+
+/// The step of it.
+fn step_of(alloc: Global, (deed, number): Did) -> Result<Step, AllocError> {
+    let item = item(alloc, number)?;
+    Ok(match deed {
+        Deed::Poll => Step::Poll { item },
+        Deed::Feed => Step::Feed { item },
+        Deed::Deliver => Step::Deliver { item, gone: false },
+        Deed::Miss => Step::Deliver { item, gone: true },
+    })
+}
+
+/// Whether the step at a place is this one.
+fn is_step(alloc: Global, steps: &[Step], place: usize, did: Did) -> Result<bool, AllocError> {
+    let step = step_of(alloc, did)?;
+    Ok(steps.get(place) == Some(&step))
+}
+
+/// Whether these are the steps.
+fn are_steps(alloc: Global, steps: &[Step], all: &[Did]) -> Result<bool, AllocError> {
+    for (place, did) in all.iter().enumerate() {
+        if !is_step(alloc, steps, place, *did)? {
+            return Ok(false);
+        }
+    }
+    Ok(steps.len() == all.len())
 }
 
 /// A broadcast comes in.
@@ -51,21 +85,35 @@ fn fed(place: &mut CustomerPlace) -> Result<Option<Item>, Memory> {
     Ok(Some(place.feed()?))
 }
 
+/// Whether the port feeds the frame of a number.
+fn is_fed(alloc: Global, place: &mut CustomerPlace, number: u64) -> Result<bool, Memory> {
+    let wanted = item(alloc, number)?;
+    Ok(fed(place)? == Some(wanted))
+}
+
+/// Whether a port with an empty hand takes a broadcast, and feeds it as the frame of a number.
+fn passes(alloc: Global, place: &mut CustomerPlace, number: u64) -> Result<bool, Memory> {
+    let was_empty = place.is_hand_empty();
+    poll(alloc, place)?;
+    let is_full = !place.is_hand_empty();
+    Ok(was_empty && is_full && is_fed(alloc, place, number)?)
+}
+
 #[test]
 fn frames_are_fed_one_after_the_other(rt: HostRuntime) -> Result<(), Fail> {
-    let alloc = rt.alloc();
-    let mut place = CustomerPlace::new(alloc, 7);
+    const STEPS: &[Did] = &[
+        (Deed::Poll, 0),
+        (Deed::Feed, 0),
+        (Deed::Poll, 1),
+        (Deed::Feed, 1),
+    ];
+    let mut place = CustomerPlace::new(rt.alloc(), 7);
     assert!(rt; place.steps().is_empty());
-    for number in 0..2u64 {
-        assert!(rt; place.is_hand_empty());
-        poll(alloc, &mut place)?;
-        assert!(rt; !place.is_hand_empty());
-        assert!(rt; fed(&mut place)? == Some(item(alloc, number)?));
-    }
-    assert!(rt; place.steps().starts_with(&came_and_went(alloc, 0)?));
+    assert!(rt; passes(rt.alloc(), &mut place, 0)?);
+    assert!(rt; passes(rt.alloc(), &mut place, 1)?);
+    assert!(rt; are_steps(rt.alloc(), place.steps(), STEPS)?);
     let steps = place.into_steps();
-    assert_eq!(rt; steps.len(), 4);
-    assert!(rt; steps.ends_with(&came_and_went(alloc, 1)?));
+    assert!(rt; are_steps(rt.alloc(), &steps, STEPS)?);
     Ok(())
 }
 
@@ -83,22 +131,10 @@ fn steps_with_two_delivered(alloc: Global) -> Result<Vec<Step>, Memory> {
     Ok(place.into_steps())
 }
 
-/// Whether the step at a place delivers item 9, which is gone or not.
-fn delivers_at(
-    alloc: Global,
-    steps: &[Step],
-    place: usize,
-    gone: bool,
-) -> Result<bool, AllocError> {
-    let item = item(alloc, 9)?;
-    Ok(steps.get(place) == Some(&Step::Deliver { item, gone }))
-}
-
 #[test]
 fn items_are_delivered_beside_a_full_hand(rt: HostRuntime) -> Result<(), Fail> {
+    const STEPS: &[Did] = &[(Deed::Poll, 0), (Deed::Deliver, 9), (Deed::Miss, 9)];
     let steps = steps_with_two_delivered(rt.alloc())?;
-    assert_eq!(rt; steps.len(), 3);
-    assert!(rt; delivers_at(rt.alloc(), &steps, 1, false)?);
-    assert!(rt; delivers_at(rt.alloc(), &steps, 2, true)?);
+    assert!(rt; are_steps(rt.alloc(), &steps, STEPS)?);
     Ok(())
 }

@@ -9,8 +9,8 @@ use std::alloc::Global;
 use std::process::Abort;
 use std::test::Fail;
 
-/// Walks the rows at the bridge of this number in a network. A row that does not hold is named by its number
-/// from 0.
+/// Walks the rows at the bridge of this number in a network, at one that keeps its steps and at one that only
+/// counts them. A row that does not hold is named by its number from 0.
 pub fn run(
     rt: &impl Abort,
     alloc: Global,
@@ -19,7 +19,8 @@ pub fn run(
     rows: &[Row],
 ) -> Result<(), Fail> {
     let _steps = steps_after(rt, alloc, network, number, rows)?;
-    Ok(())
+    let mut bridge = counting(rt, alloc, network, number)?;
+    walk(rt, alloc, &mut bridge, rows)
 }
 
 /// Does as [`run`], and then the last of the bridge's steps tells that this item left a port.
@@ -35,7 +36,7 @@ pub fn run_to_departure(
     let steps = steps_after(rt, alloc, network, number, rows)?;
     let wanted = item.item(alloc)?;
     assert!(rt;
-        tells_departure(steps.last(), port, &wanted),
+        is_departure(steps.last(), port, &wanted),
         "the last step"
     );
     Ok(())
@@ -69,6 +70,14 @@ fn planned(rt: &impl Abort, alloc: Global, plan: &Plan, number: u8) -> Result<Br
     Bridge::new(alloc, plan, number)
 }
 
+/// The bridge of this number at its start, which will only count its steps.
+fn counting(rt: &impl Abort, alloc: Global, network: Network, number: u8) -> Result<Bridge, Fail> {
+    let plan = network.plan(alloc)?;
+    assert!(rt; plan_is_sound(&plan));
+    assert!(rt; 1 <= number && number as usize <= plan.bridges.len());
+    Ok(Bridge::counting(alloc, &plan, number)?)
+}
+
 /// Walks the rows.
 fn walk(rt: &impl Abort, alloc: Global, bridge: &mut Bridge, rows: &[Row]) -> Result<(), Fail> {
     for place in 0..rows.len() {
@@ -97,7 +106,7 @@ fn holds(alloc: Global, bridge: &mut Bridge, row: Row) -> Result<bool, Fail> {
         Row::Sets { port, up } => Ok(sets(bridge, port, up)),
         Row::States(states) => Ok(has_states(bridge, states)),
         Row::Uses { ports, links } => Ok(uses(bridge, ports, links)),
-        Row::Steps(steps) => Ok(bridge.steps().len() == steps),
+        Row::Steps(steps) => Ok(has_steps(bridge, steps)),
         Row::HasTree(has) => Ok(bridge.rstp().is_some() == has),
     }
 }
@@ -194,8 +203,15 @@ fn takes_none_in(
 fn tells_learnt(bridge: &Bridge, wanted: Option<Learnt>) -> bool {
     match bridge.steps().last() {
         Some(Step::Receive { learnt, .. }) => *learnt == wanted,
-        _ => false,
+        Some(_) => false,
+        None => bridge.step_count() != 0,
     }
+}
+
+/// There are so many steps, and each is shown or none is.
+fn has_steps(bridge: &Bridge, steps: usize) -> bool {
+    let shown = bridge.steps().len();
+    bridge.step_count() == steps as u64 && (shown == steps || shown == 0)
 }
 
 /// So many items wait at a port.
@@ -212,7 +228,7 @@ fn shows(alloc: Global, bridge: &Bridge, port: u8, item: Piece) -> Result<bool, 
 /// This item leaves a port, and the newest step tells of it.
 fn sends(alloc: Global, bridge: &mut Bridge, port: u8, item: Piece) -> Result<bool, Fail> {
     let wanted = item.item(alloc)?;
-    Ok(departs(bridge, port, &wanted) && tells_departure(bridge.steps().last(), port, &wanted))
+    Ok(departs(bridge, port, &wanted) && tells_departure(bridge, port, &wanted))
 }
 
 /// The item that leaves a port is the wanted one.
@@ -223,8 +239,16 @@ fn departs(bridge: &mut Bridge, port: u8, wanted: &Item) -> bool {
     bridge.waiting(port) > 0 && bridge.pop_out(port) == *wanted
 }
 
+/// The newest step tells that the item left the port, or steps are only counted.
+fn tells_departure(bridge: &Bridge, port: u8, wanted: &Item) -> bool {
+    match bridge.steps().last() {
+        None => bridge.step_count() != 0,
+        newest => is_departure(newest, port, wanted),
+    }
+}
+
 /// The step tells that the item left the port.
-fn tells_departure(step: Option<&Step>, port: u8, wanted: &Item) -> bool {
+fn is_departure(step: Option<&Step>, port: u8, wanted: &Item) -> bool {
     match step {
         Some(Step::Transmit { port: left, item }) => *left == port && item == wanted,
         _ => false,
@@ -240,7 +264,8 @@ fn ticks(bridge: &mut Bridge, queued: usize, dropped: &[(u8, NoRoom)]) -> bool {
         Some(Step::Tick { now: _, moved }) => {
             moved.queued.len() == queued && moved.dropped.as_slice() == dropped
         }
-        _ => false,
+        Some(_) => false,
+        None => bridge.step_count() != 0,
     }
 }
 

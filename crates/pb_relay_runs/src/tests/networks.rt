@@ -11,7 +11,7 @@ pub enum Network {
     /// B1 alone, with room for one item at each port, customer ports 1 to 3 of red, an ageing time of ten
     /// ticks, and room for so many steps.
     ThreeCustomers {
-        steps: u32,
+        steps: u64,
     },
     /// B1 and B2, joined from port 1 to port 1, with room for so many items at each port; customers of red
     /// at port 2 of each, and one of blue at B2's port 3.
@@ -48,7 +48,7 @@ struct Layout {
     /// The ageing time.
     ageing: u32,
     /// The most steps.
-    steps: u32,
+    steps: u64,
 }
 
 /// B1 alone.

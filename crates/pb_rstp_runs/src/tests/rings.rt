@@ -1,11 +1,11 @@
 //! Three bridges in a ring: port 1 of the first to port 1 of the second, port 2 of the second to port 2
 //! of the third, port 1 of the third to port 2 of the first.
 
-use super::settling::{link, plan};
+use super::settling::{Joint, plan};
 use super::with_two_ports;
 use pb_bpdu::Bpdu;
 use pb_frame::Memory;
-use pb_lan::{Plan, PortState};
+use pb_lan::PortState;
 use pb_rstp::{Change, Role, Rstp, is_settled};
 use std::alloc::{AllocError, Global};
 use std::collections::VecDeque;
@@ -75,41 +75,67 @@ fn ring(alloc: Global) -> Result<Vec<Rstp>, Memory> {
     Ok(ring)
 }
 
-/// The plan of the ring.
-fn ring_plan(alloc: Global) -> Result<Plan, AllocError> {
-    plan(
-        alloc,
-        vec![in alloc;
-            link(alloc, "L1", (1, 1), (2, 1))?,
-            link(alloc, "L2", (2, 2), (3, 2))?,
-            link(alloc, "L3", (3, 1), (1, 2))?,
-        ]?,
-    )
+/// The links of the ring.
+const LINKS: &[Joint] = &[
+    ("L1", (1, 1), (2, 1)),
+    ("L2", (2, 2), (3, 2)),
+    ("L3", (3, 1), (1, 2)),
+];
+
+/// Whether the bridges of the ring are settled.
+fn are_settled(alloc: Global, ring: &[Rstp]) -> Result<bool, AllocError> {
+    let [first, second, third] = ring else {
+        return Ok(false);
+    };
+    let plan = plan(alloc, LINKS)?;
+    Ok(is_settled(&[first, second, third], &plan))
+}
+
+const OPEN: &[(u8, PortState)] = &[(1, PortState::Forwarding), (2, PortState::Forwarding)];
+
+const CUT: &[(u8, PortState)] = &[(1, PortState::Forwarding), (2, PortState::Discarding)];
+
+/// By bridge, the states of its ports in the end.
+const STATES: &[&[(u8, PortState)]] = &[OPEN, OPEN, CUT];
+
+/// Whether the bridges' ports have these states.
+fn have_states(ring: &[Rstp], wanted: &[&[(u8, PortState)]]) -> bool {
+    for (bridge, states) in ring.iter().zip(wanted) {
+        if bridge.states() != *states {
+            return false;
+        }
+    }
+    ring.len() == wanted.len()
 }
 
 #[test]
 fn a_ring_settles(rt: HostRuntime) -> Result<(), Fail> {
     let ring = ring(rt.alloc())?;
-    assert_eq!(rt; ring.len(), 3);
-    let bridges = [&ring[0], &ring[1], &ring[2]];
-    assert!(rt; is_settled(&bridges, &ring_plan(rt.alloc())?));
-    let open = [(1, PortState::Forwarding), (2, PortState::Forwarding)];
-    assert!(rt; ring[0].states() == open.as_slice());
-    assert!(rt; ring[1].states() == open.as_slice());
-    let cut = [(1, PortState::Forwarding), (2, PortState::Discarding)];
-    assert!(rt; ring[2].states() == cut.as_slice());
+    assert!(rt; are_settled(rt.alloc(), &ring)?);
+    assert!(rt; have_states(&ring, STATES));
     Ok(())
+}
+
+/// By bridge, the roles of its ports in the end.
+const ROLES: &[&[(u8, Role)]] = &[
+    &[(1, Role::Designated), (2, Role::Designated)],
+    &[(1, Role::Root), (2, Role::Designated)],
+    &[(1, Role::Root), (2, Role::Alternate)],
+];
+
+/// Whether the bridges' ports have these roles.
+fn have_roles(ring: &[Rstp], wanted: &[&[(u8, Role)]]) -> bool {
+    for (bridge, roles) in ring.iter().zip(wanted) {
+        if bridge.roles() != *roles {
+            return false;
+        }
+    }
+    ring.len() == wanted.len()
 }
 
 #[test]
 fn a_ring_is_cut_once(rt: HostRuntime) -> Result<(), Fail> {
     let ring = ring(rt.alloc())?;
-    assert_eq!(rt; ring.len(), 3);
-    let both = [(1, Role::Designated), (2, Role::Designated)];
-    assert!(rt; ring[0].roles() == both.as_slice());
-    let second = [(1, Role::Root), (2, Role::Designated)];
-    assert!(rt; ring[1].roles() == second.as_slice());
-    let third = [(1, Role::Root), (2, Role::Alternate)];
-    assert!(rt; ring[2].roles() == third.as_slice());
+    assert!(rt; have_roles(&ring, ROLES));
     Ok(())
 }

@@ -32,13 +32,11 @@ fn end(bridge: u8, port: u8) -> End {
     }
 }
 
+/// A link between two ports, each of a bridge.
+pub(crate) type Joint = (&'static str, (u8, u8), (u8, u8));
+
 /// A link that loses nothing.
-pub(crate) fn link(
-    alloc: Global,
-    name: &str,
-    a: (u8, u8),
-    b: (u8, u8),
-) -> Result<LinkPlan, AllocError> {
+fn link(alloc: Global, (name, a, b): Joint) -> Result<LinkPlan, AllocError> {
     Ok(LinkPlan {
         name: text(alloc, name)?,
         a: end(a.0, a.1),
@@ -48,15 +46,28 @@ pub(crate) fn link(
     })
 }
 
+fn links(alloc: Global, joints: &[Joint]) -> Result<Seq<LinkPlan>, AllocError> {
+    let mut links = Vec::new(alloc);
+    for joint in joints {
+        links.push(link(alloc, *joint)?)?;
+    }
+    Ok(Seq::from_vec(links))
+}
+
+/// Three bridges.
+fn bridges(alloc: Global) -> Result<Seq<BridgePlan>, AllocError> {
+    let mut bridges = Vec::new(alloc);
+    bridges.push(planned(alloc, "B1", 1)?)?;
+    bridges.push(planned(alloc, "B2", 2)?)?;
+    bridges.push(planned(alloc, "B3", 3)?)?;
+    Ok(Seq::from_vec(bridges))
+}
+
 /// Three bridges, of which the first ones are joined by these links.
-pub(crate) fn plan(alloc: Global, links: Vec<LinkPlan>) -> Result<Plan, AllocError> {
+pub(crate) fn plan(alloc: Global, joints: &[Joint]) -> Result<Plan, AllocError> {
     Ok(Plan {
-        bridges: Seq::from_vec(vec![in alloc;
-            planned(alloc, "B1", 1)?,
-            planned(alloc, "B2", 2)?,
-            planned(alloc, "B3", 3)?,
-        ]?),
-        links: Seq::from_vec(links),
+        bridges: bridges(alloc)?,
+        links: links(alloc, joints)?,
         services: Seq::from_vec(Vec::new(alloc)),
         customers: Seq::from_vec(Vec::new(alloc)),
         spanning: Spanning::Rstp,
@@ -67,13 +78,12 @@ pub(crate) fn plan(alloc: Global, links: Vec<LinkPlan>) -> Result<Plan, AllocErr
 }
 
 /// Port 1 of the first bridge to port 1 of the second.
-fn pair(alloc: Global) -> Result<Plan, AllocError> {
-    plan(alloc, vec![in alloc; link(alloc, "L1", (1, 1), (2, 1))?]?)
-}
+const PAIR: &[Joint] = &[("L1", (1, 1), (2, 1))];
 
 /// The two bridges are settled.
 fn are_settled(alloc: Global, first: &Rstp, second: &Rstp) -> Result<bool, AllocError> {
-    Ok(is_settled(&[first, second], &pair(alloc)?))
+    let plan = plan(alloc, PAIR)?;
+    Ok(is_settled(&[first, second], &plan))
 }
 
 #[test]

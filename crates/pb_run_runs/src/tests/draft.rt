@@ -34,5 +34,5 @@ pub(super) struct Draft {
     /// The most items between two places.
     pub(super) ring: u16,
     /// The most steps of a place.
-    pub(super) steps: u32,
+    pub(super) steps: u64,
 }

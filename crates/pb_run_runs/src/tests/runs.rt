@@ -55,10 +55,13 @@ pub(super) struct Setup<'a> {
     pub(super) left: &'a [Frames],
 }
 
-fn memory(alloc: Global, count: u32) -> Result<MemoryPort, Memory> {
-    Ok(MemoryPort::new(alloc, 4_096, script_of(alloc, count)?))
+/// A port over memory, in a box.
+fn memory(alloc: Global, count: u32) -> Result<Held, Memory> {
+    let script = script_of(alloc, count)?;
+    Ok(Box::new(alloc, MemoryPort::new(alloc, 4_096, script))?)
 }
 
+/// A port of the tests' own.
 fn guest(
     alloc: Global,
     count: u32,
@@ -69,23 +72,35 @@ fn guest(
     Ok(Guest::new(alloc, script, habit, Arc::try_clone(watch)?))
 }
 
+/// The same, in a box.
+fn boxed_guest(
+    alloc: Global,
+    count: u32,
+    habit: Habit,
+    watch: &Arc<Watch, Global>,
+) -> Result<Held, Memory> {
+    let guest = guest(alloc, count, habit, watch)?;
+    Ok(Box::new(alloc, guest)?)
+}
+
+/// A socket port over a device that fails, in a box.
 fn socket(
     alloc: Global,
     count: u32,
     broken: Broken,
     watch: &Arc<Watch, Global>,
-) -> Result<SocketPort<Stream>, Memory> {
+) -> Result<Held, Memory> {
     let stream = Stream::new(alloc, count, broken, Arc::try_clone(watch)?)?;
-    Ok(SocketPort::new(alloc, 4_096, stream))
+    Ok(Box::new(alloc, SocketPort::new(alloc, 4_096, stream))?)
 }
 
 /// A port outside, in a box.
 fn port_of(alloc: Global, outer: Outer, watch: &Arc<Watch, Global>) -> Result<Held, Memory> {
-    Ok(match outer {
-        Outer::Memory(count) => Box::new(alloc, memory(alloc, count)?)?,
-        Outer::Guest(count, habit) => Box::new(alloc, guest(alloc, count, habit, watch)?)?,
-        Outer::Stream(count, broken) => Box::new(alloc, socket(alloc, count, broken, watch)?)?,
-    })
+    match outer {
+        Outer::Memory(count) => memory(alloc, count),
+        Outer::Guest(count, habit) => boxed_guest(alloc, count, habit, watch),
+        Outer::Stream(count, broken) => socket(alloc, count, broken, watch),
+    }
 }
 
 /// The ports outside.

@@ -218,6 +218,32 @@ fn is_left(alloc: Global, rec: &Record, wanted: &[Frames]) -> Result<bool, Memor
     Ok(true)
 }
 
+/// Notes what came of a run at the first customer ports.
+fn tell_outside(alloc: Global, ran: &mut Ran, outside: &mut [Outside; 4]) -> Result<(), Memory> {
+    for place in 0..4u8 {
+        let last = ran.last.get(usize::from(place)).copied();
+        if let Some(port) = ran.ports.get_mut(usize::from(place)) {
+            outside[usize::from(place)] = seen_at(alloc, &ran.rec, place + 1, last, port)?;
+        }
+    }
+    Ok(())
+}
+
+/// Notes what the lanes of the first link took and lost, and how many steps each place took.
+fn tell_steps(rec: &Record, told: &mut Told) {
+    let lanes = rec.lanes.as_slice();
+    for (lane, count) in told.link.iter_mut().enumerate() {
+        if let Some(steps) = lanes.get(lane) {
+            *count = taken_and_lost(steps.as_slice());
+        }
+    }
+    let (customers, bridges) = (rec.customers.as_slice(), rec.bridges.as_slice());
+    put_counts(&mut told.steps, Place::Customer(1), customers);
+    put_counts(&mut told.steps, Place::Lane(1), lanes);
+    put_counts(&mut told.steps, Place::Bridge(1), bridges);
+    told.short = short(bridges);
+}
+
 /// What came of a run that ran. The wanted frames are given by customer port.
 pub(super) fn tell(alloc: Global, ran: &mut Ran, wanted: &[Frames]) -> Result<Told, Memory> {
     let mut told = NOTHING;
@@ -226,30 +252,8 @@ pub(super) fn tell(alloc: Global, ran: &mut Ran, wanted: &[Frames]) -> Result<To
     told.ports = ran.ports.len();
     told.settled = ran.settled?;
     told.is_left = is_left(alloc, &ran.rec, wanted)?;
-    for place in 0..4u8 {
-        let last = ran.last.get(usize::from(place)).copied();
-        if let Some(port) = ran.ports.get_mut(usize::from(place)) {
-            told.outside[usize::from(place)] = seen_at(alloc, &ran.rec, place + 1, last, port)?;
-        }
-    }
-    let lanes = ran.rec.lanes.as_slice();
-    for (lane, count) in told.link.iter_mut().enumerate() {
-        if let Some(steps) = lanes.get(lane) {
-            *count = taken_and_lost(steps.as_slice());
-        }
-    }
-    put_counts(
-        &mut told.steps,
-        Place::Customer(1),
-        ran.rec.customers.as_slice(),
-    );
-    put_counts(&mut told.steps, Place::Lane(1), lanes);
-    put_counts(
-        &mut told.steps,
-        Place::Bridge(1),
-        ran.rec.bridges.as_slice(),
-    );
-    told.short = short(ran.rec.bridges.as_slice());
+    tell_steps(&ran.rec, &mut told);
+    tell_outside(alloc, ran, &mut told.outside)?;
     Ok(told)
 }
 

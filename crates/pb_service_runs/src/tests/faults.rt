@@ -1,6 +1,6 @@
 //! Each fault, and the text that is printed.
 
-use super::{NETWORK, told};
+use super::{NETWORK, tells, told};
 use pb_service::PlanFault;
 use std::alloc::Global;
 use std::process::Abort;
@@ -8,20 +8,19 @@ use std::process::Abort;
 /// A text of the network's file, what stands in its place, and the fault of the file then.
 type Change = (&'static str, &'static str, &'static str);
 
-/// The file of the network with one text in place of another has this fault.
-fn changes(rt: &impl Abort, alloc: Global, (old, new, want): Change) -> Result<(), PlanFault> {
-    let text = match NETWORK.split_once(old) {
-        Some((front, back)) => format!(in alloc; "{front}{new}{back}")?,
-        None => String::from_str(alloc, "no such text")?,
+/// Whether the file of the network with one text in place of another has this fault.
+fn changes(alloc: Global, (old, new, want): Change) -> Result<bool, PlanFault> {
+    let Some((front, back)) = NETWORK.split_once(old) else {
+        return Ok(false);
     };
-    assert_eq!(rt; told(alloc, text.as_bytes())?.as_str(), want, "{new}");
-    Ok(())
+    let text = format!(in alloc; "{front}{new}{back}")?;
+    tells(alloc, text.as_bytes(), want)
 }
 
 /// Each of these changes gives its fault.
 fn all_change(rt: &impl Abort, alloc: Global, rows: &[Change]) -> Result<(), PlanFault> {
-    for row in rows {
-        changes(rt, alloc, *row)?;
+    for (number, row) in rows.iter().enumerate() {
+        assert!(rt; changes(alloc, *row)?, "row {number}");
     }
     Ok(())
 }
@@ -29,7 +28,7 @@ fn all_change(rt: &impl Abort, alloc: Global, rows: &[Change]) -> Result<(), Pla
 /// Each of these files has the fault beside it.
 fn all_told(rt: &impl Abort, alloc: Global, rows: &[(&[u8], &str)]) -> Result<(), PlanFault> {
     for (file, want) in rows {
-        assert_eq!(rt; told(alloc, file)?.as_str(), *want);
+        told(rt, alloc, file, want)?;
     }
     Ok(())
 }

@@ -4,98 +4,124 @@ use super::NETWORK;
 use bytes::Bytes;
 use pb_frame::Text;
 use pb_lan::{
-    BridgePlan, CustomerPlan, End, LinkPlan, Plan, PortState, Seq, ServicePlan, Spanning,
+    BridgePlan, CustomerPlan, End, LinkPlan, Mac, Plan, PortState, Seq, ServicePlan, Spanning,
 };
-use pb_service::{Limits, PlanFault, PortSpec, read_limits, read_plan};
+use pb_service::{PlanFault, PortSpec, read_limits, read_plan};
 use std::alloc::Global;
 use std::fmt::Write;
-use std::process::Abort;
 
-/// Its bridges, by the defaults where the file tells nothing.
-fn has_bridges(rt: &impl Abort, bridges: &[BridgePlan]) {
-    assert_eq!(rt; bridges.len(), 2);
-    let (first, second) = (&bridges[0], &bridges[1]);
-    assert_eq!(rt; first.name.as_str(), "B1");
-    assert_eq!(rt; second.address.0, [2, 0, 0, 0, 0, 2]);
-    assert_eq!(rt; (first.priority, first.queue), (32_768, 64));
+/// Whether these are its bridges, by the defaults where the file tells nothing.
+fn are_bridges(bridges: &[BridgePlan]) -> bool {
+    let [first, second] = bridges else {
+        return false;
+    };
+    first.name.as_str() == "B1"
+        && second.address == Mac([2, 0, 0, 0, 0, 2])
+        && first.priority == 32_768
+        && first.queue == 64
 }
 
-/// Its services.
-fn has_services(rt: &impl Abort, services: &[ServicePlan]) {
-    assert_eq!(rt; services.len(), 2);
-    assert_eq!(rt; (services[1].name.as_str(), services[1].vid), ("blue", 200));
+/// Whether these are its services.
+fn are_services(services: &[ServicePlan]) -> bool {
+    let [_, second] = services else {
+        return false;
+    };
+    second.name.as_str() == "blue" && second.vid == 200
 }
 
-/// What it has by default.
-fn has_defaults(rt: &impl Abort, plan: &Plan) {
-    let told = (plan.spanning, plan.ageing, plan.ring, plan.steps);
-    assert_eq!(rt; told, (Spanning::Fixed, 300, 64, 1_000_000));
+/// Whether it has these by default.
+fn has_defaults(plan: &Plan) -> bool {
+    plan.spanning == Spanning::Fixed
+        && plan.ageing == 300
+        && plan.ring == 64
+        && plan.steps == 1_000_000
 }
 
 #[test]
 fn the_network_has_its_bridges_and_services(rt: HostRuntime) -> Result<(), PlanFault> {
     let (plan, ports) = read_plan(rt.alloc(), NETWORK.as_bytes())?;
-    has_bridges(&rt, plan.bridges.as_slice());
-    has_services(&rt, plan.services.as_slice());
-    has_defaults(&rt, &plan);
-    assert_eq!(rt; ports.len(), 3);
+    assert!(rt; are_bridges(plan.bridges.as_slice()));
+    assert!(rt; are_services(plan.services.as_slice()));
+    assert!(rt; has_defaults(&plan) && ports.len() == 3);
     Ok(())
 }
 
-/// Its one link.
-fn has_link(rt: &impl Abort, links: &[LinkPlan]) {
-    assert_eq!(rt; links.len(), 1);
-    let link = &links[0];
-    assert_eq!(rt; link.name.as_str(), "L1");
-    assert_eq!(rt; (link.a.bridge, link.b.bridge, link.b.port), (1, 2, 1));
-    assert_eq!(rt; (link.b.cost, link.a.priority), (20_000, 128));
-    assert_eq!(rt; link.a.start, PortState::Forwarding);
-    assert!(rt; link.a.services.is_none());
-    assert_eq!(rt; link.lost_ab.len(), 0);
+/// Whether an end is this port, by the defaults.
+fn is_end_at(end: &End, bridge: u8, port: u8) -> bool {
+    end.bridge == bridge
+        && end.port == port
+        && end.cost == 20_000
+        && end.priority == 128
+        && end.start == PortState::Forwarding
+        && end.services.is_none()
 }
 
-/// Its customer ports, the last one by its keys.
-fn has_customers(rt: &impl Abort, customers: &[CustomerPlan]) {
-    assert_eq!(rt; customers.len(), 3);
-    let last = &customers[2];
-    assert_eq!(rt; last.name.as_str(), "C3");
-    assert_eq!(rt; (last.bridge, last.port, last.service), (2, 3, 2));
-    assert_eq!(rt; (last.pcp, last.queue), (0, 64));
+/// Whether this is its one link.
+fn are_links(links: &[LinkPlan]) -> bool {
+    let [link] = links else {
+        return false;
+    };
+    link.name.as_str() == "L1"
+        && is_end_at(&link.a, 1, 1)
+        && is_end_at(&link.b, 2, 1)
+        && link.lost_ab.len() == 0
 }
 
-/// There are three ports, and the last one is this.
-fn has_port(rt: &impl Abort, ports: &[PortSpec], want: &PortSpec) {
-    assert_eq!(rt; ports.len(), 3);
-    assert_eq!(rt; &ports[2], want);
+/// Whether these are its customer ports, the last one by its keys.
+fn are_customers(customers: &[CustomerPlan]) -> bool {
+    let [_, _, last] = customers else {
+        return false;
+    };
+    last.name.as_str() == "C3"
+        && last.bridge == 2
+        && last.port == 3
+        && last.service == 2
+        && last.pcp == 0
+        && last.queue == 64
+}
+
+/// Whether there are three ports, of which the last is this.
+fn are_ports(ports: &[PortSpec], want: &PortSpec) -> bool {
+    match ports {
+        [_, _, last] => last == want,
+        _ => false,
+    }
 }
 
 #[test]
 fn the_network_has_its_link_and_ports(rt: HostRuntime) -> Result<(), PlanFault> {
-    let (plan, ports) = read_plan(rt.alloc(), NETWORK.as_bytes())?;
-    has_link(&rt, plan.links.as_slice());
-    has_customers(&rt, plan.customers.as_slice());
     let want = PortSpec::Memory(Seq::from_vec(Vec::new(rt.alloc())));
-    has_port(&rt, &ports, &want);
+    let (plan, ports) = read_plan(rt.alloc(), NETWORK.as_bytes())?;
+    assert!(rt; are_links(plan.links.as_slice()));
+    assert!(rt; are_customers(plan.customers.as_slice()));
+    assert!(rt; are_ports(&ports, &want));
     Ok(())
 }
 
+/// Files, and the turns and the ticks that each asks for.
+const LIMITS: &[(&str, u64, u64)] = &[
+    (NETWORK, 10_000_000, 0),
+    ("", 10_000_000, 0),
+    ("[network]\nturns = 7\ntick_every = 5\n", 7, 5),
+];
+
 #[test]
 fn limits_are_read_or_have_defaults(rt: HostRuntime) -> Result<(), PlanFault> {
-    for (file, turns, tick_every) in [
-        (NETWORK, 10_000_000, 0),
-        ("", 10_000_000, 0),
-        ("[network]\nturns = 7\ntick_every = 5\n", 7, 5),
-    ] {
-        let limits = Limits { turns, tick_every };
-        assert_eq!(rt; read_limits(rt.alloc(), file.as_bytes())?, limits);
+    for (file, turns, tick_every) in LIMITS {
+        let limits = read_limits(rt.alloc(), file.as_bytes())?;
+        let is_so = limits.turns == *turns && limits.tick_every == *tick_every;
+        assert!(rt; is_so, "{turns}");
     }
     Ok(())
 }
 
+/// Files whose limits are refused.
+const WRONG: &[&str] = &["[network]\nturns = 0\n", "bridge = 1"];
+
 #[test]
 fn limits_of_a_wrong_file_are_refused(rt: HostRuntime) {
-    for file in ["[network]\nturns = 0\n", "bridge = 1"] {
-        assert_eq!(rt; read_limits(rt.alloc(), file.as_bytes()).is_err(), true);
+    for file in WRONG {
+        assert!(rt; read_limits(rt.alloc(), file.as_bytes()).is_err(), "{file}");
     }
 }
 
@@ -133,84 +159,113 @@ name = \"blue\"
 vid = 3
 ";
 
-/// An end has these keys.
-fn is_end(rt: &impl Abort, end: &End, keys: (u32, u8, PortState)) {
-    assert_eq!(rt; (end.cost, end.priority, end.start), keys);
+/// Whether an end has these keys.
+fn has_keys(end: &End, cost: u32, priority: u8, start: PortState) -> bool {
+    end.cost == cost && end.priority == priority && end.start == start
+}
+
+/// Whether the ends of the one link have their keys.
+fn have_keys(links: &[LinkPlan]) -> bool {
+    let [link] = links else {
+        return false;
+    };
+    has_keys(&link.a, 3, 16, PortState::Discarding) && has_keys(&link.b, 4, 32, PortState::Learning)
 }
 
 #[test]
 fn ends_have_their_keys(rt: HostRuntime) -> Result<(), PlanFault> {
     let (plan, _) = read_plan(rt.alloc(), LINK.as_bytes())?;
-    assert_eq!(rt; plan.spanning, Spanning::Rstp);
-    let links = plan.links.as_slice();
-    assert_eq!(rt; links.len(), 1);
-    is_end(&rt, &links[0].a, (3, 16, PortState::Discarding));
-    is_end(&rt, &links[0].b, (4, 32, PortState::Learning));
+    assert!(rt; plan.spanning == Spanning::Rstp && have_keys(plan.links.as_slice()));
     Ok(())
 }
 
-/// An end is for these services.
-fn is_for(rt: &impl Abort, end: &End, services: &[u8]) {
-    let listed = end.services.as_ref().map(|services| services.as_slice());
-    assert_eq!(rt; listed, Some(services));
+/// Whether an end is for these services.
+fn is_for(end: &End, services: &[u8]) -> bool {
+    match &end.services {
+        Some(listed) => listed.as_slice() == services,
+        None => false,
+    }
 }
 
-/// A link loses the listed items each way.
-fn loses(rt: &impl Abort, link: &LinkPlan) {
-    assert_eq!(rt; link.lost_ab.as_slice(), [0u64, 5].as_slice());
-    let lost = [1u64, 2, 9_223_372_036_854_775_807];
-    assert_eq!(rt; link.lost_ba.as_slice(), lost.as_slice());
+/// The items that the link loses each way.
+const LOST_AB: &[u64] = &[0, 5];
+
+const LOST_BA: &[u64] = &[1, 2, 9_223_372_036_854_775_807];
+
+/// Whether the one link has its lists.
+fn have_lists(links: &[LinkPlan]) -> bool {
+    let [link] = links else {
+        return false;
+    };
+    is_for(&link.a, &[1, 3])
+        && is_for(&link.b, &[])
+        && link.lost_ab.as_slice() == LOST_AB
+        && link.lost_ba.as_slice() == LOST_BA
 }
 
 #[test]
 fn links_have_their_lists(rt: HostRuntime) -> Result<(), PlanFault> {
     let (plan, _) = read_plan(rt.alloc(), LINK.as_bytes())?;
-    let links = plan.links.as_slice();
-    assert_eq!(rt; links.len(), 1);
-    is_for(&rt, &links[0].a, &[1, 3]);
-    is_for(&rt, &links[0].b, &[]);
-    loses(&rt, &links[0]);
+    assert!(rt; have_lists(plan.links.as_slice()));
     Ok(())
 }
 
-/// A port with these keys is of this kind.
-fn is_port(rt: &impl Abort, alloc: Global, keys: &str, want: &PortSpec) -> Result<(), PlanFault> {
+/// Whether a port with these keys is of this kind.
+fn is_port(alloc: Global, keys: &str, want: &PortSpec) -> Result<bool, PlanFault> {
     let text = format!(in alloc; "{NETWORK}{keys}\n")?;
     let (_, ports) = read_plan(alloc, text.as_bytes())?;
-    has_port(rt, &ports, want);
-    Ok(())
+    Ok(are_ports(&ports, want))
 }
 
 /// A port over memory that gives the octets 0A and FF, and then none.
 fn memory(alloc: Global) -> Result<PortSpec, PlanFault> {
     let mut frames = Vec::new(alloc);
-    for octets in [[0x0a, 0xff].as_slice(), &[]] {
-        frames.push(Bytes::copy_from_slice(alloc, octets)?)?;
-    }
+    frames.push(Bytes::copy_from_slice(alloc, &[0x0a, 0xff])?)?;
+    frames.push(Bytes::copy_from_slice(alloc, &[])?)?;
     Ok(PortSpec::Memory(Seq::from_vec(frames)))
-}
-
-/// A port over two captures.
-fn capture(alloc: Global) -> Result<PortSpec, PlanFault> {
-    Ok(PortSpec::Capture {
-        read: text(alloc, "in.pcap")?,
-        write: text(alloc, "out.pcap")?,
-    })
 }
 
 fn text(alloc: Global, word: &str) -> Result<Text, PlanFault> {
     Ok(Text::from_string(String::from_str(alloc, word)?))
 }
 
+/// A port over two captures.
+fn capture(alloc: Global) -> Result<PortSpec, PlanFault> {
+    let read = text(alloc, "in.pcap")?;
+    let write = text(alloc, "out.pcap")?;
+    Ok(PortSpec::Capture { read, write })
+}
+
+fn socket(alloc: Global) -> Result<PortSpec, PlanFault> {
+    let path = text(alloc, "p")?;
+    Ok(PortSpec::Socket { path })
+}
+
+/// Whether the keys of a port over memory are read.
+fn is_memory(alloc: Global) -> Result<bool, PlanFault> {
+    let want = memory(alloc)?;
+    is_port(alloc, "in = [\"0aFf\", \"\"]", &want)
+}
+
+/// The same of a port over captures.
+fn is_capture(alloc: Global) -> Result<bool, PlanFault> {
+    let want = capture(alloc)?;
+    let keys = "kind = \"capture\"\nread = \"in.pcap\"\nwrite = \"out.pcap\"";
+    is_port(alloc, keys, &want)
+}
+
+/// The same of a port over a socket.
+fn is_socket(alloc: Global) -> Result<bool, PlanFault> {
+    let want = socket(alloc)?;
+    is_port(alloc, "kind = \"socket\"\npath = \"p\"", &want)
+}
+
 #[test]
 fn ports_are_of_three_kinds(rt: HostRuntime) -> Result<(), PlanFault> {
-    let alloc = rt.alloc();
-    is_port(&rt, alloc, "in = [\"0aFf\", \"\"]", &memory(alloc)?)?;
-    let keys = "kind = \"capture\"\nread = \"in.pcap\"\nwrite = \"out.pcap\"";
-    is_port(&rt, alloc, keys, &capture(alloc)?)?;
-    let path = text(alloc, "p")?;
-    let keys = "kind = \"socket\"\npath = \"p\"";
-    is_port(&rt, alloc, keys, &PortSpec::Socket { path })
+    assert!(rt; is_memory(rt.alloc())?);
+    assert!(rt; is_capture(rt.alloc())?);
+    assert!(rt; is_socket(rt.alloc())?);
+    Ok(())
 }
 
 /// A table of the largest plan.

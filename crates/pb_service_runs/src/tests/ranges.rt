@@ -1,6 +1,6 @@
 //! The lowest and highest value of each number, and those just outside.
 
-use super::told;
+use super::tells;
 use pb_service::PlanFault;
 use std::alloc::Global;
 use std::process::Abort;
@@ -88,14 +88,9 @@ const NUMBERS: &[Number] = &[
     (BRIDGE, "", "priority", "bridge[0].priority", 4096, 57_344),
 ];
 
-/// The fault of a file in which the key has the value.
-fn with(
-    alloc: Global,
-    front: &str,
-    back: &str,
-    key: &str,
-    value: i64,
-) -> Result<String, PlanFault> {
+/// Whether this is the fault of a file in which the key has the value.
+fn tells_with(alloc: Global, number: &Number, value: i64, want: &str) -> Result<bool, PlanFault> {
+    let (front, back, key, _, _, _) = *number;
     let bridge = if front == BRIDGE { "" } else { BRIDGE };
     let service = if key == "vid" {
         ""
@@ -103,20 +98,21 @@ fn with(
         "[[service]]\nname = \"S\"\nvid = 9\n"
     };
     let text = format!(in alloc; "{front}{key} = {value}\n{back}{bridge}{service}")?;
-    told(alloc, text.as_bytes())
-}
-
-/// A file has no fault, in which the number of a place has a value.
-fn is_ok(rt: &impl Abort, told: &str, path: &str, value: i64) {
-    assert_eq!(rt; told, "0 ok", "{path} {value}");
+    tells(alloc, text.as_bytes(), want)
 }
 
 /// A value is taken.
 fn is_within(rt: &impl Abort, alloc: Global, number: &Number, value: i64) -> Result<(), PlanFault> {
-    let (front, back, key, path, _, _) = *number;
-    let told = with(alloc, front, back, key, value)?;
-    is_ok(rt, told.as_str(), path, value);
+    let is_ok = tells_with(alloc, number, value, "0 ok")?;
+    assert!(rt; is_ok, "{} {value}", number.3);
     Ok(())
+}
+
+/// Whether a value is refused.
+fn is_refused(alloc: Global, number: &Number, value: i64) -> Result<bool, PlanFault> {
+    let path = number.3;
+    let want = format!(in alloc; "5 range {path}")?;
+    tells_with(alloc, number, value, want.as_str())
 }
 
 /// A value is refused.
@@ -126,18 +122,16 @@ fn is_outside(
     number: &Number,
     value: i64,
 ) -> Result<(), PlanFault> {
-    let (front, back, key, path, _, _) = *number;
-    let told = with(alloc, front, back, key, value)?;
-    assert_eq!(rt; told.as_str().strip_prefix("5 range "), Some(path));
+    let is_refused = is_refused(alloc, number, value)?;
+    assert!(rt; is_refused, "{} {value}", number.3);
     Ok(())
 }
 
 #[test]
 fn numbers_have_bounds(rt: HostRuntime) -> Result<(), PlanFault> {
     for number in NUMBERS {
-        let (_, _, _, _, low, high) = *number;
-        is_within(&rt, rt.alloc(), number, low)?;
-        is_within(&rt, rt.alloc(), number, high)?;
+        is_within(&rt, rt.alloc(), number, number.4)?;
+        is_within(&rt, rt.alloc(), number, number.5)?;
     }
     Ok(())
 }
@@ -145,48 +139,65 @@ fn numbers_have_bounds(rt: HostRuntime) -> Result<(), PlanFault> {
 #[test]
 fn numbers_outside_are_refused(rt: HostRuntime) -> Result<(), PlanFault> {
     for number in NUMBERS {
-        let (_, _, _, _, low, high) = *number;
-        let below = if low == 3 { 0 } else { low.saturating_sub(1) };
+        let below = if number.4 == 3 {
+            0
+        } else {
+            number.4.saturating_sub(1)
+        };
         is_outside(&rt, rt.alloc(), number, below)?;
-        is_outside(&rt, rt.alloc(), number, high.saturating_add(1))?;
+        is_outside(&rt, rt.alloc(), number, number.5.saturating_add(1))?;
     }
     Ok(())
+}
+
+/// Names of services, and what is told of each.
+const NAMES: &[(&str, &str)] = &[
+    ("", "5 range service[0].name"),
+    ("a", "0 ok"),
+    ("abcdefghijklmnopqrstuvwxyzABCDEF", "0 ok"),
+    ("GHIJKLMNOPQRSTUVWXYZ0123456789-_", "0 ok"),
+    (
+        "abcdefghijklmnopqrstuvwxyzABCDEFG",
+        "5 range service[0].name",
+    ),
+    ("a b", "5 range service[0].name"),
+    ("ä", "5 range service[0].name"),
+];
+
+/// Whether this is told of a service's name.
+fn tells_of_name(alloc: Global, name: &str, want: &str) -> Result<bool, PlanFault> {
+    let text = format!(in alloc; "[[service]]\nname = \"{name}\"\nvid = 1\n")?;
+    tells(alloc, text.as_bytes(), want)
 }
 
 #[test]
 fn names_have_1_to_32_letters(rt: HostRuntime) -> Result<(), PlanFault> {
-    let alloc = rt.alloc();
-    for (name, want) in [
-        ("", "5 range service[0].name"),
-        ("a", "0 ok"),
-        ("abcdefghijklmnopqrstuvwxyzABCDEF", "0 ok"),
-        ("GHIJKLMNOPQRSTUVWXYZ0123456789-_", "0 ok"),
-        (
-            "abcdefghijklmnopqrstuvwxyzABCDEFG",
-            "5 range service[0].name",
-        ),
-        ("a b", "5 range service[0].name"),
-        ("ä", "5 range service[0].name"),
-    ] {
-        let text = format!(in alloc; "[[service]]\nname = \"{name}\"\nvid = 1\n")?;
-        assert_eq!(rt; told(alloc, text.as_bytes())?.as_str(), want);
+    for (name, want) in NAMES {
+        assert!(rt; tells_of_name(rt.alloc(), name, want)?, "{name}");
     }
     Ok(())
 }
 
+/// Addresses of bridges, and what is told of each.
+const ADDRESSES: &[(&str, &str)] = &[
+    ("02-00-00-00-00-01", "0 ok"),
+    ("fe-FF-ff-Ff-fF-00", "0 ok"),
+    ("03-00-00-00-00-01", "5 range bridge[0].address"),
+    ("02-00-00-00-00-0", "5 range bridge[0].address"),
+    ("02:00:00:00:00:01", "5 range bridge[0].address"),
+    ("02-00-00-00-00-0g", "5 range bridge[0].address"),
+];
+
+/// Whether this is told of a bridge's address.
+fn tells_of_address(alloc: Global, address: &str, want: &str) -> Result<bool, PlanFault> {
+    let text = format!(in alloc; "[[bridge]]\nname = \"B\"\naddress = \"{address}\"\n")?;
+    tells(alloc, text.as_bytes(), want)
+}
+
 #[test]
 fn addresses_are_those_of_one_station(rt: HostRuntime) -> Result<(), PlanFault> {
-    let alloc = rt.alloc();
-    for (address, want) in [
-        ("02-00-00-00-00-01", "0 ok"),
-        ("fe-FF-ff-Ff-fF-00", "0 ok"),
-        ("03-00-00-00-00-01", "5 range bridge[0].address"),
-        ("02-00-00-00-00-0", "5 range bridge[0].address"),
-        ("02:00:00:00:00:01", "5 range bridge[0].address"),
-        ("02-00-00-00-00-0g", "5 range bridge[0].address"),
-    ] {
-        let text = format!(in alloc; "[[bridge]]\nname = \"B\"\naddress = \"{address}\"\n")?;
-        assert_eq!(rt; told(alloc, text.as_bytes())?.as_str(), want);
+    for (address, want) in ADDRESSES {
+        assert!(rt; tells_of_address(rt.alloc(), address, want)?, "{address}");
     }
     Ok(())
 }

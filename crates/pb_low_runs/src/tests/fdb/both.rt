@@ -28,7 +28,7 @@ impl Dice {
 pub struct Both {
     pub table: Fdb,
     pub plain: Plain,
-    pub now: u32,
+    pub now: u64,
     ghost in_time: { table.clock ≤ now },
 }
 
@@ -79,7 +79,7 @@ impl Both {
 
     /// A little later, one command to both, and then a look at all entries.
     pub fn step(&mut self, rt: &impl Abort, dice: &mut Dice, answers: &mut Answers) {
-        self.now = self.now.saturating_add(dice.below(3));
+        self.now = self.now.saturating_add(u64::from(dice.below(3)));
         match dice.below(64) {
             0 => self.flush(dice),
             1 => self.expire(),

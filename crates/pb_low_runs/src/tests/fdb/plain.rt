@@ -24,11 +24,11 @@ impl Plain {
         }
     }
 
-    pub fn find(&self, vid: u16, mac: Mac, now: u32) -> Option<u8> {
+    pub fn find(&self, vid: u16, mac: Mac, now: u64) -> Option<u8> {
         for entry in &self.entries {
             if entry.vid == vid
                 && entry.mac == mac
-                && now.saturating_sub(entry.learnt) < self.ageing
+                && now.saturating_sub(entry.learnt) < u64::from(self.ageing)
             {
                 return Some(entry.port);
             }
@@ -36,7 +36,7 @@ impl Plain {
         None
     }
 
-    pub fn learn(&mut self, vid: u16, mac: Mac, port: u8, now: u32) -> Learnt {
+    pub fn learn(&mut self, vid: u16, mac: Mac, port: u8, now: u64) -> Learnt {
         if mac.0[0] % 2 == 1 {
             return Learnt::Group;
         }
@@ -59,8 +59,8 @@ impl Plain {
     }
 
     /// Room for one more, if not as many as may be are live.
-    fn makes_room(&mut self, now: u32) -> bool {
-        let ageing = self.ageing;
+    fn makes_room(&mut self, now: u64) -> bool {
+        let ageing = u64::from(self.ageing);
         let live = self
             .entries
             .iter()
@@ -89,8 +89,8 @@ impl Plain {
         self.entries.retain(|entry| entry.port != port);
     }
 
-    pub fn expire(&mut self, now: u32) {
-        let ageing = self.ageing;
+    pub fn expire(&mut self, now: u64) {
+        let ageing = u64::from(self.ageing);
         self.entries
             .retain(|entry| now.saturating_sub(entry.learnt) < ageing);
     }

@@ -11,7 +11,7 @@ use std::process::Abort;
 #[derive(Clone, Copy)]
 pub enum Row {
     /// So many ticks have passed since the first moment.
-    At(u32),
+    At(u64),
     /// A station is seen in a service at a port, and this is learnt.
     Learns(u16, Mac, u8, Learnt),
     /// So many stations 02-00-00-00-XX-XX, from number 0 on, are new in a service at a port.
@@ -32,7 +32,7 @@ pub enum Row {
 #[derive(Drop)]
 pub struct Timed {
     table: Fdb,
-    now: u32,
+    now: u64,
     ghost in_time: { table.clock ≤ now },
 }
 

@@ -15,17 +15,24 @@ fn hexadecimal_is_read_in_either_case(rt: HostRuntime) -> Result<(), Fail> {
     is(&rt, rt.alloc(), &octets, "00affa")
 }
 
-#[test]
-fn what_is_no_digit_and_what_is_odd_is_told(rt: HostRuntime) {
-    for (text, wanted) in [("0g0", HexFault::Digit), ("000", HexFault::Odd)] {
-        assert_eq!(rt; hex_read(rt.alloc(), text).err(), Some(wanted));
-    }
+/// Whether a text is refused for this.
+fn is_refused(alloc: Global, text: &str, wanted: HexFault) -> bool {
+    hex_read(alloc, text).err() == Some(wanted)
 }
 
 #[test]
+fn what_is_no_digit_and_what_is_odd_is_told(rt: HostRuntime) {
+    assert!(rt; is_refused(rt.alloc(), "0g0", HexFault::Digit));
+    assert!(rt; is_refused(rt.alloc(), "000", HexFault::Odd));
+}
+
+/// Texts, and whether each has capitals.
+const CAPITALS: &[(&str, bool)] = &[("00affa9", false), ("00afFa", true), ("A", true)];
+
+#[test]
 fn capitals_are_found(rt: HostRuntime) {
-    for (text, wanted) in [("00affa9", false), ("00afFa", true), ("A", true)] {
-        assert_eq!(rt; has_upper_case(text.as_bytes()), wanted);
+    for (text, wanted) in CAPITALS {
+        assert!(rt; has_upper_case(text.as_bytes()) == *wanted, "{text}");
     }
 }
 

@@ -17,24 +17,16 @@ fn is_tagged(rt: &impl Abort, alloc: Global, row: (&str, u16, &str)) -> Result<(
     is(rt, alloc, &push_s(alloc, &bare, Tci::of(vid))?, wanted)
 }
 
-/// The VID of the tag that is taken off a frame, and what is left, or why none is.
+/// The tag of this VID is taken off a frame, and this is left.
 fn is_taken_off(
     rt: &impl Abort,
     alloc: Global,
-    row: (&str, Result<(u16, &str), TagFault>),
+    (tagged, vid, wanted): (&str, u16, &str),
 ) -> Result<(), Fail> {
-    let (tagged, wanted) = row;
     let tagged = hex_read(alloc, tagged)?;
-    match (pop_s(alloc, &tagged), wanted) {
-        (Ok((tci, rest)), Ok((vid, digits))) => {
-            assert_eq!(rt; tci.vid, vid);
-            is(rt, alloc, &rest, digits)
-        }
-        (told, wanted) => {
-            assert_eq!(rt; told.err(), wanted.err());
-            Ok(())
-        }
-    }
+    let (tci, rest) = pop_s(alloc, &tagged)?;
+    assert!(rt; tci.vid == vid);
+    is(rt, alloc, &rest, wanted)
 }
 
 #[test]
@@ -42,7 +34,7 @@ fn a_service_tag_stands_behind_the_addresses(rt: HostRuntime) -> Result<(), Fail
     const BARE: &str = "ffffffffffff020000000101810020050800";
     const TAGGED: &str = "ffffffffffff02000000010188a80064810020050800";
     is_tagged(&rt, rt.alloc(), (BARE, 100, TAGGED))?;
-    is_taken_off(&rt, rt.alloc(), (TAGGED, Ok((100, BARE))))
+    is_taken_off(&rt, rt.alloc(), (TAGGED, 100, BARE))
 }
 
 #[test]
@@ -50,25 +42,34 @@ fn nothing_need_stand_behind_a_service_tag(rt: HostRuntime) -> Result<(), Fail> 
     const BARE: &str = "ffffffffffff0200000001010800";
     const TAGGED: &str = "ffffffffffff02000000010188a800640800";
     is_tagged(&rt, rt.alloc(), (BARE, 100, TAGGED))?;
-    is_taken_off(&rt, rt.alloc(), (TAGGED, Ok((100, BARE))))
+    is_taken_off(&rt, rt.alloc(), (TAGGED, 100, BARE))
+}
+
+/// Frames without a whole service tag, and what is told of each.
+const CUT: &[(&str, TagFault)] = &[
+    ("ffffffffffff02000000010188a8006408", TagFault::Cut),
+    ("ffffffffffff0200000001010800", TagFault::NoTag),
+    ("0000", TagFault::NoTag),
+];
+
+/// Why no service tag is taken off a frame, if none is.
+fn fault_of(alloc: Global, digits: &str) -> Result<Option<TagFault>, Fail> {
+    let frame = hex_read(alloc, digits)?;
+    Ok(pop_s(alloc, &frame).err())
 }
 
 #[test]
 fn a_cut_service_tag_is_told(rt: HostRuntime) -> Result<(), Fail> {
-    for row in [
-        ("ffffffffffff02000000010188a8006408", Err(TagFault::Cut)),
-        ("ffffffffffff0200000001010800", Err(TagFault::NoTag)),
-        ("0000", Err(TagFault::NoTag)),
-    ] {
-        is_taken_off(&rt, rt.alloc(), row)?;
+    for (digits, wanted) in CUT {
+        assert!(rt; fault_of(rt.alloc(), digits)? == Some(*wanted), "{digits}");
     }
     Ok(())
 }
 
-/// What the customer tag of a frame says, if there is one.
-fn shown(alloc: Global, digits: &str) -> Result<Option<Tci>, Fail> {
+/// Whether a frame shows this customer tag, or none.
+fn shows(alloc: Global, digits: &str, wanted: Option<Tci>) -> Result<bool, Fail> {
     let frame = hex_read(alloc, digits)?;
-    Ok(look_c(frame.as_slice()))
+    Ok(look_c(frame.as_slice()) == wanted)
 }
 
 #[test]
@@ -78,12 +79,14 @@ fn customer_tags_are_shown(rt: HostRuntime) -> Result<(), Fail> {
         dei: 0,
         vid: 5,
     };
-    for (digits, wanted) in [
-        ("ffffffffffff020000000101810020050800", Some(tci)),
-        ("ffffffffffff0200000001018100200508", None),
-    ] {
-        assert_eq!(rt; shown(rt.alloc(), digits)?, wanted);
-    }
+    assert!(rt;
+        shows(
+            rt.alloc(),
+            "ffffffffffff020000000101810020050800",
+            Some(tci)
+        )?
+    );
+    assert!(rt; shows(rt.alloc(), "ffffffffffff0200000001018100200508", None)?);
     Ok(())
 }
 

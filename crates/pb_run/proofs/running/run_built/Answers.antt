@@ -1,7 +1,12 @@
-use Rattle.std.proofs.Common.{length, refl}
-use Rattle.pb_run.proofs.Kept.{accesses_back, run_kept}
+use Rattle.std.proofs.Common.{length, refl, arith}
+use Rattle.pb_run.proofs.Kept.{as_many, accesses_back, run_kept}
 use Rattle.pb_run.proofs.Lawful.{tells_ended}
 use Rattle.pb_run.proofs.running.run_built.Goals as goal
+
+pub apart-ports-requires-clause-room : goal.apart-ports-requires-clause-room
+apart-ports-requires-clause-room g c =
+    let many = as_many _ _ _ _ _ c.run_all-places.ensures.customers.0 c.attended-customers.ensures.ports in
+    (omega (arith, many, c.requires.count, c.requires.apart_room.0), omega (arith, many, c.requires.count, c.requires.apart_room.1), omega (arith, many, c.requires.count, c.requires.apart_room.2))
 
 pub record_of-rec-requires-clause-accesses : goal.record_of-rec-requires-clause-accesses
 record_of-rec-requires-clause-accesses g c =

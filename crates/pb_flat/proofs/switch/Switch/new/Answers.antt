@@ -1,19 +1,20 @@
-use Rattle.std.proofs.Common.{◌≡◌, sym, subst, ap, ◌∙◌}
+use Rattle.std.proofs.Common.{◌≡◌, false, sym, subst, ap, ◌∙◌}
 use Rattle.pb_lan.specs.Plans.{IsSound}
-use Rattle.pb_relay.specs.Standing.{BridgeView}
+use Rattle.pb_lan.specs.declared.plan.Plan.{Plan}
+use Rattle.pb_relay.specs.Standing.{BridgeView, at_start}
 use Rattle.pb_flat.specs.FlatPlans.{flat_plan}
 use Rattle.pb_flat.specs.Quiet.{IsQuiet}
 use Rattle.pb_flat.proofs.FlatPlanLaws.{flat_sound}
-use Rattle.pb_flat.proofs.HandleLaws.{quiet_start, at_start}
+use Rattle.pb_flat.proofs.HandleLaws.{quiet_start}
 use Rattle.pb_flat.proofs.switch.Switch.new.Goals as goal
 
-pub new-requires-clause-sound : goal.new-requires-clause-sound
-new-requires-clause-sound c =
+pub counting-requires-clause-sound : goal.counting-requires-clause-sound
+counting-requires-clause-sound c =
     let same : c.in_ok-plan.plan ≡ flat_plan c.args.ports = c.in_ok-plan.ensures in
     subst IsSound (sym same) (flat_sound c.args.ports c.requires.0 c.requires.1)
 
 pub invariant_of-result : goal.invariant_of-result
 invariant_of-result c =
     let same : c.in_ok-plan.plan ≡ flat_plan c.args.ports = c.in_ok-plan.ensures in
-    let bridge : c.expect_steps.new.self ≡ at_start (flat_plan c.args.ports) = c.expect_steps.ensures ∙ c.in_ok-bridge.ensures ∙ ap at_start same in
+    let bridge : c.in_ok-bridge.bridge ≡ at_start (flat_plan c.args.ports) 1 false = c.in_ok-bridge.ensures ∙ ap (λ (p : Plan). at_start p 1 false) same in
     (c.requires.0, c.requires.1, λ e. subst (λ (v : BridgeView). IsQuiet c.args.ports v) (sym bridge) (quiet_start c.args.ports))

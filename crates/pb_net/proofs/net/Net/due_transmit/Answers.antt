@@ -20,4 +20,4 @@ returns-clause-due c =
     let used = subst (λ (v : NetView). is_used (port_at v.plan c.args.bridge c.args.port) ≡ true) (sym c.self.view_is) c.in-Some.ensures.used in
     subst (λ (v : NetView). IsDueOr v (Transmit c.args.bridge c.args.port) c.sift.result) c.self.view_is
     (due_transmit_is s.plan s.bridges.items s.lanes.items s.customers.items (map items_in s.inboxes.items) (map items_in s.outboxes.items) s.limit s.ring c.args.bridge c.args.port c.len.result c.waiting.result spot place box.items c.sift.result c.self.invariant.1 c.self.invariant.2 c.self.invariant.4 known used c.index-at.ensures there many c.waiting.ensures
-    (rw c.steps.ensures.steps at c.sift.ensures))
+    (rw c.step_count.ensures at c.sift.ensures))

@@ -37,7 +37,7 @@ invariant_of-self c =
     let told = rw c.in-Some.is at c.in_ok-spot.ensures.spot in
     let known = subst (λ (v : NetView). IsBridgeSpot v.plan c.args.bridge c.args.port spot) (sym c.self.view_is) told in
     let box = c.index_mut.result.now in
-    let failed = bridge_failed s.plan s.bridges.items s.lanes.items s.customers.items (map items_in s.inboxes.items) (map items_in s.outboxes.items) spot.place old c.receive_at.new.bridge c.self.invariant.1 c.self.invariant.2 known.there c.index_mut-at.ensures.value c.in_err-receive_at.ensures.plan c.in_err-receive_at.ensures.number c.in_err-receive_at.ensures.err in
+    let failed = bridge_failed s.plan s.bridges.items s.lanes.items s.customers.items (map items_in s.inboxes.items) (map items_in s.outboxes.items) spot.place old c.receive_at.new.bridge c.self.invariant.1 c.self.invariant.2 known.there c.index_mut-at.ensures.value c.in_err-receive_at.ensures.plan c.in_err-receive_at.ensures.number c.in_err-receive_at.ensures.kept c.in_err-receive_at.ensures.err in
     let kept_box = box_kept items_in s.inboxes.items spot.slot (16 * length s.plan.bridges) box c.receive_at.new.inbox c.self.invariant.2.inbox_count known.slot.within c.index_mut.ensures.value c.in_err-receive_at.ensures.err_inbox in
     (c.self.invariant.0, failed.0, rw kept_box failed.1, c.self.invariant.3, c.self.invariant.4, c.self.invariant.5)
 
@@ -50,7 +50,7 @@ returns-in_err-receive_at c =
     let told = rw c.in-Some.is at c.in_ok-spot.ensures.spot in
     let known = subst (λ (v : NetView). IsBridgeSpot v.plan c.args.bridge c.args.port spot) (sym c.self.view_is) told in
     let box = c.index_mut.result.now in
-    let failed = bridge_failed s.plan s.bridges.items s.lanes.items s.customers.items (map items_in s.inboxes.items) (map items_in s.outboxes.items) spot.place old c.receive_at.new.bridge c.self.invariant.1 c.self.invariant.2 known.there c.index_mut-at.ensures.value c.in_err-receive_at.ensures.plan c.in_err-receive_at.ensures.number c.in_err-receive_at.ensures.err in
+    let failed = bridge_failed s.plan s.bridges.items s.lanes.items s.customers.items (map items_in s.inboxes.items) (map items_in s.outboxes.items) spot.place old c.receive_at.new.bridge c.self.invariant.1 c.self.invariant.2 known.there c.index_mut-at.ensures.value c.in_err-receive_at.ensures.plan c.in_err-receive_at.ensures.number c.in_err-receive_at.ensures.kept c.in_err-receive_at.ensures.err in
     let p = err_from_is_err_and c.from_residual-in_err-receive_at.result c.from_residual-in_err-receive_at.ensures.1 in
     let here = here_is s.bridges.items spot.place old (omega (arith, known.there, c.self.invariant.1.bridge_count)) c.index_mut-at.ensures.value in
     let within = subst (λ (v : NetView). is_at_limit v.plan v.rec (Receive c.args.bridge c.args.port) ≡ false) (sym c.self.view_is) due.within in
@@ -67,7 +67,7 @@ invariant_of-self-2 c =
     let told = rw c.in-Some.is at c.in_ok-spot.ensures.spot in
     let known = subst (λ (v : NetView). IsBridgeSpot v.plan c.args.bridge c.args.port spot) (sym c.self.view_is) told in
     let box = c.index_mut.result.now in
-    let done = receive_done items_in s.plan s.bridges.items s.lanes.items s.customers.items s.inboxes.items s.outboxes.items c.args.bridge c.args.port spot old c.receive_at.new.bridge box c.receive_at.new.inbox c.self.invariant.1 c.self.invariant.2 known c.index_mut-at.ensures.value c.index_mut.ensures.value c.in_ok-receive_at.ensures.plan c.in_ok-receive_at.ensures.number c.in_ok-receive_at.ensures.ok in
+    let done = receive_done items_in s.plan s.bridges.items s.lanes.items s.customers.items s.inboxes.items s.outboxes.items c.args.bridge c.args.port spot old c.receive_at.new.bridge box c.receive_at.new.inbox c.self.invariant.1 c.self.invariant.2 known c.index_mut-at.ensures.value c.index_mut.ensures.value c.in_ok-receive_at.ensures.plan c.in_ok-receive_at.ensures.number c.in_ok-receive_at.ensures.kept c.in_ok-receive_at.ensures.ok in
     (c.self.invariant.0, done.0, done.1, c.self.invariant.3, c.self.invariant.4, c.self.invariant.5)
 
 pub returns : goal.returns
@@ -79,6 +79,6 @@ returns c =
     let told = rw c.in-Some.is at c.in_ok-spot.ensures.spot in
     let known = subst (λ (v : NetView). IsBridgeSpot v.plan c.args.bridge c.args.port spot) (sym c.self.view_is) told in
     let box = c.index_mut.result.now in
-    let done = receive_done items_in s.plan s.bridges.items s.lanes.items s.customers.items s.inboxes.items s.outboxes.items c.args.bridge c.args.port spot old c.receive_at.new.bridge box c.receive_at.new.inbox c.self.invariant.1 c.self.invariant.2 known c.index_mut-at.ensures.value c.index_mut.ensures.value c.in_ok-receive_at.ensures.plan c.in_ok-receive_at.ensures.number c.in_ok-receive_at.ensures.ok in
+    let done = receive_done items_in s.plan s.bridges.items s.lanes.items s.customers.items s.inboxes.items s.outboxes.items c.args.bridge c.args.port spot old c.receive_at.new.bridge box c.receive_at.new.inbox c.self.invariant.1 c.self.invariant.2 known c.index_mut-at.ensures.value c.index_mut.ensures.value c.in_ok-receive_at.ensures.plan c.in_ok-receive_at.ensures.number c.in_ok-receive_at.ensures.kept c.in_ok-receive_at.ensures.ok in
     let new = record_of (set s.bridges.items spot.place c.receive_at.new.bridge) s.lanes.items s.customers.items in
     (due, refl, ap (λ (v : NetView). v.plan) c.self.view_is, subst (λ (v : NetView). HasDone v.rec (Receive c.args.bridge c.args.port) new) c.self.view_is done.2)

@@ -9,6 +9,7 @@ use Rattle.pb_link.specs.Lanes.{LaneView}
 use Rattle.pb_relay.specs.Standing.{BridgeView}
 use Rattle.pb_net.specs.Nets.{record_of}
 use Rattle.pb_net.proofs.OneMore.{here_is}
+use Rattle.pb_net.proofs.Placing.{one_of_all}
 use Rattle.pb_net.proofs.Records.{steps_at_number, known_number, known_lane, kept_lawful}
 use Rattle.pb_net.proofs.net.Net.steps.Goals as goal
 
@@ -20,7 +21,8 @@ returns-in-Bridge-clause-steps c =
     let known = known_number s.plan.bridges n there in
     let within : n - 1 < length s.bridges.items = omega (arith, known.0, known.1, c.self.invariant.1.bridge_count) in
     let here = here_is s.bridges.items (n - 1) c.index.result.now within c.index.ensures in
-    rw c.in-Bridge.is (c.steps.ensures.steps ∙ sym (steps_at_number (λ (x : BridgeView). x.steps) s.bridges.items n c.index.result.now known.0 here)
+    let kept = one_of_all (λ (b : BridgeView). b.is_kept ≡ true) s.bridges.items (n - 1) c.index.result.now c.self.invariant.1.kept_steps here in
+    rw c.in-Bridge.is (c.steps.ensures.steps kept ∙ sym (steps_at_number (λ (x : BridgeView). x.steps) s.bridges.items n c.index.result.now known.0 here)
     ∙ ap (λ (v : NetView). steps_at v.rec (Bridge n)) c.self.view_is)
 
 pub returns-in-Bridge-clause-lawful : goal.returns-in-Bridge-clause-lawful

@@ -41,10 +41,10 @@ returns c =
     ≡ moved_by_setting c.args.self.now.plan c.args.self.now.number c.args.self.now.steps c.args.port c.args.up =
     ap (λ (z : PortState). moved_to c.args.port c.args.up z c.state_set-next.result)
     (ap (λ (ss : List PortState). get_or ss (c.args.port - 1) Discarding) c.self.invariant.1.kept_states
-    ∙ at_port (state_after c.self.inside.plan c.self.inside.number c.self.inside.steps.items) c.args.port Discarding l.0 l.1)
-    ∙ ap (λ (z : PortState). moved_to c.args.port c.args.up (state_after c.self.inside.plan c.self.inside.number c.self.inside.steps.items c.args.port) z)
+    ∙ at_port (state_after c.self.inside.plan c.self.inside.number c.self.inside.steps.steps) c.args.port Discarding l.0 l.1)
+    ∙ ap (λ (z : PortState). moved_to c.args.port c.args.up (state_after c.self.inside.plan c.self.inside.number c.self.inside.steps.steps c.args.port) z)
     (c.state_set-next.ensures ∙ ap (λ (z : Local). state_set z c.args.up) c.at.ensures
     ∙ state_set_is c.self.inside.plan c.self.inside.number c.args.port (get_or c.self.inside.ports (c.args.port - 1) ToNobody) c.args.up p k)
-    ∙ moved_is c.self.inside.plan c.self.inside.number c.self.inside.steps.items c.args.port c.args.up
+    ∙ moved_is c.self.inside.plan c.self.inside.number c.self.inside.steps.steps c.args.port c.args.up
     ∙ ap (λ (v : BridgeView). moved_by_setting v.plan v.number v.steps c.args.port c.args.up) c.self.view_is in
     subst (λ (m : Moved). IfOk c.moved_to.result (λ moved. moved ≡ m)) e c.moved_to.ensures

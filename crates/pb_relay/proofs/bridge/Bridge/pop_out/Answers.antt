@@ -8,6 +8,8 @@ use Rattle.pb_relay.specs.Standing.{BridgeView}
 use Rattle.pb_relay.proofs.StandingLemmas.{used_port, next_read, number_read, none_waits, transmitted}
 use Rattle.pb_relay.specs.Machines.{IsSpanning}
 use Rattle.pb_relay.proofs.CauseLemmas.{spanning_stays}
+use Rattle.pb_lan.specs.StepLists.{StepsView}
+use Rattle.pb_relay.proofs.Grown.{used_up}
 use Rattle.pb_relay.proofs.bridge.Bridge.pop_out.Goals as goal
 
 pub overflow_sub-port : goal.overflow_sub-port
@@ -42,13 +44,13 @@ invariant_of-self c =
       transmitted _ _ _ _ _ _ _ c.args.port c.self.invariant.1 l c.index_mut-queues.result.now c.pop.new.self
           c.index_mut-queues.ensures.value c.pop.ensures.rest c.into_pair-item.result.1
           (ap Some c.into_pair-item.ensures.copy ∙ c.in-Some.ensures.first)
-          c.append.new.steps.items c.append.ensures.items,
+          c.append.new.steps.steps (ap (λ (v : StepsView). v.steps) c.append.ensures.steps),
       record {
-        within = omega (arith, reserved.0, ap length c.append.ensures.items, length-append c.self.inside.steps.items (Transmit c.args.port c.into_pair-item.result.1 ∷ []));
-        reserved = λ e. cc;
+        within = omega (arith, reserved, ap length (ap (λ (v : StepsView). v.steps) c.append.ensures.steps), length-append c.self.inside.steps.steps (Transmit c.args.port c.into_pair-item.result.1 ∷ []));
+        reserved = λ e. used_up (ap (λ (v : StepsView). v.is_reserved) c.append.ensures.steps) e;
       },
       c.self.invariant.3,
-      subst (λ (ms : List Step). IsSpanning c.self.inside.plan c.self.inside.number ms c.self.inside.rstp c.self.inside.address.0) (sym c.append.ensures.items)
+      subst (λ (ms : List Step). IsSpanning c.self.inside.plan c.self.inside.number ms c.self.inside.rstp c.self.inside.address.0) (sym (ap (λ (v : StepsView). v.steps) c.append.ensures.steps))
           (spanning_stays _ _ _ _ _ (Transmit c.args.port c.into_pair-item.result.1) refl c.self.invariant.4),
     )
 

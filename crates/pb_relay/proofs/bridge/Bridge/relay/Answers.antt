@@ -52,5 +52,5 @@ carry-requires-clause-load c =
 pub give_up-requires-clause-fits : goal.give_up-requires-clause-fits
 give_up-requires-clause-fits c =
     subst (λ (v : BridgeView). Fits spanning_tree v.plan v.number v.steps (Receive c.args.port c.args.item None (Filtered Memory) None)) c.self.view_is
-    (given_up c.self.inside.plan c.self.inside.number c.self.inside.steps.items c.args.port c.args.item c.args.vid
+    (given_up c.self.inside.plan c.self.inside.number c.self.inside.steps.steps c.args.port c.args.item c.args.vid
     (subst (λ (v : BridgeView). ruling spanning_tree v.plan v.number v.steps c.args.port c.args.item ≡ Carries c.args.vid) (sym c.self.view_is) c.requires.ruling))

@@ -19,6 +19,8 @@ use Rattle.pb_relay.proofs.LoadLemmas.{kept_here}
 use Rattle.pb_relay.specs.Machines.{IsSpanning}
 use Rattle.pb_relay.proofs.CauseLemmas.{spanning_fixed}
 use Rattle.pb_lan.specs.declared.plan.Spanning.TheVariants.{Fixed}
+use Rattle.pb_lan.specs.StepLists.{StepsView}
+use Rattle.pb_relay.proofs.Grown.{used_up, seen}
 use Rattle.pb_relay.proofs.bridge.Bridge.set.Goals as goal
 
 pub overflow_sub-place : goal.overflow_sub-place
@@ -45,23 +47,23 @@ invariant_of-self c =
     let p = subst (λ (v : BridgeView). is_provider (port_at v.plan v.number c.args.port) ≡ true) (sym c.self.view_is) c.requires.provider in
     let l = used_port _ _ _ c.self.invariant.0.sound (provider_used _ p) in
     let k = kept_here c.self.inside.plan _ _ _ _ c.args.port c.self.invariant.0 l in
-    let step : Step = Admin c.args.port c.args.up (moved_by_setting c.self.inside.plan c.self.inside.number c.self.inside.steps.items c.args.port c.args.up) in
-    let e : c.append.new.steps.items ≡ c.self.inside.steps.items ++ step ∷ [] =
-    c.append.ensures.items
-    ∙ ap (λ (m : Moved). c.self.inside.steps.items ++ Admin c.args.port c.args.up m ∷ [])
+    let step : Step = Admin c.args.port c.args.up (moved_by_setting c.self.inside.plan c.self.inside.number c.self.inside.steps.steps c.args.port c.args.up) in
+    let e : c.append.new.steps.steps ≡ c.self.inside.steps.steps ++ step ∷ [] =
+    (ap (λ (v : StepsView). v.steps) c.append.ensures.steps)
+    ∙ ap (λ (m : Moved). c.self.inside.steps.steps ++ Admin c.args.port c.args.up m ∷ [])
     (c.requires.moved ∙ ap (λ (v : BridgeView). moved_by_setting v.plan v.number v.steps c.args.port c.args.up) (sym c.self.view_is)) in (
       c.self.invariant.0,
       subst (λ (ms : List Step). IsStanding c.self.inside.plan c.self.inside.number ms (set c.self.inside.states (c.args.port - 1) c.state_set-next.result) c.self.inside.queues.items c.self.inside.clock c.flush_unless.new.table.sightings)
           (sym e)
-          (subst (λ (t : List Sighting). IsStanding c.self.inside.plan c.self.inside.number (c.self.inside.steps.items ++ step ∷ []) (set c.self.inside.states (c.args.port - 1) c.state_set-next.result) c.self.inside.queues.items c.self.inside.clock t)
+          (subst (λ (t : List Sighting). IsStanding c.self.inside.plan c.self.inside.number (c.self.inside.steps.steps ++ step ∷ []) (set c.self.inside.states (c.args.port - 1) c.state_set-next.result) c.self.inside.queues.items c.self.inside.clock t)
           (sym (ap (λ (t : Table). t.sightings) c.flush_unless.ensures ∙ sightings_flushed_or c.args.port c.args.up c.self.inside.table))
-          (after_set c.self.inside.plan c.self.inside.number c.self.inside.steps.items c.self.inside.states c.self.inside.queues.items c.self.inside.clock c.self.inside.table.sightings c.args.port c.args.up c.state_set-next.result
+          (after_set c.self.inside.plan c.self.inside.number c.self.inside.steps.steps c.self.inside.states c.self.inside.queues.items c.self.inside.clock c.self.inside.table.sightings c.args.port c.args.up c.state_set-next.result
           c.self.invariant.1 fixed p l
           (c.state_set-next.ensures ∙ ap (λ (z : Local). state_set z c.args.up) c.at.ensures
           ∙ state_set_is c.self.inside.plan c.self.inside.number c.args.port (get_or c.self.inside.ports (c.args.port - 1) ToNobody) c.args.up p k))),
       record {
-        within = omega (arith, reserved.0, ap length e, length-append c.self.inside.steps.items (step ∷ []));
-        reserved = λ e. cc;
+        within = omega (arith, reserved, ap length e, length-append c.self.inside.steps.steps (step ∷ []));
+        reserved = λ e. used_up (ap (λ (v : StepsView). v.is_reserved) c.append.ensures.steps) e;
       },
       rw c.flush_unless.ensures (table_flushed_or c.self.inside.plan c.self.inside.clock c.args.port c.args.up c.self.inside.table c.self.invariant.3),
       subst (λ (ms : List Step). IsSpanning c.self.inside.plan c.self.inside.number ms c.self.inside.rstp c.self.inside.address.0) (sym e)
@@ -72,12 +74,11 @@ pub returns : goal.returns
 returns c =
     let fixed = subst (λ (v : BridgeView). v.plan.spanning ≡ Fixed) (sym c.self.view_is) c.requires.fixed in
     let p = subst (λ (v : BridgeView). is_provider (port_at v.plan v.number c.args.port) ≡ true) (sym c.self.view_is) c.requires.provider in
-    let m : c.args.moved ≡ moved_by_setting c.self.inside.plan c.self.inside.number c.self.inside.steps.items c.args.port c.args.up =
+    let m : c.args.moved ≡ moved_by_setting c.self.inside.plan c.self.inside.number c.self.inside.steps.steps c.args.port c.args.up =
     c.requires.moved ∙ ap (λ (v : BridgeView). moved_by_setting v.plan v.number v.steps c.args.port c.args.up) (sym c.self.view_is) in (
       c.args.moved,
-      ap (λ (ms : List Step). record { plan = c.self.inside.plan; number = c.self.inside.number; steps = ms; is_reserved = false }) c.append.ensures.items
-          ∙ ap (λ (v : BridgeView). with_step v (Admin c.args.port c.args.up c.args.moved)) c.self.view_is,
+      seen c.self.inside.plan c.self.inside.number _ c.self.inside.steps c.append.new.steps (Admin c.args.port c.args.up c.args.moved) c.append.ensures.steps c.self.view_is,
       subst (λ (v : BridgeView). Fits spanning_tree v.plan v.number v.steps (Admin c.args.port c.args.up c.args.moved)) c.self.view_is
-          (subst (λ (x : Moved). Fits spanning_tree c.self.inside.plan c.self.inside.number c.self.inside.steps.items (Admin c.args.port c.args.up x)) (sym m)
-          (set_fits c.self.inside.plan c.self.inside.number c.self.inside.steps.items c.args.port c.args.up fixed p)),
+          (subst (λ (x : Moved). Fits spanning_tree c.self.inside.plan c.self.inside.number c.self.inside.steps.steps (Admin c.args.port c.args.up x)) (sym m)
+          (set_fits c.self.inside.plan c.self.inside.number c.self.inside.steps.steps c.args.port c.args.up fixed p)),
     )

@@ -12,12 +12,14 @@ use Rattle.pb_relay.specs.Tables.{IsTableOf}
 use Rattle.pb_relay.proofs.FollowLemmas.{of_ports, followed_names, after_followed, table_all_flushed}
 use Rattle.pb_relay.proofs.CauseLemmas.{spanning_moves, is_fixed}
 use Rattle.pb_relay.proofs.StandingLemmas.{capacity-small}
+use Rattle.pb_lan.specs.StepLists.{StepsView}
+use Rattle.pb_relay.proofs.Grown.{used_up, seen}
 use Rattle.pb_relay.proofs.bridge.Bridge.set_tree.Goals as goal
 
 pub unreachable-requires : goal.unreachable-requires
 unreachable-requires c =
     let s = c.self.inside in
-    let fixed = is_fixed s.plan s.number s.steps.items s.rstp s.address.0 (Sets c.args.port c.args.up) c.self.invariant.4 (sym c.in_ok-change.ensures.change ∙ c.in_default.is) in
+    let fixed = is_fixed s.plan s.number s.steps.steps s.rstp s.address.0 (Sets c.args.port c.args.up) c.self.invariant.4 (sym c.in_ok-change.ensures.change ∙ c.in_default.is) in
     let rstp = subst (λ (v : BridgeView). v.plan.spanning ≡ Rstp) (sym c.self.view_is) c.requires.rstp in
     let e : Fixed ≡ Rstp = sym fixed ∙ rstp in
     cc
@@ -27,20 +29,20 @@ follow-moved-requires-clause-capacity c =
     omega (arith, c.self.invariant.0.most, capacity-small c.self.inside.plan c.self.inside.number c.self.invariant.0.sound)
 
 -- the step names what the machine changes
-names : (c : goal.After-append) → Names spanning_tree c.self.inside.plan c.self.inside.number c.self.inside.steps.items (Sets c.args.port c.args.up) c.follow-moved.result
+names : (c : goal.After-append) → Names spanning_tree c.self.inside.plan c.self.inside.number c.self.inside.steps.steps (Sets c.args.port c.args.up) c.follow-moved.result
 names c =
     let s = c.self.inside in
     let f = c.follow-moved in
-    followed_names s.plan s.number s.steps.items s.states f.new.states s.queues.items f.new.queues.items s.clock s.table.sightings c.self.inside.table f.new.table s.rstp s.address.0 s.capacity
+    followed_names s.plan s.number s.steps.steps s.states f.new.states s.queues.items f.new.queues.items s.clock s.table.sightings c.self.inside.table f.new.table s.rstp s.address.0 s.capacity
     (Sets c.args.port c.args.up) c.in-Some.change f.result c.self.invariant.1 c.self.invariant.0.most c.self.invariant.4 (sym c.in_ok-change.ensures.change ∙ c.in-Some.is) f.ensures
 
 pub follow-moved-requires-clause-change : goal.follow-moved-requires-clause-change
 follow-moved-requires-clause-change c =
     let s = c.self.inside in
-    of_ports s.plan s.number s.steps.items s.rstp s.address.0 (Sets c.args.port c.args.up) c.in-Some.change c.self.invariant.4 (sym c.in_ok-change.ensures.change ∙ c.in-Some.is)
+    of_ports s.plan s.number s.steps.steps s.rstp s.address.0 (Sets c.args.port c.args.up) c.in-Some.change c.self.invariant.4 (sym c.in_ok-change.ensures.change ∙ c.in-Some.is)
 
 -- and fits
-fits : (c : goal.After-append) → Fits spanning_tree c.self.inside.plan c.self.inside.number c.self.inside.steps.items (Admin c.args.port c.args.up c.follow-moved.result)
+fits : (c : goal.After-append) → Fits spanning_tree c.self.inside.plan c.self.inside.number c.self.inside.steps.steps (Admin c.args.port c.args.up c.follow-moved.result)
 fits c =
     (subst (λ (v : BridgeView). is_provider (port_at v.plan v.number c.args.port) ≡ true) (sym c.self.view_is) c.requires.provider, names c)
 
@@ -50,20 +52,20 @@ invariant_of-self-2 c =
     let f = c.follow-moved in
     let reserved = c.self.invariant.2.reserved (subst (λ (v : BridgeView). v.is_reserved ≡ true) (sym c.self.view_is) c.requires.reserved) in
     let step : Step = Admin c.args.port c.args.up c.follow-moved.result in
-    let e : c.append.new.steps.items ≡ s.steps.items ++ step ∷ [] = c.append.ensures.items in (
+    let e : c.append.new.steps.steps ≡ s.steps.steps ++ step ∷ [] = (ap (λ (v : StepsView). v.steps) c.append.ensures.steps) in (
       c.self.invariant.0,
       subst (λ (ms : List Step). IsStanding s.plan s.number ms f.new.states f.new.queues.items c.self.inside.clock f.new.table.sightings) (sym e)
-          (after_followed s.plan s.number s.steps.items s.states f.new.states s.queues.items f.new.queues.items s.clock c.self.inside.clock s.table.sightings c.self.inside.table f.new.table s.rstp s.address.0 s.capacity
+          (after_followed s.plan s.number s.steps.steps s.states f.new.states s.queues.items f.new.queues.items s.clock c.self.inside.clock s.table.sightings c.self.inside.table f.new.table s.rstp s.address.0 s.capacity
           (Sets c.args.port c.args.up) c.in-Some.change f.result step c.self.invariant.1 c.self.invariant.0.most c.self.invariant.4 (sym c.in_ok-change.ensures.change ∙ c.in-Some.is) f.ensures
           (fits c) refl (λ _. refl) (λ _ _. refl) refl (omega arith)
           (c.self.invariant.1.stations)),
       record {
-        within = omega (arith, reserved.0, ap length e, length-append s.steps.items (step ∷ []));
-        reserved = λ e. cc;
+        within = omega (arith, reserved, ap length e, length-append s.steps.steps (step ∷ []));
+        reserved = λ e. used_up (ap (λ (v : StepsView). v.is_reserved) c.append.ensures.steps) e;
       },
       subst (IsTableOf s.plan c.self.inside.clock) (sym f.ensures.flushed_table) (table_all_flushed s.plan c.self.inside.clock c.self.inside.table c.in-Some.change.flush c.self.invariant.3),
       subst (λ (ms : List Step). IsSpanning s.plan s.number ms c.admin.new.rstp s.address.0) (sym e)
-          (spanning_moves s.plan s.number s.steps.items s.rstp c.admin.new.rstp s.address.0 step (Sets c.args.port c.args.up) refl (c.in_ok-change.ensures.ok) c.self.invariant.4),
+          (spanning_moves s.plan s.number s.steps.steps s.rstp c.admin.new.rstp s.address.0 step (Sets c.args.port c.args.up) refl (c.in_ok-change.ensures.ok) c.self.invariant.4),
     )
 
 pub returns-clause-ok : goal.returns-clause-ok
@@ -71,6 +73,6 @@ returns-clause-ok c =
     let s = c.self.inside in
     let step : Step = Admin c.args.port c.args.up c.follow-moved.result in (
       c.follow-moved.result,
-      ap (λ (ms : List Step). record { plan = s.plan; number = s.number; steps = ms; is_reserved = false }) c.append.ensures.items ∙ ap (λ (v : BridgeView). with_step v step) c.self.view_is,
+      seen s.plan s.number _ c.self.inside.steps c.append.new.steps step c.append.ensures.steps c.self.view_is,
       subst (λ (v : BridgeView). Fits spanning_tree v.plan v.number v.steps step) c.self.view_is (fits c),
     )

@@ -3,13 +3,13 @@ use Rattle.pb_fdb.specs.Tables.{Table}
 use Rattle.pb_relay.specs.Roles.{LocalPort, told}
 use Rattle.pb_relay.specs.Starts.{KeepsPorts, first_state}
 use Rattle.pb_relay.proofs.StartLemmas.{started}
-use Rattle.pb_relay.proofs.bridge.Bridge.new.Goals as goal
+use Rattle.pb_relay.proofs.start.started.Goals as goal
 
 pub invariant_of-result : goal.invariant_of-result
 invariant_of-result c =
     let keeps = c.in_ok-kept.ensures.ports in
     let states = c.start_states-states.ensures in
-    rw (c.in_ok-kept.ensures.plan, c.new-2.ensures.items) (
+    rw (c.in_ok-kept.ensures.plan, c.requires.none, c.requires.unreserved) (
       record {
         sound = c.requires.sound;
         count = keeps.count;
