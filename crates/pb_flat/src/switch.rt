@@ -85,12 +85,7 @@ fn is_lost(outcome: &Outcome) -> bool
 }
 
 /// Prints what became of the frame that a step received.
-fn tell(
-    alloc: Global,
-    step: &Step,
-    digits: &[u8],
-    out: &mut Vec<u8>,
-) -> Result<(), CommandFault>
+fn tell(alloc: Global, step: &Step, digits: &[u8], out: &mut Vec<u8>) -> Result<(), CommandFault>
     requires { IsToldBy digits.now step.now }
     ensures ok { OnOk result (Tells step.now out.old.items out.new.items) }
     ensures err { IfErr result (λ e. e ≡ CommandFault.Memory) }

@@ -270,5 +270,11 @@ fn any_number_of_steps_is_sound(rt: HostRuntime) -> Result<(), Fail> {
         steps: u64::MAX,
         ..TWO_BRIDGES
     };
-    stands(&rt, rt.alloc(), &endless, true, "as many steps as can be counted")
+    stands(
+        &rt,
+        rt.alloc(),
+        &endless,
+        true,
+        "as many steps as can be counted",
+    )
 }

@@ -35,10 +35,7 @@ pub fn run_to_departure(
 ) -> Result<(), Fail> {
     let steps = steps_after(rt, alloc, network, number, rows)?;
     let wanted = item.item(alloc)?;
-    assert!(rt;
-        is_departure(steps.last(), port, &wanted),
-        "the last step"
-    );
+    assert!(rt; is_departure(steps.last(), port, &wanted), "the last step");
     Ok(())
 }
 
