@@ -88,9 +88,14 @@ const NUMBERS: &[Number] = &[
     (BRIDGE, "", "priority", "bridge[0].priority", 4096, 57_344),
 ];
 
-/// Whether this is the fault of a file in which the key has the value.
-fn tells_with(alloc: Global, number: &Number, value: i64, want: &str) -> Result<bool, PlanFault> {
-    let (front, back, key, _, _, _) = *number;
+/// The file in which the key has the value.
+fn file_with(
+    alloc: Global,
+    front: &str,
+    back: &str,
+    key: &str,
+    value: i64,
+) -> Result<String, PlanFault> {
     let bridge = if front == BRIDGE { "" } else { BRIDGE };
     let service = if key == "vid" {
         ""
@@ -98,7 +103,14 @@ fn tells_with(alloc: Global, number: &Number, value: i64, want: &str) -> Result<
         "[[service]]\nname = \"S\"\nvid = 9\n"
     };
     let text = format!(in alloc; "{front}{key} = {value}\n{back}{bridge}{service}")?;
-    tells(alloc, text.as_bytes(), want)
+    Ok(text)
+}
+
+/// Whether this is the fault of a file in which the key has the value.
+fn tells_with(alloc: Global, number: &Number, value: i64, want: &str) -> Result<bool, PlanFault> {
+    let (front, back, key, _, _, _) = *number;
+    let file = file_with(alloc, front, back, key, value)?;
+    tells(alloc, file.as_bytes(), want)
 }
 
 /// A value is taken.
