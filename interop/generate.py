@@ -39,6 +39,8 @@ def network_table(chance):
     sometimes(chance, 0.1, table, "steps", lambda: chance.choice([1, 5, 30, 80, 1000000]))
     sometimes(chance, 0.1, table, "turns", lambda: chance.choice([1, 1000000000]))
     sometimes(chance, 0.1, table, "tick_every", lambda: chance.choice([0, 7]))
+    sometimes(chance, 0.05, table, "tick_ms", lambda: chance.choice([0, 5, 60000]))
+    sometimes(chance, 0.03, table, "hold", lambda: chance.choice([0, 1, 1000000]))
     return table
 
 

@@ -96,6 +96,8 @@ KEYS = {
         ("steps", number(1, 1000000), 1000000),
         ("turns", number(1, 1000000000), 10000000),
         ("tick_every", number(0, 1000000), 0),
+        ("tick_ms", number(0, 60000), 0),
+        ("hold", number(0, 1000000), 0),
     ],
     "bridge": [
         ("name", text(NAME), NONE),
@@ -164,6 +166,14 @@ def read_table(table, place, array):
     if unknown:
         raise Fault(f"6 unknown {place}.{unknown[0]}")
     return values
+
+
+def look_at_clocks(row):
+    """Bridges tick by turns or by time, and frames are held back only where they tick."""
+    if row["tick_every"] and row["tick_ms"]:
+        raise Fault("5 range network.tick_ms")
+    if row["hold"] and not (row["tick_every"] or row["tick_ms"]):
+        raise Fault("5 range network.hold")
 
 
 def tables_of(document, array):
@@ -289,6 +299,7 @@ def read_plan(octets):
     if not isinstance(network, dict):
         raise Fault("4 kind network")
     row = read_table(network, "network", "network")
+    look_at_clocks(row)
     plan = Plan(row["spanning"] == "rstp", row["ageing"], row["ring"], row["steps"])
     used = set()
     plan.bridges = read_bridges(document)

@@ -188,6 +188,26 @@ impl<W: Wiring> BridgeWorker<W> {
         self.receive(port)
     }
 
+    /// Serves the first port at which there is something to do, in turn from that behind the last.
+    fn look(&mut self) -> Turn
+        ensures number { self.new.number ≡ self.old.number }
+        ensures bridge { (self.new.bridge.plan ≡ self.old.bridge.plan) × (self.new.bridge.number ≡ self.old.bridge.number) }
+        ensures ins { map (λ i. i.number) self.new.ins.ends.items ≡ map (λ i. i.number) self.old.ins.ends.items }
+        ensures outs { map (λ o. o.number) self.new.outs.ends.items ≡ map (λ o. o.number) self.old.outs.ends.items }
+    {
+        let count = self.ports.len();
+        for ahead in 0..count {
+            let place = self.next.wrapping_add(ahead) % count;
+            let port = self.ports[place];
+            let served = self.serve(port);
+            if served.did != Did::Idle {
+                self.next = place.wrapping_add(1);
+                return served;
+            }
+        }
+        turn(Ok(false), 0, 0)
+    }
+
     /// The rings of a customer port and of this bridge's local port, once both workers are back: what the
     /// bridge received begins what the port fed, and what the port took begins what the bridge sent.
     pub fn meet_customer(&mut self, port: u8, access: &mut Access<W>)
@@ -249,21 +269,18 @@ impl<W: Wiring> Work for BridgeWorker<W> {
     }
 
     fn turn(&mut self, moment: Moment) -> Turn {
-        if moment.is_tick {
-            let ticked = self.tick();
+        if !moment.is_tick {
+            return self.look();
+        }
+        let ticked = self.tick();
+        if ticked.is_err() {
             return turn(ticked, 0, 0);
         }
-        let count = self.ports.len();
-        for look in 0..count {
-            let place = self.next.wrapping_add(look) % count;
-            let port = self.ports[place];
-            let served = self.serve(port);
-            if served.did != Did::Idle {
-                self.next = place.wrapping_add(1);
-                return served;
-            }
+        let looked = self.look();
+        if looked.did == Did::Idle {
+            return turn(ticked, 0, 0);
         }
-        turn(Ok(false), 0, 0)
+        looked
     }
 
     fn close(&mut self, _moment: Moment, finish: Finish) {

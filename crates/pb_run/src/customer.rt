@@ -111,8 +111,8 @@ impl<W: Wiring, P: Port> CustomerWorker<W, P> {
         }
     }
 
-    /// Delivers, or feeds, or polls: the first that there is to do.
-    fn step(&mut self) -> Turn
+    /// Delivers, or feeds, or, where frames may enter, polls: the first that there is to do.
+    fn step(&mut self, may_enter: bool) -> Turn
         requires { KeepsPort P.script P.tally self.old.was.value self.old.port self.old.access.place.steps self.old.access.book.last }
         ensures port { KeepsPort P.script P.tally self.new.was.value self.new.port self.new.access.place.steps self.new.access.book.last }
         ensures was { self.new.was ≡ self.old.was }
@@ -127,9 +127,12 @@ impl<W: Wiring, P: Port> CustomerWorker<W, P> {
         if fed != Ok(false) {
             return turn(fed, 0, 0);
         }
-        let is_open = self.access.book.last == Last::More;
+        if !may_enter {
+            return turn(Ok(false), 0, 0);
+        }
+        let had_more = self.access.book.last == Last::More;
         let polled = self.poll();
-        if is_open && self.access.book.last != Last::More {
+        if had_more && self.access.book.last != Last::More {
             return Turn {
                 did: Did::Done,
                 more: 0,
@@ -156,7 +159,7 @@ impl<W: Wiring, P: Port> Work for CustomerWorker<W, P> {
         if pumped == Err(Refusal::Memory) {
             return turn(pumped, 0, 0);
         }
-        let stepped = self.step();
+        let stepped = self.step(moment.is_open);
         if stepped.did == Did::Idle {
             return turn(pumped, 0, 0);
         }

@@ -9,12 +9,9 @@ use Rattle.pb_service.specs.declared.fault.PlanFault.{PlanFault}
 use Rattle.pb_service.specs.declared.fault.PlanFault.TheVariants.{Memory, Twice}
 use Rattle.pb_service.specs.declared.network.Network.{Network as NetworkValue}
 use Rattle.pb_service.specs.declared.section.Section.{Section}
-use Rattle.pb_service.specs.declared.section.Place.TheVariants.{Network}
-use Rattle.pb_service.specs.Keys.{RefusesRow}
-use Rattle.pb_service.specs.Formats.{network_keys}
 use Rattle.pb_service.specs.Told.{rows_of, table_told}
 use Rattle.pb_service.specs.Tables.{text_at, is_one_of}
-use Rattle.pb_service.specs.Refusals.{Refuses, RefusesTable, names_of, no_memory, in_network, in_table, same_name}
+use Rattle.pb_service.specs.Refusals.{Refuses, RefusesNetwork, RefusesTable, names_of, no_memory, in_network, in_table, same_name}
 
 -- memory ran out, or the fault is one that the document has
 pub either : (document : Members) (e f : PlanFault) → (e ≡ Memory) ⊎ (e ≡ f) → Refuses document f → Refuses document e
@@ -22,7 +19,7 @@ either document e f (inl m) h = rw m (no_memory document)
 either document e f (inr t) h = rw t h
 
 pub network_refused : (document row : Members) (r : Result NetworkValue PlanFault) → row ≡ table_told (get_member (codes "network") document)
-    → IfErr r (RefusesRow network_keys Network row) → IfErr r (Refuses document)
+    → IfErr r (RefusesNetwork row) → IfErr r (Refuses document)
 network_refused document row (Ok n) e h = tt
 network_refused document row (Err f) e h = in_network document f (rw (← e) h)
 

@@ -21,6 +21,8 @@ network_keys =
     ∷ with_default (codes "steps") (Number 1 1000000)
     ∷ with_default (codes "turns") (Number 1 1000000000)
     ∷ with_default (codes "tick_every") (Number 0 1000000)
+    ∷ with_default (codes "tick_ms") (Number 0 60000)
+    ∷ with_default (codes "hold") (Number 0 1000000)
     ∷ []
 
 -- of a bridge

@@ -4,6 +4,7 @@ pub mod Values
 pub mod Told
 pub mod Keys
 pub mod Formats
+pub mod Clocks
 pub mod Tables
 pub mod Refusals
 pub mod UsedPorts

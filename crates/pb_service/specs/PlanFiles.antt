@@ -1,5 +1,5 @@
 -- What a plan file tells, and when it is refused.
-use Rattle.std.specs.Prelude.{◌≡◌, ◌⊎◌, ℕ, codes, true, List, Some, None}
+use Rattle.std.specs.Prelude.{◌≡◌, ◌⊎◌, ℕ, codes, true, false, List, Some, None}
 use Rattle.std.specs.List.{AllZip}
 use Rattle.std.specs.Str.{IsUtf8}
 use Rattle.toml.specs.Data.{Members, get_member}
@@ -14,7 +14,8 @@ use Rattle.pb_service.specs.declared.section.Section.TheVariants.{Bridge, Link, 
 use Rattle.pb_service.specs.Keys.{IsAccepted, first_unknown}
 use Rattle.pb_service.specs.Formats.{top_keys, network_keys, bridge_keys, link_keys, service_keys}
 use Rattle.pb_service.specs.Told.{rows_of, table_told, spanning_of}
-use Rattle.pb_service.specs.Tables.{number_at, text_at, IsRead, IsReadPort, IsBridgeOf, IsLinkOf, IsServiceOf, IsCustomerOf, IsPortSpecOf}
+use Rattle.pb_service.specs.Clocks.{has_two_clocks, holds_forever}
+use Rattle.pb_service.specs.Tables.{number_at, text_at, limits_told, IsRead, IsReadPort, IsBridgeOf, IsLinkOf, IsServiceOf, IsCustomerOf, IsPortSpecOf}
 use Rattle.pb_service.specs.Refusals.{Refuses, HasTables, is_table, names_of}
 
 -- the table of the network; an empty one where there is none
@@ -32,10 +33,12 @@ pub record TellsNetwork (row : Members) (plan : Plan) : Type 0 where
   pub ring : plan.ring ≡ number_at row (codes "ring") 64 4096
   pub steps : plan.steps ≡ number_at row (codes "steps") 1000000 1000000
 
+-- the limits of a run that a document tells: bridges tick by one clock at most, and frames are held back only where one ticks
 pub record AreLimitsOf (document : Members) (limits : Limits) : Type 0 where
   pub network_table : HasNetworkTable document
-  pub turns : limits.turns ≡ number_at (network_row document) (codes "turns") 10000000 1000000000
-  pub tick_every : limits.tick_every ≡ number_at (network_row document) (codes "tick_every") 0 1000000
+  pub told : limits ≡ limits_told (network_row document)
+  pub one_clock : has_two_clocks limits ≡ false
+  pub some_clock : holds_forever limits ≡ false
 
 -- the plan that a document tells, table by table, and what its customer ports are
 pub record IsPlanOf (document : Members) (plan : Plan) (specs : List PortSpec) : Type 0 where

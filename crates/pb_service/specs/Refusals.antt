@@ -19,7 +19,8 @@ use Rattle.pb_service.specs.Values.{all_items, any_item, is_list, text_in}
 use Rattle.pb_service.specs.Keys.{RefusesRow, SomeOf, first_unknown}
 use Rattle.pb_service.specs.Formats.{top_keys, network_keys, keys_of}
 use Rattle.pb_service.specs.Told.{rows_of, names_in, number_from, table_told}
-use Rattle.pb_service.specs.Tables.{number_at, text_at, items_at, is_one_of}
+use Rattle.pb_service.specs.Clocks.{RefusesClocks}
+use Rattle.pb_service.specs.Tables.{number_at, text_at, items_at, is_one_of, limits_told}
 
 -- nothing, or a table
 abbrev pub is_table : Option Data → Bool
@@ -72,11 +73,15 @@ pub record UsesTwice (ports : List LocalPort) (port : LocalPort) : Type 0 where
   pub again : is_used before port ≡ true
   pub bridge : 1 ≤ port.bridge
 
+-- the table of the network breaks a rule of its keys, or its limits don't go together
+abbrev pub RefusesNetwork : Members → PlanFault → Type 0
+RefusesNetwork row fault = RefusesRow network_keys Network row fault ⊎ RefusesClocks (limits_told row) fault
+
 -- the document breaks a rule, in the way that the fault tells
 pub data Refuses : Members → PlanFault → Type 0 where
   other_key : (document : Members) (key : List ℕ) → first_unknown top_keys document ≡ Some key → Refuses document (Unknown key)
   no_network : (document : Members) (d : Data) → get_member (codes "network") document ≡ Some d → as_table d ≡ None → Refuses document (Kind (codes "network"))
-  in_network : (document : Members) (fault : PlanFault) → RefusesRow network_keys Network (table_told (get_member (codes "network") document)) fault → Refuses document fault
+  in_network : (document : Members) (fault : PlanFault) → RefusesNetwork (table_told (get_member (codes "network") document)) fault → Refuses document fault
   no_tables : (document : Members) (section : Section) → is_array_of_tables (get_member (word_of section) document) ≡ false → Refuses document (Kind (word_of section))
   too_many : (document : Members) (section : Section) → most_of section < length (rows_of document section) → Refuses document TooMany
   in_table : (document : Members) (section : Section) (index : ℕ) (row : Members) (fault : PlanFault)

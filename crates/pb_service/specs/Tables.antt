@@ -10,11 +10,13 @@ use Rattle.pb_lan.specs.declared.plan.End.{End}
 use Rattle.pb_lan.specs.declared.plan.LinkPlan.{LinkPlan}
 use Rattle.pb_lan.specs.declared.plan.ServicePlan.{ServicePlan}
 use Rattle.pb_lan.specs.declared.plan.CustomerPlan.{CustomerPlan}
+use Rattle.pb_lan.specs.declared.limits.Limits.{Limits}
 use Rattle.pb_service.specs.declared.link.EndKeys.{EndKeys}
 use Rattle.pb_service.specs.declared.network.Network.{Network}
 use Rattle.pb_service.specs.declared.port_spec.PortSpec.{PortSpec}
 use Rattle.pb_service.specs.declared.port_spec.PortSpec.TheVariants.{Memory, Capture, Socket}
 use Rattle.pb_service.specs.Values.{text_in, all_items}
+use Rattle.pb_service.specs.Clocks.{has_two_clocks, holds_forever}
 use Rattle.pb_service.specs.Keys.{KeyRule, IsAccepted}
 use Rattle.pb_service.specs.Formats.{network_keys, port_keys}
 use Rattle.pb_service.specs.Told.{number_told, text_told, items_told, state_of, spanning_of, naturals_in, number_from, listed_from}
@@ -29,14 +31,24 @@ text_at row key = text_told (get_member key row)
 abbrev pub items_at : Members → List ℕ → Items
 items_at row key = items_told (get_member key row)
 
+-- how long a run may go on, by which clock bridges tick, and how long frames are held back
+abbrev pub limits_told : Members → Limits
+limits_told row = record {
+  turns = number_at row (codes "turns") 10000000 1000000000;
+  tick_every = number_at row (codes "tick_every") 0 1000000;
+  tick_ms = number_at row (codes "tick_ms") 0 60000;
+  hold = number_at row (codes "hold") 0 1000000;
+}
+
 pub record IsNetworkOf (row : Members) (n : Network) : Type 0 where
   pub keys : IsAccepted network_keys row
   pub spanning : n.spanning ≡ spanning_of (text_at row (codes "spanning"))
   pub ageing : n.ageing ≡ number_at row (codes "ageing") 300 1000000
   pub ring : n.ring ≡ number_at row (codes "ring") 64 4096
   pub steps : n.steps ≡ number_at row (codes "steps") 1000000 1000000
-  pub turns : n.limits.turns ≡ number_at row (codes "turns") 10000000 1000000000
-  pub tick_every : n.limits.tick_every ≡ number_at row (codes "tick_every") 0 1000000
+  pub limits : n.limits ≡ limits_told row
+  pub one_clock : has_two_clocks n.limits ≡ false
+  pub some_clock : holds_forever n.limits ≡ false
 
 pub record IsBridgeOf (row : Members) (b : BridgePlan) : Type 0 where
   pub name : b.name ≡ text_at row (codes "name")

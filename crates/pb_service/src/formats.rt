@@ -11,7 +11,7 @@ use crate::told::text_at;
 use toml::Table;
 
 /// The keys of the network.
-static NETWORK: [Key; 6] = [
+static NETWORK: [Key; 8] = [
     Key {
         name: "spanning",
         needed: false,
@@ -48,6 +48,22 @@ static NETWORK: [Key; 6] = [
     },
     Key {
         name: "tick_every",
+        needed: false,
+        rule: Rule::Number {
+            low: 0,
+            high: 1_000_000,
+        },
+    },
+    Key {
+        name: "tick_ms",
+        needed: false,
+        rule: Rule::Number {
+            low: 0,
+            high: 60_000,
+        },
+    },
+    Key {
+        name: "hold",
         needed: false,
         rule: Rule::Number {
             low: 0,

@@ -1,20 +1,19 @@
 //! The table of the network.
 
-ghost use Rattle.std.specs.Prelude.{◌≡◌, ◌⊎◌, codes, IfOk, IfErr, OnOk};
+ghost use Rattle.std.specs.Prelude.{◌≡◌, ◌⊎◌, false, codes, IfOk, IfErr, OnOk};
 ghost use Rattle.toml.specs.Data.{get_member};
 ghost use Rattle.toml.specs.View.{table_view};
-ghost use Rattle.pb_service.specs.Keys.{RefusesRow};
-ghost use Rattle.pb_service.specs.Formats.{network_keys};
+ghost use Rattle.pb_service.specs.Clocks.{has_two_clocks, holds_forever, RefusesClocks};
 ghost use Rattle.pb_service.specs.Told.{table_told};
-ghost use Rattle.pb_service.specs.Tables.{IsNetworkOf};
-ghost use Rattle.pb_service.specs.Refusals.{Refuses};
+ghost use Rattle.pb_service.specs.Tables.{limits_told, IsNetworkOf};
+ghost use Rattle.pb_service.specs.Refusals.{Refuses, RefusesNetwork};
 ghost use Rattle.pb_service.specs.PlanFiles.{HasNetworkTable};
 ghost use Rattle.pb_service.specs.declared.fault.PlanFault.TheVariants.{Kind as kind_fault, Memory as memory_fault};
-ghost use Rattle.pb_service.specs.declared.section.Place.TheVariants.{Network as network_place};
 
 use crate::fault::PlanFault;
 use crate::formats::network_keys;
-use crate::row::check_keys;
+use crate::key_fault::KeyFault;
+use crate::row::{check_keys, told};
 use crate::section::Place;
 use crate::told::{number_at, spanning_of, text_at, value_at};
 use pb_frame::Text;
@@ -32,21 +31,61 @@ pub(crate) struct Network {
     pub limits: Limits,
 }
 
+/// What a table tells of the limits of a run.
+fn limits_of(row: &Table) -> Limits
+    ensures { result ≡ limits_told (table_view row.now) }
+{
+    Limits {
+        turns: number_at(row, "turns", 10_000_000, 1_000_000_000),
+        tick_every: number_at(row, "tick_every", 0, 1_000_000),
+        tick_ms: number_at(row, "tick_ms", 0, 60_000),
+        hold: number_at(row, "hold", 0, 1_000_000),
+    }
+}
+
+/// Bridges would tick by turns and by time.
+fn has_two_clocks(limits: Limits) -> bool
+    ensures { result ≡ has_two_clocks limits }
+{
+    limits.tick_every > 0 && limits.tick_ms > 0
+}
+
+/// Frames are held back until a clock has ticked, and none ticks.
+fn holds_forever(limits: Limits) -> bool
+    ensures { result ≡ holds_forever limits }
+{
+    limits.hold > 0 && (limits.tick_every == 0 && limits.tick_ms == 0)
+}
+
+/// Whether the limits of a run go together.
+fn check_clocks(alloc: Global, limits: Limits) -> Result<(), PlanFault>
+    ensures one { OnOk result (has_two_clocks limits ≡ false) }
+    ensures some { OnOk result (holds_forever limits ≡ false) }
+    ensures err { IfErr result (RefusesClocks limits) }
+{
+    if has_two_clocks(limits) {
+        return Err(told(alloc, Place::Network, "tick_ms", KeyFault::Range));
+    }
+    if holds_forever(limits) {
+        return Err(told(alloc, Place::Network, "hold", KeyFault::Range));
+    }
+    Ok(())
+}
+
 /// What a table tells of the network.
 fn network_of(alloc: Global, row: &Table) -> Result<Network, PlanFault>
     ensures ok { IfOk result (IsNetworkOf (table_view row.now)) }
-    ensures err { IfErr result (RefusesRow network_keys network_place (table_view row.now)) }
+    ensures err { IfErr result (RefusesNetwork (table_view row.now)) }
 {
     check_keys(alloc, Place::Network, network_keys(), row)?;
+    let limits = limits_of(row);
+    check_clocks(alloc, limits)?;
     Ok(Network {
         spanning: spanning_of(text_at(row, "spanning")),
         ageing: number_at(row, "ageing", 300, 1_000_000) as u32,
         ring: number_at(row, "ring", 64, 4096) as u16,
         steps: number_at(row, "steps", 1_000_000, 1_000_000),
-        limits: Limits {
-            turns: number_at(row, "turns", 10_000_000, 1_000_000_000),
-            tick_every: number_at(row, "tick_every", 0, 1_000_000),
-        },
+        limits,
     })
 }
 

@@ -42,7 +42,7 @@ fn refusal(key: &Key, value: Option<&Value>) -> Option<KeyFault>
 }
 
 /// The fault of a key with its place.
-fn told(alloc: Global, place: Place, key: &str, fault: KeyFault) -> PlanFault
+pub(crate) fn told(alloc: Global, place: Place, key: &str, fault: KeyFault) -> PlanFault
     ensures { (result ≡ memory_fault) ⊎ (result ≡ fault_of fault (path_at place key.now)) }
 {
     match path_at(alloc, place, key) {

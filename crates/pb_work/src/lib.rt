@@ -7,9 +7,11 @@
 
 mod gate;
 mod threads;
+mod ticks;
 mod turns;
 mod words;
 
 pub use gate::{Gate, Go};
 pub use threads::{Places, WorkFault, run_all};
-pub use turns::{Did, Finish, Moment, Turn, Work};
+pub use ticks::Moment;
+pub use turns::{Did, Finish, Turn, Work};

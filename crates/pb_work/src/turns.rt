@@ -4,6 +4,7 @@ ghost use Rattle.std.specs.Prelude.{◌≡◌};
 ghost use Rattle.pb_work.specs.Started.{IsBack};
 
 use crate::gate::{Gate, Go};
+use crate::ticks::{Moment, Ticks};
 use crate::words::Words;
 use pb_lan::{Limits, Place};
 use std::sync::Wait;
@@ -45,15 +46,6 @@ pub enum Finish {
     Limit,
 }
 
-/// When a turn is taken.
-#[derive(Clone, Copy, PartialEq, Eq, Debug)]
-pub struct Moment {
-    /// How often the worker's clock has ticked, held at 4,294,967,295.
-    pub now: u32,
-    /// The clock ticks at this turn.
-    pub is_tick: bool,
-}
-
 /// A place that a worker owns.
 pub trait Work: Drop {
     /// What clauses remember of the place as the worker was given it.
@@ -68,7 +60,7 @@ pub trait Work: Drop {
     /// The place.
     fn place(&self) -> Place;
 
-    /// Takes a turn: at most one step.
+    /// Takes a turn: a tick where the clock ticks, and at most one step more.
     fn turn(&mut self, moment: Moment) -> Turn
         requires { fits self.old }
         ensures given { given self.new ≡ given self.old }
@@ -79,20 +71,6 @@ pub trait Work: Drop {
         requires { fits self.old }
         ensures given { given self.new ≡ given self.old }
         ensures fits { fits self.new };
-}
-
-/// The moment of a turn.
-fn moment_of(turn: u64, every: u64) -> Moment {
-    if every == 0 {
-        return Moment {
-            now: 0,
-            is_tick: false,
-        };
-    }
-    Moment {
-        now: (turn / every).min(4_294_967_295) as u32,
-        is_tick: turn % every == every - 1,
-    }
 }
 
 /// Lets other threads run, and after many idle turns in a row leaves the processor for a while.
@@ -126,43 +104,29 @@ fn own_end(did: Did) -> Option<Finish> {
     }
 }
 
-/// The end of a worker's turns.
-#[derive(Clone, Copy)]
-struct LastTurn {
-    /// How many turns it took.
-    turns: u64,
-    /// Why there are no more.
-    finish: Finish,
-}
-
-/// Takes turn after turn, and answers how many there were and why there are no more.
+/// Takes turn after turn, and answers why there are no more.
 fn take_turns<T: Work, G: Gate, R: Clock>(
     rt: &R,
     owned: &mut T,
     gate: &G,
     words: &Words,
-    limits: Limits,
-) -> LastTurn
+    ticks: &mut Ticks,
+    turns: u64,
+) -> Finish
     requires { T.fits owned.old }
     ensures given { T.given owned.new ≡ T.given owned.old }
     ensures fits { T.fits owned.new }
 {
     let place = owned.place();
     let mut idle = 0u32;
-    for turn in 0..limits.turns {
+    for turn in 0..turns {
         if is_ended(gate, words, place, turn) {
-            return LastTurn {
-                turns: turn,
-                finish: Finish::Told,
-            };
+            return Finish::Told;
         }
-        let turned = owned.turn(moment_of(turn, limits.tick_every));
+        let turned = owned.turn(ticks.next(rt));
         words.count(turned.more, turned.fewer);
         if let Some(finish) = own_end(turned.did) {
-            return LastTurn {
-                turns: turn + 1,
-                finish,
-            };
+            return finish;
         }
         idle = match turned.did {
             Did::Idle => {
@@ -172,10 +136,7 @@ fn take_turns<T: Work, G: Gate, R: Clock>(
             _ => 0,
         };
     }
-    LastTurn {
-        turns: limits.turns,
-        finish: Finish::Limit,
-    }
+    Finish::Limit
 }
 
 /// A place that comes back from its worker.
@@ -206,11 +167,12 @@ pub(crate) fn run_place<T: Work, G: Gate, R: Wait + Clock>(
             has_begun: false,
         };
     }
-    let last = take_turns(rt, &mut owned, gate, words, limits);
-    if last.finish != Finish::Told {
+    let mut ticks = Ticks::new(rt, limits);
+    let finish = take_turns(rt, &mut owned, gate, words, &mut ticks, limits.turns);
+    if finish != Finish::Told {
         words.end();
     }
-    owned.close(moment_of(last.turns, limits.tick_every), last.finish);
+    owned.close(ticks.last(), finish);
     Back {
         place: owned,
         has_begun: true,

@@ -14,6 +14,7 @@ struct Desk {
     jobs: u64,
     turns: u64,
     ticks: u64,
+    opened: u64,
     closed: u32,
     finish: Option<Finish>,
 }
@@ -33,6 +34,9 @@ impl Work for Desk {
         self.turns = self.turns.saturating_add(1);
         if moment.is_tick {
             self.ticks = self.ticks.saturating_add(1);
+        }
+        if moment.is_open {
+            self.opened = self.opened.saturating_add(1);
         }
         let did = if self.jobs > 0 { Did::Done } else { Did::Idle };
         let fewer = self.jobs.min(1);
@@ -59,6 +63,7 @@ fn desks(alloc: Global, jobs: u64, first: Place, second: Place) -> Result<Vec<De
             jobs,
             turns: 0,
             ticks: 0,
+            opened: 0,
             closed: 0,
             finish: None,
         })?;
@@ -126,6 +131,8 @@ fn all_workers_run_at_once_and_end_when_nothing_is_left(rt: HostRuntime) -> Resu
     let limits = Limits {
         turns: 1_000_000_000,
         tick_every: 5,
+        tick_ms: 0,
+        hold: 0,
     };
     let places = office(rt.alloc(), 20)?;
     let (places, verdict) = run_all(&rt, rt.alloc(), places, &gate, limits, 120);
@@ -155,6 +162,8 @@ fn a_worker_takes_so_many_turns_at_most(rt: HostRuntime) -> Result<(), Fail> {
     let limits = Limits {
         turns: 12,
         tick_every: 5,
+        tick_ms: 0,
+        hold: 0,
     };
     let places = office(rt.alloc(), 20)?;
     let (places, verdict) = run_all(&rt, rt.alloc(), places, &Open, limits, 121);
@@ -166,6 +175,43 @@ fn a_worker_takes_so_many_turns_at_most(rt: HostRuntime) -> Result<(), Fail> {
         is_limit = is_limit || desk.finish == Some(Finish::Limit);
     }
     assert!(rt; is_limit);
+    Ok(())
+}
+
+#[test]
+fn frames_may_enter_after_so_many_ticks(rt: HostRuntime) -> Result<(), Fail> {
+    let limits = Limits {
+        turns: 12,
+        tick_every: 3,
+        tick_ms: 0,
+        hold: 2,
+    };
+    let places = office(rt.alloc(), 20)?;
+    let (places, verdict) = run_all(&rt, rt.alloc(), places, &Open, limits, 121);
+    assert!(rt; verdict.is_ok());
+    for desk in together(places)? {
+        assert_eq!(rt; desk.opened, desk.turns.saturating_sub(6));
+    }
+    Ok(())
+}
+
+#[test]
+fn a_clock_by_time_ticks_whatever_the_turns(rt: HostRuntime) -> Result<(), Fail> {
+    let limits = Limits {
+        turns: 400,
+        tick_every: 0,
+        tick_ms: 1,
+        hold: 0,
+    };
+    let places = office(rt.alloc(), 0)?;
+    let (places, verdict) = run_all(&rt, rt.alloc(), places, &Open, limits, 1);
+    assert!(rt; verdict.is_ok());
+    let mut has_ticked = false;
+    for desk in together(places)? {
+        assert!(rt; desk.ticks <= desk.turns && u64::from(desk.closed) == desk.ticks);
+        has_ticked = has_ticked || (desk.finish == Some(Finish::Limit) && desk.ticks > 0);
+    }
+    assert!(rt; has_ticked);
     Ok(())
 }
 
@@ -184,6 +230,8 @@ fn a_gate_stops_the_workers(rt: HostRuntime) -> Result<(), Fail> {
     let limits = Limits {
         turns: 1_000,
         tick_every: 0,
+        tick_ms: 0,
+        hold: 0,
     };
     for turns in 0..5u64 {
         let places = office(rt.alloc(), 20)?;

@@ -73,6 +73,8 @@ fn a_line_carries_a_hundred_broadcasts(rt: HostRuntime) -> Result<(), Fail> {
             limits: Limits {
                 turns: 10_000_000,
                 tick_every: 0,
+                tick_ms: 0,
+                hold: 0,
             },
             left: &[
                 Frames::First(0),

@@ -26,6 +26,7 @@ const BROADCAST: [u8; 14] = [255, 255, 255, 255, 255, 255, 2, 0, 0, 0, 1, 1, 8, 
 const STILL: Moment = Moment {
     now: 0,
     is_tick: false,
+    is_open: true,
 };
 
 /// The broadcast, as the frame of this number of customer port 1.

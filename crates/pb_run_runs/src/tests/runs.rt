@@ -21,6 +21,8 @@ use std::time::Clock;
 pub(super) const LONG: Limits = Limits {
     turns: 1_000_000_000,
     tick_every: 0,
+    tick_ms: 0,
+    hold: 0,
 };
 
 /// A port outside, with so many numbered broadcasts to give.

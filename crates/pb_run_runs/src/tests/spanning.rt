@@ -3,7 +3,7 @@
 use super::frames::Frames;
 use super::gates::{Lockstep, Open};
 use super::guests::Habit;
-use super::networks::RING;
+use super::networks::{RING, STAR};
 use super::runs::{Outer, Setup, ran};
 use pb_lan::Limits;
 use pb_run::Ended;
@@ -24,6 +24,8 @@ fn a_ring_that_has_settled_carries_broadcasts(rt: HostRuntime) -> Result<(), Fai
         limits: Limits {
             turns: 2_000,
             tick_every: 100,
+            tick_ms: 0,
+            hold: 0,
         },
         left: &[Frames::First(0), Frames::First(3), Frames::First(3)],
     };
@@ -46,6 +48,8 @@ fn a_ring_tells_whether_it_has_settled(rt: HostRuntime) -> Result<(), Fail> {
         limits: Limits {
             turns: 3_000,
             tick_every: 3,
+            tick_ms: 0,
+            hold: 0,
         },
         left: &[],
     };
@@ -53,5 +57,55 @@ fn a_ring_tells_whether_it_has_settled(rt: HostRuntime) -> Result<(), Fail> {
     assert_eq!(rt; (told.ended, told.ports), (Some(Ended::Limit), 3));
     assert!(rt; told.settled.is_some());
     assert_eq!(rt; told.outside[0].script, Some(3));
+    Ok(())
+}
+
+/// The first port gives three broadcasts as soon as it is polled, and no port comes to an end.
+const EARLY: &[Outer] = &[
+    Outer::Guest(3, Habit::Waits(0)),
+    Outer::Guest(0, Habit::Waits(0)),
+    Outer::Guest(0, Habit::Waits(0)),
+];
+
+#[test]
+fn frames_are_held_until_there_is_a_tree(rt: HostRuntime) -> Result<(), Fail> {
+    const SETUP: Setup<'static> = Setup {
+        draft: RING,
+        ports: EARLY,
+        limits: Limits {
+            turns: 2_000,
+            tick_every: 100,
+            tick_ms: 0,
+            hold: 15,
+        },
+        left: &[Frames::First(0), Frames::First(3), Frames::First(3)],
+    };
+    let gate = Lockstep::of(12);
+    let told = ran(&rt, rt.alloc(), &SETUP, &gate)?;
+    assert_eq!(rt;
+        (told.ended, told.settled),
+        (Some(Ended::Limit), Some(true))
+    );
+    assert!(rt; told.is_left && told.ports == 3);
+    assert_eq!(rt; told.outside[0].script, Some(3));
+    Ok(())
+}
+
+#[test]
+fn a_bridge_that_ticks_at_each_turn_relays(rt: HostRuntime) -> Result<(), Fail> {
+    const SETUP: Setup<'static> = Setup {
+        draft: STAR,
+        ports: &[Outer::Memory(5), Outer::Memory(0), Outer::Memory(0)],
+        limits: Limits {
+            turns: 1_000_000,
+            tick_every: 1,
+            tick_ms: 0,
+            hold: 0,
+        },
+        left: &[Frames::First(0), Frames::First(5), Frames::First(5)],
+    };
+    let told = ran(&rt, rt.alloc(), &SETUP, &Open)?;
+    assert_eq!(rt; (told.ended, told.ports), (Some(Ended::Drained), 3));
+    assert!(rt; told.is_drained && told.is_left);
     Ok(())
 }

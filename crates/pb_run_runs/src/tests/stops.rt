@@ -100,6 +100,8 @@ fn one_turn_a_worker_is_too_few(rt: HostRuntime) -> Result<(), Fail> {
         limits: Limits {
             turns: 1,
             tick_every: 0,
+            tick_ms: 0,
+            hold: 0,
         },
         left: NOTHING_LEFT,
     };

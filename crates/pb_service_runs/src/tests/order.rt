@@ -16,6 +16,15 @@ const FILES: &[(&str, &str)] = &[
         "[network]\nzebra = 1\ntick_every = -1",
         "5 range network.tick_every",
     ),
+    (
+        "[network]\ntick_every = 7\ntick_ms = 5\nhold = 1\n",
+        "5 range network.tick_ms",
+    ),
+    ("bridge = 1\n[network]\nhold = 1\n", "5 range network.hold"),
+    (
+        "[network]\nzebra = 1\nhold = 1\n",
+        "6 unknown network.zebra",
+    ),
     ("bridge = 1\n[network]\nturns = 0", "5 range network.turns"),
     (
         "link = 1\n[[bridge]]\naddress = 1",

@@ -6,7 +6,7 @@ use pb_frame::Text;
 use pb_lan::{
     BridgePlan, CustomerPlan, End, LinkPlan, Mac, Plan, PortState, Seq, ServicePlan, Spanning,
 };
-use pb_service::{PlanFault, PortSpec, read_limits, read_plan};
+use pb_service::{Limits, PlanFault, PortSpec, read_limits, read_plan};
 use std::alloc::Global;
 use std::fmt::Write;
 
@@ -98,25 +98,63 @@ fn the_network_has_its_link_and_ports(rt: HostRuntime) -> Result<(), PlanFault> 
     Ok(())
 }
 
-/// Files, and the turns and the ticks that each asks for.
-const LIMITS: &[(&str, u64, u64)] = &[
-    (NETWORK, 10_000_000, 0),
-    ("", 10_000_000, 0),
-    ("[network]\nturns = 7\ntick_every = 5\n", 7, 5),
+/// A file, and the limits that it asks for.
+type Asked = (&'static str, Limits);
+
+/// The limits of a file that says nothing of them.
+const UNSAID: Limits = Limits {
+    turns: 10_000_000,
+    tick_every: 0,
+    tick_ms: 0,
+    hold: 0,
+};
+
+/// Files with their limits.
+const LIMITS: &[Asked] = &[
+    (NETWORK, UNSAID),
+    ("", UNSAID),
+    (
+        "[network]\nturns = 7\ntick_every = 5\n",
+        Limits {
+            turns: 7,
+            tick_every: 5,
+            ..UNSAID
+        },
+    ),
+    (
+        "[network]\nhold = 11\ntick_ms = 3\n",
+        Limits {
+            tick_ms: 3,
+            hold: 11,
+            ..UNSAID
+        },
+    ),
+    (
+        "[network]\nhold = 2\ntick_every = 9\ntick_ms = 0\n",
+        Limits {
+            tick_every: 9,
+            hold: 2,
+            ..UNSAID
+        },
+    ),
 ];
 
 #[test]
 fn limits_are_read_or_have_defaults(rt: HostRuntime) -> Result<(), PlanFault> {
-    for (file, turns, tick_every) in LIMITS {
-        let limits = read_limits(rt.alloc(), file.as_bytes())?;
-        let is_so = limits.turns == *turns && limits.tick_every == *tick_every;
-        assert!(rt; is_so, "{turns}");
+    for (file, limits) in LIMITS {
+        let told = read_limits(rt.alloc(), file.as_bytes())?;
+        assert!(rt; told == *limits, "{file}");
     }
     Ok(())
 }
 
 /// Files whose limits are refused.
-const WRONG: &[&str] = &["[network]\nturns = 0\n", "bridge = 1"];
+const WRONG: &[&str] = &[
+    "[network]\nturns = 0\n",
+    "bridge = 1",
+    "[network]\ntick_every = 1\ntick_ms = 1\n",
+    "[network]\nhold = 1\n",
+];
 
 #[test]
 fn limits_of_a_wrong_file_are_refused(rt: HostRuntime) {

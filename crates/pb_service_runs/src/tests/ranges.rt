@@ -45,6 +45,15 @@ const NUMBERS: &[Number] = &[
         0,
         1_000_000,
     ),
+    ("[network]\n", "", "tick_ms", "network.tick_ms", 0, 60_000),
+    (
+        "[network]\ntick_ms = 5\n",
+        "",
+        "hold",
+        "network.hold",
+        0,
+        1_000_000,
+    ),
     (BRIDGE, "", "queue", "bridge[0].queue", 1, 4096),
     (SERVICE, "", "vid", "service[0].vid", 1, 4094),
     (

@@ -1,8 +1,8 @@
 use Rattle.std.proofs.Common.{◌≡◌, map}
-use Rattle.pb_run.proofs.bridge.BridgeWorkerWork.turn.Given as goal
+use Rattle.pb_run.proofs.bridge.BridgeWorker.look.Given as goal
 
-abbrev pub invariant-loop-look : goal.invariant-loop-look
-invariant-loop-look g l = record {
+abbrev pub invariant-loop-ahead : goal.invariant-loop-ahead
+invariant-loop-ahead g l = record {
   number : l.self.number ≡ l.initial.self.number;
   plan : l.self.bridge.plan ≡ l.initial.self.bridge.plan;
   bridge : l.self.bridge.number ≡ l.initial.self.bridge.number;

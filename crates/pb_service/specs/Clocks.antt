@@ -1,0 +1,23 @@
+-- Whether the limits of a run go together.
+use Rattle.std.specs.Prelude.{◌≡◌, ◌⊎◌, codes, nat_lt, ◌==◌, Bool, true, false, ◌&&◌}
+use Rattle.pb_lan.specs.declared.limits.Limits.{Limits}
+use Rattle.pb_service.specs.declared.fault.PlanFault.{PlanFault}
+use Rattle.pb_service.specs.declared.fault.PlanFault.TheVariants.{Range, Memory}
+use Rattle.pb_service.specs.declared.section.Place.TheVariants.{Network}
+use Rattle.pb_service.specs.Sections.{path_at}
+
+-- bridges would tick by turns and by time
+abbrev pub has_two_clocks : Limits → Bool
+has_two_clocks limits = nat_lt 0 limits.tick_every && nat_lt 0 limits.tick_ms
+
+-- frames are held back until a clock has ticked, and none ticks
+abbrev pub holds_forever : Limits → Bool
+holds_forever limits = nat_lt 0 limits.hold && (limits.tick_every == 0 && limits.tick_ms == 0)
+
+-- the limits don't go together, in the way that the fault tells
+abbrev pub RefusesClocks : Limits → PlanFault → Type 0
+RefusesClocks limits (Range path) =
+    ((has_two_clocks limits ≡ true) × (path ≡ path_at Network (codes "tick_ms")))
+    ⊎ ((holds_forever limits ≡ true) × (path ≡ path_at Network (codes "hold")))
+RefusesClocks limits Memory = Unit {0}
+RefusesClocks limits other = ⊥

@@ -1,0 +1,109 @@
+//! The clocks of workers. No contract speaks of them: a tick is a step like any other.
+
+use pb_lan::Limits;
+use std::time::Clock;
+
+/// The highest number of ticks that is told.
+const MOST: u64 = 4_294_967_295;
+
+/// When a turn is taken.
+#[derive(Clone, Copy, PartialEq, Eq, Debug)]
+pub struct Moment {
+    /// How often the worker's clock has ticked, held at 4,294,967,295.
+    pub now: u32,
+    /// The clock ticks at this turn.
+    pub is_tick: bool,
+    /// Frames may enter: the clock has ticked as often as they are held back.
+    pub is_open: bool,
+}
+
+/// A worker's clock, which ticks by turns or by milliseconds, at most once a turn.
+#[derive(Clone, Copy)]
+pub(crate) struct Ticks {
+    limits: Limits,
+    /// How many turns were taken since the last tick, where it ticks by turns.
+    turns: u64,
+    /// When the next tick is due, in milliseconds of the monotonic clock, where it ticks by these.
+    due: u64,
+    /// How often it has ticked.
+    count: u64,
+}
+
+/// The milliseconds of the monotonic clock, where it can be read.
+fn millis<R: Clock>(rt: &R) -> Option<u64> {
+    let time = rt.monotonic().ok()?;
+    let whole = time.as_secs().saturating_mul(1_000);
+    Some(whole.saturating_add(u64::from(time.subsec_millis())))
+}
+
+impl Ticks {
+    /// A clock that has not ticked. One by milliseconds that can't be read never will.
+    pub(crate) fn new<R: Clock>(rt: &R, limits: Limits) -> Ticks {
+        let mut due = u64::MAX;
+        if limits.tick_ms > 0 {
+            if let Some(now) = millis(rt) {
+                due = now.saturating_add(limits.tick_ms);
+            }
+        }
+        Ticks {
+            limits,
+            turns: 0,
+            due,
+            count: 0,
+        }
+    }
+
+    /// The moment of the next turn. Where the clock ticks at it, it has ticked once more after it.
+    pub(crate) fn next<R: Clock>(&mut self, rt: &R) -> Moment {
+        let is_tick = self.is_due(rt);
+        let moment = self.moment(is_tick);
+        if is_tick {
+            self.count = self.count.saturating_add(1);
+        }
+        moment
+    }
+
+    /// The moment behind the last turn.
+    pub(crate) fn last(&self) -> Moment {
+        self.moment(false)
+    }
+
+    /// The moment after so many ticks.
+    fn moment(&self, is_tick: bool) -> Moment {
+        Moment {
+            now: self.count.min(MOST) as u32,
+            is_tick,
+            is_open: self.count >= self.limits.hold,
+        }
+    }
+
+    /// Whether the clock ticks at the next turn.
+    fn is_due<R: Clock>(&mut self, rt: &R) -> bool {
+        if self.limits.tick_ms > 0 {
+            return self.is_late(rt);
+        }
+        self.limits.tick_every > 0 && self.is_turn()
+    }
+
+    /// Whether so many turns have passed.
+    fn is_turn(&mut self) -> bool {
+        self.turns = self.turns.saturating_add(1);
+        if self.turns < self.limits.tick_every {
+            return false;
+        }
+        self.turns = 0;
+        true
+    }
+
+    /// Whether so many milliseconds have passed. A clock that is late catches up by one tick a turn.
+    fn is_late<R: Clock>(&mut self, rt: &R) -> bool {
+        let Some(now) = millis(rt) else {
+            return false;
+        };
+        if now < self.due {
+            return false;
+        }
+        self.due = self.due.saturating_add(self.limits.tick_ms);
+        true
+    }
+}
