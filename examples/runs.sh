@@ -1,7 +1,7 @@
 #!/usr/bin/env bash
 # Runs the proved program on the examples, and compares what it prints and writes with what stands beside them: `flat`,
 # `show`, `check`, each step script, and `run` with record.toml, captures.toml, and sockets.toml with its peers, where
-# python3 is there; and that runs which are refused leave files as they were. The gate runs the same texts as tests,
+# python3 is there, and clock.toml; that a run is stopped in time; and that runs which are refused leave files as they were. The gate runs the same texts as tests,
 # which same.sh compares with these files.
 set -eu
 cd -- "$(dirname -- "$0")/.."
@@ -50,6 +50,11 @@ for name in provider exchange office camera; do
     is_same "out/$name.pcap" examples/captures/none.pcap
 done
 
+# Bridges find their tree by the clock before frames enter. How many BPDUs the links carry is open.
+./pbnet run --strict examples/clock.toml >out/clock.all || status=1
+grep -v '^link ' out/clock.all >out/clock.report
+is_same out/clock.report examples/clock.report
+
 # A plan of one bridge, whose ports are rows of NAME KIND KEYS..
 plan() {
     local number=0 row
@@ -96,6 +101,30 @@ refuses "port C2: write out/none/c2.pcap: No such file or directory (os error 2)
 if [ -e out/made.pcap ]; then
     echo "examples: out/made.pcap was made by a run that was refused" >&2
     status=1
+fi
+
+# A port whose peer never shuts its side is stopped, and a strict run says so.
+if command -v python3 >/dev/null 2>&1; then
+    rm -f out/still.sock
+    python3 - out/still.sock >out/still <<'EOF' &
+import socket, sys
+peer = socket.socket(socket.AF_UNIX)
+peer.bind(sys.argv[1])
+peer.listen()
+print("listening", flush=True)
+one, _ = peer.accept()
+while one.recv(4096):
+    pass
+EOF
+    until grep -q listening out/still 2>/dev/null; do sleep 0.05; done
+    plan "$(socket out/still.sock)" >out/still.toml
+    told=0
+    ./pbnet run --strict --progress --seconds 2 out/still.toml >out/still.report 2>out/still.errors || told=$?
+    wait
+    if [ "$told" != 4 ] || [ "$(head -n 1 out/still.report)" != "ended stopped" ] || ! grep -q '^0 frames entered, 0 left$' out/still.errors; then
+        echo "examples: a run was not stopped after 2 seconds with status 4: $told, $(cat out/still.report out/still.errors)" >&2
+        status=1
+    fi
 fi
 
 if command -v python3 >/dev/null 2>&1; then

@@ -1,5 +1,5 @@
 -- Plans of files and their ports.
-use Rattle.std.proofs.Common.{◌≡◌, ℕ, List, [], ◌∷◌, ◌++◌, length, map, ap, sym, ◌∙◌, append_assoc, append-nil, arith, Ok, Err, IfOk}
+use Rattle.std.proofs.Common.{◌≡◌, ℕ, Bool, refl, List, [], ◌∷◌, ◌++◌, length, map, ap, sym, ◌∙◌, append_assoc, append-nil, arith, Ok, Err, IfOk}
 use Rattle.std.proofs.lemmas.List.{map-append}
 use Rattle.std.proofs.lemmas.Slice.Zip.{AllZip-long}
 use Rattle.std.specs.declared.result.Result.{Result}
@@ -9,11 +9,21 @@ use Rattle.pb_run.specs.Runs.{Lists, ArePortsKept, frames_of}
 use Rattle.pb_run.specs.declared.access.Last.{Last}
 use Rattle.pb_service.specs.PlanFiles.{Tells, IsPlanOf}
 use Rattle.pb_service.specs.declared.port_spec.PortSpec.{PortSpec}
+use Rattle.pb_run.specs.declared.ended.Ended.{Ended}
 use Rattle.pb_running.specs.Scripted.{script_in, AreScripted}
+use Rattle.pb_running.specs.Strict.{exit_status, is_whole}
+use Rattle.pb_running.specs.declared.strictness.Strictness.{Strictness}
+use Rattle.pb_running.specs.declared.strictness.Strictness.TheVariants.{Strict, Lenient}
 
 -- a file has as many ports as its plan
 pub ports_per_plan : (file : List ℕ) (plan : Plan) (specs : List PortSpec) → Tells file (λ document. IsPlanOf document plan specs) → length specs ≡ length plan.customers
 ports_per_plan file plan specs (document, parsed, told) = AllZip-long _ _ specs told.ports ∙ sym (AllZip-long _ _ plan.customers told.customers)
+
+-- the exit status of a run by what it lost, where a strict run knows that
+pub exits : (strictness : Strictness) (ended : Ended) (lost text : List ℕ) (told : ℕ) (whole : Bool) (status : ℕ)
+    → status ≡ exit_status strictness whole told → whole ≡ is_whole ended lost → (strictness ≡ Strict → lost ≡ text) → status ≡ exit_status strictness (is_whole ended text) told
+exits Strict ended lost text told whole status s w l = s ∙ ap (λ x. exit_status Strict x told) (w ∙ ap (is_whole ended) (l refl))
+exits Lenient ended lost text told whole status s w l = s
 
 -- what a fact of a value that is Ok gives
 pub on_value : {A E : Type 0} {P Q : A → Type 0} (r : Result A E) → ((x : A) → P x → Q x) → IfOk r P → IfOk r Q

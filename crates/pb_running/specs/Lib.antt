@@ -2,8 +2,9 @@ pub mod Reports
 pub mod AnyPorts
 pub mod Scripted
 pub mod Faults
-pub mod Networks
 pub mod Unwritten
+pub mod Strict
+pub mod Networks
 pub mod Deeds
 pub mod OpenFaults
 pub mod Opened

@@ -1,6 +1,6 @@
 //! Runs of the networks of plan files.
 
-ghost use Rattle.std.specs.Prelude.{◌≡◌, ◌≢◌, ◌⊎◌, length, map, vec_len, List, ℕ, IfOk, IfErr, OnOk};
+ghost use Rattle.std.specs.Prelude.{◌≡◌, ◌≢◌, ◌⊎◌, length, map, vec_len, string_bytes, List, ℕ, IfOk, IfErr, OnOk};
 ghost use Rattle.std.specs.Io.KnownBytes.{Appends, Keeps};
 ghost use Rattle.pb_lan.specs.Plans.{IsSound};
 ghost use Rattle.pb_relay.specs.Settled.{TellsSettled};
@@ -8,17 +8,20 @@ ghost use Rattle.pb_service.specs.PlanFiles.{Tells, IsPlanOf, RefusesFile};
 ghost use Rattle.pb_service.specs.declared.port_spec.PortSpec.{PortSpec};
 ghost use Rattle.pb_print.specs.Refusals.{refusal_line};
 ghost use Rattle.pb_running.specs.Faults.{ComesOf};
-ghost use Rattle.pb_running.specs.Networks.{PrintsRan, PrintsNetwork};
-ghost use Rattle.pb_running.specs.Reports.{IsRunReport};
+ghost use Rattle.pb_running.specs.Networks.{PrintsReport, PrintsRan, PrintsNetwork};
 ghost use Rattle.pb_running.specs.Scripted.{script_at, script_in};
+ghost use Rattle.pb_running.specs.Strict.{lost_text};
+ghost use Rattle.pb_running.specs.declared.strictness.Strictness.TheVariants.{Strict as strict};
 
 use crate::completing::{Written, complete_all};
+use crate::lost::{is_whole, lost_of};
 use crate::network_fault::NetworkFault;
 use crate::outside::{Outside, SystemPort, open_ports};
 use crate::report::write_report;
-use crate::unwritten::write_unwritten;
+use crate::strictness::{Strictness, exit_status};
 use crate::watched::{Traffic, Watched};
-use pb_lan::{Limits, Plan};
+use pb_frame::Memory;
+use pb_lan::{Limits, Plan, Record};
 use pb_print::write_refusal;
 use pb_run::{Gate, Held, Ran, run};
 use pb_service::{PlanFault, PortSpec, read_limits, read_plan};
@@ -73,10 +76,41 @@ fn refuse<W: Write>(alloc: Global, fault: &PlanFault, writer: &mut W) -> Result<
     Ok(REFUSED)
 }
 
-/// Writes what came of a run, and which frames could not be written. `Write` is answered where the report could not
-/// be written, `Memory` where memory for its text ran out, and then nothing of it was written. No other fault comes.
+/// What a run lost. Where there is no memory to tell it, a lenient run tells nothing, and a strict one answers `Memory`.
+fn lost_under(
+    alloc: Global,
+    strictness: Strictness,
+    plan: &Plan,
+    ports: &[Held],
+    rec: &Record,
+    settled: &Result<Option<bool>, Memory>,
+) -> Result<String, NetworkFault>
+    requires ports { length ports.now ≡ length plan.now.customers }
+    requires lists { length rec.now.customers ≡ length plan.now.customers }
+    ensures err { IfErr result (λ e. e ≡ NetworkFault.Memory) }
+    ensures ok { IfOk result (λ text. strictness ≡ strict → string_bytes text ≡ lost_text plan.now rec.now settled.now (map (λ b. waiting b) ports.now)) }
+{
+    match lost_of(alloc, plan, ports, rec, settled) {
+        Ok(lost) => Ok(lost),
+        Err(_) if strictness == Strictness::Lenient => Ok(String::new(alloc)),
+        Err(_) => Err(NetworkFault::Memory),
+    }
+}
+
+/// Writes a text, where there is one. It isn't told where that fails.
+fn show<E: Write>(text: &str, errors: &mut E) {
+    if !text.is_empty() {
+        let _ = errors.write_all(text.as_bytes());
+        let _ = errors.flush();
+    }
+}
+
+/// Writes what came of a run, and then what it lost, and answers the exit status. `Write` is answered where the report
+/// could not be written, `Memory` where memory for its text ran out, or for that of what a strict run lost, and then
+/// nothing of it was written. No other fault comes.
 fn tell<W: Write, E: Write>(
     alloc: Global,
+    strictness: Strictness,
     plan: &Plan,
     ran: &Ran,
     writer: &mut W,
@@ -87,16 +121,17 @@ fn tell<W: Write, E: Write>(
     requires lasts { length ran.now.last.items ≡ length plan.now.customers }
     requires ports { length ran.now.ports.items ≡ length plan.now.customers }
     requires lists { length ran.now.rec.customers ≡ length plan.now.customers }
-    ensures ok { IfOk result (λ status. (text : List ℕ) × Appends (W.contents writer.old) (W.contents writer.new) text
-        × IsRunReport plan.now ran.now.rec ran.now.ended ran.now.settled ran.now.last.items status text) }
+    ensures ok { IfOk result (λ status. PrintsReport strictness plan.now ran.now.rec ran.now.ended ran.now.settled ran.now.last.items status
+        (W.contents writer.old) (W.contents writer.new)) }
     ensures kinds { IfErr result (λ e. (e ≡ NetworkFault.Write) ⊎ (e ≡ NetworkFault.Memory)) }
     ensures none { IfErr result (λ e. e ≢ NetworkFault.Write → Keeps (W.contents writer.old) (W.contents writer.new)) }
 {
-    let customers = plan.customers.as_slice();
-    let lists = ran.rec.customers.as_slice();
-    let _ = write_unwritten(alloc, customers, ran.ports.as_slice(), lists, errors);
-    let status = write_report(alloc, plan, ran, writer)?;
-    Ok(status)
+    let ports = ran.ports.as_slice();
+    let lost = lost_under(alloc, strictness, plan, ports, &ran.rec, &ran.settled)?;
+    let told = write_report(alloc, plan, ran, writer)?;
+    show(lost.as_str(), errors);
+    let is_whole = is_whole(ran.ended, lost.as_str());
+    Ok(exit_status(strictness, is_whole, told))
 }
 
 /// Runs a plan with its ports, which write these files, and reports on the run, as [`run_network`] does.
@@ -112,6 +147,7 @@ fn run_ports<R, G: Watch, W: Write, E: Write>(
     ports: Vec<Watched<SystemPort>>,
     files: &[Written],
     limits: Limits,
+    strictness: Strictness,
     gate: &G,
     writer: &mut W,
     errors: &mut E,
@@ -121,7 +157,7 @@ where
     requires sound { IsSound plan.now }
     requires count { vec_len ports ≡ length plan.now.customers }
     ensures ok { IfOk result (λ status. (specs : List PortSpec) → map (λ w. script_at w.port) ports.items ≡ map script_in specs
-        → PrintsRan plan.now specs status (W.contents writer.old) (W.contents writer.new)) }
+        → PrintsRan strictness plan.now specs status (W.contents writer.old) (W.contents writer.new)) }
     ensures err { IfErr result (λ e. e ≡ NetworkFault.Ports → ⊥) }
     ensures none { IfErr result (λ e. e ≢ NetworkFault.Write → Keeps (W.contents writer.old) (W.contents writer.new)) }
 {
@@ -134,7 +170,7 @@ where
         Ok(ran) => {
             gate.close();
             complete_all(alloc, plan.customers.as_slice(), files, errors);
-            tell(alloc, plan, &ran, writer, errors)
+            tell(alloc, strictness, plan, &ran, writer, errors)
         }
         Err(fault) => {
             gate.close();
@@ -148,7 +184,8 @@ where
 /// direction of a link and each customer port in a thread of its own, within the limits of the file, and
 /// reports on the run as [`write_report`] does. The exit status is answered. The frames that enter and leave
 /// are counted in `traffic` meanwhile, and each worker passes the gate before each of its turns. What
-/// [`write_unwritten`] tells goes to `errors`.
+/// [`lost_of`] tells goes to `errors`, behind the report; a strict run that has something of it to tell, or that did not
+/// end drained, has the status 4 in place of 0.
 ///
 /// Where the file is no plan, the rule that it breaks is written as `check` does, and
 /// the answer is 1.
@@ -167,6 +204,7 @@ pub fn run_network<R, G: Watch, W: Write, E: Write>(
     rt: &R,
     alloc: Global,
     file: &[u8],
+    strictness: Strictness,
     traffic: &Arc<Traffic, Global>,
     gate: &G,
     writer: &mut W,
@@ -174,7 +212,7 @@ pub fn run_network<R, G: Watch, W: Write, E: Write>(
 ) -> Result<u8, NetworkFault>
 where
     R: Files<File = File> + Net + Threads + Wait + Clock + Sync,
-    ensures ok { IfOk result (λ status. PrintsNetwork file.now status (W.contents writer.old) (W.contents writer.new)) }
+    ensures ok { IfOk result (λ status. PrintsNetwork strictness file.now status (W.contents writer.old) (W.contents writer.new)) }
     ensures err { IfErr result (λ e. e ≡ NetworkFault.Ports → ⊥) }
     ensures due { IfErr result (ComesOf file.now) }
     ensures none { IfErr result (λ e. e ≢ NetworkFault.Write → Keeps (W.contents writer.old) (W.contents writer.new)) }
@@ -189,7 +227,9 @@ where
         ) => {
             let Outside { ports, files } = open_ports(rt, alloc, &plan, ports, traffic, errors)?;
             let files = files.as_slice();
-            run_ports(rt, alloc, &plan, ports, files, limits, gate, writer, errors)
+            run_ports(
+                rt, alloc, &plan, ports, files, limits, strictness, gate, writer, errors,
+            )
         }
         Err(fault) => refuse(alloc, &fault, writer),
     }

@@ -1,17 +1,13 @@
 //! The frames that a run could not write.
 
 ghost use Rattle.std.specs.Prelude.{◌≡◌, ◌++◌, length, map, string_bytes, OnOk};
-ghost use Rattle.std.specs.Io.KnownBytes.{Appends};
 ghost use Rattle.std.specs.List.{count_by};
 ghost use Rattle.pb_running.specs.Unwritten.{is_gone, unwritten_line, unwritten_lines};
 
 use pb_frame::{Memory, Seq};
 use pb_lan::{CustomerPlan, Step};
 use pb_port::Port;
-use pb_print::CommandFault;
 use pb_run::Held;
-use std::alloc::Global;
-use std::io::Write;
 
 /// A frame came to a port that takes none any more.
 fn is_gone(step: &Step) -> bool
@@ -46,8 +42,10 @@ fn put_count(out: &mut String, name: &str, count: u64) -> Result<(), Memory>
     Ok(())
 }
 
-/// Puts a line for each customer port with frames that were not written behind a text.
-fn put_counts(
+/// Puts `port NAME: N frames not written` behind a text for each customer port, in the plan's order, with frames that a
+/// run could not write: those that its port took and still has, and those that came to it after a write had failed.
+/// Nothing is put where there are none.
+pub(crate) fn put_unwritten(
     out: &mut String,
     customers: &[CustomerPlan],
     ports: &[Held],
@@ -61,31 +59,6 @@ fn put_counts(
         let unsent = ports[index].unsent().len() as u64;
         let gone = gone_of(lists[index].as_slice()) as u64;
         put_count(out, customer.name.as_str(), unsent.saturating_add(gone))?;
-    }
-    Ok(())
-}
-
-/// Writes `port NAME: N frames not written` by one `write_all` for each customer port, in the plan's order,
-/// with frames that a run could not write: those that its port took and still has, and those that came to it
-/// after a write had failed. Nothing is written where there are none.
-///
-/// `Write` is answered where a write failed, `Memory` where memory for the text ran out.
-pub fn write_unwritten<W: Write>(
-    alloc: Global,
-    customers: &[CustomerPlan],
-    ports: &[Held],
-    lists: &[Seq<Step>],
-    writer: &mut W,
-) -> Result<(), CommandFault>
-    requires ports { length ports.now ≡ length customers.now }
-    requires lists { length lists.now ≡ length customers.now }
-    ensures { OnOk result (Appends (W.contents writer.old) (W.contents writer.new)
-        (unwritten_lines customers.now (map (λ b. waiting b) ports.now) lists.now)) }
-{
-    let mut out = String::new(alloc);
-    put_counts(&mut out, customers, ports, lists)?;
-    if writer.write_all(out.as_bytes()).is_err() || writer.flush().is_err() {
-        return Err(CommandFault::Write);
     }
     Ok(())
 }

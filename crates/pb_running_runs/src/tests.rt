@@ -6,6 +6,7 @@
 mod captures;
 mod files;
 mod folder;
+mod lost;
 mod memory;
 mod openings;
 mod peers;
@@ -14,7 +15,7 @@ mod reports;
 
 use pb_lan::Place;
 use pb_run::{Gate, Go};
-use pb_running::{NetworkFault, Traffic, Watch, run_network};
+use pb_running::{NetworkFault, Strictness, Traffic, Watch, run_network};
 use std::alloc::{AllocError, Global};
 use std::fs::{File, Files};
 use std::io::Write;
@@ -76,6 +77,7 @@ fn carry<R, G: Watch, W: Write, E: Write>(
     rt: &R,
     alloc: Global,
     file: &str,
+    strictness: Strictness,
     traffic: &Arc<Traffic, Global>,
     door: &G,
     writer: &mut W,
@@ -84,14 +86,16 @@ fn carry<R, G: Watch, W: Write, E: Write>(
 where
     R: Files<File = File> + Net + Threads + Wait + Clock + Sync,
 {
-    run_network(rt, alloc, file.as_bytes(), traffic, door, writer, errors)
+    let file = file.as_bytes();
+    run_network(rt, alloc, file, strictness, traffic, door, writer, errors)
 }
 
 /// Runs the network of a plan file of two parts.
-fn run<R, W: Write, E: Write>(
+fn run_under<R, W: Write, E: Write>(
     rt: &R,
     alloc: Global,
     parts: [&str; 2],
+    strictness: Strictness,
     writer: &mut W,
     errors: &mut E,
 ) -> Result<Told, AllocError>
@@ -103,30 +107,60 @@ where
     let door = Door {
         closed: AtomicU64::new(0),
     };
-    let result = carry(rt, alloc, file.as_str(), &traffic, &door, writer, errors);
+    let file = file.as_str();
+    let result = carry(rt, alloc, file, strictness, &traffic, &door, writer, errors);
     Ok(counted(result, &traffic, &door))
 }
 
-/// A plan file, and what its network tells and writes. It has nothing to tell on the error writer.
+/// The same of a run that is not strict.
+fn run<R, W: Write, E: Write>(
+    rt: &R,
+    alloc: Global,
+    parts: [&str; 2],
+    writer: &mut W,
+    errors: &mut E,
+) -> Result<Told, AllocError>
+where
+    R: Files<File = File> + Net + Threads + Wait + Clock + Sync,
+{
+    run_under(rt, alloc, parts, Strictness::Lenient, writer, errors)
+}
+
+/// A plan file, and what its network tells and writes.
+#[derive(Clone, Copy)]
 struct Row {
     parts: [&'static str; 2],
     told: Told,
     report: &'static str,
 }
 
-/// The network of a row's plan file tells what the row says.
-fn check<R>(rt: &R, alloc: Global, row: &Row) -> Result<(), Fail>
+/// The network of a row's plan file tells what the row says, and this on the error writer.
+fn check_under<R>(
+    rt: &R,
+    alloc: Global,
+    row: &Row,
+    strictness: Strictness,
+    remarks: &str,
+) -> Result<(), Fail>
 where
     R: Files<File = File> + Net + Threads + Wait + Clock + Sync + Abort,
 {
     let (mut output, mut errors) = (Vec::new(alloc), Vec::new(alloc));
-    let told = run(rt, alloc, row.parts, &mut output, &mut errors)?;
+    let told = run_under(rt, alloc, row.parts, strictness, &mut output, &mut errors)?;
     assert_eq!(rt; told, row.told, "{}", row.report);
     assert!(rt;
         output.as_slice() == row.report.as_bytes(),
         "{}",
         row.report
     );
-    assert!(rt; errors.is_empty(), "{}", row.report);
+    assert!(rt; errors.as_slice() == remarks.as_bytes(), "{}", row.report);
     Ok(())
+}
+
+/// The same of a run that is not strict, and has nothing to tell on the error writer.
+fn check<R>(rt: &R, alloc: Global, row: &Row) -> Result<(), Fail>
+where
+    R: Files<File = File> + Net + Threads + Wait + Clock + Sync + Abort,
+{
+    check_under(rt, alloc, row, Strictness::Lenient, "")
 }

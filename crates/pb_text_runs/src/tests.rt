@@ -1,4 +1,5 @@
 //! Runs with ample memory, a file for each library.
 
 mod lines;
+mod losses;
 mod words;

@@ -2,5 +2,7 @@
 #![tactic(auto)]
 
 mod order;
+mod run_order;
 
 pub use order::{Order, order_of};
+pub use run_order::RunOrder;

@@ -4,6 +4,7 @@ ghost use Rattle.std.specs.Prelude.{IfOk, IfSome, IfNone};
 ghost use Rattle.pb_words.specs.Orders.{IsAllowed, IsFileOrder};
 ghost use Rattle.pb_words.specs.declared.order.Order.{Order};
 
+use crate::run_order::{RunOrder, run_command, run_order};
 use clap::{Arg, ArgAction, Command, Error};
 use std::alloc::{AllocError, Global};
 
@@ -22,10 +23,6 @@ const CHECK: &str =
 const STEP: &str =
     "Drives the network of a plan file event by event over the lines of standard input, prints what each did, and reports at the end";
 
-/// What `run` does.
-const RUN: &str =
-    "Runs the network of a plan file, each bridge, link and port in a thread of its own, and reports at the end";
-
 /// What `show` does.
 const SHOW: &str =
     "Prints what becomes of frames for the addresses 01-80-C2-00-00-00 to -0F: carry, filter, or provider where the bridges themselves take them";
@@ -39,8 +36,8 @@ pub enum Order {
     Check(String),
     /// Driving the network of the plan file at this path by the lines of standard input.
     Step(String),
-    /// Running the network of the plan file at this path.
-    Run(String),
+    /// Running the network of a plan file.
+    Run(RunOrder),
     /// Telling what becomes of frames for the reserved addresses.
     Show,
 }
@@ -93,12 +90,12 @@ fn commands<'a>(alloc: Global) -> Result<Command<'a>, Error> {
     let program = with(program, flat, ports(alloc))?;
     let program = with_plan(alloc, program, "check", CHECK)?;
     let program = with_plan(alloc, program, "step", STEP)?;
-    let program = with_plan(alloc, program, "run", RUN)?;
+    let program = with(program, run_command(alloc)?, plan_file(alloc))?;
     let show = Command::new(alloc, "show").about(SHOW);
     Ok(program.subcommand(show)?)
 }
 
-/// What a command asks for that has a plan file. None where it is no such command.
+/// What a command asks for that has a plan file and nothing else. None where it is no such command.
 fn file_order(alloc: Global, command: &str, path: &str) -> Result<Option<Order>, AllocError>
     ensures some { IfOk result (λ o. IfSome o (λ order. IsFileOrder command.now path.now order)) }
     ensures none { IfOk result (λ o. IfNone o ((order : Order) → IsFileOrder command.now path.now order → ⊥)) }
@@ -109,9 +106,6 @@ fn file_order(alloc: Global, command: &str, path: &str) -> Result<Option<Order>,
     }
     if command == "step" {
         return Ok(Some(Order::Step(path)));
-    }
-    if command == "run" {
-        return Ok(Some(Order::Run(path)));
     }
     Ok(None)
 }
@@ -132,6 +126,7 @@ pub fn order_of(alloc: Global, words: &[String]) -> Result<Option<Order>, Error>
         },
         Some(("show", _)) => Ok(Some(Order::Show)),
         Some((command, given)) => match given.get_str("FILE") {
+            Some(path) if command == "run" => Ok(Some(Order::Run(run_order(alloc, path, given)?))),
             Some(path) => Ok(file_order(alloc, command, path)?),
             None => Ok(None),
         },

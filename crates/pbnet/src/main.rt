@@ -5,7 +5,8 @@
 //! last one that is printed: `fault: read`, `write` or `memory` where reading, writing or memory failed,
 //! `steps` where a bridge had taken all its steps, `path` where a file can't be opened, a socket not be
 //! connected to, or a file has two uses (standard error says which), `spawn` where a thread could not be started, and, behind the report of a run, `port NAME N`
-//! for each port whose input has the fault N.
+//! for each port whose input has the fault N. A run that is strict has the status 4 where it would be 0 and a frame was
+//! lost, the run did not drain, or bridges have not settled.
 #![tactic(auto)]
 
 ghost use Rattle.std.specs.Prelude.{◌≤◌};
@@ -16,10 +17,10 @@ use clap::error::ErrorKind as WordsFault;
 use pb_check::{run_check, run_show};
 use pb_flat::{Switch, run_flat_on};
 use pb_print::CommandFault;
-use pb_running::{Traffic, run_network};
+use pb_running::{Strictness, Traffic, run_network};
 use pb_step::run_script;
-use pb_words::{Order, order_of};
-use progress::Progress;
+use pb_words::{Order, RunOrder, order_of};
+use progress::{Progress, Shown};
 use std::fmt::Display;
 use std::fs::{File, Files};
 use std::io::{BufWriter, ErrorKind, IsTerminal, Read, Write};
@@ -49,9 +50,10 @@ fn main(rt: HostRuntime) -> ExitCode {
         Ok(Some(Order::Flat(ports))) => flat(&rt, ports),
         Ok(Some(Order::Check(path))) => check(&rt, path.as_str()),
         Ok(Some(Order::Step(path))) => step(&rt, path.as_str()),
-        Ok(Some(Order::Run(path))) => {
+        Ok(Some(Order::Run(order))) => {
             let mut errors = rt.stderr();
-            run(&rt, path.as_str(), errors.is_terminal(), &mut errors)
+            let shown = shown_on(errors.is_terminal(), order.progress);
+            run(&rt, &order, shown, &mut errors)
         }
         Ok(Some(Order::Show)) => show(&rt),
         Ok(None) => ExitCode::from(WRONG_WORDS),
@@ -157,12 +159,23 @@ fn step<R: Files + Input + Print + Eprint + AllocGlobal>(rt: &R, path: &str) -> 
     }
 }
 
+/// How it is told how far a run is: on a terminal by one line, elsewhere by lines where that is asked for.
+fn shown_on(is_terminal: bool, is_asked_for: bool) -> Shown {
+    if is_terminal {
+        Shown::OneLine
+    } else if is_asked_for {
+        Shown::Lines
+    } else {
+        Shown::Never
+    }
+}
+
 /// Runs the network of a plan file, and reports on it. What happens meanwhile is shown on standard error, or not.
-fn run<R, E: Write>(rt: &R, path: &str, is_shown: bool, errors: &mut E) -> ExitCode
+fn run<R, E: Write>(rt: &R, order: &RunOrder, shown: Shown, errors: &mut E) -> ExitCode
 where
     R: Files<File = File> + Net + Threads + Wait + Clock + Print + Eprint + AllocGlobal + Sync,
 {
-    let file = match contents(rt, path) {
+    let file = match contents(rt, order.path.as_str()) {
         Ok(file) => file,
         Err(status) => return status,
     };
@@ -172,11 +185,17 @@ where
     let Ok(counted) = Arc::try_clone(&traffic) else {
         return tell(rt, CommandFault::Memory);
     };
-    let progress = Progress::new(rt, counted, is_shown);
+    let progress = Progress::new(rt, counted, shown, order.seconds);
+    let strictness = if order.strict {
+        Strictness::Strict
+    } else {
+        Strictness::Lenient
+    };
     match run_network(
         rt,
         rt.alloc(),
         file.as_slice(),
+        strictness,
         &traffic,
         &progress,
         &mut io::writer(rt),

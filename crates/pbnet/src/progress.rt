@@ -1,4 +1,4 @@
-//! What is told of a network while it runs.
+//! What is told of a network while it runs, and when it is stopped.
 
 use pb_lan::Place;
 use pb_run::{Gate, Go};
@@ -6,64 +6,104 @@ use pb_running::{Traffic, Watch};
 use std::alloc::Global;
 use std::sync::Arc;
 use std::sync::atomic::{AtomicU64, Ordering};
-use std::time::Clock;
+use std::time::{Clock, Duration};
 
 /// The first bridge's worker looks at the clock once in so many turns.
-const LOOK: u64 = 1_024;
+const LOOK: u64 = 64;
 
-/// A line on standard error that tells how many frames have entered and left so far, written anew once a
-/// second. As a gate it lets every worker go on.
+/// How it is told on standard error how many frames have entered and left so far.
+#[derive(Clone, Copy, PartialEq, Eq)]
+pub enum Shown {
+    /// It isn't.
+    Never,
+    /// On one line, which is written anew once a second.
+    OneLine,
+    /// By a line a second.
+    Lines,
+}
+
+/// What is told of a run once a second. As a gate it lets every worker go on until the run is to be stopped.
 #[derive(Drop)]
 pub struct Progress<'a, R> {
     rt: &'a R,
     traffic: Arc<Traffic, Global>,
-    is_shown: bool,
+    shown: Shown,
+    /// The time of the monotonic clock at which the run is stopped. None: it isn't.
+    end: Option<Duration>,
     second: AtomicU64,
     lines: AtomicU64,
 }
 
+/// The time so many seconds from now. None where there are no seconds, or the clock can't be read.
+fn end_of<R: Clock>(rt: &R, seconds: Option<u32>) -> Option<Duration> {
+    let seconds = Duration::from_secs(u64::from(seconds?));
+    rt.monotonic().ok()?.checked_add(seconds)
+}
+
 impl<'a, R: Clock + Eprint> Progress<'a, R> {
-    /// No line yet; and none ever, unless it is to be shown.
-    pub fn new(rt: &'a R, traffic: Arc<Traffic, Global>, is_shown: bool) -> Progress<'a, R> {
-        let progress = Progress {
+    /// Of a run that begins now and is stopped after so many seconds, where there are any. Nothing was told yet.
+    pub fn new(
+        rt: &'a R,
+        traffic: Arc<Traffic, Global>,
+        shown: Shown,
+        seconds: Option<u32>,
+    ) -> Progress<'a, R> {
+        let second = match rt.monotonic() {
+            Ok(now) => now.as_secs(),
+            Err(_) => 0,
+        };
+        Progress {
             rt,
             traffic,
-            is_shown,
-            second: AtomicU64::new(0),
+            shown,
+            end: end_of(rt, seconds),
+            second: AtomicU64::new(second),
             lines: AtomicU64::new(0),
-        };
-        let _ = progress.is_due();
-        progress
+        }
     }
 
-    /// Whether another second has begun since the newest look.
-    fn is_due(&self) -> bool {
+    /// Looks at the clock: tells how far the run is where another second has begun, and answers whether it goes on.
+    fn look(&self) -> Go {
         let Ok(now) = self.rt.monotonic() else {
-            return false;
+            return Go::Go;
         };
         let second = now.as_secs();
-        self.second.swap(second, Ordering::SeqCst) != second
+        if self.second.swap(second, Ordering::SeqCst) != second {
+            self.show();
+        }
+        match self.end {
+            Some(end) if now >= end => Go::Stop,
+            _ => Go::Go,
+        }
     }
 
-    /// Writes the line anew.
+    /// Tells how many frames have entered and left.
     fn show(&self) {
         let (entered, left) = (self.traffic.entered(), self.traffic.left());
-        let _ = eprint!(self.rt; "\r{entered} frames entered, {left} left");
-        self.lines.store(1, Ordering::SeqCst);
+        match self.shown {
+            Shown::Never => {}
+            Shown::OneLine => {
+                let _ = eprint!(self.rt; "\r{entered} frames entered, {left} left");
+                self.lines.store(1, Ordering::SeqCst);
+            }
+            Shown::Lines => {
+                let _ = eprintln!(self.rt; "{entered} frames entered, {left} left");
+            }
+        }
     }
 }
 
 impl<R: Clock + Eprint + Sync> Gate for Progress<'_, R> {
     fn pass(&self, place: Place, turn: u64) -> Go {
-        if self.is_shown && turn % LOOK == 0 && place == Place::Bridge(1) && self.is_due() {
-            self.show();
+        if turn % LOOK == 0 && place == Place::Bridge(1) {
+            return self.look();
         }
         Go::Go
     }
 }
 
 impl<R: Clock + Eprint + Sync> Watch for Progress<'_, R> {
-    /// Ends the line, where one was written.
+    /// Ends the line, where one was written anew.
     fn close(&self) {
         if self.lines.swap(0, Ordering::SeqCst) != 0 {
             let _ = eprintln!(self.rt; "");

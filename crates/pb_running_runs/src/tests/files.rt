@@ -7,7 +7,7 @@ use super::plans::{
 use super::{Row, Told, carry, check, joined, run};
 use pb_lan::Place;
 use pb_run::{Gate, Go};
-use pb_running::{NetworkFault, Traffic, Watch};
+use pb_running::{NetworkFault, Strictness, Traffic, Watch};
 use std::fs;
 use std::sync::Arc;
 use std::sync::atomic::{AtomicU64, Ordering};
@@ -130,6 +130,7 @@ fn seconds_of_captures_are_those_of_the_workers_turns(rt: HostRuntime) -> Result
         &rt,
         alloc,
         file.as_str(),
+        Strictness::Lenient,
         &traffic,
         &turns,
         &mut output,

@@ -1,13 +1,13 @@
 //! What is reported of runs over memory.
 
 use super::plans::{LOSSY, NO_TURN, ONE_STEP, QUIET, RSTP};
-use super::{Row, Told, check, run};
+use super::{Row, Told, check, check_under, run};
 use pb_fakes::{Full, Unflushed};
-use pb_running::NetworkFault;
+use pb_running::{NetworkFault, Strictness};
 use std::test::Fail;
 
 /// Runs over memory.
-const ROWS: [Row; 5] = [
+const ROWS: [Row; 4] = [
     Row {
         parts: ["", LOSSY],
         told: Told {
@@ -36,15 +36,6 @@ const ROWS: [Row; 5] = [
         report: "ended limit\nport C1 entered 1 left 0 filtered 0\nport C2 entered 0 left 0 filtered 0\nport C3 entered 0 left 0 filtered 0\nlink L1 ab taken 0 lost 0 ba taken 0 lost 0\nforest yes\n",
     },
     Row {
-        parts: [RSTP, LOSSY],
-        told: Told {
-            result: Ok(0),
-            traffic: (3, 0),
-            closed: 1,
-        },
-        report: "ended drained\nport C1 entered 3 left 0 filtered 0\nport C2 entered 0 left 0 filtered 0\nport C3 entered 0 left 0 filtered 0\nlink L1 ab taken 0 lost 0 ba taken 0 lost 0\nforest yes\nsettled no\n",
-    },
-    Row {
         parts: [NO_TURN, LOSSY],
         told: Told {
             result: Ok(1),
@@ -59,6 +50,50 @@ const ROWS: [Row; 5] = [
 fn runs_over_memory_are_reported(rt: HostRuntime) -> Result<(), Fail> {
     for row in &ROWS {
         check(&rt, rt.alloc(), row)?;
+    }
+    Ok(())
+}
+
+/// Bridges that would have to find their own tree, and never tick.
+const UNSETTLED: Row = Row {
+    parts: [RSTP, LOSSY],
+    told: Told {
+        result: Ok(0),
+        traffic: (3, 0),
+        closed: 1,
+    },
+    report: "ended drained\nport C1 entered 3 left 0 filtered 0\nport C2 entered 0 left 0 filtered 0\nport C3 entered 0 left 0 filtered 0\nlink L1 ab taken 0 lost 0 ba taken 0 lost 0\nforest yes\nsettled no\n",
+};
+
+#[test]
+fn bridges_that_have_not_settled_are_told(rt: HostRuntime) -> Result<(), Fail> {
+    let remarks = "bridges not settled\n";
+    check_under(&rt, rt.alloc(), &UNSETTLED, Strictness::Lenient, remarks)
+}
+
+/// The same run, with the status of a strict one.
+fn strictly(row: Row, status: u8) -> Row {
+    Row {
+        told: Told {
+            result: Ok(status),
+            ..row.told
+        },
+        ..row
+    }
+}
+
+#[test]
+fn strict_runs_have_a_status_of_their_own(rt: HostRuntime) -> Result<(), Fail> {
+    let [whole, quiet, limited, refused] = ROWS;
+    let rows = [
+        (strictly(whole, 0), ""),
+        (strictly(quiet, 0), ""),
+        (strictly(limited, 4), ""),
+        (strictly(UNSETTLED, 4), "bridges not settled\n"),
+        (strictly(refused, 1), ""),
+    ];
+    for (row, remarks) in &rows {
+        check_under(&rt, rt.alloc(), row, Strictness::Strict, remarks)?;
     }
     Ok(())
 }

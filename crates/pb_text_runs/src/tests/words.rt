@@ -1,6 +1,6 @@
 //! What the words of the command line ask for.
 
-use pb_words::{Order, order_of};
+use pb_words::{Order, RunOrder, order_of};
 use std::alloc::{AllocError, Global};
 use std::process::Abort;
 use std::test::Fail;
@@ -12,6 +12,8 @@ enum Wanted {
     Check(&'static str),
     Step(&'static str),
     Run(&'static str),
+    /// With the seconds, whether progress is told, and whether it is strict.
+    RunBeside(&'static str, Option<u32>, bool, bool),
     Show,
     /// They are wrong, or ask for help.
     Nothing { wrong: bool },
@@ -24,13 +26,32 @@ const HELP: Wanted = Wanted::Nothing { wrong: false };
 /// The words behind the program's name, and what they ask for.
 type Row = (&'static [&'static str], Wanted);
 
+/// A run, and what is to be done beside it.
+fn run_of(
+    alloc: Global,
+    path: &str,
+    seconds: Option<u32>,
+    progress: bool,
+    strict: bool,
+) -> Result<RunOrder, AllocError> {
+    Ok(RunOrder {
+        path: String::from_str(alloc, path)?,
+        seconds,
+        progress,
+        strict,
+    })
+}
+
 /// The order that is wanted, or whether the words are wrong.
 fn wanted_of(alloc: Global, wanted: Wanted) -> Result<Result<Order, bool>, AllocError> {
     Ok(Ok(match wanted {
         Wanted::Flat(ports) => Order::Flat(ports),
         Wanted::Check(path) => Order::Check(String::from_str(alloc, path)?),
         Wanted::Step(path) => Order::Step(String::from_str(alloc, path)?),
-        Wanted::Run(path) => Order::Run(String::from_str(alloc, path)?),
+        Wanted::Run(path) => Order::Run(run_of(alloc, path, None, false, false)?),
+        Wanted::RunBeside(path, seconds, progress, strict) => {
+            Order::Run(run_of(alloc, path, seconds, progress, strict)?)
+        }
         Wanted::Show => Order::Show,
         Wanted::Nothing { wrong } => return Ok(Err(wrong)),
     }))
@@ -128,6 +149,44 @@ fn runs_one_file(rt: HostRuntime) -> Result<(), Fail> {
         (&["run"], WRONG),
         (&["run", "a", "b"], WRONG),
         (&["run", "--help"], HELP),
+    ];
+    all_ask(&rt, rt.alloc(), ROWS)
+}
+
+#[test]
+fn runs_have_words_beside_the_file(rt: HostRuntime) -> Result<(), Fail> {
+    const ROWS: &[Row] = &[
+        (
+            &["run", "--seconds", "1", "a"],
+            Wanted::RunBeside("a", Some(1), false, false),
+        ),
+        (
+            &["run", "a", "--seconds=1000000000"],
+            Wanted::RunBeside("a", Some(1_000_000_000), false, false),
+        ),
+        (
+            &["run", "--progress", "a"],
+            Wanted::RunBeside("a", None, true, false),
+        ),
+        (
+            &["run", "a", "--strict"],
+            Wanted::RunBeside("a", None, false, true),
+        ),
+        (
+            &["run", "--strict", "--seconds", "20", "a", "--progress"],
+            Wanted::RunBeside("a", Some(20), true, true),
+        ),
+        (&["run", "--", "--strict"], Wanted::Run("--strict")),
+        (&["run", "--seconds", "0", "a"], WRONG),
+        (&["run", "--seconds", "1000000001", "a"], WRONG),
+        (&["run", "--seconds", "-1", "a"], WRONG),
+        (&["run", "--seconds", "1.5", "a"], WRONG),
+        (&["run", "--seconds", "a"], WRONG),
+        (&["run", "--seconds"], WRONG),
+        (&["run", "--strict"], WRONG),
+        (&["run", "--strict=yes", "a"], WRONG),
+        (&["run", "--slow", "a"], WRONG),
+        (&["step", "--strict", "a"], WRONG),
     ];
     all_ask(&rt, rt.alloc(), ROWS)
 }

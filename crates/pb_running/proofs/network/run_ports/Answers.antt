@@ -32,7 +32,5 @@ returns-in-Ok-clause-ok g c =
       ended = ran.ended;
       tells_ended = c.in-Ok.ensures.ended;
       settled = ran.settled;
-      text = told.0;
-      written = told.1;
-      is_report = told.2;
+      report = told;
     }) c.tell.ensures.ok

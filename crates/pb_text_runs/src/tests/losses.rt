@@ -1,0 +1,294 @@
+//! What is told of copies, BPDUs and sources for which bridges had no room.
+
+use bytes::Bytes;
+use pb_frame::{Held, Memory};
+use pb_lan::{
+    BridgePlan, Item, Learnt, Mac, Moved, NoRoom, Outcome, Plan, PortSet, Reason, Record, Refusals,
+    Seq, Spanning, Step, Text,
+};
+use pb_losses::put_losses;
+use std::alloc::Global;
+use std::test::Fail;
+
+/// Local ports, each with the cause for which there was no room.
+type Ports = &'static [(u8, NoRoom)];
+
+/// What a bridge did.
+#[derive(Clone, Copy)]
+enum Did {
+    /// It relayed a frame, and these ports got no copy.
+    Relay(Ports),
+    /// It relayed a frame to no port, and its table answered this.
+    Learn(Learnt),
+    /// It relayed a frame with a new source that its table did not take, and these ports got no copy.
+    Refuse(Ports, Learnt),
+    /// It dropped a frame.
+    Filter,
+    /// It heard a BPDU, and these ports had no room for its own.
+    Hear(Ports),
+    /// It heard a BPDU that changed nothing.
+    HearNothing,
+    /// Its clock went on, and these ports had no room for a BPDU.
+    Tick(Ports),
+    /// A port was set up, and these had no room for a BPDU.
+    Admin(Ports),
+    /// It sent a frame.
+    Transmit,
+}
+
+use Did::{Admin, Filter, Hear, HearNothing, Learn, Refuse, Relay, Tick, Transmit};
+
+/// The bridges of the plan, in its order.
+const NAMES: [&str; 3] = ["B2", "B1", "core"];
+
+/// What each bridge of the record did, and what is told.
+type Row = (&'static [&'static [Did]], &'static str);
+
+const FULL: NoRoom = NoRoom::Full;
+
+const NO_MEMORY: NoRoom = NoRoom::Memory;
+
+/// Steps without losses: none of them has a line.
+const QUIET: &[Did] = &[
+    Relay(&[]),
+    Learn(Learnt::New),
+    Learn(Learnt::Kept),
+    Learn(Learnt::Moved),
+    Learn(Learnt::Group),
+    Filter,
+    Hear(&[]),
+    HearNothing,
+    Tick(&[]),
+    Admin(&[]),
+    Transmit,
+];
+
+const ROWS: [Row; 11] = [
+    (&[], ""),
+    (&[&[], &[], &[]], ""),
+    (&[QUIET, QUIET, QUIET], ""),
+    // copies, at the least and at the greatest port, with both causes
+    (
+        &[&[
+            Relay(&[(16, FULL)]),
+            Relay(&[(1, NO_MEMORY), (16, FULL)]),
+            Relay(&[(1, FULL), (16, NO_MEMORY)]),
+            Relay(&[(1, FULL), (2, FULL), (16, FULL)]),
+        ]],
+        "bridge B2 port 1: 2 copies not queued: full\n\
+         bridge B2 port 1: 1 copies not queued: memory\n\
+         bridge B2 port 2: 1 copies not queued: full\n\
+         bridge B2 port 16: 3 copies not queued: full\n\
+         bridge B2 port 16: 1 copies not queued: memory\n",
+    ),
+    // more than nine
+    (
+        &[&[Relay(&[(3, FULL)]); 12]],
+        "bridge B2 port 3: 12 copies not queued: full\n",
+    ),
+    // each step that may drop a BPDU; one port twice in a step
+    (
+        &[
+            &[],
+            &[
+                Hear(&[(4, FULL), (2, NO_MEMORY)]),
+                Tick(&[(4, FULL), (4, FULL)]),
+                Admin(&[(2, FULL)]),
+            ],
+        ],
+        "bridge B1 port 2: 1 BPDUs not queued: full\n\
+         bridge B1 port 2: 1 BPDUs not queued: memory\n\
+         bridge B1 port 4: 3 BPDUs not queued: full\n",
+    ),
+    // no line for a number that no local port has
+    (&[&[Tick(&[(0, FULL), (17, FULL), (255, NO_MEMORY)])]], ""),
+    // sources
+    (
+        &[
+            &[],
+            &[],
+            &[
+                Learn(Learnt::Full),
+                Learn(Learnt::Memory),
+                Learn(Learnt::New),
+                Learn(Learnt::Full),
+            ],
+        ],
+        "bridge core: 2 sources not learnt: full\n\
+         bridge core: 1 sources not learnt: memory\n",
+    ),
+    // the order: the plan's bridges, ports, copies before BPDUs, sources last
+    (
+        &[
+            &[
+                Refuse(&[(5, FULL), (7, NO_MEMORY)], Learnt::Memory),
+                Tick(&[(5, NO_MEMORY), (1, FULL)]),
+            ],
+            QUIET,
+            &[
+                Learn(Learnt::Full),
+                Admin(&[(5, FULL)]),
+                Relay(&[(5, NO_MEMORY)]),
+            ],
+        ],
+        "bridge B2 port 1: 1 BPDUs not queued: full\n\
+         bridge B2 port 5: 1 copies not queued: full\n\
+         bridge B2 port 5: 1 BPDUs not queued: memory\n\
+         bridge B2 port 7: 1 copies not queued: memory\n\
+         bridge B2: 1 sources not learnt: memory\n\
+         bridge core port 5: 1 copies not queued: memory\n\
+         bridge core port 5: 1 BPDUs not queued: full\n\
+         bridge core: 1 sources not learnt: full\n",
+    ),
+    // a record with fewer lists than the plan has bridges
+    (
+        &[&[Refuse(&[(1, FULL)], Learnt::Full)]],
+        "bridge B2 port 1: 1 copies not queued: full\n\
+         bridge B2: 1 sources not learnt: full\n",
+    ),
+    // and one with more
+    (
+        &[QUIET, QUIET, &[Tick(&[(1, FULL)])], &[Tick(&[(1, FULL)])]],
+        "bridge core port 1: 1 BPDUs not queued: full\n",
+    ),
+];
+
+/// What changed at the ports: nothing, but these had no room for a BPDU.
+fn moved_of(alloc: Global, ports: &[(u8, NoRoom)]) -> Result<Moved, Memory> {
+    let mut dropped = Vec::new(alloc);
+    for port in ports {
+        dropped.push(*port)?;
+    }
+    Ok(Moved {
+        states: Seq::from_vec(Vec::new(alloc)),
+        flushed: Seq::from_vec(Vec::new(alloc)),
+        queued: Seq::from_vec(Vec::new(alloc)),
+        dropped: Seq::from_vec(dropped),
+    })
+}
+
+fn relayed(refused: &[(u8, NoRoom)]) -> Outcome {
+    Outcome::Relayed {
+        chosen: PortSet::new(),
+        refused: Refusals::from_slice(refused).unwrap_or(Refusals::new()),
+    }
+}
+
+/// What became of a frame, and what the table answered.
+fn ruling_of(did: Did) -> (Option<Learnt>, Outcome) {
+    match did {
+        Relay(ports) => (Some(Learnt::Kept), relayed(ports)),
+        Learn(learnt) => (Some(learnt), relayed(&[])),
+        Refuse(ports, learnt) => (Some(learnt), relayed(ports)),
+        Filter => (None, Outcome::Filtered(Reason::NotMember)),
+        _ => (None, Outcome::Heard),
+    }
+}
+
+fn item(alloc: Global) -> Result<Item, Memory> {
+    Ok(Item {
+        mark: None,
+        hops: 0,
+        wire: Bytes::copy_from_slice(alloc, b"\xab\x01")?,
+    })
+}
+
+/// The step in which a bridge received a frame.
+fn receipt_of(alloc: Global, did: Did) -> Result<Step, Memory> {
+    let moved = match did {
+        Hear(ports) => Some(Held::new(alloc, moved_of(alloc, ports)?)?),
+        _ => None,
+    };
+    let item = item(alloc)?;
+    let (learnt, outcome) = ruling_of(did);
+    Ok(Step::Receive {
+        port: 9,
+        item,
+        learnt,
+        outcome,
+        moved,
+    })
+}
+
+fn step_of(alloc: Global, did: Did) -> Result<Step, Memory> {
+    match did {
+        Tick(ports) => Ok(Step::Tick {
+            now: 1,
+            moved: moved_of(alloc, ports)?,
+        }),
+        Admin(ports) => Ok(Step::Admin {
+            port: 3,
+            up: true,
+            moved: moved_of(alloc, ports)?,
+        }),
+        Transmit => Ok(Step::Transmit {
+            port: 9,
+            item: item(alloc)?,
+        }),
+        _ => receipt_of(alloc, did),
+    }
+}
+
+fn steps_of(alloc: Global, all: &[Did]) -> Result<Seq<Step>, Memory> {
+    let mut steps = Vec::new(alloc);
+    for did in all {
+        steps.push(step_of(alloc, *did)?)?;
+    }
+    Ok(Seq::from_vec(steps))
+}
+
+/// The record in which the bridges did this.
+fn record_of(alloc: Global, bridges: &[&[Did]]) -> Result<Record, Memory> {
+    let mut lists = Vec::new(alloc);
+    for all in bridges {
+        lists.push(steps_of(alloc, all)?)?;
+    }
+    Ok(Record {
+        bridges: Seq::from_vec(lists),
+        lanes: Seq::from_vec(Vec::new(alloc)),
+        customers: Seq::from_vec(Vec::new(alloc)),
+    })
+}
+
+/// The plan of the bridges, which are joined by nothing.
+fn plan_of(alloc: Global) -> Result<Plan, Memory> {
+    let mut bridges = Vec::new(alloc);
+    for name in NAMES {
+        let name = Text::from_string(String::from_str(alloc, name)?);
+        let address = Mac([2, 0, 0, 0, 0, 1]);
+        bridges.push(BridgePlan {
+            name,
+            address,
+            priority: 32768,
+            queue: 1,
+        })?;
+    }
+    Ok(Plan {
+        bridges: Seq::from_vec(bridges),
+        links: Seq::from_vec(Vec::new(alloc)),
+        services: Seq::from_vec(Vec::new(alloc)),
+        customers: Seq::from_vec(Vec::new(alloc)),
+        spanning: Spanning::Fixed,
+        ageing: 300,
+        ring: 1,
+        steps: 1000,
+    })
+}
+
+/// What stands there, and behind it what is told where the bridges did this.
+fn told(alloc: Global, bridges: &[&[Did]]) -> Result<String, Memory> {
+    let plan = plan_of(alloc)?;
+    let record = record_of(alloc, bridges)?;
+    let mut out = String::from_str(alloc, "before\n")?;
+    put_losses(&mut out, &plan, &record)?;
+    Ok(out)
+}
+
+#[test]
+fn nothing_is_lost_in_silence(rt: HostRuntime) -> Result<(), Fail> {
+    for (bridges, want) in ROWS {
+        let text = told(rt.alloc(), bridges)?;
+        assert_eq!(rt; text.as_str().strip_prefix("before\n"), Some(want));
+    }
+    Ok(())
+}

@@ -1,0 +1,94 @@
+//! What the words behind `run` ask for.
+
+ghost use Rattle.std.specs.Prelude.{◌≡◌, ◌≤◌, IfOk, IfSome, string_bytes};
+ghost use Rattle.pb_words.specs.Orders.{AreSeconds};
+
+use clap::{Arg, ArgAction, ArgMatches, Command, Error};
+use std::alloc::{AllocError, Global};
+
+/// The most seconds after which a run may be stopped.
+const MOST: u32 = 1_000_000_000;
+
+/// What `run` does.
+const RUN: &str =
+    "Runs the network of a plan file, each bridge, link and port in a thread of its own, and reports at the end";
+
+/// What `--seconds` does.
+const SECONDS: &str =
+    "Stops the run after N seconds, 1 to 1000000000, and reports; without it a run goes on until nothing is left to do or a limit of the plan is reached";
+
+/// What `--progress` does.
+const PROGRESS: &str =
+    "Tells on standard error once a second how many frames have entered and left, on a terminal or not";
+
+/// What `--strict` does.
+const STRICT: &str =
+    "Exits with status 4 where a frame was lost for want of room, memory or a device, or the run did not drain, or bridges have not settled";
+
+/// A run of the network of a plan file, and what is to be done beside it.
+#[derive(PartialEq, Eq, Debug, Drop)]
+pub struct RunOrder {
+    /// The plan file's path.
+    pub path: String,
+    /// After how many seconds the run is to be stopped, 1 to 1,000,000,000. None: it isn't.
+    pub seconds: Option<u32>,
+    /// How many frames have entered and left is told once a second, whether standard error is a terminal or not.
+    pub progress: bool,
+    /// A run that lost a frame has an exit status of its own.
+    pub strict: bool,
+}
+
+/// An argument that is there or not.
+fn flag<'a>(alloc: Global, name: &'a str, help: &'a str) -> Arg<'a> {
+    Arg::new(alloc, name)
+        .long(name)
+        .help(help)
+        .action(ArgAction::SetTrue)
+}
+
+/// The argument that tells after how many seconds a run is stopped.
+fn seconds<'a>(alloc: Global) -> Arg<'a> {
+    Arg::new(alloc, "seconds")
+        .long("seconds")
+        .value_name("N")
+        .help(SECONDS)
+        .action(ArgAction::Set)
+        .value_parser(clap::value_parser!(u32).range(1..=1_000_000_000))
+}
+
+/// The command `run`, but for its plan file.
+pub(crate) fn run_command<'a>(alloc: Global) -> Result<Command<'a>, Error> {
+    let command = Command::new(alloc, "run").about(RUN);
+    let command = command.arg(seconds(alloc))?;
+    let command = command.arg(flag(alloc, "progress", PROGRESS))?;
+    Ok(command.arg(flag(alloc, "strict", STRICT))?)
+}
+
+/// After how many seconds a run is to be stopped.
+fn seconds_of(given: &ArgMatches<'_>) -> Option<u32>
+    ensures { AreSeconds result }
+{
+    let seconds = given.get_one::<u32>("seconds")?;
+    if 1 <= seconds && seconds <= MOST {
+        Some(seconds)
+    } else {
+        None
+    }
+}
+
+/// The run of the plan file at a path that the words ask for.
+pub(crate) fn run_order(
+    alloc: Global,
+    path: &str,
+    given: &ArgMatches<'_>,
+) -> Result<RunOrder, AllocError>
+    ensures path { IfOk result (λ run. string_bytes run.path ≡ path.now) }
+    ensures seconds { IfOk result (λ run. AreSeconds run.seconds) }
+{
+    Ok(RunOrder {
+        path: String::from_str(alloc, path)?,
+        seconds: seconds_of(given),
+        progress: given.get_flag("progress"),
+        strict: given.get_flag("strict"),
+    })
+}
