@@ -1,6 +1,6 @@
 #!/usr/bin/env bash
 # Runs the proved program on the examples, and compares what it prints and writes with what stands beside them: `flat`,
-# `show`, `check`, each step script, and `run` with record.toml, captures.toml, and sockets.toml with its peers, where
+# `show`, `check`, `init`, each step script, and `run` with record.toml, captures.toml, and sockets.toml with its peers, where
 # python3 is there, and clock.toml; that a run is stopped in time; and that runs which are refused leave files as they were. The gate runs the same texts as tests,
 # which same.sh compares with these files.
 set -eu
@@ -31,6 +31,22 @@ for name in broadcast learning reasons; do
 done
 prints show.expected show
 prints plan-file.expected check examples/plan-file.toml
+prints init.toml init
+
+# What `init` prints runs at once, and its first port's broadcast leaves all others. A ring has a clock.
+for words in "" "--ring 3" "--star 4"; do
+    # shellcheck disable=SC2086
+    ./pbnet init $words >out/begun.toml
+    if ! ./pbnet check out/begun.toml >out/begun.check || ! ./pbnet run --strict out/begun.toml >out/begun.report; then
+        echo "examples: init $words gives a plan that is refused, or loses frames" >&2
+        status=1
+    fi
+    if [ "$(grep -c '^port C[0-9]* entered 0 left 1 filtered 0$' out/begun.report)" != "$(($(grep -c '^port ' out/begun.report) - 1))" ]; then
+        echo "examples: the broadcast of init $words does not leave all ports but its own" >&2
+        status=1
+    fi
+done
+
 for script in examples/*.steps; do
     name=$(basename -- "$script" .steps)
     prints "$name.expected" step "examples/$name.toml" <"$script"

@@ -51,6 +51,9 @@ is_copied PLAN_FILE examples pb_check_runs plan-file.toml
 is_copied PLAN_FILE_ANSWER examples pb_check_runs plan-file.expected
 is_copied SHOWN examples pb_check_runs show.expected
 
+# init.
+is_copied INIT examples pb_init_runs init.toml
+
 # run: the metro ring between captures.
 is_copied PLAN captures pb_running_runs captures.toml
 is_copied REPORT captures pb_running_runs captures.report

@@ -1,13 +1,29 @@
 -- What the program may be asked to do.
-use Rattle.std.specs.Prelude.{◌≡◌, ℕ, ◌≤◌, List, Some, None, codes, string_bytes}
+use Rattle.std.specs.Prelude.{◌≡◌, ◌⊎◌, ℕ, ◌≤◌, List, Some, None, codes, string_bytes}
 use Rattle.std.specs.declared.option.Option.{Option}
+use Rattle.pb_words.specs.declared.init_order.InitOrder.{InitOrder}
+use Rattle.pb_words.specs.declared.init_order.InitOrder.TheVariants.{Line, Ring, Star}
 use Rattle.pb_words.specs.declared.order.Order.{Order}
-use Rattle.pb_words.specs.declared.order.Order.TheVariants.{Flat, Check, Step, Run, Show}
+use Rattle.pb_words.specs.declared.order.Order.TheVariants.{Flat, Check, Step, Run, Show, Init}
 
 -- a run is stopped after 1 to 1,000,000,000 seconds, or not
 abbrev pub AreSeconds : Option ℕ → Type 0
 AreSeconds None = Unit {0}
 AreSeconds (Some seconds) = (1 ≤ seconds) × (seconds ≤ 1000000000)
+
+-- a line has 1 to 32 bridges, a ring 3 to 32, and a star 2 to 17
+abbrev pub IsNetwork : InitOrder → Type 0
+IsNetwork (Line bridges) = (1 ≤ bridges) × (bridges ≤ 32)
+IsNetwork (Ring bridges) = (3 ≤ bridges) × (bridges ≤ 32)
+IsNetwork (Star bridges) = (2 ≤ bridges) × (bridges ≤ 17)
+
+-- the network of the word that is there; without one, a line of two
+abbrev pub IsAsked : Option ℕ → Option ℕ → Option ℕ → InitOrder → Type 0
+IsAsked line ring star order =
+    ((line ≡ None) × (ring ≡ None) × (star ≡ None) × (order ≡ Line 2))
+    ⊎ ((bridges : ℕ) × (line ≡ Some bridges) × (ring ≡ None) × (star ≡ None) × (order ≡ Line bridges))
+    ⊎ ((bridges : ℕ) × (line ≡ None) × (ring ≡ Some bridges) × (star ≡ None) × (order ≡ Ring bridges))
+    ⊎ ((bridges : ℕ) × (line ≡ None) × (ring ≡ None) × (star ≡ Some bridges) × (order ≡ Star bridges))
 
 -- a flat run has 2 to 16 ports
 abbrev pub IsAllowed : Order → Type 0
@@ -16,6 +32,7 @@ IsAllowed (Check path) = Unit {0}
 IsAllowed (Step path) = Unit {0}
 IsAllowed (Run run) = AreSeconds run.seconds
 IsAllowed Show = Unit {0}
+IsAllowed (Init order) = IsNetwork order
 
 -- the order of a command that has the plan file at a path, and nothing else
 abbrev pub IsFileOrder : List ℕ → List ℕ → Order → Type 0

@@ -1,8 +1,10 @@
 //! What the words of the program's command line ask for.
 #![tactic(auto)]
 
+mod init_order;
 mod order;
 mod run_order;
 
+pub use init_order::InitOrder;
 pub use order::{Order, order_of};
 pub use run_order::RunOrder;

@@ -4,6 +4,7 @@ ghost use Rattle.std.specs.Prelude.{IfOk, IfSome, IfNone};
 ghost use Rattle.pb_words.specs.Orders.{IsAllowed, IsFileOrder};
 ghost use Rattle.pb_words.specs.declared.order.Order.{Order};
 
+use crate::init_order::{InitOrder, init_command, init_order};
 use crate::run_order::{RunOrder, run_command, run_order};
 use clap::{Arg, ArgAction, Command, Error};
 use std::alloc::{AllocError, Global};
@@ -40,6 +41,8 @@ pub enum Order {
     Run(RunOrder),
     /// Telling what becomes of frames for the reserved addresses.
     Show,
+    /// Printing a plan file to begin with.
+    Init(InitOrder),
 }
 
 /// The argument that names a plan file.
@@ -92,7 +95,8 @@ fn commands<'a>(alloc: Global) -> Result<Command<'a>, Error> {
     let program = with_plan(alloc, program, "step", STEP)?;
     let program = with(program, run_command(alloc)?, plan_file(alloc))?;
     let show = Command::new(alloc, "show").about(SHOW);
-    Ok(program.subcommand(show)?)
+    let program = program.subcommand(show)?;
+    Ok(program.subcommand(init_command(alloc)?)?)
 }
 
 /// What a command asks for that has a plan file and nothing else. None where it is no such command.
@@ -125,6 +129,10 @@ pub fn order_of(alloc: Global, words: &[String]) -> Result<Option<Order>, Error>
             _ => Ok(None),
         },
         Some(("show", _)) => Ok(Some(Order::Show)),
+        Some(("init", given)) => match init_order(given) {
+            Some(order) => Ok(Some(Order::Init(order))),
+            None => Ok(None),
+        },
         Some((command, given)) => match given.get_str("FILE") {
             Some(path) if command == "run" => Ok(Some(Order::Run(run_order(alloc, path, given)?))),
             Some(path) => Ok(file_order(alloc, command, path)?),

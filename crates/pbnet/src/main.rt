@@ -16,10 +16,11 @@ mod progress;
 use clap::error::ErrorKind as WordsFault;
 use pb_check::{run_check, run_show};
 use pb_flat::{Switch, run_flat_on};
+use pb_init::{Shape, write_plan};
 use pb_print::CommandFault;
 use pb_running::{Strictness, Traffic, run_network};
 use pb_step::run_script;
-use pb_words::{Order, RunOrder, order_of};
+use pb_words::{InitOrder, Order, RunOrder, order_of};
 use progress::{Progress, Shown};
 use std::fmt::Display;
 use std::fs::{File, Files};
@@ -56,6 +57,7 @@ fn main(rt: HostRuntime) -> ExitCode {
             run(&rt, &order, shown, &mut errors)
         }
         Ok(Some(Order::Show)) => show(&rt),
+        Ok(Some(Order::Init(order))) => init(&rt, order),
         Ok(None) => ExitCode::from(WRONG_WORDS),
         Err(e) if e.kind() == WordsFault::OutOfMemory => tell(&rt, CommandFault::Memory),
         Err(e) => {
@@ -209,6 +211,19 @@ where
 /// Tells what becomes of frames for the reserved addresses.
 fn show(rt: &impl Print) -> ExitCode {
     match run_show(&mut io::writer(rt)) {
+        Err(fault) => tell(rt, fault),
+        Ok(()) => ExitCode::SUCCESS,
+    }
+}
+
+/// Prints a plan file to begin with.
+fn init(rt: &(impl Print + AllocGlobal), order: InitOrder) -> ExitCode {
+    let shape = match order {
+        InitOrder::Line(bridges) => Shape::Line(bridges),
+        InitOrder::Ring(bridges) => Shape::Ring(bridges),
+        InitOrder::Star(bridges) => Shape::Star(bridges),
+    };
+    match write_plan(rt.alloc(), shape, &mut io::writer(rt)) {
         Err(fault) => tell(rt, fault),
         Ok(()) => ExitCode::SUCCESS,
     }

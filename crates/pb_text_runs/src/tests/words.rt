@@ -1,6 +1,6 @@
 //! What the words of the command line ask for.
 
-use pb_words::{Order, RunOrder, order_of};
+use pb_words::{InitOrder, Order, RunOrder, order_of};
 use std::alloc::{AllocError, Global};
 use std::process::Abort;
 use std::test::Fail;
@@ -15,6 +15,7 @@ enum Wanted {
     /// With the seconds, whether progress is told, and whether it is strict.
     RunBeside(&'static str, Option<u32>, bool, bool),
     Show,
+    Init(InitOrder),
     /// They are wrong, or ask for help.
     Nothing { wrong: bool },
 }
@@ -53,6 +54,7 @@ fn wanted_of(alloc: Global, wanted: Wanted) -> Result<Result<Order, bool>, Alloc
             Order::Run(run_of(alloc, path, seconds, progress, strict)?)
         }
         Wanted::Show => Order::Show,
+        Wanted::Init(order) => Order::Init(order),
         Wanted::Nothing { wrong } => return Ok(Err(wrong)),
     }))
 }
@@ -194,6 +196,34 @@ fn runs_have_words_beside_the_file(rt: HostRuntime) -> Result<(), Fail> {
 #[test]
 fn shows_without_further_words(rt: HostRuntime) -> Result<(), Fail> {
     all_ask(&rt, rt.alloc(), &[(&["show"], Wanted::Show)])
+}
+
+#[test]
+fn begins_with_a_network(rt: HostRuntime) -> Result<(), Fail> {
+    const ROWS: &[Row] = &[
+        (&["init"], Wanted::Init(InitOrder::Line(2))),
+        (&["init", "--line", "1"], Wanted::Init(InitOrder::Line(1))),
+        (&["init", "--line=32"], Wanted::Init(InitOrder::Line(32))),
+        (&["init", "--ring", "3"], Wanted::Init(InitOrder::Ring(3))),
+        (&["init", "--ring", "32"], Wanted::Init(InitOrder::Ring(32))),
+        (&["init", "--star", "2"], Wanted::Init(InitOrder::Star(2))),
+        (&["init", "--star", "17"], Wanted::Init(InitOrder::Star(17))),
+        (&["init", "--line", "0"], WRONG),
+        (&["init", "--line", "33"], WRONG),
+        (&["init", "--ring", "2"], WRONG),
+        (&["init", "--ring", "33"], WRONG),
+        (&["init", "--star", "1"], WRONG),
+        (&["init", "--star", "18"], WRONG),
+        (&["init", "--ring", "258"], WRONG),
+        (&["init", "--ring"], WRONG),
+        (&["init", "--ring", "3", "--line", "3"], WRONG),
+        (&["init", "--ring", "3", "--star", "3"], WRONG),
+        (&["init", "--line", "3", "--star", "3"], WRONG),
+        (&["init", "--ring", "3", "--ring", "4"], WRONG),
+        (&["init", "3"], WRONG),
+        (&["init", "--help"], HELP),
+    ];
+    all_ask(&rt, rt.alloc(), ROWS)
 }
 
 #[test]

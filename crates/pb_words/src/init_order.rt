@@ -1,0 +1,88 @@
+//! What the words behind `init` ask for.
+
+ghost use Rattle.std.specs.Prelude.{IfSome};
+ghost use Rattle.pb_words.specs.Orders.{IsNetwork, IsAsked};
+
+use clap::{Arg, ArgAction, ArgMatches, Command, Error};
+use std::alloc::Global;
+
+/// What `init` does.
+const INIT: &str =
+    "Prints a plan file to begin with: bridges in a line, a ring or a star, one service, and comments; without a word two bridges in a line";
+
+/// What `--line` does.
+const LINE: &str = "A line of N bridges, 1 to 32";
+
+/// What `--ring` does.
+const RING: &str = "A ring of N bridges, 3 to 32, which find a spanning tree before frames enter";
+
+/// What `--star` does.
+const STAR: &str = "A star of N bridges, 2 to 17: the first is joined to each of the others";
+
+/// The network of which a plan file is to be printed.
+#[derive(Clone, Copy, PartialEq, Eq, Debug)]
+pub enum InitOrder {
+    /// A line of so many bridges, 1 to 32.
+    Line(u8),
+    /// A ring of so many bridges, 3 to 32.
+    Ring(u8),
+    /// A star of so many bridges, its centre among them, 2 to 17.
+    Star(u8),
+}
+
+/// The argument that asks for so many bridges, in place of two others.
+fn network<'a>(
+    alloc: Global,
+    name: &'a str,
+    help: &'a str,
+    least: i64,
+    most: i64,
+    others: [&'a str; 2],
+) -> Result<Arg<'a>, Error> {
+    let argument = Arg::new(alloc, name)
+        .long(name)
+        .value_name("N")
+        .help(help)
+        .action(ArgAction::Set)
+        .value_parser(clap::value_parser!(u8).range(least..=most));
+    Ok(argument.conflicts_with_all(&others)?)
+}
+
+/// The command `init`.
+pub(crate) fn init_command<'a>(alloc: Global) -> Result<Command<'a>, Error> {
+    let command = Command::new(alloc, "init").about(INIT);
+    let command = command.arg(network(alloc, "line", LINE, 1, 32, ["ring", "star"])?)?;
+    let command = command.arg(network(alloc, "ring", RING, 3, 32, ["line", "star"])?)?;
+    Ok(command.arg(network(alloc, "star", STAR, 2, 17, ["line", "ring"])?)?)
+}
+
+/// The network that these words ask for, of which at most one is there. None where its number is out of range.
+fn network_of(line: Option<u8>, ring: Option<u8>, star: Option<u8>) -> Option<InitOrder>
+    ensures { IfSome result (λ order. IsNetwork order × IsAsked line ring star order) }
+{
+    match (line, ring, star) {
+        (None, None, None) => Some(InitOrder::Line(2)),
+        (Some(bridges), None, None) if 1 <= bridges && bridges <= 32 => {
+            Some(InitOrder::Line(bridges))
+        }
+        (None, Some(bridges), None) if 3 <= bridges && bridges <= 32 => {
+            Some(InitOrder::Ring(bridges))
+        }
+        (None, None, Some(bridges)) if 2 <= bridges && bridges <= 17 => {
+            Some(InitOrder::Star(bridges))
+        }
+        _ => None,
+    }
+}
+
+/// The network that the words behind `init` ask for. None doesn't come, since an argument that is read is in its range and
+/// has no other beside it; no contract says so.
+pub(crate) fn init_order(given: &ArgMatches<'_>) -> Option<InitOrder>
+    ensures { IfSome result IsNetwork }
+{
+    network_of(
+        given.get_one::<u8>("line"),
+        given.get_one::<u8>("ring"),
+        given.get_one::<u8>("star"),
+    )
+}
