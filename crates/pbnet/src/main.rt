@@ -1,12 +1,12 @@
 //! A provider bridged Ethernet network in one process.
 //!
-//! The exit status is 0 where all went well, 1 where a plan file was refused, 2 where the words of the
-//! command line ask for nothing that is known, and 3 after a line that begins with `fault:`. Such a line is the
-//! last one that is printed: `fault: read`, `write` or `memory` where reading, writing or memory failed,
-//! `steps` where a bridge had taken all its steps, `path` where a file can't be opened, a socket not be
-//! connected to, or a file has two uses (standard error says which), `spawn` where a thread could not be started, and, behind the report of a run, `port NAME N`
-//! for each port whose input has the fault N. A run that is strict has the status 4 where it would be 0 and a frame was
-//! lost, the run did not drain, or bridges have not settled.
+//! The exit status is 0 where all went well, 1 where a plan file was refused (standard error says at which line, as far as
+//! that can be told), 2 where the words of the command line ask for nothing that is known, and 3 after a line that begins
+//! with `fault:`. Such a line is the last one that is printed: `fault: read`, `write` or `memory` where reading, writing or
+//! memory failed, `steps` where a bridge had taken all its steps, `path` where a file can't be opened, a socket not be
+//! connected to, or a file has two uses (standard error says which), `spawn` where a thread could not be started, and,
+//! behind the report of a run, `port NAME N` for each port whose input has the fault N. A run that is strict has the status
+//! 4 where it would be 0 and a frame was lost, the run did not drain, or bridges have not settled.
 #![tactic(auto)]
 
 ghost use Rattle.std.specs.Prelude.{◌≤◌};
@@ -17,6 +17,7 @@ use clap::error::ErrorKind as WordsFault;
 use pb_check::{run_check, run_show};
 use pb_flat::{Switch, run_flat_on};
 use pb_init::{Shape, write_plan};
+use pb_locate::refused_at;
 use pb_print::CommandFault;
 use pb_running::{Strictness, Traffic, run_network};
 use pb_step::run_script;
@@ -32,6 +33,9 @@ use std::sync::{Arc, Wait};
 use std::thread::Threads;
 use std::time::Clock;
 use std::{env, fs, io, mem};
+
+/// The exit status where a plan file is refused.
+const REFUSED: u8 = 1;
 
 /// The exit status where the words ask for nothing that is known.
 const WRONG_WORDS: u8 = 2;
@@ -138,7 +142,7 @@ fn check(rt: &(impl Files + Print + Eprint + AllocGlobal), path: &str) -> ExitCo
     };
     match run_check(rt.alloc(), file.as_slice(), &mut io::writer(rt)) {
         Err(fault) => tell(rt, fault),
-        Ok(status) => ExitCode::from(status),
+        Ok(status) => ended(rt, path, file.as_slice(), status),
     }
 }
 
@@ -157,7 +161,7 @@ fn step<R: Files + Input + Print + Eprint + AllocGlobal>(rt: &R, path: &str) -> 
     match ran {
         Err(fault) => tell(rt, fault),
         Ok(_) if flushed.is_err() => tell(rt, CommandFault::Write),
-        Ok(status) => ExitCode::from(status),
+        Ok(status) => ended(rt, path, file.as_slice(), status),
     }
 }
 
@@ -203,9 +207,20 @@ where
         &mut io::writer(rt),
         errors,
     ) {
-        Ok(status) => ExitCode::from(status),
+        Ok(status) => ended(rt, order.path.as_str(), file.as_slice(), status),
         Err(fault) => tell(rt, fault),
     }
+}
+
+/// The exit status of a command over a plan file. Where the file was refused, standard error says where it breaks a rule, as
+/// far as that can be told.
+fn ended(rt: &(impl Eprint + AllocGlobal), path: &str, file: &[u8], status: u8) -> ExitCode {
+    if status == REFUSED {
+        if let Ok(Some(spot)) = refused_at(rt.alloc(), file) {
+            let _ = eprintln!(rt; "{path}: {spot}");
+        }
+    }
+    ExitCode::from(status)
 }
 
 /// Tells what becomes of frames for the reserved addresses.

@@ -1,0 +1,4 @@
+pub mod LeftOver
+pub mod StripLemmas
+pub mod LineLemmas
+pub mod PlaceLaws

@@ -1,0 +1,4 @@
+pub mod Lines
+pub mod Stripping
+pub mod Places
+pub mod Spots
