@@ -1,7 +1,8 @@
 #!/usr/bin/env bash
 # Runs the proved program on the examples, and compares what it prints and writes with what stands beside them: `flat`,
-# `show`, `check`, `init`, each step script, and `run` with record.toml, captures.toml, and sockets.toml with its peers, where
-# python3 is there, and clock.toml; that a run is stopped in time; and that runs which are refused leave files as they were. The gate runs the same texts as tests,
+# `show`, `check`, `init`, each step script, and `run` with record.toml, captures.toml, clock.toml, and sockets.toml with
+# its peers, where python3 is there; that a run is stopped in time; that runs which are refused leave files as they were;
+# and that standard error says where a plan is wrong. The gate runs the same texts as tests,
 # which same.sh compares with these files.
 set -eu
 cd -- "$(dirname -- "$0")/.."
@@ -118,6 +119,26 @@ if [ -e out/made.pcap ]; then
     echo "examples: out/made.pcap was made by a run that was refused" >&2
     status=1
 fi
+
+# A plan that breaks a rule is told as by `check`, and standard error says where: in a table that lacks a key, where the
+# reader of TOML stops, and nothing where two services have one name.
+is_wrong() {
+    local command told
+    for command in check step run; do
+        told=0
+        ./pbnet "$command" out/wrong.toml >out/wrong.answer 2>out/wrong.errors </dev/null || told=$?
+        if [ "$told" != 1 ] || [ "$(cat out/wrong.answer)" != "$1" ] || [ "$(cat out/wrong.errors)" != "$2" ]; then
+            echo "examples: $command: not wrong by '$1' and '$2': $told, $(cat out/wrong.answer out/wrong.errors)" >&2
+            status=1
+        fi
+    done
+}
+printf '[network]\nageing = 300\n\n[[bridge]]\nname = "B1"\n' >out/wrong.toml
+is_wrong "plan: 3 missing bridge[0].address" "out/wrong.toml: line 4"
+printf '[network]\nageing = 300 300\n' >out/wrong.toml
+is_wrong "plan: 2 toml" "out/wrong.toml: line 2, column 10"
+printf '[[service]]\nname = "S"\nvid = %s\n' 1 2 >out/wrong.toml
+is_wrong "plan: 7 twice S" ""
 
 # A port whose peer never shuts its side is stopped, and a strict run says so.
 if command -v python3 >/dev/null 2>&1; then

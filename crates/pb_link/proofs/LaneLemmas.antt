@@ -1,17 +1,18 @@
 -- A lane's steps, with one step more.
-use Rattle.std.proofs.Common.{◌≡◌, ℕ, suc, ◌+◌, ◌≤◌, Bool, true, false, not, if◌then◌else◌, ◌==◌, List, [], ◌∷◌, ◌++◌, Some, None, length, map, slice_get, get_or, refl, sym, ap, subst, ◌∙◌, arith, append-nil, length-append}
+use Rattle.std.proofs.Common.{◌≡◌, ℕ, suc, ◌+◌, ◌≤◌, Bool, true, false, not, if◌then◌else◌, ◌==◌, List, [], ◌∷◌, ◌++◌, Some, None, length, map, slice_get, refl, sym, ap, subst, ◌∙◌, arith, append-nil, length-append}
 use Rattle.std.proofs.lemmas.List.{map-append, length-map}
 use Rattle.std.specs.List.{list_any, filter}
-use Rattle.std.specs.declared.option.Option.{Option}
-use Rattle.std.proofs.lemmas.Bool.{leb-true}
-use Rattle.std.proofs.lemmas.Option.{get_or_from_slice_get}
-use Rattle.pb_frame.proofs.Lists.{All-append, Some-injective, filter-append}
+use Rattle.pb_frame.proofs.Lists.{All-append, filter-append}
 use Rattle.pb_lan.specs.LaneLists.{Taken, all_taken, taken, taken_by, carried, put, put_by, IsLaneStep, AreCounted}
+use Rattle.pb_lan.specs.StepLists.{StepsView, given_back}
 use Rattle.pb_lan.specs.declared.step.Item.{Item}
 use Rattle.pb_lan.specs.declared.step.Step.{Step}
 use Rattle.pb_lan.specs.declared.step.Step.TheVariants.{Poll, Feed, Deliver, Receive, Transmit, Tick, Admin, Take, Put}
-use Rattle.pb_link.specs.Lanes.{is_hand_empty, in_hand, IsHand, IsLaneKept}
-use Rattle.pb_link.proofs.PlaceLemmas.{flat_map-more, slice_get-next}
+use Rattle.pb_link.specs.Holdings.{held, holding_of, IsHand}
+use Rattle.pb_link.specs.Lanes.{is_hand_empty, in_hand, IsLaneKept}
+use Rattle.pb_link.specs.declared.holding.Holding.{Holding}
+use Rattle.pb_link.specs.declared.holding.Holding.TheVariants.{Nothing, At, This}
+use Rattle.pb_link.proofs.HandLemmas.{flat_map-more, slice_get-next, nothing_in_hand, hand-new, whole_by}
 
 -- items that are counted, and one more with the next number
 counted-more : (losses : List ℕ) (n : ℕ) (ts : List Taken) (t : Taken) → AreCounted losses n ts
@@ -39,38 +40,18 @@ none-behind : {X : Type 0} (xs : List X) → slice_get xs (length xs) ≡ None
 none-behind [] = refl
 none-behind (x ∷ xs) = none-behind xs
 
--- what the hand says of the item in it
-pub none_in_hand : (steps : List Step) → IsHand steps None → in_hand steps ≡ None
+-- what the lists say of the item in hand
+pub none_in_hand : (steps : List Step) → put steps ≡ carried steps → in_hand steps ≡ None
 none_in_hand steps held = ap (λ (items : List Item). slice_get (carried steps) (length items)) held ∙ none-behind (carried steps)
 
 pub one_in_hand : (steps : List Step) (item : Item) → put steps ++ item ∷ [] ≡ carried steps → in_hand steps ≡ Some item
 one_in_hand steps item whole = ap (λ (items : List Item). slice_get items (length (put steps))) (sym whole) ∙ slice_get-next (put steps) [] item
 
--- an empty hand is none
-pub no_hand : (steps : List Step) (hand : Option ℕ) → IsHand steps hand → is_hand_empty steps ≡ true → hand ≡ None
-no_hand steps None held e = refl
-no_hand steps (Some place) held e =
-    let wrong : length (carried steps) ≤ length (put steps) = leb-true (length (carried steps)) (length (put steps)) e in
-    absurd (omega (arith, ap length held.3, length-append (put steps) (held.1 ∷ [])))
-
--- the step that the hand names has the item in hand
-pub hand_step : (steps : List Step) (hand : Option ℕ) (place : ℕ) (d : Step) → IsHand steps hand → hand ≡ Some place
-    → (number : ℕ) × (item : Item) × (get_or steps place d ≡ Take number item false) × (in_hand steps ≡ Some item)
-hand_step steps None place d held e = cc
-hand_step steps (Some other) place d held e =
-    let one : other ≡ place = Some-injective e in (
-      held.0,
-      held.1,
-      ap (λ (k : ℕ). get_or steps k d) (sym one) ∙ get_or_from_slice_get steps other (Take held.0 held.1 false) d held.2,
-      one_in_hand steps held.1 held.3,
-    )
-
--- a lane is empty where its hand is
-pub hand-empty : (steps : List Step) → put steps ≡ carried steps → is_hand_empty steps ≡ true
-hand-empty steps e = grind (arith, ap length e)
-
-pub hand-full : (steps : List Step) (item : Item) → put steps ++ item ∷ [] ≡ carried steps → is_hand_empty steps ≡ false
-hand-full steps item e = grind (arith, ap length e, length-append (put steps) (item ∷ []))
+-- the hand has the item that the lists tell
+pub hand-item : (steps : List Step) (is_kept : Bool) (hand : Holding) → IsHand steps is_kept (put steps) (carried steps) hand → held steps hand ≡ in_hand steps
+hand-item steps is_kept Nothing h = sym (none_in_hand steps h)
+hand-item steps is_kept (At place) h = h.2 ∙ sym (one_in_hand steps h.1 h.3)
+hand-item steps is_kept (This item) h = sym (one_in_hand steps item h.1)
 
 -- what a Take adds to the lists
 all-take : (steps : List Step) (number : ℕ) (item : Item) (lost : Bool)
@@ -110,10 +91,11 @@ length-take : (steps : List Step) (count : ℕ) (item : Item) (lost : Bool) → 
 length-take steps count item lost e = omega (arith, e, ap length (taken-take steps count item lost), length-append (taken steps) (item ∷ []))
 
 -- after a Take
-pub after_take : (losses : List ℕ) (steps : List Step) (count : ℕ) (item : Item) (lost : Bool) → IsLaneKept losses steps None count
+after_take : (losses : List ℕ) (steps : List Step) (is_kept : Bool) (count : ℕ) (item : Item) (lost : Bool) → IsLaneKept losses steps is_kept Nothing count
     → lost ≡ list_any (λ k. k == count) losses
-    → IsLaneKept losses (steps ++ Take count item lost ∷ []) (if lost then None else Some (length steps)) (count + 1)
-after_take losses steps count item true kept e =
+    → IsLaneKept losses (steps ++ Take count item lost ∷ []) is_kept
+    (if lost then Nothing else holding_of (length steps) (given_back is_kept (Take count item lost))) (count + 1)
+after_take losses steps is_kept count item true kept e =
     let empty : put (steps ++ Take count item true ∷ []) ≡ carried (steps ++ Take count item true ∷ []) =
     put-take steps count item true ∙ kept.held ∙ sym (carried-take steps count item true ∙ append-nil (carried steps)) in
     record {
@@ -125,7 +107,7 @@ after_take losses steps count item true kept e =
       held = empty;
       counted = length-take steps count item true kept.counted;
     }
-after_take losses steps count item false kept e =
+after_take losses steps is_kept count item false kept e =
     let full : put (steps ++ Take count item false ∷ []) ++ item ∷ [] ≡ carried (steps ++ Take count item false ∷ []) =
     ap (λ (items : List Item). items ++ item ∷ []) (put-take steps count item false ∙ kept.held) ∙ sym (carried-take steps count item false) in
     record {
@@ -134,25 +116,31 @@ after_take losses steps count item false kept e =
         counted = counted-take losses steps count item false kept.lawful.counted kept.counted e;
         held = (Some item, full);
       };
-      held = (count, item, slice_get-next steps [] (Take count item false), full);
+      held = hand-new steps (Take count item false) is_kept (put (steps ++ Take count item false ∷ [])) (carried (steps ++ Take count item false ∷ [])) item refl full;
       counted = length-take steps count item false kept.counted;
     }
 
--- the item that is in hand is the one that the hand has
-whole_by : (steps : List Step) (hand : Option ℕ) (item : Item) → IsHand steps hand → in_hand steps ≡ Some item → put steps ++ item ∷ [] ≡ carried steps
-whole_by steps None item held e = let none = none_in_hand steps held in cc
-whole_by steps (Some place) item held e =
-    let one = one_in_hand steps held.1 held.3 in
-    let same : held.1 ≡ item = Some-injective (sym one ∙ e) in
-    rw (← same) held.3
+-- after the Take of the next item, where the hand was empty
+pub after_coming : (losses : List ℕ) (s : StepsView) (hand : Holding) (count : ℕ) (item : Item) (lost : Bool) → IsLaneKept losses s.steps s.is_kept hand count
+    → is_hand_empty s.steps ≡ true → lost ≡ list_any (λ k. k == count) losses
+    → IsLaneKept losses (s.steps ++ Take count item lost ∷ []) s.is_kept
+    (if lost then Nothing else holding_of (length s.steps) (given_back s.is_kept (Take count item lost))) (count + 1)
+after_coming losses s hand count item lost kept empty e =
+    let none : hand ≡ Nothing = nothing_in_hand s.steps s.is_kept (put s.steps) (carried s.steps) hand kept.held empty in
+    after_take losses s.steps s.is_kept count item lost (subst (λ (h : Holding). IsLaneKept losses s.steps s.is_kept h count) none kept) e
+
+-- the item that is in hand is the next to be put
+next_put : (steps : List Step) (is_kept : Bool) (hand : Holding) (item : Item) → IsHand steps is_kept (put steps) (carried steps) hand → in_hand steps ≡ Some item
+    → put steps ++ item ∷ [] ≡ carried steps
+next_put steps is_kept hand item h e = whole_by steps is_kept (put steps) (carried steps) hand item h (hand-item steps is_kept hand h ∙ e)
 
 -- after a Put
-pub after_put : (losses : List ℕ) (steps : List Step) (hand : Option ℕ) (count : ℕ) (item : Item) → IsLaneKept losses steps hand count
-    → in_hand steps ≡ Some item → IsLaneKept losses (steps ++ Put item ∷ []) None count
-after_put losses steps hand count item kept e =
+pub after_put : (losses : List ℕ) (steps : List Step) (is_kept : Bool) (hand : Holding) (count : ℕ) (item : Item) → IsLaneKept losses steps is_kept hand count
+    → in_hand steps ≡ Some item → IsLaneKept losses (steps ++ Put item ∷ []) is_kept Nothing count
+after_put losses steps is_kept hand count item kept e =
     let all_so : all_taken (steps ++ Put item ∷ []) ≡ all_taken steps = flat_map-more taken_by steps (Put item) ∙ append-nil (all_taken steps) in
     let put_so : put (steps ++ Put item ∷ []) ≡ put steps ++ item ∷ [] = flat_map-more put_by steps (Put item) in
-    let empty : put (steps ++ Put item ∷ []) ≡ carried (steps ++ Put item ∷ []) = put_so ∙ whole_by steps hand item kept.held e ∙ ap (λ (ts : List Taken). items_of (kept_of ts)) (sym all_so) in
+    let empty : put (steps ++ Put item ∷ []) ≡ carried (steps ++ Put item ∷ []) = put_so ∙ next_put steps is_kept hand item kept.held e ∙ ap (λ (ts : List Taken). items_of (kept_of ts)) (sym all_so) in
     record {
       lawful = record {
         kinds = All-append IsLaneStep steps (Put item ∷ []) kept.lawful.kinds (tt, tt);

@@ -1,3 +1,4 @@
+pub mod HandLemmas
 pub mod PlaceLemmas
 pub mod LossLemmas
 pub mod LaneLemmas

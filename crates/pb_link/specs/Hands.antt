@@ -1,16 +1,23 @@
 -- What a customer port keeps of its steps.
-use Rattle.std.specs.Prelude.{◌≡◌, ℕ, ◌<◌, Bool, true, false, List, [], ◌∷◌, ◌++◌, Some, None, length, slice_get}
-use Rattle.std.specs.declared.option.Option.{Option}
+use Rattle.std.specs.Prelude.{◌≡◌, ℕ, Bool, false, List, [], ◌∷◌, ◌++◌, Some, length}
 use Rattle.pb_lan.specs.PortLists.{polled, fed, IsLawfulPort}
 use Rattle.pb_lan.specs.declared.step.Item.{Item}
 use Rattle.pb_lan.specs.declared.step.Step.{Step}
-use Rattle.pb_lan.specs.declared.step.Step.TheVariants.{Poll, Feed}
+use Rattle.pb_lan.specs.declared.step.Step.TheVariants.{Feed}
+use Rattle.pb_link.specs.Holdings.{IsHand}
+use Rattle.pb_link.specs.declared.holding.Holding.{Holding}
 
--- what callers see of a place: its number, its steps, and whether there is room for one more
+-- what callers see of a place: its number, its steps, whether each is kept in memory, and whether there is room for
+-- one more
 pub record PlaceView : Type 0 where
   pub number : ℕ
   pub steps : List Step
+  pub is_kept : Bool
   pub is_reserved : Bool
+
+-- a customer port that has taken no step
+abbrev pub at_start : ℕ → Bool → PlaceView
+at_start number is_kept = record { number = number; steps = []; is_kept = is_kept; is_reserved = false }
 
 -- one step more, which uses the room
 abbrev pub with_step : PlaceView → Step → PlaceView
@@ -20,21 +27,16 @@ with_step place step = record place { steps = place.steps ++ step ∷ []; is_res
 abbrev pub arrival : PlaceView → List ℕ → Item
 arrival place frame = record { mark = Some (record { port = place.number; number = length (polled place.steps) }); hops = 0; wire = frame }
 
+-- the item is the one in hand
+abbrev pub IsInHand : List Step → Item → Type 0
+IsInHand steps item = fed steps ++ item ∷ [] ≡ polled steps
+
 -- the item is the one in hand, and it was fed
 abbrev pub HasFed : PlaceView → Item → PlaceView → Type 0
-HasFed old item new = (fed old.steps ++ item ∷ [] ≡ polled old.steps) × (new ≡ with_step old (Feed item))
-
--- the hand holds the frame of this step, or none
-abbrev pub IsHand : List Step → Option ℕ → Type 0
-IsHand steps None = fed steps ≡ polled steps
-IsHand steps (Some place) = (item : Item) × (slice_get steps place ≡ Some (Poll item)) × (fed steps ++ item ∷ [] ≡ polled steps)
+HasFed old item new = IsInHand old.steps item × (new ≡ with_step old (Feed item))
 
 -- the steps are lawful, and what is kept of them is so
-pub record IsPortKept (number : ℕ) (steps : List Step) (hand : Option ℕ) (polls : ℕ) : Type 0 where
+pub record IsPortKept (number : ℕ) (steps : List Step) (is_kept : Bool) (hand : Holding) (polls : ℕ) : Type 0 where
   pub lawful : IsLawfulPort number steps
-  pub held : IsHand steps hand
+  pub held : IsHand steps is_kept (fed steps) (polled steps) hand
   pub count : polls ≡ length (polled steps)
-
--- where a step is reserved there is room for it
-abbrev pub HasRoom : List Step → ℕ → Bool → Type 0
-HasRoom steps capacity is_reserved = is_reserved ≡ true → length steps < capacity

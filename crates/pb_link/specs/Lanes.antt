@@ -1,5 +1,5 @@
 -- What a lane keeps of its steps.
-use Rattle.std.specs.Prelude.{◌≡◌, ℕ, Bool, true, false, Result, Ok, Err, List, [], ◌∷◌, ◌++◌, Some, None, length, slice_get, ◌==◌}
+use Rattle.std.specs.Prelude.{◌≡◌, ℕ, Bool, true, false, Result, Ok, Err, List, [], ◌∷◌, ◌++◌, Some, length, slice_get, ◌==◌}
 use Rattle.std.specs.List.{list_any}
 use Rattle.std.specs.declared.option.Option.{Option}
 use Rattle.pb_frame.specs.declared.memory.Memory.{Memory}
@@ -8,13 +8,20 @@ use Rattle.pb_lan.specs.LaneLists.{taken, carried, put, IsLawfulLane}
 use Rattle.pb_lan.specs.declared.step.Item.{Item}
 use Rattle.pb_lan.specs.declared.step.Step.{Step}
 use Rattle.pb_lan.specs.declared.step.Step.TheVariants.{Take, Put}
+use Rattle.pb_link.specs.Holdings.{IsHand}
+use Rattle.pb_link.specs.declared.holding.Holding.{Holding}
 
--- what callers see of a lane: the numbers of the items that it loses, its steps, and whether there is
--- room for one more
+-- what callers see of a lane: the numbers of the items that it loses, its steps, whether each is kept in memory, and
+-- whether there is room for one more
 pub record LaneView : Type 0 where
   pub losses : List ℕ
   pub steps : List Step
+  pub is_kept : Bool
   pub is_reserved : Bool
+
+-- a lane that has taken no step
+abbrev pub at_start : List ℕ → Bool → LaneView
+at_start losses is_kept = record { losses = losses; steps = []; is_kept = is_kept; is_reserved = false }
 
 -- one step more, which uses the room
 abbrev pub with_step : LaneView → Step → LaneView
@@ -53,13 +60,8 @@ HasSent (Ok true) old sent free new sent' = (item : Item) × HasPut old item new
 HasSent (Ok false) old sent free new sent' = (is_hand_empty old.steps ≡ false → free ≡ 0) × (sent' ≡ sent) × (new ≡ old)
 HasSent (Err e) old sent free new sent' = (is_hand_empty old.steps ≡ false) × (sent' ≡ sent) × (new ≡ old)
 
--- the hand holds the item of this step, or none
-abbrev pub IsHand : List Step → Option ℕ → Type 0
-IsHand steps None = put steps ≡ carried steps
-IsHand steps (Some place) = (number : ℕ) × (item : Item) × (slice_get steps place ≡ Some (Take number item false)) × (put steps ++ item ∷ [] ≡ carried steps)
-
 -- the steps are lawful, and what is kept of them is so
-pub record IsLaneKept (losses : List ℕ) (steps : List Step) (hand : Option ℕ) (count : ℕ) : Type 0 where
+pub record IsLaneKept (losses : List ℕ) (steps : List Step) (is_kept : Bool) (hand : Holding) (count : ℕ) : Type 0 where
   pub lawful : IsLawfulLane losses steps
-  pub held : IsHand steps hand
+  pub held : IsHand steps is_kept (put steps) (carried steps) hand
   pub counted : count ≡ length (taken steps)

@@ -1,3 +1,4 @@
+pub mod Holdings
 pub mod Hands
 pub mod Losses
 pub mod Lanes

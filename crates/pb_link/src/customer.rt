@@ -1,14 +1,16 @@
 //! A customer port as a place of a network.
 
-ghost use Rattle.std.specs.Prelude.{◌≡◌, ◌<◌, ◌++◌, ◌∷◌, [], ◌+◌, length, true, false, vec_len, vec_capacity, IfOk, IsOk, OnOk, OnErr};
+ghost use Rattle.std.specs.Prelude.{◌≡◌, [], length, true, false, IfOk, IsOk, OnOk, OnErr};
 ghost use Rattle.pb_lan.specs.Events.{is_hand_empty};
-ghost use Rattle.pb_lan.specs.PortLists.{polled, fed, IsLawfulPort};
-ghost use Rattle.pb_link.specs.Hands.{arrival, with_step, HasFed};
+ghost use Rattle.pb_lan.specs.PortLists.{IsLawfulPort};
+ghost use Rattle.pb_lan.specs.declared.step.Step.TheVariants.{Poll, Feed, Deliver};
+ghost use Rattle.pb_link.specs.Hands.{arrival, at_start, with_step, HasFed, IsInHand};
 
+use crate::holding::Holding;
 use crate::steps::append;
 use bytes::Bytes;
 use pb_frame::Memory;
-use pb_lan::{FrameNumber, Item, Mark, Step};
+use pb_lan::{FrameNumber, Item, Mark, Step, Steps};
 use std::alloc::Global;
 use std::marker::Model;
 
@@ -16,64 +18,77 @@ use std::marker::Model;
 /// after the other, and delivers what its bridge sent to it. It holds at most one frame, polled and
 /// not yet fed.
 ///
-/// Contracts see its number, its steps, and whether there is room for one more step.
+/// Contracts see its number, the list of its steps, whether each of these is kept in memory or they are only
+/// counted, and whether there is room for one more step.
 #[derive(Drop)]
 pub struct CustomerPlace {
     number: u8,
-    steps: Vec<Step>,
-    hand: Option<usize>,
+    steps: Steps,
+    hand: Holding,
     polls: u64,
-    is_reserved: bool,
 }
 
 impl Model for CustomerPlace {
-    ghost use Rattle.std.specs.Prelude.{vec_capacity};
-    ghost use Rattle.pb_link.specs.Hands.{PlaceView, IsPortKept, HasRoom};
+    ghost use Rattle.pb_link.specs.Hands.{PlaceView, IsPortKept};
+    ghost use Rattle.pb_link.specs.Holdings.{HasRoom};
 
     ghost Value = { PlaceView };
 
-    ghost view = { λ p. record { number = p.number; steps = p.steps.items; is_reserved = p.is_reserved } };
+    ghost view = { λ p. record { number = p.number; steps = p.steps.steps; is_kept = p.steps.is_kept; is_reserved = p.steps.is_reserved } };
 
-    ghost invariant = { λ p. IsPortKept p.number p.steps.items p.hand p.polls
-        × HasRoom p.steps.items (vec_capacity p.steps) p.is_reserved };
+    ghost invariant = { λ p. IsPortKept p.number p.steps.steps p.steps.is_kept p.hand p.polls
+        × HasRoom p.steps.steps p.steps.is_reserved };
 }
 
-/// An item's copy, which shares its octets.
-fn copy_of(item: &Item) -> Result<Item, Memory>
-    ensures { IfOk result (λ copy. copy ≡ item.now) }
+/// The customer port of this number, with this list of steps.
+fn started(number: u8, steps: Steps) -> CustomerPlace
+    requires none { steps.steps ≡ [] }
+    requires unreserved { steps.is_reserved ≡ false }
+    ensures { result ≡ at_start number steps.is_kept }
 {
-    Ok(Item {
-        mark: item.mark,
-        hops: item.hops,
-        wire: item.wire.clone()?,
-    })
+    CustomerPlace {
+        number,
+        steps,
+        hand: Holding::Nothing,
+        polls: 0,
+    }
 }
 
 impl CustomerPlace {
-    /// The customer port of this number, which has taken no step. Takes no memory.
+    /// The customer port of this number, which has taken no step. Each step will be kept. Takes no memory.
     pub fn new(alloc: Global, number: u8) -> CustomerPlace
-        ensures { result ≡ record { number = number; steps = []; is_reserved = false } }
+        ensures { result ≡ at_start number true }
     {
-        CustomerPlace {
-            number,
-            steps: Vec::new(alloc),
-            hand: None,
-            polls: 0,
-            is_reserved: false,
-        }
+        started(number, Steps::kept(alloc))
     }
 
-    /// The steps so far, a lawful list of the port.
+    /// The same, but that steps are only counted: the memory of the port does not grow with them.
+    pub fn counting(alloc: Global, number: u8) -> CustomerPlace
+        ensures { result ≡ at_start number false }
+    {
+        started(number, Steps::counted(alloc))
+    }
+
+    /// The steps so far, where they are kept. Where they are only counted, there is none to be seen.
     pub fn steps(&self) -> &[Step]
-        ensures steps { result.now ≡ self.now.steps }
+        ensures steps { self.now.is_kept ≡ true → result.now ≡ self.now.steps }
         ensures lawful { IsLawfulPort self.now.number self.now.steps }
     {
         self.steps.as_slice()
     }
 
-    /// The steps, and no customer port any more. Takes no memory.
+    /// The number of steps so far.
+    #[inline(always)]
+    pub fn step_count(&self) -> u64
+        ensures { result ≡ length self.now.steps }
+    {
+        self.steps.len()
+    }
+
+    /// The steps, where they are kept, and no customer port any more. Where they are only counted, there is none.
+    /// Takes no memory.
     pub fn into_steps(self) -> Vec<Step>
-        ensures steps { result.items ≡ self.steps }
+        ensures steps { self.is_kept ≡ true → result.items ≡ self.steps }
         ensures lawful { IsLawfulPort self.number self.steps }
     {
         let CustomerPlace {
@@ -81,43 +96,39 @@ impl CustomerPlace {
             steps,
             hand: _,
             polls: _,
-            is_reserved: _,
         } = self;
-        steps
+        steps.into_vec()
     }
 
     /// Makes room for one step, which the next step uses up.
     ///
-    /// `Memory` is answered where there is none for one more, and nothing has changed then. Where
-    /// there is room already, the answer is `Ok`.
+    /// `Memory` is answered where there is none for one more, or 2^64-1 steps were taken; nothing has
+    /// changed then. Where there is room already, the answer is `Ok`.
     pub fn reserve_step(&mut self) -> Result<(), Memory>
         ensures ok { OnOk result (self.new ≡ record self.old { is_reserved = true }) }
         ensures err { OnErr result (self.new ≡ self.old) }
         ensures reserved { self.old.is_reserved ≡ true → IsOk result }
     {
-        if self.is_reserved {
-            return Ok(());
+        if self.steps.len() == u64::MAX {
+            return Err(Memory);
         }
-        self.steps.reserve(1)?;
-        self.is_reserved = true;
-        Ok(())
+        self.steps.reserve()
     }
 
     /// No frame is in hand.
     pub fn is_hand_empty(&self) -> bool
         ensures { result ≡ is_hand_empty self.now.steps }
     {
-        self.hand.is_none()
+        self.hand.is_nothing()
     }
 
     /// A frame comes in: it gets the port's next mark, and is in hand. Takes no memory.
     pub fn poll(&mut self, frame: Bytes)
         requires reserved { self.old.is_reserved ≡ true }
         requires empty { is_hand_empty self.old.steps ≡ true }
-        ensures step { self.new ≡ with_step self.old (Step.Poll (arrival self.old frame)) }
+        ensures step { self.new ≡ with_step self.old (Poll (arrival self.old frame)) }
         ensures lawful { IsLawfulPort self.new.number self.new.steps }
     {
-        prove!(self.steps.len() < self.steps.capacity());
         let item = Item {
             mark: Some(Mark {
                 port: self.number,
@@ -126,34 +137,30 @@ impl CustomerPlace {
             hops: 0,
             wire: frame,
         };
-        self.is_reserved = false;
-        self.hand = Some(self.steps.len());
+        let place = self.steps.len() as usize;
+        let back = self.steps.append(Step::Poll { item });
+        self.hand = Holding::of(place, back);
         self.polls += 1;
-        append(&mut self.steps, Step::Poll { item });
     }
 
     /// Gives the frame in hand, for the bridge.
     ///
-    /// `Memory` is answered where there is none for its two copies, which share its octets. It is
-    /// then still in hand.
+    /// `Memory` is answered where steps are kept and there is none for the frame's two copies, which share its
+    /// octets. It is then still in hand. Where steps are only counted, no memory is taken.
     pub fn feed(&mut self) -> Result<Item, Memory>
         requires reserved { self.old.is_reserved ≡ true }
         requires full { is_hand_empty self.old.steps ≡ false }
         ensures ok { IfOk result (λ item. HasFed self.old item self.new) }
         ensures err { OnErr result (self.new ≡ self.old) }
+        ensures counted { self.old.is_kept ≡ false → IsOk result }
         ensures lawful { IsLawfulPort self.new.number self.new.steps }
     {
-        let Some(place) = self.hand else {
-            unreachable!();
-        };
-        let Step::Poll { item } = &self.steps[place] else {
-            unreachable!();
-        };
-        let told = copy_of(item)?;
-        let given = copy_of(item)?;
-        self.is_reserved = false;
-        self.hand = None;
-        append(&mut self.steps, Step::Feed { item: told });
+        if !self.steps.are_kept() {
+            return Ok(self.feed_held());
+        }
+        let told = self.copy_in_hand()?;
+        let given = self.copy_in_hand()?;
+        self.note_feed(told);
         Ok(given)
     }
 
@@ -161,10 +168,46 @@ impl CustomerPlace {
     /// Takes no memory.
     pub fn deliver(&mut self, item: Item, gone: bool)
         requires { self.old.is_reserved ≡ true }
-        ensures step { self.new ≡ with_step self.old (Step.Deliver item gone) }
+        ensures step { self.new ≡ with_step self.old (Deliver item gone) }
         ensures lawful { IsLawfulPort self.new.number self.new.steps }
     {
-        self.is_reserved = false;
         append(&mut self.steps, Step::Deliver { item, gone });
+    }
+
+    /// A copy of the frame in hand, which shares its octets.
+    fn copy_in_hand(&self) -> Result<Item, Memory>
+        requires { is_hand_empty self.now.steps ≡ false }
+        ensures { IfOk result (IsInHand self.now.steps) }
+    {
+        let Some(item) = self.hand.item(self.steps.as_slice()) else {
+            unreachable!();
+        };
+        Ok(item.clone()?)
+    }
+
+    /// Appends the step that feeds the frame in hand.
+    fn note_feed(&mut self, item: Item)
+        requires reserved { self.old.is_reserved ≡ true }
+        requires held { IsInHand self.old.steps item }
+        ensures step { self.new ≡ with_step self.old (Feed item) }
+        ensures lawful { IsLawfulPort self.new.number self.new.steps }
+    {
+        self.hand = Holding::Nothing;
+        append(&mut self.steps, Step::Feed { item });
+    }
+
+    /// Gives the frame in hand, where steps are only counted. Takes no memory.
+    fn feed_held(&mut self) -> Item
+        requires reserved { self.old.is_reserved ≡ true }
+        requires full { is_hand_empty self.old.steps ≡ false }
+        requires counted { self.old.is_kept ≡ false }
+        ensures fed { HasFed self.old result self.new }
+        ensures lawful { IsLawfulPort self.new.number self.new.steps }
+    {
+        let item = self.hand.take();
+        match self.steps.append(Step::Feed { item }) {
+            Some(Step::Feed { item }) => item,
+            _ => unreachable!(),
+        }
     }
 }

@@ -1,16 +1,19 @@
 //! One direction of a link, as a place of a network.
 
 ghost use Rattle.std.specs.Option.{option_copied};
-ghost use Rattle.std.specs.Prelude.{◌≡◌, ◌++◌, ◌∷◌, [], true, false, Some, None, IfOk, IsOk, OnOk, OnErr, if◌then◌else◌};
+ghost use Rattle.std.specs.Prelude.{◌≡◌, [], length, true, false, Some, IfOk, IsOk, OnOk, OnErr, if◌then◌else◌};
 ghost use Rattle.pb_lan.specs.LaneLists.{IsLawfulLane};
 ghost use Rattle.pb_frame.specs.Lists.{Rises};
-ghost use Rattle.pb_link.specs.Lanes.{with_step, taking, is_hand_empty, in_hand, HasPut, HasTaken, HasSent};
+ghost use Rattle.pb_lan.specs.declared.step.Step.TheVariants.{Put};
+ghost use Rattle.pb_link.specs.Holdings.{holding_of};
+ghost use Rattle.pb_link.specs.Lanes.{at_start, with_step, taking, is_hand_empty, in_hand, HasPut, HasTaken, HasSent};
 ghost use Rattle.rtrb.specs.Ring.{sent, received, known_free, known_items, SameProducer, SameConsumer};
 
+use crate::holding::Holding;
 use crate::losses::Losses;
 use crate::steps::append;
 use pb_frame::{Memory, Seq};
-use pb_lan::{Item, Step};
+use pb_lan::{Item, Step, Steps};
 use rtrb::{Consumer, Producer};
 use std::alloc::Global;
 use std::marker::Model;
@@ -20,106 +23,126 @@ use std::marker::Model;
 /// plan loses, and puts the others in front of the bridge at its end. It holds at most one item,
 /// taken and not yet put.
 ///
-/// Contracts see the numbers of the items that it loses, its steps, and whether there is room for one
-/// more step.
+/// Contracts see the numbers of the items that it loses, the list of its steps, whether each of these is kept in
+/// memory or they are only counted, and whether there is room for one more step.
 #[derive(Drop)]
 pub struct Lane {
     losses: Losses,
-    steps: Vec<Step>,
-    hand: Option<usize>,
-    is_reserved: bool,
+    steps: Steps,
+    hand: Holding,
 }
 
 impl Model for Lane {
-    ghost use Rattle.std.specs.Prelude.{vec_capacity};
-    ghost use Rattle.pb_link.specs.Hands.{HasRoom};
+    ghost use Rattle.pb_link.specs.Holdings.{HasRoom};
     ghost use Rattle.pb_link.specs.Lanes.{LaneView, IsLaneKept};
 
     ghost Value = { LaneView };
 
-    ghost view = { λ l. record { losses = l.losses.numbers; steps = l.steps.items; is_reserved = l.is_reserved } };
+    ghost view = { λ l. record { losses = l.losses.numbers; steps = l.steps.steps; is_kept = l.steps.is_kept; is_reserved = l.steps.is_reserved } };
 
-    ghost invariant = { λ l. IsLaneKept l.losses.numbers l.steps.items l.hand l.losses.taken
-        × HasRoom l.steps.items (vec_capacity l.steps) l.is_reserved };
+    ghost invariant = { λ l. IsLaneKept l.losses.numbers l.steps.steps l.steps.is_kept l.hand l.losses.taken
+        × HasRoom l.steps.steps l.steps.is_reserved };
 }
 
-/// Where the item of a step is in hand, unless it is lost.
-fn hand_of(place: usize, is_lost: bool) -> Option<usize>
-    ensures { result ≡ (if is_lost then None else Some place) }
+/// What is in hand once an item was taken by a step at a place, or by one that was given back.
+fn hand_of(is_lost: bool, place: usize, back: Option<Step>) -> Holding
+    ensures { result ≡ (if is_lost then Holding.Nothing else holding_of place back) }
 {
-    if is_lost { None } else { Some(place) }
+    if is_lost {
+        return Holding::Nothing;
+    }
+    Holding::of(place, back)
+}
+
+/// The lane that loses the items of these numbers, with this list of steps.
+fn started(losses: Seq<u64>, steps: Steps) -> Lane
+    requires rising { Rises losses }
+    requires none { steps.steps ≡ [] }
+    requires unreserved { steps.is_reserved ≡ false }
+    ensures { result ≡ at_start losses steps.is_kept }
+{
+    Lane {
+        losses: Losses::new(losses),
+        steps,
+        hand: Holding::Nothing,
+    }
 }
 
 impl Lane {
     /// The lane that loses the items of these numbers, and has taken no step. The numbers rise; the
-    /// first item that the lane takes has number 0. Takes no memory.
+    /// first item that the lane takes has number 0. Each step will be kept. Takes no memory.
     pub fn new(alloc: Global, losses: Seq<u64>) -> Lane
         requires { Rises losses }
-        ensures { result ≡ record { losses = losses; steps = []; is_reserved = false } }
+        ensures { result ≡ at_start losses true }
     {
-        Lane {
-            losses: Losses::new(losses),
-            steps: Vec::new(alloc),
-            hand: None,
-            is_reserved: false,
-        }
+        started(losses, Steps::kept(alloc))
     }
 
-    /// The steps so far, a lawful list of the lane.
+    /// The same, but that steps are only counted: the memory of the lane does not grow with them.
+    pub fn counting(alloc: Global, losses: Seq<u64>) -> Lane
+        requires { Rises losses }
+        ensures { result ≡ at_start losses false }
+    {
+        started(losses, Steps::counted(alloc))
+    }
+
+    /// The steps so far, where they are kept. Where they are only counted, there is none to be seen.
     pub fn steps(&self) -> &[Step]
-        ensures steps { result.now ≡ self.now.steps }
+        ensures steps { self.now.is_kept ≡ true → result.now ≡ self.now.steps }
         ensures lawful { IsLawfulLane self.now.losses self.now.steps }
     {
         self.steps.as_slice()
     }
 
-    /// The steps, and no lane any more. Takes no memory.
+    /// The number of steps so far.
+    #[inline(always)]
+    pub fn step_count(&self) -> u64
+        ensures { result ≡ length self.now.steps }
+    {
+        self.steps.len()
+    }
+
+    /// The steps, where they are kept, and no lane any more. Where they are only counted, there is none. Takes no
+    /// memory.
     pub fn into_steps(self) -> Vec<Step>
-        ensures steps { result.items ≡ self.steps }
+        ensures steps { self.is_kept ≡ true → result.items ≡ self.steps }
         ensures lawful { IsLawfulLane self.losses self.steps }
     {
         let Lane {
             losses: _,
             steps,
             hand: _,
-            is_reserved: _,
         } = self;
-        steps
+        steps.into_vec()
     }
 
     /// Makes room for one step, which the next step uses up.
     ///
-    /// `Memory` is answered where there is none for one more, and nothing has changed then. Where
-    /// there is room already, the answer is `Ok`.
+    /// `Memory` is answered where there is none for one more, or 2^64-1 steps were taken; nothing has
+    /// changed then. Where there is room already, the answer is `Ok`.
     pub fn reserve(&mut self) -> Result<(), Memory>
         ensures ok { OnOk result (self.new ≡ record self.old { is_reserved = true }) }
         ensures err { OnErr result (self.new ≡ self.old) }
         ensures reserved { self.old.is_reserved ≡ true → IsOk result }
     {
-        if self.is_reserved {
-            return Ok(());
+        if self.steps.len() == u64::MAX {
+            return Err(Memory);
         }
-        self.steps.reserve(1)?;
-        self.is_reserved = true;
-        Ok(())
+        self.steps.reserve()
     }
 
     /// No item is in hand.
     pub fn is_hand_empty(&self) -> bool
         ensures { result ≡ is_hand_empty self.now.steps }
     {
-        self.hand.is_none()
+        self.hand.is_nothing()
     }
 
     /// The item in hand: taken, not lost, and not yet put.
     pub fn hand(&self) -> Option<&Item>
         ensures { option_copied result ≡ in_hand self.now.steps }
     {
-        let place = self.hand?;
-        match &self.steps[place] {
-            Step::Take { item, .. } => Some(item),
-            _ => unreachable!(),
-        }
+        self.hand.item(self.steps.as_slice())
     }
 
     /// Takes an item. It is in hand then, unless the plan loses it. Takes no memory.
@@ -129,25 +152,28 @@ impl Lane {
         ensures step { self.new ≡ with_step self.old (taking self.old item) }
         ensures lawful { IsLawfulLane self.new.losses self.new.steps }
     {
-        prove!(self.steps.len() < self.steps.capacity());
         let number = self.losses.number();
         let lost = self.losses.take();
-        self.is_reserved = false;
-        self.hand = hand_of(self.steps.len(), lost);
-        append(&mut self.steps, Step::Take { number, item, lost });
+        let place = self.steps.len() as usize;
+        let back = self.steps.append(Step::Take { number, item, lost });
+        self.hand = hand_of(lost, place, back);
     }
 
     /// Puts the item in hand in front of the bridge at the end.
     ///
-    /// `Memory` is answered where there is none for its two copies, which share its octets, or for
-    /// the step. It is still in hand then.
+    /// `Memory` is answered where there is no room for the step, or where steps are kept and there is none for the
+    /// item's two copies, which share its octets. It is still in hand then.
     pub fn release(&mut self) -> Result<Item, Memory>
         requires { is_hand_empty self.old.steps ≡ false }
         ensures ok { IfOk result (λ item. HasPut self.old item self.new) }
         ensures err { OnErr result (self.new ≡ self.old) }
+        ensures counted { self.old.is_kept ≡ false → self.old.is_reserved ≡ true → IsOk result }
         ensures lawful { IsLawfulLane self.new.losses self.new.steps }
     {
-        let _steps = &self.steps;
+        if !self.steps.are_kept() {
+            self.reserve()?;
+            return Ok(self.put_held());
+        }
         let told = self.copy_in_hand()?;
         let given = self.copy_in_hand()?;
         self.reserve()?;
@@ -162,6 +188,7 @@ impl Lane {
     pub fn take(&mut self, from: &mut Consumer<Item>) -> Result<bool, Memory>
         ensures taken { HasTaken result self.old (received from.old) (known_items from.new) self.new (received from.new) }
         ensures ring { SameConsumer from.old from.new }
+        ensures reserved { self.old.is_reserved ≡ true → IsOk result }
         ensures lawful { IsLawfulLane self.new.losses self.new.steps }
     {
         let _steps = &self.steps;
@@ -176,11 +203,12 @@ impl Lane {
     /// Puts the item in hand onto a ring, unless none is in hand or the ring is full.
     ///
     /// `false` is answered where there is nothing to do; the other end of the ring may make room at any
-    /// time. `Memory` is answered where there is none for the item's two copies, which share its octets, or
-    /// for the step. Nothing has changed after either.
+    /// time. `Memory` is answered where there is no room for the step, or where steps are kept and there is none
+    /// for the item's two copies, which share its octets. Nothing has changed after either.
     pub fn put(&mut self, to: &mut Producer<Item>) -> Result<bool, Memory>
         ensures put { HasSent result self.old (sent to.old) (known_free to.new) self.new (sent to.new) }
         ensures ring { SameProducer to.old to.new }
+        ensures counted { self.old.is_kept ≡ false → self.old.is_reserved ≡ true → IsOk result }
         ensures lawful { IsLawfulLane self.new.losses self.new.steps }
     {
         let _steps = &self.steps;
@@ -206,11 +234,25 @@ impl Lane {
     fn note_put(&mut self, item: Item)
         requires reserved { self.old.is_reserved ≡ true }
         requires held { in_hand self.old.steps ≡ Some item }
-        ensures step { self.new ≡ with_step self.old (Step.Put item) }
+        ensures step { self.new ≡ with_step self.old (Put item) }
         ensures lawful { IsLawfulLane self.new.losses self.new.steps }
     {
-        self.is_reserved = false;
-        self.hand = None;
+        self.hand = Holding::Nothing;
         append(&mut self.steps, Step::Put { item });
+    }
+
+    /// Puts the item in hand, where steps are only counted. Takes no memory.
+    fn put_held(&mut self) -> Item
+        requires reserved { self.old.is_reserved ≡ true }
+        requires full { is_hand_empty self.old.steps ≡ false }
+        requires counted { self.old.is_kept ≡ false }
+        ensures put { HasPut self.old result self.new }
+        ensures lawful { IsLawfulLane self.new.losses self.new.steps }
+    {
+        let item = self.hand.take();
+        match self.steps.append(Step::Put { item }) {
+            Some(Step::Put { item }) => item,
+            _ => unreachable!(),
+        }
     }
 }

@@ -1,13 +1,15 @@
 //! The list of steps of a place.
 
-ghost use Rattle.std.specs.Prelude.{◌≡◌, ◌<◌, ◌++◌, ◌∷◌, [], vec_len, vec_capacity};
+ghost use Rattle.std.specs.Prelude.{◌≡◌, true};
+ghost use Rattle.pb_lan.specs.StepLists.{with_step};
 
-use pb_lan::Step;
+use pb_lan::{Step, Steps};
 
-/// Puts a step into the room that is there for it.
-pub(crate) fn append(steps: &mut Vec<Step>, step: Step)
-    requires { vec_len steps.old < vec_capacity steps.old }
-    ensures items { steps.new.items ≡ steps.old.items ++ step ∷ [] }
+/// Puts a step behind the others. Where it is only counted, it is let go.
+#[inline(always)]
+pub(crate) fn append(steps: &mut Steps, step: Step)
+    requires { steps.old.is_reserved ≡ true }
+    ensures { steps.new ≡ with_step steps.old step }
 {
-    let _ = steps.push(step);
+    let _ = steps.append(step);
 }

@@ -8,7 +8,7 @@ use Rattle.pb_frame.specs.Admission.{same}
 abbrev pub is_digit : ℕ → Bool
 is_digit c = nat_le 48 c && nat_le c 57
 
--- a word that is itself a value of TOML: a number or a date, or one of these
+-- a word that is itself a value of TOML, or begins as a number does
 abbrev pub is_value : List ℕ → Bool
 is_value [] = false
 is_value (b ∷ rest) =

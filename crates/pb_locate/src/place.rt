@@ -5,7 +5,7 @@ ghost use Rattle.std.specs.List.{position};
 ghost use Rattle.std.specs.Option.{option_map};
 ghost use Rattle.pb_locate.specs.Places.{is_value, number_in, parted, row_in, place_in};
 
-/// A word that is itself a value of TOML: a number or a date, or one of these.
+/// A word that is itself a value of TOML, or begins as a number does.
 pub(crate) fn is_value(word: &[u8]) -> bool
     ensures { result ≡ is_value word.now }
 {

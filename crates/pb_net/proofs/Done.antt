@@ -85,20 +85,20 @@ with_frame net port frame due = record { named = due.named; busy = due.busy; wit
 
 -- a place has not changed its steps
 pub customer_failed : (plan : Plan) (bridges : List BridgeView) (lanes : List LaneView) (customers : List PlaceView) (ins outs : List (List Item)) (r : ℕ) (old new : PlaceView)
-    → ArePlaced plan bridges lanes customers → IsKept plan (record_of bridges lanes customers) ins outs → r < length plan.customers → old ≡ get_or customers r old → new.number ≡ old.number → new.steps ≡ old.steps
+    → ArePlaced plan bridges lanes customers → IsKept plan (record_of bridges lanes customers) ins outs → r < length plan.customers → old ≡ get_or customers r old → new.number ≡ old.number → new.is_kept ≡ old.is_kept → new.steps ≡ old.steps
     → ArePlaced plan bridges lanes (set customers r new) × IsKept plan (record_of bridges lanes (set customers r new)) ins outs × (record_of bridges lanes (set customers r new) ≡ record_of bridges lanes customers)
-customer_failed plan bridges lanes customers ins outs r old new placed kept within value number same =
+customer_failed plan bridges lanes customers ins outs r old new placed kept within value number is_kept same =
     let here = here_is customers r old (omega (arith, placed.customer_count)) value in
     let e = unrecorded_customer bridges lanes customers r old new here same in
-    (placed_customer plan bridges lanes customers r old new placed here number, rw e kept, e)
+    (placed_customer plan bridges lanes customers r old new placed here number is_kept, rw e kept, e)
 
 pub lane_failed : (plan : Plan) (bridges : List BridgeView) (lanes : List LaneView) (customers : List PlaceView) (ins outs : List (List Item)) (r : ℕ) (old new : LaneView)
-    → ArePlaced plan bridges lanes customers → IsKept plan (record_of bridges lanes customers) ins outs → r < 2 * length plan.links → old ≡ get_or lanes r old → new.losses ≡ old.losses → new.steps ≡ old.steps
+    → ArePlaced plan bridges lanes customers → IsKept plan (record_of bridges lanes customers) ins outs → r < 2 * length plan.links → old ≡ get_or lanes r old → new.losses ≡ old.losses → new.is_kept ≡ old.is_kept → new.steps ≡ old.steps
     → ArePlaced plan bridges (set lanes r new) customers × IsKept plan (record_of bridges (set lanes r new) customers) ins outs × (record_of bridges (set lanes r new) customers ≡ record_of bridges lanes customers)
-lane_failed plan bridges lanes customers ins outs r old new placed kept within value losses same =
+lane_failed plan bridges lanes customers ins outs r old new placed kept within value losses is_kept same =
     let here = here_is lanes r old (omega (arith, placed.lane_count)) value in
     let e = unrecorded_lane bridges lanes customers r old new here same in
-    (placed_lane plan bridges lanes customers r old new placed here losses, rw e kept, e)
+    (placed_lane plan bridges lanes customers r old new placed here losses is_kept, rw e kept, e)
 
 pub bridge_failed : (plan : Plan) (bridges : List BridgeView) (lanes : List LaneView) (customers : List PlaceView) (ins outs : List (List Item)) (r : ℕ) (old new : BridgeView)
     → ArePlaced plan bridges lanes customers → IsKept plan (record_of bridges lanes customers) ins outs → r < length plan.bridges → old ≡ get_or bridges r old → new.plan ≡ old.plan → new.number ≡ old.number → new.is_kept ≡ old.is_kept → new.steps ≡ old.steps
@@ -139,49 +139,49 @@ grown_bridge plan bridges lanes customers ins outs r old step kept placed here f
 
 pub poll_done : (plan : Plan) (bridges : List BridgeView) (lanes : List LaneView) (customers : List PlaceView) (ins outs : List (List Item)) (port : ℕ) (spot : Spot) (old new : PlaceView) (item : Item)
     → ArePlaced plan bridges lanes customers → IsKept plan (record_of bridges lanes customers) ins outs → IsCustomerSpot plan port spot → old ≡ get_or customers spot.place old
-    → new.number ≡ old.number → IsLawfulPort new.number new.steps → new.steps ≡ old.steps ++ Polled item ∷ []
+    → new.number ≡ old.number → new.is_kept ≡ old.is_kept → IsLawfulPort new.number new.steps → new.steps ≡ old.steps ++ Polled item ∷ []
     → ArePlaced plan bridges lanes (set customers spot.place new) × IsKept plan (record_of bridges lanes (set customers spot.place new)) ins outs
     × HasDone (record_of bridges lanes customers) (Poll port item.wire) (record_of bridges lanes (set customers spot.place new))
-poll_done plan bridges lanes customers ins outs port spot old new item placed kept known value number lawful grown =
+poll_done plan bridges lanes customers ins outs port spot old new item placed kept known value number is_kept lawful grown =
     let r = spot.place in
     let here = here_is customers r old (omega (arith, known.there, placed.customer_count)) value in
     let port_is : suc r ≡ port = omega (arith, known.place) in
     let rec = recorded_customer bridges lanes customers r old new (Polled item) here grown in (
-      placed_customer plan bridges lanes customers r old new placed here number,
+      placed_customer plan bridges lanes customers r old new placed here number is_kept,
       rw rec (after_poll plan (record_of bridges lanes customers) ins outs r item kept known.there (grown_port plan bridges lanes customers r old new (Polled item) placed here number lawful grown)),
       subst (λ n. HasDone (record_of bridges lanes customers) (Poll n item.wire) (record_of bridges lanes (set customers r new))) port_is (Polled item, refl, rec),
     )
 
 pub feed_done : {Q : Type 0} (f : Q → List Item) (plan : Plan) (bridges : List BridgeView) (lanes : List LaneView) (customers : List PlaceView) (ins outs : List Q) (port : ℕ) (spot : Spot) (old new : PlaceView) (box box' : Q)
     → IsSoundPlan plan → ArePlaced plan bridges lanes customers → IsKept plan (record_of bridges lanes customers) (map f ins) (map f outs) → IsCustomerSpot plan port spot
-    → old ≡ get_or customers spot.place old → box ≡ get_or ins spot.slot box → new.number ≡ old.number → IsLawfulPort new.number new.steps → HasFedInto old (f box) new (f box')
+    → old ≡ get_or customers spot.place old → box ≡ get_or ins spot.slot box → new.number ≡ old.number → new.is_kept ≡ old.is_kept → IsLawfulPort new.number new.steps → HasFedInto old (f box) new (f box')
     → ArePlaced plan bridges lanes (set customers spot.place new) × IsKept plan (record_of bridges lanes (set customers spot.place new)) (map f (set ins spot.slot box')) (map f outs)
     × HasDone (record_of bridges lanes customers) (Feed port) (record_of bridges lanes (set customers spot.place new))
-feed_done f plan bridges lanes customers ins outs port spot old new box box' sound placed kept known value boxed number lawful moved =
+feed_done f plan bridges lanes customers ins outs port spot old new box box' sound placed kept known value boxed number is_kept lawful moved =
     let r = spot.place in
     let here = here_is customers r old (omega (arith, known.there, placed.customer_count)) value in
     let there = box_at f ins spot.slot (16 * length plan.bridges) box kept.inbox_count known.slot.at.within boxed in
     let port_is : suc r ≡ port = omega (arith, known.place) in
     let meets : MeetsSlot plan (suc r) spot.slot = subst (λ n. MeetsSlot plan n spot.slot) (sym port_is) known.slot in
     let rec = recorded_customer bridges lanes customers r old new (Fed moved.item) here moved.steps in (
-      placed_customer plan bridges lanes customers r old new placed here number,
+      placed_customer plan bridges lanes customers r old new placed here number is_kept,
       rw (rec, map-set f ins spot.slot box', moved.queued) (after_feed plan (record_of bridges lanes customers) (map f ins) (map f outs) r spot.slot moved.item (f box) sound.sound kept known.there meets there (grown_port plan bridges lanes customers r old new (Fed moved.item) placed here number lawful moved.steps)),
       subst (λ n. HasDone (record_of bridges lanes customers) (Feed n) (record_of bridges lanes (set customers r new))) port_is (Fed moved.item, tt, rec),
     )
 
 pub deliver_done : {Q : Type 0} (f : Q → List Item) (plan : Plan) (bridges : List BridgeView) (lanes : List LaneView) (customers : List PlaceView) (ins outs : List Q) (port : ℕ) (spot : Spot) (old new : PlaceView) (box box' : Q)
     → IsSoundPlan plan → ArePlaced plan bridges lanes customers → IsKept plan (record_of bridges lanes customers) (map f ins) (map f outs) → IsCustomerSpot plan port spot
-    → old ≡ get_or customers spot.place old → box ≡ get_or outs spot.slot box → new.number ≡ old.number → IsLawfulPort new.number new.steps → HasDelivered old (f box) new (f box')
+    → old ≡ get_or customers spot.place old → box ≡ get_or outs spot.slot box → new.number ≡ old.number → new.is_kept ≡ old.is_kept → IsLawfulPort new.number new.steps → HasDelivered old (f box) new (f box')
     → ArePlaced plan bridges lanes (set customers spot.place new) × IsKept plan (record_of bridges lanes (set customers spot.place new)) (map f ins) (map f (set outs spot.slot box'))
     × HasDone (record_of bridges lanes customers) (Deliver port) (record_of bridges lanes (set customers spot.place new))
-deliver_done f plan bridges lanes customers ins outs port spot old new box box' sound placed kept known value boxed number lawful moved =
+deliver_done f plan bridges lanes customers ins outs port spot old new box box' sound placed kept known value boxed number is_kept lawful moved =
     let r = spot.place in
     let here = here_is customers r old (omega (arith, known.there, placed.customer_count)) value in
     let there = box_at f outs spot.slot (16 * length plan.bridges) box kept.outbox_count known.slot.at.within boxed in
     let port_is : suc r ≡ port = omega (arith, known.place) in
     let meets : MeetsSlot plan (suc r) spot.slot = subst (λ n. MeetsSlot plan n spot.slot) (sym port_is) known.slot in
     let rec = recorded_customer bridges lanes customers r old new (Delivered moved.item false) here moved.steps in (
-      placed_customer plan bridges lanes customers r old new placed here number,
+      placed_customer plan bridges lanes customers r old new placed here number is_kept,
       rw (rec, map-set f outs spot.slot box') (after_deliver plan (record_of bridges lanes customers) (map f ins) (map f outs) r spot.slot moved.item (f box') sound.sound kept known.there meets (there ∙ ap (λ z. Some z) moved.taken) (grown_port plan bridges lanes customers r old new (Delivered moved.item false) placed here number lawful moved.steps)),
       subst (λ n. HasDone (record_of bridges lanes customers) (Deliver n) (record_of bridges lanes (set customers r new))) port_is (Delivered moved.item false, refl, rec),
     )
@@ -224,34 +224,34 @@ transmit_done f plan bridges lanes customers ins outs bridge port spot old new b
 
 pub take_done : {Q : Type 0} (f : Q → List Item) (plan : Plan) (bridges : List BridgeView) (lanes : List LaneView) (customers : List PlaceView) (ins outs : List Q) (lane : ℕ) (spot : Spot) (old new : LaneView) (box box' : Q)
     → IsSoundPlan plan → ArePlaced plan bridges lanes customers → IsKept plan (record_of bridges lanes customers) (map f ins) (map f outs) → IsLaneStart plan lane spot
-    → old ≡ get_or lanes spot.place old → box ≡ get_or outs spot.slot box → new.losses ≡ old.losses → IsLawfulLane new.losses new.steps → HasTakenFrom old (f box) new (f box')
+    → old ≡ get_or lanes spot.place old → box ≡ get_or outs spot.slot box → new.losses ≡ old.losses → new.is_kept ≡ old.is_kept → IsLawfulLane new.losses new.steps → HasTakenFrom old (f box) new (f box')
     → ArePlaced plan bridges (set lanes spot.place new) customers × IsKept plan (record_of bridges (set lanes spot.place new) customers) (map f ins) (map f (set outs spot.slot box'))
     × HasDone (record_of bridges lanes customers) (Take lane) (record_of bridges (set lanes spot.place new) customers)
-take_done f plan bridges lanes customers ins outs lane spot old new box box' sound placed kept known value boxed losses lawful moved =
+take_done f plan bridges lanes customers ins outs lane spot old new box box' sound placed kept known value boxed losses is_kept lawful moved =
     let r = spot.place in
     let here = here_is lanes r old (omega (arith, known.there, placed.lane_count)) value in
     let there = box_at f outs spot.slot (16 * length plan.bridges) box kept.outbox_count known.from.within boxed in
     let lane_is : suc r ≡ lane = omega (arith, known.place) in
     let start : IsLaneStart plan (suc r) spot = subst (λ n. IsLaneStart plan n spot) (sym lane_is) known in
     let rec = recorded_lane bridges lanes customers r old new (taking old moved.item) here moved.steps in (
-      placed_lane plan bridges lanes customers r old new placed here losses,
+      placed_lane plan bridges lanes customers r old new placed here losses is_kept,
       rw (rec, map-set f outs spot.slot box') (after_take plan (record_of bridges lanes customers) (map f ins) (map f outs) r spot.slot _ moved.item _ start.link (f box') sound.sound kept known.there start.planned start.from (there ∙ ap (λ z. Some z) moved.taken) (grown_lane plan bridges lanes customers r old new (taking old moved.item) placed here losses lawful moved.steps)),
       subst (λ n. HasDone (record_of bridges lanes customers) (Take n) (record_of bridges (set lanes r new) customers)) lane_is (taking old moved.item, tt, rec),
     )
 
 pub put_done : {Q : Type 0} (f : Q → List Item) (plan : Plan) (bridges : List BridgeView) (lanes : List LaneView) (customers : List PlaceView) (ins outs : List Q) (lane : ℕ) (spot : Spot) (old new : LaneView) (box box' : Q)
     → IsSoundPlan plan → ArePlaced plan bridges lanes customers → IsKept plan (record_of bridges lanes customers) (map f ins) (map f outs) → IsLaneEnd plan lane spot
-    → old ≡ get_or lanes spot.place old → box ≡ get_or ins spot.slot box → new.losses ≡ old.losses → IsLawfulLane new.losses new.steps → HasPutInto old (f box) new (f box')
+    → old ≡ get_or lanes spot.place old → box ≡ get_or ins spot.slot box → new.losses ≡ old.losses → new.is_kept ≡ old.is_kept → IsLawfulLane new.losses new.steps → HasPutInto old (f box) new (f box')
     → ArePlaced plan bridges (set lanes spot.place new) customers × IsKept plan (record_of bridges (set lanes spot.place new) customers) (map f (set ins spot.slot box')) (map f outs)
     × HasDone (record_of bridges lanes customers) (Put lane) (record_of bridges (set lanes spot.place new) customers)
-put_done f plan bridges lanes customers ins outs lane spot old new box box' sound placed kept known value boxed losses lawful moved =
+put_done f plan bridges lanes customers ins outs lane spot old new box box' sound placed kept known value boxed losses is_kept lawful moved =
     let r = spot.place in
     let here = here_is lanes r old (omega (arith, known.there, placed.lane_count)) value in
     let there = box_at f ins spot.slot (16 * length plan.bridges) box kept.inbox_count known.to.within boxed in
     let lane_is : suc r ≡ lane = omega (arith, known.place) in
     let end : IsLaneEnd plan (suc r) spot = subst (λ n. IsLaneEnd plan n spot) (sym lane_is) known in
     let rec = recorded_lane bridges lanes customers r old new (Put_on moved.item) here moved.steps in (
-      placed_lane plan bridges lanes customers r old new placed here losses,
+      placed_lane plan bridges lanes customers r old new placed here losses is_kept,
       rw (rec, map-set f ins spot.slot box', moved.queued) (after_put plan (record_of bridges lanes customers) (map f ins) (map f outs) r spot.slot moved.item end.link (f box) sound.sound kept known.there end.planned end.to there (grown_lane plan bridges lanes customers r old new (Put_on moved.item) placed here losses lawful moved.steps)),
       subst (λ n. HasDone (record_of bridges lanes customers) (Put n) (record_of bridges (set lanes r new) customers)) lane_is (Put_on moved.item, tt, rec),
     )

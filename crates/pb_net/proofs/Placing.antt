@@ -47,33 +47,41 @@ placed_bridge plan bridges lanes customers r old new placed here of_plan number 
   customer_count = placed.customer_count;
   planned = each_set (λ s b. b.plan ≡ plan) bridges r old new here placed.planned (of_plan ∙ placed.planned r old here);
   bridge_numbers = each_set (λ s b. b.number ≡ s + 1) bridges r old new here placed.bridge_numbers (number ∙ placed.bridge_numbers r old here);
-  kept_steps = all_set (λ b. b.is_kept ≡ true) bridges r new placed.kept_steps (is_kept ∙ one_of_all (λ b. b.is_kept ≡ true) bridges r old placed.kept_steps here);
+  kept_bridges = all_set (λ b. b.is_kept ≡ true) bridges r new placed.kept_bridges (is_kept ∙ one_of_all (λ b. b.is_kept ≡ true) bridges r old placed.kept_bridges here);
+  kept_lanes = placed.kept_lanes;
+  kept_customers = placed.kept_customers;
   lane_losses = placed.lane_losses;
   customer_numbers = placed.customer_numbers;
 }
 
 pub placed_lane : (plan : Plan) (bridges : List BridgeView) (lanes : List LaneView) (customers : List PlaceView) (r : ℕ) (old new : LaneView)
-    → ArePlaced plan bridges lanes customers → slice_get lanes r ≡ Some old → new.losses ≡ old.losses → ArePlaced plan bridges (set lanes r new) customers
-placed_lane plan bridges lanes customers r old new placed here losses = record {
+    → ArePlaced plan bridges lanes customers → slice_get lanes r ≡ Some old → new.losses ≡ old.losses → new.is_kept ≡ old.is_kept
+    → ArePlaced plan bridges (set lanes r new) customers
+placed_lane plan bridges lanes customers r old new placed here losses is_kept = record {
   bridge_count = placed.bridge_count;
   lane_count = length-set lanes r new ∙ placed.lane_count;
   customer_count = placed.customer_count;
   planned = placed.planned;
   bridge_numbers = placed.bridge_numbers;
-  kept_steps = placed.kept_steps;
+  kept_bridges = placed.kept_bridges;
+  kept_lanes = all_set (λ l. l.is_kept ≡ true) lanes r new placed.kept_lanes (is_kept ∙ one_of_all (λ l. l.is_kept ≡ true) lanes r old placed.kept_lanes here);
+  kept_customers = placed.kept_customers;
   lane_losses = each_set (λ s l. l.losses ≡ losses_of plan (s + 1)) lanes r old new here placed.lane_losses (losses ∙ placed.lane_losses r old here);
   customer_numbers = placed.customer_numbers;
 }
 
 pub placed_customer : (plan : Plan) (bridges : List BridgeView) (lanes : List LaneView) (customers : List PlaceView) (r : ℕ) (old new : PlaceView)
-    → ArePlaced plan bridges lanes customers → slice_get customers r ≡ Some old → new.number ≡ old.number → ArePlaced plan bridges lanes (set customers r new)
-placed_customer plan bridges lanes customers r old new placed here number = record {
+    → ArePlaced plan bridges lanes customers → slice_get customers r ≡ Some old → new.number ≡ old.number → new.is_kept ≡ old.is_kept
+    → ArePlaced plan bridges lanes (set customers r new)
+placed_customer plan bridges lanes customers r old new placed here number is_kept = record {
   bridge_count = placed.bridge_count;
   lane_count = placed.lane_count;
   customer_count = length-set customers r new ∙ placed.customer_count;
   planned = placed.planned;
   bridge_numbers = placed.bridge_numbers;
-  kept_steps = placed.kept_steps;
+  kept_bridges = placed.kept_bridges;
+  kept_lanes = placed.kept_lanes;
+  kept_customers = all_set (λ p. p.is_kept ≡ true) customers r new placed.kept_customers (is_kept ∙ one_of_all (λ p. p.is_kept ≡ true) customers r old placed.kept_customers here);
   lane_losses = placed.lane_losses;
   customer_numbers = each_set (λ s p. p.number ≡ s + 1) customers r old new here placed.customer_numbers (number ∙ placed.customer_numbers r old here);
 }

@@ -257,7 +257,9 @@ fresh_placed plan bridges lanes customers bs ls cs = record {
   customer_count = cs.counted;
   planned = λ r b h. ap (λ (x : BridgeView). x.plan) (bs.fresh r b h);
   bridge_numbers = λ r b h. ap (λ (x : BridgeView). x.number) (bs.fresh r b h);
-  kept_steps = all_by_each (λ b. b.is_kept ≡ true) bridges (λ r b h. ap (λ (x : BridgeView). x.is_kept) (bs.fresh r b h));
+  kept_bridges = all_by_each (λ b. b.is_kept ≡ true) bridges (λ r b h. ap (λ (x : BridgeView). x.is_kept) (bs.fresh r b h));
+  kept_lanes = all_by_each (λ l. l.is_kept ≡ true) lanes (λ r l h. ap (λ (x : LaneView). x.is_kept) (ls.fresh r l h));
+  kept_customers = all_by_each (λ p. p.is_kept ≡ true) customers (λ r p h. ap (λ (x : PlaceView). x.is_kept) (cs.fresh r p h));
   lane_losses = λ r l h. ap (λ (x : LaneView). x.losses) (ls.fresh r l h);
   customer_numbers = λ r p h. ap (λ (x : PlaceView). x.number) (cs.fresh r p h);
 }

@@ -31,7 +31,9 @@ pub record ArePlaced (plan : Plan) (bridges : List BridgeView) (lanes : List Lan
   pub customer_count : length customers ≡ length plan.customers
   pub planned : (r : ℕ) (b : BridgeView) → slice_get bridges r ≡ Some b → b.plan ≡ plan
   pub bridge_numbers : (r : ℕ) (b : BridgeView) → slice_get bridges r ≡ Some b → b.number ≡ r + 1
-  pub kept_steps : AllByRecursion (λ b. b.is_kept ≡ true) bridges
+  pub kept_bridges : AllByRecursion (λ b. b.is_kept ≡ true) bridges
+  pub kept_lanes : AllByRecursion (λ l. l.is_kept ≡ true) lanes
+  pub kept_customers : AllByRecursion (λ p. p.is_kept ≡ true) customers
   pub lane_losses : (r : ℕ) (l : LaneView) → slice_get lanes r ≡ Some l → l.losses ≡ losses_of plan (r + 1)
   pub customer_numbers : (r : ℕ) (p : PlaceView) → slice_get customers r ≡ Some p → p.number ≡ r + 1
 

@@ -1,11 +1,11 @@
 -- The parts of a network at its start.
-use Rattle.std.specs.Prelude.{◌≡◌, ℕ, ◌+◌, true, false, List, [], Some, length, slice_get}
+use Rattle.std.specs.Prelude.{◌≡◌, ℕ, ◌+◌, true, List, [], Some, length, slice_get}
 use Rattle.std.specs.declared.collections.VecDeque.{VecDeque}
 use Rattle.std.specs.Global.{Global}
 use Rattle.pb_lan.specs.declared.plan.Plan.{Plan}
 use Rattle.pb_lan.specs.declared.step.Item.{Item}
-use Rattle.pb_link.specs.Hands.{PlaceView}
-use Rattle.pb_link.specs.Lanes.{LaneView}
+use Rattle.pb_link.specs.Hands.{PlaceView, at_start as place_at_start}
+use Rattle.pb_link.specs.Lanes.{LaneView, at_start as lane_at_start}
 use Rattle.pb_net.specs.Slots.{losses_of, bridge_of, port_of, use_of, JoinsSlots, MeetsSlot}
 use Rattle.pb_net.specs.declared.slots.PortUse.{PortUse}
 use Rattle.pb_net.specs.declared.slots.LaneSlots.{LaneSlots}
@@ -16,10 +16,10 @@ abbrev pub fresh_bridge : Plan → ℕ → BridgeView
 fresh_bridge plan number = at_start plan number true
 
 abbrev pub fresh_customer : ℕ → PlaceView
-fresh_customer number = record { number = number; steps = []; is_reserved = false }
+fresh_customer number = place_at_start number true
 
 abbrev pub fresh_lane : List ℕ → LaneView
-fresh_lane losses = record { losses = losses; steps = []; is_reserved = false }
+fresh_lane losses = lane_at_start losses true
 
 -- the first so many bridges of the plan
 pub record AreFreshBridges (plan : Plan) (count : ℕ) (bridges : List BridgeView) : Type 0 where

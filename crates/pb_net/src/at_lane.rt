@@ -15,6 +15,7 @@ pub(crate) fn take_at(lane: &mut Lane, outbox: &mut VecDeque<Item>) -> Result<()
     requires empty { is_hand_empty lane.old.steps ≡ true }
     requires some { 0 < length outbox.old.items }
     ensures losses { lane.new.losses ≡ lane.old.losses }
+    ensures kept { lane.new.is_kept ≡ lane.old.is_kept }
     ensures lawful { OnOk result (IsLawfulLane lane.new.losses lane.new.steps) }
     ensures ok { OnOk result (HasTakenFrom lane.old outbox.old.items lane.new outbox.new.items) }
     ensures err { OnErr result (lane.new.steps ≡ lane.old.steps) }
@@ -32,6 +33,7 @@ pub(crate) fn take_at(lane: &mut Lane, outbox: &mut VecDeque<Item>) -> Result<()
 pub(crate) fn put_at(lane: &mut Lane, inbox: &mut VecDeque<Item>) -> Result<(), Memory>
     requires { is_hand_empty lane.old.steps ≡ false }
     ensures losses { lane.new.losses ≡ lane.old.losses }
+    ensures kept { lane.new.is_kept ≡ lane.old.is_kept }
     ensures lawful { OnOk result (IsLawfulLane lane.new.losses lane.new.steps) }
     ensures ok { OnOk result (HasPutInto lane.old inbox.old.items lane.new inbox.new.items) }
     ensures err { OnErr result (lane.new.steps ≡ lane.old.steps) }

@@ -17,6 +17,7 @@ use std::collections::VecDeque;
 pub(crate) fn poll_at(place: &mut CustomerPlace, frame: Bytes) -> Result<(), Memory>
     requires { is_hand_empty place.old.steps ≡ true }
     ensures number { place.new.number ≡ place.old.number }
+    ensures kept { place.new.is_kept ≡ place.old.is_kept }
     ensures lawful { OnOk result (IsLawfulPort place.new.number place.new.steps) }
     ensures ok { OnOk result (place.new.steps ≡ place.old.steps ++ Poll (arrival place.old frame) ∷ []) }
     ensures err { OnErr result (place.new.steps ≡ place.old.steps) }
@@ -30,6 +31,7 @@ pub(crate) fn poll_at(place: &mut CustomerPlace, frame: Bytes) -> Result<(), Mem
 pub(crate) fn feed_at(place: &mut CustomerPlace, inbox: &mut VecDeque<Item>) -> Result<(), Memory>
     requires { is_hand_empty place.old.steps ≡ false }
     ensures number { place.new.number ≡ place.old.number }
+    ensures kept { place.new.is_kept ≡ place.old.is_kept }
     ensures lawful { OnOk result (IsLawfulPort place.new.number place.new.steps) }
     ensures ok { OnOk result (HasFedInto place.old inbox.old.items place.new inbox.new.items) }
     ensures err { OnErr result (place.new.steps ≡ place.old.steps) }
@@ -49,6 +51,7 @@ pub(crate) fn deliver_at(
 ) -> Result<(), Memory>
     requires { 0 < length outbox.old.items }
     ensures number { place.new.number ≡ place.old.number }
+    ensures kept { place.new.is_kept ≡ place.old.is_kept }
     ensures lawful { OnOk result (IsLawfulPort place.new.number place.new.steps) }
     ensures ok { OnOk result (HasDelivered place.old outbox.old.items place.new outbox.new.items) }
     ensures err { OnErr result (place.new.steps ≡ place.old.steps) }

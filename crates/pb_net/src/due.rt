@@ -37,7 +37,7 @@ impl Net {
         };
         let customer = &self.customers[spot.place];
         let is_idle = !customer.is_hand_empty();
-        sift(is_idle, customer.steps().len() as u64 == self.limit, spot)
+        sift(is_idle, customer.step_count() == self.limit, spot)
     }
 
     /// The customer port of a Feed that is due.
@@ -51,7 +51,7 @@ impl Net {
         let customer = &self.customers[spot.place];
         let inbox = &self.inboxes[spot.slot];
         let is_idle = customer.is_hand_empty() | (self.ring <= inbox.len());
-        sift(is_idle, customer.steps().len() as u64 == self.limit, spot)
+        sift(is_idle, customer.step_count() == self.limit, spot)
     }
 
     /// The customer port of a Deliver that is due.
@@ -64,11 +64,7 @@ impl Net {
         };
         let customer = &self.customers[spot.place];
         let outbox = &self.outboxes[spot.slot];
-        sift(
-            outbox.is_empty(),
-            customer.steps().len() as u64 == self.limit,
-            spot,
-        )
+        sift(outbox.is_empty(), customer.step_count() == self.limit, spot)
     }
 
     /// Where a Receive is due.
@@ -109,7 +105,7 @@ impl Net {
         let at = &self.lanes[spot.place];
         let outbox = &self.outboxes[spot.slot];
         let is_idle = !at.is_hand_empty() | outbox.is_empty();
-        sift(is_idle, at.steps().len() as u64 == self.limit, spot)
+        sift(is_idle, at.step_count() == self.limit, spot)
     }
 
     /// The lane of a Put that is due.
@@ -123,6 +119,6 @@ impl Net {
         let at = &self.lanes[spot.place];
         let inbox = &self.inboxes[spot.slot];
         let is_idle = at.is_hand_empty() | (self.ring <= inbox.len());
-        sift(is_idle, at.steps().len() as u64 == self.limit, spot)
+        sift(is_idle, at.step_count() == self.limit, spot)
     }
 }

@@ -33,6 +33,7 @@ pub(crate) fn bridge_steps(bridges: Vec<Bridge>, mut lists: Vec<Seq<Step>>) -> S
 pub(crate) fn lane_steps(lanes: Vec<Lane>, mut lists: Vec<Seq<Step>>) -> Seq<Seq<Step>>
     requires empty { lists.items ≡ [] }
     requires room { length lanes.items ≤ vec_capacity lists }
+    requires kept { AllByRecursion (λ l. l.is_kept ≡ true) lanes.items }
     ensures { result ≡ map (λ l. l.steps) lanes.items }
 {
     for lane in lanes {
@@ -48,6 +49,7 @@ pub(crate) fn customer_steps(
 ) -> Seq<Seq<Step>>
     requires empty { lists.items ≡ [] }
     requires room { length customers.items ≤ vec_capacity lists }
+    requires kept { AllByRecursion (λ p. p.is_kept ≡ true) customers.items }
     ensures { result ≡ map (λ p. p.steps) customers.items }
 {
     for customer in customers {

@@ -9,10 +9,10 @@ use Rattle.pb_lan.specs.declared.plan.CustomerPlan.{CustomerPlan}
 use Rattle.pb_lan.specs.declared.plan.End.{End}
 use Rattle.pb_lan.specs.declared.plan.LinkPlan.{LinkPlan}
 use Rattle.pb_lan.specs.declared.plan.Plan.{Plan}
-use Rattle.pb_link.proofs.PlaceLemmas.{slice_get-front, slice_get-next}
+use Rattle.pb_link.proofs.HandLemmas.{slice_get-next}
 use Rattle.pb_run.specs.Gifts.{BridgeGift, IsBridgeGift, AreBridges, LaneGift, lane_gift, AreLanes, AccessGift, access_gift, AreAccesses}
 use Rattle.pb_run.specs.Wires.{ring_into, ring_out}
-use Rattle.pb_run.proofs.Lists.{each_more, below_next}
+use Rattle.pb_run.proofs.Lists.{each_more, below_next, slice_get-front}
 
 -- one bridge more
 pub bridges_more : (plan : Plan) (k : ℕ) (gifts : List BridgeGift) (gift : BridgeGift) → AreBridges plan k gifts → IsBridgeGift plan (k + 1) gift → AreBridges plan (k + 1) (gifts ++ gift ∷ [])

@@ -51,6 +51,12 @@ pub still_to_come : {X : Type 0} (P : ℕ → X → Type 0) (k : ℕ) (x : X) (x
     → (n : ℕ) (y : X) → slice_get xs n ≡ Some y → P (k + 1 + n) y
 still_to_come P k x xs ys e each n y h = let same : k + suc n ≡ k + 1 + n = omega arith in subst (λ m. P m y) same (each (suc n) y (ap (λ zs. slice_get zs (suc n)) e ∙ h))
 
+-- what stands in a list stands there still when more follows
+pub slice_get-front : {X : Type 0} (xs ys : List X) (k : ℕ) (x : X) → slice_get xs k ≡ Some x → slice_get (xs ++ ys) k ≡ Some x
+slice_get-front [] ys k x e = cc
+slice_get-front (y ∷ xs) ys zero x e = e
+slice_get-front (y ∷ xs) ys (suc k) x e = slice_get-front xs ys k x e
+
 -- what is taken out of a place leaves the others
 pub others_stay : {X : Type 0} (xs : List (Option X)) (i n : ℕ) (x : X) → slice_get (slice_set xs i None) n ≡ Some (Some x) → slice_get xs n ≡ Some (Some x)
 others_stay [] i n x e = e

@@ -1,6 +1,6 @@
 //! The worker of a lane.
 
-ghost use Rattle.std.specs.Prelude.{◌≡◌, [], map};
+ghost use Rattle.std.specs.Prelude.{◌≡◌, [], true, map};
 ghost use Rattle.rtrb.specs.Ring.{sent, received};
 ghost use Rattle.pb_lan.specs.LaneLists.{taken, put};
 
@@ -28,6 +28,7 @@ pub struct LaneWorker<W: Wiring> {
     pub finish: Option<Finish>,
     pub ghost took: { received from.end ≡ taken lane.steps },
     pub ghost gave: { sent to.end ≡ put lane.steps },
+    pub ghost kept: { lane.is_kept ≡ true },
 }
 
 /// How many items the newest step lost that came from customers.
@@ -45,10 +46,11 @@ fn lost_by_newest(steps: &[Step]) -> u64 {
 }
 
 impl<W: Wiring> LaneWorker<W> {
-    /// The worker of a lane that has taken no step, over rings that nothing has passed. It may take so many
-    /// steps. Takes no memory.
+    /// The worker of a lane that has taken no step and keeps those that it takes, over rings that nothing has
+    /// passed. It may take so many steps. Takes no memory.
     pub fn new(number: u8, lane: Lane, from: Inlet<W>, to: Outlet<W>, limit: usize) -> LaneWorker<W>
         requires steps { lane.steps ≡ [] }
+        requires kept { lane.is_kept ≡ true }
         requires rings { (received from.end ≡ []) × (sent to.end ≡ []) }
         ensures number { result.number ≡ number }
         ensures lane { result.lane ≡ lane }
@@ -66,7 +68,7 @@ impl<W: Wiring> LaneWorker<W> {
 
     /// Nothing, where the lane may take a step more.
     fn within_limit(&self) -> Result<(), Refusal> {
-        if self.lane.steps().len() >= self.limit {
+        if self.lane.step_count() >= self.limit as u64 {
             return Err(Refusal::Limit);
         }
         Ok(())

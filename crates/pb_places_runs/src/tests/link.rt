@@ -1,12 +1,15 @@
 //! Customer ports and lanes.
 
+mod counted;
 mod lanes;
 mod rings;
 
+ghost use Rattle.pb_frame.specs.Lists.{Rises};
+
 use bytes::Bytes;
 use pb_frame::Memory;
-use pb_lan::{FrameNumber, Item, Mark, Step};
-use pb_link::CustomerPlace;
+use pb_lan::{FrameNumber, Item, Mark, Seq, Step};
+use pb_link::{CustomerPlace, Lane};
 use std::alloc::{AllocError, Global};
 use std::test::Fail;
 
@@ -23,6 +26,34 @@ fn item(alloc: Global, number: u64) -> Result<Item, AllocError> {
         hops: 0,
         wire: Bytes::copy_from_slice(alloc, &BROADCAST)?,
     })
+}
+
+/// Whether a place keeps its steps, or only counts them.
+#[derive(Clone, Copy)]
+enum Kind {
+    Kept,
+    Counted,
+}
+
+/// Both kinds, for each of which all that a place does is the same.
+const KINDS: [Kind; 2] = [Kind::Kept, Kind::Counted];
+
+/// Customer port 7, at its start.
+fn port(alloc: Global, kind: Kind) -> CustomerPlace {
+    match kind {
+        Kind::Kept => CustomerPlace::new(alloc, 7),
+        Kind::Counted => CustomerPlace::counting(alloc, 7),
+    }
+}
+
+/// A lane that loses the items of these numbers, which rise, at its start.
+fn lane(alloc: Global, kind: Kind, losses: Seq<u64>) -> Lane
+    requires { Rises losses }
+{
+    match kind {
+        Kind::Kept => Lane::new(alloc, losses),
+        Kind::Counted => Lane::counting(alloc, losses),
+    }
 }
 
 /// What a customer port does with a frame.
@@ -66,6 +97,14 @@ fn are_steps(alloc: Global, steps: &[Step], all: &[Did]) -> Result<bool, AllocEr
     Ok(steps.len() == all.len())
 }
 
+/// Whether the steps are shown: these where they are kept, and none where they are counted.
+fn are_shown(alloc: Global, kind: Kind, steps: &[Step], all: &[Did]) -> Result<bool, AllocError> {
+    match kind {
+        Kind::Kept => are_steps(alloc, steps, all),
+        Kind::Counted => Ok(steps.is_empty()),
+    }
+}
+
 /// A broadcast comes in.
 fn poll(alloc: Global, place: &mut CustomerPlace) -> Result<(), Memory> {
     let frame = Bytes::copy_from_slice(alloc, &BROADCAST)?;
@@ -99,42 +138,56 @@ fn passes(alloc: Global, place: &mut CustomerPlace, number: u64) -> Result<bool,
     Ok(was_empty && is_full && is_fed(alloc, place, number)?)
 }
 
+/// Two frames are polled and fed, one after the other.
+const FED: &[Did] = &[
+    (Deed::Poll, 0),
+    (Deed::Feed, 0),
+    (Deed::Poll, 1),
+    (Deed::Feed, 1),
+];
+
+/// Whether a port feeds two frames one after the other, and tells of that.
+fn feeds_two(alloc: Global, kind: Kind) -> Result<bool, Memory> {
+    let mut place = port(alloc, kind);
+    let is_new = place.steps().is_empty() && place.step_count() == 0;
+    let is_fed = passes(alloc, &mut place, 0)? && passes(alloc, &mut place, 1)?;
+    let is_told = are_shown(alloc, kind, place.steps(), FED)? && place.step_count() == 4;
+    let steps = place.into_steps();
+    Ok(is_new && is_fed && is_told && are_shown(alloc, kind, &steps, FED)?)
+}
+
 #[test]
 fn frames_are_fed_one_after_the_other(rt: HostRuntime) -> Result<(), Fail> {
-    const STEPS: &[Did] = &[
-        (Deed::Poll, 0),
-        (Deed::Feed, 0),
-        (Deed::Poll, 1),
-        (Deed::Feed, 1),
-    ];
-    let mut place = CustomerPlace::new(rt.alloc(), 7);
-    assert!(rt; place.steps().is_empty());
-    assert!(rt; passes(rt.alloc(), &mut place, 0)?);
-    assert!(rt; passes(rt.alloc(), &mut place, 1)?);
-    assert!(rt; are_steps(rt.alloc(), place.steps(), STEPS)?);
-    let steps = place.into_steps();
-    assert!(rt; are_steps(rt.alloc(), &steps, STEPS)?);
+    for kind in KINDS {
+        assert!(rt; feeds_two(rt.alloc(), kind)?);
+    }
     Ok(())
 }
 
-/// The steps of a port that holds a frame, once two items were delivered, the second of which is gone.
-fn steps_with_two_delivered(alloc: Global) -> Result<Vec<Step>, Memory> {
-    let mut place = CustomerPlace::new(alloc, 7);
+/// A port that holds a frame, once two items were delivered, the second of which is gone.
+fn with_two_delivered(alloc: Global, kind: Kind) -> Result<CustomerPlace, Memory> {
+    let mut place = port(alloc, kind);
     poll(alloc, &mut place)?;
     for gone in [false, true] {
+        let item = item(alloc, 9)?;
         place.reserve_step()?;
-        place.deliver(item(alloc, 9)?, gone);
+        place.deliver(item, gone);
     }
-    if place.is_hand_empty() {
-        return Ok(Vec::new(alloc));
-    }
-    Ok(place.into_steps())
+    Ok(place)
+}
+
+/// Whether a port delivers two items beside the frame that it holds, tells of that, and feeds the frame.
+fn delivers_two(alloc: Global, kind: Kind) -> Result<bool, Memory> {
+    const STEPS: &[Did] = &[(Deed::Poll, 0), (Deed::Deliver, 9), (Deed::Miss, 9)];
+    let mut place = with_two_delivered(alloc, kind)?;
+    let is_told = are_shown(alloc, kind, place.steps(), STEPS)? && place.step_count() == 3;
+    Ok(is_told && !place.is_hand_empty() && is_fed(alloc, &mut place, 0)?)
 }
 
 #[test]
 fn items_are_delivered_beside_a_full_hand(rt: HostRuntime) -> Result<(), Fail> {
-    const STEPS: &[Did] = &[(Deed::Poll, 0), (Deed::Deliver, 9), (Deed::Miss, 9)];
-    let steps = steps_with_two_delivered(rt.alloc())?;
-    assert!(rt; are_steps(rt.alloc(), &steps, STEPS)?);
+    for kind in KINDS {
+        assert!(rt; delivers_two(rt.alloc(), kind)?);
+    }
     Ok(())
 }

@@ -91,21 +91,29 @@ fn frames_are_held_until_there_is_a_tree(rt: HostRuntime) -> Result<(), Fail> {
     Ok(())
 }
 
+/// The first port gives five broadcasts as soon as it is polled, and no port comes to an end.
+const FIVE: &[Outer] = &[
+    Outer::Guest(5, Habit::Waits(0)),
+    Outer::Guest(0, Habit::Waits(0)),
+    Outer::Guest(0, Habit::Waits(0)),
+];
+
 #[test]
 fn a_bridge_that_ticks_at_each_turn_relays(rt: HostRuntime) -> Result<(), Fail> {
     const SETUP: Setup<'static> = Setup {
         draft: STAR,
-        ports: &[Outer::Memory(5), Outer::Memory(0), Outer::Memory(0)],
+        ports: FIVE,
         limits: Limits {
-            turns: 1_000_000,
+            turns: 200,
             tick_every: 1,
             tick_ms: 0,
             hold: 0,
         },
         left: &[Frames::First(0), Frames::First(5), Frames::First(5)],
     };
-    let told = ran(&rt, rt.alloc(), &SETUP, &Open)?;
-    assert_eq!(rt; (told.ended, told.ports), (Some(Ended::Drained), 3));
-    assert!(rt; told.is_drained && told.is_left);
+    let gate = Lockstep::of(4);
+    let told = ran(&rt, rt.alloc(), &SETUP, &gate)?;
+    assert_eq!(rt; (told.ended, told.ports), (Some(Ended::Limit), 3));
+    assert!(rt; told.is_left);
     Ok(())
 }

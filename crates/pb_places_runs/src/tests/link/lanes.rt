@@ -1,6 +1,6 @@
 //! Lanes that lose some of their items.
 
-use super::item;
+use super::{KINDS, Kind, item, lane};
 use pb_frame::Memory;
 use pb_lan::{Item, Seq, Step};
 use pb_link::Lane;
@@ -9,9 +9,9 @@ use std::process::Abort;
 use std::test::Fail;
 
 /// A lane that loses its second item and its fourth.
-fn lane(alloc: Global) -> Result<Lane, AllocError> {
+fn lossy(alloc: Global, kind: Kind) -> Result<Lane, AllocError> {
     let losses = vec![in alloc; 1u64, 3]?;
-    Ok(Lane::new(alloc, Seq::from_vec(losses)))
+    Ok(lane(alloc, kind, Seq::from_vec(losses)))
 }
 
 /// The item of this number is taken, if none is in hand.
@@ -43,7 +43,7 @@ enum Row {
     /// The item that is put, if one is.
     Puts(Option<u64>),
     /// So many steps were taken.
-    Steps(usize),
+    Steps(u64),
 }
 
 /// Whether this item, or none, is in hand.
@@ -74,15 +74,17 @@ fn holds(alloc: Global, lane: &mut Lane, row: Row) -> Result<bool, Memory> {
         Row::Takes(number, wanted) => Ok(take(alloc, lane, number)? == wanted),
         Row::Holds(number) => has_in_hand(alloc, lane, number),
         Row::Puts(number) => puts(alloc, lane, number),
-        Row::Steps(steps) => Ok(lane.steps().len() == steps),
+        Row::Steps(steps) => Ok(lane.step_count() == steps),
     }
 }
 
-/// Each row holds, one after the other. A row that does not is named by its number from 0.
+/// Each row holds, one after the other, of a lane of each kind. A row that does not is named by its number from 0.
 fn walk(rt: &impl Abort, alloc: Global, rows: &[Row]) -> Result<(), Fail> {
-    let mut lane = lane(alloc)?;
-    for (place, row) in rows.iter().enumerate() {
-        assert!(rt; holds(alloc, &mut lane, *row)?, "row {place}");
+    for kind in KINDS {
+        let mut lane = lossy(alloc, kind)?;
+        for (place, row) in rows.iter().enumerate() {
+            assert!(rt; holds(alloc, &mut lane, *row)?, "row {place}");
+        }
     }
     Ok(())
 }
@@ -124,8 +126,8 @@ fn a_lane_holds_one_item(rt: HostRuntime) -> Result<(), Fail> {
 }
 
 /// The steps of a lane that took three items and put those that it did not lose.
-fn steps_of_three(alloc: Global) -> Result<Vec<Step>, Memory> {
-    let mut lane = lane(alloc)?;
+fn steps_of_three(alloc: Global, kind: Kind) -> Result<Vec<Step>, Memory> {
+    let mut lane = lossy(alloc, kind)?;
     for number in 0..3u64 {
         take(alloc, &mut lane, number)?;
         put(&mut lane)?;
@@ -155,7 +157,7 @@ const TAKEN: &[(usize, (u64, bool))] = &[(0, (0, false)), (2, (1, true)), (3, (2
 
 #[test]
 fn a_lane_tells_what_it_took(rt: HostRuntime) -> Result<(), Fail> {
-    let steps = steps_of_three(rt.alloc())?;
+    let steps = steps_of_three(rt.alloc(), Kind::Kept)?;
     for (place, took) in TAKEN {
         assert!(rt; takes_at(rt.alloc(), &steps, *place, *took)?);
     }
@@ -167,10 +169,17 @@ const PUT: &[(usize, u64)] = &[(1, 0), (4, 2)];
 
 #[test]
 fn a_lane_tells_what_it_put(rt: HostRuntime) -> Result<(), Fail> {
-    let steps = steps_of_three(rt.alloc())?;
+    let steps = steps_of_three(rt.alloc(), Kind::Kept)?;
     assert_eq!(rt; steps.len(), 5);
     for (place, number) in PUT {
         assert!(rt; puts_at(rt.alloc(), &steps, *place, *number)?);
     }
+    Ok(())
+}
+
+#[test]
+fn a_lane_that_counts_has_no_steps_to_give(rt: HostRuntime) -> Result<(), Fail> {
+    let steps = steps_of_three(rt.alloc(), Kind::Counted)?;
+    assert!(rt; steps.is_empty());
     Ok(())
 }

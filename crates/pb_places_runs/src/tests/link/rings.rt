@@ -1,6 +1,6 @@
 //! A lane between two rings.
 
-use super::item;
+use super::{KINDS, Kind, item, lane};
 use pb_frame::Memory;
 use pb_lan::{Item, Seq};
 use pb_link::Lane;
@@ -37,14 +37,14 @@ enum Row {
     /// Nothing has come.
     NoneCame,
     /// So many steps were taken.
-    Steps(usize),
+    Steps(u64),
 }
 
 /// A lane between a ring that has room for four items and one that has room for so many.
-fn between(alloc: Global, room: usize) -> Result<Joined, Memory> {
+fn between(alloc: Global, kind: Kind, room: usize) -> Result<Joined, Memory> {
     let (near, from) = RingBuffer::new(alloc, 4)?;
     let (to, far) = RingBuffer::new(alloc, room)?;
-    let lane = Lane::new(alloc, Seq::from_vec(vec![in alloc; 1u64]?));
+    let lane = lane(alloc, kind, Seq::from_vec(vec![in alloc; 1u64]?));
     Ok(Joined {
         near,
         from,
@@ -76,16 +76,18 @@ fn holds(alloc: Global, joined: &mut Joined, row: Row) -> Result<bool, Memory> {
         Row::HandIsEmpty(wanted) => Ok(joined.lane.is_hand_empty() == wanted),
         Row::Came(number) => is_next(alloc, &mut joined.far, number),
         Row::NoneCame => Ok(joined.far.is_empty()),
-        Row::Steps(steps) => Ok(joined.lane.steps().len() == steps),
+        Row::Steps(steps) => Ok(joined.lane.step_count() == steps),
     }
 }
 
-/// Each row holds, one after the other. A row that does not is named by its number from 0.
+/// Each row holds, one after the other, of a lane of each kind. A row that does not is named by its number from 0.
 fn walk(rt: &impl Abort, alloc: Global, room: usize, rows: &[Row]) -> Result<(), Fail> {
     assert!(rt; 0 < room && room <= 4);
-    let mut joined = between(alloc, room)?;
-    for (place, row) in rows.iter().enumerate() {
-        assert!(rt; holds(alloc, &mut joined, *row)?, "row {place}");
+    for kind in KINDS {
+        let mut joined = between(alloc, kind, room)?;
+        for (place, row) in rows.iter().enumerate() {
+            assert!(rt; holds(alloc, &mut joined, *row)?, "row {place}");
+        }
     }
     Ok(())
 }

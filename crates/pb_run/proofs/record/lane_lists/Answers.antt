@@ -9,7 +9,7 @@ loop-worker-preserved g c =
     let X : Type 0 = LaneWorker g.row.W.Denot g.W.Wiring in
     let i = c.loop-worker.invariant in
     record {
-      steps = mapped_more _ c.loop-worker.yielded c.in-Some.worker c.loop-worker.lists.items c.push_reserved.new.self.items c.from_vec.result i.steps c.push_reserved.ensures.items (c.from_vec.ensures ∙ c.into_steps.ensures.steps);
+      steps = mapped_more _ c.loop-worker.yielded c.in-Some.worker c.loop-worker.lists.items c.push_reserved.new.self.items c.from_vec.result i.steps c.push_reserved.ensures.items (c.from_vec.ensures ∙ c.into_steps.ensures.steps c.in-Some.worker.kept);
       lawful = λ rest. i.lawful (all_front (λ (x : X). IsLawfulLane x.lane.losses x.lane.steps) c.in-Some.worker _ _ c.in-Some.ensures.steps.0 c.into_steps.ensures.lawful rest);
       room = search rules;
     }

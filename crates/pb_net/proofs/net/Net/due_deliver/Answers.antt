@@ -18,4 +18,4 @@ returns-clause-due c =
     let many : deque_len box ≡ length box.items = omega arith in
     subst (λ (v : NetView). IsDueOr v (Deliver c.args.port) c.sift.result) c.self.view_is
     (due_deliver_is s.plan s.bridges.items s.lanes.items s.customers.items (map items_in s.inboxes.items) (map items_in s.outboxes.items) s.limit s.ring c.args.port (deque_len box) spot place box.items c.sift.result c.self.invariant.0 c.self.invariant.1 c.self.invariant.2 c.self.invariant.4 known c.index-customer.ensures there many
-    (rw (c.steps.ensures.steps, c.is_empty.ensures) at c.sift.ensures))
+    (rw (c.step_count.ensures, c.is_empty.ensures) at c.sift.ensures))

@@ -14,4 +14,4 @@ returns-clause-due c =
     let known = subst (λ (v : NetView). IsCustomerSpot v.plan c.args.port spot) (sym c.self.view_is) c.in-Some.ensures.some in
     subst (λ (v : NetView). IsDueOr v (Poll c.args.port []) c.sift.result) c.self.view_is
     (due_poll_is s.plan s.bridges.items s.lanes.items s.customers.items s.limit s.ring c.args.port [] spot place c.is_hand_empty-is_idle.result c.sift.result c.self.invariant.1 c.self.invariant.4 known c.index-customer.ensures c.is_hand_empty-is_idle.ensures
-    (rw c.steps.ensures.steps at c.sift.ensures))
+    (rw c.step_count.ensures at c.sift.ensures))

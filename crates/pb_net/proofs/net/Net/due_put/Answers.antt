@@ -18,4 +18,4 @@ returns-clause-due c =
     let many : c.len.result ≡ length box.items = omega arith in
     subst (λ (v : NetView). IsDueOr v (Put c.args.lane) c.sift.result) c.self.view_is
     (due_put_is s.plan s.bridges.items s.lanes.items s.customers.items (map items_in s.inboxes.items) (map items_in s.outboxes.items) s.limit s.ring c.args.lane c.len.result spot place box.items c.is_hand_empty.result c.sift.result c.self.invariant.0 c.self.invariant.1 c.self.invariant.2 c.self.invariant.4 known c.index-at.ensures there c.is_hand_empty.ensures many
-    (rw c.steps.ensures.steps at c.sift.ensures))
+    (rw c.step_count.ensures at c.sift.ensures))

@@ -34,7 +34,7 @@ invariant_of-self c =
     let told = rw c.in-Some.is at c.in_ok-spot.ensures.spot in
     let known = subst (λ (v : NetView). IsCustomerSpot v.plan c.args.port spot) (sym c.self.view_is) told in
     let box = c.index_mut-2.result.now in
-    let failed = customer_failed s.plan s.bridges.items s.lanes.items s.customers.items (map items_in s.inboxes.items) (map items_in s.outboxes.items) spot.place old c.feed_at.new.place c.self.invariant.1 c.self.invariant.2 known.there c.index_mut.ensures.value c.in_err-feed_at.ensures.number c.in_err-feed_at.ensures.err in
+    let failed = customer_failed s.plan s.bridges.items s.lanes.items s.customers.items (map items_in s.inboxes.items) (map items_in s.outboxes.items) spot.place old c.feed_at.new.place c.self.invariant.1 c.self.invariant.2 known.there c.index_mut.ensures.value c.in_err-feed_at.ensures.number c.in_err-feed_at.ensures.kept c.in_err-feed_at.ensures.err in
     let kept_box = box_kept items_in s.inboxes.items spot.slot (16 * length s.plan.bridges) box c.feed_at.new.inbox c.self.invariant.2.inbox_count known.slot.at.within c.index_mut-2.ensures.value c.in_err-feed_at.ensures.err_inbox in
     (c.self.invariant.0, failed.0, rw kept_box failed.1, c.self.invariant.3, c.self.invariant.4, c.self.invariant.5)
 
@@ -47,7 +47,7 @@ returns-in_err-feed_at c =
     let told = rw c.in-Some.is at c.in_ok-spot.ensures.spot in
     let known = subst (λ (v : NetView). IsCustomerSpot v.plan c.args.port spot) (sym c.self.view_is) told in
     let box = c.index_mut-2.result.now in
-    let failed = customer_failed s.plan s.bridges.items s.lanes.items s.customers.items (map items_in s.inboxes.items) (map items_in s.outboxes.items) spot.place old c.feed_at.new.place c.self.invariant.1 c.self.invariant.2 known.there c.index_mut.ensures.value c.in_err-feed_at.ensures.number c.in_err-feed_at.ensures.err in
+    let failed = customer_failed s.plan s.bridges.items s.lanes.items s.customers.items (map items_in s.inboxes.items) (map items_in s.outboxes.items) spot.place old c.feed_at.new.place c.self.invariant.1 c.self.invariant.2 known.there c.index_mut.ensures.value c.in_err-feed_at.ensures.number c.in_err-feed_at.ensures.kept c.in_err-feed_at.ensures.err in
     let p = err_from_is_err_and c.from_residual-in_err-feed_at.result c.from_residual-in_err-feed_at.ensures.1 in
     answers_memory c.args.self.now _ (Feed c.args.port) c.from_residual-in_err-feed_at.result p.0 p.1 p.2 due
     (ap (λ (rec : Record). net_with s.plan rec) failed.2 ∙ c.self.view_is)
@@ -61,7 +61,7 @@ invariant_of-self-2 c =
     let told = rw c.in-Some.is at c.in_ok-spot.ensures.spot in
     let known = subst (λ (v : NetView). IsCustomerSpot v.plan c.args.port spot) (sym c.self.view_is) told in
     let box = c.index_mut-2.result.now in
-    let done = feed_done items_in s.plan s.bridges.items s.lanes.items s.customers.items s.inboxes.items s.outboxes.items c.args.port spot old c.feed_at.new.place box c.feed_at.new.inbox c.self.invariant.0 c.self.invariant.1 c.self.invariant.2 known c.index_mut.ensures.value c.index_mut-2.ensures.value c.in_ok-feed_at.ensures.number c.in_ok-feed_at.ensures.lawful c.in_ok-feed_at.ensures.ok in
+    let done = feed_done items_in s.plan s.bridges.items s.lanes.items s.customers.items s.inboxes.items s.outboxes.items c.args.port spot old c.feed_at.new.place box c.feed_at.new.inbox c.self.invariant.0 c.self.invariant.1 c.self.invariant.2 known c.index_mut.ensures.value c.index_mut-2.ensures.value c.in_ok-feed_at.ensures.number c.in_ok-feed_at.ensures.kept c.in_ok-feed_at.ensures.lawful c.in_ok-feed_at.ensures.ok in
     (c.self.invariant.0, done.0, done.1, c.self.invariant.3, c.self.invariant.4, c.self.invariant.5)
 
 pub returns : goal.returns
@@ -73,6 +73,6 @@ returns c =
     let told = rw c.in-Some.is at c.in_ok-spot.ensures.spot in
     let known = subst (λ (v : NetView). IsCustomerSpot v.plan c.args.port spot) (sym c.self.view_is) told in
     let box = c.index_mut-2.result.now in
-    let done = feed_done items_in s.plan s.bridges.items s.lanes.items s.customers.items s.inboxes.items s.outboxes.items c.args.port spot old c.feed_at.new.place box c.feed_at.new.inbox c.self.invariant.0 c.self.invariant.1 c.self.invariant.2 known c.index_mut.ensures.value c.index_mut-2.ensures.value c.in_ok-feed_at.ensures.number c.in_ok-feed_at.ensures.lawful c.in_ok-feed_at.ensures.ok in
+    let done = feed_done items_in s.plan s.bridges.items s.lanes.items s.customers.items s.inboxes.items s.outboxes.items c.args.port spot old c.feed_at.new.place box c.feed_at.new.inbox c.self.invariant.0 c.self.invariant.1 c.self.invariant.2 known c.index_mut.ensures.value c.index_mut-2.ensures.value c.in_ok-feed_at.ensures.number c.in_ok-feed_at.ensures.kept c.in_ok-feed_at.ensures.lawful c.in_ok-feed_at.ensures.ok in
     let new = record_of s.bridges.items s.lanes.items (set s.customers.items spot.place c.feed_at.new.place) in
     (due, refl, ap (λ (v : NetView). v.plan) c.self.view_is, subst (λ (v : NetView). HasDone v.rec (Feed c.args.port) new) c.self.view_is done.2)

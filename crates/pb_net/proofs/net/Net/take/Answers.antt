@@ -47,7 +47,7 @@ invariant_of-self c =
     let told = rw c.in-Some.is at c.in_ok-spot.ensures.spot in
     let known = subst (λ (v : NetView). IsLaneStart v.plan c.args.lane spot) (sym c.self.view_is) told in
     let box = c.index_mut-2.result.now in
-    let failed = lane_failed s.plan s.bridges.items s.lanes.items s.customers.items (map items_in s.inboxes.items) (map items_in s.outboxes.items) spot.place old c.take_at.new.lane c.self.invariant.1 c.self.invariant.2 known.there c.index_mut.ensures.value c.in_err-take_at.ensures.losses c.in_err-take_at.ensures.err in
+    let failed = lane_failed s.plan s.bridges.items s.lanes.items s.customers.items (map items_in s.inboxes.items) (map items_in s.outboxes.items) spot.place old c.take_at.new.lane c.self.invariant.1 c.self.invariant.2 known.there c.index_mut.ensures.value c.in_err-take_at.ensures.losses c.in_err-take_at.ensures.kept c.in_err-take_at.ensures.err in
     let kept_box = box_kept items_in s.outboxes.items spot.slot (16 * length s.plan.bridges) box c.take_at.new.outbox c.self.invariant.2.outbox_count known.from.within c.index_mut-2.ensures.value c.in_err-take_at.ensures.err_outbox in
     (c.self.invariant.0, failed.0, rw kept_box failed.1, c.self.invariant.3, c.self.invariant.4, c.self.invariant.5)
 
@@ -60,7 +60,7 @@ returns-in_err-take_at c =
     let told = rw c.in-Some.is at c.in_ok-spot.ensures.spot in
     let known = subst (λ (v : NetView). IsLaneStart v.plan c.args.lane spot) (sym c.self.view_is) told in
     let box = c.index_mut-2.result.now in
-    let failed = lane_failed s.plan s.bridges.items s.lanes.items s.customers.items (map items_in s.inboxes.items) (map items_in s.outboxes.items) spot.place old c.take_at.new.lane c.self.invariant.1 c.self.invariant.2 known.there c.index_mut.ensures.value c.in_err-take_at.ensures.losses c.in_err-take_at.ensures.err in
+    let failed = lane_failed s.plan s.bridges.items s.lanes.items s.customers.items (map items_in s.inboxes.items) (map items_in s.outboxes.items) spot.place old c.take_at.new.lane c.self.invariant.1 c.self.invariant.2 known.there c.index_mut.ensures.value c.in_err-take_at.ensures.losses c.in_err-take_at.ensures.kept c.in_err-take_at.ensures.err in
     let p = err_from_is_err_and c.from_residual-in_err-take_at.result c.from_residual-in_err-take_at.ensures.1 in
     answers_memory c.args.self.now _ (Take c.args.lane) c.from_residual-in_err-take_at.result p.0 p.1 p.2 due
     (ap (λ (rec : Record). net_with s.plan rec) failed.2 ∙ c.self.view_is)
@@ -74,7 +74,7 @@ invariant_of-self-2 c =
     let told = rw c.in-Some.is at c.in_ok-spot.ensures.spot in
     let known = subst (λ (v : NetView). IsLaneStart v.plan c.args.lane spot) (sym c.self.view_is) told in
     let box = c.index_mut-2.result.now in
-    let done = take_done items_in s.plan s.bridges.items s.lanes.items s.customers.items s.inboxes.items s.outboxes.items c.args.lane spot old c.take_at.new.lane box c.take_at.new.outbox c.self.invariant.0 c.self.invariant.1 c.self.invariant.2 known c.index_mut.ensures.value c.index_mut-2.ensures.value c.in_ok-take_at.ensures.losses c.in_ok-take_at.ensures.lawful c.in_ok-take_at.ensures.ok in
+    let done = take_done items_in s.plan s.bridges.items s.lanes.items s.customers.items s.inboxes.items s.outboxes.items c.args.lane spot old c.take_at.new.lane box c.take_at.new.outbox c.self.invariant.0 c.self.invariant.1 c.self.invariant.2 known c.index_mut.ensures.value c.index_mut-2.ensures.value c.in_ok-take_at.ensures.losses c.in_ok-take_at.ensures.kept c.in_ok-take_at.ensures.lawful c.in_ok-take_at.ensures.ok in
     (c.self.invariant.0, done.0, done.1, c.self.invariant.3, c.self.invariant.4, c.self.invariant.5)
 
 pub returns : goal.returns
@@ -86,6 +86,6 @@ returns c =
     let told = rw c.in-Some.is at c.in_ok-spot.ensures.spot in
     let known = subst (λ (v : NetView). IsLaneStart v.plan c.args.lane spot) (sym c.self.view_is) told in
     let box = c.index_mut-2.result.now in
-    let done = take_done items_in s.plan s.bridges.items s.lanes.items s.customers.items s.inboxes.items s.outboxes.items c.args.lane spot old c.take_at.new.lane box c.take_at.new.outbox c.self.invariant.0 c.self.invariant.1 c.self.invariant.2 known c.index_mut.ensures.value c.index_mut-2.ensures.value c.in_ok-take_at.ensures.losses c.in_ok-take_at.ensures.lawful c.in_ok-take_at.ensures.ok in
+    let done = take_done items_in s.plan s.bridges.items s.lanes.items s.customers.items s.inboxes.items s.outboxes.items c.args.lane spot old c.take_at.new.lane box c.take_at.new.outbox c.self.invariant.0 c.self.invariant.1 c.self.invariant.2 known c.index_mut.ensures.value c.index_mut-2.ensures.value c.in_ok-take_at.ensures.losses c.in_ok-take_at.ensures.kept c.in_ok-take_at.ensures.lawful c.in_ok-take_at.ensures.ok in
     let new = record_of s.bridges.items (set s.lanes.items spot.place c.take_at.new.lane) s.customers.items in
     (due, refl, ap (λ (v : NetView). v.plan) c.self.view_is, subst (λ (v : NetView). HasDone v.rec (Take c.args.lane) new) c.self.view_is done.2)

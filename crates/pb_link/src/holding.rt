@@ -1,0 +1,77 @@
+//! What a place has in hand.
+
+ghost use Rattle.std.specs.Option.{option_copied};
+ghost use Rattle.std.specs.Prelude.{◌≡◌};
+ghost use Rattle.pb_link.specs.Holdings.{brought_by, held, holding_of, is_nothing};
+
+use pb_lan::{Item, Step};
+use std::mem::replace;
+
+/// The item that came to a place and has not gone on.
+#[derive(Drop)]
+pub(crate) enum Holding {
+    /// None.
+    Nothing,
+    /// That of the step at this place of the list, where steps are kept.
+    At(usize),
+    /// This one, where steps are only counted.
+    This(Item),
+}
+
+/// The item that a step brought, if it is of a kind that brings one.
+fn brought_by(step: &Step) -> Option<&Item>
+    ensures { option_copied result ≡ brought_by step.now }
+{
+    match step {
+        Step::Poll { item } => Some(item),
+        Step::Take { item, .. } => Some(item),
+        _ => None,
+    }
+}
+
+impl Holding {
+    /// The item of a step that was appended at a place, or that was given back since it is only counted.
+    pub(crate) fn of(place: usize, back: Option<Step>) -> Holding
+        ensures { result ≡ holding_of place back }
+    {
+        match back {
+            None => Holding::At(place),
+            Some(Step::Poll { item }) => Holding::This(item),
+            Some(Step::Take { item, .. }) => Holding::This(item),
+            Some(_) => Holding::Nothing,
+        }
+    }
+
+    /// No item is in hand.
+    pub(crate) fn is_nothing(&self) -> bool
+        ensures { result ≡ is_nothing self.now }
+    {
+        match self {
+            Holding::Nothing => true,
+            _ => false,
+        }
+    }
+
+    /// The item in hand, where these are the steps.
+    pub(crate) fn item<'a>(&'a self, steps: &'a [Step]) -> Option<&'a Item>
+        ensures { option_copied result ≡ held steps.now self.now }
+    {
+        match self {
+            Holding::Nothing => None,
+            Holding::At(place) => brought_by(steps.get(*place)?),
+            Holding::This(item) => Some(item),
+        }
+    }
+
+    /// Takes the item, which is held by value, out of the hand.
+    pub(crate) fn take(&mut self) -> Item
+        requires { (item : _) × (self.old ≡ Holding.This item) }
+        ensures item { self.old ≡ Holding.This result }
+        ensures empty { self.new ≡ Holding.Nothing }
+    {
+        match replace(self, Holding::Nothing) {
+            Holding::This(item) => item,
+            _ => unreachable!(),
+        }
+    }
+}
