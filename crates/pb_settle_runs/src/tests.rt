@@ -1,0 +1,166 @@
+//! Networks of plan files that are driven until nothing is due, and until their bridges have settled.
+
+ghost use Rattle.std.specs.Prelude.{◌≡◌};
+ghost use Rattle.pb_lan.specs.Plans.{IsSound};
+
+use bytes::Bytes;
+use pb_init::{Shape, write_plan};
+use pb_lan::{Event, Plan};
+use pb_net::Net;
+use pb_service::read_plan;
+use pb_settle::{DriveFault, Rest, drain, settle};
+use std::alloc::{AllocError, Global};
+use std::process::Abort;
+use std::test::Fail;
+
+/// A broadcast of sixteen octets.
+const BROADCAST: &[u8] = &[255, 255, 255, 255, 255, 255, 2, 0, 0, 0, 1, 1, 8, 0, 65, 66];
+
+/// Two bridges that a link joins, each with a customer port, whose places take at most two steps each.
+const SHORT: &str = "\
+network = { steps = 2 }
+bridge = [{ name = \"B1\", address = \"02-00-00-00-00-01\" }, { name = \"B2\", address = \"02-00-00-00-00-02\" }]
+link = [{ name = \"L1\", a = \"B1\", a_port = 1, b = \"B2\", b_port = 1 }]
+service = [{ name = \"red\", vid = 100 }]
+port = [{ name = \"C1\", bridge = \"B1\", port = 2, service = \"red\" }, { name = \"C2\", bridge = \"B2\", port = 2, service = \"red\" }]
+";
+
+/// What is done to a network, and what is answered.
+#[derive(Clone, Copy, Debug)]
+enum Row {
+    /// A broadcast comes in at a customer port.
+    Enters(u8),
+    /// A port to another bridge goes down.
+    Falls(u8, u8),
+    /// At most so many events are done.
+    Drains(u64, Result<u64, DriveFault>),
+    /// The bridges tick at most so often, with at most so many events besides.
+    Settles(u32, u64, Result<Rest, DriveFault>),
+}
+
+/// A broadcast comes in at a customer port; whether it did.
+fn enters(alloc: Global, net: &mut Net, port: u8) -> Result<bool, AllocError>
+    ensures { net.new.plan ≡ net.old.plan }
+{
+    let frame = Bytes::copy_from_slice(alloc, BROADCAST)?;
+    Ok(net.step(Event::Poll { port, frame }).is_ok())
+}
+
+/// A port to another bridge goes down; whether it did.
+fn falls(net: &mut Net, bridge: u8, port: u8) -> bool
+    ensures { net.new.plan ≡ net.old.plan }
+{
+    let up = false;
+    net.step(Event::Admin { bridge, port, up }).is_ok()
+}
+
+/// Whether a row is answered so.
+fn holds(alloc: Global, net: &mut Net, plan: &Plan, row: Row) -> Result<bool, AllocError>
+    requires sound { IsSound plan.now }
+    requires plan { net.old.plan ≡ plan.now }
+    ensures { net.new.plan ≡ plan.now }
+{
+    Ok(match row {
+        Row::Enters(port) => enters(alloc, net, port)?,
+        Row::Falls(bridge, port) => falls(net, bridge, port),
+        Row::Drains(most, want) => drain(net, plan, most) == want,
+        Row::Settles(most, events, want) => settle(alloc, net, plan, most, events) == want,
+    })
+}
+
+/// The network of a plan file goes through the rows.
+fn goes(rt: &impl Abort, alloc: Global, file: &[u8], rows: &[Row]) -> Result<(), Fail> {
+    let Ok((plan, _ports)) = read_plan(alloc, file) else {
+        panic!(rt; "no plan");
+    };
+    let mut net = Net::new(alloc, plan.clone()?)?;
+    for (number, row) in rows.iter().enumerate() {
+        assert!(rt;
+            holds(alloc, &mut net, &plan, *row)?,
+            "row {number}: {row:?}"
+        );
+    }
+    Ok(())
+}
+
+/// The network of a plan to begin with goes through the rows.
+fn begins(rt: &impl Abort, alloc: Global, shape: Shape, rows: &[Row]) -> Result<(), Fail> {
+    let mut file = Vec::new(alloc);
+    assert_eq!(rt; write_plan(alloc, shape, &mut file), Ok(()));
+    goes(rt, alloc, file.as_slice(), rows)
+}
+
+/// From C1 over the link to C2: Feed, Receive, Transmit, Take, Put, Receive, Transmit, Deliver.
+#[test]
+fn a_frame_goes_as_far_as_it_goes(rt: HostRuntime) -> Result<(), Fail> {
+    const ROWS: &[Row] = &[
+        Row::Drains(0, Ok(0)),
+        Row::Enters(1),
+        Row::Drains(8, Ok(8)),
+        Row::Drains(0, Ok(0)),
+        Row::Enters(2),
+        // The eighth event was one too many, and was done.
+        Row::Drains(7, Err(DriveFault::Events)),
+        Row::Drains(0, Ok(0)),
+        Row::Enters(1),
+        Row::Drains(0, Err(DriveFault::Events)),
+        Row::Drains(100, Ok(7)),
+        // The plan gives the states.
+        Row::Settles(200, 0, Ok(Rest::Given)),
+    ];
+    begins(&rt, rt.alloc(), Shape::Line(2), ROWS)
+}
+
+/// A bridge takes two steps for a frame: the third is that of the frame that comes back.
+#[test]
+fn a_place_has_so_many_steps(rt: HostRuntime) -> Result<(), Fail> {
+    const ROWS: &[Row] = &[
+        Row::Enters(1),
+        Row::Drains(100, Ok(8)),
+        Row::Enters(2),
+        Row::Drains(100, Err(DriveFault::Steps)),
+    ];
+    goes(&rt, rt.alloc(), SHORT.as_bytes(), ROWS)
+}
+
+/// What the root tells crosses a small ring within a tick. In a ring of 32 bridges better and better roots come by, and a
+/// port sends six BPDUs a tick at most, so that it takes some ticks.
+#[test]
+fn rings_settle(rt: HostRuntime) -> Result<(), Fail> {
+    for (bridges, ticks) in [(3u8, 2), (6, 2), (32, 14)] {
+        let rows = [
+            Row::Settles(200, 1_000_000, Ok(Rest::Settled(ticks))),
+            // The far end isn't told, and the ring mends itself.
+            Row::Falls(1, 1),
+            Row::Settles(200, 1_000_000, Ok(Rest::Settled(2))),
+        ];
+        begins(&rt, rt.alloc(), Shape::Ring(bridges), &rows)?;
+    }
+    Ok(())
+}
+
+/// A network that has ticked once needs one tick less, but is to be settled after two in a row all the same.
+#[test]
+fn ticks_have_a_limit(rt: HostRuntime) -> Result<(), Fail> {
+    for (bridges, ticks) in [(3u8, 2), (6, 2), (32, 13)] {
+        let rows = [
+            Row::Settles(0, 0, Ok(Rest::Unsettled(0))),
+            Row::Settles(1, 1_000_000, Ok(Rest::Unsettled(1))),
+            Row::Settles(ticks - 1, 1_000_000, Ok(Rest::Unsettled(ticks - 1))),
+        ];
+        begins(&rt, rt.alloc(), Shape::Ring(bridges), &rows)?;
+        let rows = [
+            Row::Settles(1, 1_000_000, Ok(Rest::Unsettled(1))),
+            Row::Settles(ticks, 1_000_000, Ok(Rest::Settled(ticks))),
+        ];
+        begins(&rt, rt.alloc(), Shape::Ring(bridges), &rows)?;
+    }
+    Ok(())
+}
+
+/// The first BPDUs of three bridges are more than three events.
+#[test]
+fn events_have_a_limit(rt: HostRuntime) -> Result<(), Fail> {
+    const ROWS: &[Row] = &[Row::Settles(200, 3, Err(DriveFault::Events))];
+    begins(&rt, rt.alloc(), Shape::Ring(3), ROWS)
+}

@@ -1,0 +1,239 @@
+//! The trees of plan files.
+
+mod drawn;
+
+use pb_fakes::{Full, Unflushed};
+use pb_print::CommandFault;
+use pb_tree::{TreeEnd, run_tree};
+use std::alloc::{AllocError, Global};
+use std::process::Abort;
+use std::test::Fail;
+
+/// A ring of three bridges whose states the plan gives: L3 stands by at B3. The service blue has no way over L2.
+const GIVEN: &str = "\
+bridge = [\n\
+  { name = \"B1\", address = \"02-00-00-00-00-01\" },\n\
+  { name = \"B2\", address = \"02-00-00-00-00-02\" },\n\
+  { name = \"B3\", address = \"02-00-00-00-00-03\" },\n\
+]\n\
+link = [\n\
+  { name = \"L1\", a = \"B1\", a_port = 1, b = \"B2\", b_port = 2 },\n\
+  { name = \"L2\", a = \"B2\", a_port = 1, b = \"B3\", b_port = 2, a_services = [\"red\"] },\n\
+  { name = \"L3\", a = \"B3\", a_port = 1, a_state = \"discarding\", b = \"B1\", b_port = 2 },\n\
+]\n\
+service = [{ name = \"red\", vid = 100 }, { name = \"blue\", vid = 200 }]\n\
+";
+
+/// The root of a tree is the bridge that is left when the others are peeled off.
+const GIVEN_TREES: &str = "\
+bridge B1\n\
+port B1 1 link L1 forwarding\n\
+port B1 2 link L3 forwarding\n\
+bridge B2\n\
+port B2 1 link L2 forwarding\n\
+port B2 2 link L1 forwarding\n\
+bridge B3\n\
+port B3 1 link L3 discarding\n\
+port B3 2 link L2 forwarding\n\
+forest yes\n\
+service red bridge B1 up L1 depth 2\n\
+service red bridge B2 up L2 depth 1\n\
+service blue bridge B1 up L1 depth 1\n\
+";
+
+/// Without L1 at B2, which is down.
+const LESS: &str = "\
+bridge B1\n\
+port B1 1 link L1 forwarding\n\
+port B1 2 link L3 forwarding\n\
+bridge B2\n\
+port B2 1 link L2 forwarding\n\
+port B2 2 link L1 discarding\n\
+bridge B3\n\
+port B3 1 link L3 discarding\n\
+port B3 2 link L2 forwarding\n\
+forest yes\n\
+service red bridge B2 up L2 depth 1\n\
+";
+
+/// Two links between two bridges.
+const RING: &str = "\
+bridge = [{ name = \"B1\", address = \"02-00-00-00-00-01\" }, { name = \"B2\", address = \"02-00-00-00-00-02\" }]\n\
+link = [\n\
+  { name = \"L1\", a = \"B1\", a_port = 1, b = \"B2\", b_port = 1 },\n\
+  { name = \"L2\", a = \"B1\", a_port = 2, b = \"B2\", b_port = 2, b_services = [] },\n\
+  { name = \"L3\", a = \"B1\", a_port = 3, b = \"B2\", b_port = 3, b_services = [\"red\"] },\n\
+]\n\
+service = [{ name = \"red\", vid = 100 }, { name = \"blue\", vid = 200 }]\n\
+";
+
+const RING_TREES: &str = "\
+bridge B1\n\
+port B1 1 link L1 forwarding\n\
+port B1 2 link L2 forwarding\n\
+port B1 3 link L3 forwarding\n\
+bridge B2\n\
+port B2 1 link L1 forwarding\n\
+port B2 2 link L2 forwarding\n\
+port B2 3 link L3 forwarding\n\
+forest no\n\
+loop red\n\
+service blue bridge B1 up L1 depth 1\n\
+";
+
+/// Words as they stand on a command line.
+fn words_of(alloc: Global, texts: &[&str]) -> Result<Vec<String>, AllocError> {
+    let mut words = Vec::new(alloc);
+    for text in texts {
+        words.push(String::from_str(alloc, text)?)?;
+    }
+    Ok(words)
+}
+
+/// A plan file, what goes down, the most ticks, how it ends, and what is written.
+type Row<'a> = (&'a str, &'a [&'a str], u32, TreeEnd, &'a str);
+
+/// The rows come out as they are told.
+fn tells(rt: &impl Abort, alloc: Global, rows: &[Row]) -> Result<(), Fail> {
+    for (number, (plan, downs, ticks, end, want)) in rows.iter().enumerate() {
+        let words = words_of(alloc, downs)?;
+        let mut output = Vec::new(alloc);
+        let told = run_tree(
+            alloc,
+            plan.as_bytes(),
+            words.as_slice(),
+            *ticks,
+            &mut output,
+        );
+        assert_eq!(rt; told, Ok(*end), "row {number}");
+        let text = std::str::from_utf8(output.as_slice()).unwrap_or("");
+        assert_eq!(rt; text, *want, "row {number}");
+    }
+    Ok(())
+}
+
+#[test]
+fn trees_are_as_drawn(rt: HostRuntime) -> Result<(), Fail> {
+    const ROWS: &[Row] = &[
+        (drawn::ONE, &[], 200, TreeEnd::Told, drawn::ONE_TREES),
+        (
+            drawn::ONE,
+            &["B2:1"],
+            200,
+            TreeEnd::Told,
+            drawn::ONE_DOWN_TREES,
+        ),
+        (drawn::TWO, &[], 200, TreeEnd::Told, drawn::TWO_TREES),
+        (
+            drawn::TWO,
+            &["B2:1"],
+            200,
+            TreeEnd::Told,
+            drawn::TWO_DOWN_TREES,
+        ),
+        (
+            drawn::TWO,
+            &["B2:1", "B4:1"],
+            200,
+            TreeEnd::Told,
+            drawn::TWO_BOTH_TREES,
+        ),
+        (
+            drawn::FIGURE_4,
+            &[],
+            200,
+            TreeEnd::Told,
+            drawn::FIGURE_4_TREES,
+        ),
+        (
+            drawn::FIGURE_5,
+            &[],
+            200,
+            TreeEnd::Told,
+            drawn::FIGURE_5_TREES,
+        ),
+        (
+            drawn::FIGURE_6,
+            &[],
+            200,
+            TreeEnd::Told,
+            drawn::FIGURE_6_TREES,
+        ),
+        (
+            drawn::FIGURE_7,
+            &[],
+            200,
+            TreeEnd::Told,
+            drawn::FIGURE_7_TREES,
+        ),
+    ];
+    tells(&rt, rt.alloc(), ROWS)
+}
+
+#[test]
+fn given_trees_are_told(rt: HostRuntime) -> Result<(), Fail> {
+    const ROWS: &[Row] = &[
+        (GIVEN, &[], 200, TreeEnd::Told, GIVEN_TREES),
+        (GIVEN, &["B2:2"], 0, TreeEnd::Told, LESS),
+        (RING, &[], 200, TreeEnd::Told, RING_TREES),
+        ("", &[], 200, TreeEnd::Told, "forest yes\n"),
+    ];
+    tells(&rt, rt.alloc(), ROWS)
+}
+
+/// Before a tick each bridge takes itself for the root.
+const UNSETTLED: &str = "\
+settled no ticks 0\n\
+bridge B0 root B0 cost 0\n\
+port B0 1 link a designated discarding cost 200000 from B0\n\
+port B0 2 link b designated discarding cost 200000 from B0\n\
+bridge B1 root B1 cost 0\n\
+port B1 1 link a designated discarding cost 200000 from B1\n\
+port B1 2 link c designated discarding cost 200000 from B1\n\
+bridge B2 root B2 cost 0\n\
+port B2 1 link b designated discarding cost 200000 from B2\n\
+port B2 2 link c designated discarding cost 200000 from B2\n\
+forest yes\n\
+";
+
+#[test]
+fn what_is_wrong_is_told(rt: HostRuntime) -> Result<(), Fail> {
+    const ROWS: &[Row] = &[
+        (drawn::ONE, &[], 0, TreeEnd::Told, UNSETTLED),
+        (
+            "bridges = []",
+            &[],
+            200,
+            TreeEnd::Refused,
+            "plan: 6 unknown bridges\n",
+        ),
+        (
+            "bridges = []",
+            &["B9:1"],
+            200,
+            TreeEnd::Refused,
+            "plan: 6 unknown bridges\n",
+        ),
+        (drawn::ONE, &["B9:1"], 200, TreeEnd::NoPort(0), ""),
+        (drawn::ONE, &["B2:1", "B2:3"], 200, TreeEnd::NoPort(1), ""),
+        (drawn::ONE, &["B2:01"], 200, TreeEnd::NoPort(0), ""),
+        (drawn::ONE, &["B2"], 200, TreeEnd::NoPort(0), ""),
+        (drawn::ONE, &[""], 200, TreeEnd::NoPort(0), ""),
+    ];
+    tells(&rt, rt.alloc(), ROWS)
+}
+
+#[test]
+fn writes_that_fail_are_told(rt: HostRuntime) {
+    let alloc = rt.alloc();
+    let told = run_tree(
+        alloc,
+        drawn::ONE.as_bytes(),
+        &[],
+        200,
+        &mut Full { room: 5 },
+    );
+    assert_eq!(rt; told, Err(CommandFault::Write));
+    let told = run_tree(alloc, drawn::ONE.as_bytes(), &[], 200, &mut Unflushed);
+    assert_eq!(rt; told, Err(CommandFault::Write));
+}
