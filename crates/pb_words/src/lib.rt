@@ -4,7 +4,9 @@
 mod init_order;
 mod order;
 mod run_order;
+mod tree_order;
 
 pub use init_order::InitOrder;
 pub use order::{Order, order_of};
 pub use run_order::RunOrder;
+pub use tree_order::TreeOrder;

@@ -6,6 +6,7 @@ ghost use Rattle.pb_words.specs.declared.order.Order.{Order};
 
 use crate::init_order::{InitOrder, init_command, init_order};
 use crate::run_order::{RunOrder, run_command, run_order};
+use crate::tree_order::{TreeOrder, tree_command, tree_order};
 use clap::{Arg, ArgAction, Command, Error};
 use std::alloc::{AllocError, Global};
 
@@ -39,6 +40,8 @@ pub enum Order {
     Step(String),
     /// Running the network of a plan file.
     Run(RunOrder),
+    /// Printing the trees of the network of a plan file.
+    Tree(TreeOrder),
     /// Telling what becomes of frames for the reserved addresses.
     Show,
     /// Printing a plan file to begin with.
@@ -94,6 +97,7 @@ fn commands<'a>(alloc: Global) -> Result<Command<'a>, Error> {
     let program = with_plan(alloc, program, "check", CHECK)?;
     let program = with_plan(alloc, program, "step", STEP)?;
     let program = with(program, run_command(alloc)?, plan_file(alloc))?;
+    let program = with(program, tree_command(alloc)?, plan_file(alloc))?;
     let show = Command::new(alloc, "show").about(SHOW);
     let program = program.subcommand(show)?;
     Ok(program.subcommand(init_command(alloc)?)?)
@@ -135,6 +139,9 @@ pub fn order_of(alloc: Global, words: &[String]) -> Result<Option<Order>, Error>
         },
         Some((command, given)) => match given.get_str("FILE") {
             Some(path) if command == "run" => Ok(Some(Order::Run(run_order(alloc, path, given)?))),
+            Some(path) if command == "tree" => {
+                Ok(Some(Order::Tree(tree_order(alloc, path, given)?)))
+            }
             Some(path) => Ok(file_order(alloc, command, path)?),
             None => Ok(None),
         },

@@ -1,6 +1,6 @@
 //! What the words of the command line ask for.
 
-use pb_words::{InitOrder, Order, RunOrder, order_of};
+use pb_words::{InitOrder, Order, RunOrder, TreeOrder, order_of};
 use std::alloc::{AllocError, Global};
 use std::process::Abort;
 use std::test::Fail;
@@ -14,6 +14,8 @@ enum Wanted {
     Run(&'static str),
     /// With the seconds, whether progress is told, and whether it is strict.
     RunBeside(&'static str, Option<u32>, bool, bool),
+    /// With the ports that go down, and the most ticks.
+    Tree(&'static str, &'static [&'static str], u32),
     Show,
     Init(InitOrder),
     /// They are wrong, or ask for help.
@@ -43,6 +45,19 @@ fn run_of(
     })
 }
 
+/// The trees of a plan file.
+fn tree_of(alloc: Global, path: &str, downs: &[&str], ticks: u32) -> Result<TreeOrder, AllocError> {
+    let mut words = Vec::new(alloc);
+    for down in downs {
+        words.push(String::from_str(alloc, down)?)?;
+    }
+    Ok(TreeOrder {
+        path: String::from_str(alloc, path)?,
+        downs: words,
+        ticks,
+    })
+}
+
 /// The order that is wanted, or whether the words are wrong.
 fn wanted_of(alloc: Global, wanted: Wanted) -> Result<Result<Order, bool>, AllocError> {
     Ok(Ok(match wanted {
@@ -53,6 +68,7 @@ fn wanted_of(alloc: Global, wanted: Wanted) -> Result<Result<Order, bool>, Alloc
         Wanted::RunBeside(path, seconds, progress, strict) => {
             Order::Run(run_of(alloc, path, seconds, progress, strict)?)
         }
+        Wanted::Tree(path, downs, ticks) => Order::Tree(tree_of(alloc, path, downs, ticks)?),
         Wanted::Show => Order::Show,
         Wanted::Init(order) => Order::Init(order),
         Wanted::Nothing { wrong } => return Ok(Err(wrong)),
@@ -138,6 +154,29 @@ fn steps_by_one_file(rt: HostRuntime) -> Result<(), Fail> {
         (&["step"], WRONG),
         (&["step", "a", "b"], WRONG),
         (&["step", "--help"], HELP),
+    ];
+    all_ask(&rt, rt.alloc(), ROWS)
+}
+
+#[test]
+fn draws_the_trees_of_one_file(rt: HostRuntime) -> Result<(), Fail> {
+    const ROWS: &[Row] = &[
+        (&["tree", "a"], Wanted::Tree("a", &[], 200)),
+        (&["tree", "--ticks", "0", "a"], Wanted::Tree("a", &[], 0)),
+        (
+            &["tree", "a", "--ticks=100000"],
+            Wanted::Tree("a", &[], 100_000),
+        ),
+        (
+            &["tree", "--down", "B1:1", "a", "--down", "B2:16"],
+            Wanted::Tree("a", &["B1:1", "B2:16"], 200),
+        ),
+        (&["tree", "a", "--down=x"], Wanted::Tree("a", &["x"], 200)),
+        (&["tree"], WRONG),
+        (&["tree", "a", "b"], WRONG),
+        (&["tree", "a", "--down"], WRONG),
+        (&["tree", "a", "--ticks", "100001"], WRONG),
+        (&["tree", "--help"], HELP),
     ];
     all_ask(&rt, rt.alloc(), ROWS)
 }
