@@ -12,6 +12,7 @@
 ghost use Rattle.std.specs.Prelude.{◌≤◌};
 
 mod progress;
+mod trees;
 
 use clap::error::ErrorKind as WordsFault;
 use pb_check::{run_check, run_show};
@@ -33,6 +34,7 @@ use std::sync::{Arc, Wait};
 use std::thread::Threads;
 use std::time::Clock;
 use std::{env, fs, io, mem};
+use trees::tree;
 
 /// The exit status where a plan file is refused.
 const REFUSED: u8 = 1;
@@ -60,6 +62,7 @@ fn main(rt: HostRuntime) -> ExitCode {
             let shown = shown_on(errors.is_terminal(), order.progress);
             run(&rt, &order, shown, &mut errors)
         }
+        Ok(Some(Order::Tree(order))) => tree(&rt, &order),
         Ok(Some(Order::Show)) => show(&rt),
         Ok(Some(Order::Init(order))) => init(&rt, order),
         Ok(None) => ExitCode::from(WRONG_WORDS),
