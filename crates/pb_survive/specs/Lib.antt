@@ -1,0 +1,4 @@
+pub mod Failures
+pub mod Reach
+pub mod Groups
+pub mod Views
