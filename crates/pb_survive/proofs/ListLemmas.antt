@@ -1,6 +1,6 @@
 -- Lists in step.
-use Rattle.std.proofs.Common.{◌≡◌, ℕ, zero, suc, ◌+◌, ◌<◌, List, [], ◌∷◌, ◌++◌, Result, Ok, Err, IfOk, length, take, get_or, subst, arith}
-use Rattle.std.specs.List.{AllZip}
+use Rattle.std.proofs.Common.{◌≡◌, ◌≤◌, ℕ, zero, suc, ◌+◌, ◌<◌, List, [], ◌∷◌, ◌++◌, Result, Ok, Err, IfOk, length, take, drop, get_or, flat_map, min, refl, sym, ap, ◌∙◌, subst, arith, append_assoc, append-nil}
+use Rattle.std.specs.List.{AllZip, zip}
 
 -- one more at the end of both
 pub zip_one_more : {A B : Type 0} (R : A → B → Type 0) (xs : List A) (i : ℕ) (d : A) (ys : List B) (y : B) → i < length xs → AllZip R (take i xs) ys → R (get_or xs i d) y
@@ -17,3 +17,48 @@ zip_one_more R (x ∷ xs) (suc i) d (z ∷ zs) y h a r =
 pub if_ok : {A E : Type 0} (P Q : A → Type 0) (r : Result A E) → ((x : A) → P x → Q x) → IfOk r P → IfOk r Q
 if_ok P Q (Ok x) f p = f x p
 if_ok P Q (Err e) f p = tt
+
+-- a text in five parts, from the left or from the right
+pub regroup : (a b c d e : List ℕ) → (((a ++ b) ++ c) ++ d) ++ e ≡ a ++ (b ++ (c ++ (d ++ e)))
+regroup a b c d e = simp append_assoc
+
+-- two lists in step, from one pair on
+pub zip_there : {A B : Type 0} (xs : List A) (ys : List B) (i : ℕ) (d : A) (e : B) → i < length xs → i < length ys
+    → zip (drop i xs) (drop i ys) ≡ (get_or xs i d, get_or ys i e) ∷ zip (drop (i + 1) xs) (drop (i + 1) ys)
+zip_there [] ys i d e h g = absurd (omega (arith, h))
+zip_there (x ∷ xs) [] i d e h g = absurd (omega (arith, g))
+zip_there (x ∷ xs) (y ∷ ys) zero d e h g = refl
+zip_there (x ∷ xs) (y ∷ ys) (suc i) d e h g =
+    let next : suc (i + 1) ≡ suc i + 1 = omega arith in
+    zip_there xs ys i d e (omega (arith, h)) (omega (arith, g)) ∙ ap (λ n. (get_or xs i d, get_or ys i e) ∷ zip (drop n (x ∷ xs)) (drop n (y ∷ ys))) next
+
+-- and from the end of one of them on
+zip-nil : {A B : Type 0} (xs : List A) (ys : List B) → ys ≡ [] → zip xs ys ≡ []
+zip-nil [] ys e = refl
+zip-nil (x ∷ xs) [] e = refl
+zip-nil (x ∷ xs) (y ∷ ys) e = cc
+
+pub zip_past : {A B : Type 0} (xs : List A) (ys : List B) (i : ℕ) → min (length xs) (length ys) ≤ i → zip (drop i xs) (drop i ys) ≡ []
+zip_past [] [] zero h = refl
+zip_past [] [] (suc i) h = refl
+zip_past [] (y ∷ ys) zero h = refl
+zip_past [] (y ∷ ys) (suc i) h = refl
+zip_past (x ∷ xs) [] zero h = refl
+zip_past (x ∷ xs) [] (suc i) h = zip-nil (drop i xs) [] refl
+zip_past (x ∷ xs) (y ∷ ys) zero h = absurd (omega (arith, h))
+zip_past (x ∷ xs) (y ∷ ys) (suc i) h = zip_past xs ys i (omega (arith, h))
+
+-- one more text, and the rest behind it
+pub text_more : {X : Type 0} (f : X → List ℕ) (start before now : List ℕ) (x : X) (these later all : List X) → these ≡ x ∷ later → now ≡ before ++ f x
+    → before ++ flat_map f these ≡ start ++ flat_map f all → now ++ flat_map f later ≡ start ++ flat_map f all
+text_more f start before now x these later all e g h =
+    ap (λ z. z ++ flat_map f later) g ∙ append_assoc before (f x) (flat_map f later) ∙ ap (λ z. before ++ flat_map f z) (sym e) ∙ h
+
+-- no text is left
+pub text_end : {X : Type 0} (f : X → List ℕ) (start now : List ℕ) (these all : List X) → these ≡ [] → now ++ flat_map f these ≡ start ++ flat_map f all
+    → now ≡ start ++ flat_map f all
+text_end f start now these all e h = sym (append-nil now) ∙ ap (λ z. now ++ flat_map f z) (sym e) ∙ h
+
+-- a text of five parts behind another, as it is written and as it is read
+pub rejoin : (old a n b l e : List ℕ) → ((old ++ (a ++ (n ++ b))) ++ l) ++ e ≡ old ++ ((((a ++ n) ++ b) ++ l) ++ e)
+rejoin old a n b l e = simp append_assoc

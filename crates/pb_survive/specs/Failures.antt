@@ -39,11 +39,14 @@ is_out (Pair first second) bridge = false
 abbrev pub set_down : End → Event
 set_down e = Admin e.bridge e.port false
 
--- both ends of each link that the failure takes down are set down, of the links from a number on
+-- both ends of a link that the failure takes down are set down
+abbrev pub downs_of : Failure → ℕ → LinkPlan → List Event
+downs_of failure number link = if is_hit failure number link then set_down link.a ∷ set_down link.b ∷ [] else []
+
+-- of the links from a number on
 abbrev pub downs_from : Failure → ℕ → List LinkPlan → List Event
 downs_from failure number [] = []
-downs_from failure number (link ∷ links) =
-    (if is_hit failure number link then set_down link.a ∷ set_down link.b ∷ [] else []) ++ downs_from failure (number + 1) links
+downs_from failure number (link ∷ links) = downs_of failure number link ++ downs_from failure (number + 1) links
 
 -- of all links of the plan
 abbrev pub downs : Plan → Failure → List Event

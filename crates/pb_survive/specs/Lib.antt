@@ -2,3 +2,5 @@ pub mod Failures
 pub mod Reach
 pub mod Groups
 pub mod Views
+pub mod Outcomes
+pub mod Reports

@@ -2,11 +2,21 @@
 #![tactic(auto)]
 
 mod active;
+mod drive;
 mod failure;
+mod look;
 mod marks;
+mod names;
+mod outcome;
+mod parting;
+mod report;
 mod sites;
 mod view;
 
+pub use drive::Patience;
 pub use failure::{Failure, Kinds, failures};
+pub use look::{look_at, look_at_all};
+pub use outcome::Outcome;
+pub use report::put_report;
 pub use sites::{Site, groups};
 pub use view::{View, views};
