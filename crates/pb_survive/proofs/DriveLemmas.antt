@@ -1,5 +1,5 @@
 -- Events that set ports down.
-use Rattle.std.proofs.Common.{◌≡◌, inl, inr, ℕ, suc, ◌+◌, Bool, true, false, cond, Some, Ok, Err, List, [], ◌∷◌, ◌++◌, slice_get, take, refl, sym, ap, subst, ◌∙◌}
+use Rattle.std.proofs.Common.{◌≡◌, inl, inr, ℕ, suc, ◌+◌, Bool, true, false, cond, Some, Ok, List, [], ◌∷◌, slice_get, take, refl, sym, ap, ◌∙◌}
 use Rattle.std.specs.List.{AllByRecursion}
 use Rattle.pb_frame.proofs.Lists.{All-at, All-append, All-imply, All-placed, true-false}
 use Rattle.pb_lan.proofs.PortsInPlans.{port_at-end}
@@ -13,9 +13,7 @@ use Rattle.pb_net.specs.Answers.{NetView, HaveRun, HasStopped}
 use Rattle.pb_net.specs.declared.fault.NetFault.TheVariants.{NoSuch}
 use Rattle.pb_settle.proofs.DriveLemmas.{answer-plan}
 use Rattle.pb_survive.specs.Failures.{set_down, is_hit, downs_of, downs_from, downs}
-use Rattle.pb_survive.specs.Outcomes.{IsCalm, IsFailed, IsDriven}
 use Rattle.pb_survive.specs.declared.failure.Failure.{Failure}
-use Rattle.pb_survive.specs.declared.failure.Failure.TheVariants.{Nothing, Link, Pair, Bridge}
 
 -- events leave the plan as it is
 pub run-plan : (old new : NetView) (events : List Event) → HaveRun old events new → new.plan ≡ old.plan

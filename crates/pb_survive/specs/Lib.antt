@@ -4,3 +4,5 @@ pub mod Groups
 pub mod Views
 pub mod Outcomes
 pub mod Reports
+pub mod Scopes
+pub mod Survivals

@@ -1,11 +1,10 @@
 -- What comes of a failure.
-use Rattle.std.specs.Prelude.{◌≡◌, ℕ, List, [], ◌∷◌, map}
+use Rattle.std.specs.Prelude.{◌≡◌, ℕ, List}
 use Rattle.std.specs.List.{AllZip}
 use Rattle.pb_lan.specs.Events.{empty_record}
 use Rattle.pb_lan.specs.LastShapes.{last_shape}
 use Rattle.pb_lan.specs.Records.{IsLawfulRecord}
 use Rattle.pb_lan.specs.declared.plan.Plan.{Plan}
-use Rattle.pb_lan.specs.declared.record.Record.{Record}
 use Rattle.pb_net.specs.Answers.{NetView, HaveRun}
 use Rattle.pb_relay.specs.Protocol.{spanning_tree}
 use Rattle.pb_settle.specs.Drives.{HasRested}

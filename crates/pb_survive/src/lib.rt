@@ -10,7 +10,9 @@ mod names;
 mod outcome;
 mod parting;
 mod report;
+mod scope;
 mod sites;
+mod survive;
 mod view;
 
 pub use drive::Patience;
@@ -18,5 +20,7 @@ pub use failure::{Failure, Kinds, failures};
 pub use look::{look_at, look_at_all};
 pub use outcome::Outcome;
 pub use report::put_report;
+pub use scope::Scope;
 pub use sites::{Site, groups};
+pub use survive::{Asked, run_survive};
 pub use view::{View, views};

@@ -1,6 +1,5 @@
-use Rattle.std.proofs.Common.{◌≡◌, subst, sym, ap, ◌∙◌}
-use Rattle.pb_net.specs.Answers.{HaveRun, HasStopped}
-use Rattle.pb_net.specs.declared.fault.NetFault.TheVariants.{NoSuch}
+use Rattle.std.proofs.Common.{◌≡◌, subst, ◌∙◌}
+use Rattle.pb_net.specs.Answers.{HasStopped}
 use Rattle.pb_survive.specs.Failures.{downs}
 use Rattle.pb_survive.proofs.DriveLemmas.{none_lacks, run-plan}
 use Rattle.pb_survive.proofs.drive.take_down.Goals as goal

@@ -1,4 +1,4 @@
-use Rattle.std.proofs.Common.{◌≡◌, ◌<◌, ◌+◌, take, subst, sym, length, arith}
+use Rattle.std.proofs.Common.{◌<◌, ◌+◌, take, subst, sym, length, arith}
 use Rattle.pb_survive.specs.Outcomes.{IsOutcome, AreOutcomes}
 use Rattle.pb_survive.specs.declared.failure.Failure.TheVariants.{Nothing}
 use Rattle.pb_survive.proofs.ListLemmas.{zip_one_more}

@@ -1,4 +1,4 @@
-use Rattle.std.proofs.Common.{◌≡◌, ◌++◌, List, ℕ, [], ◌∷◌, flat_map, string_bytes, sym, ap, ◌∙◌}
+use Rattle.std.proofs.Common.{◌≡◌, ◌++◌, List, [], ◌∷◌, flat_map, string_bytes, ap, ◌∙◌}
 use Rattle.std.specs.List.{zip}
 use Rattle.std.specs.Prelude.{codes, Some}
 use Rattle.pb_survive.specs.Reports.{port_name, lost_text}

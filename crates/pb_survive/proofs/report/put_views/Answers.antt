@@ -1,4 +1,4 @@
-use Rattle.std.proofs.Common.{◌≡◌, ◌<◌, ◌≤◌, ◌+◌, ◌∷◌, min, length, drop, get_or, string_bytes, ap, ◌∙◌, sym, arith}
+use Rattle.std.proofs.Common.{◌<◌, ◌≤◌, ◌+◌, ◌∷◌, min, length, drop, get_or, string_bytes, ap, ◌∙◌, sym, arith}
 use Rattle.std.specs.List.{zip}
 use Rattle.pb_survive.specs.Reports.{view_text}
 use Rattle.pb_survive.proofs.ListLemmas.{zip_there, zip_past, text_more, text_end}
