@@ -22,6 +22,10 @@ if_ok P Q (Err e) f p = tt
 pub regroup : (a b c d e : List ℕ) → (((a ++ b) ++ c) ++ d) ++ e ≡ a ++ (b ++ (c ++ (d ++ e)))
 regroup a b c d e = simp append_assoc
 
+-- in six parts
+pub regroup_six : (a b c d e f : List ℕ) → ((((a ++ b) ++ c) ++ d) ++ e) ++ f ≡ a ++ (b ++ (c ++ (d ++ (e ++ f))))
+regroup_six a b c d e f = simp append_assoc
+
 -- two lists in step, from one pair on
 pub zip_there : {A B : Type 0} (xs : List A) (ys : List B) (i : ℕ) (d : A) (e : B) → i < length xs → i < length ys
     → zip (drop i xs) (drop i ys) ≡ (get_or xs i d, get_or ys i e) ∷ zip (drop (i + 1) xs) (drop (i + 1) ys)
@@ -62,3 +66,7 @@ text_end f start now these all e h = sym (append-nil now) ∙ ap (λ z. now ++ f
 -- a text of five parts behind another, as it is written and as it is read
 pub rejoin : (old a n b l e : List ℕ) → ((old ++ (a ++ (n ++ b))) ++ l) ++ e ≡ old ++ ((((a ++ n) ++ b) ++ l) ++ e)
 rejoin old a n b l e = simp append_assoc
+
+-- four texts behind another, one after the other
+pub rejoin_four : (old a b c d : List ℕ) → (((old ++ a) ++ b) ++ c) ++ d ≡ old ++ (((a ++ b) ++ c) ++ d)
+rejoin_four old a b c d = simp append_assoc

@@ -1,5 +1,5 @@
 -- What is printed of a network under failures.
-use Rattle.std.specs.Prelude.{ℕ, Bool, true, false, List, [], ◌∷◌, ◌++◌, Option, Some, None, flat_map, length, unwrap_or, codes, ◌==◌, ◌&&◌, not, count_by, if◌then◌else◌}
+use Rattle.std.specs.Prelude.{ℕ, Bool, true, false, List, [], ◌∷◌, ◌++◌, Option, Some, None, flat_map, length, unwrap_or, codes, ◌==◌, ◌&&◌, not, max, count_by, if◌then◌else◌}
 use Rattle.std.specs.Fmt.{decimal}
 use Rattle.std.specs.List.{list_any, list_all, zip}
 use Rattle.std.specs.Option.{option_map}
@@ -132,12 +132,26 @@ abbrev pub outcome_text : Plan → Option ℕ → Outcome → Outcome → List �
 outcome_text plan from base o =
     if is_quiet from base o then [] else head_line plan o ++ flat_map (view_text plan from) (zip base.views o.views)
 
--- those that change nothing are counted
-abbrev pub quiet_count_line : ℕ → ℕ → List ℕ
-quiet_count_line quiet all = decimal quiet ++ codes " of " ++ decimal all ++ codes " failures part nothing" ++ 10 ∷ []
+-- the ticks after which the bridges settled
+abbrev pub ticks_of : Rest → ℕ
+ticks_of Given = 0
+ticks_of (Settled ticks) = ticks
+ticks_of (Unsettled ticks) = ticks
 
-abbrev pub quiet_line : ℕ → ℕ → List ℕ
-quiet_line quiet all = if quiet == 0 then [] else quiet_count_line quiet all
+abbrev pub quiet_ticks : Option ℕ → Outcome → Outcome → ℕ
+quiet_ticks from base o = if is_quiet from base o then ticks_of o.rest else 0
+
+-- the most that it took after a failure that changes nothing
+abbrev pub slowest : Option ℕ → Outcome → List Outcome → ℕ
+slowest from base [] = 0
+slowest from base (o ∷ os) = max (quiet_ticks from base o) (slowest from base os)
+
+-- failures that change nothing are counted
+abbrev pub quiet_count_line : ℕ → ℕ → ℕ → List ℕ
+quiet_count_line quiet all ticks = decimal quiet ++ codes " of " ++ decimal all ++ codes " failures part nothing, ticks at most " ++ decimal ticks ++ 10 ∷ []
+
+abbrev pub quiet_line : ℕ → ℕ → ℕ → List ℕ
+quiet_line quiet all ticks = if quiet == 0 then [] else quiet_count_line quiet all ticks
 
 -- and so are those that part a service
 abbrev pub parting_count_line : ℕ → ℕ → List ℕ
@@ -150,5 +164,5 @@ verdict_line parting all = if parting == 0 then codes "survives every single fai
 abbrev pub report_text : Plan → Option ℕ → Outcome → List Outcome → List ℕ
 report_text plan from base outcomes =
     whole_text plan base ++ flat_map (outcome_text plan from base) outcomes
-    ++ quiet_line (count_by (is_quiet from base) outcomes) (length outcomes)
+    ++ quiet_line (count_by (is_quiet from base) outcomes) (length outcomes) (slowest from base outcomes)
     ++ verdict_line (count_by (parts from base) outcomes) (length outcomes)

@@ -13,6 +13,7 @@ mod report;
 mod scope;
 mod sites;
 mod survive;
+mod totals;
 mod view;
 
 pub use drive::Patience;

@@ -2,13 +2,14 @@
 
 ghost use Rattle.std.specs.Prelude.{◌≡◌, ◌<◌, ◌++◌, flat_map, length, slice_index_or, count_by, string_bytes, IfOk, OnOk};
 ghost use Rattle.std.specs.List.{zip};
-ghost use Rattle.pb_survive.specs.Reports.{failure_text, rest_text, forest_text, head_line, member_text, group_text, later_text, groups_text, service_line, loop_line, lost_text, cut_off_line, parting_line, view_text, whole_text, outcome_text, quiet_line, quiet_count_line, verdict_line, parting_count_line, no_site, is_quiet, parts, report_text};
+ghost use Rattle.pb_survive.specs.Reports.{failure_text, rest_text, forest_text, head_line, member_text, group_text, later_text, groups_text, service_line, loop_line, lost_text, cut_off_line, parting_line, view_text, whole_text, outcome_text, no_site, parts, report_text};
 
 use crate::failure::Failure;
 use crate::names::{bridge_name, link_name, port_name, service_name};
 use crate::outcome::Outcome;
-use crate::parting::{are_forests, is_lost, is_quiet, parts, parts_view};
+use crate::parting::{are_forests, is_lost, is_quiet, parts_view};
 use crate::sites::Site;
+use crate::totals::{count_parting, put_all_quiet, put_verdict};
 use crate::view::View;
 use pb_frame::Memory;
 use pb_lan::Plan;
@@ -277,70 +278,13 @@ fn put_outcomes(
     Ok(())
 }
 
-/// A number of failures that change nothing.
-fn put_quiet_count(out: &mut String, quiet: usize, all: usize) -> Result<(), Memory>
-    ensures { OnOk result (string_bytes out.new ≡ string_bytes out.old ++ quiet_count_line quiet all) }
-{
-    writeln!(out, "{quiet} of {all} failures part nothing")?;
-    Ok(())
-}
-
-/// The number of failures that change nothing, where there are any.
-fn put_quiet(out: &mut String, quiet: usize, all: usize) -> Result<(), Memory>
-    ensures { OnOk result (string_bytes out.new ≡ string_bytes out.old ++ quiet_line quiet all) }
-{
-    if quiet == 0 {
-        return Ok(());
-    }
-    put_quiet_count(out, quiet, all)
-}
-
-/// A number of failures that part a service.
-fn put_parting_count(out: &mut String, parting: usize, all: usize) -> Result<(), Memory>
-    ensures { OnOk result (string_bytes out.new ≡ string_bytes out.old ++ parting_count_line parting all) }
-{
-    writeln!(out, "{parting} of {all} failures part a service")?;
-    Ok(())
-}
-
-/// The number of failures that part a service, or that there are none.
-fn put_verdict(out: &mut String, parting: usize, all: usize) -> Result<(), Memory>
-    ensures { OnOk result (string_bytes out.new ≡ string_bytes out.old ++ verdict_line parting all) }
-{
-    if parting == 0 {
-        out.push_str("survives every single failure\n")?;
-        return Ok(());
-    }
-    put_parting_count(out, parting, all)
-}
-
-/// How many of the failures part a service.
-pub(crate) fn count_parting(from: Option<u8>, base: &Outcome, outcomes: &[Outcome]) -> usize
-    ensures { result ≡ count_by (parts from base.now) outcomes.now }
-{
-    outcomes
-        .iter()
-        .filter(|outcome| parts(from, base, outcome))
-        .count()
-}
-
-/// How many of the failures change nothing.
-fn count_quiet(from: Option<u8>, base: &Outcome, outcomes: &[Outcome]) -> usize
-    ensures { result ≡ count_by (is_quiet from base.now) outcomes.now }
-{
-    outcomes
-        .iter()
-        .filter(|outcome| is_quiet(from, base, outcome))
-        .count()
-}
-
 /// Puts the report on a network with nothing down, and under failures, behind a text, and answers how many of the
 /// failures part a service.
 ///
 /// First comes what is so with nothing down: whether the bridges settled and after how many ticks, whether the
 /// active links are a forest for each service, and the groups of each service's customer ports. Then each failure
-/// that changes something is told the same way, with the services that it parts, then how many change nothing, and
-/// how many part a service. Where `from` names a customer port, only what cuts that port off counts as parting.
+/// that changes something is told the same way, with the services that it parts, then how many change nothing and
+/// the most ticks that settling took after these, and how many part a service. Where `from` names a customer port, only what cuts that port off counts as parting.
 ///
 /// `Memory` is answered where memory ran out, and then a part of the report may stand there.
 pub fn put_report(
@@ -355,7 +299,7 @@ pub fn put_report(
 {
     put_whole(out, plan, base)?;
     put_outcomes(out, plan, from, base, outcomes)?;
-    put_quiet(out, count_quiet(from, base, outcomes), outcomes.len())?;
+    put_all_quiet(out, from, base, outcomes)?;
     let parting = count_parting(from, base, outcomes);
     put_verdict(out, parting, outcomes.len())?;
     Ok(parting)

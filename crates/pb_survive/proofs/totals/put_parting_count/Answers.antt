@@ -2,7 +2,7 @@ use Rattle.std.proofs.Common.{◌++◌, [], ◌∷◌, string_bytes, sym, ap, �
 use Rattle.std.specs.Prelude.{codes}
 use Rattle.std.specs.Fmt.{decimal}
 use Rattle.pb_survive.proofs.ListLemmas.{regroup}
-use Rattle.pb_survive.proofs.report.put_parting_count.Goals as goal
+use Rattle.pb_survive.proofs.totals.put_parting_count.Goals as goal
 
 pub returns : goal.returns
 returns c =
