@@ -4,7 +4,7 @@ use Rattle.std.specs.declared.option.Option.{Option}
 use Rattle.pb_words.specs.declared.init_order.InitOrder.{InitOrder}
 use Rattle.pb_words.specs.declared.init_order.InitOrder.TheVariants.{Line, Ring, Star}
 use Rattle.pb_words.specs.declared.order.Order.{Order}
-use Rattle.pb_words.specs.declared.order.Order.TheVariants.{Flat, Check, Step, Run, Tree, Show, Init}
+use Rattle.pb_words.specs.declared.order.Order.TheVariants.{Flat, Check, Step, Run, Tree, Show, Init, Survive}
 
 -- a run is stopped after 1 to 1,000,000,000 seconds, or not
 abbrev pub AreSeconds : Option ℕ → Type 0
@@ -14,6 +14,10 @@ AreSeconds (Some seconds) = (1 ≤ seconds) × (seconds ≤ 1000000000)
 -- each bridge ticks 0 to 100,000 times at most
 abbrev pub AreTicks : ℕ → Type 0
 AreTicks ticks = ticks ≤ 100000
+
+-- it is waited for 1 to 1,000,000 ticks
+abbrev pub AreWaitedTicks : ℕ → Type 0
+AreWaitedTicks ticks = (1 ≤ ticks) × (ticks ≤ 1000000)
 
 -- a line has 1 to 32 bridges, a ring 3 to 32, and a star 2 to 17
 abbrev pub IsNetwork : InitOrder → Type 0
@@ -38,6 +42,7 @@ IsAllowed (Run run) = AreSeconds run.seconds
 IsAllowed (Tree tree) = AreTicks tree.ticks
 IsAllowed Show = Unit {0}
 IsAllowed (Init order) = IsNetwork order
+IsAllowed (Survive order) = AreWaitedTicks order.ticks
 
 -- the order of a command that has the plan file at a path, and nothing else
 abbrev pub IsFileOrder : List ℕ → List ℕ → Order → Type 0

@@ -6,6 +6,7 @@ ghost use Rattle.pb_words.specs.declared.order.Order.{Order};
 
 use crate::init_order::{InitOrder, init_command, init_order};
 use crate::run_order::{RunOrder, run_command, run_order};
+use crate::survive_order::{SurviveOrder, survive_command, survive_order};
 use crate::tree_order::{TreeOrder, tree_command, tree_order};
 use clap::{Arg, ArgAction, Command, Error};
 use std::alloc::{AllocError, Global};
@@ -46,6 +47,8 @@ pub enum Order {
     Show,
     /// Printing a plan file to begin with.
     Init(InitOrder),
+    /// Looking at the network of a plan file under failures.
+    Survive(SurviveOrder),
 }
 
 /// The argument that names a plan file.
@@ -98,6 +101,7 @@ fn commands<'a>(alloc: Global) -> Result<Command<'a>, Error> {
     let program = with_plan(alloc, program, "step", STEP)?;
     let program = with(program, run_command(alloc)?, plan_file(alloc))?;
     let program = with(program, tree_command(alloc)?, plan_file(alloc))?;
+    let program = with(program, survive_command(alloc)?, plan_file(alloc))?;
     let show = Command::new(alloc, "show").about(SHOW);
     let program = program.subcommand(show)?;
     Ok(program.subcommand(init_command(alloc)?)?)
@@ -142,6 +146,9 @@ pub fn order_of(alloc: Global, words: &[String]) -> Result<Option<Order>, Error>
             Some(path) if command == "tree" => {
                 Ok(Some(Order::Tree(tree_order(alloc, path, given)?)))
             }
+            Some(path) if command == "survive" => Ok(Some(Order::Survive(survive_order(
+                alloc, path, given,
+            )?))),
             Some(path) => Ok(file_order(alloc, command, path)?),
             None => Ok(None),
         },

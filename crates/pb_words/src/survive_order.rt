@@ -1,0 +1,143 @@
+//! What the words behind `survive` ask for.
+
+ghost use Rattle.std.specs.Prelude.{◌≡◌, IfOk, string_bytes};
+ghost use Rattle.pb_words.specs.Orders.{AreWaitedTicks};
+
+use clap::{Arg, ArgAction, ArgMatches, Command, Error};
+use std::alloc::{AllocError, Global};
+
+/// For how many ticks it is waited until the bridges settle, where nothing else is asked for.
+const USUAL: u32 = 200;
+
+/// The most ticks that may be asked for.
+const MOST: u32 = 1_000_000;
+
+/// What `survive` does.
+const SURVIVE: &str =
+    "Takes each link of a plan file's network down in turn, and prints which customer ports can no longer reach each other";
+
+/// What `--pairs` does.
+const PAIRS: &str = "Takes each two links down too";
+
+/// What `--bridges` does.
+const BRIDGES: &str = "Takes each bridge down too, with all links at it";
+
+/// What `--service` does.
+const SERVICE: &str = "Looks at the service of this name alone";
+
+/// What `--from` does.
+const FROM: &str = "Tells only what cuts the customer port of this name off, and from which others";
+
+/// What `--ticks` does.
+const TICKS: &str =
+    "Waits N ticks at most until the bridges settle, 1 to 1000000; without it 200";
+
+/// Which services are looked at.
+#[derive(PartialEq, Eq, Debug, Drop)]
+pub enum SurviveScope {
+    /// All of them.
+    All,
+    /// The one of this name.
+    Service(String),
+    /// The one of the customer port of this name, from that port.
+    From(String),
+}
+
+/// A look at the network of a plan file under failures.
+#[derive(PartialEq, Eq, Debug, Drop)]
+pub struct SurviveOrder {
+    /// The plan file's path.
+    pub path: String,
+    /// Whether each two links are taken down too.
+    pub pairs: bool,
+    /// Whether each bridge is taken down too.
+    pub bridges: bool,
+    /// Which services are looked at.
+    pub scope: SurviveScope,
+    /// For how many ticks at most it is waited until the bridges settle, 1 to 1,000,000.
+    pub ticks: u32,
+}
+
+/// An argument that is there or not.
+fn flag<'a>(alloc: Global, name: &'a str, help: &'a str) -> Arg<'a> {
+    Arg::new(alloc, name)
+        .long(name)
+        .help(help)
+        .action(ArgAction::SetTrue)
+}
+
+/// An argument that names something, in place of another.
+fn named<'a>(
+    alloc: Global,
+    name: &'a str,
+    value: &'a str,
+    help: &'a str,
+    other: &'a str,
+) -> Result<Arg<'a>, Error> {
+    let argument = Arg::new(alloc, name)
+        .long(name)
+        .value_name(value)
+        .help(help)
+        .action(ArgAction::Set);
+    Ok(argument.conflicts_with_all(&[other])?)
+}
+
+/// The argument that tells for how many ticks it is waited.
+fn ticks<'a>(alloc: Global) -> Arg<'a> {
+    Arg::new(alloc, "ticks")
+        .long("ticks")
+        .value_name("N")
+        .help(TICKS)
+        .action(ArgAction::Set)
+        .value_parser(clap::value_parser!(u32).range(1..=1_000_000))
+}
+
+/// The command `survive`, but for its plan file.
+pub(crate) fn survive_command<'a>(alloc: Global) -> Result<Command<'a>, Error> {
+    let command = Command::new(alloc, "survive").about(SURVIVE);
+    let command = command.arg(flag(alloc, "pairs", PAIRS))?;
+    let command = command.arg(flag(alloc, "bridges", BRIDGES))?;
+    let command = command.arg(named(alloc, "service", "NAME", SERVICE, "from")?)?;
+    let command = command.arg(named(alloc, "from", "PORT", FROM, "service")?)?;
+    Ok(command.arg(ticks(alloc))?)
+}
+
+/// Which services are looked at.
+fn scope_of(alloc: Global, given: &ArgMatches<'_>) -> Result<SurviveScope, AllocError> {
+    if let Some(name) = given.get_str("service") {
+        return Ok(SurviveScope::Service(String::from_str(alloc, name)?));
+    }
+    if let Some(name) = given.get_str("from") {
+        return Ok(SurviveScope::From(String::from_str(alloc, name)?));
+    }
+    Ok(SurviveScope::All)
+}
+
+/// For how many ticks it is waited.
+fn ticks_of(given: &ArgMatches<'_>) -> u32
+    ensures { AreWaitedTicks result }
+{
+    match given.get_one::<u32>("ticks") {
+        Some(ticks) if 1 <= ticks && ticks <= MOST => ticks,
+        _ => USUAL,
+    }
+}
+
+/// The look at the plan file at a path that the words ask for.
+pub(crate) fn survive_order(
+    alloc: Global,
+    path: &str,
+    given: &ArgMatches<'_>,
+) -> Result<SurviveOrder, AllocError>
+    ensures path { IfOk result (λ order. string_bytes order.path ≡ path.now) }
+    ensures ticks { IfOk result (λ order. AreWaitedTicks order.ticks) }
+{
+    let scope = scope_of(alloc, given)?;
+    Ok(SurviveOrder {
+        path: String::from_str(alloc, path)?,
+        pairs: given.get_flag("pairs"),
+        bridges: given.get_flag("bridges"),
+        scope,
+        ticks: ticks_of(given),
+    })
+}
