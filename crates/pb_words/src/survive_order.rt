@@ -29,8 +29,7 @@ const SERVICE: &str = "Looks at the service of this name alone";
 const FROM: &str = "Tells only what cuts the customer port of this name off, and from which others";
 
 /// What `--ticks` does.
-const TICKS: &str =
-    "Waits N ticks at most until the bridges settle, 1 to 1000000; without it 200";
+const TICKS: &str = "Waits N ticks at most until the bridges settle, 1 to 1000000; without it 200";
 
 /// Which services are looked at.
 #[derive(PartialEq, Eq, Debug, Drop)]
