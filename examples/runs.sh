@@ -48,6 +48,8 @@ for words in "" "--ring 3" "--star 4"; do
     fi
 done
 
+prints access.expected survive examples/access.toml
+
 for script in examples/*.steps; do
     name=$(basename -- "$script" .steps)
     prints "$name.expected" step "examples/$name.toml" <"$script"
