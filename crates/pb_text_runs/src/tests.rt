@@ -2,4 +2,5 @@
 
 mod lines;
 mod losses;
+mod survive_words;
 mod words;

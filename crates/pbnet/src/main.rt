@@ -6,12 +6,14 @@
 //! memory failed, `steps` where a bridge had taken all its steps, `path` where a file can't be opened, a socket not be
 //! connected to, or a file has two uses (standard error says which), `spawn` where a thread could not be started, and,
 //! behind the report of a run, `port NAME N` for each port whose input has the fault N. A run that is strict has the status
-//! 4 where it would be 0 and a frame was lost, the run did not drain, or bridges have not settled.
+//! 4 where it would be 0 and a frame was lost, the run did not drain, or bridges have not settled; `survive` has it where a
+//! failure parts a service, and the status 2 where the plan lacks what is named.
 #![tactic(auto)]
 
 ghost use Rattle.std.specs.Prelude.{◌≤◌};
 
 mod progress;
+mod survive;
 mod trees;
 
 use clap::error::ErrorKind as WordsFault;
@@ -65,6 +67,7 @@ fn main(rt: HostRuntime) -> ExitCode {
         Ok(Some(Order::Tree(order))) => tree(&rt, &order),
         Ok(Some(Order::Show)) => show(&rt),
         Ok(Some(Order::Init(order))) => init(&rt, order),
+        Ok(Some(Order::Survive(order))) => survive::tell_survivals(&rt, &order),
         Ok(None) => ExitCode::from(WRONG_WORDS),
         Err(e) if e.kind() == WordsFault::OutOfMemory => tell(&rt, CommandFault::Memory),
         Err(e) => {

@@ -1,0 +1,228 @@
+//! What is left of networks under failures.
+
+mod draft;
+mod networks;
+mod texts;
+
+use draft::{Draft, plan_file};
+use pb_fakes::{Full, Unflushed};
+use pb_print::CommandFault;
+use pb_survive::{Asked, Kinds, Scope, run_survive};
+use std::alloc::Global;
+use std::process::Abort;
+use std::test::Fail;
+
+/// Single links alone.
+const LINKS: Kinds = Kinds {
+    bridges: false,
+    pairs: false,
+};
+
+/// Single links and two links.
+const PAIRS: Kinds = Kinds {
+    bridges: false,
+    pairs: true,
+};
+
+/// Single links and single bridges.
+const BRIDGES: Kinds = Kinds {
+    bridges: true,
+    pairs: false,
+};
+
+/// What is asked of a network, and what is written with which exit status.
+#[derive(Drop)]
+struct Row<'a> {
+    draft: &'a Draft<'a>,
+    kinds: Kinds,
+    scope: Scope<'a>,
+    ticks: u32,
+    status: u8,
+    text: &'a str,
+}
+
+/// A network's report is as it should be, each time.
+fn says(rt: &impl Abort, alloc: Global, row: &Row<'_>) -> Result<(), Fail> {
+    let file = plan_file(alloc, row.draft)?;
+    let asked = Asked {
+        kinds: row.kinds,
+        scope: row.scope,
+        ticks: row.ticks,
+    };
+    for _ in 0..2 {
+        let mut output = Vec::new(alloc);
+        let result = run_survive(alloc, file.as_bytes(), &asked, &mut output);
+        let text = std::str::from_utf8(output.as_slice()).unwrap_or("");
+        assert_eq!(rt; text, row.text);
+        assert_eq!(rt; result, Ok(row.status));
+    }
+    Ok(())
+}
+
+/// A row over `red`, with ticks enough.
+fn over_red<'a>(draft: &'a Draft<'a>, kinds: Kinds, status: u8, text: &'a str) -> Row<'a> {
+    Row {
+        draft,
+        kinds,
+        scope: Scope::Service("red"),
+        ticks: 200,
+        status,
+        text,
+    }
+}
+
+#[test]
+fn a_ring_survives_each_link_and_no_two(rt: HostRuntime) -> Result<(), Fail> {
+    let alloc = rt.alloc();
+    says(
+        &rt,
+        alloc,
+        &over_red(&networks::RING, LINKS, 0, texts::RING),
+    )?;
+    says(
+        &rt,
+        alloc,
+        &over_red(&networks::RING, PAIRS, 4, texts::ARCS),
+    )
+}
+
+#[test]
+fn a_failed_bridge_leaves_its_ports_alone(rt: HostRuntime) -> Result<(), Fail> {
+    let alloc = rt.alloc();
+    says(
+        &rt,
+        alloc,
+        &over_red(&networks::RING, BRIDGES, 4, texts::ALONE),
+    )?;
+    says(
+        &rt,
+        alloc,
+        &over_red(&networks::SHARED, BRIDGES, 4, texts::SHARED),
+    )
+}
+
+#[test]
+fn a_line_survives_no_link(rt: HostRuntime) -> Result<(), Fail> {
+    let alloc = rt.alloc();
+    says(
+        &rt,
+        alloc,
+        &over_red(&networks::LINE, LINKS, 4, texts::LINE),
+    )?;
+    let from = Row {
+        scope: Scope::From("C2"),
+        ..over_red(&networks::LINE, LINKS, 4, texts::FROM)
+    };
+    says(&rt, alloc, &from)
+}
+
+#[test]
+fn one_of_two_links_is_enough(rt: HostRuntime) -> Result<(), Fail> {
+    let alloc = rt.alloc();
+    says(
+        &rt,
+        alloc,
+        &over_red(&networks::PARALLEL, LINKS, 0, texts::PARALLEL),
+    )?;
+    says(
+        &rt,
+        alloc,
+        &over_red(&networks::PARALLEL, PAIRS, 4, texts::BOTH),
+    )
+}
+
+#[test]
+fn a_given_tree_loses_what_is_behind_a_link(rt: HostRuntime) -> Result<(), Fail> {
+    let alloc = rt.alloc();
+    says(
+        &rt,
+        alloc,
+        &over_red(&networks::STAR, LINKS, 4, texts::STAR),
+    )?;
+    says(
+        &rt,
+        alloc,
+        &over_red(&networks::LOOPING, LINKS, 0, texts::LOOPING),
+    )
+}
+
+#[test]
+fn a_service_is_parted_where_the_network_is_not(rt: HostRuntime) -> Result<(), Fail> {
+    let all = Row {
+        scope: Scope::All,
+        ..over_red(&networks::LISTED, LINKS, 4, texts::LISTED)
+    };
+    says(&rt, rt.alloc(), &all)
+}
+
+#[test]
+fn the_standards_network_survives_each_link(rt: HostRuntime) -> Result<(), Fail> {
+    let alloc = rt.alloc();
+    says(
+        &rt,
+        alloc,
+        &over_red(&networks::FIGURE, LINKS, 0, texts::FIGURE),
+    )
+}
+
+#[test]
+fn bridges_that_do_not_settle_are_told(rt: HostRuntime) -> Result<(), Fail> {
+    let short = Row {
+        ticks: 2,
+        ..over_red(&networks::RING, LINKS, 4, texts::UNSETTLED)
+    };
+    says(&rt, rt.alloc(), &short)
+}
+
+#[test]
+fn what_is_lacking_is_told(rt: HostRuntime) -> Result<(), Fail> {
+    let alloc = rt.alloc();
+    for (scope, text) in [
+        (Scope::Service("green"), "no such service green\n"),
+        (Scope::From("C9"), "no such port C9\n"),
+        (Scope::From("red"), "no such port red\n"),
+    ] {
+        let lacking = Row {
+            scope,
+            ..over_red(&networks::PARALLEL, LINKS, 2, text)
+        };
+        says(&rt, alloc, &lacking)?;
+    }
+    Ok(())
+}
+
+/// What is asked of files that are no plans.
+const ANY: Asked = Asked {
+    kinds: LINKS,
+    scope: Scope::All,
+    ticks: 200,
+};
+
+#[test]
+fn a_refused_file_tells_the_rule(rt: HostRuntime) -> Result<(), Fail> {
+    let alloc = rt.alloc();
+    let mut output = Vec::new(alloc);
+    assert_eq!(rt; run_survive(alloc, b"x", &ANY, &mut output), Ok(1));
+    assert!(rt; output.as_slice() == b"plan: 2 toml\n".as_slice());
+    Ok(())
+}
+
+#[test]
+fn an_empty_plan_survives(rt: HostRuntime) -> Result<(), Fail> {
+    let alloc = rt.alloc();
+    let mut output = Vec::new(alloc);
+    assert_eq!(rt; run_survive(alloc, b"", &ANY, &mut output), Ok(0));
+    assert!(rt; output.as_slice() == texts::EMPTY.as_bytes());
+    Ok(())
+}
+
+#[test]
+fn a_failed_write_is_told(rt: HostRuntime) -> Result<(), Fail> {
+    let alloc = rt.alloc();
+    let mut writer = Full { room: 5 };
+    let full = run_survive(alloc, b"", &ANY, &mut writer);
+    assert_eq!(rt; full, Err(CommandFault::Write));
+    let unflushed = run_survive(alloc, b"", &ANY, &mut Unflushed);
+    assert_eq!(rt; unflushed, Err(CommandFault::Write));
+    Ok(())
+}
