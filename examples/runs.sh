@@ -49,6 +49,7 @@ for words in "" "--ring 3" "--star 4"; do
 done
 
 prints access.expected survive examples/access.toml
+prints tree.expected tree examples/failover.toml
 
 for script in examples/*.steps; do
     name=$(basename -- "$script" .steps)
