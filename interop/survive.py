@@ -129,8 +129,8 @@ def report(plan):
 
 def main():
     words = argparse.ArgumentParser(usage=__doc__.split("usage: ")[1])
-    words.add_argument("--program", default=f"{ROOT}/pbnet")
-    words.add_argument("--plans", type=int, default=200)
+    words.add_argument("--program", default=os.environ.get("PBNET", f"{ROOT}/pbnet"))
+    words.add_argument("--plans", type=int, default=500)
     words.add_argument("--seed", type=int, default=1)
     given = words.parse_args()
     draw = random.Random(given.seed)
