@@ -6,7 +6,8 @@ use Rattle.std.specs.List.{AllByRecursion, count_by, flat_map, list_any, sum_by}
 use Rattle.std.specs.Option.{option_to_list}
 use Rattle.pb_forest.proofs.Flows.{receives, queues, received-total, queued-total, step-queues, step-receives, bridges-total, none-queued, lane-gain, lane-loss, port-gain, port-loss, meets-count}
 use Rattle.pb_forest.proofs.Sums.{given, total, total-agree, total-append, total-map, total-plus, total-zero, total-none, sum_by-total, total_at, total-at, total_at-same, total_at-plus, total_at-none, total_at-zero, total-lists, total-pairs}
-use Rattle.pb_forest.specs.Draining.{is_marked, is_some_mark, gain, loss, gains, losses, Balances}
+use Rattle.pb_forest.specs.Draining.{gains, losses, Balances}
+use Rattle.pb_steps.specs.Draining.{is_marked, is_some_mark, gain, loss}
 use Rattle.pb_frame.proofs.Counting.{count-none, count_by-map}
 use Rattle.pb_frame.proofs.Lists.{and-left, and-right, All-imply, list_any-found, eqb-refl}
 use Rattle.pb_lan.proofs.QueueCounts.{count_waiting, balance}

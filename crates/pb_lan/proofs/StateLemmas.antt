@@ -1,15 +1,13 @@
 -- The states of ports, by what stands at them, and lists of them.
-use Rattle.std.proofs.Common.{◌≡◌, ℕ, zero, suc, ◌+◌, ◌<◌, Bool, true, false, if◌then◌else◌, ◌||◌, ◌==◌, get_or, drop, flat_map, List, [], ◌∷◌, ◌++◌, Some, None, is_some, map, take, length, refl, sym, ap, ◌∙◌, arith, add-one}
+use Rattle.std.proofs.Common.{◌≡◌, ℕ, zero, suc, ◌+◌, ◌<◌, Bool, true, false, if◌then◌else◌, ◌||◌, ◌==◌, flat_map, List, [], ◌∷◌, ◌++◌, Some, None, is_some, map, take, length, refl, sym, ap, ◌∙◌, arith, add-one, append-nil, unwrap_or}
 use Rattle.std.proofs.lemmas.Grind.{flat_map-append}
-use Rattle.std.proofs.lemmas.List.{at_drop_more}
 use Rattle.std.specs.List.{list_any}
 use Rattle.std.specs.declared.option.Option.{Option}
 use Rattle.pb_frame.specs.Lists.{first}
 use Rattle.pb_lan.specs.Numbering.{numbers_from}
-use Rattle.pb_lan.specs.Ports.{all_ends, is_customer_at, is_end_at, customer_or_else, provider_or_unused}
-use Rattle.pb_lan.specs.Records.{steps_of}
-use Rattle.pb_lan.specs.Shapes.{moved_of, state_by, state_after, changes_of, changed, states_after, start_shape}
-use Rattle.pb_lan.specs.LastShapes.{shape_after}
+use Rattle.pb_lan.specs.Ports.{all_ends, port_at, is_customer_at, is_end_at, customer_or_else, provider_or_unused}
+use Rattle.pb_lan.specs.Shapes.{moved_of, start_by, state_by, state_after, changes_of, changed}
+use Rattle.pb_lan.specs.LastShapes.{newest_by, newest_state}
 use Rattle.pb_lan.specs.declared.plan.CustomerPlan.{CustomerPlan}
 use Rattle.pb_lan.specs.declared.plan.End.{End}
 use Rattle.pb_lan.specs.declared.plan.Plan.{Plan}
@@ -20,6 +18,7 @@ use Rattle.pb_lan.specs.declared.shape.PortState.TheVariants.{Forwarding}
 use Rattle.pb_lan.specs.declared.step.Moved.{Moved}
 use Rattle.pb_lan.specs.declared.step.Step.{Step}
 use Rattle.pb_lan.specs.Ports.{Port}
+use Rattle.pb_lan.specs.Ports.Port.{Customer, Provider, Unused}
 
 -- something passes the test where a first one does
 pub is_some-first : {X : Type 0} (test : X → Bool) (xs : List X) → is_some (first test xs) ≡ list_any test xs
@@ -30,29 +29,44 @@ is_some-first {X} test (x ∷ xs) = by (test x) (is_some-first test xs)
     by true rest = refl
     by false rest = rest
 
-customer_first : (spanning : Spanning) (other : Port) (port : ℕ) (changes : List (ℕ × PortState)) (o : Option CustomerPlan) → is_some o ≡ true
-    → state_by spanning (customer_or_else o other) port changes ≡ Forwarding
-customer_first spanning other port changes None e = cc
-customer_first spanning other port changes (Some c) e = refl
+customer_first : (spanning : Spanning) (other : Port) (newest : Option PortState) (o : Option CustomerPlan) → is_some o ≡ true
+    → newest_by spanning (customer_or_else o other) newest ≡ Forwarding
+customer_first spanning other newest None e = cc
+customer_first spanning other newest (Some c) e = refl
 
 -- a customer port is Forwarding
-pub state-customer : (plan : Plan) (b q : ℕ) (steps : List Step) → list_any (is_customer_at b q) plan.customers ≡ true → state_after plan b steps q ≡ Forwarding
-state-customer plan b q steps e =
-    customer_first plan.spanning (provider_or_unused (first (is_end_at b q) (all_ends plan))) q (changes_of steps) (first (is_customer_at b q) plan.customers)
+pub newest-customer : (plan : Plan) (b q : ℕ) (newest : Option PortState) → list_any (is_customer_at b q) plan.customers ≡ true → newest_state plan b q newest ≡ Forwarding
+newest-customer plan b q newest e =
+    customer_first plan.spanning (provider_or_unused (first (is_end_at b q) (all_ends plan))) newest (first (is_customer_at b q) plan.customers)
     (is_some-first (is_customer_at b q) plan.customers ∙ e)
 
-other_first : (spanning : Spanning) (other : Port) (port : ℕ) (changes : List (ℕ × PortState)) (o : Option CustomerPlan) → is_some o ≡ false
-    → state_by spanning (customer_or_else o other) port changes ≡ state_by spanning other port changes
-other_first spanning other port changes None e = refl
-other_first spanning other port changes (Some c) e = cc
+other_first : (spanning : Spanning) (other : Port) (newest : Option PortState) (o : Option CustomerPlan) → is_some o ≡ false
+    → newest_by spanning (customer_or_else o other) newest ≡ newest_by spanning other newest
+other_first spanning other newest None e = refl
+other_first spanning other newest (Some c) e = cc
 
 -- else what stands there is an end of a link, or nothing
-pub state-other : (plan : Plan) (b q : ℕ) (steps : List Step) (o : Option End) → list_any (is_customer_at b q) plan.customers ≡ false → o ≡ first (is_end_at b q) (all_ends plan)
-    → state_after plan b steps q ≡ state_by plan.spanning (provider_or_unused o) q (changes_of steps)
-state-other plan b q steps o e found =
-    other_first plan.spanning (provider_or_unused (first (is_end_at b q) (all_ends plan))) q (changes_of steps) (first (is_customer_at b q) plan.customers)
+pub newest-other : (plan : Plan) (b q : ℕ) (newest : Option PortState) (o : Option End) → list_any (is_customer_at b q) plan.customers ≡ false → o ≡ first (is_end_at b q) (all_ends plan)
+    → newest_state plan b q newest ≡ newest_by plan.spanning (provider_or_unused o) newest
+newest-other plan b q newest o e found =
+    other_first plan.spanning (provider_or_unused (first (is_end_at b q) (all_ends plan))) newest (first (is_customer_at b q) plan.customers)
     (is_some-first (is_customer_at b q) plan.customers ∙ e)
-    ∙ ap (λ (p : Option End). state_by plan.spanning (provider_or_unused p) q (changes_of steps)) (sym found)
+    ∙ ap (λ (p : Option End). newest_by plan.spanning (provider_or_unused p) newest) (sym found)
+
+-- a port has the state to which changes led, where that is the newest state, whatever the port started with
+newest-by : (spanning : Spanning) (p : Port) (port : ℕ) (newest : Option PortState) (changes : List (ℕ × PortState))
+    → ((start : PortState) → unwrap_or newest start ≡ changed port start changes) → newest_by spanning p newest ≡ state_by spanning p port changes
+newest-by spanning (Customer c) port newest changes led = refl
+newest-by spanning (Provider e) port newest changes led = led (start_by spanning e.start)
+newest-by spanning Unused port newest changes led = refl
+
+pub newest-after : (plan : Plan) (b q : ℕ) (newest : Option PortState) (steps : List Step)
+    → ((start : PortState) → unwrap_or newest start ≡ changed q start (changes_of steps)) → newest_state plan b q newest ≡ state_after plan b steps q
+newest-after plan b q newest steps led = newest-by plan.spanning (port_at plan b q) q newest (changes_of steps) led
+
+-- where no step set it, that is the state in which it starts
+pub start_newest : (plan : Plan) (b q : ℕ) → newest_state plan b q None ≡ state_after plan b [] q
+start_newest plan b q = newest-after plan b q None [] (λ start. refl)
 
 -- changes one after the other
 changed-append : (q : ℕ) (s : PortState) (front bs : List (ℕ × PortState)) → changed q s (front ++ bs) ≡ changed q (changed q s front) bs
@@ -62,17 +76,18 @@ changed-append q s (a ∷ front) bs = changed-append q (if a.0 == q then a.1 els
 abbrev states_of : Moved → List (ℕ × PortState)
 states_of moved = moved.states
 
-changed-step : (q : ℕ) (s : PortState) (step : Step) (steps : List Step)
-    → changed q s (changes_of (step ∷ steps)) ≡ changed q (changed q s (flat_map (λ moved. moved.states) (moved_of step))) (changes_of steps)
-changed-step q s step steps =
-    ap (changed q s) (flat_map-append states_of (moved_of step) (flat_map moved_of steps)) ∙ changed-append q s (flat_map states_of (moved_of step)) (changes_of steps)
-
 -- one step more
-pub changed-more : (q : ℕ) (s : PortState) (steps : List Step) (i : ℕ) (step : Step) → i < length steps → step ≡ get_or steps i step
-    → changed q s (changes_of (drop i steps)) ≡ changed q (changed q s (flat_map (λ moved. moved.states) (moved_of step))) (changes_of (drop (i + 1) steps))
-changed-more q s steps i step within here =
-    at_drop_more (λ (ms : List Step). changed q s (changes_of ms)) steps i step within
-    ∙ ap (λ (x : Step). changed q s (changes_of (x ∷ drop (i + 1) steps))) (sym here) ∙ changed-step q s step (drop (i + 1) steps)
+pub changed-push : (q : ℕ) (s : PortState) (steps : List Step) (step : Step)
+    → changed q s (changes_of (steps ++ step ∷ [])) ≡ changed q (changed q s (changes_of steps)) (flat_map (λ moved. moved.states) (moved_of step))
+changed-push q s steps step =
+    ap (changed q s) (ap (flat_map states_of) (flat_map-append moved_of steps (step ∷ []) ∙ ap (λ ms. flat_map moved_of steps ++ ms) (append-nil (moved_of step)))
+    ∙ flat_map-append states_of (flat_map moved_of steps) (moved_of step))
+    ∙ changed-append q s (changes_of steps) (flat_map states_of (moved_of step))
+
+-- one change more
+pub changed-next : (q : ℕ) (s : PortState) (changes : List (ℕ × PortState)) (change : ℕ × PortState)
+    → changed q s (changes ++ change ∷ []) ≡ (if change.0 == q then change.1 else changed q s changes)
+changed-next q s changes change = changed-append q s changes (change ∷ [])
 
 -- one number more
 numbers-suc : {X Y : Type 0} (f : ℕ → Y) (j k : ℕ) (xs : List X) → k < length xs → map f (take (suc k) (numbers_from j xs)) ≡ map f (take k (numbers_from j xs)) ++ f (j + k) ∷ []
@@ -94,18 +109,5 @@ numbers-all f j (suc k) [] h = refl
 numbers-all f j zero (x ∷ xs) h = absurd (omega (arith, h))
 numbers-all f j (suc k) (x ∷ xs) h = ap (λ ys. f j ∷ ys) (numbers-all f (j + 1) k xs (omega (arith, h)))
 
--- where no bridge took a step, no number has steps
-no_steps : (n : ℕ) → steps_of [] n ≡ []
-no_steps zero = refl
-no_steps (suc n) = refl
-
-numbers-same : {X Y : Type 0} (f g : ℕ → Y) → ((n : ℕ) → f n ≡ g n) → (j : ℕ) (xs : List X) → map f (numbers_from j xs) ≡ map g (numbers_from j xs)
-numbers-same f g same j [] = refl
-numbers-same f g same j (x ∷ xs) = let head = same j in let tail = numbers-same f g same (j + 1) xs in cc
-
 abbrev pub shape_of : List (List PortState) → Shape
 shape_of states = record { states = states }
-
-pub shape-start : (plan : Plan) → shape_after plan [] ≡ start_shape plan
-shape-start plan =
-    ap shape_of (numbers-same (λ b. states_after plan b (steps_of [] b)) (λ b. states_after plan b []) (λ n. ap (λ (steps : List Step). states_after plan n steps) (no_steps n)) 1 plan.bridges)

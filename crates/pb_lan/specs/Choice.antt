@@ -1,6 +1,6 @@
 -- Where a bridge's past says that stations are, and the ports that a frame goes to (IEEE 802.1Q clauses
 -- 8.6 to 8.8).
-use Rattle.std.specs.Prelude.{◌≡◌, ℕ, ◌+◌, Bool, true, false, List, [], ◌∷◌, ◌++◌, Some, None, map, length, nat_le, ◌==◌, ◌&&◌, not, if◌then◌else◌}
+use Rattle.std.specs.Prelude.{ℕ, ◌+◌, Bool, true, false, List, [], ◌∷◌, ◌++◌, Some, None, map, length, nat_le, ◌==◌, ◌&&◌, not, if◌then◌else◌}
 use Rattle.std.specs.declared.option.Option.{Option}
 use Rattle.std.specs.List.{filter, flat_map}
 use Rattle.pb_frame.specs.Frames.{dst_of, src_of, is_group}

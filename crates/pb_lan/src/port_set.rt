@@ -1,8 +1,10 @@
 //! Local ports of a bridge, each once and ascending.
 
-ghost use Rattle.std.specs.Prelude.{◌≡◌, ◌≤◌, ◌<◌, ◌++◌, ◌∷◌, [], length, nat_eq, IfSome, IfNone};
+ghost use Rattle.std.specs.Prelude.{◌≡◌, ◌≤◌, ◌<◌, ◌==◌, ◌++◌, ◌∷◌, [], length, nat_eq, IfSome, IfNone};
 ghost use Rattle.std.specs.Cmp.Lexicographic.{pointwise, nat_list_eq_equiv};
 ghost use Rattle.std.specs.Cmp.{partial_equiv_from_equiv};
+ghost use Rattle.std.specs.List.{count_by, list_any};
+ghost use Rattle.pb_lan.specs.Ports.{local_ports};
 ghost use Rattle.pb_lan.specs.PortSets.{AreAscending, ComesAfter};
 
 use crate::port_list::PortList;
@@ -67,6 +69,15 @@ impl PortSet {
         ensures { result ≡ self.now }
     {
         PortSet { bits: self.bits }
+    }
+
+    /// How many ports there are.
+    pub fn len(&self) -> u8
+        ensures exact { result ≡ length self.now }
+        ensures few { result ≤ 16 }
+        ensures each { count_by (λ port. list_any (λ p. p == port) self.now) local_ports ≡ length self.now }
+    {
+        self.bits.count_ones() as u8
     }
 
     /// The ports, one by one.

@@ -7,4 +7,5 @@ mod made;
 mod plans;
 mod port_list;
 mod states;
+mod tally;
 mod unsound;

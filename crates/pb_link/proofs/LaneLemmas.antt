@@ -4,7 +4,7 @@ use Rattle.std.proofs.lemmas.List.{map-append, length-map}
 use Rattle.std.specs.List.{list_any, filter}
 use Rattle.pb_frame.proofs.Lists.{All-append, filter-append}
 use Rattle.pb_lan.specs.LaneLists.{Taken, all_taken, taken, taken_by, carried, put, put_by, IsLaneStep, AreCounted}
-use Rattle.pb_lan.specs.StepLists.{StepsView, given_back}
+use Rattle.pb_steps.specs.StepLists.{StepsView, given_back}
 use Rattle.pb_lan.specs.declared.step.Item.{Item}
 use Rattle.pb_lan.specs.declared.step.Step.{Step}
 use Rattle.pb_lan.specs.declared.step.Step.TheVariants.{Poll, Feed, Deliver, Receive, Transmit, Tick, Admin, Take, Put}

@@ -3,7 +3,7 @@ use Rattle.std.proofs.Common.{◌≡◌, ℕ, suc, ◌+◌, ◌≤◌, Bool, tru
 use Rattle.pb_frame.proofs.Lists.{All-append}
 use Rattle.pb_lan.specs.Events.{is_hand_empty}
 use Rattle.pb_lan.specs.PortLists.{polled, fed, polled_by, fed_by, IsPortStep, AreMarked}
-use Rattle.pb_lan.specs.StepLists.{StepsView, given_back}
+use Rattle.pb_steps.specs.StepLists.{StepsView, given_back}
 use Rattle.pb_lan.specs.declared.step.Item.{Item}
 use Rattle.pb_lan.specs.declared.step.Mark.{Mark}
 use Rattle.pb_lan.specs.declared.step.Step.{Step}

@@ -10,7 +10,8 @@ use crate::holding::Holding;
 use crate::steps::append;
 use bytes::Bytes;
 use pb_frame::Memory;
-use pb_lan::{FrameNumber, Item, Mark, Step, Steps};
+use pb_lan::{FrameNumber, Item, Mark, Step};
+use pb_steps::Steps;
 use std::alloc::Global;
 use std::marker::Model;
 
@@ -85,10 +86,10 @@ impl CustomerPlace {
         self.steps.len()
     }
 
-    /// The steps, where they are kept, and no customer port any more. Where they are only counted, there is none.
-    /// Takes no memory.
-    pub fn into_steps(self) -> Vec<Step>
-        ensures steps { self.is_kept ≡ true → result.items ≡ self.steps }
+    /// The steps, kept or counted as they are, and no customer port any more. Takes no memory.
+    pub fn into_steps(self) -> Steps
+        ensures steps { result.steps ≡ self.steps }
+        ensures kept { result.is_kept ≡ self.is_kept }
         ensures lawful { IsLawfulPort self.number self.steps }
     {
         let CustomerPlace {
@@ -97,7 +98,7 @@ impl CustomerPlace {
             hand: _,
             polls: _,
         } = self;
-        steps.into_vec()
+        steps
     }
 
     /// Makes room for one step, which the next step uses up.

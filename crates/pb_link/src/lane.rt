@@ -13,7 +13,8 @@ use crate::holding::Holding;
 use crate::losses::Losses;
 use crate::steps::append;
 use pb_frame::{Memory, Seq};
-use pb_lan::{Item, Step, Steps};
+use pb_lan::{Item, Step};
+use pb_steps::{Steps, Tally};
 use rtrb::{Consumer, Producer};
 use std::alloc::Global;
 use std::marker::Model;
@@ -94,6 +95,13 @@ impl Lane {
         self.steps.as_slice()
     }
 
+    /// What is counted of the steps so far.
+    pub fn tally(&self) -> &Tally
+        ensures { result.now ≡ self.now.steps }
+    {
+        self.steps.tally()
+    }
+
     /// The number of steps so far.
     #[inline(always)]
     pub fn step_count(&self) -> u64
@@ -102,10 +110,10 @@ impl Lane {
         self.steps.len()
     }
 
-    /// The steps, where they are kept, and no lane any more. Where they are only counted, there is none. Takes no
-    /// memory.
-    pub fn into_steps(self) -> Vec<Step>
-        ensures steps { self.is_kept ≡ true → result.items ≡ self.steps }
+    /// The steps, kept or counted as they are, and no lane any more. Takes no memory.
+    pub fn into_steps(self) -> Steps
+        ensures steps { result.steps ≡ self.steps }
+        ensures kept { result.is_kept ≡ self.is_kept }
         ensures lawful { IsLawfulLane self.losses self.steps }
     {
         let Lane {
@@ -113,7 +121,7 @@ impl Lane {
             steps,
             hand: _,
         } = self;
-        steps.into_vec()
+        steps
     }
 
     /// Makes room for one step, which the next step uses up.

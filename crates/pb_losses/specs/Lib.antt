@@ -1,3 +1,1 @@
 pub mod Losses
-pub mod CountLists
-pub mod Tallies

@@ -2,12 +2,12 @@
 
 ghost use Rattle.std.specs.Prelude.{◌≡◌, ◌++◌, ◌≤◌, flat_map, string_bytes, OnOk};
 ghost use Rattle.std.specs.List.{range_with_len};
-ghost use Rattle.pb_losses.specs.Losses.{place_words, count_line, port_lines, source_lines, bridge_lines, losses_text, counts_at, counts_of};
+ghost use Rattle.pb_losses.specs.Losses.{place_words, count_line, port_lines, source_lines, bridge_lines, losses_text};
+ghost use Rattle.pb_steps.specs.Losses.{refused_by, dropped_by, counts_at};
 
-use crate::cause_counts::CauseCounts;
-use crate::tally::Tally;
 use pb_frame::Memory;
-use pb_lan::{Plan, Record, Step};
+use pb_lan::Plan;
+use pb_steps::{CauseCounts, Tallies, Tally};
 
 /// Names a bridge, or one of its ports.
 fn put_place(out: &mut String, name: &str, port: Option<u8>) -> Result<(), Memory>
@@ -25,7 +25,7 @@ fn put_count(
     out: &mut String,
     name: &str,
     port: Option<u8>,
-    count: u64,
+    count: u128,
     words: &str,
 ) -> Result<(), Memory>
     ensures { OnOk result (string_bytes out.new ≡ string_bytes out.old ++ count_line (place_words name.now port) count words.now) }
@@ -58,10 +58,11 @@ fn put_port(
 /// The lines of the ports 1 to 16.
 fn put_ports(out: &mut String, name: &str, tally: &Tally) -> Result<(), Memory>
     ensures { OnOk result (string_bytes out.new ≡ string_bytes out.old
-        ++ flat_map (λ port. port_lines name.now port (counts_at port tally.now.copies) (counts_at port tally.now.bpdus)) (range_with_len 1 16)) }
+        ++ flat_map (λ port. port_lines name.now port (counts_at port (flat_map refused_by tally.now)) (counts_at port (flat_map dropped_by tally.now))) (range_with_len 1 16)) }
 {
     for port in 1..17u8 {
-        put_port(out, name, port, tally.copies.at(port), tally.bpdus.at(port))?;
+        let copies = tally.copies_not_queued(port);
+        put_port(out, name, port, copies, tally.bpdus_not_queued(port))?;
     }
     Ok(())
 }
@@ -81,12 +82,11 @@ fn put_sources(out: &mut String, name: &str, sources: CauseCounts) -> Result<(),
 }
 
 /// The lines of a bridge.
-fn put_bridge(out: &mut String, name: &str, steps: &[Step]) -> Result<(), Memory>
-    ensures { OnOk result (string_bytes out.new ≡ string_bytes out.old ++ bridge_lines name.now steps.now) }
+fn put_bridge(out: &mut String, name: &str, tally: &Tally) -> Result<(), Memory>
+    ensures { OnOk result (string_bytes out.new ≡ string_bytes out.old ++ bridge_lines name.now tally.now) }
 {
-    let tally = Tally::of(steps)?;
-    put_ports(out, name, &tally)?;
-    put_sources(out, name, tally.sources.counts())
+    put_ports(out, name, tally)?;
+    put_sources(out, name, tally.sources_not_learnt())
 }
 
 /// Puts behind a text how often bridges had no room, so that nothing is lost in silence. For each bridge of the plan,
@@ -108,13 +108,12 @@ fn put_bridge(out: &mut String, name: &str, steps: &[Step]) -> Result<(), Memory
 /// held its limit of live entries, or where there was no memory for one (802.1Q clause 8.8). A bridge of which the record
 /// has no list has no lines, and lists behind the plan's last bridge are not told.
 ///
-/// `Memory` is answered where memory ran out, and then a part may stand behind the text. Counting answers it only where
-/// a bridge had no room 2^64-1 times or more, of which no memory holds the steps.
-pub fn put_losses(out: &mut String, plan: &Plan, rec: &Record) -> Result<(), Memory>
-    ensures { OnOk result (string_bytes out.new ≡ string_bytes out.old ++ losses_text plan.now rec.now) }
+/// `Memory` is answered where memory ran out, and then a part may stand behind the text.
+pub fn put_losses(out: &mut String, plan: &Plan, tallies: &Tallies) -> Result<(), Memory>
+    ensures { OnOk result (string_bytes out.new ≡ string_bytes out.old ++ losses_text plan.now tallies.now) }
 {
-    for (bridge, steps) in plan.bridges.as_slice().iter().zip(rec.bridges.as_slice()) {
-        put_bridge(out, bridge.name.as_str(), steps.as_slice())?;
+    for (bridge, tally) in plan.bridges.as_slice().iter().zip(tallies.bridges()) {
+        put_bridge(out, bridge.name.as_str(), tally)?;
     }
     Ok(())
 }

@@ -24,7 +24,7 @@ pub(crate) fn bridge_steps(bridges: Vec<Bridge>, mut lists: Vec<Seq<Step>>) -> S
     ensures { result ≡ map (λ b. b.steps) bridges.items }
 {
     for bridge in bridges {
-        let _ = lists.push(Seq::from_vec(bridge.into_steps()));
+        let _ = lists.push(Seq::from_vec(bridge.into_steps().into_vec()));
     }
     Seq::from_vec(lists)
 }
@@ -37,7 +37,7 @@ pub(crate) fn lane_steps(lanes: Vec<Lane>, mut lists: Vec<Seq<Step>>) -> Seq<Seq
     ensures { result ≡ map (λ l. l.steps) lanes.items }
 {
     for lane in lanes {
-        let _ = lists.push(Seq::from_vec(lane.into_steps()));
+        let _ = lists.push(Seq::from_vec(lane.into_steps().into_vec()));
     }
     Seq::from_vec(lists)
 }
@@ -53,7 +53,7 @@ pub(crate) fn customer_steps(
     ensures { result ≡ map (λ p. p.steps) customers.items }
 {
     for customer in customers {
-        let _ = lists.push(Seq::from_vec(customer.into_steps()));
+        let _ = lists.push(Seq::from_vec(customer.into_steps().into_vec()));
     }
     Seq::from_vec(lists)
 }

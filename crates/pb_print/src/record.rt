@@ -6,19 +6,25 @@ ghost use Rattle.pb_print.specs.RecordTexts.{settled_line, IsRecordText};
 
 use crate::forests::put_forest;
 use pb_frame::Memory;
-use pb_lan::{Plan, Record, last_shape};
+use pb_lan::Plan;
 use pb_script::put_counts;
+use pb_steps::{Tallies, last_shape};
 use std::alloc::Global;
 
 /// Puts the counts of a record behind a text, and whether its last shape is a forest for each service: a line
 /// for each customer port and each link, by name, and then what [`put_forest`] puts. `Memory` is answered where
 /// memory ran out.
-pub fn put_record(alloc: Global, out: &mut String, plan: &Plan, rec: &Record) -> Result<(), Memory>
+pub fn put_record(
+    alloc: Global,
+    out: &mut String,
+    plan: &Plan,
+    tallies: &Tallies,
+) -> Result<(), Memory>
     requires { IsSound plan.now }
-    ensures { OnOk result ((text : List ℕ) × (string_bytes out.new ≡ string_bytes out.old ++ text) × IsRecordText plan.now rec.now text) }
+    ensures { OnOk result ((text : List ℕ) × (string_bytes out.new ≡ string_bytes out.old ++ text) × IsRecordText plan.now tallies.now text) }
 {
-    put_counts(alloc, out, plan, rec)?;
-    let shape = last_shape(alloc, plan, rec)?;
+    put_counts(alloc, out, plan, tallies)?;
+    let shape = last_shape(alloc, plan, tallies)?;
     put_forest(alloc, out, plan, &shape)
 }
 

@@ -1,7 +1,7 @@
 -- A list of steps with one step more, and the bridge that has it.
 use Rattle.std.proofs.Common.{◌≡◌, ℕ, Bool, true, false, ap, sym, ◌∙◌}
 use Rattle.std.specs.declared.option.Option.{Option}
-use Rattle.pb_lan.specs.StepLists.{StepsView, with_step as steps_with, given_back}
+use Rattle.pb_steps.specs.StepLists.{StepsView, with_step as steps_with, given_back}
 use Rattle.pb_lan.specs.declared.plan.Plan.{Plan}
 use Rattle.pb_lan.specs.declared.step.Step.{Step}
 use Rattle.pb_relay.specs.Standing.{BridgeView, with_step}

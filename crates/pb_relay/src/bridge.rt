@@ -7,7 +7,7 @@ ghost use Rattle.pb_lan.specs.Ports.{port_at, is_used, is_provider};
 ghost use Rattle.pb_lan.specs.Queues.{waiting, next_out};
 ghost use Rattle.pb_relay.specs.Protocol.{spanning_tree};
 ghost use Rattle.pb_lan.specs.Shapes.{states_after};
-ghost use Rattle.pb_lan.specs.StepLists.{with_step as steps_with};
+ghost use Rattle.pb_steps.specs.StepLists.{with_step as steps_with};
 ghost use Rattle.pb_lan.specs.declared.step.Step.TheVariants.{Transmit};
 ghost use Rattle.pb_relay.specs.Machines.{machine_in};
 ghost use Rattle.pb_relay.specs.Standing.{with_step};
@@ -17,8 +17,9 @@ use crate::ports::{LocalPorts, PORTS, is_bridge, is_customer};
 use crate::queues::PortQueues;
 use pb_fdb::Fdb;
 use pb_frame::Mac;
-use pb_lan::{Item, Plan, PortState, Step, Steps};
+use pb_lan::{Item, Plan, PortState, Step};
 use pb_rstp::Rstp;
+use pb_steps::Steps;
 use std::alloc::Global;
 use std::marker::Model;
 
@@ -99,9 +100,10 @@ impl Bridge {
         self.steps.len()
     }
 
-    /// The steps, where they are kept, and no bridge any more. Where they are only counted, there is none.
-    pub fn into_steps(self) -> Vec<Step>
-        ensures steps { self.is_kept ≡ true → result.items ≡ self.steps }
+    /// The steps, kept or counted as they are, and no bridge any more. Takes no memory.
+    pub fn into_steps(self) -> Steps
+        ensures steps { result.steps ≡ self.steps }
+        ensures kept { result.is_kept ≡ self.is_kept }
         ensures lawful { IsLawfulBridge spanning_tree self.plan self.number self.steps }
     {
         let Bridge {
@@ -119,7 +121,7 @@ impl Bridge {
             rstp: _,
             steps,
         } = self;
-        steps.into_vec()
+        steps
     }
 
     /// Makes room for one step, so that `pop_out` needs no memory.

@@ -24,8 +24,9 @@ use crate::ports::{Local, LocalPorts};
 use crate::queues::PortQueues;
 use pb_fdb::Fdb;
 use pb_frame::Memory;
-use pb_lan::{CustomerPlan, End, LinkPlan, Plan, PortState, ServicePlan, Spanning, Steps};
+use pb_lan::{CustomerPlan, End, LinkPlan, Plan, PortState, ServicePlan, Spanning};
 use pb_rstp::Rstp;
+use pb_steps::Steps;
 use pb_svlan::{AddFault, JoinFault, Services, Vid};
 use std::alloc::Global;
 

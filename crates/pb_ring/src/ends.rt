@@ -1,6 +1,6 @@
 //! The two ends of a ring, and their meeting.
 
-ghost use Rattle.std.specs.Prelude.{◌≡◌, ◌<◌, ◌++◌, ◌∷◌, [], ◌↔◌, List, Some, None, IsTrue, IsSome, length, slice_get, option_to_list};
+ghost use Rattle.std.specs.Prelude.{Bool, false, ◌≡◌, ◌<◌, ◌++◌, ◌∷◌, [], ◌↔◌, List, Some, None, IsTrue, IsSome, length, slice_get, option_to_list};
 ghost use Rattle.std.specs.declared.alloc.Global.{Global};
 ghost use Rattle.rtrb.specs.Ring.{sent, received, known_free, known_items};
 ghost use Rattle.pb_frame.specs.Lists.{IsBeginning};
@@ -10,13 +10,18 @@ use pb_lan::Item;
 use rtrb::{Consumer, Producer};
 use std::marker::{Brand, PhantomData};
 
-/// The rings of a run, by number. Who makes the rings picks it.
+/// The rings of a run, by number, and whether the places between them keep their steps. Who makes the rings picks
+/// both.
 pub trait Wiring {
     ghost rings: { List (RingName Global) };
+
+    ghost keeps: { Bool };
 }
 
 impl Wiring for Brand {
     ghost rings = { [] };
+
+    ghost keeps = { false };
 }
 
 /// The end of a ring through which items are sent.

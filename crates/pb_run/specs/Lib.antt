@@ -3,4 +3,5 @@ pub mod Bridges
 pub mod Wires
 pub mod Gifts
 pub mod Meetings
+pub mod Rooms
 pub mod Runs

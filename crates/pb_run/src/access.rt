@@ -50,7 +50,7 @@ pub struct Access<W: Wiring> {
     pub book: Book,
     pub ghost fed: { sent feed.end ≡ fed place.steps },
     pub ghost drained: { received drain.end ≡ delivered place.steps ++ option_to_list offered },
-    pub ghost kept: { place.is_kept ≡ true },
+    pub ghost kept: { W.keeps ≡ true → place.is_kept ≡ true },
 }
 
 /// Reserves a step of a place that may take so many.
@@ -65,8 +65,8 @@ fn reserve(place: &mut CustomerPlace, limit: usize) -> Result<(), Refusal>
 }
 
 impl<W: Wiring> Access<W> {
-    /// The access of a customer port that has taken no step and keeps those that it takes, over rings that
-    /// nothing has passed. It may take so many steps. Takes no memory.
+    /// The access of a customer port that has taken no step, over rings that nothing has passed. It may take so many
+    /// steps. Takes no memory.
     pub fn new(
         number: u8,
         place: CustomerPlace,
@@ -75,7 +75,7 @@ impl<W: Wiring> Access<W> {
         limit: usize,
     ) -> Access<W>
         requires steps { place.steps ≡ [] }
-        requires kept { place.is_kept ≡ true }
+        requires kept { W.keeps ≡ true → place.is_kept ≡ true }
         requires rings { (sent feed.end ≡ []) × (received drain.end ≡ []) }
         ensures place { result.place ≡ place }
         ensures rings { (result.feed.number ≡ feed.number) × (result.drain.number ≡ drain.number) }

@@ -49,7 +49,7 @@ pub struct BridgeWorker<W: Wiring> {
     pub ghost took: { (q : ℕ) → shown_at (λ i. received_over i.end) ins.ends.items q ≡ received (q + 1) bridge.steps },
     pub ghost gave: { (q : ℕ) → shown_at (λ o. sent o.end) outs.ends.items q ≡ transmitted (q + 1) bridge.steps },
     pub ghost unset: { list_any is_setting bridge.steps ≡ false },
-    pub ghost kept: { bridge.is_kept ≡ true },
+    pub ghost kept: { W.keeps ≡ true → bridge.is_kept ≡ true },
 }
 
 impl From<BridgeFault> for Refusal {
@@ -58,6 +58,19 @@ impl From<BridgeFault> for Refusal {
             BridgeFault::StepLimit => Refusal::Limit,
             BridgeFault::Memory => Refusal::Memory,
         }
+    }
+}
+
+/// The bridge of this number, which keeps its steps or only counts them.
+fn new_bridge(alloc: Global, plan: &Plan, number: u8, keeps: bool) -> Result<Bridge, Memory>
+    requires sound { IsSound plan.now }
+    requires bridge { IsNumber number (length plan.now.bridges) }
+    ensures { IfOk result (λ bridge. bridge ≡ at_start plan.now number keeps) }
+{
+    if keeps {
+        Bridge::new(alloc, plan, number)
+    } else {
+        Bridge::counting(alloc, plan, number)
     }
 }
 
@@ -75,7 +88,7 @@ fn copies_of(outcome: &Outcome) -> u64 {
 
 impl<W: Wiring> BridgeWorker<W> {
     /// The worker of the bridge of this number, which has taken no step, over rings that nothing has
-    /// passed. It serves the local ports that the plan uses and that have rings.
+    /// passed. It serves the local ports that the plan uses and that have rings, and keeps its steps or only counts them.
     ///
     /// `Memory` is answered where there was none for the bridge or for the list of its ports.
     pub fn new(
@@ -84,18 +97,20 @@ impl<W: Wiring> BridgeWorker<W> {
         number: u8,
         ins: Inlets<W>,
         outs: Outlets<W>,
+        keeps: bool,
     ) -> Result<BridgeWorker<W>, Memory>
+        requires kept { W.keeps ≡ true → keeps ≡ true }
         requires sound { IsSound plan.now }
         requires bridge { IsNumber number (length plan.now.bridges) }
         requires sides { vec_len outs.ends ≡ vec_len ins.ends }
         requires received { (q : ℕ) → shown_at (λ i. received_over i.end) ins.ends.items q ≡ [] }
         requires sent { (q : ℕ) → shown_at (λ o. sent o.end) outs.ends.items q ≡ [] }
         ensures number { IfOk result (λ worker. worker.number ≡ number) }
-        ensures bridge { IfOk result (λ worker. worker.bridge ≡ at_start plan.now number true) }
+        ensures bridge { IfOk result (λ worker. worker.bridge ≡ at_start plan.now number keeps) }
         ensures rings { IfOk result (λ worker. (worker.ins ≡ ins) × (worker.outs ≡ outs)) }
     {
         let ports = used_ports(alloc, plan, number, ins.ends.len())?;
-        let bridge = Bridge::new(alloc, plan, number)?;
+        let bridge = new_bridge(alloc, plan, number, keeps)?;
         Ok(BridgeWorker {
             number,
             bridge,

@@ -1,10 +1,12 @@
 //! The workers of a plan, and the rings between them.
 
-ghost use Rattle.std.specs.Prelude.{◌≡◌, ◌≢◌, ◌<◌, ◌≤◌, ◌+◌, ◌*◌, ℕ, [], IfOk, All, length, map, vec_len, slice_index_or};
+ghost use Rattle.std.specs.Prelude.{◌≡◌, ◌≢◌, ◌<◌, ◌≤◌, ◌+◌, ◌*◌, ℕ, [], true, IfOk, All, length, map, vec_len, slice_index_or};
 ghost use Rattle.std.specs.List.{AllByRecursion};
 ghost use Rattle.rtrb.specs.Ring.{sent, received};
 ghost use Rattle.pb_lan.specs.Plans.{IsSound, IsNumber, ports_in};
 ghost use Rattle.pb_frame.specs.Lists.{Rises};
+ghost use Rattle.pb_link.specs.Hands.{at_start as new_customer};
+ghost use Rattle.pb_link.specs.Lanes.{at_start as new_lane};
 ghost use Rattle.pb_ring.specs.Rings.{shown_at};
 ghost use Rattle.pb_run.specs.Gifts.{IsBridgeGift, AreBridges, AreLanes, access_gift, AreAccesses};
 ghost use Rattle.pb_run.specs.Wires.{ring_into, ring_out, AreNew, AreNamed, HasInner, HasOuter};
@@ -59,7 +61,9 @@ fn bridge_worker<W: Wiring>(
     plan: &Plan,
     ends: &mut Ends<W>,
     number: u8,
+    keeps: bool,
 ) -> Result<BridgeWorker<W>, Memory>
+    requires kept { W.keeps ≡ true → keeps ≡ true }
     requires sound { IsSound plan.now }
     requires bridge { IsNumber number (length plan.now.bridges) }
     requires there { (port : ℕ) → IsNumber port 16 → HasInner ends.old.outlets.items ends.old.inlets.items (number, port) }
@@ -68,7 +72,7 @@ fn bridge_worker<W: Wiring>(
     ensures outer { IfOk result (λ worker. (at : ℕ × ℕ) → HasOuter ends.old.outlets.items ends.old.inlets.items at → HasOuter ends.new.outlets.items ends.new.inlets.items at) }
 {
     let (ins, outs) = sides_of(alloc, ends, number)?;
-    BridgeWorker::new(alloc, plan, number, ins, outs)
+    BridgeWorker::new(alloc, plan, number, ins, outs, keeps)
 }
 
 /// The workers of a plan's bridges.
@@ -76,7 +80,9 @@ fn bridge_workers<W: Wiring>(
     alloc: Global,
     plan: &Plan,
     ends: &mut Ends<W>,
+    keeps: bool,
 ) -> Result<Vec<BridgeWorker<W>>, Memory>
+    requires kept { W.keeps ≡ true → keeps ≡ true }
     requires sound { IsSound plan.now }
     requires there { (at : ℕ × ℕ) → IsNumber at.0 (length plan.now.bridges) → IsNumber at.1 16 → HasInner ends.old.outlets.items ends.old.inlets.items at }
     ensures gifts { IfOk result (λ workers. AreBridges plan.now (length plan.now.bridges) (map ⟦<BridgeWorker<W> as Work>⟧.given workers.items)) }
@@ -84,9 +90,21 @@ fn bridge_workers<W: Wiring>(
 {
     let mut workers = Vec::with_capacity(alloc, plan.bridges.len())?;
     for place in 0..plan.bridges.len() {
-        workers.push(bridge_worker(alloc, plan, ends, place as u8 + 1)?)?;
+        workers.push(bridge_worker(alloc, plan, ends, place as u8 + 1, keeps)?)?;
     }
     Ok(workers)
+}
+
+/// The lane that loses the items of these numbers, and keeps its steps or only counts them.
+fn new_lane(alloc: Global, losses: &Seq<u64>, keeps: bool) -> Result<Lane, Memory>
+    requires { Rises losses.now }
+    ensures { IfOk result (λ lane. lane ≡ new_lane losses.now keeps) }
+{
+    let losses = losses.clone()?;
+    if keeps {
+        return Ok(Lane::new(alloc, losses));
+    }
+    Ok(Lane::counting(alloc, losses))
 }
 
 /// The worker of a lane from one ring onto another, which loses the items of these numbers.
@@ -97,12 +115,14 @@ fn lane_worker<W: Wiring>(
     from: Inlet<W>,
     to: Outlet<W>,
     losses: &Seq<u64>,
+    keeps: bool,
 ) -> Result<LaneWorker<W>, Memory>
+    requires kept { W.keeps ≡ true → keeps ≡ true }
     requires rings { (received from.end ≡ []) × (sent to.end ≡ []) }
     requires losses { Rises losses.now }
     ensures { IfOk result (λ worker. ⟦<LaneWorker<W> as Work>⟧.given worker ≡ (number, from.number, to.number, losses.now)) }
 {
-    let lane = Lane::new(alloc, losses.clone()?);
+    let lane = new_lane(alloc, losses, keeps)?;
     Ok(LaneWorker::new(number, lane, from, to, limit))
 }
 
@@ -111,7 +131,9 @@ fn lane_workers<W: Wiring>(
     alloc: Global,
     plan: &Plan,
     ends: &mut Ends<W>,
+    keeps: bool,
 ) -> Result<Vec<LaneWorker<W>>, Memory>
+    requires kept { W.keeps ≡ true → keeps ≡ true }
     requires sound { IsSound plan.now }
     requires there { AllByRecursion (HasOuter ends.old.outlets.items ends.old.inlets.items) (ports_in plan.now.links plan.now.customers) }
     ensures gifts { IfOk result (λ workers. AreLanes plan.now (length plan.now.links) (map ⟦<LaneWorker<W> as Work>⟧.given workers.items)) }
@@ -124,10 +146,21 @@ fn lane_workers<W: Wiring>(
         let number = workers.len() as u8 + 1;
         let (to_a, from_a) = ends.outer(link.a.bridge, link.a.port);
         let (to_b, from_b) = ends.outer(link.b.bridge, link.b.port);
-        workers.push(lane_worker(alloc, number, limit, from_a, to_b, &link.lost_ab)?)?;
-        workers.push(lane_worker(alloc, number + 1, limit, from_b, to_a, &link.lost_ba)?)?;
+        let (there, back) = (&link.lost_ab, &link.lost_ba);
+        workers.push(lane_worker(alloc, number, limit, from_a, to_b, there, keeps)?)?;
+        workers.push(lane_worker(alloc, number + 1, limit, from_b, to_a, back, keeps)?)?;
     }
     Ok(workers)
+}
+
+/// The customer port of this number, which keeps its steps or only counts them.
+fn new_customer(alloc: Global, number: u8, keeps: bool) -> CustomerPlace
+    ensures { result ≡ new_customer number keeps }
+{
+    if keeps {
+        return CustomerPlace::new(alloc, number);
+    }
+    CustomerPlace::counting(alloc, number)
 }
 
 /// The access of the customer port of this number.
@@ -137,14 +170,16 @@ fn access_of<W: Wiring>(
     number: u8,
     limit: usize,
     customer: &CustomerPlan,
+    keeps: bool,
 ) -> Access<W>
-    requires { HasOuter ends.old.outlets.items ends.old.inlets.items (customer.now.bridge, customer.now.port) }
+    requires kept { W.keeps ≡ true → keeps ≡ true }
+    requires outer { HasOuter ends.old.outlets.items ends.old.inlets.items (customer.now.bridge, customer.now.port) }
     ensures gift { (result.place.number, result.feed.number, result.drain.number) ≡ access_gift number customer.now }
     ensures fresh { (result.place.steps ≡ []) × (result.book.last ≡ Last.More) × (result.book.number ≡ number) }
     ensures outer { (at : ℕ × ℕ) → at ≢ (customer.now.bridge, customer.now.port) → HasOuter ends.old.outlets.items ends.old.inlets.items at → HasOuter ends.new.outlets.items ends.new.inlets.items at }
 {
     let (feed, drain) = ends.outer(customer.bridge, customer.port);
-    let place = CustomerPlace::new(alloc, number);
+    let place = new_customer(alloc, number, keeps);
     Access::new(number, place, feed, drain, limit)
 }
 
@@ -153,7 +188,9 @@ fn accesses_of<W: Wiring>(
     alloc: Global,
     plan: &Plan,
     ends: &mut Ends<W>,
+    keeps: bool,
 ) -> Result<VecDeque<Access<W>>, Memory>
+    requires kept { W.keeps ≡ true → keeps ≡ true }
     requires sound { IsSound plan.now }
     requires there { AllByRecursion (HasOuter ends.old.outlets.items ends.old.inlets.items) (ports_in [] plan.now.customers) }
     ensures gifts { IfOk result (λ accesses. AreAccesses plan.now (length plan.now.customers) (map (λ d. (d.place.number, d.feed.number, d.drain.number)) accesses.items)) }
@@ -164,18 +201,21 @@ fn accesses_of<W: Wiring>(
     let mut accesses = VecDeque::with_capacity(alloc, customers.len())?;
     for customer in customers {
         let number = accesses.len() as u8 + 1;
-        accesses.push_back(access_of(alloc, ends, number, limit, customer))?;
+        accesses.push_back(access_of(alloc, ends, number, limit, customer, keeps))?;
     }
     Ok(accesses)
 }
 
-/// The places of a plan, none of which has taken a step, joined by rings that nothing has passed.
+/// The places of a plan, none of which has taken a step, joined by rings that nothing has passed. They keep their
+/// steps or only count them.
 /// `Memory` is answered where there was none for them.
 pub(crate) fn places_of<W: Wiring>(
     alloc: Global,
     plan: &Plan,
     rings: Vec<Ring>,
+    keeps: bool,
 ) -> Result<Built<W>, Memory>
+    requires kept { W.keeps ≡ true → keeps ≡ true }
     requires sound { IsSound plan.now }
     requires new { AreNew rings.items }
     requires named { AreNamed W.rings rings.items }
@@ -186,8 +226,8 @@ pub(crate) fn places_of<W: Wiring>(
     ensures bridges { IfOk result (λ built. AreBridges plan.now (length plan.now.bridges) (map ⟦<BridgeWorker<W> as Work>⟧.given built.2.items)) }
 {
     let mut ends = Ends::<W>::of(alloc, rings)?;
-    let bridges = bridge_workers(alloc, plan, &mut ends)?;
-    let lanes = lane_workers(alloc, plan, &mut ends)?;
-    let accesses = accesses_of(alloc, plan, &mut ends)?;
+    let bridges = bridge_workers(alloc, plan, &mut ends, keeps)?;
+    let lanes = lane_workers(alloc, plan, &mut ends, keeps)?;
+    let accesses = accesses_of(alloc, plan, &mut ends, keeps)?;
     Ok((accesses, lanes, bridges))
 }

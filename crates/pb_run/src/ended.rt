@@ -5,7 +5,7 @@ ghost use Rattle.pb_run.specs.Runs.{TellsAllDrained};
 
 use crate::access::Last;
 use pb_forest::is_drained;
-use pb_lan::Record;
+use pb_steps::Tallies;
 use pb_work::Finish;
 
 /// How a run ended.
@@ -48,11 +48,11 @@ pub(crate) fn are_all_ended(lasts: &[Last]) -> bool
 }
 
 /// Whether every port came to its end, and no frame is on its way.
-pub(crate) fn has_drained(lasts: &[Last], rec: &Record) -> bool
-    ensures { TellsAllDrained rec.now lasts.now result }
+pub(crate) fn has_drained(lasts: &[Last], counts: &Tallies) -> bool
+    ensures { TellsAllDrained counts.now lasts.now result }
 {
     if are_all_ended(lasts) {
-        return is_drained(rec);
+        return is_drained(counts);
     }
     false
 }

@@ -5,7 +5,7 @@ ghost use Rattle.rtrb.specs.Ring.{sent, received};
 ghost use Rattle.pb_lan.specs.LaneLists.{taken, put};
 
 use crate::refusal::{Refusal, Taken, turn};
-use pb_lan::{Place, Step};
+use pb_lan::Place;
 use pb_link::Lane;
 use pb_ring::{Inlet, Outlet, Wiring};
 use pb_work::{Finish, Moment, Turn, Work};
@@ -28,29 +28,14 @@ pub struct LaneWorker<W: Wiring> {
     pub finish: Option<Finish>,
     pub ghost took: { received from.end ≡ taken lane.steps },
     pub ghost gave: { sent to.end ≡ put lane.steps },
-    pub ghost kept: { lane.is_kept ≡ true },
-}
-
-/// How many items the newest step lost that came from customers.
-fn lost_by_newest(steps: &[Step]) -> u64 {
-    match steps.last() {
-        Some(
-            Step::Take {
-                item,
-                lost: true,
-                ..
-            },
-        ) if item.mark.is_some() => 1,
-        _ => 0,
-    }
+    pub ghost kept: { W.keeps ≡ true → lane.is_kept ≡ true },
 }
 
 impl<W: Wiring> LaneWorker<W> {
-    /// The worker of a lane that has taken no step and keeps those that it takes, over rings that nothing has
-    /// passed. It may take so many steps. Takes no memory.
+    /// The worker of a lane that has taken no step, over rings that nothing has passed. It may take so many steps. Takes no memory.
     pub fn new(number: u8, lane: Lane, from: Inlet<W>, to: Outlet<W>, limit: usize) -> LaneWorker<W>
         requires steps { lane.steps ≡ [] }
-        requires kept { lane.is_kept ≡ true }
+        requires kept { W.keeps ≡ true → lane.is_kept ≡ true }
         requires rings { (received from.end ≡ []) × (sent to.end ≡ []) }
         ensures number { result.number ≡ number }
         ensures lane { result.lane ≡ lane }
@@ -117,8 +102,10 @@ impl<W: Wiring> Work for LaneWorker<W> {
         if put != Ok(false) {
             return turn(put, 0, 0);
         }
+        let before = self.lane.tally().parted();
         let taken = self.take();
-        turn(taken, 0, lost_by_newest(self.lane.steps()))
+        let lost = self.lane.tally().parted() != before;
+        turn(taken, 0, u64::from(lost))
     }
 
     fn close(&mut self, _moment: Moment, finish: Finish) {

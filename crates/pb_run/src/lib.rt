@@ -32,4 +32,4 @@ pub use outside::Held;
 pub use pb_frame::Memory;
 pub use pb_lan::Limits;
 pub use pb_work::{Gate, Go};
-pub use running::{Ran, run};
+pub use running::{KeptRun, Ran, run, run_kept};

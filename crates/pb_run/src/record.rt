@@ -1,6 +1,6 @@
-//! The record of a run, and how the run ended.
+//! What is gathered of the places of a run once they are back.
 
-ghost use Rattle.std.specs.Prelude.{◌≡◌, ◌≤◌, [], All, false, length, map, vec_len, vec_capacity};
+ghost use Rattle.std.specs.Prelude.{◌≡◌, ◌≤◌, ◌<◌, ◌++◌, ◌∷◌, [], All, true, false, map, vec_len, vec_capacity, IfOk};
 ghost use Rattle.std.specs.List.{AllByRecursion, list_any};
 ghost use Rattle.pb_lan.specs.BridgeLists.{IsLawfulBridge};
 ghost use Rattle.pb_lan.specs.LaneLists.{IsLawfulLane};
@@ -12,22 +12,56 @@ use crate::access::Access;
 use crate::bridge::BridgeWorker;
 use crate::lane::LaneWorker;
 use pb_frame::{Memory, Seq};
-use pb_lan::{Plan, Step};
+use pb_lan::Step;
 use pb_ring::Wiring;
+use pb_steps::{Steps, Tally};
 use std::alloc::Global;
 
-/// Lists with room for the steps of each place.
-pub(crate) type Lists = Vec<Seq<Step>>;
+/// What is counted at each place, and the steps of those places that keep them.
+#[derive(Drop)]
+pub(crate) struct Gathered {
+    /// What is counted at each place.
+    pub tallies: Vec<Tally>,
+    /// The steps of each place that keeps them; of another none.
+    pub lists: Vec<Seq<Step>>,
+}
 
-/// The steps of each bridge. Takes no memory.
-pub(crate) fn bridge_lists<W: Wiring>(
-    workers: Vec<BridgeWorker<W>>,
-    mut lists: Lists,
-) -> Seq<Seq<Step>>
-    requires { (lists.items ≡ []) × (vec_len workers ≤ vec_capacity lists) }
-    ensures steps { result ≡ map (λ b. b.bridge.steps) workers.items }
+impl Gathered {
+    /// Nothing, with room for so many places.
+    pub(crate) fn with_room(alloc: Global, places: usize) -> Result<Gathered, Memory>
+        ensures empty { IfOk result (λ room. (room.tallies.items ≡ []) × (room.lists.items ≡ [])) }
+        ensures room { IfOk result (λ room. (vec_capacity room.tallies ≡ places) × (vec_capacity room.lists ≡ places)) }
+    {
+        let tallies = Vec::with_capacity(alloc, places)?;
+        Ok(Gathered {
+            tallies,
+            lists: Vec::with_capacity(alloc, places)?,
+        })
+    }
+
+    /// One place more. Takes no memory.
+    fn push(&mut self, steps: Steps)
+        requires tallies { vec_len self.old.tallies < vec_capacity self.old.tallies }
+        requires lists { vec_len self.old.lists < vec_capacity self.old.lists }
+        ensures tallies { self.new.tallies.items ≡ self.old.tallies.items ++ steps.steps ∷ [] }
+        ensures lists { (kept : _) × (self.new.lists.items ≡ self.old.lists.items ++ kept ∷ []) × (steps.is_kept ≡ true → kept ≡ steps.steps) }
+        ensures tallies_room { vec_capacity self.new.tallies ≡ vec_capacity self.old.tallies }
+        ensures lists_room { vec_capacity self.new.lists ≡ vec_capacity self.old.lists }
+    {
+        let (tally, kept) = steps.into_parts();
+        self.tallies.push_reserved(tally);
+        self.lists.push_reserved(Seq::from_vec(kept));
+    }
+}
+
+/// What is gathered of bridges. Takes no memory.
+pub(crate) fn bridge_lists<W: Wiring>(workers: Vec<BridgeWorker<W>>, mut room: Gathered) -> Gathered
+    requires empty { (room.tallies.items ≡ []) × (room.lists.items ≡ []) }
+    requires room { (vec_len workers ≤ vec_capacity room.tallies) × (vec_len workers ≤ vec_capacity room.lists) }
+    ensures steps { result.tallies.items ≡ map (λ b. b.bridge.steps) workers.items }
+    ensures kept { W.keeps ≡ true → result.lists.items ≡ map (λ b. b.bridge.steps) workers.items }
     ensures lawful { All (λ b. IsLawfulBridge spanning_tree b.bridge.plan b.bridge.number b.bridge.steps) workers.items }
-    ensures unset { AllByRecursion (λ steps. list_any is_setting steps ≡ false) result }
+    ensures unset { AllByRecursion (λ steps. list_any is_setting steps ≡ false) result.tallies.items }
 {
     for worker in workers {
         let BridgeWorker {
@@ -39,15 +73,17 @@ pub(crate) fn bridge_lists<W: Wiring>(
             finish: _,
             next: _,
         } = worker;
-        lists.push_reserved(Seq::from_vec(bridge.into_steps()));
+        room.push(bridge.into_steps());
     }
-    Seq::from_vec(lists)
+    room
 }
 
-/// The steps of each lane. Takes no memory.
-pub(crate) fn lane_lists<W: Wiring>(workers: Vec<LaneWorker<W>>, mut lists: Lists) -> Seq<Seq<Step>>
-    requires { (lists.items ≡ []) × (vec_len workers ≤ vec_capacity lists) }
-    ensures steps { result ≡ map (λ l. l.lane.steps) workers.items }
+/// What is gathered of lanes. Takes no memory.
+pub(crate) fn lane_lists<W: Wiring>(workers: Vec<LaneWorker<W>>, mut room: Gathered) -> Gathered
+    requires empty { (room.tallies.items ≡ []) × (room.lists.items ≡ []) }
+    requires room { (vec_len workers ≤ vec_capacity room.tallies) × (vec_len workers ≤ vec_capacity room.lists) }
+    ensures steps { result.tallies.items ≡ map (λ l. l.lane.steps) workers.items }
+    ensures kept { W.keeps ≡ true → result.lists.items ≡ map (λ l. l.lane.steps) workers.items }
     ensures lawful { All (λ l. IsLawfulLane l.lane.losses l.lane.steps) workers.items }
 {
     for worker in workers {
@@ -59,14 +95,15 @@ pub(crate) fn lane_lists<W: Wiring>(workers: Vec<LaneWorker<W>>, mut lists: List
             limit: _,
             finish: _,
         } = worker;
-        lists.push_reserved(Seq::from_vec(lane.into_steps()));
+        room.push(lane.into_steps());
     }
-    Seq::from_vec(lists)
+    room
 }
 
 /// The steps of a customer port.
-fn access_steps<W: Wiring>(access: Access<W>) -> Vec<Step>
-    ensures steps { result.items ≡ access.place.steps }
+fn access_steps<W: Wiring>(access: Access<W>) -> Steps
+    ensures steps { result.steps ≡ access.place.steps }
+    ensures kept { W.keeps ≡ true → result.is_kept ≡ true }
     ensures lawful { IsLawfulPort access.place.number access.place.steps }
 {
     let Access {
@@ -79,14 +116,16 @@ fn access_steps<W: Wiring>(access: Access<W>) -> Vec<Step>
     place.into_steps()
 }
 
-/// The steps of each customer port. Takes no memory.
-pub(crate) fn access_lists<W: Wiring>(accesses: Vec<Access<W>>, mut lists: Lists) -> Seq<Seq<Step>>
-    requires { (lists.items ≡ []) × (vec_len accesses ≤ vec_capacity lists) }
-    ensures steps { result ≡ map (λ d. d.place.steps) accesses.items }
+/// What is gathered of customer ports. Takes no memory.
+pub(crate) fn access_lists<W: Wiring>(accesses: Vec<Access<W>>, mut room: Gathered) -> Gathered
+    requires empty { (room.tallies.items ≡ []) × (room.lists.items ≡ []) }
+    requires room { (vec_len accesses ≤ vec_capacity room.tallies) × (vec_len accesses ≤ vec_capacity room.lists) }
+    ensures steps { result.tallies.items ≡ map (λ d. d.place.steps) accesses.items }
+    ensures kept { W.keeps ≡ true → result.lists.items ≡ map (λ d. d.place.steps) accesses.items }
     ensures lawful { All (λ d. IsLawfulPort d.place.number d.place.steps) accesses.items }
 {
     for access in accesses {
-        lists.push_reserved(Seq::from_vec(access_steps(access)));
+        room.push(access_steps(access));
     }
-    Seq::from_vec(lists)
+    room
 }

@@ -1,6 +1,6 @@
 //! A run of a whole plan.
 
-ghost use Rattle.std.specs.Prelude.{◌≡◌, ◌↔◌, ◌≤◌, ◌*◌, [], IfOk, IfErr, All, length, map, vec_len, vec_capacity};
+ghost use Rattle.std.specs.Prelude.{◌≡◌, ◌↔◌, ◌≤◌, ◌*◌, [], true, IfOk, IfErr, All, length, map, vec_len, vec_capacity};
 ghost use Rattle.pb_lan.specs.Laws.{AreTracedFromStart};
 ghost use Rattle.pb_lan.specs.Plans.{IsSound};
 ghost use Rattle.pb_lan.specs.Records.{IsLawfulRecord};
@@ -9,6 +9,7 @@ ghost use Rattle.pb_relay.specs.Protocol.{spanning_tree};
 ghost use Rattle.pb_relay.specs.Settled.{TellsSettled};
 ghost use Rattle.pb_run.specs.Gifts.{AreBridges, AreLanes, AreAccesses};
 ghost use Rattle.pb_lan.specs.Headline.{IsFaithful};
+ghost use Rattle.pb_run.specs.Rooms.{HasPlaceRooms};
 ghost use Rattle.pb_run.specs.Runs.{ArePortsKept, TellsEnded};
 ghost use Rattle.pb_run.specs.Wires.{AreNew, AreNamed};
 
@@ -21,13 +22,14 @@ use crate::fault::{RunCause, RunFault, cause_of};
 use crate::lane::LaneWorker;
 use crate::meet::{meet_accesses, meet_links};
 use crate::outside::{Apart, Held, apart, attended};
-use crate::record::{Lists, access_lists, bridge_lists, lane_lists};
+use crate::record::{Gathered, access_lists, bridge_lists, lane_lists};
 use crate::settled::whether_settled;
 use crate::wires::{Ring, new_rings};
-use pb_frame::Memory;
+use pb_frame::{Memory, Seq};
 use pb_lan::{Limits, Plan, Record};
 use pb_port::Port;
 use pb_ring::Wiring;
+use pb_steps::Tallies;
 use pb_work::{Gate, Work, run_all};
 use std::alloc::Global;
 use std::marker::Brand;
@@ -38,8 +40,8 @@ use std::time::Clock;
 /// What a run gives.
 #[derive(Drop)]
 pub struct Ran {
-    /// The steps of all places.
-    pub rec: Record,
+    /// What is counted of the steps of all places. Contracts see the record of these steps.
+    pub counts: Tallies,
     /// The ports outside, in the plan's order.
     pub ports: Vec<Held>,
     /// What the newest poll of each of them said.
@@ -51,12 +53,32 @@ pub struct Ran {
     pub settled: Result<Option<bool>, Memory>,
 }
 
-/// Room for what comes back: workers of customer ports, their parts, and lists of steps.
-type Rooms<W> = (
-    Vec<CustomerWorker<W, Held>>,
-    Apart<W, Held>,
-    (Lists, Lists, Lists),
-);
+/// What a run gives whose places keep their steps.
+#[derive(Drop)]
+pub struct KeptRun {
+    /// What each run gives.
+    pub ran: Ran,
+    /// The steps of all places.
+    pub rec: Record,
+}
+
+/// What is told of the places that are back.
+#[derive(Drop)]
+struct Told {
+    counts: Tallies,
+    rec: Record,
+}
+
+/// What is gathered of customer ports, lanes and bridges.
+#[derive(Drop)]
+struct Places {
+    customers: Gathered,
+    lanes: Gathered,
+    bridges: Gathered,
+}
+
+/// Room for what comes back: workers of customer ports, their parts, and what is gathered of all places.
+type Rooms<W> = (Vec<CustomerWorker<W, Held>>, Apart<W, Held>, Places);
 
 /// Room for the parts of so many workers of customer ports.
 fn apart_rooms<W: Wiring>(alloc: Global, customers: usize) -> Result<Apart<W, Held>, Memory>
@@ -69,17 +91,19 @@ fn apart_rooms<W: Wiring>(alloc: Global, customers: usize) -> Result<Apart<W, He
     Ok((Vec::with_capacity(alloc, customers)?, accesses, lasts))
 }
 
-/// Room for the lists of steps of a plan's places.
-fn list_rooms(alloc: Global, plan: &Plan) -> Result<(Lists, Lists, Lists), Memory>
+/// Room for what is gathered of a plan's places.
+fn place_rooms(alloc: Global, plan: &Plan) -> Result<Places, Memory>
     requires { IsSound plan.now }
-    ensures customers { IfOk result (λ rooms. (rooms.0.items ≡ []) × (vec_capacity rooms.0 ≡ length plan.now.customers)) }
-    ensures lanes { IfOk result (λ rooms. (rooms.1.items ≡ []) × (vec_capacity rooms.1 ≡ 2 * length plan.now.links)) }
-    ensures bridges { IfOk result (λ rooms. (rooms.2.items ≡ []) × (vec_capacity rooms.2 ≡ length plan.now.bridges)) }
+    ensures { IfOk result (HasPlaceRooms plan.now) }
 {
-    let bridges = Vec::with_capacity(alloc, plan.bridges.len())?;
-    let lanes = Vec::with_capacity(alloc, 2 * plan.links.len())?;
-    let customers = Vec::with_capacity(alloc, plan.customers.len())?;
-    Ok((customers, lanes, bridges))
+    let bridges = Gathered::with_room(alloc, plan.bridges.len())?;
+    let lanes = Gathered::with_room(alloc, 2 * plan.links.len())?;
+    let customers = Gathered::with_room(alloc, plan.customers.len())?;
+    Ok(Places {
+        customers,
+        lanes,
+        bridges,
+    })
 }
 
 /// Room for what comes back of a plan's places, made before a worker is started.
@@ -89,14 +113,12 @@ fn rooms_of<W: Wiring>(alloc: Global, plan: &Plan) -> Result<Rooms<W>, Memory>
     ensures ports { IfOk result (λ rooms. (rooms.1.0.items ≡ []) × (vec_capacity rooms.1.0 ≡ length plan.now.customers)) }
     ensures accesses { IfOk result (λ rooms. (rooms.1.1.items ≡ []) × (vec_capacity rooms.1.1 ≡ length plan.now.customers)) }
     ensures lasts { IfOk result (λ rooms. (rooms.1.2.items ≡ []) × (vec_capacity rooms.1.2 ≡ length plan.now.customers)) }
-    ensures customers { IfOk result (λ rooms. (rooms.2.0.items ≡ []) × (vec_capacity rooms.2.0 ≡ length plan.now.customers)) }
-    ensures lanes { IfOk result (λ rooms. (rooms.2.1.items ≡ []) × (vec_capacity rooms.2.1 ≡ 2 * length plan.now.links)) }
-    ensures bridges { IfOk result (λ rooms. (rooms.2.2.items ≡ []) × (vec_capacity rooms.2.2 ≡ length plan.now.bridges)) }
+    ensures places { IfOk result (λ rooms. HasPlaceRooms plan.now rooms.2) }
 {
     let customers = plan.customers.len();
-    let lists = list_rooms(alloc, plan)?;
+    let places = place_rooms(alloc, plan)?;
     let apart = apart_rooms(alloc, customers)?;
-    Ok((Vec::with_capacity(alloc, customers)?, apart, lists))
+    Ok((Vec::with_capacity(alloc, customers)?, apart, places))
 }
 
 /// What ended the workers.
@@ -122,32 +144,38 @@ fn causes_of<W: Wiring>(
 }
 
 /// The record of places that are back. Takes no memory.
-fn record_of<W: Wiring>(
+fn told_of<W: Wiring>(
     plan: &Plan,
     accesses: Vec<Access<W>>,
     lanes: Vec<LaneWorker<W>>,
     bridges: Vec<BridgeWorker<W>>,
-    lists: (Lists, Lists, Lists),
-) -> Record
+    rooms: Places,
+) -> Told
     requires sound { IsSound plan.now }
     requires accesses { AreAccesses plan.now (length plan.now.customers) (map (λ d. (d.place.number, d.feed.number, d.drain.number)) accesses.items) }
     requires lanes { AreLanes plan.now (length plan.now.links) (map ⟦<LaneWorker<W> as Work>⟧.given lanes.items) }
     requires bridges { AreBridges plan.now (length plan.now.bridges) (map ⟦<BridgeWorker<W> as Work>⟧.given bridges.items) }
-    requires empty { (lists.0.items ≡ []) × (lists.1.items ≡ []) × (lists.2.items ≡ []) }
-    requires room { (vec_capacity lists.0 ≡ length plan.now.customers) × (vec_capacity lists.1 ≡ 2 * length plan.now.links) × (vec_capacity lists.2 ≡ length plan.now.bridges) }
-    ensures lawful { IsLawfulRecord spanning_tree plan.now result }
-    ensures headline { IsFaithful plan.now result }
-    ensures planned { plan.now.spanning ≡ Fixed → AreTracedFromStart plan.now result }
-    ensures customers { result.customers ≡ map (λ d. d.place.steps) accesses.items }
-    ensures bridges { result.bridges ≡ map (λ b. b.bridge.steps) bridges.items }
+    requires rooms { HasPlaceRooms plan.now rooms }
+    ensures lawful { IsLawfulRecord spanning_tree plan.now result.counts }
+    ensures headline { IsFaithful plan.now result.counts }
+    ensures planned { plan.now.spanning ≡ Fixed → AreTracedFromStart plan.now result.counts }
+    ensures customers { result.counts.customers ≡ map (λ d. d.place.steps) accesses.items }
+    ensures bridges { result.counts.bridges ≡ map (λ b. b.bridge.steps) bridges.items }
+    ensures kept { W.keeps ≡ true → result.rec ≡ result.counts }
 {
     let (mut accesses, mut lanes, mut bridges) = (accesses, lanes, bridges);
     meet_accesses(plan, &mut bridges, &mut accesses);
     meet_links(plan, &mut bridges, &mut lanes);
-    Record {
-        bridges: bridge_lists(bridges, lists.2),
-        lanes: lane_lists(lanes, lists.1),
-        customers: access_lists(accesses, lists.0),
+    let bridges = bridge_lists(bridges, rooms.bridges);
+    let lanes = lane_lists(lanes, rooms.lanes);
+    let customers = access_lists(accesses, rooms.customers);
+    Told {
+        counts: Tallies::new(bridges.tallies, lanes.tallies, customers.tallies),
+        rec: Record {
+            bridges: Seq::from_vec(bridges.lists),
+            lanes: Seq::from_vec(lanes.lists),
+            customers: Seq::from_vec(customers.lists),
+        },
     }
 }
 
@@ -161,7 +189,7 @@ fn run_built<W: Wiring + Send, G: Gate, R: Threads + Wait + Clock + Sync>(
     rooms: Rooms<W>,
     gate: &G,
     limits: Limits,
-) -> Result<Ran, RunFault>
+) -> Result<KeptRun, RunFault>
     requires sound { IsSound plan.now }
     requires count { vec_len ports ≡ length plan.now.customers }
     requires accesses { AreAccesses plan.now (length plan.now.customers) (map (λ d. (d.place.number, d.feed.number, d.drain.number)) built.0.items) }
@@ -171,15 +199,15 @@ fn run_built<W: Wiring + Send, G: Gate, R: Threads + Wait + Clock + Sync>(
     requires workers { (rooms.0.items ≡ []) × (vec_capacity rooms.0 ≡ length plan.now.customers) }
     requires apart { (rooms.1.0.items ≡ []) × (rooms.1.1.items ≡ []) × (rooms.1.2.items ≡ []) }
     requires apart_room { (vec_capacity rooms.1.0 ≡ length plan.now.customers) × (vec_capacity rooms.1.1 ≡ length plan.now.customers) × (vec_capacity rooms.1.2 ≡ length plan.now.customers) }
-    requires lists { (rooms.2.0.items ≡ []) × (rooms.2.1.items ≡ []) × (rooms.2.2.items ≡ []) }
-    requires lists_room { (vec_capacity rooms.2.0 ≡ length plan.now.customers) × (vec_capacity rooms.2.1 ≡ 2 * length plan.now.links) × (vec_capacity rooms.2.2 ≡ length plan.now.bridges) }
-    ensures lawful { IfOk result (λ ran. IsLawfulRecord spanning_tree plan.now ran.rec) }
-    ensures headline { IfOk result (λ ran. IsFaithful plan.now ran.rec) }
-    ensures planned { IfOk result (λ ran. plan.now.spanning ≡ Fixed → AreTracedFromStart plan.now ran.rec) }
-    ensures ports { IfOk result (λ ran. ArePortsKept (record { scripts = map (λ b. script b) ports.items; tallies = map (λ b. tally b) ports.items })
-        (record { scripts = map (λ b. script b) ran.ports.items; tallies = map (λ b. tally b) ran.ports.items }) ran.rec.customers ran.last.items) }
-    ensures ended { IfOk result (λ ran. TellsEnded plan.now ran.rec ran.last.items ran.ended) }
-    ensures settled { IfOk result (λ ran. IfOk ran.settled (TellsSettled plan.now ran.rec)) }
+    requires places { HasPlaceRooms plan.now rooms.2 }
+    ensures lawful { IfOk result (λ kept. IsLawfulRecord spanning_tree plan.now kept.ran.counts) }
+    ensures headline { IfOk result (λ kept. IsFaithful plan.now kept.ran.counts) }
+    ensures planned { IfOk result (λ kept. plan.now.spanning ≡ Fixed → AreTracedFromStart plan.now kept.ran.counts) }
+    ensures ports { IfOk result (λ kept. ArePortsKept (record { scripts = map (λ b. script b) ports.items; tallies = map (λ b. tally b) ports.items })
+        (record { scripts = map (λ b. script b) kept.ran.ports.items; tallies = map (λ b. tally b) kept.ran.ports.items }) kept.ran.counts.customers kept.ran.last.items) }
+    ensures ended { IfOk result (λ kept. TellsEnded plan.now kept.ran.counts kept.ran.last.items kept.ran.ended) }
+    ensures settled { IfOk result (λ kept. IfOk kept.ran.settled (TellsSettled plan.now kept.ran.counts)) }
+    ensures rec { IfOk result (λ kept. W.keeps ≡ true → kept.rec ≡ kept.ran.counts) }
     ensures fault { IfErr result (λ fault. fault.cause ≡ RunCause.PortCount → ⊥) }
     ensures unpolled { IfErr result (λ fault. fault.ports.items ≡ ports.items) }
 {
@@ -198,15 +226,16 @@ fn run_built<W: Wiring + Send, G: Gate, R: Threads + Wait + Clock + Sync>(
         return Err(RunFault { cause, ports });
     }
     let settled = whether_settled(alloc, plan, places.2.as_slice());
-    let rec = record_of(plan, accesses, places.1, places.2, rooms.2);
-    let ended = ended_by(has_drained(last.as_slice(), &rec), causes);
-    Ok(Ran {
-        rec,
+    let Told { counts, rec } = told_of(plan, accesses, places.1, places.2, rooms.2);
+    let ended = ended_by(has_drained(last.as_slice(), &counts), causes);
+    let ran = Ran {
+        counts,
         ports,
         last,
         ended,
         settled,
-    })
+    };
+    Ok(KeptRun { ran, rec })
 }
 
 /// Runs a plan over rings, whose ends are known by number.
@@ -218,24 +247,27 @@ fn run_wired<W: Wiring + Send, G: Gate, R: Threads + Wait + Clock + Sync>(
     rings: Vec<Ring>,
     gate: &G,
     limits: Limits,
-) -> Result<Ran, RunFault>
+    keeps: bool,
+) -> Result<KeptRun, RunFault>
+    requires kept { W.keeps ≡ true → keeps ≡ true }
     requires sound { IsSound plan.now }
     requires count { vec_len ports ≡ length plan.now.customers }
     requires new { AreNew rings.items }
     requires named { AreNamed W.rings rings.items }
     requires rings { vec_len rings ≡ 32 * length plan.now.bridges }
-    ensures lawful { IfOk result (λ ran. IsLawfulRecord spanning_tree plan.now ran.rec) }
-    ensures headline { IfOk result (λ ran. IsFaithful plan.now ran.rec) }
-    ensures planned { IfOk result (λ ran. plan.now.spanning ≡ Fixed → AreTracedFromStart plan.now ran.rec) }
-    ensures ports { IfOk result (λ ran. ArePortsKept (record { scripts = map (λ b. script b) ports.items; tallies = map (λ b. tally b) ports.items })
-        (record { scripts = map (λ b. script b) ran.ports.items; tallies = map (λ b. tally b) ran.ports.items }) ran.rec.customers ran.last.items) }
-    ensures ended { IfOk result (λ ran. TellsEnded plan.now ran.rec ran.last.items ran.ended) }
-    ensures settled { IfOk result (λ ran. IfOk ran.settled (TellsSettled plan.now ran.rec)) }
+    ensures lawful { IfOk result (λ kept. IsLawfulRecord spanning_tree plan.now kept.ran.counts) }
+    ensures headline { IfOk result (λ kept. IsFaithful plan.now kept.ran.counts) }
+    ensures planned { IfOk result (λ kept. plan.now.spanning ≡ Fixed → AreTracedFromStart plan.now kept.ran.counts) }
+    ensures ports { IfOk result (λ kept. ArePortsKept (record { scripts = map (λ b. script b) ports.items; tallies = map (λ b. tally b) ports.items })
+        (record { scripts = map (λ b. script b) kept.ran.ports.items; tallies = map (λ b. tally b) kept.ran.ports.items }) kept.ran.counts.customers kept.ran.last.items) }
+    ensures ended { IfOk result (λ kept. TellsEnded plan.now kept.ran.counts kept.ran.last.items kept.ran.ended) }
+    ensures settled { IfOk result (λ kept. IfOk kept.ran.settled (TellsSettled plan.now kept.ran.counts)) }
+    ensures rec { IfOk result (λ kept. W.keeps ≡ true → kept.rec ≡ kept.ran.counts) }
     ensures fault { IfErr result (λ fault. fault.cause ≡ RunCause.PortCount → ⊥) }
     ensures unpolled { IfErr result (λ fault. fault.ports.items ≡ ports.items) }
 {
     let (Ok(built), Ok(rooms)) = (
-        places_of::<W>(alloc, plan, rings),
+        places_of::<W>(alloc, plan, rings, keeps),
         rooms_of::<W>(alloc, plan),
     ) else {
         let cause = RunCause::Memory;
@@ -244,10 +276,45 @@ fn run_wired<W: Wiring + Send, G: Gate, R: Threads + Wait + Clock + Sync>(
     run_built(rt, alloc, plan, ports, built, rooms, gate, limits)
 }
 
+/// Runs a plan, whose places keep their steps or only count them.
+fn run_places<G: Gate, R: Threads + Wait + Clock + Sync>(
+    rt: &R,
+    alloc: Global,
+    plan: &Plan,
+    ports: Vec<Held>,
+    gate: &G,
+    limits: Limits,
+    keeps: bool,
+) -> Result<KeptRun, RunFault>
+    requires { IsSound plan.now }
+    ensures lawful { IfOk result (λ kept. IsLawfulRecord spanning_tree plan.now kept.ran.counts) }
+    ensures headline { IfOk result (λ kept. IsFaithful plan.now kept.ran.counts) }
+    ensures planned { IfOk result (λ kept. plan.now.spanning ≡ Fixed → AreTracedFromStart plan.now kept.ran.counts) }
+    ensures ports { IfOk result (λ kept. ArePortsKept (record { scripts = map (λ b. script b) ports.items; tallies = map (λ b. tally b) ports.items })
+        (record { scripts = map (λ b. script b) kept.ran.ports.items; tallies = map (λ b. tally b) kept.ran.ports.items }) kept.ran.counts.customers kept.ran.last.items) }
+    ensures ended { IfOk result (λ kept. TellsEnded plan.now kept.ran.counts kept.ran.last.items kept.ran.ended) }
+    ensures settled { IfOk result (λ kept. IfOk kept.ran.settled (TellsSettled plan.now kept.ran.counts)) }
+    ensures count { IfOk result (λ kept. vec_len ports ≡ length plan.now.customers) }
+    ensures fault { IfErr result (λ fault. (fault.cause ≡ RunCause.PortCount) ↔ (vec_len ports ≡ length plan.now.customers → ⊥)) }
+    ensures unpolled { IfErr result (λ fault. fault.ports.items ≡ ports.items) }
+    ensures rec { IfOk result (λ kept. keeps ≡ true → kept.rec ≡ kept.ran.counts) }
+{
+    if ports.len() != plan.customers.len() {
+        let cause = RunCause::PortCount;
+        return Err(RunFault { cause, ports });
+    }
+    let Ok(rings) = new_rings(alloc, plan) else {
+        let cause = RunCause::Memory;
+        return Err(RunFault { cause, ports });
+    };
+    run_wired::<Brand, G, R>(rt, alloc, plan, ports, rings, gate, limits, keeps)
+}
+
 /// Runs a sound plan: one worker for each bridge, lane and customer port, in threads of their own, with rings
 /// between them. No worker takes a step before all are started. A bridge ticks once every so many turns.
 ///
-/// The record of what all places did is lawful, so that the laws hold of it, whatever the schedule was: each
+/// Steps are only counted, so that the memory of a run does not grow with them. Contracts see the record of what all
+/// places did. It is lawful, so that the laws hold of it, whatever the schedule was: each
 /// departure has the octets of an arrival at a port of the same service, less a priority S-tag; a frame that was
 /// handled under a forest leaves each other port at most once, its own never, and none outside its tree; one to a
 /// group that was neither refused nor lost, and has drained, leaves each other port of its service in its tree
@@ -273,24 +340,43 @@ pub fn run<G: Gate, R: Threads + Wait + Clock + Sync>(
     limits: Limits,
 ) -> Result<Ran, RunFault>
     requires { IsSound plan.now }
-    ensures lawful { IfOk result (λ ran. IsLawfulRecord spanning_tree plan.now ran.rec) }
-    ensures headline { IfOk result (λ ran. IsFaithful plan.now ran.rec) }
-    ensures planned { IfOk result (λ ran. plan.now.spanning ≡ Fixed → AreTracedFromStart plan.now ran.rec) }
+    ensures lawful { IfOk result (λ ran. IsLawfulRecord spanning_tree plan.now ran.counts) }
+    ensures headline { IfOk result (λ ran. IsFaithful plan.now ran.counts) }
+    ensures planned { IfOk result (λ ran. plan.now.spanning ≡ Fixed → AreTracedFromStart plan.now ran.counts) }
     ensures ports { IfOk result (λ ran. ArePortsKept (record { scripts = map (λ b. script b) ports.items; tallies = map (λ b. tally b) ports.items })
-        (record { scripts = map (λ b. script b) ran.ports.items; tallies = map (λ b. tally b) ran.ports.items }) ran.rec.customers ran.last.items) }
-    ensures ended { IfOk result (λ ran. TellsEnded plan.now ran.rec ran.last.items ran.ended) }
-    ensures settled { IfOk result (λ ran. IfOk ran.settled (TellsSettled plan.now ran.rec)) }
+        (record { scripts = map (λ b. script b) ran.ports.items; tallies = map (λ b. tally b) ran.ports.items }) ran.counts.customers ran.last.items) }
+    ensures ended { IfOk result (λ ran. TellsEnded plan.now ran.counts ran.last.items ran.ended) }
+    ensures settled { IfOk result (λ ran. IfOk ran.settled (TellsSettled plan.now ran.counts)) }
     ensures count { IfOk result (λ ran. vec_len ports ≡ length plan.now.customers) }
     ensures fault { IfErr result (λ fault. (fault.cause ≡ RunCause.PortCount) ↔ (vec_len ports ≡ length plan.now.customers → ⊥)) }
     ensures unpolled { IfErr result (λ fault. fault.ports.items ≡ ports.items) }
 {
-    if ports.len() != plan.customers.len() {
-        let cause = RunCause::PortCount;
-        return Err(RunFault { cause, ports });
-    }
-    let Ok(rings) = new_rings(alloc, plan) else {
-        let cause = RunCause::Memory;
-        return Err(RunFault { cause, ports });
-    };
-    run_wired::<Brand, G, R>(rt, alloc, plan, ports, rings, gate, limits)
+    let KeptRun { ran, rec: _ } = run_places(rt, alloc, plan, ports, gate, limits, false)?;
+    Ok(ran)
+}
+
+/// Runs a sound plan as [`run`] does, with places that keep their steps: their record is given besides. The memory of the
+/// run grows with each step.
+pub fn run_kept<G: Gate, R: Threads + Wait + Clock + Sync>(
+    rt: &R,
+    alloc: Global,
+    plan: &Plan,
+    ports: Vec<Held>,
+    gate: &G,
+    limits: Limits,
+) -> Result<KeptRun, RunFault>
+    requires { IsSound plan.now }
+    ensures lawful { IfOk result (λ kept. IsLawfulRecord spanning_tree plan.now kept.rec) }
+    ensures headline { IfOk result (λ kept. IsFaithful plan.now kept.rec) }
+    ensures planned { IfOk result (λ kept. plan.now.spanning ≡ Fixed → AreTracedFromStart plan.now kept.rec) }
+    ensures ports { IfOk result (λ kept. ArePortsKept (record { scripts = map (λ b. script b) ports.items; tallies = map (λ b. tally b) ports.items })
+        (record { scripts = map (λ b. script b) kept.ran.ports.items; tallies = map (λ b. tally b) kept.ran.ports.items }) kept.rec.customers kept.ran.last.items) }
+    ensures ended { IfOk result (λ kept. TellsEnded plan.now kept.rec kept.ran.last.items kept.ran.ended) }
+    ensures settled { IfOk result (λ kept. IfOk kept.ran.settled (TellsSettled plan.now kept.rec)) }
+    ensures counts { IfOk result (λ kept. kept.ran.counts ≡ kept.rec) }
+    ensures count { IfOk result (λ kept. vec_len ports ≡ length plan.now.customers) }
+    ensures fault { IfErr result (λ fault. (fault.cause ≡ RunCause.PortCount) ↔ (vec_len ports ≡ length plan.now.customers → ⊥)) }
+    ensures unpolled { IfErr result (λ fault. fault.ports.items ≡ ports.items) }
+{
+    run_places(rt, alloc, plan, ports, gate, limits, true)
 }

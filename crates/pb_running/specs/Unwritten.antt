@@ -1,17 +1,12 @@
 -- The frames that a run could not write.
-use Rattle.std.specs.Prelude.{ℕ, ◌==◌, if◌then◌else◌, Bool, false, List, [], ◌∷◌, ◌++◌, length, codes}
+use Rattle.std.specs.Prelude.{ℕ, ◌==◌, if◌then◌else◌, List, [], ◌∷◌, ◌++◌, length, codes}
 use Rattle.std.specs.Fmt.{decimal}
 use Rattle.std.specs.List.{count_by}
 use Rattle.pb_lan.specs.declared.plan.CustomerPlan.{CustomerPlan}
 use Rattle.pb_lan.specs.declared.step.Step.{Step}
-use Rattle.pb_lan.specs.declared.step.Step.TheVariants.{Deliver}
 use Rattle.pb_port.specs.Reading.{held_sum}
 use Rattle.pb_run.specs.Ports.{Frames}
-
--- a frame came to a port that takes none any more
-abbrev pub is_gone : Step → Bool
-is_gone (Deliver item gone) = gone
-is_gone _ = false
+use Rattle.pb_steps.specs.Passages.{is_gone}
 
 -- so many frames of a customer port were not written, where there are some
 abbrev pub unwritten_line : List ℕ → ℕ → List ℕ

@@ -5,9 +5,10 @@ ghost use Rattle.pb_running.specs.Strict.{is_whole, lost_text, unsettled_line};
 
 use crate::unwritten::put_unwritten;
 use pb_frame::Memory;
-use pb_lan::{Plan, Record};
+use pb_lan::Plan;
 use pb_losses::put_losses;
 use pb_run::{Ended, Held};
+use pb_steps::Tallies;
 use std::alloc::Global;
 
 /// Puts that bridges have not settled behind a text, where they have not.
@@ -31,17 +32,17 @@ pub fn lost_of(
     alloc: Global,
     plan: &Plan,
     ports: &[Held],
-    rec: &Record,
+    counts: &Tallies,
     settled: &Result<Option<bool>, Memory>,
 ) -> Result<String, Memory>
     requires ports { length ports.now ≡ length plan.now.customers }
-    requires lists { length rec.now.customers ≡ length plan.now.customers }
-    ensures { IfOk result (λ text. string_bytes text ≡ lost_text plan.now rec.now settled.now (map (λ b. waiting b) ports.now)) }
+    requires lists { length counts.now.customers ≡ length plan.now.customers }
+    ensures { IfOk result (λ text. string_bytes text ≡ lost_text plan.now counts.now settled.now (map (λ b. waiting b) ports.now)) }
 {
     let mut out = String::new(alloc);
     let customers = plan.customers.as_slice();
-    put_unwritten(&mut out, customers, ports, rec.customers.as_slice())?;
-    put_losses(&mut out, plan, rec)?;
+    put_unwritten(&mut out, customers, ports, counts.customers())?;
+    put_losses(&mut out, plan, counts)?;
     put_unsettled(&mut out, settled)?;
     Ok(out)
 }

@@ -21,10 +21,11 @@ use crate::report::write_report;
 use crate::strictness::{Strictness, exit_status};
 use crate::watched::{Traffic, Watched};
 use pb_frame::Memory;
-use pb_lan::{Limits, Plan, Record};
+use pb_lan::{Limits, Plan};
 use pb_print::write_refusal;
 use pb_run::{Gate, Held, Ran, run};
 use pb_service::{PlanFault, PortSpec, read_limits, read_plan};
+use pb_steps::Tallies;
 use std::alloc::Global;
 use std::fs::{File, Files};
 use std::io::Write;
@@ -82,15 +83,15 @@ fn lost_under(
     strictness: Strictness,
     plan: &Plan,
     ports: &[Held],
-    rec: &Record,
+    counts: &Tallies,
     settled: &Result<Option<bool>, Memory>,
 ) -> Result<String, NetworkFault>
     requires ports { length ports.now ≡ length plan.now.customers }
-    requires lists { length rec.now.customers ≡ length plan.now.customers }
+    requires lists { length counts.now.customers ≡ length plan.now.customers }
     ensures err { IfErr result (λ e. e ≡ NetworkFault.Memory) }
-    ensures ok { IfOk result (λ text. strictness ≡ strict → string_bytes text ≡ lost_text plan.now rec.now settled.now (map (λ b. waiting b) ports.now)) }
+    ensures ok { IfOk result (λ text. strictness ≡ strict → string_bytes text ≡ lost_text plan.now counts.now settled.now (map (λ b. waiting b) ports.now)) }
 {
-    match lost_of(alloc, plan, ports, rec, settled) {
+    match lost_of(alloc, plan, ports, counts, settled) {
         Ok(lost) => Ok(lost),
         Err(_) if strictness == Strictness::Lenient => Ok(String::new(alloc)),
         Err(_) => Err(NetworkFault::Memory),
@@ -117,17 +118,17 @@ fn tell<W: Write, E: Write>(
     errors: &mut E,
 ) -> Result<u8, NetworkFault>
     requires sound { IsSound plan.now }
-    requires settled { IfOk ran.now.settled (TellsSettled plan.now ran.now.rec) }
+    requires settled { IfOk ran.now.settled (TellsSettled plan.now ran.now.counts) }
     requires lasts { length ran.now.last.items ≡ length plan.now.customers }
     requires ports { length ran.now.ports.items ≡ length plan.now.customers }
-    requires lists { length ran.now.rec.customers ≡ length plan.now.customers }
-    ensures ok { IfOk result (λ status. PrintsReport strictness plan.now ran.now.rec ran.now.ended ran.now.settled ran.now.last.items status
+    requires lists { length ran.now.counts.customers ≡ length plan.now.customers }
+    ensures ok { IfOk result (λ status. PrintsReport strictness plan.now ran.now.counts ran.now.ended ran.now.settled ran.now.last.items status
         (W.contents writer.old) (W.contents writer.new)) }
     ensures kinds { IfErr result (λ e. (e ≡ NetworkFault.Write) ⊎ (e ≡ NetworkFault.Memory)) }
     ensures none { IfErr result (λ e. e ≢ NetworkFault.Write → Keeps (W.contents writer.old) (W.contents writer.new)) }
 {
     let ports = ran.ports.as_slice();
-    let lost = lost_under(alloc, strictness, plan, ports, &ran.rec, &ran.settled)?;
+    let lost = lost_under(alloc, strictness, plan, ports, &ran.counts, &ran.settled)?;
     let told = write_report(alloc, plan, ran, writer)?;
     show(lost.as_str(), errors);
     let is_whole = is_whole(ran.ended, lost.as_str());

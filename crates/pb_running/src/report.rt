@@ -102,13 +102,13 @@ fn put_faults(
 /// Puts what a run tells behind a text, and answers the exit status.
 fn put_run(alloc: Global, out: &mut String, plan: &Plan, ran: &Ran) -> Result<u8, Memory>
     requires sound { IsSound plan.now }
-    requires settled { IfOk ran.now.settled (TellsSettled plan.now ran.now.rec) }
+    requires settled { IfOk ran.now.settled (TellsSettled plan.now ran.now.counts) }
     requires count { length ran.now.last.items ≡ length plan.now.customers }
     ensures { IfOk result (λ status. (text : List ℕ) × (string_bytes out.new ≡ string_bytes out.old ++ text)
-        × IsRunReport plan.now ran.now.rec ran.now.ended ran.now.settled ran.now.last.items status text) }
+        × IsRunReport plan.now ran.now.counts ran.now.ended ran.now.settled ran.now.last.items status text) }
 {
     put_ended(out, ran.ended)?;
-    put_record(alloc, out, plan, &ran.rec)?;
+    put_record(alloc, out, plan, &ran.counts)?;
     put_settling(out, &ran.settled)?;
     let customers = plan.customers.as_slice();
     let lasts = ran.last.as_slice();
@@ -136,12 +136,12 @@ pub fn write_report<W: Write>(
     writer: &mut W,
 ) -> Result<u8, CommandFault>
     requires sound { IsSound plan.now }
-    requires settled { IfOk ran.now.settled (TellsSettled plan.now ran.now.rec) }
+    requires settled { IfOk ran.now.settled (TellsSettled plan.now ran.now.counts) }
     requires count { length ran.now.last.items ≡ length plan.now.customers }
     ensures kinds { IfErr result (λ e. (e ≡ CommandFault.Write) ⊎ (e ≡ CommandFault.Memory)) }
     ensures none { IfErr result (λ e. e ≢ CommandFault.Write → Keeps (W.contents writer.old) (W.contents writer.new)) }
     ensures ok { IfOk result (λ status. (text : List ℕ) × Appends (W.contents writer.old) (W.contents writer.new) text
-        × IsRunReport plan.now ran.now.rec ran.now.ended ran.now.settled ran.now.last.items status text) }
+        × IsRunReport plan.now ran.now.counts ran.now.ended ran.now.settled ran.now.last.items status text) }
 {
     let mut out = String::new(alloc);
     let status = put_run(alloc, &mut out, plan, ran)?;

@@ -1,36 +1,13 @@
 //! The frames that a run could not write.
 
 ghost use Rattle.std.specs.Prelude.{◌≡◌, ◌++◌, length, map, string_bytes, OnOk};
-ghost use Rattle.std.specs.List.{count_by};
-ghost use Rattle.pb_running.specs.Unwritten.{is_gone, unwritten_line, unwritten_lines};
+ghost use Rattle.pb_running.specs.Unwritten.{unwritten_line, unwritten_lines};
 
-use pb_frame::{Memory, Seq};
-use pb_lan::{CustomerPlan, Step};
+use pb_frame::Memory;
+use pb_lan::CustomerPlan;
 use pb_port::Port;
 use pb_run::Held;
-
-/// A frame came to a port that takes none any more.
-fn is_gone(step: &Step) -> bool
-    ensures { result ≡ is_gone step.now }
-{
-    match step {
-        Step::Deliver { gone, .. } => *gone,
-        _ => false,
-    }
-}
-
-/// How many frames came to a port that takes none any more.
-fn gone_of(steps: &[Step]) -> usize
-    ensures { result ≡ count_by is_gone steps.now }
-{
-    let mut count = 0;
-    for step in steps {
-        if is_gone(step) {
-            count += 1;
-        }
-    }
-    count
-}
+use pb_steps::Tally;
 
 /// Puts how many frames of a customer port were not written behind a text, where there are some.
 fn put_count(out: &mut String, name: &str, count: u64) -> Result<(), Memory>
@@ -49,15 +26,15 @@ pub(crate) fn put_unwritten(
     out: &mut String,
     customers: &[CustomerPlan],
     ports: &[Held],
-    lists: &[Seq<Step>],
+    tallies: &[Tally],
 ) -> Result<(), Memory>
     requires ports { length ports.now ≡ length customers.now }
-    requires lists { length lists.now ≡ length customers.now }
-    ensures { OnOk result (string_bytes out.new ≡ string_bytes out.old ++ unwritten_lines customers.now (map (λ b. waiting b) ports.now) lists.now) }
+    requires tallies { length tallies.now ≡ length customers.now }
+    ensures { OnOk result (string_bytes out.new ≡ string_bytes out.old ++ unwritten_lines customers.now (map (λ b. waiting b) ports.now) tallies.now) }
 {
     for (index, customer) in customers.iter().enumerate() {
         let unsent = ports[index].unsent().len() as u64;
-        let gone = gone_of(lists[index].as_slice()) as u64;
+        let gone = tallies[index].gone();
         put_count(out, customer.name.as_str(), unsent.saturating_add(gone))?;
     }
     Ok(())

@@ -1,5 +1,5 @@
 -- What a record tells of customer ports and links.
-use Rattle.std.specs.Prelude.{◌≡◌, ℕ, ◌+◌, Bool, true, false, not, ◌==◌, List, [], ◌∷◌, ◌++◌, Some, None, map, flat_map, codes, IsPermutation}
+use Rattle.std.specs.Prelude.{◌≡◌, ℕ, ◌+◌, List, [], ◌∷◌, ◌++◌, Some, None, map, flat_map, codes, IsPermutation}
 use Rattle.std.specs.Cmp.Lexicographic.{slice_cmp}
 use Rattle.std.specs.Fmt.{decimal}
 use Rattle.std.specs.List.{count_by}
@@ -11,32 +11,7 @@ use Rattle.pb_lan.specs.Records.{steps_of, lane_ab, lane_ba}
 use Rattle.pb_lan.specs.declared.plan.Plan.{Plan}
 use Rattle.pb_lan.specs.declared.plan.CustomerPlan.{CustomerPlan}
 use Rattle.pb_lan.specs.declared.record.Record.{Record}
-use Rattle.pb_lan.specs.declared.step.Outcome.TheVariants.{Filtered}
-use Rattle.pb_lan.specs.declared.step.Step.{Step}
-use Rattle.pb_lan.specs.declared.step.Step.TheVariants.{Poll, Deliver, Receive, Take}
-
--- a frame came in at a customer port; one left by it
-abbrev pub is_poll : Step → Bool
-is_poll (Poll item) = true
-is_poll _ = false
-
-abbrev pub is_departure : Step → Bool
-is_departure (Deliver item gone) = not gone
-is_departure _ = false
-
--- a frame that came to a bridge's port went nowhere
-abbrev pub is_filtered : ℕ → Step → Bool
-is_filtered port (Receive at item learnt (Filtered reason) moved) = at == port
-is_filtered port _ = false
-
--- a lane took an item; it lost one
-abbrev pub is_take : Step → Bool
-is_take (Take number item lost) = true
-is_take _ = false
-
-abbrev pub is_loss : Step → Bool
-is_loss (Take number item lost) = lost
-is_loss _ = false
+use Rattle.pb_steps.specs.Passages.{is_poll, is_departure, is_filtered, is_take, is_loss}
 
 -- the frames of a customer port that its bridge filtered
 abbrev pub filtered_at : Record → Option CustomerPlan → ℕ

@@ -1,146 +1,62 @@
-//! How many frames a record has.
+//! How many frames the places of a network have had.
 
-ghost use Rattle.std.specs.Prelude.{◌≡◌};
+ghost use Rattle.std.specs.Prelude.{◌≡◌, unwrap_or};
 ghost use Rattle.std.specs.List.{count_by};
+ghost use Rattle.std.specs.Option.{option_copied};
 ghost use Rattle.pb_lan.specs.Numbering.{numbered};
+ghost use Rattle.pb_lan.specs.Plans.{IsSound};
 ghost use Rattle.pb_lan.specs.Records.{steps_of};
-ghost use Rattle.pb_script.specs.Counts.{is_poll, is_departure, is_filtered, is_take, is_loss, filtered_at};
+ghost use Rattle.pb_script.specs.Counts.{filtered_at};
+ghost use Rattle.pb_steps.specs.Passages.{is_poll, is_departure, is_take, is_loss};
 
-use pb_frame::Seq;
-use pb_lan::{Outcome, Plan, Record, Step};
+use pb_lan::Plan;
+use pb_steps::{Tallies, Tally};
 
-/// The steps of the place of this number; none where there is no such place.
-pub(crate) fn steps_of(places: &[Seq<Step>], number: usize) -> &[Step]
-    ensures { result.now ≡ steps_of places.now number }
+/// What was counted at the place of this number; None where there is no such place.
+fn tally_of(places: &[Tally], number: usize) -> Option<&Tally>
+    ensures { option_copied result ≡ numbered places.now number }
 {
     if number == 0 {
-        return &[];
+        return None;
     }
-    match places.get(number - 1) {
-        Some(steps) => steps.as_slice(),
-        None => &[],
+    places.get(number - 1)
+}
+
+/// How many frames came in at a customer port, and how many left by it.
+pub(crate) fn passed(tallies: &Tallies, number: u8) -> (u64, u64)
+    ensures entered { result.0 ≡ count_by is_poll (steps_of tallies.now.customers number) }
+    ensures left { result.1 ≡ count_by is_departure (steps_of tallies.now.customers number) }
+{
+    match tally_of(tallies.customers(), usize::from(number)) {
+        Some(tally) => (tally.entered(), tally.left()),
+        None => (0, 0),
     }
-}
-
-/// A frame came in at a customer port.
-fn is_poll(step: &Step) -> bool
-    ensures { result ≡ is_poll step.now }
-{
-    matches!(step, Step::Poll { .. })
-}
-
-/// A frame left by a customer port.
-fn is_departure(step: &Step) -> bool
-    ensures { result ≡ is_departure step.now }
-{
-    match step {
-        Step::Deliver { gone, .. } => !*gone,
-        _ => false,
-    }
-}
-
-/// A frame that came to a bridge's port went nowhere.
-fn is_filtered(port: u8, step: &Step) -> bool
-    ensures { result ≡ is_filtered port step.now }
-{
-    match step {
-        Step::Receive {
-            port: at,
-            outcome: Outcome::Filtered(_),
-            ..
-        } => *at == port,
-        _ => false,
-    }
-}
-
-/// A lane took an item.
-fn is_take(step: &Step) -> bool
-    ensures { result ≡ is_take step.now }
-{
-    matches!(step, Step::Take { .. })
-}
-
-/// A lane lost an item.
-fn is_loss(step: &Step) -> bool
-    ensures { result ≡ is_loss step.now }
-{
-    match step {
-        Step::Take { lost, .. } => *lost,
-        _ => false,
-    }
-}
-
-/// How many frames came in.
-pub(crate) fn entered(steps: &[Step]) -> usize
-    ensures { result ≡ count_by is_poll steps.now }
-{
-    let mut count = 0;
-    for step in steps {
-        if is_poll(step) {
-            count += 1;
-        }
-    }
-    count
-}
-
-/// How many frames left.
-pub(crate) fn departed(steps: &[Step]) -> usize
-    ensures { result ≡ count_by is_departure steps.now }
-{
-    let mut count = 0;
-    for step in steps {
-        if is_departure(step) {
-            count += 1;
-        }
-    }
-    count
-}
-
-/// How many frames that came to a bridge's port went nowhere.
-fn filtered(steps: &[Step], port: u8) -> usize
-    ensures { result ≡ count_by (is_filtered port) steps.now }
-{
-    steps.iter().filter(|step| is_filtered(port, step)).count()
 }
 
 /// How many frames of a customer port its bridge filtered.
-pub(crate) fn filtered_at(plan: &Plan, rec: &Record, number: u8) -> usize
-    ensures { result ≡ filtered_at rec.now (numbered plan.now.customers number) }
+pub(crate) fn filtered_at(plan: &Plan, tallies: &Tallies, number: u8) -> u64
+    requires { IsSound plan.now }
+    ensures { result ≡ filtered_at tallies.now (numbered plan.now.customers number) }
 {
     if number == 0 {
         return 0;
     }
-    match plan.customers.as_slice().get(number as usize - 1) {
-        Some(customer) => filtered(
-            steps_of(rec.bridges.as_slice(), usize::from(customer.bridge)),
-            customer.port,
-        ),
+    let Some(customer) = plan.customers.as_slice().get(usize::from(number) - 1) else {
+        return 0;
+    };
+    match tally_of(tallies.bridges(), usize::from(customer.bridge)) {
+        Some(tally) => tally.filtered(customer.port),
         None => 0,
     }
 }
 
-/// How many items a lane took.
-pub(crate) fn taken(steps: &[Step]) -> usize
-    ensures { result ≡ count_by is_take steps.now }
+/// How many items a lane took, and how many of them it lost.
+pub(crate) fn carried(tallies: &Tallies, lane: usize) -> (u64, u64)
+    ensures taken { result.0 ≡ count_by is_take (steps_of tallies.now.lanes lane) }
+    ensures lost { result.1 ≡ count_by is_loss (steps_of tallies.now.lanes lane) }
 {
-    let mut count = 0;
-    for step in steps {
-        if is_take(step) {
-            count += 1;
-        }
+    match tally_of(tallies.lanes(), lane) {
+        Some(tally) => (tally.taken(), tally.lost()),
+        None => (0, 0),
     }
-    count
-}
-
-/// How many items a lane lost.
-pub(crate) fn lost(steps: &[Step]) -> usize
-    ensures { result ≡ count_by is_loss steps.now }
-{
-    let mut count = 0;
-    for step in steps {
-        if is_loss(step) {
-            count += 1;
-        }
-    }
-    count
 }

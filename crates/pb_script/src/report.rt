@@ -7,9 +7,10 @@ ghost use Rattle.std.specs.Ordering.{nat_cmp};
 ghost use Rattle.pb_lan.specs.Plans.{IsSound};
 ghost use Rattle.pb_script.specs.Counts.{port_line, link_line, with_numbers, AreByName, IsCountsText};
 
-use crate::counts::{departed, entered, filtered_at, lost, steps_of, taken};
+use crate::counts::{carried, filtered_at, passed};
 use pb_frame::Memory;
-use pb_lan::{Plan, Record};
+use pb_lan::Plan;
+use pb_steps::Tallies;
 use std::alloc::Global;
 
 /// The names of the customer ports, with their numbers.
@@ -48,16 +49,15 @@ fn sort(names: &mut Vec<(&str, u8)>)
 fn put_port(
     out: &mut String,
     plan: &Plan,
-    rec: &Record,
+    tallies: &Tallies,
     name: &str,
     number: u8,
 ) -> Result<(), Memory>
-    ensures { OnOk result (string_bytes out.new ≡ string_bytes out.old ++ port_line plan.now rec.now (name.now, number)) }
+    requires { IsSound plan.now }
+    ensures { OnOk result (string_bytes out.new ≡ string_bytes out.old ++ port_line plan.now tallies.now (name.now, number)) }
 {
-    let steps = steps_of(rec.customers.as_slice(), usize::from(number));
-    let came = entered(steps);
-    let left = departed(steps);
-    let refused = filtered_at(plan, rec, number);
+    let (came, left) = passed(tallies, number);
+    let refused = filtered_at(plan, tallies, number);
     writeln!(
         out,
         "port {name} entered {came} left {left} filtered {refused}"
@@ -66,14 +66,12 @@ fn put_port(
 }
 
 /// The line of a link.
-fn put_link(out: &mut String, rec: &Record, name: &str, number: u8) -> Result<(), Memory>
-    ensures { OnOk result (string_bytes out.new ≡ string_bytes out.old ++ link_line rec.now (name.now, number)) }
+fn put_link(out: &mut String, tallies: &Tallies, name: &str, number: u8) -> Result<(), Memory>
+    ensures { OnOk result (string_bytes out.new ≡ string_bytes out.old ++ link_line tallies.now (name.now, number)) }
 {
     let lane = 2 * usize::from(number);
-    let there = steps_of(rec.lanes.as_slice(), lane.saturating_sub(1));
-    let back = steps_of(rec.lanes.as_slice(), lane);
-    let (taken_there, lost_there) = (taken(there), lost(there));
-    let (taken_back, lost_back) = (taken(back), lost(back));
+    let (taken_there, lost_there) = carried(tallies, lane.saturating_sub(1));
+    let (taken_back, lost_back) = carried(tallies, lane);
     write!(out, "link {name} ab taken {taken_there} lost {lost_there}")?;
     writeln!(out, " ba taken {taken_back} lost {lost_back}")?;
     Ok(())
@@ -83,23 +81,24 @@ fn put_link(out: &mut String, rec: &Record, name: &str, number: u8) -> Result<()
 fn put_ports(
     out: &mut String,
     plan: &Plan,
-    rec: &Record,
+    tallies: &Tallies,
     ports: &[(&str, u8)],
 ) -> Result<(), Memory>
-    ensures { OnOk result (string_bytes out.new ≡ string_bytes out.old ++ flat_map (port_line plan.now rec.now) (map (λ n. (n.0.now, n.1)) ports.now)) }
+    requires { IsSound plan.now }
+    ensures { OnOk result (string_bytes out.new ≡ string_bytes out.old ++ flat_map (port_line plan.now tallies.now) (map (λ n. (n.0.now, n.1)) ports.now)) }
 {
     for (name, number) in ports {
-        put_port(out, plan, rec, name, *number)?;
+        put_port(out, plan, tallies, name, *number)?;
     }
     Ok(())
 }
 
 /// The lines of links.
-fn put_links(out: &mut String, rec: &Record, links: &[(&str, u8)]) -> Result<(), Memory>
-    ensures { OnOk result (string_bytes out.new ≡ string_bytes out.old ++ flat_map (link_line rec.now) (map (λ n. (n.0.now, n.1)) links.now)) }
+fn put_links(out: &mut String, tallies: &Tallies, links: &[(&str, u8)]) -> Result<(), Memory>
+    ensures { OnOk result (string_bytes out.new ≡ string_bytes out.old ++ flat_map (link_line tallies.now) (map (λ n. (n.0.now, n.1)) links.now)) }
 {
     for (name, number) in links {
-        put_link(out, rec, name, *number)?;
+        put_link(out, tallies, name, *number)?;
     }
     Ok(())
 }
@@ -109,14 +108,19 @@ fn put_links(out: &mut String, rec: &Record, links: &[(&str, u8)]) -> Result<(),
 /// link, both by name. A frame entered where it was polled, and left where it was delivered to a customer
 /// that took it; it is filtered at a port where its bridge received it there and dropped it; what is taken
 /// counts the lost ones too. `Memory` is answered where memory ran out.
-pub fn put_counts(alloc: Global, out: &mut String, plan: &Plan, rec: &Record) -> Result<(), Memory>
+pub fn put_counts(
+    alloc: Global,
+    out: &mut String,
+    plan: &Plan,
+    tallies: &Tallies,
+) -> Result<(), Memory>
     requires { IsSound plan.now }
-    ensures { OnOk result ((text : List ℕ) × (string_bytes out.new ≡ string_bytes out.old ++ text) × IsCountsText plan.now rec.now text) }
+    ensures { OnOk result ((text : List ℕ) × (string_bytes out.new ≡ string_bytes out.old ++ text) × IsCountsText plan.now tallies.now text) }
 {
     let mut ports = numbered_ports(alloc, plan)?;
     sort(&mut ports);
     let mut links = numbered_links(alloc, plan)?;
     sort(&mut links);
-    put_ports(out, plan, rec, ports.as_slice())?;
-    put_links(out, rec, links.as_slice())
+    put_ports(out, plan, tallies, ports.as_slice())?;
+    put_links(out, tallies, links.as_slice())
 }

@@ -28,6 +28,12 @@ pub defaulted : (name : List ℕ) (low high default highest : ℕ) (value : Opti
 defaulted name low high default highest None a b c h = (omega arith, omega arith)
 defaulted name low high default highest (Some d) a b c h = within low high default highest (natural_of d) c h
 
+-- where the default is the highest number there is, above those that the key takes
+pub unlimited : (name : List ℕ) (low high highest : ℕ) (value : Option Data) → low ≤ highest → high ≤ highest
+    → IsTaken (with_default name (Number low high)) value → (low ≤ number_told highest highest value) × (number_told highest highest value ≤ highest)
+unlimited name low high highest None a c h = (omega arith, omega arith)
+unlimited name low high highest (Some d) a c h = let both = within low high highest highest (natural_of d) c h in (both.0, omega (arith, both.1, c))
+
 pub needed : (name : List ℕ) (low high default highest : ℕ) (value : Option Data) → high ≤ highest
     → IsTaken (without_default name (Number low high)) value → (low ≤ number_told default highest value) × (number_told default highest value ≤ high)
 needed name low high default highest None c h = absurd cc

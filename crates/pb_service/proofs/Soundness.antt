@@ -30,7 +30,7 @@ use Rattle.pb_service.specs.PlanFiles.{IsPlanOf}
 use Rattle.pb_service.proofs.Acceptance.{accepted_address}
 use Rattle.pb_service.proofs.Stations.{one_group}
 use Rattle.pb_service.proofs.Ends.{ends_of_link, port_of_customer}
-use Rattle.pb_service.proofs.Allowed.{defaulted, needed, bridge_priority, port_priority, losses, listed_numbers, named_number}
+use Rattle.pb_service.proofs.Allowed.{defaulted, unlimited, needed, bridge_priority, port_priority, losses, listed_numbers, named_number}
 
 -- neither names nor addresses, VIDs or ports stand twice
 pub record RepeatsNothing (document : Members) (plan : Plan) : Type 0 where
@@ -130,7 +130,7 @@ limits_sound document plan specs p =
       services = omega (arith, p.service_tables.few, zip_length _ _ _ p.services);
       customers = omega (arith, p.port_tables.few, zip_length _ _ _ p.customers);
       ring = subst (λ n. IsNumber n 4096) (sym p.network.ring) (defaulted (codes "ring") 1 4096 64 4096 _ (omega arith) (omega arith) (omega arith) keys.1.1.0);
-      steps = let few = subst (λ n. IsNumber n 1000000) (sym p.network.steps) (defaulted (codes "steps") 1 1000000 1000000 1000000 _ (omega arith) (omega arith) (omega arith) keys.1.1.1.0) in (few.0, omega (arith, few.1));
+      steps = subst (λ n. IsNumber n 18446744073709551615) (sym p.network.steps) (unlimited (codes "steps") 1 1000000 18446744073709551615 _ (omega arith) (omega arith) keys.1.1.1.0);
       ageing = subst (λ n. (10 ≤ n) × (n ≤ 1000000)) (sym p.network.ageing) (defaulted (codes "ageing") 10 1000000 300 1000000 _ (omega arith) (omega arith) (omega arith) keys.1.0);
     }
 

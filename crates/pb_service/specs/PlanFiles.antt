@@ -31,7 +31,7 @@ pub record TellsNetwork (row : Members) (plan : Plan) : Type 0 where
   pub spanning : plan.spanning ≡ spanning_of (text_at row (codes "spanning"))
   pub ageing : plan.ageing ≡ number_at row (codes "ageing") 300 1000000
   pub ring : plan.ring ≡ number_at row (codes "ring") 64 4096
-  pub steps : plan.steps ≡ number_at row (codes "steps") 1000000 1000000
+  pub steps : plan.steps ≡ number_at row (codes "steps") 18446744073709551615 18446744073709551615
 
 -- the limits of a run that a document tells: bridges tick by one clock at most, and frames are held back only where one ticks
 pub record AreLimitsOf (document : Members) (limits : Limits) : Type 0 where

@@ -45,7 +45,7 @@ pub record IsNetworkOf (row : Members) (n : Network) : Type 0 where
   pub spanning : n.spanning ≡ spanning_of (text_at row (codes "spanning"))
   pub ageing : n.ageing ≡ number_at row (codes "ageing") 300 1000000
   pub ring : n.ring ≡ number_at row (codes "ring") 64 4096
-  pub steps : n.steps ≡ number_at row (codes "steps") 1000000 1000000
+  pub steps : n.steps ≡ number_at row (codes "steps") 18446744073709551615 18446744073709551615
   pub limits : n.limits ≡ limits_told row
   pub one_clock : has_two_clocks n.limits ≡ false
   pub some_clock : holds_forever n.limits ≡ false

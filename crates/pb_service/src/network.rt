@@ -84,7 +84,7 @@ fn network_of(alloc: Global, row: &Table) -> Result<Network, PlanFault>
         spanning: spanning_of(text_at(row, "spanning")),
         ageing: number_at(row, "ageing", 300, 1_000_000) as u32,
         ring: number_at(row, "ring", 64, 4096) as u16,
-        steps: number_at(row, "steps", 1_000_000, 1_000_000),
+        steps: number_at(row, "steps", u64::MAX, u64::MAX),
         limits,
     })
 }

@@ -17,6 +17,7 @@ use pb_lines::{Found, LineReader};
 use pb_net::{Did, Net, NetFault};
 use pb_print::{CommandFault, MAX_LINE, put_bad, put_record, put_settled};
 use pb_script::{Names, put_done, put_idle, put_no_such, read_line};
+use pb_steps::Tallies;
 use std::alloc::Global;
 use std::io::{Read, Write};
 
@@ -116,14 +117,14 @@ fn put_report(
     alloc: Global,
     out: &mut String,
     plan: &Plan,
-    rec: &Record,
+    tallies: &Tallies,
     settled: Option<bool>,
 ) -> Result<(), Memory>
     requires sound { IsSound plan.now }
-    requires settled { TellsSettled plan.now rec.now settled }
-    ensures { OnOk result ((text : List ℕ) × (string_bytes out.new ≡ string_bytes out.old ++ text) × IsReport plan.now rec.now text) }
+    requires settled { TellsSettled plan.now tallies.now settled }
+    ensures { OnOk result ((text : List ℕ) × (string_bytes out.new ≡ string_bytes out.old ++ text) × IsReport plan.now tallies.now text) }
 {
-    put_record(alloc, out, plan, rec)?;
+    put_record(alloc, out, plan, tallies)?;
     put_settled(out, settled)
 }
 
@@ -142,7 +143,8 @@ fn write_report<W: Write>(
     ensures part { IfErr result (λ e. e ≢ CommandFault.Write → Keeps (W.contents writer.old) (W.contents writer.new)) }
 {
     let mut out = String::new(alloc);
-    put_report(alloc, &mut out, plan, rec, settled)?;
+    let tallies = Tallies::of(alloc, rec)?;
+    put_report(alloc, &mut out, plan, &tallies, settled)?;
     if writer.write_all(out.as_bytes()).is_err() || writer.flush().is_err() {
         return Err(CommandFault::Write);
     }
@@ -163,7 +165,8 @@ fn write_record<W: Write>(
     ensures part { IfErr result (λ e. e ≢ CommandFault.Write → Keeps (W.contents writer.old) (W.contents writer.new)) }
 {
     let mut out = String::new(alloc);
-    put_record(alloc, &mut out, plan, rec)?;
+    let tallies = Tallies::of(alloc, rec)?;
+    put_record(alloc, &mut out, plan, &tallies)?;
     if writer.write_all(out.as_bytes()).is_err() || writer.flush().is_err() {
         return Err(CommandFault::Write);
     }

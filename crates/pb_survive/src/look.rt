@@ -11,9 +11,10 @@ use crate::failure::Failure;
 use crate::outcome::Outcome;
 use crate::view::{View, views};
 use pb_frame::Memory;
-use pb_lan::{Plan, Record, Seq, last_shape};
+use pb_lan::{Plan, Record, Seq, Shape};
 use pb_net::Net;
 use pb_settle::DriveFault;
+use pb_steps::{Tallies, last_shape};
 use std::alloc::Global;
 
 /// The network of a plan, in which nothing was done.
@@ -22,6 +23,15 @@ fn fresh(alloc: Global, plan: &Plan) -> Result<Net, Memory>
     ensures { IfOk result (λ net. net ≡ start_of plan.now) }
 {
     Net::new(alloc, plan.clone()?)
+}
+
+/// The states of all ports after the steps of a record.
+fn shape_of(alloc: Global, plan: &Plan, rec: &Record) -> Result<Shape, Memory>
+    requires { IsSound plan.now }
+    ensures { IfOk result (λ shape. shape ≡ last_shape plan.now rec.now) }
+{
+    let tallies = Tallies::of(alloc, rec)?;
+    last_shape(alloc, plan, &tallies)
 }
 
 /// What is known of services after the steps of a record.
@@ -35,7 +45,7 @@ fn last_views(
     requires { IsSound plan.now }
     ensures { IfOk result (AreViews plan.now (last_shape plan.now rec.now) failure services.now) }
 {
-    let shape = last_shape(alloc, plan, rec)?;
+    let shape = shape_of(alloc, plan, rec)?;
     views(alloc, plan, &shape, failure, services)
 }
 

@@ -15,23 +15,33 @@ use crate::given::put_given;
 use crate::protocol::{put_protocol, put_rest};
 use crate::services::put_services;
 use pb_frame::Memory;
-use pb_lan::{Plan, Record, Spanning, last_shape};
+use pb_lan::{Plan, Record, Shape, Spanning};
 use pb_net::Net;
 use pb_print::{CommandFault, put_forest, write_refusal};
 use pb_service::read_plan;
 use pb_settle::{DriveFault, Rest, settle};
+use pb_steps::{Tallies, last_shape};
 use std::alloc::Global;
 use std::io::Write;
 
 /// The most events that are done besides ticks: more than the places of a plan file take steps.
 const MOST_EVENTS: u64 = 1_000_000_000;
 
+/// The states of all ports after the steps of a record.
+fn shape_of(alloc: Global, plan: &Plan, rec: &Record) -> Result<Shape, Memory>
+    requires { IsSound plan.now }
+    ensures { IfOk result (λ shape. shape ≡ last_shape plan.now rec.now) }
+{
+    let tallies = Tallies::of(alloc, rec)?;
+    last_shape(alloc, plan, &tallies)
+}
+
 /// Puts whether the last shape of a record is a forest for each service behind a text.
 fn put_last_forest(alloc: Global, out: &mut String, plan: &Plan, rec: &Record) -> Result<(), Memory>
     requires { IsSound plan.now }
     ensures { OnOk result ((text : List ℕ) × (string_bytes out.new ≡ string_bytes out.old ++ text) × IsForestText plan.now (last_shape plan.now rec.now) text) }
 {
-    let shape = last_shape(alloc, plan, rec)?;
+    let shape = shape_of(alloc, plan, rec)?;
     put_forest(alloc, out, plan, &shape)
 }
 
@@ -40,7 +50,7 @@ fn put_planned(alloc: Global, out: &mut String, plan: &Plan, rec: &Record) -> Re
     requires { IsSound plan.now }
     ensures { OnOk result ((text : List ℕ) × (string_bytes out.new ≡ string_bytes out.old ++ text) × IsGivenText plan.now (last_shape plan.now rec.now) text) }
 {
-    let shape = last_shape(alloc, plan, rec)?;
+    let shape = shape_of(alloc, plan, rec)?;
     put_given(out, plan, &shape)?;
     put_forest(alloc, out, plan, &shape)?;
     put_services(alloc, out, plan, &shape)

@@ -3,9 +3,8 @@
 use super::draft::{Draft, TWO_BRIDGES};
 use super::made::{plan_of, seq};
 use pb_frame::Memory;
-use pb_lan::{
-    Moved, PortState, Record, Seq, Shape, Spanning, Step, last_shape, plan_is_sound, start_shape,
-};
+use pb_lan::{Moved, PortState, Record, Seq, Shape, Spanning, Step, plan_is_sound, start_shape};
+use pb_steps::{Tallies, last_shape};
 use std::alloc::{AllocError, Global};
 use std::test::Fail;
 
@@ -114,7 +113,7 @@ fn end(
     if !plan_is_sound(&plan) {
         return Ok(false);
     }
-    let shape = last_shape(alloc, &plan, record)?;
+    let shape = last_shape(alloc, &plan, &Tallies::of(alloc, record)?)?;
     Ok(are(&shape, wanted))
 }
 

@@ -13,9 +13,10 @@ use super::records::{Did, Done, Piece, record_of};
 use pb_forest::{forest, is_drained};
 use pb_frame::Memory;
 use pb_lan::{
-    Plan, Record, frames_arrive_exactly_once, last_shape, left, plan_is_sound, planned_states_stay,
-    start_shape, still_frames_are_traced,
+    Plan, frames_arrive_exactly_once, left, plan_is_sound, planned_states_stay, start_shape,
+    still_frames_are_traced,
 };
+use pb_steps::{Tallies, last_shape};
 use std::alloc::Global;
 use std::test::Fail;
 
@@ -23,24 +24,24 @@ use std::test::Fail;
 /// frame is left on its way. Then each frame of the service that was handled under that shape, and
 /// neither refused nor lost, left each other port of its tree as often as it should: a broadcast
 /// once.
-fn arrives(alloc: Global, plan: &Plan, rec: &Record, service: u8) -> Result<bool, Memory>
+fn arrives(alloc: Global, plan: &Plan, counts: &Tallies, service: u8) -> Result<bool, Memory>
     requires { IsSound plan.now }
-    ensures { IfOk result (TellsDelivered plan.now (last_shape plan.now rec.now) rec.now service) }
+    ensures { IfOk result (TellsDelivered plan.now (last_shape plan.now counts.now) counts.now service) }
 {
-    let shape = last_shape(alloc, plan, rec)?;
+    let shape = last_shape(alloc, plan, counts)?;
     let Some(_rooted) = forest(alloc, &shape, plan, service)? else {
         return Ok(false);
     };
     frames_arrive_exactly_once();
-    Ok(is_drained(rec))
+    Ok(is_drained(counts))
 }
 
 /// Whether the active links of the service are a forest at the start, and no customer's frame is left on its
 /// way. Then, where the plan gives the states and no port was set up or down, each frame of the service that was
 /// neither refused nor lost left each other port of its tree as often as it should: no shape is asked about.
-fn all_arrive(alloc: Global, plan: &Plan, rec: &Record, service: u8) -> Result<bool, Memory>
+fn all_arrive(alloc: Global, plan: &Plan, counts: &Tallies, service: u8) -> Result<bool, Memory>
     requires { IsSound plan.now }
-    ensures { IfOk result (TellsAllDelivered plan.now rec.now service) }
+    ensures { IfOk result (TellsAllDelivered plan.now counts.now service) }
 {
     let shape = start_shape(alloc, plan)?;
     let Some(_rooted) = forest(alloc, &shape, plan, service)? else {
@@ -49,7 +50,7 @@ fn all_arrive(alloc: Global, plan: &Plan, rec: &Record, service: u8) -> Result<b
     planned_states_stay();
     still_frames_are_traced();
     frames_arrive_exactly_once();
-    Ok(is_drained(rec))
+    Ok(is_drained(counts))
 }
 
 /// What the law asks can all be met: a broadcast that goes over a link meets it.
@@ -108,13 +109,13 @@ const ROWS: &[(Draft, Done, bool)] = &[
 /// What both benches say, where the plan is sound.
 fn told(alloc: Global, draft: &Draft, done: &Done) -> Result<Option<(bool, bool)>, Memory> {
     let plan = plan_of(alloc, draft)?;
-    let rec = record_of(alloc, done)?;
+    let counts = Tallies::of(alloc, &record_of(alloc, done)?)?;
     if !plan_is_sound(&plan) {
         return Ok(None);
     }
     Ok(Some((
-        arrives(alloc, &plan, &rec, 1)?,
-        all_arrive(alloc, &plan, &rec, 1)?,
+        arrives(alloc, &plan, &counts, 1)?,
+        all_arrive(alloc, &plan, &counts, 1)?,
     )))
 }
 

@@ -3,6 +3,7 @@
 use super::records::{Did, Done, Piece, record_of};
 use pb_forest::is_drained;
 use pb_lan::NoRoom;
+use pb_steps::Tallies;
 use std::test::Fail;
 
 const FRAME: Piece = (0, &[7]);
@@ -61,7 +62,8 @@ const ROWS: &[(Done, bool)] = &[
 #[test]
 fn a_record_tells_whether_a_frame_is_on_its_way(rt: HostRuntime) -> Result<(), Fail> {
     for (number, (done, wanted)) in ROWS.iter().enumerate() {
-        let told = is_drained(&record_of(rt.alloc(), done)?);
+        let counts = Tallies::of(rt.alloc(), &record_of(rt.alloc(), done)?)?;
+        let told = is_drained(&counts);
         assert_eq!(rt; told, *wanted, "row {number}");
     }
     Ok(())

@@ -11,8 +11,9 @@ use super::plans::plan_of;
 use super::rows::{Deed, Row};
 use super::seen::{has_learnt, has_roles, has_taken, left, moved, taken_at};
 use pb_forest::forest;
-use pb_lan::{PortState, Record, Seq, Shape, Step, last_shape, plan_is_sound};
+use pb_lan::{PortState, Record, Seq, Shape, Step, plan_is_sound};
 use pb_net::{Did, Net};
+use pb_steps::{Tallies, last_shape};
 use std::alloc::Global;
 use std::process::Abort;
 use std::test::Fail;
@@ -180,7 +181,7 @@ fn shape_after(rt: &impl Abort, alloc: Global, draft: &Draft, rows: &[Row]) -> R
 fn shape_of(rt: &impl Abort, alloc: Global, draft: &Draft, record: &Record) -> Result<Shape, Fail> {
     let plan = plan_of(alloc, draft)?;
     assert!(rt; plan_is_sound(&plan));
-    Ok(last_shape(alloc, &plan, record)?)
+    Ok(last_shape(alloc, &plan, &Tallies::of(alloc, record)?)?)
 }
 
 /// The active links of each service are a forest.

@@ -152,7 +152,7 @@ fn feeds_two(alloc: Global, kind: Kind) -> Result<bool, Memory> {
     let is_new = place.steps().is_empty() && place.step_count() == 0;
     let is_fed = passes(alloc, &mut place, 0)? && passes(alloc, &mut place, 1)?;
     let is_told = are_shown(alloc, kind, place.steps(), FED)? && place.step_count() == 4;
-    let steps = place.into_steps();
+    let steps = place.into_steps().into_vec();
     Ok(is_new && is_fed && is_told && are_shown(alloc, kind, &steps, FED)?)
 }
 

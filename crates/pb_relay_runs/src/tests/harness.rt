@@ -49,7 +49,7 @@ fn steps_after(
 ) -> Result<Vec<Step>, Fail> {
     let mut bridge = started(rt, alloc, network, number)?;
     let walked = walk(rt, alloc, &mut bridge, rows);
-    let steps = bridge.into_steps();
+    let steps = bridge.into_steps().into_vec();
     walked?;
     Ok(steps)
 }

@@ -5,7 +5,7 @@ use super::frames::Frames;
 use super::gates::Open;
 use super::guests::Habit;
 use super::networks::{LINE, PAIR};
-use super::runs::{LONG, Outer, Setup, ran};
+use super::runs::{LONG, Outer, Setup, ran, ran_counted};
 use super::told::{Outside, Told};
 use pb_lan::Limits;
 use pb_run::{Ended, Last};
@@ -56,6 +56,13 @@ fn drains<R: Abort + Threads + Wait + Clock + Sync>(
     assert!(rt; told.is_drained && told.is_left && are_at_end(&told, row.setup.ports));
     assert_eq!(rt; (told.link, told.polls), (row.link, row.polls));
     assert_eq!(rt; told.steps.iter().copied().max(), Some(row.most));
+    let counted = ran_counted(rt, alloc, &row.setup, &Open)?;
+    assert_eq!(rt;
+        (counted.ended, counted.settled),
+        (Some(Ended::Drained), None)
+    );
+    assert!(rt; counted.is_drained && counted.ports == told.ports);
+    assert_eq!(rt; counted.passed, told.passed);
     Ok(())
 }
 

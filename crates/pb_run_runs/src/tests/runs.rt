@@ -5,12 +5,12 @@ use super::frames::{Frames, script_of};
 use super::guests::{Guest, Habit};
 use super::plans::plan_of;
 use super::streams::{Broken, Stream};
-use super::told::{NOTHING, Told, tell, tell_fault};
+use super::told::{NOTHING, Told, tell, tell_counted, tell_fault};
 use super::watch::Watch;
 use pb_frame::Memory;
 use pb_lan::{Limits, Plan, plan_is_sound};
 use pb_port::{MemoryPort, SocketPort};
-use pb_run::{Gate, Held, run};
+use pb_run::{Gate, Held, run, run_kept};
 use std::alloc::Global;
 use std::sync::atomic::Ordering;
 use std::sync::{Arc, Wait};
@@ -131,10 +131,10 @@ fn told_of<G: Gate, R: Threads + Wait + Clock + Sync>(
     if !plan_is_sound(plan) {
         return Ok(NOTHING);
     }
-    let outcome = run(rt, alloc, plan, ports, gate, setup.limits);
+    let outcome = run_kept(rt, alloc, plan, ports, gate, setup.limits);
     let polls = watch.polls.load(Ordering::SeqCst);
     let told = match outcome {
-        Ok(mut ran) => tell(alloc, &mut ran, setup.left),
+        Ok(kept) => tell(alloc, kept, setup.left),
         Err(mut fault) => tell_fault(alloc, &mut fault),
     }?;
     Ok(Told { polls, ..told })
@@ -170,4 +170,23 @@ pub(super) fn ran<G: Gate, R: Threads + Wait + Clock + Sync>(
 ) -> Result<Told, Memory> {
     let watch = Arc::new(alloc, Watch::new())?;
     ran_under(rt, alloc, setup, gate, &watch)
+}
+
+/// Runs what a setup tells with steps that are only counted, and tells what came of it.
+pub(super) fn ran_counted<G: Gate, R: Threads + Wait + Clock + Sync>(
+    rt: &R,
+    alloc: Global,
+    setup: &Setup,
+    gate: &G,
+) -> Result<Told, Memory> {
+    let watch = Arc::new(alloc, Watch::new())?;
+    let plan = plan_of(alloc, &setup.draft)?;
+    let ports = ports_of(alloc, setup.ports, &watch)?;
+    if !plan_is_sound(&plan) {
+        return Ok(NOTHING);
+    }
+    match run(rt, alloc, &plan, ports, gate, setup.limits) {
+        Ok(ran) => tell_counted(&ran),
+        Err(mut fault) => tell_fault(alloc, &mut fault),
+    }
 }

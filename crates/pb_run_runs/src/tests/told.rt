@@ -6,7 +6,8 @@ use pb_forest::is_drained;
 use pb_frame::{Memory, Seq};
 use pb_lan::{Learnt, NoRoom, Outcome, Place, Reason, Record, Step, entered, left};
 use pb_port::{Polled, Port, Shelf};
-use pb_run::{Ended, Held, Last, Ran, RunCause, RunFault};
+use pb_run::{Ended, Held, KeptRun, Last, Ran, RunCause, RunFault};
+use pb_steps::Tallies;
 use std::alloc::Global;
 use std::collections::VecDeque;
 
@@ -55,6 +56,8 @@ pub(super) struct Told {
     pub(super) steps: [usize; 14],
     /// How many steps of bridges tell of want of memory.
     pub(super) short: usize,
+    /// How many frames entered and left at each of the first customer ports, as they were counted.
+    pub(super) passed: [(u64, u64); 4],
 }
 
 /// Nothing came of it at a customer port.
@@ -83,6 +86,7 @@ pub(super) const NOTHING: Told = Told {
     link: [(0, 0); 2],
     steps: [0; 14],
     short: 0,
+    passed: [(0, 0); 4],
 };
 
 /// Where a place stands among those of four bridges in a line: customer ports, then lanes, then bridges.
@@ -219,11 +223,16 @@ fn is_left(alloc: Global, rec: &Record, wanted: &[Frames]) -> Result<bool, Memor
 }
 
 /// Notes what came of a run at the first customer ports.
-fn tell_outside(alloc: Global, ran: &mut Ran, outside: &mut [Outside; 4]) -> Result<(), Memory> {
+fn tell_outside(
+    alloc: Global,
+    ran: &mut Ran,
+    rec: &Record,
+    outside: &mut [Outside; 4],
+) -> Result<(), Memory> {
     for place in 0..4u8 {
         let last = ran.last.get(usize::from(place)).copied();
         if let Some(port) = ran.ports.get_mut(usize::from(place)) {
-            outside[usize::from(place)] = seen_at(alloc, &ran.rec, place + 1, last, port)?;
+            outside[usize::from(place)] = seen_at(alloc, rec, place + 1, last, port)?;
         }
     }
     Ok(())
@@ -244,16 +253,38 @@ fn tell_steps(rec: &Record, told: &mut Told) {
     told.short = short(bridges);
 }
 
-/// What came of a run that ran. The wanted frames are given by customer port.
-pub(super) fn tell(alloc: Global, ran: &mut Ran, wanted: &[Frames]) -> Result<Told, Memory> {
+/// How many frames entered and left at each of the first customer ports.
+fn passed(counts: &Tallies) -> [(u64, u64); 4] {
+    let mut passed = [(0, 0); 4];
+    for (port, tally) in passed.iter_mut().zip(counts.customers()) {
+        *port = (tally.entered(), tally.left());
+    }
+    passed
+}
+
+/// What came of a run that kept its steps. The wanted frames are given by customer port.
+pub(super) fn tell(alloc: Global, kept: KeptRun, wanted: &[Frames]) -> Result<Told, Memory> {
+    let KeptRun { mut ran, rec } = kept;
     let mut told = NOTHING;
     told.ended = Some(ran.ended);
-    told.is_drained = is_drained(&ran.rec);
+    told.is_drained = is_drained(&Tallies::of(alloc, &rec)?);
     told.ports = ran.ports.len();
     told.settled = ran.settled?;
-    told.is_left = is_left(alloc, &ran.rec, wanted)?;
-    tell_steps(&ran.rec, &mut told);
-    tell_outside(alloc, ran, &mut told.outside)?;
+    told.passed = passed(&ran.counts);
+    told.is_left = is_left(alloc, &rec, wanted)?;
+    tell_steps(&rec, &mut told);
+    tell_outside(alloc, &mut ran, &rec, &mut told.outside)?;
+    Ok(told)
+}
+
+/// What came of a run that only counted its steps.
+pub(super) fn tell_counted(ran: &Ran) -> Result<Told, Memory> {
+    let mut told = NOTHING;
+    told.ended = Some(ran.ended);
+    told.is_drained = is_drained(&ran.counts);
+    told.ports = ran.ports.len();
+    told.settled = ran.settled?;
+    told.passed = passed(&ran.counts);
     Ok(told)
 }
 

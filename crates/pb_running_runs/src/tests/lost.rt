@@ -6,6 +6,7 @@ use bytes::Bytes;
 use pb_frame::{Mac, Memory, Seq, Text};
 use pb_lan::{BridgePlan, Item, NoRoom, Outcome, Plan, PortSet, Record, Refusals, Spanning, Step};
 use pb_running::lost_of;
+use pb_steps::Tallies;
 use std::alloc::Global;
 use std::test::Fail;
 
@@ -88,7 +89,8 @@ fn told(
     settled: Result<Option<bool>, Memory>,
 ) -> Result<String, Memory> {
     let plan = alone(alloc)?;
-    lost_of(alloc, &plan, &[], &refused(alloc, times)?, &settled)
+    let counts = Tallies::of(alloc, &refused(alloc, times)?)?;
+    lost_of(alloc, &plan, &[], &counts, &settled)
 }
 
 #[test]

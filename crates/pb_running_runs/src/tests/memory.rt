@@ -3,9 +3,10 @@
 ghost use Rattle.std.specs.Prelude.{◌≡◌, []};
 
 use pb_frame::{Memory, Seq};
-use pb_lan::{Plan, Record, Spanning, plan_is_sound};
+use pb_lan::{Plan, Spanning, plan_is_sound};
 use pb_run::{Ended, Ran};
 use pb_running::write_report;
+use pb_steps::Tallies;
 use std::alloc::Global;
 
 /// The plan of no places.
@@ -24,13 +25,9 @@ fn nothing(alloc: Global) -> Plan
     }
 }
 
-/// The record of no places.
-fn no_steps(alloc: Global) -> Record {
-    Record {
-        bridges: Seq::from_vec(Vec::new(alloc)),
-        lanes: Seq::from_vec(Vec::new(alloc)),
-        customers: Seq::from_vec(Vec::new(alloc)),
-    }
+/// What is counted of no places.
+fn no_steps(alloc: Global) -> Tallies {
+    Tallies::new(Vec::new(alloc), Vec::new(alloc), Vec::new(alloc))
 }
 
 #[test]
@@ -39,7 +36,7 @@ fn want_of_memory_is_told_last(rt: HostRuntime) {
     let plan = nothing(alloc);
     assert!(rt; plan_is_sound(&plan));
     let ran = Ran {
-        rec: no_steps(alloc),
+        counts: no_steps(alloc),
         ports: Vec::new(alloc),
         last: Vec::new(alloc),
         ended: Ended::NoMemory,

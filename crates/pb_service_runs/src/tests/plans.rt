@@ -34,7 +34,7 @@ fn has_defaults(plan: &Plan) -> bool {
     plan.spanning == Spanning::Fixed
         && plan.ageing == 300
         && plan.ring == 64
-        && plan.steps == 1_000_000
+        && plan.steps == u64::MAX
 }
 
 #[test]

@@ -7,6 +7,7 @@ use pb_lan::{
     Seq, Spanning, Step, Text,
 };
 use pb_losses::put_losses;
+use pb_steps::Tallies;
 use std::alloc::Global;
 use std::test::Fail;
 
@@ -280,7 +281,7 @@ fn told(alloc: Global, bridges: &[&[Did]]) -> Result<String, Memory> {
     let plan = plan_of(alloc)?;
     let record = record_of(alloc, bridges)?;
     let mut out = String::from_str(alloc, "before\n")?;
-    put_losses(&mut out, &plan, &record)?;
+    put_losses(&mut out, &plan, &Tallies::of(alloc, &record)?)?;
     Ok(out)
 }
 

@@ -2,5 +2,5 @@ use Rattle.std.proofs.Common.{◌≡◌, ◌≤◌, ◌*◌, ◌^◌, take}
 use Rattle.pb_forest.specs.Draining.{losses}
 use Rattle.pb_forest.proofs.drained.losses.Given as goal
 
-abbrev pub invariant-loop-steps : goal.invariant-loop-steps
-invariant-loop-steps l = (l.sum ≡ losses (take l.steps-index l.places)) × (l.sum ≤ 16 * 2 ^ 64 * l.steps-index)
+abbrev pub invariant-loop-tally : goal.invariant-loop-tally
+invariant-loop-tally l = (l.sum ≡ losses (take l.tally-index l.places)) × (l.sum ≤ 16 * 2 ^ 64 * l.tally-index)

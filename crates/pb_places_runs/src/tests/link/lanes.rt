@@ -132,7 +132,7 @@ fn steps_of_three(alloc: Global, kind: Kind) -> Result<Vec<Step>, Memory> {
         take(alloc, &mut lane, number)?;
         put(&mut lane)?;
     }
-    Ok(lane.into_steps())
+    Ok(lane.into_steps().into_vec())
 }
 
 /// Whether the step at a place takes the item of a number, and loses it or not.

@@ -17,8 +17,8 @@ loop-customer-init g c =
       apart = customers_apart c.args.plan.now c.requires.sound;
     }
 
-pub access_of-requires : goal.access_of-requires
-access_of-requires g c =
+pub access_of-requires-clause-outer : goal.access_of-requires-clause-outer
+access_of-requires-clause-outer g c =
     let customers = c.as_slice-customers.result.now in
     let at = rw c.as_slice-customers.ensures at (here_is customers c.loop-customer.customer-index c.customer-item.result c.loop-customer-test.true c.customer-item.is) in
     this_customer c.args.plan.now.customers c.loop-customer.customer-index c.customer-item.result at (HasOuter c.loop-customer.ends.outlets.items c.loop-customer.ends.inlets.items)

@@ -1,4 +1,4 @@
-use Rattle.std.proofs.Common.{◌∙◌, List, ap, refl, rules}
+use Rattle.std.proofs.Common.{◌∙◌, [], ◌∷◌, List, length, ap, refl, rules, arith, length-append}
 use Rattle.std.specs.List.{list_any}
 use Rattle.pb_lan.specs.Laws.{is_setting}
 use Rattle.pb_lan.specs.declared.step.Step.{Step}
@@ -12,9 +12,13 @@ pub loop-worker-preserved : goal.loop-worker-preserved
 loop-worker-preserved g c =
     let X : Type 0 = BridgeWorker g.row.W.Denot g.W.Wiring in
     let i = c.loop-worker.invariant in
+    let lists = c.push.ensures.lists in
     record {
-      steps = mapped_more _ c.loop-worker.yielded c.in-Some.worker c.loop-worker.lists.items c.push_reserved.new.self.items c.from_vec.result i.steps c.push_reserved.ensures.items (c.from_vec.ensures ∙ c.into_steps.ensures.steps c.in-Some.worker.kept);
+      steps = mapped_more _ c.loop-worker.yielded c.in-Some.worker c.loop-worker.room.tallies.items c.push.new.self.tallies.items c.into_steps.result.steps i.steps c.push.ensures.tallies c.into_steps.ensures.steps;
       lawful = all_more (λ (x : X). IsLawfulBridge spanning_tree x.bridge.plan x.bridge.number x.bridge.steps) c.in-Some.worker c.loop-worker.yielded _ refl i.lawful c.into_steps.ensures.lawful;
-      unset = unset_more c.loop-worker.lists.items c.push_reserved.new.self.items c.from_vec.result i.unset c.push_reserved.ensures.items (ap (λ (steps : List Step). list_any is_setting steps) (c.from_vec.ensures ∙ c.into_steps.ensures.steps c.in-Some.worker.kept) ∙ c.in-Some.worker.unset);
+      unset = unset_more c.loop-worker.room.tallies.items c.push.new.self.tallies.items c.into_steps.result.steps i.unset c.push.ensures.tallies (ap (λ (steps : List Step). list_any is_setting steps) c.into_steps.ensures.steps ∙ c.in-Some.worker.unset);
+      kept = λ keeps. mapped_more _ c.loop-worker.yielded c.in-Some.worker c.loop-worker.room.lists.items c.push.new.self.lists.items lists.0 (i.kept keeps) lists.1 (lists.2 (c.into_steps.ensures.kept ∙ c.in-Some.worker.kept keeps) ∙ c.into_steps.ensures.steps);
+      count = omega (arith, i.count, ap length lists.1, length-append c.loop-worker.room.lists.items (lists.0 ∷ []), length-append c.loop-worker.yielded (c.in-Some.worker ∷ []));
+      lists_room = search rules;
       room = search rules;
     }

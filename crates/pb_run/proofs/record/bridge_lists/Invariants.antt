@@ -1,4 +1,4 @@
-use Rattle.std.proofs.Common.{◌≡◌, ◌≤◌, All, false, map, vec_len, vec_capacity}
+use Rattle.std.proofs.Common.{◌≡◌, ◌≤◌, All, true, false, length, map, vec_len, vec_capacity}
 use Rattle.std.specs.List.{AllByRecursion, list_any}
 use Rattle.pb_lan.specs.BridgeLists.{IsLawfulBridge}
 use Rattle.pb_lan.specs.Laws.{is_setting}
@@ -7,8 +7,11 @@ use Rattle.pb_run.proofs.record.bridge_lists.Given as goal
 
 abbrev pub invariant-loop-worker : goal.invariant-loop-worker
 invariant-loop-worker g l = record {
-  steps : l.lists.items ≡ map (λ b. b.bridge.steps) l.yielded;
+  steps : l.room.tallies.items ≡ map (λ b. b.bridge.steps) l.yielded;
   lawful : All (λ b. IsLawfulBridge spanning_tree b.bridge.plan b.bridge.number b.bridge.steps) l.yielded;
-  unset : AllByRecursion (λ steps. list_any is_setting steps ≡ false) l.lists.items;
-  room : vec_len l.fn.workers ≤ vec_capacity l.lists;
+  unset : AllByRecursion (λ steps. list_any is_setting steps ≡ false) l.room.tallies.items;
+  kept : g.W.Wiring.keeps ≡ true → l.room.lists.items ≡ map (λ b. b.bridge.steps) l.yielded;
+  count : length l.room.lists.items ≡ length l.yielded;
+  lists_room : vec_len l.fn.workers ≤ vec_capacity l.room.lists;
+  room : vec_len l.fn.workers ≤ vec_capacity l.room.tallies;
 }

@@ -1,4 +1,4 @@
-use Rattle.std.proofs.Common.{◌∙◌, List, All, subst, rules, arith}
+use Rattle.std.proofs.Common.{◌∙◌, [], ◌∷◌, List, All, length, ap, subst, rules, arith, length-append}
 use Rattle.pb_lan.specs.LaneLists.{IsLawfulLane}
 use Rattle.pb_run.specs.declared.lane.LaneWorker.{LaneWorker}
 use Rattle.pb_run.proofs.Lists.{all_front, mapped_more}
@@ -8,14 +8,18 @@ pub loop-worker-preserved : goal.loop-worker-preserved
 loop-worker-preserved g c =
     let X : Type 0 = LaneWorker g.row.W.Denot g.W.Wiring in
     let i = c.loop-worker.invariant in
+    let lists = c.push.ensures.lists in
     record {
-      steps = mapped_more _ c.loop-worker.yielded c.in-Some.worker c.loop-worker.lists.items c.push_reserved.new.self.items c.from_vec.result i.steps c.push_reserved.ensures.items (c.from_vec.ensures ∙ c.into_steps.ensures.steps c.in-Some.worker.kept);
+      steps = mapped_more _ c.loop-worker.yielded c.in-Some.worker c.loop-worker.room.tallies.items c.push.new.self.tallies.items c.into_steps.result.steps i.steps c.push.ensures.tallies c.into_steps.ensures.steps;
       lawful = λ rest. i.lawful (all_front (λ (x : X). IsLawfulLane x.lane.losses x.lane.steps) c.in-Some.worker _ _ c.in-Some.ensures.steps.0 c.into_steps.ensures.lawful rest);
+      kept = λ keeps. mapped_more _ c.loop-worker.yielded c.in-Some.worker c.loop-worker.room.lists.items c.push.new.self.lists.items lists.0 (i.kept keeps) lists.1 (lists.2 (c.into_steps.ensures.kept ∙ c.in-Some.worker.kept keeps) ∙ c.into_steps.ensures.steps);
+      count = omega (arith, i.count, ap length lists.1, length-append c.loop-worker.room.lists.items (lists.0 ∷ []), length-append c.loop-worker.yielded (c.in-Some.worker ∷ []));
+      lists_room = search rules;
       room = search rules;
     }
 
 pub loop-worker-init : goal.loop-worker-init
-loop-worker-init g c = record { steps = search rules; lawful = λ all. all; room = search rules }
+loop-worker-init g c = record { steps = search rules; lawful = λ all. all; kept = λ keeps. search rules; count = search rules; lists_room = search rules; room = search rules }
 
 pub returns-clause-lawful : goal.returns-clause-lawful
 returns-clause-lawful g c =

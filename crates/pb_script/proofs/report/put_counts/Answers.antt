@@ -14,7 +14,7 @@ seen n = (n.0.now, n.1)
 pub returns : goal.returns
 returns c =
     let plan = c.args.plan.now in
-    let rec = c.args.rec.now in
+    let rec = c.args.tallies.now in
     let old = string_bytes c.args.out.now in
     let ports = map seen c.sort.new.names.items in
     let links = map seen c.sort-2.new.names.items in

@@ -8,7 +8,7 @@ use Rattle.pb_net_runs.proofs.tests.bench.all_arrive.Goals as goal
 pub returns : goal.returns
 returns c told fixed unset rules mark entry lawful unhindered =
     let plan = c.args.plan.now in
-    let rec = c.args.rec.now in
+    let rec = c.args.counts.now in
     let shows = rw c.in-Some.is at c.in_ok-_rooted.ensures in
     let forest : IsForest plan (start_shape plan) (vid_numbered plan c.args.service) =
     (c.in-Some._rooted, subst (λ s. Shows plan s (vid_numbered plan c.args.service) c.in-Some._rooted) c.in_ok-shape.ensures shows) in

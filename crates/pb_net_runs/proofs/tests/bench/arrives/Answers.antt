@@ -8,7 +8,7 @@ use Rattle.pb_net_runs.proofs.tests.bench.arrives.Goals as goal
 pub returns : goal.returns
 returns c told rules mark entry lawful carried =
     let plan = c.args.plan.now in
-    let rec = c.args.rec.now in
+    let rec = c.args.counts.now in
     let shape = last_shape plan rec in
     let shows = rw c.in-Some.is at c.in_ok-_rooted.ensures in
     let forest : IsForest plan shape (vid_numbered plan c.args.service) =

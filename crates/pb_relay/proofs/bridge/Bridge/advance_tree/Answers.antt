@@ -17,7 +17,7 @@ use Rattle.pb_relay.proofs.CauseLemmas.{spanning_moves, is_fixed}
 use Rattle.pb_relay.proofs.StandingLemmas.{capacity-small, now_few}
 use Rattle.pb_relay.proofs.TableLemmas.{table_expired}
 use Rattle.pb_relay.proofs.Grown.{used_up, bridge_of}
-use Rattle.pb_lan.specs.StepLists.{StepsView, with_step as steps_with}
+use Rattle.pb_steps.specs.StepLists.{StepsView, with_step as steps_with}
 use Rattle.pb_relay.proofs.bridge.Bridge.advance_tree.Goals as goal
 
 pub unreachable-requires : goal.unreachable-requires

@@ -22,7 +22,7 @@ use Rattle.pb_relay.proofs.ReceiveLemmas.{relayed}
 use Rattle.pb_relay.proofs.StandingLemmas.{capacity-small}
 use Rattle.pb_relay.specs.Machines.{IsSpanning}
 use Rattle.pb_relay.proofs.CauseLemmas.{spanning_stays}
-use Rattle.pb_lan.specs.StepLists.{StepsView}
+use Rattle.pb_steps.specs.StepLists.{StepsView}
 use Rattle.pb_relay.proofs.Grown.{used_up, seen, back, bridge_of}
 use Rattle.pb_relay.proofs.bridge.Bridge.carry.Goals as goal
 

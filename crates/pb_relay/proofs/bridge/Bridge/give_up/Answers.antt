@@ -9,7 +9,7 @@ use Rattle.pb_relay.specs.Protocol.{spanning_tree}
 use Rattle.pb_relay.proofs.StandingLemmas.{after_quiet}
 use Rattle.pb_relay.specs.Machines.{IsSpanning}
 use Rattle.pb_relay.proofs.CauseLemmas.{spanning_stays}
-use Rattle.pb_lan.specs.StepLists.{StepsView}
+use Rattle.pb_steps.specs.StepLists.{StepsView}
 use Rattle.pb_relay.proofs.Grown.{used_up}
 use Rattle.pb_relay.proofs.bridge.Bridge.give_up.Goals as goal
 

@@ -14,7 +14,7 @@ use Rattle.pb_relay.proofs.FollowLemmas.{of_ports, followed_names, after_followe
 use Rattle.pb_relay.proofs.CauseLemmas.{spanning_moves, is_fixed, stays_none}
 use Rattle.pb_relay.proofs.StandingLemmas.{capacity-small}
 use Rattle.pb_relay.proofs.Grown.{used_up, seen, back}
-use Rattle.pb_lan.specs.StepLists.{StepsView, with_step as steps_with, given_back}
+use Rattle.pb_steps.specs.StepLists.{StepsView, with_step as steps_with, given_back}
 use Rattle.pb_relay.proofs.bridge.Bridge.hear.Goals as goal
 
 pub returns-in_default-hear : goal.returns-in_default-hear

@@ -14,7 +14,7 @@ use Rattle.pb_relay.specs.Tables.{HasLearnt}
 use Rattle.pb_relay.proofs.ReceiveLemmas.{learnt_alone}
 use Rattle.pb_relay.specs.Machines.{IsSpanning}
 use Rattle.pb_relay.proofs.CauseLemmas.{spanning_stays}
-use Rattle.pb_lan.specs.StepLists.{StepsView}
+use Rattle.pb_steps.specs.StepLists.{StepsView}
 use Rattle.pb_relay.proofs.Grown.{used_up, seen, back}
 use Rattle.pb_relay.proofs.bridge.Bridge.learn_only.Goals as goal
 

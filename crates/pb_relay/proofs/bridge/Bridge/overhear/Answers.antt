@@ -12,7 +12,7 @@ use Rattle.pb_relay.proofs.HearingLemmas.{overheard_fits, after_overheard}
 use Rattle.pb_relay.specs.Machines.{IsSpanning}
 use Rattle.pb_relay.proofs.CauseLemmas.{spanning_fixed}
 use Rattle.pb_lan.specs.declared.plan.Spanning.TheVariants.{Fixed}
-use Rattle.pb_lan.specs.StepLists.{StepsView}
+use Rattle.pb_steps.specs.StepLists.{StepsView}
 use Rattle.pb_relay.proofs.Grown.{used_up}
 use Rattle.pb_relay.proofs.bridge.Bridge.overhear.Goals as goal
 

@@ -8,7 +8,7 @@ use Rattle.pb_relay.specs.Standing.{BridgeView}
 use Rattle.pb_relay.proofs.StandingLemmas.{used_port, next_read, number_read, none_waits, transmitted}
 use Rattle.pb_relay.specs.Machines.{IsSpanning}
 use Rattle.pb_relay.proofs.CauseLemmas.{spanning_stays}
-use Rattle.pb_lan.specs.StepLists.{StepsView}
+use Rattle.pb_steps.specs.StepLists.{StepsView}
 use Rattle.pb_relay.proofs.Grown.{used_up}
 use Rattle.pb_relay.proofs.bridge.Bridge.pop_out.Goals as goal
 

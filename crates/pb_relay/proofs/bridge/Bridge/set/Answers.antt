@@ -19,7 +19,7 @@ use Rattle.pb_relay.proofs.LoadLemmas.{kept_here}
 use Rattle.pb_relay.specs.Machines.{IsSpanning}
 use Rattle.pb_relay.proofs.CauseLemmas.{spanning_fixed}
 use Rattle.pb_lan.specs.declared.plan.Spanning.TheVariants.{Fixed}
-use Rattle.pb_lan.specs.StepLists.{StepsView}
+use Rattle.pb_steps.specs.StepLists.{StepsView}
 use Rattle.pb_relay.proofs.Grown.{used_up, seen}
 use Rattle.pb_relay.proofs.bridge.Bridge.set.Goals as goal
 

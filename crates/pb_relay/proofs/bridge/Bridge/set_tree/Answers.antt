@@ -12,7 +12,7 @@ use Rattle.pb_relay.specs.Tables.{IsTableOf}
 use Rattle.pb_relay.proofs.FollowLemmas.{of_ports, followed_names, after_followed, table_all_flushed}
 use Rattle.pb_relay.proofs.CauseLemmas.{spanning_moves, is_fixed}
 use Rattle.pb_relay.proofs.StandingLemmas.{capacity-small}
-use Rattle.pb_lan.specs.StepLists.{StepsView}
+use Rattle.pb_steps.specs.StepLists.{StepsView}
 use Rattle.pb_relay.proofs.Grown.{used_up, seen}
 use Rattle.pb_relay.proofs.bridge.Bridge.set_tree.Goals as goal
 

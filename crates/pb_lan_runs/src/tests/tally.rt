@@ -1,0 +1,165 @@
+//! What is counted of steps, where each is kept and where none is.
+
+use bytes::Bytes;
+use pb_lan::{
+    Item, Learnt, Moved, NoRoom, Outcome, PortSet, PortState, Reason, Refusals, Seq, Step,
+};
+use pb_steps::{CauseCounts, Steps, Tally};
+use std::alloc::{AllocError, Global};
+use std::process::Abort;
+use std::test::Fail;
+
+/// A step, of which the tests name what is counted.
+#[derive(Clone, Copy)]
+enum Did {
+    Poll,
+    Feed,
+    Deliver { gone: bool },
+    Take { lost: bool },
+    /// Relayed to the ports 2 and 4, of which the last had no room.
+    Relay,
+    /// Filtered at a port, and its source not learnt.
+    Filter(u8),
+    /// The clock went on: a port came to a state, and a BPDU found no room at port 1.
+    Tick(u8, PortState),
+}
+
+/// A frame of a bridge's own.
+fn item() -> Item {
+    Item {
+        mark: None,
+        hops: 0,
+        wire: Bytes::from_static(b"sixteen octets.."),
+    }
+}
+
+/// What changed at a port.
+fn moved(alloc: Global, port: u8, state: PortState) -> Result<Moved, AllocError> {
+    let states = Seq::from_vec(Vec::from_slice(alloc, &[(port, state)])?);
+    let dropped = Seq::from_vec(Vec::from_slice(alloc, &[(1, NoRoom::Memory)])?);
+    Ok(Moved {
+        states,
+        flushed: Seq::from_vec(Vec::new(alloc)),
+        queued: Seq::from_vec(Vec::new(alloc)),
+        dropped,
+    })
+}
+
+/// What a received frame was relayed to.
+fn relayed() -> Outcome {
+    let chosen = PortSet::from_slice(&[2, 4]).unwrap_or(PortSet::new());
+    let refused = Refusals::from_slice(&[(4, NoRoom::Full)]).unwrap_or(Refusals::new());
+    Outcome::Relayed { chosen, refused }
+}
+
+/// A received frame.
+fn received(port: u8, learnt: Option<Learnt>, outcome: Outcome) -> Step {
+    Step::Receive {
+        port,
+        item: item(),
+        learnt,
+        outcome,
+        moved: None,
+    }
+}
+
+fn step(alloc: Global, did: Did) -> Result<Step, AllocError> {
+    Ok(match did {
+        Did::Poll => Step::Poll { item: item() },
+        Did::Feed => Step::Feed { item: item() },
+        Did::Deliver { gone } => Step::Deliver { item: item(), gone },
+        Did::Take { lost } => Step::Take {
+            number: 0,
+            item: item(),
+            lost,
+        },
+        Did::Relay => received(3, None, relayed()),
+        Did::Filter(port) => received(
+            port,
+            Some(Learnt::Full),
+            Outcome::Filtered(Reason::NotMember),
+        ),
+        Did::Tick(port, state) => Step::Tick {
+            now: 1,
+            moved: moved(alloc, port, state)?,
+        },
+    })
+}
+
+/// Steps of all kinds. No place takes all of these; a tally counts whatever it is given.
+const DONE: &[Did] = &[
+    Did::Poll,
+    Did::Feed,
+    Did::Poll,
+    Did::Deliver { gone: false },
+    Did::Deliver { gone: true },
+    Did::Take { lost: false },
+    Did::Take { lost: true },
+    Did::Take { lost: false },
+    Did::Relay,
+    Did::Filter(16),
+    Did::Filter(5),
+    Did::Filter(16),
+    Did::Tick(2, PortState::Learning),
+    Did::Tick(2, PortState::Forwarding),
+];
+
+/// Takes these steps.
+fn take(alloc: Global, steps: &mut Steps) -> Result<usize, Fail> {
+    let mut given = 0usize;
+    for did in DONE {
+        steps.reserve()?;
+        if steps.has_room() {
+            let back = steps.append(step(alloc, *did)?);
+            given = given.saturating_add(usize::from(back.is_some()));
+        }
+    }
+    Ok(given)
+}
+
+/// No counts, and counts by cause.
+const NONE: CauseCounts = CauseCounts { full: 0, memory: 0 };
+
+const fn causes(full: u128, memory: u128) -> CauseCounts {
+    CauseCounts { full, memory }
+}
+
+/// The steps are counted.
+fn are_counted(rt: &impl Abort, tally: &Tally) {
+    assert_eq!(rt; tally.len(), 14);
+    assert_eq!(rt; (tally.entered(), tally.left(), tally.gone()), (2, 1, 1));
+    assert_eq!(rt; (tally.taken(), tally.lost()), (3, 1));
+    assert_eq!(rt;
+        (tally.filtered(16), tally.filtered(5), tally.filtered(3)),
+        (2, 1, 0)
+    );
+    assert_eq!(rt; tally.newest_state(2), Some(PortState::Forwarding));
+    assert_eq!(rt; tally.newest_state(1), None);
+    assert_eq!(rt; (tally.gained(), tally.parted()), (0, 0));
+    assert_eq!(rt; tally.copies_not_queued(4), causes(1, 0));
+    assert_eq!(rt; tally.copies_not_queued(2), NONE);
+    assert_eq!(rt; tally.bpdus_not_queued(1), causes(0, 2));
+    assert_eq!(rt; tally.sources_not_learnt(), causes(3, 0));
+}
+
+#[test]
+fn steps_that_are_kept_are_counted(rt: HostRuntime) -> Result<(), Fail> {
+    let mut steps = Steps::kept(rt.alloc());
+    assert_eq!(rt; take(rt.alloc(), &mut steps)?, 0);
+    are_counted(&rt, steps.tally());
+    are_counted(&rt, &Tally::of(steps.as_slice()));
+    assert_eq!(rt; (steps.len(), steps.are_kept()), (14, true));
+    assert_eq!(rt; steps.into_vec().len(), 14);
+    Ok(())
+}
+
+#[test]
+fn steps_that_are_only_counted_are_given_back(rt: HostRuntime) -> Result<(), Fail> {
+    let mut steps = Steps::counted(rt.alloc());
+    assert_eq!(rt; take(rt.alloc(), &mut steps)?, DONE.len());
+    assert_eq!(rt; steps.as_slice().len(), 0);
+    let (tally, kept) = steps.into_parts();
+    are_counted(&rt, &tally);
+    assert_eq!(rt; kept.len(), 0);
+    Ok(())
+}

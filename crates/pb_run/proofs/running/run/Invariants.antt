@@ -1,6 +1,0 @@
-use Rattle.std.proofs.Common.{map}
-use Rattle.pb_ring.specs.Rings.{writer_name}
-use Rattle.pb_run.proofs.running.run.Given as goal
-
-abbrev pub ghosts-run_wired : goal.ghosts-run_wired
-ghosts-run_wired g a = record { rings = map (λ r. writer_name r.0) a.rings.items }
