@@ -75,6 +75,12 @@ done
 grep -v '^link ' out/clock.all >out/clock.report
 is_same out/clock.report examples/clock.report
 
+# A link fails once there is a tree, and the bridges find the other way before frames enter.
+./pbnet run --strict examples/failover-run.toml >out/failover-run.all 2>out/failover-run.errors || status=1
+grep -v '^link ' out/failover-run.all >out/failover-run.report
+is_same out/failover-run.report examples/failover-run.report
+is_same out/failover-run.errors /dev/null
+
 # A plan of one bridge, whose ports are rows of NAME KIND KEYS..
 plan() {
     local number=0 row
@@ -161,7 +167,7 @@ EOF
     told=0
     ./pbnet run --strict --progress --seconds 2 out/still.toml >out/still.report 2>out/still.errors || told=$?
     wait
-    if [ "$told" != 4 ] || [ "$(head -n 1 out/still.report)" != "ended stopped" ] || ! grep -q '^0 frames entered, 0 left$' out/still.errors; then
+    if [ "$told" != 4 ] || [ "$(head -n 1 out/still.report)" != "ended stopped" ] || ! grep -q '^0 frames entered, 0 left, 0 copies refused, tick 0$' out/still.errors; then
         echo "examples: a run was not stopped after 2 seconds with status 4: $told, $(cat out/still.report out/still.errors)" >&2
         status=1
     fi

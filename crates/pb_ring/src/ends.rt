@@ -10,18 +10,22 @@ use pb_lan::Item;
 use rtrb::{Consumer, Producer};
 use std::marker::{Brand, PhantomData};
 
-/// The rings of a run, by number, and whether the places between them keep their steps. Who makes the rings picks
-/// both.
+/// The rings of a run, by number, whether the places between them keep their steps, and whether ports may be set up and
+/// down meanwhile. Who makes the rings picks all three.
 pub trait Wiring {
     ghost rings: { List (RingName Global) };
 
     ghost keeps: { Bool };
+
+    ghost sets: { Bool };
 }
 
 impl Wiring for Brand {
     ghost rings = { [] };
 
     ghost keeps = { false };
+
+    ghost sets = { false };
 }
 
 /// The end of a ring through which items are sent.

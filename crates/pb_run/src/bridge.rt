@@ -1,6 +1,6 @@
 //! The worker of a bridge.
 
-ghost use Rattle.std.specs.Prelude.{◌≡◌, ◌<◌, ◌≤◌, ◌+◌, ◌-◌, ℕ, [], true, false, IfOk, length, map, vec_len, slice_index_or};
+ghost use Rattle.std.specs.Prelude.{◌≡◌, ◌<◌, ◌≤◌, ◌+◌, ◌-◌, ℕ, [], true, false, IfOk, OnErr, length, map, vec_len, slice_index_or};
 ghost use Rattle.std.specs.List.{list_any};
 ghost use Rattle.rtrb.specs.Ring.{sent, received as received_over};
 ghost use Rattle.pb_frame.specs.Lists.{IsBeginning};
@@ -10,19 +10,21 @@ ghost use Rattle.pb_lan.specs.PortLists.{fed, delivered};
 ghost use Rattle.pb_lan.specs.Ports.{port_at, is_used};
 ghost use Rattle.pb_lan.specs.Plans.{IsSound, IsNumber};
 ghost use Rattle.pb_lan.specs.Records.{received, transmitted};
+ghost use Rattle.pb_relay.specs.Changes.{HasSet};
 ghost use Rattle.pb_relay.specs.Standing.{at_start};
 ghost use Rattle.pb_ring.specs.Rings.{shown_at};
 ghost use Rattle.pb_run.specs.Bridges.{AreUsed};
 
 use crate::access::Access;
 use crate::lane::LaneWorker;
+use crate::mode::Mode;
 use crate::refusal::{Refusal, Taken, turn};
 use crate::used::used_ports;
 use pb_frame::Memory;
 use pb_lan::{Outcome, Place, Plan};
 use pb_relay::{Bridge, BridgeFault};
 use pb_ring::{Inlets, Outlets, Wiring};
-use pb_work::{Did, Finish, Moment, Turn, Work};
+use pb_work::{Did, Finish, Moment, Turn, Wish, Work};
 use std::alloc::Global;
 use std::collections::LinkedList;
 
@@ -44,11 +46,14 @@ pub struct BridgeWorker<W: Wiring> {
     pub finish: Option<Finish>,
     /// Where the next look at the ports begins.
     pub(crate) next: usize,
+    /// Whether it fulfils wishes.
+    pub(crate) sets: bool,
     pub ghost used: { AreUsed bridge.plan bridge.number (vec_len ins.ends) ports.items },
     pub ghost sides: { vec_len outs.ends ≡ vec_len ins.ends },
     pub ghost took: { (q : ℕ) → shown_at (λ i. received_over i.end) ins.ends.items q ≡ received (q + 1) bridge.steps },
     pub ghost gave: { (q : ℕ) → shown_at (λ o. sent o.end) outs.ends.items q ≡ transmitted (q + 1) bridge.steps },
-    pub ghost unset: { list_any is_setting bridge.steps ≡ false },
+    pub ghost wishes: { sets ≡ true → W.sets ≡ true },
+    pub ghost unset: { W.sets ≡ false → list_any is_setting bridge.steps ≡ false },
     pub ghost kept: { W.keeps ≡ true → bridge.is_kept ≡ true },
 }
 
@@ -74,21 +79,45 @@ fn new_bridge(alloc: Global, plan: &Plan, number: u8, keeps: bool) -> Result<Bri
     }
 }
 
-/// How many copies of a frame were queued.
-fn copies_of(outcome: &Outcome) -> u64 {
+/// How many copies of a frame were queued, and how many found no room.
+struct Copies {
+    queued: u64,
+    refused: u64,
+}
+
+/// How many copies there are of a frame of which this became.
+fn copies_of(outcome: &Outcome) -> Copies {
     match outcome {
         Outcome::Relayed { chosen, refused } => {
             let (chosen, refused) = (chosen.list(), refused.list());
-            let copies = chosen.as_slice().len();
-            copies.saturating_sub(refused.as_slice().len()) as u64
+            let (chosen, refused) = (chosen.as_slice().len(), refused.as_slice().len());
+            Copies {
+                queued: chosen.saturating_sub(refused) as u64,
+                refused: refused as u64,
+            }
         }
-        _ => 0,
+        _ => Copies {
+            queued: 0,
+            refused: 0,
+        },
+    }
+}
+
+/// The turn in which a frame was received, of which this became. One that is marked is to be done with.
+fn received(is_marked: bool, outcome: &Outcome) -> Turn {
+    let Copies { queued, refused } = copies_of(outcome);
+    Turn {
+        did: Did::Done,
+        more: if is_marked { queued } else { 0 },
+        fewer: u64::from(is_marked),
+        refused,
     }
 }
 
 impl<W: Wiring> BridgeWorker<W> {
     /// The worker of the bridge of this number, which has taken no step, over rings that nothing has
-    /// passed. It serves the local ports that the plan uses and that have rings, and keeps its steps or only counts them.
+    /// passed. It serves the local ports that the plan uses and that have rings. By its mode it keeps its steps or only
+    /// counts them, and fulfils wishes or not.
     ///
     /// `Memory` is answered where there was none for the bridge or for the list of its ports.
     pub fn new(
@@ -97,20 +126,21 @@ impl<W: Wiring> BridgeWorker<W> {
         number: u8,
         ins: Inlets<W>,
         outs: Outlets<W>,
-        keeps: bool,
+        mode: Mode,
     ) -> Result<BridgeWorker<W>, Memory>
-        requires kept { W.keeps ≡ true → keeps ≡ true }
+        requires kept { W.keeps ≡ true → mode.keeps ≡ true }
+        requires set { mode.sets ≡ true → W.sets ≡ true }
         requires sound { IsSound plan.now }
         requires bridge { IsNumber number (length plan.now.bridges) }
         requires sides { vec_len outs.ends ≡ vec_len ins.ends }
         requires received { (q : ℕ) → shown_at (λ i. received_over i.end) ins.ends.items q ≡ [] }
         requires sent { (q : ℕ) → shown_at (λ o. sent o.end) outs.ends.items q ≡ [] }
         ensures number { IfOk result (λ worker. worker.number ≡ number) }
-        ensures bridge { IfOk result (λ worker. worker.bridge ≡ at_start plan.now number keeps) }
+        ensures bridge { IfOk result (λ worker. worker.bridge ≡ at_start plan.now number mode.keeps) }
         ensures rings { IfOk result (λ worker. (worker.ins ≡ ins) × (worker.outs ≡ outs)) }
     {
         let ports = used_ports(alloc, plan, number, ins.ends.len())?;
-        let bridge = new_bridge(alloc, plan, number, keeps)?;
+        let bridge = new_bridge(alloc, plan, number, mode.keeps)?;
         Ok(BridgeWorker {
             number,
             bridge,
@@ -119,6 +149,7 @@ impl<W: Wiring> BridgeWorker<W> {
             ports,
             finish: None,
             next: 0,
+            sets: mode.sets,
         })
     }
 
@@ -168,10 +199,7 @@ impl<W: Wiring> BridgeWorker<W> {
         let Ok(outcome) = self.bridge.receive(port, item) else {
             unreachable!();
         };
-        if is_marked {
-            return turn(Ok(true), copies_of(&outcome), 1);
-        }
-        turn(Ok(true), 0, 0)
+        received(is_marked, &outcome)
     }
 
     /// The clock ticks.
@@ -182,6 +210,24 @@ impl<W: Wiring> BridgeWorker<W> {
         ensures rings { (self.new.ins ≡ self.old.ins) × (self.new.outs ≡ self.old.outs) }
     {
         self.bridge.tick()?;
+        Ok(true)
+    }
+
+    /// Sets a port to another bridge up or down, where the worker fulfils wishes and the bridge has such a port. Else nothing
+    /// has changed.
+    fn set(&mut self, wish: Wish) -> Taken
+        ensures done { IfOk result (λ has_set. has_set ≡ true → HasSet self.old.bridge wish.port wish.up self.new.bridge) }
+        ensures left { IfOk result (λ has_set. has_set ≡ false → self.new.bridge ≡ self.old.bridge) }
+        ensures err { OnErr result (self.new.bridge ≡ self.old.bridge) }
+        ensures number { self.new.number ≡ self.old.number }
+        ensures bridge { (self.new.bridge.plan ≡ self.old.bridge.plan) × (self.new.bridge.number ≡ self.old.bridge.number) }
+        ensures ports { self.new.ports ≡ self.old.ports }
+        ensures rings { (self.new.ins ≡ self.old.ins) × (self.new.outs ≡ self.old.outs) }
+    {
+        if !self.sets || !self.bridge.has_link(wish.port) {
+            return Ok(false);
+        }
+        self.bridge.admin(wish.port, wish.up)?;
         Ok(true)
     }
 
@@ -296,6 +342,10 @@ impl<W: Wiring> Work for BridgeWorker<W> {
             return turn(ticked, 0, 0);
         }
         looked
+    }
+
+    fn fulfil(&mut self, wish: Wish) -> Turn {
+        turn(self.set(wish), 0, 0)
     }
 
     fn close(&mut self, _moment: Moment, finish: Finish) {

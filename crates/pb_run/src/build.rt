@@ -14,6 +14,7 @@ ghost use Rattle.pb_run.specs.Wires.{ring_into, ring_out, AreNew, AreNamed, HasI
 use crate::access::{Access, Last};
 use crate::bridge::BridgeWorker;
 use crate::lane::LaneWorker;
+use crate::mode::Mode;
 use crate::wires::{Ends, Ring};
 use pb_frame::{Memory, Seq};
 use pb_lan::{CustomerPlan, Plan};
@@ -61,9 +62,10 @@ fn bridge_worker<W: Wiring>(
     plan: &Plan,
     ends: &mut Ends<W>,
     number: u8,
-    keeps: bool,
+    mode: Mode,
 ) -> Result<BridgeWorker<W>, Memory>
-    requires kept { W.keeps ≡ true → keeps ≡ true }
+    requires kept { W.keeps ≡ true → mode.keeps ≡ true }
+    requires set { mode.sets ≡ true → W.sets ≡ true }
     requires sound { IsSound plan.now }
     requires bridge { IsNumber number (length plan.now.bridges) }
     requires there { (port : ℕ) → IsNumber port 16 → HasInner ends.old.outlets.items ends.old.inlets.items (number, port) }
@@ -72,7 +74,7 @@ fn bridge_worker<W: Wiring>(
     ensures outer { IfOk result (λ worker. (at : ℕ × ℕ) → HasOuter ends.old.outlets.items ends.old.inlets.items at → HasOuter ends.new.outlets.items ends.new.inlets.items at) }
 {
     let (ins, outs) = sides_of(alloc, ends, number)?;
-    BridgeWorker::new(alloc, plan, number, ins, outs, keeps)
+    BridgeWorker::new(alloc, plan, number, ins, outs, mode)
 }
 
 /// The workers of a plan's bridges.
@@ -80,9 +82,10 @@ fn bridge_workers<W: Wiring>(
     alloc: Global,
     plan: &Plan,
     ends: &mut Ends<W>,
-    keeps: bool,
+    mode: Mode,
 ) -> Result<Vec<BridgeWorker<W>>, Memory>
-    requires kept { W.keeps ≡ true → keeps ≡ true }
+    requires kept { W.keeps ≡ true → mode.keeps ≡ true }
+    requires set { mode.sets ≡ true → W.sets ≡ true }
     requires sound { IsSound plan.now }
     requires there { (at : ℕ × ℕ) → IsNumber at.0 (length plan.now.bridges) → IsNumber at.1 16 → HasInner ends.old.outlets.items ends.old.inlets.items at }
     ensures gifts { IfOk result (λ workers. AreBridges plan.now (length plan.now.bridges) (map ⟦<BridgeWorker<W> as Work>⟧.given workers.items)) }
@@ -90,7 +93,7 @@ fn bridge_workers<W: Wiring>(
 {
     let mut workers = Vec::with_capacity(alloc, plan.bridges.len())?;
     for place in 0..plan.bridges.len() {
-        workers.push(bridge_worker(alloc, plan, ends, place as u8 + 1, keeps)?)?;
+        workers.push(bridge_worker(alloc, plan, ends, place as u8 + 1, mode)?)?;
     }
     Ok(workers)
 }
@@ -206,16 +209,17 @@ fn accesses_of<W: Wiring>(
     Ok(accesses)
 }
 
-/// The places of a plan, none of which has taken a step, joined by rings that nothing has passed. They keep their
-/// steps or only count them.
+/// The places of a plan, none of which has taken a step, joined by rings that nothing has passed. By the mode they keep
+/// their steps or only count them, and bridges fulfil wishes or not.
 /// `Memory` is answered where there was none for them.
 pub(crate) fn places_of<W: Wiring>(
     alloc: Global,
     plan: &Plan,
     rings: Vec<Ring>,
-    keeps: bool,
+    mode: Mode,
 ) -> Result<Built<W>, Memory>
-    requires kept { W.keeps ≡ true → keeps ≡ true }
+    requires kept { W.keeps ≡ true → mode.keeps ≡ true }
+    requires set { mode.sets ≡ true → W.sets ≡ true }
     requires sound { IsSound plan.now }
     requires new { AreNew rings.items }
     requires named { AreNamed W.rings rings.items }
@@ -226,8 +230,8 @@ pub(crate) fn places_of<W: Wiring>(
     ensures bridges { IfOk result (λ built. AreBridges plan.now (length plan.now.bridges) (map ⟦<BridgeWorker<W> as Work>⟧.given built.2.items)) }
 {
     let mut ends = Ends::<W>::of(alloc, rings)?;
-    let bridges = bridge_workers(alloc, plan, &mut ends, keeps)?;
-    let lanes = lane_workers(alloc, plan, &mut ends, keeps)?;
-    let accesses = accesses_of(alloc, plan, &mut ends, keeps)?;
+    let bridges = bridge_workers(alloc, plan, &mut ends, mode)?;
+    let lanes = lane_workers(alloc, plan, &mut ends, mode.keeps)?;
+    let accesses = accesses_of(alloc, plan, &mut ends, mode.keeps)?;
     Ok((accesses, lanes, bridges))
 }

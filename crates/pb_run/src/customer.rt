@@ -137,6 +137,7 @@ impl<W: Wiring, P: Port> CustomerWorker<W, P> {
                 did: Did::Done,
                 more: 0,
                 fewer: 1,
+                refused: 0,
             };
         }
         turn(polled, 1, 0)

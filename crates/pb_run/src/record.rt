@@ -61,7 +61,7 @@ pub(crate) fn bridge_lists<W: Wiring>(workers: Vec<BridgeWorker<W>>, mut room: G
     ensures steps { result.tallies.items ≡ map (λ b. b.bridge.steps) workers.items }
     ensures kept { W.keeps ≡ true → result.lists.items ≡ map (λ b. b.bridge.steps) workers.items }
     ensures lawful { All (λ b. IsLawfulBridge spanning_tree b.bridge.plan b.bridge.number b.bridge.steps) workers.items }
-    ensures unset { AllByRecursion (λ steps. list_any is_setting steps ≡ false) result.tallies.items }
+    ensures unset { W.sets ≡ false → AllByRecursion (λ steps. list_any is_setting steps ≡ false) result.tallies.items }
 {
     for worker in workers {
         let BridgeWorker {
@@ -72,6 +72,7 @@ pub(crate) fn bridge_lists<W: Wiring>(workers: Vec<BridgeWorker<W>>, mut room: G
             ports: _,
             finish: _,
             next: _,
+            sets: _,
         } = worker;
         room.push(bridge.into_steps());
     }

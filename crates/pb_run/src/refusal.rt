@@ -35,11 +35,12 @@ pub(crate) fn did(taken: Taken) -> Did {
 pub(crate) fn turn(taken: Taken, more: u64, fewer: u64) -> Turn {
     let did = did(taken);
     if did == Did::Done {
-        return Turn { did, more, fewer };
+        return Turn {
+            did,
+            more,
+            fewer,
+            refused: 0,
+        };
     }
-    Turn {
-        did,
-        more: 0,
-        fewer: 0,
-    }
+    Turn { did, ..Turn::IDLE }
 }

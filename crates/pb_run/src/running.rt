@@ -1,7 +1,7 @@
 //! A run of a whole plan.
 
-ghost use Rattle.std.specs.Prelude.{◌≡◌, ◌↔◌, ◌≤◌, ◌*◌, [], true, IfOk, IfErr, All, length, map, vec_len, vec_capacity};
-ghost use Rattle.pb_lan.specs.Laws.{AreTracedFromStart};
+ghost use Rattle.std.specs.Prelude.{◌≡◌, ◌↔◌, ◌≤◌, ◌*◌, [], true, false, IfOk, IfErr, All, length, map, vec_len, vec_capacity};
+ghost use Rattle.pb_lan.specs.Laws.{AreTracedFromStart, NoPortIsSet};
 ghost use Rattle.pb_lan.specs.Plans.{IsSound};
 ghost use Rattle.pb_lan.specs.Records.{IsLawfulRecord};
 ghost use Rattle.pb_lan.specs.declared.plan.Spanning.TheVariants.{Fixed};
@@ -21,6 +21,7 @@ use crate::ended::{Causes, Ended, ended_by, has_drained};
 use crate::fault::{RunCause, RunFault, cause_of};
 use crate::lane::LaneWorker;
 use crate::meet::{meet_accesses, meet_links};
+use crate::mode::Mode;
 use crate::outside::{Apart, Held, apart, attended};
 use crate::record::{Gathered, access_lists, bridge_lists, lane_lists};
 use crate::settled::whether_settled;
@@ -158,7 +159,8 @@ fn told_of<W: Wiring>(
     requires rooms { HasPlaceRooms plan.now rooms }
     ensures lawful { IsLawfulRecord spanning_tree plan.now result.counts }
     ensures headline { IsFaithful plan.now result.counts }
-    ensures planned { plan.now.spanning ≡ Fixed → AreTracedFromStart plan.now result.counts }
+    ensures planned { plan.now.spanning ≡ Fixed → NoPortIsSet result.counts → AreTracedFromStart plan.now result.counts }
+    ensures unset { W.sets ≡ false → NoPortIsSet result.counts }
     ensures customers { result.counts.customers ≡ map (λ d. d.place.steps) accesses.items }
     ensures bridges { result.counts.bridges ≡ map (λ b. b.bridge.steps) bridges.items }
     ensures kept { W.keeps ≡ true → result.rec ≡ result.counts }
@@ -202,7 +204,8 @@ fn run_built<W: Wiring + Send, G: Gate, R: Threads + Wait + Clock + Sync>(
     requires places { HasPlaceRooms plan.now rooms.2 }
     ensures lawful { IfOk result (λ kept. IsLawfulRecord spanning_tree plan.now kept.ran.counts) }
     ensures headline { IfOk result (λ kept. IsFaithful plan.now kept.ran.counts) }
-    ensures planned { IfOk result (λ kept. plan.now.spanning ≡ Fixed → AreTracedFromStart plan.now kept.ran.counts) }
+    ensures planned { IfOk result (λ kept. plan.now.spanning ≡ Fixed → NoPortIsSet kept.ran.counts → AreTracedFromStart plan.now kept.ran.counts) }
+    ensures unset { IfOk result (λ kept. W.sets ≡ false → NoPortIsSet kept.ran.counts) }
     ensures ports { IfOk result (λ kept. ArePortsKept (record { scripts = map (λ b. script b) ports.items; tallies = map (λ b. tally b) ports.items })
         (record { scripts = map (λ b. script b) kept.ran.ports.items; tallies = map (λ b. tally b) kept.ran.ports.items }) kept.ran.counts.customers kept.ran.last.items) }
     ensures ended { IfOk result (λ kept. TellsEnded plan.now kept.ran.counts kept.ran.last.items kept.ran.ended) }
@@ -247,9 +250,10 @@ fn run_wired<W: Wiring + Send, G: Gate, R: Threads + Wait + Clock + Sync>(
     rings: Vec<Ring>,
     gate: &G,
     limits: Limits,
-    keeps: bool,
+    mode: Mode,
 ) -> Result<KeptRun, RunFault>
-    requires kept { W.keeps ≡ true → keeps ≡ true }
+    requires kept { W.keeps ≡ true → mode.keeps ≡ true }
+    requires set { mode.sets ≡ true → W.sets ≡ true }
     requires sound { IsSound plan.now }
     requires count { vec_len ports ≡ length plan.now.customers }
     requires new { AreNew rings.items }
@@ -257,7 +261,8 @@ fn run_wired<W: Wiring + Send, G: Gate, R: Threads + Wait + Clock + Sync>(
     requires rings { vec_len rings ≡ 32 * length plan.now.bridges }
     ensures lawful { IfOk result (λ kept. IsLawfulRecord spanning_tree plan.now kept.ran.counts) }
     ensures headline { IfOk result (λ kept. IsFaithful plan.now kept.ran.counts) }
-    ensures planned { IfOk result (λ kept. plan.now.spanning ≡ Fixed → AreTracedFromStart plan.now kept.ran.counts) }
+    ensures planned { IfOk result (λ kept. plan.now.spanning ≡ Fixed → NoPortIsSet kept.ran.counts → AreTracedFromStart plan.now kept.ran.counts) }
+    ensures unset { IfOk result (λ kept. W.sets ≡ false → NoPortIsSet kept.ran.counts) }
     ensures ports { IfOk result (λ kept. ArePortsKept (record { scripts = map (λ b. script b) ports.items; tallies = map (λ b. tally b) ports.items })
         (record { scripts = map (λ b. script b) kept.ran.ports.items; tallies = map (λ b. tally b) kept.ran.ports.items }) kept.ran.counts.customers kept.ran.last.items) }
     ensures ended { IfOk result (λ kept. TellsEnded plan.now kept.ran.counts kept.ran.last.items kept.ran.ended) }
@@ -267,7 +272,7 @@ fn run_wired<W: Wiring + Send, G: Gate, R: Threads + Wait + Clock + Sync>(
     ensures unpolled { IfErr result (λ fault. fault.ports.items ≡ ports.items) }
 {
     let (Ok(built), Ok(rooms)) = (
-        places_of::<W>(alloc, plan, rings, keeps),
+        places_of::<W>(alloc, plan, rings, mode),
         rooms_of::<W>(alloc, plan),
     ) else {
         let cause = RunCause::Memory;
@@ -276,7 +281,7 @@ fn run_wired<W: Wiring + Send, G: Gate, R: Threads + Wait + Clock + Sync>(
     run_built(rt, alloc, plan, ports, built, rooms, gate, limits)
 }
 
-/// Runs a plan, whose places keep their steps or only count them.
+/// Runs a plan, whose places work in this mode.
 fn run_places<G: Gate, R: Threads + Wait + Clock + Sync>(
     rt: &R,
     alloc: Global,
@@ -284,12 +289,13 @@ fn run_places<G: Gate, R: Threads + Wait + Clock + Sync>(
     ports: Vec<Held>,
     gate: &G,
     limits: Limits,
-    keeps: bool,
+    mode: Mode,
 ) -> Result<KeptRun, RunFault>
     requires { IsSound plan.now }
     ensures lawful { IfOk result (λ kept. IsLawfulRecord spanning_tree plan.now kept.ran.counts) }
     ensures headline { IfOk result (λ kept. IsFaithful plan.now kept.ran.counts) }
-    ensures planned { IfOk result (λ kept. plan.now.spanning ≡ Fixed → AreTracedFromStart plan.now kept.ran.counts) }
+    ensures planned { IfOk result (λ kept. plan.now.spanning ≡ Fixed → NoPortIsSet kept.ran.counts → AreTracedFromStart plan.now kept.ran.counts) }
+    ensures unset { IfOk result (λ kept. mode.sets ≡ false → NoPortIsSet kept.ran.counts) }
     ensures ports { IfOk result (λ kept. ArePortsKept (record { scripts = map (λ b. script b) ports.items; tallies = map (λ b. tally b) ports.items })
         (record { scripts = map (λ b. script b) kept.ran.ports.items; tallies = map (λ b. tally b) kept.ran.ports.items }) kept.ran.counts.customers kept.ran.last.items) }
     ensures ended { IfOk result (λ kept. TellsEnded plan.now kept.ran.counts kept.ran.last.items kept.ran.ended) }
@@ -297,7 +303,7 @@ fn run_places<G: Gate, R: Threads + Wait + Clock + Sync>(
     ensures count { IfOk result (λ kept. vec_len ports ≡ length plan.now.customers) }
     ensures fault { IfErr result (λ fault. (fault.cause ≡ RunCause.PortCount) ↔ (vec_len ports ≡ length plan.now.customers → ⊥)) }
     ensures unpolled { IfErr result (λ fault. fault.ports.items ≡ ports.items) }
-    ensures rec { IfOk result (λ kept. keeps ≡ true → kept.rec ≡ kept.ran.counts) }
+    ensures rec { IfOk result (λ kept. mode.keeps ≡ true → kept.rec ≡ kept.ran.counts) }
 {
     if ports.len() != plan.customers.len() {
         let cause = RunCause::PortCount;
@@ -307,11 +313,12 @@ fn run_places<G: Gate, R: Threads + Wait + Clock + Sync>(
         let cause = RunCause::Memory;
         return Err(RunFault { cause, ports });
     };
-    run_wired::<Brand, G, R>(rt, alloc, plan, ports, rings, gate, limits, keeps)
+    run_wired::<Brand, G, R>(rt, alloc, plan, ports, rings, gate, limits, mode)
 }
 
 /// Runs a sound plan: one worker for each bridge, lane and customer port, in threads of their own, with rings
-/// between them. No worker takes a step before all are started. A bridge ticks once every so many turns.
+/// between them. No worker takes a step before all are started. A bridge ticks once every so many turns. No wish of the gate
+/// is fulfilled: see [`run_set`].
 ///
 /// Steps are only counted, so that the memory of a run does not grow with them. Contracts see the record of what all
 /// places did. It is lawful, so that the laws hold of it, whatever the schedule was: each
@@ -351,7 +358,39 @@ pub fn run<G: Gate, R: Threads + Wait + Clock + Sync>(
     ensures fault { IfErr result (λ fault. (fault.cause ≡ RunCause.PortCount) ↔ (vec_len ports ≡ length plan.now.customers → ⊥)) }
     ensures unpolled { IfErr result (λ fault. fault.ports.items ≡ ports.items) }
 {
-    let KeptRun { ran, rec: _ } = run_places(rt, alloc, plan, ports, gate, limits, false)?;
+    let mode = Mode::COUNTED;
+    let KeptRun { ran, rec: _ } = run_places(rt, alloc, plan, ports, gate, limits, mode)?;
+    Ok(ran)
+}
+
+/// Runs a sound plan as [`run`] does, and bridges set their ports to other bridges up and down meanwhile, as the gate
+/// wishes. A wish for any other port does nothing. Each such setting is a step of its bridge like any other, so that the
+/// record is lawful all the same, and all that follows from that holds.
+///
+/// Where the plan gives the states of the ports, and none was set, each frame of a service for which the start is a forest
+/// was handled under that forest.
+pub fn run_set<G: Gate, R: Threads + Wait + Clock + Sync>(
+    rt: &R,
+    alloc: Global,
+    plan: &Plan,
+    ports: Vec<Held>,
+    gate: &G,
+    limits: Limits,
+) -> Result<Ran, RunFault>
+    requires { IsSound plan.now }
+    ensures lawful { IfOk result (λ ran. IsLawfulRecord spanning_tree plan.now ran.counts) }
+    ensures headline { IfOk result (λ ran. IsFaithful plan.now ran.counts) }
+    ensures planned { IfOk result (λ ran. plan.now.spanning ≡ Fixed → NoPortIsSet ran.counts → AreTracedFromStart plan.now ran.counts) }
+    ensures ports { IfOk result (λ ran. ArePortsKept (record { scripts = map (λ b. script b) ports.items; tallies = map (λ b. tally b) ports.items })
+        (record { scripts = map (λ b. script b) ran.ports.items; tallies = map (λ b. tally b) ran.ports.items }) ran.counts.customers ran.last.items) }
+    ensures ended { IfOk result (λ ran. TellsEnded plan.now ran.counts ran.last.items ran.ended) }
+    ensures settled { IfOk result (λ ran. IfOk ran.settled (TellsSettled plan.now ran.counts)) }
+    ensures count { IfOk result (λ ran. vec_len ports ≡ length plan.now.customers) }
+    ensures fault { IfErr result (λ fault. (fault.cause ≡ RunCause.PortCount) ↔ (vec_len ports ≡ length plan.now.customers → ⊥)) }
+    ensures unpolled { IfErr result (λ fault. fault.ports.items ≡ ports.items) }
+{
+    let mode = Mode::SET;
+    let KeptRun { ran, rec: _ } = run_places(rt, alloc, plan, ports, gate, limits, mode)?;
     Ok(ran)
 }
 
@@ -378,5 +417,6 @@ pub fn run_kept<G: Gate, R: Threads + Wait + Clock + Sync>(
     ensures fault { IfErr result (λ fault. (fault.cause ≡ RunCause.PortCount) ↔ (vec_len ports ≡ length plan.now.customers → ⊥)) }
     ensures unpolled { IfErr result (λ fault. fault.ports.items ≡ ports.items) }
 {
-    run_places(rt, alloc, plan, ports, gate, limits, true)
+    let mode = Mode::KEPT;
+    run_places(rt, alloc, plan, ports, gate, limits, mode)
 }

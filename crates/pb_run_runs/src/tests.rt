@@ -18,3 +18,4 @@ mod stops;
 mod streams;
 mod told;
 mod watch;
+mod wishes;

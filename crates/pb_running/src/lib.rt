@@ -21,11 +21,11 @@ mod watched;
 
 pub use deed::Deed;
 pub use lost::lost_of;
-pub use network::{Watch, run_network};
+pub use network::run_network;
 pub use network_fault::NetworkFault;
 pub use open_fault::{OpenFault, PathFault, SharedFile, Verb};
 pub use opened::{Opened, open_all};
 pub use openings::Openings;
+pub use pb_steering::{Traffic, Watch};
 pub use report::write_report;
 pub use strictness::Strictness;
-pub use watched::Traffic;

@@ -19,12 +19,13 @@ use crate::network_fault::NetworkFault;
 use crate::outside::{Outside, SystemPort, open_ports};
 use crate::report::write_report;
 use crate::strictness::{Strictness, exit_status};
-use crate::watched::{Traffic, Watched};
+use crate::watched::Watched;
 use pb_frame::Memory;
 use pb_lan::{Limits, Plan};
 use pb_print::write_refusal;
-use pb_run::{Gate, Held, Ran, run};
-use pb_service::{PlanFault, PortSpec, read_limits, read_plan};
+use pb_run::{Held, Ran, run_set};
+use pb_service::{PlanFault, PlanFile, read_plan_file};
+use pb_steering::{Steering, Traffic, Watch};
 use pb_steps::Tallies;
 use std::alloc::Global;
 use std::fs::{File, Files};
@@ -36,34 +37,6 @@ use std::time::Clock;
 
 /// The exit status where the plan is refused.
 const REFUSED: u8 = 1;
-
-/// A gate that is told when its run is over.
-pub trait Watch: Gate {
-    /// The run is over, and no worker comes any more. Nothing was printed yet of what came of it.
-    fn close(&self);
-}
-
-/// What a plan file tells.
-struct Network {
-    plan: Plan,
-    ports: Vec<PortSpec>,
-    limits: Limits,
-}
-
-/// What a plan file tells: the network, its limits and its ports.
-fn read_network(alloc: Global, file: &[u8]) -> Result<Network, PlanFault>
-    ensures told { IfOk result (λ n. Tells file.now (λ document. IsPlanOf document n.plan n.ports.items)) }
-    ensures sound { IfOk result (λ n. IsSound n.plan) }
-    ensures err { IfErr result (RefusesFile file.now) }
-{
-    let (plan, ports) = read_plan(alloc, file)?;
-    let limits = read_limits(alloc, file)?;
-    Ok(Network {
-        plan,
-        ports,
-        limits,
-    })
-}
 
 /// Writes which rule a plan file breaks, and answers the exit status. `Write` is answered where a write failed,
 /// `Memory` where memory for the text ran out, and then nothing was written. No other fault comes.
@@ -103,6 +76,16 @@ fn show<E: Write>(text: &str, errors: &mut E) {
     if !text.is_empty() {
         let _ = errors.write_all(text.as_bytes());
         let _ = errors.flush();
+    }
+}
+
+/// Tells how many events of the plan have not come, where there are some: the run was over before.
+fn show_left<E: Write>(alloc: Global, left: u64, errors: &mut E) {
+    if left == 0 {
+        return;
+    }
+    if let Ok(text) = format!(in alloc; "{left} events have not come\n") {
+        show(text.as_str(), errors);
     }
 }
 
@@ -167,7 +150,7 @@ where
         let port: Held = Box::new(alloc, port)?;
         held.push(port)?;
     }
-    match run(rt, alloc, plan, held, gate, limits) {
+    match run_set(rt, alloc, plan, held, gate, limits) {
         Ok(ran) => {
             gate.close();
             complete_all(alloc, plan.customers.as_slice(), files, errors);
@@ -183,8 +166,10 @@ where
 
 /// Runs the network of a plan file, whose ports lead to the files and sockets that it names, each bridge, each
 /// direction of a link and each customer port in a thread of its own, within the limits of the file, and
-/// reports on the run as [`write_report`] does. The exit status is answered. The frames that enter and leave
-/// are counted in `traffic` meanwhile, and each worker passes the gate before each of its turns. What
+/// reports on the run as [`write_report`] does. The exit status is answered. The frames that enter and leave, the copies that
+/// find no room and the ticks are counted in `traffic` meanwhile, and each worker passes the gate before each of its turns.
+/// Ports between bridges are set up and down as the file's events say: each when the clock of its bridge has ticked so often,
+/// if the run goes on till then, and `errors` is told how many events have not come. What
 /// [`lost_of`] tells goes to `errors`, behind the report; a strict run that has something of it to tell, or that did not
 /// end drained, has the status 4 in place of 0.
 ///
@@ -218,19 +203,23 @@ where
     ensures due { IfErr result (ComesOf file.now) }
     ensures none { IfErr result (λ e. e ≢ NetworkFault.Write → Keeps (W.contents writer.old) (W.contents writer.new)) }
 {
-    match read_network(alloc, file) {
+    match read_plan_file(alloc, file) {
         Ok(
-            Network {
+            PlanFile {
                 plan,
                 ports,
                 limits,
+                events,
             },
         ) => {
+            let steering = Steering::new(alloc, gate, traffic, events, plan.bridges.len())?;
             let Outside { ports, files } = open_ports(rt, alloc, &plan, ports, traffic, errors)?;
             let files = files.as_slice();
-            run_ports(
-                rt, alloc, &plan, ports, files, limits, strictness, gate, writer, errors,
-            )
+            let ran = run_ports(
+                rt, alloc, &plan, ports, files, limits, strictness, &steering, writer, errors,
+            );
+            show_left(alloc, steering.left(), errors);
+            ran
         }
         Err(fault) => refuse(alloc, &fault, writer),
     }

@@ -5,6 +5,7 @@ ghost use Rattle.pb_running.specs.Faults.{of_cause, of_command};
 ghost use Rattle.pb_running.specs.declared.network_fault.NetworkFault.TheVariants.{Memory as memory_fault, Path as path_fault};
 
 use crate::open_fault::OpenFault;
+use pb_frame::Memory;
 use pb_print::CommandFault;
 use pb_run::RunCause;
 use std::alloc::{AllocError, AllocFailed};
@@ -62,6 +63,14 @@ impl From<OpenFault> for NetworkFault {
             OpenFault::Memory => NetworkFault::Memory,
             _ => NetworkFault::Path,
         }
+    }
+}
+
+impl From<Memory> for NetworkFault {
+    ghost from_gives = { λ _ e. e ≡ memory_fault };
+
+    fn from(_memory: Memory) -> NetworkFault {
+        NetworkFault::Memory
     }
 }
 

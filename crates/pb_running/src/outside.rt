@@ -11,13 +11,14 @@ use crate::network_fault::NetworkFault;
 use crate::opened::{Opened, open_all};
 use crate::system::{Output, System};
 use crate::telling::write_open_fault;
-use crate::watched::{Traffic, Watched};
+use crate::watched::Watched;
 use bytes::Bytes;
 use mio::net::UnixStream;
 use pb_frame::Seq;
 use pb_lan::Plan;
 use pb_port::{CapturePort, MemoryPort, Over, SocketPort};
 use pb_service::PortSpec;
+use pb_steering::Traffic;
 use std::alloc::{AllocError, Global};
 use std::collections::VecDeque;
 use std::fs::{File, Files};
@@ -98,6 +99,11 @@ fn capacity_of(plan: &Plan, place: usize) -> u16
     plan.customers.as_slice()[place].queue
 }
 
+/// The number of the customer port at a place, from 0.
+fn number_at(place: usize) -> u8 {
+    place.min(254) as u8 + 1
+}
+
 /// The ports of a plan, of what each has open. Their frames are counted, and the files that some write are put behind
 /// others.
 fn ports_of(
@@ -118,7 +124,11 @@ fn ports_of(
         let capacity = capacity_of(plan, place);
         let port = port_of(alloc, capacity, place, port, files)?;
         let traffic = Arc::try_clone(traffic)?;
-        ports.push(Watched { port, traffic })?;
+        ports.push(Watched {
+            port,
+            number: number_at(place),
+            traffic,
+        })?;
     }
     Ok(ports)
 }

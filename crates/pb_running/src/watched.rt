@@ -2,43 +2,17 @@
 
 use bytes::Bytes;
 use pb_port::{Offered, Polled, Port, Pumped, Shelf};
+use pb_steering::Traffic;
 use std::alloc::Global;
 use std::collections::VecDeque;
 use std::sync::Arc;
-use std::sync::atomic::{AtomicU64, Ordering};
-
-/// How many frames have entered a network, and how many have left it, while it runs. Workers count them, and
-/// whoever else looks may see them a moment later; the report of a run counts anew.
-#[derive(Drop)]
-pub struct Traffic {
-    entered: AtomicU64,
-    left: AtomicU64,
-}
-
-impl Traffic {
-    /// None so far.
-    pub fn new() -> Traffic {
-        Traffic {
-            entered: AtomicU64::new(0),
-            left: AtomicU64::new(0),
-        }
-    }
-
-    /// How many frames have entered so far.
-    pub fn entered(&self) -> u64 {
-        self.entered.load(Ordering::SeqCst)
-    }
-
-    /// How many frames have left so far.
-    pub fn left(&self) -> u64 {
-        self.left.load(Ordering::SeqCst)
-    }
-}
 
 /// A port that counts the frames that it gives and takes, and is else the port that it has inside.
 #[derive(Drop)]
 pub(crate) struct Watched<P: Port> {
     pub port: P,
+    /// Its number in the plan, from 1.
+    pub number: u8,
     pub traffic: Arc<Traffic, Global>,
 }
 
@@ -62,7 +36,7 @@ impl<P: Port> Port for Watched<P> {
     fn poll(&mut self) -> Polled {
         let polled = self.port.poll();
         if matches!(&polled, Polled::Frame(_)) {
-            self.traffic.entered.fetch_add(1, Ordering::SeqCst);
+            self.traffic.enter(self.number);
         }
         polled
     }
@@ -70,7 +44,7 @@ impl<P: Port> Port for Watched<P> {
     fn offer(&mut self, f: &Bytes) -> Offered {
         let offered = self.port.offer(f);
         if offered == Offered::Taken {
-            self.traffic.left.fetch_add(1, Ordering::SeqCst);
+            self.traffic.leave(self.number);
         }
         offered
     }

@@ -103,7 +103,7 @@ where
     R: Files<File = File> + Net + Threads + Wait + Clock + Sync,
 {
     let file = joined(alloc, parts)?;
-    let traffic = Arc::new(alloc, Traffic::new())?;
+    let traffic = Arc::new(alloc, Traffic::new(alloc)?)?;
     let door = Door {
         closed: AtomicU64::new(0),
     };

@@ -19,7 +19,11 @@ const SECONDS: &str =
 
 /// What `--progress` does.
 const PROGRESS: &str =
-    "Tells on standard error once a second how many frames have entered and left, on a terminal or not";
+    "Tells on standard error once a second how far the run is, on a terminal or not";
+
+/// What `--control` does.
+const CONTROL: &str =
+    "Makes a Unix socket at PATH, on which one peer at a time asks for counts, sets ports between bridges up and down, and stops the run";
 
 /// What `--strict` does.
 const STRICT: &str =
@@ -32,8 +36,10 @@ pub struct RunOrder {
     pub path: String,
     /// After how many seconds the run is to be stopped, 1 to 1,000,000,000. None: it isn't.
     pub seconds: Option<u32>,
-    /// How many frames have entered and left is told once a second, whether standard error is a terminal or not.
+    /// How far the run is is told once a second, whether standard error is a terminal or not.
     pub progress: bool,
+    /// Where the control socket is made. None: there is none.
+    pub control: Option<String>,
     /// A run that lost a frame has an exit status of its own.
     pub strict: bool,
 }
@@ -56,11 +62,21 @@ fn seconds<'a>(alloc: Global) -> Arg<'a> {
         .value_parser(clap::value_parser!(u32).range(1..=1_000_000_000))
 }
 
+/// The argument that tells where the control socket is made.
+fn control<'a>(alloc: Global) -> Arg<'a> {
+    Arg::new(alloc, "control")
+        .long("control")
+        .value_name("PATH")
+        .help(CONTROL)
+        .action(ArgAction::Set)
+}
+
 /// The command `run`, but for its plan file.
 pub(crate) fn run_command<'a>(alloc: Global) -> Result<Command<'a>, Error> {
     let command = Command::new(alloc, "run").about(RUN);
     let command = command.arg(seconds(alloc))?;
     let command = command.arg(flag(alloc, "progress", PROGRESS))?;
+    let command = command.arg(control(alloc))?;
     Ok(command.arg(flag(alloc, "strict", STRICT))?)
 }
 
@@ -73,6 +89,14 @@ fn seconds_of(given: &ArgMatches<'_>) -> Option<u32>
         Some(seconds)
     } else {
         None
+    }
+}
+
+/// Where the control socket is to be made.
+fn control_of(alloc: Global, given: &ArgMatches<'_>) -> Result<Option<String>, AllocError> {
+    match given.get_str("control") {
+        Some(path) => Ok(Some(String::from_str(alloc, path)?)),
+        None => Ok(None),
     }
 }
 
@@ -89,6 +113,7 @@ pub(crate) fn run_order(
         path: String::from_str(alloc, path)?,
         seconds: seconds_of(given),
         progress: given.get_flag("progress"),
+        control: control_of(alloc, given)?,
         strict: given.get_flag("strict"),
     })
 }

@@ -1,4 +1,4 @@
-//! What lets a worker take its next turn.
+//! What lets a worker take its next turn, and what is asked of it meanwhile.
 
 use pb_lan::Place;
 
@@ -11,8 +11,26 @@ pub enum Go {
     Stop,
 }
 
+/// A wish that a bridge sets one of its ports up or down.
+#[derive(Clone, Copy, PartialEq, Eq, Debug)]
+pub struct Wish {
+    /// The bridge's local port, 1 to 16.
+    pub port: u8,
+    /// Whether it is to be set up.
+    pub up: bool,
+}
+
 /// A gate that each worker passes before each of its turns.
 pub trait Gate: Sync {
     /// Whether the worker of a place takes the turn of this number. Its first turn has number 0.
     fn pass(&self, place: Place, turn: u64) -> Go;
+
+    /// What is asked of a place before its next turn, where anything is: the worker fulfils the wish in place of that
+    /// turn, and asks again. Its clock has ticked `now` times. A wish is given once.
+    fn wish(&self, _place: Place, _now: u32) -> Option<Wish> {
+        None
+    }
+
+    /// Copies of a frame found no room at a place.
+    fn refused(&self, _place: Place, _copies: u64) {}
 }

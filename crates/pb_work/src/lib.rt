@@ -11,7 +11,7 @@ mod ticks;
 mod turns;
 mod words;
 
-pub use gate::{Gate, Go};
+pub use gate::{Gate, Go, Wish};
 pub use threads::{Places, WorkFault, run_all};
 pub use ticks::Moment;
 pub use turns::{Did, Finish, Turn, Work};

@@ -3,7 +3,7 @@
 ghost use Rattle.std.specs.Prelude.{◌≡◌};
 ghost use Rattle.pb_work.specs.Started.{IsBack};
 
-use crate::gate::{Gate, Go};
+use crate::gate::{Gate, Go, Wish};
 use crate::ticks::{Moment, Ticks};
 use crate::words::Words;
 use pb_lan::{Limits, Place};
@@ -24,7 +24,7 @@ pub enum Did {
     Limit,
 }
 
-/// What a turn did, and how much more and less is left to do in the whole run.
+/// What a turn did, how much more and less is left to do in the whole run, and what was lost.
 #[derive(Clone, Copy, PartialEq, Eq, Debug)]
 pub struct Turn {
     /// What it did.
@@ -33,6 +33,18 @@ pub struct Turn {
     pub more: u64,
     /// How much less is left.
     pub fewer: u64,
+    /// How many copies of a frame found no room.
+    pub refused: u64,
+}
+
+impl Turn {
+    /// A turn in which there was nothing to do.
+    pub const IDLE: Turn = Turn {
+        did: Did::Idle,
+        more: 0,
+        fewer: 0,
+        refused: 0,
+    };
 }
 
 /// Why a worker took no more turns.
@@ -65,6 +77,15 @@ pub trait Work: Drop {
         requires { fits self.old }
         ensures given { given self.new ≡ given self.old }
         ensures fits { fits self.new };
+
+    /// Fulfils a wish in place of a turn. A place that has no such port does nothing.
+    fn fulfil(&mut self, _wish: Wish) -> Turn
+        requires { fits self.old }
+        ensures given { given self.new ≡ given self.old }
+        ensures fits { fits self.new }
+    {
+        Turn::IDLE
+    }
 
     /// What is to be done after the last turn. `moment` is that of the turn which would come next.
     fn close(&mut self, moment: Moment, finish: Finish)
@@ -104,6 +125,24 @@ fn own_end(did: Did) -> Option<Finish> {
     }
 }
 
+/// Takes a turn, or fulfils a wish in its place.
+fn take_turn<T: Work, G: Gate, R: Clock>(
+    rt: &R,
+    owned: &mut T,
+    gate: &G,
+    place: Place,
+    ticks: &mut Ticks,
+) -> Turn
+    requires { T.fits owned.old }
+    ensures given { T.given owned.new ≡ T.given owned.old }
+    ensures fits { T.fits owned.new }
+{
+    match gate.wish(place, ticks.last().now) {
+        Some(wish) => owned.fulfil(wish),
+        None => owned.turn(ticks.next(rt)),
+    }
+}
+
 /// Takes turn after turn, and answers why there are no more.
 fn take_turns<T: Work, G: Gate, R: Clock>(
     rt: &R,
@@ -123,8 +162,11 @@ fn take_turns<T: Work, G: Gate, R: Clock>(
         if is_ended(gate, words, place, turn) {
             return Finish::Told;
         }
-        let turned = owned.turn(ticks.next(rt));
+        let turned = take_turn(rt, owned, gate, place, ticks);
         words.count(turned.more, turned.fewer);
+        if turned.refused > 0 {
+            gate.refused(place, turned.refused);
+        }
         if let Some(finish) = own_end(turned.did) {
             return finish;
         }

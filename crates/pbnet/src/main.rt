@@ -26,6 +26,7 @@ use pb_running::{Strictness, Traffic, run_network};
 use pb_step::run_script;
 use pb_words::{InitOrder, Order, RunOrder, order_of};
 use progress::{Progress, Shown};
+use std::alloc::{AllocError, Global};
 use std::fmt::Display;
 use std::fs::{File, Files};
 use std::io::{BufWriter, ErrorKind, IsTerminal, Read, Write};
@@ -182,6 +183,12 @@ fn shown_on(is_terminal: bool, is_asked_for: bool) -> Shown {
     }
 }
 
+/// What is counted of a run, before it begins.
+fn new_traffic(alloc: Global) -> Result<Arc<Traffic, Global>, AllocError> {
+    let traffic = Traffic::new(alloc)?;
+    Ok(Arc::new(alloc, traffic)?)
+}
+
 /// Runs the network of a plan file, and reports on it. What happens meanwhile is shown on standard error, or not.
 fn run<R, E: Write>(rt: &R, order: &RunOrder, shown: Shown, errors: &mut E) -> ExitCode
 where
@@ -191,7 +198,7 @@ where
         Ok(file) => file,
         Err(status) => return status,
     };
-    let Ok(traffic) = Arc::new(rt.alloc(), Traffic::new()) else {
+    let Ok(traffic) = new_traffic(rt.alloc()) else {
         return tell(rt, CommandFault::Memory);
     };
     let Ok(counted) = Arc::try_clone(&traffic) else {

@@ -11,7 +11,7 @@ use std::time::{Clock, Duration};
 /// The first bridge's worker looks at the clock once in so many turns.
 const LOOK: u64 = 64;
 
-/// How it is told on standard error how many frames have entered and left so far.
+/// How it is told on standard error how far a run is.
 #[derive(Clone, Copy, PartialEq, Eq)]
 pub enum Shown {
     /// It isn't.
@@ -77,17 +77,22 @@ impl<'a, R: Clock + Eprint> Progress<'a, R> {
         }
     }
 
-    /// Tells how many frames have entered and left.
+    /// Tells how many frames have entered and left, how many copies found no room, and how often clocks have ticked.
     fn show(&self) {
         let (entered, left) = (self.traffic.entered(), self.traffic.left());
+        let (refused, ticks) = (self.traffic.refused(), self.traffic.ticks());
         match self.shown {
             Shown::Never => {}
             Shown::OneLine => {
-                let _ = eprint!(self.rt; "\r{entered} frames entered, {left} left");
+                let _ = eprint!(self.rt;
+                    "\r{entered} frames entered, {left} left, {refused} copies refused, tick {ticks}"
+                );
                 self.lines.store(1, Ordering::SeqCst);
             }
             Shown::Lines => {
-                let _ = eprintln!(self.rt; "{entered} frames entered, {left} left");
+                let _ = eprintln!(self.rt;
+                    "{entered} frames entered, {left} left, {refused} copies refused, tick {ticks}"
+                );
             }
         }
     }

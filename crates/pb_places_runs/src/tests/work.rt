@@ -1,7 +1,7 @@
 //! Runs of a few workers. Each ends by itself, whatever the schedule.
 
 use pb_lan::{Limits, Place};
-use pb_work::{Did, Finish, Gate, Go, Moment, Places, Turn, Work, run_all};
+use pb_work::{Did, Finish, Gate, Go, Moment, Places, Turn, Wish, Work, run_all};
 use std::alloc::{AllocError, Global};
 use std::sync::atomic::{AtomicU64, Ordering};
 use std::test::Fail;
@@ -15,6 +15,7 @@ struct Desk {
     turns: u64,
     ticks: u64,
     opened: u64,
+    wishes: u64,
     closed: u32,
     finish: Option<Finish>,
 }
@@ -45,7 +46,15 @@ impl Work for Desk {
             did,
             more: 0,
             fewer,
+            refused: 2,
         }
+    }
+
+    fn fulfil(&mut self, wish: Wish) -> Turn {
+        if wish.up {
+            self.wishes = self.wishes.saturating_add(u64::from(wish.port));
+        }
+        Turn::IDLE
     }
 
     fn close(&mut self, moment: Moment, finish: Finish) {
@@ -64,6 +73,7 @@ fn desks(alloc: Global, jobs: u64, first: Place, second: Place) -> Result<Vec<De
             turns: 0,
             ticks: 0,
             opened: 0,
+            wishes: 0,
             closed: 0,
             finish: None,
         })?;
@@ -241,5 +251,59 @@ fn a_gate_stops_the_workers(rt: HostRuntime) -> Result<(), Fail> {
             assert!(rt; desk.turns <= turns && desk.finish == Some(Finish::Told));
         }
     }
+    Ok(())
+}
+
+/// Wishes once of each bridge that its port 3 be set up, once its clock has ticked, and counts what is refused.
+#[derive(Drop)]
+struct Wishing {
+    given: AtomicU64,
+    refused: AtomicU64,
+}
+
+impl Gate for Wishing {
+    fn pass(&self, _place: Place, _turn: u64) -> Go {
+        Go::Go
+    }
+
+    fn wish(&self, place: Place, now: u32) -> Option<Wish> {
+        if place != Place::Bridge(1) || now == 0 || self.given.swap(1, Ordering::SeqCst) == 1 {
+            return None;
+        }
+        Some(Wish { port: 3, up: true })
+    }
+
+    fn refused(&self, _place: Place, copies: u64) {
+        self.refused.fetch_add(copies, Ordering::SeqCst);
+    }
+}
+
+#[test]
+fn wishes_take_the_place_of_turns(rt: HostRuntime) -> Result<(), Fail> {
+    let limits = Limits {
+        turns: 12,
+        tick_every: 5,
+        tick_ms: 0,
+        hold: 0,
+    };
+    let gate = Wishing {
+        given: AtomicU64::new(0),
+        refused: AtomicU64::new(0),
+    };
+    let places = office(rt.alloc(), 20)?;
+    let (places, verdict) = run_all(&rt, rt.alloc(), places, &gate, limits, 121);
+    assert!(rt; verdict.is_ok());
+    let (mut wishes, mut turns) = (0u64, 0u64);
+    for desk in together(places)? {
+        wishes = wishes.saturating_add(desk.wishes);
+        turns = turns.saturating_add(desk.turns);
+        assert!(rt; desk.wishes == 0 || desk.place == Place::Bridge(1));
+        assert!(rt; desk.finish != Some(Finish::Limit) || desk.turns == 12 || desk.wishes == 3);
+    }
+    assert!(rt; wishes == 3 || gate.given.load(Ordering::SeqCst) == 0);
+    assert_eq!(rt;
+        gate.refused.load(Ordering::SeqCst),
+        turns.saturating_mul(2)
+    );
     Ok(())
 }

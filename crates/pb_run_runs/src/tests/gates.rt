@@ -3,7 +3,7 @@
 use super::told::slot_of;
 use super::watch::Watch;
 use pb_lan::Place;
-use pb_run::{Gate, Go};
+use pb_run::{Gate, Go, Wish};
 use std::alloc::{AllocError, Global};
 use std::sync::Arc;
 use std::sync::atomic::{AtomicU64, Ordering};
@@ -47,6 +47,23 @@ pub(super) struct StopAt(pub(super) u64);
 impl Gate for StopAt {
     fn pass(&self, _place: Place, turn: u64) -> Go {
         go_if(turn < self.0)
+    }
+}
+
+/// Wishes before the first turn of B1 that its port 2 be set down, and no more.
+#[derive(Drop)]
+pub(super) struct Parting(pub(super) AtomicU64);
+
+impl Gate for Parting {
+    fn pass(&self, _place: Place, _turn: u64) -> Go {
+        Go::Go
+    }
+
+    fn wish(&self, place: Place, _now: u32) -> Option<Wish> {
+        if place != Place::Bridge(1) || self.0.swap(1, Ordering::SeqCst) == 1 {
+            return None;
+        }
+        Some(Wish { port: 2, up: false })
     }
 }
 

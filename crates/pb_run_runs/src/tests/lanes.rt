@@ -61,6 +61,7 @@ fn does<W: Wiring>(worker: &mut LaneWorker<W>, did: Did, fewer: u64) -> bool {
             did,
             more: 0,
             fewer,
+            refused: 0,
         }
 }
 

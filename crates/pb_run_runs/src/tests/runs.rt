@@ -10,7 +10,7 @@ use super::watch::Watch;
 use pb_frame::Memory;
 use pb_lan::{Limits, Plan, plan_is_sound};
 use pb_port::{MemoryPort, SocketPort};
-use pb_run::{Gate, Held, run, run_kept};
+use pb_run::{Gate, Held, run, run_kept, run_set};
 use std::alloc::Global;
 use std::sync::atomic::Ordering;
 use std::sync::{Arc, Wait};
@@ -186,6 +186,25 @@ pub(super) fn ran_counted<G: Gate, R: Threads + Wait + Clock + Sync>(
         return Ok(NOTHING);
     }
     match run(rt, alloc, &plan, ports, gate, setup.limits) {
+        Ok(ran) => tell_counted(&ran),
+        Err(mut fault) => tell_fault(alloc, &mut fault),
+    }
+}
+
+/// The same, with ports set as the gate wishes.
+pub(super) fn ran_set<G: Gate, R: Threads + Wait + Clock + Sync>(
+    rt: &R,
+    alloc: Global,
+    setup: &Setup,
+    gate: &G,
+) -> Result<Told, Memory> {
+    let watch = Arc::new(alloc, Watch::new())?;
+    let plan = plan_of(alloc, &setup.draft)?;
+    let ports = ports_of(alloc, setup.ports, &watch)?;
+    if !plan_is_sound(&plan) {
+        return Ok(NOTHING);
+    }
+    match run_set(rt, alloc, &plan, ports, gate, setup.limits) {
         Ok(ran) => tell_counted(&ran),
         Err(mut fault) => tell_fault(alloc, &mut fault),
     }

@@ -123,7 +123,7 @@ fn seconds_of_captures_are_those_of_the_workers_turns(rt: HostRuntime) -> Result
     fs::write(&rt, "p2.in", ONE_FRAME)?;
     fs::write(&rt, "p1.in", NO_FRAMES)?;
     let file = joined(alloc, [TICKS, CAPTURES])?;
-    let traffic = Arc::new(alloc, Traffic::new())?;
+    let traffic = Arc::new(alloc, Traffic::new(alloc)?)?;
     let turns = Turns(AtomicU64::new(0));
     let (mut output, mut errors) = (Vec::new(alloc), Vec::new(alloc));
     let ran = carry(

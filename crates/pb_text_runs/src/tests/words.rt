@@ -14,6 +14,8 @@ enum Wanted {
     Run(&'static str),
     /// With the seconds, whether progress is told, and whether it is strict.
     RunBeside(&'static str, Option<u32>, bool, bool),
+    /// With the path of the control socket.
+    RunUnder(&'static str, &'static str),
     /// With the ports that go down, and the most ticks.
     Tree(&'static str, &'static [&'static str], u32),
     Show,
@@ -36,11 +38,16 @@ fn run_of(
     seconds: Option<u32>,
     progress: bool,
     strict: bool,
+    control: Option<&str>,
 ) -> Result<RunOrder, AllocError> {
     Ok(RunOrder {
         path: String::from_str(alloc, path)?,
         seconds,
         progress,
+        control: match control {
+            Some(path) => Some(String::from_str(alloc, path)?),
+            None => None,
+        },
         strict,
     })
 }
@@ -64,9 +71,12 @@ fn wanted_of(alloc: Global, wanted: Wanted) -> Result<Result<Order, bool>, Alloc
         Wanted::Flat(ports) => Order::Flat(ports),
         Wanted::Check(path) => Order::Check(String::from_str(alloc, path)?),
         Wanted::Step(path) => Order::Step(String::from_str(alloc, path)?),
-        Wanted::Run(path) => Order::Run(run_of(alloc, path, None, false, false)?),
+        Wanted::Run(path) => Order::Run(run_of(alloc, path, None, false, false, None)?),
         Wanted::RunBeside(path, seconds, progress, strict) => {
-            Order::Run(run_of(alloc, path, seconds, progress, strict)?)
+            Order::Run(run_of(alloc, path, seconds, progress, strict, None)?)
+        }
+        Wanted::RunUnder(path, control) => {
+            Order::Run(run_of(alloc, path, None, false, false, Some(control))?)
         }
         Wanted::Tree(path, downs, ticks) => Order::Tree(tree_of(alloc, path, downs, ticks)?),
         Wanted::Show => Order::Show,
@@ -217,6 +227,12 @@ fn runs_have_words_beside_the_file(rt: HostRuntime) -> Result<(), Fail> {
             &["run", "--strict", "--seconds", "20", "a", "--progress"],
             Wanted::RunBeside("a", Some(20), true, true),
         ),
+        (
+            &["run", "a", "--control", "b.sock"],
+            Wanted::RunUnder("a", "b.sock"),
+        ),
+        (&["run", "a", "--control"], WRONG),
+        (&["step", "a", "--control", "b.sock"], WRONG),
         (&["run", "--", "--strict"], Wanted::Run("--strict")),
         (&["run", "--seconds", "0", "a"], WRONG),
         (&["run", "--seconds", "1000000001", "a"], WRONG),

@@ -9,7 +9,7 @@ abbrev pub invariant-loop-worker : goal.invariant-loop-worker
 invariant-loop-worker g l = record {
   steps : l.room.tallies.items ≡ map (λ b. b.bridge.steps) l.yielded;
   lawful : All (λ b. IsLawfulBridge spanning_tree b.bridge.plan b.bridge.number b.bridge.steps) l.yielded;
-  unset : AllByRecursion (λ steps. list_any is_setting steps ≡ false) l.room.tallies.items;
+  unset : g.W.Wiring.sets ≡ false → AllByRecursion (λ steps. list_any is_setting steps ≡ false) l.room.tallies.items;
   kept : g.W.Wiring.keeps ≡ true → l.room.lists.items ≡ map (λ b. b.bridge.steps) l.yielded;
   count : length l.room.lists.items ≡ length l.yielded;
   lists_room : vec_len l.fn.workers ≤ vec_capacity l.room.lists;

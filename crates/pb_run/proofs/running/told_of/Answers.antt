@@ -33,11 +33,14 @@ pub returns-clause-headline : goal.returns-clause-headline
 returns-clause-headline g c = faithful spanning_tree c.args.plan.now c.new.result c.requires.sound (returns-clause-lawful g c)
 
 pub returns-clause-planned : goal.returns-clause-planned
-returns-clause-planned g c fixed =
+returns-clause-planned g c fixed unset =
     let plan = c.args.plan.now in
     let lawful = returns-clause-lawful g c in
-    let unset = subst (λ (r : Record). AllByRecursion (λ steps. list_any is_setting steps ≡ false) r.bridges) (sym c.new.ensures) c.bridge_lists-bridges.ensures.unset in
     still_frames_are_traced spanning_tree plan c.new.result lawful (planned_states_stay spanning_tree plan c.new.result fixed lawful unset)
+
+pub returns-clause-unset : goal.returns-clause-unset
+returns-clause-unset g c = λ still.
+    subst (λ (r : Record). AllByRecursion (λ steps. list_any is_setting steps ≡ false) r.bridges) (sym c.new.ensures) (c.bridge_lists-bridges.ensures.unset still)
 
 pub returns-clause-kept : goal.returns-clause-kept
 returns-clause-kept g c = λ keeps.

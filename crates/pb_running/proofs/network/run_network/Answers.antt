@@ -5,4 +5,4 @@ use Rattle.pb_running.proofs.network.run_network.Goals as goal
 pub open_ports-requires-clause-count : goal.open_ports-requires-clause-count
 open_ports-requires-clause-count g c =
     let network = c.in-Ok.field-0 in
-    network.ports.ok.0 ∙ ports_per_plan c.args.file.now network.plan network.ports.items c.in-Ok.ensures.told
+    network.ports.ok.0 ∙ ports_per_plan c.args.file.now network.plan network.ports.items c.in-Ok.ensures.ok

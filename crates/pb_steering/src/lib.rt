@@ -1,0 +1,14 @@
+//! What happens to a run besides what its ports do: the events of its plan, wishes from outside, and what is counted
+//! meanwhile.
+//!
+//! [`Steering`] is a gate between the workers and the gate of whoever runs them. It gives a bridge's worker the wishes that
+//! are due: those of the plan's events, by the ticks of that bridge, and those that are put in while the network runs.
+#![tactic(auto)]
+
+mod agenda;
+mod mailbox;
+mod steering;
+mod traffic;
+
+pub use steering::{Steering, Watch};
+pub use traffic::Traffic;
