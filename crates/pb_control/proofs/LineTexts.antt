@@ -1,5 +1,5 @@
 -- The lines of several things, one behind the other.
-use Rattle.std.proofs.Common.{◌≡◌, ℕ, List, [], ◌∷◌, ◌++◌, Ok, Err, OnOk, refl, sym, subst, append_assoc, append-nil}
+use Rattle.std.proofs.Common.{◌≡◌, ℕ, List, [], ◌∷◌, ◌++◌, Ok, Err, OnOk, refl, sym, ap, subst, ◌∙◌, append_assoc, append-nil}
 use Rattle.std.specs.declared.result.Result.{Result}
 use Rattle.pb_control.specs.Texts.{AreLines}
 
@@ -7,6 +7,10 @@ use Rattle.pb_control.specs.Texts.{AreLines}
 pub on_ok : {A E P Q : Type 0} (r : Result A E) → (P → Q) → OnOk r P → OnOk r Q
 on_ok (Ok x) f p = f p
 on_ok (Err e) f p = p
+
+-- a text behind a text behind another
+pub text_more : (old now new done here : List ℕ) → now ≡ old ++ done → new ≡ now ++ here → new ≡ old ++ (done ++ here)
+text_more old now new done here so_far grown = grown ∙ ap (λ text. text ++ here) so_far ∙ append_assoc old done here
 
 -- one line more completes the text with the lines that are left
 pub lines_more : (line : List ℕ → ℕ → ℕ → List ℕ) (told : ℕ → ℕ → ℕ → Type 0) (all now later : List (List ℕ × ℕ)) (thing : List ℕ × ℕ) (a b : ℕ) (done : List ℕ)

@@ -1,5 +1,5 @@
 -- What is done for a line, and what is answered.
-use Rattle.std.specs.Prelude.{◌≡◌, ℕ, List, ◌++◌, Result, Ok, Err}
+use Rattle.std.specs.Prelude.{◌≡◌, ℕ, List, [], ◌++◌, Result, Ok, Err}
 use Rattle.pb_lan.specs.declared.plan.Plan.{Plan}
 use Rattle.pb_script.specs.Answers.{no_such_line}
 use Rattle.pb_control.specs.Requests.{Reads}

@@ -28,9 +28,14 @@ fn is_free(rt: &impl Files) -> bool {
     fs::symlink_metadata(rt, PATH).is_err()
 }
 
+/// What any thread may have: a run attends to its socket in whichever thread comes by.
+fn for_any_thread<T: Send>(it: T) -> T {
+    it
+}
+
 /// A socket is made, only its owner may connect, and its file is removed at the end.
 fn is_made_and_removed<R: Abort + Files + Net>(rt: &R, alloc: Global) -> Result<(), Fail> {
-    let control = Control::open(rt, alloc, PATH)?;
+    let control = for_any_thread(Control::open(rt, alloc, PATH)?);
     let metadata = fs::symlink_metadata(rt, PATH)?;
     assert!(rt; metadata.file_type().is_socket());
     assert_eq!(rt; metadata.mode() & 0o7777, 0o600);

@@ -138,7 +138,7 @@ fn outlives_a_peer(
     let board = Fake::new(alloc);
     let mut heard = Vec::new(alloc);
     let mut first = UnixStream::connect(rt, PATH)?;
-    for _ in 0..1000u32 {
+    for _ in 0..200u32 {
         first.write_all(b"counts\n")?;
     }
     assert!(rt; control.turn(plan, &board));
