@@ -1,0 +1,28 @@
+-- The lines of several things, one behind the other.
+use Rattle.std.proofs.Common.{◌≡◌, ℕ, List, [], ◌∷◌, ◌++◌, Ok, Err, OnOk, refl, sym, ap, subst, ◌∙◌, append_assoc, append-nil}
+use Rattle.std.specs.declared.result.Result.{Result}
+use Rattle.pb_control.specs.Texts.{AreLines}
+
+-- what holds of a result that is Ok gives another fact of it
+pub on_ok : {A E P Q : Type 0} (r : Result A E) → (P → Q) → OnOk r P → OnOk r Q
+on_ok (Ok x) f p = f p
+on_ok (Err e) f p = p
+
+-- a text behind a text behind another
+pub text_more : (old now new done here : List ℕ) → now ≡ old ++ done → new ≡ now ++ here → new ≡ old ++ (done ++ here)
+text_more old now new done here so_far grown = grown ∙ ap (λ text. text ++ here) so_far ∙ append_assoc old done here
+
+-- one line more completes the text with the lines that are left
+pub lines_more : (line : List ℕ → ℕ → ℕ → List ℕ) (told : ℕ → ℕ → ℕ → Type 0) (all now later : List (List ℕ × ℕ)) (thing : List ℕ × ℕ) (a b : ℕ) (done : List ℕ)
+    → now ≡ thing ∷ later → told thing.1 a b → ((others : List ℕ) → AreLines line told now others → AreLines line told all (done ++ others))
+    → (others : List ℕ) → AreLines line told later others → AreLines line told all ((done ++ line thing.0 a b) ++ others)
+lines_more line told all now later thing a b done split told_is before others are =
+    let here = line thing.0 a b in
+    let next : AreLines line told now (here ++ others) = subst (λ things. AreLines line told things (here ++ others)) (sym split) (a, b, others, told_is, refl, are) in
+    subst (λ text. AreLines line told all text) (sym (append_assoc done here others)) (before (here ++ others) next)
+
+-- where none is left the text has all lines
+pub lines_end : (line : List ℕ → ℕ → ℕ → List ℕ) (told : ℕ → ℕ → ℕ → Type 0) (all now : List (List ℕ × ℕ)) (done : List ℕ)
+    → now ≡ [] → ((others : List ℕ) → AreLines line told now others → AreLines line told all (done ++ others)) → AreLines line told all done
+lines_end line told all now done none before =
+    subst (λ text. AreLines line told all text) (append-nil done) (before [] (subst (λ things. AreLines line told things []) (sym none) refl))

@@ -1,0 +1,4 @@
+pub mod Requests
+pub mod Texts
+pub mod Answers
+pub mod Lines

@@ -1,0 +1,153 @@
+//! What went through a network so far.
+
+ghost use Rattle.std.specs.Prelude.{◌≡◌, ◌++◌, ◌≤◌, List, ℕ, length, map, string_bytes, IfOk, OnOk, IsPermutation};
+ghost use Rattle.std.specs.Cmp.Lexicographic.{slice_cmp};
+ghost use Rattle.std.specs.List.Sorted.{IsSortedByKey};
+ghost use Rattle.std.specs.Ordering.{nat_cmp};
+ghost use Rattle.pb_lan.specs.Plans.{IsSound};
+ghost use Rattle.pb_script.specs.Counts.{with_numbers, AreByName};
+ghost use Rattle.pb_control.specs.Texts.{port_line, bridge_line, AreLines, AreLinesByName, IsCountsText};
+
+use crate::board::Board;
+use pb_frame::Memory;
+use pb_lan::Plan;
+use std::alloc::Global;
+
+/// The names of the customer ports, with their numbers.
+fn numbered_ports<'a>(alloc: Global, plan: &'a Plan) -> Result<Vec<(&'a str, u8)>, Memory>
+    requires { length plan.now.customers ≤ 128 }
+    ensures { IfOk result (λ ports. map (λ n. (n.0.now, n.1)) ports.items ≡ with_numbers 1 (map (λ c. c.name) plan.now.customers)) }
+{
+    let mut ports = Vec::new(alloc);
+    for (place, customer) in plan.customers.as_slice().iter().enumerate() {
+        ports.push((customer.name.as_str(), place as u8 + 1))?;
+    }
+    Ok(ports)
+}
+
+/// The names of the bridges, with their numbers.
+fn numbered_bridges<'a>(alloc: Global, plan: &'a Plan) -> Result<Vec<(&'a str, u8)>, Memory>
+    requires { length plan.now.bridges ≤ 32 }
+    ensures { IfOk result (λ bridges. map (λ n. (n.0.now, n.1)) bridges.items ≡ with_numbers 1 (map (λ b. b.name) plan.now.bridges)) }
+{
+    let mut bridges = Vec::new(alloc);
+    for (place, bridge) in plan.bridges.as_slice().iter().enumerate() {
+        bridges.push((bridge.name.as_str(), place as u8 + 1))?;
+    }
+    Ok(bridges)
+}
+
+/// Sorts names by their octets.
+fn sort(names: &mut Vec<(&str, u8)>)
+    ensures same { IsPermutation {X = List ℕ × ℕ} (map (λ n. (n.0.now, n.1)) names.old.items) (map (λ n. (n.0.now, n.1)) names.new.items) }
+    ensures by_name { IsSortedByKey {X = List ℕ × ℕ} (λ n. n.0) (slice_cmp nat_cmp) (map (λ n. (n.0.now, n.1)) names.new.items) }
+{
+    names.sort_unstable();
+}
+
+/// The customer ports by name.
+fn sorted_ports<'a>(alloc: Global, plan: &'a Plan) -> Result<Vec<(&'a str, u8)>, Memory>
+    requires { IsSound plan.now }
+    ensures { IfOk result (λ ports. AreByName (map (λ c. c.name) plan.now.customers) (map (λ n. (n.0.now, n.1)) ports.items)) }
+{
+    let mut ports = numbered_ports(alloc, plan)?;
+    sort(&mut ports);
+    Ok(ports)
+}
+
+/// The bridges by name.
+fn sorted_bridges<'a>(alloc: Global, plan: &'a Plan) -> Result<Vec<(&'a str, u8)>, Memory>
+    requires { IsSound plan.now }
+    ensures { IfOk result (λ bridges. AreByName (map (λ b. b.name) plan.now.bridges) (map (λ n. (n.0.now, n.1)) bridges.items)) }
+{
+    let mut bridges = numbered_bridges(alloc, plan)?;
+    sort(&mut bridges);
+    Ok(bridges)
+}
+
+/// Puts the line of a customer port behind a text.
+fn put_port(out: &mut String, name: &str, counts: (u64, u64)) -> Result<(), Memory>
+    ensures { OnOk result (string_bytes out.new ≡ string_bytes out.old ++ port_line name.now counts.0 counts.1) }
+{
+    let (entered, left) = counts;
+    writeln!(out, "port {name} entered {entered} left {left}")?;
+    Ok(())
+}
+
+/// Puts the line of a bridge behind a text.
+fn put_bridge(out: &mut String, name: &str, counts: (u64, u64)) -> Result<(), Memory>
+    ensures { OnOk result (string_bytes out.new ≡ string_bytes out.old ++ bridge_line name.now counts.0 counts.1) }
+{
+    let (refused, ticks) = counts;
+    writeln!(out, "bridge {name} refused {refused} ticks {ticks}")?;
+    Ok(())
+}
+
+/// Puts the lines of customer ports behind a text.
+fn put_ports<B: Board>(board: &B, ports: &[(&str, u8)], out: &mut String) -> Result<(), Memory>
+    ensures { OnOk result ((text : List ℕ) × (string_bytes out.new ≡ string_bytes out.old ++ text)
+        × AreLines port_line (B.told_port board.now) (map (λ n. (n.0.now, n.1)) ports.now) text) }
+{
+    for (name, number) in ports {
+        let counts = board.traffic(*number);
+        put_port(out, name, counts)?;
+    }
+    Ok(())
+}
+
+/// Puts the lines of bridges behind a text.
+fn put_bridges<B: Board>(board: &B, bridges: &[(&str, u8)], out: &mut String) -> Result<(), Memory>
+    ensures { OnOk result ((text : List ℕ) × (string_bytes out.new ≡ string_bytes out.old ++ text)
+        × AreLines bridge_line (B.told_bridge board.now) (map (λ n. (n.0.now, n.1)) bridges.now) text) }
+{
+    for (name, number) in bridges {
+        let counts = board.bridge(*number);
+        put_bridge(out, name, counts)?;
+    }
+    Ok(())
+}
+
+/// Puts the lines of all customer ports behind a text, by name.
+fn put_all_ports<B: Board>(
+    alloc: Global,
+    plan: &Plan,
+    board: &B,
+    out: &mut String,
+) -> Result<(), Memory>
+    requires { IsSound plan.now }
+    ensures { OnOk result ((text : List ℕ) × (string_bytes out.new ≡ string_bytes out.old ++ text)
+        × AreLinesByName port_line (B.told_port board.now) (map (λ c. c.name) plan.now.customers) text) }
+{
+    let ports = sorted_ports(alloc, plan)?;
+    put_ports(board, ports.as_slice(), out)
+}
+
+/// Puts the lines of all bridges behind a text, by name.
+fn put_all_bridges<B: Board>(
+    alloc: Global,
+    plan: &Plan,
+    board: &B,
+    out: &mut String,
+) -> Result<(), Memory>
+    requires { IsSound plan.now }
+    ensures { OnOk result ((text : List ℕ) × (string_bytes out.new ≡ string_bytes out.old ++ text)
+        × AreLinesByName bridge_line (B.told_bridge board.now) (map (λ b. b.name) plan.now.bridges) text) }
+{
+    let bridges = sorted_bridges(alloc, plan)?;
+    put_bridges(board, bridges.as_slice(), out)
+}
+
+/// Puts the counts of all customer ports and of all bridges behind a text.
+pub(crate) fn put_counts<B: Board>(
+    alloc: Global,
+    plan: &Plan,
+    board: &B,
+    out: &mut String,
+) -> Result<(), Memory>
+    requires { IsSound plan.now }
+    ensures { OnOk result ((text : List ℕ) × (string_bytes out.new ≡ string_bytes out.old ++ text)
+        × IsCountsText plan.now (B.told_port board.now) (B.told_bridge board.now) text) }
+{
+    put_all_ports(alloc, plan, board, out)?;
+    put_all_bridges(alloc, plan, board, out)
+}

@@ -1,0 +1,10 @@
+//! The control socket.
+
+mod answers;
+mod board;
+mod files;
+mod folder;
+mod lines;
+mod peers;
+mod plans;
+mod talk;

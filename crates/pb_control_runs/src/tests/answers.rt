@@ -1,0 +1,146 @@
+//! What lines are answered.
+
+ghost use Rattle.pb_lan.specs.Plans.{IsSound};
+
+use super::board::Fake;
+use super::plans::{COUNTS, plan};
+use pb_control::{Refused, Request, answer, read_request};
+use pb_lan::Plan;
+use std::alloc::Global;
+use std::process::Abort;
+use std::test::Fail;
+
+/// A line, and what it asks for, or why it asks for nothing.
+type Row = (&'static str, Result<Request, Refused>);
+
+const NO_SUCH: Result<Request, Refused> = Err(Refused::NoSuch);
+
+const BAD: Result<Request, Refused> = Err(Refused::Bad);
+
+/// Lines that ask for something, and lines of that form.
+const ASKING: &[Row] = &[
+    ("stop", Ok(Request::Stop)),
+    ("counts", Ok(Request::Counts)),
+    (
+        "down west 2",
+        Ok(Request::Set {
+            bridge: 1,
+            port: 2,
+            up: false,
+        }),
+    ),
+    (
+        "up east 16",
+        Ok(Request::Set {
+            bridge: 2,
+            port: 16,
+            up: true,
+        }),
+    ),
+    ("down north 2", NO_SUCH),
+    ("down West 2", NO_SUCH),
+    ("down L1 2", NO_SUCH),
+    ("down shop 1", NO_SUCH),
+    ("up west 1", NO_SUCH),
+    ("up west 3", NO_SUCH),
+    ("up east 2", NO_SUCH),
+    ("up west 16", NO_SUCH),
+    ("up east 17", NO_SUCH),
+    ("up west 258", NO_SUCH),
+    ("up west 999", NO_SUCH),
+    ("up abcdefghijklmnopqrstuvwxyz-_0189 2", NO_SUCH),
+];
+
+/// Lines that ask for nothing.
+const WRONG: &[&str] = &[
+    "",
+    " ",
+    "Stop",
+    "stop ",
+    " stop",
+    "stop\r",
+    "stop now",
+    "stops",
+    "count",
+    "counts\r",
+    "counts west",
+    "down",
+    "down ",
+    "down west",
+    "down west ",
+    "down west 0",
+    "down west 02",
+    "down west +2",
+    "down west 2 ",
+    "down west 2\r",
+    "down west 2 3",
+    "down west 1000",
+    "down  west 2",
+    "down west  2",
+    "down\twest 2",
+    "down w.st 2",
+    "down we\u{df}t 2",
+    "down abcdefghijklmnopqrstuvwxyz-_01897 2",
+    "left west 2",
+    "ups west 2",
+    "set west 2 up",
+    "\0",
+];
+
+/// The answer to a line.
+fn reply(read: Result<Request, Refused>) -> &'static str {
+    match read {
+        Ok(Request::Counts) => COUNTS,
+        Ok(_) => "ok\n",
+        Err(Refused::NoSuch) => "no such\n",
+        Err(Refused::Bad) => "bad\n",
+    }
+}
+
+/// Whether the board was asked for this, and for nothing else.
+fn has_done(asked: &[Request], read: Result<Request, Refused>) -> bool {
+    match read {
+        Ok(Request::Counts) | Err(_) => asked.is_empty(),
+        Ok(request) => asked == [request].as_slice(),
+    }
+}
+
+/// A line is read, done and answered as the row tells.
+fn answers(
+    rt: &impl Abort,
+    alloc: Global,
+    plan: &Plan,
+    line: &str,
+    want: Result<Request, Refused>,
+) -> Result<(), Fail>
+    requires { IsSound plan.now }
+{
+    assert_eq!(rt; read_request(plan, line.as_bytes()), want, "{line}");
+    let board = Fake::new(alloc);
+    let mut out = String::from_str(alloc, "before ")?;
+    assert_eq!(rt;
+        answer(alloc, plan, &board, line.as_bytes(), &mut out),
+        Ok(())
+    );
+    assert_eq!(rt;
+        out.as_str().strip_prefix("before "),
+        Some(reply(want)),
+        "{line}"
+    );
+    let asked = board.asked(alloc)?;
+    assert!(rt; has_done(asked.as_slice(), want), "{line}");
+    Ok(())
+}
+
+#[test]
+fn lines_are_answered(rt: HostRuntime) -> Result<(), Fail> {
+    let alloc = rt.alloc();
+    let plan = plan(alloc)?;
+    for (line, want) in ASKING {
+        answers(&rt, alloc, &plan, line, *want)?;
+    }
+    for line in WRONG {
+        answers(&rt, alloc, &plan, line, BAD)?;
+    }
+    Ok(())
+}

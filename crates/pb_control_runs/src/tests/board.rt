@@ -1,0 +1,52 @@
+//! A board that notes what it is asked for.
+
+use pb_control::{Board, Request};
+use std::alloc::{AllocError, Global};
+use std::cell::RefCell;
+
+/// Notes what it is asked for, and tells counts by which a port or a bridge is known.
+#[derive(Drop)]
+pub(super) struct Fake {
+    asked: RefCell<Vec<Request>>,
+}
+
+impl Fake {
+    /// It was asked for nothing yet.
+    pub(super) fn new(alloc: Global) -> Fake {
+        Fake {
+            asked: RefCell::new(Vec::new(alloc)),
+        }
+    }
+
+    /// What it was asked for.
+    pub(super) fn asked(&self, alloc: Global) -> Result<Vec<Request>, AllocError> {
+        match self.asked.try_borrow() {
+            Ok(asked) => Vec::from_slice(alloc, asked.as_slice()),
+            Err(_) => Ok(Vec::new(alloc)),
+        }
+    }
+
+    fn note(&self, request: Request) {
+        if let Ok(mut asked) = self.asked.try_borrow_mut() {
+            let _ = asked.push(request);
+        }
+    }
+}
+
+impl Board for Fake {
+    fn stop(&self) {
+        self.note(Request::Stop);
+    }
+
+    fn set(&self, bridge: u8, port: u8, up: bool) {
+        self.note(Request::Set { bridge, port, up });
+    }
+
+    fn traffic(&self, port: u8) -> (u64, u64) {
+        (100 + u64::from(port), u64::MAX - u64::from(port))
+    }
+
+    fn bridge(&self, bridge: u8) -> (u64, u64) {
+        (200 + u64::from(bridge), 300 + u64::from(bridge))
+    }
+}

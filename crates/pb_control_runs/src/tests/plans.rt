@@ -1,0 +1,44 @@
+//! The network that the tests speak of.
+
+ghost use Rattle.std.specs.Prelude.{IfOk};
+ghost use Rattle.pb_lan.specs.Plans.{IsSound};
+
+use pb_lan::Plan;
+use pb_service::read_plan;
+use std::alloc::Global;
+use std::test::Fail;
+
+/// Two bridges, a link between them, and three customer ports; none stand by name.
+const PLAN: &str = "\
+bridge = [\n\
+  { name = \"west\", address = \"02-00-00-00-00-01\" },\n\
+  { name = \"east\", address = \"02-00-00-00-00-02\" },\n\
+]\n\
+link = [{ name = \"L1\", a = \"west\", a_port = 2, b = \"east\", b_port = 16 }]\n\
+service = [{ name = \"red\", vid = 100 }]\n\
+port = [\n\
+  { name = \"shop\", bridge = \"west\", port = 1, service = \"red\" },\n\
+  { name = \"Yard\", bridge = \"east\", port = 1, service = \"red\" },\n\
+  { name = \"office\", bridge = \"east\", port = 2, service = \"red\" },\n\
+]\n\
+";
+
+/// What `counts` is answered: capital letters stand in front of small ones.
+pub(super) const COUNTS: &str = "\
+port Yard entered 102 left 18446744073709551613\n\
+port office entered 103 left 18446744073709551612\n\
+port shop entered 101 left 18446744073709551614\n\
+bridge east refused 202 ticks 302\n\
+bridge west refused 201 ticks 301\n\
+ok\n\
+";
+
+/// The network's plan.
+pub(super) fn plan(alloc: Global) -> Result<Plan, Fail>
+    ensures { IfOk result (λ plan. IsSound plan) }
+{
+    match read_plan(alloc, PLAN.as_bytes()) {
+        Ok((plan, _ports)) => Ok(plan),
+        Err(_) => Err(Fail::from("no plan")),
+    }
+}
