@@ -1,3 +1,4 @@
+pub mod Sizes
 pub mod Requests
 pub mod Texts
 pub mod Answers

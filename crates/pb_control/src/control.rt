@@ -1,7 +1,7 @@
 //! The control socket.
 
 ghost use Rattle.std.specs.Prelude.{◌≡◌, true};
-ghost use Rattle.pb_lan.specs.Plans.{IsSound};
+ghost use Rattle.pb_control.specs.Sizes.{IsFew};
 ghost use Rattle.pb_control.specs.Requests.{is_there};
 ghost use Rattle.pb_control.specs.declared.request.Request.{Request};
 
@@ -62,7 +62,7 @@ impl Control {
     }
 
     fn step<B: Board>(&mut self, plan: &Plan, board: &B) -> Step
-        requires sound { IsSound plan.now }
+        requires few { IsFew plan.now }
         requires allowed { (request : Request) → is_there plan.now request ≡ true → B.allows board.now request }
     {
         match &mut self.peer {
@@ -75,7 +75,7 @@ impl Control {
     /// answers its whole lines, and writes what it takes, until there is nothing to do or many steps were taken. A peer
     /// that hangs up, or for which there is no memory, makes room for the next.
     pub fn turn<B: Board>(&mut self, plan: &Plan, board: &B) -> bool
-        requires sound { IsSound plan.now }
+        requires few { IsFew plan.now }
         requires allowed { (request : Request) → is_there plan.now request ≡ true → B.allows board.now request }
     {
         let mut has_moved = false;

@@ -4,7 +4,7 @@ ghost use Rattle.std.specs.Prelude.{◌≡◌, ◌++◌, ◌≤◌, List, ℕ, l
 ghost use Rattle.std.specs.Cmp.Lexicographic.{slice_cmp};
 ghost use Rattle.std.specs.List.Sorted.{IsSortedByKey};
 ghost use Rattle.std.specs.Ordering.{nat_cmp};
-ghost use Rattle.pb_lan.specs.Plans.{IsSound};
+ghost use Rattle.pb_control.specs.Sizes.{IsFew};
 ghost use Rattle.pb_script.specs.Counts.{with_numbers, AreByName};
 ghost use Rattle.pb_control.specs.Texts.{port_line, bridge_line, AreLines, AreLinesByName, IsCountsText};
 
@@ -47,7 +47,7 @@ fn sort(names: &mut Vec<(&str, u8)>)
 
 /// The customer ports by name.
 fn sorted_ports<'a>(alloc: Global, plan: &'a Plan) -> Result<Vec<(&'a str, u8)>, Memory>
-    requires { IsSound plan.now }
+    requires { IsFew plan.now }
     ensures { IfOk result (λ ports. AreByName (map (λ c. c.name) plan.now.customers) (map (λ n. (n.0.now, n.1)) ports.items)) }
 {
     let mut ports = numbered_ports(alloc, plan)?;
@@ -57,7 +57,7 @@ fn sorted_ports<'a>(alloc: Global, plan: &'a Plan) -> Result<Vec<(&'a str, u8)>,
 
 /// The bridges by name.
 fn sorted_bridges<'a>(alloc: Global, plan: &'a Plan) -> Result<Vec<(&'a str, u8)>, Memory>
-    requires { IsSound plan.now }
+    requires { IsFew plan.now }
     ensures { IfOk result (λ bridges. AreByName (map (λ b. b.name) plan.now.bridges) (map (λ n. (n.0.now, n.1)) bridges.items)) }
 {
     let mut bridges = numbered_bridges(alloc, plan)?;
@@ -114,7 +114,7 @@ fn put_all_ports<B: Board>(
     board: &B,
     out: &mut String,
 ) -> Result<(), Memory>
-    requires { IsSound plan.now }
+    requires { IsFew plan.now }
     ensures { OnOk result ((text : List ℕ) × (string_bytes out.new ≡ string_bytes out.old ++ text)
         × AreLinesByName port_line (B.told_port board.now) (map (λ c. c.name) plan.now.customers) text) }
 {
@@ -129,7 +129,7 @@ fn put_all_bridges<B: Board>(
     board: &B,
     out: &mut String,
 ) -> Result<(), Memory>
-    requires { IsSound plan.now }
+    requires { IsFew plan.now }
     ensures { OnOk result ((text : List ℕ) × (string_bytes out.new ≡ string_bytes out.old ++ text)
         × AreLinesByName bridge_line (B.told_bridge board.now) (map (λ b. b.name) plan.now.bridges) text) }
 {
@@ -144,7 +144,7 @@ pub(crate) fn put_counts<B: Board>(
     board: &B,
     out: &mut String,
 ) -> Result<(), Memory>
-    requires { IsSound plan.now }
+    requires { IsFew plan.now }
     ensures { OnOk result ((text : List ℕ) × (string_bytes out.new ≡ string_bytes out.old ++ text)
         × IsCountsText plan.now (B.told_port board.now) (B.told_bridge board.now) text) }
 {

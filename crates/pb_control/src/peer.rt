@@ -1,7 +1,7 @@
 //! A peer that is connected to the socket.
 
 ghost use Rattle.std.specs.Prelude.{◌≡◌, ◌≤◌, ◌<◌, ℕ, true, string_len};
-ghost use Rattle.pb_lan.specs.Plans.{IsSound};
+ghost use Rattle.pb_control.specs.Sizes.{IsFew};
 ghost use Rattle.pb_control.specs.Requests.{is_there};
 ghost use Rattle.pb_control.specs.declared.request.Request.{Request};
 
@@ -88,7 +88,7 @@ impl<S: Read + Write> Peer<S> {
 
     /// Makes the answer to a line.
     fn answer<B: Board>(&mut self, alloc: Global, plan: &Plan, board: &B, line: &[u8]) -> Step
-        requires sound { IsSound plan.now }
+        requires few { IsFew plan.now }
         requires allowed { (request : Request) → is_there plan.now request ≡ true → B.allows board.now request }
     {
         self.sent = 0;
@@ -101,7 +101,7 @@ impl<S: Read + Write> Peer<S> {
 
     /// Writes on; where all was written answers the next line; where there is none reads on.
     pub(crate) fn step<B: Board>(&mut self, alloc: Global, plan: &Plan, board: &B) -> Step
-        requires sound { IsSound plan.now }
+        requires few { IsFew plan.now }
         requires allowed { (request : Request) → is_there plan.now request ≡ true → B.allows board.now request }
     {
         if self.sent < self.answer.len() {

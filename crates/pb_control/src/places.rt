@@ -4,7 +4,7 @@ ghost use Rattle.std.specs.Option.{option_copied};
 ghost use Rattle.std.specs.Prelude.{◌≡◌};
 ghost use Rattle.std.specs.List.{flat_map};
 ghost use Rattle.pb_frame.specs.Lists.{first};
-ghost use Rattle.pb_lan.specs.Plans.{IsSound};
+ghost use Rattle.pb_control.specs.Sizes.{IsFew};
 ghost use Rattle.pb_lan.specs.Ports.{port_at, is_provider, is_customer_at, is_end_at, ends_of};
 ghost use Rattle.pb_script.specs.Named.{bridge_named};
 
@@ -12,7 +12,7 @@ use pb_lan::{CustomerPlan, End, LinkPlan, Plan};
 
 /// The number of the bridge of a name, or 0 where the plan has none.
 pub(crate) fn bridge_named(plan: &Plan, name: &[u8]) -> u8
-    requires { IsSound plan.now }
+    requires { IsFew plan.now }
     ensures { result ≡ bridge_named plan.now name.now }
 {
     for (place, bridge) in plan.bridges.as_slice().iter().enumerate() {

@@ -2,7 +2,7 @@
 
 ghost use Rattle.std.specs.Prelude.{◌≡◌, ◌≢◌, ℕ, Bool, IfSome, IfNone, codes};
 ghost use Rattle.std.specs.List.{list_all};
-ghost use Rattle.pb_lan.specs.Plans.{IsSound};
+ghost use Rattle.pb_control.specs.Sizes.{IsFew};
 ghost use Rattle.pb_lan.specs.declared.plan.Plan.{Plan};
 ghost use Rattle.pb_script.specs.Lines.{IsBridgePort};
 ghost use Rattle.pb_script.specs.Words.{is_name_letter, is_name, local_port};
@@ -42,7 +42,7 @@ fn local_port(number: u16) -> u8
 
 /// The bridge and its local port, of the words `BRIDGE PORT`. What the plan lacks is 0.
 fn read_bridge_port(plan: &Plan, words: &[u8]) -> Option<(u8, u8)>
-    requires { IsSound plan.now }
+    requires { IsFew plan.now }
     ensures some { IfSome result (λ at. IsBridgePort plan.now words.now at.0 at.1) }
     ensures none { IfNone result ((bridge port : ℕ) → IsBridgePort plan.now words.now bridge port → ⊥) }
 {
@@ -76,7 +76,7 @@ struct Setting {
 
 /// The setting that a line asks for.
 fn read_setting(plan: &Plan, line: &[u8]) -> Option<Setting>
-    requires { IsSound plan.now }
+    requires { IsFew plan.now }
     ensures some { IfSome result (λ s. AsksToSet plan.now line.now s.bridge s.port s.up) }
     ensures none { IfNone result ((bridge port : ℕ) (up : Bool) → AsksToSet plan.now line.now bridge port up → ⊥) }
 {
@@ -100,7 +100,7 @@ fn read_word(line: &[u8]) -> Option<Request>
 
 /// The request to set a port.
 fn read_set(plan: &Plan, line: &[u8]) -> Result<Request, Refused>
-    requires { IsSound plan.now }
+    requires { IsFew plan.now }
     ensures read { result ≢ Err Refused.Bad → Reads plan.now line.now result }
     ensures bad { result ≡ Err Refused.Bad → (bridge port : ℕ) (up : Bool) → AsksToSet plan.now line.now bridge port up → ⊥ }
 {
@@ -121,7 +121,7 @@ fn read_set(plan: &Plan, line: &[u8]) -> Result<Request, Refused>
 /// `NoSuch` is answered where a line reads so and the plan lacks its bridge, or its port is none that leads to another
 /// bridge; `Bad` where no line reads so. A carriage return is no part of a word, and makes the line `Bad`.
 pub fn read_request(plan: &Plan, line: &[u8]) -> Result<Request, Refused>
-    requires { IsSound plan.now }
+    requires { IsFew plan.now }
     ensures { Reads plan.now line.now result }
 {
     match read_word(line) {

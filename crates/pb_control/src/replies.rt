@@ -1,7 +1,7 @@
 //! Answers lines.
 
 ghost use Rattle.std.specs.Prelude.{◌≡◌, ◌++◌, List, ℕ, true, string_bytes, OnOk};
-ghost use Rattle.pb_lan.specs.Plans.{IsSound};
+ghost use Rattle.pb_control.specs.Sizes.{IsFew};
 ghost use Rattle.pb_control.specs.Answers.{IsDone, IsTold, HasAnswered};
 ghost use Rattle.pb_control.specs.Requests.{Asks, is_there};
 ghost use Rattle.pb_control.specs.Texts.{ok_line, bad_line};
@@ -40,7 +40,7 @@ fn put_told<B: Board>(
     request: Request,
     out: &mut String,
 ) -> Result<(), Memory>
-    requires { IsSound plan.now }
+    requires { IsFew plan.now }
     ensures { OnOk result ((told : List ℕ) × (string_bytes out.new ≡ string_bytes out.old ++ told)
         × IsTold plan.now (B.told_port board.now) (B.told_bridge board.now) request told) }
 {
@@ -78,7 +78,7 @@ pub fn answer<B: Board>(
     line: &[u8],
     out: &mut String,
 ) -> Result<(), Memory>
-    requires sound { IsSound plan.now }
+    requires few { IsFew plan.now }
     requires allowed { (request : Request) → Asks plan.now line.now request → is_there plan.now request ≡ true → B.allows board.now request }
     ensures { OnOk result (HasAnswered plan.now (B.was_asked board.now) (B.told_port board.now) (B.told_bridge board.now)
         line.now (string_bytes out.old) (string_bytes out.new)) }

@@ -20,15 +20,17 @@ use crate::outside::{Outside, SystemPort, open_ports};
 use crate::report::write_report;
 use crate::strictness::{Strictness, exit_status};
 use crate::watched::Watched;
+use pb_control::Control;
 use pb_frame::Memory;
 use pb_lan::{Limits, Plan};
 use pb_print::write_refusal;
 use pb_run::{Held, Ran, run_set};
-use pb_service::{PlanFault, PlanFile, read_plan_file};
+use pb_service::{PlanFault, PlanFile, PortSpec, read_plan_file};
 use pb_steering::{Steering, Traffic, Watch};
 use pb_steps::Tallies;
 use std::alloc::Global;
 use std::fs::{File, Files};
+use std::io;
 use std::io::Write;
 use std::net::Net;
 use std::sync::{Arc, Wait};
@@ -79,12 +81,50 @@ fn show<E: Write>(text: &str, errors: &mut E) {
     }
 }
 
+/// Tells that the control socket can't be made.
+fn show_unmade<E: Write>(alloc: Global, path: &str, error: &io::Error, errors: &mut E) {
+    if let Ok(text) = format!(in alloc; "control {path}: {error}\n") {
+        show(text.as_str(), errors);
+    }
+}
+
+/// Makes the control socket of a run, where one is asked for. `Path` is answered where it can't be made, and told on the
+/// error writer.
+fn plug<R: Files + Net, G, E: Write>(
+    rt: &R,
+    alloc: Global,
+    path: Option<&str>,
+    steering: &Steering<'_, G>,
+    errors: &mut E,
+) -> Result<(), NetworkFault>
+    ensures { IfErr result (λ e. e ≡ NetworkFault.Path) }
+{
+    let Some(path) = path else {
+        return Ok(());
+    };
+    match Control::open(rt, alloc, path) {
+        Ok(control) => {
+            steering.plug(control);
+            Ok(())
+        }
+        Err(e) => {
+            show_unmade(alloc, path, &e, errors);
+            Err(NetworkFault::Path)
+        }
+    }
+}
+
 /// Tells how many events of the plan have not come, where there are some: the run was over before.
 fn show_left<E: Write>(alloc: Global, left: u64, errors: &mut E) {
     if left == 0 {
         return;
     }
-    if let Ok(text) = format!(in alloc; "{left} events have not come\n") {
+    let text = if left == 1 {
+        String::from_str(alloc, "1 event has not come\n")
+    } else {
+        format!(in alloc; "{left} events have not come\n")
+    };
+    if let Ok(text) = text {
         show(text.as_str(), errors);
     }
 }
@@ -164,12 +204,42 @@ where
     }
 }
 
+/// Runs a plan with the ports that it tells, as [`run_network`] does, once they are open. The faults are those of
+/// [`run_ports`], and `Path` where a port can't be opened.
+fn run_opened<R, G: Watch, W: Write, E: Write>(
+    rt: &R,
+    alloc: Global,
+    plan: &Plan,
+    specs: Vec<PortSpec>,
+    limits: Limits,
+    strictness: Strictness,
+    traffic: &Arc<Traffic, Global>,
+    gate: &G,
+    writer: &mut W,
+    errors: &mut E,
+) -> Result<u8, NetworkFault>
+where
+    R: Files<File = File> + Net + Threads + Wait + Clock + Sync,
+    requires sound { IsSound plan.now }
+    requires count { vec_len specs ≡ length plan.now.customers }
+    ensures ok { IfOk result (λ status. PrintsRan strictness plan.now specs.items status (W.contents writer.old) (W.contents writer.new)) }
+    ensures err { IfErr result (λ e. e ≡ NetworkFault.Ports → ⊥) }
+    ensures none { IfErr result (λ e. e ≢ NetworkFault.Write → Keeps (W.contents writer.old) (W.contents writer.new)) }
+{
+    let Outside { ports, files } = open_ports(rt, alloc, plan, specs, traffic, errors)?;
+    let files = files.as_slice();
+    run_ports(
+        rt, alloc, plan, ports, files, limits, strictness, gate, writer, errors,
+    )
+}
+
 /// Runs the network of a plan file, whose ports lead to the files and sockets that it names, each bridge, each
 /// direction of a link and each customer port in a thread of its own, within the limits of the file, and
 /// reports on the run as [`write_report`] does. The exit status is answered. The frames that enter and leave, the copies that
 /// find no room and the ticks are counted in `traffic` meanwhile, and each worker passes the gate before each of its turns.
 /// Ports between bridges are set up and down as the file's events say: each when the clock of its bridge has ticked so often,
-/// if the run goes on till then, and `errors` is told how many events have not come. What
+/// if the run goes on till then, and `errors` is told how many events have not come. Whoever connects to the control socket,
+/// where one is asked for, sets ports so too, sees what was counted, and stops the run. What
 /// [`lost_of`] tells goes to `errors`, behind the report; a strict run that has something of it to tell, or that did not
 /// end drained, has the status 4 in place of 0.
 ///
@@ -179,9 +249,9 @@ where
 /// At the end of a run a file to which nothing left is made a capture without records, or `errors` is told why it can't
 /// be.
 ///
-/// `Path` is answered where a file can't be opened, made or emptied, a socket not be connected to, or a file has two
-/// uses, and `errors` is told which: files and sockets are opened as [`open_all`] says, so that no file is emptied
-/// before all are open. `Memory` is answered where there was none for the ports or
+/// `Path` is answered where a file can't be opened, made or emptied, a socket not be connected to or made, or a file has two
+/// uses, and `errors` is told which: the control socket is made first, and then files and sockets are opened as [`open_all`]
+/// says, so that no file is emptied before all are open. `Memory` is answered where there was none for the ports or
 /// the workers, and where there was none for the text to be written; `Spawn` where a worker could not be started;
 /// `Write` where a write to `writer` failed. Nothing has run after `Path` and `Spawn`, and they come only where the
 /// file is a plan. After any fault but `Write`, nothing was written to `writer`; after `Write` nothing is said of
@@ -191,6 +261,7 @@ pub fn run_network<R, G: Watch, W: Write, E: Write>(
     alloc: Global,
     file: &[u8],
     strictness: Strictness,
+    control: Option<&str>,
     traffic: &Arc<Traffic, Global>,
     gate: &G,
     writer: &mut W,
@@ -212,12 +283,12 @@ where
                 events,
             },
         ) => {
-            let steering = Steering::new(alloc, gate, traffic, events, plan.bridges.len())?;
-            let Outside { ports, files } = open_ports(rt, alloc, &plan, ports, traffic, errors)?;
-            let files = files.as_slice();
-            let ran = run_ports(
-                rt, alloc, &plan, ports, files, limits, strictness, &steering, writer, errors,
+            let steering = Steering::new(alloc, gate, &plan, traffic, events)?;
+            plug(rt, alloc, control, &steering, errors)?;
+            let ran = run_opened(
+                rt, alloc, &plan, ports, limits, strictness, traffic, &steering, writer, errors,
             );
+            steering.unplug(rt);
             show_left(alloc, steering.left(), errors);
             ran
         }

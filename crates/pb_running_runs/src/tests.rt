@@ -87,7 +87,9 @@ where
     R: Files<File = File> + Net + Threads + Wait + Clock + Sync,
 {
     let file = file.as_bytes();
-    run_network(rt, alloc, file, strictness, traffic, door, writer, errors)
+    run_network(
+        rt, alloc, file, strictness, None, traffic, door, writer, errors,
+    )
 }
 
 /// Runs the network of a plan file of two parts.

@@ -2,7 +2,7 @@
 //! meanwhile.
 //!
 //! [`Steering`] is a gate between the workers and the gate of whoever runs them. It gives a bridge's worker the wishes that
-//! are due: those of the plan's events, by the ticks of that bridge, and those that are put in while the network runs.
+//! are due: those of the plan's events, by the ticks of that bridge, and those that come by the control socket.
 #![tactic(auto)]
 
 mod agenda;

@@ -1,13 +1,23 @@
 //! The gate that steers a run.
 
+ghost use Rattle.std.specs.Prelude.{◌≤◌, length};
+ghost use Rattle.pb_lan.specs.Plans.{IsSound};
+
 use crate::agenda::Agenda;
 use crate::mailbox::Mailbox;
 use crate::traffic::Traffic;
+use pb_control::{Board, Control};
 use pb_frame::Memory;
-use pb_lan::Place;
+use pb_lan::{Place, Plan};
 use pb_service::PortEvent;
 use pb_work::{Gate, Go, Wish};
 use std::alloc::Global;
+use std::fs::Files;
+use std::sync::Mutex;
+use std::sync::atomic::{AtomicU64, Ordering};
+
+/// The worker of the first bridge attends to the control socket once in so many turns.
+const LOOK: u64 = 16;
 
 /// A gate that is told when its run is over.
 pub trait Watch: Gate {
@@ -22,13 +32,21 @@ struct Course {
     mailbox: Mailbox,
 }
 
-/// The gate that steers a run: it gives bridges the wishes that are due, counts, and is else the gate that it has inside.
+/// The gate that steers a run: it gives bridges the wishes that are due, attends to the control socket, counts, and is else
+/// the gate that it has inside.
 #[derive(Drop)]
 pub struct Steering<'a, G> {
     gate: &'a G,
+    plan: &'a Plan,
     traffic: &'a Traffic,
     /// That of each bridge, in the order of the plan.
     courses: Vec<Course>,
+    /// The control socket, while there is one.
+    control: Mutex<Option<Control>>,
+    /// 1 once the run is to end.
+    stop: AtomicU64,
+    ghost few_bridges: { length plan.now.bridges ≤ 32 },
+    ghost few_customers: { length plan.now.customers ≤ 128 },
 }
 
 /// What is to happen to the bridge of this number, from 1.
@@ -39,35 +57,38 @@ fn course_of(alloc: Global, events: &[PortEvent], bridge: u8) -> Result<Course, 
     })
 }
 
+/// What is to happen to each bridge of a plan.
+fn courses_of(alloc: Global, plan: &Plan, events: Vec<PortEvent>) -> Result<Vec<Course>, Memory> {
+    let mut events = events;
+    events.sort_by_key(|event| event.at)?;
+    let mut courses = Vec::new(alloc);
+    for place in 0..plan.bridges.len().min(32) {
+        courses.push(course_of(alloc, events.as_slice(), place as u8 + 1)?)?;
+    }
+    Ok(courses)
+}
+
 impl<'a, G> Steering<'a, G> {
-    /// The gate that steers a run of so many bridges, 32 at most, in which these events come and nothing was counted.
-    /// `Memory` is answered where there was none for it.
+    /// The gate that steers a run of a sound plan, in which these events come, beside the gate of whoever runs it. It has no
+    /// control socket. `Memory` is answered where there was none for it.
     pub fn new(
         alloc: Global,
         gate: &'a G,
+        plan: &'a Plan,
         traffic: &'a Traffic,
         events: Vec<PortEvent>,
-        bridges: usize,
-    ) -> Result<Steering<'a, G>, Memory> {
-        let mut events = events;
-        events.sort_by_key(|event| event.at)?;
-        let mut courses = Vec::new(alloc);
-        for place in 0..bridges.min(32) {
-            courses.push(course_of(alloc, events.as_slice(), place as u8 + 1)?)?;
-        }
+    ) -> Result<Steering<'a, G>, Memory>
+        requires { IsSound plan.now }
+    {
+        let courses = courses_of(alloc, plan, events)?;
         Ok(Steering {
             gate,
+            plan,
             traffic,
             courses,
+            control: Mutex::new(None),
+            stop: AtomicU64::new(0),
         })
-    }
-
-    /// The bridge of this number, from 1, is to set one of its ports up or down before its next turn. Nothing happens where
-    /// there is no such bridge, or its port leads to no other.
-    pub fn wish_of(&self, bridge: u8, wish: Wish) {
-        if let Some(course) = self.courses.get(usize::from(bridge).wrapping_sub(1)) {
-            course.mailbox.put(wish);
-        }
     }
 
     /// How many events have not come so far.
@@ -79,6 +100,22 @@ impl<'a, G> Steering<'a, G> {
         left
     }
 
+    /// Whoever connects to this control socket steers the run too, from now on.
+    pub fn plug(&self, control: Control) {
+        if let Some(mut held) = self.control.try_lock() {
+            *held = Some(control);
+        }
+    }
+
+    /// Closes the control socket, where there is one, and removes its file.
+    pub fn unplug<R: Files>(&self, rt: &R) {
+        if let Some(mut held) = self.control.try_lock() {
+            if let Some(control) = held.take() {
+                control.close(rt);
+            }
+        }
+    }
+
     /// The wish that is due at the bridge of this number, from 1, where one is. Its clock has ticked so often.
     fn due(&self, bridge: u8, now: u32) -> Option<Wish> {
         let course = self.courses.get(usize::from(bridge).wrapping_sub(1))?;
@@ -87,10 +124,47 @@ impl<'a, G> Steering<'a, G> {
             None => course.mailbox.take(),
         }
     }
+
+    /// Attends to the control socket, and answers whether the run goes on.
+    fn attend(&self) -> Go {
+        if let Some(mut held) = self.control.try_lock() {
+            if let Some(control) = held.as_mut() {
+                control.turn(self.plan, self);
+            }
+        }
+        if self.stop.load(Ordering::SeqCst) == 0 {
+            Go::Go
+        } else {
+            Go::Stop
+        }
+    }
+}
+
+impl<G> Board for Steering<'_, G> {
+    fn stop(&self) {
+        self.stop.store(1, Ordering::SeqCst);
+    }
+
+    fn set(&self, bridge: u8, port: u8, up: bool) {
+        if let Some(course) = self.courses.get(usize::from(bridge).wrapping_sub(1)) {
+            course.mailbox.put(Wish { port, up });
+        }
+    }
+
+    fn traffic(&self, port: u8) -> (u64, u64) {
+        self.traffic.at_port(port)
+    }
+
+    fn bridge(&self, bridge: u8) -> (u64, u64) {
+        self.traffic.at_bridge(bridge)
+    }
 }
 
 impl<G: Gate> Gate for Steering<'_, G> {
     fn pass(&self, place: Place, turn: u64) -> Go {
+        if turn % LOOK == 0 && place == Place::Bridge(1) && self.attend() == Go::Stop {
+            return Go::Stop;
+        }
         self.gate.pass(place, turn)
     }
 

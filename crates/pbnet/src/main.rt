@@ -183,6 +183,23 @@ fn shown_on(is_terminal: bool, is_asked_for: bool) -> Shown {
     }
 }
 
+/// Whether what is lost changes the exit status.
+fn strictness_of(is_strict: bool) -> Strictness {
+    if is_strict {
+        Strictness::Strict
+    } else {
+        Strictness::Lenient
+    }
+}
+
+/// Where the control socket of a run is to be made.
+fn control_of(order: &RunOrder) -> Option<&str> {
+    match &order.control {
+        Some(path) => Some(path.as_str()),
+        None => None,
+    }
+}
+
 /// What is counted of a run, before it begins.
 fn new_traffic(alloc: Global) -> Result<Arc<Traffic, Global>, AllocError> {
     let traffic = Traffic::new(alloc)?;
@@ -205,16 +222,12 @@ where
         return tell(rt, CommandFault::Memory);
     };
     let progress = Progress::new(rt, counted, shown, order.seconds);
-    let strictness = if order.strict {
-        Strictness::Strict
-    } else {
-        Strictness::Lenient
-    };
     match run_network(
         rt,
         rt.alloc(),
         file.as_slice(),
-        strictness,
+        strictness_of(order.strict),
+        control_of(order),
         &traffic,
         &progress,
         &mut io::writer(rt),

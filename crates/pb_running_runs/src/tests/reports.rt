@@ -1,6 +1,6 @@
 //! What is reported of runs over memory.
 
-use super::plans::{LOSSY, NO_TURN, ONE_STEP, QUIET, RSTP};
+use super::plans::{LOSSY, NEVER, NO_TURN, ONE_STEP, QUIET, RSTP, SET_DOWN};
 use super::{Row, Told, check, check_under, run};
 use pb_fakes::{Full, Unflushed};
 use pb_running::{NetworkFault, Strictness};
@@ -50,6 +50,42 @@ const ROWS: [Row; 4] = [
 fn runs_over_memory_are_reported(rt: HostRuntime) -> Result<(), Fail> {
     for row in &ROWS {
         check(&rt, rt.alloc(), row)?;
+    }
+    Ok(())
+}
+
+/// Runs in which ports are to be set, and what is told of the events that have not come.
+const EVENTS: [(Row, &str); 2] = [
+    (
+        Row {
+            parts: [SET_DOWN, LOSSY],
+            told: Told {
+                result: Ok(0),
+                traffic: (3, 0),
+                closed: 1,
+            },
+            report: "ended drained\nport C1 entered 3 left 0 filtered 0\nport C2 entered 0 left 0 filtered 0\nport C3 entered 0 left 0 filtered 0\nlink L1 ab taken 0 lost 0 ba taken 0 lost 0\nforest yes\n",
+        },
+        "1 event has not come\n",
+    ),
+    (
+        Row {
+            parts: [NEVER, LOSSY],
+            told: Told {
+                result: Ok(0),
+                traffic: (3, 4),
+                closed: 1,
+            },
+            report: "ended drained\nport C1 entered 3 left 0 filtered 0\nport C2 entered 0 left 2 filtered 0\nport C3 entered 0 left 2 filtered 0\nlink L1 ab taken 3 lost 1 ba taken 0 lost 0\nforest yes\n",
+        },
+        "2 events have not come\n",
+    ),
+];
+
+#[test]
+fn events_set_ports_while_a_network_runs(rt: HostRuntime) -> Result<(), Fail> {
+    for (row, remarks) in &EVENTS {
+        check_under(&rt, rt.alloc(), row, Strictness::Strict, remarks)?;
     }
     Ok(())
 }

@@ -1,0 +1,7 @@
+-- How large a network may be.
+use Rattle.std.specs.Prelude.{◌≤◌, length}
+use Rattle.pb_lan.specs.declared.plan.Plan.{Plan}
+
+-- the plan has no more bridges and customer ports than a network may have
+abbrev pub IsFew : Plan → Type 0
+IsFew plan = (length plan.bridges ≤ 32) × (length plan.customers ≤ 128)
