@@ -181,5 +181,19 @@ if command -v python3 >/dev/null 2>&1; then
     is_same out/sockets.report examples/sockets.report
     is_same out/peer examples/peer.expected
 fi
+# A ring under load loses a link by an event, and another by the control socket; frames go the other way.
+if command -v python3 >/dev/null 2>&1; then
+    rm -f out/ring.control
+    python3 examples/load.py >out/load &
+    until grep -q listening out/load 2>/dev/null; do sleep 0.05; done
+    ./pbnet run --control out/ring.control --seconds 60 examples/ring-under-load.toml >out/ring.report 2>out/ring.errors || status=1
+    wait
+    is_same out/load examples/load.expected
+    if [ "$(head -n 1 out/ring.report)" != "ended stopped" ] || [ "$(tail -n 2 out/ring.report)" != "forest yes
+settled yes" ] || [ -e out/ring.control ]; then
+        echo "examples: the ring under load was not stopped, or is no forest, or has not settled: $(cat out/ring.report out/ring.errors)" >&2
+        status=1
+    fi
+fi
 [ "$status" = 0 ] && echo "the examples ran as they stand"
 exit "$status"
