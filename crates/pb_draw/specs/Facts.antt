@@ -9,7 +9,6 @@ use Rattle.pb_lan.specs.Shapes.{state_in, is_active, are_ends_forwarding}
 use Rattle.pb_lan.specs.declared.plan.Plan.{Plan}
 use Rattle.pb_lan.specs.declared.plan.LinkPlan.{LinkPlan}
 use Rattle.pb_lan.specs.declared.plan.CustomerPlan.{CustomerPlan}
-use Rattle.pb_lan.specs.declared.shape.PortState.{PortState}
 use Rattle.pb_lan.specs.declared.shape.PortState.TheVariants.{Discarding}
 use Rattle.pb_lan.specs.declared.shape.Shape.{Shape}
 use Rattle.pb_draw.specs.declared.facts.Tone.{Tone}
@@ -38,9 +37,14 @@ is_link_of plan shape service bridge link = (link.a.bridge == bridge || link.b.b
 abbrev pub is_port_of : ℕ → ℕ → CustomerPlan → Bool
 is_port_of service bridge c = c.bridge == bridge && c.service == service
 
+abbrev pub has_port : Plan → ℕ → ℕ → Bool
+has_port plan service bridge = list_any (is_port_of service bridge) plan.customers
+
+abbrev pub has_link : Plan → Shape → ℕ → ℕ → Bool
+has_link plan shape service bridge = list_any (is_link_of plan shape service bridge) plan.links
+
 abbrev pub is_in_tree : Plan → Shape → ℕ → ℕ → Bool
-is_in_tree plan shape service bridge =
-    list_any (is_port_of service bridge) plan.customers || list_any (is_link_of plan shape service bridge) plan.links
+is_in_tree plan shape service bridge = has_port plan service bridge || has_link plan shape service bridge
 
 -- how bridges, links and services stand out, where a service is asked for
 abbrev pub bridge_tone : Plan → Shape → Option ℕ → ℕ → Tone

@@ -49,24 +49,34 @@ mark_of Learning = codes "m-5 0a5 5 0 1 0 10 0a5 5 0 1 0-10 0z"
 mark_of Forwarding = codes "m-2 0a2 2 0 1 0 4 0a2 2 0 1 0-4 0z"
 
 -- the number of the port at an end, and the mark of its state
-abbrev pub end_text : ℕ → PortState → Point → Point → List ℕ
-end_text port state number landing =
-    codes "<text x=\"" ++ decimal number.x ++ codes "\" y=\"" ++ decimal number.y ++ codes "\">" ++ decimal port ++ codes "</text>"
-    ++ codes "<path class=\"" ++ state_word state ++ codes "\" d=\"M" ++ decimal landing.x ++ codes " " ++ decimal landing.y ++ mark_of state ++ codes "\"/>"
+abbrev pub number_text : ℕ → Point → List ℕ
+number_text port middle = codes "<text x=\"" ++ decimal middle.x ++ codes "\" y=\"" ++ decimal middle.y ++ codes "\">" ++ decimal port ++ codes "</text>"
 
--- the name of a link, and whether it loses frames
-abbrev pub label_text : LinkPlan → Route → List ℕ
-label_text link route =
+abbrev pub mark_text : PortState → Point → List ℕ
+mark_text state middle =
+    codes "<path class=\"" ++ state_word state ++ codes "\" d=\"M" ++ decimal middle.x ++ codes " " ++ decimal middle.y ++ mark_of state ++ codes "\"/>"
+
+abbrev pub end_text : ℕ → PortState → Point → Point → List ℕ
+end_text port state number landing = number_text port number ++ mark_text state landing
+
+-- the name of a link on a plate, and whether the link loses frames
+abbrev pub plate_text : Route → List ℕ
+plate_text route =
     codes "<g transform=\"translate(" ++ decimal route.label.x ++ codes " " ++ decimal route.label.y ++ codes ")\"><rect x=\"-" ++ decimal route.label_half
     ++ codes "\" y=\"-7\" width=\"" ++ decimal (route.label_half * 2) ++ codes "\" height=\"14\"/>"
-    ++ codes "<text class=\"name\" y=\"4\">" ++ link.name ++ losing_word link ++ codes "</text></g>"
+
+abbrev pub name_text : LinkPlan → List ℕ
+name_text link = codes "<text class=\"name\" y=\"4\">" ++ link.name ++ losing_word link ++ codes "</text></g>"
+
+abbrev pub label_text : LinkPlan → Route → List ℕ
+label_text link route = plate_text route ++ name_text link
+
+abbrev pub both_ends : LinkPlan → LinkMark → List ℕ
+both_ends link mark =
+    end_text link.a.port mark.facts.a mark.route.a_port mark.route.a ++ end_text link.b.port mark.facts.b mark.route.b_port mark.route.b
 
 abbrev pub known_ends : LinkPlan → LinkMark → List ℕ
-known_ends link mark =
-    link_class (codes "ends") mark.facts
-    ++ end_text link.a.port mark.facts.a mark.route.a_port mark.route.a
-    ++ end_text link.b.port mark.facts.b mark.route.b_port mark.route.b
-    ++ label_text link mark.route ++ codes "</g>\n"
+known_ends link mark = link_class (codes "ends") mark.facts ++ both_ends link mark ++ label_text link mark.route ++ codes "</g>\n"
 
 abbrev pub ends_element : Plan → LinkMark → List ℕ
 ends_element plan mark = unwrap_or (option_map (λ link. known_ends link mark) (numbered plan.links mark.facts.number)) []

@@ -42,7 +42,7 @@ fn service_named(plan: &Plan, name: &str) -> u8
 /// Whether the plan has the service that is to stand out, if one is.
 fn is_found(plan: &Plan, service: Option<&str>) -> bool
     requires { IsSound plan.now }
-    ensures { result ≡ is_found plan.now service }
+    ensures { result ≡ is_found plan.now service.entry }
 {
     match service {
         None => true,
@@ -53,7 +53,7 @@ fn is_found(plan: &Plan, service: Option<&str>) -> bool
 /// The number of the service that is to stand out, if one is.
 fn chosen_of(plan: &Plan, service: Option<&str>) -> Option<u8>
     requires { IsSound plan.now }
-    ensures { result ≡ chosen_of plan.now service }
+    ensures { result ≡ chosen_of plan.now service.entry }
 {
     match service {
         None => None,

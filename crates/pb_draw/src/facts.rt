@@ -1,7 +1,7 @@
 //! What is drawn of each part of a plan's network.
 
 ghost use Rattle.std.specs.Prelude.{◌≡◌};
-ghost use Rattle.pb_draw.specs.Facts.{shade, service_tone, bridge_tone, link_tone, carries_some, is_active_link, is_link_of, is_port_of, is_in_tree, service_at, bridge_facts, known_facts, link_facts, port_facts, service_facts};
+ghost use Rattle.pb_draw.specs.Facts.{shade, service_tone, bridge_tone, link_tone, carries_some, is_active_link, is_link_of, is_port_of, has_port, has_link, is_in_tree, service_at, bridge_facts, known_facts, link_facts, port_facts, service_facts};
 
 use crate::active::{are_ends_forwarding, is_active, numbered, state_at, vid_numbered};
 use pb_lan::{CustomerPlan, LinkPlan, Plan, PortState, Shape};
@@ -115,19 +115,31 @@ fn is_port_of(service: u8, bridge: u8, customer: &CustomerPlan) -> bool
     customer.bridge == bridge && customer.service == service
 }
 
-/// Whether a customer port or an active link of a service is at a bridge.
-fn is_in_tree(plan: &Plan, shape: &Shape, service: u8, bridge: u8) -> bool
-    ensures { result ≡ is_in_tree plan.now shape.now service bridge }
+/// Whether a customer port of a service is at a bridge.
+fn has_port(plan: &Plan, service: u8, bridge: u8) -> bool
+    ensures { result ≡ has_port plan.now service bridge }
 {
     plan.customers
         .as_slice()
         .iter()
         .any(|customer| is_port_of(service, bridge, customer))
-        || plan
-            .links
-            .as_slice()
-            .iter()
-            .any(|link| is_link_of(plan, shape, service, bridge, link))
+}
+
+/// Whether an active link of a service is at a bridge.
+fn has_link(plan: &Plan, shape: &Shape, service: u8, bridge: u8) -> bool
+    ensures { result ≡ has_link plan.now shape.now service bridge }
+{
+    plan.links
+        .as_slice()
+        .iter()
+        .any(|link| is_link_of(plan, shape, service, bridge, link))
+}
+
+/// Whether a customer port or an active link of a service is at a bridge.
+fn is_in_tree(plan: &Plan, shape: &Shape, service: u8, bridge: u8) -> bool
+    ensures { result ≡ is_in_tree plan.now shape.now service bridge }
+{
+    has_port(plan, service, bridge) || has_link(plan, shape, service, bridge)
 }
 
 /// How a bridge stands out.

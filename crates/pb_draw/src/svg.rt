@@ -1,12 +1,12 @@
 //! A scene as an SVG picture.
 
 ghost use Rattle.std.specs.Prelude.{◌≡◌, ◌++◌, flat_map, string_bytes, OnOk};
-ghost use Rattle.pb_draw.specs.Svg.{head_text, elements_text, svg_text};
+ghost use Rattle.pb_draw.specs.Svg.{opening_text, counts_text, ground_text, group_text, head_text, elements_text, svg_text};
 ghost use Rattle.pb_draw.specs.SvgBoxes.{bridge_element, port_element, service_element};
 ghost use Rattle.pb_draw.specs.SvgLinks.{link_element, ends_element};
 
 use crate::names::colour_of;
-use crate::scene::{BridgeMark, LinkMark, PortMark, Scene, ServiceMark};
+use crate::scene::{BridgeMark, LinkMark, Point, PortMark, Scene, ServiceMark};
 use crate::style::STYLE;
 use crate::svg_boxes::{put_bridge, put_port, put_service};
 use crate::svg_links::{put_ends, put_link};
@@ -69,27 +69,63 @@ fn put_services(out: &mut String, plan: &Plan, marks: &[ServiceMark]) -> Result<
     Ok(())
 }
 
+/// The size of the picture.
+fn put_opening(out: &mut String, size: Point) -> Result<(), Memory>
+    ensures { OnOk result (string_bytes out.new ≡ string_bytes out.old ++ opening_text size) }
+{
+    let (width, height) = (size.x, size.y);
+    write!(
+        out,
+        "<svg xmlns=\"http://www.w3.org/2000/svg\" width=\"{width}\" height=\"{height}\" viewBox=\"0 0 {width} {height}\">\n"
+    )?;
+    Ok(())
+}
+
+/// How many bridges and links there are.
+fn put_counts(out: &mut String, scene: &Scene) -> Result<(), Memory>
+    ensures { OnOk result (string_bytes out.new ≡ string_bytes out.old ++ counts_text scene.now) }
+{
+    let bridges = scene.bridges.len();
+    let links = scene.links.len();
+    write!(out, "<title>Bridges {bridges}, links {links}</title>\n")?;
+    Ok(())
+}
+
+/// The ground.
+fn put_ground(out: &mut String, size: Point) -> Result<(), Memory>
+    ensures { OnOk result (string_bytes out.new ≡ string_bytes out.old ++ ground_text size) }
+{
+    let (width, height) = (size.x, size.y);
+    write!(
+        out,
+        "<rect class=\"ground\" width=\"{width}\" height=\"{height}\"/>\n"
+    )?;
+    Ok(())
+}
+
+/// The colour of what is lit.
+fn put_group(out: &mut String, chosen: Option<u8>) -> Result<(), Memory>
+    ensures { OnOk result (string_bytes out.new ≡ string_bytes out.old ++ group_text chosen) }
+{
+    match chosen {
+        None => out.push_str("<g>\n")?,
+        Some(service) => {
+            let colour = colour_of(service);
+            write!(out, "<g class=\"c{colour}\">\n")?;
+        }
+    }
+    Ok(())
+}
+
 /// What stands before all elements.
 fn put_head(out: &mut String, scene: &Scene) -> Result<(), Memory>
     ensures { OnOk result (string_bytes out.new ≡ string_bytes out.old ++ head_text scene.now) }
 {
-    let (width, height) = (scene.size.x, scene.size.y);
-    let (bridges, links) = (scene.bridges.len(), scene.links.len());
-    writeln!(
-        out,
-        "<svg xmlns=\"http://www.w3.org/2000/svg\" width=\"{width}\" height=\"{height}\" viewBox=\"0 0 {width} {height}\">"
-    )?;
-    writeln!(out, "<title>Bridges {bridges}, links {links}</title>")?;
+    put_opening(out, scene.size)?;
+    put_counts(out, scene)?;
     out.push_str(STYLE)?;
-    writeln!(
-        out,
-        "<rect class=\"ground\" width=\"{width}\" height=\"{height}\"/>"
-    )?;
-    match scene.chosen {
-        None => out.push_str("<g>\n")?,
-        Some(service) => writeln!(out, "<g class=\"c{}\">", colour_of(service))?,
-    }
-    Ok(())
+    put_ground(out, scene.size)?;
+    put_group(out, scene.chosen)
 }
 
 /// The elements of all parts.

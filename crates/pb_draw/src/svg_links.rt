@@ -1,7 +1,7 @@
 //! Links in an SVG picture.
 
 ghost use Rattle.std.specs.Prelude.{◌≡◌, ◌++◌, string_bytes, OnOk};
-ghost use Rattle.pb_draw.specs.SvgLinks.{curve_text, route_text, link_class, known_link, link_element, mark_of, end_text, label_text, known_ends, ends_element};
+ghost use Rattle.pb_draw.specs.SvgLinks.{curve_text, route_text, link_class, known_link, link_element, mark_of, number_text, mark_text, end_text, both_ends, plate_text, name_text, label_text, known_ends, ends_element};
 
 use crate::active::numbered;
 use crate::facts::LinkFacts;
@@ -89,6 +89,26 @@ fn mark_of(state: PortState) -> &'static str
     }
 }
 
+/// The number of a link's port.
+fn put_number(out: &mut String, port: u8, middle: Point) -> Result<(), Memory>
+    ensures { OnOk result (string_bytes out.new ≡ string_bytes out.old ++ number_text port middle) }
+{
+    let (x, y) = (middle.x, middle.y);
+    write!(out, "<text x=\"{x}\" y=\"{y}\">{port}</text>")?;
+    Ok(())
+}
+
+/// The mark of a state.
+fn put_mark(out: &mut String, state: PortState, middle: Point) -> Result<(), Memory>
+    ensures { OnOk result (string_bytes out.new ≡ string_bytes out.old ++ mark_text state middle) }
+{
+    let (x, y) = (middle.x, middle.y);
+    let class = state_word(state);
+    let mark = mark_of(state);
+    write!(out, "<path class=\"{class}\" d=\"M{x} {y}{mark}\"/>")?;
+    Ok(())
+}
+
 /// The number of a link's port, and the mark of its state.
 fn put_end(
     out: &mut String,
@@ -99,30 +119,22 @@ fn put_end(
 ) -> Result<(), Memory>
     ensures { OnOk result (string_bytes out.new ≡ string_bytes out.old ++ end_text port state number landing) }
 {
-    let (x, y) = (number.x, number.y);
-    write!(out, "<text x=\"{x}\" y=\"{y}\">{port}</text>")?;
-    let (x, y) = (landing.x, landing.y);
-    let (class, mark) = (state_word(state), mark_of(state));
-    write!(out, "<path class=\"{class}\" d=\"M{x} {y}{mark}\"/>")?;
-    Ok(())
+    put_number(out, port, number)?;
+    put_mark(out, state, landing)
 }
 
-/// The name of a link, and its ends.
-fn put_known_ends(out: &mut String, link: &LinkPlan, mark: &LinkMark) -> Result<(), Memory>
-    ensures { OnOk result (string_bytes out.new ≡ string_bytes out.old ++ known_ends link.now mark.now) }
+/// Both ends of a link.
+fn put_both_ends(out: &mut String, link: &LinkPlan, mark: &LinkMark) -> Result<(), Memory>
+    ensures { OnOk result (string_bytes out.new ≡ string_bytes out.old ++ both_ends link.now mark.now) }
 {
     let (facts, route) = (mark.facts, mark.route);
-    put_link_class(out, "ends", facts)?;
     put_end(out, link.a.port, facts.a, route.a_port, route.a)?;
-    put_end(out, link.b.port, facts.b, route.b_port, route.b)?;
-    put_label(out, link, &route)?;
-    out.push_str("</g>\n")?;
-    Ok(())
+    put_end(out, link.b.port, facts.b, route.b_port, route.b)
 }
 
-/// The name of a link, on a plate that hides the line behind it.
-fn put_label(out: &mut String, link: &LinkPlan, route: &Route) -> Result<(), Memory>
-    ensures { OnOk result (string_bytes out.new ≡ string_bytes out.old ++ label_text link.now route.now) }
+/// A plate that hides the line behind a link's name.
+fn put_plate(out: &mut String, route: &Route) -> Result<(), Memory>
+    ensures { OnOk result (string_bytes out.new ≡ string_bytes out.old ++ plate_text route.now) }
 {
     let (x, y) = (route.label.x, route.label.y);
     let half = route.label_half;
@@ -131,12 +143,38 @@ fn put_label(out: &mut String, link: &LinkPlan, route: &Route) -> Result<(), Mem
         out,
         "<g transform=\"translate({x} {y})\"><rect x=\"-{half}\" y=\"-7\" width=\"{width}\" height=\"14\"/>"
     )?;
+    Ok(())
+}
+
+/// The name of a link on its plate, and whether the link loses frames.
+fn put_name(out: &mut String, link: &LinkPlan) -> Result<(), Memory>
+    ensures { OnOk result (string_bytes out.new ≡ string_bytes out.old ++ name_text link.now) }
+{
     let name = link.name.as_str();
     let losing = losing_word(link);
     write!(
         out,
         "<text class=\"name\" y=\"4\">{name}{losing}</text></g>"
     )?;
+    Ok(())
+}
+
+/// The name of a link, on its plate.
+fn put_label(out: &mut String, link: &LinkPlan, route: &Route) -> Result<(), Memory>
+    ensures { OnOk result (string_bytes out.new ≡ string_bytes out.old ++ label_text link.now route.now) }
+{
+    put_plate(out, route)?;
+    put_name(out, link)
+}
+
+/// The name of a link, and its ends.
+fn put_known_ends(out: &mut String, link: &LinkPlan, mark: &LinkMark) -> Result<(), Memory>
+    ensures { OnOk result (string_bytes out.new ≡ string_bytes out.old ++ known_ends link.now mark.now) }
+{
+    put_link_class(out, "ends", mark.facts)?;
+    put_both_ends(out, link, mark)?;
+    put_label(out, link, &mark.route)?;
+    out.push_str("</g>\n")?;
     Ok(())
 }
 

@@ -51,3 +51,8 @@ impl Table {
         greatest
     }
 }
+
+/// The number of the part at a place of a list, counted from 1. A sound plan has at most 128 parts in a list.
+pub(crate) fn number_at(place: usize) -> u32 {
+    place.min(255) as u32 + 1
+}

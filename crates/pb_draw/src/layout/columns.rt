@@ -4,7 +4,7 @@ use super::levels::levels;
 use super::order::centres;
 use super::slots::{Side, slot_of};
 use crate::active::numbered;
-use crate::table::Table;
+use crate::table::{Table, number_at};
 use pb_lan::{CustomerPlan, LinkPlan, Plan, Shape};
 
 /// Free room between two boxes of a level.
@@ -94,7 +94,7 @@ fn widest_text(plan: &Plan) -> u32 {
 fn widest_edge(plan: &Plan, levels: &Table, centres: &Table) -> u32 {
     let mut most = 0u32;
     for (place, link) in plan.links.as_slice().iter().enumerate() {
-        let number = (place as u32).saturating_add(1);
+        let number = number_at(place);
         let a = slot_of(plan, levels, centres, link, number, Side::A);
         let b = slot_of(plan, levels, centres, link, number, Side::B);
         most = most.max(a.count).max(b.count);
@@ -115,7 +115,7 @@ fn widest_label(plan: &Plan) -> u32 {
 fn leftmost(plan: &Plan, centres: &Table) -> u32 {
     let mut first = u32::MAX;
     for (place, _) in plan.bridges.as_slice().iter().enumerate() {
-        first = first.min(centres.at((place as u32).saturating_add(1)));
+        first = first.min(centres.at(number_at(place)));
     }
     first
 }
@@ -167,7 +167,7 @@ impl Columns {
     pub(crate) fn right(&self, plan: &Plan) -> u32 {
         let mut right = self.left;
         for (place, _) in plan.bridges.as_slice().iter().enumerate() {
-            let left = self.box_left((place as u32).saturating_add(1));
+            let left = self.box_left(number_at(place));
             right = right.max(left.saturating_add(self.box_width));
         }
         right

@@ -1,21 +1,30 @@
 //! At which level each bridge stands: how many links lead up to the root of its tree.
 
+ghost use Rattle.std.specs.Prelude.{◌≡◌};
+ghost use Rattle.pb_rstp.specs.Vectors.{bridge_id};
+
 use crate::active::are_ends_forwarding;
-use crate::table::Table;
+use crate::table::{Table, number_at};
 use byteorder::{BigEndian, ByteOrder};
+use pb_frame::Mac;
 use pb_lan::{BridgePlan, Plan, Shape, Spanning};
 
 /// The level of a bridge that has none yet.
 pub(crate) const NOWHERE: u32 = u32::MAX;
+
+/// The identifier of a bridge (IEEE 802.1D-2004 clause 9.2.5).
+fn bridge_id(priority: u16, address: Mac) -> u64
+    ensures { result ≡ bridge_id priority address.0 }
+{
+    priority as u64 * 0x1_0000_0000_0000 + BigEndian::read_uint(&address.0, 6)
+}
 
 /// What tells which bridge of a tree is its root: the lowest. Where the bridges decide the states it is their identifier
 /// (IEEE 802.1D-2004 clause 9.2.5).
 fn rank(plan: &Plan, place: usize, bridge: &BridgePlan) -> u64 {
     match plan.spanning {
         Spanning::Fixed => place as u64,
-        Spanning::Rstp => {
-            bridge.priority as u64 * 0x1_0000_0000_0000 + BigEndian::read_uint(&bridge.address.0, 6)
-        }
+        Spanning::Rstp => bridge_id(bridge.priority, bridge.address),
     }
 }
 
@@ -23,7 +32,7 @@ fn rank(plan: &Plan, place: usize, bridge: &BridgePlan) -> u64 {
 fn next_root(plan: &Plan, levels: &Table) -> Option<u32> {
     let mut best: Option<(u64, u32)> = None;
     for (place, bridge) in plan.bridges.as_slice().iter().enumerate() {
-        let number = (place as u32).saturating_add(1);
+        let number = number_at(place);
         let rank = rank(plan, place, bridge);
         let is_better = match best {
             None => true,

@@ -2,7 +2,7 @@
 
 use super::columns::{Columns, MARGIN};
 use super::tracks::{Stretch, depths};
-use crate::table::Table;
+use crate::table::{Table, number_at};
 use pb_lan::Plan;
 
 /// What a box is high without ports.
@@ -43,7 +43,7 @@ fn port_count(plan: &Plan, bridge: u32) -> u32 {
 fn heights(plan: &Plan, levels: &Table) -> Table {
     let mut heights = Table::filled(0);
     for (place, _) in plan.bridges.as_slice().iter().enumerate() {
-        let number = (place as u32).saturating_add(1);
+        let number = number_at(place);
         let ports = port_count(plan, number).saturating_mul(PORT_HEIGHT);
         heights.raise(levels.at(number), BARE_HEIGHT.saturating_add(ports));
     }

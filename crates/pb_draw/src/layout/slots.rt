@@ -1,6 +1,6 @@
 //! Where on the edges of the boxes links end.
 
-use crate::table::Table;
+use crate::table::{Table, number_at};
 use pb_lan::{LinkPlan, Plan};
 
 /// Right of all bridges, where a link passes levels that it doesn't end at.
@@ -97,7 +97,7 @@ pub(crate) fn slot_of(
     let own = landing_of(levels, centres, link, number, side);
     let mut slot = Slot { index: 0, count: 0 };
     for (place, other) in plan.links.as_slice().iter().enumerate() {
-        let number = (place as u32).saturating_add(1);
+        let number = number_at(place);
         let a = landing_of(levels, centres, other, number, Side::A);
         count_landing(&mut slot, own, a);
         let b = landing_of(levels, centres, other, number, Side::B);

@@ -2,7 +2,7 @@
 
 use super::columns::{Columns, label_width};
 use super::slots::{Side, is_long, lower_level, upper_level};
-use crate::table::Table;
+use crate::table::{Table, number_at};
 use pb_frame::Memory;
 use pb_lan::{LinkPlan, Plan};
 use std::alloc::Global;
@@ -67,7 +67,7 @@ pub(crate) fn lane(columns: &Columns, plan: &Plan, before: u32) -> u32 {
 pub(crate) fn long_before(columns: &Columns, plan: &Plan, number: u32) -> u32 {
     let mut count = 0u32;
     for (place, link) in plan.links.as_slice().iter().enumerate() {
-        if (place as u32) < number.saturating_sub(1) && is_long(&columns.levels, link) {
+        if number_at(place) < number && is_long(&columns.levels, link) {
             count = count.saturating_add(1);
         }
     }
@@ -146,7 +146,7 @@ fn put_stretch(stretches: &mut Vec<Stretch>, mut stretch: Stretch) -> Result<(),
 fn all_stretches(alloc: Global, columns: &Columns, plan: &Plan) -> Result<Vec<Stretch>, Memory> {
     let mut stretches = Vec::new(alloc);
     for (place, link) in plan.links.as_slice().iter().enumerate() {
-        let number = (place as u32).saturating_add(1);
+        let number = number_at(place);
         stretches.push(upper_stretch(columns, plan, link, number))?;
         if is_long(&columns.levels, link) {
             stretches.push(lower_stretch(columns, plan, link, number))?;
