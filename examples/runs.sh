@@ -1,6 +1,6 @@
 #!/usr/bin/env bash
 # Runs the proved program on the examples, and compares what it prints and writes with what stands beside them: `flat`,
-# `show`, `check`, `init`, each step script, and `run` with record.toml, captures.toml, clock.toml, and sockets.toml with
+# `show`, `check`, `init`, `draw`, each step script, and `run` with record.toml, captures.toml, clock.toml, and sockets.toml with
 # its peers, where python3 is there; that a run is stopped in time; that runs which are refused leave files as they were;
 # and that standard error says where a plan is wrong. The gate runs the same texts as tests,
 # which same.sh compares with these files.
@@ -50,6 +50,10 @@ done
 
 prints access.expected survive examples/access.toml
 prints tree.expected tree examples/failover.toml
+
+# The picture that the pages show.
+./pbnet draw examples/metro.toml >out/metro.svg
+is_same out/metro.svg docs/metro.svg
 
 for script in examples/*.steps; do
     name=$(basename -- "$script" .steps)

@@ -1,5 +1,6 @@
 //! Runs with ample memory, a file for each library.
 
+mod draw_words;
 mod lines;
 mod losses;
 mod survive_words;

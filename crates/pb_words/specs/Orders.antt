@@ -4,7 +4,7 @@ use Rattle.std.specs.declared.option.Option.{Option}
 use Rattle.pb_words.specs.declared.init_order.InitOrder.{InitOrder}
 use Rattle.pb_words.specs.declared.init_order.InitOrder.TheVariants.{Line, Ring, Star}
 use Rattle.pb_words.specs.declared.order.Order.{Order}
-use Rattle.pb_words.specs.declared.order.Order.TheVariants.{Flat, Check, Step, Run, Tree, Show, Init, Survive}
+use Rattle.pb_words.specs.declared.order.Order.TheVariants.{Flat, Check, Step, Run, Tree, Show, Init, Survive, Draw}
 
 -- a run is stopped after 1 to 1,000,000,000 seconds, or not
 abbrev pub AreSeconds : Option ℕ → Type 0
@@ -43,6 +43,7 @@ IsAllowed (Tree tree) = AreTicks tree.ticks
 IsAllowed Show = Unit {0}
 IsAllowed (Init order) = IsNetwork order
 IsAllowed (Survive order) = AreWaitedTicks order.ticks
+IsAllowed (Draw order) = AreTicks order.ticks
 
 -- the order of a command that has the plan file at a path, and nothing else
 abbrev pub IsFileOrder : List ℕ → List ℕ → Order → Type 0

@@ -1,12 +1,14 @@
 //! What the words of the program's command line ask for.
 #![tactic(auto)]
 
+mod draw_order;
 mod init_order;
 mod order;
 mod run_order;
 mod survive_order;
 mod tree_order;
 
+pub use draw_order::{DrawOrder, PictureFormat};
 pub use init_order::InitOrder;
 pub use order::{Order, order_of};
 pub use run_order::RunOrder;

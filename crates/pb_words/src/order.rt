@@ -4,6 +4,7 @@ ghost use Rattle.std.specs.Prelude.{IfOk, IfSome, IfNone};
 ghost use Rattle.pb_words.specs.Orders.{IsAllowed, IsFileOrder};
 ghost use Rattle.pb_words.specs.declared.order.Order.{Order};
 
+use crate::draw_order::{DrawOrder, draw_command, draw_order};
 use crate::init_order::{InitOrder, init_command, init_order};
 use crate::run_order::{RunOrder, run_command, run_order};
 use crate::survive_order::{SurviveOrder, survive_command, survive_order};
@@ -49,6 +50,8 @@ pub enum Order {
     Init(InitOrder),
     /// Looking at the network of a plan file under failures.
     Survive(SurviveOrder),
+    /// Drawing the network of a plan file.
+    Draw(DrawOrder),
 }
 
 /// The argument that names a plan file.
@@ -102,6 +105,7 @@ fn commands<'a>(alloc: Global) -> Result<Command<'a>, Error> {
     let program = with(program, run_command(alloc)?, plan_file(alloc))?;
     let program = with(program, tree_command(alloc)?, plan_file(alloc))?;
     let program = with(program, survive_command(alloc)?, plan_file(alloc))?;
+    let program = with(program, draw_command(alloc)?, plan_file(alloc))?;
     let show = Command::new(alloc, "show").about(SHOW);
     let program = program.subcommand(show)?;
     Ok(program.subcommand(init_command(alloc)?)?)
@@ -145,6 +149,9 @@ pub fn order_of(alloc: Global, words: &[String]) -> Result<Option<Order>, Error>
             Some(path) if command == "run" => Ok(Some(Order::Run(run_order(alloc, path, given)?))),
             Some(path) if command == "tree" => {
                 Ok(Some(Order::Tree(tree_order(alloc, path, given)?)))
+            }
+            Some(path) if command == "draw" => {
+                Ok(Some(Order::Draw(draw_order(alloc, path, given)?)))
             }
             Some(path) if command == "survive" => Ok(Some(Order::Survive(survive_order(
                 alloc, path, given,

@@ -7,11 +7,12 @@
 //! connected to, or a file has two uses (standard error says which), `spawn` where a thread could not be started, and,
 //! behind the report of a run, `port NAME N` for each port whose input has the fault N. A run that is strict has the status
 //! 4 where it would be 0 and a frame was lost, the run did not drain, or bridges have not settled; `survive` has it where a
-//! failure parts a service, and the status 2 where the plan lacks what is named.
+//! failure parts a service, and the status 2 where the plan lacks what is named, as `draw` has.
 #![tactic(auto)]
 
 ghost use Rattle.std.specs.Prelude.{◌≤◌};
 
+mod draw;
 mod progress;
 mod survive;
 mod trees;
@@ -69,6 +70,7 @@ fn main(rt: HostRuntime) -> ExitCode {
         Ok(Some(Order::Show)) => show(&rt),
         Ok(Some(Order::Init(order))) => init(&rt, order),
         Ok(Some(Order::Survive(order))) => survive::tell_survivals(&rt, &order),
+        Ok(Some(Order::Draw(order))) => draw::draw_network(&rt, &order),
         Ok(None) => ExitCode::from(WRONG_WORDS),
         Err(e) if e.kind() == WordsFault::OutOfMemory => tell(&rt, CommandFault::Memory),
         Err(e) => {

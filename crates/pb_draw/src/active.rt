@@ -1,0 +1,116 @@
+//! Look-ups in plans and shapes, and which links carry a service.
+
+ghost use Rattle.std.specs.Prelude.{◌≡◌, ◌==◌};
+ghost use Rattle.std.specs.List.{list_any};
+ghost use Rattle.std.specs.Option.{option_copied};
+ghost use Rattle.pb_forest.specs.ServiceVids.{vid_numbered};
+ghost use Rattle.pb_lan.specs.Numbering.{numbered};
+ghost use Rattle.pb_lan.specs.Ports.{has_vid, serves};
+ghost use Rattle.pb_lan.specs.Shapes.{is_forwarding, state_in, is_end_forwarding, are_ends_forwarding, is_open, is_active};
+
+use pb_lan::{End, LinkPlan, Plan, PortState, ServicePlan, Shape};
+
+/// The thing of this number, if there is one. The first has number 1.
+pub(crate) fn numbered<T>(things: &[T], number: usize) -> Option<&T>
+    ensures { option_copied result ≡ numbered things.now number }
+{
+    if number == 0 {
+        return None;
+    }
+    things.get(number - 1)
+}
+
+/// The VID of the service of this number; 0 where there is none.
+pub(crate) fn vid_numbered(plan: &Plan, service: u8) -> u16
+    ensures { result ≡ vid_numbered plan.now service }
+{
+    match numbered(plan.services.as_slice(), service as usize) {
+        None => 0,
+        Some(service) => service.vid,
+    }
+}
+
+/// Whether the service of this number goes by this VID.
+fn has_vid(plan: &Plan, vid: u16, service: u8) -> bool
+    ensures { result ≡ has_vid plan.now vid service }
+{
+    match numbered(plan.services.as_slice(), service as usize) {
+        None => false,
+        Some(service) => service.vid == vid,
+    }
+}
+
+/// Whether some service goes by this VID.
+fn is_vid_of_some(services: &[ServicePlan], vid: u16) -> bool
+    ensures { result ≡ list_any (λ s. s.vid == vid) services.now }
+{
+    services.iter().any(|service| service.vid == vid)
+}
+
+/// Whether one of the services of these numbers goes by this VID.
+fn is_vid_of_listed(plan: &Plan, vid: u16, numbers: &[u8]) -> bool
+    ensures { result ≡ list_any (has_vid plan.now vid) numbers.now }
+{
+    numbers.iter().any(|number| has_vid(plan, vid, *number))
+}
+
+/// Whether the end is a member of a service with this VID.
+fn serves(plan: &Plan, vid: u16, end: &End) -> bool
+    ensures { result ≡ serves plan.now vid end.now }
+{
+    match &end.services {
+        None => is_vid_of_some(plan.services.as_slice(), vid),
+        Some(numbers) => is_vid_of_listed(plan, vid, numbers.as_slice()),
+    }
+}
+
+/// The state of the end's port.
+pub(crate) fn state_at(shape: &Shape, end: &End) -> PortState
+    ensures { result ≡ state_in shape.now end.now.bridge end.now.port }
+{
+    match numbered(shape.states.as_slice(), end.bridge as usize) {
+        None => PortState::Discarding,
+        Some(states) => match numbered(states.as_slice(), end.port as usize) {
+            None => PortState::Discarding,
+            Some(state) => *state,
+        },
+    }
+}
+
+/// Whether the port forwards.
+fn is_forwarding(state: PortState) -> bool
+    ensures { result ≡ is_forwarding state }
+{
+    match state {
+        PortState::Forwarding => true,
+        PortState::Discarding | PortState::Learning => false,
+    }
+}
+
+/// Whether the end is Forwarding.
+fn is_end_forwarding(shape: &Shape, end: &End) -> bool
+    ensures { result ≡ is_end_forwarding shape.now end.now }
+{
+    is_forwarding(state_at(shape, end))
+}
+
+/// Whether both ends of a link are Forwarding.
+pub(crate) fn are_ends_forwarding(shape: &Shape, link: &LinkPlan) -> bool
+    ensures { result ≡ are_ends_forwarding shape.now link.now }
+{
+    is_end_forwarding(shape, &link.a) && is_end_forwarding(shape, &link.b)
+}
+
+/// Whether the end is Forwarding, and a member of the service.
+fn is_open(plan: &Plan, shape: &Shape, vid: u16, end: &End) -> bool
+    ensures { result ≡ is_open plan.now shape.now vid end.now }
+{
+    is_end_forwarding(shape, end) && serves(plan, vid, end)
+}
+
+/// Whether the link carries the service.
+pub(crate) fn is_active(plan: &Plan, shape: &Shape, vid: u16, link: &LinkPlan) -> bool
+    ensures { result ≡ is_active plan.now shape.now vid link.now }
+{
+    is_open(plan, shape, vid, &link.a) && is_open(plan, shape, vid, &link.b)
+}

@@ -1,0 +1,165 @@
+//! How links run.
+
+use super::Layout;
+use super::columns::label_width;
+use super::slots::{Side, is_long, lands_on_top, lower_level, upper_level};
+use super::tracks::{lane, long_before, track_of};
+use crate::active::numbered;
+use crate::scene::{Lane, Point, Route};
+use pb_lan::{LinkPlan, Plan};
+
+/// How far below the upper edge of a box the number of a link's port stands.
+const NUMBER_BELOW_TOP: u32 = 14;
+
+/// How far above the lower edge.
+const NUMBER_ABOVE_BOTTOM: u32 = 7;
+
+/// Free room beside the name of a link.
+const BESIDE_LABEL: u32 = 4;
+
+impl Layout {
+    /// Where an end of a link lands at its bridge's box.
+    fn landing(&self, plan: &Plan, link: &LinkPlan, number: u8, side: Side) -> Point {
+        let bridge = match side {
+            Side::A => link.a.bridge,
+            Side::B => link.b.bridge,
+        };
+        let level = self.columns.levels.at(bridge as u32);
+        Point {
+            x: self.columns.landing(plan, link, number as u32, side),
+            y: if lands_on_top(&self.columns.levels, link, side) {
+                self.rows.tops.at(level)
+            } else {
+                self.rows.floor(level)
+            },
+        }
+    }
+
+    /// How a link runs between two points on two levels, one below the other or the same.
+    fn direct(&self, link: &LinkPlan, number: u8, a: Point, b: Point) -> Route {
+        let level = upper_level(&self.columns.levels, link);
+        let track = track_of(self.stretches.as_slice(), number as u32, false);
+        let bend = self.rows.bend(level, track);
+        let gap = self.rows.next(level).saturating_sub(self.rows.floor(level));
+        let bend = if a.y == b.y {
+            bend.saturating_add(gap / 6)
+        } else {
+            bend
+        };
+        Route {
+            a,
+            b,
+            bend,
+            lane: None,
+            label: middle(a, b, bend),
+            label_half: label_half(link),
+            a_port: self.port_number(link, Side::A, a),
+            b_port: self.port_number(link, Side::B, b),
+        }
+    }
+
+    /// How a link runs that passes levels.
+    fn around(&self, plan: &Plan, link: &LinkPlan, number: u8, a: Point, b: Point) -> Route {
+        let levels = &self.columns.levels;
+        let upper = upper_level(levels, link);
+        let above = lower_level(levels, link).saturating_sub(1);
+        let x = lane(
+            &self.columns,
+            plan,
+            long_before(&self.columns, plan, number as u32),
+        );
+        let stretches = self.stretches.as_slice();
+        let upper_bend = self
+            .rows
+            .bend(upper, track_of(stretches, number as u32, false));
+        let lower_bend = self
+            .rows
+            .bend(above, track_of(stretches, number as u32, true));
+        let enters = Point {
+            x,
+            y: self.rows.next(upper),
+        };
+        let leaves = self.rows.floor(above);
+        let (bend, lane, end) = if levels.at(link.a.bridge as u32) == upper {
+            let lane = Lane {
+                x,
+                bend: lower_bend,
+                from_a: enters.y,
+                to_b: leaves,
+            };
+            (upper_bend, lane, a)
+        } else {
+            let lane = Lane {
+                x,
+                bend: upper_bend,
+                from_a: leaves,
+                to_b: enters.y,
+            };
+            (lower_bend, lane, b)
+        };
+        Route {
+            a,
+            b,
+            bend,
+            lane: Some(lane),
+            label: middle(end, enters, upper_bend),
+            label_half: label_half(link),
+            a_port: self.port_number(link, Side::A, a),
+            b_port: self.port_number(link, Side::B, b),
+        }
+    }
+
+    /// The middle of the number of a link's port, which stands in the bridge's box.
+    fn port_number(&self, link: &LinkPlan, side: Side, landing: Point) -> Point {
+        let y = if lands_on_top(&self.columns.levels, link, side) {
+            landing.y.saturating_add(NUMBER_BELOW_TOP)
+        } else {
+            landing.y.saturating_sub(NUMBER_ABOVE_BOTTOM)
+        };
+        Point { x: landing.x, y }
+    }
+
+    /// How a link runs.
+    pub(crate) fn route(&self, plan: &Plan, number: u8) -> Route {
+        let Some(link) = numbered(plan.links.as_slice(), number as usize) else {
+            return nowhere();
+        };
+        let a = self.landing(plan, link, number, Side::A);
+        let b = self.landing(plan, link, number, Side::B);
+        if is_long(&self.columns.levels, link) {
+            self.around(plan, link, number, a, b)
+        } else {
+            self.direct(link, number, a, b)
+        }
+    }
+}
+
+/// Half of the width of a link's name, with room beside it.
+fn label_half(link: &LinkPlan) -> u32 {
+    (label_width(link) / 2).saturating_add(BESIDE_LABEL)
+}
+
+/// The middle of the curve between two points that bends so far down.
+fn middle(a: Point, b: Point, bend: u32) -> Point {
+    let between = a.x.min(b.x).saturating_add(a.x.abs_diff(b.x) / 2);
+    let ends = a.y.saturating_add(b.y);
+    Point {
+        x: between,
+        y: bend.saturating_mul(6).saturating_add(ends) / 8,
+    }
+}
+
+/// A way of no length.
+fn nowhere() -> Route {
+    let corner = Point { x: 0, y: 0 };
+    Route {
+        a: corner,
+        b: corner,
+        bend: 0,
+        lane: None,
+        label: corner,
+        label_half: 0,
+        a_port: corner,
+        b_port: corner,
+    }
+}

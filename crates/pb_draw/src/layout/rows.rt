@@ -1,0 +1,106 @@
+//! Where things stand from the top down.
+
+use super::columns::{Columns, MARGIN};
+use super::tracks::{Stretch, depths};
+use crate::table::{Table, number_at};
+use pb_lan::Plan;
+
+/// What a box is high without ports.
+const BARE_HEIGHT: u32 = 48;
+
+/// What each port adds.
+pub(crate) const PORT_HEIGHT: u32 = 16;
+
+/// From one depth of links to the next.
+const DEPTH: u32 = 24;
+
+/// Free room above and below the links between two levels.
+const BESIDE: u32 = 20;
+
+/// Where levels stand from the top down.
+#[derive(Clone, Copy)]
+pub(crate) struct Rows {
+    /// By level, its upper edge.
+    pub tops: Table,
+    /// By level, the height of its boxes.
+    pub heights: Table,
+    /// The lower edge of all.
+    pub bottom: u32,
+}
+
+/// How many customer ports a bridge has.
+fn port_count(plan: &Plan, bridge: u32) -> u32 {
+    let mut count = 0u32;
+    for customer in plan.customers.as_slice() {
+        if customer.bridge as u32 == bridge {
+            count = count.saturating_add(1);
+        }
+    }
+    count
+}
+
+/// By level, the height of its boxes; 0 where no bridge stands.
+fn heights(plan: &Plan, levels: &Table) -> Table {
+    let mut heights = Table::filled(0);
+    for (place, _) in plan.bridges.as_slice().iter().enumerate() {
+        let number = number_at(place);
+        let ports = port_count(plan, number).saturating_mul(PORT_HEIGHT);
+        heights.raise(levels.at(number), BARE_HEIGHT.saturating_add(ports));
+    }
+    heights
+}
+
+/// The height of what is between a level and the next one.
+fn gap_below(depths: u32, is_last: bool) -> u32 {
+    if depths == 0 && is_last {
+        0
+    } else {
+        depths.saturating_mul(DEPTH).saturating_add(BESIDE)
+    }
+}
+
+/// Where the levels of a plan stand from the top down.
+pub(crate) fn rows_of(plan: &Plan, columns: &Columns, stretches: &[Stretch]) -> Rows {
+    let heights = heights(plan, &columns.levels);
+    let depths = depths(stretches);
+    let mut tops = Table::filled(0);
+    let mut y = MARGIN;
+    for level in 0..32u32 {
+        tops.set(level, y);
+        let height = heights.at(level);
+        let is_last = heights.at(level + 1) == 0;
+        if height > 0 {
+            let gap = gap_below(depths.at(level), is_last);
+            y = y.saturating_add(height).saturating_add(gap);
+        }
+    }
+    Rows {
+        tops,
+        heights,
+        bottom: y,
+    }
+}
+
+impl Rows {
+    /// The lower edge of a level's boxes.
+    pub(crate) fn floor(&self, level: u32) -> u32 {
+        self.tops.at(level).saturating_add(self.heights.at(level))
+    }
+
+    /// The upper edge of what stands below a level: the next level, or the lower edge of all.
+    pub(crate) fn next(&self, level: u32) -> u32 {
+        let next = self.tops.at(level.saturating_add(1));
+        if self.heights.at(level.saturating_add(1)) == 0 {
+            self.bottom
+        } else {
+            next
+        }
+    }
+
+    /// How far down links of a depth bend below a level.
+    pub(crate) fn bend(&self, level: u32, track: u32) -> u32 {
+        self.floor(level)
+            .saturating_add(BESIDE)
+            .saturating_add(track.saturating_mul(DEPTH))
+    }
+}

@@ -1,0 +1,30 @@
+//! Pictures of a plan's network: the command `draw`.
+#![tactic(auto)]
+
+mod active;
+mod asked;
+mod dot;
+mod draw;
+mod end;
+mod facts;
+mod falls;
+mod layout;
+mod marks;
+mod names;
+mod scene;
+mod style;
+mod svg;
+mod svg_boxes;
+mod svg_links;
+mod table;
+mod titles;
+
+pub use asked::Asked;
+pub use dot::put_dot;
+pub use draw::run_draw;
+pub use end::{DrawEnd, Format};
+pub use facts::{BridgeFacts, LinkFacts, PortFacts, ServiceFacts, Tone};
+pub use marks::scene_of;
+pub use pb_settle::Rest;
+pub use scene::{BridgeMark, Lane, LinkMark, Point, PortMark, Route, Scene, ServiceMark};
+pub use svg::put_svg;

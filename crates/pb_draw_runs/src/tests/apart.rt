@@ -1,0 +1,132 @@
+//! That no box and no name of a link hides another.
+
+use super::plans;
+use pb_draw::{BridgeMark, LinkMark, Scene, scene_of};
+use pb_lan::start_shape;
+use pb_service::read_plan;
+use std::alloc::Global;
+use std::process::Abort;
+use std::test::Fail;
+
+/// A rectangle: its left, upper, right and lower edge.
+#[derive(Clone, Copy, Debug)]
+struct Area(u64, u64, u64, u64);
+
+/// What the box of a bridge takes.
+fn area_of_box(mark: &BridgeMark) -> Area {
+    let (left, top) = (mark.corner.x as u64, mark.corner.y as u64);
+    let (width, height) = (mark.size.x as u64, mark.size.y as u64);
+    Area(left, top, left + width, top + height)
+}
+
+/// What the name of a link takes.
+fn area_of_name(mark: &LinkMark) -> Area {
+    let half = mark.route.label_half as u64;
+    let (x, y) = (mark.route.label.x as u64, mark.route.label.y as u64);
+    Area(x.saturating_sub(half), y.saturating_sub(7), x + half, y + 7)
+}
+
+/// Whether two rectangles have nothing in common.
+fn are_apart(one: Area, other: Area) -> bool {
+    one.2 <= other.0 || other.2 <= one.0 || one.3 <= other.1 || other.3 <= one.1
+}
+
+/// What all boxes and names take.
+fn areas(alloc: Global, scene: &Scene) -> Result<Vec<Area>, Fail> {
+    let mut areas = Vec::new(alloc);
+    for mark in scene.bridges.as_slice() {
+        areas.push(area_of_box(mark))?;
+    }
+    for mark in scene.links.as_slice() {
+        areas.push(area_of_name(mark))?;
+    }
+    Ok(areas)
+}
+
+/// All boxes and names of a scene are apart, and within the picture.
+fn are_all_apart(rt: &impl Abort, alloc: Global, scene: &Scene) -> Result<(), Fail> {
+    let areas = areas(alloc, scene)?;
+    let (width, height) = (scene.size.x as u64, scene.size.y as u64);
+    for (number, one) in areas.as_slice().iter().enumerate() {
+        assert!(rt;
+            one.2 <= width && one.3 <= height,
+            "{one:?} leaves the picture"
+        );
+        for other in areas.as_slice().iter().take(number) {
+            assert!(rt; are_apart(*one, *other), "{one:?} {other:?}");
+        }
+    }
+    Ok(())
+}
+
+/// The scene of a plan file, with the states at the start.
+fn scene(rt: &impl Abort, alloc: Global, file: &str) -> Result<Scene, Fail> {
+    let Ok((plan, _ports)) = read_plan(alloc, file.as_bytes()) else {
+        panic!(rt; "no plan: {file}");
+    };
+    let shape = start_shape(alloc, &plan)?;
+    Ok(scene_of(alloc, &plan, &shape, None)?)
+}
+
+/// A plan file in which bridge K, from 1, is joined to each of `ahead` bridges behind it, all with the states of a tree:
+/// only the first of these links forwards.
+fn plan_of(alloc: Global, bridges: usize, ahead: usize) -> Result<String, Fail> {
+    let mut text = String::new(alloc);
+    for number in 1..bridges {
+        writeln!(
+            text,
+            "[[bridge]]\nname = \"a-bridge-{number}\"\naddress = \"02-00-00-00-00-{number:02x}\""
+        )?;
+    }
+    put_links(&mut text, bridges, ahead)?;
+    Ok(text)
+}
+
+/// The links of such a plan file.
+fn put_links(text: &mut String, bridges: usize, ahead: usize) -> Result<(), Fail> {
+    for number in 1..bridges {
+        for step in 1..ahead {
+            let far = number.saturating_add(step);
+            if far < bridges {
+                put_link(text, number, far, step)?;
+            }
+        }
+    }
+    Ok(())
+}
+
+/// A link of such a plan file.
+fn put_link(text: &mut String, near: usize, far: usize, step: usize) -> Result<(), Fail> {
+    let back = step.saturating_add(7);
+    let state = if step == 1 {
+        "forwarding"
+    } else {
+        "discarding"
+    };
+    writeln!(text, "[[link]]\nname = \"link-{near}-{far}\"")?;
+    writeln!(text, "a = \"a-bridge-{near}\"\na_port = {step}")?;
+    writeln!(text, "b = \"a-bridge-{far}\"\nb_port = {back}")?;
+    writeln!(text, "b_state = \"{state}\"")?;
+    Ok(())
+}
+
+#[test]
+fn boxes_and_names_are_apart(rt: HostRuntime) -> Result<(), Fail> {
+    let alloc = rt.alloc();
+    for file in [plans::GIVEN, plans::RING, ""] {
+        let scene = scene(&rt, alloc, file)?;
+        are_all_apart(&rt, alloc, &scene)?;
+    }
+    Ok(())
+}
+
+#[test]
+fn many_boxes_and_names_are_apart(rt: HostRuntime) -> Result<(), Fail> {
+    let alloc = rt.alloc();
+    for (bridges, ahead) in [(33, 3), (17, 5), (8, 7)] {
+        let file = plan_of(alloc, bridges, ahead)?;
+        let scene = scene(&rt, alloc, file.as_str())?;
+        are_all_apart(&rt, alloc, &scene)?;
+    }
+    Ok(())
+}
