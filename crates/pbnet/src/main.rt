@@ -14,6 +14,7 @@ ghost use Rattle.std.specs.Prelude.{◌≤◌};
 
 mod progress;
 mod survive;
+mod trace;
 mod trees;
 
 use clap::error::ErrorKind as WordsFault;
@@ -65,6 +66,7 @@ fn main(rt: HostRuntime) -> ExitCode {
             run(&rt, &order, shown, &mut errors)
         }
         Ok(Some(Order::Tree(order))) => tree(&rt, &order),
+        Ok(Some(Order::Trace(order))) => trace::trace(&rt, &order),
         Ok(Some(Order::Show)) => show(&rt),
         Ok(Some(Order::Init(order))) => init(&rt, order),
         Ok(Some(Order::Survive(order))) => survive::tell_survivals(&rt, &order),
