@@ -43,9 +43,9 @@ copied bridge (Relayed chosen refused) = sendings bridge refused chosen
 copied bridge (Filtered reason) = []
 copied bridge Heard = []
 
-abbrev pub arrivals : ℕ → Step → List Onward
-arrivals bridge (Received port item learnt outcome moved) = copied bridge outcome
-arrivals bridge _ = []
+abbrev pub sent_on : ℕ → Step → List Onward
+sent_on bridge (Received port item learnt outcome moved) = copied bridge outcome
+sent_on bridge _ = []
 
 -- who fetches what a bridge sends at a port: a customer port, or the lane that leads away
 abbrev pub fetch : Plan → ℕ → ℕ → Onward
@@ -67,7 +67,7 @@ landings plan lane = option_to_list (option_map (arrival lane) (numbered plan.li
 abbrev pub follows : Plan → Onward → Step → List Onward
 follows plan (Feed port) step = handed_on plan port
 follows plan (Deliver port) step = []
-follows plan (Receive bridge port) step = arrivals bridge step
+follows plan (Receive bridge port) step = sent_on bridge step
 follows plan (Transmit bridge port) step = fetch plan bridge port ∷ []
 follows plan (Take lane) step = if is_lost step then [] else (Put lane ∷ [])
 follows plan (Put lane) step = landings plan lane

@@ -28,7 +28,7 @@ is_vid vid (Some other) = other == vid
 -- the step has shown the station in the service of the VID, and the bridge has noted where it is
 abbrev pub shows : Plan → ℕ → ℕ → List ℕ → Step → Bool
 shows plan bridge vid mac (Receive port item learnt outcome moved) =
-    is_noted learnt && (is_vid vid (came_as plan bridge port item.wire) && same (src_of item.wire) mac)
+    is_noted learnt && is_vid vid (came_as plan bridge port item.wire) && same (src_of item.wire) mac
 shows plan bridge vid mac _ = false
 
 abbrev pub is_shown : Plan → ℕ → List Step → List ℕ → Option ℕ → Bool

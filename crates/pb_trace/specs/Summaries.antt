@@ -55,8 +55,7 @@ abbrev pub left_words : Plan → Record → List ℕ
 left_words plan rec = flat_map (left_word plan rec) (numbers_from 1 plan.customers)
 
 abbrev pub left_text : List ℕ → List ℕ
-left_text [] = codes "left nowhere"
-left_text (c ∷ names) = codes "left at" ++ c ∷ names
+left_text names = if length names == 0 then codes "left nowhere" else codes "left at" ++ names
 
 -- frames of customers that went nowhere, and ports that got no copy of one
 abbrev pub refused_by : Outcome → ℕ

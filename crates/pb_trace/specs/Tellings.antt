@@ -1,5 +1,5 @@
 -- What is told of a step of a frame that is under way.
-use Rattle.std.specs.Prelude.{ℕ, zero, suc, ◌+◌, ◌/◌, ◌%◌, min, List, [], ◌∷◌, ◌++◌, Some, None, take, drop, codes, nat_lt, ◌==◌, if◌then◌else◌}
+use Rattle.std.specs.Prelude.{ℕ, zero, suc, ◌+◌, ◌/◌, ◌%◌, min, List, [], ◌∷◌, ◌++◌, Some, None, take, drop, length, codes, nat_lt, ◌==◌, if◌then◌else◌}
 use Rattle.std.specs.Fmt.{decimal}
 use Rattle.std.specs.declared.option.Option.{Option}
 use Rattle.pb_frame.specs.Hex.{hex_text}
@@ -81,8 +81,8 @@ learnt_words (Some Memory) = codes ", source not learnt"
 
 -- why a relayed frame goes where it goes
 abbrev pub way_word : Plan → ℕ → List Step → ℕ → List ℕ → List ℕ → List ℕ
-way_word plan bridge steps port wire [] = codes ", nowhere"
-way_word plan bridge steps port wire (first ∷ others) = if is_known plan bridge steps port wire then codes ", known" else codes ", flooded"
+way_word plan bridge steps port wire chosen =
+    if length chosen == 0 then codes ", nowhere" else (if is_known plan bridge steps port wire then codes ", known" else codes ", flooded")
 
 abbrev pub way_words : Plan → ℕ → List Step → ℕ → List ℕ → Outcome → List ℕ
 way_words plan bridge steps port wire (Relayed chosen refused) = way_word plan bridge steps port wire chosen
@@ -114,8 +114,11 @@ sending_words plan bridge port step =
     bridge_name plan bridge ++ codes " " ++ decimal port ++ codes " to " ++ neighbour plan bridge port ++ tag_words plan bridge port step
 
 -- a lane of a link
+abbrev pub direction_word : ℕ → List ℕ
+direction_word lane = if lane % 2 == 1 then codes " ab" else codes " ba"
+
 abbrev pub lane_words : Plan → ℕ → List ℕ
-lane_words plan lane = link_name plan ((lane + 1) / 2) ++ (if lane % 2 == 1 then codes " ab" else codes " ba")
+lane_words plan lane = link_name plan ((lane + 1) / 2) ++ direction_word lane
 
 -- what is told of a bridge that received a frame, of one that sent one, of a lane that took one, of a customer port that got one
 abbrev pub receiving_line : Plan → ℕ → ℕ → List Step → Step → List ℕ

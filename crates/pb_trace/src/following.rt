@@ -3,7 +3,7 @@
 ghost use Rattle.std.specs.Prelude.{◌≡◌, ◌++◌, ◌==◌, OnOk};
 ghost use Rattle.std.specs.List.{list_any};
 ghost use Rattle.pb_lan.specs.Plans.{IsSound};
-ghost use Rattle.pb_trace.specs.Onwards.{arrival, arrivals, copies_of, fetch, follows, handed_on, is_lost, landings, sendings};
+ghost use Rattle.pb_trace.specs.Onwards.{arrival, copied, copies_of, fetch, follows, handed_on, is_lost, landings, sendings, sent_on};
 
 use crate::onward::Onward;
 use crate::places::{customer_there, lane_from, numbered};
@@ -57,19 +57,27 @@ fn push_sendings(
     Ok(())
 }
 
-/// What a bridge does with a frame that it received.
-fn push_copies(todo: &mut Vec<Onward>, bridge: u8, step: &Step) -> Result<(), Memory>
-    ensures { OnOk result (todo.new.items ≡ todo.old.items ++ arrivals bridge step.now) }
+/// What a bridge does with a frame, by what became of it.
+fn push_copies(todo: &mut Vec<Onward>, bridge: u8, outcome: &Outcome) -> Result<(), Memory>
+    ensures { OnOk result (todo.new.items ≡ todo.old.items ++ copied bridge outcome.now) }
 {
-    let Step::Receive {
-        outcome: Outcome::Relayed { chosen, refused },
-        ..
-    } = step
-    else {
-        return Ok(());
-    };
-    let (chosen, refused) = (chosen.list(), refused.list());
-    push_sendings(todo, bridge, chosen.as_slice(), refused.as_slice())
+    match outcome {
+        Outcome::Relayed { chosen, refused } => {
+            let (chosen, refused) = (chosen.list(), refused.list());
+            push_sendings(todo, bridge, chosen.as_slice(), refused.as_slice())
+        }
+        Outcome::Filtered(_) | Outcome::Heard => Ok(()),
+    }
+}
+
+/// What a bridge does with a frame that it received.
+fn push_received(todo: &mut Vec<Onward>, bridge: u8, step: &Step) -> Result<(), Memory>
+    ensures { OnOk result (todo.new.items ≡ todo.old.items ++ sent_on bridge step.now) }
+{
+    match step {
+        Step::Receive { outcome, .. } => push_copies(todo, bridge, outcome),
+        _ => Ok(()),
+    }
 }
 
 /// Who fetches what a bridge sends at a port.
@@ -88,7 +96,10 @@ fn fetch(plan: &Plan, bridge: u8, port: u8) -> Onward
 fn is_lost(step: &Step) -> bool
     ensures { result ≡ is_lost step.now }
 {
-    matches!(step, Step::Take { lost: true, .. })
+    match step {
+        Step::Take { lost, .. } => *lost,
+        _ => false,
+    }
 }
 
 /// Where a lane ends.
@@ -125,7 +136,7 @@ pub(crate) fn push_following(
     match onward {
         Onward::Feed(port) => push_handed_on(todo, plan, port),
         Onward::Deliver(_) => Ok(()),
-        Onward::Receive(bridge, _) => push_copies(todo, bridge, step),
+        Onward::Receive(bridge, _) => push_received(todo, bridge, step),
         Onward::Transmit(bridge, port) => {
             todo.push(fetch(plan, bridge, port))?;
             Ok(())

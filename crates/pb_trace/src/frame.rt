@@ -4,6 +4,7 @@ ghost use Rattle.std.specs.Prelude.{◌≡◌, ◌++◌, List, ℕ, true, string
 ghost use Rattle.pb_lan.specs.Events.{has_place};
 ghost use Rattle.pb_lan.specs.Plans.{IsSound};
 ghost use Rattle.pb_lan.specs.declared.step.Place.TheVariants.{Customer};
+ghost use Rattle.pb_settle.specs.Drives.{HasDrained};
 ghost use Rattle.pb_step.specs.Steps.{HasGrown};
 ghost use Rattle.pb_trace.specs.Stories.{AnswersFrame, IsConclusion, IsEntry, IsFollowed, others_line, entry_number};
 
@@ -75,6 +76,19 @@ fn tell_entry(
     Ok(entry_number(step))
 }
 
+/// Does what else is due, and puts the number of these events behind a text, where there were any.
+fn finish(out: &mut String, plan: &Plan, net: &mut Net) -> Result<(), CommandFault>
+    requires sound { IsSound plan.now }
+    requires plan { net.old.plan ≡ plan.now }
+    ensures plan { net.new.plan ≡ plan.now }
+    ensures ok { OnOk result ((others : ℕ) × HasDrained others net.old net.new × (string_bytes out.new ≡ string_bytes out.old ++ others_line others)) }
+{
+    match drain(net, plan, MOST_OTHERS) {
+        Ok(others) => Ok(put_others(out, others)?),
+        Err(fault) => Err(fault_of(fault)),
+    }
+}
+
 /// Does what else is due, where a frame went as far as it goes.
 fn conclude(
     out: &mut String,
@@ -88,15 +102,12 @@ fn conclude(
     ensures plan { net.new.plan ≡ plan.now }
     ensures ok { IfOk result (λ fate. (text : List ℕ) × (string_bytes out.new ≡ string_bytes out.old ++ text) × IsConclusion course fate number net.old net.new text) }
 {
-    if course == Course::GoesRound {
-        return Ok(Fate::GoesRound(number));
-    }
-    match drain(net, plan, MOST_OTHERS) {
-        Ok(others) => {
-            put_others(out, others)?;
+    match course {
+        Course::GoesRound => Ok(Fate::GoesRound(number)),
+        Course::Ended => {
+            finish(out, plan, net)?;
             Ok(Fate::Ended)
         }
-        Err(fault) => Err(fault_of(fault)),
     }
 }
 

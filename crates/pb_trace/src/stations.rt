@@ -100,7 +100,8 @@ fn shows(plan: &Plan, bridge: u8, vid: u16, address: &[u8], step: &Step) -> bool
     let wire = item.wire.as_slice();
     let noted = is_noted(*learnt);
     let same_service = is_vid(vid, came_as(plan, bridge, *port, wire));
-    noted && same_service && source(wire) == address
+    let same_station = source(wire) == address;
+    noted && same_service && same_station
 }
 
 /// Whether the steps have shown a station in the service of a VID, where there is one.

@@ -1,7 +1,7 @@
 //! What is told of a step of a frame that is under way.
 
 ghost use Rattle.std.specs.Prelude.{◌≡◌, ◌++◌, string_bytes, OnOk};
-ghost use Rattle.pb_trace.specs.Tellings.{delivery_line, entry_line, hops_of, indent, lane_words, receiving_line, sending_words, spaces, tag_by, tag_words, taking_line, told, transmission_line};
+ghost use Rattle.pb_trace.specs.Tellings.{delivery_line, direction_word, entry_line, hops_of, indent, lane_words, put_on_words, receiving_line, sending_words, spaces, tag_by, tag_words, taking_line, told, transmission_line};
 
 use crate::names::{bridge_name, customer_name, link_name, neighbour};
 use crate::onward::Onward;
@@ -49,6 +49,13 @@ fn put_indent(out: &mut String, step: &Step) -> Result<(), Memory>
     put_spaces(out, hops_of(step).min(MOST_LEVELS) + 1)
 }
 
+/// Whether a tag was put on here: at the first bridge.
+fn put_on_words(hops: u32) -> &'static str
+    ensures { result.now ≡ put_on_words hops }
+{
+    if hops == 1 { " put on" } else { "" }
+}
+
 /// Puts the tag of a frame that goes to another bridge behind a text.
 fn put_tag(alloc: Global, out: &mut String, item: &Item) -> Result<(), Memory>
     ensures { OnOk result (string_bytes out.new ≡ string_bytes out.old ++ tag_by None item.now) }
@@ -58,10 +65,8 @@ fn put_tag(alloc: Global, out: &mut String, item: &Item) -> Result<(), Memory>
         return Ok(());
     }
     let tag = tag_text(alloc, wire)?;
-    write!(out, ", tag {tag}")?;
-    if item.hops == 1 {
-        out.push_str(" put on")?;
-    }
+    let word = put_on_words(item.hops);
+    write!(out, ", tag {tag}{word}")?;
     Ok(())
 }
 
@@ -106,12 +111,19 @@ fn put_sending(
     put_tag_of(alloc, out, plan, bridge, port, step)
 }
 
+/// The direction of a lane: from a to b, or back.
+fn direction_word(lane: u8) -> &'static str
+    ensures { result.now ≡ direction_word lane }
+{
+    if lane % 2 == 1 { " ab" } else { " ba" }
+}
+
 /// Puts a lane of a link behind a text.
 fn put_lane(out: &mut String, plan: &Plan, lane: u8) -> Result<(), Memory>
     ensures { OnOk result (string_bytes out.new ≡ string_bytes out.old ++ lane_words plan.now lane) }
 {
     out.push_str(link_name(plan, ((u16::from(lane) + 1) / 2) as u8))?;
-    out.push_str(if lane % 2 == 1 { " ab" } else { " ba" })?;
+    out.push_str(direction_word(lane))?;
     Ok(())
 }
 
