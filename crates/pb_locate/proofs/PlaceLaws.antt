@@ -107,5 +107,8 @@ service_place n key l = row_place (codes "service") key n l refl (λ rest. refl)
 pub port_place : (n : ℕ) (key : List ℕ) → n < 128 → place_in (codes "port" ++ codes "[" ++ decimal n ++ codes "]." ++ key) ≡ (codes "port", n)
 port_place n key l = row_place (codes "port") key n l refl (λ rest. refl)
 
+pub event_place : (n : ℕ) (key : List ℕ) → n < 128 → place_in (codes "event" ++ codes "[" ++ decimal n ++ codes "]." ++ key) ≡ (codes "event", n)
+event_place n key l = row_place (codes "event") key n l refl (λ rest. refl)
+
 pub network_place : (key : List ℕ) → place_in (codes "network." ++ key) ≡ (codes "network", 0)
 network_place key = refl

@@ -1,5 +1,6 @@
 pub mod Items
 pub mod Stations
+pub mod EventLemmas
 pub mod KeyLemmas
 pub mod Listings
 pub mod Refusing

@@ -3,14 +3,14 @@ use Rattle.std.specs.Prelude.{ℕ, codes, List, [], ◌∷◌, if◌then◌else�
 use Rattle.pb_frame.specs.Admission.{same}
 use Rattle.toml.specs.Data.{Members, get_member}
 use Rattle.pb_service.specs.declared.section.Section.{Section}
-use Rattle.pb_service.specs.declared.section.Section.TheVariants.{Bridge, Link, Service, Port}
-use Rattle.pb_service.specs.declared.rule.Rule.TheVariants.{Number, BridgePriority, PortPriority, Name, Address, Spanning, State, PortKind, Path, Losses, Names, Frames}
+use Rattle.pb_service.specs.declared.section.Section.TheVariants.{Bridge, Link, Service, Port, Event}
+use Rattle.pb_service.specs.declared.rule.Rule.TheVariants.{Number, BridgePriority, PortPriority, Name, Address, Spanning, State, PortKind, Path, Losses, Names, Frames, Flag}
 use Rattle.pb_service.specs.Keys.{KeyRule, with_default, without_default}
 use Rattle.pb_service.specs.Told.{text_told}
 
 -- the keys at the top
 abbrev pub top_keys : List (List ℕ)
-top_keys = codes "network" ∷ codes "bridge" ∷ codes "link" ∷ codes "service" ∷ codes "port" ∷ []
+top_keys = codes "network" ∷ codes "bridge" ∷ codes "link" ∷ codes "service" ∷ codes "port" ∷ codes "event" ∷ []
 
 -- the keys of the network
 abbrev pub network_keys : List KeyRule
@@ -79,9 +79,19 @@ port_keys kind =
     ∷ with_default (codes "kind") PortKind
     ∷ own_keys kind
 
+-- of an event
+abbrev pub event_keys : List KeyRule
+event_keys =
+    without_default (codes "at") (Number 0 4294967295)
+    ∷ without_default (codes "bridge") Name
+    ∷ without_default (codes "port") (Number 1 16)
+    ∷ without_default (codes "up") Flag
+    ∷ []
+
 -- of a table of an array
 abbrev pub keys_of : Section → Members → List KeyRule
 keys_of Bridge row = bridge_keys
 keys_of Link row = link_keys
 keys_of Service row = service_keys
 keys_of Port row = port_keys (text_told (get_member (codes "kind") row))
+keys_of Event row = event_keys

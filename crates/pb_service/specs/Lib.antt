@@ -8,4 +8,5 @@ pub mod Clocks
 pub mod Tables
 pub mod Refusals
 pub mod UsedPorts
+pub mod Events
 pub mod PlanFiles

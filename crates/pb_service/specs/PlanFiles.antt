@@ -9,14 +9,16 @@ use Rattle.pb_lan.specs.declared.plan.Plan.{Plan}
 use Rattle.pb_service.specs.declared.fault.PlanFault.{PlanFault}
 use Rattle.pb_service.specs.declared.fault.PlanFault.TheVariants.{Utf8, Toml, Memory}
 use Rattle.pb_lan.specs.declared.limits.Limits.{Limits}
+use Rattle.pb_service.specs.declared.event.PortEvent.{PortEvent}
 use Rattle.pb_service.specs.declared.port_spec.PortSpec.{PortSpec}
-use Rattle.pb_service.specs.declared.section.Section.TheVariants.{Bridge, Link, Service, Port}
+use Rattle.pb_service.specs.declared.section.Section.TheVariants.{Bridge, Link, Service, Port, Event}
 use Rattle.pb_service.specs.Keys.{IsAccepted, first_unknown}
-use Rattle.pb_service.specs.Formats.{top_keys, network_keys, bridge_keys, link_keys, service_keys}
+use Rattle.pb_service.specs.Formats.{top_keys, network_keys, bridge_keys, link_keys, service_keys, event_keys}
 use Rattle.pb_service.specs.Told.{rows_of, table_told, spanning_of}
+use Rattle.pb_service.specs.Events.{IsEventOf}
 use Rattle.pb_service.specs.Clocks.{has_two_clocks, holds_forever}
 use Rattle.pb_service.specs.Tables.{number_at, text_at, limits_told, IsRead, IsReadPort, IsBridgeOf, IsLinkOf, IsServiceOf, IsCustomerOf, IsPortSpecOf}
-use Rattle.pb_service.specs.Refusals.{Refuses, HasTables, is_table, names_of}
+use Rattle.pb_service.specs.Refusals.{Refuses, HasTables, ends_told, is_table, names_of}
 
 -- the table of the network; an empty one where there is none
 abbrev pub network_row : Members → Members
@@ -39,6 +41,11 @@ pub record AreLimitsOf (document : Members) (limits : Limits) : Type 0 where
   pub told : limits ≡ limits_told (network_row document)
   pub one_clock : has_two_clocks limits ≡ false
   pub some_clock : holds_forever limits ≡ false
+
+-- the events that a document tells
+pub record AreEventsOf (document : Members) (events : List PortEvent) : Type 0 where
+  pub tables : HasTables document Event
+  pub told : AllZip (IsRead (IsEventOf (names_of document Bridge) (ends_told document)) event_keys) (rows_of document Event) events
 
 -- the plan that a document tells, table by table, and what its customer ports are
 pub record IsPlanOf (document : Members) (plan : Plan) (specs : List PortSpec) : Type 0 where

@@ -8,16 +8,16 @@ use Rattle.pb_frame.specs.Admission.{same}
 use Rattle.pb_frame.specs.Hex.{IsMacText, mac_text}
 use Rattle.toml.specs.Data.{Data, Items, Members, get_member, as_table}
 use Rattle.pb_service.specs.declared.fault.PlanFault.{PlanFault}
-use Rattle.pb_service.specs.declared.fault.PlanFault.TheVariants.{Kind, Unknown, Twice, NoSuch, LinkEnd, TooMany, Memory}
+use Rattle.pb_service.specs.declared.fault.PlanFault.TheVariants.{Kind, Range, Unknown, Twice, NoSuch, LinkEnd, TooMany, Memory}
 use Rattle.pb_service.specs.declared.section.Section.{Section}
-use Rattle.pb_service.specs.declared.section.Section.TheVariants.{Bridge, Link, Service, Port}
+use Rattle.pb_service.specs.declared.section.Section.TheVariants.{Bridge, Link, Service, Port, Event}
 use Rattle.pb_service.specs.declared.section.Place.TheVariants.{Network, Row}
 use Rattle.pb_service.specs.declared.used.LocalPort.{LocalPort}
 use Rattle.pb_service.specs.UsedPorts.{is_used}
-use Rattle.pb_service.specs.Sections.{word_of, most_of}
+use Rattle.pb_service.specs.Sections.{word_of, most_of, path_at}
 use Rattle.pb_service.specs.Values.{all_items, any_item, is_list, text_in}
 use Rattle.pb_service.specs.Keys.{RefusesRow, SomeOf, first_unknown}
-use Rattle.pb_service.specs.Formats.{top_keys, network_keys, keys_of}
+use Rattle.pb_service.specs.Formats.{top_keys, network_keys, event_keys, keys_of}
 use Rattle.pb_service.specs.Told.{rows_of, names_in, number_from, table_told}
 use Rattle.pb_service.specs.Clocks.{RefusesClocks}
 use Rattle.pb_service.specs.Tables.{number_at, text_at, items_at, is_one_of, limits_told}
@@ -65,6 +65,20 @@ ports_told document =
     flat_map (link_ports (names_of document Bridge)) (rows_of document Link)
     ++ flat_map (customer_ports (names_of document Bridge)) (rows_of document Port)
 
+-- the ports at which the links of a document end
+abbrev pub ends_told : Members → List LocalPort
+ends_told document = flat_map (link_ports (names_of document Bridge)) (rows_of document Link)
+
+-- the key of a table names nothing
+abbrev pub LacksName : List (List ℕ) → Members → List ℕ → PlanFault → Type 0
+LacksName names row key fault = (fault ≡ NoSuch (text_at row key)) × (number_from 1 names (text_at row key) ≡ None)
+
+-- an event breaks a rule of its keys, or names a bridge that isn't there, or a port at which no link ends
+abbrev pub RefusesEvent : List (List ℕ) → List LocalPort → ℕ → Members → PlanFault → Type 0
+RefusesEvent bridges ends index row fault =
+    (fault ≡ Memory) ⊎ (RefusesRow event_keys (Row Event index) row fault ⊎ (LacksName bridges row (codes "bridge") fault
+    ⊎ ((fault ≡ Range (path_at (Row Event index) (codes "port"))) × (is_used ends (port_told bridges row (codes "bridge") (codes "port")) ≡ false))))
+
 -- a local port of a bridge that is there stands again behind its first place
 pub record UsesTwice (ports : List LocalPort) (port : LocalPort) : Type 0 where
   pub before : List LocalPort
@@ -106,6 +120,8 @@ pub data Refuses : Members → PlanFault → Type 0 where
       → any_item (λ d. same name (text_in d)) (items_at row key) ≡ true
       → is_one_of (names_of document Service) name ≡ false → Refuses document (NoSuch name)
   used_twice : (document : Members) (port : LocalPort) → UsesTwice (ports_told document) port → Refuses document LinkEnd
+  in_event : (document : Members) (index : ℕ) (row : Members) (fault : PlanFault)
+      → slice_get (rows_of document Event) index ≡ Some row → RefusesEvent (names_of document Bridge) (ends_told document) index row fault → Refuses document fault
   no_memory : (document : Members) → Refuses document Memory
 
 -- a table breaks a rule of its keys, or has the name of one before it
@@ -113,10 +129,6 @@ abbrev pub RefusesTable : Section → List (List ℕ) → ℕ → Members → Pl
 RefusesTable section names index row fault =
     RefusesRow (keys_of section row) (Row section index) row fault
     ⊎ ((fault ≡ Twice (text_at row (codes "name"))) × (is_one_of (take index names) (text_at row (codes "name")) ≡ true))
-
--- the key of a table names nothing
-abbrev pub LacksName : List (List ℕ) → Members → List ℕ → PlanFault → Type 0
-LacksName names row key fault = (fault ≡ NoSuch (text_at row key)) × (number_from 1 names (text_at row key) ≡ None)
 
 -- the name is listed and names nothing
 pub record IsUnlisted (names : List (List ℕ)) (listed : Items) (name : List ℕ) : Type 0 where

@@ -2,7 +2,7 @@
 use Rattle.std.specs.Prelude.{ℕ, List, codes, ◌++◌}
 use Rattle.std.specs.Fmt.{decimal}
 use Rattle.pb_service.specs.declared.section.Section.{Section}
-use Rattle.pb_service.specs.declared.section.Section.TheVariants.{Bridge, Link, Service, Port}
+use Rattle.pb_service.specs.declared.section.Section.TheVariants.{Bridge, Link, Service, Port, Event}
 use Rattle.pb_service.specs.declared.section.Place.{Place}
 use Rattle.pb_service.specs.declared.section.Place.TheVariants.{Top, Network, Row}
 
@@ -12,6 +12,7 @@ word_of Bridge = codes "bridge"
 word_of Link = codes "link"
 word_of Service = codes "service"
 word_of Port = codes "port"
+word_of Event = codes "event"
 
 -- the most tables that it may have
 abbrev pub most_of : Section → ℕ
@@ -19,6 +20,7 @@ most_of Bridge = 32
 most_of Link = 64
 most_of Service = 64
 most_of Port = 128
+most_of Event = 128
 
 -- a key with its place, as it is printed
 abbrev pub path_at : Place → List ℕ → List ℕ

@@ -34,7 +34,7 @@ items_at row key = items_told (get_member key row)
 -- how long a run may go on, by which clock bridges tick, and how long frames are held back
 abbrev pub limits_told : Members → Limits
 limits_told row = record {
-  turns = number_at row (codes "turns") 10000000 1000000000;
+  turns = number_at row (codes "turns") 18446744073709551615 18446744073709551615;
   tick_every = number_at row (codes "tick_every") 0 1000000;
   tick_ms = number_at row (codes "tick_ms") 0 60000;
   hold = number_at row (codes "hold") 0 1000000;

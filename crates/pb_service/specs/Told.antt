@@ -1,9 +1,9 @@
 -- What a table tells under a key, whatever stands there.
-use Rattle.std.specs.Prelude.{ℕ, suc, ◌+◌, codes, min, List, [], ◌∷◌, ◌++◌, map, Some, None, unwrap_or, if◌then◌else◌}
+use Rattle.std.specs.Prelude.{ℕ, Bool, false, suc, ◌+◌, codes, min, List, [], ◌∷◌, ◌++◌, map, Some, None, unwrap_or, if◌then◌else◌}
 use Rattle.std.specs.declared.option.Option.{Option}
 use Rattle.std.specs.Option.{option_map_or, option_and_then, option_to_list}
 use Rattle.pb_frame.specs.Admission.{same}
-use Rattle.toml.specs.Data.{Data, Items, no_items, item, Members, no_members, as_array, as_table, get_member}
+use Rattle.toml.specs.Data.{Data, Items, no_items, item, Members, no_members, as_array, as_bool, as_table, get_member}
 use Rattle.pb_lan.specs.declared.shape.PortState.{PortState}
 use Rattle.pb_lan.specs.declared.shape.PortState.TheVariants.{Discarding, Learning, Forwarding}
 use Rattle.pb_lan.specs.declared.plan.Spanning.{Spanning}
@@ -15,6 +15,10 @@ use Rattle.pb_service.specs.Values.{natural_of, text_in, any_item, is_text}
 -- the number, or the default; never above the highest
 abbrev pub number_told : ℕ → ℕ → Option Data → ℕ
 number_told default highest value = min (unwrap_or (option_and_then natural_of value) default) highest
+
+-- the flag, or false
+abbrev pub flag_told : Option Data → Bool
+flag_told value = unwrap_or (option_and_then as_bool value) false
 
 -- the text, or the empty one
 abbrev pub text_told : Option Data → List ℕ

@@ -6,9 +6,9 @@ use Rattle.std.specs.List.{list_all}
 use Rattle.pb_frame.specs.Admission.{same}
 use Rattle.pb_frame.specs.Frames.{is_group}
 use Rattle.pb_frame.specs.Hex.{is_digit, IsMacText}
-use Rattle.toml.specs.Data.{Data, Items, no_items, item, as_str, as_integer, as_array}
+use Rattle.toml.specs.Data.{Data, Items, no_items, item, as_str, as_integer, as_array, as_bool}
 use Rattle.pb_service.specs.declared.rule.Rule.{Rule}
-use Rattle.pb_service.specs.declared.rule.Rule.TheVariants.{Number, BridgePriority, PortPriority, Name, Address, Spanning, State, PortKind, Path, Losses, Names, Frames}
+use Rattle.pb_service.specs.declared.rule.Rule.TheVariants.{Number, BridgePriority, PortPriority, Name, Address, Spanning, State, PortKind, Path, Losses, Names, Frames, Flag}
 
 -- an integer that isn't negative
 abbrev pub to_natural : ℤ → Option ℕ
@@ -75,6 +75,7 @@ is_of_kind PortPriority d = is_some (as_integer d)
 is_of_kind Losses d = is_list (all_items (λ e. is_some (as_integer e))) d
 is_of_kind Names d = is_list (all_items (λ e. is_some (as_str e))) d
 is_of_kind Frames d = is_list (all_items (λ e. is_some (as_str e))) d
+is_of_kind Flag d = is_some (as_bool d)
 is_of_kind _ d = is_some (as_str d)
 
 -- the value is one that the rule allows
@@ -91,3 +92,4 @@ IsAllowed Path d = is_some (as_str d) ≡ true
 IsAllowed Losses d = is_list (rise_from 0) d ≡ true
 IsAllowed Names d = is_list (λ ds. all_items (is_text is_name) ds && are_distinct ds) d ≡ true
 IsAllowed Frames d = is_list (all_items (is_text is_hex)) d ≡ true
+IsAllowed Flag d = is_some (as_bool d) ≡ true

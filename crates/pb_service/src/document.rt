@@ -4,9 +4,10 @@ ghost use Rattle.std.specs.Prelude.{IfOk, IfErr, OnOk};
 ghost use Rattle.toml.specs.View.{table_view};
 ghost use Rattle.pb_lan.specs.Plans.{IsSound};
 ghost use Rattle.pb_service.specs.Refusals.{Refuses};
-ghost use Rattle.pb_service.specs.PlanFiles.{IsPlanOf, AreLimitsOf, Tells, IsPlanFile, RefusesFile};
+ghost use Rattle.pb_service.specs.PlanFiles.{IsPlanOf, AreLimitsOf, AreEventsOf, Tells, IsPlanFile, RefusesFile};
 
 use crate::bridge::read_bridges;
+use crate::event::{PortEvent, read_events};
 use crate::fault::PlanFault;
 use crate::link::{Links, read_links};
 use crate::network::read_network;
@@ -21,16 +22,22 @@ use toml::Table;
 
 /// What a plan file tells.
 #[derive(Drop)]
-struct PlanFile {
-    plan: Plan,
-    ports: Vec<PortSpec>,
-    limits: Limits,
+pub struct PlanFile {
+    /// The network.
+    pub plan: Plan,
+    /// What each customer port is, in the order of the plan.
+    pub ports: Vec<PortSpec>,
+    /// How long a run may go on, and by which clock bridges tick.
+    pub limits: Limits,
+    /// The ports that are set up and down while the network runs, in the order of the file.
+    pub events: Vec<PortEvent>,
 }
 
 /// What a document tells.
 fn file_of(alloc: Global, document: &Table) -> Result<PlanFile, PlanFault>
     ensures ok { IfOk result (λ file. IsPlanOf (table_view document.now) file.plan file.ports.items) }
     ensures limits { IfOk result (λ file. AreLimitsOf (table_view document.now) file.limits) }
+    ensures events { IfOk result (λ file. AreEventsOf (table_view document.now) file.events.items) }
     ensures sound { IfOk result (λ file. IsSound file.plan) }
     ensures err { IfErr result (Refuses (table_view document.now)) }
 {
@@ -39,6 +46,7 @@ fn file_of(alloc: Global, document: &Table) -> Result<PlanFile, PlanFault>
     let bridges = read_bridges(alloc, document)?;
     let Links { links, used } = read_links(alloc, document)?;
     let services = read_services(alloc, document)?;
+    let events = read_events(alloc, document, used.as_slice())?;
     let Customers { customers, specs } = read_customers(alloc, document, used)?;
     let plan = Plan {
         bridges: Seq::from_vec(bridges),
@@ -54,13 +62,15 @@ fn file_of(alloc: Global, document: &Table) -> Result<PlanFile, PlanFault>
         plan,
         ports: specs,
         limits: network.limits,
+        events,
     })
 }
 
-/// What the octets of a file tell.
-fn read_file(alloc: Global, file: &[u8]) -> Result<PlanFile, PlanFault>
+/// Reads all that a plan file tells, with the faults of [`read_plan`].
+pub fn read_plan_file(alloc: Global, file: &[u8]) -> Result<PlanFile, PlanFault>
     ensures ok { IfOk result (λ r. Tells file.now (λ document. IsPlanOf document r.plan r.ports.items)) }
     ensures limits { IfOk result (λ r. Tells file.now (λ document. AreLimitsOf document r.limits)) }
+    ensures events { IfOk result (λ r. Tells file.now (λ document. AreEventsOf document r.events.items)) }
     ensures sound { IfOk result (λ r. IsSound r.plan) }
     ensures err { IfErr result (RefusesFile file.now) }
 {
@@ -88,7 +98,8 @@ pub fn read_plan(alloc: Global, file: &[u8]) -> Result<(Plan, Vec<PortSpec>), Pl
         plan,
         ports,
         limits: _,
-    } = read_file(alloc, file)?;
+        events: _,
+    } = read_plan_file(alloc, file)?;
     Ok((plan, ports))
 }
 
@@ -102,6 +113,7 @@ pub fn read_limits(alloc: Global, file: &[u8]) -> Result<Limits, PlanFault>
         plan: _,
         ports: _,
         limits,
-    } = read_file(alloc, file)?;
+        events: _,
+    } = read_plan_file(alloc, file)?;
     Ok(limits)
 }

@@ -332,6 +332,33 @@ static SOCKET: [Key; 8] = [
     },
 ];
 
+/// The keys of an event.
+static EVENT: [Key; 4] = [
+    Key {
+        name: "at",
+        needed: true,
+        rule: Rule::Number {
+            low: 0,
+            high: 4_294_967_295,
+        },
+    },
+    Key {
+        name: "bridge",
+        needed: true,
+        rule: Rule::Name,
+    },
+    Key {
+        name: "port",
+        needed: true,
+        rule: Rule::Number { low: 1, high: 16 },
+    },
+    Key {
+        name: "up",
+        needed: true,
+        rule: Rule::Flag,
+    },
+];
+
 /// The keys of the network.
 pub(crate) fn network_keys() -> &'static [Key]
     ensures { rules_of result.now ≡ network_keys }
@@ -361,5 +388,6 @@ pub(crate) fn keys_of(section: Section, row: &Table) -> &'static [Key]
         Section::Link => &LINK,
         Section::Service => &SERVICE,
         Section::Port => port_keys(text_at(row, "kind")),
+        Section::Event => &EVENT,
     }
 }

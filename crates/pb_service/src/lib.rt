@@ -14,6 +14,7 @@
 mod bridge;
 mod check;
 mod document;
+mod event;
 mod fault;
 mod formats;
 mod key_fault;
@@ -30,7 +31,8 @@ mod told;
 mod used;
 mod values;
 
-pub use document::{read_limits, read_plan};
+pub use document::{PlanFile, read_limits, read_plan, read_plan_file};
+pub use event::PortEvent;
 pub use fault::PlanFault;
 pub use pb_lan::Limits;
 pub use port_spec::PortSpec;

@@ -36,7 +36,7 @@ fn limits_of(row: &Table) -> Limits
     ensures { result ≡ limits_told (table_view row.now) }
 {
     Limits {
-        turns: number_at(row, "turns", 10_000_000, 1_000_000_000),
+        turns: number_at(row, "turns", u64::MAX, u64::MAX),
         tick_every: number_at(row, "tick_every", 0, 1_000_000),
         tick_ms: number_at(row, "tick_ms", 0, 60_000),
         hold: number_at(row, "hold", 0, 1_000_000),

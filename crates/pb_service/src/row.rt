@@ -150,5 +150,7 @@ fn unknown_top_entry(document: &Table) -> Option<&String>
 fn is_top_key(key: &str) -> bool
     ensures { result ≡ is_known top_keys key.now }
 {
-    key == "network" || (key == "bridge" || (key == "link" || (key == "service" || key == "port")))
+    key == "network"
+        || (key == "bridge"
+            || (key == "link" || (key == "service" || (key == "port" || key == "event"))))
 }

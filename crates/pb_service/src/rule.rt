@@ -27,6 +27,8 @@ pub(crate) enum Rule {
     Names,
     /// A list of hexadecimal texts.
     Frames,
+    /// True or false.
+    Flag,
 }
 
 /// A key of a table: its name, whether it must be there, and what it may hold.

@@ -14,6 +14,7 @@ pub(crate) enum Section {
     Link,
     Service,
     Port,
+    Event,
 }
 
 /// Where a key stands: at the top, in the table of the network, or in a table of an array, which are
@@ -34,6 +35,7 @@ pub(crate) fn word_of(section: Section) -> &'static str
         Section::Link => "link",
         Section::Service => "service",
         Section::Port => "port",
+        Section::Event => "event",
     }
 }
 
@@ -44,7 +46,7 @@ pub(crate) fn most_of(section: Section) -> usize
     match section {
         Section::Bridge => 32,
         Section::Link | Section::Service => 64,
-        Section::Port => 128,
+        Section::Port | Section::Event => 128,
     }
 }
 

@@ -3,7 +3,7 @@
 ghost use Rattle.std.specs.Prelude.{◌≡◌, ◌<◌, ◌≤◌, ◌^◌, length, map, option_map, take, IfOk, IfErr, IfSome};
 ghost use Rattle.toml.specs.Data.{get_member};
 ghost use Rattle.toml.specs.View.{view, items_view, table_view};
-ghost use Rattle.pb_service.specs.Told.{number_told, text_told, items_told, state_of, spanning_of, naturals_in, number_from, listed_from};
+ghost use Rattle.pb_service.specs.Told.{number_told, flag_told, text_told, items_told, state_of, spanning_of, naturals_in, number_from, listed_from};
 ghost use Rattle.pb_service.specs.declared.fault.PlanFault.TheVariants.{Memory as memory_fault};
 
 use crate::fault::PlanFault;
@@ -30,6 +30,16 @@ pub(crate) fn number_at(table: &Table, key: &str, default: u64, highest: u64) ->
         None => default,
     };
     told.min(highest)
+}
+
+/// The flag at a key, or false.
+pub(crate) fn flag_at(table: &Table, key: &str) -> bool
+    ensures { result ≡ flag_told (get_member key.now (table_view table.now)) }
+{
+    match value_at(table, key) {
+        Some(value) => value.as_bool().unwrap_or(false),
+        None => false,
+    }
 }
 
 /// The text at a key, or the empty one.

@@ -14,7 +14,7 @@ pub(crate) struct LocalPort {
 }
 
 /// The port is among those that are used.
-fn is_used(used: &[LocalPort], port: LocalPort) -> bool
+pub(crate) fn is_used(used: &[LocalPort], port: LocalPort) -> bool
     ensures { result ≡ is_used used.now port }
 {
     for other in used {

@@ -2,7 +2,7 @@
 
 ghost use Rattle.std.specs.Prelude.{◌≡◌, false, ◌+◌, ◌^◌, ◌<◌, ◌↔◌, IsTrue, IsSome, IfSome, IfNone, nat_le, ◌==◌, ◌%◌, ◌&&◌, ◌||◌, is_some, codes, List, ℕ};
 ghost use Rattle.std.specs.List.{list_all};
-ghost use Rattle.toml.specs.Data.{as_str, as_integer};
+ghost use Rattle.toml.specs.Data.{as_str, as_integer, as_bool};
 ghost use Rattle.toml.specs.View.{view, items_view};
 ghost use Rattle.pb_frame.specs.Admission.{same};
 ghost use Rattle.pb_frame.specs.Frames.{is_group};
@@ -264,6 +264,7 @@ pub(crate) fn is_of_kind(rule: Rule, value: &Value) -> bool
             Some(items) => are_texts(items.as_slice()),
             None => false,
         },
+        Rule::Flag => value.is_bool(),
         Rule::Name | Rule::Address | Rule::Spanning | Rule::State | Rule::PortKind | Rule::Path =>
             value.is_str(),
     }
@@ -286,6 +287,7 @@ pub(crate) fn is_allowed(rule: Rule, value: &Value) -> bool
         Rule::Losses => are_losses(value),
         Rule::Names => are_listed(value),
         Rule::Frames => are_frames(value),
+        Rule::Flag => value.is_bool(),
     }
 }
 

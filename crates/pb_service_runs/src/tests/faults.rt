@@ -44,6 +44,48 @@ fn a_file_is_utf8_and_toml(rt: HostRuntime) -> Result<(), PlanFault> {
 }
 
 #[test]
+fn events_are_at_ends_of_links(rt: HostRuntime) -> Result<(), PlanFault> {
+    const CHANGES: &[Change] = &[
+        (
+            "[[service]]\nname = \"red\"",
+            "[[event]]\nat = 7\nbridge = \"B2\"\nport = 1\nup = true\n[[service]]\nname = \"red\"",
+            "0 ok",
+        ),
+        (
+            "[[service]]\nname = \"red\"",
+            "[[event]]\nat = 7\nbridge = \"B2\"\nport = 2\nup = true\n[[service]]\nname = \"red\"",
+            "5 range event[0].port",
+        ),
+        (
+            "[[service]]\nname = \"red\"",
+            "[[event]]\nat = 7\nbridge = \"B3\"\nport = 1\nup = true\n[[service]]\nname = \"red\"",
+            "8 no-such B3",
+        ),
+        (
+            "[[service]]\nname = \"red\"",
+            "[[event]]\nat = 7\nbridge = \"B2\"\nport = 1\nup = 1\n[[service]]\nname = \"red\"",
+            "4 kind event[0].up",
+        ),
+        (
+            "[[service]]\nname = \"red\"",
+            "[[event]]\nat = -1\nbridge = \"B2\"\nport = 1\nup = true\n[[service]]\nname = \"red\"",
+            "5 range event[0].at",
+        ),
+        (
+            "[[service]]\nname = \"red\"",
+            "[[event]]\nat = 7\nbridge = \"B2\"\nport = 1\n[[service]]\nname = \"red\"",
+            "3 missing event[0].up",
+        ),
+        (
+            "[[service]]\nname = \"red\"",
+            "[[event]]\nname = \"E\"\nat = 7\nbridge = \"B2\"\nport = 1\nup = true\n[[service]]\nname = \"red\"",
+            "6 unknown event[0].name",
+        ),
+    ];
+    all_change(&rt, rt.alloc(), CHANGES)
+}
+
+#[test]
 fn keys_without_default_must_be_there(rt: HostRuntime) -> Result<(), PlanFault> {
     const CHANGES: &[Change] = &[
         ("name = \"B2\"\n", "", "3 missing bridge[1].name"),

@@ -6,7 +6,7 @@ use pb_frame::Text;
 use pb_lan::{
     BridgePlan, CustomerPlan, End, LinkPlan, Mac, Plan, PortState, Seq, ServicePlan, Spanning,
 };
-use pb_service::{Limits, PlanFault, PortSpec, read_limits, read_plan};
+use pb_service::{Limits, PlanFault, PortEvent, PortSpec, read_limits, read_plan, read_plan_file};
 use std::alloc::Global;
 use std::fmt::Write;
 
@@ -103,7 +103,7 @@ type Asked = (&'static str, Limits);
 
 /// The limits of a file that says nothing of them.
 const UNSAID: Limits = Limits {
-    turns: 10_000_000,
+    turns: u64::MAX,
     tick_every: 0,
     tick_ms: 0,
     hold: 0,
@@ -145,6 +145,44 @@ fn limits_are_read_or_have_defaults(rt: HostRuntime) -> Result<(), PlanFault> {
         let told = read_limits(rt.alloc(), file.as_bytes())?;
         assert!(rt; told == *limits, "{file}");
     }
+    Ok(())
+}
+
+/// Events behind the network's file, and what they are, in the order of the file.
+const EVENTS: (&str, &[PortEvent]) = (
+    "[[event]]\nat = 4294967295\nbridge = \"B2\"\nport = 1\nup = true\n[[event]]\nat = 0\nbridge = \"B1\"\nport = 1\nup = false\n",
+    &[
+        PortEvent {
+            at: 4_294_967_295,
+            bridge: 2,
+            port: 1,
+            up: true,
+        },
+        PortEvent {
+            at: 0,
+            bridge: 1,
+            port: 1,
+            up: false,
+        },
+    ],
+);
+
+/// What the network's file tells with these behind it: how many bridges and ports, and whether the turns have no limit and
+/// the events are these.
+fn told_with(
+    alloc: Global,
+    (tables, events): (&str, &[PortEvent]),
+) -> Result<(usize, usize, bool), PlanFault> {
+    let text = format!(in alloc; "{NETWORK}{tables}")?;
+    let file = read_plan_file(alloc, text.as_bytes())?;
+    let are_told = file.limits == UNSAID && file.events.as_slice() == events;
+    Ok((file.plan.bridges.len(), file.ports.len(), are_told))
+}
+
+#[test]
+fn events_are_read_in_order(rt: HostRuntime) -> Result<(), PlanFault> {
+    assert_eq!(rt; told_with(rt.alloc(), EVENTS)?, (2, 3, true));
+    assert_eq!(rt; told_with(rt.alloc(), ("", &[]))?, (2, 3, true));
     Ok(())
 }
 
