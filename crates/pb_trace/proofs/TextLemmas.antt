@@ -1,6 +1,5 @@
 -- Texts of several things, one behind the other, and lists from one thing on.
-use Rattle.std.proofs.Common.{◌≡◌, ◌≤◌, ◌<◌, ◌+◌, ℕ, zero, suc, List, [], ◌∷◌, ◌++◌, drop, flat_map, length, slice_get, get_or, OnOk, IfOk, Ok, Err, refl, sym, ap, subst, ◌∙◌, arith, append_assoc, append-nil}
-use Rattle.std.proofs.lemmas.List.{drop_all}
+use Rattle.std.proofs.Common.{◌≡◌, ◌<◌, ◌+◌, ℕ, zero, suc, List, [], ◌∷◌, ◌++◌, drop, flat_map, length, get_or, OnOk, IfOk, Ok, Err, refl, sym, ap, subst, ◌∙◌, arith, append_assoc}
 use Rattle.std.specs.declared.result.Result.{Result}
 use Rattle.pb_lan.specs.Numbering.{numbers_from}
 

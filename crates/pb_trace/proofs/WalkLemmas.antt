@@ -1,6 +1,6 @@
 -- How a frame and its copies go on, step by step.
-use Rattle.std.proofs.Common.{◌≡◌, ◌≤◌, ◌<◌, ◌+◌, ℕ, zero, suc, true, false, List, [], ◌∷◌, ◌++◌, Some, Ok, Err, inl, inr, refl, sym, ap, subst, ◌∙◌, arith, append_assoc, append-nil}
-use Rattle.pb_lan.specs.Events.{place_of, names_something, steps_at}
+use Rattle.std.proofs.Common.{◌≡◌, ◌≤◌, ◌+◌, ℕ, suc, true, false, List, [], ◌∷◌, ◌++◌, Some, Ok, Err, inl, inr, refl, sym, ap, subst, ◌∙◌, arith, append_assoc}
+use Rattle.pb_lan.specs.Events.{place_of, steps_at}
 use Rattle.pb_lan.specs.Records.{IsLawfulRecord}
 use Rattle.pb_lan.specs.declared.event.Event.{Event}
 use Rattle.pb_lan.specs.declared.plan.Plan.{Plan}
@@ -14,7 +14,7 @@ use Rattle.pb_settle.specs.Drives.{IsNotDue}
 use Rattle.pb_step.specs.Steps.{newest_at}
 use Rattle.pb_trace.specs.Onwards.{event_of, follows}
 use Rattle.pb_trace.specs.Tellings.{told}
-use Rattle.pb_trace.specs.Walks.{HasGoneOn, GoesOn, Walks, HasWalked}
+use Rattle.pb_trace.specs.Walks.{GoesOn, Walks, HasWalked}
 use Rattle.pb_trace.specs.declared.onward.Onward.{Onward}
 use Rattle.pb_trace.specs.declared.walk.Course.TheVariants.{Ended, GoesRound}
 

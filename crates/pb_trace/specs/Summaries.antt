@@ -1,5 +1,5 @@
 -- What a record tells of the frames that came in.
-use Rattle.std.specs.Prelude.{ℕ, Bool, true, false, List, [], ◌∷◌, ◌++◌, Option, Some, None, is_some, length, map, flat_map, codes, sum_by, count_by, nat_lt, ◌==◌, ◌&&◌, ◌||◌, if◌then◌else◌}
+use Rattle.std.specs.Prelude.{ℕ, Bool, true, false, List, [], ◌∷◌, ◌++◌, Option, Some, None, is_some, length, flat_map, codes, sum_by, count_by, nat_lt, ◌==◌, ◌&&◌, ◌||◌, if◌then◌else◌}
 use Rattle.std.specs.Fmt.{decimal}
 use Rattle.std.specs.List.{list_any}
 use Rattle.pb_lan.specs.Numbering.{numbers_from}
@@ -40,7 +40,7 @@ passed_words plan rec frame = flat_map (passed_word plan rec frame) (numbers_fro
 -- that a frame goes round, where one does
 abbrev pub round_line : Plan → Record → Option FrameId → List ℕ
 round_line plan rec None = []
-round_line plan rec (Some frame) = codes "goes round over" ++ passed_words plan rec frame ++ codes "; ended after 1000 events" ++ 10 ∷ []
+round_line plan rec (Some frame) = codes "goes round over" ++ passed_words plan rec frame ++ (codes "; ended after 1000 events" ++ 10 ∷ [])
 
 -- a customer port got a frame
 abbrev pub is_delivery : Step → Bool
@@ -71,14 +71,16 @@ abbrev pub refused : List (List Step) → ℕ
 refused bridges = sum_by (λ steps. sum_by refusals steps) bridges
 
 -- frames of customers that lanes lost
-abbrev pub is_lost_frame : Step → Bool
-is_lost_frame (Take number item lost) = lost && is_some item.mark
-is_lost_frame _ = false
+abbrev pub losses : Step → ℕ
+losses (Take number item lost) = if lost && is_some item.mark then 1 else 0
+losses _ = 0
 
 abbrev pub lost : List (List Step) → ℕ
-lost lanes = sum_by (λ steps. count_by is_lost_frame steps) lanes
+lost lanes = sum_by (λ steps. sum_by losses steps) lanes
+
+abbrev pub counts_text : ℕ → ℕ → List ℕ
+counts_text refused lost = codes "; refused " ++ decimal refused ++ codes "; lost " ++ decimal lost ++ 10 ∷ []
 
 -- where frames left, how many went nowhere, and how many were lost
 abbrev pub summary_line : Plan → Record → List ℕ
-summary_line plan rec =
-    left_text (left_words plan rec) ++ codes "; refused " ++ decimal (refused rec.bridges) ++ codes "; lost " ++ decimal (lost rec.lanes) ++ 10 ∷ []
+summary_line plan rec = left_text (left_words plan rec) ++ counts_text (refused rec.bridges) (lost rec.lanes)

@@ -10,7 +10,6 @@ use Rattle.pb_lan.specs.Ports.{vid_at}
 use Rattle.pb_lan.specs.declared.plan.Plan.{Plan}
 use Rattle.pb_lan.specs.declared.plan.CustomerPlan.{CustomerPlan}
 use Rattle.pb_lan.specs.declared.step.Item.{Item}
-use Rattle.pb_lan.specs.declared.step.NoRoom.{NoRoom}
 use Rattle.pb_lan.specs.declared.step.Outcome.{Outcome}
 use Rattle.pb_lan.specs.declared.step.Outcome.TheVariants.{Relayed, Filtered, Heard}
 use Rattle.pb_lan.specs.declared.step.Place.TheVariants.{Bridge, Lane, Customer}

@@ -112,6 +112,6 @@ pub(crate) fn put_round(
     };
     out.push_str("goes round over")?;
     put_all_passed(out, plan, rec, frame)?;
-    out.push_str("; ended after 1000 events\n")?;
+    writeln!(out, "; ended after 1000 events")?;
     Ok(())
 }

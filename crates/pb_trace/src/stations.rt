@@ -104,15 +104,25 @@ fn shows(plan: &Plan, bridge: u8, vid: u16, address: &[u8], step: &Step) -> bool
     noted && same_service && same_station
 }
 
+/// Whether the steps have shown a station in the service of a VID.
+fn is_shown_as(plan: &Plan, bridge: u8, steps: &[Step], address: &[u8], vid: u16) -> bool
+    ensures { result ≡ list_any (shows plan.now bridge vid address.now) steps.now }
+{
+    for step in steps {
+        if shows(plan, bridge, vid, address, step) {
+            return true;
+        }
+    }
+    false
+}
+
 /// Whether the steps have shown a station in the service of a VID, where there is one.
 fn is_shown(plan: &Plan, bridge: u8, steps: &[Step], address: &[u8], vid: Option<u16>) -> bool
     ensures { result ≡ is_shown plan.now bridge steps.now address.now vid }
 {
     match vid {
         None => false,
-        Some(vid) => steps
-            .iter()
-            .any(|step| shows(plan, bridge, vid, address, step)),
+        Some(vid) => is_shown_as(plan, bridge, steps, address, vid),
     }
 }
 

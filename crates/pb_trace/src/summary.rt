@@ -1,10 +1,10 @@
 //! What became of the frames, in one line.
 
-ghost use Rattle.std.specs.Prelude.{◌≡◌, ◌≤◌, ◌*◌, ◌^◌, ◌++◌, length, sum_by, count_by, string_bytes, OnOk};
+ghost use Rattle.std.specs.Prelude.{◌≡◌, ◌≤◌, ◌*◌, ◌^◌, ◌++◌, length, sum_by, string_bytes, OnOk};
 ghost use Rattle.std.specs.List.{list_any};
 ghost use Rattle.pb_lan.specs.Plans.{IsSound};
 ghost use Rattle.pb_lan.specs.Records.{steps_of};
-ghost use Rattle.pb_trace.specs.Summaries.{is_delivery, is_lost_frame, left_text, left_word, left_words, lost, refusals, refused, refused_by, summary_line};
+ghost use Rattle.pb_trace.specs.Summaries.{counts_text, is_delivery, left_text, left_word, left_words, losses, lost, refusals, refused, refused_by, summary_line};
 
 use crate::names::customer_name;
 use crate::round::steps_of;
@@ -95,21 +95,27 @@ fn refused(places: &[Seq<Step>]) -> u128
     sum
 }
 
-/// Whether a frame of a customer was lost by a step.
-fn is_lost_frame(step: &Step) -> bool
-    ensures { result ≡ is_lost_frame step.now }
+/// How many frames of customers were lost by a step: one, or none.
+fn losses(step: &Step) -> u8
+    ensures exact { result ≡ losses step.now }
+    ensures few { result ≤ 1 }
 {
     match step {
-        Step::Take { item, lost, .. } => *lost && item.mark.is_some(),
-        _ => false,
+        Step::Take { item, lost, .. } if *lost && item.mark.is_some() => 1,
+        _ => 0,
     }
 }
 
 /// How many frames of customers a lane lost.
-fn lost_at(steps: &[Step]) -> usize
-    ensures { result ≡ count_by is_lost_frame steps.now }
+fn lost_at(steps: &[Step]) -> u128
+    ensures exact { result ≡ sum_by losses steps.now }
+    ensures few { result ≤ 2 ^ 64 }
 {
-    steps.iter().filter(|step| is_lost_frame(step)).count()
+    let mut sum = 0;
+    for step in steps {
+        sum += u128::from(losses(step));
+    }
+    sum
 }
 
 /// How many frames of customers were lost.
@@ -119,7 +125,7 @@ fn lost(places: &[Seq<Step>]) -> u128
 {
     let mut sum = 0;
     for steps in places {
-        sum += lost_at(steps.as_slice()) as u128;
+        sum += lost_at(steps.as_slice());
     }
     sum
 }
@@ -133,6 +139,14 @@ fn put_where(out: &mut String, names: &str) -> Result<(), Memory>
         return Ok(());
     }
     write!(out, "left at{names}")?;
+    Ok(())
+}
+
+/// Puts how many frames and copies went nowhere behind a text, and how many were lost.
+fn put_counts(out: &mut String, refused: u128, lost: u128) -> Result<(), Memory>
+    ensures { OnOk result (string_bytes out.new ≡ string_bytes out.old ++ counts_text refused lost) }
+{
+    writeln!(out, "; refused {refused}; lost {lost}")?;
     Ok(())
 }
 
@@ -154,6 +168,5 @@ pub(crate) fn put_summary(
     put_where(out, names.as_str())?;
     let refused = refused(rec.bridges.as_slice());
     let lost = lost(rec.lanes.as_slice());
-    writeln!(out, "; refused {refused}; lost {lost}")?;
-    Ok(())
+    put_counts(out, refused, lost)
 }

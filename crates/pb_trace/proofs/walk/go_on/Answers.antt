@@ -1,6 +1,4 @@
-use Rattle.std.proofs.Common.{◌≡◌, string_bytes}
-use Rattle.pb_step.proofs.StepLemmas.{place_there, place_grew}
-use Rattle.pb_trace.proofs.WalkLemmas.{went_on, stayed_idle, stayed_absent}
+use Rattle.pb_step.proofs.StepLemmas.{place_there}
 use Rattle.pb_trace.proofs.walk.go_on.Goals as goal
 
 pub newest-requires-clause-has : goal.newest-requires-clause-has
