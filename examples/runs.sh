@@ -50,6 +50,23 @@ done
 
 prints access.expected survive examples/access.toml
 prints tree.expected tree examples/failover.toml
+broadcast=ffffffffffff02000000010108004142
+prints trace.expected trace examples/two-bridges.toml C1 "$broadcast" --then C2 02000000010102000000020208004344
+prints trace-metro.expected trace examples/metro.toml provider ffffffffffff02000000010108000001
+prints trace-losses.expected trace examples/losses.toml sender "$broadcast" --then sender "$broadcast"
+
+# Plans that are wrong, as docs/TROUBLESHOOTING.md shows them.
+mkdir -p out/broken
+prints broken/ring-check.expected check examples/broken/ring.toml
+./pbnet trace examples/broken/ring.toml C1 "$broadcast" | tail -n 2 >out/broken/ring-trace.expected
+is_same out/broken/ring-trace.expected examples/broken/ring-trace.expected
+prints broken/open-trace.expected trace examples/broken/open.toml C1 "$broadcast"
+prints broken/open-tree.expected tree examples/broken/open.toml
+prints broken/trunk-trace.expected trace examples/broken/trunk.toml C3 "$broadcast"
+prints broken/trunk-survive.expected survive examples/broken/trunk.toml --service blue
+prints broken/tagged-trace.expected trace examples/two-bridges.toml C1 ffffffffffff02000000010188a8006408004142
+prints broken/unsettled-trace.expected trace examples/failover.toml C1 "$broadcast"
+prints broken/settled-trace.expected trace examples/failover.toml C1 "$broadcast" --settle
 
 # The picture that the pages show.
 ./pbnet draw examples/metro.toml >out/metro.svg

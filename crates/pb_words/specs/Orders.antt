@@ -4,7 +4,7 @@ use Rattle.std.specs.declared.option.Option.{Option}
 use Rattle.pb_words.specs.declared.init_order.InitOrder.{InitOrder}
 use Rattle.pb_words.specs.declared.init_order.InitOrder.TheVariants.{Line, Ring, Star}
 use Rattle.pb_words.specs.declared.order.Order.{Order}
-use Rattle.pb_words.specs.declared.order.Order.TheVariants.{Flat, Check, Step, Run, Tree, Show, Init, Survive, Draw}
+use Rattle.pb_words.specs.declared.order.Order.TheVariants.{Flat, Check, Step, Run, Tree, Trace, Show, Init, Survive, Draw}
 
 -- a run is stopped after 1 to 1,000,000,000 seconds, or not
 abbrev pub AreSeconds : Option ℕ → Type 0
@@ -40,6 +40,7 @@ IsAllowed (Check path) = Unit {0}
 IsAllowed (Step path) = Unit {0}
 IsAllowed (Run run) = AreSeconds run.seconds
 IsAllowed (Tree tree) = AreTicks tree.ticks
+IsAllowed (Trace trace) = Unit {0}
 IsAllowed Show = Unit {0}
 IsAllowed (Init order) = IsNetwork order
 IsAllowed (Survive order) = AreWaitedTicks order.ticks

@@ -6,6 +6,7 @@ mod init_order;
 mod order;
 mod run_order;
 mod survive_order;
+mod trace_order;
 mod tree_order;
 
 pub use draw_order::{DrawOrder, PictureFormat};
@@ -13,4 +14,5 @@ pub use init_order::InitOrder;
 pub use order::{Order, order_of};
 pub use run_order::RunOrder;
 pub use survive_order::{SurviveOrder, SurviveScope};
+pub use trace_order::{TraceEntry, TraceOrder};
 pub use tree_order::TreeOrder;

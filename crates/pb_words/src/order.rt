@@ -8,6 +8,7 @@ use crate::draw_order::{DrawOrder, draw_command, draw_order};
 use crate::init_order::{InitOrder, init_command, init_order};
 use crate::run_order::{RunOrder, run_command, run_order};
 use crate::survive_order::{SurviveOrder, survive_command, survive_order};
+use crate::trace_order::{TraceOrder, trace_command, trace_order};
 use crate::tree_order::{TreeOrder, tree_command, tree_order};
 use clap::{Arg, ArgAction, Command, Error};
 use std::alloc::{AllocError, Global};
@@ -44,6 +45,8 @@ pub enum Order {
     Run(RunOrder),
     /// Printing the trees of the network of a plan file.
     Tree(TreeOrder),
+    /// Printing where frames go in the network of a plan file.
+    Trace(TraceOrder),
     /// Telling what becomes of frames for the reserved addresses.
     Show,
     /// Printing a plan file to begin with.
@@ -106,6 +109,7 @@ fn commands<'a>(alloc: Global) -> Result<Command<'a>, Error> {
     let program = with(program, tree_command(alloc)?, plan_file(alloc))?;
     let program = with(program, survive_command(alloc)?, plan_file(alloc))?;
     let program = with(program, draw_command(alloc)?, plan_file(alloc))?;
+    let program = program.subcommand(trace_command(alloc, plan_file(alloc))?)?;
     let show = Command::new(alloc, "show").about(SHOW);
     let program = program.subcommand(show)?;
     Ok(program.subcommand(init_command(alloc)?)?)
@@ -156,6 +160,10 @@ pub fn order_of(alloc: Global, words: &[String]) -> Result<Option<Order>, Error>
             Some(path) if command == "survive" => Ok(Some(Order::Survive(survive_order(
                 alloc, path, given,
             )?))),
+            Some(path) if command == "trace" => match trace_order(alloc, path, given)? {
+                Some(order) => Ok(Some(Order::Trace(order))),
+                None => Ok(None),
+            },
             Some(path) => Ok(file_order(alloc, command, path)?),
             None => Ok(None),
         },

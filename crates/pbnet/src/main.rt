@@ -15,6 +15,7 @@ ghost use Rattle.std.specs.Prelude.{◌≤◌};
 mod draw;
 mod progress;
 mod survive;
+mod trace;
 mod trees;
 
 use clap::error::ErrorKind as WordsFault;
@@ -67,6 +68,7 @@ fn main(rt: HostRuntime) -> ExitCode {
             run(&rt, &order, shown, &mut errors)
         }
         Ok(Some(Order::Tree(order))) => tree(&rt, &order),
+        Ok(Some(Order::Trace(order))) => trace::trace(&rt, &order),
         Ok(Some(Order::Show)) => show(&rt),
         Ok(Some(Order::Init(order))) => init(&rt, order),
         Ok(Some(Order::Survive(order))) => survive::tell_survivals(&rt, &order),

@@ -1,6 +1,6 @@
 //! What the words of the command line ask for.
 
-use pb_words::{InitOrder, Order, RunOrder, TreeOrder, order_of};
+use pb_words::{InitOrder, Order, RunOrder, TraceEntry, TraceOrder, TreeOrder, order_of};
 use std::alloc::{AllocError, Global};
 use std::process::Abort;
 use std::test::Fail;
@@ -18,6 +18,8 @@ enum Wanted {
     RunUnder(&'static str, &'static str),
     /// With the ports that go down, and the most ticks.
     Tree(&'static str, &'static [&'static str], u32),
+    /// With the frames that come in, each a port and digits, and whether the bridges settle before.
+    Trace(&'static str, &'static [(&'static str, &'static str)], bool),
     Show,
     Init(InitOrder),
     /// They are wrong, or ask for help.
@@ -65,6 +67,26 @@ fn tree_of(alloc: Global, path: &str, downs: &[&str], ticks: u32) -> Result<Tree
     })
 }
 
+/// Frames that come into the network of a plan file.
+fn trace_of(
+    alloc: Global,
+    path: &str,
+    frames: &[(&str, &str)],
+    settles: bool,
+) -> Result<TraceOrder, AllocError> {
+    let mut entries = Vec::new(alloc);
+    for (port, hex) in frames {
+        let port = String::from_str(alloc, port)?;
+        let hex = String::from_str(alloc, hex)?;
+        entries.push(TraceEntry { port, hex })?;
+    }
+    Ok(TraceOrder {
+        path: String::from_str(alloc, path)?,
+        entries,
+        settles,
+    })
+}
+
 /// The order that is wanted, or whether the words are wrong.
 fn wanted_of(alloc: Global, wanted: Wanted) -> Result<Result<Order, bool>, AllocError> {
     Ok(Ok(match wanted {
@@ -79,6 +101,9 @@ fn wanted_of(alloc: Global, wanted: Wanted) -> Result<Result<Order, bool>, Alloc
             Order::Run(run_of(alloc, path, None, false, false, Some(control))?)
         }
         Wanted::Tree(path, downs, ticks) => Order::Tree(tree_of(alloc, path, downs, ticks)?),
+        Wanted::Trace(path, frames, settles) => {
+            Order::Trace(trace_of(alloc, path, frames, settles)?)
+        }
         Wanted::Show => Order::Show,
         Wanted::Init(order) => Order::Init(order),
         Wanted::Nothing { wrong } => return Ok(Err(wrong)),
@@ -187,6 +212,39 @@ fn draws_the_trees_of_one_file(rt: HostRuntime) -> Result<(), Fail> {
         (&["tree", "a", "--down"], WRONG),
         (&["tree", "a", "--ticks", "100001"], WRONG),
         (&["tree", "--help"], HELP),
+    ];
+    all_ask(&rt, rt.alloc(), ROWS)
+}
+
+#[test]
+fn traces_frames_in_one_file(rt: HostRuntime) -> Result<(), Fail> {
+    const ROWS: &[Row] = &[
+        (
+            &["trace", "a", "C1", "ff"],
+            Wanted::Trace("a", &[("C1", "ff")], false),
+        ),
+        (
+            &["trace", "--settle", "a", "C1", "ff"],
+            Wanted::Trace("a", &[("C1", "ff")], true),
+        ),
+        (
+            &["trace", "a", "C1", "ff", "--then", "C2", "00"],
+            Wanted::Trace("a", &[("C1", "ff"), ("C2", "00")], false),
+        ),
+        (
+            &[
+                "trace", "--then", "C2", "00", "a", "--then", "C3", "x", "C1", "",
+            ],
+            Wanted::Trace("a", &[("C1", ""), ("C2", "00"), ("C3", "x")], false),
+        ),
+        (&["trace", "a", "C1"], WRONG),
+        (&["trace", "a"], WRONG),
+        (&["trace"], WRONG),
+        (&["trace", "a", "C1", "ff", "C2", "00"], WRONG),
+        (&["trace", "a", "C1", "ff", "--then", "C2"], WRONG),
+        (&["trace", "a", "C1", "ff", "--then"], WRONG),
+        (&["trace", "a", "C1", "ff", "--settle=1"], WRONG),
+        (&["trace", "--help"], HELP),
     ];
     all_ask(&rt, rt.alloc(), ROWS)
 }

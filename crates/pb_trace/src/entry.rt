@@ -1,0 +1,50 @@
+//! The frames that come in.
+
+ghost use Rattle.std.specs.Prelude.{◌≡◌, ◌<◌, List, ℕ, length, IfOk, IfSome, IfNone};
+ghost use Rattle.pb_frame.specs.Hex.{IsHex};
+ghost use Rattle.pb_lan.specs.Plans.{IsSound};
+ghost use Rattle.pb_trace.specs.Stories.{port_named};
+
+use bytes::Bytes;
+use pb_frame::{HexFault, Memory, hex_read};
+use pb_lan::Plan;
+use std::alloc::Global;
+
+/// A frame that comes in.
+#[derive(PartialEq, Eq, Debug, Drop)]
+pub struct Entry {
+    /// The name of the customer port where it comes in.
+    pub port: String,
+    /// Its octets from the destination address on, as pairs of hexadecimal digits.
+    pub hex: String,
+}
+
+/// The number of the customer port of a name, or 0 where the plan has none.
+pub(crate) fn port_named(plan: &Plan, name: &str) -> u8
+    requires { IsSound plan.now }
+    ensures { result ≡ port_named plan.now name.now }
+{
+    for (place, customer) in plan.customers.as_slice().iter().enumerate() {
+        if name == customer.name.as_str() {
+            return place as u8 + 1;
+        }
+    }
+    0
+}
+
+/// A frame of one octet at least, from pairs of hexadecimal digits.
+pub(crate) fn read_frame(alloc: Global, hex: &str) -> Result<Option<Bytes>, Memory>
+    ensures some { IfOk result (λ o. IfSome o (λ frame. IsHex hex.now frame)) }
+    ensures filled { IfOk result (λ o. IfSome o (λ frame. 0 < length frame)) }
+    ensures none { IfOk result (λ o. IfNone o ((frame : List ℕ) → IsHex hex.now frame → 0 < length frame → ⊥)) }
+{
+    if hex.is_empty() {
+        return Ok(None);
+    }
+    match hex_read(alloc, hex) {
+        Ok(frame) => Ok(Some(frame)),
+        Err(HexFault::Memory) => Err(Memory),
+        Err(HexFault::Digit) => Ok(None),
+        Err(HexFault::Odd) => Ok(None),
+    }
+}

@@ -1,0 +1,362 @@
+//! What is told of frames in plan files.
+
+mod plans;
+
+use pb_fakes::{Full, Unflushed};
+use pb_print::CommandFault;
+use pb_trace::{Entry, TraceEnd, run_trace};
+use std::alloc::{AllocError, Global};
+use std::process::Abort;
+use std::test::Fail;
+
+/// A broadcast from the station 02-00-00-00-01-01.
+const BROADCAST: &str = "ffffffffffff02000000010108004142";
+
+/// A frame from 02-00-00-00-02-02 to that station.
+const REPLY: &str = "02000000010102000000020208004344";
+
+/// The frames that come in, each as its customer port and its digits.
+fn entries_of(alloc: Global, frames: &[(&str, &str)]) -> Result<Vec<Entry>, AllocError> {
+    let mut entries = Vec::new(alloc);
+    for (port, hex) in frames {
+        let port = String::from_str(alloc, port)?;
+        let hex = String::from_str(alloc, hex)?;
+        entries.push(Entry { port, hex })?;
+    }
+    Ok(entries)
+}
+
+/// A plan file, the frames that come in, whether the bridges settle before, how it ends, and what is written.
+type Row<'a> = (&'a str, &'a [(&'a str, &'a str)], bool, TraceEnd, &'a str);
+
+/// The rows come out as they are told.
+fn tells(rt: &impl Abort, alloc: Global, rows: &[Row]) -> Result<(), Fail> {
+    for (number, (plan, frames, settles, end, want)) in rows.iter().enumerate() {
+        let entries = entries_of(alloc, frames)?;
+        let mut output = Vec::new(alloc);
+        let told = run_trace(
+            alloc,
+            plan.as_bytes(),
+            entries.as_slice(),
+            *settles,
+            &mut output,
+        );
+        assert_eq!(rt; told, Ok(*end), "row {number}");
+        let text = std::str::from_utf8(output.as_slice()).unwrap_or("");
+        assert_eq!(rt; text, *want, "row {number}");
+    }
+    Ok(())
+}
+
+/// Back and forth over a link.
+const THERE_AND_BACK: &str = "\
+in ffffffffffff02000000010108004142: polled C1 0
+  B1 2 from C1, red vid 100 priority 0, source learnt, flooded: relayed 1
+    B1 1 to L1, tag 88a80064 put on
+    L1 ab: taken 0
+    B2 1 from L1, red vid 100 priority 0, source learnt, flooded: relayed 2
+      B2 2 to C2, tag taken off
+      C2: delivered ffffffffffff02000000010108004142
+in 02000000010102000000020208004344: polled C2 0
+  B2 2 from C2, red vid 100 priority 0, source learnt, known: relayed 1
+    B2 1 to L1, tag 88a80064 put on
+    L1 ba: taken 0
+    B1 1 from L1, red vid 100 priority 0, source learnt, known: relayed 2
+      B1 2 to C1, tag taken off
+      C1: delivered 02000000010102000000020208004344
+left at C1 C2; refused 0; lost 0
+";
+
+/// A priority tag comes off, and its priority stays. Then a frame for its own sender.
+const PRIORITY: &str = "\
+in ffffffffffff02000000010188a8a00008004142: polled C1 0
+  B1 2 from C1, red vid 100 priority 5, tag 88a8a000 taken off, source learnt, flooded: relayed 1
+    B1 1 to L1, tag 88a8a064 put on
+    L1 ab: taken 0
+    B2 1 from L1, red vid 100 priority 5, source learnt, flooded: relayed 2
+      B2 2 to C2, tag taken off
+      C2: delivered ffffffffffff02000000010108004142
+in 02000000010102000000010108004142: polled C1 1
+  B1 2 from C1, red vid 100 priority 0, source known, nowhere: relayed
+left at C2; refused 0; lost 0
+";
+
+/// A tag with a VID, an address that no bridge relays, and too few octets.
+const REFUSED: &str = "\
+in ffffffffffff02000000010188a8006408004142: polled C1 0
+  B1 2 from C1, red vid 100 priority 0: filtered s-tagged
+in 0180c200000302000000010108004142: polled C1 1
+  B1 2 from C1, red vid 100 priority 0: filtered reserved-3
+in 01: polled C1 2
+  B1 2 from C1, red vid 100 priority 0: filtered malformed
+left nowhere; refused 3; lost 0
+";
+
+/// A service that the far end of the link does not serve.
+const UNSERVED: &str = "\
+in ffffffffffff02000000010108004142: polled C1 0
+  B1 2 from C1, red vid 100 priority 3, source learnt, flooded: relayed 1
+    B1 1 to L1, tag 88a86064 put on
+    L1 ab: taken 0
+    B2 1 from L1, red vid 100 priority 3: filtered not-member
+left nowhere; refused 1; lost 0
+";
+
+/// The second item is lost.
+const LOST: &str = "\
+in ffffffffffff02000000010108004142: polled sender 0
+  Near 2 from sender, line vid 100 priority 0, source learnt, flooded: relayed 1
+    Near 1 to fibre, tag 88a80064 put on
+    fibre ab: taken 0
+    Far 1 from fibre, line vid 100 priority 0, source learnt, flooded: relayed 2
+      Far 2 to receiver, tag taken off
+      receiver: delivered ffffffffffff02000000010108004142
+in ffffffffffff02000000010108004142: polled sender 1
+  Near 2 from sender, line vid 100 priority 0, source known, flooded: relayed 1
+    Near 1 to fibre, tag 88a80064 put on
+    fibre ab: lost 1
+left at receiver; refused 0; lost 1
+";
+
+/// Customers at one bridge: no tag, and a source that moves.
+const ONE_BRIDGE: &str = "\
+in ffffffffffff02000000010108004142: polled C1 0
+  B1 1 from C1, red vid 100 priority 0, source learnt, flooded: relayed 2 3
+    B1 2 to C2
+    C2: delivered ffffffffffff02000000010108004142
+    B1 3 to C3
+    C3: delivered ffffffffffff02000000010108004142
+in ffffffffffff02000000010108004142: polled C2 0
+  B1 2 from C2, red vid 100 priority 0, source moved, flooded: relayed 1 3
+    B1 1 to C1
+    C1: delivered ffffffffffff02000000010108004142
+    B1 3 to C3
+    C3: delivered ffffffffffff02000000010108004142
+left at C1 C2 C3; refused 0; lost 0
+";
+
+/// A broadcast goes both ways round the metro ring, and is refused where it is open.
+const METRO: &str = "\
+in ffffffffffff02000000010108000001: polled provider 0
+  Centre 3 from provider, internet vid 100 priority 0, source learnt, flooded: relayed 1 2
+    Centre 1 to ring1, tag 88a80064 put on
+    ring1 ab: taken 0
+    Harbour 2 from ring1, internet vid 100 priority 0, source learnt, flooded: relayed 1
+      Harbour 1 to ring2, tag 88a80064
+      ring2 ab: taken 0
+      Lakeside 2 from ring2, internet vid 100 priority 0, source learnt, flooded: relayed 1 3
+        Lakeside 1 to ring3, tag 88a80064
+        ring3 ab: taken 0
+        Station 2 from ring3, internet vid 100 priority 0: filtered not-forwarding
+        Lakeside 3 to shop, tag taken off
+        shop: delivered ffffffffffff02000000010108000001
+    Centre 2 to ring6, tag 88a80064 put on
+    ring6 ba: taken 0
+    Campus 1 from ring6, internet vid 100 priority 0, source learnt, flooded: relayed 2
+      Campus 2 to ring5, tag 88a80064
+      ring5 ba: taken 0
+      Airport 1 from ring5, internet vid 100 priority 0, source learnt, flooded: relayed 2 3
+        Airport 2 to ring4, tag 88a80064
+        ring4 ba: taken 0
+        Station 1 from ring4, internet vid 100 priority 0, source learnt, nowhere: relayed
+        Airport 3 to hotel, tag taken off
+        hotel: delivered ffffffffffff02000000010108000001
+left at shop hotel; refused 1; lost 0
+";
+
+/// Bridges that decide the states settle before: the second link stands by at its far end.
+const SETTLED: &str = "\
+settled yes ticks 2
+in ffffffffffff02000000010108004142: polled C1 0
+  B1 2 from C1, red vid 100 priority 0, source learnt, flooded: relayed 1 3
+    B1 1 to L1, tag 88a80064 put on
+    L1 ab: taken 7
+    B2 1 from L1, red vid 100 priority 0, source learnt, flooded: relayed 2
+      B2 2 to C2, tag taken off
+      C2: delivered ffffffffffff02000000010108004142
+    B1 3 to L2, tag 88a80064 put on
+    L2 ab: taken 7
+    B2 3 from L2, red vid 100 priority 0: filtered not-forwarding
+left at C2; refused 1; lost 0
+";
+
+/// Before the first tick no port to another bridge forwards.
+const UNSETTLED: &str = "\
+in ffffffffffff02000000010108004142: polled C1 0
+  B1 2 from C1, red vid 100 priority 0, source learnt, nowhere: relayed
+left nowhere; refused 0; lost 0
+";
+
+#[test]
+fn frames_are_told_hop_by_hop(rt: HostRuntime) -> Result<(), Fail> {
+    const ROWS: &[Row] = &[
+        (
+            plans::TWO,
+            &[("C1", BROADCAST), ("C2", REPLY)],
+            false,
+            TraceEnd::Told,
+            THERE_AND_BACK,
+        ),
+        (
+            plans::TWO,
+            &[
+                ("C1", "ffffffffffff02000000010188a8a00008004142"),
+                ("C1", "02000000010102000000010108004142"),
+            ],
+            true,
+            TraceEnd::Told,
+            PRIORITY,
+        ),
+        (
+            plans::TWO,
+            &[
+                ("C1", "ffffffffffff02000000010188a8006408004142"),
+                ("C1", "0180C200000302000000010108004142"),
+                ("C1", "01"),
+            ],
+            false,
+            TraceEnd::Told,
+            REFUSED,
+        ),
+        (
+            plans::UNSERVED,
+            &[("C1", BROADCAST)],
+            false,
+            TraceEnd::Told,
+            UNSERVED,
+        ),
+        (
+            plans::LOSSES,
+            &[("sender", BROADCAST), ("sender", BROADCAST)],
+            false,
+            TraceEnd::Told,
+            LOST,
+        ),
+        (
+            plans::ONE_BRIDGE,
+            &[("C1", BROADCAST), ("C2", BROADCAST)],
+            false,
+            TraceEnd::Told,
+            ONE_BRIDGE,
+        ),
+        (
+            plans::METRO,
+            &[("provider", "ffffffffffff02000000010108000001")],
+            false,
+            TraceEnd::Told,
+            METRO,
+        ),
+        (
+            plans::FAILOVER,
+            &[("C1", BROADCAST)],
+            true,
+            TraceEnd::Told,
+            SETTLED,
+        ),
+        (
+            plans::FAILOVER,
+            &[("C1", BROADCAST)],
+            false,
+            TraceEnd::Told,
+            UNSETTLED,
+        ),
+        (
+            plans::TWO,
+            &[],
+            false,
+            TraceEnd::Told,
+            "left nowhere; refused 0; lost 0\n",
+        ),
+    ];
+    tells(&rt, rt.alloc(), ROWS)
+}
+
+#[test]
+fn what_is_wrong_is_told(rt: HostRuntime) -> Result<(), Fail> {
+    const ROWS: &[Row] = &[
+        (
+            "bridges = []",
+            &[("C1", BROADCAST)],
+            false,
+            TraceEnd::Refused,
+            "plan: 6 unknown bridges\n",
+        ),
+        (
+            plans::TWO,
+            &[("C9", BROADCAST)],
+            false,
+            TraceEnd::NoPort(0),
+            "",
+        ),
+        (
+            plans::TWO,
+            &[("C1", BROADCAST), ("c2", REPLY)],
+            false,
+            TraceEnd::NoPort(1),
+            "",
+        ),
+        (plans::TWO, &[("C1", "")], false, TraceEnd::NoFrame(0), ""),
+        (
+            plans::TWO,
+            &[("C1", BROADCAST), ("C2", "fff")],
+            false,
+            TraceEnd::NoFrame(1),
+            "",
+        ),
+        (plans::TWO, &[("C9", "0g")], false, TraceEnd::NoFrame(0), ""),
+    ];
+    tells(&rt, rt.alloc(), ROWS)
+}
+
+/// How often a text has an end of a line, and whether it ends with another text.
+fn lines_and_end(text: &str, end: &str) -> (usize, bool) {
+    let lines = text.bytes().filter(|octet| *octet == b'\n').count();
+    (lines, text.as_bytes().ends_with(end.as_bytes()))
+}
+
+/// Three bridges in an open ring. The frame comes in, and is received; then each four events take it a bridge on, and in
+/// the end two more put it onto a lane. Each third bridge is the first: the frame comes back 83 times, and the customer port
+/// there has room for 64 copies, or for one.
+#[test]
+fn a_frame_that_goes_round_is_told_so(rt: HostRuntime) -> Result<(), Fail> {
+    const ROUND: &str = "goes round over L1 L2 L3; ended after 1000 events\n";
+    let alloc = rt.alloc();
+    for (plan, refused) in [(plans::RING, 19), (plans::NARROW_RING, 82)] {
+        let entries = entries_of(alloc, &[("C1", BROADCAST), ("C9", BROADCAST)])?;
+        let mut output = Vec::new(alloc);
+        let told = run_trace(
+            alloc,
+            plan.as_bytes(),
+            entries.as_slice(),
+            false,
+            &mut output,
+        );
+        assert_eq!(rt; told, Ok(TraceEnd::Told));
+        let text = std::str::from_utf8(output.as_slice()).unwrap_or("");
+        let end = format!(in alloc; "{ROUND}left nowhere; refused {refused}; lost 0\n")?;
+        assert_eq!(rt;
+            lines_and_end(text, end.as_str()),
+            (2 + 249 * 3 + 2 + 2, true),
+            "{text}"
+        );
+    }
+    Ok(())
+}
+
+#[test]
+fn writes_that_fail_are_told(rt: HostRuntime) -> Result<(), Fail> {
+    let alloc = rt.alloc();
+    let entries = entries_of(alloc, &[("C1", BROADCAST)])?;
+    let file = plans::TWO.as_bytes();
+    let told = run_trace(
+        alloc,
+        file,
+        entries.as_slice(),
+        false,
+        &mut Full { room: 5 },
+    );
+    assert_eq!(rt; told, Err(CommandFault::Write));
+    let told = run_trace(alloc, file, entries.as_slice(), false, &mut Unflushed);
+    assert_eq!(rt; told, Err(CommandFault::Write));
+    Ok(())
+}

@@ -1,0 +1,138 @@
+//! What the words behind `trace` ask for.
+
+ghost use Rattle.std.specs.Prelude.{◌≡◌, IfOk, IfSome, string_bytes};
+
+use clap::{Arg, ArgAction, ArgMatches, Command, Error};
+use std::alloc::{AllocError, Global};
+
+/// What `trace` does.
+const TRACE: &str =
+    "Lets a frame come into a plan file's network, and prints where it goes, hop by hop, until nothing is left to do";
+
+/// What PORT is.
+const PORT: &str = "The customer port where the frame comes in";
+
+/// What HEX is.
+const HEX: &str = "Its octets from the destination address on, as pairs of hexadecimal digits";
+
+/// What `--then` does.
+const THEN: &str = "Lets a further frame come in behind it; may stand several times";
+
+/// What `--settle` does.
+const SETTLE: &str =
+    "Lets the bridges settle before, where they decide the states of their ports, for 200 ticks at most";
+
+/// A frame that comes in.
+#[derive(PartialEq, Eq, Debug, Drop)]
+pub struct TraceEntry {
+    /// The name of the customer port where it comes in.
+    pub port: String,
+    /// Its octets, as pairs of hexadecimal digits.
+    pub hex: String,
+}
+
+/// Frames that come into the network of a plan file.
+#[derive(PartialEq, Eq, Debug, Drop)]
+pub struct TraceOrder {
+    /// The plan file's path.
+    pub path: String,
+    /// The frames, in order.
+    pub entries: Vec<TraceEntry>,
+    /// Whether the bridges settle before.
+    pub settles: bool,
+}
+
+/// An argument that is required.
+fn required<'a>(alloc: Global, name: &'a str, help: &'a str) -> Arg<'a> {
+    Arg::new(alloc, name)
+        .help(help)
+        .required(true)
+        .action(ArgAction::Set)
+}
+
+/// The command `trace`, with its plan file.
+pub(crate) fn trace_command<'a>(alloc: Global, file: Arg<'a>) -> Result<Command<'a>, Error> {
+    let then = Arg::new(alloc, "then")
+        .long("then")
+        .value_names(&["PORT", "HEX"])
+        .num_args(2)
+        .help(THEN)
+        .action(ArgAction::Append);
+    let settle = Arg::new(alloc, "settle")
+        .long("settle")
+        .help(SETTLE)
+        .action(ArgAction::SetTrue);
+    let command = Command::new(alloc, "trace").about(TRACE);
+    let command = command.arg(file)?;
+    let command = command.arg(required(alloc, "PORT", PORT))?;
+    let command = command.arg(required(alloc, "HEX", HEX))?;
+    let command = command.arg(then)?;
+    Ok(command.arg(settle)?)
+}
+
+/// Puts a frame behind others.
+fn push_entry(
+    alloc: Global,
+    entries: &mut Vec<TraceEntry>,
+    port: &str,
+    hex: &str,
+) -> Result<(), AllocError> {
+    let port = String::from_str(alloc, port)?;
+    let hex = String::from_str(alloc, hex)?;
+    entries.push(TraceEntry { port, hex })?;
+    Ok(())
+}
+
+/// Puts the further frames behind the first one: each is a port and its digits.
+fn push_further(
+    alloc: Global,
+    entries: &mut Vec<TraceEntry>,
+    given: &ArgMatches<'_>,
+) -> Result<(), AllocError> {
+    let mut port = None;
+    if let Some(words) = given.get_strs("then") {
+        for word in words {
+            match port {
+                None => port = Some(word),
+                Some(name) => {
+                    push_entry(alloc, entries, name, word)?;
+                    port = None;
+                }
+            }
+        }
+    }
+    Ok(())
+}
+
+/// The frames that come in.
+fn entries_of(
+    alloc: Global,
+    port: &str,
+    hex: &str,
+    given: &ArgMatches<'_>,
+) -> Result<Vec<TraceEntry>, AllocError> {
+    let mut entries = Vec::new(alloc);
+    push_entry(alloc, &mut entries, port, hex)?;
+    push_further(alloc, &mut entries, given)?;
+    Ok(entries)
+}
+
+/// The trace over the plan file at a path that the words ask for. None doesn't come, since an argument that is required has
+/// a value; no contract says so.
+pub(crate) fn trace_order(
+    alloc: Global,
+    path: &str,
+    given: &ArgMatches<'_>,
+) -> Result<Option<TraceOrder>, AllocError>
+    ensures { IfOk result (λ o. IfSome o (λ trace. string_bytes trace.path ≡ path.now)) }
+{
+    let (Some(port), Some(hex)) = (given.get_str("PORT"), given.get_str("HEX")) else {
+        return Ok(None);
+    };
+    let entries = entries_of(alloc, port, hex, given)?;
+    Ok(Some(TraceOrder {
+        path: String::from_str(alloc, path)?,
+        entries,
+        settles: given.get_flag("settle"),
+    }))
+}

@@ -1,0 +1,67 @@
+//! Where frames go in the network of a plan file.
+
+use crate::{REFUSED, WRONG_WORDS, contents, ended, tell};
+use pb_print::CommandFault;
+use pb_trace::{Entry, TraceEnd, run_trace};
+use pb_words::{TraceEntry, TraceOrder};
+use std::alloc::{AllocError, Global};
+use std::fs::Files;
+use std::io;
+use std::process::ExitCode;
+
+/// The frames that the words tell.
+fn entries_of(alloc: Global, words: &[TraceEntry]) -> Result<Vec<Entry>, AllocError> {
+    let mut entries = Vec::with_capacity(alloc, words.len())?;
+    for word in words {
+        let port = word.port.clone()?;
+        let hex = word.hex.clone()?;
+        entries.push(Entry { port, hex })?;
+    }
+    Ok(entries)
+}
+
+/// Prints where frames go in the network of a plan file.
+pub(crate) fn trace(
+    rt: &(impl Files + Print + Eprint + AllocGlobal),
+    order: &TraceOrder,
+) -> ExitCode {
+    let path = order.path.as_str();
+    let file = match contents(rt, path) {
+        Ok(file) => file,
+        Err(status) => return status,
+    };
+    let Ok(entries) = entries_of(rt.alloc(), order.entries.as_slice()) else {
+        return tell(rt, CommandFault::Memory);
+    };
+    match run_trace(
+        rt.alloc(),
+        file.as_slice(),
+        entries.as_slice(),
+        order.settles,
+        &mut io::writer(rt),
+    ) {
+        Err(fault) => tell(rt, fault),
+        Ok(TraceEnd::Told) => ExitCode::SUCCESS,
+        Ok(TraceEnd::Refused) => ended(rt, path, file.as_slice(), REFUSED),
+        Ok(TraceEnd::NoPort(index)) => no_port(rt, entries.as_slice(), index),
+        Ok(TraceEnd::NoFrame(index)) => no_frame(rt, entries.as_slice(), index),
+    }
+}
+
+/// Says that the plan lacks a customer port.
+fn no_port(rt: &impl Eprint, entries: &[Entry], index: usize) -> ExitCode {
+    if let Some(entry) = entries.get(index) {
+        let port = entry.port.as_str();
+        let _ = eprintln!(rt; "error: the plan has no customer port {port}");
+    }
+    ExitCode::from(WRONG_WORDS)
+}
+
+/// Says that digits are no frame.
+fn no_frame(rt: &impl Eprint, entries: &[Entry], index: usize) -> ExitCode {
+    if let Some(entry) = entries.get(index) {
+        let hex = entry.hex.as_str();
+        let _ = eprintln!(rt; "error: '{hex}' is no frame: pairs of hexadecimal digits are");
+    }
+    ExitCode::from(WRONG_WORDS)
+}
