@@ -1,8 +1,9 @@
 //! The control socket.
 
-ghost use Rattle.std.specs.Prelude.{◌≡◌, true};
-ghost use Rattle.pb_control.specs.Sizes.{IsFew};
+ghost use Rattle.std.specs.Prelude.{◌≡◌, true, IfOk};
 ghost use Rattle.pb_control.specs.Requests.{is_there};
+ghost use Rattle.pb_control.specs.Sizes.{IsFew};
+ghost use Rattle.pb_control.specs.Sockets.{path_of};
 ghost use Rattle.pb_control.specs.declared.request.Request.{Request};
 
 use crate::board::Board;
@@ -33,12 +34,14 @@ pub struct Control {
 
 impl Control {
     /// Makes the socket at a path, with mode 600. The system sets a mode only once a socket is there: it is set at once
-    /// then, and a peer that connected in between stays.
+    /// then, and whoever connected in between is hung up on.
     ///
     /// A file that stands there is replaced only where it is a socket on which nobody listens. Else the error is
     /// `AddrInUse` where somebody does, or may, and `AlreadyExists` for any other file, a symbolic link among them; all
     /// other errors are the system's. After an error no socket of ours is left.
-    pub fn open<R: Files + Net>(rt: &R, alloc: Global, path: &str) -> io::Result<Control> {
+    pub fn open<R: Files + Net>(rt: &R, alloc: Global, path: &str) -> io::Result<Control>
+        ensures { IfOk result (λ control. path_of control ≡ path.now) }
+    {
         let kept = String::from_str(alloc, path)?;
         let listener = listen(rt, path)?;
         Ok(Control {
@@ -51,7 +54,9 @@ impl Control {
     }
 
     /// Lets the next peer in, where one waits.
-    fn accept(&mut self) -> Step {
+    fn accept(&mut self) -> Step
+        ensures { path_of self.new ≡ path_of self.old }
+    {
         match self.listener.accept() {
             Ok((stream, _)) => {
                 self.peer = Some(Peer::new(self.alloc, stream));
@@ -64,6 +69,7 @@ impl Control {
     fn step<B: Board>(&mut self, plan: &Plan, board: &B) -> Step
         requires few { IsFew plan.now }
         requires allowed { (request : Request) → is_there plan.now request ≡ true → B.allows board.now request }
+        ensures { path_of self.new ≡ path_of self.old }
     {
         match &mut self.peer {
             Some(peer) => peer.step(self.alloc, plan, board),
@@ -77,6 +83,7 @@ impl Control {
     pub fn turn<B: Board>(&mut self, plan: &Plan, board: &B) -> bool
         requires few { IsFew plan.now }
         requires allowed { (request : Request) → is_there plan.now request ≡ true → B.allows board.now request }
+        ensures { path_of self.new ≡ path_of self.old }
     {
         let mut has_moved = false;
         for _ in 0..STEPS {

@@ -10,6 +10,9 @@ use std::{fs, io};
 /// Only the owner may connect.
 const MODE: u32 = 0o600;
 
+/// More than the peers that the system lets wait.
+const MOST_WAITING: u32 = 10_000;
+
 /// The device and the number of the file that stands at a path, itself and not what it leads to.
 pub(crate) fn node_at(rt: &impl Files, path: &str) -> Option<(u64, u64)> {
     match fs::symlink_metadata(rt, path) {
@@ -50,11 +53,25 @@ fn bind<R: Files + Net>(rt: &R, path: &str) -> io::Result<UnixListener> {
     }
 }
 
-/// Makes the socket, to which only its owner may connect.
+/// Hangs up on all who have connected so far.
+fn turn_away(listener: &UnixListener) {
+    for _ in 0..MOST_WAITING {
+        match listener.accept() {
+            Err(e) if e.kind() == ErrorKind::WouldBlock => return,
+            _ => {}
+        }
+    }
+}
+
+/// Makes the socket, to which only its owner may connect. The system sets a mode once the socket is there, so those are
+/// turned away who connected before.
 pub(crate) fn listen<R: Files + Net>(rt: &R, path: &str) -> io::Result<UnixListener> {
     let listener = bind(rt, path)?;
     match fs::set_permissions(rt, path, Permissions::from_mode(MODE)) {
-        Ok(()) => Ok(listener),
+        Ok(()) => {
+            turn_away(&listener);
+            Ok(listener)
+        }
         Err(e) => {
             let _ = fs::remove_file(rt, path);
             Err(e)
