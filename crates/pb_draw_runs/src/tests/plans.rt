@@ -150,7 +150,7 @@ pub(super) const DOT_PIECES: &[Piece] = &[
         1,
     ),
     (
-        "b3 -- b1 [taillabel=\"1\", headlabel=\"2\", dir=both, arrowtail=box, arrowhead=none, label=\"L3\", tooltip=\"link L3: B3 port 1 discarding, B1 port 2 forwarding\", style=dashed, color=gray50];\n",
+        "b3 -- b1 [taillabel=\"1\", headlabel=\"2\", dir=both, arrowtail=box, arrowhead=none, style=dashed, color=gray50, label=\"L3\", tooltip=\"link L3: B3 port 1 discarding, B1 port 2 forwarding\"];\n",
         1,
     ),
     (
