@@ -1,13 +1,13 @@
 //! The worker of a bridge.
 
-ghost use Rattle.std.specs.Prelude.{◌≡◌, ◌<◌, ◌≤◌, ◌+◌, ◌-◌, ℕ, [], true, false, IfOk, OnErr, length, map, vec_len, slice_index_or};
+ghost use Rattle.std.specs.Prelude.{◌≡◌, ◌&&◌, ◌<◌, ◌≤◌, ◌+◌, ◌-◌, ℕ, [], true, false, IfOk, OnErr, length, map, vec_len, slice_index_or};
 ghost use Rattle.std.specs.List.{list_any};
 ghost use Rattle.rtrb.specs.Ring.{sent, received as received_over};
 ghost use Rattle.pb_frame.specs.Lists.{IsBeginning};
 ghost use Rattle.pb_lan.specs.LaneLists.{taken, put};
 ghost use Rattle.pb_lan.specs.Laws.{is_setting};
 ghost use Rattle.pb_lan.specs.PortLists.{fed, delivered};
-ghost use Rattle.pb_lan.specs.Ports.{port_at, is_used};
+ghost use Rattle.pb_lan.specs.Ports.{port_at, is_used, is_provider};
 ghost use Rattle.pb_lan.specs.Plans.{IsSound, IsNumber};
 ghost use Rattle.pb_lan.specs.Records.{received, transmitted};
 ghost use Rattle.pb_relay.specs.Changes.{HasSet};
@@ -216,6 +216,7 @@ impl<W: Wiring> BridgeWorker<W> {
     /// Sets a port to another bridge up or down, where the worker fulfils wishes and the bridge has such a port. Else nothing
     /// has changed.
     fn set(&mut self, wish: Wish) -> Taken
+        ensures whether { IfOk result (λ has_set. has_set ≡ (self.old.sets && is_provider (port_at self.old.bridge.plan self.old.bridge.number wish.port))) }
         ensures done { IfOk result (λ has_set. has_set ≡ true → HasSet self.old.bridge wish.port wish.up self.new.bridge) }
         ensures left { IfOk result (λ has_set. has_set ≡ false → self.new.bridge ≡ self.old.bridge) }
         ensures err { OnErr result (self.new.bridge ≡ self.old.bridge) }
