@@ -87,6 +87,7 @@ def drive():
     for line in ("down B5 2", "down B6 1", "down B5 3", "hop"):
         print(f"{line}: {ask(line)[-1]}", flush=True)
     wait_for(counts()[1] + 60)
+    print(*[line for line in ask("tree") if line.startswith(("port B5 2 ", "port B6 1 "))], sep="\n", flush=True)
     flows("ring5 is down")
     for line in ("up B5 2", "up B6 1"):
         print(f"{line}: {ask(line)[-1]}", flush=True)

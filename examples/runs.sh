@@ -72,6 +72,16 @@ prints broken/settled-trace.expected trace examples/failover.toml C1 "$broadcast
 # The picture that the pages show.
 ./pbnet draw examples/metro.toml >out/metro.svg
 is_same out/metro.svg docs/metro.svg
+./pbnet draw examples/metro.toml -o out/metro-file.svg
+is_same out/metro-file.svg docs/metro.svg
+cp examples/metro.toml out/kept.toml
+told=0
+./pbnet draw out/kept.toml -o ./out/../out/kept.toml 2>out/kept.errors || told=$?
+is_same out/kept.toml examples/metro.toml
+if [ "$told" != 2 ] || [ "$(cat out/kept.errors)" != "error: --output ./out/../out/kept.toml is the plan file" ]; then
+    echo "examples: draw overwrites its plan, or doesn't say that it won't: $told" >&2
+    status=1
+fi
 
 for script in examples/*.steps; do
     name=$(basename -- "$script" .steps)
@@ -96,6 +106,16 @@ done
 ./pbnet run --strict examples/clock.toml >out/clock.all || status=1
 grep -v '^link ' out/clock.all >out/clock.report
 is_same out/clock.report examples/clock.report
+
+# The same without a time for which frames are held: they enter once the bridges have settled.
+grep -v '^hold' examples/clock.toml >out/settle.toml
+./pbnet run --strict --settle out/settle.toml >out/settle.all 2>out/settle.errors || status=1
+grep -v '^link ' out/settle.all >out/settle.report
+is_same out/settle.report examples/clock.report
+if ! grep -qx 'bridges settled after [0-9]* ticks' out/settle.errors; then
+    echo "examples: it is not told that bridges have settled: $(cat out/settle.errors)" >&2
+    status=1
+fi
 
 # A link fails once there is a tree, and the bridges find the other way before frames enter.
 ./pbnet run --strict examples/failover-run.toml >out/failover-run.all 2>out/failover-run.errors || status=1

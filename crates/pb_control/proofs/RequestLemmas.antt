@@ -5,7 +5,7 @@ use Rattle.pb_script.specs.Lines.{IsBridgePort}
 use Rattle.pb_script.specs.Words.{cut}
 use Rattle.pb_control.specs.Requests.{way_word, AsksToSet, Asks, Reads}
 use Rattle.pb_control.specs.declared.request.Request.{Request}
-use Rattle.pb_control.specs.declared.request.Request.TheVariants.{Stop, Counts, Set}
+use Rattle.pb_control.specs.declared.request.Request.TheVariants.{Stop, Counts, Tree, Set}
 use Rattle.pb_control.specs.declared.request.Refused.{Refused}
 use Rattle.pb_control.specs.declared.request.Refused.TheVariants.{NoSuch, Bad}
 
@@ -26,15 +26,16 @@ no_port plan line word words parts none bridge port up w =
     none bridge port (subst (λ t. IsBridgePort plan t bridge port) (same_parts (way_word up) w.words word words (sym w.parts ∙ parts)).1 w.at)
 
 -- what is no word and no setting is no request
-no_request : (plan : Plan) (line : List ℕ) → line ≢ codes "stop" → line ≢ codes "counts" → ((bridge port : ℕ) (up : Bool) → AsksToSet plan line bridge port up → ⊥)
+no_request : (plan : Plan) (line : List ℕ) → line ≢ codes "stop" → line ≢ codes "counts" → line ≢ codes "tree" → ((bridge port : ℕ) (up : Bool) → AsksToSet plan line bridge port up → ⊥)
     → (request : Request) → Asks plan line request → ⊥
-no_request plan line no_stop no_counts no_set Stop asks = no_stop asks
-no_request plan line no_stop no_counts no_set Counts asks = no_counts asks
-no_request plan line no_stop no_counts no_set (Set bridge port up) asks = no_set bridge port up asks
+no_request plan line no_stop no_counts no_tree no_set Stop asks = no_stop asks
+no_request plan line no_stop no_counts no_tree no_set Counts asks = no_counts asks
+no_request plan line no_stop no_counts no_tree no_set Tree asks = no_tree asks
+no_request plan line no_stop no_counts no_tree no_set (Set bridge port up) asks = no_set bridge port up asks
 
 -- what is read of a line that is no word
-pub reads_set : (plan : Plan) (line : List ℕ) (r : Result Request Refused) → line ≢ codes "stop" → line ≢ codes "counts" → (r ≢ Err Bad → Reads plan line r)
+pub reads_set : (plan : Plan) (line : List ℕ) (r : Result Request Refused) → line ≢ codes "stop" → line ≢ codes "counts" → line ≢ codes "tree" → (r ≢ Err Bad → Reads plan line r)
     → (r ≡ Err Bad → (bridge port : ℕ) (up : Bool) → AsksToSet plan line bridge port up → ⊥) → Reads plan line r
-reads_set plan line (Ok request) no_stop no_counts read bad = read (λ e. cc)
-reads_set plan line (Err NoSuch) no_stop no_counts read bad = read (λ e. cc)
-reads_set plan line (Err Bad) no_stop no_counts read bad = no_request plan line no_stop no_counts (bad refl)
+reads_set plan line (Ok request) no_stop no_counts no_tree read bad = read (λ e. cc)
+reads_set plan line (Err NoSuch) no_stop no_counts no_tree read bad = read (λ e. cc)
+reads_set plan line (Err Bad) no_stop no_counts no_tree read bad = no_request plan line no_stop no_counts no_tree (bad refl)

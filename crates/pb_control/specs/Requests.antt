@@ -5,7 +5,7 @@ use Rattle.pb_lan.specs.declared.plan.Plan.{Plan}
 use Rattle.pb_script.specs.Lines.{IsBridgePort}
 use Rattle.pb_script.specs.Words.{cut}
 use Rattle.pb_control.specs.declared.request.Request.{Request}
-use Rattle.pb_control.specs.declared.request.Request.TheVariants.{Stop, Counts, Set}
+use Rattle.pb_control.specs.declared.request.Request.TheVariants.{Stop, Counts, Tree, Set}
 use Rattle.pb_control.specs.declared.request.Refused.{Refused}
 use Rattle.pb_control.specs.declared.request.Refused.TheVariants.{NoSuch, Bad}
 
@@ -23,12 +23,14 @@ pub record AsksToSet (plan : Plan) (line : List ℕ) (bridge port : ℕ) (up : B
 abbrev pub Asks : Plan → List ℕ → Request → Type 0
 Asks plan line Stop = line ≡ codes "stop"
 Asks plan line Counts = line ≡ codes "counts"
+Asks plan line Tree = line ≡ codes "tree"
 Asks plan line (Set bridge port up) = AsksToSet plan line bridge port up
 
 -- what is to be set is a port to another bridge
 abbrev pub is_there : Plan → Request → Bool
 is_there plan Stop = true
 is_there plan Counts = true
+is_there plan Tree = true
 is_there plan (Set bridge port up) = is_provider (port_at plan bridge port)
 
 -- what is read of a line: a request for what is there; a request for what is not; or none at all

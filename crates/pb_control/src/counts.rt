@@ -56,7 +56,7 @@ fn sorted_ports<'a>(alloc: Global, plan: &'a Plan) -> Result<Vec<(&'a str, u8)>,
 }
 
 /// The bridges by name.
-fn sorted_bridges<'a>(alloc: Global, plan: &'a Plan) -> Result<Vec<(&'a str, u8)>, Memory>
+pub(crate) fn sorted_bridges<'a>(alloc: Global, plan: &'a Plan) -> Result<Vec<(&'a str, u8)>, Memory>
     requires { IsFew plan.now }
     ensures { IfOk result (λ bridges. AreByName (map (λ b. b.name) plan.now.bridges) (map (λ n. (n.0.now, n.1)) bridges.items)) }
 {
@@ -67,7 +67,7 @@ fn sorted_bridges<'a>(alloc: Global, plan: &'a Plan) -> Result<Vec<(&'a str, u8)
 
 /// Puts the line of a customer port behind a text.
 fn put_port(out: &mut String, name: &str, counts: (u64, u64)) -> Result<(), Memory>
-    ensures { OnOk result (string_bytes out.new ≡ string_bytes out.old ++ port_line name.now counts.0 counts.1) }
+    ensures { OnOk result (string_bytes out.new ≡ string_bytes out.old ++ port_line name.now counts) }
 {
     let (entered, left) = counts;
     writeln!(out, "port {name} entered {entered} left {left}")?;
@@ -76,7 +76,7 @@ fn put_port(out: &mut String, name: &str, counts: (u64, u64)) -> Result<(), Memo
 
 /// Puts the line of a bridge behind a text.
 fn put_bridge(out: &mut String, name: &str, counts: (u64, u64)) -> Result<(), Memory>
-    ensures { OnOk result (string_bytes out.new ≡ string_bytes out.old ++ bridge_line name.now counts.0 counts.1) }
+    ensures { OnOk result (string_bytes out.new ≡ string_bytes out.old ++ bridge_line name.now counts) }
 {
     let (refused, ticks) = counts;
     writeln!(out, "bridge {name} refused {refused} ticks {ticks}")?;

@@ -15,6 +15,7 @@ mod places;
 mod reading;
 mod replies;
 mod request;
+mod tree;
 
 pub use board::Board;
 pub use control::Control;

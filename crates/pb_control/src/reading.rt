@@ -89,11 +89,12 @@ fn read_setting(plan: &Plan, line: &[u8]) -> Option<Setting>
 /// The request that is a single word.
 fn read_word(line: &[u8]) -> Option<Request>
     ensures some { IfSome result (λ request. (plan : Plan) → Reads plan line.now (Ok request)) }
-    ensures none { IfNone result ((line.now ≢ codes "stop") × (line.now ≢ codes "counts")) }
+    ensures none { IfNone result ((line.now ≢ codes "stop") × (line.now ≢ codes "counts") × (line.now ≢ codes "tree")) }
 {
     match line {
         b"stop" => Some(Request::Stop),
         b"counts" => Some(Request::Counts),
+        b"tree" => Some(Request::Tree),
         _ => None,
     }
 }
@@ -114,7 +115,7 @@ fn read_set(plan: &Plan, line: &[u8]) -> Result<Request, Refused>
     }
 }
 
-/// What a line asks for, which is one of the lines `stop`, `counts`, `up BRIDGE PORT` and `down BRIDGE PORT`, without
+/// What a line asks for, which is one of the lines `stop`, `counts`, `tree`, `up BRIDGE PORT` and `down BRIDGE PORT`, without
 /// its LF. BRIDGE is the name of a bridge, PORT one to three digits, the first not 0, and one space stands between the
 /// words. No such line has more than 41 octets, so of a longer one only the first 42 matter.
 ///

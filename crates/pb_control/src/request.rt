@@ -9,6 +9,8 @@ pub enum Request {
     Stop,
     /// `counts`: what went through the customer ports so far, and what the bridges had to refuse.
     Counts,
+    /// `tree`: the roles and states of the ports between bridges.
+    Tree,
     /// `up BRIDGE PORT` or `down BRIDGE PORT`: a port to another bridge is to be set up or down.
     Set {
         /// The number of the bridge, from 1.

@@ -1,6 +1,6 @@
 //! A customer port as a place of a network.
 
-ghost use Rattle.std.specs.Prelude.{◌≡◌, [], length, true, false, IfOk, IsOk, OnOk, OnErr};
+ghost use Rattle.std.specs.Prelude.{◌≡◌, ◌<◌, [], length, true, false, IfOk, IsOk, OnOk, OnErr};
 ghost use Rattle.pb_lan.specs.Events.{is_hand_empty};
 ghost use Rattle.pb_lan.specs.PortLists.{IsLawfulPort};
 ghost use Rattle.pb_lan.specs.declared.step.Step.TheVariants.{Poll, Feed, Deliver};
@@ -104,11 +104,13 @@ impl CustomerPlace {
     /// Makes room for one step, which the next step uses up.
     ///
     /// `Memory` is answered where there is none for one more, or 2^64-1 steps were taken; nothing has
-    /// changed then. Where there is room already, the answer is `Ok`.
+    /// changed then. Where there is room already, the answer is `Ok`, and where steps are only counted and fewer
+    /// were taken.
     pub fn reserve_step(&mut self) -> Result<(), Memory>
         ensures ok { OnOk result (self.new ≡ record self.old { is_reserved = true }) }
         ensures err { OnErr result (self.new ≡ self.old) }
         ensures reserved { self.old.is_reserved ≡ true → IsOk result }
+        ensures counted { self.old.is_kept ≡ false → length self.old.steps < u64.MAX → IsOk result }
     {
         if self.steps.len() == u64::MAX {
             return Err(Memory);

@@ -1,7 +1,7 @@
 //! One direction of a link, as a place of a network.
 
 ghost use Rattle.std.specs.Option.{option_copied};
-ghost use Rattle.std.specs.Prelude.{◌≡◌, [], length, true, false, Some, IfOk, IsOk, OnOk, OnErr, if◌then◌else◌};
+ghost use Rattle.std.specs.Prelude.{◌≡◌, ◌<◌, [], length, true, false, Some, IfOk, IsOk, OnOk, OnErr, if◌then◌else◌};
 ghost use Rattle.pb_lan.specs.LaneLists.{IsLawfulLane};
 ghost use Rattle.pb_frame.specs.Lists.{Rises};
 ghost use Rattle.pb_lan.specs.declared.step.Step.TheVariants.{Put};
@@ -127,11 +127,13 @@ impl Lane {
     /// Makes room for one step, which the next step uses up.
     ///
     /// `Memory` is answered where there is none for one more, or 2^64-1 steps were taken; nothing has
-    /// changed then. Where there is room already, the answer is `Ok`.
+    /// changed then. Where there is room already, the answer is `Ok`, and where steps are only counted and fewer
+    /// were taken.
     pub fn reserve(&mut self) -> Result<(), Memory>
         ensures ok { OnOk result (self.new ≡ record self.old { is_reserved = true }) }
         ensures err { OnErr result (self.new ≡ self.old) }
         ensures reserved { self.old.is_reserved ≡ true → IsOk result }
+        ensures counted { self.old.is_kept ≡ false → length self.old.steps < u64.MAX → IsOk result }
     {
         if self.steps.len() == u64::MAX {
             return Err(Memory);

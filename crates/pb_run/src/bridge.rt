@@ -13,18 +13,19 @@ ghost use Rattle.pb_lan.specs.Records.{received, transmitted};
 ghost use Rattle.pb_relay.specs.Changes.{HasSet};
 ghost use Rattle.pb_relay.specs.Standing.{at_start};
 ghost use Rattle.pb_ring.specs.Rings.{shown_at};
-ghost use Rattle.pb_run.specs.Bridges.{AreUsed};
+ghost use Rattle.pb_run.specs.Bridges.{AreUsed, view_of};
 
 use crate::access::Access;
 use crate::lane::LaneWorker;
 use crate::mode::Mode;
 use crate::refusal::{Refusal, Taken, turn};
 use crate::used::used_ports;
+use crate::view::view_of;
 use pb_frame::Memory;
 use pb_lan::{Outcome, Place, Plan};
 use pb_relay::{Bridge, BridgeFault};
 use pb_ring::{Inlets, Outlets, Wiring};
-use pb_work::{Did, Finish, Moment, Turn, Wish, Work};
+use pb_work::{Did, Finish, Moment, PortView, Turn, Wish, Work};
 use std::alloc::Global;
 use std::collections::LinkedList;
 
@@ -111,6 +112,15 @@ fn received(is_marked: bool, outcome: &Outcome) -> Turn {
         more: if is_marked { queued } else { 0 },
         fewer: u64::from(is_marked),
         refused,
+        has_stirred: matches!(outcome, Outcome::Heard),
+    }
+}
+
+/// A turn after which roles and states of ports may be others.
+fn stirred(turn: Turn) -> Turn {
+    Turn {
+        has_stirred: true,
+        ..turn
     }
 }
 
@@ -326,6 +336,8 @@ impl<W: Wiring> Work for BridgeWorker<W> {
 
     ghost fits = { λ w. Unit {0} };
 
+    ghost shown_of = { λ w port. view_of w.bridge port };
+
     fn place(&self) -> Place {
         Place::Bridge(self.number)
     }
@@ -340,13 +352,17 @@ impl<W: Wiring> Work for BridgeWorker<W> {
         }
         let looked = self.look();
         if looked.did == Did::Idle {
-            return turn(ticked, 0, 0);
+            return stirred(turn(ticked, 0, 0));
         }
-        looked
+        stirred(looked)
     }
 
     fn fulfil(&mut self, wish: Wish) -> Turn {
-        turn(self.set(wish), 0, 0)
+        stirred(turn(self.set(wish), 0, 0))
+    }
+
+    fn shown(&self, port: u8) -> Option<PortView> {
+        view_of(&self.bridge, port)
     }
 
     fn close(&mut self, _moment: Moment, finish: Finish) {

@@ -135,9 +135,8 @@ impl<W: Wiring, P: Port> CustomerWorker<W, P> {
         if had_more && self.access.book.last != Last::More {
             return Turn {
                 did: Did::Done,
-                more: 0,
                 fewer: 1,
-                refused: 0,
+                ..Turn::IDLE
             };
         }
         turn(polled, 1, 0)

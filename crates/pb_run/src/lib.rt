@@ -21,6 +21,7 @@ mod refusal;
 mod running;
 mod settled;
 mod used;
+mod view;
 mod wires;
 
 pub use access::{Access, Book, Last};
@@ -33,5 +34,5 @@ pub use mode::Mode;
 pub use outside::Held;
 pub use pb_frame::Memory;
 pub use pb_lan::Limits;
-pub use pb_work::{Gate, Go, Wish};
+pub use pb_work::{Gate, Go, PortView, Wish};
 pub use running::{KeptRun, Ran, run, run_kept, run_set};

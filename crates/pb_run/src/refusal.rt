@@ -39,7 +39,7 @@ pub(crate) fn turn(taken: Taken, more: u64, fewer: u64) -> Turn {
             did,
             more,
             fewer,
-            refused: 0,
+            ..Turn::IDLE
         };
     }
     Turn { did, ..Turn::IDLE }

@@ -17,12 +17,13 @@ use crate::completing::{Written, complete_all};
 use crate::lost::{is_whole, lost_of};
 use crate::network_fault::NetworkFault;
 use crate::outside::{Outside, SystemPort, open_ports};
+use crate::options::RunOptions;
 use crate::report::write_report;
 use crate::strictness::{Strictness, exit_status};
 use crate::watched::Watched;
 use pb_control::Control;
 use pb_frame::Memory;
-use pb_lan::{Limits, Plan};
+use pb_lan::{Limits, Plan, Spanning};
 use pb_print::write_refusal;
 use pb_run::{Held, Ran, run_set};
 use pb_service::{PlanFault, PlanFile, PortSpec, read_plan_file};
@@ -112,6 +113,11 @@ fn plug<R: Files + Net, G, E: Write>(
             Err(NetworkFault::Path)
         }
     }
+}
+
+/// Whether the bridges decide the states of their ports, by clocks that tick.
+fn decides(plan: &Plan, limits: Limits) -> bool {
+    plan.spanning == Spanning::Rstp && (limits.tick_every > 0 || limits.tick_ms > 0)
 }
 
 /// Tells how many events of the plan have not come, where there are some: the run was over before.
@@ -239,7 +245,9 @@ where
 /// find no room and the ticks are counted in `traffic` meanwhile, and each worker passes the gate before each of its turns.
 /// Ports between bridges are set up and down as the file's events say: each when the clock of its bridge has ticked so often,
 /// if the run goes on till then, and `errors` is told how many events have not come. Whoever connects to the control socket,
-/// where one is asked for, sets ports so too, sees what was counted, and stops the run. What
+/// where one is asked for, sets ports so too, sees what was counted, and stops the run. Where it is asked for, and the bridges
+/// decide the states of their ports by clocks that tick, no frame enters before they seem settled or have ticked 200 times,
+/// and the gate is told which. What
 /// [`lost_of`] tells goes to `errors`, behind the report; a strict run that has something of it to tell, or that did not
 /// end drained, has the status 4 in place of 0.
 ///
@@ -261,7 +269,7 @@ pub fn run_network<R, G: Watch, W: Write, E: Write>(
     alloc: Global,
     file: &[u8],
     strictness: Strictness,
-    control: Option<&str>,
+    options: &RunOptions<'_>,
     traffic: &Arc<Traffic, Global>,
     gate: &G,
     writer: &mut W,
@@ -283,8 +291,9 @@ where
                 events,
             },
         ) => {
-            let steering = Steering::new(alloc, gate, &plan, traffic, events)?;
-            plug(rt, alloc, control, &steering, errors)?;
+            let waits = options.settles && decides(&plan, limits);
+            let steering = Steering::new(alloc, gate, &plan, traffic, events, waits)?;
+            plug(rt, alloc, options.control, &steering, errors)?;
             let ran = run_opened(
                 rt, alloc, &plan, ports, limits, strictness, traffic, &steering, writer, errors,
             );

@@ -15,7 +15,7 @@ mod reports;
 
 use pb_lan::Place;
 use pb_run::{Gate, Go};
-use pb_running::{NetworkFault, Strictness, Traffic, Watch, run_network};
+use pb_running::{NetworkFault, Opening, RunOptions, Strictness, Traffic, Watch, run_network};
 use std::alloc::{AllocError, Global};
 use std::fs::{File, Files};
 use std::io::Write;
@@ -40,6 +40,8 @@ impl Gate for Door {
 }
 
 impl Watch for Door {
+    fn open(&self, _opening: Opening) {}
+
     fn close(&self) {
         self.closed.fetch_add(1, Ordering::SeqCst);
     }
@@ -87,8 +89,14 @@ where
     R: Files<File = File> + Net + Threads + Wait + Clock + Sync,
 {
     let file = file.as_bytes();
+    let options = RunOptions {
+        plan: "plan.toml",
+        control: None,
+        settles: false,
+        linger: 0,
+    };
     run_network(
-        rt, alloc, file, strictness, None, traffic, door, writer, errors,
+        rt, alloc, file, strictness, &options, traffic, door, writer, errors,
     )
 }
 

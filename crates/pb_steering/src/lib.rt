@@ -9,6 +9,7 @@ mod agenda;
 mod mailbox;
 mod steering;
 mod traffic;
+mod views;
 
-pub use steering::{Steering, Watch};
+pub use steering::{Opening, Steering, Watch};
 pub use traffic::Traffic;

@@ -6,11 +6,12 @@ ghost use Rattle.pb_lan.specs.Plans.{IsSound};
 use crate::agenda::Agenda;
 use crate::mailbox::Mailbox;
 use crate::traffic::Traffic;
+use crate::views::Views;
 use pb_control::{Board, Control};
 use pb_frame::Memory;
 use pb_lan::{Place, Plan};
 use pb_service::PortEvent;
-use pb_work::{Gate, Go, Wish};
+use pb_work::{Gate, Go, PortView, Wish};
 use std::alloc::Global;
 use std::fs::Files;
 use std::sync::Mutex;
@@ -19,8 +20,23 @@ use std::sync::atomic::{AtomicU64, Ordering};
 /// The worker of the first bridge attends to the control socket once in so many turns.
 const LOOK: u64 = 16;
 
-/// A gate that is told when its run is over.
+/// After how many ticks frames enter all the same, where the bridges have not settled.
+const PATIENCE: u64 = 200;
+
+/// Why frames may enter that were held back until the bridges have settled.
+#[derive(Clone, Copy, PartialEq, Eq, Debug)]
+pub enum Opening {
+    /// The bridges seem settled after so many ticks of the one that ticked most.
+    Settled(u64),
+    /// They don't after so many, and it is waited no longer.
+    Unsettled(u64),
+}
+
+/// A gate that is told how its run goes on.
 pub trait Watch: Gate {
+    /// Frames may enter from now on, which were held back until the bridges have settled.
+    fn open(&self, opening: Opening);
+
     /// The run is over, and no worker comes any more. Nothing was printed yet of what came of it.
     fn close(&self);
 }
@@ -30,6 +46,7 @@ pub trait Watch: Gate {
 struct Course {
     agenda: Agenda,
     mailbox: Mailbox,
+    views: Views,
 }
 
 /// The gate that steers a run: it gives bridges the wishes that are due, attends to the control socket, counts, and is else
@@ -45,6 +62,8 @@ pub struct Steering<'a, G> {
     control: Mutex<Option<Control>>,
     /// 1 once the run is to end.
     stop: AtomicU64,
+    /// 1 once frames may enter.
+    open: AtomicU64,
     ghost few_bridges: { length plan.now.bridges ≤ 32 },
     ghost few_customers: { length plan.now.customers ≤ 128 },
 }
@@ -54,6 +73,7 @@ fn course_of(alloc: Global, events: &[PortEvent], bridge: u8) -> Result<Course, 
     Ok(Course {
         agenda: Agenda::of(alloc, events, bridge)?,
         mailbox: Mailbox::new(alloc)?,
+        views: Views::new(alloc)?,
     })
 }
 
@@ -70,13 +90,16 @@ fn courses_of(alloc: Global, plan: &Plan, events: Vec<PortEvent>) -> Result<Vec<
 
 impl<'a, G> Steering<'a, G> {
     /// The gate that steers a run of a sound plan, in which these events come, beside the gate of whoever runs it. It has no
-    /// control socket. `Memory` is answered where there was none for it.
+    /// control socket. Where it is to wait for the bridges, no frame enters before each of them has ports in the states of
+    /// their roles (802.1D-2004 clause 17.10) of which none has changed for four ticks, or one has ticked 200 times; no
+    /// contract says so. `Memory` is answered where there was none for the gate.
     pub fn new(
         alloc: Global,
         gate: &'a G,
         plan: &'a Plan,
         traffic: &'a Traffic,
         events: Vec<PortEvent>,
+        waits: bool,
     ) -> Result<Steering<'a, G>, Memory>
         requires { IsSound plan.now }
     {
@@ -88,6 +111,7 @@ impl<'a, G> Steering<'a, G> {
             courses,
             control: Mutex::new(None),
             stop: AtomicU64::new(0),
+            open: AtomicU64::new(if waits { 0 } else { 1 }),
         })
     }
 
@@ -125,6 +149,17 @@ impl<'a, G> Steering<'a, G> {
         }
     }
 
+    /// Whether all bridges seem settled, by their own clocks.
+    fn are_settled(&self) -> bool {
+        for place in 0..self.courses.len() {
+            let (_, ticks) = self.traffic.at_bridge(place as u8 + 1);
+            if !self.courses[place].views.are_quiet(ticks) {
+                return false;
+            }
+        }
+        true
+    }
+
     /// Attends to the control socket, and answers whether the run goes on.
     fn attend(&self) -> Go {
         if let Some(mut held) = self.control.try_lock() {
@@ -158,14 +193,56 @@ impl<G> Board for Steering<'_, G> {
     fn bridge(&self, bridge: u8) -> (u64, u64) {
         self.traffic.at_bridge(bridge)
     }
+
+    fn views(&self, bridge: u8) -> [Option<PortView>; 16] {
+        match self.courses.get(usize::from(bridge).wrapping_sub(1)) {
+            Some(course) => course.views.all(),
+            None => [None; 16],
+        }
+    }
 }
 
-impl<G: Gate> Gate for Steering<'_, G> {
+impl<G: Watch> Steering<'_, G> {
+    /// Lets frames enter once the bridges have settled, or have ticked often enough.
+    fn wait(&self) {
+        if self.open.load(Ordering::SeqCst) != 0 {
+            return;
+        }
+        let ticks = self.traffic.ticks();
+        let opening = if self.are_settled() {
+            Opening::Settled(ticks)
+        } else if ticks >= PATIENCE {
+            Opening::Unsettled(ticks)
+        } else {
+            return;
+        };
+        self.gate.open(opening);
+        self.open.store(1, Ordering::SeqCst);
+    }
+}
+
+impl<G: Watch> Gate for Steering<'_, G> {
     fn pass(&self, place: Place, turn: u64) -> Go {
-        if turn % LOOK == 0 && place == Place::Bridge(1) && self.attend() == Go::Stop {
-            return Go::Stop;
+        if turn % LOOK == 0 && place == Place::Bridge(1) {
+            self.wait();
+            if self.attend() == Go::Stop {
+                return Go::Stop;
+            }
         }
         self.gate.pass(place, turn)
+    }
+
+    fn is_open(&self) -> bool {
+        self.open.load(Ordering::SeqCst) != 0
+    }
+
+    fn shows(&self, place: Place, port: u8, view: PortView) {
+        if let Place::Bridge(bridge) = place {
+            if let Some(course) = self.courses.get(usize::from(bridge).wrapping_sub(1)) {
+                let (_, ticks) = self.traffic.at_bridge(bridge);
+                course.views.show(port, view, ticks);
+            }
+        }
     }
 
     fn wish(&self, place: Place, now: u32) -> Option<Wish> {
@@ -186,6 +263,10 @@ impl<G: Gate> Gate for Steering<'_, G> {
 }
 
 impl<G: Watch> Watch for Steering<'_, G> {
+    fn open(&self, opening: Opening) {
+        self.gate.open(opening);
+    }
+
     fn close(&self) {
         self.gate.close();
     }

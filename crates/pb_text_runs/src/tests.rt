@@ -1,6 +1,7 @@
 //! Runs with ample memory, a file for each library.
 
 mod draw_words;
+mod format_words;
 mod lines;
 mod losses;
 mod survive_words;

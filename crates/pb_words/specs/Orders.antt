@@ -1,6 +1,8 @@
 -- What the program may be asked to do.
-use Rattle.std.specs.Prelude.{◌≡◌, ◌⊎◌, ℕ, ◌≤◌, List, Some, None, codes, string_bytes}
+use Rattle.std.specs.Prelude.{◌≡◌, ◌⊎◌, ℕ, ◌≤◌, ◌==◌, if◌then◌else◌, List, Some, None, codes, string_bytes}
 use Rattle.std.specs.declared.option.Option.{Option}
+use Rattle.pb_words.specs.declared.arguments.ReportFormat.{ReportFormat}
+use Rattle.pb_words.specs.declared.arguments.ReportFormat.TheVariants.{Text, Json, Csv}
 use Rattle.pb_words.specs.declared.init_order.InitOrder.{InitOrder}
 use Rattle.pb_words.specs.declared.init_order.InitOrder.TheVariants.{Line, Ring, Star}
 use Rattle.pb_words.specs.declared.order.Order.{Order}
@@ -10,6 +12,10 @@ use Rattle.pb_words.specs.declared.order.Order.TheVariants.{Flat, Check, Step, R
 abbrev pub AreSeconds : Option ℕ → Type 0
 AreSeconds None = Unit {0}
 AreSeconds (Some seconds) = (1 ≤ seconds) × (seconds ≤ 1000000000)
+
+-- what is left in sockets' ports is sent for 0 to 60,000 milliseconds
+abbrev pub IsLinger : ℕ → Type 0
+IsLinger linger = linger ≤ 60000
 
 -- each bridge ticks 0 to 100,000 times at most
 abbrev pub AreTicks : ℕ → Type 0
@@ -36,9 +42,9 @@ IsAsked line ring star order =
 -- a flat run has 2 to 16 ports
 abbrev pub IsAllowed : Order → Type 0
 IsAllowed (Flat ports) = (2 ≤ ports) × (ports ≤ 16)
-IsAllowed (Check path) = Unit {0}
-IsAllowed (Step path) = Unit {0}
-IsAllowed (Run run) = AreSeconds run.seconds
+IsAllowed (Check report) = Unit {0}
+IsAllowed (Step report) = Unit {0}
+IsAllowed (Run run) = AreSeconds run.seconds × IsLinger run.linger
 IsAllowed (Tree tree) = AreTicks tree.ticks
 IsAllowed (Trace trace) = Unit {0}
 IsAllowed Show = Unit {0}
@@ -46,8 +52,20 @@ IsAllowed (Init order) = IsNetwork order
 IsAllowed (Survive order) = AreWaitedTicks order.ticks
 IsAllowed (Draw order) = AreTicks order.ticks
 
--- the order of a command that has the plan file at a path, and nothing else
-abbrev pub IsFileOrder : List ℕ → List ℕ → Order → Type 0
-IsFileOrder command path (Check told) = (command ≡ codes "check") × (string_bytes told ≡ path)
-IsFileOrder command path (Step told) = (command ≡ codes "step") × (string_bytes told ≡ path)
-IsFileOrder command path _ = ⊥
+-- the order of a command over the plan file at a path, which is also one that the program may be asked for
+abbrev pub IsPlanOrder : List ℕ → List ℕ → Order → Type 0
+IsPlanOrder command path (Check report) = (command ≡ codes "check") × (string_bytes report.path ≡ path)
+IsPlanOrder command path (Step report) = (command ≡ codes "step") × (string_bytes report.path ≡ path)
+IsPlanOrder command path (Run run) =
+    (command ≡ codes "run") × (string_bytes run.path ≡ path) × AreSeconds run.seconds × IsLinger run.linger
+IsPlanOrder command path (Tree tree) = (command ≡ codes "tree") × (string_bytes tree.path ≡ path) × AreTicks tree.ticks
+IsPlanOrder command path (Trace trace) = (command ≡ codes "trace") × (string_bytes trace.path ≡ path)
+IsPlanOrder command path (Survive order) =
+    (command ≡ codes "survive") × (string_bytes order.path ≡ path) × AreWaitedTicks order.ticks
+IsPlanOrder command path (Draw order) = (command ≡ codes "draw") × (string_bytes order.path ≡ path) × AreTicks order.ticks
+IsPlanOrder command path _ = ⊥
+
+-- the form of a report that goes by a name: text where no other does
+abbrev pub report_format_named : List ℕ → ReportFormat
+report_format_named name =
+    if name == codes "json" then Json else if name == codes "csv" then Csv else Text

@@ -3,15 +3,11 @@
 ghost use Rattle.std.specs.Prelude.{◌≡◌, IfOk, string_bytes};
 ghost use Rattle.pb_words.specs.Orders.{AreTicks};
 
+use crate::arguments::{argument, down, downs_of, text_of};
+use crate::tree_order::{ticks, ticks_of};
 use clap::builder::ValueParser;
-use clap::{Arg, ArgAction, ArgMatches, Command, Error};
+use clap::{Arg, ArgMatches, Command, Error};
 use std::alloc::{AllocError, Global};
-
-/// The most ticks of each bridge, where the words tell none.
-const TICKS: u32 = 200;
-
-/// The most that the words may tell.
-const MOST: u32 = 100_000;
 
 /// What `draw` does.
 const DRAW: &str =
@@ -20,9 +16,8 @@ const DRAW: &str =
 /// What `--service` does.
 const SERVICE: &str = "Lets the service of this name stand out, and its tree";
 
-/// What `--down` does.
-const DOWN: &str =
-    "Sets a port to another bridge down before, named by its bridge and its number there; may stand several times, for both ends of a link";
+/// What `--output` does.
+const OUTPUT: &str = "Writes the picture to the file at PATH in place of standard output";
 
 /// What `--format` does.
 const FORMAT: &str =
@@ -30,9 +25,6 @@ const FORMAT: &str =
 
 /// The words for the forms.
 const FORMS: &[&str] = &["svg", "dot"];
-
-/// What `--ticks` does.
-const TICKS_HELP: &str = "Lets each bridge tick N times at most, 0 to 100000; without it 200";
 
 /// The form in which a picture is written.
 #[derive(Clone, Copy, PartialEq, Eq, Debug)]
@@ -56,15 +48,8 @@ pub struct DrawOrder {
     pub format: PictureFormat,
     /// How often each bridge ticks at most, 0 to 100,000.
     pub ticks: u32,
-}
-
-/// An argument with a value, which is text.
-fn argument<'a>(alloc: Global, name: &'a str, value: &'a str, help: &'a str) -> Arg<'a> {
-    Arg::new(alloc, name)
-        .long(name)
-        .value_name(value)
-        .help(help)
-        .action(ArgAction::Set)
+    /// Where the picture is written. None: on standard output.
+    pub output: Option<String>,
 }
 
 /// The argument that tells the form.
@@ -74,25 +59,12 @@ fn format<'a>(alloc: Global) -> Arg<'a> {
 
 /// The command `draw`, but for its plan file.
 pub(crate) fn draw_command<'a>(alloc: Global) -> Result<Command<'a>, Error> {
-    let down = argument(alloc, "down", "BRIDGE:PORT", DOWN).action(ArgAction::Append);
-    let ticks = argument(alloc, "ticks", "N", TICKS_HELP).value_parser(clap::value_parser!(
-        u32
-    ).range(0..=100_000));
     let command = Command::new(alloc, "draw").about(DRAW);
     let command = command.arg(argument(alloc, "service", "NAME", SERVICE))?;
-    let command = command.arg(down)?;
+    let command = command.arg(down(alloc))?;
     let command = command.arg(format(alloc))?;
-    Ok(command.arg(ticks)?)
-}
-
-/// How often each bridge ticks at most.
-fn ticks_of(given: &ArgMatches<'_>) -> u32
-    ensures { AreTicks result }
-{
-    match given.get_one::<u32>("ticks") {
-        Some(ticks) if ticks <= MOST => ticks,
-        _ => TICKS,
-    }
+    let command = command.arg(argument(alloc, "output", "PATH", OUTPUT).short('o'))?;
+    Ok(command.arg(ticks(alloc))?)
 }
 
 /// The form in which the picture is written.
@@ -101,25 +73,6 @@ fn format_of(given: &ArgMatches<'_>) -> PictureFormat {
         Some("dot") => PictureFormat::Dot,
         _ => PictureFormat::Svg,
     }
-}
-
-/// The service that is to stand out.
-fn service_of(alloc: Global, given: &ArgMatches<'_>) -> Result<Option<String>, AllocError> {
-    match given.get_str("service") {
-        Some(name) => Ok(Some(String::from_str(alloc, name)?)),
-        None => Ok(None),
-    }
-}
-
-/// The ports that go down before.
-fn downs_of(alloc: Global, given: &ArgMatches<'_>) -> Result<Vec<String>, AllocError> {
-    let mut downs = Vec::new(alloc);
-    if let Some(words) = given.get_strs("down") {
-        for word in words {
-            downs.push(String::from_str(alloc, word)?)?;
-        }
-    }
-    Ok(downs)
 }
 
 /// The picture of the plan file at a path that the words ask for.
@@ -132,12 +85,14 @@ pub(crate) fn draw_order(
     ensures ticks { IfOk result (λ order. AreTicks order.ticks) }
 {
     let downs = downs_of(alloc, given)?;
-    let service = service_of(alloc, given)?;
+    let service = text_of(alloc, given, "service")?;
+    let output = text_of(alloc, given, "output")?;
     Ok(DrawOrder {
         path: String::from_str(alloc, path)?,
         service,
         downs,
         format: format_of(given),
         ticks: ticks_of(given),
+        output,
     })
 }

@@ -1,16 +1,17 @@
 //! What the words of a command line ask for.
 
-ghost use Rattle.std.specs.Prelude.{IfOk, IfSome, IfNone};
-ghost use Rattle.pb_words.specs.Orders.{IsAllowed, IsFileOrder};
-ghost use Rattle.pb_words.specs.declared.order.Order.{Order};
+ghost use Rattle.std.specs.Prelude.{IfOk, IfSome};
+ghost use Rattle.pb_words.specs.Orders.{IsAllowed, IsPlanOrder};
 
+use crate::arguments::{document, table};
 use crate::draw_order::{DrawOrder, draw_command, draw_order};
 use crate::init_order::{InitOrder, init_command, init_order};
+use crate::report_order::{ReportOrder, report_order};
 use crate::run_order::{RunOrder, run_command, run_order};
 use crate::survive_order::{SurviveOrder, survive_command, survive_order};
 use crate::trace_order::{TraceOrder, trace_command, trace_order};
 use crate::tree_order::{TreeOrder, tree_command, tree_order};
-use clap::{Arg, ArgAction, Command, Error};
+use clap::{Arg, ArgAction, ArgMatches, Command, Error};
 use std::alloc::{AllocError, Global};
 
 /// The program's version.
@@ -38,9 +39,9 @@ pub enum Order {
     /// One bridge with so many ports, driven by the lines of standard input.
     Flat(u8),
     /// Telling whether the file at this path is a plan.
-    Check(String),
+    Check(ReportOrder),
     /// Driving the network of the plan file at this path by the lines of standard input.
-    Step(String),
+    Step(ReportOrder),
     /// Running the network of a plan file.
     Run(RunOrder),
     /// Printing the trees of the network of a plan file.
@@ -84,17 +85,6 @@ fn with<'a>(
     Ok(program.subcommand(command)?)
 }
 
-/// A program with one more command, which takes a plan file.
-fn with_plan<'a>(
-    alloc: Global,
-    program: Command<'a>,
-    name: &'a str,
-    about: &'a str,
-) -> Result<Command<'a>, Error> {
-    let command = Command::new(alloc, name).about(about);
-    with(program, command, plan_file(alloc))
-}
-
 /// The program's commands and their arguments.
 fn commands<'a>(alloc: Global) -> Result<Command<'a>, Error> {
     let program = Command::new(alloc, "pbnet")
@@ -103,8 +93,10 @@ fn commands<'a>(alloc: Global) -> Result<Command<'a>, Error> {
         .subcommand_required(true);
     let flat = Command::new(alloc, "flat").about(FLAT);
     let program = with(program, flat, ports(alloc))?;
-    let program = with_plan(alloc, program, "check", CHECK)?;
-    let program = with_plan(alloc, program, "step", STEP)?;
+    let check = Command::new(alloc, "check").about(CHECK);
+    let program = with(program, check.arg(document(alloc))?, plan_file(alloc))?;
+    let step = Command::new(alloc, "step").about(STEP);
+    let program = with(program, step.arg(table(alloc))?, plan_file(alloc))?;
     let program = with(program, run_command(alloc)?, plan_file(alloc))?;
     let program = with(program, tree_command(alloc)?, plan_file(alloc))?;
     let program = with(program, survive_command(alloc)?, plan_file(alloc))?;
@@ -115,17 +107,38 @@ fn commands<'a>(alloc: Global) -> Result<Command<'a>, Error> {
     Ok(program.subcommand(init_command(alloc)?)?)
 }
 
-/// What a command asks for that has a plan file and nothing else. None where it is no such command.
-fn file_order(alloc: Global, command: &str, path: &str) -> Result<Option<Order>, AllocError>
-    ensures some { IfOk result (λ o. IfSome o (λ order. IsFileOrder command.now path.now order)) }
-    ensures none { IfOk result (λ o. IfNone o ((order : Order) → IsFileOrder command.now path.now order → ⊥)) }
+/// What a command asks for that has a plan file. None where it is no such command, and where an argument of `trace` is
+/// missing that is required.
+fn plan_order(
+    alloc: Global,
+    command: &str,
+    path: &str,
+    given: &ArgMatches<'_>,
+) -> Result<Option<Order>, AllocError>
+    ensures { IfOk result (λ o. IfSome o (λ order. IsPlanOrder command.now path.now order)) }
 {
-    let path = String::from_str(alloc, path)?;
     if command == "check" {
-        return Ok(Some(Order::Check(path)));
+        return Ok(Some(Order::Check(report_order(alloc, path, given)?)));
     }
     if command == "step" {
-        return Ok(Some(Order::Step(path)));
+        return Ok(Some(Order::Step(report_order(alloc, path, given)?)));
+    }
+    if command == "run" {
+        return Ok(Some(Order::Run(run_order(alloc, path, given)?)));
+    }
+    if command == "tree" {
+        return Ok(Some(Order::Tree(tree_order(alloc, path, given)?)));
+    }
+    if command == "draw" {
+        return Ok(Some(Order::Draw(draw_order(alloc, path, given)?)));
+    }
+    if command == "survive" {
+        return Ok(Some(Order::Survive(survive_order(alloc, path, given)?)));
+    }
+    if command == "trace" {
+        if let Some(order) = trace_order(alloc, path, given)? {
+            return Ok(Some(Order::Trace(order)));
+        }
     }
     Ok(None)
 }
@@ -150,21 +163,7 @@ pub fn order_of(alloc: Global, words: &[String]) -> Result<Option<Order>, Error>
             None => Ok(None),
         },
         Some((command, given)) => match given.get_str("FILE") {
-            Some(path) if command == "run" => Ok(Some(Order::Run(run_order(alloc, path, given)?))),
-            Some(path) if command == "tree" => {
-                Ok(Some(Order::Tree(tree_order(alloc, path, given)?)))
-            }
-            Some(path) if command == "draw" => {
-                Ok(Some(Order::Draw(draw_order(alloc, path, given)?)))
-            }
-            Some(path) if command == "survive" => Ok(Some(Order::Survive(survive_order(
-                alloc, path, given,
-            )?))),
-            Some(path) if command == "trace" => match trace_order(alloc, path, given)? {
-                Some(order) => Ok(Some(Order::Trace(order))),
-                None => Ok(None),
-            },
-            Some(path) => Ok(file_order(alloc, command, path)?),
+            Some(path) => Ok(plan_order(alloc, command, path, given)?),
             None => Ok(None),
         },
         None => Ok(None),

@@ -1,13 +1,20 @@
 //! What the words behind `run` ask for.
 
 ghost use Rattle.std.specs.Prelude.{◌≡◌, ◌≤◌, IfOk, IfSome, string_bytes};
-ghost use Rattle.pb_words.specs.Orders.{AreSeconds};
+ghost use Rattle.pb_words.specs.Orders.{AreSeconds, IsLinger};
 
-use clap::{Arg, ArgAction, ArgMatches, Command, Error};
+use crate::arguments::{ReportFormat, argument, flag, report_format_of, table, text_of};
+use clap::{Arg, ArgMatches, Command, Error};
 use std::alloc::{AllocError, Global};
 
 /// The most seconds after which a run may be stopped.
 const MOST: u32 = 1_000_000_000;
+
+/// For how many milliseconds what is left in sockets' ports is still sent, where the words tell none.
+const LINGER: u32 = 100;
+
+/// The most that the words may tell.
+const MOST_LINGER: u32 = 60_000;
 
 /// What `run` does.
 const RUN: &str =
@@ -24,6 +31,14 @@ const PROGRESS: &str =
 /// What `--control` does.
 const CONTROL: &str =
     "Makes a Unix socket at PATH, on which one peer at a time asks for counts, sets ports between bridges up and down, and stops the run";
+
+/// What `--settle` does.
+const SETTLE: &str =
+    "Lets no frame enter before the bridges have settled, where they decide the states of their ports, or the clock has ticked 200 times";
+
+/// What `--linger` does.
+const LINGER_HELP: &str =
+    "Sends what is left in the ports of sockets at the end for MS milliseconds at most, 0 to 60000; without it 100";
 
 /// What `--strict` does.
 const STRICT: &str =
@@ -42,33 +57,24 @@ pub struct RunOrder {
     pub control: Option<String>,
     /// A run that lost a frame has an exit status of its own.
     pub strict: bool,
-}
-
-/// An argument that is there or not.
-fn flag<'a>(alloc: Global, name: &'a str, help: &'a str) -> Arg<'a> {
-    Arg::new(alloc, name)
-        .long(name)
-        .help(help)
-        .action(ArgAction::SetTrue)
+    /// No frame enters before the bridges have settled.
+    pub settles: bool,
+    /// For how many milliseconds what is left in sockets' ports at the end is still sent, 0 to 60,000.
+    pub linger: u32,
+    /// The form in which the report is printed.
+    pub format: ReportFormat,
 }
 
 /// The argument that tells after how many seconds a run is stopped.
 fn seconds<'a>(alloc: Global) -> Arg<'a> {
-    Arg::new(alloc, "seconds")
-        .long("seconds")
-        .value_name("N")
-        .help(SECONDS)
-        .action(ArgAction::Set)
-        .value_parser(clap::value_parser!(u32).range(1..=1_000_000_000))
+    let argument = argument(alloc, "seconds", "N", SECONDS);
+    argument.value_parser(clap::value_parser!(u32).range(1..=1_000_000_000))
 }
 
-/// The argument that tells where the control socket is made.
-fn control<'a>(alloc: Global) -> Arg<'a> {
-    Arg::new(alloc, "control")
-        .long("control")
-        .value_name("PATH")
-        .help(CONTROL)
-        .action(ArgAction::Set)
+/// The argument that tells for how long what is left in sockets' ports is still sent.
+fn linger<'a>(alloc: Global) -> Arg<'a> {
+    let argument = argument(alloc, "linger", "MS", LINGER_HELP);
+    argument.value_parser(clap::value_parser!(u32).range(0..=60_000))
 }
 
 /// The command `run`, but for its plan file.
@@ -76,7 +82,10 @@ pub(crate) fn run_command<'a>(alloc: Global) -> Result<Command<'a>, Error> {
     let command = Command::new(alloc, "run").about(RUN);
     let command = command.arg(seconds(alloc))?;
     let command = command.arg(flag(alloc, "progress", PROGRESS))?;
-    let command = command.arg(control(alloc))?;
+    let command = command.arg(argument(alloc, "control", "PATH", CONTROL))?;
+    let command = command.arg(flag(alloc, "settle", SETTLE))?;
+    let command = command.arg(linger(alloc))?;
+    let command = command.arg(table(alloc))?;
     Ok(command.arg(flag(alloc, "strict", STRICT))?)
 }
 
@@ -92,11 +101,13 @@ fn seconds_of(given: &ArgMatches<'_>) -> Option<u32>
     }
 }
 
-/// Where the control socket is to be made.
-fn control_of(alloc: Global, given: &ArgMatches<'_>) -> Result<Option<String>, AllocError> {
-    match given.get_str("control") {
-        Some(path) => Ok(Some(String::from_str(alloc, path)?)),
-        None => Ok(None),
+/// For how many milliseconds what is left in sockets' ports is still sent.
+fn linger_of(given: &ArgMatches<'_>) -> u32
+    ensures { IsLinger result }
+{
+    match given.get_one::<u32>("linger") {
+        Some(linger) if linger <= MOST_LINGER => linger,
+        _ => LINGER,
     }
 }
 
@@ -108,12 +119,16 @@ pub(crate) fn run_order(
 ) -> Result<RunOrder, AllocError>
     ensures path { IfOk result (λ run. string_bytes run.path ≡ path.now) }
     ensures seconds { IfOk result (λ run. AreSeconds run.seconds) }
+    ensures linger { IfOk result (λ run. IsLinger run.linger) }
 {
     Ok(RunOrder {
         path: String::from_str(alloc, path)?,
         seconds: seconds_of(given),
         progress: given.get_flag("progress"),
-        control: control_of(alloc, given)?,
+        control: text_of(alloc, given, "control")?,
         strict: given.get_flag("strict"),
+        settles: given.get_flag("settle"),
+        linger: linger_of(given),
+        format: report_format_of(given),
     })
 }

@@ -3,7 +3,8 @@
 ghost use Rattle.std.specs.Prelude.{◌≡◌, IfOk, string_bytes};
 ghost use Rattle.pb_words.specs.Orders.{AreWaitedTicks};
 
-use clap::{Arg, ArgAction, ArgMatches, Command, Error};
+use crate::arguments::{ReportFormat, argument, flag, report_format_of, table, text_of};
+use clap::{Arg, ArgMatches, Command, Error};
 use std::alloc::{AllocError, Global};
 
 /// For how many ticks it is waited until the bridges settle, where nothing else is asked for.
@@ -55,14 +56,8 @@ pub struct SurviveOrder {
     pub scope: SurviveScope,
     /// For how many ticks at most it is waited until the bridges settle, 1 to 1,000,000.
     pub ticks: u32,
-}
-
-/// An argument that is there or not.
-fn flag<'a>(alloc: Global, name: &'a str, help: &'a str) -> Arg<'a> {
-    Arg::new(alloc, name)
-        .long(name)
-        .help(help)
-        .action(ArgAction::SetTrue)
+    /// The form in which it is printed what comes of the failures.
+    pub format: ReportFormat,
 }
 
 /// An argument that names something, in place of another.
@@ -73,22 +68,13 @@ fn named<'a>(
     help: &'a str,
     other: &'a str,
 ) -> Result<Arg<'a>, Error> {
-    let argument = Arg::new(alloc, name)
-        .long(name)
-        .value_name(value)
-        .help(help)
-        .action(ArgAction::Set);
-    Ok(argument.conflicts_with_all(&[other])?)
+    Ok(argument(alloc, name, value, help).conflicts_with_all(&[other])?)
 }
 
 /// The argument that tells for how many ticks it is waited.
 fn ticks<'a>(alloc: Global) -> Arg<'a> {
-    Arg::new(alloc, "ticks")
-        .long("ticks")
-        .value_name("N")
-        .help(TICKS)
-        .action(ArgAction::Set)
-        .value_parser(clap::value_parser!(u32).range(1..=1_000_000))
+    let argument = argument(alloc, "ticks", "N", TICKS);
+    argument.value_parser(clap::value_parser!(u32).range(1..=1_000_000))
 }
 
 /// The command `survive`, but for its plan file.
@@ -98,16 +84,17 @@ pub(crate) fn survive_command<'a>(alloc: Global) -> Result<Command<'a>, Error> {
     let command = command.arg(flag(alloc, "bridges", BRIDGES))?;
     let command = command.arg(named(alloc, "service", "NAME", SERVICE, "from")?)?;
     let command = command.arg(named(alloc, "from", "PORT", FROM, "service")?)?;
+    let command = command.arg(table(alloc))?;
     Ok(command.arg(ticks(alloc))?)
 }
 
 /// Which services are looked at.
 fn scope_of(alloc: Global, given: &ArgMatches<'_>) -> Result<SurviveScope, AllocError> {
-    if let Some(name) = given.get_str("service") {
-        return Ok(SurviveScope::Service(String::from_str(alloc, name)?));
+    if let Some(name) = text_of(alloc, given, "service")? {
+        return Ok(SurviveScope::Service(name));
     }
-    if let Some(name) = given.get_str("from") {
-        return Ok(SurviveScope::From(String::from_str(alloc, name)?));
+    if let Some(name) = text_of(alloc, given, "from")? {
+        return Ok(SurviveScope::From(name));
     }
     Ok(SurviveScope::All)
 }
@@ -138,5 +125,6 @@ pub(crate) fn survive_order(
         bridges: given.get_flag("bridges"),
         scope,
         ticks: ticks_of(given),
+        format: report_format_of(given),
     })
 }

@@ -2,6 +2,7 @@
 
 ghost use Rattle.std.specs.Prelude.{◌≡◌, IfOk, IfSome, string_bytes};
 
+use crate::arguments::{ReportFormat, document, flag, report_format_of};
 use clap::{Arg, ArgAction, ArgMatches, Command, Error};
 use std::alloc::{AllocError, Global};
 
@@ -40,6 +41,8 @@ pub struct TraceOrder {
     pub entries: Vec<TraceEntry>,
     /// Whether the bridges settle before.
     pub settles: bool,
+    /// The form in which it is printed where they go, text or JSON.
+    pub format: ReportFormat,
 }
 
 /// An argument that is required.
@@ -58,16 +61,13 @@ pub(crate) fn trace_command<'a>(alloc: Global, file: Arg<'a>) -> Result<Command<
         .num_args(2)
         .help(THEN)
         .action(ArgAction::Append);
-    let settle = Arg::new(alloc, "settle")
-        .long("settle")
-        .help(SETTLE)
-        .action(ArgAction::SetTrue);
     let command = Command::new(alloc, "trace").about(TRACE);
     let command = command.arg(file)?;
     let command = command.arg(required(alloc, "PORT", PORT))?;
     let command = command.arg(required(alloc, "HEX", HEX))?;
     let command = command.arg(then)?;
-    Ok(command.arg(settle)?)
+    let command = command.arg(document(alloc))?;
+    Ok(command.arg(flag(alloc, "settle", SETTLE))?)
 }
 
 /// Puts a frame behind others.
@@ -134,5 +134,6 @@ pub(crate) fn trace_order(
         path: String::from_str(alloc, path)?,
         entries,
         settles: given.get_flag("settle"),
+        format: report_format_of(given),
     }))
 }

@@ -3,7 +3,8 @@
 ghost use Rattle.std.specs.Prelude.{◌≡◌, IfOk, string_bytes};
 ghost use Rattle.pb_words.specs.Orders.{AreTicks};
 
-use clap::{Arg, ArgAction, ArgMatches, Command, Error};
+use crate::arguments::{ReportFormat, argument, document, down, downs_of, report_format_of};
+use clap::{Arg, ArgMatches, Command, Error};
 use std::alloc::{AllocError, Global};
 
 /// The most ticks of each bridge, where the words tell none.
@@ -15,10 +16,6 @@ const MOST: u32 = 100_000;
 /// What `tree` does.
 const TREE: &str =
     "Lets the bridges of a plan file settle, and prints the spanning tree: roots, roles, states and costs, and the trees of the services";
-
-/// What `--down` does.
-const DOWN: &str =
-    "Sets a port to another bridge down before, named by its bridge and its number there; may stand several times, for both ends of a link";
 
 /// What `--ticks` does.
 const TICKS_HELP: &str = "Lets each bridge tick N times at most, 0 to 100000; without it 200";
@@ -32,45 +29,32 @@ pub struct TreeOrder {
     pub downs: Vec<String>,
     /// How often each bridge ticks at most, 0 to 100,000.
     pub ticks: u32,
+    /// The form in which the trees are printed, text or JSON.
+    pub format: ReportFormat,
+}
+
+/// The argument that tells how often each bridge ticks at most.
+pub(crate) fn ticks<'a>(alloc: Global) -> Arg<'a> {
+    let argument = argument(alloc, "ticks", "N", TICKS_HELP);
+    argument.value_parser(clap::value_parser!(u32).range(0..=100_000))
 }
 
 /// The command `tree`, but for its plan file.
 pub(crate) fn tree_command<'a>(alloc: Global) -> Result<Command<'a>, Error> {
-    let down = Arg::new(alloc, "down")
-        .long("down")
-        .value_name("BRIDGE:PORT")
-        .help(DOWN)
-        .action(ArgAction::Append);
-    let ticks = Arg::new(alloc, "ticks")
-        .long("ticks")
-        .value_name("N")
-        .help(TICKS_HELP)
-        .action(ArgAction::Set)
-        .value_parser(clap::value_parser!(u32).range(0..=100_000));
     let command = Command::new(alloc, "tree").about(TREE);
-    let command = command.arg(down)?;
-    Ok(command.arg(ticks)?)
+    let command = command.arg(down(alloc))?;
+    let command = command.arg(document(alloc))?;
+    Ok(command.arg(ticks(alloc))?)
 }
 
 /// How often each bridge ticks at most.
-fn ticks_of(given: &ArgMatches<'_>) -> u32
+pub(crate) fn ticks_of(given: &ArgMatches<'_>) -> u32
     ensures { AreTicks result }
 {
     match given.get_one::<u32>("ticks") {
         Some(ticks) if ticks <= MOST => ticks,
         _ => TICKS,
     }
-}
-
-/// The ports that go down before.
-fn downs_of(alloc: Global, given: &ArgMatches<'_>) -> Result<Vec<String>, AllocError> {
-    let mut downs = Vec::new(alloc);
-    if let Some(words) = given.get_strs("down") {
-        for word in words {
-            downs.push(String::from_str(alloc, word)?)?;
-        }
-    }
-    Ok(downs)
 }
 
 /// The trees of the plan file at a path that the words ask for.
@@ -87,5 +71,6 @@ pub(crate) fn tree_order(
         path: String::from_str(alloc, path)?,
         downs,
         ticks: ticks_of(given),
+        format: report_format_of(given),
     })
 }

@@ -1,5 +1,6 @@
 //! What lets a worker take its next turn, and what is asked of it meanwhile.
 
+use crate::view::PortView;
 use pb_lan::Place;
 
 /// The answer of a gate.
@@ -31,6 +32,15 @@ pub trait Gate: Sync {
         None
     }
 
+    /// Whether frames may enter at customer ports, once their clocks have ticked as often as they are held back.
+    fn is_open(&self) -> bool {
+        true
+    }
+
     /// Copies of a frame found no room at a place.
     fn refused(&self, _place: Place, _copies: u64) {}
+
+    /// What a local port of a place is like: told of each port before the place's first turn, and after each turn that may
+    /// have changed one.
+    fn shows(&self, _place: Place, _port: u8, _view: PortView) {}
 }

@@ -9,9 +9,11 @@ mod gate;
 mod threads;
 mod ticks;
 mod turns;
+mod view;
 mod words;
 
 pub use gate::{Gate, Go, Wish};
 pub use threads::{Places, WorkFault, run_all};
 pub use ticks::Moment;
 pub use turns::{Did, Finish, Turn, Work};
+pub use view::PortView;

@@ -1,15 +1,21 @@
 //! What a worker does, whatever its place.
 
-ghost use Rattle.std.specs.Prelude.{◌≡◌};
+ghost use Rattle.std.specs.Prelude.{◌≡◌, ℕ, None};
+ghost use Rattle.std.specs.declared.option.Option.{Option};
+ghost use Rattle.pb_work.specs.declared.view.PortView.{PortView};
 ghost use Rattle.pb_work.specs.Started.{IsBack};
 
 use crate::gate::{Gate, Go, Wish};
 use crate::ticks::{Moment, Ticks};
+use crate::view::PortView;
 use crate::words::Words;
 use pb_lan::{Limits, Place};
 use std::sync::Wait;
 use std::thread;
 use std::time::{Clock, Duration};
+
+/// The local ports of a place.
+const PORTS: u8 = 16;
 
 /// What a turn did.
 #[derive(Clone, Copy, PartialEq, Eq, Debug)]
@@ -35,6 +41,8 @@ pub struct Turn {
     pub fewer: u64,
     /// How many copies of a frame found no room.
     pub refused: u64,
+    /// Whether what is shown of the place's ports may have changed.
+    pub has_stirred: bool,
 }
 
 impl Turn {
@@ -44,6 +52,7 @@ impl Turn {
         more: 0,
         fewer: 0,
         refused: 0,
+        has_stirred: false,
     };
 }
 
@@ -69,8 +78,18 @@ pub trait Work: Drop {
     /// What holds of the place between turns.
     ghost fits: { Self → Type 0 };
 
+    /// What is shown of a local port. A place of which nothing is shown leaves it out.
+    ghost shown_of: { Self → ℕ → Option PortView } = { λ _ _. None };
+
     /// The place.
     fn place(&self) -> Place;
+
+    /// What is shown of the local port of this number, 1 to 16. None: nothing is.
+    fn shown(&self, _port: u8) -> Option<PortView>
+        ensures { result ≡ shown_of self.now _port }
+    {
+        None
+    }
 
     /// Takes a turn: a tick where the clock ticks, and at most one step more.
     fn turn(&mut self, moment: Moment) -> Turn
@@ -139,7 +158,21 @@ fn take_turn<T: Work, G: Gate, R: Clock>(
 {
     match gate.wish(place, ticks.last().now) {
         Some(wish) => owned.fulfil(wish),
-        None => owned.turn(ticks.next(rt)),
+        None => {
+            let mut moment = ticks.next(rt);
+            moment.is_open = moment.is_open && gate.is_open();
+            owned.turn(moment)
+        }
+    }
+}
+
+/// Shows what each local port of a place is like.
+fn show_ports<T: Work, G: Gate>(owned: &T, gate: &G, place: Place) {
+    for index in 0..PORTS {
+        let port = index + 1;
+        if let Some(view) = owned.shown(port) {
+            gate.shows(place, port, view);
+        }
     }
 }
 
@@ -158,6 +191,7 @@ fn take_turns<T: Work, G: Gate, R: Clock>(
 {
     let place = owned.place();
     let mut idle = 0u32;
+    show_ports(owned, gate, place);
     for turn in 0..turns {
         if is_ended(gate, words, place, turn) {
             return Finish::Told;
@@ -166,6 +200,9 @@ fn take_turns<T: Work, G: Gate, R: Clock>(
         words.count(turned.more, turned.fewer);
         if turned.refused > 0 {
             gate.refused(place, turned.refused);
+        }
+        if turned.has_stirred {
+            show_ports(owned, gate, place);
         }
         if let Some(finish) = own_end(turned.did) {
             return finish;

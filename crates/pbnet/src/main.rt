@@ -24,7 +24,7 @@ use pb_flat::{Switch, run_flat_on};
 use pb_init::{Shape, write_plan};
 use pb_locate::refused_at;
 use pb_print::CommandFault;
-use pb_running::{Strictness, Traffic, run_network};
+use pb_running::{RunOptions, Strictness, Traffic, run_network};
 use pb_step::run_script;
 use pb_words::{InitOrder, Order, RunOrder, order_of};
 use progress::{Progress, Shown};
@@ -60,8 +60,8 @@ fn main(rt: HostRuntime) -> ExitCode {
     };
     match order_of(rt.alloc(), words.as_slice()) {
         Ok(Some(Order::Flat(ports))) => flat(&rt, ports),
-        Ok(Some(Order::Check(path))) => check(&rt, path.as_str()),
-        Ok(Some(Order::Step(path))) => step(&rt, path.as_str()),
+        Ok(Some(Order::Check(order))) => check(&rt, order.path.as_str()),
+        Ok(Some(Order::Step(order))) => step(&rt, order.path.as_str()),
         Ok(Some(Order::Run(order))) => {
             let mut errors = rt.stderr();
             let shown = shown_on(errors.is_terminal(), order.progress);
@@ -196,11 +196,16 @@ fn strictness_of(is_strict: bool) -> Strictness {
     }
 }
 
-/// Where the control socket of a run is to be made.
-fn control_of(order: &RunOrder) -> Option<&str> {
-    match &order.control {
-        Some(path) => Some(path.as_str()),
-        None => None,
+/// What is asked of a run beside its plan file.
+fn options_of(order: &RunOrder) -> RunOptions<'_> {
+    RunOptions {
+        plan: order.path.as_str(),
+        control: match &order.control {
+            Some(path) => Some(path.as_str()),
+            None => None,
+        },
+        settles: order.settles,
+        linger: order.linger,
     }
 }
 
@@ -231,7 +236,7 @@ where
         rt.alloc(),
         file.as_slice(),
         strictness_of(order.strict),
-        control_of(order),
+        &options_of(order),
         &traffic,
         &progress,
         &mut io::writer(rt),

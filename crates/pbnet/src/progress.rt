@@ -2,7 +2,7 @@
 
 use pb_lan::Place;
 use pb_run::{Gate, Go};
-use pb_running::{Traffic, Watch};
+use pb_running::{Opening, Traffic, Watch};
 use std::alloc::Global;
 use std::sync::Arc;
 use std::sync::atomic::{AtomicU64, Ordering};
@@ -108,6 +108,17 @@ impl<R: Clock + Eprint + Sync> Gate for Progress<'_, R> {
 }
 
 impl<R: Clock + Eprint + Sync> Watch for Progress<'_, R> {
+    /// Tells it, on a line of its own.
+    fn open(&self, opening: Opening) {
+        self.close();
+        let _ = match opening {
+            Opening::Settled(ticks) => eprintln!(self.rt; "bridges settled after {ticks} ticks"),
+            Opening::Unsettled(ticks) => {
+                eprintln!(self.rt; "bridges not settled after {ticks} ticks: frames enter")
+            }
+        };
+    }
+
     /// Ends the line, where one was written anew.
     fn close(&self) {
         if self.lines.swap(0, Ordering::SeqCst) != 0 {

@@ -3,7 +3,7 @@
 ghost use Rattle.pb_lan.specs.Plans.{IsSound};
 
 use super::board::Fake;
-use super::plans::{COUNTS, plan};
+use super::plans::{COUNTS, TREE, plan};
 use pb_control::{Refused, Request, answer, read_request};
 use pb_lan::Plan;
 use std::alloc::Global;
@@ -21,6 +21,7 @@ const BAD: Result<Request, Refused> = Err(Refused::Bad);
 const ASKING: &[Row] = &[
     ("stop", Ok(Request::Stop)),
     ("counts", Ok(Request::Counts)),
+    ("tree", Ok(Request::Tree)),
     (
         "down west 2",
         Ok(Request::Set {
@@ -64,6 +65,9 @@ const WRONG: &[&str] = &[
     "count",
     "counts\r",
     "counts west",
+    "trees",
+    "tree\r",
+    "Tree",
     "down",
     "down ",
     "down west",
@@ -91,6 +95,7 @@ const WRONG: &[&str] = &[
 fn reply(read: Result<Request, Refused>) -> &'static str {
     match read {
         Ok(Request::Counts) => COUNTS,
+        Ok(Request::Tree) => TREE,
         Ok(_) => "ok\n",
         Err(Refused::NoSuch) => "no such\n",
         Err(Refused::Bad) => "bad\n",
@@ -100,7 +105,7 @@ fn reply(read: Result<Request, Refused>) -> &'static str {
 /// Whether the board was asked for this, and for nothing else.
 fn has_done(asked: &[Request], read: Result<Request, Refused>) -> bool {
     match read {
-        Ok(Request::Counts) | Err(_) => asked.is_empty(),
+        Ok(Request::Counts | Request::Tree) | Err(_) => asked.is_empty(),
         Ok(request) => asked == [request].as_slice(),
     }
 }

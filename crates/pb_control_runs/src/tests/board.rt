@@ -1,6 +1,9 @@
 //! A board that notes what it is asked for.
 
 use pb_control::{Board, Request};
+use pb_lan::PortState;
+use pb_rstp::Role;
+use pb_work::PortView;
 use std::alloc::{AllocError, Global};
 use std::cell::RefCell;
 
@@ -48,5 +51,18 @@ impl Board for Fake {
 
     fn bridge(&self, bridge: u8) -> (u64, u64) {
         (200 + u64::from(bridge), 300 + u64::from(bridge))
+    }
+
+    fn views(&self, bridge: u8) -> [Option<PortView>; 16] {
+        let mut views = [None; 16];
+        views[0] = Some(PortView {
+            role: Some(Role::Root),
+            state: PortState::Forwarding,
+        });
+        views[15] = Some(PortView {
+            role: if bridge == 1 { None } else { Some(Role::Alternate) },
+            state: if bridge == 1 { PortState::Learning } else { PortState::Discarding },
+        });
+        views
     }
 }

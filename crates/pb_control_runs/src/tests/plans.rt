@@ -33,6 +33,15 @@ bridge west refused 201 ticks 301\n\
 ok\n\
 ";
 
+/// The answer to `tree`.
+pub(super) const TREE: &str = "\
+port east 1 root forwarding\n\
+port east 16 alternate discarding\n\
+port west 1 root forwarding\n\
+port west 16 learning\n\
+ok\n\
+";
+
 /// The network's plan.
 pub(super) fn plan(alloc: Global) -> Result<Plan, Fail>
     ensures { IfOk result (λ plan. IsSound plan) }

@@ -1,13 +1,21 @@
 //! Runs of a few workers. Each ends by itself, whatever the schedule.
 
-use pb_lan::{Limits, Place};
-use pb_work::{Did, Finish, Gate, Go, Moment, Places, Turn, Wish, Work, run_all};
+ghost use Rattle.std.specs.Prelude.{◌==◌, Some, None, if◌then◌else◌};
+
+use pb_lan::{Limits, Place, PortState};
+use pb_work::{Did, Finish, Gate, Go, Moment, Places, PortView, Turn, Wish, Work, run_all};
 use std::alloc::{AllocError, Global};
 use std::sync::atomic::{AtomicU64, Ordering};
 use std::test::Fail;
 use std::thread;
 
-/// A place with so many jobs, one of which is done in a turn.
+/// What is shown of a port.
+const VIEW: PortView = PortView {
+    role: None,
+    state: PortState::Learning,
+};
+
+/// A place with so many jobs, one of which is done in a turn. A view of its port 3 is shown, at its ticks too.
 #[derive(Drop)]
 struct Desk {
     place: Place,
@@ -16,6 +24,7 @@ struct Desk {
     ticks: u64,
     opened: u64,
     wishes: u64,
+    view: PortView,
     closed: u32,
     finish: Option<Finish>,
 }
@@ -27,8 +36,14 @@ impl Work for Desk {
 
     ghost fits = { λ d. Unit {0} };
 
+    ghost shown_of = { λ d port. if port == 3 then Some d.view else None };
+
     fn place(&self) -> Place {
         self.place
+    }
+
+    fn shown(&self, port: u8) -> Option<PortView> {
+        if port == 3 { Some(self.view) } else { None }
     }
 
     fn turn(&mut self, moment: Moment) -> Turn {
@@ -47,6 +62,7 @@ impl Work for Desk {
             more: 0,
             fewer,
             refused: 2,
+            has_stirred: moment.is_tick,
         }
     }
 
@@ -74,6 +90,7 @@ fn desks(alloc: Global, jobs: u64, first: Place, second: Place) -> Result<Vec<De
             ticks: 0,
             opened: 0,
             wishes: 0,
+            view: VIEW,
             closed: 0,
             finish: None,
         })?;
@@ -254,11 +271,12 @@ fn a_gate_stops_the_workers(rt: HostRuntime) -> Result<(), Fail> {
     Ok(())
 }
 
-/// Wishes once of each bridge that its port 3 be set up, once its clock has ticked, and counts what is refused.
+/// Wishes once of each bridge that its port 3 be set up, once its clock has ticked, and counts what is refused and shown.
 #[derive(Drop)]
 struct Wishing {
     given: AtomicU64,
     refused: AtomicU64,
+    shown: AtomicU64,
 }
 
 impl Gate for Wishing {
@@ -276,6 +294,12 @@ impl Gate for Wishing {
     fn refused(&self, _place: Place, copies: u64) {
         self.refused.fetch_add(copies, Ordering::SeqCst);
     }
+
+    fn shows(&self, _place: Place, port: u8, view: PortView) {
+        if port == 3 && view == VIEW {
+            self.shown.fetch_add(1, Ordering::SeqCst);
+        }
+    }
 }
 
 #[test]
@@ -289,14 +313,16 @@ fn wishes_take_the_place_of_turns(rt: HostRuntime) -> Result<(), Fail> {
     let gate = Wishing {
         given: AtomicU64::new(0),
         refused: AtomicU64::new(0),
+        shown: AtomicU64::new(0),
     };
     let places = office(rt.alloc(), 20)?;
     let (places, verdict) = run_all(&rt, rt.alloc(), places, &gate, limits, 121);
     assert!(rt; verdict.is_ok());
-    let (mut wishes, mut turns) = (0u64, 0u64);
+    let (mut wishes, mut turns, mut ticks) = (0u64, 0u64, 0u64);
     for desk in together(places)? {
         wishes = wishes.saturating_add(desk.wishes);
         turns = turns.saturating_add(desk.turns);
+        ticks = ticks.saturating_add(desk.ticks);
         assert!(rt; desk.wishes == 0 || desk.place == Place::Bridge(1));
         assert!(rt; desk.finish != Some(Finish::Limit) || desk.turns == 12 || desk.wishes == 3);
     }
@@ -305,5 +331,40 @@ fn wishes_take_the_place_of_turns(rt: HostRuntime) -> Result<(), Fail> {
         gate.refused.load(Ordering::SeqCst),
         turns.saturating_mul(2)
     );
+    assert_eq!(rt;
+        gate.shown.load(Ordering::SeqCst),
+        ticks.saturating_add(6)
+    );
+    Ok(())
+}
+
+/// Lets workers go on, and frames not enter.
+#[derive(Clone, Copy)]
+struct Shut;
+
+impl Gate for Shut {
+    fn pass(&self, _place: Place, _turn: u64) -> Go {
+        Go::Go
+    }
+
+    fn is_open(&self) -> bool {
+        false
+    }
+}
+
+#[test]
+fn a_gate_holds_frames_back(rt: HostRuntime) -> Result<(), Fail> {
+    let limits = Limits {
+        turns: 12,
+        tick_every: 5,
+        tick_ms: 0,
+        hold: 0,
+    };
+    let places = office(rt.alloc(), 20)?;
+    let (places, verdict) = run_all(&rt, rt.alloc(), places, &Shut, limits, 121);
+    assert!(rt; verdict.is_ok());
+    for desk in together(places)? {
+        assert!(rt; desk.opened == 0 && desk.turns <= 12);
+    }
     Ok(())
 }

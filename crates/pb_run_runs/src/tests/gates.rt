@@ -2,8 +2,8 @@
 
 use super::told::slot_of;
 use super::watch::Watch;
-use pb_lan::Place;
-use pb_run::{Gate, Go, Wish};
+use pb_lan::{Place, PortState};
+use pb_run::{Gate, Go, PortView, Wish};
 use std::alloc::{AllocError, Global};
 use std::sync::Arc;
 use std::sync::atomic::{AtomicU64, Ordering};
@@ -50,9 +50,32 @@ impl Gate for StopAt {
     }
 }
 
-/// Wishes before the first turn of B1 that its port 2 be set down, and no more.
+/// Wishes before the first turn of B1 that its port 2 be set down, and no more. It notes as what that port was shown.
 #[derive(Drop)]
-pub(super) struct Parting(pub(super) AtomicU64);
+pub(super) struct Parting {
+    wished: AtomicU64,
+    /// How often it was shown Forwarding without a role.
+    forwarding: AtomicU64,
+    /// How often it was shown Discarding without a role, and not Forwarding behind it.
+    discarding: AtomicU64,
+}
+
+impl Parting {
+    /// Nothing was wished or shown.
+    pub(super) fn new() -> Parting {
+        Parting {
+            wished: AtomicU64::new(0),
+            forwarding: AtomicU64::new(0),
+            discarding: AtomicU64::new(0),
+        }
+    }
+
+    /// How often the port was shown Forwarding, and how often Discarding behind it.
+    pub(super) fn shown(&self) -> (u64, u64) {
+        let forwarding = self.forwarding.load(Ordering::SeqCst);
+        (forwarding, self.discarding.load(Ordering::SeqCst))
+    }
+}
 
 impl Gate for Parting {
     fn pass(&self, _place: Place, _turn: u64) -> Go {
@@ -60,10 +83,22 @@ impl Gate for Parting {
     }
 
     fn wish(&self, place: Place, _now: u32) -> Option<Wish> {
-        if place != Place::Bridge(1) || self.0.swap(1, Ordering::SeqCst) == 1 {
+        if place != Place::Bridge(1) || self.wished.swap(1, Ordering::SeqCst) == 1 {
             return None;
         }
         Some(Wish { port: 2, up: false })
+    }
+
+    fn shows(&self, place: Place, port: u8, view: PortView) {
+        if place != Place::Bridge(1) || port != 2 || view.role.is_some() {
+            return;
+        }
+        if view.state == PortState::Discarding {
+            self.discarding.fetch_add(1, Ordering::SeqCst);
+        } else {
+            self.discarding.store(0, Ordering::SeqCst);
+            self.forwarding.fetch_add(1, Ordering::SeqCst);
+        }
     }
 }
 

@@ -59,9 +59,8 @@ fn does<W: Wiring>(worker: &mut LaneWorker<W>, did: Did, fewer: u64) -> bool {
     worker.turn(STILL)
         == Turn {
             did,
-            more: 0,
             fewer,
-            refused: 0,
+            ..Turn::IDLE
         }
 }
 

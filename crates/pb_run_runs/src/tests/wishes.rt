@@ -5,7 +5,6 @@ use super::networks::LINE;
 use super::runs::{LONG, Outer, Setup, ran_counted, ran_set};
 use super::told::Told;
 use pb_run::Ended;
-use std::sync::atomic::AtomicU64;
 use std::test::Fail;
 
 /// Four bridges in a line; C1 gives three broadcasts.
@@ -28,18 +27,20 @@ fn short(told: &Told) -> (Option<Ended>, bool, [(u64, u64); 4]) {
 
 #[test]
 fn a_port_that_is_set_down_sends_no_frame(rt: HostRuntime) -> Result<(), Fail> {
-    let gate = Parting(AtomicU64::new(0));
+    let gate = Parting::new();
     let told = ran_set(&rt, rt.alloc(), &SETUP, &gate)?;
     let parted = [(3, 0), (0, 0), (0, 0), (0, 0)];
     assert_eq!(rt; short(&told), (Some(Ended::Drained), true, parted));
+    assert_eq!(rt; gate.shown(), (1, 1));
     Ok(())
 }
 
 #[test]
 fn a_run_that_leaves_ports_alone_fulfils_no_wish(rt: HostRuntime) -> Result<(), Fail> {
-    let gate = Parting(AtomicU64::new(0));
+    let gate = Parting::new();
     let told = ran_counted(&rt, rt.alloc(), &SETUP, &gate)?;
     let whole = [(3, 0), (0, 3), (0, 3), (0, 3)];
     assert_eq!(rt; short(&told), (Some(Ended::Drained), true, whole));
+    assert_eq!(rt; gate.shown(), (2, 0));
     Ok(())
 }

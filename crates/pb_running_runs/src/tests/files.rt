@@ -7,7 +7,7 @@ use super::plans::{
 use super::{Row, Told, carry, check, joined, run};
 use pb_lan::Place;
 use pb_run::{Gate, Go};
-use pb_running::{NetworkFault, Strictness, Traffic, Watch};
+use pb_running::{NetworkFault, Opening, Strictness, Traffic, Watch};
 use std::fs;
 use std::sync::Arc;
 use std::sync::atomic::{AtomicU64, Ordering};
@@ -107,6 +107,8 @@ impl Gate for Turns {
 }
 
 impl Watch for Turns {
+    fn open(&self, _opening: Opening) {}
+
     fn close(&self) {}
 }
 

@@ -50,6 +50,7 @@ fn order_wanted(alloc: Global, picture: Picture) -> Result<Order, AllocError> {
         downs,
         format,
         ticks,
+        output: None,
     }))
 }
 
@@ -123,6 +124,31 @@ fn draws_one_file(rt: HostRuntime) -> Result<(), Fail> {
     ];
     for (words, picture) in ROWS {
         asks(&rt, rt.alloc(), words, *picture)?;
+    }
+    Ok(())
+}
+
+/// The words behind `draw`, and where the picture is to be written. None: on standard output.
+type OutputRow = (&'static [&'static str], Option<&'static str>);
+
+#[test]
+fn draws_to_a_file(rt: HostRuntime) -> Result<(), Fail> {
+    const ROWS: &[OutputRow] = &[
+        (&["a"], None),
+        (&["a", "-o", "b.svg"], Some("b.svg")),
+        (&["-ob.svg", "a"], Some("b.svg")),
+        (&["a", "--output", "b.svg"], Some("b.svg")),
+        (&["a", "--output=-"], Some("-")),
+    ];
+    for (words, wanted) in ROWS {
+        let line = line_of(rt.alloc(), words)?;
+        match order_of(rt.alloc(), line.as_slice()) {
+            Ok(Some(Order::Draw(order))) => {
+                let output = service_wanted(rt.alloc(), *wanted)?;
+                assert!(&rt; order.output == output, "{words:?}");
+            }
+            _ => panic!(&rt; "{words:?}"),
+        }
     }
     Ok(())
 }

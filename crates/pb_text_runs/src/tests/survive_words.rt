@@ -1,6 +1,6 @@
 //! What the words behind `survive` ask for.
 
-use pb_words::{Order, SurviveOrder, SurviveScope, order_of};
+use pb_words::{Order, ReportFormat, SurviveOrder, SurviveScope, order_of};
 use std::alloc::{AllocError, Global};
 use std::process::Abort;
 use std::test::Fail;
@@ -42,6 +42,7 @@ fn order_wanted(alloc: Global, look: Look) -> Result<Order, AllocError> {
         bridges,
         scope,
         ticks,
+        format: ReportFormat::Text,
     }))
 }
 
@@ -106,7 +107,7 @@ fn looks_at_failures(rt: HostRuntime) -> Result<(), Fail> {
         (&["a", "--ticks", "1000001"], None),
         (&["a", "--service"], None),
         (&["a", "--service", "red", "--from", "C1"], None),
-        (&["a", "--format", "json"], None),
+        (&["a", "--format", "dot"], None),
     ];
     for (words, look) in ROWS {
         asks(&rt, rt.alloc(), words, *look)?;

@@ -1,6 +1,8 @@
 //! What the words of the command line ask for.
 
-use pb_words::{InitOrder, Order, RunOrder, TraceEntry, TraceOrder, TreeOrder, order_of};
+use pb_words::{
+    InitOrder, Order, ReportFormat, ReportOrder, RunOrder, TraceEntry, TraceOrder, TreeOrder, order_of,
+};
 use std::alloc::{AllocError, Global};
 use std::process::Abort;
 use std::test::Fail;
@@ -51,6 +53,17 @@ fn run_of(
             None => None,
         },
         strict,
+        settles: false,
+        linger: 100,
+        format: ReportFormat::Text,
+    })
+}
+
+/// A report over a plan file.
+fn report_of(alloc: Global, path: &str) -> Result<ReportOrder, AllocError> {
+    Ok(ReportOrder {
+        path: String::from_str(alloc, path)?,
+        format: ReportFormat::Text,
     })
 }
 
@@ -64,6 +77,7 @@ fn tree_of(alloc: Global, path: &str, downs: &[&str], ticks: u32) -> Result<Tree
         path: String::from_str(alloc, path)?,
         downs: words,
         ticks,
+        format: ReportFormat::Text,
     })
 }
 
@@ -84,6 +98,7 @@ fn trace_of(
         path: String::from_str(alloc, path)?,
         entries,
         settles,
+        format: ReportFormat::Text,
     })
 }
 
@@ -91,8 +106,8 @@ fn trace_of(
 fn wanted_of(alloc: Global, wanted: Wanted) -> Result<Result<Order, bool>, AllocError> {
     Ok(Ok(match wanted {
         Wanted::Flat(ports) => Order::Flat(ports),
-        Wanted::Check(path) => Order::Check(String::from_str(alloc, path)?),
-        Wanted::Step(path) => Order::Step(String::from_str(alloc, path)?),
+        Wanted::Check(path) => Order::Check(report_of(alloc, path)?),
+        Wanted::Step(path) => Order::Step(report_of(alloc, path)?),
         Wanted::Run(path) => Order::Run(run_of(alloc, path, None, false, false, None)?),
         Wanted::RunBeside(path, seconds, progress, strict) => {
             Order::Run(run_of(alloc, path, seconds, progress, strict, None)?)

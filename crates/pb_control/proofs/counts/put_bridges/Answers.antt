@@ -17,12 +17,12 @@ loop-name-preserved g c =
     let k = c.loop-name.name-index in
     let thing = seen (get_or bridges k no_name) in
     let counts = c.bridge-counts.result in
-    let here = bridge_line thing.0 counts.0 counts.1 in
+    let here = bridge_line thing.0 counts in
     let split : map seen (drop k bridges) ≡ thing ∷ map seen (drop (k + 1) bridges) = at_drop_more (λ xs. map seen xs) bridges k no_name c.loop-name-test.true in
     let before = c.loop-name.invariant in (
       before.0 ++ here,
       text_more (string_bytes c.args.out.now) (string_bytes c.loop-name.out) (string_bytes c.put_bridge.new.out) before.0 here before.1 c.in_ok-put_bridge.ensures,
-      lines_more bridge_line (g.B.Board.told_bridge c.args.board.now) (map seen bridges) (map seen (drop k bridges)) (map seen (drop (k + 1) bridges)) thing counts.0 counts.1 before.0
+      lines_more bridge_line (g.B.Board.told_bridge c.args.board.now) (map seen bridges) (map seen (drop k bridges)) (map seen (drop (k + 1) bridges)) thing counts before.0
           split c.bridge-counts.ensures before.2,
     )
 

@@ -17,12 +17,12 @@ loop-name-preserved g c =
     let k = c.loop-name.name-index in
     let thing = seen (get_or ports k no_name) in
     let counts = c.traffic-counts.result in
-    let here = port_line thing.0 counts.0 counts.1 in
+    let here = port_line thing.0 counts in
     let split : map seen (drop k ports) ≡ thing ∷ map seen (drop (k + 1) ports) = at_drop_more (λ xs. map seen xs) ports k no_name c.loop-name-test.true in
     let before = c.loop-name.invariant in (
       before.0 ++ here,
       text_more (string_bytes c.args.out.now) (string_bytes c.loop-name.out) (string_bytes c.put_port.new.out) before.0 here before.1 c.in_ok-put_port.ensures,
-      lines_more port_line (g.B.Board.told_port c.args.board.now) (map seen ports) (map seen (drop k ports)) (map seen (drop (k + 1) ports)) thing counts.0 counts.1 before.0
+      lines_more port_line (g.B.Board.told_port c.args.board.now) (map seen ports) (map seen (drop k ports)) (map seen (drop (k + 1) ports)) thing counts before.0
           split c.traffic-counts.ensures before.2,
     )
 

@@ -1,0 +1,20 @@
+use Rattle.std.proofs.Common.{ℕ, List, Bor, map, subst}
+use Rattle.pb_control.specs.Texts.{view_lines, AreLines}
+use Rattle.pb_control.proofs.LineTexts.{on_ok}
+use Rattle.pb_control.proofs.tree.put_tree.Goals as goal
+
+abbrev seen : Bor (List ℕ) × ℕ → List ℕ × ℕ
+seen n = (n.0.now, n.1)
+
+pub returns : goal.returns
+returns g c =
+    let told = g.B.Board.told_views c.args.board.now in
+    on_ok c.put_bridges.result (λ e. (
+      e.0,
+      e.1,
+      record {
+        things = map seen c.in_ok-bridges.bridges.items;
+        by_name = c.in_ok-bridges.ensures;
+        are_lines = subst (λ xs. AreLines view_lines told (map seen xs) e.0) c.as_slice.ensures.value e.2;
+      },
+    )) c.put_bridges.ensures
