@@ -43,9 +43,12 @@ abbrev pub view_line : List ℕ → ℕ → Option PortView → List ℕ
 view_line name port None = []
 view_line name port (Some view) = codes "port " ++ name ++ 32 ∷ decimal port ++ 32 ∷ role_words view.role ++ state_word view.state ++ 10 ∷ []
 
--- the lines of all ports of a bridge, by these views
+-- the line of one of a bridge's ports, and those of all, by these views
+abbrev pub line_among : List ℕ → List (Option PortView) → ℕ → List ℕ
+line_among name views port = view_line name port (unwrap_or (numbered views port) None)
+
 abbrev pub view_lines : List ℕ → List (Option PortView) → List ℕ
-view_lines name views = flat_map (λ port. view_line name port (unwrap_or (numbered views port) None)) local_ports
+view_lines name views = flat_map (line_among name views) local_ports
 
 -- the lines of each of these names and numbers, by what was told of the number
 abbrev pub AreLines : {A : Type 0} → (List ℕ → A → List ℕ) → (ℕ → A → Type 0) → List (List ℕ × ℕ) → List ℕ → Type 0

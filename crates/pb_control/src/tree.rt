@@ -2,7 +2,7 @@
 
 ghost use Rattle.std.specs.Prelude.{◌≡◌, ◌++◌, List, ℕ, Some, None, map, flat_map, unwrap_or, string_bytes, OnOk};
 ghost use Rattle.pb_control.specs.Sizes.{IsFew};
-ghost use Rattle.pb_control.specs.Texts.{role_words, state_word, view_line, view_lines, AreLines, IsTreeText};
+ghost use Rattle.pb_control.specs.Texts.{role_words, state_word, view_line, line_among, view_lines, AreLines, IsTreeText};
 ghost use Rattle.pb_lan.specs.Numbering.{numbered};
 
 use crate::board::Board;
@@ -83,8 +83,7 @@ fn put_views(
     views: &[Option<PortView>],
     ports: &[u8],
 ) -> Result<(), Memory>
-    ensures { OnOk result (string_bytes out.new ≡ string_bytes out.old
-        ++ flat_map (λ port. view_line name.now port (unwrap_or (numbered views.now port) None)) ports.now) }
+    ensures { OnOk result (string_bytes out.new ≡ string_bytes out.old ++ flat_map (line_among name.now views.now) ports.now) }
 {
     for port in ports {
         put_view(out, name, *port, view_at(views, *port))?;

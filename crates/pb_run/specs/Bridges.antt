@@ -1,5 +1,5 @@
 -- The local ports of a bridge that has a worker.
-use Rattle.std.specs.Prelude.{◌≡◌, ℕ, ◌<◌, ◌≤◌, true, ◌==◌, if◌then◌else◌, Some, None, unwrap_or, List, All}
+use Rattle.std.specs.Prelude.{◌≡◌, ℕ, ◌<◌, ◌≤◌, Bool, true, ◌==◌, if◌then◌else◌, Some, None, unwrap_or, List, All}
 use Rattle.std.specs.Option.{option_map}
 use Rattle.std.specs.declared.option.Option.{Option}
 use Rattle.pb_frame.specs.Lists.{first}
@@ -19,10 +19,16 @@ use Rattle.pb_lan.specs.declared.plan.Plan.{Plan}
 abbrev pub AreUsed : Plan → ℕ → ℕ → List ℕ → Type 0
 AreUsed plan bridge count ports = All (λ port. (0 < port) × (port ≤ count) × (is_used (port_at plan bridge port) ≡ true)) ports
 
--- the role of a port, where the protocol decides the states of ports
+-- the role of a port among those of a bridge's ports, and where the protocol decides the states of ports
+abbrev pub is_of_port : ℕ → ℕ × Role → Bool
+is_of_port port entry = entry.0 == port
+
+abbrev pub role_among : List (ℕ × Role) → ℕ → Option Role
+role_among roles port = option_map (λ entry. entry.1) (first (is_of_port port) roles)
+
 abbrev pub role_in : Option Machine → ℕ → Option Role
 role_in None port = None
-role_in (Some machine) port = option_map (λ r. r.1) (first (λ r. r.0 == port) (roles_of machine.ports))
+role_in (Some machine) port = role_among (roles_of machine.ports) port
 
 -- what is shown of a port after the steps that the bridge took: nothing where it leads to no other bridge
 abbrev pub view_of : Bridge → ℕ → Option PortView

@@ -1,11 +1,10 @@
 //! What is shown of a bridge's ports while it works.
 
-ghost use Rattle.std.specs.Option.{option_copied, option_map};
-ghost use Rattle.std.specs.Prelude.{◌≡◌, ◌==◌, unwrap_or};
-ghost use Rattle.pb_frame.specs.Lists.{first};
+ghost use Rattle.std.specs.Option.{option_copied};
+ghost use Rattle.std.specs.Prelude.{◌≡◌, unwrap_or};
 ghost use Rattle.pb_lan.specs.Numbering.{numbered};
 ghost use Rattle.pb_lan.specs.declared.shape.PortState.TheVariants.{Discarding};
-ghost use Rattle.pb_run.specs.Bridges.{role_in, view_of};
+ghost use Rattle.pb_run.specs.Bridges.{role_among, role_in, view_of};
 
 use pb_lan::PortState;
 use pb_relay::Bridge;
@@ -14,7 +13,7 @@ use pb_work::PortView;
 
 /// The role of a port in a list of those of a bridge's ports.
 fn role_at(roles: &[(u8, Role)], port: u8) -> Option<Role>
-    ensures { result ≡ option_map (λ r. r.1) (first (λ r. r.0 == port) roles.now) }
+    ensures { result ≡ role_among roles.now port }
 {
     for (number, role) in roles {
         if *number == port {
@@ -26,7 +25,7 @@ fn role_at(roles: &[(u8, Role)], port: u8) -> Option<Role>
 
 /// The role of a port, where the protocol decides the states of ports.
 fn role_of(machine: Option<&Rstp>, port: u8) -> Option<Role>
-    ensures { result ≡ role_in (option_copied machine) port }
+    ensures { result ≡ role_in (option_copied machine.entry) port }
 {
     match machine {
         Some(machine) => role_at(machine.roles(), port),

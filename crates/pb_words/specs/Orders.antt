@@ -1,8 +1,6 @@
 -- What the program may be asked to do.
-use Rattle.std.specs.Prelude.{◌≡◌, ◌⊎◌, ℕ, ◌≤◌, ◌==◌, if◌then◌else◌, List, Some, None, codes, string_bytes}
+use Rattle.std.specs.Prelude.{◌≡◌, ◌⊎◌, ℕ, ◌≤◌, List, Some, None, codes, string_bytes}
 use Rattle.std.specs.declared.option.Option.{Option}
-use Rattle.pb_words.specs.declared.arguments.ReportFormat.{ReportFormat}
-use Rattle.pb_words.specs.declared.arguments.ReportFormat.TheVariants.{Text, Json, Csv}
 use Rattle.pb_words.specs.declared.init_order.InitOrder.{InitOrder}
 use Rattle.pb_words.specs.declared.init_order.InitOrder.TheVariants.{Line, Ring, Star}
 use Rattle.pb_words.specs.declared.order.Order.{Order}
@@ -64,8 +62,3 @@ IsPlanOrder command path (Survive order) =
     (command ≡ codes "survive") × (string_bytes order.path ≡ path) × AreWaitedTicks order.ticks
 IsPlanOrder command path (Draw order) = (command ≡ codes "draw") × (string_bytes order.path ≡ path) × AreTicks order.ticks
 IsPlanOrder command path _ = ⊥
-
--- the form of a report that goes by a name: text where no other does
-abbrev pub report_format_named : List ℕ → ReportFormat
-report_format_named name =
-    if name == codes "json" then Json else if name == codes "csv" then Csv else Text

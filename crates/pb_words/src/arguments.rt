@@ -1,7 +1,6 @@
 //! Arguments that several commands have.
 
-ghost use Rattle.std.specs.Prelude.{◌≡◌};
-ghost use Rattle.pb_words.specs.Orders.{report_format_named};
+ghost use Rattle.std.specs.Prelude.{◌≡◌, ◌↔◌, codes};
 
 use clap::builder::ValueParser;
 use clap::{Arg, ArgAction, ArgMatches};
@@ -75,7 +74,8 @@ pub(crate) fn table<'a>(alloc: Global) -> Arg<'a> {
 
 /// The form of this name. Without a name, and for any other, it is text.
 fn report_format_named(name: &str) -> ReportFormat
-    ensures { result ≡ report_format_named name.now }
+    ensures json { (result ≡ ReportFormat.Json) ↔ (name.now ≡ codes "json") }
+    ensures csv { (result ≡ ReportFormat.Csv) ↔ (name.now ≡ codes "csv") }
 {
     if name == "json" {
         return ReportFormat::Json;
