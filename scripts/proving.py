@@ -236,14 +236,18 @@ class Proof:
         self.seconds = before.get("user", 0) + before.get("sys", 0)
         self.memory = toolchain().need(crate)
         self.done, self.jobs, self.began, self.ended = 0, 0, None, None
+        # What was heard between two of the checker's lines, and when the last one came.
+        self.took, self.heard = [], 0.0
         self.was_proved = self.is_kept = False
         self.ran = Ran(0, "", 0.0, 0.0, 0.0)
 
     def hear(self, line):
-        """Takes the number of functions proved so far from a line of the checker."""
+        """Takes the number of functions proved so far from a line of the checker, and how long the one that it names took, where there is one job."""
         found = PROGRESS.match(line)
         if found:
             self.done, self.functions = int(found[2]), int(found[3])
+            self.took.append((time.time() - self.heard, found[1]))
+            self.heard = time.time()
 
     def step(self, words, room, hear=None):
         """Runs one command of the proof, and returns whether it did well."""
@@ -254,6 +258,7 @@ class Proof:
     def prove(self, jobs, room, kept):
         """Proves the crate from nothing, builds its library or its program, and returns whether both did well."""
         crate, self.jobs, self.began = self.crate, jobs, time.time()
+        self.heard = self.began
         if kept_sum(crate, kept):
             # (what was proved below since the queue was made states what it stated)
             kept[crate.name], self.is_kept = kept_sum(crate, kept), True
