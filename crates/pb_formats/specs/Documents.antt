@@ -1,5 +1,5 @@
 -- What a document says of the rows of a report.
-use Rattle.std.specs.Prelude.{Vec, ◌≡◌, ◌≤◌, ℕ, Bool, true, false, List, [], ◌∷◌, ◌++◌, Option, Some, None, map, option_map, unwrap_or, if◌then◌else◌}
+use Rattle.std.specs.Prelude.{Vec, ◌≡◌, ◌≤◌, ℕ, Bool, true, false, List, [], ◌∷◌, ◌++◌, Option, Some, None, map, unwrap_or, if◌then◌else◌}
 use Rattle.std.specs.List.{list_any}
 use Rattle.std.specs.Str.{bytes_eq}
 use Rattle.std.specs.declared.alloc.Global.{Global}

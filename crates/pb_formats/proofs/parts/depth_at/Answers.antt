@@ -1,4 +1,4 @@
-use Rattle.std.proofs.Common.{◌≡◌, ◌++◌, ◌+◌, List, ℕ, ap, ◌∙◌, add-one, rules}
+use Rattle.std.proofs.Common.{◌++◌, List, ℕ, ap, ◌∙◌, add-one, rules}
 use Rattle.pb_formats.specs.Rows.{spaces}
 use Rattle.pb_formats.proofs.TextLemmas.{spaces_more}
 use Rattle.pb_formats.proofs.parts.depth_at.Goals as goal

@@ -1,6 +1,5 @@
-use Rattle.std.proofs.Common.{◌≡◌, ◌≢◌, ◌∙◌}
+use Rattle.std.proofs.Common.{◌≢◌, ◌∙◌}
 use Rattle.csv.specs.declared.writer.QuoteStyle.TheVariants as style
-use Rattle.pb_formats.specs.Tables.{writer}
 use Rattle.pb_formats.proofs.tables.line_with.Goals as goal
 
 pub returns-in-Ok : goal.returns-in-Ok
