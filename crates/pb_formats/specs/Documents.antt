@@ -1,13 +1,12 @@
 -- What a document says of the rows of a report.
-use Rattle.std.specs.Prelude.{Vec, ◌≡◌, ◌≤◌, ℕ, Bool, true, false, List, [], ◌∷◌, ◌++◌, Option, Some, None, map, unwrap_or, if◌then◌else◌}
+use Rattle.std.specs.Prelude.{Vec, ◌≡◌, ℕ, Bool, true, false, List, [], ◌∷◌, ◌++◌, Option, Some, None, map, unwrap_or, if◌then◌else◌}
 use Rattle.std.specs.List.{list_any}
 use Rattle.std.specs.Str.{bytes_eq}
 use Rattle.std.specs.declared.alloc.Global.{Global}
 use denote.Ref.{Bor}
 use Rattle.serde_json.specs.Data.{Data, null, boolean, number, string, array, object, unsigned, Members, no_members, put}
 use Rattle.serde_json.specs.View.{items_of}
-use Rattle.serde_json.specs.Data.{depth}
-use Rattle.serde_json.specs.Read.{read, max_depth}
+use Rattle.serde_json.specs.Read.{read}
 use Rattle.serde_json.specs.Written.{IsInOrder}
 use Rattle.pb_formats.specs.declared.templates.Said.{Said}
 use Rattle.pb_formats.specs.declared.templates.Said.TheVariants as said
@@ -131,4 +130,4 @@ document_of form rows = object (with_lists form.lists.now rows (with_top rows no
 -- the text has what the document has, each item and member once and in order; and is read back as the document
 pub record IsJson (document : Data) (text : List ℕ) : Type 0 where
   pub in_order : IsInOrder text document
-  pub reads_back : depth document ≤ max_depth → read text ≡ Some document
+  pub reads_back : read text ≡ Some document

@@ -1,9 +1,6 @@
 //! A report as JSON.
 
-ghost use Rattle.std.specs.Prelude.{◌≡◌, ◌≤◌, List, Some, codes, string_bytes, IfOk};
-ghost use Rattle.serde_json.specs.Data.{depth};
-ghost use Rattle.serde_json.specs.Read.{read, max_depth};
-ghost use Rattle.serde_json.specs.Written.{IsInOrder};
+ghost use Rattle.std.specs.Prelude.{List, string_bytes, IfOk};
 ghost use Rattle.pb_formats.specs.Documents.{IsJson, document_of};
 ghost use Rattle.pb_formats.specs.Rows.{AreRows};
 ghost use Rattle.pb_formats.specs.declared.rows.Row.{Row};
