@@ -69,6 +69,56 @@ prints broken/tagged-trace.expected trace examples/two-bridges.toml C1 fffffffff
 prints broken/unsettled-trace.expected trace examples/failover.toml C1 "$broadcast"
 prints broken/settled-trace.expected trace examples/failover.toml C1 "$broadcast" --settle
 
+# Runs the program for a document, compares it with a file of examples/ where there is one, and what it says with the report
+# that stands there. Where a failure parts a service, `survive` ends with status 4.
+documents() {
+    local report=$1 document=$2 command=$3
+    shift 3
+    ./pbnet "$command" --format "${document##*.}" "$@" >"out/$document" || [ "$?" = 4 ]
+    if [ -f "examples/$document" ]; then
+        is_same "out/$document" "examples/$document"
+    fi
+    if command -v python3 >/dev/null 2>&1; then
+        python3 examples/documents.py "$command" "examples/$report" "out/$document" || status=1
+    fi
+}
+documents plan-file.expected plan-file.json check examples/plan-file.toml
+documents broken/ring-check.expected broken/ring-check.json check examples/broken/ring.toml
+documents access.expected access.json survive examples/access.toml
+documents access.expected access.csv survive examples/access.toml
+documents broken/trunk-survive.expected broken/trunk-survive.json survive examples/broken/trunk.toml --service blue
+documents tree.expected tree.json tree examples/failover.toml
+documents broken/open-tree.expected broken/open-tree.json tree examples/broken/open.toml
+documents trace.expected trace.json trace examples/two-bridges.toml C1 "$broadcast" --then C2 02000000010102000000020208004344
+documents trace-metro.expected trace-metro.json trace examples/metro.toml provider ffffffffffff02000000010108000001
+documents trace-losses.expected trace-losses.json trace examples/losses.toml sender "$broadcast" --then sender "$broadcast"
+documents broken/tagged-trace.expected broken/tagged-trace.json trace examples/two-bridges.toml C1 ffffffffffff02000000010188a8006408004142
+documents broken/settled-trace.expected broken/settled-trace.json trace examples/failover.toml C1 "$broadcast" --settle
+for script in examples/*.steps; do
+    name=$(basename -- "$script" .steps)
+    documents "$name.expected" "$name.json" step "examples/$name.toml" <"$script"
+    documents "$name.expected" "$name.csv" step "examples/$name.toml" <"$script"
+done
+for name in record captures; do
+    documents "$name.report" "$name.json" run "examples/$name.toml"
+    documents "$name.report" "$name.csv" run "examples/$name.toml"
+done
+
+# A fault is told in a document too, with the same status.
+told=0
+./pbnet check --format json examples/none.toml >out/none.json 2>/dev/null || told=$?
+if [ "$told" != 3 ] || ! grep -q '^  "fault": "path",$' out/none.json; then
+    echo "examples: a path that can't be opened is told as $told, $(cat out/none.json)" >&2
+    status=1
+fi
+told=0
+echo 'x = 1' >out/wrong.toml
+./pbnet run --format json out/wrong.toml >out/wrong.json 2>/dev/null || told=$?
+if [ "$told" != 1 ] || ! grep -q '^    "fault": "unknown",$' out/wrong.json; then
+    echo "examples: a plan that is refused is told as $told, $(cat out/wrong.json)" >&2
+    status=1
+fi
+
 # The picture that the pages show.
 ./pbnet draw examples/metro.toml >out/metro.svg
 is_same out/metro.svg docs/metro.svg

@@ -24,7 +24,7 @@ pub(crate) fn draw_network(
     order: &DrawOrder,
 ) -> ExitCode {
     let path = order.path.as_str();
-    let file = match contents(rt, path) {
+    let file = match contents(rt, path, &mut io::writer(rt)) {
         Ok(file) => file,
         Err(status) => return status,
     };

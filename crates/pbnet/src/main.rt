@@ -13,20 +13,23 @@
 ghost use Rattle.std.specs.Prelude.{◌≤◌};
 
 mod draw;
+mod formatted;
 mod progress;
 mod survive;
 mod trace;
 mod trees;
 
 use clap::error::ErrorKind as WordsFault;
+use formatted::Output;
 use pb_check::{run_check, run_show};
 use pb_flat::{Switch, run_flat_on};
+use pb_formats::{CHECK, COUNTS, RUN, STEP};
 use pb_init::{Shape, write_plan};
 use pb_locate::refused_at;
 use pb_print::CommandFault;
 use pb_running::{RunOptions, Strictness, Traffic, run_network};
 use pb_step::run_script;
-use pb_words::{InitOrder, Order, RunOrder, order_of};
+use pb_words::{InitOrder, Order, ReportOrder, RunOrder, order_of};
 use progress::{Progress, Shown};
 use std::alloc::{AllocError, Global};
 use std::fmt::Display;
@@ -60,8 +63,8 @@ fn main(rt: HostRuntime) -> ExitCode {
     };
     match order_of(rt.alloc(), words.as_slice()) {
         Ok(Some(Order::Flat(ports))) => flat(&rt, ports),
-        Ok(Some(Order::Check(order))) => check(&rt, order.path.as_str()),
-        Ok(Some(Order::Step(order))) => step(&rt, order.path.as_str()),
+        Ok(Some(Order::Check(order))) => check(&rt, &order),
+        Ok(Some(Order::Step(order))) => step(&rt, &order),
         Ok(Some(Order::Run(order))) => {
             let mut errors = rt.stderr();
             let shown = shown_on(errors.is_terminal(), order.progress);
@@ -122,56 +125,82 @@ fn flat(rt: &(impl Input + Print + AllocGlobal), ports: u8) -> ExitCode
     }
 }
 
-/// What stands in the file at a path, or the exit status where it can't be opened or read. Standard error says why it
-/// can't be opened.
-fn contents<R: Files + Print + Eprint + AllocGlobal>(
+/// What stands in the file at a path, or the exit status where it can't be opened or read, once the fault is told. Standard
+/// error says why it can't be opened.
+fn contents<R: Files + Eprint + AllocGlobal, W: Write>(
     rt: &R,
     path: &str,
+    out: &mut W,
 ) -> Result<Vec<u8>, ExitCode> {
     let mut file = match fs::open(rt, path) {
         Ok(file) => file,
-        Err(e) if e.kind() == ErrorKind::OutOfMemory => return Err(tell(rt, CommandFault::Memory)),
+        Err(e) if e.kind() == ErrorKind::OutOfMemory => {
+            return Err(tell_on(out, CommandFault::Memory));
+        }
         Err(e) => {
-            let _ = println!(rt; "fault: path");
+            let status = tell_on(out, "path");
             let _ = eprintln!(rt; "{path}: {e}");
-            return Err(ExitCode::from(FAULT));
+            return Err(status);
         }
     };
     let mut octets = Vec::new(rt.alloc());
     match file.read_to_end(&mut octets) {
         Ok(_) => Ok(octets),
-        Err(e) if e.kind() == ErrorKind::OutOfMemory => Err(tell(rt, CommandFault::Memory)),
-        Err(_) => Err(tell(rt, CommandFault::Read)),
+        Err(e) if e.kind() == ErrorKind::OutOfMemory => Err(tell_on(out, CommandFault::Memory)),
+        Err(_) => Err(tell_on(out, CommandFault::Read)),
     }
 }
 
+/// Tells whether a file is a plan, in the form that is asked for.
+fn check<R: Files + Print + Eprint + AllocGlobal>(rt: &R, order: &ReportOrder) -> ExitCode {
+    let mut out = Output::new(rt, order.format);
+    let status = check_on(rt, order.path.as_str(), &mut out);
+    out.end(&CHECK, None, status)
+}
+
 /// Tells whether a file is a plan.
-fn check(rt: &(impl Files + Print + Eprint + AllocGlobal), path: &str) -> ExitCode {
-    let file = match contents(rt, path) {
+fn check_on<R: Files + Eprint + AllocGlobal, W: Write>(
+    rt: &R,
+    path: &str,
+    out: &mut W,
+) -> ExitCode {
+    let file = match contents(rt, path, out) {
         Ok(file) => file,
         Err(status) => return status,
     };
-    match run_check(rt.alloc(), file.as_slice(), &mut io::writer(rt)) {
-        Err(fault) => tell(rt, fault),
+    match run_check(rt.alloc(), file.as_slice(), out) {
+        Err(fault) => tell_on(out, fault),
         Ok(status) => ended(rt, path, file.as_slice(), status),
     }
 }
 
+/// Drives the network of a plan file over standard input, and reports in the form that is asked for.
+fn step<R: Files + Input + Print + Eprint + AllocGlobal>(rt: &R, order: &ReportOrder) -> ExitCode {
+    let mut out = Output::new(rt, order.format);
+    let status = step_on(rt, order.path.as_str(), &mut out);
+    out.end(&STEP, Some(&COUNTS), status)
+}
+
 /// Drives the network of a plan file over standard input.
-fn step<R: Files + Input + Print + Eprint + AllocGlobal>(rt: &R, path: &str) -> ExitCode {
-    let file = match contents(rt, path) {
+fn step_on<R: Files + Input + Eprint + AllocGlobal, W: Write>(
+    rt: &R,
+    path: &str,
+    out: &mut W,
+) -> ExitCode {
+    let file = match contents(rt, path, out) {
         Ok(file) => file,
         Err(status) => return status,
     };
-    let Ok(mut writer) = BufWriter::with_capacity(rt.alloc(), BUFFER, io::writer(rt)) else {
-        return tell(rt, CommandFault::Memory);
+    let Ok(mut writer) = BufWriter::with_capacity(rt.alloc(), BUFFER, &mut *out) else {
+        return tell_on(out, CommandFault::Memory);
     };
     let mut reader = rt.reader();
     let ran = run_script(rt.alloc(), file.as_slice(), &mut reader, &mut writer);
     let flushed = writer.flush();
+    drop(writer);
     match ran {
-        Err(fault) => tell(rt, fault),
-        Ok(_) if flushed.is_err() => tell(rt, CommandFault::Write),
+        Err(fault) => tell_on(out, fault),
+        Ok(_) if flushed.is_err() => tell_on(out, CommandFault::Write),
         Ok(status) => ended(rt, path, file.as_slice(), status),
     }
 }
@@ -215,20 +244,36 @@ fn new_traffic(alloc: Global) -> Result<Arc<Traffic, Global>, AllocError> {
     Ok(Arc::new(alloc, traffic)?)
 }
 
-/// Runs the network of a plan file, and reports on it. What happens meanwhile is shown on standard error, or not.
+/// Runs the network of a plan file, and reports on it in the form that is asked for.
 fn run<R, E: Write>(rt: &R, order: &RunOrder, shown: Shown, errors: &mut E) -> ExitCode
 where
     R: Files<File = File> + Net + Threads + Wait + Clock + Print + Eprint + AllocGlobal + Sync,
 {
-    let file = match contents(rt, order.path.as_str()) {
+    let mut out = Output::new(rt, order.format);
+    let status = run_on(rt, order, shown, &mut out, errors);
+    out.end(&RUN, Some(&COUNTS), status)
+}
+
+/// Runs the network of a plan file, and reports on it. What happens meanwhile is shown on standard error, or not.
+fn run_on<R, W: Write, E: Write>(
+    rt: &R,
+    order: &RunOrder,
+    shown: Shown,
+    out: &mut W,
+    errors: &mut E,
+) -> ExitCode
+where
+    R: Files<File = File> + Net + Threads + Wait + Clock + Eprint + AllocGlobal + Sync,
+{
+    let file = match contents(rt, order.path.as_str(), out) {
         Ok(file) => file,
         Err(status) => return status,
     };
     let Ok(traffic) = new_traffic(rt.alloc()) else {
-        return tell(rt, CommandFault::Memory);
+        return tell_on(out, CommandFault::Memory);
     };
     let Ok(counted) = Arc::try_clone(&traffic) else {
-        return tell(rt, CommandFault::Memory);
+        return tell_on(out, CommandFault::Memory);
     };
     let progress = Progress::new(rt, counted, shown, order.seconds);
     match run_network(
@@ -239,11 +284,11 @@ where
         &options_of(order),
         &traffic,
         &progress,
-        &mut io::writer(rt),
+        out,
         errors,
     ) {
         Ok(status) => ended(rt, order.path.as_str(), file.as_slice(), status),
-        Err(fault) => tell(rt, fault),
+        Err(fault) => tell_on(out, fault),
     }
 }
 
@@ -282,5 +327,11 @@ fn init(rt: &(impl Print + AllocGlobal), order: InitOrder) -> ExitCode {
 /// Says which fault ended a run.
 fn tell(rt: &impl Print, fault: impl Display + Drop) -> ExitCode {
     let _ = println!(rt; "fault: {fault}");
+    ExitCode::from(FAULT)
+}
+
+/// Says which fault ended a run, where its report goes.
+fn tell_on<W: Write>(out: &mut W, fault: impl Display + Drop) -> ExitCode {
+    let _ = writeln!(out, "fault: {fault}");
     ExitCode::from(FAULT)
 }

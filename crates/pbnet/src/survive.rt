@@ -1,10 +1,12 @@
 //! The command `survive`.
 
-use crate::{contents, ended, tell};
+use crate::formatted::Output;
+use crate::{contents, ended, tell_on};
+use pb_formats::{FAILURES, SURVIVE};
 use pb_survive::{Asked, Kinds, Scope, run_survive};
 use pb_words::{SurviveOrder, SurviveScope};
 use std::fs::Files;
-use std::io;
+use std::io::Write;
 use std::process::ExitCode;
 
 /// Which services the words ask for.
@@ -16,13 +18,24 @@ fn scope_of(scope: &SurviveScope) -> Scope<'_> {
     }
 }
 
-/// Tells what is left of the network of a plan file under failures.
-pub(crate) fn tell_survivals(
-    rt: &(impl Files + Print + Eprint + AllocGlobal),
+/// Tells what is left of the network of a plan file under failures, in the form that is asked for.
+pub(crate) fn tell_survivals<R: Files + Print + Eprint + AllocGlobal>(
+    rt: &R,
     order: &SurviveOrder,
 ) -> ExitCode {
+    let mut out = Output::new(rt, order.format);
+    let status = tell_survivals_on(rt, order, &mut out);
+    out.end(&SURVIVE, Some(&FAILURES), status)
+}
+
+/// Tells what is left of the network of a plan file under failures.
+fn tell_survivals_on<R: Files + Eprint + AllocGlobal, W: Write>(
+    rt: &R,
+    order: &SurviveOrder,
+    out: &mut W,
+) -> ExitCode {
     let path = order.path.as_str();
-    let file = match contents(rt, path) {
+    let file = match contents(rt, path, out) {
         Ok(file) => file,
         Err(status) => return status,
     };
@@ -34,8 +47,8 @@ pub(crate) fn tell_survivals(
         scope: scope_of(&order.scope),
         ticks: order.ticks,
     };
-    match run_survive(rt.alloc(), file.as_slice(), &asked, &mut io::writer(rt)) {
-        Err(fault) => tell(rt, fault),
+    match run_survive(rt.alloc(), file.as_slice(), &asked, out) {
+        Err(fault) => tell_on(out, fault),
         Ok(status) => ended(rt, path, file.as_slice(), status),
     }
 }

@@ -1,12 +1,14 @@
 //! Where frames go in the network of a plan file.
 
-use crate::{REFUSED, WRONG_WORDS, contents, ended, tell};
+use crate::formatted::Output;
+use crate::{REFUSED, WRONG_WORDS, contents, ended, tell_on};
+use pb_formats::TRACE;
 use pb_print::CommandFault;
 use pb_trace::{Entry, TraceEnd, run_trace};
 use pb_words::{TraceEntry, TraceOrder};
 use std::alloc::{AllocError, Global};
 use std::fs::Files;
-use std::io;
+use std::io::Write;
 use std::process::ExitCode;
 
 /// The frames that the words tell.
@@ -20,27 +22,38 @@ fn entries_of(alloc: Global, words: &[TraceEntry]) -> Result<Vec<Entry>, AllocEr
     Ok(entries)
 }
 
-/// Prints where frames go in the network of a plan file.
-pub(crate) fn trace(
-    rt: &(impl Files + Print + Eprint + AllocGlobal),
+/// Prints where frames go in the network of a plan file, in the form that is asked for.
+pub(crate) fn trace<R: Files + Print + Eprint + AllocGlobal>(
+    rt: &R,
     order: &TraceOrder,
 ) -> ExitCode {
+    let mut out = Output::new(rt, order.format);
+    let status = trace_on(rt, order, &mut out);
+    out.end(&TRACE, None, status)
+}
+
+/// Prints where frames go in the network of a plan file.
+fn trace_on<R: Files + Eprint + AllocGlobal, W: Write>(
+    rt: &R,
+    order: &TraceOrder,
+    out: &mut W,
+) -> ExitCode {
     let path = order.path.as_str();
-    let file = match contents(rt, path) {
+    let file = match contents(rt, path, out) {
         Ok(file) => file,
         Err(status) => return status,
     };
     let Ok(entries) = entries_of(rt.alloc(), order.entries.as_slice()) else {
-        return tell(rt, CommandFault::Memory);
+        return tell_on(out, CommandFault::Memory);
     };
     match run_trace(
         rt.alloc(),
         file.as_slice(),
         entries.as_slice(),
         order.settles,
-        &mut io::writer(rt),
+        out,
     ) {
-        Err(fault) => tell(rt, fault),
+        Err(fault) => tell_on(out, fault),
         Ok(TraceEnd::Told) => ExitCode::SUCCESS,
         Ok(TraceEnd::Refused) => ended(rt, path, file.as_slice(), REFUSED),
         Ok(TraceEnd::NoPort(index)) => no_port(rt, entries.as_slice(), index),

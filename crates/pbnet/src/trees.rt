@@ -1,31 +1,35 @@
 //! The trees of the network of a plan file.
 
-use crate::{REFUSED, WRONG_WORDS, contents, ended, tell};
+use crate::formatted::Output;
+use crate::{REFUSED, WRONG_WORDS, contents, ended, tell_on};
+use pb_formats::TREE;
 use pb_tree::{TreeEnd, run_tree};
 use pb_words::TreeOrder;
 use std::fs::Files;
-use std::io;
+use std::io::Write;
 use std::process::ExitCode;
 
+/// Prints the trees of the network of a plan file, in the form that is asked for.
+pub(crate) fn tree<R: Files + Print + Eprint + AllocGlobal>(rt: &R, order: &TreeOrder) -> ExitCode {
+    let mut out = Output::new(rt, order.format);
+    let status = tree_on(rt, order, &mut out);
+    out.end(&TREE, None, status)
+}
+
 /// Prints the trees of the network of a plan file.
-pub(crate) fn tree(
-    rt: &(impl Files + Print + Eprint + AllocGlobal),
+fn tree_on<R: Files + Eprint + AllocGlobal, W: Write>(
+    rt: &R,
     order: &TreeOrder,
+    out: &mut W,
 ) -> ExitCode {
     let path = order.path.as_str();
-    let file = match contents(rt, path) {
+    let file = match contents(rt, path, out) {
         Ok(file) => file,
         Err(status) => return status,
     };
     let downs = order.downs.as_slice();
-    match run_tree(
-        rt.alloc(),
-        file.as_slice(),
-        downs,
-        order.ticks,
-        &mut io::writer(rt),
-    ) {
-        Err(fault) => tell(rt, fault),
+    match run_tree(rt.alloc(), file.as_slice(), downs, order.ticks, out) {
+        Err(fault) => tell_on(out, fault),
         Ok(TreeEnd::Told) => ExitCode::SUCCESS,
         Ok(TreeEnd::Refused) => ended(rt, path, file.as_slice(), REFUSED),
         Ok(TreeEnd::NoPort(index)) => unnamed(rt, downs, index),

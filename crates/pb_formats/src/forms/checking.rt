@@ -1,0 +1,39 @@
+//! The reports of `check`.
+
+use super::shared::{
+    FAULT, FOREST, LOOP, LOOPS, NAMED_PLAN_FAULT, OTHER, OTHERS, PLAN_FAULT, PLAN_FAULTS,
+};
+use crate::templates::{Form, Kind, ListForm, ListShape, Slot, Template};
+
+/// How many there are of each kind.
+const PLAN: &[Slot] = slots![
+    ("bridges", Kind::Number, " links "),
+    ("links", Kind::Number, " services "),
+    ("services", Kind::Number, " ports "),
+    ("ports", Kind::Number, ""),
+];
+
+/// The lines.
+const LINES: &[Template] = &[
+    template!("plan", "ok bridges ", PLAN),
+    FOREST,
+    LOOP,
+    FAULT,
+    NAMED_PLAN_FAULT,
+    PLAN_FAULT,
+    OTHER,
+];
+
+/// The lists of the document.
+const LISTS: &[ListForm] = &[
+    list!("plan", ListShape::Single, &[]),
+    LOOPS,
+    PLAN_FAULTS,
+    OTHERS,
+];
+
+/// The form of what `check` prints.
+pub const CHECK: Form = Form {
+    templates: LINES,
+    lists: LISTS,
+};

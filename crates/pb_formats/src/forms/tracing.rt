@@ -1,0 +1,274 @@
+//! The reports of `trace`.
+
+use super::shared::{
+    FAULT, NAMED_PLAN_FAULT, OTHER, OTHERS, PLAN_FAULT, PLAN_FAULTS, SETTLED_AFTER,
+};
+use crate::templates::{Choice, Form, Kind, ListForm, ListShape, Said, Slot, Template};
+
+/// A bridge received a frame.
+const FROM: &[Choice] = choices![("from ", Said::Word("received")),];
+
+/// A bridge sent a frame.
+const TO: &[Choice] = choices![("to ", Said::Word("sent")),];
+
+/// What a bridge learnt from it.
+const SOURCES: &[Choice] = choices![
+    (", source learnt", Said::Word("learnt")),
+    (", source known", Said::Word("known")),
+    (", source moved", Said::Word("moved")),
+    (", table full", Said::Word("table full")),
+    (", source a group", Said::Word("group")),
+    (", source not learnt", Said::Word("not learnt")),
+    ("", Said::Nothing),
+];
+
+/// Why it goes where it goes.
+const WAYS: &[Choice] = choices![
+    (", known", Said::Word("known")),
+    (", flooded", Said::Word("flooded")),
+    (", nowhere", Said::Word("nowhere")),
+    ("", Said::Nothing),
+];
+
+/// It was relayed.
+const RELAYED: &[Choice] = choices![("relayed", Said::Word("relayed")),];
+
+/// It was filtered.
+const FILTERED: &[Choice] = choices![("filtered ", Said::Word("filtered")),];
+
+/// It came without a tag.
+const BARE: &[Choice] = choices![("untagged", Said::Yes),];
+
+/// Its tag came off.
+const TAKEN_OFF: &[Choice] = choices![("taken off", Said::Word("taken off")),];
+
+/// Its tag was put on.
+const PUT_ON: &[Choice] = choices![("put on", Said::Yes),];
+
+/// A direction of a link.
+const DIRECTIONS: &[Choice] = choices![("ab", Said::Word("ab")), ("ba", Said::Word("ba")),];
+
+/// What a link did with a frame.
+const PASSAGES: &[Choice] = choices![
+    ("taken ", Said::Word("taken")),
+    ("lost ", Said::Word("lost")),
+];
+
+/// It left the network.
+const DELIVERED: &[Choice] = choices![("delivered ", Said::Word("delivered")),];
+
+/// A frame of a service that was relayed.
+const SERVICE_RELAYED: &[Slot] = slots![
+    ("depth", Kind::Depth, ""),
+    ("bridge", Kind::Text, " "),
+    ("port", Kind::Number, " "),
+    ("event", Kind::OneOf(FROM), ""),
+    ("from", Kind::Text, ", "),
+    ("service", Kind::Text, " vid "),
+    ("vid", Kind::Number, " priority "),
+    ("priority", Kind::Number, ""),
+    ("source", Kind::OneOf(SOURCES), ""),
+    ("way", Kind::OneOf(WAYS), ": "),
+    ("outcome", Kind::OneOf(RELAYED), ""),
+    ("relayed_to", Kind::Numbers, ""),
+    ("no_room", Kind::Words, ""),
+];
+
+/// A frame of a service that was filtered.
+const SERVICE_FILTERED: &[Slot] = slots![
+    ("depth", Kind::Depth, ""),
+    ("bridge", Kind::Text, " "),
+    ("port", Kind::Number, " "),
+    ("event", Kind::OneOf(FROM), ""),
+    ("from", Kind::Text, ", "),
+    ("service", Kind::Text, " vid "),
+    ("vid", Kind::Number, " priority "),
+    ("priority", Kind::Number, ""),
+    ("source", Kind::OneOf(SOURCES), ""),
+    ("way", Kind::OneOf(WAYS), ": "),
+    ("outcome", Kind::OneOf(FILTERED), ""),
+    ("reason", Kind::Text, ""),
+];
+
+/// A frame whose priority tag came off that was relayed.
+const TAGGED_RELAYED: &[Slot] = slots![
+    ("depth", Kind::Depth, ""),
+    ("bridge", Kind::Text, " "),
+    ("port", Kind::Number, " "),
+    ("event", Kind::OneOf(FROM), ""),
+    ("from", Kind::Text, ", "),
+    ("service", Kind::Text, " vid "),
+    ("vid", Kind::Number, " priority "),
+    ("priority", Kind::Number, ", tag "),
+    ("tag_taken_off", Kind::Text, " taken off"),
+    ("source", Kind::OneOf(SOURCES), ""),
+    ("way", Kind::OneOf(WAYS), ": "),
+    ("outcome", Kind::OneOf(RELAYED), ""),
+    ("relayed_to", Kind::Numbers, ""),
+    ("no_room", Kind::Words, ""),
+];
+
+/// A frame whose priority tag came off that was filtered.
+const TAGGED_FILTERED: &[Slot] = slots![
+    ("depth", Kind::Depth, ""),
+    ("bridge", Kind::Text, " "),
+    ("port", Kind::Number, " "),
+    ("event", Kind::OneOf(FROM), ""),
+    ("from", Kind::Text, ", "),
+    ("service", Kind::Text, " vid "),
+    ("vid", Kind::Number, " priority "),
+    ("priority", Kind::Number, ", tag "),
+    ("tag_taken_off", Kind::Text, " taken off"),
+    ("source", Kind::OneOf(SOURCES), ""),
+    ("way", Kind::OneOf(WAYS), ": "),
+    ("outcome", Kind::OneOf(FILTERED), ""),
+    ("reason", Kind::Text, ""),
+];
+
+/// A frame over a link without a tag that was relayed.
+const UNTAGGED_RELAYED: &[Slot] = slots![
+    ("depth", Kind::Depth, ""),
+    ("bridge", Kind::Text, " "),
+    ("port", Kind::Number, " "),
+    ("event", Kind::OneOf(FROM), ""),
+    ("from", Kind::Text, ", "),
+    ("untagged", Kind::OneOf(BARE), ""),
+    ("source", Kind::OneOf(SOURCES), ""),
+    ("way", Kind::OneOf(WAYS), ": "),
+    ("outcome", Kind::OneOf(RELAYED), ""),
+    ("relayed_to", Kind::Numbers, ""),
+    ("no_room", Kind::Words, ""),
+];
+
+/// A frame over a link without a tag that was filtered.
+const UNTAGGED_FILTERED: &[Slot] = slots![
+    ("depth", Kind::Depth, ""),
+    ("bridge", Kind::Text, " "),
+    ("port", Kind::Number, " "),
+    ("event", Kind::OneOf(FROM), ""),
+    ("from", Kind::Text, ", "),
+    ("untagged", Kind::OneOf(BARE), ""),
+    ("source", Kind::OneOf(SOURCES), ""),
+    ("way", Kind::OneOf(WAYS), ": "),
+    ("outcome", Kind::OneOf(FILTERED), ""),
+    ("reason", Kind::Text, ""),
+];
+
+/// A bridge sent a frame, whose tag came off.
+const SENT_BARE: &[Slot] = slots![
+    ("depth", Kind::Depth, ""),
+    ("bridge", Kind::Text, " "),
+    ("port", Kind::Number, " "),
+    ("event", Kind::OneOf(TO), ""),
+    ("to", Kind::Text, ", tag "),
+    ("tag", Kind::OneOf(TAKEN_OFF), ""),
+];
+
+/// A bridge sent a frame, whose tag was put on.
+const SENT_FIRST: &[Slot] = slots![
+    ("depth", Kind::Depth, ""),
+    ("bridge", Kind::Text, " "),
+    ("port", Kind::Number, " "),
+    ("event", Kind::OneOf(TO), ""),
+    ("to", Kind::Text, ", tag "),
+    ("tag", Kind::Text, " "),
+    ("put_on", Kind::OneOf(PUT_ON), ""),
+];
+
+/// A bridge sent a frame with its tag.
+const SENT_ON: &[Slot] = slots![
+    ("depth", Kind::Depth, ""),
+    ("bridge", Kind::Text, " "),
+    ("port", Kind::Number, " "),
+    ("event", Kind::OneOf(TO), ""),
+    ("to", Kind::Text, ", tag "),
+    ("tag", Kind::Text, ""),
+];
+
+/// A bridge sent a frame.
+const SENT: &[Slot] = slots![
+    ("depth", Kind::Depth, ""),
+    ("bridge", Kind::Text, " "),
+    ("port", Kind::Number, " "),
+    ("event", Kind::OneOf(TO), ""),
+    ("to", Kind::Text, ""),
+];
+
+/// A link took a frame.
+const TOOK: &[Slot] = slots![
+    ("depth", Kind::Depth, ""),
+    ("link", Kind::Text, " "),
+    ("direction", Kind::OneOf(DIRECTIONS), ": "),
+    ("event", Kind::OneOf(PASSAGES), ""),
+    ("number", Kind::Number, ""),
+];
+
+/// A frame left the network.
+const LEFT: &[Slot] = slots![
+    ("depth", Kind::Depth, ""),
+    ("port", Kind::Text, ": "),
+    ("event", Kind::OneOf(DELIVERED), ""),
+    ("frame", Kind::Text, ""),
+];
+
+/// A frame came in.
+const ENTERED: &[Slot] = slots![
+    ("frame", Kind::Text, ": polled "),
+    ("port", Kind::Text, " "),
+    ("number", Kind::Number, ""),
+];
+
+/// Other events were due.
+const BESIDES: &[Slot] = slots![("others", Kind::Number, ""),];
+
+/// A frame goes round.
+const ROUND: &[Slot] = slots![
+    ("goes_round_over", Kind::Words, "; ended after "),
+    ("events", Kind::Number, " events"),
+];
+
+/// What became of all frames.
+const SUMMARY: &[Slot] = slots![
+    ("left_at", Kind::Words, "; refused "),
+    ("refused", Kind::Number, "; lost "),
+    ("lost", Kind::Number, ""),
+];
+
+/// The lines.
+const LINES: &[Template] = &[
+    template!("frames", "in ", ENTERED),
+    template!("", "others ", BESIDES),
+    template!("", "goes round over", ROUND),
+    template!("", "left at", SUMMARY),
+    template!("", "left nowhere", SUMMARY),
+    SETTLED_AFTER,
+    FAULT,
+    NAMED_PLAN_FAULT,
+    PLAN_FAULT,
+    template!("hops", "", SERVICE_RELAYED),
+    template!("hops", "", SERVICE_FILTERED),
+    template!("hops", "", TAGGED_RELAYED),
+    template!("hops", "", TAGGED_FILTERED),
+    template!("hops", "", UNTAGGED_RELAYED),
+    template!("hops", "", UNTAGGED_FILTERED),
+    template!("hops", "", SENT_BARE),
+    template!("hops", "", SENT_FIRST),
+    template!("hops", "", SENT_ON),
+    template!("hops", "", SENT),
+    template!("hops", "", TOOK),
+    template!("hops", "", LEFT),
+    OTHER,
+];
+
+/// The lists of the document.
+const LISTS: &[ListForm] = &[
+    list!("frames", ListShape::Objects, &["hops"]),
+    PLAN_FAULTS,
+    OTHERS,
+];
+
+/// The form of what `trace` prints.
+pub const TRACE: Form = Form {
+    templates: LINES,
+    lists: LISTS,
+};

@@ -1,0 +1,215 @@
+#!/usr/bin/env python3
+"""Compares documents of reports with the reports.
+
+usage: examples/documents.py COMMAND REPORT DOCUMENT
+       examples/documents.py COMMAND REPORT --write
+
+Reads a report of check, run, step, trace, tree or survive with rules of its own, and compares what it says with a document: JSON,
+or CSV where the file's name ends in .csv. Prints what differs, with exit status 1. With --write it prints the JSON instead."""
+import csv
+import json
+import re
+import sys
+
+NAME = r"[\w-]+"
+YES = {"yes": True, "no": False}
+
+
+def number(word):
+    return int(word)
+
+
+def yes(word):
+    return YES[word]
+
+
+def words(text):
+    return text.split()
+
+
+def numbers(text):
+    return [int(word) for word in text.split()]
+
+
+def groups(text):
+    return [group.split() for group in text.split("|")]
+
+
+# How a group of an expression is read, by its name; a group of any other name is text.
+READ = {
+    **dict.fromkeys(
+        "bridges links services ports rule entered left filtered ab_taken ab_lost ba_taken ba_lost ticks number others events "
+        "refused lost vid priority cost root_port depth part_nothing failures_tried most_ticks part_a_service".split(),
+        number,
+    ),
+    "forest": yes,
+    "settled": yes,
+    "groups": groups,
+    **dict.fromkeys("left_at goes_round_over from_ports no_room".split(), words),
+    "relayed_to": numbers,
+}
+# Groups whose key differs from their name.
+KEYS = {"from_ports": "from", "port_number": "port", "fault_number": "fault"}
+READ |= {"port_number": number, "fault_number": number}
+
+PLAN = rf"ok bridges (?P<bridges>\d+) links (?P<links>\d+) services (?P<services>\d+) ports (?P<ports>\d+)"
+FOREST = r"forest (?P<forest>yes|no)"
+LOOP = rf"loop (?P<service>{NAME})"
+PLAN_FAULT = r"plan: (?P<rule>\d+) (?P<fault>\S+)(?: (?P<name>.*))?"
+FAULT = r"fault: (?P<fault>.*)"
+SETTLED = r"settled (?P<settled>yes|no)"
+SETTLED_AFTER = r"settled (?P<settled>yes|no) ticks (?P<ticks>\d+)"
+PORT = rf"port (?P<name>{NAME}) entered (?P<entered>\d+) left (?P<left>\d+) filtered (?P<filtered>\d+)"
+LINK = rf"link (?P<name>{NAME}) ab taken (?P<ab_taken>\d+) lost (?P<ab_lost>\d+) ba taken (?P<ba_taken>\d+) lost (?P<ba_lost>\d+)"
+REST = r"(?:(?P<rest>settled|not settled) ticks (?P<ticks>\d+)|states given) forest (?P<forest>yes|no)"
+
+ENDS = [("plan_fault", PLAN_FAULT, {}), ("", FAULT, {})]
+FORESTS = [("", FOREST, {}), ("loops", LOOP, {})]
+HOP = rf"(?P<indent> *)(?P<bridge>{NAME}) (?P<port_number>\d+) from (?P<from>{NAME}), (?:untagged|(?P<service>[\w -]+) vid (?P<vid>\d+) priority (?P<priority>\d+)(?:, tag (?P<tag_taken_off>[0-9a-f]+) taken off)?)(?:, (?P<source>source \w+(?: \w+)?|table full))?(?:, (?P<way>known|flooded|nowhere))?: "
+# For each command the lines: in which list they stand, how they look, and what they say besides.
+LINES = {
+    "check": [("plan", PLAN, {}), *FORESTS, *ENDS],
+    "run": [
+        ("", rf"ended (?P<ended>\w+)", {}), ("ports", PORT, {}), ("links", LINK, {}), *FORESTS, ("", SETTLED, {}),
+        ("port_faults", rf"fault: port (?P<port>{NAME}) (?P<fault_number>\d+)", {}), *ENDS,
+    ],
+    "step": [("ports", PORT, {}), ("links", LINK, {}), *FORESTS, ("", SETTLED, {}), *ENDS, ("answers", r"(?P<answer>.*)", {})],
+    "tree": [
+        ("", SETTLED_AFTER, {}),
+        ("bridges", rf"bridge (?P<name>{NAME})(?: root (?P<root>{NAME}) cost (?P<cost>\d+)(?: port (?P<root_port>\d+))?)?", {}),
+        ("ports", rf"port (?P<bridge>{NAME}) (?P<port_number>\d+) link (?P<link>{NAME})(?: (?P<role>\w+))? (?P<state>\w+)(?: cost (?P<cost>\d+) from (?P<from>{NAME}))?", {}),
+        ("branches", rf"service (?P<service>{NAME}) bridge (?P<bridge>{NAME}) up (?P<up>{NAME}) depth (?P<depth>\d+)", {}),
+        *FORESTS, *ENDS,
+    ],
+    "survive": [
+        ("nothing_down", rf"nothing down: {REST}", {}),
+        ("failures", rf"(?P<down>link|bridge) (?P<name>{NAME}) down: {REST}", {}),
+        ("failures", rf"(?P<down>links) (?P<name>{NAME}) (?P<other>{NAME}) down: {REST}", {}),
+        ("loops", rf"  loop (?P<service>{NAME})", {}),
+        ("services", rf"  service (?P<name>{NAME}):(?P<groups>.*)", {}),
+        ("cut_off", rf"  (?P<port>{NAME}) cut off from:(?P<from_ports>.*)", {}),
+        ("", r"(?P<part_nothing>\d+) of (?P<failures_tried>\d+) failures part nothing, ticks at most (?P<most_ticks>\d+)", {}),
+        ("", r"(?P<part_a_service>\d+) of (?P<failures_tried>\d+) failures part a service", {"survives": False}),
+        ("", r"survives every single failure", {"survives": True}),
+        ("no_such", rf"no such service (?P<service>.*)", {}), ("no_such", rf"no such port (?P<port>.*)", {}), *ENDS,
+    ],
+    "trace": [
+        ("", SETTLED_AFTER, {}),
+        ("frames", rf"in (?P<frame>[0-9a-f]+): polled (?P<port>{NAME}) (?P<number>\d+)", {}),
+        ("hops", HOP + r"relayed(?P<relayed_to>(?: \d+)*)(?P<no_room>(?: (?:full|memory) \d+)*)", {"event": "received", "outcome": "relayed"}),
+        ("hops", HOP + r"filtered (?P<reason>.*)", {"event": "received", "outcome": "filtered"}),
+        ("hops", rf"(?P<indent> *)(?P<bridge>{NAME}) (?P<port_number>\d+) to (?P<to>{NAME})(?:, tag (?P<tag>taken off|[0-9a-f]+(?P<put_on> put on)?))?", {"event": "sent"}),
+        ("hops", rf"(?P<indent> *)(?P<link>{NAME}) (?P<direction>ab|ba): (?P<event>taken|lost) (?P<number>\d+)", {}),
+        ("hops", rf"(?P<indent> *)(?P<port>{NAME}): delivered (?P<frame>[0-9a-f]+)", {"event": "delivered"}),
+        ("", r"others (?P<others>\d+)", {}),
+        ("", r"goes round over(?P<goes_round_over>.*); ended after (?P<events>\d+) events", {}),
+        ("", r"left (?:at(?P<left_at>.*)|nowhere); refused (?P<refused>\d+); lost (?P<lost>\d+)", {}), *ENDS,
+    ],
+}
+# The lists of each document, and how their lines stand there.
+LISTS = {
+    "check": {"plan": "one", "loops": "values", "plan_fault": "one"},
+    "run": {"ports": "objects", "links": "objects", "loops": "values", "port_faults": "objects", "plan_fault": "one"},
+    "step": {"answers": "values", "ports": "objects", "links": "objects", "loops": "values", "plan_fault": "one"},
+    "trace": {"frames": "objects", "plan_fault": "one"},
+    "tree": {"bridges": "objects", "loops": "values", "branches": "objects", "plan_fault": "one"},
+    "survive": {"nothing_down": "one", "failures": "objects", "no_such": "one", "plan_fault": "one"},
+}
+INNER = {
+    "trace": {"frames": ["hops"]},
+    "tree": {"bridges": ["ports"]},
+    "survive": {"nothing_down": ["loops", "services"], "failures": ["loops", "services", "cut_off"]},
+}
+SOURCES = {"source a group": "group", "table full": "table full"}
+
+
+def said(match, besides):
+    """Returns what a line says."""
+    row = {KEYS.get(key, key): READ.get(key, str)(text) for key, text in match.groupdict().items() if text is not None}
+    if "indent" in row:
+        row["depth"] = len(row.pop("indent")) // 2
+    if "rest" in row:
+        row["settled"] = row.pop("rest") == "settled"
+    if "source" in row:
+        row["source"] = SOURCES.get(row["source"], row["source"].removeprefix("source "))
+    if row.pop("put_on", None):
+        row |= {"tag": row["tag"].removesuffix(" put on"), "put_on": True}
+    if match.re.pattern.startswith(HOP) and "vid" not in row:
+        row["untagged"] = True
+    if match.string.startswith("left nowhere"):
+        row["left_at"] = []
+    return row | besides
+
+
+def rows_of(command, text):
+    """Returns the list and the words of each line."""
+    for line in text.splitlines():
+        for home, pattern, besides in LINES[command]:
+            match = re.fullmatch(pattern, line)
+            if match:
+                yield home, said(match, besides)
+                break
+        else:
+            yield "other", {"line": line}
+
+
+def document_of(command, text):
+    lists, inner = LISTS[command], INNER.get(command, {})
+    document = {home: [] for home, kind in lists.items() if kind != "one"}
+    owner = {}
+    for home, row in rows_of(command, text):
+        kind = lists.get(home)
+        if not home:
+            document |= row
+        elif kind == "values" or home == "other":
+            document.setdefault(home, []).append(next(iter(row.values())))
+        elif kind is None:
+            owner[home].append(row)
+        else:
+            owner = {key: row.setdefault(key, []) for key in inner.get(home, [])}
+            if kind == "one":
+                document[home] = row
+            else:
+                document[home].append(row)
+    return document
+
+
+def table_of(command, text):
+    def cell(value):
+        return {True: "yes", False: "no"}.get(value, value) if isinstance(value, bool) else str(value)
+
+    document = document_of(command, text)
+    if command == "survive":
+        titles = ["down", "name", "other", "settled", "ticks", "forest"]
+        return [titles] + [[cell(row.get(key, "")) for key in titles] for row in document["failures"]]
+    table = [["kind", "name", "direction", "entered", "left", "filtered", "taken", "lost"]]
+    for it in document["ports"]:
+        table.append(["port", it["name"], "", cell(it["entered"]), cell(it["left"]), cell(it["filtered"]), "", ""])
+    for it in document["links"]:
+        for way in ("ab", "ba"):
+            table.append(["link", it["name"], way, "", "", "", cell(it[f"{way}_taken"]), cell(it[f"{way}_lost"])])
+    return table
+
+
+def main():
+    if len(sys.argv) != 4:
+        sys.exit(__doc__)
+    command, report, document = sys.argv[1:]
+    with open(report, encoding="utf-8", newline="\n") as file:
+        text = file.read()
+    if document == "--write":
+        print(json.dumps(document_of(command, text), indent=2, sort_keys=True))
+        return 0
+    with open(document, encoding="utf-8", newline="") as file:
+        if document.endswith(".csv"):
+            given, wanted = list(csv.reader(file)), table_of(command, text)
+        else:
+            given, wanted = json.load(file), document_of(command, text)
+    if given == wanted:
+        return 0
+    print(f"documents: {document} does not say what {report} says:\n{given}\n{wanted}", file=sys.stderr)
+    return 1
+
+
+if __name__ == "__main__":
+    sys.exit(main())
