@@ -14,12 +14,12 @@ use Rattle.pb_port.specs.Written.{place_of, spelled_all, frames_of, AreShort}
 header_written : IsHeader Little file_header
 header_written = record { long = refl; magic = refl; sound = refl }
 
-record_written : (seconds : ℕ) (f : List ℕ) → length f < 65536 → IsFrameRecord Little (record_head seconds (length f) ++ f) f
-record_written seconds f short =
-    let kept : captured Little (record_head seconds (length f) ++ f) ≡ length f =
+record_written : (micros : ℕ) (f : List ℕ) → length f < 65536 → IsFrameRecord Little (record_head micros (length f) ++ f) f
+record_written micros f short =
+    let kept : captured Little (record_head micros (length f) ++ f) ≡ length f =
     little_number-reads_back 4 (length f) (little_bytes 4 (length f) ++ f) (omega arith) in
-    let had : original Little (record_head seconds (length f) ++ f) ≡ length f = little_number-reads_back 4 (length f) f (omega arith) in
-    let long : length (record_head seconds (length f) ++ f) ≡ 16 + length f = omega (arith, length-append (record_head seconds (length f)) f) in
+    let had : original Little (record_head micros (length f) ++ f) ≡ length f = little_number-reads_back 4 (length f) f (omega arith) in
+    let long : length (record_head micros (length f) ++ f) ≡ 16 + length f = omega (arith, length-append (record_head micros (length f)) f) in
     record { whole = record { limit = omega arith; long = omega arith }; full = omega arith; content = refl }
 
 frame_written : (f : List ℕ) → length f < 65536 → IsFramed (big_bytes 2 (length f) ++ f) f
@@ -31,24 +31,24 @@ frame_written f short =
 written_behind : (framing : Framing) (frames : List (ℕ × List ℕ)) → AreShort frames
     → IsStream (place_of framing false) (spelled_all framing false frames) (frames_of frames) 0 None
 written_behind Capture [] short = (Records Little, [], [], (refl, refl), refl, (refl, λ _. refl))
-written_behind Capture ((seconds, f) ∷ more) (short, shorts) = (
+written_behind Capture ((micros, f) ∷ more) (short, shorts) = (
   Records Little,
   [],
-  spelled Capture false seconds f,
+  spelled Capture false micros f,
   spelled_all Capture false more,
   0,
   0,
   (refl, refl),
-  record_written seconds f short,
+  record_written micros f short,
   refl,
   written_behind Capture more shorts,
   refl,
 )
 written_behind Socket [] short = (Lengths, [], [], (refl, refl), refl, (refl, λ _. refl))
-written_behind Socket ((seconds, f) ∷ more) (short, shorts) = (
+written_behind Socket ((micros, f) ∷ more) (short, shorts) = (
   Lengths,
   [],
-  spelled Socket false seconds f,
+  spelled Socket false micros f,
   spelled_all Socket false more,
   0,
   0,
@@ -59,25 +59,25 @@ written_behind Socket ((seconds, f) ∷ more) (short, shorts) = (
   refl,
 )
 
-pub written_read : (framing : Framing) (seconds : ℕ) (f : List ℕ) (more : List (ℕ × List ℕ)) → AreShort ((seconds, f) ∷ more)
-    → IsStream (place_of framing true) (spelled_all framing true ((seconds, f) ∷ more)) (frames_of ((seconds, f) ∷ more)) 0 None
-written_read Capture seconds f more (short, shorts) = (
+pub written_read : (framing : Framing) (micros : ℕ) (f : List ℕ) (more : List (ℕ × List ℕ)) → AreShort ((micros, f) ∷ more)
+    → IsStream (place_of framing true) (spelled_all framing true ((micros, f) ∷ more)) (frames_of ((micros, f) ∷ more)) 0 None
+written_read Capture micros f more (short, shorts) = (
   Records Little,
   file_header,
-  record_head seconds (length f) ++ f,
+  record_head micros (length f) ++ f,
   spelled_all Capture false more,
   0,
   0,
   (file_header, [], header_written, refl, refl),
-  record_written seconds f short,
+  record_written micros f short,
   refl,
   written_behind Capture more shorts,
   refl,
 )
-written_read Socket seconds f more (short, shorts) = (
+written_read Socket micros f more (short, shorts) = (
   Lengths,
   [],
-  spelled Socket true seconds f,
+  spelled Socket true micros f,
   spelled_all Socket false more,
   0,
   0,

@@ -15,22 +15,22 @@ place_of Capture true = Header
 place_of Capture false = Records Little
 place_of Socket fresh = Lengths
 
--- the octets of frames, each begun at its own second
+-- the octets of frames, each begun at its own microsecond
 abbrev pub spelled_all : Framing → Bool → List (ℕ × List ℕ) → List ℕ
 spelled_all framing fresh [] = []
-spelled_all framing fresh ((seconds, f) ∷ more) = spelled framing fresh seconds f ++ spelled_all framing false more
+spelled_all framing fresh ((micros, f) ∷ more) = spelled framing fresh micros f ++ spelled_all framing false more
 
 abbrev pub frames_of : List (ℕ × List ℕ) → Frames
 frames_of [] = []
-frames_of ((seconds, f) ∷ more) = f ∷ frames_of more
+frames_of ((micros, f) ∷ more) = f ∷ frames_of more
 
 -- no frame is longer than 65,535 octets
 abbrev pub AreShort : List (ℕ × List ℕ) → Type 0
 AreShort [] = ⊤
-AreShort ((seconds, f) ∷ more) = (length f < 65536) × AreShort more
+AreShort ((micros, f) ∷ more) = (length f < 65536) × AreShort more
 
 -- at least one frame as it is written is read as the same frames, with nothing skipped and no fault
 abbrev pub WrittenIsRead : Type 0
 WrittenIsRead =
-    (framing : Framing) (seconds : ℕ) (f : List ℕ) (more : List (ℕ × List ℕ)) → AreShort ((seconds, f) ∷ more)
-    → IsStream (place_of framing true) (spelled_all framing true ((seconds, f) ∷ more)) (frames_of ((seconds, f) ∷ more)) 0 None
+    (framing : Framing) (micros : ℕ) (f : List ℕ) (more : List (ℕ × List ℕ)) → AreShort ((micros, f) ∷ more)
+    → IsStream (place_of framing true) (spelled_all framing true ((micros, f) ∷ more)) (frames_of ((micros, f) ∷ more)) 0 None

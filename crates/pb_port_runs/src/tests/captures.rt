@@ -230,6 +230,34 @@ fn writes_a_capture(rt: HostRuntime) -> Result<(), Fail> {
 }
 
 #[test]
+fn tells_times_on_its_scale(rt: HostRuntime) -> Result<(), Fail> {
+    const ROWS: &[Row] = &[
+        Row::Offers("0102", Offered::Taken),
+        Row::PumpsUntil(0, 1),
+        Row::Offers("03", Offered::Taken),
+        Row::PumpsUntil(150, 1),
+    ];
+    let alloc = rt.alloc();
+    let seen = Seen::new(alloc);
+    let writer = Watched::new(Stub::new(alloc, Vec::new(alloc), 64, false, 0), &seen);
+    let scale = Timescale {
+        start: 1_700_000_000_900_001,
+        tick: 1_000,
+    };
+    let mut port = CapturePort::on_scale(alloc, 4, scale, sink(alloc), writer);
+    walk(&rt, alloc, &mut port, ROWS)?;
+    let wanted = frame_of(
+        &rt,
+        alloc,
+        "d4c3b2a1020004000000000000000000ffff000001000000\
+00f15365a1bb0d0002000000020000000102\
+01f1536551c30000010000000100000003",
+    )?;
+    assert!(rt; seen.output(alloc)?.as_slice() == wanted.as_slice());
+    Ok(())
+}
+
+#[test]
 fn fails_at_each_read(rt: HostRuntime) -> Result<(), Fail> {
     const ROWS: &[Row] = &[Row::Tells(&[262]), Row::Faults(6)];
     let alloc = rt.alloc();

@@ -2,8 +2,17 @@ use Rattle.std.proofs.Common.{◌≡◌, ◌-◌, ◌<◌, ◌++◌, length, tak
 use Rattle.pb_port.specs.Spelling.{spelled, first_of, stream_behind}
 use Rattle.pb_port.specs.Sending.{begun}
 use Rattle.pb_port.proofs.PuttingLemmas.{staged, first_at}
-use Rattle.pb_port.proofs.SendingLemmas.{head_and_frame}
+use Rattle.pb_port.proofs.SendingLemmas.{begun_all, head_and_frame, spelled_len}
 use Rattle.pb_port.proofs.sender.Sender.stage.Goals as goal
+
+pub loop-i-init : goal.loop-i-init
+loop-i-init c =
+    let w = c.args.self.now in
+    let us = w.unsent.items in record {
+      within = omega arith;
+      done = omega (arith, w.within, spelled_len w.framing w.fresh w.stamp c.stamp-stamp.result (first_of us));
+      next = rw c.stamp-stamp.ensures (begun_all w.framing w.fresh c.args.now w.stamp w.done us w.within w.empty);
+    }
 
 pub returns-then-at-run-clause-next : goal.returns-then-at-run-clause-next
 returns-then-at-run-clause-next c =
