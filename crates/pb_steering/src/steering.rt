@@ -151,13 +151,30 @@ impl<'a, G> Steering<'a, G> {
 
     /// Whether all bridges seem settled, by their own clocks.
     fn are_settled(&self) -> bool {
-        for place in 0..self.courses.len() {
-            let (_, ticks) = self.traffic.at_bridge(place as u8 + 1);
-            if !self.courses[place].views.are_quiet(ticks) {
+        let mut bridge = 0u8;
+        for course in &self.courses {
+            bridge = bridge.wrapping_add(1);
+            let (_, ticks) = self.traffic.at_bridge(bridge);
+            if !course.views.are_quiet(ticks) {
                 return false;
             }
         }
         true
+    }
+
+    /// Why frames may enter now that were held back so far; None where they may not yet, or may already.
+    fn opening(&self) -> Option<Opening> {
+        if self.open.load(Ordering::SeqCst) != 0 {
+            return None;
+        }
+        let ticks = self.traffic.ticks();
+        if self.are_settled() {
+            return Some(Opening::Settled(ticks));
+        }
+        if ticks >= PATIENCE {
+            return Some(Opening::Unsettled(ticks));
+        }
+        None
     }
 
     /// Attends to the control socket, and answers whether the run goes on.
@@ -202,29 +219,13 @@ impl<G> Board for Steering<'_, G> {
     }
 }
 
-impl<G: Watch> Steering<'_, G> {
-    /// Lets frames enter once the bridges have settled, or have ticked often enough.
-    fn wait(&self) {
-        if self.open.load(Ordering::SeqCst) != 0 {
-            return;
-        }
-        let ticks = self.traffic.ticks();
-        let opening = if self.are_settled() {
-            Opening::Settled(ticks)
-        } else if ticks >= PATIENCE {
-            Opening::Unsettled(ticks)
-        } else {
-            return;
-        };
-        self.gate.open(opening);
-        self.open.store(1, Ordering::SeqCst);
-    }
-}
-
 impl<G: Watch> Gate for Steering<'_, G> {
     fn pass(&self, place: Place, turn: u64) -> Go {
         if turn % LOOK == 0 && place == Place::Bridge(1) {
-            self.wait();
+            if let Some(opening) = self.opening() {
+                self.gate.open(opening);
+                self.open.store(1, Ordering::SeqCst);
+            }
             if self.attend() == Go::Stop {
                 return Go::Stop;
             }

@@ -1,5 +1,7 @@
 //! What the ports of a bridge are like while it runs.
 
+ghost use Rattle.std.specs.Prelude.{◌≤◌};
+
 use pb_lan::PortState;
 use pb_rstp::Role;
 use pb_work::PortView;
@@ -21,8 +23,10 @@ pub(crate) struct Views {
     stirred: AtomicU64,
 }
 
-/// The number of a role, from 0.
-fn role_code(role: Option<Role>) -> u64 {
+/// The number of a role, from 0 to 5.
+fn role_code(role: Option<Role>) -> u64
+    ensures { result ≤ 5 }
+{
     match role {
         None => 0,
         Some(Role::Disabled) => 1,
@@ -46,7 +50,9 @@ fn role_of(code: u64) -> Option<Role> {
 }
 
 /// The number of a state, from 1 to 3.
-fn state_code(state: PortState) -> u64 {
+fn state_code(state: PortState) -> u64
+    ensures { result ≤ 3 }
+{
     match state {
         PortState::Discarding => 1,
         PortState::Learning => 2,
