@@ -1,11 +1,14 @@
 //! The command `survive`.
 
+use crate::looks::Looks;
 use crate::{contents, ended, tell};
 use pb_survive::{Asked, Kinds, Scope, run_survive};
 use pb_words::{SurviveOrder, SurviveScope};
 use std::fs::Files;
 use std::io;
 use std::process::ExitCode;
+use std::thread::Threads;
+use std::time::Clock;
 
 /// Which services the words ask for.
 fn scope_of(scope: &SurviveScope) -> Scope<'_> {
@@ -16,10 +19,11 @@ fn scope_of(scope: &SurviveScope) -> Scope<'_> {
     }
 }
 
-/// Tells what is left of the network of a plan file under failures.
-pub(crate) fn tell_survivals(
-    rt: &(impl Files + Print + Eprint + AllocGlobal),
+/// Tells what is left of the network of a plan file under failures, and how many were looked at so far where that is shown.
+pub(crate) fn tell_survivals<R: Files + Threads + Clock + Print + Eprint + AllocGlobal + Sync>(
+    rt: &R,
     order: &SurviveOrder,
+    is_shown: bool,
 ) -> ExitCode {
     let path = order.path.as_str();
     let file = match contents(rt, path) {
@@ -34,7 +38,9 @@ pub(crate) fn tell_survivals(
         scope: scope_of(&order.scope),
         ticks: order.ticks,
     };
-    match run_survive(rt.alloc(), file.as_slice(), &asked, &mut io::writer(rt)) {
+    let looks = Looks::new(rt, is_shown);
+    let mut writer = io::writer(rt);
+    match run_survive(rt, rt.alloc(), file.as_slice(), &asked, &looks, &mut writer) {
         Err(fault) => tell(rt, fault),
         Ok(status) => ended(rt, path, file.as_slice(), status),
     }
