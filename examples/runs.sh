@@ -68,6 +68,9 @@ prints broken/trunk-survive.expected survive examples/broken/trunk.toml --servic
 prints broken/tagged-trace.expected trace examples/two-bridges.toml C1 ffffffffffff02000000010188a8006408004142
 prints broken/unsettled-trace.expected trace examples/failover.toml C1 "$broadcast"
 prints broken/settled-trace.expected trace examples/failover.toml C1 "$broadcast" --settle
+./pbnet trace examples/broken/queue.toml C1 "$broadcast" --then C2 ffffffffffff02000000020208004344 | tail -n 1 >out/broken/queue-trace.expected
+is_same out/broken/queue-trace.expected examples/broken/queue-trace.expected
+prints broken/queue-step.expected step examples/broken/queue.toml <examples/broken/queue.steps
 
 # Runs the program for a document, compares it with a file of examples/ where there is one, and what it says with the report
 # that stands there. Where a failure parts a service, `survive` ends with status 4.

@@ -1,6 +1,6 @@
 -- Lists in step.
-use Rattle.std.proofs.Common.{◌≡◌, ◌≤◌, ℕ, zero, suc, ◌+◌, ◌<◌, List, [], ◌∷◌, ◌++◌, Result, Ok, Err, IfOk, length, take, drop, get_or, flat_map, min, refl, sym, ap, ◌∙◌, subst, arith, append_assoc, append-nil}
-use Rattle.std.specs.List.{AllZip, zip}
+use Rattle.std.proofs.Common.{◌≡◌, ◌≤◌, ℕ, zero, suc, ◌+◌, ◌<◌, List, [], ◌∷◌, ◌++◌, Result, Ok, Err, IfOk, MatchResult, map, length, take, drop, get_or, flat_map, min, refl, sym, ap, ◌∙◌, subst, arith, append_assoc, append-nil}
+use Rattle.std.specs.List.{AllZip, Contains, zip}
 
 -- one more at the end of both
 pub zip_one_more : {A B : Type 0} (R : A → B → Type 0) (xs : List A) (i : ℕ) (d : A) (ys : List B) (y : B) → i < length xs → AllZip R (take i xs) ys → R (get_or xs i d) y
@@ -70,3 +70,19 @@ rejoin old a n b l e = simp append_assoc
 -- four texts behind another, one after the other
 pub rejoin_four : (old a b c d : List ℕ) → (((old ++ a) ++ b) ++ c) ++ d ≡ old ++ (((a ++ b) ++ c) ++ d)
 rejoin_four old a b c d = simp append_assoc
+
+-- answers that are all there, in step with what was asked
+zip_oks : {A B : Type 0} (E : Type 0) (R : A → B → Type 0) (xs : List A) (ys : List B) → AllZip (λ x (r : Result B E). IfOk r (R x)) xs (map Ok ys)
+    → AllZip R xs ys
+zip_oks E R [] [] a = tt
+zip_oks E R [] (y ∷ ys) a = absurd a
+zip_oks E R (x ∷ xs) [] a = absurd a
+zip_oks E R (x ∷ xs) (y ∷ ys) a = (a.0, zip_oks E R xs ys a.1)
+
+-- where a list is gathered of answers that are each right where they are there, each of the list is right
+pub gathered : {A B V E : Type 0} (R : A → B → Type 0) (items : V → List B) (xs : List A) (rs : List (Result B E)) (r : Result V E)
+    → AllZip (λ x b. IfOk b (R x)) xs rs → MatchResult r (λ v. (ys : List B) × (rs ≡ map Ok ys) × (items v ≡ ys)) (λ e. Contains rs (Err e))
+    → IfOk r (λ v. AllZip R xs (items v))
+gathered {E = E} R items xs rs (Ok v) a (ys, e, i) =
+    subst (AllZip R xs) (sym i) (zip_oks E R xs ys (subst (AllZip (λ x b. IfOk b (R x)) xs) e a))
+gathered R items xs rs (Err e) a h = tt

@@ -15,6 +15,7 @@ mod sites;
 mod survive;
 mod totals;
 mod view;
+mod watch;
 
 pub use drive::Patience;
 pub use failure::{Failure, Kinds, failures};
@@ -25,3 +26,4 @@ pub use scope::Scope;
 pub use sites::{Site, groups};
 pub use survive::{Asked, run_survive};
 pub use view::{View, views};
+pub use watch::Watch;

@@ -1,6 +1,6 @@
 //! What comes of failures.
 
-ghost use Rattle.std.specs.Prelude.{◌≡◌, ◌++◌, ◌∷◌, [], IfOk, OnOk};
+ghost use Rattle.std.specs.Prelude.{◌≡◌, IfOk};
 ghost use Rattle.pb_lan.specs.Plans.{IsSound};
 ghost use Rattle.pb_survive.specs.Outcomes.{start_of, IsOutcome, AreOutcomes};
 ghost use Rattle.pb_lan.specs.LastShapes.{last_shape};
@@ -10,12 +10,16 @@ use crate::drive::{Patience, drive};
 use crate::failure::Failure;
 use crate::outcome::Outcome;
 use crate::view::{View, views};
+use crate::watch::Watch;
 use pb_frame::Memory;
 use pb_lan::{Plan, Record, Seq, Shape};
 use pb_net::Net;
 use pb_settle::DriveFault;
 use pb_steps::{Tallies, last_shape};
-use std::alloc::Global;
+use rayon::prelude::*;
+use std::alloc::{AllocError, Global};
+use std::sync::OnceLock;
+use std::thread::Threads;
 
 /// The network of a plan, in which nothing was done.
 fn fresh(alloc: Global, plan: &Plan) -> Result<Net, Memory>
@@ -80,29 +84,65 @@ pub fn look_at(
     })
 }
 
-/// Puts an outcome behind others.
-fn keep(outcomes: &mut Vec<Outcome>, outcome: Outcome) -> Result<(), Memory>
-    ensures { OnOk result (outcomes.new.items ≡ outcomes.old.items ++ outcome ∷ []) }
+/// What comes of one of several failures, as [`look_at`] finds out, or the fault that another look has met before. The first
+/// fault that is met is kept in `met`.
+fn look_unless_met(
+    alloc: Global,
+    plan: &Plan,
+    services: &[u8],
+    failure: Failure,
+    patience: Patience,
+    met: &OnceLock<DriveFault>,
+) -> Result<Outcome, DriveFault>
+    requires { IsSound plan.now }
+    ensures { IfOk result (IsOutcome plan.now services.now patience.ticks patience.events failure) }
 {
-    outcomes.push(outcome)?;
-    Ok(())
+    if let Some(fault) = met.get() {
+        return Err(*fault);
+    }
+    let looked = look_at(alloc, plan, services, failure, patience);
+    if let Err(fault) = &looked {
+        let _ = met.try_set(*fault);
+    }
+    looked
 }
 
-/// What comes of each of these failures, each as [`look_at`] finds out. The first fault ends it.
-pub fn look_at_all(
+/// What comes of each of these failures, each as [`look_at`] finds out, in their order.
+///
+/// They are looked at side by side, by as many threads as there are processors or two times as many; where a thread can't be
+/// started, what it was to do is done in turn. `watch` is told of each failure that was looked at. The faults are those of
+/// [`look_at`]: once one is met no further look begins, and one that was met is answered.
+pub fn look_at_all<R: Threads + Sync, V: Watch>(
+    rt: &R,
     alloc: Global,
     plan: &Plan,
     services: &[u8],
     failures: &[Failure],
     patience: Patience,
+    watch: &V,
 ) -> Result<Vec<Outcome>, DriveFault>
     requires { IsSound plan.now }
     ensures { IfOk result (λ outcomes. AreOutcomes plan.now services.now patience.ticks patience.events failures.now outcomes.items) }
 {
-    let mut outcomes = Vec::new(alloc);
-    for failure in failures {
-        let outcome = look_at(alloc, plan, services, *failure, patience)?;
-        keep(&mut outcomes, outcome)?;
+    let all = failures.len();
+    let fault = OnceLock::new();
+    let met = &fault;
+    let looked: Result<Result<Vec<Outcome>, DriveFault>, AllocError> = failures
+        .par_iter()
+        .with_min_len(1)
+        .map(
+            |failure: &Failure| -> Result<Outcome, DriveFault>
+                requires { IsSound plan.now }
+                ensures { IfOk result (IsOutcome plan.entry.now services.entry.now patience.ticks patience.events failure.now) }
+            {
+                let looked = look_unless_met(alloc, plan, services, *failure, patience, met);
+                watch.looked(all);
+                looked
+            },
+        )
+        .collect(rt, alloc);
+    match looked {
+        Ok(outcomes) => outcomes,
+        Err(_) => Err(DriveFault::Memory),
     }
-    Ok(outcomes)
 }

@@ -3,6 +3,7 @@
 mod draft;
 mod networks;
 mod texts;
+mod watching;
 
 use draft::{Draft, plan_file};
 use pb_fakes::{Full, Unflushed};
@@ -11,6 +12,8 @@ use pb_survive::{Asked, Kinds, Scope, run_survive};
 use std::alloc::Global;
 use std::process::Abort;
 use std::test::Fail;
+use std::thread::Threads;
+use watching::Counted;
 
 /// Single links alone.
 const LINKS: Kinds = Kinds {
@@ -42,7 +45,7 @@ struct Row<'a> {
 }
 
 /// A network's report is as it should be, each time.
-fn says(rt: &impl Abort, alloc: Global, row: &Row<'_>) -> Result<(), Fail> {
+fn says<R: Abort + Threads + Sync>(rt: &R, alloc: Global, row: &Row<'_>) -> Result<(), Fail> {
     let file = plan_file(alloc, row.draft)?;
     let asked = Asked {
         kinds: row.kinds,
@@ -51,7 +54,8 @@ fn says(rt: &impl Abort, alloc: Global, row: &Row<'_>) -> Result<(), Fail> {
     };
     for _ in 0..2 {
         let mut output = Vec::new(alloc);
-        let result = run_survive(alloc, file.as_bytes(), &asked, &mut output);
+        let watch = Counted::new();
+        let result = run_survive(rt, alloc, file.as_bytes(), &asked, &watch, &mut output);
         let text = std::str::from_utf8(output.as_slice()).unwrap_or("");
         assert_eq!(rt; text, row.text);
         assert_eq!(rt; result, Ok(row.status));
@@ -202,7 +206,10 @@ const ANY: Asked = Asked {
 fn a_refused_file_tells_the_rule(rt: HostRuntime) -> Result<(), Fail> {
     let alloc = rt.alloc();
     let mut output = Vec::new(alloc);
-    assert_eq!(rt; run_survive(alloc, b"x", &ANY, &mut output), Ok(1));
+    let watch = Counted::new();
+    let result = run_survive(&rt, alloc, b"x", &ANY, &watch, &mut output);
+    assert_eq!(rt; result, Ok(1));
+    assert_eq!(rt; watch.counts(), (0, 0, 1));
     assert!(rt; output.as_slice() == b"plan: 2 toml\n".as_slice());
     Ok(())
 }
@@ -211,18 +218,54 @@ fn a_refused_file_tells_the_rule(rt: HostRuntime) -> Result<(), Fail> {
 fn an_empty_plan_survives(rt: HostRuntime) -> Result<(), Fail> {
     let alloc = rt.alloc();
     let mut output = Vec::new(alloc);
-    assert_eq!(rt; run_survive(alloc, b"", &ANY, &mut output), Ok(0));
+    let watch = Counted::new();
+    let result = run_survive(&rt, alloc, b"", &ANY, &watch, &mut output);
+    assert_eq!(rt; result, Ok(0));
+    assert_eq!(rt; watch.counts(), (0, 0, 1));
     assert!(rt; output.as_slice() == texts::EMPTY.as_bytes());
+    Ok(())
+}
+
+#[test]
+fn each_failure_is_looked_at_once(rt: HostRuntime) -> Result<(), Fail> {
+    let alloc = rt.alloc();
+    let file = plan_file(alloc, &networks::RING)?;
+    let asked = Asked {
+        kinds: Kinds {
+            bridges: true,
+            pairs: true,
+        },
+        ..ANY
+    };
+    let mut output = Vec::new(alloc);
+    let watch = Counted::new();
+    let result = run_survive(&rt, alloc, file.as_bytes(), &asked, &watch, &mut output);
+    assert_eq!(rt; result, Ok(4));
+    assert_eq!(rt; watch.counts(), (27, 27, 1));
+    Ok(())
+}
+
+#[test]
+fn a_look_that_meets_a_fault_ends_all(rt: HostRuntime) -> Result<(), Fail> {
+    let alloc = rt.alloc();
+    let file = plan_file(alloc, &networks::BRIEF)?;
+    let mut output = Vec::new(alloc);
+    let watch = Counted::new();
+    let result = run_survive(&rt, alloc, file.as_bytes(), &ANY, &watch, &mut output);
+    assert_eq!(rt; result, Err(CommandFault::Steps));
+    assert!(rt; output.is_empty());
+    assert_eq!(rt; watch.counts(), (3, 3, 1));
     Ok(())
 }
 
 #[test]
 fn a_failed_write_is_told(rt: HostRuntime) -> Result<(), Fail> {
     let alloc = rt.alloc();
+    let watch = Counted::new();
     let mut writer = Full { room: 5 };
-    let full = run_survive(alloc, b"", &ANY, &mut writer);
+    let full = run_survive(&rt, alloc, b"", &ANY, &watch, &mut writer);
     assert_eq!(rt; full, Err(CommandFault::Write));
-    let unflushed = run_survive(alloc, b"", &ANY, &mut Unflushed);
+    let unflushed = run_survive(&rt, alloc, b"", &ANY, &watch, &mut Unflushed);
     assert_eq!(rt; unflushed, Err(CommandFault::Write));
     Ok(())
 }

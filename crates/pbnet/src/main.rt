@@ -14,6 +14,7 @@ ghost use Rattle.std.specs.Prelude.{◌≤◌};
 
 mod draw;
 mod formatted;
+mod looks;
 mod progress;
 mod survive;
 mod trace;
@@ -74,7 +75,9 @@ fn main(rt: HostRuntime) -> ExitCode {
         Ok(Some(Order::Trace(order))) => trace::trace(&rt, &order),
         Ok(Some(Order::Show)) => show(&rt),
         Ok(Some(Order::Init(order))) => init(&rt, order),
-        Ok(Some(Order::Survive(order))) => survive::tell_survivals(&rt, &order),
+        Ok(Some(Order::Survive(order))) => {
+            survive::tell_survivals(&rt, &order, rt.stderr().is_terminal())
+        }
         Ok(Some(Order::Draw(order))) => draw::draw_network(&rt, &order),
         Ok(None) => ExitCode::from(WRONG_WORDS),
         Err(e) if e.kind() == WordsFault::OutOfMemory => tell(&rt, CommandFault::Memory),

@@ -1,6 +1,7 @@
 //! The command `survive`.
 
 use crate::formatted::Output;
+use crate::looks::Looks;
 use crate::{contents, ended, tell_on};
 use pb_formats::{FAILURES, SURVIVE};
 use pb_survive::{Asked, Kinds, Scope, run_survive};
@@ -8,6 +9,8 @@ use pb_words::{SurviveOrder, SurviveScope};
 use std::fs::Files;
 use std::io::Write;
 use std::process::ExitCode;
+use std::thread::Threads;
+use std::time::Clock;
 
 /// Which services the words ask for.
 fn scope_of(scope: &SurviveScope) -> Scope<'_> {
@@ -18,22 +21,28 @@ fn scope_of(scope: &SurviveScope) -> Scope<'_> {
     }
 }
 
-/// Tells what is left of the network of a plan file under failures, in the form that is asked for.
-pub(crate) fn tell_survivals<R: Files + Print + Eprint + AllocGlobal>(
+/// Tells what is left of the network of a plan file under failures, in the form that is asked for, and how many were looked at
+/// so far where that is shown.
+pub(crate) fn tell_survivals<R: Files + Threads + Clock + Print + Eprint + AllocGlobal + Sync>(
     rt: &R,
     order: &SurviveOrder,
+    is_shown: bool,
 ) -> ExitCode {
     let mut out = Output::new(rt, order.format);
-    let status = tell_survivals_on(rt, order, &mut out);
+    let status = tell_survivals_on(rt, order, is_shown, &mut out);
     out.end(&SURVIVE, Some(&FAILURES), status)
 }
 
 /// Tells what is left of the network of a plan file under failures.
-fn tell_survivals_on<R: Files + Eprint + AllocGlobal, W: Write>(
+fn tell_survivals_on<R, W: Write>(
     rt: &R,
     order: &SurviveOrder,
+    is_shown: bool,
     out: &mut W,
-) -> ExitCode {
+) -> ExitCode
+where
+    R: Files + Threads + Clock + Eprint + AllocGlobal + Sync,
+{
     let path = order.path.as_str();
     let file = match contents(rt, path, out) {
         Ok(file) => file,
@@ -47,7 +56,8 @@ fn tell_survivals_on<R: Files + Eprint + AllocGlobal, W: Write>(
         scope: scope_of(&order.scope),
         ticks: order.ticks,
     };
-    match run_survive(rt.alloc(), file.as_slice(), &asked, out) {
+    let looks = Looks::new(rt, is_shown);
+    match run_survive(rt, rt.alloc(), file.as_slice(), &asked, &looks, out) {
         Err(fault) => tell_on(out, fault),
         Ok(status) => ended(rt, path, file.as_slice(), status),
     }

@@ -145,3 +145,15 @@ pub(super) const SHARED: Draft = Draft {
         Stub((3, 3), "red"),
     ],
 };
+
+/// A ring of three whose places may take steps enough to settle once, and not twice.
+pub(super) const BRIEF: Draft = Draft {
+    network: "spanning = \"rstp\"\nsteps = 35",
+    bridges: 3,
+    wires: &[
+        Wire((1, 1), (2, 1), ""),
+        Wire((2, 2), (3, 1), ""),
+        Wire((3, 2), (1, 2), ""),
+    ],
+    stubs: &[],
+};

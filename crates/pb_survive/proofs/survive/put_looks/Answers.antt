@@ -8,7 +8,7 @@ use Rattle.pb_survive.specs.declared.failure.Failure.TheVariants.{Nothing}
 use Rattle.pb_survive.proofs.survive.put_looks.Goals as goal
 
 pub returns : goal.returns
-returns c =
+returns g c =
     let plan = c.args.plan.now in
     let asked = c.args.asked.now in
     let base = c.in_ok-base.base in

@@ -1,0 +1,43 @@
+//! A watch that counts.
+
+use pb_survive::Watch;
+use std::sync::atomic::{AtomicU64, Ordering};
+
+/// How many failures were looked at, of how many, and how often it was told that no more are.
+#[derive(Drop)]
+pub(super) struct Counted {
+    looked: AtomicU64,
+    failures: AtomicU64,
+    closed: AtomicU64,
+}
+
+impl Counted {
+    /// Of no look yet.
+    pub(super) fn new() -> Counted {
+        Counted {
+            looked: AtomicU64::new(0),
+            failures: AtomicU64::new(0),
+            closed: AtomicU64::new(0),
+        }
+    }
+
+    /// How many failures were looked at, of how many, and how often it was told that no more are.
+    pub(super) fn counts(&self) -> (u64, u64, u64) {
+        (
+            self.looked.load(Ordering::SeqCst),
+            self.failures.load(Ordering::SeqCst),
+            self.closed.load(Ordering::SeqCst),
+        )
+    }
+}
+
+impl Watch for Counted {
+    fn looked(&self, failures: usize) {
+        self.looked.fetch_add(1, Ordering::SeqCst);
+        self.failures.store(failures as u64, Ordering::SeqCst);
+    }
+
+    fn close(&self) {
+        self.closed.fetch_add(1, Ordering::SeqCst);
+    }
+}
