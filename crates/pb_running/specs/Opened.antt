@@ -30,7 +30,7 @@ asked spec = (script_in spec, write_in spec)
 -- what a port has open
 abbrev pub shown : {I O S : Type 0} → Opened I O S → Shown
 shown (in_memory frames) = (Some frames, None)
-shown (files input output write) = (None, Some write)
+shown (files input output read write) = (None, Some write)
 shown (stream socket) = (None, None)
 
 -- what is opened first: the file to read, or the socket
@@ -71,8 +71,8 @@ HasStopped (Unemptied fault) before after specs = HasBegun before after (deeds_o
 HasStopped (Shared file) before after specs = ⊥
 
 -- the same; and where a file has two uses, nothing was opened, and some file has
-abbrev pub StopsAt : OpenFault → Option (List ℕ → Option (List ℕ)) → Option (List Deed) → Option (List Deed) → List PortSpec → Type 0
-StopsAt (Shared file) named before after specs = (after ≡ before) × IfSome named (λ name. are_apart name specs ≡ false)
-StopsAt (Unopened fault) named before after specs = HasBegun before after (openings_of specs) × IfSome named (λ name. are_apart name specs ≡ true)
-StopsAt (Unemptied fault) named before after specs = HasBegun before after (deeds_of specs) × IfSome named (λ name. are_apart name specs ≡ true)
-StopsAt no_memory named before after specs = HasBegun before after (openings_of specs)
+abbrev pub StopsAt : OpenFault → Option (List ℕ → Option (List ℕ)) → List ℕ → Option (List Deed) → Option (List Deed) → List PortSpec → Type 0
+StopsAt (Shared file) named plan_path before after specs = (after ≡ before) × IfSome named (λ name. are_apart name plan_path specs ≡ false)
+StopsAt (Unopened fault) named plan_path before after specs = HasBegun before after (openings_of specs) × IfSome named (λ name. are_apart name plan_path specs ≡ true)
+StopsAt (Unemptied fault) named plan_path before after specs = HasBegun before after (deeds_of specs) × IfSome named (λ name. are_apart name plan_path specs ≡ true)
+StopsAt no_memory named plan_path before after specs = HasBegun before after (openings_of specs)

@@ -1,7 +1,9 @@
 -- What is told of files and sockets that can't be used.
-use Rattle.std.specs.Prelude.{ℕ, zero, suc, Bool, true, false, Option, List, [], ◌∷◌, ◌++◌, codes}
+use Rattle.std.specs.Prelude.{ℕ, zero, suc, Option, List, [], ◌∷◌, ◌++◌, codes}
 use Rattle.std.specs.Io.KnownBytes.{Appends, Keeps}
 use Rattle.pb_lan.specs.declared.plan.CustomerPlan.{CustomerPlan}
+use Rattle.pb_running.specs.declared.open_fault.FileUser.{FileUser}
+use Rattle.pb_running.specs.declared.open_fault.FileUser.TheVariants.{Plan, Reader, Writer}
 use Rattle.pb_running.specs.declared.open_fault.OpenFault.{OpenFault}
 use Rattle.pb_running.specs.declared.open_fault.OpenFault.TheVariants.{Unopened, Unemptied, Shared, Memory}
 use Rattle.pb_running.specs.declared.open_fault.PathFault.{PathFault}
@@ -24,10 +26,11 @@ word_of Connect = codes "connect"
 abbrev pub path_line : List ℕ → List ℕ → List ℕ → List ℕ → List ℕ
 path_line name word path why = codes "port " ++ name ++ codes ": " ++ word ++ codes " " ++ path ++ codes ": " ++ why ++ 10 ∷ []
 
--- the other port that has a file
-abbrev pub sharing : List ℕ → Bool → List ℕ
-sharing other true = codes "also written by port " ++ other
-sharing other false = codes "also read by port " ++ other
+-- who uses a file too
+abbrev pub sharing : List CustomerPlan → FileUser → List ℕ
+sharing customers (Writer place) = codes "also written by port " ++ name_at customers place
+sharing customers (Reader place) = codes "also read by port " ++ name_at customers place
+sharing customers Plan = codes "also the plan file"
 
 -- a line on the path of a fault, with what the system says of it
 abbrev pub TellsPath : List CustomerPlan → PathFault → Option (List ℕ) → Option (List ℕ) → Type 0
@@ -39,5 +42,5 @@ abbrev pub TellsFault : List CustomerPlan → OpenFault → Option (List ℕ) �
 TellsFault customers (Unopened fault) before after = TellsPath customers fault before after
 TellsFault customers (Unemptied fault) before after = TellsPath customers fault before after
 TellsFault customers (Shared file) before after =
-    Appends before after (path_line (name_at customers file.place) (codes "write") file.path (sharing (name_at customers file.other) file.is_written))
+    Appends before after (path_line (name_at customers file.place) (codes "write") file.path (sharing customers file.other))
 TellsFault customers Memory before after = Keeps before after

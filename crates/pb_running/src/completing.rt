@@ -1,4 +1,4 @@
-//! Captures to which nothing left.
+//! Captures once a run is over: those to which nothing left, and inputs of another format.
 
 ghost use Rattle.std.specs.Prelude.{◌≡◌, OnOk};
 ghost use Rattle.std.specs.Io.KnownBytes.{Appends};
@@ -13,14 +13,16 @@ use std::fs::File;
 use std::io;
 use std::io::Write;
 
-/// A file that a port of a network writes.
+/// The files of a capture port of a network.
 #[derive(Drop)]
-pub(crate) struct Written {
+pub(crate) struct CaptureFiles {
     /// The port's place in the plan, from 0.
     pub place: usize,
-    /// The path of the file.
-    pub path: Text,
-    /// A handle of the file, which shares its position with the port's.
+    /// The path of the file that it reads.
+    pub read: Text,
+    /// The path of the file that it writes.
+    pub write: Text,
+    /// A handle of the file that it writes, which shares its position with the port's.
     pub file: File,
 }
 
@@ -55,13 +57,13 @@ fn complete(file: &File) -> io::Result<()> {
 pub(crate) fn complete_all<E: Write>(
     alloc: Global,
     customers: &[CustomerPlan],
-    files: &[Written],
+    files: &[CaptureFiles],
     errors: &mut E,
 ) {
     for written in files {
         if let Err(error) = complete(&written.file) {
             let name = name_at(customers, written.place);
-            let path = written.path.as_str();
+            let path = written.write.as_str();
             let _ = write_path_fault(alloc, name, Verb::Write, path, &error, errors);
         }
     }

@@ -13,11 +13,13 @@ ghost use Rattle.pb_running.specs.Scripted.{script_at, script_in};
 ghost use Rattle.pb_running.specs.Strict.{lost_text};
 ghost use Rattle.pb_running.specs.declared.strictness.Strictness.TheVariants.{Strict as strict};
 
-use crate::completing::{Written, complete_all};
+use crate::completing::{CaptureFiles, complete_all};
+use crate::linger::lingered;
 use crate::lost::{is_whole, lost_of};
 use crate::network_fault::NetworkFault;
-use crate::outside::{Outside, SystemPort, open_ports};
 use crate::options::RunOptions;
+use crate::outside::{Outside, SystemPort, open_ports};
+use crate::pcapng::show_pcapng;
 use crate::report::write_report;
 use crate::strictness::{Strictness, exit_status};
 use crate::watched::Watched;
@@ -164,7 +166,7 @@ fn tell<W: Write, E: Write>(
     Ok(exit_status(strictness, is_whole, told))
 }
 
-/// Runs a plan with its ports, which write these files, and reports on the run, as [`run_network`] does.
+/// Runs a plan with its ports, of which some have these files, and reports on the run, as [`run_network`] does.
 ///
 /// `Memory` is answered where there was none for the ports' boxes or for the workers, and then nothing has run; and
 /// where there was none for the text of the report, once the run is over. `Spawn` is answered where a thread could
@@ -175,15 +177,16 @@ fn run_ports<R, G: Watch, W: Write, E: Write>(
     alloc: Global,
     plan: &Plan,
     ports: Vec<Watched<SystemPort>>,
-    files: &[Written],
+    files: &[CaptureFiles],
     limits: Limits,
     strictness: Strictness,
+    linger: u32,
     gate: &G,
     writer: &mut W,
     errors: &mut E,
 ) -> Result<u8, NetworkFault>
 where
-    R: Threads + Wait + Clock + Sync,
+    R: Files + Threads + Wait + Clock + Sync,
     requires sound { IsSound plan.now }
     requires count { vec_len ports ≡ length plan.now.customers }
     ensures ok { IfOk result (λ status. (specs : List PortSpec) → map (λ w. script_at w.port) ports.items ≡ map script_in specs
@@ -199,7 +202,10 @@ where
     match run_set(rt, alloc, plan, held, gate, limits) {
         Ok(ran) => {
             gate.close();
-            complete_all(alloc, plan.customers.as_slice(), files, errors);
+            let ran = lingered(rt, ran, linger);
+            let customers = plan.customers.as_slice();
+            complete_all(alloc, customers, files, errors);
+            show_pcapng(rt, alloc, customers, files, ran.last.as_slice(), errors);
             tell(alloc, strictness, plan, &ran, writer, errors)
         }
         Err(fault) => {
@@ -219,6 +225,7 @@ fn run_opened<R, G: Watch, W: Write, E: Write>(
     specs: Vec<PortSpec>,
     limits: Limits,
     strictness: Strictness,
+    options: &RunOptions<'_>,
     traffic: &Arc<Traffic, Global>,
     gate: &G,
     writer: &mut W,
@@ -232,10 +239,12 @@ where
     ensures err { IfErr result (λ e. e ≡ NetworkFault.Ports → ⊥) }
     ensures none { IfErr result (λ e. e ≢ NetworkFault.Write → Keeps (W.contents writer.old) (W.contents writer.new)) }
 {
-    let Outside { ports, files } = open_ports(rt, alloc, plan, specs, traffic, errors)?;
+    let (path, linger) = (options.plan, options.linger);
+    let outside = open_ports(rt, alloc, path, plan, specs, traffic, errors)?;
+    let Outside { ports, files } = outside;
     let files = files.as_slice();
     run_ports(
-        rt, alloc, plan, ports, files, limits, strictness, gate, writer, errors,
+        rt, alloc, plan, ports, files, limits, strictness, linger, gate, writer, errors,
     )
 }
 
@@ -254,8 +263,9 @@ where
 /// Where the file is no plan, the rule that it breaks is written as `check` does, and
 /// the answer is 1.
 ///
-/// At the end of a run a file to which nothing left is made a capture without records, or `errors` is told why it can't
-/// be.
+/// Once a run is over, its ports have a while to write what still waits in them, as the options say. A file to which nothing
+/// left is made a capture without records then, or `errors` is told why it can't be; and `errors` is told which inputs are
+/// pcapng.
 ///
 /// `Path` is answered where a file can't be opened, made or emptied, a socket not be connected to or made, or a file has two
 /// uses, and `errors` is told which: the control socket is made first, and then files and sockets are opened as [`open_all`]
@@ -295,7 +305,8 @@ where
             let steering = Steering::new(alloc, gate, &plan, traffic, events, waits)?;
             plug(rt, alloc, options.control, &steering, errors)?;
             let ran = run_opened(
-                rt, alloc, &plan, ports, limits, strictness, traffic, &steering, writer, errors,
+                rt, alloc, &plan, ports, limits, strictness, options, traffic, &steering, writer,
+                errors,
             );
             steering.unplug(rt);
             show_left(alloc, steering.left(), errors);

@@ -19,6 +19,17 @@ pub enum Verb {
     Connect,
 }
 
+/// Who uses a file. A port goes by its place in the plan, from 0.
+#[derive(Clone, Copy, Debug, PartialEq, Eq)]
+pub enum FileUser {
+    /// The run, which has read its plan there.
+    Plan,
+    /// A port that reads it.
+    Reader(usize),
+    /// A port that writes it.
+    Writer(usize),
+}
+
 /// A path that a port could not use.
 #[derive(Debug, Drop)]
 pub struct PathFault {
@@ -32,17 +43,15 @@ pub struct PathFault {
     pub error: Error,
 }
 
-/// A file that one port would write while another, or the same one, has it too.
+/// A file that a port would write and that has another use.
 #[derive(Debug, Drop)]
 pub struct SharedFile {
     /// The place in the plan, from 0, of the port that would write it.
     pub place: usize,
     /// The path by which it would.
     pub path: Text,
-    /// The place in the plan, from 0, of the port that has it too.
-    pub other: usize,
-    /// That port writes it; else it reads it.
-    pub is_written: bool,
+    /// Who uses it too.
+    pub other: FileUser,
 }
 
 /// Why the ports of a plan were not opened.
@@ -52,7 +61,7 @@ pub enum OpenFault {
     Unopened(PathFault),
     /// All were open, and a file can't be emptied. Those before it in the plan are empty.
     Unemptied(PathFault),
-    /// One file would be written twice, or written and read. Nothing was opened.
+    /// One file would be written twice, written and read, or written over the plan. Nothing was opened.
     Shared(SharedFile),
     /// Memory ran out. No file was emptied.
     Memory,

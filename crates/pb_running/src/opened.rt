@@ -27,6 +27,8 @@ pub enum Opened<I, O, S> {
         input: I,
         /// The file that it writes.
         output: O,
+        /// The path of the file that it reads.
+        read: Text,
         /// The path of the file that it writes.
         write: Text,
     },
@@ -51,6 +53,7 @@ fn open_in<O: Openings>(
                 Ok(Opened::Capture {
                     input,
                     output,
+                    read,
                     write,
                 })
             }
@@ -93,10 +96,16 @@ fn open_out<O: Openings>(
 {
     match port {
         Opened::Memory(frames) => Ok(Opened::Memory(frames)),
-        Opened::Capture { input, write, .. } => match opener.open_write(write.as_str()) {
+        Opened::Capture {
+            input,
+            read,
+            write,
+            ..
+        } => match opener.open_write(write.as_str()) {
             Ok(output) => Ok(Opened::Capture {
                 input,
                 output,
+                read,
                 write,
             }),
             Err(error) => Err(unopened(place, Verb::Write, write, error)),
@@ -134,6 +143,7 @@ fn forget_out<O: Openings>(opener: &mut O, port: Opened<O::Input, O::Output, O::
             input,
             output,
             write,
+            ..
         } => {
             drop(input);
             opener.forget(output, write.as_str());
@@ -222,7 +232,7 @@ fn open_apart<O: Openings>(
     Ok(ports)
 }
 
-/// The fault of a file with two uses, of which a capture port is one.
+/// The fault of a file with two uses, of which a capture port that writes is one.
 fn shared(alloc: Global, specs: &[PortSpec], clash: Clash) -> Result<SharedFile, Memory> {
     let path = match specs.get(clash.place) {
         Some(PortSpec::Capture { write, .. }) => write.clone()?,
@@ -232,29 +242,29 @@ fn shared(alloc: Global, specs: &[PortSpec], clash: Clash) -> Result<SharedFile,
         place: clash.place,
         path,
         other: clash.other,
-        is_written: clash.is_written,
     })
 }
 
-/// Opens the ports of a plan, as their rows of the plan file say.
+/// Opens the ports of a plan, as their rows of the plan file say, which was read at a path.
 ///
-/// No file has two uses: `Shared` is answered where one would be written by two ports, or written and read, and then
-/// nothing was opened. Then every file to read is opened and every socket connected to, in the plan's order, then
-/// every file to write, which keeps what stands in it and is made where it is missing; and once all are open, those
-/// to write are emptied. `Unopened` is answered where one can't be opened, and then none was emptied, and those that
+/// No file has two uses: `Shared` is answered where one would be written by two ports, written and read, or is the plan
+/// file itself and written, and then nothing was opened. Then every file to read is opened and every socket connected to,
+/// in the plan's order, then every file to write, which keeps what stands in it and is made where it is missing;
+/// and once all are open, those to write are emptied. `Unopened` is answered where one can't be opened, and then none was emptied, and those that
 /// were made are removed. `Unemptied` is answered where one can't be emptied. `Memory` is answered where memory ran
 /// out, and then none was emptied.
 pub fn open_all<O: Openings>(
     alloc: Global,
     opener: &mut O,
+    plan_path: &str,
     specs: Vec<PortSpec>,
 ) -> Result<Vec<Opened<O::Input, O::Output, O::Stream>>, OpenFault>
     ensures ok { IfOk result (λ ports. Adds (O.done opener.old) (O.done opener.new) (deeds_of specs.items)
         × (map shown ports.items ≡ map asked specs.items)) }
-    ensures apart { OnOk result (IfSome (O.named opener.old) (λ name. are_apart name specs.items ≡ true)) }
-    ensures err { IfErr result (λ e. StopsAt e (O.named opener.old) (O.done opener.old) (O.done opener.new) specs.items) }
+    ensures apart { OnOk result (IfSome (O.named opener.old) (λ name. are_apart name plan_path.now specs.items ≡ true)) }
+    ensures err { IfErr result (λ e. StopsAt e (O.named opener.old) plan_path.now (O.done opener.old) (O.done opener.new) specs.items) }
 {
-    match find_clash(alloc, opener, specs.as_slice())? {
+    match find_clash(alloc, opener, plan_path, specs.as_slice())? {
         None => open_apart(alloc, opener, specs),
         Some(clash) => Err(OpenFault::Shared(shared(alloc, specs.as_slice(), clash)?)),
     }

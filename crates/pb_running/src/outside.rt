@@ -6,7 +6,8 @@ ghost use Rattle.pb_running.specs.Opened.{shown};
 ghost use Rattle.pb_running.specs.Scripted.{script_at, script_in};
 
 use crate::any_port::AnyPort;
-use crate::completing::Written;
+use crate::completing::CaptureFiles;
+use crate::input::Input;
 use crate::network_fault::NetworkFault;
 use crate::opened::{Opened, open_all};
 use crate::system::{Output, System};
@@ -29,17 +30,17 @@ use std::sync::Arc;
 /// A port over memory, files of the system or a socket of it.
 pub(crate) type SystemPort = AnyPort<
     MemoryPort,
-    CapturePort<Over<File>, Over<File>>,
+    CapturePort<Over<Input>, Over<File>>,
     SocketPort<Over<UnixStream>>,
 >;
 
 /// What a port has open at the system.
-type SystemOpened = Opened<File, Output, UnixStream>;
+type SystemOpened = Opened<Input, Output, UnixStream>;
 
-/// The ports of a network, and the files that some of them write.
+/// The ports of a network, and the files of those over captures.
 pub(crate) struct Outside {
     pub ports: Vec<Watched<SystemPort>>,
-    pub files: Vec<Written>,
+    pub files: Vec<CaptureFiles>,
 }
 
 /// The frames of a script, in a queue.
@@ -53,13 +54,13 @@ fn script_of(alloc: Global, frames: Seq<Bytes>) -> Result<VecDeque<Bytes>, Alloc
     Ok(script)
 }
 
-/// The port at a place of the plan, of what it has open. The file that it writes is put behind others.
+/// The port at a place of the plan, of what it has open. The files of one over captures are put behind others.
 fn port_of(
     alloc: Global,
     capacity: u16,
     place: usize,
     opened: SystemOpened,
-    files: &mut Vec<Written>,
+    files: &mut Vec<CaptureFiles>,
 ) -> Result<SystemPort, AllocError>
     requires { (0 < capacity) × (capacity ≤ 4096) }
     ensures { IfOk result (λ port. script_at port ≡ (shown opened).0) }
@@ -72,15 +73,18 @@ fn port_of(
         Opened::Capture {
             input,
             output,
+            read,
             write,
         } => {
             let Output { file, twin, .. } = output;
-            files.push(Written {
+            files.push(CaptureFiles {
                 place,
-                path: write,
+                read,
+                write,
                 file: twin,
             })?;
-            let port = CapturePort::new(alloc, capacity, Over::new(input), Over::new(file));
+            let (input, file) = (Over::new(input), Over::new(file));
+            let port = CapturePort::new(alloc, capacity, input, file);
             Ok(AnyPort::Capture(port))
         }
         Opened::Socket(stream) => {
@@ -104,14 +108,14 @@ fn number_at(place: usize) -> u8 {
     place.min(254) as u8 + 1
 }
 
-/// The ports of a plan, of what each has open. Their frames are counted, and the files that some write are put behind
-/// others.
+/// The ports of a plan, of what each has open. Their frames are counted, and the files of those over captures are put
+/// behind others.
 fn ports_of(
     alloc: Global,
     plan: &Plan,
     opened: Vec<SystemOpened>,
     traffic: &Arc<Traffic, Global>,
-    files: &mut Vec<Written>,
+    files: &mut Vec<CaptureFiles>,
 ) -> Result<Vec<Watched<SystemPort>>, AllocError>
     requires sound { IsSound plan.now }
     requires count { vec_len opened ≡ length plan.now.customers }
@@ -128,6 +132,7 @@ fn ports_of(
             port,
             number: number_at(place),
             traffic,
+            latest: 0,
         })?;
     }
     Ok(ports)
@@ -138,6 +143,7 @@ fn ports_of(
 fn open_system<R: Files<File = File> + Net, E: Write>(
     rt: &R,
     alloc: Global,
+    plan_path: &str,
     plan: &Plan,
     specs: Vec<PortSpec>,
     errors: &mut E,
@@ -146,7 +152,7 @@ fn open_system<R: Files<File = File> + Net, E: Write>(
     ensures scripts { IfOk result (λ opened. map (λ port. (shown port).0) opened.items ≡ map script_in specs.items) }
     ensures err { IfErr result (λ e. (e ≡ NetworkFault.Path) ⊎ (e ≡ NetworkFault.Memory)) }
 {
-    match open_all(alloc, &mut System { rt }, specs) {
+    match open_all(alloc, &mut System { rt }, plan_path, specs) {
         Ok(opened) => Ok(opened),
         Err(fault) => {
             let _ = write_open_fault(alloc, plan.customers.as_slice(), &fault, errors);
@@ -155,11 +161,13 @@ fn open_system<R: Files<File = File> + Net, E: Write>(
     }
 }
 
-/// Opens the ports of a plan. Their frames are counted. `Path` is answered where a file or socket can't be opened, or
-/// a file has two uses, and told on the error writer; `Memory` where memory ran out. No other fault comes.
+/// Opens the ports of a plan, which was read at a path. Their frames are counted. `Path` is answered where a file or socket
+/// can't be opened, or a file has two uses, and told on the error writer; `Memory` where memory ran out. No other fault
+/// comes.
 pub(crate) fn open_ports<R: Files<File = File> + Net, E: Write>(
     rt: &R,
     alloc: Global,
+    plan_path: &str,
     plan: &Plan,
     specs: Vec<PortSpec>,
     traffic: &Arc<Traffic, Global>,
@@ -171,7 +179,7 @@ pub(crate) fn open_ports<R: Files<File = File> + Net, E: Write>(
     ensures scripts { IfOk result (λ outside. map (λ w. script_at w.port) outside.ports.items ≡ map script_in specs.items) }
     ensures err { IfErr result (λ e. (e ≡ NetworkFault.Path) ⊎ (e ≡ NetworkFault.Memory)) }
 {
-    let opened = open_system(rt, alloc, plan, specs, errors)?;
+    let opened = open_system(rt, alloc, plan_path, plan, specs, errors)?;
     let mut files = Vec::new(alloc);
     let ports = ports_of(alloc, plan, opened, traffic, &mut files)?;
     Ok(Outside { ports, files })

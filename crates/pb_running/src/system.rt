@@ -1,5 +1,6 @@
 //! The files and sockets of the system.
 
+use crate::input::{Input, input_path, open_input};
 use crate::openings::Openings;
 use mio::net::UnixStream;
 use pb_frame::{Memory, Text};
@@ -53,8 +54,9 @@ fn missing_file(rt: &impl Files, alloc: Global, path: &str) -> Result<String, Al
     format!(in alloc; "{folder}/{name}")
 }
 
-/// Which file a path names, as a text. A device, as `/dev/null`, may have several uses.
+/// Which file a path names, as a text, where `-` is standard input. A device, as `/dev/null`, may have several uses.
 fn file_at(rt: &impl Files, alloc: Global, path: &str) -> Result<Option<String>, AllocError> {
+    let path = input_path(path);
     match fs::metadata(rt, path) {
         Ok(metadata) if metadata.file_type().is_char_device() => Ok(None),
         Ok(metadata) => Ok(Some(number_of(alloc, &metadata)?)),
@@ -95,7 +97,7 @@ fn remove_made(rt: &impl Files, path: &str, is_made: bool) {
 }
 
 impl<R: Files<File = File> + Net> Openings for System<'_, R> {
-    type Input = File;
+    type Input = Input;
 
     type Output = Output;
 
@@ -106,8 +108,8 @@ impl<R: Files<File = File> + Net> Openings for System<'_, R> {
         Ok(file.map(|text| Text::from_string(text)))
     }
 
-    fn open_read(&mut self, path: &str) -> io::Result<File> {
-        File::open(self.rt, path)
+    fn open_read(&mut self, path: &str) -> io::Result<Input> {
+        open_input(self.rt, path)
     }
 
     fn connect(&mut self, path: &str) -> io::Result<UnixStream> {

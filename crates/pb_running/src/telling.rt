@@ -4,7 +4,7 @@ ghost use Rattle.std.specs.Prelude.{◌≡◌, ◌++◌, List, ℕ, string_bytes
 ghost use Rattle.std.specs.Io.KnownBytes.{Appends};
 ghost use Rattle.pb_running.specs.Telling.{name_at, word_of, path_line, sharing, TellsFault};
 
-use crate::open_fault::{OpenFault, Verb};
+use crate::open_fault::{FileUser, OpenFault, Verb};
 use pb_frame::Memory;
 use pb_lan::CustomerPlan;
 use pb_print::CommandFault;
@@ -77,14 +77,20 @@ pub(crate) fn write_path_fault<W: Write>(
     write_line(alloc, name, word_of(verb), path, why.as_str(), writer)
 }
 
-/// What is said of a file that another port has too.
-fn sharing(alloc: Global, other: &str, is_written: bool) -> Result<String, AllocError>
-    ensures { IfOk result (λ text. string_bytes text ≡ sharing other.now is_written) }
+/// What is said of a file that has another user too.
+fn sharing(alloc: Global, customers: &[CustomerPlan], other: FileUser) -> Result<String, AllocError>
+    ensures { IfOk result (λ text. string_bytes text ≡ sharing customers.now other) }
 {
-    if is_written {
-        format!(in alloc; "also written by port {other}")
-    } else {
-        format!(in alloc; "also read by port {other}")
+    match other {
+        FileUser::Plan => String::from_str(alloc, "also the plan file"),
+        FileUser::Reader(place) => {
+            let name = name_at(customers, place);
+            format!(in alloc; "also read by port {name}")
+        }
+        FileUser::Writer(place) => {
+            let name = name_at(customers, place);
+            format!(in alloc; "also written by port {name}")
+        }
     }
 }
 
@@ -106,7 +112,7 @@ pub(crate) fn write_open_fault<W: Write>(
         }
         OpenFault::Shared(f) => {
             let name = name_at(customers, f.place);
-            let why = sharing(alloc, name_at(customers, f.other), f.is_written)?;
+            let why = sharing(alloc, customers, f.other)?;
             let word = word_of(Verb::Write);
             write_line(alloc, name, word, f.path.as_str(), why.as_str(), writer)
         }

@@ -2,22 +2,21 @@
 
 ghost use Rattle.std.specs.Prelude.{◌≡◌, ◌++◌, is_some, is_none, IfSome, IfOk, OnOk};
 ghost use Rattle.std.specs.List.{list_any};
-ghost use Rattle.pb_running.specs.Uses.{are_apart, clashes, is_apart, use_of, uses_at};
+ghost use Rattle.pb_running.specs.Uses.{are_apart, clashes, is_apart, use_of, uses_at, writes};
 
+use crate::open_fault::FileUser;
 use crate::openings::Openings;
 use pb_frame::{Memory, Text};
 use pb_service::PortSpec;
 use std::alloc::Global;
 
-/// A use that a port makes of a file.
+/// A use that is made of a file.
 #[derive(Drop)]
 pub(crate) struct FileUse {
     /// Which file it is.
     pub file: Text,
-    /// The port's place in the plan, from 0.
-    pub place: usize,
-    /// It is written; else it is read.
-    pub is_written: bool,
+    /// Who uses it.
+    pub user: FileUser,
 }
 
 /// A port would write a file that has another use.
@@ -25,30 +24,46 @@ pub(crate) struct FileUse {
 pub(crate) struct Clash {
     /// The place in the plan, from 0, of the port that would write it.
     pub place: usize,
-    /// The place of the port that has it too.
-    pub other: usize,
-    /// That port writes it; else it reads it.
-    pub is_written: bool,
+    /// Who uses it too.
+    pub other: FileUser,
+}
+
+/// Whether a user of a file writes it.
+fn writes(user: FileUser) -> bool
+    ensures { result ≡ writes user }
+{
+    match user {
+        FileUser::Writer(_) => true,
+        FileUser::Reader(_) | FileUser::Plan => false,
+    }
+}
+
+/// The place in the plan, from 0, of a port that uses a file.
+fn place_of(user: FileUser) -> usize {
+    match user {
+        FileUser::Reader(place) | FileUser::Writer(place) => place,
+        FileUser::Plan => 0,
+    }
 }
 
 /// Two uses are of one file, and one of them writes it.
 fn is_clash(earlier: &FileUse, later: &FileUse) -> bool
     ensures { result ≡ clashes earlier.now later.now }
 {
-    (earlier.is_written || later.is_written) && earlier.file == later.file
+    let is_written = writes(earlier.user) || writes(later.user);
+    is_written && earlier.file == later.file
 }
 
 /// What is told of two uses: the later one, where it writes.
 fn clash_of(earlier: &FileUse, later: &FileUse) -> Clash {
-    let (one, other) = if later.is_written {
+    let (one, other) = if writes(later.user) {
         (later, earlier)
     } else {
         (earlier, later)
     };
     Clash {
-        place: one.place,
-        other: other.place,
-        is_written: other.is_written,
+        place: place_of(one.user),
+        other: other.user,
     }
 }
 
@@ -77,23 +92,18 @@ fn clash_in(uses: &[FileUse]) -> Option<Clash>
     None
 }
 
-/// Puts the use that a port makes of a path behind others, where it may have no other.
+/// Puts the use that is made of a path behind others, where it may have no other.
 fn put_use<O: Openings>(
     alloc: Global,
     opener: &O,
     uses: &mut Vec<FileUse>,
-    place: usize,
+    user: FileUser,
     path: &str,
-    is_written: bool,
 ) -> Result<(), Memory>
-    ensures { OnOk result (IfSome (O.named opener.now) (λ name. uses.new.items ≡ uses.old.items ++ use_of place is_written (name path.now))) }
+    ensures { OnOk result (IfSome (O.named opener.now) (λ name. uses.new.items ≡ uses.old.items ++ use_of user (name path.now))) }
 {
     if let Some(file) = opener.file_at(alloc, path)? {
-        uses.push(FileUse {
-            file,
-            place,
-            is_written,
-        })?;
+        uses.push(FileUse { file, user })?;
     }
     Ok(())
 }
@@ -109,21 +119,23 @@ fn put_uses<O: Openings>(
     ensures { OnOk result (IfSome (O.named opener.now) (λ name. uses.new.items ≡ uses.old.items ++ uses_at name place spec.now)) }
 {
     if let PortSpec::Capture { read, write } = spec {
-        put_use(alloc, opener, uses, place, read.as_str(), false)?;
-        put_use(alloc, opener, uses, place, write.as_str(), true)?;
+        put_use(alloc, opener, uses, FileUser::Reader(place), read.as_str())?;
+        put_use(alloc, opener, uses, FileUser::Writer(place), write.as_str())?;
     }
     Ok(())
 }
 
-/// A file that a port would write and that has another use, where there is one.
+/// A file that a port would write and that has another use, where there is one. The plan was read at its path.
 pub(crate) fn find_clash<O: Openings>(
     alloc: Global,
     opener: &O,
+    plan_path: &str,
     specs: &[PortSpec],
 ) -> Result<Option<Clash>, Memory>
-    ensures { IfOk result (λ clash. IfSome (O.named opener.now) (λ name. is_none clash ≡ are_apart name specs.now)) }
+    ensures { IfOk result (λ clash. IfSome (O.named opener.now) (λ name. is_none clash ≡ are_apart name plan_path.now specs.now)) }
 {
     let mut uses = Vec::new(alloc);
+    put_use(alloc, opener, &mut uses, FileUser::Plan, plan_path)?;
     for (place, spec) in specs.iter().enumerate() {
         put_uses(alloc, opener, &mut uses, place, spec)?;
     }

@@ -14,6 +14,8 @@ pub(crate) struct Watched<P: Port> {
     /// Its number in the plan, from 1.
     pub number: u8,
     pub traffic: Arc<Traffic, Global>,
+    /// How often the clock had ticked at the latest pump, so that one without a clock goes on from there.
+    pub latest: u32,
 }
 
 impl<P: Port> Port for Watched<P> {
@@ -50,7 +52,8 @@ impl<P: Port> Port for Watched<P> {
     }
 
     fn pump(&mut self, now: u32) -> Pumped {
-        self.port.pump(now)
+        self.latest = self.latest.max(now);
+        self.port.pump(self.latest)
     }
 
     fn unsent(&self) -> &VecDeque<Bytes> {

@@ -6,10 +6,12 @@
 mod captures;
 mod files;
 mod folder;
+mod lingering;
 mod lost;
 mod memory;
 mod openings;
 mod peers;
+mod pipes;
 mod plans;
 mod reports;
 
@@ -26,6 +28,23 @@ use std::sync::{Arc, Wait};
 use std::test::Fail;
 use std::thread::Threads;
 use std::time::Clock;
+
+/// How a plan file is run.
+#[derive(Clone, Copy)]
+struct Manner {
+    /// Where it is said to stand.
+    path: &'static str,
+    strictness: Strictness,
+    /// How many milliseconds ports may write once the run is over.
+    linger: u32,
+}
+
+/// The manner of runs of which no test asks for another. There is no such file.
+const PLAIN: Manner = Manner {
+    path: "plan.toml",
+    strictness: Strictness::Lenient,
+    linger: 100,
+};
 
 /// Every worker may go on. It counts how often it is told that its run is over.
 #[derive(Drop)]
@@ -79,7 +98,7 @@ fn carry<R, G: Watch, W: Write, E: Write>(
     rt: &R,
     alloc: Global,
     file: &str,
-    strictness: Strictness,
+    manner: Manner,
     traffic: &Arc<Traffic, Global>,
     door: &G,
     writer: &mut W,
@@ -90,11 +109,12 @@ where
 {
     let file = file.as_bytes();
     let options = RunOptions {
-        plan: "plan.toml",
+        plan: manner.path,
         control: None,
         settles: false,
-        linger: 0,
+        linger: manner.linger,
     };
+    let strictness = manner.strictness;
     run_network(
         rt, alloc, file, strictness, &options, traffic, door, writer, errors,
     )
@@ -105,7 +125,7 @@ fn run_under<R, W: Write, E: Write>(
     rt: &R,
     alloc: Global,
     parts: [&str; 2],
-    strictness: Strictness,
+    manner: Manner,
     writer: &mut W,
     errors: &mut E,
 ) -> Result<Told, AllocError>
@@ -118,11 +138,11 @@ where
         closed: AtomicU64::new(0),
     };
     let file = file.as_str();
-    let result = carry(rt, alloc, file, strictness, &traffic, &door, writer, errors);
+    let result = carry(rt, alloc, file, manner, &traffic, &door, writer, errors);
     Ok(counted(result, &traffic, &door))
 }
 
-/// The same of a run that is not strict.
+/// The same of a run in the plain manner.
 fn run<R, W: Write, E: Write>(
     rt: &R,
     alloc: Global,
@@ -133,7 +153,7 @@ fn run<R, W: Write, E: Write>(
 where
     R: Files<File = File> + Net + Threads + Wait + Clock + Sync,
 {
-    run_under(rt, alloc, parts, Strictness::Lenient, writer, errors)
+    run_under(rt, alloc, parts, PLAIN, writer, errors)
 }
 
 /// A plan file, and what its network tells and writes.
@@ -156,7 +176,11 @@ where
     R: Files<File = File> + Net + Threads + Wait + Clock + Sync + Abort,
 {
     let (mut output, mut errors) = (Vec::new(alloc), Vec::new(alloc));
-    let told = run_under(rt, alloc, row.parts, strictness, &mut output, &mut errors)?;
+    let manner = Manner {
+        strictness,
+        ..PLAIN
+    };
+    let told = run_under(rt, alloc, row.parts, manner, &mut output, &mut errors)?;
     assert_eq!(rt; told, row.told, "{}", row.report);
     assert!(rt;
         output.as_slice() == row.report.as_bytes(),

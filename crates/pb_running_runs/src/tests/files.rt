@@ -2,13 +2,14 @@
 
 use super::folder::{enter, leave};
 use super::plans::{
-    CAPTURES, FULL, LINKED, NO_FRAMES, ONE_FRAME, PATHS, SAME, TICKS, TWICE, UNMADE,
+    CAPTURES, FULL, LINKED, NO_FRAMES, ONE_FRAME, OVER, PATHS, SAME, TICKS, TWICE, UNMADE,
 };
-use super::{Row, Told, carry, check, joined, run};
+use super::{Manner, PLAIN, Row, Told, carry, check, check_under, joined, run, run_under};
 use pb_lan::Place;
 use pb_run::{Gate, Go};
 use pb_running::{NetworkFault, Opening, Strictness, Traffic, Watch};
 use std::fs;
+use std::os::unix::fs::symlink;
 use std::sync::Arc;
 use std::sync::atomic::{AtomicU64, Ordering};
 use std::test::Fail;
@@ -80,6 +81,36 @@ fn captures_are_carried_and_their_faults_told(rt: HostRuntime) -> Result<(), Fai
     Ok(())
 }
 
+/// Two captures of which the first is pcapng.
+const PCAPNG: Row = Row {
+    parts: ["", CAPTURES],
+    told: Told {
+        result: Ok(3),
+        traffic: (0, 0),
+        closed: 1,
+    },
+    report: "ended stopped\nport P1 entered 0 left 0 filtered 0\nport P2 entered 0 left 0 filtered 0\nport P3 entered 0 left 0 filtered 0\nforest yes\nfault: port P2 1\nfault: port P1 1\n",
+};
+
+#[test]
+fn pcapng_is_told(rt: HostRuntime) -> Result<(), Fail> {
+    let folder = enter(&rt, rt.process())?;
+    fs::write(
+        &rt,
+        "p2.in",
+        b"\n\r\r\n\x1c\0\0\0\x4d\x3c\x2b\x1a\x01\0\0\0\xff\xff\xff\xff\xff\xff\xff\xff",
+    )?;
+    fs::write(
+        &rt,
+        "p1.in",
+        b"\r\r\n\n\x1c\0\0\0\x4d\x3c\x2b\x1a\x01\0\0\0\xff\xff\xff\xff\xff\xff\xff\xff",
+    )?;
+    let remarks = "port P2: p2.in is pcapng: editcap -F pcap writes what is read here\n";
+    check_under(&rt, rt.alloc(), &PCAPNG, Strictness::Lenient, remarks)?;
+    leave(&rt, folder)?;
+    Ok(())
+}
+
 #[test]
 fn frames_that_are_not_written_are_told(rt: HostRuntime) -> Result<(), Fail> {
     let alloc = rt.alloc();
@@ -132,7 +163,7 @@ fn seconds_of_captures_are_those_of_the_workers_turns(rt: HostRuntime) -> Result
         &rt,
         alloc,
         file.as_str(),
-        Strictness::Lenient,
+        PLAIN,
         &traffic,
         &turns,
         &mut output,
@@ -150,42 +181,62 @@ fn seconds_of_captures_are_those_of_the_workers_turns(rt: HostRuntime) -> Result
 /// Runs that come to no end: a plan file, what is told on the error writer, and the files that have to be there and
 /// as they were. What `missing` names must not be there afterwards.
 struct Refused {
+    path: &'static str,
     plan: &'static str,
     told: &'static [u8],
     missing: &'static str,
 }
 
-/// Where the first of these is run, `paths.in` and `paths.out` hold one frame, and `again.in` is another name of
-/// `paths.in`.
-const REFUSED: [Refused; 5] = [
+/// Where the first of these is run, `paths.in` and `paths.out` hold one frame, `again.in` is another name of `paths.in`, and
+/// `paths.again` leads to `paths.out`.
+const REFUSED: [Refused; 7] = [
     // A socket behind a capture is missing: the capture was emptied before.
     Refused {
+        path: "plan.toml",
         plan: PATHS,
         told: b"port P2: connect paths.none: No such file or directory (os error 2)\n",
         missing: "paths.last",
     },
     // One path is read and written: the input was emptied before.
     Refused {
+        path: "plan.toml",
         plan: SAME,
         told: b"port P1: write .//paths.in: also read by port P1\n",
         missing: "paths.last",
     },
     // Two names of one file.
     Refused {
+        path: "plan.toml",
         plan: LINKED,
         told: b"port P1: write again.in: also read by port P1\n",
         missing: "paths.last",
     },
     // Two ports write one file that is not there: each took half of it before.
     Refused {
+        path: "plan.toml",
         plan: TWICE,
         told: b"port P2: write ./paths.last: also written by port P1\n",
         missing: "paths.last",
     },
     // The second output can't be made: the first, which was made, is removed.
     Refused {
+        path: "plan.toml",
         plan: UNMADE,
         told: b"port P2: write paths.none/out: No such file or directory (os error 2)\n",
+        missing: "paths.last",
+    },
+    // The plan stands where a port writes: it was emptied before.
+    Refused {
+        path: ".//paths.out",
+        plan: OVER,
+        told: b"port P1: write paths.out: also the plan file\n",
+        missing: "paths.last",
+    },
+    // The plan has another name there.
+    Refused {
+        path: "paths.again",
+        plan: OVER,
+        told: b"port P1: write paths.out: also the plan file\n",
         missing: "paths.last",
     },
 ];
@@ -197,9 +248,14 @@ fn a_run_that_cannot_open_its_files_leaves_them(rt: HostRuntime) -> Result<(), F
     fs::write(&rt, "paths.in", ONE_FRAME)?;
     fs::write(&rt, "paths.out", ONE_FRAME)?;
     fs::hard_link(&rt, "paths.in", "again.in")?;
+    symlink(&rt, "paths.out", "paths.again")?;
     for row in &REFUSED {
         let (mut output, mut errors) = (Vec::new(alloc), Vec::new(alloc));
-        let told = run(&rt, alloc, ["", row.plan], &mut output, &mut errors)?;
+        let manner = Manner {
+            path: row.path,
+            ..PLAIN
+        };
+        let told = run_under(&rt, alloc, ["", row.plan], manner, &mut output, &mut errors)?;
         assert_eq!(rt; told.result, Err(NetworkFault::Path));
         assert!(rt; output.is_empty());
         assert!(rt; errors.as_slice() == row.told, "{}", row.plan);

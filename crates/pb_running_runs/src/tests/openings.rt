@@ -4,7 +4,7 @@ ghost use Rattle.std.specs.Prelude.{◌≡◌, Some, IfOk};
 
 use bytes::Bytes;
 use pb_frame::{Memory, Seq, Text};
-use pb_running::{Deed, OpenFault, Opened, Openings, open_all};
+use pb_running::{Deed, FileUser, OpenFault, Opened, Openings, open_all};
 use pb_service::PortSpec;
 use std::alloc::{AllocError, Global};
 use std::io;
@@ -133,21 +133,19 @@ fn told(
             writeln!(out, "unemptied {} {}", f.place, f.path.as_str())?;
         }
         Err(OpenFault::Shared(f)) => {
-            let word = if f.is_written { "written" } else { "read" };
-            writeln!(
-                out,
-                "{} by {}, also {word} by {}",
-                f.path.as_str(),
-                f.place,
-                f.other
-            )?;
+            write!(out, "{} by {}, also ", f.path.as_str(), f.place)?;
+            match f.other {
+                FileUser::Plan => writeln!(out, "the plan")?,
+                FileUser::Reader(place) => writeln!(out, "read by {place}")?,
+                FileUser::Writer(place) => writeln!(out, "written by {place}")?,
+            }
         }
         Err(OpenFault::Memory) => writeln!(out, "memory")?,
     }
     Ok(out)
 }
 
-/// Ports, what can't be opened and what can't be emptied, what is done, and how many outputs are given up.
+/// Ports of a plan that was read at `plan`, what can't be opened and what can't be emptied, what is done, and how many outputs are given up.
 struct Row {
     kinds: &'static [Kind],
     missing: &'static str,
@@ -163,7 +161,7 @@ const TWO: &[Kind] = &[
     Kind::Capture("b.in", "b.out"),
 ];
 
-const ROWS: [Row; 9] = [
+const ROWS: [Row; 11] = [
     Row {
         kinds: TWO,
         missing: "",
@@ -233,6 +231,22 @@ const ROWS: [Row; 9] = [
         told: "read a\nread a\nwrite c\nwrite d\nempty c\nempty d\nok 2\n",
         forgotten: 0,
     },
+    // A port writes the plan: it was emptied before.
+    Row {
+        kinds: &[Kind::Memory, Kind::Capture("a", "plan")],
+        missing: "",
+        stuck: "",
+        told: "plan by 1, also the plan\n",
+        forgotten: 0,
+    },
+    // The plan may be read.
+    Row {
+        kinds: &[Kind::Capture("plan", "c")],
+        missing: "",
+        stuck: "",
+        told: "read plan\nwrite c\nempty c\nok 1\n",
+        forgotten: 0,
+    },
 ];
 
 /// What is done for a row is what it says.
@@ -245,7 +259,7 @@ fn check(rt: &impl Abort, alloc: Global, row: &Row) -> Result<(), Fail> {
         forgotten: 0,
     };
     let specs = specs_of(alloc, row.kinds)?;
-    let outcome = open_all(alloc, &mut desk, specs);
+    let outcome = open_all(alloc, &mut desk, "plan", specs);
     let told = told(alloc, &desk, &outcome)?;
     assert_eq!(rt; told.as_str(), row.told);
     assert_eq!(rt; desk.forgotten, row.forgotten, "{}", row.told);

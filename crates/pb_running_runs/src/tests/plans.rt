@@ -246,6 +246,57 @@ read = "paths.in"
 write = "paths.none/out"
 "#;
 
+/// One bridge with a capture.
+pub(super) const OVER: &str = r#"
+[[bridge]]
+name = "B1"
+address = "02-00-00-00-00-01"
+
+[[service]]
+name = "red"
+vid = 100
+
+[[port]]
+name = "P1"
+bridge = "B1"
+port = 1
+service = "red"
+kind = "capture"
+read = "paths.in"
+write = "paths.out"
+"#;
+
+/// One bridge with room for many frames, and a socket. Behind it comes a port with a script.
+pub(super) const BUSY: &str = r#"
+[network]
+ring = 4096
+
+[[bridge]]
+name = "B1"
+address = "02-00-00-00-00-01"
+queue = 4096
+
+[[service]]
+name = "red"
+vid = 100
+
+[[port]]
+name = "P2"
+bridge = "B1"
+port = 2
+service = "red"
+kind = "socket"
+path = "peer.sock"
+queue = 4096
+
+[[port]]
+name = "C1"
+bridge = "B1"
+port = 1
+service = "red"
+queue = 4096
+"#;
+
 /// One bridge with a memory port and a socket.
 pub(super) const SOCKET: &str = r#"
 [[bridge]]
