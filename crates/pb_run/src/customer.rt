@@ -8,7 +8,7 @@ use crate::refusal::{Refusal, Taken, turn};
 use pb_lan::Place;
 use pb_port::{Offered, Polled, Port, Pumped};
 use pb_ring::Wiring;
-use pb_work::{Did, Finish, Moment, Turn, Work};
+use pb_work::{Did, Finish, Moment, PortView, Turn, Work};
 use std::snapshot::Snapshot;
 
 /// A customer port of a plan: the port outside, and its access.
@@ -152,6 +152,10 @@ impl<W: Wiring, P: Port> Work for CustomerWorker<W, P> {
 
     fn place(&self) -> Place {
         Place::Customer(self.access.book.number)
+    }
+
+    fn shown(&self, _port: u8) -> Option<PortView> {
+        None
     }
 
     fn turn(&mut self, moment: Moment) -> Turn {

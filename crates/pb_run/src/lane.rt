@@ -8,7 +8,7 @@ use crate::refusal::{Refusal, Taken, turn};
 use pb_lan::Place;
 use pb_link::Lane;
 use pb_ring::{Inlet, Outlet, Wiring};
-use pb_work::{Finish, Moment, Turn, Work};
+use pb_work::{Finish, Moment, PortView, Turn, Work};
 use std::collections::LinkedList;
 
 /// A lane of a plan with the two rings that it joins: from one it takes, and onto the other it puts.
@@ -95,6 +95,10 @@ impl<W: Wiring> Work for LaneWorker<W> {
 
     fn place(&self) -> Place {
         Place::Lane(self.number)
+    }
+
+    fn shown(&self, _port: u8) -> Option<PortView> {
+        None
     }
 
     fn turn(&mut self, _moment: Moment) -> Turn {

@@ -85,11 +85,8 @@ pub trait Work: Drop {
     fn place(&self) -> Place;
 
     /// What is shown of the local port of this number, 1 to 16. None: nothing is.
-    fn shown(&self, _port: u8) -> Option<PortView>
-        ensures { result ≡ shown_of self.now _port }
-    {
-        None
-    }
+    fn shown(&self, port: u8) -> Option<PortView>
+        ensures { result ≡ shown_of self.now port };
 
     /// Takes a turn: a tick where the clock ticks, and at most one step more.
     fn turn(&mut self, moment: Moment) -> Turn
