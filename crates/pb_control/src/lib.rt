@@ -20,6 +20,7 @@ mod tree;
 pub use board::Board;
 pub use control::Control;
 pub use lines::LineBuffer;
+pub use path::{listen, node_at};
 pub use reading::read_request;
 pub use replies::answer;
 pub use request::{Refused, Request};

@@ -13,8 +13,9 @@ const MODE: u32 = 0o600;
 /// More than the peers that the system lets wait.
 const MOST_WAITING: u32 = 10_000;
 
-/// The device and the number of the file that stands at a path, itself and not what it leads to.
-pub(crate) fn node_at(rt: &impl Files, path: &str) -> Option<(u64, u64)> {
+/// The device and the number of the file that stands at a path, itself and not what it leads to. None is answered where
+/// none stands there, or it can't be looked at.
+pub fn node_at(rt: &impl Files, path: &str) -> Option<(u64, u64)> {
     match fs::symlink_metadata(rt, path) {
         Ok(metadata) => Some((metadata.dev(), metadata.ino())),
         Err(_) => None,
@@ -63,9 +64,13 @@ fn turn_away(listener: &UnixListener) {
     }
 }
 
-/// Makes the socket, to which only its owner may connect. The system sets a mode once the socket is there, so those are
-/// turned away who connected before.
-pub(crate) fn listen<R: Files + Net>(rt: &R, path: &str) -> io::Result<UnixListener> {
+/// Makes a Unix socket at a path, to which only its owner may connect, and of which no call waits. The system sets a mode once
+/// the socket is there, so those are turned away who connected before.
+///
+/// A file that stands there is replaced only where it is a socket on which nobody listens. Else the error is `AddrInUse`
+/// where somebody does, or may, and `AlreadyExists` for any other file, a symbolic link among them; all other errors are
+/// the system's. After an error no socket of ours is left.
+pub fn listen<R: Files + Net>(rt: &R, path: &str) -> io::Result<UnixListener> {
     let listener = bind(rt, path)?;
     match fs::set_permissions(rt, path, Permissions::from_mode(MODE)) {
         Ok(()) => {

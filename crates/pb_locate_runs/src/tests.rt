@@ -59,6 +59,15 @@ const ROWS: &[Row] = &[
     ),
     (b"[[port]]\nname = 'P'\n[[link]]\nname = 'L'\n", "line 3"),
     (b"[[port]]\nname = 'P'", "line 1"),
+    (
+        b"[[bridge]]\nname='B'\naddress='02-00-00-00-00-01'\n[[service]]\nname='S'\nvid=1\n[[port]]\nname='P'\nbridge='B'\nport=1\nservice='S'\n\
+          kind='capture'\nread='r'\nwrite='w'\nstamp='time'\n",
+        "line 7",
+    ),
+    (
+        b"[[port]]\nname='P'\nbridge='B'\nport=1\nservice='S'\nkind='socket'\npath='p'\nlisten='l'\n",
+        "line 1",
+    ),
     // eleven tables and more
     (
         b"[[service]]\nname='a'\nvid=1\n[[service]]\nname='b'\nvid=2\n[[service]]\nname='c'\nvid=3\n[[service]]\nname='d'\nvid=4\n\

@@ -5,7 +5,7 @@ use Rattle.pb_running.specs.Deeds.{HasBegun}
 use Rattle.pb_running.specs.Scripted.{script_in}
 use Rattle.pb_running.specs.Uses.{are_apart}
 use Rattle.pb_running.specs.declared.deed.Deed.{Deed}
-use Rattle.pb_running.specs.declared.deed.Deed.TheVariants.{Read, Connect, Write, Empty}
+use Rattle.pb_running.specs.declared.deed.Deed.TheVariants.{Read, Connect, Listen, Write, Empty}
 use Rattle.pb_running.specs.declared.open_fault.OpenFault.{OpenFault}
 use Rattle.pb_running.specs.declared.open_fault.OpenFault.TheVariants.{Unopened, Unemptied, Shared, Memory as no_memory}
 use Rattle.pb_running.specs.declared.opened.Opened.{Opened}
@@ -20,8 +20,8 @@ Shown = Option (List (List ℕ)) × Option (List ℕ)
 -- the path that a port writes, where it has one
 abbrev pub write_in : PortSpec → Option (List ℕ)
 write_in (Memory frames) = None
-write_in (Capture read write) = Some write
-write_in (Socket path) = None
+write_in (Capture read write stamp) = Some write
+write_in (Socket path listens) = None
 
 -- what the plan file asks of a port
 abbrev pub asked : PortSpec → Shown
@@ -30,14 +30,15 @@ asked spec = (script_in spec, write_in spec)
 -- what a port has open
 abbrev pub shown : {I O S : Type 0} → Opened I O S → Shown
 shown (in_memory frames) = (Some frames, None)
-shown (files input output read write) = (None, Some write)
+shown (files input output read write stamp) = (None, Some write)
 shown (stream socket) = (None, None)
 
--- what is opened first: the file to read, or the socket
+-- what is opened first: the file to read, or the socket, which is made or connected to
 abbrev pub entering : PortSpec → List Deed
 entering (Memory frames) = []
-entering (Capture read write) = Read read ∷ []
-entering (Socket path) = Connect path ∷ []
+entering (Capture read write stamp) = Read read ∷ []
+entering (Socket path true) = Listen path ∷ []
+entering (Socket path false) = Connect path ∷ []
 
 -- a path, where there is one, as it is opened to be written, and as it is emptied
 abbrev pub opening : Option (List ℕ) → List Deed

@@ -15,8 +15,8 @@ use Rattle.pb_service.specs.declared.port_spec.PortSpec.TheVariants.{Memory, Cap
 -- the frames that come in at a port, where the file lists them
 abbrev pub script_in : PortSpec → Option (List (List ℕ))
 script_in (Memory frames) = Some frames
-script_in (Capture read write) = None
-script_in (Socket path) = None
+script_in (Capture read write stamp) = None
+script_in (Socket path listens) = None
 
 -- the frames that a port has still to give, where it keeps them in memory
 abbrev pub script_at : {C S : Type 0} → AnyPort MemoryPort C S → Option (List (List ℕ))

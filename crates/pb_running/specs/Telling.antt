@@ -8,7 +8,7 @@ use Rattle.pb_running.specs.declared.open_fault.OpenFault.{OpenFault}
 use Rattle.pb_running.specs.declared.open_fault.OpenFault.TheVariants.{Unopened, Unemptied, Shared, Memory}
 use Rattle.pb_running.specs.declared.open_fault.PathFault.{PathFault}
 use Rattle.pb_running.specs.declared.open_fault.Verb.{Verb}
-use Rattle.pb_running.specs.declared.open_fault.Verb.TheVariants.{Read, Write, Connect}
+use Rattle.pb_running.specs.declared.open_fault.Verb.TheVariants.{Read, Write, Connect, Listen}
 
 -- the name of the customer port at a place, from 0, or nothing
 abbrev pub name_at : List CustomerPlan → ℕ → List ℕ
@@ -21,6 +21,7 @@ abbrev pub word_of : Verb → List ℕ
 word_of Read = codes "read"
 word_of Write = codes "write"
 word_of Connect = codes "connect"
+word_of Listen = codes "listen"
 
 -- a port's name, what it was to do with a path, and why it could not
 abbrev pub path_line : List ℕ → List ℕ → List ℕ → List ℕ → List ℕ

@@ -31,8 +31,8 @@ use_of user (Some file) = record { file = file; user = user } ∷ []
 -- the uses that a port makes of files
 abbrev pub uses_at : (List ℕ → Option (List ℕ)) → ℕ → PortSpec → List FileUse
 uses_at name place (Memory frames) = []
-uses_at name place (Capture read write) = use_of (Reader place) (name read) ++ use_of (Writer place) (name write)
-uses_at name place (Socket path) = []
+uses_at name place (Capture read write stamp) = use_of (Reader place) (name read) ++ use_of (Writer place) (name write)
+uses_at name place (Socket path listens) = []
 
 -- the uses that ports make of files, from a place of the plan on
 abbrev pub uses_in : (List ℕ → Option (List ℕ)) → ℕ → List PortSpec → List FileUse

@@ -9,6 +9,8 @@ pub enum Deed {
     Read(Text),
     /// A socket was connected to.
     Connect(Text),
+    /// A socket was made, at which a peer may connect.
+    Listen(Text),
     /// A file was opened to be written, and made where it was missing. What stood in it stays.
     Write(Text),
     /// What stood in a file was taken away.

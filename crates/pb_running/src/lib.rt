@@ -15,6 +15,7 @@ mod openings;
 mod options;
 mod outside;
 mod pcapng;
+mod peer;
 mod report;
 mod strictness;
 mod system;

@@ -20,6 +20,7 @@ use crate::network_fault::NetworkFault;
 use crate::options::RunOptions;
 use crate::outside::{Outside, SystemPort, open_ports};
 use crate::pcapng::show_pcapng;
+use crate::peer::remove_sockets;
 use crate::report::write_report;
 use crate::strictness::{Strictness, exit_status};
 use crate::watched::Watched;
@@ -240,12 +241,18 @@ where
     ensures none { IfErr result (λ e. e ≢ NetworkFault.Write → Keeps (W.contents writer.old) (W.contents writer.new)) }
 {
     let (path, linger) = (options.plan, options.linger);
-    let outside = open_ports(rt, alloc, path, plan, specs, traffic, errors)?;
-    let Outside { ports, files } = outside;
+    let outside = open_ports(rt, alloc, path, plan, specs, limits, traffic, errors)?;
+    let Outside {
+        ports,
+        files,
+        sockets,
+    } = outside;
     let files = files.as_slice();
-    run_ports(
+    let ran = run_ports(
         rt, alloc, plan, ports, files, limits, strictness, linger, gate, writer, errors,
-    )
+    );
+    remove_sockets(rt, sockets.as_slice());
+    ran
 }
 
 /// Runs the network of a plan file, whose ports lead to the files and sockets that it names, each bridge, each
@@ -264,8 +271,8 @@ where
 /// the answer is 1.
 ///
 /// Once a run is over, its ports have a while to write what still waits in them, as the options say. A file to which nothing
-/// left is made a capture without records then, or `errors` is told why it can't be; and `errors` is told which inputs are
-/// pcapng.
+/// left is made a capture without records then, or `errors` is told why it can't be; sockets that ports have made are
+/// removed; and `errors` is told which inputs are pcapng.
 ///
 /// `Path` is answered where a file can't be opened, made or emptied, a socket not be connected to or made, or a file has two
 /// uses, and `errors` is told which: the control socket is made first, and then files and sockets are opened as [`open_all`]

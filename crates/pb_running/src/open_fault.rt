@@ -17,6 +17,8 @@ pub enum Verb {
     Write,
     /// It connects to the socket.
     Connect,
+    /// It makes the socket.
+    Listen,
 }
 
 /// Who uses a file. A port goes by its place in the plan, from 0.
@@ -57,7 +59,7 @@ pub struct SharedFile {
 /// Why the ports of a plan were not opened.
 #[derive(Debug, Drop)]
 pub enum OpenFault {
-    /// A file can't be opened or made, or a socket not be connected to. No file was emptied.
+    /// A file can't be opened or made, or a socket not be connected to or made. No file was emptied.
     Unopened(PathFault),
     /// All were open, and a file can't be emptied. Those before it in the plan are empty.
     Unemptied(PathFault),

@@ -13,7 +13,7 @@ use crate::openings::Openings;
 use crate::uses::{Clash, find_clash};
 use bytes::Bytes;
 use pb_frame::{Memory, Seq, Text};
-use pb_service::PortSpec;
+use pb_service::{PortSpec, Stamp};
 use std::alloc::Global;
 
 /// What a port has open.
@@ -31,12 +31,36 @@ pub enum Opened<I, O, S> {
         read: Text,
         /// The path of the file that it writes.
         write: Text,
+        /// What times are written there.
+        stamp: Stamp,
     },
     /// The stream of its socket.
     Socket(S),
 }
 
-/// Opens what a port reads, or connects it to its socket.
+/// Makes the socket of a port, or connects it to its socket.
+fn open_socket<O: Openings>(
+    opener: &mut O,
+    place: usize,
+    path: Text,
+    listens: bool,
+) -> Result<O::Stream, OpenFault>
+    ensures ok { OnOk result (Adds (O.done opener.old) (O.done opener.new) (entering (PortSpec.Socket path listens))) }
+    ensures err { IfErr result (λ e. IsUnopened e × (O.done opener.new ≡ O.done opener.old)) }
+{
+    if listens {
+        return match opener.listen(path.as_str()) {
+            Ok(stream) => Ok(stream),
+            Err(error) => Err(unopened(place, Verb::Listen, path, error)),
+        };
+    }
+    match opener.connect(path.as_str()) {
+        Ok(stream) => Ok(stream),
+        Err(error) => Err(unopened(place, Verb::Connect, path, error)),
+    }
+}
+
+/// Opens what a port reads, or connects it to its socket, or makes that.
 fn open_in<O: Openings>(
     opener: &mut O,
     place: usize,
@@ -47,7 +71,7 @@ fn open_in<O: Openings>(
 {
     match spec {
         PortSpec::Memory(frames) => Ok(Opened::Memory(frames)),
-        PortSpec::Capture { read, write } => match opener.open_read(read.as_str()) {
+        PortSpec::Capture { read, write, stamp } => match opener.open_read(read.as_str()) {
             Ok(input) => {
                 let output = ();
                 Ok(Opened::Capture {
@@ -55,18 +79,21 @@ fn open_in<O: Openings>(
                     output,
                     read,
                     write,
+                    stamp,
                 })
             }
             Err(error) => Err(unopened(place, Verb::Read, read, error)),
         },
-        PortSpec::Socket { path } => match opener.connect(path.as_str()) {
-            Ok(stream) => Ok(Opened::Socket(stream)),
-            Err(error) => Err(unopened(place, Verb::Connect, path, error)),
-        },
+        PortSpec::Socket { path, listens } => {
+            match open_socket(opener, place, path, listens) {
+                Ok(stream) => Ok(Opened::Socket(stream)),
+                Err(fault) => Err(fault),
+            }
+        }
     }
 }
 
-/// Opens what the ports read, and connects them to their sockets, in the plan's order.
+/// Opens what the ports read, and connects them to their sockets, or makes those, in the plan's order.
 fn open_ins<O: Openings>(
     alloc: Global,
     opener: &mut O,
@@ -100,6 +127,7 @@ fn open_out<O: Openings>(
             input,
             read,
             write,
+            stamp,
             ..
         } => match opener.open_write(write.as_str()) {
             Ok(output) => Ok(Opened::Capture {
@@ -107,6 +135,7 @@ fn open_out<O: Openings>(
                 output,
                 read,
                 write,
+                stamp,
             }),
             Err(error) => Err(unopened(place, Verb::Write, write, error)),
         },
@@ -215,8 +244,8 @@ fn empty_outs<O: Openings>(
     Ok(())
 }
 
-/// Opens what ports read and write and connects them to their sockets, where no file has two uses; with all open,
-/// empties what they write.
+/// Opens what ports read and write and their sockets, where no file has two uses; with all open, empties what they
+/// write.
 fn open_apart<O: Openings>(
     alloc: Global,
     opener: &mut O,
@@ -248,8 +277,8 @@ fn shared(alloc: Global, specs: &[PortSpec], clash: Clash) -> Result<SharedFile,
 /// Opens the ports of a plan, as their rows of the plan file say, which was read at a path.
 ///
 /// No file has two uses: `Shared` is answered where one would be written by two ports, written and read, or is the plan
-/// file itself and written, and then nothing was opened. Then every file to read is opened and every socket connected to,
-/// in the plan's order, then every file to write, which keeps what stands in it and is made where it is missing;
+/// file itself and written, and then nothing was opened. Then every file to read is opened and every socket connected to
+/// or made, in the plan's order, then every file to write, which keeps what stands in it and is made where it is missing;
 /// and once all are open, those to write are emptied. `Unopened` is answered where one can't be opened, and then none was emptied, and those that
 /// were made are removed. `Unemptied` is answered where one can't be emptied. `Memory` is answered where memory ran
 /// out, and then none was emptied.

@@ -3,7 +3,7 @@
 ghost use Rattle.std.specs.Prelude.{◌≡◌, ℕ, List, [], ◌∷◌, Option, None, IfSome, IfOk, OnOk, OnErr};
 ghost use Rattle.pb_running.specs.Deeds.{Adds};
 ghost use Rattle.pb_running.specs.declared.deed.Deed.{Deed};
-ghost use Rattle.pb_running.specs.declared.deed.Deed.TheVariants.{Read as reads, Connect as connects, Write as writes, Empty as empties};
+ghost use Rattle.pb_running.specs.declared.deed.Deed.TheVariants.{Read as reads, Connect as connects, Listen as listens, Write as writes, Empty as empties};
 
 use pb_frame::{Memory, Text};
 use std::alloc::Global;
@@ -41,6 +41,11 @@ pub trait Openings {
     /// Connects to a socket.
     fn connect(&mut self, path: &str) -> io::Result<Self::Stream>
         ensures ok { OnOk result (Adds (done self.old) (done self.new) (connects path.now ∷ [])) }
+        ensures err { OnErr result (done self.new ≡ done self.old) };
+
+    /// Makes a socket, at which one peer may connect.
+    fn listen(&mut self, path: &str) -> io::Result<Self::Stream>
+        ensures ok { OnOk result (Adds (done self.old) (done self.new) (listens path.now ∷ [])) }
         ensures err { OnErr result (done self.new ≡ done self.old) };
 
     /// Opens a file to be written, and makes it where it is missing. What stands in it stays.

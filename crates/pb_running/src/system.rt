@@ -2,7 +2,9 @@
 
 use crate::input::{Input, input_path, open_input};
 use crate::openings::Openings;
+use crate::peer::{Peer, SocketFile};
 use mio::net::UnixStream;
+use pb_control::{listen, node_at};
 use pb_frame::{Memory, Text};
 use std::alloc::{AllocError, Global};
 use std::fs::{File, Files, Metadata, OpenOptions};
@@ -16,6 +18,9 @@ use std::{fs, io};
 #[derive(Drop)]
 pub(crate) struct System<'a, R> {
     pub rt: &'a R,
+    pub alloc: Global,
+    /// The sockets that were made, or that could not be.
+    pub sockets: Vec<SocketFile>,
 }
 
 /// A file that is written.
@@ -101,7 +106,7 @@ impl<R: Files<File = File> + Net> Openings for System<'_, R> {
 
     type Output = Output;
 
-    type Stream = UnixStream;
+    type Stream = Peer;
 
     fn file_at(&self, alloc: Global, path: &str) -> Result<Option<Text>, Memory> {
         let file = file_at(self.rt, alloc, path)?;
@@ -112,8 +117,22 @@ impl<R: Files<File = File> + Net> Openings for System<'_, R> {
         open_input(self.rt, path)
     }
 
-    fn connect(&mut self, path: &str) -> io::Result<UnixStream> {
-        UnixStream::connect(self.rt, path)
+    fn connect(&mut self, path: &str) -> io::Result<Peer> {
+        let stream = UnixStream::connect(self.rt, path)?;
+        Ok(Peer::Here(stream))
+    }
+
+    fn listen(&mut self, path: &str) -> io::Result<Peer> {
+        let kept = String::from_str(self.alloc, path)?;
+        self.sockets.push(SocketFile {
+            path: Text::from_string(kept),
+            node: None,
+        })?;
+        let listener = listen(self.rt, path)?;
+        if let Some(last) = self.sockets.last_mut() {
+            last.node = node_at(self.rt, path);
+        }
+        Ok(Peer::Awaited(listener))
     }
 
     fn open_write(&mut self, path: &str) -> io::Result<Output> {

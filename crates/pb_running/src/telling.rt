@@ -31,6 +31,7 @@ fn word_of(verb: Verb) -> &'static str
         Verb::Read => "read",
         Verb::Write => "write",
         Verb::Connect => "connect",
+        Verb::Listen => "listen",
     }
 }
 

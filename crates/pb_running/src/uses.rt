@@ -118,7 +118,7 @@ fn put_uses<O: Openings>(
 ) -> Result<(), Memory>
     ensures { OnOk result (IfSome (O.named opener.now) (λ name. uses.new.items ≡ uses.old.items ++ uses_at name place spec.now)) }
 {
-    if let PortSpec::Capture { read, write } = spec {
+    if let PortSpec::Capture { read, write, .. } = spec {
         put_use(alloc, opener, uses, FileUser::Reader(place), read.as_str())?;
         put_use(alloc, opener, uses, FileUser::Writer(place), write.as_str())?;
     }

@@ -14,6 +14,7 @@ mod peers;
 mod pipes;
 mod plans;
 mod reports;
+mod times;
 
 use pb_lan::Place;
 use pb_run::{Gate, Go};

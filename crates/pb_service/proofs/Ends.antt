@@ -4,21 +4,23 @@ use Rattle.std.specs.Prelude.{◌⊎◌, slice_get, codes}
 use Rattle.std.specs.List.{AllZip, flat_map}
 use Rattle.std.proofs.lemmas.Grind.{flat_map-append}
 use Rattle.std.proofs.lemmas.List.{take_more, take_all, map-append, length-map, take-map}
+use Rattle.pb_lan.specs.declared.limits.Limits.{Limits}
 use Rattle.pb_lan.specs.declared.plan.LinkPlan.{LinkPlan}
 use Rattle.pb_lan.specs.declared.plan.CustomerPlan.{CustomerPlan}
 use Rattle.toml.specs.Data.{Members}
 use Rattle.toml.specs.View.{table_view}
 use Rattle.pb_service.specs.declared.fault.PlanFault.{PlanFault}
 use Rattle.pb_service.specs.declared.fault.PlanFault.TheVariants.{Memory, LinkEnd}
+use Rattle.pb_service.specs.declared.port_spec.PortSpec.{PortSpec}
 use Rattle.pb_service.specs.declared.section.Section.{Section}
 use Rattle.pb_service.specs.declared.section.Section.TheVariants.{Bridge, Link, Service, Port}
 use Rattle.pb_service.specs.declared.used.LocalPort.{LocalPort}
 use Rattle.pb_service.specs.Sections.{most_of}
 use Rattle.pb_service.specs.Formats.{link_keys}
 use Rattle.pb_service.specs.Told.{rows_of}
-use Rattle.pb_service.specs.Tables.{IsLinkOf, IsCustomerOf, IsRead, IsReadPort}
+use Rattle.pb_service.specs.Tables.{IsLinkOf, IsCustomerOf, IsPortSpecOf, IsRead, IsReadPort}
 use Rattle.pb_service.specs.UsedPorts.{is_used, port_of}
-use Rattle.pb_service.specs.Refusals.{Refuses, HasTables, LinkLacks, CustomerLacks, link_ports, customer_ports, names_of, used_twice, no_bridge, no_service, no_listed, no_memory}
+use Rattle.pb_service.specs.Refusals.{Refuses, RefusesStamp, HasTables, LinkLacks, CustomerLacks, link_ports, customer_ports, names_of, network_limits, used_twice, no_bridge, no_service, no_listed, no_time, no_memory}
 use Rattle.pb_service.proofs.Refusing.{Table, passed_on}
 use Rattle.pb_service.proofs.Allowed.{number_below}
 
@@ -156,6 +158,21 @@ port_passed document row bridges services i c links used r e eb at told el befor
     before ∙ ap (λ z. z ++ flat_map (customer_ports bridges) (take i (rows_of document Port))) el
     ∙ ap (λ (b : List (List ℕ)). flat_map (link_ports (names_of document Bridge)) (rows_of document Link) ++ flat_map (customer_ports b) (take i (rows_of document Port))) eb in
     passed_on (Refuses document) r e p (port_refused document row i services c used e at told_here used_here h)
+
+-- a customer port tells the time of day by no clock
+stamp_refused : (document row : Members) (i : ℕ) (e : PlanFault) → slice_get (rows_of document Port) i ≡ Some row → RefusesStamp (network_limits document) i row e → Refuses document e
+stamp_refused document row i e at (inl m) = rw m (no_memory document)
+stamp_refused document row i e at (inr (t, lacks)) = rw t (no_time document i row at lacks)
+
+pub stamp_passed : {X : Type 0} (document row : Members) (limits : Limits) (i : ℕ) (r : Result X PlanFault) (e : PlanFault)
+    → limits ≡ network_limits document → slice_get (rows_of document Port) i ≡ Some row → ((y : PlanFault) × (r ≡ Err y) × (y ≡ e)) → RefusesStamp limits i row e
+    → IfErr r (Refuses document)
+stamp_passed document row limits i r e el at p h =
+    passed_on (Refuses document) r e p (stamp_refused document row i e at (subst (λ (l : Limits). RefusesStamp l i row e) el h))
+
+pub specs_whole : (document : Members) (limits : Limits) (specs : List PortSpec) → limits ≡ network_limits document
+    → AllZip (IsPortSpecOf limits) (rows_of document Port) specs → AllZip (IsPortSpecOf (network_limits document)) (rows_of document Port) specs
+specs_whole document limits specs el z = subst (λ (l : Limits). AllZip (IsPortSpecOf l) (rows_of document Port) specs) el z
 
 -- all links, and all customer ports, by the names of the document
 pub links_whole : (document : Members) (bridges services : List (List ℕ)) (ls : List LinkPlan) → bridges ≡ names_of document Bridge → services ≡ names_of document Service

@@ -1,5 +1,6 @@
 -- Whether the limits of a run go together.
-use Rattle.std.specs.Prelude.{◌≡◌, ◌⊎◌, codes, nat_lt, ◌==◌, Bool, true, false, ◌&&◌}
+use Rattle.std.specs.Prelude.{◌≡◌, ◌⊎◌, ℕ, List, codes, nat_lt, ◌==◌, Bool, true, false, ◌&&◌}
+use Rattle.pb_frame.specs.Admission.{same}
 use Rattle.pb_lan.specs.declared.limits.Limits.{Limits}
 use Rattle.pb_service.specs.declared.fault.PlanFault.{PlanFault}
 use Rattle.pb_service.specs.declared.fault.PlanFault.TheVariants.{Range, Memory}
@@ -13,6 +14,10 @@ has_two_clocks limits = nat_lt 0 limits.tick_every && nat_lt 0 limits.tick_ms
 -- frames are held back until a clock has ticked, and none ticks
 abbrev pub holds_forever : Limits → Bool
 holds_forever limits = nat_lt 0 limits.hold && (limits.tick_every == 0 && limits.tick_ms == 0)
+
+-- a capture's records would tell the time of day by a clock, and none ticks by time
+abbrev pub lacks_time : Limits → List ℕ → Bool
+lacks_time limits stamp = same stamp (codes "time") && limits.tick_ms == 0
 
 -- the limits don't go together, in the way that the fault tells
 abbrev pub RefusesClocks : Limits → PlanFault → Type 0

@@ -1,12 +1,12 @@
 -- The keys of the tables of a plan file, in order.
-use Rattle.std.specs.Prelude.{ℕ, codes, List, [], ◌∷◌, if◌then◌else◌}
+use Rattle.std.specs.Prelude.{ℕ, Bool, codes, List, [], ◌∷◌, if◌then◌else◌}
 use Rattle.pb_frame.specs.Admission.{same}
 use Rattle.toml.specs.Data.{Members, get_member}
 use Rattle.pb_service.specs.declared.section.Section.{Section}
 use Rattle.pb_service.specs.declared.section.Section.TheVariants.{Bridge, Link, Service, Port, Event}
-use Rattle.pb_service.specs.declared.rule.Rule.TheVariants.{Number, BridgePriority, PortPriority, Name, Address, Spanning, State, PortKind, Path, Losses, Names, Frames, Flag}
+use Rattle.pb_service.specs.declared.rule.Rule.TheVariants.{Number, BridgePriority, PortPriority, Name, Address, Spanning, State, PortKind, Stamp, Path, Losses, Names, Frames, Flag}
 use Rattle.pb_service.specs.Keys.{KeyRule, with_default, without_default}
-use Rattle.pb_service.specs.Told.{text_told}
+use Rattle.pb_service.specs.Told.{has_key, text_told}
 
 -- the keys at the top
 abbrev pub top_keys : List (List ℕ)
@@ -61,15 +61,15 @@ service_keys =
     ∷ without_default (codes "vid") (Number 1 4094)
     ∷ []
 
--- of a customer port of each kind, with those that they share before them
-abbrev pub own_keys : List ℕ → List KeyRule
-own_keys kind =
-    if same kind (codes "capture") then without_default (codes "read") Path ∷ without_default (codes "write") Path ∷ []
-    else if same kind (codes "socket") then without_default (codes "path") Path ∷ []
+-- of a customer port of each kind, with those that they share before them. One over a socket listens, or connects
+abbrev pub own_keys : List ℕ → Bool → List KeyRule
+own_keys kind listens =
+    if same kind (codes "capture") then without_default (codes "read") Path ∷ without_default (codes "write") Path ∷ with_default (codes "stamp") Stamp ∷ []
+    else if same kind (codes "socket") then without_default (if listens then codes "listen" else codes "path") Path ∷ []
     else with_default (codes "in") Frames ∷ []
 
-abbrev pub port_keys : List ℕ → List KeyRule
-port_keys kind =
+abbrev pub port_keys : List ℕ → Bool → List KeyRule
+port_keys kind listens =
     without_default (codes "name") Name
     ∷ without_default (codes "bridge") Name
     ∷ without_default (codes "port") (Number 1 16)
@@ -77,7 +77,7 @@ port_keys kind =
     ∷ with_default (codes "pcp") (Number 0 7)
     ∷ with_default (codes "queue") (Number 1 4096)
     ∷ with_default (codes "kind") PortKind
-    ∷ own_keys kind
+    ∷ own_keys kind listens
 
 -- of an event
 abbrev pub event_keys : List KeyRule
@@ -93,5 +93,5 @@ abbrev pub keys_of : Section → Members → List KeyRule
 keys_of Bridge row = bridge_keys
 keys_of Link row = link_keys
 keys_of Service row = service_keys
-keys_of Port row = port_keys (text_told (get_member (codes "kind") row))
+keys_of Port row = port_keys (text_told (get_member (codes "kind") row)) (has_key row (codes "listen"))
 keys_of Event row = event_keys

@@ -60,7 +60,7 @@ pub record IsPlanOf (document : Members) (plan : Plan) (specs : List PortSpec) :
   pub links : AllZip (IsRead (IsLinkOf (names_of document Bridge) (names_of document Service)) link_keys) (rows_of document Link) plan.links
   pub services : AllZip (IsRead IsServiceOf service_keys) (rows_of document Service) plan.services
   pub customers : AllZip (IsReadPort (IsCustomerOf (names_of document Bridge) (names_of document Service))) (rows_of document Port) plan.customers
-  pub ports : AllZip IsPortSpecOf (rows_of document Port) specs
+  pub ports : AllZip (IsPortSpecOf (limits_told (network_row document))) (rows_of document Port) specs
 
 -- the file is a document of which the fact holds
 abbrev pub Tells : List ℕ → (Members → Type 0) → Type 0

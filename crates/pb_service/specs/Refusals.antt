@@ -7,6 +7,7 @@ use Rattle.std.specs.Option.{option_map_or}
 use Rattle.pb_frame.specs.Admission.{same}
 use Rattle.pb_frame.specs.Hex.{IsMacText, mac_text}
 use Rattle.toml.specs.Data.{Data, Items, Members, get_member, as_table}
+use Rattle.pb_lan.specs.declared.limits.Limits.{Limits}
 use Rattle.pb_service.specs.declared.fault.PlanFault.{PlanFault}
 use Rattle.pb_service.specs.declared.fault.PlanFault.TheVariants.{Kind, Range, Unknown, Twice, NoSuch, LinkEnd, TooMany, Memory}
 use Rattle.pb_service.specs.declared.section.Section.{Section}
@@ -19,7 +20,7 @@ use Rattle.pb_service.specs.Values.{all_items, any_item, is_list, text_in}
 use Rattle.pb_service.specs.Keys.{RefusesRow, SomeOf, first_unknown}
 use Rattle.pb_service.specs.Formats.{top_keys, network_keys, event_keys, keys_of}
 use Rattle.pb_service.specs.Told.{rows_of, names_in, number_from, table_told}
-use Rattle.pb_service.specs.Clocks.{RefusesClocks}
+use Rattle.pb_service.specs.Clocks.{lacks_time, RefusesClocks}
 use Rattle.pb_service.specs.Tables.{number_at, text_at, items_at, is_one_of, limits_told}
 
 -- nothing, or a table
@@ -91,6 +92,10 @@ pub record UsesTwice (ports : List LocalPort) (port : LocalPort) : Type 0 where
 abbrev pub RefusesNetwork : Members → PlanFault → Type 0
 RefusesNetwork row fault = RefusesRow network_keys Network row fault ⊎ RefusesClocks (limits_told row) fault
 
+-- the limits of a run that the document tells
+abbrev pub network_limits : Members → Limits
+network_limits document = limits_told (table_told (get_member (codes "network") document))
+
 -- the document breaks a rule, in the way that the fault tells
 pub data Refuses : Members → PlanFault → Type 0 where
   other_key : (document : Members) (key : List ℕ) → first_unknown top_keys document ≡ Some key → Refuses document (Unknown key)
@@ -120,6 +125,9 @@ pub data Refuses : Members → PlanFault → Type 0 where
       → any_item (λ d. same name (text_in d)) (items_at row key) ≡ true
       → is_one_of (names_of document Service) name ≡ false → Refuses document (NoSuch name)
   used_twice : (document : Members) (port : LocalPort) → UsesTwice (ports_told document) port → Refuses document LinkEnd
+  no_time : (document : Members) (index : ℕ) (row : Members)
+      → slice_get (rows_of document Port) index ≡ Some row → lacks_time (network_limits document) (text_at row (codes "stamp")) ≡ true
+      → Refuses document (Range (path_at (Row Port index) (codes "stamp")))
   in_event : (document : Members) (index : ℕ) (row : Members) (fault : PlanFault)
       → slice_get (rows_of document Event) index ≡ Some row → RefusesEvent (names_of document Bridge) (ends_told document) index row fault → Refuses document fault
   no_memory : (document : Members) → Refuses document Memory
@@ -147,3 +155,8 @@ LinkLacks bridges services row fault =
 abbrev pub CustomerLacks : List (List ℕ) → List (List ℕ) → Members → PlanFault → Type 0
 CustomerLacks bridges services row fault =
     (fault ≡ Memory) ⊎ (LacksName bridges row (codes "bridge") fault ⊎ LacksName services row (codes "service") fault)
+
+-- a customer port tells the time of day by no clock, or memory ran out
+abbrev pub RefusesStamp : Limits → ℕ → Members → PlanFault → Type 0
+RefusesStamp limits index row fault =
+    (fault ≡ Memory) ⊎ ((fault ≡ Range (path_at (Row Port index) (codes "stamp"))) × (lacks_time limits (text_at row (codes "stamp")) ≡ true))

@@ -1,5 +1,5 @@
 -- What the tables of a plan file tell.
-use Rattle.std.specs.Prelude.{◌≡◌, ℕ, codes, Bool, true, false, List, [], ◌∷◌, take, Some, None}
+use Rattle.std.specs.Prelude.{◌≡◌, ℕ, codes, Bool, true, false, List, [], ◌∷◌, take, Some, None, if◌then◌else◌}
 use Rattle.std.specs.declared.option.Option.{Option}
 use Rattle.std.specs.List.{list_any}
 use Rattle.pb_frame.specs.Admission.{same}
@@ -16,10 +16,10 @@ use Rattle.pb_service.specs.declared.network.Network.{Network}
 use Rattle.pb_service.specs.declared.port_spec.PortSpec.{PortSpec}
 use Rattle.pb_service.specs.declared.port_spec.PortSpec.TheVariants.{Memory, Capture, Socket}
 use Rattle.pb_service.specs.Values.{text_in, all_items}
-use Rattle.pb_service.specs.Clocks.{has_two_clocks, holds_forever}
+use Rattle.pb_service.specs.Clocks.{has_two_clocks, holds_forever, lacks_time}
 use Rattle.pb_service.specs.Keys.{KeyRule, IsAccepted}
 use Rattle.pb_service.specs.Formats.{network_keys, port_keys}
-use Rattle.pb_service.specs.Told.{number_told, text_told, items_told, state_of, spanning_of, naturals_in, number_from, listed_from}
+use Rattle.pb_service.specs.Told.{has_key, number_told, text_told, items_told, stamp_of, state_of, spanning_of, naturals_in, number_from, listed_from}
 
 -- the number, and the text, at a key of a table
 abbrev pub number_at : Members → List ℕ → ℕ → ℕ → ℕ
@@ -124,11 +124,15 @@ AreFrames no_items [] = Unit {0}
 AreFrames (item d ds) (frame ∷ frames) = IsHex (text_in d) frame × AreFrames ds frames
 AreFrames ds frames = ⊥
 
--- what a customer port is
-abbrev pub IsPortSpecOf : Members → PortSpec → Type 0
-IsPortSpecOf row (Memory frames) = (same (text_at row (codes "kind")) (codes "capture") ≡ false) × (same (text_at row (codes "kind")) (codes "socket") ≡ false) × AreFrames (items_at row (codes "in")) frames
-IsPortSpecOf row (Capture read write) = (same (text_at row (codes "kind")) (codes "capture") ≡ true) × (read ≡ text_at row (codes "read")) × (write ≡ text_at row (codes "write"))
-IsPortSpecOf row (Socket path) = (same (text_at row (codes "kind")) (codes "socket") ≡ true) × (path ≡ text_at row (codes "path"))
+-- what a customer port is. A capture tells the time of day only where a clock ticks by time, and a socket is made by a port that listens
+abbrev pub IsPortSpecOf : Limits → Members → PortSpec → Type 0
+IsPortSpecOf limits row (Memory frames) = (same (text_at row (codes "kind")) (codes "capture") ≡ false) × (same (text_at row (codes "kind")) (codes "socket") ≡ false) × AreFrames (items_at row (codes "in")) frames
+IsPortSpecOf limits row (Capture read write stamp) =
+    (same (text_at row (codes "kind")) (codes "capture") ≡ true) × (read ≡ text_at row (codes "read")) × (write ≡ text_at row (codes "write"))
+    × (stamp ≡ stamp_of (text_at row (codes "stamp"))) × (lacks_time limits (text_at row (codes "stamp")) ≡ false)
+IsPortSpecOf limits row (Socket path listens) =
+    (same (text_at row (codes "kind")) (codes "socket") ≡ true) × (listens ≡ has_key row (codes "listen"))
+    × (path ≡ text_at row (if listens then codes "listen" else codes "path"))
 
 -- a table that keeps the rules of its keys, and what it tells
 pub record IsRead {X : Type 0} (Tells : Members → X → Type 0) (keys : List KeyRule) (row : Members) (x : X) : Type 0 where
@@ -137,5 +141,5 @@ pub record IsRead {X : Type 0} (Tells : Members → X → Type 0) (keys : List K
 
 -- the same of a customer port, whose keys depend on what it is
 pub record IsReadPort {X : Type 0} (Tells : Members → X → Type 0) (row : Members) (x : X) : Type 0 where
-  pub accepted : IsAccepted (port_keys (text_at row (codes "kind"))) row
+  pub accepted : IsAccepted (port_keys (text_at row (codes "kind")) (has_key row (codes "listen"))) row
   pub told : Tells row x

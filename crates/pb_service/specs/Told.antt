@@ -1,5 +1,5 @@
 -- What a table tells under a key, whatever stands there.
-use Rattle.std.specs.Prelude.{ℕ, Bool, false, suc, ◌+◌, codes, min, List, [], ◌∷◌, ◌++◌, map, Some, None, unwrap_or, if◌then◌else◌}
+use Rattle.std.specs.Prelude.{ℕ, Bool, false, suc, ◌+◌, codes, min, List, [], ◌∷◌, ◌++◌, map, Some, None, unwrap_or, if◌then◌else◌, is_some}
 use Rattle.std.specs.declared.option.Option.{Option}
 use Rattle.std.specs.Option.{option_map_or, option_and_then, option_to_list}
 use Rattle.pb_frame.specs.Admission.{same}
@@ -8,6 +8,8 @@ use Rattle.pb_lan.specs.declared.shape.PortState.{PortState}
 use Rattle.pb_lan.specs.declared.shape.PortState.TheVariants.{Discarding, Learning, Forwarding}
 use Rattle.pb_lan.specs.declared.plan.Spanning.{Spanning}
 use Rattle.pb_lan.specs.declared.plan.Spanning.TheVariants.{Fixed, Rstp}
+use Rattle.pb_service.specs.declared.port_spec.Stamp.{Stamp}
+use Rattle.pb_service.specs.declared.port_spec.Stamp.TheVariants.{Ticks, Time}
 use Rattle.pb_service.specs.declared.section.Section.{Section}
 use Rattle.pb_service.specs.Sections.{word_of}
 use Rattle.pb_service.specs.Values.{natural_of, text_in, any_item, is_text}
@@ -15,6 +17,10 @@ use Rattle.pb_service.specs.Values.{natural_of, text_in, any_item, is_text}
 -- the number, or the default; never above the highest
 abbrev pub number_told : ℕ → ℕ → Option Data → ℕ
 number_told default highest value = min (unwrap_or (option_and_then natural_of value) default) highest
+
+-- something stands at the key
+abbrev pub has_key : Members → List ℕ → Bool
+has_key row key = is_some (get_member key row)
 
 -- the flag, or false
 abbrev pub flag_told : Option Data → Bool
@@ -36,6 +42,9 @@ state_of text = if same text (codes "discarding") then Discarding else if same t
 
 abbrev pub spanning_of : List ℕ → Spanning
 spanning_of text = if same text (codes "rstp") then Rstp else Fixed
+
+abbrev pub stamp_of : List ℕ → Stamp
+stamp_of text = if same text (codes "time") then Time else Ticks
 
 -- the numbers of a list
 abbrev pub naturals_in : Items → List ℕ

@@ -8,7 +8,7 @@ use Rattle.pb_frame.specs.Frames.{is_group}
 use Rattle.pb_frame.specs.Hex.{is_digit, IsMacText}
 use Rattle.toml.specs.Data.{Data, Items, no_items, item, as_str, as_integer, as_array, as_bool}
 use Rattle.pb_service.specs.declared.rule.Rule.{Rule}
-use Rattle.pb_service.specs.declared.rule.Rule.TheVariants.{Number, BridgePriority, PortPriority, Name, Address, Spanning, State, PortKind, Path, Losses, Names, Frames, Flag}
+use Rattle.pb_service.specs.declared.rule.Rule.TheVariants.{Number, BridgePriority, PortPriority, Name, Address, Spanning, State, PortKind, Stamp, Path, Losses, Names, Frames, Flag}
 
 -- an integer that isn't negative
 abbrev pub to_natural : ℤ → Option ℕ
@@ -88,6 +88,7 @@ IsAllowed Address d = IsAddress (text_in d)
 IsAllowed Spanning d = is_text (λ t. same t (codes "fixed") || same t (codes "rstp")) d ≡ true
 IsAllowed State d = is_text (λ t. same t (codes "discarding") || (same t (codes "learning") || same t (codes "forwarding"))) d ≡ true
 IsAllowed PortKind d = is_text (λ t. same t (codes "memory") || (same t (codes "capture") || same t (codes "socket"))) d ≡ true
+IsAllowed Stamp d = is_text (λ t. same t (codes "ticks") || same t (codes "time")) d ≡ true
 IsAllowed Path d = is_some (as_str d) ≡ true
 IsAllowed Losses d = is_list (rise_from 0) d ≡ true
 IsAllowed Names d = is_list (λ ds. all_items (is_text is_name) ds && are_distinct ds) d ≡ true

@@ -47,7 +47,7 @@ fn file_of(alloc: Global, document: &Table) -> Result<PlanFile, PlanFault>
     let Links { links, used } = read_links(alloc, document)?;
     let services = read_services(alloc, document)?;
     let events = read_events(alloc, document, used.as_slice())?;
-    let Customers { customers, specs } = read_customers(alloc, document, used)?;
+    let Customers { customers, specs } = read_customers(alloc, document, network.limits, used)?;
     let plan = Plan {
         bridges: Seq::from_vec(bridges),
         links: Seq::from_vec(links),

@@ -7,7 +7,7 @@ ghost use Rattle.pb_service.specs.Formats.{network_keys, port_keys, keys_of};
 
 use crate::rule::{Key, Rule};
 use crate::section::Section;
-use crate::told::text_at;
+use crate::told::{has_key, text_at};
 use toml::Table;
 
 /// The keys of the network.
@@ -240,7 +240,7 @@ static MEMORY: [Key; 8] = [
 ];
 
 /// The keys of a customer port over capture files.
-static CAPTURE: [Key; 9] = [
+static CAPTURE: [Key; 10] = [
     Key {
         name: "name",
         needed: true,
@@ -286,9 +286,14 @@ static CAPTURE: [Key; 9] = [
         needed: true,
         rule: Rule::Path,
     },
+    Key {
+        name: "stamp",
+        needed: false,
+        rule: Rule::Stamp,
+    },
 ];
 
-/// The keys of a customer port over a socket.
+/// The keys of a customer port that connects to a socket.
 static SOCKET: [Key; 8] = [
     Key {
         name: "name",
@@ -332,6 +337,50 @@ static SOCKET: [Key; 8] = [
     },
 ];
 
+/// The keys of a customer port that listens at a socket.
+static LISTENER: [Key; 8] = [
+    Key {
+        name: "name",
+        needed: true,
+        rule: Rule::Name,
+    },
+    Key {
+        name: "bridge",
+        needed: true,
+        rule: Rule::Name,
+    },
+    Key {
+        name: "port",
+        needed: true,
+        rule: Rule::Number { low: 1, high: 16 },
+    },
+    Key {
+        name: "service",
+        needed: true,
+        rule: Rule::Name,
+    },
+    Key {
+        name: "pcp",
+        needed: false,
+        rule: Rule::Number { low: 0, high: 7 },
+    },
+    Key {
+        name: "queue",
+        needed: false,
+        rule: Rule::Number { low: 1, high: 4096 },
+    },
+    Key {
+        name: "kind",
+        needed: false,
+        rule: Rule::PortKind,
+    },
+    Key {
+        name: "listen",
+        needed: true,
+        rule: Rule::Path,
+    },
+];
+
 /// The keys of an event.
 static EVENT: [Key; 4] = [
     Key {
@@ -366,14 +415,14 @@ pub(crate) fn network_keys() -> &'static [Key]
     &NETWORK
 }
 
-/// The keys of a customer port of a kind.
-fn port_keys(kind: &str) -> &'static [Key]
-    ensures { rules_of result.now ≡ port_keys kind.now }
+/// The keys of a customer port of a kind. Those of one over a socket depend on whether it listens.
+fn port_keys(kind: &str, listens: bool) -> &'static [Key]
+    ensures { rules_of result.now ≡ port_keys kind.now listens }
 {
     if kind == "capture" {
         &CAPTURE
     } else if kind == "socket" {
-        &SOCKET
+        if listens { &LISTENER } else { &SOCKET }
     } else {
         &MEMORY
     }
@@ -387,7 +436,7 @@ pub(crate) fn keys_of(section: Section, row: &Table) -> &'static [Key]
         Section::Bridge => &BRIDGE,
         Section::Link => &LINK,
         Section::Service => &SERVICE,
-        Section::Port => port_keys(text_at(row, "kind")),
+        Section::Port => port_keys(text_at(row, "kind"), has_key(row, "listen")),
         Section::Event => &EVENT,
     }
 }

@@ -35,4 +35,4 @@ pub use document::{PlanFile, read_limits, read_plan, read_plan_file};
 pub use event::PortEvent;
 pub use fault::PlanFault;
 pub use pb_lan::Limits;
-pub use port_spec::PortSpec;
+pub use port_spec::{PortSpec, Stamp};

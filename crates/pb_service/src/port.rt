@@ -1,6 +1,6 @@
 //! The customer ports of a document.
 
-ghost use Rattle.std.specs.Prelude.{◌≡◌, ◌<◌, true, codes, length, map, IfOk, IfErr, OnOk};
+ghost use Rattle.std.specs.Prelude.{◌≡◌, ◌<◌, true, codes, length, map, IfOk, IfErr, OnOk, if◌then◌else◌};
 ghost use Rattle.std.specs.List.{AllZip, IsDistinct, flat_map};
 ghost use Rattle.toml.specs.View.{items_view, table_view};
 ghost use Rattle.pb_frame.specs.Admission.{same};
@@ -8,25 +8,28 @@ ghost use Rattle.pb_frame.specs.Hex.{IsHex};
 ghost use Rattle.pb_service.specs.Values.{all_items, is_text, is_hex};
 ghost use Rattle.pb_service.specs.Keys.{IsAccepted};
 ghost use Rattle.pb_service.specs.Formats.{port_keys};
-ghost use Rattle.pb_service.specs.Told.{rows_of};
+ghost use Rattle.pb_service.specs.Clocks.{lacks_time};
+ghost use Rattle.pb_service.specs.Told.{has_key, rows_of};
 ghost use Rattle.pb_service.specs.Tables.{text_at, AreFrames, IsPortSpecOf, IsCustomerOf, IsReadPort};
 ghost use Rattle.pb_service.specs.UsedPorts.{AreUsedOnce};
-ghost use Rattle.pb_service.specs.Refusals.{Refuses, HasTables, CustomerLacks, names_of, link_ports, ports_told};
+ghost use Rattle.pb_service.specs.Refusals.{Refuses, RefusesStamp, HasTables, CustomerLacks, names_of, network_limits, link_ports, ports_told};
 ghost use Rattle.pb_service.specs.declared.fault.PlanFault.TheVariants.{Memory as memory_fault};
 ghost use Rattle.pb_service.specs.declared.section.Section.TheVariants.{Bridge as bridge_section, Link as link_section, Service as service_section, Port as port_section};
 
 use crate::check::{check_row, put};
 use crate::fault::PlanFault;
+use crate::key_fault::KeyFault;
 use crate::link::named;
 use crate::port_spec::PortSpec;
-use crate::section::Section;
+use crate::row::told;
+use crate::section::{Place, Section};
 use crate::table::{names_of, tables_at};
-use crate::told::{copy_at, items_at, number_at, text_at};
+use crate::told::{copy_at, has_key, items_at, number_at, stamp_of, text_at};
 use crate::used::{LocalPort, use_port};
 use crate::values::text_in;
 use bytes::Bytes;
-use pb_frame::{HexFault, Seq, hex_read};
-use pb_lan::CustomerPlan;
+use pb_frame::{HexFault, Seq, Text, hex_read};
+use pb_lan::{CustomerPlan, Limits};
 use std::alloc::Global;
 use toml::{Table, Value};
 
@@ -57,23 +60,67 @@ fn frames_of(alloc: Global, items: &[Value]) -> Result<Vec<Bytes>, PlanFault>
     Ok(frames)
 }
 
-/// What a table tells that a customer port is.
-fn port_spec_of(alloc: Global, row: &Table) -> Result<PortSpec, PlanFault>
-    requires { IsAccepted (port_keys (text_at (table_view row.now) (codes "kind"))) (table_view row.now) }
-    ensures ok { IfOk result (IsPortSpecOf (table_view row.now)) }
+/// A capture's records would tell the time of day by a clock, and none ticks by time.
+fn lacks_time(limits: Limits, stamp: &str) -> bool
+    ensures { result ≡ lacks_time limits stamp.now }
+{
+    stamp == "time" && limits.tick_ms == 0
+}
+
+/// What a table tells that a customer port over capture files is.
+fn capture_of(
+    alloc: Global,
+    limits: Limits,
+    row: &Table,
+    index: usize,
+) -> Result<PortSpec, PlanFault>
+    requires { same (text_at (table_view row.now) (codes "kind")) (codes "capture") ≡ true }
+    ensures ok { IfOk result (IsPortSpecOf limits (table_view row.now)) }
+    ensures err { IfErr result (RefusesStamp limits index (table_view row.now)) }
+{
+    let stamp = text_at(row, "stamp");
+    if lacks_time(limits, stamp) {
+        let place = Place::Row(Section::Port, index);
+        return Err(told(alloc, place, "stamp", KeyFault::Range));
+    }
+    Ok(PortSpec::Capture {
+        read: copy_at(alloc, row, "read")?,
+        write: copy_at(alloc, row, "write")?,
+        stamp: stamp_of(stamp),
+    })
+}
+
+/// The path of the socket that a table tells: at which the port listens, or to which it connects.
+fn socket_path(alloc: Global, row: &Table, listens: bool) -> Result<Text, PlanFault>
+    ensures ok { IfOk result (λ path. path ≡ text_at (table_view row.now) (if listens then codes "listen" else codes "path")) }
     ensures err { IfErr result (λ e. e ≡ memory_fault) }
+{
+    if listens {
+        copy_at(alloc, row, "listen")
+    } else {
+        copy_at(alloc, row, "path")
+    }
+}
+
+/// What a table tells that a customer port is.
+fn port_spec_of(
+    alloc: Global,
+    limits: Limits,
+    row: &Table,
+    index: usize,
+) -> Result<PortSpec, PlanFault>
+    requires { IsAccepted (port_keys (text_at (table_view row.now) (codes "kind")) (has_key (table_view row.now) (codes "listen"))) (table_view row.now) }
+    ensures ok { IfOk result (IsPortSpecOf limits (table_view row.now)) }
+    ensures err { IfErr result (RefusesStamp limits index (table_view row.now)) }
 {
     let kind = text_at(row, "kind");
     if kind == "capture" {
-        return Ok(PortSpec::Capture {
-            read: copy_at(alloc, row, "read")?,
-            write: copy_at(alloc, row, "write")?,
-        });
+        return capture_of(alloc, limits, row, index);
     }
     if kind == "socket" {
-        return Ok(PortSpec::Socket {
-            path: copy_at(alloc, row, "path")?,
-        });
+        let listens = has_key(row, "listen");
+        let path = socket_path(alloc, row, listens)?;
+        return Ok(PortSpec::Socket { path, listens });
     }
     let frames = frames_of(alloc, items_at(row, "in"))?;
     Ok(PortSpec::Memory(Seq::from_vec(frames)))
@@ -110,19 +157,21 @@ pub(crate) struct Customers {
     pub specs: Vec<PortSpec>,
 }
 
-/// The customer ports of a document, and what they are.
+/// The customer ports of a document of these limits, and what they are.
 pub(crate) fn read_customers(
     alloc: Global,
     document: &Table,
+    limits: Limits,
     used: Vec<LocalPort>,
 ) -> Result<Customers, PlanFault>
+    requires limits { limits ≡ network_limits (table_view document.now) }
     requires bridges { HasTables (table_view document.now) bridge_section }
     requires services { HasTables (table_view document.now) service_section }
     requires used { used.items ≡ flat_map (link_ports (names_of (table_view document.now) bridge_section)) (rows_of (table_view document.now) link_section) }
     requires once { AreUsedOnce used.items }
     ensures ok { IfOk result (λ r. AllZip (IsReadPort (IsCustomerOf (names_of (table_view document.now) bridge_section) (names_of (table_view document.now) service_section)))
         (rows_of (table_view document.now) port_section) r.customers.items) }
-    ensures specs { IfOk result (λ r. AllZip IsPortSpecOf (rows_of (table_view document.now) port_section) r.specs.items) }
+    ensures specs { IfOk result (λ r. AllZip (IsPortSpecOf (network_limits (table_view document.now))) (rows_of (table_view document.now) port_section) r.specs.items) }
     ensures names { OnOk result (IsDistinct same (names_of (table_view document.now) port_section)) }
     ensures once { OnOk result (AreUsedOnce (ports_told (table_view document.now))) }
     ensures tables { OnOk result (HasTables (table_view document.now) port_section) }
@@ -149,7 +198,7 @@ pub(crate) fn read_customers(
             },
         )?;
         put(&mut customers, customer)?;
-        let spec = port_spec_of(alloc, row)?;
+        let spec = port_spec_of(alloc, limits, row, index)?;
         put(&mut specs, spec)?;
     }
     Ok(Customers { customers, specs })

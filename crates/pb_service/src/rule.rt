@@ -19,6 +19,8 @@ pub(crate) enum Rule {
     State,
     /// What a customer port is.
     PortKind,
+    /// What times a capture's records tell.
+    Stamp,
     /// Any text.
     Path,
     /// A list of numbers that rises strictly.

@@ -3,10 +3,11 @@
 ghost use Rattle.std.specs.Prelude.{◌≡◌, ◌<◌, ◌≤◌, ◌^◌, length, map, option_map, take, IfOk, IfErr, IfSome};
 ghost use Rattle.toml.specs.Data.{get_member};
 ghost use Rattle.toml.specs.View.{view, items_view, table_view};
-ghost use Rattle.pb_service.specs.Told.{number_told, flag_told, text_told, items_told, state_of, spanning_of, naturals_in, number_from, listed_from};
+ghost use Rattle.pb_service.specs.Told.{number_told, flag_told, text_told, items_told, state_of, spanning_of, naturals_in, number_from, listed_from, has_key, stamp_of};
 ghost use Rattle.pb_service.specs.declared.fault.PlanFault.TheVariants.{Memory as memory_fault};
 
 use crate::fault::PlanFault;
+use crate::port_spec::Stamp;
 use crate::values::{has_text, natural_of, text_in};
 use pb_frame::{Seq, Text};
 use pb_lan::{PortState, Spanning};
@@ -18,6 +19,16 @@ pub(crate) fn value_at<'a>(table: &'a Table, key: &str) -> Option<&'a Value>
     ensures { option_map (λ v. view v.now) result ≡ get_member key.now (table_view table.now) }
 {
     table.get(key)
+}
+
+/// Whether something stands at a key.
+pub(crate) fn has_key(table: &Table, key: &str) -> bool
+    ensures { result ≡ has_key (table_view table.now) key.now }
+{
+    match value_at(table, key) {
+        Some(_) => true,
+        None => false,
+    }
 }
 
 /// The number at a key, or the default; never above the highest.
@@ -95,6 +106,17 @@ pub(crate) fn spanning_of(text: &str) -> Spanning
         Spanning::Rstp
     } else {
         Spanning::Fixed
+    }
+}
+
+/// What times a capture's records tell, by a text.
+pub(crate) fn stamp_of(text: &str) -> Stamp
+    ensures { result ≡ stamp_of text.now }
+{
+    if text == "time" {
+        Stamp::Time
+    } else {
+        Stamp::Ticks
     }
 }
 

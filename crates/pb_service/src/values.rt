@@ -155,6 +155,15 @@ fn is_port_kind(value: &Value) -> bool
     }
 }
 
+fn is_stamp(value: &Value) -> bool
+    ensures { result ≡ is_text (λ t. same t (codes "ticks") || same t (codes "time")) (view value.now) }
+{
+    match value.as_str() {
+        Some(text) => text == "ticks" || text == "time",
+        None => false,
+    }
+}
+
 fn are_integers(items: &[Value]) -> bool
     ensures { result ≡ all_items (λ e. is_some (as_integer e)) (items_view items.now) }
 {
@@ -265,8 +274,13 @@ pub(crate) fn is_of_kind(rule: Rule, value: &Value) -> bool
             None => false,
         },
         Rule::Flag => value.is_bool(),
-        Rule::Name | Rule::Address | Rule::Spanning | Rule::State | Rule::PortKind | Rule::Path =>
-            value.is_str(),
+        Rule::Name
+        | Rule::Address
+        | Rule::Spanning
+        | Rule::State
+        | Rule::PortKind
+        | Rule::Stamp
+        | Rule::Path => value.is_str(),
     }
 }
 
@@ -283,6 +297,7 @@ pub(crate) fn is_allowed(rule: Rule, value: &Value) -> bool
         Rule::Spanning => is_spanning(value),
         Rule::State => is_state(value),
         Rule::PortKind => is_port_kind(value),
+        Rule::Stamp => is_stamp(value),
         Rule::Path => value.is_str(),
         Rule::Losses => are_losses(value),
         Rule::Names => are_listed(value),

@@ -2,7 +2,8 @@
 
 use super::folder::{enter, leave};
 use super::plans::{
-    CAPTURES, FULL, LINKED, NO_FRAMES, ONE_FRAME, OVER, PATHS, SAME, TICKS, TWICE, UNMADE,
+    CAPTURES, FULL, LINKED, NO_FRAMES, ONE_FRAME, OVER, PATHS, SAME, TICKS, TWICE, UNLISTENED,
+    UNMADE,
 };
 use super::{Manner, PLAIN, Row, Told, carry, check, check_under, joined, run, run_under};
 use pb_lan::Place;
@@ -189,7 +190,7 @@ struct Refused {
 
 /// Where the first of these is run, `paths.in` and `paths.out` hold one frame, `again.in` is another name of `paths.in`, and
 /// `paths.again` leads to `paths.out`.
-const REFUSED: [Refused; 7] = [
+const REFUSED: [Refused; 8] = [
     // A socket behind a capture is missing: the capture was emptied before.
     Refused {
         path: "plan.toml",
@@ -237,6 +238,13 @@ const REFUSED: [Refused; 7] = [
         path: "paths.again",
         plan: OVER,
         told: b"port P1: write paths.out: also the plan file\n",
+        missing: "paths.last",
+    },
+    // A file to be read is missing behind a socket that was made.
+    Refused {
+        path: "plan.toml",
+        plan: UNLISTENED,
+        told: b"port P1: read paths.none: No such file or directory (os error 2)\n",
         missing: "paths.last",
     },
 ];

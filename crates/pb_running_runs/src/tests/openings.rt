@@ -5,7 +5,7 @@ ghost use Rattle.std.specs.Prelude.{◌≡◌, Some, IfOk};
 use bytes::Bytes;
 use pb_frame::{Memory, Seq, Text};
 use pb_running::{Deed, FileUser, OpenFault, Opened, Openings, open_all};
-use pb_service::PortSpec;
+use pb_service::{PortSpec, Stamp};
 use std::alloc::{AllocError, Global};
 use std::io;
 use std::io::{Error, ErrorKind};
@@ -62,6 +62,12 @@ impl Openings for Desk {
         Ok(())
     }
 
+    fn listen(&mut self, path: &str) -> io::Result<()> {
+        let text = self.text(path)?;
+        self.deeds.push(Deed::Listen(text))?;
+        Ok(())
+    }
+
     fn open_write(&mut self, path: &str) -> io::Result<()> {
         let text = self.text(path)?;
         self.deeds.push(Deed::Write(text))?;
@@ -88,6 +94,7 @@ enum Kind {
     Memory,
     Capture(&'static str, &'static str),
     Socket(&'static str),
+    Listener(&'static str),
 }
 
 /// The ports of a row.
@@ -100,9 +107,15 @@ fn specs_of(alloc: Global, kinds: &[Kind]) -> Result<Vec<PortSpec>, AllocError> 
             Kind::Capture(read, write) => PortSpec::Capture {
                 read: Text::from_string(text(read)?),
                 write: Text::from_string(text(write)?),
+                stamp: Stamp::Ticks,
             },
             Kind::Socket(path) => PortSpec::Socket {
                 path: Text::from_string(text(path)?),
+                listens: false,
+            },
+            Kind::Listener(path) => PortSpec::Socket {
+                path: Text::from_string(text(path)?),
+                listens: true,
             },
         })?;
     }
@@ -120,6 +133,7 @@ fn told(
         match deed {
             Deed::Read(path) => writeln!(out, "read {}", path.as_str())?,
             Deed::Connect(path) => writeln!(out, "connect {}", path.as_str())?,
+            Deed::Listen(path) => writeln!(out, "listen {}", path.as_str())?,
             Deed::Write(path) => writeln!(out, "write {}", path.as_str())?,
             Deed::Empty(path) => writeln!(out, "empty {}", path.as_str())?,
         }
@@ -161,7 +175,7 @@ const TWO: &[Kind] = &[
     Kind::Capture("b.in", "b.out"),
 ];
 
-const ROWS: [Row; 11] = [
+const ROWS: [Row; 13] = [
     Row {
         kinds: TWO,
         missing: "",
@@ -245,6 +259,29 @@ const ROWS: [Row; 11] = [
         missing: "",
         stuck: "",
         told: "read plan\nwrite c\nempty c\nok 1\n",
+        forgotten: 0,
+    },
+    // A socket is made where others are connected to.
+    Row {
+        kinds: &[
+            Kind::Socket("s"),
+            Kind::Listener("l"),
+            Kind::Capture("a", "c"),
+        ],
+        missing: "",
+        stuck: "",
+        told: "connect s\nlisten l\nread a\nwrite c\nempty c\nok 3\n",
+        forgotten: 0,
+    },
+    Row {
+        kinds: &[
+            Kind::Socket("s"),
+            Kind::Listener("l"),
+            Kind::Capture("a", "c"),
+        ],
+        missing: "l",
+        stuck: "",
+        told: "connect s\nunopened 1 l\n",
         forgotten: 0,
     },
 ];

@@ -266,6 +266,63 @@ read = "paths.in"
 write = "paths.out"
 "#;
 
+/// One bridge with a socket that is made and a capture that can't be read.
+pub(super) const UNLISTENED: &str = r#"
+[[bridge]]
+name = "B1"
+address = "02-00-00-00-00-01"
+
+[[service]]
+name = "red"
+vid = 100
+
+[[port]]
+name = "P2"
+bridge = "B1"
+port = 2
+service = "red"
+kind = "socket"
+listen = "paths.last"
+
+[[port]]
+name = "P1"
+bridge = "B1"
+port = 1
+service = "red"
+kind = "capture"
+read = "paths.none"
+write = "paths.out"
+"#;
+
+/// One bridge with a memory port and a socket that is made. Workers take only so many turns.
+pub(super) const LISTENER: &str = r#"
+[network]
+turns = 200000
+
+[[bridge]]
+name = "B1"
+address = "02-00-00-00-00-01"
+
+[[service]]
+name = "red"
+vid = 100
+
+[[port]]
+name = "C1"
+bridge = "B1"
+port = 1
+service = "red"
+in = ["ffffffffffff02000000010108004142"]
+
+[[port]]
+name = "P2"
+bridge = "B1"
+port = 2
+service = "red"
+kind = "socket"
+listen = "peer.sock"
+"#;
+
 /// One bridge with room for many frames, and a socket. Behind it comes a port with a script.
 pub(super) const BUSY: &str = r#"
 [network]

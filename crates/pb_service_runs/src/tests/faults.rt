@@ -101,6 +101,80 @@ fn keys_without_default_must_be_there(rt: HostRuntime) -> Result<(), PlanFault> 
             "kind = \"socket\"\nport = 3\n",
             "3 missing port[2].path",
         ),
+        (
+            "port = 3\n",
+            "kind = \"capture\"\nread = \"r\"\nlisten = \"l\"\nport = 3\n",
+            "3 missing port[2].write",
+        ),
+    ];
+    all_change(&rt, rt.alloc(), CHANGES)
+}
+
+#[test]
+fn a_socket_is_made_or_connected_to(rt: HostRuntime) -> Result<(), PlanFault> {
+    const CHANGES: &[Change] = &[
+        (
+            "port = 3",
+            "kind = \"socket\"\nlisten = \"p\"\nport = 3",
+            "0 ok",
+        ),
+        (
+            "port = 3",
+            "kind = \"socket\"\npath = \"p\"\nlisten = \"q\"\nport = 3",
+            "6 unknown port[2].path",
+        ),
+        (
+            "port = 3",
+            "kind = \"socket\"\npath = 1\nlisten = 2\nport = 3",
+            "4 kind port[2].listen",
+        ),
+        (
+            "port = 3",
+            "listen = \"p\"\nport = 3",
+            "6 unknown port[2].listen",
+        ),
+    ];
+    all_change(&rt, rt.alloc(), CHANGES)
+}
+
+#[test]
+fn the_time_of_day_is_told_by_a_clock_in_milliseconds(rt: HostRuntime) -> Result<(), PlanFault> {
+    const CHANGES: &[Change] = &[
+        (
+            "service = \"blue\"",
+            "service = \"blue\"\nkind = \"capture\"\nread = \"r\"\nwrite = \"w\"\nstamp = \"time\"\n[network]\ntick_ms = 1",
+            "0 ok",
+        ),
+        (
+            "port = 3",
+            "kind = \"capture\"\nread = \"r\"\nwrite = \"w\"\nstamp = \"time\"\nport = 3",
+            "5 range port[2].stamp",
+        ),
+        (
+            "service = \"blue\"",
+            "service = \"blue\"\nkind = \"capture\"\nread = \"r\"\nwrite = \"w\"\nstamp = \"time\"\n[network]\ntick_every = 1",
+            "5 range port[2].stamp",
+        ),
+        (
+            "port = 3",
+            "kind = \"capture\"\nread = \"r\"\nwrite = \"w\"\nstamp = \"ticks\"\nport = 3",
+            "0 ok",
+        ),
+        (
+            "port = 3",
+            "kind = \"capture\"\nread = \"r\"\nwrite = \"w\"\nstamp = \"now\"\nport = 3",
+            "5 range port[2].stamp",
+        ),
+        (
+            "port = 3",
+            "kind = \"capture\"\nread = \"r\"\nwrite = \"w\"\nstamp = 1\nport = 3",
+            "4 kind port[2].stamp",
+        ),
+        (
+            "port = 3",
+            "stamp = \"time\"\nport = 3",
+            "6 unknown port[2].stamp",
+        ),
     ];
     all_change(&rt, rt.alloc(), CHANGES)
 }

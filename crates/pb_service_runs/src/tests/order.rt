@@ -86,6 +86,10 @@ const FILES: &[(&str, &str)] = &[
         "[[port]]\nname = \"P\"\nbridge = \"B\"\nport = 1\nservice = \"T\"\nkind = \"file\"\nin = 1",
         "5 range port[0].kind",
     ),
+    (
+        "[[bridge]]\nname = \"B\"\naddress = \"02-00-00-00-00-01\"\n[[service]]\nname = \"S\"\nvid = 1\n[[port]]\nname = \"P\"\nbridge = \"B\"\nport = 1\nservice = \"T\"\nkind = \"capture\"\nread = \"r\"\nwrite = \"w\"\nstamp = \"time\"",
+        "8 no-such T",
+    ),
 ];
 
 #[test]

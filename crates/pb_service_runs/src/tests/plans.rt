@@ -6,7 +6,9 @@ use pb_frame::Text;
 use pb_lan::{
     BridgePlan, CustomerPlan, End, LinkPlan, Mac, Plan, PortState, Seq, ServicePlan, Spanning,
 };
-use pb_service::{Limits, PlanFault, PortEvent, PortSpec, read_limits, read_plan, read_plan_file};
+use pb_service::{
+    Limits, PlanFault, PortEvent, PortSpec, Stamp, read_limits, read_plan, read_plan_file,
+};
 use std::alloc::Global;
 use std::fmt::Write;
 
@@ -306,15 +308,15 @@ fn text(alloc: Global, word: &str) -> Result<Text, PlanFault> {
 }
 
 /// A port over two captures.
-fn capture(alloc: Global) -> Result<PortSpec, PlanFault> {
+fn capture(alloc: Global, stamp: Stamp) -> Result<PortSpec, PlanFault> {
     let read = text(alloc, "in.pcap")?;
     let write = text(alloc, "out.pcap")?;
-    Ok(PortSpec::Capture { read, write })
+    Ok(PortSpec::Capture { read, write, stamp })
 }
 
-fn socket(alloc: Global) -> Result<PortSpec, PlanFault> {
+fn socket(alloc: Global, listens: bool) -> Result<PortSpec, PlanFault> {
     let path = text(alloc, "p")?;
-    Ok(PortSpec::Socket { path })
+    Ok(PortSpec::Socket { path, listens })
 }
 
 /// Whether the keys of a port over memory are read.
@@ -323,24 +325,30 @@ fn is_memory(alloc: Global) -> Result<bool, PlanFault> {
     is_port(alloc, "in = [\"0aFf\", \"\"]", &want)
 }
 
-/// The same of a port over captures.
-fn is_capture(alloc: Global) -> Result<bool, PlanFault> {
-    let want = capture(alloc)?;
-    let keys = "kind = \"capture\"\nread = \"in.pcap\"\nwrite = \"out.pcap\"";
-    is_port(alloc, keys, &want)
+/// The same of a port over captures, with this stamp.
+fn is_capture(alloc: Global, stamp: &str, want: Stamp) -> Result<bool, PlanFault> {
+    let want = capture(alloc, want)?;
+    let keys = format!(in alloc;
+        "kind = \"capture\"\nread = \"in.pcap\"\nwrite = \"out.pcap\"\n{stamp}\n[network]\ntick_ms = 10"
+    )?;
+    is_port(alloc, keys.as_str(), &want)
 }
 
-/// The same of a port over a socket.
-fn is_socket(alloc: Global) -> Result<bool, PlanFault> {
-    let want = socket(alloc)?;
-    is_port(alloc, "kind = \"socket\"\npath = \"p\"", &want)
+/// The same of a port over a socket, whose path stands at a key.
+fn is_socket(alloc: Global, key: &str, listens: bool) -> Result<bool, PlanFault> {
+    let want = socket(alloc, listens)?;
+    let keys = format!(in alloc; "kind = \"socket\"\n{key} = \"p\"")?;
+    is_port(alloc, keys.as_str(), &want)
 }
 
 #[test]
 fn ports_are_of_three_kinds(rt: HostRuntime) -> Result<(), PlanFault> {
     assert!(rt; is_memory(rt.alloc())?);
-    assert!(rt; is_capture(rt.alloc())?);
-    assert!(rt; is_socket(rt.alloc())?);
+    assert!(rt; is_capture(rt.alloc(), "", Stamp::Ticks)?);
+    assert!(rt; is_capture(rt.alloc(), "stamp = \"ticks\"", Stamp::Ticks)?);
+    assert!(rt; is_capture(rt.alloc(), "stamp = \"time\"", Stamp::Time)?);
+    assert!(rt; is_socket(rt.alloc(), "path", false)?);
+    assert!(rt; is_socket(rt.alloc(), "listen", true)?);
     Ok(())
 }
 

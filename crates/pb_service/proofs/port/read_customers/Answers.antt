@@ -10,7 +10,7 @@ use Rattle.pb_service.specs.Refusals.{customer_ports}
 use Rattle.pb_service.proofs.Zips.{zip_next, zip_all}
 use Rattle.pb_service.proofs.Refusing.{memory_passed, table_passed, row_at}
 use Rattle.pb_service.proofs.Distinctness.{distinct_none, name_next, names_all, used_next, ports_all}
-use Rattle.pb_service.proofs.Ends.{few_names, flat_next, first_rows, port_of_customer, customer_passed, port_passed, customers_whole}
+use Rattle.pb_service.proofs.Ends.{few_names, flat_next, first_rows, port_of_customer, customer_passed, port_passed, stamp_passed, customers_whole, specs_whole}
 use Rattle.pb_service.proofs.port.read_customers.Goals as goal
 
 pub returns-in_err-bridge_names-clause-err : goal.returns-in_err-bridge_names-clause-err
@@ -26,7 +26,10 @@ pub returns-in_err-put-2-clause-err : goal.returns-in_err-put-2-clause-err
 returns-in_err-put-2-clause-err c = memory_passed _ _ _ (err_from_is_err_and _ c.from_residual-in_err-put-2.ensures.1) c.in_err-put-2.ensures.err
 
 pub returns-in_err-spec-clause-err : goal.returns-in_err-spec-clause-err
-returns-in_err-spec-clause-err c = memory_passed _ _ _ (err_from_is_err_and _ c.from_residual-in_err-spec.ensures.1) c.in_err-spec.ensures.err
+returns-in_err-spec-clause-err c =
+    let rows = ap (map (λ t. table_view t.now)) c.as_slice-rows.ensures.value ∙ c.in_ok-rows.ensures.ok in
+    let at = row_at (table_view c.args.document.now) Port c.as_slice-rows.result.now c.loop-index.index _ _ rows c.loop-index-test.true c.index-rows-index.is in
+    stamp_passed (table_view c.args.document.now) _ c.args.limits c.loop-index.index _ _ c.requires.limits at (err_from_is_err_and _ c.from_residual-in_err-spec.ensures.1) c.in_err-spec.ensures.err
 
 pub returns-in_err-check_row-clause-err : goal.returns-in_err-check_row-clause-err
 returns-in_err-check_row-clause-err c =
@@ -80,7 +83,7 @@ loop-index-preserved c =
       read = zip_next (λ r x. IsReadPort (IsCustomerOf (map (λ n. n.now) c.as_slice-bridges.result.now) (map (λ n. n.now) c.as_slice-services.result.now)) (table_view r.now) x)
           c.as_slice-rows.result.now c.loop-index.index _ _ _ _ _ c.loop-index-test.true c.index-rows-index.is c.loop-index.invariant.read
           (record { accepted = c.in_ok-check_row.ensures.ok; told = c.in_ok-customer.ensures.ok }) c.in_ok-put.ensures.ok;
-      specs = zip_next (λ r x. IsPortSpecOf (table_view r.now) x)
+      specs = zip_next (λ r x. IsPortSpecOf c.args.limits (table_view r.now) x)
           c.as_slice-rows.result.now c.loop-index.index _ _ _ _ _ c.loop-index-test.true c.index-rows-index.is c.loop-index.invariant.specs c.in_ok-spec.ensures.ok c.in_ok-put-2.ensures.ok;
       used = flat_next (customer_ports (map (λ n. n.now) c.as_slice-bridges.result.now)) c.as_slice-rows.result.now c.loop-index.index _ _ c.args.used.items c.loop-index.used.items _ _ c.loop-index-test.true c.index-rows-index.is
           c.loop-index.invariant.used (port_of_customer _ _ _ c.in_ok-customer.customer c.in_ok-customer.ensures.ok) c.in_ok-use_port.ensures.ok;
@@ -100,7 +103,8 @@ returns-clause-ok c =
 pub returns-clause-specs : goal.returns-clause-specs
 returns-clause-specs c =
     let rows = ap (map (λ t. table_view t.now)) c.as_slice-rows.ensures.value ∙ c.in_ok-rows.ensures.ok in
-    zip_all IsPortSpecOf (table_view c.args.document.now) Port c.as_slice-rows.result.now c.loop-index.index _ (omega arith) rows c.loop-index.invariant.specs
+    specs_whole (table_view c.args.document.now) c.args.limits _ c.requires.limits
+    (zip_all (IsPortSpecOf c.args.limits) (table_view c.args.document.now) Port c.as_slice-rows.result.now c.loop-index.index _ (omega arith) rows c.loop-index.invariant.specs)
 
 pub returns-clause-names : goal.returns-clause-names
 returns-clause-names c =
