@@ -6,7 +6,8 @@ use Rattle.pb_formats.specs.Rows.{Fits, IsFilled, AreFilled}
 use Rattle.pb_formats.specs.declared.templates.Slot.{Slot}
 use Rattle.pb_formats.specs.declared.rows.Filled.{Filled}
 
-map-push : {X Y : Type 0} (f : X → Y) (xs : List X) (x : X) → map f (xs ++ x ∷ []) ≡ map f xs ++ f x ∷ []
+-- one more at the end
+pub map-push : {X Y : Type 0} (f : X → Y) (xs : List X) (x : X) → map f (xs ++ x ∷ []) ≡ map f xs ++ f x ∷ []
 map-push f [] x = refl
 map-push f (y ∷ ys) x = ap (λ z. f y ∷ z) (map-push f ys x)
 

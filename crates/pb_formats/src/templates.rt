@@ -64,7 +64,7 @@ pub struct Template {
 }
 
 /// How the lines of a list stand in a document.
-#[derive(Clone, Copy, PartialEq, Eq)]
+#[derive(Clone, Copy)]
 pub enum ListShape {
     /// An array with an object for each line.
     Objects,

@@ -8,6 +8,9 @@
 //! behind the report of a run, `port NAME N` for each port whose input has the fault N. A run that is strict has the status
 //! 4 where it would be 0 and a frame was lost, the run did not drain, or bridges have not settled; `survive` has it where a
 //! failure parts a service, and the status 2 where the plan lacks what is named, as `draw` has.
+//!
+//! A report is printed in the form that is asked for: as lines, or as one document of them at the end, in which a fault stands
+//! under the key `fault`.
 #![tactic(auto)]
 
 ghost use Rattle.std.specs.Prelude.{◌≤◌};
