@@ -14,7 +14,7 @@ ghost use Rattle.pb_running.specs.Strict.{lost_text};
 ghost use Rattle.pb_running.specs.declared.strictness.Strictness.TheVariants.{Strict as strict};
 
 use crate::completing::{CaptureFiles, complete_all};
-use crate::linger::lingered;
+use crate::linger::{Lingering, lingered};
 use crate::lost::{is_whole, lost_of};
 use crate::network_fault::NetworkFault;
 use crate::options::RunOptions;
@@ -181,7 +181,7 @@ fn run_ports<R, G: Watch, W: Write, E: Write>(
     files: &[CaptureFiles],
     limits: Limits,
     strictness: Strictness,
-    linger: u32,
+    lingering: Lingering<'_>,
     gate: &G,
     writer: &mut W,
     errors: &mut E,
@@ -203,7 +203,7 @@ where
     match run_set(rt, alloc, plan, held, gate, limits) {
         Ok(ran) => {
             gate.close();
-            let ran = lingered(rt, ran, linger);
+            let ran = lingered(rt, ran, lingering);
             let customers = plan.customers.as_slice();
             complete_all(alloc, customers, files, errors);
             show_pcapng(rt, alloc, customers, files, ran.last.as_slice(), errors);
@@ -240,8 +240,11 @@ where
     ensures err { IfErr result (λ e. e ≡ NetworkFault.Ports → ⊥) }
     ensures none { IfErr result (λ e. e ≢ NetworkFault.Write → Keeps (W.contents writer.old) (W.contents writer.new)) }
 {
-    let (path, linger) = (options.plan, options.linger);
-    let outside = open_ports(rt, alloc, path, plan, specs, limits, traffic, errors)?;
+    let lingering = Lingering {
+        millis: options.linger,
+        traffic,
+    };
+    let outside = open_ports(rt, alloc, options.plan, plan, specs, limits, traffic, errors)?;
     let Outside {
         ports,
         files,
@@ -249,7 +252,7 @@ where
     } = outside;
     let files = files.as_slice();
     let ran = run_ports(
-        rt, alloc, plan, ports, files, limits, strictness, linger, gate, writer, errors,
+        rt, alloc, plan, ports, files, limits, strictness, lingering, gate, writer, errors,
     );
     remove_sockets(rt, sockets.as_slice());
     ran
