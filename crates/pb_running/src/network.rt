@@ -118,9 +118,11 @@ fn plug<R: Files + Net, G, E: Write>(
     }
 }
 
-/// Whether the bridges decide the states of their ports, by clocks that tick.
-fn decides(plan: &Plan, limits: Limits) -> bool {
-    plan.spanning == Spanning::Rstp && (limits.tick_every > 0 || limits.tick_ms > 0)
+/// Whether frames wait until the bridges have settled: where that is asked for, and the bridges decide the states of their
+/// ports, by clocks that tick.
+fn waits_for(options: &RunOptions<'_>, plan: &Plan, limits: Limits) -> bool {
+    let has_clock = limits.tick_every > 0 || limits.tick_ms > 0;
+    options.settles && has_clock && plan.spanning == Spanning::Rstp
 }
 
 /// Tells how many events of the plan have not come, where there are some: the run was over before.
@@ -311,7 +313,7 @@ where
                 events,
             },
         ) => {
-            let waits = options.settles && decides(&plan, limits);
+            let waits = waits_for(options, &plan, limits);
             let steering = Steering::new(alloc, gate, &plan, traffic, events, waits)?;
             plug(rt, alloc, options.control, &steering, errors)?;
             let ran = run_opened(
