@@ -171,6 +171,42 @@ if [ -e out/made.pcap ]; then
     status=1
 fi
 
+# A plan file that a port would write stands as it was, by whatever name.
+ln -sf refused.toml out/refused.link
+for name in out/refused.toml out/refused.link; do
+    plan "$(capture examples/captures/none.pcap $name)" >out/refused.toml
+    cp out/refused.toml out/refused.kept
+    refuses "port C1: write $name: also the plan file"
+    is_same out/refused.toml out/refused.kept
+done
+
+# An input that is pcapng has fault 1, and a hint.
+printf '\n\r\r\n\034\0\0\0\115\074\053\032\001\0\0\0\377\377\377\377\377\377\377\377' >out/wrong.pcapng
+plan "$(capture out/wrong.pcapng out/left.pcap)" >out/pcapng.toml
+told=0
+./pbnet run out/pcapng.toml >out/pcapng.report 2>out/pcapng.errors || told=$?
+if [ "$told" != 3 ] || [ "$(tail -n 1 out/pcapng.report)" != "fault: port C1 1" ] ||
+    [ "$(cat out/pcapng.errors)" != "port C1: out/wrong.pcapng is pcapng: editcap -F pcap writes what is read here" ]; then
+    echo "examples: pcapng is not told: $told, $(cat out/pcapng.report out/pcapng.errors)" >&2
+    status=1
+fi
+
+# A capture comes by standard input, and another by a named pipe whose writer comes late and holds up nobody.
+rm -f out/late.fifo
+mkfifo out/late.fifo
+plan "$(capture - out/left.pcap)" "$(capture out/late.fifo out/right.pcap)" >out/pipes.toml
+(sleep 1 && cat examples/captures/camera.pcap >out/late.fifo) &
+# shellcheck disable=SC2002
+cat examples/captures/provider.pcap | ./pbnet run --seconds 30 out/pipes.toml >out/pipes.report || status=1
+wait
+is_same out/right.pcap examples/captures/provider.pcap
+if [ "$(head -n 3 out/pipes.report)" != "ended drained
+port C1 entered 3 left 2 filtered 0
+port C2 entered 2 left 3 filtered 0" ]; then
+    echo "examples: captures did not come through pipes: $(cat out/pipes.report)" >&2
+    status=1
+fi
+
 # A plan that breaks a rule is told as by `check`, and standard error says where: in a table that lacks a key, where the
 # reader of TOML stops, and nothing where two services have one name.
 is_wrong() {
@@ -223,6 +259,35 @@ if command -v python3 >/dev/null 2>&1; then
     is_same out/sockets.report examples/sockets.report
     is_same out/peer examples/peer.expected
 fi
+
+# A peer that takes nothing before the run is over gets all frames in the time that ports have then. Without that time the frames
+# that are left are told.
+slow() {
+    rm -f out/slow.sock
+    python3 examples/slow.py out/slow.sock 2 >out/slow &
+    until grep -q listening out/slow 2>/dev/null; do sleep 0.05; done
+    told=0
+    ./pbnet run --strict --linger "$1" out/slow.toml >out/slow.report 2>out/slow.errors || told=$?
+    wait
+}
+if command -v python3 >/dev/null 2>&1; then
+    frames=$(python3 -c 'print(", ".join(["\"ffffffffffff0200000001010800" + "00" * 1886 + "\""] * 200))')
+    {
+        printf '[network]\nring = 4096\n\n'
+        plan "$(socket out/slow.sock)\nqueue = 4096" "queue = 4096\nin = [$frames]" | sed 's/^address.*/&\nqueue = 4096/'
+    } >out/slow.toml
+    slow 20000
+    if [ "$told" != 0 ] || [ "$(tail -n 1 out/slow)" != 380400 ] || [ -s out/slow.errors ]; then
+        echo "examples: a slow peer did not get all: $told, $(cat out/slow out/slow.errors)" >&2
+        status=1
+    fi
+    slow 0
+    if [ "$told" != 4 ] || ! grep -q '^port C1: [0-9]* frames not written$' out/slow.errors; then
+        echo "examples: frames that are left are not told: $told, $(cat out/slow out/slow.errors)" >&2
+        status=1
+    fi
+fi
+
 # A ring under load loses a link by an event, and another by the control socket; frames go the other way.
 if command -v python3 >/dev/null 2>&1; then
     rm -f out/ring.control
