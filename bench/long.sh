@@ -26,7 +26,7 @@ plan() {
 plan >"$folder/plan.toml"
 for millions in 1 10; do
     python3 - "$folder" "$millions" <<'PYTHON'
-import subprocess, sys, time, resource
+import re, subprocess, sys, time
 
 folder, millions = sys.argv[1], int(sys.argv[2])
 head = bytes.fromhex("d4c3b2a1020004000000000000000000ffff000001000000")
@@ -37,10 +37,16 @@ with open(f"{folder}/all.pcap", "wb") as file:
     for _ in range(1000 * millions):
         file.write(record * 1000)
 began = time.monotonic()
-ran = subprocess.run(["crates/pbnet/out/pbnet", "run", f"{folder}/plan.toml"], stdout=subprocess.PIPE, text=True)
+ran = subprocess.Popen(["crates/pbnet/out/pbnet", "run", f"{folder}/plan.toml"], stdout=subprocess.PIPE, text=True)
+# (what the system counts of an ended process has in it what this one had when it began the other)
+most = 0
+while ran.poll() is None:
+    with open(f"/proc/{ran.pid}/status") as file:
+        found = re.search(r"VmHWM:\s+(\d+)", file.read())
+    most = max(most, int(found[1]) if found else 0)
+    time.sleep(0.02)
 seconds = time.monotonic() - began
-most = resource.getrusage(resource.RUSAGE_CHILDREN).ru_maxrss
-lines = ran.stdout.splitlines()
+lines = ran.stdout.read().splitlines()
 left = next(int(it.split()[5]) for it in lines if it.startswith("port C2 "))
 print(f"{millions:,},000,000 frames: {lines[0]}, {left:,} left in {seconds:.1f} s, {left / seconds:,.0f} a second, {most / 1024:.1f} MiB resident at most")
 PYTHON
