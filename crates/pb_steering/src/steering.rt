@@ -20,7 +20,7 @@ use std::sync::atomic::{AtomicU64, Ordering};
 /// The worker of the first bridge attends to the control socket once in so many turns.
 const LOOK: u64 = 16;
 
-/// After how many ticks frames enter all the same, where the bridges have not settled.
+/// After how many ticks of each bridge frames enter all the same, where the bridges have not settled.
 const PATIENCE: u64 = 200;
 
 /// Why frames may enter that were held back until the bridges have settled.
@@ -28,7 +28,7 @@ const PATIENCE: u64 = 200;
 pub enum Opening {
     /// The bridges seem settled after so many ticks of the one that ticked most.
     Settled(u64),
-    /// They don't after so many, and it is waited no longer.
+    /// They don't after so many of the one that ticked least, and it is waited no longer.
     Unsettled(u64),
 }
 
@@ -91,7 +91,7 @@ fn courses_of(alloc: Global, plan: &Plan, events: Vec<PortEvent>) -> Result<Vec<
 impl<'a, G> Steering<'a, G> {
     /// The gate that steers a run of a sound plan, in which these events come, beside the gate of whoever runs it. It has no
     /// control socket. Where it is to wait for the bridges, no frame enters before each of them has ports in the states of
-    /// their roles (802.1D-2004 clause 17.10) of which none has changed for four ticks, or one has ticked 200 times; no
+    /// their roles (802.1D-2004 clause 17.10) of which none has changed for four ticks, or each has ticked 200 times; no
     /// contract says so. `Memory` is answered where there was none for the gate.
     pub fn new(
         alloc: Global,
@@ -162,15 +162,26 @@ impl<'a, G> Steering<'a, G> {
         true
     }
 
+    /// How often the clock of the bridge has ticked that ticked least.
+    fn slowest(&self) -> u64 {
+        let (mut bridge, mut least) = (0u8, u64::MAX);
+        for _ in &self.courses {
+            bridge = bridge.wrapping_add(1);
+            let (_, ticks) = self.traffic.at_bridge(bridge);
+            least = least.min(ticks);
+        }
+        least
+    }
+
     /// Why frames may enter now that were held back so far; None where they may not yet, or may already.
     fn opening(&self) -> Option<Opening> {
         if self.open.load(Ordering::SeqCst) != 0 {
             return None;
         }
-        let ticks = self.traffic.ticks();
         if self.are_settled() {
-            return Some(Opening::Settled(ticks));
+            return Some(Opening::Settled(self.traffic.ticks()));
         }
+        let ticks = self.slowest();
         if ticks >= PATIENCE {
             return Some(Opening::Unsettled(ticks));
         }
