@@ -56,7 +56,10 @@ fn sorted_ports<'a>(alloc: Global, plan: &'a Plan) -> Result<Vec<(&'a str, u8)>,
 }
 
 /// The bridges by name.
-pub(crate) fn sorted_bridges<'a>(alloc: Global, plan: &'a Plan) -> Result<Vec<(&'a str, u8)>, Memory>
+pub(crate) fn sorted_bridges<'a>(
+    alloc: Global,
+    plan: &'a Plan,
+) -> Result<Vec<(&'a str, u8)>, Memory>
     requires { IsFew plan.now }
     ensures { IfOk result (λ bridges. AreByName (map (λ b. b.name) plan.now.bridges) (map (λ n. (n.0.now, n.1)) bridges.items)) }
 {

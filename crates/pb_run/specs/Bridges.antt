@@ -34,7 +34,7 @@ role_in (Some machine) port = role_among (roles_of machine.ports) port
 abbrev pub view_of : Bridge → ℕ → Option PortView
 view_of bridge port = if is_provider (port_at bridge.plan bridge.number port)
     then Some (record {
-        role = role_in (machine_in bridge.plan bridge.number bridge.steps) port;
-        state = unwrap_or (numbered (states_after bridge.plan bridge.number bridge.steps) port) Discarding
+      role = role_in (machine_in bridge.plan bridge.number bridge.steps) port;
+      state = unwrap_or (numbered (states_after bridge.plan bridge.number bridge.steps) port) Discarding;
     })
     else None

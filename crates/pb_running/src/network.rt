@@ -246,7 +246,8 @@ where
         millis: options.linger,
         traffic,
     };
-    let outside = open_ports(rt, alloc, options.plan, plan, specs, limits, traffic, errors)?;
+    let path = options.plan;
+    let outside = open_ports(rt, alloc, path, plan, specs, limits, traffic, errors)?;
     let Outside {
         ports,
         files,

@@ -60,8 +60,16 @@ impl Board for Fake {
             state: PortState::Forwarding,
         });
         views[15] = Some(PortView {
-            role: if bridge == 1 { None } else { Some(Role::Alternate) },
-            state: if bridge == 1 { PortState::Learning } else { PortState::Discarding },
+            role: if bridge == 1 {
+                None
+            } else {
+                Some(Role::Alternate)
+            },
+            state: if bridge == 1 {
+                PortState::Learning
+            } else {
+                PortState::Discarding
+            },
         });
         views
     }

@@ -331,10 +331,7 @@ fn wishes_take_the_place_of_turns(rt: HostRuntime) -> Result<(), Fail> {
         gate.refused.load(Ordering::SeqCst),
         turns.saturating_mul(2)
     );
-    assert_eq!(rt;
-        gate.shown.load(Ordering::SeqCst),
-        ticks.saturating_add(6)
-    );
+    assert_eq!(rt; gate.shown.load(Ordering::SeqCst), ticks.saturating_add(6));
     Ok(())
 }
 

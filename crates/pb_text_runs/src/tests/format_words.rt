@@ -91,7 +91,10 @@ fn runs_settle_and_linger(rt: HostRuntime) -> Result<(), Fail> {
         (&["run", "a"], Some((false, 100))),
         (&["run", "--settle", "a"], Some((true, 100))),
         (&["run", "a", "--linger", "0"], Some((false, 0))),
-        (&["run", "a", "--linger=60000", "--settle"], Some((true, 60_000))),
+        (
+            &["run", "a", "--linger=60000", "--settle"],
+            Some((true, 60_000)),
+        ),
         (&["run", "a", "--linger=60001"], None),
         (&["run", "a", "--linger=-1"], None),
         (&["run", "a", "--linger"], None),

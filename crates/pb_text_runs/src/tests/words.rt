@@ -1,7 +1,8 @@
 //! What the words of the command line ask for.
 
 use pb_words::{
-    InitOrder, Order, ReportFormat, ReportOrder, RunOrder, TraceEntry, TraceOrder, TreeOrder, order_of,
+    InitOrder, Order, ReportFormat, ReportOrder, RunOrder, TraceEntry, TraceOrder, TreeOrder,
+    order_of,
 };
 use std::alloc::{AllocError, Global};
 use std::process::Abort;
