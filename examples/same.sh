@@ -30,7 +30,7 @@ is_copied() {
 for script in *.steps; do
     name=${script%.steps}
     for part in PLAN:toml STEPS:steps EXPECTED:expected; do
-        is_copied "${part%:*}" "${name//-/_}" pb_step_runs "$name.${part#*:}"
+        is_copied "${part%:*}" "${name//-/_}" pb_step_tests "$name.${part#*:}"
     done
 done
 
@@ -41,26 +41,26 @@ for part in broadcast.txt:stdin broadcast.expected:stdout; do
         status=1
     fi
 done
-is_copied LEARNING examples pb_flat_runs learning.txt
-is_copied LEARNING_ANSWERS examples pb_flat_runs learning.expected
-is_copied REASONS examples pb_flat_runs reasons.txt
-is_copied REASONS_ANSWERS examples pb_flat_runs reasons.expected
+is_copied LEARNING examples pb_flat_tests learning.txt
+is_copied LEARNING_ANSWERS examples pb_flat_tests learning.expected
+is_copied REASONS examples pb_flat_tests reasons.txt
+is_copied REASONS_ANSWERS examples pb_flat_tests reasons.expected
 
 # check and show.
-is_copied PLAN_FILE examples pb_check_runs plan-file.toml
-is_copied PLAN_FILE_ANSWER examples pb_check_runs plan-file.expected
-is_copied SHOWN examples pb_check_runs show.expected
+is_copied PLAN_FILE examples pb_check_tests plan-file.toml
+is_copied PLAN_FILE_ANSWER examples pb_check_tests plan-file.expected
+is_copied SHOWN examples pb_check_tests show.expected
 
 # init.
-is_copied INIT examples pb_init_runs init.toml
+is_copied INIT examples pb_init_tests init.toml
 
 # run: the metro ring between captures.
-is_copied PLAN captures pb_running_runs captures.toml
-is_copied REPORT captures pb_running_runs captures.report
+is_copied PLAN captures pb_running_tests captures.toml
+is_copied REPORT captures pb_running_tests captures.report
 for name in none provider camera; do
     digits=$(od -An -v -tx1 "captures/$name.pcap" | tr -d ' \n')
-    if ! grep -q "\"$digits\"" ../crates/pb_running_runs/src/tests/captures.rt; then
-        echo "examples: captures/$name.pcap is not what crates/pb_running_runs/src/tests/captures.rt has" >&2
+    if ! grep -q "\"$digits\"" ../crates/pb_running_tests/src/tests/captures.rt; then
+        echo "examples: captures/$name.pcap is not what crates/pb_running_tests/src/tests/captures.rt has" >&2
         status=1
     fi
 done

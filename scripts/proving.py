@@ -338,9 +338,9 @@ class Queue:
     this takes 808 s on four processors, and rt's own rule, which shares out the idle processors, 938 s; at no more jobs
     than processors the best rule took 917 s."""
 
-    def __init__(self, proofs, kept, processors, room, told):
+    def __init__(self, proofs, kept, processors, room, told, most=4):
         self.left, self.kept, self.room, self.told = list(proofs), kept, room, told
-        self.processors, self.jobs = processors, processors * 3 // 2
+        self.processors, self.jobs, self.most = processors, processors * 3 // 2, most
         # (some checks take a fifth more than need says)
         self.memory = 0.85 * toolchain().free()
         self.running = {}
@@ -367,7 +367,7 @@ class Queue:
         longest = max(self.behind[it.name] for it in [*self.left, *self.running.values()])
         used = sum(self.needs(it, it.jobs) for it in self.running.values())
         for it in ready:
-            jobs = min(4, self.processors, idle) if self.behind[it.name] == longest else 1
+            jobs = min(self.most, self.processors, idle) if self.behind[it.name] == longest else 1
             while jobs > 1 and used + self.needs(it, jobs) > self.memory:
                 jobs -= 1
             if not self.running or used + self.needs(it, jobs) <= self.memory:
@@ -485,8 +485,9 @@ def figures(root):
     return found
 
 
-def prove(root, names, processors=None, before=None):
-    """Proves these crates and all below them where no proof of theirs is kept, and says first what is to be said before. Returns the proofs that were made."""
+def prove(root, names, processors=None, before=None, most=4):
+    """Proves these crates and all below them where no proof of theirs is kept, each with so many jobs at most, and says first what is to be said before.
+    Returns the proofs that were made."""
     rt = toolchain()
     crates = with_below(crates_of(root), names)
     if len(kept_proofs(crates)) == len(crates):
@@ -501,7 +502,7 @@ def prove(root, names, processors=None, before=None):
     prepare()
     try:
         with tempfile.TemporaryDirectory(prefix="prove-") as room:
-            Queue(proofs, kept, processors or rt.processors(), room, Told(proofs)).run()
+            Queue(proofs, kept, processors or rt.processors(), room, Told(proofs), most).run()
     finally:
         os.makedirs(f"{root}/out", exist_ok=True)
         measured.update({it.name: it.row() for it in proofs if it.ended and it.name in kept})
@@ -518,7 +519,7 @@ def words_of_tests(crate, made, jobs=1):
 
 
 def prove_tests(root, names, processors=None):
-    """Proves the tests of these crates, and leaves the program that runs them as out/NAME_tests of each. One that was made so of the same sources is kept."""
+    """Proves the tests of these crates, and leaves the program that runs them as out/tests of each. One that was made so of the same sources is kept."""
     crates = crates_of(root)
     below = with_below(crates, [it.name for name in names for it in crates[name].below()])
     prove(root, [it.name for it in below], processors)
@@ -526,7 +527,7 @@ def prove_tests(root, names, processors=None):
     toolchain().Crate.stamp.cache_clear()
     kept = kept_proofs(below)
     for crate in (crates[it] for it in names):
-        made, key = f"{crate.folder}/out/{crate.name}_tests", "\n".join([crate.stamp(), *sums_below(crate, kept), ""])
+        made, key = f"{crate.folder}/out/tests", "\n".join([crate.stamp(), *sums_below(crate, kept), ""])
         if os.path.exists(made) and toolchain().rtlib.text_of(f"{made}.proved") == key:
             continue
         said = prove_tests_of(crate, processors or toolchain().processors())
@@ -539,7 +540,7 @@ def prove_tests(root, names, processors=None):
 
 def prove_tests_of(crate, processors):
     """Does so for one crate. Returns what was said where that failed, and else nothing."""
-    made = f"{crate.folder}/out/{crate.name}_tests"
+    made = f"{crate.folder}/out/tests"
     os.makedirs(f"{crate.folder}/out", exist_ok=True)
     with tempfile.TemporaryDirectory(prefix="tests-") as room:
         ran = run([toolchain().rtlib.RATTLE, *words_of_tests(crate, f"{made}.o", min(4, processors))], crate.folder, room)

@@ -1,0 +1,138 @@
+//! A test bench, which asks of a finished record what the laws of records rest on.
+
+ghost use Rattle.std.specs.Prelude.{IfOk};
+ghost use Rattle.pb_forest.specs.Benches.{CanArrive, TellsDelivered};
+ghost use Rattle.pb_lan.specs.LastShapes.{last_shape};
+ghost use Rattle.pb_lan.specs.Plans.{IsSound};
+ghost use Rattle.pb_net_tests.specs.Benches.{TellsAllDelivered};
+
+use super::draft::{Draft, Joint};
+use super::networks::JOINED;
+use super::plans::plan_of;
+use super::records::{Did, Done, Piece, record_of};
+use pb_forest::{forest, is_drained};
+use pb_frame::Memory;
+use pb_lan::{
+    Plan, frames_arrive_exactly_once, left, plan_is_sound, planned_states_stay, start_shape,
+    still_frames_are_traced,
+};
+use pb_steps::{Tallies, last_shape};
+use std::alloc::Global;
+use std::test::Fail;
+
+/// Whether the active links of the service are a forest at the end of the record, and no customer's
+/// frame is left on its way. Then each frame of the service that was handled under that shape, and
+/// neither refused nor lost, left each other port of its tree as often as it should: a broadcast
+/// once.
+fn arrives(alloc: Global, plan: &Plan, counts: &Tallies, service: u8) -> Result<bool, Memory>
+    requires { IsSound plan.now }
+    ensures { IfOk result (TellsDelivered plan.now (last_shape plan.now counts.now) counts.now service) }
+{
+    let shape = last_shape(alloc, plan, counts)?;
+    let Some(_rooted) = forest(alloc, &shape, plan, service)? else {
+        return Ok(false);
+    };
+    frames_arrive_exactly_once();
+    Ok(is_drained(counts))
+}
+
+/// Whether the active links of the service are a forest at the start, and no customer's frame is left on its
+/// way. Then, where the plan gives the states and no port was set up or down, each frame of the service that was
+/// neither refused nor lost left each other port of its tree as often as it should: no shape is asked about.
+fn all_arrive(alloc: Global, plan: &Plan, counts: &Tallies, service: u8) -> Result<bool, Memory>
+    requires { IsSound plan.now }
+    ensures { IfOk result (TellsAllDelivered plan.now counts.now service) }
+{
+    let shape = start_shape(alloc, plan)?;
+    let Some(_rooted) = forest(alloc, &shape, plan, service)? else {
+        return Ok(false);
+    };
+    planned_states_stay();
+    still_frames_are_traced();
+    frames_arrive_exactly_once();
+    Ok(is_drained(counts))
+}
+
+/// What the law asks can all be met: a broadcast that goes over a link meets it.
+fn broadcasts_can_arrive()
+    ensures { CanArrive }
+{}
+
+/// A broadcast of sixteen octets.
+const BROADCAST: &[u8] = &[255, 255, 255, 255, 255, 255, 2, 0, 0, 0, 1, 1, 8, 0, 65, 66];
+
+/// The same with the S-tag of red.
+const TAGGED: &[u8] = &[
+    255, 255, 255, 255, 255, 255, 2, 0, 0, 0, 1, 1, 136, 168, 0, 100, 8, 0, 65, 66,
+];
+
+const CAME: Piece = (0, BROADCAST);
+
+const CROSSED: Piece = (1, TAGGED);
+
+const LEFT: Piece = (2, BROADCAST);
+
+const AT_C1: &[Did] = &[Did::Poll(CAME), Did::Feed(CAME)];
+
+const AT_B1: &[Did] = &[Did::Receive(2, CAME, 1, &[]), Did::Transmit(1, CROSSED)];
+
+/// The broadcast went from C1 to C2.
+const FINISHED: Done = Done {
+    bridges: &[
+        AT_B1,
+        &[Did::Receive(1, CROSSED, 2, &[]), Did::Transmit(2, LEFT)],
+    ],
+    lanes: &[&[Did::Take(CROSSED), Did::Put(CROSSED)], &[]],
+    customers: &[AT_C1, &[Did::Deliver(LEFT)], &[]],
+};
+
+/// It is in the hand of the lane.
+const ON_ITS_WAY: Done = Done {
+    bridges: &[AT_B1, &[]],
+    lanes: &[&[Did::Take(CROSSED)], &[]],
+    customers: &[AT_C1, &[], &[]],
+};
+
+/// The same network with a second link, which closes a ring.
+const RINGED: Draft = Draft {
+    links: &[Joint::Plain((1, 1), (2, 1)), Joint::Plain((1, 3), (2, 4))],
+    ..JOINED
+};
+
+/// A network, what was done in it, and whether the bench says that the frames arrived.
+const ROWS: &[(Draft, Done, bool)] = &[
+    (JOINED, FINISHED, true),
+    (JOINED, ON_ITS_WAY, false),
+    (RINGED, FINISHED, false),
+];
+
+/// What both benches say, where the plan is sound.
+fn told(alloc: Global, draft: &Draft, done: &Done) -> Result<Option<(bool, bool)>, Memory> {
+    let plan = plan_of(alloc, draft)?;
+    let counts = Tallies::of(alloc, &record_of(alloc, done)?)?;
+    if !plan_is_sound(&plan) {
+        return Ok(None);
+    }
+    Ok(Some((
+        arrives(alloc, &plan, &counts, 1)?,
+        all_arrive(alloc, &plan, &counts, 1)?,
+    )))
+}
+
+#[test]
+fn a_bench_tells_what_arrived(rt: HostRuntime) -> Result<(), Fail> {
+    broadcasts_can_arrive();
+    for (number, (draft, done, wanted)) in ROWS.iter().enumerate() {
+        let told = told(rt.alloc(), draft, done)?;
+        assert_eq!(rt; told, Some((*wanted, *wanted)), "row {number}");
+    }
+    Ok(())
+}
+
+#[test]
+fn the_broadcast_left_as_it_came(rt: HostRuntime) -> Result<(), Fail> {
+    let rec = record_of(rt.alloc(), &FINISHED)?;
+    let frames = left(rt.alloc(), &rec, 2)?;
+    assert!(rt; frames.len() == 1 && frames.iter().all(|it| &**it == BROADCAST));
+    Ok(())
+}
