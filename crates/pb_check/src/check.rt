@@ -7,7 +7,8 @@ ghost use Rattle.pb_check.specs.Checks.{IsCheckText, plan_line};
 
 use pb_frame::Memory;
 use pb_lan::{Plan, start_shape};
-use pb_print::{CommandFault, put_forest, put_refusal};
+use pb_print::{put_forest, put_refusal};
+use pb_said::CommandFault;
 use pb_service::read_plan;
 use std::alloc::Global;
 use std::io::Write;

@@ -4,7 +4,7 @@ ghost use Rattle.std.specs.Prelude.{◌≡◌, OnOk, IfErr};
 ghost use Rattle.std.specs.Io.KnownBytes.{Appends};
 ghost use Rattle.pb_check.specs.Shows.{fate_lines};
 
-use pb_print::CommandFault;
+use pb_said::CommandFault;
 use std::io::Write;
 
 /// The address and the fate of each.

@@ -4,7 +4,7 @@ mod examples;
 
 use pb_check::{run_check, run_show};
 use pb_fakes::{Full, Unflushed};
-use pb_print::CommandFault;
+use pb_said::CommandFault;
 use std::alloc::Global;
 use std::process::Abort;
 use std::test::Fail;

@@ -12,7 +12,7 @@ use crate::names::bridge_name;
 use pb_frame::Memory;
 use pb_lan::{End, Event, Plan};
 use pb_net::{Net, NetFault};
-use pb_print::CommandFault;
+use pb_said::CommandFault;
 use std::alloc::Global;
 
 /// Whether words name an end of a link.

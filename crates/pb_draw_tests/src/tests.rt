@@ -5,7 +5,7 @@ mod plans;
 
 use pb_draw::{Asked, DrawEnd, Format, Rest, run_draw};
 use pb_fakes::{Full, Unflushed};
-use pb_print::CommandFault;
+use pb_said::CommandFault;
 use plans::Piece;
 use std::alloc::{AllocError, Global};
 use std::process::Abort;

@@ -12,13 +12,13 @@ use Rattle.pb_flat.specs.Answers.{Answer, blank, frame, bad, Answers}
 use Rattle.pb_flat.specs.Receipts.{Receipt, receipts}
 use Rattle.pb_flat.specs.Switches.{IsFlatPast}
 use Rattle.pb_flat.specs.Words.{IsFrameLine}
-use Rattle.pb_print.proofs.LineLemmas.{whole_line, uncut, Appends-twice, Appends-keeps, Appends-nothing}
+use Rattle.pb_said.proofs.LineLemmas.{whole_line, uncut, Appends-twice, Appends-keeps, Appends-nothing}
 use Rattle.pb_lines.specs.declared.LineFault.{LineFault}
 use Rattle.pb_lines.specs.declared.LineFault.TheVariants.{Read as line_unread, Memory as line_unheld}
 use Rattle.pb_lan.specs.declared.step.Step.{Step}
 use Rattle.pb_flat.specs.Progress.{Prints, PrintsBeginning, Progress, least_frames}
-use Rattle.pb_print.specs.declared.fault.CommandFault.{CommandFault}
-use Rattle.pb_print.specs.declared.fault.CommandFault.TheVariants.{Read, Write, Steps, Memory}
+use Rattle.pb_said.specs.declared.fault.CommandFault.{CommandFault}
+use Rattle.pb_said.specs.declared.fault.CommandFault.TheVariants.{Read, Write, Steps, Memory}
 
 -- one line more
 Answers-snoc : (limit ports n : ℕ) (front : List (List ℕ)) (line : List ℕ) (old mid new : List Receipt) (text more : List ℕ)

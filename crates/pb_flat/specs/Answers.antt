@@ -5,7 +5,7 @@ use Rattle.pb_lines.specs.Lines.{lines_of}
 use Rattle.pb_flat.specs.Receipts.{Receipt, receipts}
 use Rattle.pb_flat.specs.Switches.{IsFlatPast}
 use Rattle.pb_flat.specs.Texts.{answer_text}
-use Rattle.pb_print.specs.BadLines.{bad_line}
+use Rattle.pb_said.specs.BadLines.{bad_line}
 use Rattle.pb_flat.specs.Words.{IsFrameLine}
 
 -- the answer to line n, where the bridge had received some frames before it, and others after it:

@@ -1,6 +1,6 @@
 -- What ends a run where the bridge can take no step.
-use Rattle.pb_print.specs.declared.fault.CommandFault.{CommandFault}
-use Rattle.pb_print.specs.declared.fault.CommandFault.TheVariants.{Steps, Memory}
+use Rattle.pb_said.specs.declared.fault.CommandFault.{CommandFault}
+use Rattle.pb_said.specs.declared.fault.CommandFault.TheVariants.{Steps, Memory}
 use Rattle.pb_relay.specs.declared.fault.BridgeFault.{BridgeFault}
 use Rattle.pb_relay.specs.declared.fault.BridgeFault.TheVariants.{StepLimit, Memory as no_step_held}
 

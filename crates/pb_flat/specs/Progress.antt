@@ -2,8 +2,8 @@
 use Rattle.std.specs.Prelude.{◌≡◌, ℕ, ◌-◌, ◌^◌, suc, List, [], ◌++◌, length, Option, Some, None, IfSome, ⊤}
 use Rattle.std.specs.Io.KnownBytes.{Appends}
 use Rattle.pb_lines.specs.Lines.{cut_lines}
-use Rattle.pb_print.specs.declared.fault.CommandFault.{CommandFault}
-use Rattle.pb_print.specs.declared.fault.CommandFault.TheVariants.{Steps}
+use Rattle.pb_said.specs.declared.fault.CommandFault.{CommandFault}
+use Rattle.pb_said.specs.declared.fault.CommandFault.TheVariants.{Steps}
 use Rattle.pb_flat.specs.Answers.{Answers, IsFlatText, IsFlatBeginning}
 use Rattle.pb_flat.specs.Receipts.{Receipt}
 

@@ -4,13 +4,12 @@ ghost use Rattle.std.specs.Prelude.{◌≡◌, ◌++◌, string_bytes, true, IfO
 ghost use Rattle.pb_frame.specs.Hex.{hex_text, IsHex};
 ghost use Rattle.pb_frame.specs.Tags.{bare};
 ghost use Rattle.pb_flat.specs.Texts.{answer_text, filtered_line, out_line, out_lines};
-ghost use Rattle.pb_print.specs.BadLines.{bad_line};
+ghost use Rattle.pb_said.specs.BadLines.{bad_line};
 
 use itoa::Buffer;
 use pb_frame::{Memory, has_priority_tag, has_upper_case};
 use pb_lan::{Outcome, Reason};
-use pb_print::put_bad;
-use pb_script::put_reason;
+use pb_said::{put_bad, put_reason};
 use std::alloc::Global;
 
 /// Puts what became of a frame that a port received behind a text: for a relayed frame a line for

@@ -13,7 +13,7 @@ use crate::print::append_bad;
 use crate::switch::Switch;
 use bytes::BytesMut;
 use pb_lines::{Found, LineReader};
-use pb_print::{CommandFault, MAX_LINE};
+use pb_said::{CommandFault, MAX_LINE};
 use std::alloc::Global;
 use std::io::{Read, Write};
 

@@ -17,8 +17,8 @@ use crate::print::put_answer;
 use bytes::Bytes;
 use pb_frame::{Learnt, Memory};
 use pb_lan::{Item, Outcome, Reason, Step};
-use pb_print::CommandFault;
 use pb_relay::{Bridge, BridgeFault};
+use pb_said::CommandFault;
 use std::alloc::Global;
 use std::marker::Model;
 

@@ -8,7 +8,7 @@ use crate::parts::{put_bridges, put_links, put_ports};
 use crate::shape::Shape;
 use crate::texts::{put_head, put_kinds, put_service};
 use pb_frame::Memory;
-use pb_print::CommandFault;
+use pb_said::CommandFault;
 use std::alloc::Global;
 use std::io::Write;
 

@@ -5,7 +5,7 @@ mod examples;
 use pb_check::run_check;
 use pb_fakes::{Full, Unflushed};
 use pb_init::{Shape, write_plan};
-use pb_print::CommandFault;
+use pb_said::CommandFault;
 use pb_service::{Limits, read_limits};
 use std::alloc::{AllocError, Global};
 use std::process::Abort;

@@ -1,5 +1,3 @@
-pub mod Faults
-pub mod BadLines
 pub mod Refusals
 pub mod ForestTexts
 pub mod RecordTexts

@@ -4,8 +4,8 @@ ghost use Rattle.std.specs.Prelude.{◌≡◌, ◌≢◌, ◌⊎◌, ◌++◌, s
 ghost use Rattle.std.specs.Io.KnownBytes.{Appends, Keeps};
 ghost use Rattle.pb_print.specs.Refusals.{fault_words, refusal_line};
 
-use crate::fault::CommandFault;
 use pb_frame::Memory;
+use pb_said::CommandFault;
 use pb_service::PlanFault;
 use std::alloc::Global;
 use std::io::Write;

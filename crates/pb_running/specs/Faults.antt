@@ -1,8 +1,8 @@
 -- Why a network was not run.
 use Rattle.std.specs.Prelude.{ℕ, List}
 use Rattle.pb_lan.specs.declared.plan.Plan.{Plan}
-use Rattle.pb_print.specs.declared.fault.CommandFault.{CommandFault}
-use Rattle.pb_print.specs.declared.fault.CommandFault.TheVariants.{Read, Write as unwritten, Steps, Memory as unheld}
+use Rattle.pb_said.specs.declared.fault.CommandFault.{CommandFault}
+use Rattle.pb_said.specs.declared.fault.CommandFault.TheVariants.{Read, Write as unwritten, Steps, Memory as unheld}
 use Rattle.pb_run.specs.declared.fault.RunCause.{RunCause}
 use Rattle.pb_run.specs.declared.fault.RunCause.TheVariants.{PortCount, Memory as no_memory, Spawn as no_thread}
 use Rattle.pb_running.specs.declared.network_fault.NetworkFault.{NetworkFault}

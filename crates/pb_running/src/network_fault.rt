@@ -6,8 +6,8 @@ ghost use Rattle.pb_running.specs.declared.network_fault.NetworkFault.TheVariant
 
 use crate::open_fault::OpenFault;
 use pb_frame::Memory;
-use pb_print::CommandFault;
 use pb_run::RunCause;
+use pb_said::CommandFault;
 use std::alloc::{AllocError, AllocFailed};
 use thiserror::Error;
 

@@ -9,8 +9,9 @@ ghost use Rattle.pb_print.specs.RecordTexts.{IsRecordText};
 
 use pb_frame::Memory;
 use pb_lan::{CustomerPlan, Plan};
-use pb_print::{CommandFault, put_record, put_settled};
+use pb_print::{put_record, put_settled};
 use pb_run::{Ended, Last, Ran};
+use pb_said::CommandFault;
 use std::alloc::Global;
 use std::io::Write;
 

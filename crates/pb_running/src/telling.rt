@@ -7,7 +7,7 @@ ghost use Rattle.pb_running.specs.Telling.{name_at, word_of, path_line, sharing,
 use crate::open_fault::{FileUser, OpenFault, Verb};
 use pb_frame::Memory;
 use pb_lan::CustomerPlan;
-use pb_print::CommandFault;
+use pb_said::CommandFault;
 use std::alloc::{AllocError, Global};
 use std::io::{Error, Write};
 

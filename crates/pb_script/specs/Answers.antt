@@ -14,21 +14,9 @@ use Rattle.pb_lan.specs.declared.step.Outcome.{Outcome}
 use Rattle.pb_lan.specs.declared.step.Outcome.TheVariants.{Relayed, Filtered, Heard}
 use Rattle.pb_lan.specs.declared.step.Place.{Place}
 use Rattle.pb_lan.specs.declared.step.Place.TheVariants.{Bridge, Lane, Customer}
-use Rattle.pb_lan.specs.declared.step.Reason.{Reason}
-use Rattle.pb_lan.specs.declared.step.Reason.TheVariants.{NotForwarding, NotMember, Untagged, Reserved, Malformed, Worn, Memory, STagged, Long}
 use Rattle.pb_lan.specs.declared.step.Step.{Step}
 use Rattle.pb_lan.specs.declared.step.Step.TheVariants.{Poll, Feed, Deliver, Receive, Transmit, Tick, Admin, Take, Put}
-
-abbrev pub reason_word : Reason → List ℕ
-reason_word NotForwarding = codes "not-forwarding"
-reason_word NotMember = codes "not-member"
-reason_word Untagged = codes "untagged"
-reason_word (Reserved number) = codes "reserved-" ++ decimal number
-reason_word Malformed = codes "malformed"
-reason_word Worn = codes "worn"
-reason_word Memory = codes "memory"
-reason_word STagged = codes "s-tagged"
-reason_word Long = codes "long"
+use Rattle.pb_said.specs.Reasons.{reason_word}
 
 -- the chosen ports that got a copy
 abbrev pub copied : List (ℕ × NoRoom) → List ℕ → List ℕ

@@ -3,29 +3,12 @@
 ghost use Rattle.std.specs.Prelude.{◌≡◌, ◌++◌, ◌==◌, not, string_bytes, OnOk};
 ghost use Rattle.std.specs.List.{list_any};
 ghost use Rattle.pb_frame.specs.Hex.{hex_text as hex_of};
-ghost use Rattle.pb_script.specs.Answers.{copied, idle_line, no_such_line, outcome_words, place_name, port_words, reason_word, refused_words, step_line, step_words};
+ghost use Rattle.pb_script.specs.Answers.{copied, idle_line, no_such_line, outcome_words, place_name, port_words, refused_words, step_line, step_words};
 
 use pb_frame::{Memory, hex_text};
-use pb_lan::{NoRoom, Outcome, Place, Plan, Reason, Step};
+use pb_lan::{NoRoom, Outcome, Place, Plan, Step};
+use pb_said::put_reason;
 use std::alloc::Global;
-
-/// Puts the word for a reason behind a text.
-pub fn put_reason(out: &mut String, reason: Reason) -> Result<(), Memory>
-    ensures { OnOk result (string_bytes out.new ≡ string_bytes out.old ++ reason_word reason) }
-{
-    match reason {
-        Reason::NotForwarding => out.push_str("not-forwarding")?,
-        Reason::NotMember => out.push_str("not-member")?,
-        Reason::Untagged => out.push_str("untagged")?,
-        Reason::Reserved(number) => write!(out, "reserved-{number}")?,
-        Reason::Malformed => out.push_str("malformed")?,
-        Reason::Worn => out.push_str("worn")?,
-        Reason::Memory => out.push_str("memory")?,
-        Reason::STagged => out.push_str("s-tagged")?,
-        Reason::Long => out.push_str("long")?,
-    }
-    Ok(())
-}
 
 /// Whether a port is among those that got no copy.
 fn is_refused(port: u8, refused: &[(u8, NoRoom)]) -> bool

@@ -12,7 +12,7 @@ mod report;
 mod verb;
 mod words;
 
-pub use answer::{put_done, put_idle, put_no_such, put_reason};
+pub use answer::{put_done, put_idle, put_no_such};
 pub use line::read_line;
 pub use names::Names;
 pub use report::put_counts;

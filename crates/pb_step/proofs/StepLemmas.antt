@@ -20,11 +20,11 @@ use Rattle.pb_script.specs.Answers.{step_line, idle_line, no_such_line}
 use Rattle.pb_step.proofs.PlaceLemmas.{named_place}
 use Rattle.pb_script.specs.Lines.{Asks}
 use Rattle.pb_step.specs.Steps.{newest_at, HasGrown, StepAnswer, bad, absent, idle, done, StepAnswers, start_of, IsReport, IsAtLimit, no_report, part_report, PrintsSteps, HaveAnswered, PrintsStepsBeginning, StepsProgress}
-use Rattle.pb_print.specs.BadLines.{bad_line}
-use Rattle.pb_print.specs.declared.fault.CommandFault.{CommandFault}
+use Rattle.pb_said.specs.BadLines.{bad_line}
+use Rattle.pb_said.specs.declared.fault.CommandFault.{CommandFault}
 use Rattle.pb_print.specs.RecordTexts.{IsRecordText}
-use Rattle.pb_print.specs.declared.fault.CommandFault.TheVariants.{Steps, Memory}
-use Rattle.pb_print.proofs.LineLemmas.{whole_line, uncut, Appends-twice, Appends-keeps, Appends-nothing}
+use Rattle.pb_said.specs.declared.fault.CommandFault.TheVariants.{Steps, Memory}
+use Rattle.pb_said.proofs.LineLemmas.{whole_line, uncut, Appends-twice, Appends-keeps, Appends-nothing}
 
 -- one line more
 StepAnswers-snoc : (limit n : ℕ) (front : List (List ℕ)) (line : List ℕ) (old mid new : NetView) (text more : List ℕ)

@@ -5,8 +5,8 @@ use Rattle.pb_lan.specs.declared.plan.Plan.{Plan}
 use Rattle.pb_service.specs.PlanFiles.{Tells, IsPlanOf}
 use Rattle.pb_service.specs.declared.port_spec.PortSpec.{PortSpec}
 use Rattle.pb_print.specs.Refusals.{PrintsRefusal}
-use Rattle.pb_print.specs.declared.fault.CommandFault.{CommandFault}
-use Rattle.pb_print.specs.declared.fault.CommandFault.TheVariants.{Memory}
+use Rattle.pb_said.specs.declared.fault.CommandFault.{CommandFault}
+use Rattle.pb_said.specs.declared.fault.CommandFault.TheVariants.{Memory}
 use Rattle.pb_step.specs.Steps.{PrintsSteps, PrintsStepsBeginning}
 
 -- the file tells the plan

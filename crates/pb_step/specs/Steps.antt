@@ -17,10 +17,10 @@ use Rattle.pb_net.specs.declared.did.Did.TheVariants.{Idle, Done}
 use Rattle.pb_net.specs.declared.fault.NetFault.TheVariants.{StepLimit, NoSuch}
 use Rattle.pb_script.specs.Answers.{step_line, idle_line, no_such_line}
 use Rattle.pb_script.specs.Lines.{Asks}
-use Rattle.pb_print.specs.BadLines.{bad_line}
+use Rattle.pb_said.specs.BadLines.{bad_line}
 use Rattle.pb_print.specs.RecordTexts.{settled_line, IsRecordText}
-use Rattle.pb_print.specs.declared.fault.CommandFault.{CommandFault}
-use Rattle.pb_print.specs.declared.fault.CommandFault.TheVariants.{Steps, Memory}
+use Rattle.pb_said.specs.declared.fault.CommandFault.{CommandFault}
+use Rattle.pb_said.specs.declared.fault.CommandFault.TheVariants.{Steps, Memory}
 
 -- the newest step of a place
 abbrev pub newest_at : Record → Place → Option Step

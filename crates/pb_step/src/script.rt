@@ -8,7 +8,8 @@ ghost use Rattle.pb_step.specs.Scripts.{PrintsScript, PrintsScriptBeginning};
 ghost use Rattle.pb_service.specs.declared.fault.PlanFault.{PlanFault};
 
 use crate::steps::run_steps;
-use pb_print::{CommandFault, write_refusal};
+use pb_print::write_refusal;
+use pb_said::CommandFault;
 use pb_service::read_plan;
 use std::alloc::Global;
 use std::io::{Read, Write};

@@ -10,7 +10,7 @@ mod settling;
 mod two_bridges;
 
 use pb_fakes::{Full, Slow, Unflushed};
-use pb_print::CommandFault;
+use pb_said::CommandFault;
 use pb_step::run_script;
 use std::alloc::Global;
 use std::io::ErrorKind;

@@ -7,7 +7,7 @@ mod watching;
 
 use draft::{Draft, plan_file};
 use pb_fakes::{Full, Unflushed};
-use pb_print::CommandFault;
+use pb_said::CommandFault;
 use pb_survive::{Asked, Kinds, Scope, run_survive};
 use std::alloc::Global;
 use std::process::Abort;

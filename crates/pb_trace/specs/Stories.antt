@@ -12,8 +12,8 @@ use Rattle.pb_lan.specs.declared.step.Step.TheVariants.{Poll as Polled}
 use Rattle.pb_net.specs.Answers.{NetView, IsAnswer}
 use Rattle.pb_net.specs.declared.did.Did.TheVariants.{Idle, Done}
 use Rattle.pb_net.specs.declared.fault.NetFault.TheVariants.{NoSuch}
-use Rattle.pb_print.specs.declared.fault.CommandFault.{CommandFault}
-use Rattle.pb_print.specs.declared.fault.CommandFault.TheVariants.{Steps, Memory}
+use Rattle.pb_said.specs.declared.fault.CommandFault.{CommandFault}
+use Rattle.pb_said.specs.declared.fault.CommandFault.TheVariants.{Steps, Memory}
 use Rattle.pb_script.specs.Answers.{idle_line, number_in}
 use Rattle.pb_settle.specs.Drives.{HasDrained, HasRested}
 use Rattle.pb_settle.specs.declared.fault.DriveFault.{DriveFault}

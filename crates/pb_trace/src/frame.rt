@@ -15,7 +15,7 @@ use bytes::Bytes;
 use pb_frame::Memory;
 use pb_lan::{Event, Place, Plan, Step};
 use pb_net::{Did, Net, NetFault};
-use pb_print::CommandFault;
+use pb_said::CommandFault;
 use pb_script::put_idle;
 use pb_settle::drain;
 use std::alloc::Global;

@@ -9,7 +9,7 @@ use crate::frame::{Fate, trace_frame};
 use crate::round::FrameId;
 use pb_lan::Plan;
 use pb_net::Net;
-use pb_print::CommandFault;
+use pb_said::CommandFault;
 use std::alloc::Global;
 
 /// What became of several frames.

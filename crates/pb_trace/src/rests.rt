@@ -7,7 +7,7 @@ ghost use Rattle.pb_trace.specs.Stories.{fault_of, rest_line, HasBegun};
 use pb_frame::Memory;
 use pb_lan::Plan;
 use pb_net::Net;
-use pb_print::CommandFault;
+use pb_said::CommandFault;
 use pb_settle::{DriveFault, Rest, settle};
 use std::alloc::Global;
 

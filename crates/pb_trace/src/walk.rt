@@ -14,7 +14,7 @@ use crate::onward::{Onward, event_of};
 use crate::telling::put_told;
 use pb_lan::{Place, Plan, Step};
 use pb_net::{Did, Net, NetFault};
-use pb_print::CommandFault;
+use pb_said::CommandFault;
 use std::alloc::Global;
 
 /// The most events that are done for a frame besides its coming in.

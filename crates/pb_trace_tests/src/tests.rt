@@ -3,7 +3,7 @@
 mod plans;
 
 use pb_fakes::{Full, Unflushed};
-use pb_print::CommandFault;
+use pb_said::CommandFault;
 use pb_trace::{Entry, TraceEnd, run_trace};
 use std::alloc::{AllocError, Global};
 use std::process::Abort;

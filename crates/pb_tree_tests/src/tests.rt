@@ -3,7 +3,7 @@
 mod drawn;
 
 use pb_fakes::{Full, Unflushed};
-use pb_print::CommandFault;
+use pb_said::CommandFault;
 use pb_tree::{TreeEnd, run_tree};
 use std::alloc::{AllocError, Global};
 use std::process::Abort;

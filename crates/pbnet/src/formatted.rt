@@ -1,8 +1,8 @@
 //! Reports in the form that is asked for.
 
-use crate::FAULT;
 use pb_formats::{Form, FormatFault, Table, csv_of, json_of};
-use pb_print::CommandFault;
+use pb_front::FAULT;
+use pb_said::CommandFault;
 use pb_words::ReportFormat;
 use std::fmt::Display;
 use std::io::Write;

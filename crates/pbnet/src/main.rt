@@ -13,8 +13,6 @@
 //! under the key `fault`.
 #![tactic(auto)]
 
-ghost use Rattle.std.specs.Prelude.{◌≤◌};
-
 mod draw;
 mod formatted;
 mod looks;
@@ -23,39 +21,30 @@ mod survive;
 mod trace;
 mod trees;
 
-use clap::error::ErrorKind as WordsFault;
 use formatted::Output;
 use pb_check::{run_check, run_show};
-use pb_flat::{Switch, run_flat_on};
 use pb_formats::{CHECK, COUNTS, RUN, STEP};
+use pb_front::{WRONG_WORDS, flat, refuse, tell, tell_on, words_of};
 use pb_init::{Shape, write_plan};
 use pb_locate::refused_at;
-use pb_print::CommandFault;
 use pb_running::{RunOptions, Strictness, Traffic, run_network};
+use pb_said::CommandFault;
 use pb_step::run_script;
 use pb_words::{InitOrder, Order, ReportOrder, RunOrder, order_of};
 use progress::{Progress, Shown};
 use std::alloc::{AllocError, Global};
-use std::fmt::Display;
 use std::fs::{File, Files};
 use std::io::{BufWriter, ErrorKind, IsTerminal, Read, Write};
 use std::net::Net;
 use std::process::ExitCode;
-use std::rt::Env;
 use std::sync::{Arc, Wait};
 use std::thread::Threads;
 use std::time::Clock;
-use std::{env, fs, io, mem};
+use std::{fs, io};
 use trees::tree;
 
 /// The exit status where a plan file is refused.
 const REFUSED: u8 = 1;
-
-/// The exit status where the words ask for nothing that is known.
-const WRONG_WORDS: u8 = 2;
-
-/// The exit status of a run that a fault ended.
-const FAULT: u8 = 3;
 
 /// How many octets are gathered before they are written.
 const BUFFER: usize = 65_536;
@@ -63,7 +52,7 @@ const BUFFER: usize = 65_536;
 fn main(rt: HostRuntime) -> ExitCode {
     let words = match words_of(&rt) {
         Ok(words) => words,
-        Err(e) => return unread(&rt, &e),
+        Err(status) => return status,
     };
     match order_of(rt.alloc(), words.as_slice()) {
         Ok(Some(Order::Flat(ports))) => flat(&rt, ports),
@@ -83,51 +72,7 @@ fn main(rt: HostRuntime) -> ExitCode {
         }
         Ok(Some(Order::Draw(order))) => draw::draw_network(&rt, &order),
         Ok(None) => ExitCode::from(WRONG_WORDS),
-        Err(e) if e.kind() == WordsFault::OutOfMemory => tell(&rt, CommandFault::Memory),
-        Err(e) => {
-            let _ = e.print(&rt);
-            ExitCode::from(if e.use_stderr() { WRONG_WORDS } else { 0 })
-        }
-    }
-}
-
-/// The words of the command line. An error where one isn't UTF-8, or memory ran out.
-fn words_of(rt: &(impl Env + AllocGlobal)) -> io::Result<Vec<String>> {
-    let mut words = Vec::new(rt.alloc());
-    for word in env::args(rt)? {
-        words.push(word)?;
-    }
-    Ok(words)
-}
-
-/// Says why the words of the command line can't be read.
-fn unread(rt: &(impl Print + Eprint), error: &io::Error) -> ExitCode {
-    if error.kind() == ErrorKind::OutOfMemory {
-        return tell(rt, CommandFault::Memory);
-    }
-    let _ = eprintln!(rt; "error: a word of the command line is not UTF-8");
-    ExitCode::from(WRONG_WORDS)
-}
-
-/// Runs one bridge over standard input.
-fn flat(rt: &(impl Input + Print + AllocGlobal), ports: u8) -> ExitCode
-    requires { (2 ≤ ports) × (ports ≤ 16) }
-{
-    let Ok(mut writer) = BufWriter::with_capacity(rt.alloc(), BUFFER, io::writer(rt)) else {
-        return tell(rt, CommandFault::Memory);
-    };
-    let Ok(mut switch) = Switch::new(rt.alloc(), ports) else {
-        return tell(rt, CommandFault::Memory);
-    };
-    let mut reader = rt.reader();
-    let ran = run_flat_on(rt.alloc(), &mut switch, &mut reader, &mut writer);
-    // The program ends, and all its memory goes back at once.
-    mem::forget(switch);
-    let flushed = writer.flush();
-    match ran {
-        Err(fault) => tell(rt, fault),
-        Ok(()) if flushed.is_err() => tell(rt, CommandFault::Write),
-        Ok(()) => ExitCode::SUCCESS,
+        Err(e) => refuse(&rt, e),
     }
 }
 
@@ -328,16 +273,4 @@ fn init(rt: &(impl Print + AllocGlobal), order: InitOrder) -> ExitCode {
         Err(fault) => tell(rt, fault),
         Ok(()) => ExitCode::SUCCESS,
     }
-}
-
-/// Says which fault ended a run.
-fn tell(rt: &impl Print, fault: impl Display + Drop) -> ExitCode {
-    let _ = println!(rt; "fault: {fault}");
-    ExitCode::from(FAULT)
-}
-
-/// Says which fault ended a run, where its report goes.
-fn tell_on<W: Write>(out: &mut W, fault: impl Display + Drop) -> ExitCode {
-    let _ = writeln!(out, "fault: {fault}");
-    ExitCode::from(FAULT)
 }

@@ -3,9 +3,9 @@ use Rattle.std.specs.Io.KnownBytes.{Appends}
 use Rattle.pb_lines.specs.Reader.{held, newest}
 use Rattle.pb_flat.specs.Receipts.{receipts}
 use Rattle.pb_flat.proofs.RunLemmas.{goes_on, finishes, has_begun}
-use Rattle.pb_print.proofs.LineLemmas.{of_line-not-steps, line_found, none_found, last_found}
+use Rattle.pb_said.proofs.LineLemmas.{of_line-not-steps, line_found, none_found, last_found}
 use Rattle.std.proofs.lemmas.Result.{err_from_is_err_and}
-use Rattle.pb_print.specs.declared.fault.CommandFault.TheVariants.{Read}
+use Rattle.pb_said.specs.declared.fault.CommandFault.TheVariants.{Read}
 use Rattle.pb_flat.proofs.run.answer_lines.Goals as goal
 
 pub loop-number-preserved : goal.loop-number-preserved

@@ -1,6 +1,6 @@
 use Rattle.std.proofs.Common.{◌≡◌, ◌≢◌, sym, subst, ◌∙◌}
 use Rattle.std.specs.Prelude.{IfErr}
-use Rattle.pb_print.specs.declared.fault.CommandFault.TheVariants.{Write}
+use Rattle.pb_said.specs.declared.fault.CommandFault.TheVariants.{Write}
 use Rattle.pb_flat.specs.Progress.{PrintsBeginning}
 use Rattle.pb_flat.specs.Switches.{SwitchView}
 use Rattle.std.proofs.lemmas.Result.{err_from_is_err_and}

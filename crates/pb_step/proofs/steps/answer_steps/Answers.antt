@@ -2,9 +2,9 @@ use Rattle.std.proofs.Common.{◌≡◌, ◌++◌, ◌+◌, ap, sym, ◌∙◌, 
 use Rattle.std.specs.Io.KnownBytes.{Appends}
 use Rattle.std.proofs.lemmas.Result.{err_from_is_err_and}
 use Rattle.pb_lines.specs.Reader.{held, newest}
-use Rattle.pb_print.proofs.LineLemmas.{of_line-not-steps, line_found, none_found, last_found}
+use Rattle.pb_said.proofs.LineLemmas.{of_line-not-steps, line_found, none_found, last_found}
 use Rattle.pb_step.proofs.StepLemmas.{steps_start, steps_go_on, steps_end, steps_begun, steps_stopped}
-use Rattle.pb_print.specs.declared.fault.CommandFault.TheVariants.{Read}
+use Rattle.pb_said.specs.declared.fault.CommandFault.TheVariants.{Read}
 use Rattle.pb_step.proofs.steps.answer_steps.Goals as goal
 
 pub loop-number-init : goal.loop-number-init

@@ -4,7 +4,7 @@ use Rattle.pb_lan.specs.Records.{IsLawfulRecord}
 use Rattle.pb_relay.specs.Protocol.{spanning_tree}
 use Rattle.pb_relay.specs.Settled.{TellsSettled}
 use Rattle.pb_step.specs.Steps.{HaveAnswered, PrintsStepsBeginning}
-use Rattle.pb_print.specs.declared.fault.CommandFault.TheVariants.{Write, Memory}
+use Rattle.pb_said.specs.declared.fault.CommandFault.TheVariants.{Write, Memory}
 use Rattle.pb_print.proofs.CheckLemmas.{on_ok}
 use Rattle.pb_step.proofs.StepLemmas.{steps_unread, reported, unreported, part_reported, on_err}
 use Rattle.pb_step.proofs.steps.drive.Goals as goal

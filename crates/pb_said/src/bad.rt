@@ -1,7 +1,7 @@
 //! Lines that ask for nothing that is known.
 
 ghost use Rattle.std.specs.Prelude.{◌≡◌, ◌++◌, string_bytes, OnOk};
-ghost use Rattle.pb_print.specs.BadLines.{bad_line};
+ghost use Rattle.pb_said.specs.BadLines.{bad_line};
 
 use pb_frame::Memory;
 

@@ -1,8 +1,8 @@
 //! What ends a command early.
 
 ghost use Rattle.std.specs.Prelude.{◌≡◌};
-ghost use Rattle.pb_print.specs.declared.fault.CommandFault.TheVariants.{Memory as memory_fault};
-ghost use Rattle.pb_print.specs.Faults.{of_line};
+ghost use Rattle.pb_said.specs.declared.fault.CommandFault.TheVariants.{Memory as memory_fault};
+ghost use Rattle.pb_said.specs.Faults.{of_line};
 
 use pb_frame::Memory;
 use pb_lines::LineFault;

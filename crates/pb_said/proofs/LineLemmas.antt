@@ -10,8 +10,8 @@ use Rattle.pb_lines.specs.declared.Found.TheVariants.{Line, Last, End}
 use Rattle.pb_lines.specs.declared.LineFault.{LineFault}
 use Rattle.pb_lines.specs.declared.LineFault.TheVariants.{Read as line_unread, Memory as line_unheld}
 use denote.Enum.Bare.{sameb}
-use Rattle.pb_print.specs.Faults.{of_line}
-use Rattle.pb_print.specs.declared.fault.CommandFault.TheVariants.{Steps}
+use Rattle.pb_said.specs.Faults.{of_line}
+use Rattle.pb_said.specs.declared.fault.CommandFault.TheVariants.{Steps}
 
 -- a line that is short enough was not cut
 pub whole_line : (limit : ℕ) (line : List ℕ) → length (take (limit + 1) line) ≤ limit → take (limit + 1) line ≡ line

@@ -1,0 +1,11 @@
+//! What the program and the first look at it share: the words that they were called with, `flat`, and what is told where
+//! something ends a command.
+#![tactic(auto)]
+
+mod flat;
+mod telling;
+mod words;
+
+pub use flat::flat;
+pub use telling::{FAULT, WRONG_WORDS, tell, tell_on};
+pub use words::{refuse, words_of};

@@ -1,0 +1,3 @@
+pub mod Faults
+pub mod BadLines
+pub mod Reasons

@@ -1,0 +1,16 @@
+-- Words for why a frame went nowhere.
+use Rattle.std.specs.Prelude.{ℕ, List, ◌++◌, codes}
+use Rattle.std.specs.Fmt.{decimal}
+use Rattle.pb_lan.specs.declared.step.Reason.{Reason}
+use Rattle.pb_lan.specs.declared.step.Reason.TheVariants.{NotForwarding, NotMember, Untagged, Reserved, Malformed, Worn, Memory, STagged, Long}
+
+abbrev pub reason_word : Reason → List ℕ
+reason_word NotForwarding = codes "not-forwarding"
+reason_word NotMember = codes "not-member"
+reason_word Untagged = codes "untagged"
+reason_word (Reserved number) = codes "reserved-" ++ decimal number
+reason_word Malformed = codes "malformed"
+reason_word Worn = codes "worn"
+reason_word Memory = codes "memory"
+reason_word STagged = codes "s-tagged"
+reason_word Long = codes "long"
