@@ -2,10 +2,10 @@
 //! something ends a command.
 #![tactic(auto)]
 
-mod flat;
+mod lines;
 mod telling;
 mod words;
 
-pub use flat::flat;
+pub use lines::flat;
 pub use telling::{FAULT, WRONG_WORDS, tell, tell_on};
 pub use words::{refuse, words_of};
