@@ -11,6 +11,10 @@ use pb_ring::Wiring;
 use pb_work::{Did, Finish, Moment, PortView, Turn, Work};
 use std::snapshot::Snapshot;
 
+/// After how many turns the port writes at the latest, where something waits in it. It writes sooner where there is nothing
+/// else to do, and where it is full, so that frames that leave in close order are written together.
+const PART: u8 = 32;
+
 /// A customer port of a plan: the port outside, and its access.
 #[derive(Drop)]
 pub struct CustomerWorker<W: Wiring, P> {
@@ -22,6 +26,8 @@ pub struct CustomerWorker<W: Wiring, P> {
     pub finish: Option<Finish>,
     /// The port as the worker was given it.
     pub was: Snapshot<P>,
+    /// For how many turns the port has not written.
+    pub held: u8,
 }
 
 impl<W: Wiring, P> CustomerWorker<W, P> {
@@ -36,6 +42,7 @@ impl<W: Wiring, P> CustomerWorker<W, P> {
             access,
             finish: None,
             was,
+            held: 0,
         }
     }
 }
@@ -92,7 +99,10 @@ impl<W: Wiring, P: Port> CustomerWorker<W, P> {
                 self.access.let_out(true);
                 Ok(true)
             }
-            Offered::Full => Ok(false),
+            Offered::Full => {
+                self.held = PART;
+                Ok(false)
+            }
             Offered::Memory => Err(Refusal::Memory),
         }
     }
@@ -108,6 +118,23 @@ impl<W: Wiring, P: Port> CustomerWorker<W, P> {
             Pumped::Wrote(_) => Ok(true),
             Pumped::Fault(8) => Err(Refusal::Memory),
             _ => Ok(false),
+        }
+    }
+
+    /// Whether the port is to write after a turn that did this.
+    fn is_to_write(&mut self, did: Did) -> bool
+        ensures port { (self.new.port ≡ self.old.port) × (self.new.access ≡ self.old.access) × (self.new.was ≡ self.old.was) }
+    {
+        match did {
+            Did::Memory | Did::Limit => false,
+            Did::Done if self.held < PART => {
+                self.held = self.held.saturating_add(1);
+                false
+            }
+            Did::Done | Did::Idle => {
+                self.held = 0;
+                true
+            }
         }
     }
 
@@ -159,15 +186,18 @@ impl<W: Wiring, P: Port> Work for CustomerWorker<W, P> {
     }
 
     fn turn(&mut self, moment: Moment) -> Turn {
-        let pumped = self.pump(moment.now);
-        if pumped == Err(Refusal::Memory) {
-            return turn(pumped, 0, 0);
-        }
         let stepped = self.step(moment.is_open);
-        if stepped.did == Did::Idle {
-            return turn(pumped, 0, 0);
+        if !self.is_to_write(stepped.did) {
+            return stepped;
         }
-        stepped
+        match self.pump(moment.now) {
+            Err(Refusal::Memory) => Turn {
+                did: Did::Memory,
+                ..stepped
+            },
+            pumped if stepped.did == Did::Idle => turn(pumped, 0, 0),
+            _ => stepped,
+        }
     }
 
     fn close(&mut self, moment: Moment, finish: Finish) {

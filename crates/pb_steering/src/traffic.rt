@@ -9,11 +9,16 @@ const PORTS: usize = 128;
 /// The most bridges.
 const BRIDGES: usize = 32;
 
+/// Words that nobody reads: they stand between the counts of one worker and those of the next, since processors that write
+/// to the same 128 octets wait for one another.
+type Gap = [u64; 14];
+
 /// How many frames have entered and left at a customer port.
 #[derive(Drop)]
 struct PortTraffic {
     entered: AtomicU64,
     left: AtomicU64,
+    _gap: Gap,
 }
 
 /// How many copies a bridge had no room for, and how often its clock has ticked.
@@ -21,6 +26,7 @@ struct PortTraffic {
 struct BridgeTraffic {
     refused: AtomicU64,
     ticks: AtomicU64,
+    _gap: Gap,
 }
 
 /// What is counted of a network while it runs. Workers count it, and whoever else looks may see it a moment later; the
@@ -44,6 +50,7 @@ impl Traffic {
             ports.push(PortTraffic {
                 entered: AtomicU64::new(0),
                 left: AtomicU64::new(0),
+                _gap: [0; 14],
             })?;
         }
         let mut bridges = Vec::with_capacity(alloc, BRIDGES)?;
@@ -51,6 +58,7 @@ impl Traffic {
             bridges.push(BridgeTraffic {
                 refused: AtomicU64::new(0),
                 ticks: AtomicU64::new(0),
+                _gap: [0; 14],
             })?;
         }
         Ok(Traffic { ports, bridges })

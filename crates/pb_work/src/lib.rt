@@ -6,6 +6,7 @@
 #![tactic(auto)]
 
 mod gate;
+mod share;
 mod threads;
 mod ticks;
 mod turns;

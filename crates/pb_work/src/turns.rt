@@ -6,6 +6,7 @@ ghost use Rattle.pb_work.specs.declared.view.PortView.{PortView};
 ghost use Rattle.pb_work.specs.Started.{IsBack};
 
 use crate::gate::{Gate, Go, Wish};
+use crate::share::Share;
 use crate::ticks::{Moment, Ticks};
 use crate::view::PortView;
 use crate::words::Words;
@@ -16,6 +17,9 @@ use std::time::{Clock, Duration};
 
 /// The local ports of a place.
 const PORTS: u8 = 16;
+
+/// After how many idle turns in a row a worker gives back its share of what is left to do.
+const PATIENCE: u32 = 8;
 
 /// What a turn did.
 #[derive(Clone, Copy, PartialEq, Eq, Debug)]
@@ -120,6 +124,15 @@ fn rest<R: Clock>(rt: &R, idle: u32) {
     thread::sleep(rt, Duration::from_micros(micros));
 }
 
+/// Rests after so many idle turns in a row and one more, and answers how many they are now.
+fn rest_once_more<R: Clock>(rt: &R, words: &Words, share: &mut Share, idle: u32) -> u32 {
+    if idle >= PATIENCE {
+        share.give_back(words);
+    }
+    rest(rt, idle);
+    idle.saturating_add(1)
+}
+
 /// Whether a worker that may take this turn ends before it.
 fn is_ended<G: Gate>(gate: &G, words: &Words, place: Place, turn: u64) -> bool {
     if !words.go_on() {
@@ -187,14 +200,14 @@ fn take_turns<T: Work, G: Gate, R: Clock>(
     ensures fits { T.fits owned.new }
 {
     let place = owned.place();
-    let mut idle = 0u32;
+    let (mut idle, mut share) = (0u32, Share::new());
     show_ports(owned, gate, place);
     for turn in 0..turns {
         if is_ended(gate, words, place, turn) {
             return Finish::Told;
         }
         let turned = take_turn(rt, owned, gate, place, ticks);
-        words.count(turned.more, turned.fewer);
+        share.count(words, turned.more, turned.fewer);
         if turned.refused > 0 {
             gate.refused(place, turned.refused);
         }
@@ -205,10 +218,7 @@ fn take_turns<T: Work, G: Gate, R: Clock>(
             return finish;
         }
         idle = match turned.did {
-            Did::Idle => {
-                rest(rt, idle);
-                idle.saturating_add(1)
-            }
+            Did::Idle => rest_once_more(rt, words, &mut share, idle),
             _ => 0,
         };
     }

@@ -58,14 +58,14 @@ impl Words {
         self.stop.load(Ordering::SeqCst) == 0 && self.left.load(Ordering::SeqCst) != 0
     }
 
-    /// There is so much more to do, and then so much less.
-    pub(crate) fn count(&self, more: u64, fewer: u64) {
-        if more > 0 {
-            self.left.fetch_add(more, Ordering::SeqCst);
-        }
-        if fewer > 0 {
-            self.left.fetch_sub(fewer, Ordering::SeqCst);
-        }
+    /// There is so much more to do.
+    pub(crate) fn add(&self, more: u64) {
+        self.left.fetch_add(more, Ordering::SeqCst);
+    }
+
+    /// There is so much less to do.
+    pub(crate) fn take(&self, fewer: u64) {
+        self.left.fetch_sub(fewer, Ordering::SeqCst);
     }
 
     /// All workers end before their next turn.

@@ -1,0 +1,45 @@
+//! A worker's share of what is left to do.
+
+use crate::words::Words;
+
+/// How much a worker takes or gives back at once.
+const PART: u64 = 64;
+
+/// How much the word that all workers share says beyond what is left to do, on this worker's account. The worker counts
+/// against it, so that it writes that word once in many turns. Never is more left than the word says, and once all workers
+/// have given back their shares, it says what is left. No contract speaks of it.
+#[derive(Drop)]
+pub(crate) struct Share {
+    spare: u64,
+}
+
+impl Share {
+    /// None.
+    pub(crate) fn new() -> Share {
+        Share { spare: 0 }
+    }
+
+    /// There is so much more to do, and so much less.
+    pub(crate) fn count(&mut self, words: &Words, more: u64, fewer: u64) {
+        let mut spare = self.spare.saturating_add(fewer);
+        if spare < more {
+            let part = (more - spare).saturating_add(PART);
+            words.add(part);
+            spare = spare.saturating_add(part);
+        }
+        spare = spare.saturating_sub(more);
+        if spare > 2 * PART {
+            words.take(spare - PART);
+            spare = PART;
+        }
+        self.spare = spare;
+    }
+
+    /// Gives all of it back.
+    pub(crate) fn give_back(&mut self, words: &Words) {
+        if self.spare > 0 {
+            words.take(self.spare);
+            self.spare = 0;
+        }
+    }
+}
