@@ -13,15 +13,15 @@ use std::test::Fail;
 use std::thread::Threads;
 use std::time::Clock;
 
-/// How a run ended, whether the wanted frames left, how many could not leave by the port whose write of this number
-/// fails, how many it keeps, and how many writes there were.
-type Written = (Option<Ended>, bool, usize, usize, u64);
+/// How a run ended, whether the wanted frames left, how many the port did not write whose write of this number fails,
+/// whether it had taken them or not, and how many writes there were.
+type Written = (Option<Ended>, bool, usize, u64);
 
 fn written<R: Threads + Wait + Clock + Sync>(
     rt: &R,
     alloc: Global,
     call: u64,
-    taken: u32,
+    least: u32,
 ) -> Result<Written, Memory> {
     let setup = Setup {
         draft: STAR,
@@ -31,21 +31,22 @@ fn written<R: Threads + Wait + Clock + Sync>(
             Outer::Memory(0),
         ],
         limits: LONG,
-        left: &[Frames::First(0), Frames::First(taken), Frames::First(3)],
+        left: &[Frames::First(0), Frames::Least(least), Frames::First(3)],
     };
     let told = ran(rt, alloc, &setup, &Open)?;
     let port = told.outside[1];
-    Ok((told.ended, told.is_left, port.gone, port.kept, told.writes))
+    let unwritten = port.gone.saturating_add(port.kept);
+    Ok((told.ended, told.is_left, unwritten, told.writes))
 }
 
 #[test]
 fn a_failed_write_leaves_the_other_ports(rt: HostRuntime) -> Result<(), Fail> {
     for call in 1..15u64 {
-        // The frame whose write fails was taken, and no later one is.
-        let taken = call.div_ceil(4).min(3) as u32;
-        let (gone, kept) = (3 - taken as usize, usize::from(call <= 12));
-        let wanted = (Some(Ended::Drained), true, gone, kept, call.min(12));
-        assert_eq!(rt; written(&rt, rt.alloc(), call, taken)?, wanted, "{call}");
+        // The frame whose write fails was taken, and so may others be that came before that write; no later one is.
+        let least = call.div_ceil(4).min(3) as u32;
+        let unwritten = 3 - ((call - 1) / 4).min(3) as usize;
+        let wanted = (Some(Ended::Drained), true, unwritten, call.min(12));
+        assert_eq!(rt; written(&rt, rt.alloc(), call, least)?, wanted, "{call}");
     }
     Ok(())
 }

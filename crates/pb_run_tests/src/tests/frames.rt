@@ -13,6 +13,8 @@ const BROADCAST: [u8; 14] = [255, 255, 255, 255, 255, 255, 2, 0, 0, 0, 1, 1, 8, 
 pub(super) enum Frames {
     /// So many, numbered from 0 on.
     First(u32),
+    /// So many or more, numbered from 0 on.
+    Least(u32),
     /// Those of these numbers.
     These(&'static [u32]),
 }
@@ -51,6 +53,13 @@ pub(super) fn are_frames(frames: &[Bytes], wanted: Frames) -> bool {
                 && frames
                     .iter()
                     .zip(0..count)
+                    .all(|(frame, number)| is_frame(frame, number))
+        }
+        Frames::Least(count) => {
+            frames.len() >= count as usize
+                && frames
+                    .iter()
+                    .zip(0..u32::MAX)
                     .all(|(frame, number)| is_frame(frame, number))
         }
         Frames::These(numbers) => {

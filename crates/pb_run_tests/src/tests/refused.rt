@@ -44,14 +44,15 @@ fn is_kept(told: &Told) -> bool {
         .all(|outside| outside.kept == outside.left)
 }
 
-/// Runs with a port that is refused memory at a call end for want of memory. Nothing is lost, and the frames that
-/// have to leave do.
+/// Runs with a port that is refused memory at a call end for want of memory. Nothing is lost of so many frames of the first
+/// port's script, and the frames that have to leave do.
 fn all_run_out<R: Abort + Threads + Wait + Clock + Sync>(
     rt: &R,
     alloc: Global,
+    script: usize,
     rows: &[(&[Outer], &[Frames])],
 ) -> Result<(), Fail> {
-    let wanted = (Some(Ended::NoMemory), 3, true, Some(3), true);
+    let wanted = (Some(Ended::NoMemory), 3, true, Some(script), true);
     for (number, (ports, left)) in rows.iter().enumerate() {
         assert_eq!(rt; seen(rt, alloc, ports, left)?, wanted, "row {number}");
     }
@@ -101,24 +102,32 @@ fn a_port_that_is_refused_memory_ends_the_run(rt: HostRuntime) -> Result<(), Fai
             ],
             &[Frames::First(0), Frames::First(2)],
         ),
+    ];
+    all_run_out(&rt, rt.alloc(), 3, ROWS)
+}
+
+#[test]
+fn a_port_that_is_refused_memory_as_it_writes_ends_the_run(rt: HostRuntime) -> Result<(), Fail> {
+    // (a port writes after so many turns at the latest that it writes a hundred frames in three parts and more)
+    const ROWS: &[(&[Outer], &[Frames])] = &[
         (
             &[
-                Outer::Memory(3),
+                Outer::Memory(100),
                 Outer::Guest(0, Habit::Refuses(Call::Pump(1))),
                 Outer::Memory(0),
             ],
-            &[Frames::First(0), Frames::First(1)],
+            &[Frames::First(0), Frames::Least(1)],
         ),
         (
             &[
-                Outer::Memory(3),
+                Outer::Memory(100),
                 Outer::Guest(0, Habit::Refuses(Call::Pump(2))),
                 Outer::Memory(0),
             ],
-            &[Frames::First(0), Frames::First(2)],
+            &[Frames::First(0), Frames::Least(2)],
         ),
     ];
-    all_run_out(&rt, rt.alloc(), ROWS)
+    all_run_out(&rt, rt.alloc(), 100, ROWS)
 }
 
 /// Whether a run of four bridges in a line, with one broadcast to carry, was refused memory as it may be.
