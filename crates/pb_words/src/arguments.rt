@@ -2,8 +2,8 @@
 
 ghost use Rattle.std.specs.Prelude.{◌≡◌, ◌↔◌, codes};
 
-use clap::builder::ValueParser;
-use clap::{Arg, ArgAction, ArgMatches};
+use crate::table::{Argument, Takes};
+use clap::ArgMatches;
 use std::alloc::{AllocError, Global};
 
 /// What `--down` does.
@@ -18,12 +18,6 @@ const DOCUMENT: &str =
 const TABLE: &str =
     "Prints the report as text, as one json document for programs, or its counts as a csv table; without it text";
 
-/// The forms of a report.
-const DOCUMENTS: &[&str] = &["text", "json"];
-
-/// The forms of a report with counts.
-const TABLES: &[&str] = &["text", "json", "csv"];
-
 /// The form in which a report is printed.
 #[derive(Clone, Copy, PartialEq, Eq, Debug)]
 pub enum ReportFormat {
@@ -35,37 +29,41 @@ pub enum ReportFormat {
     Csv,
 }
 
-/// An argument that is there or not.
-pub(crate) fn flag<'a>(alloc: Global, name: &'a str, help: &'a str) -> Arg<'a> {
-    Arg::new(alloc, name)
-        .long(name)
-        .help(help)
-        .action(ArgAction::SetTrue)
-}
+/// The plan file.
+pub(crate) const PLAN_FILE: Argument = Argument {
+    name: "FILE",
+    value: "",
+    help: "The plan file",
+    takes: Takes::Place,
+    excludes: &[],
+};
 
-/// An argument with a value, which is text.
-pub(crate) fn argument<'a>(alloc: Global, name: &'a str, value: &'a str, help: &'a str) -> Arg<'a> {
-    Arg::new(alloc, name)
-        .long(name)
-        .value_name(value)
-        .help(help)
-        .action(ArgAction::Set)
-}
+/// The ports that go down before.
+pub(crate) const DOWNS: Argument = Argument {
+    name: "down",
+    value: "BRIDGE:PORT",
+    help: DOWN,
+    takes: Takes::Texts,
+    excludes: &[],
+};
 
-/// The argument for ports that go down before, which may stand several times.
-pub(crate) fn down<'a>(alloc: Global) -> Arg<'a> {
-    argument(alloc, "down", "BRIDGE:PORT", DOWN).action(ArgAction::Append)
-}
+/// The form of a report, which may be a document.
+pub(crate) const AS_DOCUMENT: Argument = Argument {
+    name: "format",
+    value: "FORM",
+    help: DOCUMENT,
+    takes: Takes::Word(&["text", "json"]),
+    excludes: &[],
+};
 
-/// The argument that asks for a report as a document.
-pub(crate) fn document<'a>(alloc: Global) -> Arg<'a> {
-    argument(alloc, "format", "FORM", DOCUMENT).value_parser(ValueParser::Names(DOCUMENTS))
-}
-
-/// The argument that asks for a report as a document, or for its counts as a table.
-pub(crate) fn table<'a>(alloc: Global) -> Arg<'a> {
-    argument(alloc, "format", "FORM", TABLE).value_parser(ValueParser::Names(TABLES))
-}
+/// The form of a report, which may be a document, or a table of its counts.
+pub(crate) const AS_TABLE: Argument = Argument {
+    name: "format",
+    value: "FORM",
+    help: TABLE,
+    takes: Takes::Word(&["text", "json", "csv"]),
+    excludes: &[],
+};
 
 /// The form of this name. Without a name, and for any other, it is text.
 fn report_format_named(name: &str) -> ReportFormat

@@ -3,14 +3,14 @@
 ghost use Rattle.std.specs.Prelude.{◌≡◌, IfOk, string_bytes};
 ghost use Rattle.pb_words.specs.Orders.{AreTicks};
 
-use crate::arguments::{argument, down, downs_of, text_of};
-use crate::tree_order::{ticks, ticks_of};
-use clap::builder::ValueParser;
-use clap::{Arg, ArgMatches, Command, Error};
+use crate::arguments::{DOWNS, PLAN_FILE, downs_of, text_of};
+use crate::table::{Argument, Takes};
+use crate::tree_order::{TICK_LIMIT, ticks_of};
+use clap::ArgMatches;
 use std::alloc::{AllocError, Global};
 
 /// What `draw` does.
-const DRAW: &str =
+pub(crate) const DRAW: &str =
     "Lets the bridges of a plan file settle, and draws the network: bridges by their distance from the root, links with the states of their ends, and customer ports by service";
 
 /// What `--service` does.
@@ -23,8 +23,33 @@ const OUTPUT: &str = "Writes the picture to the file at PATH in place of standar
 const FORMAT: &str =
     "Writes svg, a picture that stands alone, or dot, a graph for Graphviz; without it svg";
 
-/// The words for the forms.
-const FORMS: &[&str] = &["svg", "dot"];
+/// The arguments of `draw`.
+pub(crate) const ARGUMENTS: &[Argument] = &[
+    Argument {
+        name: "service",
+        value: "NAME",
+        help: SERVICE,
+        takes: Takes::Text,
+        excludes: &[],
+    },
+    DOWNS,
+    Argument {
+        name: "format",
+        value: "FORM",
+        help: FORMAT,
+        takes: Takes::Word(&["svg", "dot"]),
+        excludes: &[],
+    },
+    Argument {
+        name: "output",
+        value: "PATH",
+        help: OUTPUT,
+        takes: Takes::TextBy('o'),
+        excludes: &[],
+    },
+    TICK_LIMIT,
+    PLAN_FILE,
+];
 
 /// The form in which a picture is written.
 #[derive(Clone, Copy, PartialEq, Eq, Debug)]
@@ -50,21 +75,6 @@ pub struct DrawOrder {
     pub ticks: u32,
     /// Where the picture is written. None: on standard output.
     pub output: Option<String>,
-}
-
-/// The argument that tells the form.
-fn format<'a>(alloc: Global) -> Arg<'a> {
-    argument(alloc, "format", "FORM", FORMAT).value_parser(ValueParser::Names(FORMS))
-}
-
-/// The command `draw`, but for its plan file.
-pub(crate) fn draw_command<'a>(alloc: Global) -> Result<Command<'a>, Error> {
-    let command = Command::new(alloc, "draw").about(DRAW);
-    let command = command.arg(argument(alloc, "service", "NAME", SERVICE))?;
-    let command = command.arg(down(alloc))?;
-    let command = command.arg(format(alloc))?;
-    let command = command.arg(argument(alloc, "output", "PATH", OUTPUT).short('o'))?;
-    Ok(command.arg(ticks(alloc))?)
 }
 
 /// The form in which the picture is written.

@@ -3,11 +3,11 @@
 ghost use Rattle.std.specs.Prelude.{IfSome};
 ghost use Rattle.pb_words.specs.Orders.{IsNetwork, IsAsked};
 
-use clap::{Arg, ArgAction, ArgMatches, Command, Error};
-use std::alloc::Global;
+use crate::table::{Argument, Takes};
+use clap::ArgMatches;
 
 /// What `init` does.
-const INIT: &str =
+pub(crate) const INIT: &str =
     "Prints a plan file to begin with: bridges in a line, a ring or a star, one service, and comments; without a word two bridges in a line";
 
 /// What `--line` does.
@@ -19,6 +19,31 @@ const RING: &str = "A ring of N bridges, 3 to 32, which find a spanning tree bef
 /// What `--star` does.
 const STAR: &str = "A star of N bridges, 2 to 17: the first is joined to each of the others";
 
+/// The arguments of `init`.
+pub(crate) const ARGUMENTS: &[Argument] = &[
+    Argument {
+        name: "line",
+        value: "N",
+        help: LINE,
+        takes: Takes::Small(1, 32),
+        excludes: &["ring", "star"],
+    },
+    Argument {
+        name: "ring",
+        value: "N",
+        help: RING,
+        takes: Takes::Small(3, 32),
+        excludes: &["line", "star"],
+    },
+    Argument {
+        name: "star",
+        value: "N",
+        help: STAR,
+        takes: Takes::Small(2, 17),
+        excludes: &["line", "ring"],
+    },
+];
+
 /// The network of which a plan file is to be printed.
 #[derive(Clone, Copy, PartialEq, Eq, Debug)]
 pub enum InitOrder {
@@ -28,32 +53,6 @@ pub enum InitOrder {
     Ring(u8),
     /// A star of so many bridges, its centre among them, 2 to 17.
     Star(u8),
-}
-
-/// The argument that asks for so many bridges, in place of two others.
-fn network<'a>(
-    alloc: Global,
-    name: &'a str,
-    help: &'a str,
-    least: i64,
-    most: i64,
-    others: [&'a str; 2],
-) -> Result<Arg<'a>, Error> {
-    let argument = Arg::new(alloc, name)
-        .long(name)
-        .value_name("N")
-        .help(help)
-        .action(ArgAction::Set)
-        .value_parser(clap::value_parser!(u8).range(least..=most));
-    Ok(argument.conflicts_with_all(&others)?)
-}
-
-/// The command `init`.
-pub(crate) fn init_command<'a>(alloc: Global) -> Result<Command<'a>, Error> {
-    let command = Command::new(alloc, "init").about(INIT);
-    let command = command.arg(network(alloc, "line", LINE, 1, 32, ["ring", "star"])?)?;
-    let command = command.arg(network(alloc, "ring", RING, 3, 32, ["line", "star"])?)?;
-    Ok(command.arg(network(alloc, "star", STAR, 2, 17, ["line", "ring"])?)?)
 }
 
 /// The network that these words ask for, of which at most one is there. None where its number is out of range.

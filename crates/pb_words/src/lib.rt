@@ -8,6 +8,7 @@ mod order;
 mod report_order;
 mod run_order;
 mod survive_order;
+mod table;
 mod trace_order;
 mod tree_order;
 

@@ -3,15 +3,16 @@
 ghost use Rattle.std.specs.Prelude.{IfOk, IfSome};
 ghost use Rattle.pb_words.specs.Orders.{IsAllowed, IsPlanOrder};
 
-use crate::arguments::{document, table};
-use crate::draw_order::{DrawOrder, draw_command, draw_order};
-use crate::init_order::{InitOrder, init_command, init_order};
+use crate::arguments::{AS_DOCUMENT, AS_TABLE, PLAN_FILE};
+use crate::draw_order::{self, DRAW, DrawOrder, draw_order};
+use crate::init_order::{self, INIT, InitOrder, init_order};
 use crate::report_order::{ReportOrder, report_order};
-use crate::run_order::{RunOrder, run_command, run_order};
-use crate::survive_order::{SurviveOrder, survive_command, survive_order};
-use crate::trace_order::{TraceOrder, trace_command, trace_order};
-use crate::tree_order::{TreeOrder, tree_command, tree_order};
-use clap::{Arg, ArgAction, ArgMatches, Command, Error};
+use crate::run_order::{self, RUN, RunOrder, run_order};
+use crate::survive_order::{self, SURVIVE, SurviveOrder, survive_order};
+use crate::table::{Argument, CommandRow, Takes, with_commands};
+use crate::trace_order::{self, TRACE, TraceOrder, trace_order};
+use crate::tree_order::{self, TREE, TreeOrder, tree_order};
+use clap::{ArgMatches, Command, Error};
 use std::alloc::{AllocError, Global};
 
 /// The program's version.
@@ -58,32 +59,68 @@ pub enum Order {
     Draw(DrawOrder),
 }
 
-/// The argument that names a plan file.
-fn plan_file<'a>(alloc: Global) -> Arg<'a> {
-    Arg::new(alloc, "FILE")
-        .help("The plan file")
-        .required(true)
-        .action(ArgAction::Set)
-}
+/// The argument of `flat`.
+const PORTS: Argument = Argument {
+    name: "PORTS",
+    value: "",
+    help: "How many ports the bridge has, 2 to 16",
+    takes: Takes::SmallPlace(2, 16),
+    excludes: &[],
+};
 
-/// The argument that tells how many ports a bridge has.
-fn ports<'a>(alloc: Global) -> Arg<'a> {
-    Arg::new(alloc, "PORTS")
-        .help("How many ports the bridge has, 2 to 16")
-        .required(true)
-        .action(ArgAction::Set)
-        .value_parser(clap::value_parser!(u8).range(2..=16))
-}
-
-/// A program with one more command, which takes an argument.
-fn with<'a>(
-    program: Command<'a>,
-    command: Command<'a>,
-    argument: Arg<'a>,
-) -> Result<Command<'a>, Error> {
-    let command = command.arg(argument)?;
-    Ok(program.subcommand(command)?)
-}
+/// The commands, in the order of the help.
+const COMMANDS: &[CommandRow] = &[
+    CommandRow {
+        name: "flat",
+        about: FLAT,
+        arguments: &[PORTS],
+    },
+    CommandRow {
+        name: "check",
+        about: CHECK,
+        arguments: &[AS_DOCUMENT, PLAN_FILE],
+    },
+    CommandRow {
+        name: "step",
+        about: STEP,
+        arguments: &[AS_TABLE, PLAN_FILE],
+    },
+    CommandRow {
+        name: "run",
+        about: RUN,
+        arguments: run_order::ARGUMENTS,
+    },
+    CommandRow {
+        name: "tree",
+        about: TREE,
+        arguments: tree_order::ARGUMENTS,
+    },
+    CommandRow {
+        name: "survive",
+        about: SURVIVE,
+        arguments: survive_order::ARGUMENTS,
+    },
+    CommandRow {
+        name: "draw",
+        about: DRAW,
+        arguments: draw_order::ARGUMENTS,
+    },
+    CommandRow {
+        name: "trace",
+        about: TRACE,
+        arguments: trace_order::ARGUMENTS,
+    },
+    CommandRow {
+        name: "show",
+        about: SHOW,
+        arguments: &[],
+    },
+    CommandRow {
+        name: "init",
+        about: INIT,
+        arguments: init_order::ARGUMENTS,
+    },
+];
 
 /// The program's commands and their arguments.
 fn commands<'a>(alloc: Global) -> Result<Command<'a>, Error> {
@@ -91,20 +128,7 @@ fn commands<'a>(alloc: Global) -> Result<Command<'a>, Error> {
         .version(VERSION)
         .about("A provider bridged Ethernet network in one process")
         .subcommand_required(true);
-    let flat = Command::new(alloc, "flat").about(FLAT);
-    let program = with(program, flat, ports(alloc))?;
-    let check = Command::new(alloc, "check").about(CHECK);
-    let program = with(program, check.arg(document(alloc))?, plan_file(alloc))?;
-    let step = Command::new(alloc, "step").about(STEP);
-    let program = with(program, step.arg(table(alloc))?, plan_file(alloc))?;
-    let program = with(program, run_command(alloc)?, plan_file(alloc))?;
-    let program = with(program, tree_command(alloc)?, plan_file(alloc))?;
-    let program = with(program, survive_command(alloc)?, plan_file(alloc))?;
-    let program = with(program, draw_command(alloc)?, plan_file(alloc))?;
-    let program = program.subcommand(trace_command(alloc, plan_file(alloc))?)?;
-    let show = Command::new(alloc, "show").about(SHOW);
-    let program = program.subcommand(show)?;
-    Ok(program.subcommand(init_command(alloc)?)?)
+    with_commands(alloc, program, COMMANDS)
 }
 
 /// What a command asks for that has a plan file. None where it is no such command, and where an argument of `trace` is

@@ -3,8 +3,9 @@
 ghost use Rattle.std.specs.Prelude.{◌≡◌, ◌≤◌, IfOk, IfSome, string_bytes};
 ghost use Rattle.pb_words.specs.Orders.{AreSeconds, IsLinger};
 
-use crate::arguments::{ReportFormat, argument, flag, report_format_of, table, text_of};
-use clap::{Arg, ArgMatches, Command, Error};
+use crate::arguments::{AS_TABLE, PLAN_FILE, ReportFormat, report_format_of, text_of};
+use crate::table::{Argument, Takes};
+use clap::ArgMatches;
 use std::alloc::{AllocError, Global};
 
 /// The most seconds after which a run may be stopped.
@@ -17,7 +18,7 @@ const LINGER: u32 = 100;
 const MOST_LINGER: u32 = 60_000;
 
 /// What `run` does.
-const RUN: &str =
+pub(crate) const RUN: &str =
     "Runs the network of a plan file, each bridge, link and port in a thread of its own, and reports at the end";
 
 /// What `--seconds` does.
@@ -44,6 +45,54 @@ const LINGER_HELP: &str =
 const STRICT: &str =
     "Exits with status 4 where a frame was lost for want of room, memory or a device, or the run did not drain, or bridges have not settled";
 
+/// The arguments of `run`.
+pub(crate) const ARGUMENTS: &[Argument] = &[
+    Argument {
+        name: "seconds",
+        value: "N",
+        help: SECONDS,
+        takes: Takes::Number(1, 1_000_000_000),
+        excludes: &[],
+    },
+    Argument {
+        name: "progress",
+        value: "",
+        help: PROGRESS,
+        takes: Takes::Nothing,
+        excludes: &[],
+    },
+    Argument {
+        name: "control",
+        value: "PATH",
+        help: CONTROL,
+        takes: Takes::Text,
+        excludes: &[],
+    },
+    Argument {
+        name: "settle",
+        value: "",
+        help: SETTLE,
+        takes: Takes::Nothing,
+        excludes: &[],
+    },
+    Argument {
+        name: "linger",
+        value: "MS",
+        help: LINGER_HELP,
+        takes: Takes::Number(0, 60_000),
+        excludes: &[],
+    },
+    AS_TABLE,
+    Argument {
+        name: "strict",
+        value: "",
+        help: STRICT,
+        takes: Takes::Nothing,
+        excludes: &[],
+    },
+    PLAN_FILE,
+];
+
 /// A run of the network of a plan file, and what is to be done beside it.
 #[derive(PartialEq, Eq, Debug, Drop)]
 pub struct RunOrder {
@@ -63,30 +112,6 @@ pub struct RunOrder {
     pub linger: u32,
     /// The form in which the report is printed.
     pub format: ReportFormat,
-}
-
-/// The argument that tells after how many seconds a run is stopped.
-fn seconds<'a>(alloc: Global) -> Arg<'a> {
-    let argument = argument(alloc, "seconds", "N", SECONDS);
-    argument.value_parser(clap::value_parser!(u32).range(1..=1_000_000_000))
-}
-
-/// The argument that tells for how long what is left in sockets' ports is still sent.
-fn linger<'a>(alloc: Global) -> Arg<'a> {
-    let argument = argument(alloc, "linger", "MS", LINGER_HELP);
-    argument.value_parser(clap::value_parser!(u32).range(0..=60_000))
-}
-
-/// The command `run`, but for its plan file.
-pub(crate) fn run_command<'a>(alloc: Global) -> Result<Command<'a>, Error> {
-    let command = Command::new(alloc, "run").about(RUN);
-    let command = command.arg(seconds(alloc))?;
-    let command = command.arg(flag(alloc, "progress", PROGRESS))?;
-    let command = command.arg(argument(alloc, "control", "PATH", CONTROL))?;
-    let command = command.arg(flag(alloc, "settle", SETTLE))?;
-    let command = command.arg(linger(alloc))?;
-    let command = command.arg(table(alloc))?;
-    Ok(command.arg(flag(alloc, "strict", STRICT))?)
 }
 
 /// After how many seconds a run is to be stopped.

@@ -3,8 +3,9 @@
 ghost use Rattle.std.specs.Prelude.{◌≡◌, IfOk, string_bytes};
 ghost use Rattle.pb_words.specs.Orders.{AreWaitedTicks};
 
-use crate::arguments::{ReportFormat, argument, flag, report_format_of, table, text_of};
-use clap::{Arg, ArgMatches, Command, Error};
+use crate::arguments::{AS_TABLE, PLAN_FILE, ReportFormat, report_format_of, text_of};
+use crate::table::{Argument, Takes};
+use clap::ArgMatches;
 use std::alloc::{AllocError, Global};
 
 /// For how many ticks it is waited until the bridges settle, where nothing else is asked for.
@@ -14,7 +15,7 @@ const USUAL: u32 = 200;
 const MOST: u32 = 1_000_000;
 
 /// What `survive` does.
-const SURVIVE: &str =
+pub(crate) const SURVIVE: &str =
     "Takes each link of a plan file's network down in turn, and prints which customer ports can no longer reach each other";
 
 /// What `--pairs` does.
@@ -31,6 +32,47 @@ const FROM: &str = "Tells only what cuts the customer port of this name off, and
 
 /// What `--ticks` does.
 const TICKS: &str = "Waits N ticks at most until the bridges settle, 1 to 1000000; without it 200";
+
+/// The arguments of `survive`.
+pub(crate) const ARGUMENTS: &[Argument] = &[
+    Argument {
+        name: "pairs",
+        value: "",
+        help: PAIRS,
+        takes: Takes::Nothing,
+        excludes: &[],
+    },
+    Argument {
+        name: "bridges",
+        value: "",
+        help: BRIDGES,
+        takes: Takes::Nothing,
+        excludes: &[],
+    },
+    Argument {
+        name: "service",
+        value: "NAME",
+        help: SERVICE,
+        takes: Takes::Text,
+        excludes: &["from"],
+    },
+    Argument {
+        name: "from",
+        value: "PORT",
+        help: FROM,
+        takes: Takes::Text,
+        excludes: &["service"],
+    },
+    AS_TABLE,
+    Argument {
+        name: "ticks",
+        value: "N",
+        help: TICKS,
+        takes: Takes::Number(1, 1_000_000),
+        excludes: &[],
+    },
+    PLAN_FILE,
+];
 
 /// Which services are looked at.
 #[derive(PartialEq, Eq, Debug, Drop)]
@@ -58,34 +100,6 @@ pub struct SurviveOrder {
     pub ticks: u32,
     /// The form in which it is printed what comes of the failures.
     pub format: ReportFormat,
-}
-
-/// An argument that names something, in place of another.
-fn named<'a>(
-    alloc: Global,
-    name: &'a str,
-    value: &'a str,
-    help: &'a str,
-    other: &'a str,
-) -> Result<Arg<'a>, Error> {
-    Ok(argument(alloc, name, value, help).conflicts_with_all(&[other])?)
-}
-
-/// The argument that tells for how many ticks it is waited.
-fn ticks<'a>(alloc: Global) -> Arg<'a> {
-    let argument = argument(alloc, "ticks", "N", TICKS);
-    argument.value_parser(clap::value_parser!(u32).range(1..=1_000_000))
-}
-
-/// The command `survive`, but for its plan file.
-pub(crate) fn survive_command<'a>(alloc: Global) -> Result<Command<'a>, Error> {
-    let command = Command::new(alloc, "survive").about(SURVIVE);
-    let command = command.arg(flag(alloc, "pairs", PAIRS))?;
-    let command = command.arg(flag(alloc, "bridges", BRIDGES))?;
-    let command = command.arg(named(alloc, "service", "NAME", SERVICE, "from")?)?;
-    let command = command.arg(named(alloc, "from", "PORT", FROM, "service")?)?;
-    let command = command.arg(table(alloc))?;
-    Ok(command.arg(ticks(alloc))?)
 }
 
 /// Which services are looked at.

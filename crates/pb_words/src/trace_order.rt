@@ -2,12 +2,13 @@
 
 ghost use Rattle.std.specs.Prelude.{◌≡◌, IfOk, IfSome, string_bytes};
 
-use crate::arguments::{ReportFormat, document, flag, report_format_of};
-use clap::{Arg, ArgAction, ArgMatches, Command, Error};
+use crate::arguments::{AS_DOCUMENT, PLAN_FILE, ReportFormat, report_format_of};
+use crate::table::{Argument, Takes};
+use clap::ArgMatches;
 use std::alloc::{AllocError, Global};
 
 /// What `trace` does.
-const TRACE: &str =
+pub(crate) const TRACE: &str =
     "Lets a frame come into a plan file's network, and prints where it goes, hop by hop, until nothing is left to do";
 
 /// What PORT is.
@@ -22,6 +23,40 @@ const THEN: &str = "Lets a further frame come in behind it; may stand several ti
 /// What `--settle` does.
 const SETTLE: &str =
     "Lets the bridges settle before, where they decide the states of their ports, for 200 ticks at most";
+
+/// The arguments of `trace`.
+pub(crate) const ARGUMENTS: &[Argument] = &[
+    PLAN_FILE,
+    Argument {
+        name: "PORT",
+        value: "",
+        help: PORT,
+        takes: Takes::Place,
+        excludes: &[],
+    },
+    Argument {
+        name: "HEX",
+        value: "",
+        help: HEX,
+        takes: Takes::Place,
+        excludes: &[],
+    },
+    Argument {
+        name: "then",
+        value: "",
+        help: THEN,
+        takes: Takes::Frames,
+        excludes: &[],
+    },
+    AS_DOCUMENT,
+    Argument {
+        name: "settle",
+        value: "",
+        help: SETTLE,
+        takes: Takes::Nothing,
+        excludes: &[],
+    },
+];
 
 /// A frame that comes in.
 #[derive(PartialEq, Eq, Debug, Drop)]
@@ -43,31 +78,6 @@ pub struct TraceOrder {
     pub settles: bool,
     /// The form in which it is printed where they go, text or JSON.
     pub format: ReportFormat,
-}
-
-/// An argument that is required.
-fn required<'a>(alloc: Global, name: &'a str, help: &'a str) -> Arg<'a> {
-    Arg::new(alloc, name)
-        .help(help)
-        .required(true)
-        .action(ArgAction::Set)
-}
-
-/// The command `trace`, with its plan file.
-pub(crate) fn trace_command<'a>(alloc: Global, file: Arg<'a>) -> Result<Command<'a>, Error> {
-    let then = Arg::new(alloc, "then")
-        .long("then")
-        .value_names(&["PORT", "HEX"])
-        .num_args(2)
-        .help(THEN)
-        .action(ArgAction::Append);
-    let command = Command::new(alloc, "trace").about(TRACE);
-    let command = command.arg(file)?;
-    let command = command.arg(required(alloc, "PORT", PORT))?;
-    let command = command.arg(required(alloc, "HEX", HEX))?;
-    let command = command.arg(then)?;
-    let command = command.arg(document(alloc))?;
-    Ok(command.arg(flag(alloc, "settle", SETTLE))?)
 }
 
 /// Puts a frame behind others.

@@ -3,8 +3,9 @@
 ghost use Rattle.std.specs.Prelude.{◌≡◌, IfOk, string_bytes};
 ghost use Rattle.pb_words.specs.Orders.{AreTicks};
 
-use crate::arguments::{ReportFormat, argument, document, down, downs_of, report_format_of};
-use clap::{Arg, ArgMatches, Command, Error};
+use crate::arguments::{AS_DOCUMENT, DOWNS, PLAN_FILE, ReportFormat, downs_of, report_format_of};
+use crate::table::{Argument, Takes};
+use clap::ArgMatches;
 use std::alloc::{AllocError, Global};
 
 /// The most ticks of each bridge, where the words tell none.
@@ -14,11 +15,23 @@ const TICKS: u32 = 200;
 const MOST: u32 = 100_000;
 
 /// What `tree` does.
-const TREE: &str =
+pub(crate) const TREE: &str =
     "Lets the bridges of a plan file settle, and prints the spanning tree: roots, roles, states and costs, and the trees of the services";
 
 /// What `--ticks` does.
 const TICKS_HELP: &str = "Lets each bridge tick N times at most, 0 to 100000; without it 200";
+
+/// How often each bridge ticks at most.
+pub(crate) const TICK_LIMIT: Argument = Argument {
+    name: "ticks",
+    value: "N",
+    help: TICKS_HELP,
+    takes: Takes::Number(0, 100_000),
+    excludes: &[],
+};
+
+/// The arguments of `tree`.
+pub(crate) const ARGUMENTS: &[Argument] = &[DOWNS, AS_DOCUMENT, TICK_LIMIT, PLAN_FILE];
 
 /// The trees of the network of a plan file.
 #[derive(PartialEq, Eq, Debug, Drop)]
@@ -31,20 +44,6 @@ pub struct TreeOrder {
     pub ticks: u32,
     /// The form in which the trees are printed, text or JSON.
     pub format: ReportFormat,
-}
-
-/// The argument that tells how often each bridge ticks at most.
-pub(crate) fn ticks<'a>(alloc: Global) -> Arg<'a> {
-    let argument = argument(alloc, "ticks", "N", TICKS_HELP);
-    argument.value_parser(clap::value_parser!(u32).range(0..=100_000))
-}
-
-/// The command `tree`, but for its plan file.
-pub(crate) fn tree_command<'a>(alloc: Global) -> Result<Command<'a>, Error> {
-    let command = Command::new(alloc, "tree").about(TREE);
-    let command = command.arg(down(alloc))?;
-    let command = command.arg(document(alloc))?;
-    Ok(command.arg(ticks(alloc))?)
 }
 
 /// How often each bridge ticks at most.
