@@ -1,3 +1,4 @@
 pub mod BufferLemmas
 pub mod LineTexts
+pub mod PlaceLemmas
 pub mod RequestLemmas

@@ -1,12 +1,6 @@
 -- The lines of several things, one behind the other.
-use Rattle.std.proofs.Common.{◌≡◌, ℕ, List, [], ◌∷◌, ◌++◌, Ok, Err, OnOk, refl, sym, ap, subst, ◌∙◌, append_assoc, append-nil}
-use Rattle.std.specs.declared.result.Result.{Result}
+use Rattle.std.proofs.Common.{◌≡◌, ℕ, List, [], ◌∷◌, ◌++◌, refl, sym, ap, subst, ◌∙◌, append_assoc, append-nil}
 use Rattle.pb_control.specs.Texts.{AreLines}
-
--- what holds of a result that is Ok gives another fact of it
-pub on_ok : {A E P Q : Type 0} (r : Result A E) → (P → Q) → OnOk r P → OnOk r Q
-on_ok (Ok x) f p = f p
-on_ok (Err e) f p = p
 
 -- a text behind a text behind another
 pub text_more : (old now new done here : List ℕ) → now ≡ old ++ done → new ≡ now ++ here → new ≡ old ++ (done ++ here)

@@ -5,10 +5,8 @@ use Rattle.std.specs.Fmt.{decimal}
 use Rattle.pb_lan.specs.declared.plan.Plan.{Plan}
 use Rattle.pb_lan.specs.Numbering.{numbered}
 use Rattle.pb_lan.specs.Ports.{local_ports}
-use Rattle.pb_lan.specs.declared.shape.PortState.{PortState}
-use Rattle.pb_lan.specs.declared.shape.PortState.TheVariants.{Discarding, Learning, Forwarding}
+use Rattle.pb_naming.specs.Names.{role_word, state_word}
 use Rattle.pb_rstp.specs.declared.role.Role.{Role}
-use Rattle.pb_rstp.specs.declared.role.Role.TheVariants.{Disabled, Root, Designated, Alternate, Backup}
 use Rattle.pb_script.specs.Counts.{AreByName}
 use Rattle.pb_work.specs.declared.view.PortView.{PortView}
 
@@ -25,18 +23,10 @@ port_line name counts = codes "port " ++ name ++ codes " entered " ++ decimal co
 abbrev pub bridge_line : List ℕ → ℕ × ℕ → List ℕ
 bridge_line name counts = codes "bridge " ++ name ++ codes " refused " ++ decimal counts.0 ++ codes " ticks " ++ decimal counts.1 ++ 10 ∷ []
 
+-- the word for a role and a space, where there is a role
 abbrev pub role_words : Option Role → List ℕ
 role_words None = []
-role_words (Some Disabled) = codes "disabled "
-role_words (Some Root) = codes "root "
-role_words (Some Designated) = codes "designated "
-role_words (Some Alternate) = codes "alternate "
-role_words (Some Backup) = codes "backup "
-
-abbrev pub state_word : PortState → List ℕ
-state_word Discarding = codes "discarding"
-state_word Learning = codes "learning"
-state_word Forwarding = codes "forwarding"
+role_words (Some role) = role_word role ++ codes " "
 
 -- the line of a bridge's port, of which this view was told, if one was
 abbrev pub view_line : List ℕ → ℕ → Option PortView → List ℕ

@@ -1,14 +1,15 @@
 //! What the ports between bridges are like.
 
-ghost use Rattle.std.specs.Prelude.{◌≡◌, ◌++◌, List, ℕ, Some, None, map, flat_map, unwrap_or, string_bytes, OnOk};
+ghost use Rattle.std.specs.Prelude.{◌≡◌, ◌++◌, List, ℕ, None, map, flat_map, unwrap_or, string_bytes, OnOk};
 ghost use Rattle.pb_control.specs.Sizes.{IsFew};
-ghost use Rattle.pb_control.specs.Texts.{role_words, state_word, view_line, line_among, view_lines, AreLines, IsTreeText};
+ghost use Rattle.pb_control.specs.Texts.{role_words, view_line, line_among, view_lines, AreLines, IsTreeText};
 ghost use Rattle.pb_lan.specs.Numbering.{numbered};
 
 use crate::board::Board;
 use crate::counts::sorted_bridges;
 use pb_frame::Memory;
-use pb_lan::{Plan, PortState};
+use pb_lan::Plan;
+use pb_naming::{role_word, state_word};
 use pb_rstp::Role;
 use pb_work::PortView;
 use std::alloc::Global;
@@ -16,38 +17,15 @@ use std::alloc::Global;
 /// The numbers of a bridge's local ports.
 const PORTS: &[u8] = &[1, 2, 3, 4, 5, 6, 7, 8, 9, 10, 11, 12, 13, 14, 15, 16];
 
-/// The word for a role, and a space behind it.
-fn role_words(role: Role) -> &'static str
-    ensures { result.now ≡ role_words (Some role) }
+/// Puts the word for a role and a space behind a text, where there is a role.
+fn put_role(out: &mut String, role: Option<Role>) -> Result<(), Memory>
+    ensures { OnOk result (string_bytes out.new ≡ string_bytes out.old ++ role_words role) }
 {
-    match role {
-        Role::Disabled => "disabled ",
-        Role::Root => "root ",
-        Role::Designated => "designated ",
-        Role::Alternate => "alternate ",
-        Role::Backup => "backup ",
+    if let Some(role) = role {
+        let word = role_word(role);
+        write!(out, "{word} ")?;
     }
-}
-
-/// The word for a state.
-fn state_word(state: PortState) -> &'static str
-    ensures { result.now ≡ state_word state }
-{
-    match state {
-        PortState::Discarding => "discarding",
-        PortState::Learning => "learning",
-        PortState::Forwarding => "forwarding",
-    }
-}
-
-/// What is told of the role, where there is one.
-fn words_of(role: Option<Role>) -> &'static str
-    ensures { result.now ≡ role_words role }
-{
-    match role {
-        Some(role) => role_words(role),
-        None => "",
-    }
+    Ok(())
 }
 
 /// Puts the line of a bridge's port behind a text, where a view is told.
@@ -57,9 +35,10 @@ fn put_view(out: &mut String, name: &str, port: u8, view: Option<PortView>) -> R
     let Some(view) = view else {
         return Ok(());
     };
-    let role = words_of(view.role);
+    write!(out, "port {name} {port} ")?;
+    put_role(out, view.role)?;
     let state = state_word(view.state);
-    writeln!(out, "port {name} {port} {role}{state}")?;
+    writeln!(out, "{state}")?;
     Ok(())
 }
 

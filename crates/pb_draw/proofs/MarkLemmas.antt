@@ -1,14 +1,7 @@
 -- The facts of marks, one behind the other.
 use Rattle.std.proofs.Common.{◌≡◌, ◌<◌, ◌+◌, ℕ, zero, suc, List, [], ◌∷◌, ◌++◌, map, drop, length, refl, sym, ap, subst, ◌∙◌, arith, append_assoc}
 use Rattle.pb_lan.specs.Numbering.{numbers_from}
-
--- the numbers from here on
-numbers_step : {X : Type 0} (xs : List X) (k n : ℕ) → k < length xs → numbers_from n (drop k xs) ≡ n ∷ numbers_from (n + 1) (drop (k + 1) xs)
-numbers_step [] k n h = absurd (omega (arith, h))
-numbers_step (x ∷ xs) zero n h = refl
-numbers_step (x ∷ xs) (suc k) n h =
-    let e : suc (k + 1) ≡ suc k + 1 = omega arith in
-    subst (λ m. numbers_from n (drop k xs) ≡ n ∷ numbers_from (n + 1) (drop m (x ∷ xs))) e (numbers_step xs k n (omega (arith, h)))
+use Rattle.pb_naming.proofs.TextLemmas.{numbers_step}
 
 -- one more behind the others
 map_more : {M F : Type 0} (facts : M → F) (marks : List M) (m : M) → map facts (marks ++ m ∷ []) ≡ map facts marks ++ facts m ∷ []

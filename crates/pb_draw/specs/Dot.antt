@@ -9,8 +9,9 @@ use Rattle.pb_lan.specs.declared.plan.CustomerPlan.{CustomerPlan}
 use Rattle.pb_lan.specs.declared.plan.LinkPlan.{LinkPlan}
 use Rattle.pb_lan.specs.declared.shape.PortState.{PortState}
 use Rattle.pb_lan.specs.declared.shape.PortState.TheVariants.{Discarding, Learning, Forwarding}
+use Rattle.pb_naming.specs.Names.{service_name}
 use Rattle.pb_draw.specs.Titles.{bridge_words, link_words, port_words}
-use Rattle.pb_draw.specs.Words.{service_name, losing_word, colour_of}
+use Rattle.pb_draw.specs.Words.{losing_word, colour_of}
 use Rattle.pb_draw.specs.declared.facts.Tone.{Tone}
 use Rattle.pb_draw.specs.declared.facts.Tone.TheVariants.{Plain, Lit, Faint}
 use Rattle.pb_draw.specs.declared.facts.LinkFacts.{LinkFacts}

@@ -3,16 +3,16 @@ use Rattle.std.specs.Prelude.{◌≡◌, ◌⊎◌, ℕ, Bool, true, false, List
 use Rattle.std.specs.Borrow.{Bor}
 use Rattle.std.specs.Io.KnownBytes.{Appends}
 use Rattle.std.specs.declared.option.Option.{Option}
-use Rattle.pb_frame.specs.Admission.{same}
-use Rattle.pb_lan.specs.Events.{number_of}
+use Rattle.pb_drive.specs.Falls.{HaveFallen, LacksEnd}
 use Rattle.pb_lan.specs.LastShapes.{last_shape}
 use Rattle.pb_lan.specs.declared.plan.Plan.{Plan}
 use Rattle.pb_lan.specs.declared.shape.Shape.{Shape}
+use Rattle.pb_naming.specs.Numbers.{service_named}
 use Rattle.pb_net.specs.Answers.{NetView}
+use Rattle.pb_print.specs.PlanFiles.{IsToldBy}
 use Rattle.pb_print.specs.Refusals.{PrintsRefusal}
 use Rattle.pb_settle.specs.Drives.{HasRested}
 use Rattle.pb_settle.specs.declared.rest.Rest.{Rest}
-use Rattle.pb_tree.specs.Trees.{IsToldBy, HaveFallen, LacksEnd}
 use Rattle.pb_draw.specs.Dot.{dot_text}
 use Rattle.pb_draw.specs.Scenes.{IsSceneOf}
 use Rattle.pb_draw.specs.Svg.{svg_text}
@@ -22,10 +22,6 @@ use Rattle.pb_draw.specs.declared.end.Format.TheVariants.{Svg, Dot}
 use Rattle.pb_draw.specs.declared.end.DrawEnd.{DrawEnd}
 use Rattle.pb_draw.specs.declared.end.DrawEnd.TheVariants.{Drawn, Refused, NoPort, NoService}
 use Rattle.pb_draw.specs.declared.scene.Scene.{Scene}
-
--- the number of the service of a name; 0 where the plan has none
-abbrev pub service_named : Plan → List ℕ → ℕ
-service_named plan name = number_of (λ s. same name s.name) 1 plan.services
 
 -- the plan has the service that is to stand out, if one is; and its number
 abbrev pub is_found : Plan → Option (Bor (List ℕ)) → Bool

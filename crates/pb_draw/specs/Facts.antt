@@ -1,8 +1,7 @@
 -- What is drawn of each part of a network.
-use Rattle.std.specs.Prelude.{ℕ, Bool, true, false, Some, None, length, unwrap_or, ◌==◌, ◌&&◌, ◌||◌, if◌then◌else◌}
+use Rattle.std.specs.Prelude.{ℕ, Bool, true, false, Some, None, length, ◌==◌, ◌&&◌, ◌||◌, if◌then◌else◌}
 use Rattle.std.specs.declared.option.Option.{Option}
 use Rattle.std.specs.List.{list_any}
-use Rattle.std.specs.Option.{option_map}
 use Rattle.pb_forest.specs.ServiceVids.{vid_numbered}
 use Rattle.pb_lan.specs.Numbering.{numbered}
 use Rattle.pb_lan.specs.Shapes.{state_in, is_active, are_ends_forwarding}
@@ -11,6 +10,7 @@ use Rattle.pb_lan.specs.declared.plan.LinkPlan.{LinkPlan}
 use Rattle.pb_lan.specs.declared.plan.CustomerPlan.{CustomerPlan}
 use Rattle.pb_lan.specs.declared.shape.PortState.TheVariants.{Discarding}
 use Rattle.pb_lan.specs.declared.shape.Shape.{Shape}
+use Rattle.pb_naming.specs.Numbers.{service_at}
 use Rattle.pb_draw.specs.declared.facts.Tone.{Tone}
 use Rattle.pb_draw.specs.declared.facts.Tone.TheVariants.{Plain, Lit, Faint}
 use Rattle.pb_draw.specs.declared.facts.BridgeFacts.{BridgeFacts}
@@ -78,9 +78,6 @@ facts_of_link plan shape chosen number (Some link) = known_facts plan shape chos
 
 abbrev pub link_facts : Plan → Shape → Option ℕ → ℕ → LinkFacts
 link_facts plan shape chosen number = facts_of_link plan shape chosen number (numbered plan.links number)
-
-abbrev pub service_at : Plan → ℕ → ℕ
-service_at plan number = unwrap_or (option_map (λ c. c.service) (numbered plan.customers number)) 0
 
 abbrev pub port_facts : Plan → Option ℕ → ℕ → PortFacts
 port_facts plan chosen number = record { number = number; service = service_at plan number; tone = service_tone chosen (service_at plan number) }

@@ -7,8 +7,9 @@ use Rattle.pb_lan.specs.declared.plan.Plan.{Plan}
 use Rattle.pb_lan.specs.declared.plan.BridgePlan.{BridgePlan}
 use Rattle.pb_lan.specs.declared.plan.CustomerPlan.{CustomerPlan}
 use Rattle.pb_lan.specs.declared.plan.ServicePlan.{ServicePlan}
+use Rattle.pb_naming.specs.Names.{service_name}
 use Rattle.pb_draw.specs.Titles.{bridge_words, port_words}
-use Rattle.pb_draw.specs.Words.{service_name, tone_word, colour_of, dashes_of}
+use Rattle.pb_draw.specs.Words.{tone_word, colour_of, dashes_of}
 use Rattle.pb_draw.specs.declared.facts.Tone.{Tone}
 use Rattle.pb_draw.specs.declared.scene.BridgeMark.{BridgeMark}
 use Rattle.pb_draw.specs.declared.scene.Point.{Point}

@@ -8,7 +8,7 @@ use Rattle.pb_lan.specs.declared.plan.Plan.{Plan}
 use Rattle.pb_lan.specs.declared.plan.LinkPlan.{LinkPlan}
 use Rattle.pb_lan.specs.declared.shape.PortState.{PortState}
 use Rattle.pb_lan.specs.declared.shape.PortState.TheVariants.{Discarding, Learning, Forwarding}
-use Rattle.pb_tree.specs.Names.{state_word}
+use Rattle.pb_naming.specs.Names.{state_word}
 use Rattle.pb_draw.specs.Titles.{link_words}
 use Rattle.pb_draw.specs.Words.{tone_word, active_word, losing_word}
 use Rattle.pb_draw.specs.declared.facts.LinkFacts.{LinkFacts}

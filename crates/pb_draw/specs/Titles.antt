@@ -9,7 +9,7 @@ use Rattle.pb_lan.specs.declared.plan.CustomerPlan.{CustomerPlan}
 use Rattle.pb_lan.specs.declared.plan.End.{End}
 use Rattle.pb_lan.specs.declared.plan.LinkPlan.{LinkPlan}
 use Rattle.pb_lan.specs.declared.shape.PortState.{PortState}
-use Rattle.pb_tree.specs.Names.{bridge_name, state_word}
+use Rattle.pb_naming.specs.Names.{bridge_name, state_word}
 use Rattle.pb_draw.specs.Words.{is_lossless}
 use Rattle.pb_draw.specs.declared.facts.LinkFacts.{LinkFacts}
 

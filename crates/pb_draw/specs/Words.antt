@@ -1,14 +1,8 @@
 -- What is named in a picture.
-use Rattle.std.specs.Prelude.{ℕ, Bool, true, false, List, [], length, unwrap_or, codes, ◌==◌, ◌&&◌, ◌+◌, ◌/◌, ◌%◌, if◌then◌else◌}
-use Rattle.std.specs.Option.{option_map}
-use Rattle.pb_lan.specs.Numbering.{numbered}
-use Rattle.pb_lan.specs.declared.plan.Plan.{Plan}
+use Rattle.std.specs.Prelude.{ℕ, Bool, true, false, List, [], length, codes, ◌==◌, ◌&&◌, ◌+◌, ◌/◌, ◌%◌, if◌then◌else◌}
 use Rattle.pb_lan.specs.declared.plan.LinkPlan.{LinkPlan}
 use Rattle.pb_draw.specs.declared.facts.Tone.{Tone}
 use Rattle.pb_draw.specs.declared.facts.Tone.TheVariants.{Plain, Lit, Faint}
-
-abbrev pub service_name : Plan → ℕ → List ℕ
-service_name plan service = unwrap_or (option_map (λ s. s.name) (numbered plan.services service)) []
 
 abbrev pub tone_word : Tone → List ℕ
 tone_word Plain = codes "plain"

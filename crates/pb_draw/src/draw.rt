@@ -4,41 +4,24 @@ ghost use Rattle.std.specs.Prelude.{◌≡◌, ◌≢◌, ◌++◌, List, ℕ, t
 ghost use Rattle.std.specs.Io.KnownBytes.{Appends, Keeps};
 ghost use Rattle.pb_lan.specs.LastShapes.{last_shape};
 ghost use Rattle.pb_lan.specs.Plans.{IsSound};
-ghost use Rattle.pb_settle.specs.Drives.{HasRested};
-ghost use Rattle.pb_draw.specs.Draws.{service_named, is_found, chosen_of, IsPictureOf, IsDrawingFrom, HasDrawn, HasTold};
+ghost use Rattle.pb_draw.specs.Draws.{is_found, chosen_of, IsPictureOf, IsDrawingFrom, HasDrawn, HasTold};
 
 use crate::asked::Asked;
 use crate::dot::put_dot;
 use crate::end::{DrawEnd, Format};
-use crate::falls::falls;
 use crate::marks::scene_of;
 use crate::svg::put_svg;
+use pb_drive::{falls, fresh, rests, shape_of};
 use pb_frame::Memory;
 use pb_lan::{Plan, Record, Shape};
+use pb_naming::service_named;
 use pb_net::Net;
 use pb_print::write_refusal;
 use pb_said::CommandFault;
 use pb_service::read_plan;
-use pb_settle::{DriveFault, Rest, settle};
-use pb_steps::{Tallies, last_shape};
+use pb_settle::Rest;
 use std::alloc::Global;
 use std::io::Write;
-
-/// The most events that are done besides ticks: more than the places of a plan file take steps.
-const MOST_EVENTS: u64 = 1_000_000_000;
-
-/// The number of the service of a name, or 0 where the plan has none.
-fn service_named(plan: &Plan, name: &str) -> u8
-    requires { IsSound plan.now }
-    ensures { result ≡ service_named plan.now name.now }
-{
-    for (place, service) in plan.services.as_slice().iter().enumerate() {
-        if name == service.name.as_str() {
-            return place as u8 + 1;
-        }
-    }
-    0
-}
 
 /// Whether the plan has the service that is to stand out, if one is.
 fn is_found(plan: &Plan, service: Option<&str>) -> bool
@@ -60,15 +43,6 @@ fn chosen_of(plan: &Plan, service: Option<&str>) -> Option<u8>
         None => None,
         Some(name) => Some(service_named(plan, name)),
     }
-}
-
-/// The states of all ports after the steps of a record.
-fn shape_of(alloc: Global, plan: &Plan, rec: &Record) -> Result<Shape, Memory>
-    requires { IsSound plan.now }
-    ensures { IfOk result (λ shape. shape ≡ last_shape plan.now rec.now) }
-{
-    let tallies = Tallies::of(alloc, rec)?;
-    last_shape(alloc, plan, &tallies)
 }
 
 /// Puts the picture of a network behind a text, with the ports in these states.
@@ -106,19 +80,6 @@ fn put_last(
     put_picture(alloc, out, plan, &shape, chosen, format)
 }
 
-/// Lets the bridges of a network settle.
-fn rests(alloc: Global, net: &mut Net, plan: &Plan, ticks: u32) -> Result<Rest, CommandFault>
-    requires sound { IsSound plan.now }
-    requires plan { net.old.plan ≡ plan.now }
-    ensures { IfOk result (λ rest. HasRested ticks 1000000000 rest net.old net.new) }
-{
-    match settle(alloc, net, plan, ticks, MOST_EVENTS) {
-        Ok(rest) => Ok(rest),
-        Err(DriveFault::Memory) => Err(CommandFault::Memory),
-        Err(DriveFault::Steps | DriveFault::Events) => Err(CommandFault::Steps),
-    }
-}
-
 /// Lets the bridges of a network settle, and puts its picture behind a text.
 fn put_rested(
     alloc: Global,
@@ -149,7 +110,7 @@ fn put_fallen(
     requires found { is_found plan.now asked.now.service ≡ true }
     ensures { IfOk result (λ end. (text : List ℕ) × (string_bytes out.new ≡ string_bytes out.old ++ text) × HasDrawn plan.now asked.now end text) }
 {
-    let mut net = Net::new(alloc, plan.clone()?)?;
+    let mut net = fresh(alloc, plan)?;
     match falls(alloc, &mut net, plan, asked.downs)? {
         Some(index) => Ok(DrawEnd::NoPort(index)),
         None => {

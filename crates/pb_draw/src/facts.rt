@@ -1,10 +1,11 @@
 //! What is drawn of each part of a plan's network.
 
 ghost use Rattle.std.specs.Prelude.{◌≡◌};
-ghost use Rattle.pb_draw.specs.Facts.{shade, service_tone, bridge_tone, link_tone, carries_some, is_active_link, is_link_of, is_port_of, has_port, has_link, is_in_tree, service_at, bridge_facts, known_facts, link_facts, port_facts, service_facts};
+ghost use Rattle.pb_draw.specs.Facts.{shade, service_tone, bridge_tone, link_tone, carries_some, is_active_link, is_link_of, is_port_of, has_port, has_link, is_in_tree, bridge_facts, known_facts, link_facts, port_facts, service_facts};
 
-use crate::active::{are_ends_forwarding, is_active, numbered, state_at, vid_numbered};
+use pb_forest::{are_ends_forwarding, is_active, numbered, state_in, vid_numbered};
 use pb_lan::{CustomerPlan, LinkPlan, Plan, PortState, Shape};
+use pb_naming::service_at;
 
 /// How a part of the network stands out.
 #[derive(Clone, Copy, PartialEq, Eq, Debug)]
@@ -189,8 +190,8 @@ fn known_facts(
 {
     LinkFacts {
         number,
-        a: state_at(shape, &link.a),
-        b: state_at(shape, &link.b),
+        a: state_in(shape, link.a.bridge, link.a.port),
+        b: state_in(shape, link.b.bridge, link.b.port),
         active: is_active_link(plan, shape, link),
         tone: link_tone(plan, shape, chosen, link),
     }
@@ -209,16 +210,6 @@ pub(crate) fn link_facts(plan: &Plan, shape: &Shape, chosen: Option<u8>, number:
             tone: Tone::Plain,
         },
         Some(link) => known_facts(plan, shape, chosen, number, link),
-    }
-}
-
-/// The number of the service of the customer port of a number; 0 where there is none.
-fn service_at(plan: &Plan, number: u8) -> u8
-    ensures { result ≡ service_at plan.now number }
-{
-    match numbered(plan.customers.as_slice(), number as usize) {
-        None => 0,
-        Some(customer) => customer.service,
     }
 }
 

@@ -8,9 +8,9 @@ mod rows;
 mod slots;
 mod tracks;
 
-use crate::active::numbered;
 use crate::scene::Point;
 use columns::{Columns, LETTER, MARGIN, columns_of, text_width};
+use pb_forest::numbered;
 use pb_frame::Memory;
 use pb_lan::{Plan, Shape};
 use rows::{PORT_HEIGHT, Rows, rows_of};

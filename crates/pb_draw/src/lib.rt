@@ -1,16 +1,13 @@
 //! Pictures of a plan's network: the command `draw`.
 #![tactic(auto)]
 
-mod active;
 mod asked;
 mod dot;
 mod draw;
 mod end;
 mod facts;
-mod falls;
 mod layout;
 mod marks;
-mod names;
 mod scene;
 mod style;
 mod svg;
@@ -18,6 +15,7 @@ mod svg_boxes;
 mod svg_links;
 mod table;
 mod titles;
+mod words;
 
 pub use asked::Asked;
 pub use dot::put_dot;

@@ -3,11 +3,12 @@
 ghost use Rattle.std.specs.Prelude.{◌≡◌, ◌++◌, string_bytes, OnOk};
 ghost use Rattle.pb_draw.specs.Titles.{bridge_words, end_words, losses_text, link_words, port_words};
 
-use crate::active::vid_numbered;
 use crate::facts::LinkFacts;
-use crate::names::{bridge_name, is_lossless, state_word};
+use crate::words::is_lossless;
+use pb_forest::vid_numbered;
 use pb_frame::Memory;
 use pb_lan::{BridgePlan, CustomerPlan, End, LinkPlan, Plan, PortState};
+use pb_naming::{bridge_name, state_word};
 use std::alloc::Global;
 
 /// What is told of a bridge: its name, its address and its priority.

@@ -6,12 +6,12 @@ ghost use Rattle.std.specs.Option.{option_copied};
 ghost use Rattle.pb_forest.specs.ServiceVids.{vid_numbered};
 ghost use Rattle.pb_lan.specs.Numbering.{numbered};
 ghost use Rattle.pb_lan.specs.Ports.{has_vid, serves};
-ghost use Rattle.pb_lan.specs.Shapes.{is_forwarding, state_in, is_open, is_active};
+ghost use Rattle.pb_lan.specs.Shapes.{is_forwarding, state_in, is_end_forwarding, are_ends_forwarding, is_open, is_active};
 
 use pb_lan::{End, LinkPlan, Plan, PortState, ServicePlan, Shape};
 
-/// The thing of this number, if there is one. The first has number 1.
-pub(crate) fn numbered<T>(things: &[T], number: usize) -> Option<&T>
+/// The thing of this number, if there is one. The first has number 1, and none has number 0.
+pub fn numbered<T>(things: &[T], number: usize) -> Option<&T>
     ensures { option_copied result ≡ numbered things.now number }
 {
     if number == 0 {
@@ -20,8 +20,8 @@ pub(crate) fn numbered<T>(things: &[T], number: usize) -> Option<&T>
     things.get(number - 1)
 }
 
-/// The VID of the service of this number; 0 where there is none.
-pub(crate) fn vid_numbered(plan: &Plan, service: u8) -> u16
+/// The VID of the service of this number, from 1; 0, which no service of a sound plan has, where there is none.
+pub fn vid_numbered(plan: &Plan, service: u8) -> u16
     ensures { result ≡ vid_numbered plan.now service }
 {
     match numbered(plan.services.as_slice(), service as usize) {
@@ -64,13 +64,15 @@ fn serves(plan: &Plan, vid: u16, end: &End) -> bool
     }
 }
 
-/// The state of the end's port.
-fn state_at(shape: &Shape, end: &End) -> PortState
-    ensures { result ≡ state_in shape.now end.now.bridge end.now.port }
+/// The state of a bridge's port in a shape: Discarding where the shape has no such bridge, or the bridge no such port.
+///
+/// `bridge` is a bridge's number and `port` a local port, both from 1.
+pub fn state_in(shape: &Shape, bridge: u8, port: u8) -> PortState
+    ensures { result ≡ state_in shape.now bridge port }
 {
-    match numbered(shape.states.as_slice(), end.bridge as usize) {
+    match numbered(shape.states.as_slice(), bridge as usize) {
         None => PortState::Discarding,
-        Some(states) => match numbered(states.as_slice(), end.port as usize) {
+        Some(states) => match numbered(states.as_slice(), port as usize) {
             None => PortState::Discarding,
             Some(state) => *state,
         },
@@ -87,15 +89,30 @@ fn is_forwarding(state: PortState) -> bool
     }
 }
 
+/// Whether the end is Forwarding.
+fn is_end_forwarding(shape: &Shape, end: &End) -> bool
+    ensures { result ≡ is_end_forwarding shape.now end.now }
+{
+    is_forwarding(state_in(shape, end.bridge, end.port))
+}
+
+/// Whether both ends of a link are Forwarding in a shape.
+pub fn are_ends_forwarding(shape: &Shape, link: &LinkPlan) -> bool
+    ensures { result ≡ are_ends_forwarding shape.now link.now }
+{
+    is_end_forwarding(shape, &link.a) && is_end_forwarding(shape, &link.b)
+}
+
 /// Whether the end is Forwarding, and a member of the service.
 fn is_open(plan: &Plan, shape: &Shape, vid: u16, end: &End) -> bool
     ensures { result ≡ is_open plan.now shape.now vid end.now }
 {
-    is_forwarding(state_at(shape, end)) && serves(plan, vid, end)
+    is_end_forwarding(shape, end) && serves(plan, vid, end)
 }
 
-/// Whether the link carries the service.
-pub(crate) fn is_active(plan: &Plan, shape: &Shape, vid: u16, link: &LinkPlan) -> bool
+/// Whether a link carries the service of a VID in a shape: both its ends are Forwarding and members of the service
+/// (802.1Q clause 8.8).
+pub fn is_active(plan: &Plan, shape: &Shape, vid: u16, link: &LinkPlan) -> bool
     ensures { result ≡ is_active plan.now shape.now vid link.now }
 {
     is_open(plan, shape, vid, &link.a) && is_open(plan, shape, vid, &link.b)

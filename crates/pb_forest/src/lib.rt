@@ -17,6 +17,7 @@ mod rooting;
 mod search;
 mod ways;
 
+pub use active::{are_ends_forwarding, is_active, numbered, state_in, vid_numbered};
 pub use certificate::check_rooted;
 pub use drained::is_drained;
 pub use pb_frame::Memory;

@@ -1,8 +1,7 @@
 -- The services for which a shape is no forest.
-use Rattle.std.proofs.Common.{◌≡◌, ℕ, zero, suc, true, false, Option, is_some, None, ◌+◌, ◌<◌, inl, inr, List, [], ◌∷◌, Ok, Err, OnOk, Some, length, drop, get_or, unwrap_or, refl, sym, ap, subst, ◌∙◌, arith, add-one}
+use Rattle.std.proofs.Common.{◌≡◌, ℕ, zero, suc, true, false, Option, is_some, None, ◌+◌, ◌<◌, inl, inr, List, [], ◌∷◌, Some, length, drop, get_or, unwrap_or, refl, sym, ap, subst, ◌∙◌, arith, add-one}
 use Rattle.std.proofs.lemmas.Option.{slice_get-get_or}
 use Rattle.std.specs.Option.{option_map}
-use Rattle.std.specs.declared.result.Result.{Result}
 use Rattle.pb_forest.specs.Searching.{AnswersForest}
 use Rattle.pb_forest.specs.ServiceVids.{vid_numbered}
 use Rattle.pb_lan.specs.Forests.{IsForest}
@@ -12,11 +11,6 @@ use Rattle.pb_lan.specs.declared.plan.ServicePlan.{ServicePlan}
 use Rattle.pb_lan.specs.declared.shape.Shape.{Shape}
 use Rattle.pb_lan.specs.declared.shape.Rooted.{Rooted}
 use Rattle.pb_print.specs.ForestTexts.{AreLooping}
-
--- what holds of a result that is Ok gives another fact of it
-pub on_ok : {A E P Q : Type 0} (r : Result A E) → (P → Q) → OnOk r P → OnOk r Q
-on_ok (Ok x) f p = f p
-on_ok (Err e) f p = p
 
 -- the services from one on
 pub from_one : {X : Type 0} (xs : List X) (i : ℕ) (x : X) → i < length xs → x ≡ get_or xs i x → drop i xs ≡ x ∷ drop (i + 1) xs

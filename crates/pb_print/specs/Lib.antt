@@ -1,3 +1,4 @@
+pub mod PlanFiles
 pub mod Refusals
 pub mod ForestTexts
 pub mod RecordTexts

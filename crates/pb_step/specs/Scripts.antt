@@ -2,17 +2,11 @@
 use Rattle.std.specs.Prelude.{◌≡◌, ◌⊎◌, ℕ, List, Option}
 use Rattle.std.specs.Io.KnownBytes.{Keeps}
 use Rattle.pb_lan.specs.declared.plan.Plan.{Plan}
-use Rattle.pb_service.specs.PlanFiles.{Tells, IsPlanOf}
-use Rattle.pb_service.specs.declared.port_spec.PortSpec.{PortSpec}
+use Rattle.pb_print.specs.PlanFiles.{IsToldBy}
 use Rattle.pb_print.specs.Refusals.{PrintsRefusal}
 use Rattle.pb_said.specs.declared.fault.CommandFault.{CommandFault}
 use Rattle.pb_said.specs.declared.fault.CommandFault.TheVariants.{Memory}
 use Rattle.pb_step.specs.Steps.{PrintsSteps, PrintsStepsBeginning}
-
--- the file tells the plan
-pub record IsToldBy (file : List ℕ) (plan : Plan) : Type 0 where
-  pub specs : List PortSpec
-  pub told : Tells file (λ document. IsPlanOf document plan specs)
 
 -- the answers to a script and the report, of the plan that the file tells
 pub record PrintsDriven (file : List ℕ) (input before after : Option (List ℕ)) : Type 0 where

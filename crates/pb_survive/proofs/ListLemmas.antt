@@ -13,11 +13,6 @@ zip_one_more R (x ∷ xs) (suc i) d (z ∷ zs) y h a r =
     let next : suc (i + 1) ≡ suc i + 1 = omega arith in
     subst (λ n. AllZip R (take n (x ∷ xs)) ((z ∷ zs) ++ y ∷ [])) next (a.0, zip_one_more R xs i d zs y (omega (arith, h)) a.1 r)
 
--- what holds of an answer gives what follows from it
-pub if_ok : {A E : Type 0} (P Q : A → Type 0) (r : Result A E) → ((x : A) → P x → Q x) → IfOk r P → IfOk r Q
-if_ok P Q (Ok x) f p = f x p
-if_ok P Q (Err e) f p = tt
-
 -- a text in five parts, from the left or from the right
 pub regroup : (a b c d e : List ℕ) → (((a ++ b) ++ c) ++ d) ++ e ≡ a ++ (b ++ (c ++ (d ++ e)))
 regroup a b c d e = simp append_assoc

@@ -1,7 +1,7 @@
 -- What comes of a failure.
 use Rattle.std.specs.Prelude.{◌≡◌, ℕ, List}
 use Rattle.std.specs.List.{AllZip}
-use Rattle.pb_lan.specs.Events.{empty_record}
+use Rattle.pb_drive.specs.Falls.{fresh}
 use Rattle.pb_lan.specs.LastShapes.{last_shape}
 use Rattle.pb_lan.specs.Records.{IsLawfulRecord}
 use Rattle.pb_lan.specs.declared.plan.Plan.{Plan}
@@ -15,13 +15,9 @@ use Rattle.pb_survive.specs.declared.failure.Failure.{Failure}
 use Rattle.pb_survive.specs.declared.failure.Failure.TheVariants.{Nothing, Link, Pair, Bridge}
 use Rattle.pb_survive.specs.declared.outcome.Outcome.{Outcome}
 
--- the network of a plan, before any step
-abbrev pub start_of : Plan → NetView
-start_of plan = record { plan = plan; rec = empty_record plan }
-
 -- with nothing down the bridges settle
 abbrev pub IsCalm : Plan → ℕ → ℕ → Rest → NetView → Type 0
-IsCalm plan most events rest new = HasRested most events rest (start_of plan) new
+IsCalm plan most events rest new = HasRested most events rest (fresh plan) new
 
 -- both ends of each link that a failure takes down are set down, and the bridges settle again
 pub record HasFailedFrom (plan : Plan) (most events : ℕ) (failure : Failure) (calm : NetView) (rest : Rest) (new : NetView) : Type 0 where

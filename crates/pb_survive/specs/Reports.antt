@@ -1,10 +1,9 @@
 -- What is printed of a network under failures.
-use Rattle.std.specs.Prelude.{ℕ, Bool, true, false, List, [], ◌∷◌, ◌++◌, Option, Some, None, flat_map, length, unwrap_or, codes, ◌==◌, ◌&&◌, not, max, count_by, if◌then◌else◌}
+use Rattle.std.specs.Prelude.{ℕ, Bool, true, false, List, [], ◌∷◌, ◌++◌, Option, Some, None, flat_map, length, codes, ◌==◌, ◌&&◌, not, max, count_by, if◌then◌else◌}
 use Rattle.std.specs.Fmt.{decimal}
 use Rattle.std.specs.List.{list_any, list_all, zip}
-use Rattle.std.specs.Option.{option_map}
-use Rattle.pb_lan.specs.Numbering.{numbered}
 use Rattle.pb_lan.specs.declared.plan.Plan.{Plan}
+use Rattle.pb_naming.specs.Names.{bridge_name, link_name, port_name, service_name}
 use Rattle.pb_settle.specs.declared.rest.Rest.{Rest}
 use Rattle.pb_settle.specs.declared.rest.Rest.TheVariants.{Given, Settled, Unsettled}
 use Rattle.pb_survive.specs.declared.failure.Failure.{Failure}
@@ -12,19 +11,6 @@ use Rattle.pb_survive.specs.declared.failure.Failure.TheVariants.{Nothing, Link,
 use Rattle.pb_survive.specs.declared.outcome.Outcome.{Outcome}
 use Rattle.pb_survive.specs.declared.sites.Site.{Site}
 use Rattle.pb_survive.specs.declared.view.View.{View}
-
--- the names of things, by their numbers
-abbrev pub link_name : Plan → ℕ → List ℕ
-link_name plan number = unwrap_or (option_map (λ l. l.name) (numbered plan.links number)) []
-
-abbrev pub bridge_name : Plan → ℕ → List ℕ
-bridge_name plan number = unwrap_or (option_map (λ b. b.name) (numbered plan.bridges number)) []
-
-abbrev pub service_name : Plan → ℕ → List ℕ
-service_name plan number = unwrap_or (option_map (λ s. s.name) (numbered plan.services number)) []
-
-abbrev pub port_name : Plan → ℕ → List ℕ
-port_name plan number = unwrap_or (option_map (λ c. c.name) (numbered plan.customers number)) []
 
 -- what is down
 abbrev pub failure_text : Plan → Failure → List ℕ

@@ -1,23 +1,10 @@
 -- Which services are looked at.
-use Rattle.std.specs.Prelude.{ℕ, Bool, true, List, [], ◌∷◌, ◌++◌, Option, Some, None, unwrap_or, nat_lt, codes}
-use Rattle.std.specs.Option.{option_map}
-use Rattle.pb_frame.specs.Admission.{same}
-use Rattle.pb_lan.specs.Events.{number_of}
-use Rattle.pb_lan.specs.Numbering.{numbered, numbers_from}
+use Rattle.std.specs.Prelude.{ℕ, Bool, true, List, [], ◌∷◌, ◌++◌, Option, Some, None, nat_lt, codes}
+use Rattle.pb_lan.specs.Numbering.{numbers_from}
 use Rattle.pb_lan.specs.declared.plan.Plan.{Plan}
+use Rattle.pb_naming.specs.Numbers.{port_named, service_at, service_named}
 use Rattle.pb_survive.specs.declared.scope.Scope.{Scope}
 use Rattle.pb_survive.specs.declared.scope.Scope.TheVariants.{All, Service, From}
-
--- the number of the service of a name, and of the customer port; 0 where the plan has none
-abbrev pub service_named : Plan → List ℕ → ℕ
-service_named plan name = number_of (λ s. same name s.name) 1 plan.services
-
-abbrev pub port_named : Plan → List ℕ → ℕ
-port_named plan name = number_of (λ c. same name c.name) 1 plan.customers
-
--- the number of a customer port's service
-abbrev pub service_at : Plan → ℕ → ℕ
-service_at plan port = unwrap_or (option_map (λ c. c.service) (numbered plan.customers port)) 0
 
 -- all services, the one that is named, or that of the customer port that is named
 abbrev pub services_of : Plan → Scope → List ℕ

@@ -1,13 +1,14 @@
 //! Driving a network into a failure.
 
 ghost use Rattle.std.specs.Prelude.{◌≡◌, ◌++◌, ◌+◌, IfOk, OnOk};
+ghost use Rattle.pb_drive.specs.Falls.{fresh};
 ghost use Rattle.pb_lan.specs.Plans.{IsSound};
 ghost use Rattle.pb_lan.specs.Records.{IsLawfulRecord};
 ghost use Rattle.pb_net.specs.Answers.{HaveRun};
 ghost use Rattle.pb_relay.specs.Protocol.{spanning_tree};
 ghost use Rattle.pb_settle.specs.Drives.{HasRested};
 ghost use Rattle.pb_survive.specs.Failures.{downs, downs_of, is_hit, set_down};
-ghost use Rattle.pb_survive.specs.Outcomes.{start_of, HasFailedFrom, IsDriven};
+ghost use Rattle.pb_survive.specs.Outcomes.{HasFailedFrom, IsDriven};
 
 use crate::failure::Failure;
 use pb_frame::Memory;
@@ -118,7 +119,7 @@ pub(crate) fn drive(
     patience: Patience,
 ) -> Result<Rest, DriveFault>
     requires sound { IsSound plan.now }
-    requires start { net.old ≡ start_of plan.now }
+    requires start { net.old ≡ fresh plan.now }
     ensures plan { OnOk result (net.new.plan ≡ plan.now) }
     ensures ok { IfOk result (λ rest. IsDriven plan.now patience.ticks patience.events failure rest net.new) }
 {

@@ -1,12 +1,10 @@
 //! What is left of a network when a link, a bridge or two links fail: the command `survive`.
 #![tactic(auto)]
 
-mod active;
 mod drive;
 mod failure;
 mod look;
 mod marks;
-mod names;
 mod outcome;
 mod parting;
 mod report;

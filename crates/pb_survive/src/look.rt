@@ -2,7 +2,7 @@
 
 ghost use Rattle.std.specs.Prelude.{◌≡◌, IfOk};
 ghost use Rattle.pb_lan.specs.Plans.{IsSound};
-ghost use Rattle.pb_survive.specs.Outcomes.{start_of, IsOutcome, AreOutcomes};
+ghost use Rattle.pb_survive.specs.Outcomes.{IsOutcome, AreOutcomes};
 ghost use Rattle.pb_lan.specs.LastShapes.{last_shape};
 ghost use Rattle.pb_survive.specs.Views.{AreViews};
 
@@ -11,32 +11,14 @@ use crate::failure::Failure;
 use crate::outcome::Outcome;
 use crate::view::{View, views};
 use crate::watch::Watch;
+use pb_drive::{fresh, shape_of};
 use pb_frame::Memory;
-use pb_lan::{Plan, Record, Seq, Shape};
-use pb_net::Net;
+use pb_lan::{Plan, Record, Seq};
 use pb_settle::DriveFault;
-use pb_steps::{Tallies, last_shape};
 use rayon::prelude::*;
 use std::alloc::{AllocError, Global};
 use std::sync::OnceLock;
 use std::thread::Threads;
-
-/// The network of a plan, in which nothing was done.
-fn fresh(alloc: Global, plan: &Plan) -> Result<Net, Memory>
-    requires { IsSound plan.now }
-    ensures { IfOk result (λ net. net ≡ start_of plan.now) }
-{
-    Net::new(alloc, plan.clone()?)
-}
-
-/// The states of all ports after the steps of a record.
-fn shape_of(alloc: Global, plan: &Plan, rec: &Record) -> Result<Shape, Memory>
-    requires { IsSound plan.now }
-    ensures { IfOk result (λ shape. shape ≡ last_shape plan.now rec.now) }
-{
-    let tallies = Tallies::of(alloc, rec)?;
-    last_shape(alloc, plan, &tallies)
-}
 
 /// What is known of services after the steps of a record.
 fn last_views(

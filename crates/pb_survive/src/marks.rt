@@ -4,7 +4,7 @@ ghost use Rattle.std.specs.Prelude.{◌≡◌, ◌<◌, ◌==◌, ℕ, map, slic
 ghost use Rattle.pb_lan.specs.Plans.{IsSound};
 ghost use Rattle.pb_survive.specs.Reach.{TellsJoined, mark_at};
 
-use crate::active::is_active;
+use pb_forest::is_active;
 use pb_lan::{Plan, Shape};
 
 /// A mark for each bridge, of which no two are alike.

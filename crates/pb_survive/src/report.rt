@@ -5,7 +5,6 @@ ghost use Rattle.std.specs.List.{zip};
 ghost use Rattle.pb_survive.specs.Reports.{failure_text, rest_text, forest_text, head_line, member_text, group_text, later_text, groups_text, service_line, loop_line, lost_text, cut_off_line, parting_line, view_text, whole_text, outcome_text, no_site, parts, report_text};
 
 use crate::failure::Failure;
-use crate::names::{bridge_name, link_name, port_name, service_name};
 use crate::outcome::Outcome;
 use crate::parting::{are_forests, is_lost, is_quiet, parts_view};
 use crate::sites::Site;
@@ -13,6 +12,7 @@ use crate::totals::{count_parting, put_all_quiet, put_verdict};
 use crate::view::View;
 use pb_frame::Memory;
 use pb_lan::Plan;
+use pb_naming::{bridge_name, link_name, port_name, service_name};
 use pb_settle::Rest;
 
 /// What is down.

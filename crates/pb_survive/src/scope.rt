@@ -3,11 +3,11 @@
 ghost use Rattle.std.specs.Prelude.{◌≡◌, ◌++◌, ◌∷◌, [], string_bytes, IfOk, OnOk};
 ghost use Rattle.pb_lan.specs.Numbering.{numbers_from};
 ghost use Rattle.pb_lan.specs.Plans.{IsSound};
-ghost use Rattle.pb_survive.specs.Scopes.{service_named, port_named, service_at, services_of, from_of, is_found, no_such_line};
+ghost use Rattle.pb_survive.specs.Scopes.{services_of, from_of, is_found, no_such_line};
 
-use crate::active::numbered;
 use pb_frame::Memory;
 use pb_lan::Plan;
+use pb_naming::{port_named, service_at, service_named};
 use std::alloc::Global;
 
 /// Which services are looked at.
@@ -19,42 +19,6 @@ pub enum Scope<'a> {
     Service(&'a str),
     /// The one of the customer port of this name, and only what that port can reach.
     From(&'a str),
-}
-
-/// The number of the service of a name, or 0 where the plan has none.
-fn service_named(plan: &Plan, name: &str) -> u8
-    requires { IsSound plan.now }
-    ensures { result ≡ service_named plan.now name.now }
-{
-    for (place, service) in plan.services.as_slice().iter().enumerate() {
-        if name == service.name.as_str() {
-            return place as u8 + 1;
-        }
-    }
-    0
-}
-
-/// The number of the customer port of a name, or 0 where the plan has none.
-fn port_named(plan: &Plan, name: &str) -> u8
-    requires { IsSound plan.now }
-    ensures { result ≡ port_named plan.now name.now }
-{
-    for (place, customer) in plan.customers.as_slice().iter().enumerate() {
-        if name == customer.name.as_str() {
-            return place as u8 + 1;
-        }
-    }
-    0
-}
-
-/// The number of a customer port's service, or 0 where the plan has no such port.
-fn service_at(plan: &Plan, port: u8) -> u8
-    ensures { result ≡ service_at plan.now port }
-{
-    match numbered(plan.customers.as_slice(), port as usize) {
-        None => 0,
-        Some(customer) => customer.service,
-    }
 }
 
 /// The numbers of all services.

@@ -6,9 +6,9 @@ ghost use Rattle.pb_lan.specs.Plans.{IsSound};
 ghost use Rattle.pb_survive.specs.Failures.{is_out};
 ghost use Rattle.pb_survive.specs.Groups.{ports_of, color_of, lead_of, site_of, AreGroups};
 
-use crate::active::{numbered, vid_numbered};
 use crate::failure::Failure;
 use crate::marks::marks;
+use pb_forest::{numbered, vid_numbered};
 use pb_frame::Memory;
 use pb_lan::{Plan, Shape};
 use std::alloc::Global;

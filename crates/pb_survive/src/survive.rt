@@ -13,6 +13,7 @@ use crate::look::{look_at, look_at_all};
 use crate::report::put_report;
 use crate::scope::{Scope, from_of, is_found, put_no_such, services_of};
 use crate::watch::Watch;
+use pb_drive::fault_of;
 use pb_lan::Plan;
 use pb_print::put_refusal;
 use pb_said::CommandFault;
@@ -46,16 +47,6 @@ pub struct Asked<'a> {
     pub scope: Scope<'a>,
     /// The most ticks of each bridge for which it is waited until they settle.
     pub ticks: u32,
-}
-
-/// Why a network could not be driven.
-fn fault_of(fault: DriveFault) -> CommandFault
-    ensures { result ≢ CommandFault.Read }
-{
-    match fault {
-        DriveFault::Memory => CommandFault::Memory,
-        DriveFault::Steps | DriveFault::Events => CommandFault::Steps,
-    }
 }
 
 /// The exit status by the number of failures that part a service.

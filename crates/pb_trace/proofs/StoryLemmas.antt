@@ -10,9 +10,11 @@ use Rattle.pb_net.proofs.OneMore.{here_is}
 use Rattle.pb_net.specs.Answers.{NetView, IsAnswer}
 use Rattle.pb_net.specs.declared.did.Did.TheVariants.{Done}
 use Rattle.pb_step.specs.Steps.{HasGrown}
-use Rattle.pb_trace.proofs.TextLemmas.{join_three}
-use Rattle.pb_trace.specs.Stories.{port_named, AnswersEntry, sent, unsent, AnswersFrame, followed, waits, absent, AreStories, IsRoundStory, IsSent, IsConclusion, IsEntry, IsFollowed}
-use Rattle.pb_trace.specs.Traces.{IsToldBy, HasTraced, HasTold}
+use Rattle.pb_naming.proofs.TextLemmas.{join_three}
+use Rattle.pb_naming.specs.Numbers.{port_named}
+use Rattle.pb_trace.specs.Stories.{AnswersEntry, sent, unsent, AnswersFrame, followed, waits, absent, AreStories, IsRoundStory, IsSent, IsConclusion, IsEntry, IsFollowed}
+use Rattle.pb_print.specs.PlanFiles.{IsToldBy}
+use Rattle.pb_trace.specs.Traces.{HasTraced, HasTold}
 use Rattle.pb_trace.specs.Walks.{HasWalked}
 use Rattle.pb_trace.specs.declared.end.TraceEnd.{TraceEnd}
 use Rattle.pb_trace.specs.declared.end.TraceEnd.TheVariants.{Told, Refused, NoPort, NoFrame}

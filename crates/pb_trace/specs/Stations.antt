@@ -11,7 +11,7 @@ use Rattle.pb_lan.specs.declared.plan.Plan.{Plan}
 use Rattle.pb_lan.specs.declared.plan.CustomerPlan.{CustomerPlan}
 use Rattle.pb_lan.specs.declared.step.Step.{Step}
 use Rattle.pb_lan.specs.declared.step.Step.TheVariants.{Receive}
-use Rattle.pb_trace.specs.Places.{customer_at}
+use Rattle.pb_naming.specs.Places.{customer_at}
 
 -- the VID as which a frame came in: that of the customer port's service, or of its own tag
 abbrev pub vid_by : Plan → Option CustomerPlan → List ℕ → Option ℕ

@@ -1,25 +1,21 @@
 -- What becomes of frames that come in one after the other.
 use Rattle.std.specs.Prelude.{◌≡◌, ◌<◌, ℕ, Bool, true, false, List, [], ◌∷◌, ◌++◌, Some, None, Ok, Err, codes, length, take, slice_get, string_bytes, ◌==◌, if◌then◌else◌}
 use Rattle.std.specs.Fmt.{decimal}
-use Rattle.pb_frame.specs.Admission.{same}
+use Rattle.pb_drive.specs.Rests.{rest_line}
 use Rattle.pb_frame.specs.Hex.{IsHex}
-use Rattle.pb_lan.specs.Events.{has_place, number_of}
+use Rattle.pb_lan.specs.Events.{has_place}
 use Rattle.pb_lan.specs.declared.event.Event.TheVariants.{Poll}
 use Rattle.pb_lan.specs.declared.plan.Plan.{Plan}
 use Rattle.pb_lan.specs.declared.step.Place.TheVariants.{Customer}
 use Rattle.pb_lan.specs.declared.step.Step.{Step}
 use Rattle.pb_lan.specs.declared.step.Step.TheVariants.{Poll as Polled}
+use Rattle.pb_naming.specs.Numbers.{port_named}
 use Rattle.pb_net.specs.Answers.{NetView, IsAnswer}
 use Rattle.pb_net.specs.declared.did.Did.TheVariants.{Idle, Done}
 use Rattle.pb_net.specs.declared.fault.NetFault.TheVariants.{NoSuch}
-use Rattle.pb_said.specs.declared.fault.CommandFault.{CommandFault}
-use Rattle.pb_said.specs.declared.fault.CommandFault.TheVariants.{Steps, Memory}
 use Rattle.pb_script.specs.Answers.{idle_line, number_in}
 use Rattle.pb_settle.specs.Drives.{HasDrained, HasRested}
-use Rattle.pb_settle.specs.declared.fault.DriveFault.{DriveFault}
-use Rattle.pb_settle.specs.declared.fault.DriveFault.TheVariants.{Memory as drive_memory, Steps as drive_steps, Events as drive_events}
 use Rattle.pb_settle.specs.declared.rest.Rest.{Rest}
-use Rattle.pb_settle.specs.declared.rest.Rest.TheVariants.{Given, Settled, Unsettled}
 use Rattle.pb_step.specs.Steps.{newest_at}
 use Rattle.pb_trace.specs.Tellings.{entry_line}
 use Rattle.pb_trace.specs.Walks.{HasWalked}
@@ -32,18 +28,6 @@ use Rattle.pb_trace.specs.declared.onward.Onward.TheVariants.{Feed}
 use Rattle.pb_trace.specs.declared.round.FrameId.{FrameId}
 use Rattle.pb_trace.specs.declared.walk.Course.{Course}
 use Rattle.pb_trace.specs.declared.walk.Course.TheVariants.{Ended, GoesRound}
-
--- why the command ends where a network could not be driven
-abbrev pub fault_of : DriveFault → CommandFault
-fault_of drive_memory = Memory
-fault_of drive_steps = Steps
-fault_of drive_events = Steps
-
--- whether the bridges have settled, and after how many ticks of each
-abbrev pub rest_line : Rest → List ℕ
-rest_line Given = []
-rest_line (Settled ticks) = codes "settled yes ticks " ++ decimal ticks ++ 10 ∷ []
-rest_line (Unsettled ticks) = codes "settled no ticks " ++ decimal ticks ++ 10 ∷ []
 
 -- the bridges were let settle, where that was asked for
 abbrev pub HasBegun : Bool → NetView → NetView → List ℕ → Type 0
@@ -90,10 +74,6 @@ pub data AnswersFrame (plan : Plan) (port : ℕ) (frame : List ℕ) (fate : Fate
       → AnswersFrame plan port frame fate old new text
   waits : fate ≡ fate_ended → IsAnswer old (Poll port frame) (Ok Idle) new → text ≡ idle_line → AnswersFrame plan port frame fate old new text
   absent : fate ≡ fate_no_port → IsAnswer old (Poll port frame) (Err NoSuch) new → text ≡ [] → AnswersFrame plan port frame fate old new text
-
--- the number of the customer port of a name, or 0 where the plan has none
-abbrev pub port_named : Plan → List ℕ → ℕ
-port_named plan name = number_of (λ c. same name c.name) 1 plan.customers
 
 -- the digits are those of the frame, which has an octet at least
 abbrev pub IsSent : Entry → List ℕ → Type 0

@@ -9,11 +9,9 @@ use Rattle.pb_lan.specs.declared.record.Record.{Record}
 use Rattle.pb_lan.specs.declared.step.Mark.{Mark}
 use Rattle.pb_lan.specs.declared.step.Outcome.{Outcome}
 use Rattle.pb_lan.specs.declared.step.Outcome.TheVariants.{Relayed, Filtered, Heard}
-use Rattle.pb_lan.specs.declared.step.Place.TheVariants.{Customer}
 use Rattle.pb_lan.specs.declared.step.Step.{Step}
 use Rattle.pb_lan.specs.declared.step.Step.TheVariants.{Deliver, Receive, Take}
-use Rattle.pb_script.specs.Answers.{place_name}
-use Rattle.pb_trace.specs.Places.{link_name}
+use Rattle.pb_naming.specs.Names.{link_name, port_name}
 use Rattle.pb_trace.specs.declared.round.FrameId.{FrameId}
 
 -- the mark is that of the frame
@@ -48,7 +46,7 @@ is_delivery (Deliver item gone) = true
 is_delivery _ = false
 
 abbrev pub left_word : Plan → Record → ℕ → List ℕ
-left_word plan rec port = if list_any is_delivery (steps_of rec.customers port) then codes " " ++ place_name plan (Customer port) else []
+left_word plan rec port = if list_any is_delivery (steps_of rec.customers port) then codes " " ++ port_name plan port else []
 
 -- the customer ports that did, in the plan's order
 abbrev pub left_words : Plan → Record → List ℕ

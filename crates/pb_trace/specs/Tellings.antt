@@ -15,8 +15,10 @@ use Rattle.pb_lan.specs.declared.step.Outcome.TheVariants.{Relayed, Filtered, He
 use Rattle.pb_lan.specs.declared.step.Place.TheVariants.{Bridge, Lane, Customer}
 use Rattle.pb_lan.specs.declared.step.Step.{Step}
 use Rattle.pb_lan.specs.declared.step.Step.TheVariants.{Poll as Polled, Feed as Fed, Deliver as Delivered, Receive as Received, Transmit as Transmitted, Tick as Ticked, Admin as Administered, Take as Took, Put as Put_on}
-use Rattle.pb_script.specs.Answers.{place_name, step_line}
-use Rattle.pb_trace.specs.Places.{customer_at, bridge_name, link_name, service_name, neighbour}
+use Rattle.pb_naming.specs.Names.{bridge_name, link_name, port_name}
+use Rattle.pb_naming.specs.Places.{customer_at}
+use Rattle.pb_script.specs.Answers.{step_line}
+use Rattle.pb_trace.specs.Places.{name_of_vid, neighbour}
 use Rattle.pb_trace.specs.Stations.{is_known}
 use Rattle.pb_trace.specs.declared.onward.Onward.{Onward}
 use Rattle.pb_trace.specs.declared.onward.Onward.TheVariants.{Feed, Deliver, Receive, Transmit, Take, Put}
@@ -48,7 +50,7 @@ tag_text wire = hex_text (take 4 (drop 12 wire))
 
 -- the service of a frame, and its priority
 abbrev pub service_words : Plan → ℕ → ℕ → List ℕ
-service_words plan vid priority = codes ", " ++ service_name plan vid ++ codes " vid " ++ decimal vid ++ codes " priority " ++ decimal priority
+service_words plan vid priority = codes ", " ++ name_of_vid plan vid ++ codes " vid " ++ decimal vid ++ codes " priority " ++ decimal priority
 
 -- a customer's frame: that of its port, and the tag's priority where it has a priority tag, which comes off
 abbrev pub customer_words : Plan → CustomerPlan → List ℕ → List ℕ
@@ -131,7 +133,7 @@ abbrev pub taking_line : Plan → ℕ → Step → List ℕ
 taking_line plan lane step = indent (hops_of step) ++ lane_words plan lane ++ codes ": " ++ step_line plan (Lane lane) step
 
 abbrev pub delivery_line : Plan → ℕ → Step → List ℕ
-delivery_line plan port step = indent (hops_of step) ++ place_name plan (Customer port) ++ codes ": " ++ step_line plan (Customer port) step
+delivery_line plan port step = indent (hops_of step) ++ port_name plan port ++ codes ": " ++ step_line plan (Customer port) step
 
 -- what is told of a step, which is the last of its place's. What a customer port hands on and what a lane puts down goes on
 -- as it is, and isn't told

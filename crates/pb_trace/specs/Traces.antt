@@ -1,13 +1,12 @@
 -- The command: frames come in one after the other, and it is told where each goes.
 use Rattle.std.specs.Prelude.{◌≡◌, ℕ, Bool, List, ◌++◌, Option}
 use Rattle.std.specs.Io.KnownBytes.{Appends, Keeps}
-use Rattle.pb_lan.specs.Events.{empty_record}
+use Rattle.pb_drive.specs.Falls.{fresh}
 use Rattle.pb_lan.specs.declared.plan.Plan.{Plan}
 use Rattle.pb_lan.specs.declared.record.Record.{Record}
 use Rattle.pb_net.specs.Answers.{NetView}
+use Rattle.pb_print.specs.PlanFiles.{IsToldBy}
 use Rattle.pb_print.specs.Refusals.{PrintsRefusal}
-use Rattle.pb_service.specs.PlanFiles.{Tells, IsPlanOf}
-use Rattle.pb_service.specs.declared.port_spec.PortSpec.{PortSpec}
 use Rattle.pb_trace.specs.Stories.{HasBegun, HasJourneyed, LacksPort, LacksFrame}
 use Rattle.pb_trace.specs.Summaries.{round_line, summary_line}
 use Rattle.pb_trace.specs.declared.end.TraceEnd.{TraceEnd}
@@ -15,15 +14,6 @@ use Rattle.pb_trace.specs.declared.end.TraceEnd.TheVariants.{Told, Refused, NoPo
 use Rattle.pb_trace.specs.declared.entry.Entry.{Entry}
 use Rattle.pb_trace.specs.declared.journey.Journey.TheVariants.{Told as journey_told}
 use Rattle.pb_trace.specs.declared.round.FrameId.{FrameId}
-
--- the file tells the plan
-pub record IsToldBy (file : List ℕ) (plan : Plan) : Type 0 where
-  pub specs : List PortSpec
-  pub told : Tells file (λ document. IsPlanOf document plan specs)
-
--- a network that has taken no step
-abbrev pub fresh : Plan → NetView
-fresh plan = record { plan = plan; rec = empty_record plan }
 
 -- what is told behind the stories
 abbrev pub end_lines : Plan → Record → Option FrameId → List ℕ

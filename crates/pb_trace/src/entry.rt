@@ -1,13 +1,10 @@
 //! The frames that come in.
 
-ghost use Rattle.std.specs.Prelude.{◌≡◌, ◌<◌, List, ℕ, length, IfOk, IfSome, IfNone};
+ghost use Rattle.std.specs.Prelude.{◌<◌, List, ℕ, length, IfOk, IfSome, IfNone};
 ghost use Rattle.pb_frame.specs.Hex.{IsHex};
-ghost use Rattle.pb_lan.specs.Plans.{IsSound};
-ghost use Rattle.pb_trace.specs.Stories.{port_named};
 
 use bytes::Bytes;
 use pb_frame::{HexFault, Memory, hex_read};
-use pb_lan::Plan;
 use std::alloc::Global;
 
 /// A frame that comes in.
@@ -17,19 +14,6 @@ pub struct Entry {
     pub port: String,
     /// Its octets from the destination address on, as pairs of hexadecimal digits.
     pub hex: String,
-}
-
-/// The number of the customer port of a name, or 0 where the plan has none.
-pub(crate) fn port_named(plan: &Plan, name: &str) -> u8
-    requires { IsSound plan.now }
-    ensures { result ≡ port_named plan.now name.now }
-{
-    for (place, customer) in plan.customers.as_slice().iter().enumerate() {
-        if name == customer.name.as_str() {
-            return place as u8 + 1;
-        }
-    }
-    0
 }
 
 /// A frame of one octet at least, from pairs of hexadecimal digits.

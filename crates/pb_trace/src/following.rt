@@ -6,7 +6,8 @@ ghost use Rattle.pb_lan.specs.Plans.{IsSound};
 ghost use Rattle.pb_trace.specs.Onwards.{arrival, copied, copies_of, fetch, follows, handed_on, is_lost, landings, sendings, sent_on};
 
 use crate::onward::Onward;
-use crate::places::{customer_there, lane_from, numbered};
+use crate::places::{customer_there, lane_from};
+use pb_forest::numbered;
 use pb_frame::Memory;
 use pb_lan::{LinkPlan, NoRoom, Outcome, Plan, Step};
 

@@ -8,10 +8,10 @@ ghost use Rattle.pb_settle.specs.Drives.{HasDrained};
 ghost use Rattle.pb_step.specs.Steps.{HasGrown};
 ghost use Rattle.pb_trace.specs.Stories.{AnswersFrame, IsConclusion, IsEntry, IsFollowed, others_line, entry_number};
 
-use crate::rests::fault_of;
 use crate::telling::put_entry;
 use crate::walk::{Course, newest, walk};
 use bytes::Bytes;
+use pb_drive::fault_of;
 use pb_frame::Memory;
 use pb_lan::{Event, Place, Plan, Step};
 use pb_net::{Did, Net, NetFault};

@@ -4,10 +4,11 @@ ghost use Rattle.std.specs.Prelude.{◌≡◌, ◌++◌, List, ℕ, string_bytes
 ghost use Rattle.pb_lan.specs.Plans.{IsSound};
 ghost use Rattle.pb_trace.specs.Stories.{AnswersEntry, HasJourneyed};
 
-use crate::entry::{Entry, port_named, read_frame};
+use crate::entry::{Entry, read_frame};
 use crate::frame::{Fate, trace_frame};
 use crate::round::FrameId;
 use pb_lan::Plan;
+use pb_naming::port_named;
 use pb_net::Net;
 use pb_said::CommandFault;
 use std::alloc::Global;

@@ -1,55 +1,11 @@
 //! What stands at a bridge's port.
 
-ghost use Rattle.std.specs.Option.{option_copied};
 ghost use Rattle.std.specs.Prelude.{◌≡◌, ◌≤◌};
 ghost use Rattle.pb_lan.specs.Events.{customer_there, lane_from, link_a, link_b};
-ghost use Rattle.pb_lan.specs.Numbering.{numbered};
 ghost use Rattle.pb_lan.specs.Plans.{IsSound};
-ghost use Rattle.pb_lan.specs.Ports.{is_end_at};
-ghost use Rattle.pb_trace.specs.Places.{customer_at, link_at};
 
-use pb_lan::{CustomerPlan, End, LinkPlan, Plan};
-
-/// The thing of this number, if there is one. The first has number 1.
-pub(crate) fn numbered<T>(things: &[T], number: usize) -> Option<&T>
-    ensures { option_copied result ≡ numbered things.now number }
-{
-    if number == 0 {
-        return None;
-    }
-    things.get(number - 1)
-}
-
-/// The customer port at a bridge's port.
-pub(crate) fn customer_at(plan: &Plan, bridge: u8, port: u8) -> Option<&CustomerPlan>
-    ensures { option_copied result ≡ customer_at plan.now bridge port }
-{
-    for customer in plan.customers.as_slice() {
-        if customer.bridge == bridge && customer.port == port {
-            return Some(customer);
-        }
-    }
-    None
-}
-
-/// Whether an end of a link is this port.
-fn is_end_at(bridge: u8, port: u8, end: &End) -> bool
-    ensures { result ≡ is_end_at bridge port end.now }
-{
-    end.bridge == bridge && end.port == port
-}
-
-/// The link at a bridge's port.
-pub(crate) fn link_at(plan: &Plan, bridge: u8, port: u8) -> Option<&LinkPlan>
-    ensures { option_copied result ≡ link_at plan.now bridge port }
-{
-    for link in plan.links.as_slice() {
-        if is_end_at(bridge, port, &link.a) || is_end_at(bridge, port, &link.b) {
-            return Some(link);
-        }
-    }
-    None
-}
+use pb_lan::Plan;
+use pb_naming::is_end_at;
 
 /// The number of the customer port at a bridge's port, or 0 where none is there.
 pub(crate) fn customer_there(plan: &Plan, bridge: u8, port: u8) -> u8

@@ -4,11 +4,12 @@ ghost use Rattle.std.specs.Prelude.{◌≡◌, ◌≤◌, ◌++◌, take, drop, 
 ghost use Rattle.pb_frame.specs.Tags.{has_priority_tag, has_service_tag};
 ghost use Rattle.pb_trace.specs.Tellings.{class_words, customer_words, learnt_words, receipt_words, service_words, tag_text as text_of_tag, tagged_words, way_word, way_words};
 
-use crate::names::{bridge_name, neighbour, service_name};
-use crate::places::customer_at;
-use crate::stations::{has_service_tag, is_known, vid_at};
+use crate::names::{name_of_vid, neighbour};
+use crate::stations::{has_service_tag, is_known};
+use pb_forest::vid_numbered;
 use pb_frame::{Memory, has_priority_tag, hex_text, priority_of, vid_of};
 use pb_lan::{CustomerPlan, Learnt, Outcome, Plan, Step};
+use pb_naming::{bridge_name, customer_at};
 use std::alloc::Global;
 
 /// The four octets of a service tag, in hexadecimal.
@@ -23,7 +24,7 @@ pub(crate) fn tag_text(alloc: Global, wire: &[u8]) -> Result<String, Memory>
 fn put_service(out: &mut String, plan: &Plan, vid: u16, priority: u8) -> Result<(), Memory>
     ensures { OnOk result (string_bytes out.new ≡ string_bytes out.old ++ service_words plan.now vid priority) }
 {
-    let name = service_name(plan, vid);
+    let name = name_of_vid(plan, vid);
     write!(out, ", {name} vid {vid} priority {priority}")?;
     Ok(())
 }
@@ -38,7 +39,7 @@ fn put_customer(
 ) -> Result<(), Memory>
     ensures { OnOk result (string_bytes out.new ≡ string_bytes out.old ++ customer_words plan.now customer.now wire.now) }
 {
-    let vid = vid_at(plan, customer);
+    let vid = vid_numbered(plan, customer.service);
     if !has_priority_tag(wire) {
         return put_service(out, plan, vid, customer.pcp);
     }

@@ -5,10 +5,10 @@ ghost use Rattle.pb_lan.specs.Plans.{IsSound};
 ghost use Rattle.pb_lan.specs.Records.{steps_of};
 ghost use Rattle.pb_trace.specs.Summaries.{is_frame, is_passed_twice, passed_word, passed_words, round_line, takes};
 
-use crate::names::link_name;
-use crate::places::numbered;
+use pb_forest::numbered;
 use pb_frame::{Memory, Seq};
 use pb_lan::{Mark, Plan, Record, Step};
+use pb_naming::link_name;
 
 /// A customer's frame.
 #[derive(Clone, Copy, Debug, PartialEq, Eq)]

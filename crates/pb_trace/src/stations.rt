@@ -5,12 +5,12 @@ ghost use Rattle.std.specs.List.{list_any};
 ghost use Rattle.pb_frame.specs.Frames.{dst_of, src_of, is_group};
 ghost use Rattle.pb_frame.specs.Tags.{has_service_tag};
 ghost use Rattle.pb_lan.specs.Choice.{is_noted};
-ghost use Rattle.pb_lan.specs.Ports.{vid_at};
 ghost use Rattle.pb_trace.specs.Stations.{came_as, is_known, is_shown, is_vid, shows};
 
-use crate::places::{customer_at, numbered};
+use pb_forest::vid_numbered;
 use pb_frame::{has_service_type, vid_of};
-use pb_lan::{CustomerPlan, Learnt, Plan, Step};
+use pb_lan::{Learnt, Plan, Step};
+use pb_naming::customer_at;
 
 /// The destination address of a frame, or less where it is shorter (IEEE 802.3 clause 3.2.3).
 pub(crate) fn destination(wire: &[u8]) -> &[u8]
@@ -39,16 +39,6 @@ fn is_group(address: &[u8]) -> bool
     }
 }
 
-/// The VID of a customer port's service.
-pub(crate) fn vid_at(plan: &Plan, customer: &CustomerPlan) -> u16
-    ensures { result ≡ vid_at plan.now customer.now }
-{
-    match numbered(plan.services.as_slice(), customer.service as usize) {
-        Some(service) => service.vid,
-        None => 0,
-    }
-}
-
 /// Whether a whole service tag stands behind the addresses (IEEE 802.1ad clause 9).
 pub(crate) fn has_service_tag(wire: &[u8]) -> bool
     ensures { result ≡ has_service_tag wire.now }
@@ -61,7 +51,7 @@ fn came_as(plan: &Plan, bridge: u8, port: u8, wire: &[u8]) -> Option<u16>
     ensures { result ≡ came_as plan.now bridge port wire.now }
 {
     match customer_at(plan, bridge, port) {
-        Some(customer) => Some(vid_at(plan, customer)),
+        Some(customer) => Some(vid_numbered(plan, customer.service)),
         None if has_service_tag(wire) => Some(vid_of(wire)),
         None => None,
     }

@@ -6,10 +6,10 @@ ghost use Rattle.pb_lan.specs.Plans.{IsSound};
 ghost use Rattle.pb_lan.specs.Records.{steps_of};
 ghost use Rattle.pb_trace.specs.Summaries.{counts_text, is_delivery, left_text, left_word, left_words, losses, lost, refusals, refused, refused_by, summary_line};
 
-use crate::names::customer_name;
 use crate::round::steps_of;
 use pb_frame::{Memory, Seq};
 use pb_lan::{Outcome, Plan, Record, Step};
+use pb_naming::port_name;
 use std::alloc::Global;
 
 /// Whether a customer port got a frame by a step.
@@ -31,7 +31,7 @@ fn put_left(out: &mut String, plan: &Plan, rec: &Record, port: u8) -> Result<(),
     ensures { OnOk result (string_bytes out.new ≡ string_bytes out.old ++ left_word plan.now rec.now port) }
 {
     if has_delivered(steps_of(rec.customers.as_slice(), port as usize)) {
-        let name = customer_name(plan, port);
+        let name = port_name(plan, port);
         write!(out, " {name}")?;
     }
     Ok(())

@@ -3,13 +3,13 @@
 ghost use Rattle.std.specs.Prelude.{◌≡◌, ◌++◌, string_bytes, OnOk};
 ghost use Rattle.pb_trace.specs.Tellings.{delivery_line, direction_word, entry_line, hops_of, indent, lane_words, put_on_words, receiving_line, sending_words, spaces, tag_by, tag_words, taking_line, told, transmission_line};
 
-use crate::names::{bridge_name, customer_name, link_name, neighbour};
+use crate::names::neighbour;
 use crate::onward::Onward;
-use crate::places::customer_at;
 use crate::receipt::{put_receipt, tag_text};
 use crate::stations::has_service_tag;
 use pb_frame::{Memory, hex_text};
 use pb_lan::{Item, Place, Plan, Step};
+use pb_naming::{bridge_name, customer_at, link_name, port_name};
 use pb_script::put_done;
 use std::alloc::Global;
 
@@ -173,7 +173,7 @@ fn put_delivery(
     ensures { OnOk result (string_bytes out.new ≡ string_bytes out.old ++ delivery_line plan.now port step.now) }
 {
     put_indent(out, step)?;
-    out.push_str(customer_name(plan, port))?;
+    out.push_str(port_name(plan, port))?;
     out.push_str(": ")?;
     put_done(alloc, out, plan, Place::Customer(port), step)
 }

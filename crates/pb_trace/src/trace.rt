@@ -11,6 +11,7 @@ use crate::journey::{Journey, travel};
 use crate::rests::begin;
 use crate::round::{FrameId, put_round};
 use crate::summary::put_summary;
+use pb_drive::fresh;
 use pb_frame::Memory;
 use pb_lan::Plan;
 use pb_net::Net;
@@ -72,7 +73,7 @@ fn put_trace(
     requires { IsSound plan.now }
     ensures { IfOk result (λ end. (text : List ℕ) × (string_bytes out.new ≡ string_bytes out.old ++ text) × AnswersTrace plan.now entries.now settles end text) }
 {
-    let net = Net::new(alloc, plan.clone()?)?;
+    let net = fresh(alloc, plan)?;
     put_stories(alloc, out, plan, net, entries, settles)
 }
 

@@ -1,11 +1,10 @@
 -- Texts of several things, one behind the other.
-use Rattle.std.proofs.Common.{◌≡◌, ◌≤◌, ◌<◌, ◌+◌, ◌==◌, ℕ, zero, suc, List, [], ◌∷◌, ◌++◌, drop, flat_map, length, slice_get, get_or, codes, Some, Ok, Err, OnOk, IsSome, refl, sym, ap, subst, ◌∙◌, arith, rules, append_assoc, append-nil}
+use Rattle.std.proofs.Common.{◌≡◌, ◌≤◌, ◌<◌, ◌+◌, ◌==◌, ℕ, zero, suc, List, [], ◌∷◌, ◌++◌, drop, flat_map, length, slice_get, get_or, codes, Some, IsSome, refl, sym, ap, subst, ◌∙◌, arith, rules, append_assoc, append-nil}
 use Rattle.std.proofs.lemmas.List.{drop_all, length-map}
 use Rattle.std.specs.Fmt.{decimal}
-use Rattle.std.specs.declared.result.Result.{Result}
 use Rattle.pb_frame.proofs.Lists.{Some-injective, first-finds, eqb-refl}
+use Rattle.pb_drive.specs.Rests.{IsRestIn}
 use Rattle.pb_lan.specs.LastShapes.{last_shape}
-use Rattle.pb_lan.specs.Numbering.{numbers_from}
 use Rattle.pb_lan.specs.declared.plan.Plan.{Plan}
 use Rattle.pb_lan.specs.declared.plan.Spanning.{Spanning}
 use Rattle.pb_lan.specs.declared.plan.Spanning.TheVariants.{Fixed, Rstp}
@@ -20,34 +19,8 @@ use Rattle.pb_rstp.specs.Readings.{roles_of, states_of}
 use Rattle.pb_rstp.specs.declared.port.Port.{Port}
 use Rattle.pb_rstp.specs.declared.role.Role.{Role}
 use Rattle.pb_tree.specs.TreeTexts.{designated_at, port_words, port_line, IsServiceTextAt, AreServiceTexts, IsGivenText, IsProtocolText, IsTreeText}
-use Rattle.pb_tree.specs.Trees.{IsRestIn}
 use Rattle.pb_settle.specs.declared.rest.Rest.{Rest}
 use Rattle.pb_settle.specs.declared.rest.Rest.TheVariants.{Given, Settled, Unsettled}
-
--- the numbers from here on
-numbers_step : {X : Type 0} (xs : List X) (k n : ℕ) → k < length xs → numbers_from n (drop k xs) ≡ n ∷ numbers_from (n + 1) (drop (k + 1) xs)
-numbers_step [] k n h = absurd (omega (arith, h))
-numbers_step (x ∷ xs) zero n h = refl
-numbers_step (x ∷ xs) (suc k) n h =
-    let e : suc (k + 1) ≡ suc k + 1 = omega arith in
-    subst (λ m. numbers_from n (drop k xs) ≡ n ∷ numbers_from (n + 1) (drop m (x ∷ xs))) e (numbers_step xs k n (omega (arith, h)))
-
--- the text so far, and that of the numbers from here on, are the text of all
-pub numbers_more : {X : Type 0} (f : ℕ → List ℕ) (xs : List X) (k : ℕ) (out more all : List ℕ) → k < length xs → more ≡ out ++ f (k + 1)
-    → out ++ flat_map f (numbers_from (k + 1) (drop k xs)) ≡ all → more ++ flat_map f (numbers_from (k + 1 + 1) (drop (k + 1) xs)) ≡ all
-numbers_more f xs k out more all within grown so_far =
-    let rest = flat_map f (numbers_from (k + 1 + 1) (drop (k + 1) xs)) in
-    ap (λ z. z ++ rest) grown ∙ append_assoc out (f (k + 1)) rest ∙ sym (ap (λ ns. out ++ flat_map f ns) (numbers_step xs k (k + 1) within)) ∙ so_far
-
-pub numbers_end : {X : Type 0} (f : ℕ → List ℕ) (xs : List X) (k : ℕ) (out all : List ℕ) → length xs ≤ k
-    → out ++ flat_map f (numbers_from (k + 1) (drop k xs)) ≡ all → out ≡ all
-numbers_end f xs k out all past so_far =
-    sym (append-nil out) ∙ sym (ap (λ ys. out ++ flat_map f (numbers_from (k + 1) ys)) (drop_all k xs past)) ∙ so_far
-
--- what holds of a result that is Ok gives another fact of it
-pub on_ok : {A E P Q : Type 0} (r : Result A E) → (P → Q) → OnOk r P → OnOk r Q
-on_ok (Ok x) f p = f p
-on_ok (Err e) f p = p
 
 -- the bridges have machines where they decide the states
 pub machine_there : (plan : Plan) (n : ℕ) (steps : List Step) → plan.spanning ≡ Rstp → machine_in plan n steps ≡ Some (machine_of plan n steps)
@@ -138,11 +111,7 @@ shown_same name name' port link link' role role' state state' cost cost' n l r s
     ap (λ z. shown_words z port link role state cost) n ∙ ap (λ z. shown_words name' port z role state cost) l ∙ ap (λ z. shown_words name' port link' z state cost) r
     ∙ ap (λ z. shown_words name' port link' role' z cost) s ∙ ap (λ z. shown_words name' port link' role' state' z) k
 
--- three texts, one behind the other
-pub join_three : (old a b c one two three : List ℕ) → one ≡ old ++ a → two ≡ one ++ b → three ≡ two ++ c → three ≡ old ++ (a ++ b ++ c)
-join_three old a b c one two three e f g =
-    g ∙ ap (λ z. z ++ c) (f ∙ ap (λ z. z ++ b) e ∙ append_assoc old a b) ∙ append_assoc old (a ++ b) c
-
+-- the thing at a place
 pub item_is : {X : Type 0} (xs : List X) (k : ℕ) (x : X) → slice_get xs k ≡ Some x → x ≡ get_or xs k x
 item_is [] k x h = cc
 item_is (y ∷ xs) zero x h = sym (Some-injective h)

@@ -17,6 +17,9 @@ use Rattle.pb_lan.specs.declared.record.Record.{Record}
 use Rattle.pb_lan.specs.declared.shape.PortState.{PortState}
 use Rattle.pb_lan.specs.declared.shape.Rooted.{Rooted}
 use Rattle.pb_lan.specs.declared.shape.Shape.{Shape}
+use Rattle.pb_drive.specs.Rests.{rest_line}
+use Rattle.pb_naming.specs.Names.{bridge_name, link_name, role_word, state_word}
+use Rattle.pb_naming.specs.Places.{link_at}
 use Rattle.pb_print.specs.ForestTexts.{IsForestText}
 use Rattle.pb_rstp.specs.Ports.{Machine, is_root}
 use Rattle.pb_rstp.specs.Profile.{machine_of}
@@ -26,13 +29,7 @@ use Rattle.pb_rstp.specs.declared.role.Role.{Role}
 use Rattle.pb_rstp.specs.declared.role.Role.TheVariants.{Disabled, Root, Designated, Alternate, Backup}
 use Rattle.pb_settle.specs.declared.rest.Rest.{Rest}
 use Rattle.pb_settle.specs.declared.rest.Rest.TheVariants.{Given, Settled, Unsettled}
-use Rattle.pb_tree.specs.Names.{bridge_name, link_name, id_name, role_word, state_word, has_end, cost_at}
-
--- whether the bridges are settled, and after how many ticks of each
-abbrev pub rest_line : Rest → List ℕ
-rest_line Given = []
-rest_line (Settled ticks) = codes "settled yes ticks " ++ decimal ticks ++ 10 ∷ []
-rest_line (Unsettled ticks) = codes "settled no ticks " ++ decimal ticks ++ 10 ∷ []
+use Rattle.pb_tree.specs.Names.{id_name, link_name_at, path_cost_at}
 
 -- another port serves the link of the port
 abbrev pub is_served : Role → Bool
@@ -45,16 +42,6 @@ is_served Designated = false
 -- the bridge that serves the link of the port: that of the vector which the port stores, else its own
 abbrev pub designated_at : Machine → ℕ → Role → ℕ
 designated_at machine port role = if is_served role then unwrap_or (option_map (λ v. v.bridge) (stored_at machine port)) machine.id else machine.id
-
--- the link of a bridge's port, and the port's path cost
-abbrev pub link_at : Plan → ℕ → ℕ → Option LinkPlan
-link_at plan bridge port = first (has_end bridge port) plan.links
-
-abbrev pub link_name_at : Plan → ℕ → ℕ → List ℕ
-link_name_at plan bridge port = unwrap_or (option_map (λ l. l.name) (link_at plan bridge port)) []
-
-abbrev pub path_cost_at : Plan → ℕ → ℕ → ℕ
-path_cost_at plan bridge port = unwrap_or (option_map (cost_at bridge port) (link_at plan bridge port)) 0
 
 -- the line of a port to another bridge
 abbrev pub port_words : Plan → ℕ → ℕ → Role → PortState → ℕ → List ℕ

@@ -1,42 +1,13 @@
 //! The trees where the plan gives the states of the ports.
 
-ghost use Rattle.std.specs.Option.{option_copied};
-ghost use Rattle.std.specs.Prelude.{◌≡◌, ◌++◌, flat_map, string_bytes, unwrap_or, OnOk};
-ghost use Rattle.pb_lan.specs.Numbering.{numbered};
+ghost use Rattle.std.specs.Prelude.{◌≡◌, ◌++◌, string_bytes, OnOk};
 ghost use Rattle.pb_lan.specs.Plans.{IsSound};
-ghost use Rattle.pb_lan.specs.Shapes.{state_in};
-ghost use Rattle.pb_lan.specs.declared.shape.PortState.TheVariants.{Discarding};
 ghost use Rattle.pb_tree.specs.TreeTexts.{given_port_line, given_bridge_lines, given_lines};
 
-use crate::names::{bridge_name, link_at, state_word};
-use pb_frame::{Memory, Seq};
-use pb_lan::{LinkPlan, Plan, PortState, Shape};
-
-/// The state in a list of those of a bridge's ports, Discarding where it has none.
-fn state_of(states: &[PortState], port: u8) -> PortState
-    ensures { result ≡ unwrap_or (numbered states.now port) Discarding }
-{
-    if port == 0 {
-        return PortState::Discarding;
-    }
-    match states.get(port as usize - 1) {
-        Some(state) => *state,
-        None => PortState::Discarding,
-    }
-}
-
-/// The state of a port in a shape.
-fn state_in(shape: &Shape, bridge: u8, port: u8) -> PortState
-    ensures { result ≡ state_in shape.now bridge port }
-{
-    if bridge == 0 {
-        return PortState::Discarding;
-    }
-    match shape.states.as_slice().get(bridge as usize - 1) {
-        Some(states) => state_of(states.as_slice(), port),
-        None => PortState::Discarding,
-    }
-}
+use pb_forest::state_in;
+use pb_frame::Memory;
+use pb_lan::{Plan, Shape};
+use pb_naming::{bridge_name, link_at, state_word};
 
 /// Puts the line of a bridge's port behind a text, where a link is there.
 fn put_port(

@@ -2,7 +2,6 @@
 #![tactic(auto)]
 
 mod end;
-mod falls;
 mod given;
 mod names;
 mod protocol;

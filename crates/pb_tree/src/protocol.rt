@@ -7,26 +7,14 @@ ghost use Rattle.pb_rstp.specs.Ports.{port_of};
 ghost use Rattle.pb_frame.specs.Lists.{first};
 ghost use Rattle.pb_rstp.specs.Ports.{is_root};
 ghost use Rattle.pb_rstp.specs.Readings.{roles_of};
-ghost use Rattle.pb_tree.specs.TreeTexts.{rest_line, is_served, designated_at, port_words, port_line, root_port_words, bridge_line, bridge_lines, protocol_lines};
+ghost use Rattle.pb_tree.specs.TreeTexts.{is_served, designated_at, port_words, port_line, root_port_words, bridge_line, bridge_lines, protocol_lines};
 
-use crate::names::{bridge_name, link_name_at, path_cost_at, put_id, role_word, state_word};
+use crate::names::{link_name_at, path_cost_at, put_id};
 use pb_frame::Memory;
 use pb_lan::{Plan, PortState};
+use pb_naming::{bridge_name, role_word, state_word};
 use pb_net::Net;
 use pb_rstp::{Role, Rstp};
-use pb_settle::Rest;
-
-/// Puts whether the bridges are settled behind a text.
-pub(crate) fn put_rest(out: &mut String, rest: Rest) -> Result<(), Memory>
-    ensures { OnOk result (string_bytes out.new ≡ string_bytes out.old ++ rest_line rest) }
-{
-    match rest {
-        Rest::Given => {}
-        Rest::Settled(ticks) => writeln!(out, "settled yes ticks {ticks}")?,
-        Rest::Unsettled(ticks) => writeln!(out, "settled no ticks {ticks}")?,
-    }
-    Ok(())
-}
 
 /// Whether another port serves the link of a port with this role.
 fn is_served(role: Role) -> bool

@@ -4,10 +4,10 @@ ghost use Rattle.std.specs.Prelude.{◌≡◌, ◌<◌, ◌++◌, List, ℕ, len
 ghost use Rattle.pb_lan.specs.Plans.{IsSound};
 ghost use Rattle.pb_tree.specs.TreeTexts.{up_at, depth_at, up_line, up_lines, AreServiceTexts, IsServiceTextAt};
 
-use crate::names::{bridge_name, link_name};
 use pb_forest::forest;
 use pb_frame::Memory;
 use pb_lan::{Plan, Rooted, Shape};
+use pb_naming::{bridge_name, link_name};
 use std::alloc::Global;
 
 /// The link from a bridge to its parent, if it has one.

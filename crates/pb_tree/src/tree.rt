@@ -2,40 +2,27 @@
 
 ghost use Rattle.std.specs.Prelude.{◌≡◌, ◌≢◌, ◌++◌, List, ℕ, string_bytes, OnOk, IfOk, IfErr};
 ghost use Rattle.std.specs.Io.KnownBytes.{Appends, Keeps};
+ghost use Rattle.pb_drive.specs.Rests.{IsRestIn};
 ghost use Rattle.pb_lan.specs.LastShapes.{last_shape};
 ghost use Rattle.pb_lan.specs.Plans.{IsSound};
 ghost use Rattle.pb_print.specs.ForestTexts.{IsForestText};
-ghost use Rattle.pb_settle.specs.Drives.{HasRested};
 ghost use Rattle.pb_tree.specs.TreeTexts.{IsGivenText, IsTreeText};
-ghost use Rattle.pb_tree.specs.Trees.{AnswersDrawing, HasDrawn, HasTold, IsDrawingFrom, IsRestIn};
+ghost use Rattle.pb_tree.specs.Trees.{AnswersDrawing, HasDrawn, HasTold, IsDrawingFrom};
 
 use crate::end::TreeEnd;
-use crate::falls::falls;
 use crate::given::put_given;
-use crate::protocol::{put_protocol, put_rest};
+use crate::protocol::put_protocol;
 use crate::services::put_services;
+use pb_drive::{falls, fresh, put_rest, rests, shape_of};
 use pb_frame::Memory;
-use pb_lan::{Plan, Record, Shape, Spanning};
+use pb_lan::{Plan, Record, Spanning};
 use pb_net::Net;
 use pb_print::{put_forest, write_refusal};
 use pb_said::CommandFault;
 use pb_service::read_plan;
-use pb_settle::{DriveFault, Rest, settle};
-use pb_steps::{Tallies, last_shape};
+use pb_settle::Rest;
 use std::alloc::Global;
 use std::io::Write;
-
-/// The most events that are done besides ticks: more than the places of a plan file take steps.
-const MOST_EVENTS: u64 = 1_000_000_000;
-
-/// The states of all ports after the steps of a record.
-fn shape_of(alloc: Global, plan: &Plan, rec: &Record) -> Result<Shape, Memory>
-    requires { IsSound plan.now }
-    ensures { IfOk result (λ shape. shape ≡ last_shape plan.now rec.now) }
-{
-    let tallies = Tallies::of(alloc, rec)?;
-    last_shape(alloc, plan, &tallies)
-}
 
 /// Puts whether the last shape of a record is a forest for each service behind a text.
 fn put_last_forest(alloc: Global, out: &mut String, plan: &Plan, rec: &Record) -> Result<(), Memory>
@@ -80,21 +67,6 @@ fn put_trees(
     }
 }
 
-/// Lets the bridges of a network settle.
-fn rests(alloc: Global, net: &mut Net, plan: &Plan, ticks: u32) -> Result<Rest, CommandFault>
-    requires sound { IsSound plan.now }
-    requires plan { net.old.plan ≡ plan.now }
-    ensures plan { net.new.plan ≡ plan.now }
-    ensures rest { IfOk result (λ rest. IsRestIn plan.now.spanning rest) }
-    ensures ok { IfOk result (λ rest. HasRested ticks 1000000000 rest net.old net.new) }
-{
-    match settle(alloc, net, plan, ticks, MOST_EVENTS) {
-        Ok(rest) => Ok(rest),
-        Err(DriveFault::Memory) => Err(CommandFault::Memory),
-        Err(DriveFault::Steps | DriveFault::Events) => Err(CommandFault::Steps),
-    }
-}
-
 /// Lets the bridges of a network settle, and puts the trees behind a text.
 fn put_rested(
     alloc: Global,
@@ -123,7 +95,7 @@ fn put_drawing(
     requires { IsSound plan.now }
     ensures { IfOk result (λ lacking. (text : List ℕ) × (string_bytes out.new ≡ string_bytes out.old ++ text) × AnswersDrawing plan.now words.now ticks lacking text) }
 {
-    let mut net = Net::new(alloc, plan.clone()?)?;
+    let mut net = fresh(alloc, plan)?;
     match falls(alloc, &mut net, plan, words)? {
         Some(index) => Ok(Some(index)),
         None => {

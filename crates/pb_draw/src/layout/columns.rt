@@ -3,8 +3,8 @@
 use super::levels::levels;
 use super::order::centres;
 use super::slots::{Side, slot_of};
-use crate::active::numbered;
 use crate::table::{Table, number_at};
+use pb_forest::numbered;
 use pb_lan::{CustomerPlan, LinkPlan, Plan, Shape};
 
 /// Free room between two boxes of a level.

@@ -1,23 +1,12 @@
 //! At which level each bridge stands: how many links lead up to the root of its tree.
 
-ghost use Rattle.std.specs.Prelude.{◌≡◌};
-ghost use Rattle.pb_rstp.specs.Vectors.{bridge_id};
-
-use crate::active::are_ends_forwarding;
 use crate::table::{Table, number_at};
-use byteorder::{BigEndian, ByteOrder};
-use pb_frame::Mac;
+use pb_forest::are_ends_forwarding;
 use pb_lan::{BridgePlan, Plan, Shape, Spanning};
+use pb_naming::bridge_id;
 
 /// The level of a bridge that has none yet.
 pub(crate) const NOWHERE: u32 = u32::MAX;
-
-/// The identifier of a bridge (IEEE 802.1D-2004 clause 9.2.5).
-fn bridge_id(priority: u16, address: Mac) -> u64
-    ensures { result ≡ bridge_id priority address.0 }
-{
-    priority as u64 * 0x1_0000_0000_0000 + BigEndian::read_uint(&address.0, 6)
-}
 
 /// What tells which bridge of a tree is its root: the lowest. Where the bridges decide the states it is their identifier
 /// (IEEE 802.1D-2004 clause 9.2.5).

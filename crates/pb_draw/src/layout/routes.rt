@@ -4,8 +4,8 @@ use super::Layout;
 use super::columns::label_width;
 use super::slots::{Side, is_long, lands_on_top, lower_level, upper_level};
 use super::tracks::{lane, long_before, track_of};
-use crate::active::numbered;
 use crate::scene::{Lane, Point, Route};
+use pb_forest::numbered;
 use pb_lan::{LinkPlan, Plan};
 
 /// How far below the upper edge of a box the number of a link's port stands.

@@ -1,6 +1,6 @@
 use Rattle.std.proofs.Common.{ℕ, List, Bor, map, subst}
+use Rattle.std.proofs.lemmas.Result.{on_ok_weaker}
 use Rattle.pb_control.specs.Texts.{view_lines, AreLines}
-use Rattle.pb_control.proofs.LineTexts.{on_ok}
 use Rattle.pb_control.proofs.tree.put_tree.Goals as goal
 
 abbrev seen : Bor (List ℕ) × ℕ → List ℕ × ℕ
@@ -9,7 +9,7 @@ seen n = (n.0.now, n.1)
 pub returns : goal.returns
 returns g c =
     let told = g.B.Board.told_views c.args.board.now in
-    on_ok c.put_bridges.result (λ e. (
+    on_ok_weaker c.put_bridges.result (λ e. (
       e.0,
       e.1,
       record {

@@ -1,6 +1,6 @@
 use Rattle.std.proofs.Common.{[], string_bytes, refl, sym, append-nil}
 use Rattle.pb_settle.proofs.DriveLemmas.{done-plan}
-use Rattle.pb_tree.specs.Trees.{fresh}
+use Rattle.pb_drive.specs.Falls.{fresh}
 use Rattle.pb_draw.proofs.draw.put_fallen.Goals as goal
 
 pub put_rested-requires-clause-plan : goal.put_rested-requires-clause-plan

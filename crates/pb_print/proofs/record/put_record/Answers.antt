@@ -1,13 +1,13 @@
 use Rattle.std.proofs.Common.{◌++◌, ◌∙◌, string_bytes, refl, ap, subst, append_assoc}
+use Rattle.std.proofs.lemmas.Result.{on_ok_weaker}
 use Rattle.pb_print.specs.ForestTexts.{IsForestText}
-use Rattle.pb_print.proofs.CheckLemmas.{on_ok}
 use Rattle.pb_print.proofs.record.put_record.Goals as goal
 
 pub returns : goal.returns
 returns c =
     let old = string_bytes c.args.out.now in
     let k = c.in_ok-put_counts.ensures in
-    on_ok c.put_forest.result (λ f. (
+    on_ok_weaker c.put_forest.result (λ f. (
       k.0 ++ f.0,
       f.1 ∙ ap (λ z. z ++ f.0) k.1 ∙ append_assoc old k.0 f.0,
       record {

@@ -1,11 +1,11 @@
 use Rattle.std.proofs.Common.{◌≢◌, refl, sym, subst, ◌∙◌}
 use Rattle.std.proofs.lemmas.Result.{err_from_is_err_and}
+use Rattle.std.proofs.lemmas.Result.{on_ok_weaker}
 use Rattle.pb_lan.specs.Records.{IsLawfulRecord}
 use Rattle.pb_relay.specs.Protocol.{spanning_tree}
 use Rattle.pb_relay.specs.Settled.{TellsSettled}
 use Rattle.pb_step.specs.Steps.{HaveAnswered, PrintsStepsBeginning}
 use Rattle.pb_said.specs.declared.fault.CommandFault.TheVariants.{Write, Memory}
-use Rattle.pb_print.proofs.CheckLemmas.{on_ok}
 use Rattle.pb_step.proofs.StepLemmas.{steps_unread, reported, unreported, part_reported, on_err}
 use Rattle.pb_step.proofs.steps.drive.Goals as goal
 
@@ -41,7 +41,7 @@ returns-in-Ok-clause-ok g c =
     let net = c.answer_steps.new.net in
     let answered = subst (λ p. HaveAnswered c.args.limit p input before now net) c.in_ok-names.ensures c.in_ok-answer_steps.ensures.ok in
     let lawful = subst (λ p. IsLawfulRecord spanning_tree p c.finish-rec.result) (c.in_ok-answer_steps.ensures.plan ∙ c.in_ok-names.ensures) c.finish-rec.ensures.lawful in
-    on_ok c.write_report.result
+    on_ok_weaker c.write_report.result
     (λ r. reported c.args.limit plan input before now (g.W.Write.contents c.write_report.new.writer) net c.finish-rec.result r.0 answered c.finish-rec.ensures.record lawful r.1 r.2)
     c.write_report.ensures.ok
 

@@ -1,6 +1,6 @@
 use Rattle.std.proofs.Common.{◌++◌, ◌∙◌, string_bytes, refl, ap, append_assoc}
+use Rattle.std.proofs.lemmas.Result.{on_ok_weaker}
 use Rattle.pb_print.specs.RecordTexts.{settled_line}
-use Rattle.pb_print.proofs.CheckLemmas.{on_ok}
 use Rattle.pb_step.proofs.steps.put_report.Goals as goal
 
 pub returns : goal.returns
@@ -8,7 +8,7 @@ returns c =
     let old = string_bytes c.args.out.now in
     let k = c.in_ok-put_record.ensures in
     let line = settled_line c.args.settled in
-    on_ok c.put_settled.result (λ e. (
+    on_ok_weaker c.put_settled.result (λ e. (
       k.0 ++ line,
       e ∙ ap (λ z. z ++ line) k.1 ∙ append_assoc old k.0 line,
       record {

@@ -1,7 +1,8 @@
 use Rattle.std.proofs.Common.{◌≡◌, ◌++◌, List, [], ◌∷◌, flat_map, string_bytes, ap, ◌∙◌}
 use Rattle.std.specs.List.{zip}
 use Rattle.std.specs.Prelude.{codes, Some}
-use Rattle.pb_survive.specs.Reports.{port_name, lost_text}
+use Rattle.pb_naming.specs.Names.{port_name}
+use Rattle.pb_survive.specs.Reports.{lost_text}
 use Rattle.pb_survive.specs.declared.sites.Site.{Site}
 use Rattle.pb_survive.proofs.ListLemmas.{rejoin}
 use Rattle.pb_survive.proofs.report.put_cut_off.Goals as goal

@@ -1,5 +1,5 @@
 use Rattle.pb_trace.proofs.StoryLemmas.{frame_followed, port_there, port_grew}
-use Rattle.pb_trace.proofs.TextLemmas.{if_ok}
+use Rattle.std.proofs.lemmas.Result.{IfOk-weaker}
 use Rattle.pb_trace.proofs.frame.trace_frame.Goals as goal
 
 pub follow-requires-clause-has : goal.follow-requires-clause-has
@@ -15,5 +15,5 @@ follow-requires-clause-grown c =
 pub returns-in-Ok-Done-clause-ok : goal.returns-in-Ok-Done-clause-ok
 returns-in-Ok-Done-clause-ok c =
     let h = rw c.in-Ok-Done.field-0-is at c.in-Ok-Done.ensures in
-    if_ok c.follow.result
+    IfOk-weaker c.follow.result _ _
     (λ fate f. (f.0, f.1, frame_followed c.args.plan.now c.args.port c.args.frame fate c.in-Ok-Done.field-0-0 c.args.net.now c.step.new.self c.follow.new.net f.0 h f.2)) c.follow.ensures.ok

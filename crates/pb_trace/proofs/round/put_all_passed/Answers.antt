@@ -1,6 +1,6 @@
 use Rattle.std.proofs.Common.{◌<◌, string_bytes, subst}
 use Rattle.pb_trace.specs.Summaries.{passed_word}
-use Rattle.pb_trace.proofs.TextLemmas.{numbers_more}
+use Rattle.pb_naming.proofs.TextLemmas.{numbers_more}
 use Rattle.pb_trace.proofs.round.put_all_passed.Goals as goal
 
 pub loop-place-preserved : goal.loop-place-preserved

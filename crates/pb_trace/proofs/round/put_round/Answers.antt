@@ -1,7 +1,7 @@
 use Rattle.std.proofs.Common.{◌++◌, ◌∷◌, [], string_bytes, sym, ap, ◌∙◌}
 use Rattle.std.specs.Prelude.{codes}
 use Rattle.pb_trace.specs.Summaries.{passed_words, round_line}
-use Rattle.pb_trace.proofs.TextLemmas.{join_three}
+use Rattle.pb_naming.proofs.TextLemmas.{join_three}
 use Rattle.pb_trace.proofs.round.put_round.Goals as goal
 
 pub returns : goal.returns

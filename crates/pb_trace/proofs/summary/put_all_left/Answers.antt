@@ -1,6 +1,6 @@
 use Rattle.std.proofs.Common.{◌<◌, string_bytes, subst}
 use Rattle.pb_trace.specs.Summaries.{left_word}
-use Rattle.pb_trace.proofs.TextLemmas.{numbers_more}
+use Rattle.pb_naming.proofs.TextLemmas.{numbers_more}
 use Rattle.pb_trace.proofs.summary.put_all_left.Goals as goal
 
 pub loop-place-preserved : goal.loop-place-preserved

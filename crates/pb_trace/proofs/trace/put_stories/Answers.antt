@@ -1,6 +1,6 @@
 use Rattle.std.proofs.Common.{◌++◌, string_bytes, refl}
 use Rattle.pb_trace.specs.Traces.{end_lines}
-use Rattle.pb_trace.proofs.TextLemmas.{join_three}
+use Rattle.pb_naming.proofs.TextLemmas.{join_three}
 use Rattle.pb_trace.proofs.trace.put_stories.Goals as goal
 
 pub returns-in_ok-put_end-in-Told : goal.returns-in_ok-put_end-in-Told

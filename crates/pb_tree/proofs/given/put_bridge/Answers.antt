@@ -1,7 +1,7 @@
 use Rattle.std.proofs.Common.{string_bytes}
 use Rattle.pb_lan.specs.Ports.{local_ports}
 use Rattle.pb_tree.specs.TreeTexts.{given_port_line}
-use Rattle.pb_tree.proofs.TextLemmas.{numbers_more}
+use Rattle.pb_naming.proofs.TextLemmas.{numbers_more}
 use Rattle.pb_tree.proofs.given.put_bridge.Goals as goal
 
 pub loop-place-preserved : goal.loop-place-preserved

@@ -1,6 +1,6 @@
 use Rattle.std.proofs.Common.{◌<◌, string_bytes, subst}
 use Rattle.pb_tree.specs.TreeTexts.{given_bridge_lines}
-use Rattle.pb_tree.proofs.TextLemmas.{numbers_more}
+use Rattle.pb_naming.proofs.TextLemmas.{numbers_more}
 use Rattle.pb_tree.proofs.given.put_given.Goals as goal
 
 pub loop-place-preserved : goal.loop-place-preserved

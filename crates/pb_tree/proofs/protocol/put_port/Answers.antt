@@ -1,6 +1,7 @@
 use Rattle.std.proofs.Common.{◌≡◌, ◌∷◌, [], ◌++◌, string_bytes, ap, ◌∙◌, append_assoc}
 use Rattle.pb_tree.specs.Names.{id_name}
-use Rattle.pb_tree.proofs.TextLemmas.{shown_words, shown_same, join_three}
+use Rattle.pb_naming.proofs.TextLemmas.{join_three}
+use Rattle.pb_tree.proofs.TextLemmas.{shown_words, shown_same}
 use Rattle.pb_tree.proofs.protocol.put_port.Goals as goal
 
 pub returns : goal.returns

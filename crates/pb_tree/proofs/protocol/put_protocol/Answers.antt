@@ -2,7 +2,8 @@ use Rattle.std.proofs.Common.{◌≡◌, ◌<◌, ◌+◌, ◌++◌, string_byte
 use Rattle.pb_lan.specs.Records.{steps_of}
 use Rattle.pb_rstp.specs.Profile.{machine_of}
 use Rattle.pb_tree.specs.TreeTexts.{bridge_lines, own_lines}
-use Rattle.pb_tree.proofs.TextLemmas.{numbers_more, machine_there, machine_is}
+use Rattle.pb_naming.proofs.TextLemmas.{numbers_more}
+use Rattle.pb_tree.proofs.TextLemmas.{machine_there, machine_is}
 use Rattle.pb_tree.proofs.protocol.put_protocol.Goals as goal
 
 pub unreachable-requires : goal.unreachable-requires

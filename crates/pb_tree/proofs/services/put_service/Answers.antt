@@ -1,10 +1,11 @@
 use Rattle.std.proofs.Common.{◌≡◌, ◌++◌, [], get_or, string_bytes, inl, inr, refl, sym, ap, subst, ◌∙◌, append-nil}
+use Rattle.std.proofs.lemmas.Result.{on_ok_weaker}
 use Rattle.pb_lan.specs.Forests.{IsForest, Shows}
 use Rattle.pb_lan.specs.declared.plan.ServicePlan.{ServicePlan}
 use Rattle.pb_net.proofs.OneMore.{here_is}
 use Rattle.pb_print.proofs.CheckLemmas.{vid_there}
 use Rattle.pb_tree.specs.TreeTexts.{up_lines}
-use Rattle.pb_tree.proofs.TextLemmas.{item_there, item_is, on_ok}
+use Rattle.pb_tree.proofs.TextLemmas.{item_there, item_is}
 use Rattle.pb_tree.proofs.services.put_service.Goals as goal
 
 pub returns-in_default : goal.returns-in_default
@@ -27,7 +28,7 @@ returns c =
     let there = here_is plan.services c.args.place s c.requires.there is in
     let vid = vid_there plan c.args.place s c.requires.there is in
     let shows = rw c.in-Some.is at c.in_ok-rooted.ensures in
-    on_ok c.put_ups.result (λ e. (
+    on_ok_weaker c.put_ups.result (λ e. (
       up_lines plan s.name rooted,
       e ∙ ap (λ n. old ++ up_lines plan n rooted) (c.as_str.ensures ∙ ap (λ (x : ServicePlan). x.name) (sym c.index-as_slice-place.is)),
       (s, there, inl (rooted, subst (λ v. Shows plan shape v rooted) vid shows, refl)),

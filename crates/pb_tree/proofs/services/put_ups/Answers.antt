@@ -1,6 +1,6 @@
 use Rattle.std.proofs.Common.{◌<◌, string_bytes, subst}
 use Rattle.pb_tree.specs.TreeTexts.{up_line}
-use Rattle.pb_tree.proofs.TextLemmas.{numbers_more}
+use Rattle.pb_naming.proofs.TextLemmas.{numbers_more}
 use Rattle.pb_tree.proofs.services.put_ups.Goals as goal
 
 pub loop-place-preserved : goal.loop-place-preserved

@@ -1,6 +1,6 @@
 use Rattle.std.proofs.Common.{[], string_bytes, sym, append-nil}
 use Rattle.pb_settle.proofs.DriveLemmas.{done-plan}
-use Rattle.pb_tree.specs.Trees.{fresh}
+use Rattle.pb_drive.specs.Falls.{fresh}
 use Rattle.pb_tree.proofs.tree.put_drawing.Goals as goal
 
 pub put_rested-requires-clause-plan : goal.put_rested-requires-clause-plan

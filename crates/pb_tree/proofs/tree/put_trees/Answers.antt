@@ -1,8 +1,11 @@
 use Rattle.std.proofs.Common.{◌++◌, string_bytes, refl, subst}
+use Rattle.std.proofs.lemmas.Result.{on_ok_weaker}
 use Rattle.pb_lan.specs.LastShapes.{last_shape}
 use Rattle.pb_print.specs.ForestTexts.{IsForestText}
-use Rattle.pb_tree.specs.TreeTexts.{rest_line, protocol_lines}
-use Rattle.pb_tree.proofs.TextLemmas.{join_three, on_ok, protocol_tree}
+use Rattle.pb_drive.specs.Rests.{rest_line}
+use Rattle.pb_tree.specs.TreeTexts.{protocol_lines}
+use Rattle.pb_naming.proofs.TextLemmas.{join_three}
+use Rattle.pb_tree.proofs.TextLemmas.{protocol_tree}
 use Rattle.pb_tree.proofs.tree.put_trees.Goals as goal
 
 pub returns-in_ok-put_protocol-in-Rstp : goal.returns-in_ok-put_protocol-in-Rstp
@@ -12,7 +15,7 @@ returns-in_ok-put_protocol-in-Rstp c =
     let rest = c.args.rest in
     let front = rest_line rest in
     let trees = protocol_lines plan rec in
-    on_ok c.put_last_forest.result (λ f. (
+    on_ok_weaker c.put_last_forest.result (λ f. (
       front ++ trees ++ f.0,
       join_three (string_bytes c.args.out.now) front trees f.0 (string_bytes c.put_rest.new.out) (string_bytes c.put_protocol.new.out) (string_bytes c.put_last_forest.new.out)
           c.in_ok-put_rest-in-Rstp.ensures c.in_ok-put_protocol-in-Rstp.ensures f.1,
