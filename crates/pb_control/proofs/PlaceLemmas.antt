@@ -9,15 +9,18 @@ use Rattle.pb_lan.specs.declared.plan.LinkPlan.{LinkPlan}
 use Rattle.pb_naming.specs.Places.{customer_at, has_end, link_at}
 
 -- the first of the ends is there where the link is
-first_end : (one other : Bool) (link : LinkPlan) (later : Option LinkPlan) (end : Option End) → is_some later ≡ is_provider (provider_or_unused end)
-    → is_some (cond (one || other) (Some link) later) ≡ is_provider (provider_or_unused (cond one (Some link.a) (cond other (Some link.b) end)))
+first_end : (one other : Bool) (link : LinkPlan) (later : Option LinkPlan) (end : Option End)
+    → is_some later ≡ is_provider (provider_or_unused end)
+    → is_some (cond (one || other) (Some link) later)
+    ≡ is_provider (provider_or_unused (cond one (Some link.a) (cond other (Some link.b) end)))
 first_end true other link later end e = refl
 first_end false true link later end e = refl
 first_end false false link later end e = e
 
 -- a link ends at the port just where the port leads to another bridge
 link_leads_on : (bridge port : ℕ) (links : List LinkPlan)
-    → is_some (first (has_end bridge port) links) ≡ is_provider (provider_or_unused (first (is_end_at bridge port) (flat_map ends_of links)))
+    → is_some (first (has_end bridge port) links)
+    ≡ is_provider (provider_or_unused (first (is_end_at bridge port) (flat_map ends_of links)))
 link_leads_on bridge port [] = refl
 link_leads_on bridge port (link ∷ links) =
     first_end (is_end_at bridge port link.a) (is_end_at bridge port link.b) link (first (has_end bridge port) links)
