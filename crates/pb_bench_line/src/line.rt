@@ -4,7 +4,8 @@ ghost use Rattle.std.specs.Prelude.{◌≤◌};
 
 use pb_frame::Memory;
 use pb_lan::{
-    BridgePlan, CustomerPlan, End, LinkPlan, Mac, Plan, PortState, Seq, ServicePlan, Spanning, Text,
+    BridgePlan, CustomerPlan, DEFAULT_AGEING, End, LinkPlan, Mac, Plan, PortState, Seq,
+    ServicePlan, Spanning, Text,
 };
 use std::alloc::Global;
 
@@ -83,7 +84,7 @@ pub fn line_of(alloc: Global, bridges: u8) -> Result<Plan, Memory>
         services: Seq::from_vec(vec![in alloc; service]?),
         customers: Seq::from_vec(customers),
         spanning: Spanning::Fixed,
-        ageing: 300,
+        ageing: DEFAULT_AGEING,
         ring: 64,
         steps: 1_000_000,
     })

@@ -4,7 +4,7 @@ use Rattle.std.specs.List.{list_any}
 use Rattle.std.specs.declared.option.Option.{Option}
 use Rattle.pb_frame.specs.declared.learnt.Learnt.{Learnt}
 use Rattle.pb_frame.proofs.Lists.{true-false, false-unless, eqb-refl}
-use Rattle.pb_lan.specs.BridgeLists.{Ruling, Fits, Follows, ruling, ruling_by, customer_cases}
+use Rattle.pb_lan.specs.BridgeLists.{Ruling, Fits, Follows, ruling, ruling_by, customer_reasons}
 use Rattle.pb_lan.specs.BridgeLists.Ruling.{Refuses, Listens, LearnsOnly, Carries, Closed}
 use Rattle.pb_lan.specs.Ports.{Port, port_at, is_used, vid_at}
 use Rattle.pb_lan.specs.Ports.Port.{Customer as CustomerAt}
@@ -20,7 +20,7 @@ use Rattle.pb_lan.specs.declared.step.Outcome.{Outcome}
 use Rattle.pb_lan.specs.declared.step.Outcome.TheVariants.{Relayed, Filtered, Heard}
 use Rattle.pb_lan.specs.declared.step.Step.{Step}
 use Rattle.pb_lan.specs.declared.step.Step.TheVariants.{Receive as Received}
-use Rattle.pb_lan.proofs.GroupFrames.{first_case-is}
+use Rattle.pb_lan.proofs.Cases.{refusing-is}
 use Rattle.pb_lan.proofs.Rulings.{chosen-there}
 use Rattle.pb_lan.proofs.SentWasQueued.{waiting_from-append}
 use Rattle.pb_relay.specs.Standing.{BridgeView}
@@ -40,7 +40,7 @@ IsPlainRuling Closed = ⊥
 
 plain_ruling : (plan : Plan) (c : CustomerPlan) (state : PortState) (item : Item) → IsPlainRuling (ruling_by spanning_tree plan (CustomerAt c) state item)
 plain_ruling plan c state item =
-    first_case-is IsPlainRuling (customer_cases item) (Carries (vid_at plan c)) ((λ e. tt), ((λ e. tt), ((λ e. tt), ((λ e. tt), ((λ e. tt), tt))))) tt
+    refusing-is IsPlainRuling (customer_reasons item) (Carries (vid_at plan c)) (λ r. tt) tt
 
 -- a Receive there moves nothing
 unmoved : (plan : Plan) (earlier : List Step) (port : ℕ) (item : Item) (learnt : Option Learnt) (outcome : Outcome) (moved : Option Moved) (g : Ruling)

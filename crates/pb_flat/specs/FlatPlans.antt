@@ -1,6 +1,7 @@
 -- The plan of one bridge that stands alone.
 use Rattle.std.specs.Prelude.{ℕ, zero, suc, ◌+◌, List, [], ◌∷◌, ◌++◌}
 use Rattle.pb_frame.specs.declared.mac.Mac.{Mac}
+use Rattle.pb_lan.specs.Plans.{default_ageing}
 use Rattle.pb_lan.specs.declared.plan.Plan.{Plan}
 use Rattle.pb_lan.specs.declared.plan.BridgePlan.{BridgePlan}
 use Rattle.pb_lan.specs.declared.plan.CustomerPlan.{CustomerPlan}
@@ -33,7 +34,7 @@ flat_plan ports = record {
   services = flat_service ∷ [];
   customers = flat_customers ports;
   spanning = Fixed;
-  ageing = 300;
+  ageing = default_ageing;
   ring = 64;
   steps = 18446744073709551615;
 }

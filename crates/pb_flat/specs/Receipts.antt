@@ -3,7 +3,7 @@ use Rattle.std.specs.Prelude.{◌≡◌, ◌≢◌, ℕ, List, [], ◌∷◌, So
 use Rattle.pb_frame.specs.declared.learnt.Learnt.TheVariants.{Memory as not_learnt}
 use Rattle.pb_lan.specs.declared.step.Outcome.{Outcome}
 use Rattle.pb_lan.specs.declared.step.Outcome.TheVariants.{Relayed, Filtered, Heard}
-use Rattle.pb_lan.specs.declared.step.Reason.TheVariants.{Memory as want_of_memory}
+use Rattle.pb_frame.specs.declared.reason.Reason.TheVariants.{Memory as want_of_memory}
 use Rattle.pb_lan.specs.declared.step.Step.{Step}
 use Rattle.pb_lan.specs.declared.step.Step.TheVariants.{Receive}
 

@@ -5,7 +5,7 @@ use Rattle.pb_frame.specs.Hex.{hex_text}
 use Rattle.pb_frame.specs.Tags.{bare}
 use Rattle.pb_lan.specs.declared.step.Outcome.{Outcome}
 use Rattle.pb_lan.specs.declared.step.Outcome.TheVariants.{Relayed, Filtered, Heard}
-use Rattle.pb_lan.specs.declared.step.Reason.{Reason}
+use Rattle.pb_frame.specs.declared.reason.Reason.{Reason}
 use Rattle.pb_said.specs.Reasons.{reason_word}
 use Rattle.pb_flat.specs.Receipts.{Receipt}
 

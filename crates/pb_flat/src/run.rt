@@ -3,6 +3,7 @@
 ghost use Rattle.std.specs.Prelude.{◌≡◌, ◌≢◌, ◌<◌, ◌≤◌, ◌-◌, ◌^◌, ◌++◌, [], ℕ, List, length, true, IsErrOf, OnOk, IfErr};
 ghost use Rattle.std.specs.Io.KnownBytes.{Keeps};
 ghost use Rattle.pb_lines.specs.Reader.{held, limit_of};
+ghost use Rattle.pb_said.specs.BadLines.{longest_line};
 ghost use Rattle.pb_flat.specs.Answers.{Answer};
 ghost use Rattle.pb_flat.specs.Receipts.{receipts};
 ghost use Rattle.pb_flat.specs.Switches.{IsFlatPast};
@@ -113,9 +114,9 @@ pub fn run_flat_on<R: Read, W: Write>(
 ) -> Result<(), CommandFault>
     requires ready { switch.old.is_ready ≡ true }
     requires fresh { switch.old.steps ≡ [] }
-    ensures ok { OnOk result (Prints 140000 switch.old.ports (R.remaining reader.old) (W.contents writer.old) (W.contents writer.new)) }
+    ensures ok { OnOk result (Prints longest_line switch.old.ports (R.remaining reader.old) (W.contents writer.old) (W.contents writer.new)) }
     ensures part { IfErr result (λ e. e ≢ CommandFault.Write →
-        PrintsBeginning e 140000 switch.old.ports (R.remaining reader.old) (W.contents writer.old) (W.contents writer.new)) }
+        PrintsBeginning e longest_line switch.old.ports (R.remaining reader.old) (W.contents writer.old) (W.contents writer.new)) }
 {
     let mut lines = LineReader::new(alloc, MAX_LINE)?;
     let ports = switch.ports();
@@ -140,9 +141,9 @@ pub fn run_flat<R: Read, W: Write>(
     writer: &mut W,
 ) -> Result<(), CommandFault>
     requires { (2 ≤ ports) × (ports ≤ 16) }
-    ensures ok { OnOk result (Prints 140000 ports (R.remaining reader.old) (W.contents writer.old) (W.contents writer.new)) }
+    ensures ok { OnOk result (Prints longest_line ports (R.remaining reader.old) (W.contents writer.old) (W.contents writer.new)) }
     ensures part { IfErr result (λ e. e ≢ CommandFault.Write →
-        PrintsBeginning e 140000 ports (R.remaining reader.old) (W.contents writer.old) (W.contents writer.new)) }
+        PrintsBeginning e longest_line ports (R.remaining reader.old) (W.contents writer.old) (W.contents writer.new)) }
 {
     let mut switch = Switch::new(alloc, ports)?;
     run_flat_on(alloc, &mut switch, reader, writer)

@@ -15,16 +15,20 @@ IsTag p d v = (p < 8) × (d < 2) × (v < 4096)
 abbrev pub tagged : List ℕ → ℕ → ℕ → ℕ → List ℕ
 tagged x p d v = take 12 x ++ (136 ∷ 168 ∷ (control p d v / 256) ∷ (control p d v % 256) ∷ []) ++ drop 12 x
 
+-- the fewest octets of a frame with a tag
+abbrev pub shortest_tagged : ℕ
+shortest_tagged = 18
+
 -- 88 A8 stands after the source address
 abbrev pub has_service_type : List ℕ → Bool
 has_service_type x = slice_index x 12 == 136 && slice_index x 13 == 168
 
 abbrev pub has_service_tag : List ℕ → Bool
-has_service_tag x = has_service_type x && nat_le 18 (length x)
+has_service_tag x = has_service_type x && nat_le shortest_tagged (length x)
 
 -- a whole customer tag stands there: 81 00 and two octets of control
 abbrev pub has_customer_tag : List ℕ → Bool
-has_customer_tag x = slice_index x 12 == 129 && slice_index x 13 == 0 && nat_le 18 (length x)
+has_customer_tag x = slice_index x 12 == 129 && slice_index x 13 == 0 && nat_le shortest_tagged (length x)
 
 -- what stands in the tag's control
 abbrev pub control_of : List ℕ → ℕ

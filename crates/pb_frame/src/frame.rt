@@ -1,11 +1,24 @@
 //! Taking a frame apart.
 
 ghost use Rattle.std.specs.Prelude.{◌≡◌, ◌+◌, ◌*◌, ◌<◌, ◌≤◌, ◌↔◌, length, IfOk, IsErrOf};
+ghost use Rattle.pb_frame.specs.Frames.{shortest_frame, longest_frame};
 ghost use Rattle.pb_frame.specs.Views.{IsView};
 
 use crate::layout::View;
 use crate::mac::Mac;
 use thiserror::Error;
+
+/// The fewest octets of a frame: two addresses, and a length or type (IEEE 802.3 clause 3).
+pub const SHORTEST_FRAME: usize = 14;
+
+/// The fewest octets of a frame with a tag, which takes four (IEEE 802.1Q clause 9).
+pub const SHORTEST_TAGGED: usize = 18;
+
+/// The most octets of a frame in a provider's network: 2,000 with the check sequence (IEEE 802.3 clause 3).
+pub const LONGEST_FRAME: usize = 1_996;
+
+/// The most octets of a frame that comes from a customer without a priority tag, so that it has room for a service tag.
+pub const LONGEST_UNTAGGED: usize = 1_992;
 
 /// Why octets are no frame of a provider's network.
 #[derive(Clone, Copy, Debug, PartialEq, Eq, Error)]
@@ -21,13 +34,13 @@ pub enum FrameFault {
 /// `Short` is answered under 14 octets, `Long` over 1,996.
 pub fn view(frame: &[u8]) -> Result<View<'_>, FrameFault>
     ensures parts { IfOk result (IsView frame.now) }
-    ensures short { IsErrOf result FrameFault.Short ↔ (length frame.now < 14) }
-    ensures long { IsErrOf result FrameFault.Long ↔ (1996 < length frame.now) }
+    ensures short { IsErrOf result FrameFault.Short ↔ (length frame.now < shortest_frame) }
+    ensures long { IsErrOf result FrameFault.Long ↔ (longest_frame < length frame.now) }
 {
-    if frame.len() < 14 {
+    if frame.len() < SHORTEST_FRAME {
         return Err(FrameFault::Short);
     }
-    if frame.len() > 1996 {
+    if frame.len() > LONGEST_FRAME {
         return Err(FrameFault::Long);
     }
     let mut dst = [0u8; 6];

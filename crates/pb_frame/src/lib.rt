@@ -17,18 +17,22 @@ mod layout;
 mod learnt;
 mod mac;
 mod memory;
+mod reason;
 mod seq;
 mod service_tag;
 mod tci;
 mod text;
 
-pub use frame::{FrameFault, view};
+pub use frame::{
+    FrameFault, LONGEST_FRAME, LONGEST_UNTAGGED, SHORTEST_FRAME, SHORTEST_TAGGED, view,
+};
 pub use held::Held;
 pub use hex::{HexFault, has_upper_case, hex_octets, hex_octets_in, hex_read, hex_text};
 pub use layout::View;
 pub use learnt::Learnt;
 pub use mac::Mac;
 pub use memory::Memory;
+pub use reason::Reason;
 pub use seq::Seq;
 pub use service_tag::{
     TagFault, has_priority_tag, has_service_type, look_c, pop_priority, pop_s, priority_of, push_s,

@@ -1,10 +1,11 @@
 //! Service tags (S-tags), and the customer tags that are data to a provider.
 
 ghost use Rattle.std.specs.Prelude.{ℕ, List, ◌≡◌, ◌<◌, ◌≤◌, ◌↔◌, true, false, length, IfOk, IfSome, IsSome, IsErrOf};
-ghost use Rattle.pb_frame.specs.Tags.{tagged, untagged, bare, control, control_of, IsTag, has_service_type, has_customer_tag, has_priority_tag, priority_tag_of, priority_of, vid_of};
+ghost use Rattle.pb_frame.specs.Tags.{tagged, untagged, bare, control, control_of, IsTag, has_service_type, has_customer_tag, has_priority_tag, priority_tag_of, priority_of, shortest_tagged, vid_of};
 ghost use Rattle.pb_frame.specs.declared.service_tag.TagFault.{TagFault};
 ghost use Rattle.pb_frame.specs.declared.service_tag.TagFault.TheVariants.{Memory as memory_fault};
 
+use crate::frame::{SHORTEST_FRAME, SHORTEST_TAGGED};
 use crate::memory::Memory;
 use crate::tci::Tci;
 use bytes::Bytes;
@@ -52,13 +53,13 @@ pub fn push_s(alloc: Global, frame: &Bytes, tci: Tci) -> Result<Bytes, Memory>
 pub fn pop_s(alloc: Global, frame: &Bytes) -> Result<(Tci, Bytes), TagFault>
     ensures ok { IfOk result (λ p. frame.now ≡ tagged p.1 p.0.pcp p.0.dei p.0.vid) }
     ensures no_tag { IsErrOf result TagFault.NoTag ↔ (has_service_type frame.now ≡ false) }
-    ensures cut { IsErrOf result TagFault.Cut ↔ ((has_service_type frame.now ≡ true) × (length frame.now < 18)) }
+    ensures cut { IsErrOf result TagFault.Cut ↔ ((has_service_type frame.now ≡ true) × (length frame.now < shortest_tagged)) }
 {
     let octets = frame.as_slice();
     if !has_service_type(octets) {
         return Err(TagFault::NoTag);
     }
-    if octets.len() < 18 {
+    if octets.len() < SHORTEST_TAGGED {
         return Err(TagFault::Cut);
     }
     let tci = Tci::of(u16::from(octets[14]) * 256 + u16::from(octets[15]));
@@ -97,7 +98,7 @@ pub fn look_c(frame: &[u8]) -> Option<Tci>
     ensures found { IsSome result ↔ (has_customer_tag frame.now ≡ true) }
     ensures value { IfSome result (λ t. control t.pcp t.dei t.vid ≡ control_of frame.now) }
 {
-    if frame.len() < 18 || frame[12] != 0x81 || frame[13] != 0 {
+    if frame.len() < SHORTEST_TAGGED || frame[12] != 0x81 || frame[13] != 0 {
         return None;
     }
     Some(Tci::of(u16::from(frame[14]) * 256 + u16::from(frame[15])))
@@ -107,7 +108,7 @@ pub fn look_c(frame: &[u8]) -> Option<Tci>
 pub fn has_service_type(frame: &[u8]) -> bool
     ensures { result ≡ has_service_type frame.now }
 {
-    frame.len() >= 14 && frame[12] == 0x88 && frame[13] == 0xa8
+    frame.len() >= SHORTEST_FRAME && frame[12] == 0x88 && frame[13] == 0xa8
 }
 
 /// The VID of the tag behind the addresses, 0 to 4095.
@@ -130,7 +131,7 @@ pub fn priority_of(frame: &[u8]) -> u8
 pub fn has_priority_tag(frame: &[u8]) -> bool
     ensures { result ≡ has_priority_tag frame.now }
 {
-    has_service_type(frame) && frame.len() >= 18 && vid_of(frame) == 0
+    has_service_type(frame) && frame.len() >= SHORTEST_TAGGED && vid_of(frame) == 0
 }
 
 /// A tagged frame shows the frame without its tag, and the tag: putting one in and taking it off undo each other.

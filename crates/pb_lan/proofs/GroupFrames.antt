@@ -1,26 +1,26 @@
 -- A frame to a group, handled under a forest, unhindered and drained, is chosen at each bridge for the
 -- next port of each path.
-use Rattle.std.proofs.Common.{◌≡◌, inl, inr, ℕ, Some, None, Option, Bool, true, false, cond, not, ◌&&◌, ◌||◌, ◌==◌, List, [], ◌∷◌, ◌++◌, refl, sym, ◌∙◌, ap, subst, slice_get, take, append_assoc, append-nil, nat_lt, length}
+use Rattle.std.proofs.Common.{◌≡◌, inl, inr, ℕ, Some, None, Option, Bool, true, false, cond, not, ◌&&◌, ◌||◌, ◌==◌, List, [], ◌∷◌, ◌++◌, refl, sym, ◌∙◌, ap, subst, slice_get, take, append_assoc, append-nil}
 use Rattle.std.proofs.lemmas.Bool.{eqb-true}
 use Rattle.std.specs.List.{AllByRecursion, list_any}
 use Rattle.std.specs.Cmp.Derive.{both_true}
 use Rattle.pb_frame.proofs.Lists.{eqb-refl, All-midst, All-unflat_map, list_any-midst, list_any-rest, list_any-filter}
 use Rattle.pb_frame.proofs.TagLaws.{take-tagged, has_service_type-tagged}
 use Rattle.pb_lan.proofs.Arrivals.{MayComeIn}
+use Rattle.pb_lan.proofs.Cases.{refusing-is, heard, is_listening, is_reserving}
 use Rattle.pb_lan.proofs.Priorities.{the-poll}
 use Rattle.pb_lan.proofs.Rulings.{follows-relayed, carried-open, local-listed}
 use Rattle.pb_lan.proofs.Ways.{received-walks, ComesIn, unmoved, handled-at, carried-vid, IsFollowed}
-use Rattle.pb_frame.specs.Admission.{is_reserved}
 use Rattle.pb_frame.specs.Frames.{dst_of, is_group}
 use Rattle.pb_frame.specs.Tags.{bare, untagged, has_priority_tag, has_service_type, vid_of}
-use Rattle.pb_lan.specs.BridgeLists.{Ruling, ruling, ruling_by, ruling_in, first_case, customer_cases, provider_cases, is_for_bridges, reserved_as, is_worn, Fits, Follows, LawfulAfter}
+use Rattle.pb_lan.specs.BridgeLists.{Ruling, ruling, ruling_by, ruling_in, first_case, customer_cases, customer_reasons, provider_cases, is_for_bridges, Fits, Follows, LawfulAfter}
 use Rattle.pb_lan.specs.Choice.{flood, narrowed, found, chosen_ports}
 use Rattle.pb_lan.specs.Counts.{has_mark, is_of, HandledAfter, IsUnhindered, IsDrained, hinders, is_on_tree}
 use Rattle.pb_lan.specs.Laws.{is_choice, chose}
 use Rattle.pb_lan.specs.Numbering.{numbered}
 use Rattle.pb_lan.specs.Plans.{IsNumber}
 use Rattle.pb_lan.specs.PortLists.{polled}
-use Rattle.pb_lan.specs.Ports.{Port, port_at, vid_at, is_member, serves, local_ports}
+use Rattle.pb_lan.specs.Ports.{Port, port_at, vid_at, is_member, local_ports}
 use Rattle.pb_lan.specs.Queues.{priority_in}
 use Rattle.pb_lan.specs.Records.{steps_of, received, received_by}
 use Rattle.pb_lan.specs.Rules.{Rules}
@@ -41,8 +41,7 @@ use Rattle.pb_lan.specs.declared.step.Mark.{Mark}
 use Rattle.pb_lan.specs.declared.step.Moved.{Moved}
 use Rattle.pb_lan.specs.declared.step.Outcome.{Outcome}
 use Rattle.pb_lan.specs.declared.step.Outcome.TheVariants.{Relayed, Filtered, Heard}
-use Rattle.pb_lan.specs.declared.step.Reason.{Reason}
-use Rattle.pb_lan.specs.declared.step.Reason.TheVariants.{NotMember, Untagged, Reserved, Malformed, Worn, Long}
+use Rattle.pb_frame.specs.declared.reason.Reason.{Reason}
 use Rattle.pb_lan.specs.declared.step.Step.{Step}
 use Rattle.pb_lan.specs.declared.step.Step.TheVariants.{Receive}
 
@@ -94,12 +93,6 @@ lawful-at rules plan b start [] later step h = subst (λ xs. Fits rules plan b x
 lawful-at rules plan b start (s ∷ earlier) later step h =
     subst (λ xs. Fits rules plan b xs step) (append_assoc start (s ∷ []) earlier) (lawful-at rules plan b (start ++ s ∷ []) earlier later step h.1)
 
--- what the cases may give, the ruling is
-pub first_case-is : (P : Ruling → Type 0) (cs : List (Bool × Ruling)) (rest : Ruling) → AllByRecursion (λ c. c.0 ≡ true → P c.1) cs → P rest → P (first_case cs rest)
-first_case-is P [] rest a r = r
-first_case-is P (c ∷ cs) rest a r =
-    elim (c.0) as (λ b. c.0 ≡ b → P (cond b c.1 (first_case cs rest))) [ true ↦ λ e. a.0 e | false ↦ λ e. first_case-is P cs rest a.1 r ] refl
-
 -- the ruling is not that of a BPDU
 abbrev IsNotHeard : Ruling → Type 0
 IsNotHeard g = g ≡ Listens → ⊥
@@ -115,45 +108,25 @@ carried-not-heard v h = cc
 -- nothing is heard at a customer port
 customer-not-heard : (plan : Plan) (c : CustomerPlan) (item : Item) → IsNotHeard (first_case (customer_cases item) (Carries (vid_at plan c)))
 customer-not-heard plan c item =
-    first_case-is IsNotHeard (customer_cases item) (Carries (vid_at plan c))
-    (λ t. refused-not-heard _, (λ t. refused-not-heard _, (λ t. refused-not-heard _, (λ t. refused-not-heard _, (λ t. refused-not-heard _, tt))))) (carried-not-heard _)
+    refusing-is IsNotHeard (customer_reasons item) (Carries (vid_at plan c)) refused-not-heard (carried-not-heard _)
 
 -- a frame with a service tag is no BPDU
 provider-not-heard : (rules : Rules) (plan : Plan) (e : End) (state : PortState) (item : Item) → has_service_type item.wire ≡ true
     → IsNotHeard (first_case (provider_cases rules plan e item) (ruling_in state (vid_of item.wire)))
-provider-not-heard rules plan e state item tag =
-    elim (is_for_bridges item.wire)
-    as (λ b. IsNotHeard (first_case (cases b) (ruling_in state (vid_of item.wire)))) [
-      | true ↦ subst (λ t. IsNotHeard (first_case (
-          (nat_lt (length item.wire) 14, Refuses Malformed) ∷ (nat_lt 1996 (length item.wire), Refuses Long) ∷ (true && t, Refuses (Reserved 8)) ∷ later true) (ruling_in state (vid_of item.wire)))) (sym tag)
-          (first_case-is IsNotHeard ((nat_lt (length item.wire) 14, Refuses Malformed) ∷ (nat_lt 1996 (length item.wire), Refuses Long) ∷ []) (Refuses (Reserved 8))
-          (λ t. refused-not-heard _, (λ t. refused-not-heard _, tt)) (refused-not-heard _))
-      | false ↦ first_case-is IsNotHeard (cases false) (ruling_in state (vid_of item.wire))
-          (λ t. refused-not-heard _, (λ t. refused-not-heard _, (λ t. refused-not-heard _, (λ t. no t, (λ t. refused-not-heard _, (λ t. refused-not-heard _, (λ t. refused-not-heard _, (λ t. refused-not-heard _, (λ t. refused-not-heard _, (λ t. refused-not-heard _, tt))))))))))
-          (in_state state)
-    ]
+provider-not-heard rules plan e state item tag h =
+    let a = heard (provider_cases rules plan e item) (ruling_in state (vid_of item.wire)) (in_state state) h in
+    clash (is_for_bridges item.wire) (has_service_type item.wire) (rules.is_readable item.wire)
+    a.0 (a.1 is_reserving) tag
   where
-    later : Bool → List (Bool × Ruling)
-    later b =
-        (b && rules.is_readable item.wire, Listens)
-        ∷ (b, Refuses Malformed)
-        ∷ (is_reserved (dst_of item.wire), Refuses (reserved_as item.wire))
-        ∷ (not (has_service_type item.wire), Refuses Untagged)
-        ∷ (nat_lt (length item.wire) 18, Refuses Malformed)
-        ∷ (not (serves plan (vid_of item.wire) e), Refuses NotMember)
-        ∷ (is_worn item, Refuses Worn)
-        ∷ []
+    clash : (b t r : Bool) → ((b && r) || false) ≡ true → ((b && t) || false) ≡ false → t ≡ true → ⊥
+    clash true true r h k e = cc
+    clash true false r h k e = cc
+    clash false t r h k e = cc
 
-    cases : Bool → List (Bool × Ruling)
-    cases b = (nat_lt (length item.wire) 14, Refuses Malformed) ∷ (nat_lt 1996 (length item.wire), Refuses Long) ∷ (b && has_service_type item.wire, Refuses (Reserved 8)) ∷ later b
-
-    no : {X : Type 0} → false ≡ true → X
-    no h = cc
-
-    in_state : (s : PortState) → IsNotHeard (ruling_in s (vid_of item.wire))
-    in_state Discarding h = cc
-    in_state Learning h = cc
-    in_state Forwarding h = cc
+    in_state : (s : PortState) → is_listening (ruling_in s (vid_of item.wire)) ≡ false
+    in_state Discarding = refl
+    in_state Learning = refl
+    in_state Forwarding = refl
 
 -- what is heard was ruled to be a BPDU
 follows-heard : (rules : Rules) (plan : Plan) (b : ℕ) (earlier : List Step) (q : ℕ) (item : Item) (learnt : Option Learnt) (moved : Option Moved) (g : Ruling)

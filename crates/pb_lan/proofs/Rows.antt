@@ -32,7 +32,7 @@ use Rattle.pb_lan.specs.declared.shape.PortState.TheVariants.{Discarding, Forwar
 use Rattle.pb_lan.specs.declared.step.Item.{Item}
 use Rattle.pb_lan.specs.declared.step.NoRoom.TheVariants.{Full}
 use Rattle.pb_lan.specs.declared.step.Outcome.TheVariants.{Relayed}
-use Rattle.pb_lan.specs.declared.step.Reason.TheVariants.{NotForwarding, Reserved, Malformed, STagged, Long}
+use Rattle.pb_frame.specs.declared.reason.Reason.TheVariants.{NotForwarding, Reserved, Malformed, STagged, Long}
 use Rattle.pb_lan.specs.declared.step.Step.{Step}
 use Rattle.pb_lan.specs.declared.step.Step.TheVariants.{Poll, Feed, Deliver, Receive, Transmit, Admin, Take, Put}
 use Rattle.pb_frame.specs.declared.learnt.Learnt.TheVariants.{New, Kept}

@@ -4,6 +4,7 @@ use Rattle.std.specs.List.{AllByRecursion, filter, list_any}
 use Rattle.std.proofs.lemmas.Bool.{eqb-true}
 use Rattle.std.specs.Option.{option_map}
 use Rattle.pb_frame.proofs.Lists.{and-left, and-right, All-imply, All-filter, list_any-found}
+use Rattle.pb_lan.proofs.Cases.{none-holds, neither-left, neither-right, is_malformed, is_not_member}
 use Rattle.pb_lan.proofs.Numbers.{numbered-All}
 use Rattle.pb_frame.specs.Frames.{dst_of, is_group}
 use Rattle.pb_frame.specs.Tags.{vid_of}
@@ -27,7 +28,6 @@ use Rattle.pb_lan.specs.declared.step.Moved.{Moved}
 use Rattle.pb_lan.specs.declared.step.NoRoom.{NoRoom}
 use Rattle.pb_lan.specs.declared.step.Outcome.{Outcome}
 use Rattle.pb_lan.specs.declared.step.Outcome.TheVariants.{Relayed}
-use Rattle.pb_lan.specs.declared.step.Reason.{Reason}
 use Rattle.pb_lan.specs.declared.step.Step.{Step}
 use Rattle.pb_lan.specs.declared.step.Step.TheVariants.{Receive}
 
@@ -35,28 +35,12 @@ use Rattle.pb_lan.specs.declared.step.Step.TheVariants.{Receive}
 carries-injective : (a b : ℕ) → Carries a ≡ Carries b → a ≡ b
 carries-injective a b h = cc
 
--- where none of the cases carries and yet the frame is carried, none of them holds
-past : (cs : List (Bool × Ruling)) (rest : Ruling) (v : ℕ) → AllByRecursion (λ c. c.1 ≡ Carries v → ⊥) cs → first_case cs rest ≡ Carries v
-    → AllByRecursion (λ c. c.0 ≡ false) cs × (rest ≡ Carries v)
-past [] rest v never h = (tt, h)
-past (c ∷ cs) rest v never h =
-    elim (c.0) as (λ b. c.0 ≡ b → cond b c.1 (first_case cs rest) ≡ Carries v → AllByRecursion (λ c. c.0 ≡ false) (c ∷ cs) × (rest ≡ Carries v))
-    [ true ↦ λ e n. absurd (never.0 n) | false ↦ λ e n. let r = past cs rest v never.1 n in ((e, r.0), r.1) ] refl h
-
--- refusing is not carrying
-refuses-never : (r : Reason) (v : ℕ) → Refuses r ≡ Carries v → ⊥
-refuses-never r v h = cc
-
--- nor is listening
-listens-never : (v : ℕ) → Listens ≡ Carries v → ⊥
-listens-never v h = cc
-
 -- a frame carried from a customer port is long enough, and goes in its service
 pub carried-customer : (plan : Plan) (c : CustomerPlan) (item : Item) (v : ℕ) → first_case (customer_cases item) (Carries (vid_at plan c)) ≡ Carries v
     → (14 ≤ length item.wire) × (vid_at plan c ≡ v)
 carried-customer plan c item v h =
-    let a = past (customer_cases item) (Carries (vid_at plan c)) v (refuses-never _ v, (refuses-never _ v, (refuses-never _ v, (refuses-never _ v, (refuses-never _ v, tt))))) h in
-    (long (length item.wire) a.0.0, carries-injective _ v a.1)
+    let a = none-holds (customer_cases item) (Carries (vid_at plan c)) (Carries v) refl refl h in
+    (long (length item.wire) (neither-left _ _ (a.0 is_malformed)), carries-injective _ v a.1)
   where
     long : (n : ℕ) → nat_lt n 14 ≡ false → 14 ≤ n
     long n h = grind (arith, h)
@@ -66,12 +50,11 @@ pub carried-provider : (rules : Rules) (plan : Plan) (e : End) (state : PortStat
     → first_case (provider_cases rules plan e item) (ruling_in state (vid_of item.wire)) ≡ Carries v
     → (is_for_bridges item.wire ≡ false) × (vid_of item.wire ≡ v)
 carried-provider rules plan e state item v h =
-    let a = past (provider_cases rules plan e item) (ruling_in state (vid_of item.wire)) v
-    (refuses-never _ v, (refuses-never _ v, (refuses-never _ v, (listens-never v, (refuses-never _ v, (refuses-never _ v, (refuses-never _ v, (refuses-never _ v, (refuses-never _ v, (refuses-never _ v, tt)))))))))) h in
-    (a.0.1.1.1.1.0, in_state state a.1)
+    let a = none-holds (provider_cases rules plan e item) (ruling_in state (vid_of item.wire)) (Carries v) refl refl h in
+    (neither-left (is_for_bridges item.wire) _ (neither-right _ _ (a.0 is_malformed)), in_state state a.1)
   where
     in_state : (s : PortState) → ruling_in s (vid_of item.wire) ≡ Carries v → vid_of item.wire ≡ v
-    in_state Discarding h = absurd (refuses-never _ v h)
+    in_state Discarding h = cc
     in_state Learning h = cc
     in_state Forwarding h = carries-injective _ v h
 
@@ -106,13 +89,12 @@ pub carried-open : (rules : Rules) (plan : Plan) (e : End) (state : PortState) (
     → first_case (provider_cases rules plan e item) (ruling_in state (vid_of item.wire)) ≡ Carries v
     → (is_forwarding state ≡ true) × (serves plan v e ≡ true)
 carried-open rules plan e state item v h =
-    let a = past (provider_cases rules plan e item) (ruling_in state (vid_of item.wire)) v
-    (refuses-never _ v, (refuses-never _ v, (refuses-never _ v, (listens-never v, (refuses-never _ v, (refuses-never _ v, (refuses-never _ v, (refuses-never _ v, (refuses-never _ v, (refuses-never _ v, tt)))))))))) h in
+    let a = none-holds (provider_cases rules plan e item) (ruling_in state (vid_of item.wire)) (Carries v) refl refl h in
     let w = (carried-provider rules plan e state item v h).1 in
-    (in_state state a.1, subst (λ n. serves plan n e ≡ true) w (un-not (serves plan (vid_of item.wire) e) a.0.1.1.1.1.1.1.1.1.0))
+    (in_state state a.1, subst (λ n. serves plan n e ≡ true) w (un-not (serves plan (vid_of item.wire) e) (neither-left _ _ (a.0 is_not_member))))
   where
     in_state : (s : PortState) → ruling_in s (vid_of item.wire) ≡ Carries v → is_forwarding s ≡ true
-    in_state Discarding h = absurd (refuses-never _ v h)
+    in_state Discarding h = cc
     in_state Learning h = cc
     in_state Forwarding h = refl
 

@@ -1,10 +1,10 @@
 -- The lists of steps that a bridge may show.
-use Rattle.std.specs.Prelude.{◌≡◌, ℕ, ◌+◌, ◌⊎◌, Bool, true, false, List, [], ◌∷◌, ◌++◌, Some, None, map, length, nat_lt, slice_index, ◌==◌, ◌&&◌, not, if◌then◌else◌}
+use Rattle.std.specs.Prelude.{◌≡◌, ℕ, ◌+◌, ◌⊎◌, Bool, true, false, List, [], ◌∷◌, ◌++◌, Some, None, map, length, nat_lt, ◌==◌, ◌&&◌, not, if◌then◌else◌}
 use Rattle.std.specs.declared.option.Option.{Option}
 use Rattle.std.specs.List.{filter, list_any, AllByRecursion}
-use Rattle.pb_frame.specs.Admission.{same, is_reserved, provider_address, most_octets}
-use Rattle.pb_frame.specs.Frames.{dst_of}
-use Rattle.pb_frame.specs.Tags.{bare, has_service_type, vid_of}
+use Rattle.pb_frame.specs.Admission.{same, is_reserved, provider_address, reserved_as, admission_cases}
+use Rattle.pb_frame.specs.Frames.{dst_of, shortest_frame, longest_frame}
+use Rattle.pb_frame.specs.Tags.{has_service_type, vid_of, shortest_tagged}
 use Rattle.pb_lan.specs.Choice.{now_after, Learns, chosen_ports}
 use Rattle.pb_lan.specs.Ports.{Port, port_at, vid_at, serves, is_provider}
 use Rattle.pb_lan.specs.Queues.{is_refused, is_full, waiting, next_out}
@@ -23,8 +23,8 @@ use Rattle.pb_lan.specs.declared.step.NoRoom.{NoRoom}
 use Rattle.pb_lan.specs.declared.step.NoRoom.TheVariants.{Full, Memory}
 use Rattle.pb_lan.specs.declared.step.Outcome.{Outcome}
 use Rattle.pb_lan.specs.declared.step.Outcome.TheVariants.{Relayed, Filtered, Heard}
-use Rattle.pb_lan.specs.declared.step.Reason.{Reason}
-use Rattle.pb_lan.specs.declared.step.Reason.TheVariants.{NotForwarding, NotMember, Untagged, Reserved, Malformed, Worn, Memory as WantOfMemory, STagged, Long}
+use Rattle.pb_frame.specs.declared.reason.Reason.{Reason}
+use Rattle.pb_frame.specs.declared.reason.Reason.TheVariants.{NotForwarding, NotMember, Untagged, Reserved, Malformed, Worn, Memory as WantOfMemory, Long}
 use Rattle.pb_lan.specs.declared.step.Step.{Step}
 use Rattle.pb_lan.specs.declared.step.Step.TheVariants.{Receive, Transmit, Tick, Admin}
 
@@ -42,26 +42,27 @@ pub data Ruling : Type 0 where
   Closed : Ruling
 
 -- an item that has passed the most bridges
-abbrev pub is_worn : Item → Bool
-is_worn item = item.hops == 4294967295
+abbrev pub most_hops : ℕ
+most_hops = 4294967295
 
-abbrev pub reserved_as : List ℕ → Reason
-reserved_as wire = Reserved (slice_index wire 5)
+abbrev pub is_worn : Item → Bool
+is_worn item = item.hops == most_hops
 
 -- the first case that holds, or what is left
 abbrev pub first_case : List (Bool × Ruling) → Ruling → Ruling
 first_case [] otherwise = otherwise
 first_case (c ∷ cs) otherwise = if c.0 then c.1 else first_case cs otherwise
 
+-- a case in which a frame is refused
+abbrev pub refusing : (Bool × Reason) → (Bool × Ruling)
+refusing c = (c.0, Refuses c.1)
+
 -- at a customer port, a port-based service interface (IEEE 802.1Q clause 15.3)
+abbrev pub customer_reasons : Item → List (Bool × Reason)
+customer_reasons item = admission_cases item.wire ++ (is_worn item, Worn) ∷ []
+
 abbrev pub customer_cases : Item → List (Bool × Ruling)
-customer_cases item =
-    (nat_lt (length item.wire) 14, Refuses Malformed)
-    ∷ (nat_lt (most_octets item.wire) (length item.wire), Refuses Long)
-    ∷ (is_reserved (dst_of item.wire), Refuses (reserved_as item.wire))
-    ∷ (has_service_type (bare item.wire), Refuses STagged)
-    ∷ (is_worn item, Refuses Worn)
-    ∷ []
+customer_cases item = map refusing (customer_reasons item)
 
 abbrev pub is_for_bridges : List ℕ → Bool
 is_for_bridges wire = same (dst_of wire) provider_address
@@ -69,14 +70,14 @@ is_for_bridges wire = same (dst_of wire) provider_address
 -- at a provider port (IEEE 802.1Q clauses 8.6.1 to 8.6.3), by which BPDUs can be read and which services go there
 abbrev pub bridge_cases : (List ℕ → Bool) → (ℕ → Bool) → Item → List (Bool × Ruling)
 bridge_cases is_readable is_served item =
-    (nat_lt (length item.wire) 14, Refuses Malformed)
-    ∷ (nat_lt 1996 (length item.wire), Refuses Long)
+    (nat_lt (length item.wire) shortest_frame, Refuses Malformed)
+    ∷ (nat_lt longest_frame (length item.wire), Refuses Long)
     ∷ (is_for_bridges item.wire && has_service_type item.wire, Refuses (Reserved 8))
     ∷ (is_for_bridges item.wire && is_readable item.wire, Listens)
     ∷ (is_for_bridges item.wire, Refuses Malformed)
     ∷ (is_reserved (dst_of item.wire), Refuses (reserved_as item.wire))
     ∷ (not (has_service_type item.wire), Refuses Untagged)
-    ∷ (nat_lt (length item.wire) 18, Refuses Malformed)
+    ∷ (nat_lt (length item.wire) shortest_tagged, Refuses Malformed)
     ∷ (not (is_served (vid_of item.wire)), Refuses NotMember)
     ∷ (is_worn item, Refuses Worn)
     ∷ []

@@ -1,9 +1,10 @@
 -- What the rulings leave of a received frame, and what a sound plan says of its port.
-use Rattle.std.proofs.Common.{◌≡◌, ◌≢◌, ℕ, ◌≤◌, Bool, true, false, cond, nat_lt, ◌==◌, List, [], ◌∷◌, Some, None, length, refl, arith, eq-eqb}
-use Rattle.std.specs.List.{AllByRecursion}
+use Rattle.std.proofs.Common.{◌≡◌, ◌≢◌, ℕ, ◌≤◌, Bool, true, false, nat_lt, ◌==◌, List, Some, None, length, refl, arith, eq-eqb}
 use Rattle.pb_frame.proofs.Lists.{first-found}
 use Rattle.pb_frame.specs.Lists.{first}
-use Rattle.pb_frame.specs.Tags.{vid_of}
+use Rattle.pb_frame.specs.Frames.{shortest_frame}
+use Rattle.pb_frame.specs.Tags.{vid_of, shortest_tagged}
+use Rattle.pb_lan.proofs.Cases.{stops, none-holds, neither-left, neither-right, is_malformed, is_wearing}
 use Rattle.pb_lan.proofs.Rulings.{vid_at-small}
 use Rattle.pb_lan.specs.Plans.{IsSound, IsSoundCustomer, IsSoundEnd}
 use Rattle.pb_lan.specs.Ports.{Port, port_at, vid_at, serves, is_customer_at, is_end_at, all_ends, customer_or_else, provider_or_unused}
@@ -11,86 +12,66 @@ use Rattle.pb_lan.specs.Ports.Port.{Customer, Provider, Unused}
 use Rattle.pb_lan.specs.Queues.{vid_in}
 use Rattle.pb_relay.specs.Protocol.{spanning_tree}
 use Rattle.pb_lan.specs.Shapes.{is_forwarding, state_by}
-use Rattle.pb_lan.specs.BridgeLists.{Ruling, first_case, customer_cases, ruling_in, ruling_by, bridge_cases}
-use Rattle.pb_lan.specs.BridgeLists.Ruling.{Refuses, Listens, LearnsOnly, Carries}
+use Rattle.pb_lan.specs.BridgeLists.{Ruling, first_case, customer_cases, ruling_in, ruling_by, bridge_cases, is_for_bridges, most_hops}
+use Rattle.pb_lan.specs.BridgeLists.Ruling.{LearnsOnly, Carries}
 use Rattle.pb_lan.specs.declared.plan.Plan.{Plan}
 use Rattle.pb_lan.specs.declared.shape.PortState.{PortState}
 use Rattle.pb_lan.specs.declared.shape.PortState.TheVariants.{Discarding, Learning, Forwarding}
 use Rattle.pb_lan.specs.declared.step.Item.{Item}
-use Rattle.pb_lan.specs.declared.step.Reason.{Reason}
 use Rattle.pb_relay.specs.Roles.{LocalPort, told}
 use Rattle.pb_relay.specs.Roles.LocalPort.{ToCustomer, ToBridge, ToNobody}
 use Rattle.pb_relay.specs.Loads.{IsLoadable}
 use Rattle.pb_relay.specs.LocalPorts.{IsKept}
 
--- where none of the cases rules so and yet it is so ruled, none of them holds
-past : (cs : List (Bool × Ruling)) (rest target : Ruling) → AllByRecursion (λ c. c.1 ≡ target → ⊥) cs → first_case cs rest ≡ target
-    → AllByRecursion (λ c. c.0 ≡ false) cs × (rest ≡ target)
-past [] rest target never h = (tt, h)
-past (c ∷ cs) rest target never h =
-    elim (c.0) as (λ b. c.0 ≡ b → cond b c.1 (first_case cs rest) ≡ target → AllByRecursion (λ c. c.0 ≡ false) (c ∷ cs) × (rest ≡ target))
-    [ true ↦ λ e n. absurd (never.0 n) | false ↦ λ e n. let r = past cs rest target never.1 n in ((e, r.0), r.1) ] refl h
-
--- who refuses doesn't carry
-refuses-carries : (v : ℕ) (r : Reason) → Refuses r ≡ Carries v → ⊥
-refuses-carries v r h = cc
-
-refuses-learns : (v : ℕ) (r : Reason) → Refuses r ≡ LearnsOnly v → ⊥
-refuses-learns v r h = cc
-
-listens-carries : (v : ℕ) → Listens ≡ Carries v → ⊥
-listens-carries v h = cc
-
-listens-learns : (v : ℕ) → Listens ≡ LearnsOnly v → ⊥
-listens-learns v h = cc
-
+-- a ruling to carry names one service
 carries-vid : (a b : ℕ) → Carries a ≡ Carries b → a ≡ b
 carries-vid a b h = cc
 
 at-least : (m n : ℕ) → nat_lt n m ≡ false → m ≤ n
 at-least m n h = grind (arith, h)
 
-unworn : (n : ℕ) → (n == 4294967295) ≡ false → n ≢ 4294967295
-unworn n h e = let t = eq-eqb n 4294967295 e in cc
+unworn : (n : ℕ) → (n == most_hops) ≡ false → n ≢ most_hops
+unworn n h e = let t = eq-eqb n most_hops e in cc
 
 -- what is known of a frame that is learnt or relayed in a service
 pub record IsAdmitted (plan : Plan) (port : Port) (item : Item) (vid : ℕ) : Type 0 where
-  pub long : 14 ≤ length item.wire
-  pub unworn : item.hops ≢ 4294967295
+  pub long : shortest_frame ≤ length item.wire
+  pub unworn : item.hops ≢ most_hops
   pub service : vid_in plan port item.wire ≡ vid
 
 -- at a customer port
-from_customer : (item : Item) (rest target : Ruling) → ((r : Reason) → Refuses r ≡ target → ⊥) → first_case (customer_cases item) rest ≡ target
-    → (14 ≤ length item.wire) × (item.hops ≢ 4294967295) × (rest ≡ target)
-from_customer item rest target never h =
-    let a = past (customer_cases item) rest target (never _, (never _, (never _, (never _, (never _, tt))))) h in
-    (at-least 14 (length item.wire) a.0.0, unworn item.hops a.0.1.1.1.1.0, a.1)
+from_customer : (item : Item) (rest target : Ruling) → stops target ≡ false → first_case (customer_cases item) rest ≡ target
+    → (shortest_frame ≤ length item.wire) × (item.hops ≢ most_hops) × (rest ≡ target)
+from_customer item rest target on h =
+    let a = none-holds (customer_cases item) rest target refl on h in
+    (at-least shortest_frame (length item.wire) (neither-left _ _ (a.0 is_malformed)), unworn item.hops (neither-left _ _ (a.0 is_wearing)), a.1)
 
 -- at a port to a bridge
-from_bridge : (services : ℕ → Bool) (item : Item) (rest target : Ruling) → ((r : Reason) → Refuses r ≡ target → ⊥) → (Listens ≡ target → ⊥)
-    → first_case (bridge_cases spanning_tree.is_readable services item) rest ≡ target → (18 ≤ length item.wire) × (item.hops ≢ 4294967295) × (rest ≡ target)
-from_bridge services item rest target never unheard h =
-    let a = past (bridge_cases spanning_tree.is_readable services item) rest target
-    (never _, (never _, (never _, (unheard, (never _, (never _, (never _, (never _, (never _, (never _, tt)))))))))) h in
-    (at-least 18 (length item.wire) a.0.1.1.1.1.1.1.1.0, unworn item.hops a.0.1.1.1.1.1.1.1.1.1.0, a.1)
+from_bridge : (services : ℕ → Bool) (item : Item) (rest target : Ruling) → stops target ≡ false
+    → first_case (bridge_cases spanning_tree.is_readable services item) rest ≡ target
+    → (shortest_tagged ≤ length item.wire) × (item.hops ≢ most_hops) × (rest ≡ target)
+from_bridge services item rest target on h =
+    let a = none-holds (bridge_cases spanning_tree.is_readable services item) rest target refl on h in
+    let cut = neither-left _ _ (neither-right (is_for_bridges item.wire) _ (neither-right _ _ (a.0 is_malformed))) in
+    (at-least shortest_tagged (length item.wire) cut, unworn item.hops (neither-left _ _ (a.0 is_wearing)), a.1)
 
 carries_in : (s : PortState) (w v : ℕ) → ruling_in s w ≡ Carries v → (w ≡ v) × (is_forwarding s ≡ true)
-carries_in Discarding w v h = absurd (refuses-carries v _ h)
+carries_in Discarding w v h = cc
 carries_in Learning w v h = cc
 carries_in Forwarding w v h = (carries-vid w v h, refl)
 
 learns_in : (s : PortState) (w v : ℕ) → ruling_in s w ≡ LearnsOnly v → w ≡ v
-learns_in Discarding w v h = absurd (refuses-learns v _ h)
+learns_in Discarding w v h = cc
 learns_in Learning w v h = cc
 learns_in Forwarding w v h = cc
 
 -- a frame that is relayed
 pub carried : (plan : Plan) (port : Port) (state : PortState) (item : Item) (v : ℕ) → ruling_by spanning_tree plan port state item ≡ Carries v → IsAdmitted plan port item v
 carried plan (Customer c) state item v h =
-    let a = from_customer item (Carries (vid_at plan c)) (Carries v) (refuses-carries v) h in
+    let a = from_customer item (Carries (vid_at plan c)) (Carries v) refl h in
     record { long = a.0; unworn = a.1; service = carries-vid _ v a.2 }
 carried plan (Provider e) state item v h =
-    let a = from_bridge (λ w. serves plan w e) item (ruling_in state (vid_of item.wire)) (Carries v) (refuses-carries v) (listens-carries v) h in
+    let a = from_bridge (λ w. serves plan w e) item (ruling_in state (vid_of item.wire)) (Carries v) refl h in
     record { long = omega (arith, a.0); unworn = a.1; service = (carries_in state (vid_of item.wire) v a.2).0 }
 carried plan Unused state item v h = cc
 
@@ -100,17 +81,17 @@ pub forwards : (plan : Plan) (port : Port) (p : ℕ) (changes : List (ℕ × Por
 forwards plan (Customer c) p changes item v h = refl
 forwards plan (Provider e) p changes item v h =
     let state = state_by plan.spanning (Provider e) p changes in
-    let a = from_bridge (λ w. serves plan w e) item (ruling_in state (vid_of item.wire)) (Carries v) (refuses-carries v) (listens-carries v) h in
+    let a = from_bridge (λ w. serves plan w e) item (ruling_in state (vid_of item.wire)) (Carries v) refl h in
     (carries_in state (vid_of item.wire) v a.2).1
 forwards plan Unused p changes item v h = cc
 
 -- a frame whose source alone is learnt
 pub overheard : (plan : Plan) (port : Port) (state : PortState) (item : Item) (v : ℕ) → ruling_by spanning_tree plan port state item ≡ LearnsOnly v → IsAdmitted plan port item v
 overheard plan (Customer c) state item v h =
-    let a = from_customer item (Carries (vid_at plan c)) (LearnsOnly v) (refuses-learns v) h in
+    let a = from_customer item (Carries (vid_at plan c)) (LearnsOnly v) refl h in
     let never = a.2 in cc
 overheard plan (Provider e) state item v h =
-    let a = from_bridge (λ w. serves plan w e) item (ruling_in state (vid_of item.wire)) (LearnsOnly v) (refuses-learns v) (listens-learns v) h in
+    let a = from_bridge (λ w. serves plan w e) item (ruling_in state (vid_of item.wire)) (LearnsOnly v) refl h in
     record { long = omega (arith, a.0); unworn = a.1; service = learns_in state (vid_of item.wire) v a.2 }
 overheard plan Unused state item v h = cc
 
@@ -139,9 +120,9 @@ pub loadable : (plan : Plan) (port : Port) (local : LocalPort) (state : PortStat
 loadable plan (Customer c) (ToCustomer vid pcp) state item v s p k h =
     let small = vid_at-small plan c s in
     let priority = p.priority in
-    (omega (arith, small, k.0), omega (arith, priority, k.1), (from_customer item (Carries (vid_at plan c)) (Carries v) (refuses-carries v) h).0)
+    (omega (arith, small, k.0), omega (arith, priority, k.1), (from_customer item (Carries (vid_at plan c)) (Carries v) refl h).0)
 loadable plan (Provider e) (ToBridge start vids) state item v s p k h =
-    (from_bridge (λ w. serves plan w e) item (ruling_in state (vid_of item.wire)) (Carries v) (refuses-carries v) (listens-carries v) h).0
+    (from_bridge (λ w. serves plan w e) item (ruling_in state (vid_of item.wire)) (Carries v) refl h).0
 loadable plan Unused local state item v s p k h = cc
 loadable plan (Customer c) (ToBridge start vids) state item v s p k h = absurd k
 loadable plan (Customer c) ToNobody state item v s p k h = absurd k

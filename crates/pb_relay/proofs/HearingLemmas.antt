@@ -10,7 +10,7 @@ use Rattle.pb_lan.specs.declared.plan.Spanning.TheVariants.{Fixed}
 use Rattle.pb_lan.specs.declared.shape.PortState.{PortState}
 use Rattle.pb_lan.specs.declared.step.Item.{Item}
 use Rattle.pb_lan.specs.declared.step.Outcome.TheVariants.{Heard, Filtered}
-use Rattle.pb_lan.specs.declared.step.Reason.TheVariants.{Memory as WantOfMemory}
+use Rattle.pb_frame.specs.declared.reason.Reason.TheVariants.{Memory as WantOfMemory}
 use Rattle.pb_lan.specs.declared.step.Step.{Step}
 use Rattle.pb_lan.specs.declared.step.Step.TheVariants.{Receive}
 use Rattle.pb_relay.specs.Changes.{unmoved}

@@ -22,7 +22,7 @@ use Rattle.pb_lan.specs.declared.step.Item.{Item}
 use Rattle.pb_lan.specs.declared.step.NoRoom.{NoRoom}
 use Rattle.pb_lan.specs.declared.step.Outcome.{Outcome}
 use Rattle.pb_lan.specs.declared.step.Outcome.TheVariants.{Relayed, Filtered}
-use Rattle.pb_lan.specs.declared.step.Reason.TheVariants.{NotForwarding, Memory as WantOfMemory}
+use Rattle.pb_frame.specs.declared.reason.Reason.TheVariants.{NotForwarding, Memory as WantOfMemory}
 use Rattle.pb_lan.specs.declared.step.Step.{Step}
 use Rattle.pb_lan.specs.declared.step.Step.TheVariants.{Receive}
 use Rattle.pb_relay.specs.declared.load.Load.{Load}

@@ -1,16 +1,15 @@
 -- The ruling by what a bridge keeps of a port is the ruling.
-use Rattle.std.proofs.Common.{◌≡◌, ℕ, zero, suc, ◌+◌, ◌-◌, ◌<◌, ◌≤◌, Bool, true, false, cond, Some, None, List, [], ◌∷◌, map, get_or, refl, sym, ap, ◌∙◌, subst, arith}
+use Rattle.std.proofs.Common.{◌≡◌, ℕ, zero, suc, ◌+◌, ◌-◌, ◌<◌, ◌≤◌, Bool, true, false, Some, None, List, [], ◌∷◌, ◌++◌, map, get_or, refl, sym, ap, ◌∙◌, subst, arith}
 use Rattle.std.proofs.lemmas.List.{get_or_read}
 use Rattle.pb_lan.specs.Ports.{Port, port_at, local_ports, serves}
 use Rattle.pb_lan.specs.Ports.Port.{Customer, Provider, Unused}
 use Rattle.pb_lan.specs.Shapes.{state_after, states_after}
 use Rattle.pb_lan.specs.BridgeLists.{ruling, bridge_cases}
 use Rattle.pb_lan.specs.declared.step.Step.{Step}
-use Rattle.pb_lan.specs.BridgeLists.{Ruling, is_worn, ruling_by, first_case, customer_cases, ruling_in}
+use Rattle.pb_lan.specs.BridgeLists.{Ruling, ruling_by, first_case, customer_cases, refusing, ruling_in}
 use Rattle.pb_lan.specs.BridgeLists.Ruling.{Carries, Refuses}
-use Rattle.pb_lan.specs.declared.step.Reason.TheVariants.{Malformed, Long, Reserved, STagged, Worn}
-use Rattle.pb_svlan.specs.Entering.{refusal}
-use Rattle.pb_svlan.specs.declared.entered.Refuse.TheVariants.{Short, Long as TooLong, Reserved as ReservedAs, STagged as InnerTag}
+use Rattle.pb_frame.specs.Admission.{first_reason}
+use Rattle.pb_frame.specs.declared.reason.Reason.{Reason}
 use Rattle.pb_frame.specs.Tags.{vid_of}
 use Rattle.pb_lan.specs.declared.plan.Plan.{Plan}
 use Rattle.pb_lan.specs.declared.shape.PortState.{PortState}
@@ -20,7 +19,7 @@ use Rattle.pb_relay.specs.Roles.LocalPort.{ToCustomer, ToBridge, ToNobody}
 use Rattle.pb_relay.specs.LocalPorts.{IsKept, IsConfigured}
 use Rattle.pb_lan.specs.Ports.{is_used}
 use Rattle.pb_relay.specs.Protocol.{spanning_tree}
-use Rattle.pb_relay.specs.Verdicts.{local_ruling, is_to_somebody, by_refusal}
+use Rattle.pb_relay.specs.Verdicts.{local_ruling, is_to_somebody}
 use Rattle.pb_relay.proofs.WaitingLemmas.{count_up}
 
 -- the ruling by what is kept of a port is the ruling there
@@ -80,15 +79,16 @@ rule_is plan b steps states p local item d e l k =
     ∙ ap (λ z. local_ruling local z item) (at_port (state_after plan b steps) p d l.0 l.1)
     ∙ ruled plan (port_at plan b p) local (state_after plan b steps p) item k
 
--- the cases at a customer port, by why the frame is refused
-cases_are : (a b c d worn : Bool) (last : ℕ) (rest : Ruling)
-    → by_refusal (cond a (Some Short) (cond b (Some TooLong) (cond c (Some (ReservedAs last)) (cond d (Some InnerTag) None)))) worn rest
-    ≡ first_case ((a, Refuses Malformed) ∷ (b, Refuses Long) ∷ (c, Refuses (Reserved last)) ∷ (d, Refuses STagged) ∷ (worn, Refuses Worn) ∷ []) rest
-cases_are true b c d worn last rest = refl
-cases_are false true c d worn last rest = refl
-cases_are false false true d worn last rest = refl
-cases_are false false false true worn last rest = refl
-cases_are false false false false worn last rest = refl
+-- a frame that is refused for the first of some reasons is so ruled, whatever cases stand behind them
+pub first-refuses : (cs more : List (Bool × Reason)) (reason : Reason) (rest : Ruling) → first_reason cs ≡ Some reason
+    → first_case (map refusing (cs ++ more)) rest ≡ Refuses reason
+first-refuses [] more reason rest h = cc
+first-refuses ((true, r) ∷ cs) more reason rest h = cc
+first-refuses ((false, r) ∷ cs) more reason rest h = first-refuses cs more reason rest h
 
-pub customer_ruled : (item : Item) (rest : Ruling) → by_refusal (refusal item.wire) (is_worn item) rest ≡ first_case (customer_cases item) rest
-customer_ruled item rest = cases_are _ _ _ _ (is_worn item) _ rest
+-- and where there is none, the cases behind tell
+pub first-passes : (cs more : List (Bool × Reason)) (rest : Ruling) → first_reason cs ≡ None
+    → first_case (map refusing (cs ++ more)) rest ≡ first_case (map refusing more) rest
+first-passes [] more rest h = refl
+first-passes ((true, r) ∷ cs) more rest h = cc
+first-passes ((false, r) ∷ cs) more rest h = first-passes cs more rest h

@@ -1,14 +1,14 @@
 //! What a bridge does with a frame that comes in at a port (IEEE 802.1Q clause 8).
 
 ghost use Rattle.std.specs.Prelude.{◌≡◌, ◌≤◌, ◌↔◌, length, true, false, IfOk, IfErr, OnOk, OnErr, IsErrOf, IsOk, if◌then◌else◌, None};
-ghost use Rattle.pb_frame.specs.Frames.{src_of, dst_of, is_group};
+ghost use Rattle.pb_frame.specs.Frames.{src_of, dst_of, is_group, shortest_frame};
 ghost use Rattle.pb_lan.specs.BridgeLists.{ruling, Fits};
 ghost use Rattle.pb_lan.specs.BridgeLists.Ruling.{Refuses, LearnsOnly, Carries};
 ghost use Rattle.pb_lan.specs.Ports.{port_at, is_used};
 ghost use Rattle.pb_steps.specs.StepLists.{with_step, given_back};
 ghost use Rattle.pb_relay.specs.Protocol.{spanning_tree};
 ghost use Rattle.pb_lan.specs.declared.step.Outcome.TheVariants.{Filtered};
-ghost use Rattle.pb_lan.specs.declared.step.Reason.TheVariants.{Memory as WantOfMemory};
+ghost use Rattle.pb_frame.specs.declared.reason.Reason.TheVariants.{Memory as WantOfMemory};
 ghost use Rattle.pb_lan.specs.declared.step.Step.TheVariants.{Receive};
 ghost use Rattle.pb_relay.specs.Loads.{IsLoadedAt};
 ghost use Rattle.pb_relay.specs.Receptions.{HasTaken};
@@ -218,7 +218,7 @@ fn append_receive(
 
 /// The source of a frame: its octets 6 to 11 (IEEE 802.3 clause 3).
 fn source_of(frame: &[u8]) -> Mac
-    requires { 14 ≤ length frame.now }
+    requires { shortest_frame ≤ length frame.now }
     ensures { result.0 ≡ src_of frame.now }
 {
     let mut octets = [0u8; 6];
@@ -228,7 +228,7 @@ fn source_of(frame: &[u8]) -> Mac
 
 /// The destination of a frame: its first six octets.
 fn destination_of(frame: &[u8]) -> Mac
-    requires { 14 ≤ length frame.now }
+    requires { shortest_frame ≤ length frame.now }
     ensures { result.0 ≡ dst_of frame.now }
 {
     let mut octets = [0u8; 6];
@@ -238,7 +238,7 @@ fn destination_of(frame: &[u8]) -> Mac
 
 /// The port at which the destination of a frame was seen. Groups are never sought.
 fn sought(table: &Fdb, vid: u16, frame: &[u8], now: u64) -> Option<u8>
-    requires { 14 ≤ length frame.now }
+    requires { shortest_frame ≤ length frame.now }
     ensures { result ≡ (if is_group (dst_of frame.now) then None else where_in table.now now vid (dst_of frame.now)) }
 {
     let destination = destination_of(frame);

@@ -7,6 +7,6 @@ pub enum Fate {
     Carry,
     /// It is for the provider bridges themselves: 01-80-C2-00-00-08, the provider bridge group address.
     Provider,
-    /// No provider bridge carries it: the address is 01-80-C2-00-00 with this last octet, which is 1 to 7, 9, 10 or 14.
+    /// No provider bridge carries it: the address is another reserved one, 01-80-C2-00-00 with this last octet.
     Filter(u8),
 }

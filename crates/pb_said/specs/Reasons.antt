@@ -1,8 +1,8 @@
 -- Words for why a frame went nowhere.
 use Rattle.std.specs.Prelude.{ℕ, List, ◌++◌, codes}
 use Rattle.std.specs.Fmt.{decimal}
-use Rattle.pb_lan.specs.declared.step.Reason.{Reason}
-use Rattle.pb_lan.specs.declared.step.Reason.TheVariants.{NotForwarding, NotMember, Untagged, Reserved, Malformed, Worn, Memory, STagged, Long}
+use Rattle.pb_frame.specs.declared.reason.Reason.{Reason}
+use Rattle.pb_frame.specs.declared.reason.Reason.TheVariants.{NotForwarding, NotMember, Untagged, Reserved, Malformed, Worn, Memory, STagged, Long}
 
 abbrev pub reason_word : Reason → List ℕ
 reason_word NotForwarding = codes "not-forwarding"

@@ -6,7 +6,7 @@ use Rattle.std.specs.List.{AllByRecursion, AllZip, IsDistinct, flat_map}
 use Rattle.pb_frame.specs.Admission.{same}
 use Rattle.pb_frame.proofs.Lists.{All-flat_map}
 use Rattle.pb_lan.specs.Ports.{ends_of, all_ends}
-use Rattle.pb_lan.specs.Plans.{IsNumber, IsSoundBridge, IsSoundEnd, IsSoundCustomer, HasDistinctNames, IsWithinLimits, IsSound, is_same_port, used_ports}
+use Rattle.pb_lan.specs.Plans.{IsNumber, IsSoundBridge, IsSoundEnd, IsSoundCustomer, HasDistinctNames, IsWithinLimits, IsSound, default_ageing, is_same_port, used_ports}
 use Rattle.pb_frame.specs.Lists.{Rises}
 use Rattle.pb_lan.specs.declared.plan.Plan.{Plan}
 use Rattle.pb_lan.specs.declared.plan.BridgePlan.{BridgePlan}
@@ -131,7 +131,7 @@ limits_sound document plan specs p =
       customers = omega (arith, p.port_tables.few, zip_length _ _ _ p.customers);
       ring = subst (λ n. IsNumber n 4096) (sym p.network.ring) (defaulted (codes "ring") 1 4096 64 4096 _ (omega arith) (omega arith) (omega arith) keys.1.1.0);
       steps = subst (λ n. IsNumber n 18446744073709551615) (sym p.network.steps) (unlimited (codes "steps") 1 1000000 18446744073709551615 _ (omega arith) (omega arith) keys.1.1.1.0);
-      ageing = subst (λ n. (10 ≤ n) × (n ≤ 1000000)) (sym p.network.ageing) (defaulted (codes "ageing") 10 1000000 300 1000000 _ (omega arith) (omega arith) (omega arith) keys.1.0);
+      ageing = subst (λ n. (10 ≤ n) × (n ≤ 1000000)) (sym p.network.ageing) (defaulted (codes "ageing") 10 1000000 default_ageing 1000000 _ (omega arith) (omega arith) (omega arith) keys.1.0);
     }
 
 -- the ports of links and customer ports, as their tables tell them

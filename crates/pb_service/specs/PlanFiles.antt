@@ -4,7 +4,7 @@ use Rattle.std.specs.List.{AllZip}
 use Rattle.std.specs.Str.{IsUtf8}
 use Rattle.toml.specs.Data.{Members, get_member}
 use Rattle.toml.specs.Parse.{parse_document}
-use Rattle.pb_lan.specs.Plans.{IsSound}
+use Rattle.pb_lan.specs.Plans.{IsSound, default_ageing}
 use Rattle.pb_lan.specs.declared.plan.Plan.{Plan}
 use Rattle.pb_service.specs.declared.fault.PlanFault.{PlanFault}
 use Rattle.pb_service.specs.declared.fault.PlanFault.TheVariants.{Utf8, Toml, Memory}
@@ -31,7 +31,7 @@ HasNetworkTable document = is_table (get_member (codes "network") document) ≡ 
 pub record TellsNetwork (row : Members) (plan : Plan) : Type 0 where
   pub keys : IsAccepted network_keys row
   pub spanning : plan.spanning ≡ spanning_of (text_at row (codes "spanning"))
-  pub ageing : plan.ageing ≡ number_at row (codes "ageing") 300 1000000
+  pub ageing : plan.ageing ≡ number_at row (codes "ageing") default_ageing 1000000
   pub ring : plan.ring ≡ number_at row (codes "ring") 64 4096
   pub steps : plan.steps ≡ number_at row (codes "steps") 18446744073709551615 18446744073709551615
 

@@ -5,6 +5,7 @@ use Rattle.std.specs.List.{list_any}
 use Rattle.pb_frame.specs.Admission.{same}
 use Rattle.pb_frame.specs.Hex.{IsHex, IsMacText}
 use Rattle.toml.specs.Data.{Data, Items, no_items, item, Members, get_member}
+use Rattle.pb_lan.specs.Plans.{default_ageing}
 use Rattle.pb_lan.specs.declared.plan.BridgePlan.{BridgePlan}
 use Rattle.pb_lan.specs.declared.plan.End.{End}
 use Rattle.pb_lan.specs.declared.plan.LinkPlan.{LinkPlan}
@@ -43,7 +44,7 @@ limits_told row = record {
 pub record IsNetworkOf (row : Members) (n : Network) : Type 0 where
   pub keys : IsAccepted network_keys row
   pub spanning : n.spanning ≡ spanning_of (text_at row (codes "spanning"))
-  pub ageing : n.ageing ≡ number_at row (codes "ageing") 300 1000000
+  pub ageing : n.ageing ≡ number_at row (codes "ageing") default_ageing 1000000
   pub ring : n.ring ≡ number_at row (codes "ring") 64 4096
   pub steps : n.steps ≡ number_at row (codes "steps") 18446744073709551615 18446744073709551615
   pub limits : n.limits ≡ limits_told row

@@ -17,7 +17,7 @@ use crate::row::{check_keys, told};
 use crate::section::Place;
 use crate::told::{number_at, spanning_of, text_at, value_at};
 use pb_frame::Text;
-use pb_lan::{Limits, Spanning};
+use pb_lan::{DEFAULT_AGEING, Limits, Spanning};
 use std::alloc::Global;
 use toml::Table;
 
@@ -82,7 +82,7 @@ fn network_of(alloc: Global, row: &Table) -> Result<Network, PlanFault>
     check_clocks(alloc, limits)?;
     Ok(Network {
         spanning: spanning_of(text_at(row, "spanning")),
-        ageing: number_at(row, "ageing", 300, 1_000_000) as u32,
+        ageing: number_at(row, "ageing", DEFAULT_AGEING as u64, 1_000_000) as u32,
         ring: number_at(row, "ring", 64, 4096) as u16,
         steps: number_at(row, "steps", u64::MAX, u64::MAX),
         limits,

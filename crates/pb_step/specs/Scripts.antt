@@ -6,13 +6,14 @@ use Rattle.pb_print.specs.PlanFiles.{IsToldBy}
 use Rattle.pb_print.specs.Refusals.{PrintsRefusal}
 use Rattle.pb_said.specs.declared.fault.CommandFault.{CommandFault}
 use Rattle.pb_said.specs.declared.fault.CommandFault.TheVariants.{Memory}
+use Rattle.pb_said.specs.BadLines.{longest_line}
 use Rattle.pb_step.specs.Steps.{PrintsSteps, PrintsStepsBeginning}
 
 -- the answers to a script and the report, of the plan that the file tells
 pub record PrintsDriven (file : List ℕ) (input before after : Option (List ℕ)) : Type 0 where
   pub plan : Plan
   pub told : IsToldBy file plan
-  pub prints : PrintsSteps 140000 plan input before after
+  pub prints : PrintsSteps longest_line plan input before after
 
 -- what is written for a file and a script, with the program's exit status
 abbrev pub PrintsScript : List ℕ → ℕ → Option (List ℕ) → Option (List ℕ) → Option (List ℕ) → Type 0
@@ -22,7 +23,7 @@ PrintsScript file status input before after = ((status ≡ 0) × PrintsDriven fi
 pub record PrintsDrivenBeginning (fault : CommandFault) (file : List ℕ) (input before after : Option (List ℕ)) : Type 0 where
   pub plan : Plan
   pub told : IsToldBy file plan
-  pub prints : PrintsStepsBeginning fault 140000 plan input before after
+  pub prints : PrintsStepsBeginning fault longest_line plan input before after
 
 -- what is written for a file and a script before a fault: nothing, where memory ran out; or the answers to first lines
 abbrev pub PrintsScriptBeginning : CommandFault → List ℕ → Option (List ℕ) → Option (List ℕ) → Option (List ℕ) → Type 0

@@ -7,6 +7,7 @@ ghost use Rattle.pb_lan.specs.Plans.{IsSound};
 ghost use Rattle.pb_lan.specs.Records.{IsLawfulRecord};
 ghost use Rattle.pb_relay.specs.Protocol.{spanning_tree};
 ghost use Rattle.pb_lines.specs.Reader.{held, limit_of};
+ghost use Rattle.pb_said.specs.BadLines.{longest_line};
 ghost use Rattle.pb_relay.specs.Settled.{TellsSettled};
 ghost use Rattle.pb_step.specs.Steps.{newest_at, HasGrown, StepAnswer, IsReport, IsAtLimit, PrintsSteps, HaveAnswered, PrintsStepsBeginning, start_of};
 ghost use Rattle.pb_print.specs.RecordTexts.{settled_line, IsRecordText};
@@ -243,9 +244,9 @@ pub fn run_steps<R: Read, W: Write>(
     writer: &mut W,
 ) -> Result<(), CommandFault>
     requires sound { IsSound plan }
-    ensures ok { OnOk result (PrintsSteps 140000 plan (R.remaining reader.old) (W.contents writer.old) (W.contents writer.new)) }
+    ensures ok { OnOk result (PrintsSteps longest_line plan (R.remaining reader.old) (W.contents writer.old) (W.contents writer.new)) }
     ensures part { IfErr result (λ e. e ≢ CommandFault.Write →
-        PrintsStepsBeginning e 140000 plan (R.remaining reader.old) (W.contents writer.old) (W.contents writer.new)) }
+        PrintsStepsBeginning e longest_line plan (R.remaining reader.old) (W.contents writer.old) (W.contents writer.new)) }
 {
     let net = Net::new(alloc, plan.clone()?)?;
     drive(alloc, MAX_LINE, &plan, net, reader, writer)

@@ -1,20 +1,26 @@
 //! Frames from customers.
 
 ghost use Rattle.std.specs.Prelude.{◌≡◌, ◌≤◌, length};
-ghost use Rattle.pb_frame.specs.Admission.{most_octets};
+ghost use Rattle.pb_frame.specs.Admission.{most_octets, refusal};
+ghost use Rattle.pb_frame.specs.Frames.{shortest_frame};
 ghost use Rattle.pb_frame.specs.Tags.{bare, has_service_type};
-ghost use Rattle.pb_svlan.specs.Entering.{refusal};
 ghost use Rattle.pb_svlan.specs.Reserving.{reserved_octet};
 
-use crate::entered::Refuse;
-use pb_frame::{Mac, has_priority_tag, has_service_type};
+use pb_frame::{
+    LONGEST_FRAME, LONGEST_UNTAGGED, Mac, Reason, SHORTEST_FRAME, has_priority_tag,
+    has_service_type,
+};
 use pb_reserved::{Fate, fate};
 
 /// The most octets of a frame from a customer.
 fn most_octets(frame: &[u8]) -> usize
     ensures { result ≡ most_octets frame.now }
 {
-    if has_priority_tag(frame) { 1996 } else { 1992 }
+    if has_priority_tag(frame) {
+        LONGEST_FRAME
+    } else {
+        LONGEST_UNTAGGED
+    }
 }
 
 /// A service tag's type stands in the frame less its priority tag.
@@ -30,7 +36,7 @@ fn has_inner_type(frame: &[u8]) -> bool
 
 /// The last octet of a reserved destination.
 fn reserved_octet(frame: &[u8]) -> Option<u8>
-    requires { 14 ≤ length frame.now }
+    requires { shortest_frame ≤ length frame.now }
     ensures { result ≡ reserved_octet frame.now }
 {
     let mut destination = [0u8; 6];
@@ -45,23 +51,23 @@ fn reserved_octet(frame: &[u8]) -> Option<u8>
 /// Why a customer's frame is refused, if it is (IEEE 802.1ad clause 9): the first that fits. Takes no
 /// memory.
 ///
-/// `Short` is answered under 14 octets, else `Long` over 1,992 (1,996 with a priority tag), else
+/// `Malformed` is answered under 14 octets, else `Long` over 1,992 (1,996 with a priority tag), else
 /// `Reserved` for a reserved destination, else `STagged` where a service tag's type stands behind the
 /// addresses of the frame without its priority tag.
-pub fn refusal(frame: &[u8]) -> Option<Refuse>
+pub fn refusal(frame: &[u8]) -> Option<Reason>
     ensures { result ≡ refusal frame.now }
 {
-    if frame.len() < 14 {
-        return Some(Refuse::Short);
+    if frame.len() < SHORTEST_FRAME {
+        return Some(Reason::Malformed);
     }
     if frame.len() > most_octets(frame) {
-        return Some(Refuse::Long);
+        return Some(Reason::Long);
     }
     if let Some(last) = reserved_octet(frame) {
-        return Some(Refuse::Reserved(last));
+        return Some(Reason::Reserved(last));
     }
     if has_inner_type(frame) {
-        return Some(Refuse::STagged);
+        return Some(Reason::STagged);
     }
     None
 }

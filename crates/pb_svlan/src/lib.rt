@@ -10,7 +10,7 @@ mod services;
 mod vid;
 
 pub use enter::refusal;
-pub use entered::{Entered, Refuse};
+pub use entered::Entered;
 pub use fault::{AddFault, JoinFault};
 pub use port::{Attachment, Join, Role};
 pub use services::Services;

@@ -2,20 +2,20 @@
 
 ghost use Rattle.std.specs.Prelude.{◌≡◌, ◌+◌, ◌≤◌, ◌↔◌, ◌++◌, ◌∷◌, [], ◌==◌, true, false, length, insert, map, unwrap_or, IsTrue, IsOk, IfOk, IfErr, IsSome, OnOk, OnErr, IsErrOf, Some, option_copied};
 ghost use Rattle.std.specs.List.{list_any, list_all};
-ghost use Rattle.pb_frame.specs.Admission.{same, is_admitted};
+ghost use Rattle.pb_frame.specs.Admission.{same, is_admitted, refusal};
 ghost use Rattle.pb_svlan.specs.declared.port.Join.{Join};
-ghost use Rattle.pb_svlan.specs.Entering.{refusal, IsEntered};
+ghost use Rattle.pb_svlan.specs.Entering.{IsEntered};
 ghost use Rattle.pb_frame.specs.Lists.{Rises};
 ghost use Rattle.pb_svlan.specs.ServiceTables.{vid_of, is_known, are_known, has_name, has_vid, role_in, is_taken, is_member, is_member_as, role_at, attached, carried, vids_of, ports_of, pcp_of, vid_at, place_of};
 ghost use Rattle.pb_svlan.specs.declared.port.Role.TheVariants.{Customer, Trunk};
 
 use crate::enter::refusal;
-use crate::entered::{Entered, Refuse};
+use crate::entered::Entered;
 use crate::fault::{AddFault, JoinFault};
 use crate::port::{Attachment, Join, Role};
 use crate::vid::Vid;
 use indexmap::IndexMap;
-use pb_frame::{Memory, Seq, Text, has_priority_tag, priority_of};
+use pb_frame::{Memory, Reason, Seq, Text, has_priority_tag, priority_of};
 use std::alloc::{AllocError, Global};
 use std::marker::Model;
 
@@ -285,17 +285,17 @@ impl Services {
     /// What a customer port makes of a frame (IEEE 802.1ad clause 9): the service, the priority, and
     /// whether a priority tag is to be cut out, or why the frame is refused. Takes no memory.
     ///
-    /// `Short` is answered under 14 octets, else `Long` over 1,992 (1,996 with a priority tag), else
+    /// `Malformed` is answered under 14 octets, else `Long` over 1,992 (1,996 with a priority tag), else
     /// `Reserved` for a reserved destination, else `STagged` where a service tag's type stands behind the
     /// addresses of the frame without its priority tag.
-    pub fn enter(&self, port: u8, frame: &[u8]) -> Result<Entered, Refuse>
+    pub fn enter(&self, port: u8, frame: &[u8]) -> Result<Entered, Reason>
         requires { IsSome (vid_at self.now port) }
         ensures entered { IfOk result (IsEntered self.now port frame.now) }
         ensures admitted { IsOk result ↔ (is_admitted frame.now ≡ true) }
-        ensures refused { IfErr result (λ refuse. refusal frame.now ≡ Some refuse) }
+        ensures refused { IfErr result (λ reason. refusal frame.now ≡ Some reason) }
     {
-        if let Some(refuse) = refusal(frame) {
-            return Err(refuse);
+        if let Some(reason) = refusal(frame) {
+            return Err(reason);
         }
         let vid = self.vid_at(port).unwrap();
         let cut = has_priority_tag(frame);

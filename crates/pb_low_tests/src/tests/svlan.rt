@@ -2,8 +2,8 @@
 
 ghost use Rattle.std.specs.Prelude.{◌≡◌, ◌≤◌};
 
-use pb_frame::Memory;
-use pb_svlan::{AddFault, JoinFault, Refuse, Services, Vid};
+use pb_frame::{Memory, Reason};
+use pb_svlan::{AddFault, JoinFault, Services, Vid};
 use std::alloc::{AllocError, Global};
 use std::process::Abort;
 
@@ -170,7 +170,7 @@ fn frame(alloc: Global, length: usize, behind: &[u8]) -> Result<Vec<u8>, AllocEr
 }
 
 /// The least reason that fits, or none, and the priority and whether a tag is cut, at port 1 with priority 3.
-fn entered(alloc: Global, frame: &[u8]) -> Result<(u8, bool), Refuse> {
+fn entered(alloc: Global, frame: &[u8]) -> Result<(u8, bool), Reason> {
     let mut services = Services::new(alloc);
     let _ = services.add(alloc, "red", vid(100));
     let _ = services.join(1, 1, 3);
@@ -185,7 +185,7 @@ fn entered(alloc: Global, frame: &[u8]) -> Result<(u8, bool), Refuse> {
 fn enters(
     rt: &impl Abort,
     alloc: Global,
-    row: (usize, &[u8], Result<(u8, bool), Refuse>),
+    row: (usize, &[u8], Result<(u8, bool), Reason>),
 ) -> Result<(), Memory> {
     let (length, behind, want) = row;
     let octets = frame(alloc, length, behind)?;
@@ -194,7 +194,7 @@ fn enters(
 }
 
 /// How long a frame is, what stands behind its addresses, and what becomes of it.
-type Entry = (usize, &'static [u8], Result<(u8, bool), Refuse>);
+type Entry = (usize, &'static [u8], Result<(u8, bool), Reason>);
 
 /// Frames of these rows enter so.
 fn all_enter(rt: &impl Abort, alloc: Global, rows: &[Entry]) -> Result<(), Memory> {
@@ -208,7 +208,7 @@ fn all_enter(rt: &impl Abort, alloc: Global, rows: &[Entry]) -> Result<(), Memor
 fn frames_enter_or_are_refused(rt: HostRuntime) -> Result<(), Memory> {
     const ROWS: &[Entry] = &[
         (60, &[8, 0], Ok((3, false))),
-        (13, &[8], Err(Refuse::Short)),
+        (13, &[8], Err(Reason::Malformed)),
         (14, &[8, 0], Ok((3, false))),
         (60, &[0x81, 0, 0x20, 5], Ok((3, false))),
         (60, &[0x88, 0xa8, 0xa0, 0, 8, 0], Ok((5, true))),
@@ -219,7 +219,7 @@ fn frames_enter_or_are_refused(rt: HostRuntime) -> Result<(), Memory> {
 
 #[test]
 fn tagged_frames_are_refused(rt: HostRuntime) -> Result<(), Memory> {
-    const REFUSED: Result<(u8, bool), Refuse> = Err(Refuse::STagged);
+    const REFUSED: Result<(u8, bool), Reason> = Err(Reason::STagged);
     const ROWS: &[Entry] = &[
         (60, &[0x88, 0xa8, 0, 0x64, 8, 0], REFUSED),
         (60, &[0x88, 0xa8, 0, 5, 8, 0], REFUSED),
@@ -232,18 +232,18 @@ fn tagged_frames_are_refused(rt: HostRuntime) -> Result<(), Memory> {
 fn long_frames_are_refused(rt: HostRuntime) -> Result<(), Memory> {
     const ROWS: &[Entry] = &[
         (1992, &[8, 0], Ok((3, false))),
-        (1993, &[8, 0], Err(Refuse::Long)),
+        (1993, &[8, 0], Err(Reason::Long)),
         (1996, &[0x88, 0xa8, 0xe0, 0], Ok((7, true))),
-        (1997, &[0x88, 0xa8, 0xe0, 0], Err(Refuse::Long)),
+        (1997, &[0x88, 0xa8, 0xe0, 0], Err(Reason::Long)),
     ];
     all_enter(&rt, rt.alloc(), ROWS)
 }
 
 /// What becomes of frames to the block of reserved addresses, by the last octet and what stands behind the addresses.
-const RESERVED: &[(u8, &[u8], Result<(u8, bool), Refuse>)] = &[
-    (1, &[0x88, 0xa8, 0, 5], Err(Refuse::Reserved(1))),
-    (8, &[0x88, 0xa8, 0, 5], Err(Refuse::Reserved(8))),
-    (14, &[0x88, 0xa8, 0, 5], Err(Refuse::Reserved(14))),
+const RESERVED: &[(u8, &[u8], Result<(u8, bool), Reason>)] = &[
+    (1, &[0x88, 0xa8, 0, 5], Err(Reason::Reserved(1))),
+    (8, &[0x88, 0xa8, 0, 5], Err(Reason::Reserved(8))),
+    (14, &[0x88, 0xa8, 0, 5], Err(Reason::Reserved(14))),
     (0, &[8, 0], Ok((3, false))),
     (0, &[0x81, 0, 0, 5, 8, 0], Ok((3, false))),
     (11, &[8, 0], Ok((3, false))),
@@ -257,7 +257,7 @@ fn entered_block(
     alloc: Global,
     last: u8,
     behind: &[u8],
-) -> Result<Result<(u8, bool), Refuse>, AllocError> {
+) -> Result<Result<(u8, bool), Reason>, AllocError> {
     let addresses = [1, 0x80, 0xc2, 0, 0, last, 2, 0, 0, 0, 0, 6];
     let mut octets = Vec::from_slice(alloc, &addresses)?;
     octets.extend_from_slice(behind)?;

@@ -1,6 +1,6 @@
-use Rattle.std.proofs.Common.{◌≡◌, ◌≤◌, ◌∷◌, ◌++◌, [], Some, None, refl, true, false, cond, List, ℕ, length, length-append, arith, ap, sym, subst, ◌∙◌}
+use Rattle.std.proofs.Common.{◌≡◌, ◌≤◌, ◌∷◌, ◌++◌, [], Some, None, refl, true, cond, List, ℕ, length, length-append, arith, ap, sym, subst, ◌∙◌}
 use Rattle.std.specs.List.{filter}
-use Rattle.pb_frame.specs.Frames.{src_of, dst_of, is_group}
+use Rattle.pb_frame.specs.Frames.{src_of, dst_of, is_group, shortest_frame}
 use Rattle.pb_lan.specs.Ports.{port_at, local_ports}
 use Rattle.pb_relay.specs.Protocol.{spanning_tree}
 use Rattle.pb_lan.specs.Shapes.{state_after}
@@ -36,12 +36,12 @@ admitted old view e port item vid r =
 pub source_of-requires : goal.source_of-requires
 source_of-requires c =
     let a = admitted _ _ c.self.view_is c.args.port c.args.item c.args.vid c.requires.ruling in
-    subst (λ (w : List ℕ). 14 ≤ length w) (sym c.as_slice-frame.ensures) a.long
+    subst (λ (w : List ℕ). shortest_frame ≤ length w) (sym c.as_slice-frame.ensures) a.long
 
 pub sought-at-requires : goal.sought-at-requires
 sought-at-requires c =
     let a = admitted _ _ c.self.view_is c.args.port c.args.item c.args.vid c.requires.ruling in
-    subst (λ (w : List ℕ). 14 ≤ length w) (sym c.as_slice-frame.ensures) a.long
+    subst (λ (w : List ℕ). shortest_frame ≤ length w) (sym c.as_slice-frame.ensures) a.long
 
 pub queue_copies-refused-requires-clause-hops : goal.queue_copies-refused-requires-clause-hops
 queue_copies-refused-requires-clause-hops c =

@@ -1,7 +1,7 @@
 use Rattle.std.proofs.Common.{◌≡◌, ◌∷◌, true, length, arith, sym, ap, subst, [], None, refl, length-append, List}
 use Rattle.pb_lan.specs.BridgeLists.{Fits}
 use Rattle.pb_lan.specs.declared.step.Outcome.TheVariants.{Filtered}
-use Rattle.pb_lan.specs.declared.step.Reason.TheVariants.{Memory}
+use Rattle.pb_frame.specs.declared.reason.Reason.TheVariants.{Memory}
 use Rattle.pb_lan.specs.declared.step.Step.{Step}
 use Rattle.pb_lan.specs.declared.step.Step.TheVariants.{Receive}
 use Rattle.pb_relay.specs.Standing.{BridgeView, IsStanding}

@@ -4,7 +4,7 @@ use Rattle.pb_relay.specs.Protocol.{spanning_tree}
 use Rattle.pb_lan.specs.BridgeLists.{ruling, Fits}
 use Rattle.pb_lan.specs.BridgeLists.Ruling.{LearnsOnly}
 use Rattle.pb_lan.specs.declared.step.Outcome.TheVariants.{Filtered}
-use Rattle.pb_lan.specs.declared.step.Reason.TheVariants.{NotForwarding}
+use Rattle.pb_frame.specs.declared.reason.Reason.TheVariants.{NotForwarding}
 use Rattle.pb_lan.specs.declared.step.Step.{Step}
 use Rattle.pb_lan.specs.declared.step.Step.TheVariants.{Receive}
 use Rattle.pb_relay.specs.Standing.{BridgeView, IsStanding, with_step}

@@ -3,7 +3,7 @@ use Rattle.pb_lan.specs.Ports.{port_at, is_used}
 use Rattle.pb_relay.specs.Protocol.{spanning_tree}
 use Rattle.pb_lan.specs.BridgeLists.{ruling, Fits}
 use Rattle.pb_lan.specs.declared.step.Outcome.TheVariants.{Filtered}
-use Rattle.pb_lan.specs.declared.step.Reason.TheVariants.{Memory}
+use Rattle.pb_frame.specs.declared.reason.Reason.TheVariants.{Memory}
 use Rattle.pb_lan.specs.declared.step.Step.TheVariants.{Receive}
 use Rattle.pb_relay.proofs.ReceiveLemmas.{given_up}
 use Rattle.pb_lan.specs.BridgeLists.Ruling.{Carries}
