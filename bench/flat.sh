@@ -60,7 +60,7 @@ compare() {
 }
 
 # The script builds the program where that is due, and then looks at its sources each time; that isn't timed.
-./pbnet --help >/dev/null
+./pbnet show >/dev/null
 export GLIBC_TUNABLES=${GLIBC_TUNABLES-glibc.malloc.hugetlb=1}
 has_yardstick=
 if command -v rustc >/dev/null 2>&1; then

@@ -9,7 +9,7 @@ if ! command -v python3 >/dev/null 2>&1; then
     echo "bench/long.sh needs python3" >&2
     exit 1
 fi
-./pbnet --help >/dev/null
+./pbnet show >/dev/null
 folder=$(mktemp -d)
 trap 'rm -rf -- "$folder"' EXIT
 

@@ -122,7 +122,7 @@ measure() {
     cat -- "$folder/errors"
 }
 
-./pbnet --help >/dev/null
+./pbnet show >/dev/null
 plan memory_keys >"$folder/memory.toml"
 plan capture_keys >"$folder/captures.toml"
 plan socket_keys >"$folder/sockets.toml"

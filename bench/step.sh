@@ -62,7 +62,7 @@ measure() {
     }'
 }
 
-./pbnet --help >/dev/null
+./pbnet show >/dev/null
 export GLIBC_TUNABLES=${GLIBC_TUNABLES-glibc.malloc.hugetlb=1}
 plan >"$folder/plan.toml"
 script

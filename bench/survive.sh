@@ -8,7 +8,7 @@ set -eu
 cd -- "$(dirname -- "$0")/.."
 
 if [ "$#" = 0 ]; then
-    ./pbnet --help >/dev/null
+    ./pbnet show >/dev/null
 fi
 program=${1-out/pbnet}
 folder=$(mktemp -d)

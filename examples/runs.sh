@@ -7,7 +7,7 @@
 set -eu
 cd -- "$(dirname -- "$0")/.."
 
-./pbnet --help >/dev/null
+./pbnet show >/dev/null
 mkdir -p out
 status=0
 
