@@ -32,7 +32,7 @@ install_missing() {
 
 install_missing
 if [ -z "${PBNET-}" ]; then
-    ./pbnet --version >/dev/null
+    ./pbnet show >/dev/null
 fi
 for part in "${parts[@]}"; do
     printf '## %s, %s\n\n' "$part" "$(date -u +%F)"
