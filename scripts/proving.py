@@ -113,6 +113,16 @@ def run(words, folder, room, hear=None, began=None):
     return Ran(started.returncode, "".join(said), used.ru_utime, used.ru_stime, time.time() - start)
 
 
+def spent_by(pid):
+    """Returns the seconds of processor time that a process has taken, 0 where it has ended."""
+    try:
+        with open(f"/proc/{pid}/stat", encoding="utf-8") as it:
+            fields = it.read().rsplit(")", 1)[1].split()
+    except OSError:
+        return 0.0
+    return (int(fields[11]) + int(fields[12])) / os.sysconf("SC_CLK_TCK")
+
+
 def kept_in(crate, name):
     """Returns the path of a file beside the crate's library that tells what it was made from. rt removes it when it builds the library anew."""
     return f"{os.path.dirname(crate.rlib)}/{name}"
@@ -236,8 +246,8 @@ class Proof:
         self.seconds = before.get("user", 0) + before.get("sys", 0)
         self.memory = toolchain().need(crate)
         self.done, self.jobs, self.began, self.ended = 0, 0, None, None
-        # What was heard between two of the checker's lines, and when the last one came.
-        self.took, self.heard = [], 0.0
+        # What the checker took between two of its lines, by processor time, and what it had taken at the last one.
+        self.took, self.spent, self.pid = [], 0.0, None
         self.was_proved = self.is_kept = False
         self.ran = Ran(0, "", 0.0, 0.0, 0.0)
 
@@ -246,19 +256,23 @@ class Proof:
         found = PROGRESS.match(line)
         if found:
             self.done, self.functions = int(found[2]), int(found[3])
-            self.took.append((time.time() - self.heard, found[1]))
-            self.heard = time.time()
+            spent = spent_by(self.pid)
+            self.took.append((spent - self.spent, found[1]))
+            self.spent = spent
+
+    def begins(self, pid):
+        """Takes the process of the command that begins."""
+        self.pid, self.spent = pid, 0.0
 
     def step(self, words, room, hear=None):
         """Runs one command of the proof, and returns whether it did well."""
-        ran = run([toolchain().rtlib.RATTLE, *words], self.crate.folder, room, hear)
+        ran = run([toolchain().rtlib.RATTLE, *words], self.crate.folder, room, hear, self.begins)
         self.ran = Ran(ran.status, ran.said, self.ran.user + ran.user, self.ran.sys + ran.sys, self.ran.wall + ran.wall)
         return ran.status == 0
 
     def prove(self, jobs, room, kept):
         """Proves the crate from nothing, builds its library or its program, and returns whether both did well."""
         crate, self.jobs, self.began = self.crate, jobs, time.time()
-        self.heard = self.began
         if kept_sum(crate, kept):
             # (what was proved below since the queue was made states what it stated)
             kept[crate.name], self.is_kept = kept_sum(crate, kept), True

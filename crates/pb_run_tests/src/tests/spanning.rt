@@ -1,5 +1,6 @@
 //! Bridges that decide their own tree while they run.
 
+use super::draft::Draft;
 use super::frames::Frames;
 use super::gates::{Lockstep, Open};
 use super::guests::Habit;
@@ -115,5 +116,27 @@ fn a_bridge_that_ticks_at_each_turn_relays(rt: HostRuntime) -> Result<(), Fail> 
     let told = ran(&rt, rt.alloc(), &SETUP, &gate)?;
     assert_eq!(rt; (told.ended, told.ports), (Some(Ended::Limit), 3));
     assert!(rt; told.is_left);
+    Ok(())
+}
+
+#[test]
+fn a_run_whose_clocks_tick_every_few_turns_drains(rt: HostRuntime) -> Result<(), Fail> {
+    // (the bridge is never idle for long, and has many turns until the others have had theirs)
+    const SETUP: Setup<'static> = Setup {
+        draft: Draft {
+            steps: 1_000_000,
+            ..STAR
+        },
+        ports: &[Outer::Memory(3), Outer::Memory(0), Outer::Memory(0)],
+        limits: Limits {
+            turns: 5_000_000,
+            tick_every: 5,
+            tick_ms: 0,
+            hold: 0,
+        },
+        left: &[Frames::First(0), Frames::First(3), Frames::First(3)],
+    };
+    let told = ran(&rt, rt.alloc(), &SETUP, &Open)?;
+    assert_eq!(rt; (told.ended, told.is_left), (Some(Ended::Drained), true));
     Ok(())
 }
