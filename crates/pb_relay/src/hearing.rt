@@ -42,10 +42,9 @@ impl Bridge {
             self.alloc,
             &mut self.states,
             &mut self.table,
-            &mut self.queues,
+            &mut self.outbox,
             change,
             room,
-            self.capacity,
             self.address,
         );
         let told = self.steps.append(heard_step(port, item, told, moved));

@@ -182,8 +182,7 @@ impl Bridge {
         let learnt = self.table.learn(vid, source_of(frame), port, self.clock);
         let at = sought(&self.table, vid, frame, self.clock);
         let chosen = choose(&self.ports, &self.states, port, vid, at);
-        let queues = &mut self.queues;
-        let refused = queue_copies(queues, &chosen, &self.ports, self.capacity, &load, &item);
+        let refused = queue_copies(&mut self.outbox, &chosen, &self.ports, &load, &item);
         let outcome = Outcome::Relayed {
             chosen: chosen.copied(),
             refused: refused.copied(),
