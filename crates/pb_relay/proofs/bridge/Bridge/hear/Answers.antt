@@ -44,7 +44,7 @@ returns-in_default-heard c =
     subst (λ (v : BridgeView). HasTaken v c.args.port c.args.item c.overhear.result c.overhear.new.self) c.self.view_is c.overhear.ensures
 
 -- the step names what the machine changes
-names : (c : goal.After-append-told) → Names spanning_tree c.self.inside.plan c.self.inside.number c.self.inside.steps.steps (Hears c.args.port c.args.item.wire) c.follow-moved.result
+names : (c : goal.After-append) → Names spanning_tree c.self.inside.plan c.self.inside.number c.self.inside.steps.steps (Hears c.args.port c.args.item.wire) c.follow-moved.result
 names c =
     let s = c.self.inside in
     let f = c.follow-moved in
@@ -58,7 +58,7 @@ follow-moved-requires-clause-change c =
     of_ports s.plan s.number s.steps.steps s.rstp s.address.0 (Hears c.args.port c.args.item.wire) c.in-Some.change c.self.invariant.4 (ap (λ w. change_next c.self.inside.rstp (Hears c.args.port w)) (sym c.as_slice.ensures) ∙ sym c.in-Ok-hear.ensures.change ∙ c.in-Some.is)
 
 -- and fits
-fits : (c : goal.After-append-told) → Fits spanning_tree c.self.inside.plan c.self.inside.number c.self.inside.steps.steps (Receive c.args.port c.args.item None Heard (Some c.follow-moved.result))
+fits : (c : goal.After-append) → Fits spanning_tree c.self.inside.plan c.self.inside.number c.self.inside.steps.steps (Receive c.args.port c.args.item None Heard (Some c.follow-moved.result))
 fits c =
     heard_fits c.self.inside.plan c.self.inside.number c.self.inside.steps.steps c.args.port c.args.item c.follow-moved.result
     (subst (λ (v : BridgeView). ruling spanning_tree v.plan v.number v.steps c.args.port c.args.item ≡ Listens) (sym c.self.view_is) c.requires.ruling) (names c)
@@ -69,7 +69,7 @@ invariant_of-self-2 c =
     let f = c.follow-moved in
     let reserved = c.self.invariant.2.reserved (subst (λ (v : BridgeView). v.is_reserved ≡ true) (sym c.self.view_is) c.requires.reserved) in
     let step : Step = Receive c.args.port c.args.item None Heard (Some c.follow-moved.result) in
-    let e : c.append-told.new.self.steps ≡ s.steps.steps ++ step ∷ [] = (ap (λ (v : StepsView). v.steps) c.append-told.ensures.steps) ∙ ap (λ (z : Step). s.steps.steps ++ z ∷ []) c.heard_step.ensures in (
+    let e : c.append.new.self.steps ≡ s.steps.steps ++ step ∷ [] = (ap (λ (v : StepsView). v.steps) c.append.ensures.steps) ∙ ap (λ (z : Step). s.steps.steps ++ z ∷ []) c.heard_step.ensures in (
       subst (λ (n : ℕ). IsConfigured s.plan s.number s.ports n s.limit) (sym f.ensures.outbox_kept.capacity)
           c.self.invariant.0,
       subst (λ (ms : List Step). IsStanding s.plan s.number ms f.new.states f.new.outbox.ports c.self.inside.clock
@@ -81,23 +81,24 @@ invariant_of-self-2 c =
           (c.self.invariant.1.stations)),
       record {
         within = omega (arith, reserved, ap length e, length-append s.steps.steps (step ∷ []));
-        reserved = λ e. used_up (ap (λ (v : StepsView). v.is_reserved) c.append-told.ensures.steps) e;
+        reserved = λ e. used_up (ap (λ (v : StepsView). v.is_reserved) c.append.ensures.steps) e;
       },
       subst (IsTableOf s.plan c.self.inside.clock) (sym f.ensures.flushed_table) (table_all_flushed s.plan c.self.inside.clock c.self.inside.table c.in-Some.change.flush c.self.invariant.3),
       subst (λ (ms : List Step). IsSpanning s.plan s.number ms c.hear.new.rstp s.address.0) (sym e)
           (spanning_moves s.plan s.number s.steps.steps s.rstp c.hear.new.rstp s.address.0 step (Hears c.args.port c.args.item.wire) refl (c.in-Ok-hear.ensures.ok ∙ ap (λ w. machine_next s.rstp (Hears c.args.port w)) c.as_slice.ensures) c.self.invariant.4),
       f.ensures.outbox_kept.is_kept ∙ c.self.invariant.5
-          ∙ sym (ap (λ (v : StepsView). v.is_kept) c.append-told.ensures.steps),
+          ∙ sym (ap (λ (v : StepsView). v.is_kept) c.append.ensures.steps),
     )
 
 pub returns : goal.returns
 returns c =
     let s = c.self.inside in
     let step : Step = Receive c.args.port c.args.item None Heard (Some c.follow-moved.result) in
-    let e : c.append-told.new.self.steps ≡ s.steps.steps ++ step ∷ [] = (ap (λ (v : StepsView). v.steps) c.append-told.ensures.steps) ∙ ap (λ (z : Step). s.steps.steps ++ z ∷ []) c.heard_step.ensures in (
+    let e : c.append.new.self.steps ≡ s.steps.steps ++ step ∷ [] = (ap (λ (v : StepsView). v.steps) c.append.ensures.steps) ∙ ap (λ (z : Step). s.steps.steps ++ z ∷ []) c.heard_step.ensures in (
       None,
+      Heard,
       Some c.follow-moved.result,
-      seen s.plan s.number _ c.self.inside.steps c.append-told.new.self step (c.append-told.ensures.steps ∙ ap (steps_with s.steps) c.heard_step.ensures) c.self.view_is,
+      seen s.plan s.number _ c.self.inside.steps c.append.new.self step (c.append.ensures.steps ∙ ap (steps_with s.steps) c.heard_step.ensures) c.self.view_is,
       subst (λ (v : BridgeView). Fits spanning_tree v.plan v.number v.steps step) c.self.view_is (fits c),
-      back s.plan s.number _ c.self.inside.steps step _ (c.append-told.ensures.back ∙ ap (given_back s.steps.is_kept) c.heard_step.ensures) c.self.view_is,
+      back s.plan s.number _ c.self.inside.steps step _ (c.append.ensures.back ∙ ap (given_back s.steps.is_kept) c.heard_step.ensures) c.self.view_is,
     )
