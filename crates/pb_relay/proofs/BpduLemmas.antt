@@ -11,9 +11,10 @@ use Rattle.pb_lan.specs.declared.step.NoRoom.{NoRoom}
 use Rattle.pb_bpdu.specs.Layout.{written}
 use Rattle.pb_bpdu.specs.declared.bpdu.Bpdu.{Bpdu}
 use Rattle.pb_relay.specs.Bpdus.{HasSent, told_queued, word_of, frames_of}
-use Rattle.pb_relay.specs.Copies.{AreCopied, AreSeparate, HasEnqueued, named, item_with}
+use Rattle.pb_relay.specs.Copies.{AreCopied, AreSeparate, named, item_with}
 use Rattle.pb_relay.specs.Moves.{own_at, own_queued, places_of}
-use Rattle.pb_relay.proofs.CopyLemmas.{IsOther, unequal, refused-other, refused-own, none_refused, separate_at, separate_before, copied_more}
+use Rattle.pb_relay.specs.Outboxes.{OutboxView, HasEnqueued, KeepsOutbox}
+use Rattle.pb_relay.proofs.CopyLemmas.{IsOther, unequal, refused-other, refused-own, none_refused, separate_at, separate_before, copied_more, answered-keeps, answered-count}
 
 -- a frame and its port
 abbrev Send : Type 0
@@ -44,10 +45,11 @@ filter-others p g h e (f ∷ fs) a =
     ∙ ap (λ zs. cond (h f.0) (f ∷ zs) zs) (filter-others p g h e fs a.1)
 
 -- one frame more
-pub queued_more : (p : ℕ) (wire : List ℕ) (capacity : ℕ) (old new : List (List Item)) (answer : Result Item NoRoom) (rs : List (ℕ × NoRoom)) (done : List Send)
-    → HasSent capacity wire old answer new → is_refused rs p ≡ false → AllByRecursion (IsOther p) (places_of done)
+queued_more : (p : ℕ) (wire : List ℕ) (old new : OutboxView) (place : ℕ) (answer : Result Item NoRoom)
+    (rs : List (ℕ × NoRoom)) (done : List Send)
+    → HasSent old place wire answer new → is_refused rs p ≡ false → AllByRecursion (IsOther p) (places_of done)
     → own_queued (rs ++ named p (word_of answer)) (done ++ (p, wire) ∷ []) ≡ own_queued rs done ++ told_queued p answer
-queued_more p wire capacity old new answer rs done h n a =
+queued_more p wire old new place answer rs done h n a =
     ap (map own_item) (filter-append (λ (s : Send). not (is_refused (rs ++ named p (word_of answer)) s.0)) done ((p, wire) ∷ []))
     ∙ map-append own_item (filter (λ (s : Send). not (is_refused (rs ++ named p (word_of answer)) s.0)) done) (filter (λ (s : Send). not (is_refused (rs ++ named p (word_of answer)) s.0)) ((p, wire) ∷ []))
     ∙ ap (λ zs. map own_item zs ++ map own_item (filter (λ (s : Send). not (is_refused (rs ++ named p (word_of answer)) s.0)) ((p, wire) ∷ [])))
@@ -55,15 +57,17 @@ queued_more p wire capacity old new answer rs done h n a =
     ∙ ap (λ b. own_queued rs done ++ map own_item (cond (not b) ((p, wire) ∷ []) [])) (refused-own p (word_of answer) rs n)
     ∙ ap (λ zs. own_queued rs done ++ zs) (by_answer answer h)
   where
-    by_answer : (z : Result Item NoRoom) → HasSent capacity wire old z new → map own_item (cond (not (is_some (word_of z))) ((p, wire) ∷ []) []) ≡ told_queued p z
+    by_answer : (z : Result Item NoRoom) → HasSent old place wire z new
+        → map own_item (cond (not (is_some (word_of z))) ((p, wire) ∷ []) []) ≡ told_queued p z
     by_answer (Ok item) k = ap (λ (x : Item). (p, x) ∷ []) (sym k.0)
     by_answer (Err word) k = refl
 
 -- what was answered, as a word
-pub has_enqueued : (capacity : ℕ) (wire : List ℕ) (old new : List (List Item)) (answer : Result Item NoRoom) → HasSent capacity wire old answer new
-    → HasEnqueued capacity 7 (item_with None 0 wire) old (word_of answer) new
-has_enqueued capacity wire old new (Ok item) h = h.1
-has_enqueued capacity wire old new (Err word) h = h
+has_enqueued : (wire : List ℕ) (old new : OutboxView) (place : ℕ) (answer : Result Item NoRoom)
+    → HasSent old place wire answer new
+    → HasEnqueued old place 7 (item_with None 0 wire) (word_of answer) new
+has_enqueued wire old new place (Ok item) h = h.1
+has_enqueued wire old new place (Err word) h = h
 
 -- at most one item is told of a port
 pub told-few : (p : ℕ) (answer : Result Item NoRoom) → length (told_queued p answer) ≤ 1
@@ -99,15 +103,20 @@ bpdu_place address sends i d l a =
     subst (λ (p : ℕ). (1 ≤ p) × (p ≤ 16)) (place-at address sends i d l) (separate_at (places_of (frames_of address sends)) i (omega arith) a)
 
 -- one BPDU more
-pub bpdu_more : (capacity : ℕ) (address : List ℕ) (sends : List Sent) (i : ℕ) (d : Sent) (old : List (List (List Item))) (rs : List (ℕ × NoRoom)) (new : List (List (List Item)))
-    (q after : List (List Item)) (answer : Result Item NoRoom) (queued : List (ℕ × Item))
+bpdu_more : (first from to : OutboxView) (address : List ℕ) (sends : List Sent) (i : ℕ) (d : Sent)
+    (rs : List (ℕ × NoRoom))
+    (answer : Result Item NoRoom) (queued : List (ℕ × Item))
     → i < length sends → AreSeparate (places_of (frames_of address sends))
-    → AreCopied capacity 7 (own_at (frames_of address sends)) old (take i (places_of (frames_of address sends))) rs new → length new ≡ 16
-    → queued ≡ own_queued rs (take i (frames_of address sends))
-    → q ≡ get_or new ((get_or sends i d).0 - 1) q → HasSent capacity (written address (get_or sends i d).1) q answer after
-    → AreCopied capacity 7 (own_at (frames_of address sends)) old (take (i + 1) (places_of (frames_of address sends))) (rs ++ named (get_or sends i d).0 (word_of answer)) (set new ((get_or sends i d).0 - 1) after)
-    × (queued ++ told_queued (get_or sends i d).0 answer ≡ own_queued (rs ++ named (get_or sends i d).0 (word_of answer)) (take (i + 1) (frames_of address sends)))
-bpdu_more capacity address sends i d old rs new q after answer queued l a copied count told value h =
+    → AreCopied first.capacity 7 (own_at (frames_of address sends)) first.ports
+    (take i (places_of (frames_of address sends))) rs from.ports
+    → length from.ports ≡ 16 → KeepsOutbox first from → queued ≡ own_queued rs (take i (frames_of address sends))
+    → HasSent from ((get_or sends i d).0 - 1) (written address (get_or sends i d).1) answer to
+    → AreCopied first.capacity 7 (own_at (frames_of address sends)) first.ports
+    (take (i + 1) (places_of (frames_of address sends)))
+    (rs ++ named (get_or sends i d).0 (word_of answer)) to.ports
+    × (queued ++ told_queued (get_or sends i d).0 answer
+    ≡ own_queued (rs ++ named (get_or sends i d).0 (word_of answer)) (take (i + 1) (frames_of address sends)))
+bpdu_more first from to address sends i d rs answer queued l a copied count keeps told h =
     let fs = frames_of address sends in
     let ps = places_of fs in
     let x = get_or sends i d in
@@ -120,12 +129,16 @@ bpdu_more capacity address sends i d old rs new q after answer queued l a copied
     let before : AllByRecursion (IsOther x.0) (take i ps) = subst (λ (k : ℕ). AllByRecursion (IsOther k) (take i ps)) p-at (separate_before ps i fewer a) in
     let here : own_at fs x.0 ≡ item_with None 0 (written address x.1) =
     subst (λ (s : Send). own_at fs s.0 ≡ item_with None 0 s.1) f-at (own_at-here fs i (d.0, written address d.1) few a) in
-    let more = copied_more capacity 7 (own_at fs) old (take i ps) rs new x.0 (word_of answer) q after copied before (bpdu_place address sends i d l a) count value
-    (subst (λ (z : Item). HasEnqueued capacity 7 z q (word_of answer) after) (sym here) (has_enqueued capacity (written address x.1) q after answer h)) in (
-      subst (λ (zs : List ℕ). AreCopied capacity 7 (own_at fs) old zs (rs ++ named x.0 (word_of answer)) (set new (x.0 - 1) after))
+    let more = copied_more first from to 7 (own_at fs) (take i ps) rs x.0 (word_of answer) copied before
+    (bpdu_place address sends i d l a) count keeps
+    (subst (λ (z : Item). HasEnqueued from (x.0 - 1) 7 z (word_of answer) to) (sym here)
+    (has_enqueued (written address x.1) from to (x.0 - 1) answer h)) in (
+      subst (λ (zs : List ℕ). AreCopied first.capacity 7 (own_at fs) first.ports zs (rs ++ named x.0 (word_of answer))
+          to.ports)
           (sym (take_more ps i 0 fewer ∙ ap (λ k. take i ps ++ k ∷ []) p-at)) more,
       ap (λ zs. zs ++ told_queued x.0 answer) told
-          ∙ sym (queued_more x.0 (written address x.1) capacity q after answer rs (take i fs) h (none_refused x.0 (take i ps) rs copied.refusals.0 before)
+          ∙ sym (queued_more x.0 (written address x.1) from to (x.0 - 1) answer rs (take i fs) h
+          (none_refused x.0 (take i ps) rs copied.refusals.0 before)
           (subst (λ (zs : List ℕ). AllByRecursion (IsOther x.0) zs) (take-map (λ (s : Send). s.0) i fs) before))
           ∙ ap (own_queued (rs ++ named x.0 (word_of answer))) (sym (take_more fs i (d.0, written address d.1) few ∙ ap (λ (s : Send). take i fs ++ s ∷ []) f-at)),
     )
@@ -134,16 +147,36 @@ bpdu_more capacity address sends i d old rs new q after answer queued l a copied
 pub place_of : (address : List ℕ) (sends : List Sent) (i : ℕ) (x : Sent) → i < length sends → x ≡ get_or sends i x → AreSeparate (places_of (frames_of address sends)) → (1 ≤ x.0) × (x.0 ≤ 16)
 place_of address sends i x l e a = subst (λ (y : Sent). (1 ≤ y.0) × (y.0 ≤ 16)) (sym e) (bpdu_place address sends i x l a)
 
-pub one_bpdu : (capacity : ℕ) (address : List ℕ) (sends : List Sent) (i : ℕ) (x : Sent) (old : List (List (List Item))) (rs : List (ℕ × NoRoom)) (new : List (List (List Item)))
-    (q after : List (List Item)) (answer : Result Item NoRoom) (queued : List (ℕ × Item))
+pub one_bpdu : (first from to : OutboxView) (address : List ℕ) (sends : List Sent) (i : ℕ) (x : Sent)
+    (rs : List (ℕ × NoRoom))
+    (answer : Result Item NoRoom) (queued : List (ℕ × Item))
     → i < length sends → x ≡ get_or sends i x → AreSeparate (places_of (frames_of address sends))
-    → AreCopied capacity 7 (own_at (frames_of address sends)) old (take i (places_of (frames_of address sends))) rs new → length new ≡ 16
-    → queued ≡ own_queued rs (take i (frames_of address sends))
-    → q ≡ get_or new (x.0 - 1) q → HasSent capacity (written address x.1) q answer after
-    → AreCopied capacity 7 (own_at (frames_of address sends)) old (take (i + 1) (places_of (frames_of address sends))) (rs ++ named x.0 (word_of answer)) (set new (x.0 - 1) after)
+    → AreCopied first.capacity 7 (own_at (frames_of address sends)) first.ports
+    (take i (places_of (frames_of address sends))) rs from.ports
+    → length from.ports ≡ 16 → KeepsOutbox first from → queued ≡ own_queued rs (take i (frames_of address sends))
+    → HasSent from (x.0 - 1) (written address x.1) answer to
+    → AreCopied first.capacity 7 (own_at (frames_of address sends)) first.ports
+    (take (i + 1) (places_of (frames_of address sends)))
+    (rs ++ named x.0 (word_of answer)) to.ports
     × (queued ++ told_queued x.0 answer ≡ own_queued (rs ++ named x.0 (word_of answer)) (take (i + 1) (frames_of address sends)))
-one_bpdu capacity address sends i x old rs new q after answer queued l e a copied count told value h =
-    subst (λ (y : Sent). q ≡ get_or new (y.0 - 1) q → HasSent capacity (written address y.1) q answer after
-    → AreCopied capacity 7 (own_at (frames_of address sends)) old (take (i + 1) (places_of (frames_of address sends))) (rs ++ named y.0 (word_of answer)) (set new (y.0 - 1) after)
+one_bpdu first from to address sends i x rs answer queued l e a copied count keeps told h =
+    subst (λ (y : Sent). HasSent from (y.0 - 1) (written address y.1) answer to
+    → AreCopied first.capacity 7 (own_at (frames_of address sends)) first.ports
+    (take (i + 1) (places_of (frames_of address sends)))
+    (rs ++ named y.0 (word_of answer)) to.ports
     × (queued ++ told_queued y.0 answer ≡ own_queued (rs ++ named y.0 (word_of answer)) (take (i + 1) (frames_of address sends))))
-    (sym e) (bpdu_more capacity address sends i x old rs new q after answer queued l a copied count told) value h
+    (sym e) (bpdu_more first from to address sends i x rs answer queued l a copied count keeps told) h
+
+-- the outbox is the same but for what waits, and has as many ports
+pub sent_keeps : (first from to : OutboxView) (place : ℕ) (wire : List ℕ) (answer : Result Item NoRoom)
+    → KeepsOutbox first from
+    → HasSent from place wire answer to → KeepsOutbox first to
+sent_keeps first from to place wire answer k h =
+    answered-keeps first from to place 7 (item_with None 0 wire) (word_of answer) k
+    (has_enqueued wire from to place answer h)
+
+pub sent_count : (from to : OutboxView) (place : ℕ) (wire : List ℕ) (answer : Result Item NoRoom)
+    → HasSent from place wire answer to
+    → length to.ports ≡ length from.ports
+sent_count from to place wire answer h =
+    answered-count from to place 7 (item_with None 0 wire) (word_of answer) (has_enqueued wire from to place answer h)

@@ -1,7 +1,7 @@
 -- One more port has got its copy or is refused.
-use Rattle.std.proofs.Common.{◌≡◌, ◌≢◌, ℕ, zero, suc, ◌+◌, ◌-◌, ◌<◌, ◌≤◌, Bool, true, false, cond, not, ◌&&◌, ◌||◌, is_some, Some, None, List, [], ◌∷◌, ◌++◌, map, length, take, get_or, set, nat_le, ◌==◌, refl, sym, ap, ◌∙◌, subst, arith, eq-eqb}
+use Rattle.std.proofs.Common.{◌≡◌, ◌≢◌, ℕ, zero, suc, ◌+◌, ◌-◌, ◌<◌, ◌≤◌, Bool, true, false, cond, not, ◌&&◌, ◌||◌, is_some, Some, None, List, [], ◌∷◌, ◌++◌, map, length, take, get_or, set, nat_le, ◌==◌, if◌then◌else◌, refl, sym, ap, ◌∙◌, subst, arith, eq-eqb}
 use Rattle.std.proofs.lemmas.Bool.{eqb-true}
-use Rattle.std.proofs.lemmas.List.{get_or-set_same, get_or-set_other, get_or_read, map-append}
+use Rattle.std.proofs.lemmas.List.{get_or-set_same, get_or-set_other, length-set, map-append, set-get_or}
 use Rattle.std.specs.declared.option.Option.{Option}
 use Rattle.std.specs.List.{AllByRecursion, filter, list_any}
 use Rattle.pb_frame.proofs.Lists.{All-append, filter-append}
@@ -12,7 +12,8 @@ use Rattle.pb_lan.specs.declared.step.Item.{Item}
 use Rattle.pb_lan.specs.declared.step.NoRoom.{NoRoom}
 use Rattle.pb_lan.specs.declared.step.NoRoom.TheVariants.{Full, Memory}
 use Rattle.pb_relay.specs.Classes.{number_in, put_in}
-use Rattle.pb_relay.specs.Copies.{HasEnqueued, AreCopied, AreSeparate, with_copy, named}
+use Rattle.pb_relay.specs.Outboxes.{OutboxView, at_place, is_full_at, HasEnqueued, KeepsOutbox}
+use Rattle.pb_relay.specs.Copies.{AreCopied, AreSeparate, with_copy, named}
 
 abbrev pub IsOther : ℕ → ℕ → Type 0
 IsOther p q = q ≢ p
@@ -109,40 +110,66 @@ refusals-more p word full done rs h a f =
       All-append (λ q. full q ≡ is_named_full (rs ++ named p word) q) done (p ∷ []) (refusals-others p word full rs done a h.1) (f ∙ sym (full-own p word rs n), tt),
     )
 
-answered-full : (capacity class : ℕ) (item : Item) (old new : List (List Item)) (word : Option NoRoom) → HasEnqueued capacity class item old word new
-    → nat_le capacity (number_in old) ≡ is_full_answer word
-answered-full capacity class item old new None h = h.0
-answered-full capacity class item old new (Some Full) h = h.0
-answered-full capacity class item old new (Some Memory) h = h.0
+answered-full : (from to : OutboxView) (place class : ℕ) (item : Item) (word : Option NoRoom)
+    → HasEnqueued from place class item word to → is_full_at from place ≡ is_full_answer word
+answered-full from to place class item None h = h.0
+answered-full from to place class item (Some Full) h = h.0
+answered-full from to place class item (Some Memory) h = h.0
 
-answered-copy : (capacity class : ℕ) (item : Item) (old new : List (List Item)) (word : Option NoRoom) → HasEnqueued capacity class item old word new
-    → new ≡ cond (not (is_some word)) (put_in class item old) old
-answered-copy capacity class item old new None h = h.1
-answered-copy capacity class item old new (Some Full) h = h.1
-answered-copy capacity class item old new (Some Memory) h = h.1
+-- the items of a port with the copy that was answered, if one was
+abbrev with_answer : ℕ → Item → Option NoRoom → List (List Item) → List (List Item)
+with_answer class item word qs = if not (is_some word) then put_in class item qs else qs
+
+answered-copy : (from to : OutboxView) (place class : ℕ) (item : Item) (word : Option NoRoom)
+    → HasEnqueued from place class item word to
+    → to.ports ≡ set from.ports place (with_answer class item word (at_place from place))
+answered-copy from to place class item None h = ap (λ (o : OutboxView). o.ports) h.1
+answered-copy from to place class item (Some Full) h =
+    ap (λ (o : OutboxView). o.ports) h.1 ∙ sym (set-get_or from.ports place [])
+answered-copy from to place class item (Some Memory) h =
+    ap (λ (o : OutboxView). o.ports) h.1 ∙ sym (set-get_or from.ports place [])
+
+pub answered-keeps : (first from to : OutboxView) (place class : ℕ) (item : Item) (word : Option NoRoom)
+    → KeepsOutbox first from → HasEnqueued from place class item word to → KeepsOutbox first to
+answered-keeps first from to place class item None k h = record {
+  capacity = ap (λ (o : OutboxView). o.capacity) h.1 ∙ k.capacity;
+  is_kept = ap (λ (o : OutboxView). o.is_kept) h.1 ∙ k.is_kept;
+}
+answered-keeps first from to place class item (Some Full) k h = subst (KeepsOutbox first) (sym h.1) k
+answered-keeps first from to place class item (Some Memory) k h = subst (KeepsOutbox first) (sym h.1) k
+
+-- there are as many ports
+pub answered-count : (from to : OutboxView) (place class : ℕ) (item : Item) (word : Option NoRoom)
+    → HasEnqueued from place class item word to → length to.ports ≡ length from.ports
+answered-count from to place class item word h =
+    ap length (answered-copy from to place class item word h) ∙ length-set _ _ _
 
 -- one port more
-pub copied_more : (capacity class : ℕ) (item_at : ℕ → Item) (old : List (List (List Item))) (done : List ℕ) (rs : List (ℕ × NoRoom)) (new : List (List (List Item))) (p : ℕ)
-    (word : Option NoRoom) (q after : List (List Item))
+copied_at : (capacity class : ℕ) (item_at : ℕ → Item) (old : List (List (List Item))) (done : List ℕ)
+    (rs : List (ℕ × NoRoom)) (new : List (List (List Item))) (p : ℕ) (word : Option NoRoom)
     → AreCopied capacity class item_at old done rs new → AllByRecursion (IsOther p) done → (1 ≤ p) × (p ≤ 16) → length new ≡ 16
-    → q ≡ get_or new (p - 1) q → HasEnqueued capacity class (item_at p) q word after
-    → AreCopied capacity class item_at old (done ++ p ∷ []) (rs ++ named p word) (set new (p - 1) after)
-copied_more capacity class item_at old done rs new p word q after h a l n e w = record {
+    → nat_le capacity (number_in (get_or new (p - 1) [])) ≡ is_full_answer word
+    → AreCopied capacity class item_at old (done ++ p ∷ []) (rs ++ named p word)
+    (set new (p - 1) (with_answer class (item_at p) word (get_or new (p - 1) [])))
+copied_at capacity class item_at old done rs new p word h a l n full = record {
   refusals = refusals-more p word (λ port. nat_le capacity (number_in (get_or old (port - 1) []))) done rs h.refusals a
-      (ap (λ z. nat_le capacity (number_in z)) (sym same) ∙ answered-full capacity class (item_at p) q after word w);
+      (ap (λ z. nat_le capacity (number_in z)) (sym same) ∙ full);
   copies = λ r b. at r b;
 }
   where
+    after : List (List Item)
+    after = with_answer class (item_at p) word (get_or new (p - 1) [])
+
     fresh : (z : Bool) → list_any (λ x. x == p) done ≡ false → (list_any (λ x. x == p) done && z) ≡ false
     fresh z f = ap (λ b. b && z) f
 
-    same : q ≡ get_or old (p - 1) []
+    same : get_or new (p - 1) [] ≡ get_or old (p - 1) []
     same =
         let l0 : 1 ≤ p = l.0 in
         let l1 : p ≤ 16 = l.1 in
         let s : p - 1 + 1 ≡ p = omega arith in
         let none : list_any (λ x. x == p - 1 + 1) done ≡ false = subst (λ (k : ℕ). list_any (λ x. x == k) done ≡ false) (sym s) (others-none p done a) in
-        get_or_read new (p - 1) q (omega arith) e [] ∙ h.copies (p - 1) (omega arith)
+        h.copies (p - 1) (omega arith)
         ∙ ap (λ b. cond (b && not (is_refused rs (p - 1 + 1))) (put_in class (item_at (p - 1 + 1)) (get_or old (p - 1) [])) (get_or old (p - 1) [])) none
 
     here : (r : ℕ) → r < 16 → r + 1 ≡ p → get_or (set new (p - 1) after) r [] ≡ with_copy class item_at (done ++ p ∷ []) (rs ++ named p word) p (get_or old r [])
@@ -154,8 +181,7 @@ copied_more capacity class item_at old done rs new p word q after h a l n e w = 
         any-append (λ x. x == p) done (p ∷ []) ∙ ap (λ b. b || ((p == p) || false)) (others-none p done a) ∙ ap (λ b. b || false) (eq-eqb p p refl) in
         ap (λ k. get_or (set new k after) r []) d
         ∙ get_or-set_same new r after [] (omega arith)
-        ∙ answered-copy capacity class (item_at p) q after word w
-        ∙ ap (λ z. cond (not (is_some word)) (put_in class (item_at p) z) z) (same ∙ ap (λ k. get_or old k []) d)
+        ∙ ap (with_answer class (item_at p) word) (same ∙ ap (λ k. get_or old k []) d)
         ∙ ap (λ b. cond (not b) (put_in class (item_at p) (get_or old r [])) (get_or old r [])) (sym own)
         ∙ ap (λ b. cond (b && not (is_refused (rs ++ named p word) p)) (put_in class (item_at p) (get_or old r [])) (get_or old r [])) (sym any)
 
@@ -175,6 +201,19 @@ copied_more capacity class item_at old done rs new p word q after h a l n e w = 
           | true ↦ λ t. let f = eqb-true (r + 1) p t in here r b f ∙ ap (λ k. with_copy class item_at (done ++ p ∷ []) (rs ++ named p word) k (get_or old r [])) (sym f)
           | false ↦ λ t. other r b (λ f. let g = eq-eqb (r + 1) p f in cc)
         ] refl
+
+pub copied_more : (first from to : OutboxView) (class : ℕ) (item_at : ℕ → Item) (done : List ℕ)
+    (rs : List (ℕ × NoRoom)) (p : ℕ) (word : Option NoRoom)
+    → AreCopied first.capacity class item_at first.ports done rs from.ports → AllByRecursion (IsOther p) done
+    → (1 ≤ p) × (p ≤ 16)
+    → length from.ports ≡ 16 → KeepsOutbox first from → HasEnqueued from (p - 1) class (item_at p) word to
+    → AreCopied first.capacity class item_at first.ports (done ++ p ∷ []) (rs ++ named p word) to.ports
+copied_more first from to class item_at done rs p word h a l n k w =
+    subst (AreCopied first.capacity class item_at first.ports (done ++ p ∷ []) (rs ++ named p word))
+    (sym (answered-copy from to (p - 1) class (item_at p) word w))
+    (copied_at first.capacity class item_at first.ports done rs from.ports p word h a l n
+    (ap (λ c. nat_le c (number_in (at_place from (p - 1)))) (sym k.capacity)
+    ∙ answered-full from to (p - 1) class (item_at p) word w))
 
 -- each of the ports is one of 16
 pub separate_at : (ps : List ℕ) (i : ℕ) → i < length ps → AreSeparate ps → (1 ≤ get_or ps i 0) × (get_or ps i 0 ≤ 16)

@@ -25,6 +25,7 @@ use Rattle.pb_relay.specs.Bpdus.{frames_of}
 use Rattle.pb_relay.specs.Following.{IsOfPorts, HasFollowed}
 use Rattle.pb_relay.specs.Machines.{change_next, IsSpanning}
 use Rattle.pb_relay.specs.Moves.{all_flushed, places_of, states_changed, IsBridgePort}
+use Rattle.pb_relay.specs.Outboxes.{OutboxView}
 use Rattle.pb_relay.specs.Protocol.{spanning_tree}
 use Rattle.pb_relay.specs.Standing.{IsStanding}
 use Rattle.pb_relay.specs.Tables.{IsTableOf}
@@ -44,34 +45,44 @@ of_ports plan b steps machine address cause change s some =
     record { within = states_within plan b steps cause change running.1; separate = apart.0; few = apart.1 }
 
 -- the step names what the machine changes
-pub followed_names : (plan : Plan) (b : ℕ) (steps : List Step) (states states' : List PortState) (queues queues' : List (List (List Item))) (now : ℕ) (table : List Sighting) (old new : Table)
-    (machine : Option Machine) (address : List ℕ) (capacity : ℕ) (cause : Cause) (change : Change) (moved : Moved)
-    → IsStanding plan b steps states queues now table → capacity ≡ capacity_of plan b → IsSpanning plan b steps machine address → change_next machine cause ≡ Some change
-    → HasFollowed capacity address change states old queues moved states' new queues'
+pub followed_names : (plan : Plan) (b : ℕ) (steps : List Step) (states states' : List PortState)
+    (outbox outbox' : OutboxView) (now : ℕ) (table : List Sighting) (old new : Table)
+    (machine : Option Machine) (address : List ℕ) (cause : Cause) (change : Change) (moved : Moved)
+    → IsStanding plan b steps states outbox.ports now table → outbox.capacity ≡ capacity_of plan b
+    → IsSpanning plan b steps machine address → change_next machine cause ≡ Some change
+    → HasFollowed address change states old outbox moved states' new outbox'
     → Names spanning_tree plan b steps cause moved
-followed_names plan b steps states states' queues queues' now table old new machine address capacity cause change moved s most tree some f =
+followed_names plan b steps states states' outbox outbox' now table old new machine address cause change moved s most
+    tree some f =
     let running = is_running plan b steps machine address cause change tree some in
     let apart = sends_apart plan b steps cause change address running.1 in
     names_change plan b steps cause change moved (frames_of address change.send) running.0 running.1
     (ap (λ a. frames_of a change.send) tree.kept_address) f.told f.flushed f.queued
-    (refusals_are plan b steps states queues now table capacity (places_of (frames_of address change.send)) moved.dropped s most apart.0 f.copied.refusals)
+    (refusals_are plan b steps states outbox.ports now table outbox.capacity
+    (places_of (frames_of address change.send)) moved.dropped s most apart.0 f.copied.refusals)
 
 -- and what is kept is kept
-pub after_followed : (plan : Plan) (b : ℕ) (steps : List Step) (states states' : List PortState) (queues queues' : List (List (List Item))) (now later : ℕ) (table : List Sighting) (old new : Table)
-    (machine : Option Machine) (address : List ℕ) (capacity : ℕ) (cause : Cause) (change : Change) (moved : Moved) (step : Step)
-    → IsStanding plan b steps states queues now table → capacity ≡ capacity_of plan b → IsSpanning plan b steps machine address → change_next machine cause ≡ Some change
-    → HasFollowed capacity address change states old queues moved states' new queues'
+pub after_followed : (plan : Plan) (b : ℕ) (steps : List Step) (states states' : List PortState)
+    (outbox outbox' : OutboxView) (now later : ℕ) (table : List Sighting) (old new : Table)
+    (machine : Option Machine) (address : List ℕ) (cause : Cause) (change : Change) (moved : Moved) (step : Step)
+    → IsStanding plan b steps states outbox.ports now table → outbox.capacity ≡ capacity_of plan b
+    → IsSpanning plan b steps machine address → change_next machine cause ≡ Some change
+    → HasFollowed address change states old outbox moved states' new outbox'
     → Fits spanning_tree plan b steps step
     → moved_of step ≡ moved ∷ [] → ((r : ℕ) → relayed_by plan b r step ≡ []) → ((r : ℕ) (ws : List Waiting) → after_sending r step ws ≡ ws)
     → sightings plan b (now_after steps) step ≡ [] → later ≡ now + ticked step
     → filter (is_fresh plan.ageing later) old.sightings ≡ standing plan.ageing later (news_of plan b steps)
-    → IsStanding plan b (steps ++ step ∷ []) states' queues' later new.sightings
-after_followed plan b steps states states' queues queues' now later table old new machine address capacity cause change moved step s most tree some f fits told unrelayed unsent unseen clock stations =
+    → IsStanding plan b (steps ++ step ∷ []) states' outbox'.ports later new.sightings
+after_followed plan b steps states states' outbox outbox' now later table old new machine address cause change moved
+    step s most tree some f fits told unrelayed unsent unseen clock stations =
     let running = is_running plan b steps machine address cause change tree some in
     let apart = sends_apart plan b steps cause change address running.1 in
-    let refused = refusals_are plan b steps states queues now table capacity (places_of (frames_of address change.send)) moved.dropped s most apart.0 f.copied.refusals in
-    subst (λ (ss : List PortState). IsStanding plan b (steps ++ step ∷ []) ss queues' later new.sightings) (ap (states_changed states) f.told ∙ sym f.set_states)
-    (after_moved plan b steps states queues queues' now later table new.sightings step moved (frames_of address change.send) capacity s fits
+    let refused = refusals_are plan b steps states outbox.ports now table outbox.capacity
+    (places_of (frames_of address change.send)) moved.dropped s most apart.0 f.copied.refusals in
+    subst (λ (ss : List PortState). IsStanding plan b (steps ++ step ∷ []) ss outbox'.ports later new.sightings)
+    (ap (states_changed states) f.told ∙ sym f.set_states)
+    (after_moved plan b steps states outbox.ports outbox'.ports now later table new.sightings step moved
+    (frames_of address change.send) outbox.capacity s fits
     (record {
       told = told;
       unrelayed = unrelayed;

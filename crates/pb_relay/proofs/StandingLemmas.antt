@@ -2,7 +2,7 @@
 use Rattle.std.proofs.Common.{not, ◌≡◌, ℕ, zero, suc, slice_get, unwrap_or, ◌+◌, ◌-◌, ◌<◌, ◌≤◌, ◌≢◌, Bool, true, false, cond, ◌&&◌, Some, None, List, [], ◌∷◌, ◌++◌, map, length, get_or, set, ◌==◌, refl, sym, ap, ◌∙◌, subst, arith, append-nil, eq-eqb}
 use Rattle.std.proofs.lemmas.Bool.{eqb-true}
 use Rattle.std.proofs.lemmas.Bool.Decides.{nat_tests}
-use Rattle.std.proofs.lemmas.List.{length-set, get_or-set_same, get_or-set_other, get_or_read}
+use Rattle.std.proofs.lemmas.List.{length-set, get_or-set_same, get_or-set_other}
 use Rattle.std.specs.List.{filter}
 use Rattle.std.specs.Option.{option_map}
 use Rattle.pb_frame.proofs.StationLaws.{table_tells_what_stands}
@@ -139,26 +139,23 @@ capacity-small plan (suc b) s =
     as (λ o. slice_get plan.bridges b ≡ o → unwrap_or (option_map (λ x. x.queue) o) 0 ≤ 4096)
     [ None ↦ λ e. omega arith | Some x ↦ λ e. (All-at IsSoundBridge plan.bridges b x e s.bridges).queue.1 ] refl
 
--- what is read of the queues
-pub kept_read : (plan : Plan) (b : ℕ) (steps : List Step) (states : List PortState) (queues : List (List (List Item))) (now : ℕ) (table : List Sighting) (p : ℕ)
-    → IsStanding plan b steps states queues now table → (1 ≤ p) × (p ≤ 16) → (q : List (List Item)) → q ≡ get_or queues (p - 1) q → q ≡ by_class (waiting plan b p steps)
-kept_read plan b steps states queues now table p s l q e =
-    let c = s.count in
-    let l0 : 1 ≤ p = l.0 in
-    let l1 : p ≤ 16 = l.1 in
-    get_or_read queues (p - 1) q (omega arith) e [] ∙ kept_at plan b steps states queues now table p s l
-
 -- the first that is kept at a port goes out next
-pub next_read : (plan : Plan) (b : ℕ) (steps : List Step) (states : List PortState) (queues : List (List (List Item))) (now : ℕ) (table : List Sighting) (p : ℕ)
-    → IsStanding plan b steps states queues now table → (1 ≤ p) × (p ≤ 16) → (q : List (List Item)) → q ≡ get_or queues (p - 1) q → first_out q ≡ next_out (waiting plan b p steps)
-next_read plan b steps states queues now table p s l q e =
-    ap first_out (kept_read plan b steps states queues now table p s l q e) ∙ next_by_class (waiting plan b p steps) (s.classes p)
+pub next_at : (plan : Plan) (b : ℕ) (steps : List Step) (states : List PortState) (queues : List (List (List Item)))
+    (now : ℕ) (table : List Sighting) (p : ℕ)
+    → IsStanding plan b steps states queues now table → (1 ≤ p) × (p ≤ 16) → first_out (get_or queues (p - 1) [])
+    ≡ next_out (waiting plan b p steps)
+next_at plan b steps states queues now table p s l =
+    ap first_out (kept_at plan b steps states queues now table p s l)
+    ∙ next_by_class (waiting plan b p steps) (s.classes p)
 
 -- as many are kept at a port as wait there
-pub number_read : (plan : Plan) (b : ℕ) (steps : List Step) (states : List PortState) (queues : List (List (List Item))) (now : ℕ) (table : List Sighting) (p : ℕ)
-    → IsStanding plan b steps states queues now table → (1 ≤ p) × (p ≤ 16) → (q : List (List Item)) → q ≡ get_or queues (p - 1) q → number_in q ≡ length (waiting plan b p steps)
-number_read plan b steps states queues now table p s l q e =
-    ap number_in (kept_read plan b steps states queues now table p s l q e) ∙ number_by_class (waiting plan b p steps) (s.classes p)
+pub number_at : (plan : Plan) (b : ℕ) (steps : List Step) (states : List PortState) (queues : List (List (List Item)))
+    (now : ℕ) (table : List Sighting) (p : ℕ)
+    → IsStanding plan b steps states queues now table → (1 ≤ p) × (p ≤ 16) → number_in (get_or queues (p - 1) [])
+    ≡ length (waiting plan b p steps)
+number_at plan b steps states queues now table p s l =
+    ap number_in (kept_at plan b steps states queues now table p s l)
+    ∙ number_by_class (waiting plan b p steps) (s.classes p)
 
 -- where nothing goes out next, nothing waits
 pub none_waits : (qs : List (List Item)) → first_out qs ≡ None → number_in qs ≡ 0
@@ -172,18 +169,19 @@ none_waits (q ∷ qs) e =
     empty (y ∷ ys) h = cc
 
 -- a frame has left
-pub transmitted : (plan : Plan) (b : ℕ) (steps : List Step) (states : List PortState) (queues : List (List (List Item))) (now : ℕ) (table : List Sighting) (p : ℕ)
-    → IsStanding plan b steps states queues now table → (1 ≤ p) × (p ≤ 16) → (q rest : List (List Item)) → q ≡ get_or queues (p - 1) q → rest ≡ after_first q
-    → (item : Item) → Some item ≡ first_out q → (more : List Step) → more ≡ steps ++ Transmit p item ∷ []
-    → IsStanding plan b more states (set queues (p - 1) rest) now table
-transmitted plan b steps states queues now table p s l q rest e r item n more m =
-    let c = s.count in
-    let l0 : 1 ≤ p = l.0 in
-    let l1 : p ≤ 16 = l.1 in
-    let g : q ≡ get_or queues (p - 1) [] = get_or_read queues (p - 1) q (omega arith) e [] in
-    subst (λ (ms : List Step). IsStanding plan b ms states (set queues (p - 1) rest) now table) (sym m)
-    (subst (λ (z : List (List Item)). IsStanding plan b (steps ++ Transmit p item ∷ []) states (set queues (p - 1) z) now table) (sym (r ∙ ap after_first g))
-    (after_transmit plan b steps states queues now table p item s l (sym (next_read plan b steps states queues now table p s l q e) ∙ sym n)))
+pub transmitted : (plan : Plan) (b : ℕ) (steps : List Step) (states : List PortState)
+    (queues new : List (List (List Item))) (now : ℕ) (table : List Sighting) (p : ℕ)
+    → IsStanding plan b steps states queues now table → (1 ≤ p) × (p ≤ 16) → new
+    ≡ set queues (p - 1) (after_first (get_or queues (p - 1) []))
+    → (item : Item) → Some item ≡ first_out (get_or queues (p - 1) []) → (more : List Step) → more
+    ≡ steps ++ Transmit p item ∷ []
+    → IsStanding plan b more states new now table
+transmitted plan b steps states queues new now table p s l e item n more m =
+    subst (λ (ms : List Step). IsStanding plan b ms states new now table) (sym m)
+    (subst (λ (qs : List (List (List Item))). IsStanding plan b (steps ++ Transmit p item ∷ []) states qs now table)
+    (sym e)
+    (after_transmit plan b steps states queues now table p item s l
+    (sym (n ∙ next_at plan b steps states queues now table p s l))))
 
 -- a step that queues nothing and moves nothing leaves all that is kept but the table
 pub after_still : (plan : Plan) (b : ℕ) (steps : List Step) (states : List PortState) (queues : List (List (List Item))) (now : ℕ) (table newer : List Sighting) (step : Step)

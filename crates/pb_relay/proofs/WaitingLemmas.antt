@@ -7,7 +7,7 @@ use Rattle.pb_frame.specs.Lists.{first}
 use Rattle.pb_lan.specs.Queues.{Waiting, next_out, highest, without}
 use Rattle.pb_lan.specs.declared.step.Item.{Item}
 use Rattle.pb_relay.specs.Classes.{number_in, put_in, first_out, after_first, or_else, IsHighest, of_class, by_class}
-use Rattle.pb_relay.proofs.ClassLemmas.{is_highest}
+use Rattle.pb_relay.proofs.ClassLemmas.{is_highest, number_set}
 
 abbrev pub count_up : ℕ → ℕ → List ℕ
 count_up k zero = []
@@ -172,11 +172,6 @@ rest_by_class (w ∷ ws) a =
     at_one (λ j. of_class j (w ∷ ws)) (λ j. of_class j (without h (w ∷ ws))) h (λ j n. without-other j h (w ∷ ws) n) 8 0 h (omega arith) l
     ∙ ap (set (by_class (w ∷ ws)) h) (without-own h (w ∷ ws) ∙ ap (drop 1) (sym g))
     ∙ sym (highest_class w ws a).3
-
-number_set : (qs : List (List Item)) (i : ℕ) (q : List Item) → i < length qs → number_in (set qs i q) + length (get_or qs i []) ≡ number_in qs + length q
-number_set [] i q h = absurd (omega arith)
-number_set (p ∷ qs) zero q h = omega arith
-number_set (p ∷ qs) (suc i) q h = omega (arith, number_set qs i q (omega arith))
 
 -- and as many wait
 pub number_by_class : (ws : List Waiting) → AllByRecursion (λ w. w.class < 8) ws → number_in (by_class ws) ≡ length ws

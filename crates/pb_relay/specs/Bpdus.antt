@@ -6,7 +6,8 @@ use Rattle.pb_bpdu.specs.Layout.{written}
 use Rattle.pb_bpdu.specs.declared.bpdu.Bpdu.{Bpdu}
 use Rattle.pb_lan.specs.declared.step.Item.{Item}
 use Rattle.pb_lan.specs.declared.step.NoRoom.{NoRoom}
-use Rattle.pb_relay.specs.Copies.{HasEnqueued, item_with}
+use Rattle.pb_relay.specs.Copies.{item_with}
+use Rattle.pb_relay.specs.Outboxes.{OutboxView, HasEnqueued}
 
 -- the frames of BPDUs from a bridge of this address
 abbrev pub frames_of : List ℕ → List (ℕ × Bpdu) → List (ℕ × List ℕ)
@@ -18,9 +19,10 @@ word_of (Ok item) = None
 word_of (Err word) = Some word
 
 -- an item of the bridge's own was queued, and told, where there was room and memory
-abbrev pub HasSent : ℕ → List ℕ → List (List Item) → Result Item NoRoom → List (List Item) → Type 0
-HasSent capacity wire old (Ok item) new = (item ≡ item_with None 0 wire) × HasEnqueued capacity 7 (item_with None 0 wire) old None new
-HasSent capacity wire old (Err word) new = HasEnqueued capacity 7 (item_with None 0 wire) old (Some word) new
+abbrev pub HasSent : OutboxView → ℕ → List ℕ → Result Item NoRoom → OutboxView → Type 0
+HasSent old place wire (Ok item) new =
+    (item ≡ item_with None 0 wire) × HasEnqueued old place 7 (item_with None 0 wire) None new
+HasSent old place wire (Err word) new = HasEnqueued old place 7 (item_with None 0 wire) (Some word) new
 
 -- what is told of a port where an item was queued
 abbrev pub told_queued : ℕ → Result Item NoRoom → List (ℕ × Item)

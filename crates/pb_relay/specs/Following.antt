@@ -3,11 +3,11 @@ use Rattle.std.specs.Prelude.{◌≡◌, ◌≤◌, ℕ, List, length}
 use Rattle.std.specs.List.{AllByRecursion}
 use Rattle.pb_fdb.specs.Tables.{Table}
 use Rattle.pb_lan.specs.declared.shape.PortState.{PortState}
-use Rattle.pb_lan.specs.declared.step.Item.{Item}
 use Rattle.pb_lan.specs.declared.step.Moved.{Moved}
 use Rattle.pb_rstp.specs.declared.change.Change.{Change}
 use Rattle.pb_relay.specs.Bpdus.{frames_of}
 use Rattle.pb_relay.specs.Copies.{AreCopied, AreSeparate}
+use Rattle.pb_relay.specs.Outboxes.{OutboxView, KeepsOutbox}
 use Rattle.pb_relay.specs.Moves.{all_flushed, own_at, own_queued, places_of, states_changed}
 
 -- the change is of local ports, and each sends one BPDU at most
@@ -17,12 +17,15 @@ pub record IsOfPorts (address : List ℕ) (change : Change) : Type 0 where
   pub few : length change.send ≤ 16
 
 -- the states are set, the ports flushed, the BPDUs queued or dropped, and all that is told
-pub record HasFollowed (capacity : ℕ) (address : List ℕ) (change : Change) (states : List PortState) (table : Table) (queues : List (List (List Item)))
-    (moved : Moved) (states' : List PortState) (table' : Table) (queues' : List (List (List Item))) : Type 0 where
+pub record HasFollowed (address : List ℕ) (change : Change)
+    (states : List PortState) (table : Table) (outbox : OutboxView) (moved : Moved)
+    (states' : List PortState) (table' : Table) (outbox' : OutboxView) : Type 0 where
   pub set_states : states' ≡ states_changed states change.states
   pub flushed_table : table' ≡ all_flushed table change.flush
-  pub copied : AreCopied capacity 7 (own_at (frames_of address change.send)) queues (places_of (frames_of address change.send)) moved.dropped queues'
-  pub count : length queues' ≡ 16
+  pub copied : AreCopied outbox.capacity 7 (own_at (frames_of address change.send)) outbox.ports
+      (places_of (frames_of address change.send)) moved.dropped outbox'.ports
+  pub count : length outbox'.ports ≡ 16
+  pub outbox_kept : KeepsOutbox outbox outbox'
   pub told : moved.states ≡ change.states
   pub flushed : moved.flushed ≡ change.flush
   pub queued : moved.queued ≡ own_queued moved.dropped (frames_of address change.send)

@@ -8,6 +8,8 @@ pub mod Standing
 pub mod Receptions
 pub mod Verdicts
 pub mod Tables
+pub mod Outboxes
+pub mod Departures
 pub mod Copies
 pub mod Moves
 pub mod Bpdus

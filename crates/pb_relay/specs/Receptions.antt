@@ -1,21 +1,36 @@
 -- What a bridge hands back of an item that it received.
-use Rattle.std.specs.Prelude.{◌≡◌, ℕ}
+use Rattle.std.specs.Prelude.{◌≡◌, ℕ, ◌-◌, List, length, Some, None, slice_get}
 use Rattle.std.specs.declared.option.Option.{Option}
 use Rattle.pb_frame.specs.declared.learnt.Learnt.{Learnt}
 use Rattle.pb_lan.specs.BridgeLists.{Fits}
 use Rattle.pb_steps.specs.StepLists.{given_back}
 use Rattle.pb_lan.specs.declared.step.Item.{Item}
 use Rattle.pb_lan.specs.declared.step.Moved.{Moved}
+use Rattle.pb_lan.specs.declared.step.Outcome.{Outcome}
+use Rattle.pb_lan.specs.declared.step.Step.{Step}
 use Rattle.pb_lan.specs.declared.step.Step.TheVariants.{Receive}
 use Rattle.pb_relay.specs.Protocol.{spanning_tree}
 use Rattle.pb_relay.specs.Standing.{BridgeView, with_step}
-use Rattle.pb_relay.specs.declared.reception.Reception.{Reception}
 
 -- the bridge has appended the one step of the item received at the port, the step is lawful there, and it is given
 -- back where the bridge only counts its steps
-abbrev pub HasTaken : BridgeView → ℕ → Item → Reception → BridgeView → Type 0
-HasTaken old port item reception new =
-    (learnt : Option Learnt) × (moved : Option Moved)
-    × (new ≡ with_step old (Receive port item learnt reception.outcome moved))
-    × Fits spanning_tree old.plan old.number old.steps (Receive port item learnt reception.outcome moved)
-    × (reception.told ≡ given_back old.is_kept (Receive port item learnt reception.outcome moved))
+abbrev pub HasTaken : BridgeView → ℕ → Item → Option Step → BridgeView → Type 0
+HasTaken old port item told new =
+    (learnt : Option Learnt) × (outcome : Outcome) × (moved : Option Moved)
+    × (new ≡ with_step old (Receive port item learnt outcome moved))
+    × Fits spanning_tree old.plan old.number old.steps (Receive port item learnt outcome moved)
+    × (told ≡ given_back old.is_kept (Receive port item learnt outcome moved))
+
+-- the outcome of a step in which an item was received
+abbrev pub outcome_in : Step → Option Outcome
+outcome_in (Receive port item learnt outcome moved) = Some outcome
+outcome_in other = None
+
+abbrev pub outcome_at : Option Step → Option Outcome
+outcome_at None = None
+outcome_at (Some step) = outcome_in step
+
+-- that of a step that was given back, or else of the last of the kept ones
+abbrev pub newest_outcome : Option Step → List Step → Option Outcome
+newest_outcome (Some step) kept = outcome_in step
+newest_outcome None kept = outcome_at (slice_get kept (length kept - 1))

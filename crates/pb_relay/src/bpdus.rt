@@ -5,9 +5,10 @@ ghost use Rattle.pb_bpdu.specs.Layout.{written};
 ghost use Rattle.pb_relay.specs.Bpdus.{frames_of, HasSent, told_queued, word_of};
 ghost use Rattle.pb_relay.specs.Copies.{AreCopied, AreSeparate, named};
 ghost use Rattle.pb_relay.specs.Moves.{own_at, own_queued, places_of};
+ghost use Rattle.pb_relay.specs.Outboxes.{KeepsOutbox};
 
-use crate::copies::{enqueue, note};
-use crate::queues::PortQueues;
+use crate::copies::note;
+use crate::outbox::Outbox;
 use pb_bpdu::Bpdu;
 use pb_frame::{Mac, Memory};
 use pb_lan::{Item, NoRoom};
@@ -46,21 +47,21 @@ impl BpduRoom {
 /// Queues a BPDU at a port, if there is room and memory, and gives the item for the step that tells of it.
 fn send(
     alloc: Global,
-    queues: &mut PortQueues,
-    capacity: usize,
+    outbox: &mut Outbox,
+    place: usize,
     address: Mac,
     bpdu: &Bpdu,
 ) -> Result<Item, NoRoom>
-    requires { capacity ≤ 4096 }
-    ensures { HasSent capacity (written address.0 bpdu.now) queues.old result queues.new }
+    requires { place < length outbox.old.ports }
+    ensures { HasSent outbox.old place (written address.0 bpdu.now) result outbox.new }
 {
-    if queues.len() >= capacity {
+    if outbox.is_full(place) {
         return Err(NoRoom::Full);
     }
     let Ok(wire) = pb_bpdu::write(alloc, address, bpdu) else {
         return Err(NoRoom::Memory);
     };
-    match enqueue(queues, capacity, HIGHEST, None, 0, &wire) {
+    match outbox.enqueue(place, HIGHEST, None, 0, &wire) {
         Some(word) => Err(word),
         None => Ok(Item {
             mark: None,
@@ -102,28 +103,26 @@ fn note_sent(
 /// Queues each BPDU at its port in the highest class, and notes where one was queued and where not.
 pub fn queue_bpdus(
     alloc: Global,
-    queues: &mut Vec<PortQueues>,
+    outbox: &mut Outbox,
     queued: &mut Vec<(u8, Item)>,
     dropped: &mut Vec<(u8, NoRoom)>,
     sends: &[(u8, Bpdu)],
-    capacity: usize,
     address: Mac,
 )
-    requires capacity { capacity ≤ 4096 }
-    requires queues { length queues.old.items ≡ 16 }
+    requires outbox { length outbox.old.ports ≡ 16 }
     requires queued { queued.old.items ≡ [] }
     requires dropped { dropped.old.items ≡ [] }
     requires queued_room { length sends.now ≤ vec_capacity queued.old }
     requires dropped_room { length sends.now ≤ vec_capacity dropped.old }
     requires separate { AreSeparate (places_of (frames_of address.0 sends.now)) }
-    ensures copied { AreCopied capacity 7 (own_at (frames_of address.0 sends.now)) queues.old.items (places_of (frames_of address.0 sends.now)) dropped.new.items queues.new.items }
-    ensures count { length queues.new.items ≡ 16 }
+    ensures copied { AreCopied outbox.old.capacity 7 (own_at (frames_of address.0 sends.now)) outbox.old.ports (places_of (frames_of address.0 sends.now)) dropped.new.items outbox.new.ports }
+    ensures count { length outbox.new.ports ≡ 16 }
+    ensures kept { KeepsOutbox outbox.old outbox.new }
     ensures queued { queued.new.items ≡ own_queued dropped.new.items (frames_of address.0 sends.now) }
 {
     for (port, bpdu) in sends {
         let place = *port as usize - 1;
-        let queue = &mut queues[place];
-        let answer = send(alloc, queue, capacity, address, bpdu);
+        let answer = send(alloc, outbox, place, address, bpdu);
         note_sent(queued, dropped, *port, answer);
     }
 }

@@ -12,9 +12,10 @@ ghost use Rattle.pb_lan.specs.declared.step.Step.TheVariants.{Transmit};
 ghost use Rattle.pb_relay.specs.Machines.{machine_in};
 ghost use Rattle.pb_relay.specs.Standing.{with_step};
 
+use crate::departure::depart;
 use crate::fault::BridgeFault;
+use crate::outbox::Outbox;
 use crate::ports::{LocalPorts, PORTS, is_bridge, is_customer};
-use crate::queues::PortQueues;
 use pb_fdb::Fdb;
 use pb_frame::Mac;
 use pb_lan::{Item, Plan, PortState, Step};
@@ -41,9 +42,7 @@ pub struct Bridge {
     /// The states of the local ports.
     pub(crate) states: [PortState; 16],
     /// What waits at the local ports.
-    pub(crate) queues: Vec<PortQueues>,
-    /// The most items that wait at a port.
-    pub(crate) capacity: usize,
+    pub(crate) outbox: Outbox,
     /// The most steps.
     pub(crate) limit: u64,
     /// Where stations were seen.
@@ -58,6 +57,7 @@ pub struct Bridge {
 }
 
 impl Model for Bridge {
+    ghost use Rattle.std.specs.Prelude.{◌≡◌};
     ghost use Rattle.pb_relay.specs.Standing.{BridgeView, IsStanding, HasRoom};
     ghost use Rattle.pb_relay.specs.Tables.{IsTableOf};
     ghost use Rattle.pb_relay.specs.LocalPorts.{IsConfigured};
@@ -67,11 +67,12 @@ impl Model for Bridge {
 
     ghost view = { λ b. record { plan = b.plan; number = b.number; steps = b.steps.steps; is_kept = b.steps.is_kept; is_reserved = b.steps.is_reserved } };
 
-    ghost invariant = { λ b. IsConfigured b.plan b.number b.ports b.capacity b.limit
-        × IsStanding b.plan b.number b.steps.steps b.states b.queues.items b.clock b.table.sightings
+    ghost invariant = { λ b. IsConfigured b.plan b.number b.ports b.outbox.capacity b.limit
+        × IsStanding b.plan b.number b.steps.steps b.states b.outbox.ports b.clock b.table.sightings
         × HasRoom b.steps.steps b.limit b.steps.is_reserved
         × IsTableOf b.plan b.clock b.table
-        × IsSpanning b.plan b.number b.steps.steps b.rstp b.address.0 };
+        × IsSpanning b.plan b.number b.steps.steps b.rstp b.address.0
+        × (b.outbox.is_kept ≡ b.steps.is_kept) };
 }
 
 /// Puts a step behind the others. Where it is only counted, it is let go.
@@ -112,8 +113,7 @@ impl Bridge {
             number: _,
             ports: _,
             states: _,
-            queues: _,
-            capacity: _,
+            outbox: _,
             limit: _,
             table: _,
             clock: _,
@@ -170,7 +170,7 @@ impl Bridge {
         requires { is_used (port_at self.now.plan self.now.number port) ≡ true }
         ensures { result ≡ length (waiting self.now.plan self.now.number port self.now.steps) }
     {
-        self.queues[port as usize - 1].len() as u16
+        self.outbox.waiting(port as usize - 1) as u16
     }
 
     /// The item that leaves a port next: the oldest of the highest class (IEEE 802.1Q clause 8,
@@ -179,8 +179,7 @@ impl Bridge {
         requires { is_used (port_at self.now.plan self.now.number port) ≡ true }
         ensures { option_copied result ≡ next_out (waiting self.now.plan self.now.number port self.now.steps) }
     {
-        let queues = &self.queues[port as usize - 1];
-        queues.first()
+        self.outbox.first(port as usize - 1)
     }
 
     /// Takes the item that leaves a port next, and appends the Transmit step that tells of it. Takes
@@ -193,13 +192,10 @@ impl Bridge {
         ensures step { self.new ≡ with_step self.old (Transmit port result) }
         ensures fits { Fits spanning_tree self.old.plan self.old.number self.old.steps (Transmit port result) }
     {
-        let queues = &mut self.queues[port as usize - 1];
-        let Some(twin) = queues.pop() else {
+        let Some(departure) = self.outbox.pop(port as usize - 1) else {
             unreachable!();
         };
-        let (item, copy) = twin.into_pair();
-        append(&mut self.steps, Step::Transmit { port, item: copy });
-        item
+        depart(&mut self.steps, port, departure)
     }
 
     /// The spanning tree of the bridge, where the protocol decides the states of its ports, and None where

@@ -6,7 +6,7 @@ ghost use Rattle.pb_relay.specs.Following.{IsOfPorts, HasFollowed};
 ghost use Rattle.pb_relay.specs.Moves.{all_flushed, states_changed};
 
 use crate::bpdus::{BpduRoom, queue_bpdus};
-use crate::queues::PortQueues;
+use crate::outbox::Outbox;
 use pb_fdb::Fdb;
 use pb_frame::{Mac, Seq};
 use pb_lan::{Moved, PortState};
@@ -38,20 +38,18 @@ pub fn follow(
     alloc: Global,
     states: &mut [PortState; 16],
     table: &mut Fdb,
-    queues: &mut Vec<PortQueues>,
+    outbox: &mut Outbox,
     change: Change,
     room: BpduRoom,
-    capacity: usize,
     address: Mac,
 ) -> Moved
-    requires capacity { capacity ≤ 4096 }
-    requires queues { length queues.old.items ≡ 16 }
+    requires outbox { length outbox.old.ports ≡ 16 }
     requires queued { room.queued.items ≡ [] }
     requires dropped { room.dropped.items ≡ [] }
     requires queued_room { 16 ≤ vec_capacity room.queued }
     requires dropped_room { 16 ≤ vec_capacity room.dropped }
     requires change { IsOfPorts address.0 change }
-    ensures { HasFollowed capacity address.0 change states.old table.old queues.old.items result states.new table.new queues.new.items }
+    ensures { HasFollowed address.0 change states.old table.old outbox.old result states.new table.new outbox.new }
 {
     let Change {
         states: changes,
@@ -66,11 +64,10 @@ pub fn follow(
     flush_all(table, flush.as_slice());
     queue_bpdus(
         alloc,
-        queues,
+        outbox,
         &mut queued,
         &mut dropped,
         send.as_slice(),
-        capacity,
         address,
     );
     Moved {

@@ -14,14 +14,13 @@ use crate::bridge::Bridge;
 use crate::changes::nothing_moved;
 use crate::following::follow;
 use crate::protocol::hear;
-use crate::reception::Reception;
 use pb_frame::Held;
 use pb_lan::{Item, Moved, Outcome, Step};
 
 impl Bridge {
     /// Hears a BPDU, and does what the spanning tree tells. Where there is no memory for that, the frame goes
     /// nowhere, and nothing changes.
-    pub(crate) fn hear(&mut self, port: u8, item: Item) -> Reception
+    pub(crate) fn hear(&mut self, port: u8, item: Item) -> Option<Step>
         requires reserved { self.old.is_reserved ≡ true }
         requires ruling { ruling spanning_tree self.old.plan self.old.number self.old.steps port item ≡ Listens }
         ensures { HasTaken self.old port item result self.new }
@@ -42,32 +41,23 @@ impl Bridge {
             self.alloc,
             &mut self.states,
             &mut self.table,
-            &mut self.queues,
+            &mut self.outbox,
             change,
             room,
-            self.capacity,
             self.address,
         );
-        let told = self.steps.append(heard_step(port, item, told, moved));
-        Reception {
-            outcome: Outcome::Heard,
-            told,
-        }
+        self.steps.append(heard_step(port, item, told, moved))
     }
 
     /// Hears a BPDU where the plan gives the states of the ports: nothing changes.
-    fn overhear(&mut self, port: u8, item: Item, told: Held<Moved>) -> Reception
+    fn overhear(&mut self, port: u8, item: Item, told: Held<Moved>) -> Option<Step>
         requires reserved { self.old.is_reserved ≡ true }
         requires fixed { self.old.plan.spanning ≡ Fixed }
         requires ruling { ruling spanning_tree self.old.plan self.old.number self.old.steps port item ≡ Listens }
         ensures { HasTaken self.old port item result self.new }
     {
         let moved = nothing_moved(self.alloc);
-        let told = self.steps.append(heard_step(port, item, told, moved));
-        Reception {
-            outcome: Outcome::Heard,
-            told,
-        }
+        self.steps.append(heard_step(port, item, told, moved))
     }
 }
 

@@ -21,7 +21,7 @@ use crate::choice::choose;
 use crate::copies::queue_copies;
 use crate::fault::BridgeFault;
 use crate::load::Load;
-use crate::reception::Reception;
+use crate::outcomes::newest_outcome;
 use crate::verdict::{Verdict, rule};
 use pb_fdb::Fdb;
 use pb_frame::{Learnt, Mac};
@@ -43,8 +43,9 @@ impl Bridge {
         ensures limit { IsErrOf result (BridgeFault.StepLimit, item) ↔ (length self.old.steps ≡ self.old.plan.steps) }
         ensures reserved { self.old.is_reserved ≡ true → IsOk result }
     {
-        let reception = self.admit(port, item)?;
-        Ok(reception.outcome)
+        let given = self.admit(port, item)?;
+        let outcome = newest_outcome(&given, self.steps.as_slice());
+        Ok(outcome)
     }
 
     /// Does as [`Bridge::receive`], with its faults, and answers no outcome: the step tells of it.
@@ -73,18 +74,18 @@ impl Bridge {
         ensures limit { IsErrOf result (BridgeFault.StepLimit, item) ↔ (length self.old.steps ≡ self.old.plan.steps) }
         ensures reserved { self.old.is_reserved ≡ true → IsOk result }
     {
-        let reception = self.admit(port, item)?;
-        match reception.told {
+        match self.admit(port, item)? {
             Some(step) => Ok(step),
             None => unreachable!(),
         }
     }
 
-    /// Receives an item, as [`Bridge::receive`] tells.
+    /// Receives an item, as [`Bridge::receive`] tells, and gives back the step that tells of it where steps are only
+    /// counted.
     #[inline(always)]
-    fn admit(&mut self, port: u8, item: Item) -> Result<Reception, (BridgeFault, Item)>
+    fn admit(&mut self, port: u8, item: Item) -> Result<Option<Step>, (BridgeFault, Item)>
         requires { is_used (port_at self.old.plan self.old.number port) ≡ true }
-        ensures ok { IfOk result (λ reception. HasTaken self.old port item reception self.new) }
+        ensures ok { IfOk result (λ given. HasTaken self.old port item given self.new) }
         ensures err { OnErr result (self.new ≡ self.old) }
         ensures handed { IfErr result (λ e. e.1 ≡ item) }
         ensures limit { IsErrOf result (BridgeFault.StepLimit, item) ↔ (length self.old.steps ≡ self.old.plan.steps) }
@@ -112,35 +113,27 @@ impl Bridge {
     }
 
     /// Appends a step that tells that the item goes nowhere.
-    fn refuse(&mut self, port: u8, item: Item, reason: Reason) -> Reception
+    fn refuse(&mut self, port: u8, item: Item, reason: Reason) -> Option<Step>
         requires reserved { self.old.is_reserved ≡ true }
         requires ruling { ruling spanning_tree self.old.plan self.old.number self.old.steps port item ≡ Refuses reason }
         ensures { HasTaken self.old port item result self.new }
     {
         let outcome = Outcome::Filtered(reason);
-        let told = append_receive(&mut self.steps, port, item, None, outcome);
-        Reception {
-            outcome: Outcome::Filtered(reason),
-            told,
-        }
+        append_receive(&mut self.steps, port, item, None, outcome)
     }
 
     /// Appends a step that tells that there is no memory to relay or to hear the item.
-    pub(crate) fn give_up(&mut self, port: u8, item: Item) -> Reception
+    pub(crate) fn give_up(&mut self, port: u8, item: Item) -> Option<Step>
         requires reserved { self.old.is_reserved ≡ true }
         requires fits { Fits spanning_tree self.old.plan self.old.number self.old.steps (Receive port item None (Filtered WantOfMemory) None) }
         ensures { HasTaken self.old port item result self.new }
     {
         let outcome = Outcome::Filtered(Reason::Memory);
-        let told = append_receive(&mut self.steps, port, item, None, outcome);
-        Reception {
-            outcome: Outcome::Filtered(Reason::Memory),
-            told,
-        }
+        append_receive(&mut self.steps, port, item, None, outcome)
     }
 
     /// Learns the source of an item that goes nowhere, at a port that is Learning.
-    fn learn_only(&mut self, port: u8, item: Item, vid: u16) -> Reception
+    fn learn_only(&mut self, port: u8, item: Item, vid: u16) -> Option<Step>
         requires reserved { self.old.is_reserved ≡ true }
         requires ruling { ruling spanning_tree self.old.plan self.old.number self.old.steps port item ≡ LearnsOnly vid }
         ensures { HasTaken self.old port item result self.new }
@@ -148,15 +141,11 @@ impl Bridge {
         let source = source_of(item.wire.as_slice());
         let learnt = self.table.learn(vid, source, port, self.clock);
         let outcome = Outcome::Filtered(Reason::NotForwarding);
-        let told = append_receive(&mut self.steps, port, item, Some(learnt), outcome);
-        Reception {
-            outcome: Outcome::Filtered(Reason::NotForwarding),
-            told,
-        }
+        append_receive(&mut self.steps, port, item, Some(learnt), outcome)
     }
 
     /// Relays an item in its service, or gives it up where there is no memory to begin.
-    fn relay(&mut self, port: u8, item: Item, vid: u16) -> Reception
+    fn relay(&mut self, port: u8, item: Item, vid: u16) -> Option<Step>
         requires used { is_used (port_at self.old.plan self.old.number port) ≡ true }
         requires reserved { self.old.is_reserved ≡ true }
         requires ruling { ruling spanning_tree self.old.plan self.old.number self.old.steps port item ≡ Carries vid }
@@ -171,7 +160,7 @@ impl Bridge {
     }
 
     /// Learns the source of an item, chooses its ports and queues its copies there.
-    fn carry(&mut self, port: u8, item: Item, vid: u16, load: Load) -> Reception
+    fn carry(&mut self, port: u8, item: Item, vid: u16, load: Load) -> Option<Step>
         requires used { is_used (port_at self.old.plan self.old.number port) ≡ true }
         requires reserved { self.old.is_reserved ≡ true }
         requires ruling { ruling spanning_tree self.old.plan self.old.number self.old.steps port item ≡ Carries vid }
@@ -182,15 +171,9 @@ impl Bridge {
         let learnt = self.table.learn(vid, source_of(frame), port, self.clock);
         let at = sought(&self.table, vid, frame, self.clock);
         let chosen = choose(&self.ports, &self.states, port, vid, at);
-        let queues = &mut self.queues;
-        let refused = queue_copies(queues, &chosen, &self.ports, self.capacity, &load, &item);
-        let outcome = Outcome::Relayed {
-            chosen: chosen.copied(),
-            refused: refused.copied(),
-        };
-        let relayed = Outcome::Relayed { chosen, refused };
-        let told = append_receive(&mut self.steps, port, item, Some(learnt), relayed);
-        Reception { outcome, told }
+        let refused = queue_copies(&mut self.outbox, &chosen, &self.ports, &load, &item);
+        let outcome = Outcome::Relayed { chosen, refused };
+        append_receive(&mut self.steps, port, item, Some(learnt), outcome)
     }
 }
 

@@ -47,10 +47,9 @@ impl Bridge {
             self.alloc,
             &mut self.states,
             &mut self.table,
-            &mut self.queues,
+            &mut self.outbox,
             change,
             room,
-            self.capacity,
             self.address,
         );
         append(
@@ -96,10 +95,9 @@ impl Bridge {
             self.alloc,
             &mut self.states,
             &mut self.table,
-            &mut self.queues,
+            &mut self.outbox,
             change,
             room,
-            self.capacity,
             self.address,
         );
         append(&mut self.steps, Step::Admin { port, up, moved });

@@ -1,6 +1,6 @@
 //! A bridge at its start.
 
-ghost use Rattle.std.specs.Prelude.{◌≡◌, ℕ, ◌+◌, ◌<◌, ◌≤◌, ◌==◌, ◌++◌, ◌∷◌, [], map, length, true, false, Some, IfOk, OnOk, replicate};
+ghost use Rattle.std.specs.Prelude.{◌≡◌, ℕ, ◌+◌, ◌<◌, ◌≤◌, ◌==◌, ◌++◌, ◌∷◌, [], map, length, true, false, Some, IfOk, OnOk};
 ghost use Rattle.std.specs.List.{flat_map};
 ghost use Rattle.std.specs.Option.{option_copied};
 ghost use Rattle.pb_frame.specs.Lists.{first};
@@ -11,17 +11,17 @@ ghost use Rattle.pb_lan.specs.Shapes.{start_by};
 ghost use Rattle.pb_svlan.specs.ServiceTables.{vid_of, is_known, are_known, has_name, has_vid, is_taken, role_at, attached, carried};
 ghost use Rattle.pb_svlan.specs.declared.port.Join.{Join};
 ghost use Rattle.pb_svlan.specs.declared.port.Role.TheVariants.{Customer, Trunk};
-ghost use Rattle.pb_relay.specs.Classes.{no_items};
 ghost use Rattle.pb_relay.specs.LocalPorts.{IsKept};
 ghost use Rattle.pb_relay.specs.Machines.{machine_in};
+ghost use Rattle.pb_relay.specs.Outboxes.{empty_outbox};
 ghost use Rattle.pb_relay.specs.Roles.{local_as, told};
 ghost use Rattle.pb_relay.specs.Standing.{at_start};
 ghost use Rattle.pb_relay.specs.Starts.{first_state, HasServices, KeepsPorts};
 
 use crate::bridge::Bridge;
 use crate::machine::{address, machine};
+use crate::outbox::Outbox;
 use crate::ports::{Local, LocalPorts};
-use crate::queues::PortQueues;
 use pb_fdb::Fdb;
 use pb_frame::Memory;
 use pb_lan::{CustomerPlan, End, LinkPlan, Plan, PortState, ServicePlan, Spanning};
@@ -193,17 +193,6 @@ fn start_states(spanning: Spanning, ports: &LocalPorts) -> [PortState; 16]
     states
 }
 
-/// Queues for the local ports, with nothing in them.
-fn empty_queues(alloc: Global) -> Result<Vec<PortQueues>, Memory>
-    ensures { IfOk result (λ queues. queues.items ≡ replicate 16 no_items) }
-{
-    let mut queues = Vec::with_capacity(alloc, 16)?;
-    for _port in 0..16u8 {
-        queues.push(PortQueues::new(alloc)?)?;
-    }
-    Ok(queues)
-}
-
 /// The most items that wait at each port of the bridge.
 fn capacity(plan: &Plan, number: u8) -> usize
     requires { IsNumber number (length plan.now.bridges) }
@@ -222,19 +211,20 @@ fn placed(alloc: Global, plan: &Plan, number: u8) -> Result<(Plan, LocalPorts), 
     Ok((plan.clone()?, ports))
 }
 
-/// Queues with nothing in them, and the spanning tree at its start, where the protocol decides the states.
+/// Nothing that waits, and the spanning tree at its start, where the protocol decides the states.
 fn sending(
     alloc: Global,
     plan: &Plan,
     number: u8,
-) -> Result<(Vec<PortQueues>, Option<Rstp>), Memory>
+    is_kept: bool,
+) -> Result<(Outbox, Option<Rstp>), Memory>
     requires sound { IsSound plan.now }
     requires bridge { IsNumber number (length plan.now.bridges) }
-    ensures queues { IfOk result (λ kept. kept.0.items ≡ replicate 16 no_items) }
+    ensures outbox { IfOk result (λ kept. kept.0 ≡ empty_outbox (capacity_of plan.now number) is_kept) }
     ensures machine { IfOk result (λ kept. kept.1 ≡ machine_in plan.now number []) }
 {
     let rstp = machine(alloc, plan, number)?;
-    Ok((empty_queues(alloc)?, rstp))
+    Ok((Outbox::new(alloc, capacity(plan, number), is_kept)?, rstp))
 }
 
 /// The bridge of this number, at its start, with this list of steps.
@@ -245,7 +235,7 @@ fn started(alloc: Global, plan: &Plan, number: u8, steps: Steps) -> Result<Bridg
     requires unreserved { steps.is_reserved ≡ false }
     ensures { IfOk result (λ bridge. bridge ≡ at_start plan.now number steps.is_kept) }
 {
-    let (queues, rstp) = sending(alloc, plan, number)?;
+    let (outbox, rstp) = sending(alloc, plan, number, steps.are_kept())?;
     let (kept, ports) = placed(alloc, plan, number)?;
     let states = start_states(plan.spanning, &ports);
     Ok(Bridge {
@@ -254,8 +244,7 @@ fn started(alloc: Global, plan: &Plan, number: u8, steps: Steps) -> Result<Bridg
         number,
         ports,
         states,
-        queues,
-        capacity: capacity(plan, number),
+        outbox,
         limit: plan.steps,
         table: Fdb::new(alloc, STATIONS, plan.ageing),
         clock: 0,

@@ -1,16 +1,15 @@
 use Rattle.std.proofs.Common.{arith, length, ap, ◌∙◌, length-append}
-use Rattle.std.proofs.lemmas.List.{length-set}
 use Rattle.pb_relay.specs.Bpdus.{told_queued, word_of}
 use Rattle.pb_relay.specs.Copies.{named}
-use Rattle.pb_relay.proofs.BpduLemmas.{place_of, one_bpdu, told-few}
+use Rattle.pb_relay.proofs.BpduLemmas.{place_of, one_bpdu, sent_count, sent_keeps, told-few}
 use Rattle.pb_relay.proofs.CopyLemmas.{named-few}
 use Rattle.pb_relay.proofs.bpdus.queue_bpdus.Goals as goal
 
 pub overflow_sub-place : goal.overflow_sub-place
 overflow_sub-place c = (place_of c.args.address.0 c.args.sends.now c.loop-port.port-index c.loop-port-item.result c.loop-port-test.true c.loop-port-item.is c.requires.separate).0
 
-pub index_mut-queue-requires : goal.index_mut-queue-requires
-index_mut-queue-requires c =
+pub send-answer-requires : goal.send-answer-requires
+send-answer-requires c =
     let l = place_of c.args.address.0 c.args.sends.now c.loop-port.port-index c.loop-port-item.result c.loop-port-test.true c.loop-port-item.is c.requires.separate in
     omega (arith, l.0, l.1, c.loop-port.invariant.count)
 
@@ -18,14 +17,18 @@ pub loop-port-preserved : goal.loop-port-preserved
 loop-port-preserved c =
     let x = c.loop-port-item.result in
     let answer = c.send-answer.result in
-    let more = one_bpdu c.args.capacity c.args.address.0 c.args.sends.now c.loop-port.port-index x c.args.queues.now.items c.loop-port.dropped.items c.loop-port.queues.items
-    c.index_mut-queue.result.now c.send-answer.new.queues answer c.loop-port.queued.items
-    c.loop-port-test.true c.loop-port-item.is c.requires.separate c.loop-port.invariant.copied c.loop-port.invariant.count c.loop-port.invariant.queued c.index_mut-queue.ensures.value c.send-answer.ensures in
+    let more = one_bpdu c.args.outbox.now c.loop-port.outbox c.send-answer.new.outbox c.args.address.0
+    c.args.sends.now c.loop-port.port-index x
+    c.loop-port.dropped.items answer c.loop-port.queued.items c.loop-port-test.true c.loop-port-item.is
+    c.requires.separate
+    c.loop-port.invariant.copied c.loop-port.invariant.count c.loop-port.invariant.kept c.loop-port.invariant.queued
+    c.send-answer.ensures in
     let rooms = c.note_sent.ensures in
     record {
       copied = rw rooms.dropped more.0;
       queued = rw (rooms.dropped, rooms.queued) more.1;
-      count = length-set _ _ _ ∙ c.loop-port.invariant.count;
+      count = sent_count _ _ _ _ answer c.send-answer.ensures ∙ c.loop-port.invariant.count;
+      kept = sent_keeps _ _ _ _ _ answer c.loop-port.invariant.kept c.send-answer.ensures;
       few = omega (arith, ap length rooms.dropped, length-append c.loop-port.dropped.items (named x.0 (word_of answer)), named-few x.0 (word_of answer), c.loop-port.invariant.few);
       fewer = omega (arith, ap length rooms.queued, length-append c.loop-port.queued.items (told_queued x.0 answer), told-few x.0 answer, c.loop-port.invariant.fewer);
       dropped_room = omega (arith, rooms.dropped_room, c.loop-port.invariant.dropped_room);

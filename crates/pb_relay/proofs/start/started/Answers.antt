@@ -1,5 +1,6 @@
 use Rattle.std.proofs.Common.{List, ap, ◌∙◌, refl, sym, subst, map, arith}
 use Rattle.pb_fdb.specs.Tables.{Table}
+use Rattle.pb_relay.specs.Outboxes.{OutboxView}
 use Rattle.pb_relay.specs.Roles.{LocalPort, told}
 use Rattle.pb_relay.specs.Starts.{KeepsPorts, first_state}
 use Rattle.pb_relay.proofs.StartLemmas.{started}
@@ -14,12 +15,15 @@ invariant_of-result c =
         sound = c.requires.sound;
         count = keeps.count;
         kept_ports = keeps.kept;
-        most = c.capacity.ensures;
+        most = ap (λ (o : OutboxView). o.capacity) c.in_ok-outbox.ensures.outbox;
         steps = refl;
       },
-      started c.args.plan.now c.args.number _ c.start_states-states.result c.in_ok-queues.queues.items c.new.result.sightings
-          keeps states c.in_ok-queues.ensures.queues (ap (λ (t : Table). t.sightings) c.new.ensures),
+      started c.args.plan.now c.args.number _ c.start_states-states.result c.in_ok-outbox.outbox.ports
+          c.new.result.sightings
+          keeps states (ap (λ (o : OutboxView). o.ports) c.in_ok-outbox.ensures.outbox)
+          (ap (λ (t : Table). t.sightings) c.new.ensures),
       record { within = omega arith; reserved = λ t. absurd cc },
       rw c.new.ensures (record { limit = refl; ageing = refl; in_time = omega arith }),
-      record { kept_machine = c.in_ok-queues.ensures.machine; kept_address = c.address.ensures },
+      record { kept_machine = c.in_ok-outbox.ensures.machine; kept_address = c.address.ensures },
+      ap (λ (o : OutboxView). o.is_kept) c.in_ok-outbox.ensures.outbox ∙ c.are_kept.ensures,
     )

@@ -8,6 +8,7 @@ use Rattle.pb_lan.specs.Rules.Cause.{Ticks}
 use Rattle.pb_lan.specs.declared.plan.Spanning.TheVariants.{Fixed, Rstp}
 use Rattle.pb_lan.specs.declared.step.Step.{Step}
 use Rattle.pb_lan.specs.declared.step.Step.TheVariants.{Tick}
+use Rattle.pb_relay.specs.LocalPorts.{IsConfigured}
 use Rattle.pb_relay.specs.Machines.{IsSpanning}
 use Rattle.pb_relay.specs.Protocol.{spanning_tree}
 use Rattle.pb_relay.specs.Standing.{BridgeView, IsStanding, with_step}
@@ -35,16 +36,13 @@ overflow_add-self c =
     omega (arith, reserved, c.self.invariant.0.steps, c.self.invariant.0.sound.limits.steps.1, c.self.invariant.1.clock, now_few c.self.inside.steps.steps) in
     search rules
 
-pub follow-moved-requires-clause-capacity : goal.follow-moved-requires-clause-capacity
-follow-moved-requires-clause-capacity c =
-    omega (arith, c.self.invariant.0.most, capacity-small c.self.inside.plan c.self.inside.number c.self.invariant.0.sound)
-
 -- the step names what the machine changes
 names : (c : goal.After-append) → Names spanning_tree c.self.inside.plan c.self.inside.number c.self.inside.steps.steps (Ticks) c.follow-moved.result
 names c =
     let s = c.self.inside in
     let f = c.follow-moved in
-    followed_names s.plan s.number s.steps.steps s.states f.new.states s.queues.items f.new.queues.items s.clock s.table.sightings c.expire.new.self f.new.table s.rstp s.address.0 s.capacity
+    followed_names s.plan s.number s.steps.steps s.states f.new.states s.outbox f.new.outbox s.clock s.table.sightings
+    c.expire.new.self f.new.table s.rstp s.address.0
     (Ticks) c.in-Some.change f.result c.self.invariant.1 c.self.invariant.0.most c.self.invariant.4 (sym c.in_ok-change.ensures.change ∙ c.in-Some.is) f.ensures
 
 pub follow-moved-requires-clause-change : goal.follow-moved-requires-clause-change
@@ -64,9 +62,12 @@ invariant_of-self-2 c =
     let reserved = c.self.invariant.2.reserved (subst (λ (v : BridgeView). v.is_reserved ≡ true) (sym c.self.view_is) c.requires.reserved) in
     let step : Step = Tick (c.self.inside.clock + 1) c.follow-moved.result in
     let e : c.append.new.steps.steps ≡ s.steps.steps ++ step ∷ [] = (ap (λ (v : StepsView). v.steps) c.append.ensures.steps) in (
-      c.self.invariant.0,
-      subst (λ (ms : List Step). IsStanding s.plan s.number ms f.new.states f.new.queues.items (c.self.inside.clock + 1) f.new.table.sightings) (sym e)
-          (after_followed s.plan s.number s.steps.steps s.states f.new.states s.queues.items f.new.queues.items s.clock (c.self.inside.clock + 1) s.table.sightings c.expire.new.self f.new.table s.rstp s.address.0 s.capacity
+      subst (λ (n : ℕ). IsConfigured s.plan s.number s.ports n s.limit) (sym f.ensures.outbox_kept.capacity)
+          c.self.invariant.0,
+      subst (λ (ms : List Step). IsStanding s.plan s.number ms f.new.states f.new.outbox.ports
+          (c.self.inside.clock + 1) f.new.table.sightings) (sym e)
+          (after_followed s.plan s.number s.steps.steps s.states f.new.states s.outbox f.new.outbox s.clock
+          (c.self.inside.clock + 1) s.table.sightings c.expire.new.self f.new.table s.rstp s.address.0
           (Ticks) c.in-Some.change f.result step c.self.invariant.1 c.self.invariant.0.most c.self.invariant.4 (sym c.in_ok-change.ensures.change ∙ c.in-Some.is) f.ensures
           (fits c) refl (λ _. refl) (λ _ _. refl) refl refl
           (ap (λ (t : Table). filter (is_fresh s.plan.ageing (s.clock + 1)) t.sightings) c.expire.ensures ∙ expired_later s.plan s.number s.clock s.steps.steps s.table c.self.invariant.3 c.self.invariant.1.stations)),
@@ -77,6 +78,8 @@ invariant_of-self-2 c =
       subst (IsTableOf s.plan (c.self.inside.clock + 1)) (sym f.ensures.flushed_table) (table_all_flushed s.plan (c.self.inside.clock + 1) c.expire.new.self c.in-Some.change.flush (subst (IsTableOf s.plan (s.clock + 1)) (sym c.expire.ensures) (table_expired s.plan s.clock s.table c.self.invariant.3))),
       subst (λ (ms : List Step). IsSpanning s.plan s.number ms c.tick.new.rstp s.address.0) (sym e)
           (spanning_moves s.plan s.number s.steps.steps s.rstp c.tick.new.rstp s.address.0 step (Ticks) refl (c.in_ok-change.ensures.ok) c.self.invariant.4),
+      f.ensures.outbox_kept.is_kept ∙ c.self.invariant.5
+          ∙ sym (ap (λ (v : StepsView). v.is_kept) c.append.ensures.steps),
     )
 
 pub returns-clause-ok : goal.returns-clause-ok

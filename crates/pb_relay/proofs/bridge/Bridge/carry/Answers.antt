@@ -11,7 +11,6 @@ use Rattle.pb_lan.specs.declared.step.Outcome.TheVariants.{Relayed}
 use Rattle.pb_lan.specs.declared.step.Step.{Step}
 use Rattle.pb_lan.specs.declared.step.Step.TheVariants.{Receive}
 use Rattle.pb_relay.specs.Loads.{IsLoadedAt, is_choice}
-use Rattle.pb_relay.specs.Receptions.{HasTaken}
 use Rattle.pb_relay.specs.Standing.{BridgeView, IsStanding}
 use Rattle.pb_fdb.specs.Tables.{sighting_at, where_in as place_in}
 use Rattle.pb_relay.proofs.CopyLemmas.{separate_of}
@@ -20,10 +19,11 @@ use Rattle.pb_relay.specs.Tables.{HasLearnt}
 use Rattle.pb_relay.proofs.EntryLemmas.{IsAdmitted, carried}
 use Rattle.pb_relay.proofs.ReceiveLemmas.{relayed}
 use Rattle.pb_relay.proofs.StandingLemmas.{capacity-small}
+use Rattle.pb_relay.specs.LocalPorts.{IsConfigured}
 use Rattle.pb_relay.specs.Machines.{IsSpanning}
 use Rattle.pb_relay.proofs.CauseLemmas.{spanning_stays}
 use Rattle.pb_steps.specs.StepLists.{StepsView}
-use Rattle.pb_relay.proofs.Grown.{used_up, seen, back, bridge_of}
+use Rattle.pb_relay.proofs.Grown.{used_up, seen, back}
 use Rattle.pb_relay.proofs.bridge.Bridge.carry.Goals as goal
 
 -- what is known of the item
@@ -48,17 +48,13 @@ queue_copies-refused-requires-clause-hops c =
     let a = admitted _ _ c.self.view_is c.args.port c.args.item c.args.vid c.requires.ruling in
     omega (arith, a.unworn)
 
-pub queue_copies-refused-requires-clause-capacity : goal.queue_copies-refused-requires-clause-capacity
-queue_copies-refused-requires-clause-capacity c =
-    omega (arith, c.self.invariant.0.most, capacity-small c.self.inside.plan c.self.inside.number c.self.invariant.0.sound)
-
 -- the step fits, and what is kept is kept
 whole : (c : goal.Joined-load-3)
     → Fits spanning_tree c.self.inside.plan c.self.inside.number c.self.inside.steps.steps
     (Receive c.args.port c.args.item (Some c.learn-learnt.result) (Relayed c.choose-chosen.result c.queue_copies-refused.result) None)
     × IsStanding c.self.inside.plan c.self.inside.number
     (c.self.inside.steps.steps ++ Receive c.args.port c.args.item (Some c.learn-learnt.result) (Relayed c.choose-chosen.result c.queue_copies-refused.result) None ∷ [])
-    c.self.inside.states c.queue_copies-refused.new.queues.items c.self.inside.clock c.learn-learnt.new.self.sightings
+    c.self.inside.states c.queue_copies-refused.new.outbox.ports c.self.inside.clock c.learn-learnt.new.self.sightings
 whole c =
     let mac : c.source_of.result.0 ≡ src_of c.args.item.wire = c.source_of.ensures ∙ ap src_of c.as_slice-frame.ensures in
     let learns : HasLearnt c.self.inside.plan.ageing c.self.inside.clock c.args.vid c.args.port (src_of c.args.item.wire) c.self.inside.table.sightings c.learn-learnt.result c.learn-learnt.new.self.sightings =
@@ -70,8 +66,10 @@ whole c =
     ∙ ap (λ o. cond (is_group (dst_of c.args.item.wire)) None o) (found_in c.self.inside.plan c.self.inside.clock c.args.vid (dst_of c.args.item.wire) c.learn-learnt.new.self newer.ageing) in
     let chosen : c.choose-chosen.result ≡ filter (is_choice c.self.inside.ports c.self.inside.states c.args.port c.args.vid c.sought-at.result) local_ports =
     c.choose-chosen.ensures.chosen in
-    relayed c.self.inside.plan c.self.inside.number c.self.inside.steps.steps c.self.inside.states c.self.inside.queues.items c.queue_copies-refused.new.queues.items
-    c.self.inside.clock c.self.inside.table.sightings c.learn-learnt.new.self.sightings c.self.inside.ports c.self.inside.capacity c.self.inside.limit c.args.port c.args.vid c.args.item c.args.load
+    relayed c.self.inside.plan c.self.inside.number c.self.inside.steps.steps c.self.inside.states
+    c.self.inside.outbox.ports c.queue_copies-refused.new.outbox.ports
+    c.self.inside.clock c.self.inside.table.sightings c.learn-learnt.new.self.sightings c.self.inside.ports
+    c.self.inside.outbox.capacity c.self.inside.limit c.args.port c.args.vid c.args.item c.args.load
     c.learn-learnt.result c.sought-at.result c.choose-chosen.result c.queue_copies-refused.result
     c.self.invariant.0 c.self.invariant.1
     (subst (λ (v : BridgeView). ruling spanning_tree v.plan v.number v.steps c.args.port c.args.item ≡ Carries c.args.vid) (sym c.self.view_is) c.requires.ruling)
@@ -82,30 +80,33 @@ pub invariant_of-self : goal.invariant_of-self
 invariant_of-self c =
     let reserved = c.self.invariant.2.reserved (subst (λ (v : BridgeView). v.is_reserved ≡ true) (sym c.self.view_is) c.requires.reserved) in
     let step : Step = Receive c.args.port c.args.item (Some c.learn-learnt.result) (Relayed c.choose-chosen.result c.queue_copies-refused.result) None in
-    let e : c.append_receive-told.new.steps.steps ≡ c.self.inside.steps.steps ++ step ∷ [] = (ap (λ (v : StepsView). v.steps) c.append_receive-told.ensures.steps) in (
-      c.self.invariant.0,
-      subst (λ (ms : List Step). IsStanding c.self.inside.plan c.self.inside.number ms c.self.inside.states c.queue_copies-refused.new.queues.items c.self.inside.clock c.learn-learnt.new.self.sightings)
+    let e : c.append_receive.new.steps.steps ≡ c.self.inside.steps.steps ++ step ∷ [] = (ap (λ (v : StepsView). v.steps) c.append_receive.ensures.steps) in (
+      subst (λ (n : ℕ). IsConfigured c.self.inside.plan c.self.inside.number c.self.inside.ports n
+          c.self.inside.limit) (sym c.queue_copies-refused.ensures.kept.capacity) c.self.invariant.0,
+      subst (λ (ms : List Step). IsStanding c.self.inside.plan c.self.inside.number ms c.self.inside.states
+          c.queue_copies-refused.new.outbox.ports c.self.inside.clock c.learn-learnt.new.self.sightings)
           (sym e) (whole c).1,
       record {
         within = omega (arith, reserved, ap length e, length-append c.self.inside.steps.steps (step ∷ []));
-        reserved = λ e. used_up (ap (λ (v : StepsView). v.is_reserved) c.append_receive-told.ensures.steps) e;
+        reserved = λ e. used_up (ap (λ (v : StepsView). v.is_reserved) c.append_receive.ensures.steps) e;
       },
       table_learnt c.self.inside.plan c.self.inside.clock c.self.inside.table c.learn-learnt.new.self (sighting_at c.args.vid c.source_of.result.0 c.args.port c.self.inside.clock) c.learn-learnt.result c.self.invariant.3 refl c.learn-learnt.ensures.table,
       subst (λ (ms : List Step). IsSpanning c.self.inside.plan c.self.inside.number ms c.self.inside.rstp c.self.inside.address.0) (sym e)
           (spanning_stays _ _ _ _ _ step refl c.self.invariant.4),
+      c.queue_copies-refused.ensures.kept.is_kept ∙ c.self.invariant.5
+          ∙ sym (ap (λ (v : StepsView). v.is_kept) c.append_receive.ensures.steps),
     )
 
 pub returns : goal.returns
 returns c =
-    let step : Step = Receive c.args.port c.args.item (Some c.learn-learnt.result) (Relayed c.choose-chosen.result c.queue_copies-refused.result) None in
-    let told : Outcome = Relayed c.copied.result c.copied-2.result in
-    let same : Relayed c.choose-chosen.result c.queue_copies-refused.result ≡ told =
-    ap (λ ps. Relayed ps c.queue_copies-refused.result) (sym c.copied.ensures) ∙ ap (λ rs. Relayed c.copied.result rs) (sym c.copied-2.ensures) in
-    let parts : HasTaken c.args.self.now c.args.port c.args.item (record { outcome = Relayed c.choose-chosen.result c.queue_copies-refused.result; told = c.append_receive-told.result }) (bridge_of c.self.inside.plan c.self.inside.number c.append_receive-told.new.steps) = (
+    let outcome : Outcome = Relayed c.choose-chosen.result c.queue_copies-refused.result in
+    let step : Step = Receive c.args.port c.args.item (Some c.learn-learnt.result) outcome None in (
       Some c.learn-learnt.result,
+      outcome,
       None,
-      seen c.self.inside.plan c.self.inside.number _ c.self.inside.steps c.append_receive-told.new.steps step c.append_receive-told.ensures.steps c.self.view_is,
+      seen c.self.inside.plan c.self.inside.number _ c.self.inside.steps c.append_receive.new.steps step
+          c.append_receive.ensures.steps c.self.view_is,
       subst (λ (v : BridgeView). Fits spanning_tree v.plan v.number v.steps step) c.self.view_is (whole c).0,
-      back c.self.inside.plan c.self.inside.number _ c.self.inside.steps step _ c.append_receive-told.ensures.back c.self.view_is,
-    ) in
-    subst (λ (o : Outcome). HasTaken c.args.self.now c.args.port c.args.item (record { outcome = o; told = c.append_receive-told.result }) (bridge_of c.self.inside.plan c.self.inside.number c.append_receive-told.new.steps)) same parts
+      back c.self.inside.plan c.self.inside.number _ c.self.inside.steps step _ c.append_receive.ensures.back
+          c.self.view_is,
+    )

@@ -25,18 +25,20 @@ invariant_of-self c =
     let reserved = c.self.invariant.2.reserved (subst (λ (v : BridgeView). v.is_reserved ≡ true) (sym c.self.view_is) c.requires.reserved) in
     let f : Fits spanning_tree c.self.inside.plan c.self.inside.number c.self.inside.steps.steps step =
     overheard_fits c.self.inside.plan c.self.inside.number c.self.inside.steps.steps c.args.port c.args.item fixed r in
-    let e : c.append-told.new.self.steps ≡ c.self.inside.steps.steps ++ step ∷ [] =
-    (ap (λ (v : StepsView). v.steps) c.append-told.ensures.steps) ∙ ap (λ (z : Step). c.self.inside.steps.steps ++ z ∷ [])
+    let e : c.append.new.self.steps ≡ c.self.inside.steps.steps ++ step ∷ [] =
+    (ap (λ (v : StepsView). v.steps) c.append.ensures.steps) ∙ ap (λ (z : Step). c.self.inside.steps.steps ++ z ∷ [])
     (c.heard_step.ensures ∙ ap (λ (m : Moved). Receive c.args.port c.args.item None Heard (Some m)) c.nothing_moved-moved.ensures) in (
       c.self.invariant.0,
-      subst (λ (ms : List Step). IsStanding c.self.inside.plan c.self.inside.number ms c.self.inside.states c.self.inside.queues.items c.self.inside.clock c.self.inside.table.sightings)
+      subst (λ (ms : List Step). IsStanding c.self.inside.plan c.self.inside.number ms c.self.inside.states
+          c.self.inside.outbox.ports c.self.inside.clock c.self.inside.table.sightings)
           (sym e)
           (after_overheard _ _ _ _ _ _ _ c.args.port c.args.item c.self.invariant.1 f),
       record {
         within = omega (arith, reserved, ap length e, length-append c.self.inside.steps.steps (step ∷ []));
-        reserved = λ e. used_up (ap (λ (v : StepsView). v.is_reserved) c.append-told.ensures.steps) e;
+        reserved = λ e. used_up (ap (λ (v : StepsView). v.is_reserved) c.append.ensures.steps) e;
       },
       c.self.invariant.3,
       subst (λ (ms : List Step). IsSpanning c.self.inside.plan c.self.inside.number ms c.self.inside.rstp c.self.inside.address.0) (sym e)
           (spanning_fixed _ _ _ _ _ step fixed c.self.invariant.4),
+      c.self.invariant.5 ∙ sym (ap (λ (v : StepsView). v.is_kept) c.append.ensures.steps),
     )

@@ -53,11 +53,18 @@ invariant_of-self c =
     ∙ ap (λ (m : Moved). c.self.inside.steps.steps ++ Admin c.args.port c.args.up m ∷ [])
     (c.requires.moved ∙ ap (λ (v : BridgeView). moved_by_setting v.plan v.number v.steps c.args.port c.args.up) (sym c.self.view_is)) in (
       c.self.invariant.0,
-      subst (λ (ms : List Step). IsStanding c.self.inside.plan c.self.inside.number ms (set c.self.inside.states (c.args.port - 1) c.state_set-next.result) c.self.inside.queues.items c.self.inside.clock c.flush_unless.new.table.sightings)
+      subst (λ (ms : List Step). IsStanding c.self.inside.plan c.self.inside.number ms
+          (set c.self.inside.states (c.args.port - 1) c.state_set-next.result) c.self.inside.outbox.ports
+          c.self.inside.clock c.flush_unless.new.table.sightings)
           (sym e)
-          (subst (λ (t : List Sighting). IsStanding c.self.inside.plan c.self.inside.number (c.self.inside.steps.steps ++ step ∷ []) (set c.self.inside.states (c.args.port - 1) c.state_set-next.result) c.self.inside.queues.items c.self.inside.clock t)
+          (subst (λ (t : List Sighting). IsStanding c.self.inside.plan c.self.inside.number
+          (c.self.inside.steps.steps ++ step ∷ [])
+          (set c.self.inside.states (c.args.port - 1) c.state_set-next.result) c.self.inside.outbox.ports
+          c.self.inside.clock t)
           (sym (ap (λ (t : Table). t.sightings) c.flush_unless.ensures ∙ sightings_flushed_or c.args.port c.args.up c.self.inside.table))
-          (after_set c.self.inside.plan c.self.inside.number c.self.inside.steps.steps c.self.inside.states c.self.inside.queues.items c.self.inside.clock c.self.inside.table.sightings c.args.port c.args.up c.state_set-next.result
+          (after_set c.self.inside.plan c.self.inside.number c.self.inside.steps.steps c.self.inside.states
+          c.self.inside.outbox.ports c.self.inside.clock c.self.inside.table.sightings c.args.port c.args.up
+          c.state_set-next.result
           c.self.invariant.1 fixed p l
           (c.state_set-next.ensures ∙ ap (λ (z : Local). state_set z c.args.up) c.at.ensures
           ∙ state_set_is c.self.inside.plan c.self.inside.number c.args.port (get_or c.self.inside.ports (c.args.port - 1) ToNobody) c.args.up p k))),
@@ -68,6 +75,7 @@ invariant_of-self c =
       rw c.flush_unless.ensures (table_flushed_or c.self.inside.plan c.self.inside.clock c.args.port c.args.up c.self.inside.table c.self.invariant.3),
       subst (λ (ms : List Step). IsSpanning c.self.inside.plan c.self.inside.number ms c.self.inside.rstp c.self.inside.address.0) (sym e)
           (spanning_fixed _ _ _ _ _ step fixed c.self.invariant.4),
+      c.self.invariant.5 ∙ sym (ap (λ (v : StepsView). v.is_kept) c.append.ensures.steps),
     )
 
 pub returns : goal.returns

@@ -3,7 +3,7 @@ use Rattle.pb_lan.specs.Ports.{port_at}
 use Rattle.pb_lan.specs.Queues.{waiting}
 use Rattle.pb_lan.specs.Ports.{is_used}
 use Rattle.pb_relay.specs.Standing.{BridgeView}
-use Rattle.pb_relay.proofs.StandingLemmas.{used_port, number_read, capacity-small}
+use Rattle.pb_relay.proofs.StandingLemmas.{used_port, number_at, capacity-small}
 use Rattle.pb_relay.proofs.bridge.Bridge.waiting.Goals as goal
 
 pub overflow_sub-port : goal.overflow_sub-port
@@ -11,8 +11,8 @@ overflow_sub-port c =
     (used_port _ _ _ c.self.invariant.0.sound
     (subst (λ (v : BridgeView). is_used (port_at v.plan v.number c.args.port) ≡ true) (sym c.self.view_is) c.requires)).0
 
-pub index-requires : goal.index-requires
-index-requires c =
+pub waiting-requires : goal.waiting-requires
+waiting-requires c =
     let l = used_port _ _ _ c.self.invariant.0.sound
     (subst (λ (v : BridgeView). is_used (port_at v.plan v.number c.args.port) ≡ true) (sym c.self.view_is) c.requires) in
     omega (arith, l.0, l.1, c.self.invariant.1.count)
@@ -21,14 +21,21 @@ pub overflow_cast-result : goal.overflow_cast-result
 overflow_cast-result c =
     let l = used_port _ _ _ c.self.invariant.0.sound
     (subst (λ (v : BridgeView). is_used (port_at v.plan v.number c.args.port) ≡ true) (sym c.self.view_is) c.requires) in
-    let n = number_read _ _ _ _ _ _ _ c.args.port c.self.invariant.1 l c.index.result.now c.index.ensures in
-    let small : c.len.result < 2 ^ 16 =
-    omega (arith, n, c.len.ensures, c.self.invariant.1.within c.args.port, capacity-small c.self.inside.plan c.self.inside.number c.self.invariant.0.sound) in
+    let n = number_at _ _ _ _ _ _ _ c.args.port c.self.invariant.1 l in
+    let small : c.waiting.result < 2 ^ 16 =
+    omega (
+      arith,
+      n,
+      c.waiting.ensures,
+      c.self.invariant.1.within c.args.port,
+      capacity-small c.self.inside.plan
+          c.self.inside.number c.self.invariant.0.sound,
+    ) in
     search rules
 
 pub returns : goal.returns
 returns c =
     let l = used_port _ _ _ c.self.invariant.0.sound
     (subst (λ (v : BridgeView). is_used (port_at v.plan v.number c.args.port) ≡ true) (sym c.self.view_is) c.requires) in
-    c.len.ensures ∙ number_read _ _ _ _ _ _ _ c.args.port c.self.invariant.1 l c.index.result.now c.index.ensures
+    c.waiting.ensures ∙ number_at _ _ _ _ _ _ _ c.args.port c.self.invariant.1 l
     ∙ ap (λ (v : BridgeView). length (waiting v.plan v.number c.args.port v.steps)) c.self.view_is

@@ -1,0 +1,6 @@
+use Rattle.std.proofs.Common.{arith}
+use Rattle.pb_relay.proofs.StandingLemmas.{capacity-small}
+use Rattle.pb_relay.proofs.start.sending.Goals as goal
+
+pub new-requires : goal.new-requires
+new-requires c = omega (arith, c.capacity.ensures, capacity-small c.args.plan.now c.args.number c.requires.sound)

@@ -1,0 +1,48 @@
+-- What waits at the local ports of a bridge, to be sent.
+use Rattle.std.specs.Prelude.{◌≡◌, ℕ, Bool, true, false, List, [], None, Some, Ok, Err, nat_le, replicate, slice_index_or, slice_set}
+use Rattle.std.specs.declared.option.Option.{Option}
+use Rattle.std.specs.declared.result.Result.{Result}
+use Rattle.pb_lan.specs.declared.step.Item.{Item}
+use Rattle.pb_lan.specs.declared.step.NoRoom.{NoRoom}
+use Rattle.pb_lan.specs.declared.step.NoRoom.TheVariants.{Full, Memory}
+use Rattle.pb_relay.specs.Classes.{no_items, number_in, put_in}
+
+-- what callers see: what waits at each port by class, the most items that wait at one, and whether all is there twice,
+-- for a bridge that keeps its steps
+pub record OutboxView : Type 0 where
+  pub ports : List (List (List Item))
+  pub capacity : ℕ
+  pub is_kept : Bool
+
+-- nothing waits
+abbrev pub empty_outbox : ℕ → Bool → OutboxView
+empty_outbox capacity is_kept = record { ports = replicate 16 no_items; capacity = capacity; is_kept = is_kept }
+
+-- what waits at the port of a place
+abbrev pub at_place : OutboxView → ℕ → List (List Item)
+at_place outbox place = slice_index_or outbox.ports place []
+
+-- the same, but that this waits at one port
+abbrev pub with_port : OutboxView → ℕ → List (List Item) → OutboxView
+with_port outbox place qs = record outbox { ports = slice_set outbox.ports place qs }
+
+-- as many items wait at a port as may
+abbrev pub is_full_at : OutboxView → ℕ → Bool
+is_full_at outbox place = nat_le outbox.capacity (number_in (at_place outbox place))
+
+-- an item was queued at a port where there was room and memory
+abbrev pub HasEnqueued : OutboxView → ℕ → ℕ → Item → Option NoRoom → OutboxView → Type 0
+HasEnqueued old place class item None new =
+    (is_full_at old place ≡ false) × (new ≡ with_port old place (put_in class item (at_place old place)))
+HasEnqueued old place class item (Some Full) new = (is_full_at old place ≡ true) × (new ≡ old)
+HasEnqueued old place class item (Some Memory) new = (is_full_at old place ≡ false) × (new ≡ old)
+
+-- the word for what was not queued for want of memory, if it was not
+abbrev pub word_for : {X Y : Type 0} → Result X Y → Option NoRoom
+word_for (Ok x) = None
+word_for (Err y) = Some Memory
+
+-- nothing has changed but what waits
+pub record KeepsOutbox (old new : OutboxView) : Type 0 where
+  pub capacity : new.capacity ≡ old.capacity
+  pub is_kept : new.is_kept ≡ old.is_kept

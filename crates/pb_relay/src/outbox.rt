@@ -1,0 +1,186 @@
+//! What waits at the local ports of a bridge.
+
+ghost use Rattle.std.specs.Option.{option_copied};
+ghost use Rattle.std.specs.Prelude.{◌≡◌, ◌<◌, ◌≤◌, length, IfOk, OnOk, OnErr, replicate};
+ghost use Rattle.pb_relay.specs.Classes.{no_items, number_in, put_in, first_out, after_first};
+ghost use Rattle.pb_relay.specs.Copies.{item_with};
+ghost use Rattle.pb_relay.specs.Departures.{departure};
+ghost use Rattle.pb_relay.specs.Outboxes.{at_place, with_port, is_full_at, HasEnqueued, empty_outbox, word_for};
+
+use crate::departure::Departure;
+use crate::queues::PortQueues;
+use bytes::Bytes;
+use pb_frame::Memory;
+use pb_lan::{Item, Mark, NoRoom};
+use std::alloc::Global;
+use std::marker::Model;
+
+/// What waits at the local ports of a bridge. Where the bridge keeps its steps, all of it is there twice, so that
+/// the step that tells of an item takes no memory when the item leaves.
+///
+/// Contracts see what waits at each port, the most items that wait at one, and whether all is there twice.
+#[derive(Drop)]
+pub struct Outbox {
+    queues: Vec<PortQueues>,
+    /// As many, where steps are kept, and else none.
+    copies: Vec<PortQueues>,
+    capacity: usize,
+    is_kept: bool,
+}
+
+impl Model for Outbox {
+    ghost use Rattle.std.specs.Prelude.{◌≡◌, ◌≤◌, true};
+    ghost use Rattle.pb_relay.specs.Outboxes.{OutboxView};
+
+    ghost Value = { OutboxView };
+
+    ghost view = { λ o. record { ports = o.queues.items; capacity = o.capacity; is_kept = o.is_kept } };
+
+    ghost invariant = { λ o. (o.capacity ≤ 4096) × (o.is_kept ≡ true → o.copies.items ≡ o.queues.items) };
+}
+
+impl Outbox {
+    /// Nothing waits at any of the local ports. `Memory` is answered where there was none for the lists.
+    pub fn new(alloc: Global, capacity: usize, is_kept: bool) -> Result<Outbox, Memory>
+        requires { capacity ≤ 4096 }
+        ensures { IfOk result (λ outbox. outbox ≡ empty_outbox capacity is_kept) }
+    {
+        let queues = empty_queues(alloc)?;
+        let copies = if is_kept {
+            empty_queues(alloc)?
+        } else {
+            Vec::new(alloc)
+        };
+        Ok(Outbox {
+            queues,
+            copies,
+            capacity,
+            is_kept,
+        })
+    }
+
+    /// The number of items that wait at the port of a place: the first is at 0.
+    #[inline(always)]
+    pub fn waiting(&self, place: usize) -> usize
+        requires { place < length self.now.ports }
+        ensures { result ≡ number_in (at_place self.now place) }
+    {
+        self.queues[place].len()
+    }
+
+    /// As many items wait at the port as may.
+    #[inline(always)]
+    pub fn is_full(&self, place: usize) -> bool
+        requires { place < length self.now.ports }
+        ensures { result ≡ is_full_at self.now place }
+    {
+        self.waiting(place) >= self.capacity
+    }
+
+    /// The item that leaves the port next.
+    pub fn first(&self, place: usize) -> Option<&Item>
+        requires { place < length self.now.ports }
+        ensures { option_copied result ≡ first_out (at_place self.now place) }
+    {
+        let queues = &self.queues[place];
+        queues.first()
+    }
+
+    /// Queues an item of these parts at a port, if there is room and memory.
+    pub fn enqueue(
+        &mut self,
+        place: usize,
+        class: u8,
+        mark: Option<Mark>,
+        hops: u32,
+        wire: &Bytes,
+    ) -> Option<NoRoom>
+        requires place { place < length self.old.ports }
+        requires class { class < 8 }
+        ensures { HasEnqueued self.old place class (item_with mark hops wire.now) result self.new }
+    {
+        if self.is_full(place) {
+            return Some(NoRoom::Full);
+        }
+        let Ok(item) = item_of(mark, hops, wire) else {
+            return Some(NoRoom::Memory);
+        };
+        let queues = &mut self.queues[place];
+        if self.is_kept {
+            let copies = &mut self.copies[place];
+            return word_for(push_twice(queues, copies, class, item));
+        }
+        word_for(queues.push(class, item))
+    }
+
+    /// Takes the item that leaves the port next, with its copy where there is one. Takes no memory.
+    #[inline(always)]
+    pub fn pop(&mut self, place: usize) -> Option<Departure>
+        requires { place < length self.old.ports }
+        ensures first { result ≡ departure self.old.is_kept (first_out (at_place self.old place)) }
+        ensures rest { self.new ≡ with_port self.old place (after_first (at_place self.old place)) }
+    {
+        let item = self.queues[place].pop()?;
+        if self.is_kept {
+            let copy = self.copies[place].pop();
+            return Some(Departure { item, copy });
+        }
+        Some(Departure { item, copy: None })
+    }
+}
+
+/// Queues for the local ports, with nothing in them.
+fn empty_queues(alloc: Global) -> Result<Vec<PortQueues>, Memory>
+    ensures { IfOk result (λ queues. queues.items ≡ replicate 16 no_items) }
+{
+    let mut queues = Vec::with_capacity(alloc, 16)?;
+    for _port in 0..16u8 {
+        queues.push(PortQueues::new(alloc)?)?;
+    }
+    Ok(queues)
+}
+
+/// An item of these parts.
+fn item_of(mark: Option<Mark>, hops: u32, wire: &Bytes) -> Result<Item, Memory>
+    ensures { IfOk result (λ item. item ≡ item_with mark hops wire.now) }
+{
+    Ok(Item {
+        mark,
+        hops,
+        wire: wire.clone()?,
+    })
+}
+
+/// Puts an item behind those of its class, and a copy of it behind the copies, or neither.
+fn push_twice(
+    queues: &mut PortQueues,
+    copies: &mut PortQueues,
+    class: u8,
+    item: Item,
+) -> Result<(), Memory>
+    requires class { class < 8 }
+    requires room { number_in queues.old < 65536 }
+    requires copies { copies.old ≡ queues.old }
+    ensures ok { OnOk result (queues.new ≡ put_in class item queues.old) }
+    ensures err { OnErr result (queues.new ≡ queues.old) }
+    ensures copies { copies.new ≡ queues.new }
+{
+    let copy = item_of(item.mark, item.hops, &item.wire)?;
+    queues.push(class, item)?;
+    if let Err(fault) = copies.push(class, copy) {
+        queues.take_back(class);
+        return Err(fault);
+    }
+    Ok(())
+}
+
+/// The word for an item that found no memory, if it found none.
+#[inline(always)]
+fn word_for(pushed: Result<(), Memory>) -> Option<NoRoom>
+    ensures { result ≡ word_for pushed }
+{
+    match pushed {
+        Ok(()) => None,
+        Err(_) => Some(NoRoom::Memory),
+    }
+}
