@@ -3,6 +3,7 @@ pub mod Lanes
 pub mod OneMore
 pub mod Meetings
 pub mod Keeping
+pub mod KnownSpots
 pub mod Placing
 pub mod PortMoves
 pub mod LaneMoves

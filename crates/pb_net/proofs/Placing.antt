@@ -1,11 +1,10 @@
 -- The places of a network, with one of them changed.
-use Rattle.std.proofs.Common.{◌≡◌, ℕ, zero, suc, ◌+◌, inl, inr, true, List, [], ◌∷◌, ◌++◌, Some, map, slice_get, sym, ap, subst, ◌∙◌, length-set}
+use Rattle.std.proofs.Common.{◌≡◌, ℕ, zero, suc, ◌+◌, inl, inr, true, List, [], ◌∷◌, ◌++◌, Some, slice_get, sym, ap, subst, ◌∙◌, length-set}
 use Rattle.std.specs.List.{AllByRecursion}
 use Rattle.std.proofs.Math.ListN.{set}
 use Rattle.std.proofs.lemmas.Option.{slice_get_within}
 use Rattle.pb_frame.proofs.Lists.{Some-injective}
 use Rattle.pb_lan.specs.Events.{with_step}
-use Rattle.pb_lan.specs.declared.plan.Plan.{Plan}
 use Rattle.pb_lan.specs.declared.record.Record.{Record}
 use Rattle.pb_lan.specs.declared.step.Place.TheVariants.{Bridge, Lane, Customer}
 use Rattle.pb_lan.specs.declared.step.Step.{Step}
@@ -14,121 +13,146 @@ use Rattle.pb_link.specs.Lanes.{LaneView}
 use Rattle.pb_relay.specs.Standing.{BridgeView}
 use Rattle.pb_net.specs.Nets.{ArePlaced, record_of}
 use Rattle.pb_net.specs.Slots.{losses_of}
+use Rattle.pb_net.specs.declared.net.Net.TheInside.{Inside}
+use Rattle.pb_net.proofs.KnownSpots.{Keeps, rec_in}
 use Rattle.pb_net.proofs.OneMore.{same_or_not, one_more-map, slice_get-set_same, slice_get-set_other, map-set_kept}
 
 -- what holds of each place at its index holds of each where one has changed
-each_set : {X : Type 0} (P : ℕ → X → Type 0) (xs : List X) (r : ℕ) (old new : X) → slice_get xs r ≡ Some old → ((s : ℕ) (x : X) → slice_get xs s ≡ Some x → P s x)
+each_set : {X : Type 0} (P : ℕ → X → Type 0) (xs : List X) (r : ℕ) (old new : X) → slice_get xs r ≡ Some old
+    → ((s : ℕ) (x : X) → slice_get xs s ≡ Some x → P s x)
     → P r new → (s : ℕ) (x : X) → slice_get (set xs r new) s ≡ Some x → P s x
 each_set P xs r old new here each changed s x h = elim (same_or_not s r) [
   | inl e ↦
-      let one : new ≡ x = Some-injective (sym (slice_get-set_same xs r new (slice_get_within xs r old here)) ∙ ap (λ k. slice_get (set xs r new) k) (sym e) ∙ h) in
+      let one : new ≡ x = Some-injective (sym (slice_get-set_same xs r new (slice_get_within xs r old here))
+      ∙ ap (λ k. slice_get (set xs r new) k) (sym e) ∙ h) in
       rw (e, ← one) changed
   | inr ne ↦ each s x (sym (slice_get-set_other xs r s new ne) ∙ h)
 ]
 
 -- what holds of all holds of each
-pub one_of_all : {X : Type 0} (P : X → Type 0) (xs : List X) (r : ℕ) (x : X) → AllByRecursion P xs → slice_get xs r ≡ Some x → P x
+pub one_of_all : {X : Type 0} (P : X → Type 0) (xs : List X) (r : ℕ) (x : X) → AllByRecursion P xs
+    → slice_get xs r ≡ Some x → P x
 one_of_all P [] r x all h = cc
 one_of_all P (y ∷ xs) zero x all h = subst P (Some-injective h) all.0
 one_of_all P (y ∷ xs) (suc r) x all h = one_of_all P xs r x all.1 h
 
 -- and still of all where one has changed
-all_set : {X : Type 0} (P : X → Type 0) (xs : List X) (r : ℕ) (new : X) → AllByRecursion P xs → P new → AllByRecursion P (set xs r new)
+all_set : {X : Type 0} (P : X → Type 0) (xs : List X) (r : ℕ) (new : X) → AllByRecursion P xs → P new
+    → AllByRecursion P (set xs r new)
 all_set P [] r new all changed = tt
 all_set P (x ∷ xs) zero new all changed = (changed, all.1)
 all_set P (x ∷ xs) (suc r) new all changed = (all.0, all_set P xs r new all.1 changed)
 
-pub placed_bridge : (plan : Plan) (bridges : List BridgeView) (lanes : List LaneView) (customers : List PlaceView) (r : ℕ) (old new : BridgeView)
-    → ArePlaced plan bridges lanes customers → slice_get bridges r ≡ Some old → new.plan ≡ old.plan → new.number ≡ old.number → new.is_kept ≡ old.is_kept
-    → ArePlaced plan (set bridges r new) lanes customers
-placed_bridge plan bridges lanes customers r old new placed here of_plan number is_kept = record {
-  bridge_count = length-set bridges r new ∙ placed.bridge_count;
-  lane_count = placed.lane_count;
-  customer_count = placed.customer_count;
-  planned = each_set (λ s b. b.plan ≡ plan) bridges r old new here placed.planned (of_plan ∙ placed.planned r old here);
-  bridge_numbers = each_set (λ s b. b.number ≡ s + 1) bridges r old new here placed.bridge_numbers (number ∙ placed.bridge_numbers r old here);
-  kept_bridges = all_set (λ b. b.is_kept ≡ true) bridges r new placed.kept_bridges (is_kept ∙ one_of_all (λ b. b.is_kept ≡ true) bridges r old placed.kept_bridges here);
-  kept_lanes = placed.kept_lanes;
-  kept_customers = placed.kept_customers;
-  lane_losses = placed.lane_losses;
-  customer_numbers = placed.customer_numbers;
-}
+-- the places are those of the plan still, where one has kept what the plan says of it
+pub placed_bridge : (s : Inside) (r : ℕ) (old new : BridgeView) → Keeps s → slice_get s.bridges.items r ≡ Some old
+    → new.plan ≡ old.plan → new.number ≡ old.number → new.is_kept ≡ old.is_kept
+    → ArePlaced s.plan (set s.bridges.items r new) s.lanes.items s.customers.items
+placed_bridge s r old new keeps here of_plan number is_kept =
+    let p = keeps.1 in
+    let all = one_of_all (λ (b : BridgeView). b.is_kept ≡ true) s.bridges.items r old p.kept_bridges here in
+    record {
+      bridge_count = length-set s.bridges.items r new ∙ p.bridge_count;
+      lane_count = p.lane_count;
+      customer_count = p.customer_count;
+      planned = each_set (λ _ b. b.plan ≡ s.plan) s.bridges.items r old new here p.planned
+          (of_plan ∙ p.planned r old here);
+      bridge_numbers =
+          each_set (λ k b. b.number ≡ k + 1) s.bridges.items r old new here p.bridge_numbers
+          (number ∙ p.bridge_numbers r old here);
+      kept_bridges = all_set (λ b. b.is_kept ≡ true) s.bridges.items r new p.kept_bridges (is_kept ∙ all);
+      kept_lanes = p.kept_lanes;
+      kept_customers = p.kept_customers;
+      lane_losses = p.lane_losses;
+      customer_numbers = p.customer_numbers;
+    }
 
-pub placed_lane : (plan : Plan) (bridges : List BridgeView) (lanes : List LaneView) (customers : List PlaceView) (r : ℕ) (old new : LaneView)
-    → ArePlaced plan bridges lanes customers → slice_get lanes r ≡ Some old → new.losses ≡ old.losses → new.is_kept ≡ old.is_kept
-    → ArePlaced plan bridges (set lanes r new) customers
-placed_lane plan bridges lanes customers r old new placed here losses is_kept = record {
-  bridge_count = placed.bridge_count;
-  lane_count = length-set lanes r new ∙ placed.lane_count;
-  customer_count = placed.customer_count;
-  planned = placed.planned;
-  bridge_numbers = placed.bridge_numbers;
-  kept_bridges = placed.kept_bridges;
-  kept_lanes = all_set (λ l. l.is_kept ≡ true) lanes r new placed.kept_lanes (is_kept ∙ one_of_all (λ l. l.is_kept ≡ true) lanes r old placed.kept_lanes here);
-  kept_customers = placed.kept_customers;
-  lane_losses = each_set (λ s l. l.losses ≡ losses_of plan (s + 1)) lanes r old new here placed.lane_losses (losses ∙ placed.lane_losses r old here);
-  customer_numbers = placed.customer_numbers;
-}
+pub placed_lane : (s : Inside) (r : ℕ) (old new : LaneView) → Keeps s → slice_get s.lanes.items r ≡ Some old
+    → new.losses ≡ old.losses → new.is_kept ≡ old.is_kept
+    → ArePlaced s.plan s.bridges.items (set s.lanes.items r new) s.customers.items
+placed_lane s r old new keeps here losses is_kept =
+    let p = keeps.1 in
+    let all = one_of_all (λ (l : LaneView). l.is_kept ≡ true) s.lanes.items r old p.kept_lanes here in
+    record {
+      bridge_count = p.bridge_count;
+      lane_count = length-set s.lanes.items r new ∙ p.lane_count;
+      customer_count = p.customer_count;
+      planned = p.planned;
+      bridge_numbers = p.bridge_numbers;
+      kept_bridges = p.kept_bridges;
+      kept_lanes = all_set (λ l. l.is_kept ≡ true) s.lanes.items r new p.kept_lanes (is_kept ∙ all);
+      kept_customers = p.kept_customers;
+      lane_losses =
+          each_set (λ k l. l.losses ≡ losses_of s.plan (k + 1)) s.lanes.items r old new here p.lane_losses
+          (losses ∙ p.lane_losses r old here);
+      customer_numbers = p.customer_numbers;
+    }
 
-pub placed_customer : (plan : Plan) (bridges : List BridgeView) (lanes : List LaneView) (customers : List PlaceView) (r : ℕ) (old new : PlaceView)
-    → ArePlaced plan bridges lanes customers → slice_get customers r ≡ Some old → new.number ≡ old.number → new.is_kept ≡ old.is_kept
-    → ArePlaced plan bridges lanes (set customers r new)
-placed_customer plan bridges lanes customers r old new placed here number is_kept = record {
-  bridge_count = placed.bridge_count;
-  lane_count = placed.lane_count;
-  customer_count = length-set customers r new ∙ placed.customer_count;
-  planned = placed.planned;
-  bridge_numbers = placed.bridge_numbers;
-  kept_bridges = placed.kept_bridges;
-  kept_lanes = placed.kept_lanes;
-  kept_customers = all_set (λ p. p.is_kept ≡ true) customers r new placed.kept_customers (is_kept ∙ one_of_all (λ p. p.is_kept ≡ true) customers r old placed.kept_customers here);
-  lane_losses = placed.lane_losses;
-  customer_numbers = each_set (λ s p. p.number ≡ s + 1) customers r old new here placed.customer_numbers (number ∙ placed.customer_numbers r old here);
-}
+pub placed_customer : (s : Inside) (r : ℕ) (old new : PlaceView) → Keeps s → slice_get s.customers.items r ≡ Some old
+    → new.number ≡ old.number → new.is_kept ≡ old.is_kept
+    → ArePlaced s.plan s.bridges.items s.lanes.items (set s.customers.items r new)
+placed_customer s r old new keeps here number is_kept =
+    let q = keeps.1 in
+    let all = one_of_all (λ (p : PlaceView). p.is_kept ≡ true) s.customers.items r old q.kept_customers here in
+    record {
+      bridge_count = q.bridge_count;
+      lane_count = q.lane_count;
+      customer_count = length-set s.customers.items r new ∙ q.customer_count;
+      planned = q.planned;
+      bridge_numbers = q.bridge_numbers;
+      kept_bridges = q.kept_bridges;
+      kept_lanes = q.kept_lanes;
+      kept_customers = all_set (λ p. p.is_kept ≡ true) s.customers.items r new q.kept_customers (is_kept ∙ all);
+      lane_losses = q.lane_losses;
+      customer_numbers =
+          each_set (λ k p. p.number ≡ k + 1) s.customers.items r old new here q.customer_numbers
+          (number ∙ q.customer_numbers r old here);
+    }
 
 abbrev rec_of : List (List Step) → List (List Step) → List (List Step) → Record
 rec_of bridges lanes customers = record { bridges = bridges; lanes = lanes; customers = customers }
 
-abbrev pub bridge_lists : List BridgeView → List (List Step)
-bridge_lists bridges = map (λ b. b.steps) bridges
-
-abbrev pub lane_lists : List LaneView → List (List Step)
-lane_lists lanes = map (λ l. l.steps) lanes
-
-abbrev pub customer_lists : List PlaceView → List (List Step)
-customer_lists customers = map (λ p. p.steps) customers
-
 -- the record has one step more at the place
-pub recorded_bridge : (bridges : List BridgeView) (lanes : List LaneView) (customers : List PlaceView) (r : ℕ) (old new : BridgeView) (step : Step)
-    → slice_get bridges r ≡ Some old → new.steps ≡ old.steps ++ step ∷ []
-    → record_of (set bridges r new) lanes customers ≡ with_step (record_of bridges lanes customers) (Bridge (suc r)) step
-recorded_bridge bridges lanes customers r old new step here grown =
-    ap (λ (lists : List (List Step)). rec_of lists (lane_lists lanes) (customer_lists customers)) (one_more-map (λ (b : BridgeView). b.steps) bridges r old new step here grown)
+pub recorded_bridge : (s : Inside) (r : ℕ) (old new : BridgeView) (step : Step)
+    → slice_get s.bridges.items r ≡ Some old → new.steps ≡ old.steps ++ step ∷ []
+    → record_of (set s.bridges.items r new) s.lanes.items s.customers.items ≡ with_step (rec_in s)
+    (Bridge (suc r)) step
+recorded_bridge s r old new step here grown =
+    ap (λ (lists : List (List Step)). rec_of lists (rec_in s).lanes (rec_in s).customers)
+    (one_more-map (λ (b : BridgeView). b.steps) s.bridges.items r old new step here grown)
 
-pub recorded_lane : (bridges : List BridgeView) (lanes : List LaneView) (customers : List PlaceView) (r : ℕ) (old new : LaneView) (step : Step)
-    → slice_get lanes r ≡ Some old → new.steps ≡ old.steps ++ step ∷ []
-    → record_of bridges (set lanes r new) customers ≡ with_step (record_of bridges lanes customers) (Lane (suc r)) step
-recorded_lane bridges lanes customers r old new step here grown =
-    ap (λ (lists : List (List Step)). rec_of (bridge_lists bridges) lists (customer_lists customers)) (one_more-map (λ (l : LaneView). l.steps) lanes r old new step here grown)
+pub recorded_lane : (s : Inside) (r : ℕ) (old new : LaneView) (step : Step)
+    → slice_get s.lanes.items r ≡ Some old → new.steps ≡ old.steps ++ step ∷ []
+    → record_of s.bridges.items (set s.lanes.items r new) s.customers.items ≡ with_step (rec_in s) (Lane (suc r)) step
+recorded_lane s r old new step here grown =
+    ap (λ (lists : List (List Step)). rec_of (rec_in s).bridges lists (rec_in s).customers)
+    (one_more-map (λ (l : LaneView). l.steps) s.lanes.items r old new step here grown)
 
-pub recorded_customer : (bridges : List BridgeView) (lanes : List LaneView) (customers : List PlaceView) (r : ℕ) (old new : PlaceView) (step : Step)
-    → slice_get customers r ≡ Some old → new.steps ≡ old.steps ++ step ∷ []
-    → record_of bridges lanes (set customers r new) ≡ with_step (record_of bridges lanes customers) (Customer (suc r)) step
-recorded_customer bridges lanes customers r old new step here grown =
-    ap (λ (lists : List (List Step)). rec_of (bridge_lists bridges) (lane_lists lanes) lists) (one_more-map (λ (p : PlaceView). p.steps) customers r old new step here grown)
+pub recorded_customer : (s : Inside) (r : ℕ) (old new : PlaceView) (step : Step)
+    → slice_get s.customers.items r ≡ Some old → new.steps ≡ old.steps ++ step ∷ []
+    → record_of s.bridges.items s.lanes.items (set s.customers.items r new) ≡ with_step (rec_in s)
+    (Customer (suc r)) step
+recorded_customer s r old new step here grown =
+    ap (λ (lists : List (List Step)). rec_of (rec_in s).bridges (rec_in s).lanes lists)
+    (one_more-map (λ (p : PlaceView). p.steps) s.customers.items r old new step here grown)
 
 -- the record is as it was where the place's steps are
-pub unrecorded_bridge : (bridges : List BridgeView) (lanes : List LaneView) (customers : List PlaceView) (r : ℕ) (old new : BridgeView)
-    → slice_get bridges r ≡ Some old → new.steps ≡ old.steps → record_of (set bridges r new) lanes customers ≡ record_of bridges lanes customers
-unrecorded_bridge bridges lanes customers r old new here same =
-    ap (λ (lists : List (List Step)). rec_of lists (lane_lists lanes) (customer_lists customers)) (map-set_kept (λ (b : BridgeView). b.steps) bridges r old new here same)
+pub unrecorded_bridge : (s : Inside) (r : ℕ) (old new : BridgeView) → slice_get s.bridges.items r ≡ Some old
+    → new.steps ≡ old.steps
+    → record_of (set s.bridges.items r new) s.lanes.items s.customers.items ≡ rec_in s
+unrecorded_bridge s r old new here same =
+    ap (λ (lists : List (List Step)). rec_of lists (rec_in s).lanes (rec_in s).customers)
+    (map-set_kept (λ (b : BridgeView). b.steps) s.bridges.items r old new here same)
 
-pub unrecorded_lane : (bridges : List BridgeView) (lanes : List LaneView) (customers : List PlaceView) (r : ℕ) (old new : LaneView)
-    → slice_get lanes r ≡ Some old → new.steps ≡ old.steps → record_of bridges (set lanes r new) customers ≡ record_of bridges lanes customers
-unrecorded_lane bridges lanes customers r old new here same =
-    ap (λ (lists : List (List Step)). rec_of (bridge_lists bridges) lists (customer_lists customers)) (map-set_kept (λ (l : LaneView). l.steps) lanes r old new here same)
+pub unrecorded_lane : (s : Inside) (r : ℕ) (old new : LaneView) → slice_get s.lanes.items r ≡ Some old
+    → new.steps ≡ old.steps
+    → record_of s.bridges.items (set s.lanes.items r new) s.customers.items ≡ rec_in s
+unrecorded_lane s r old new here same =
+    ap (λ (lists : List (List Step)). rec_of (rec_in s).bridges lists (rec_in s).customers)
+    (map-set_kept (λ (l : LaneView). l.steps) s.lanes.items r old new here same)
 
-pub unrecorded_customer : (bridges : List BridgeView) (lanes : List LaneView) (customers : List PlaceView) (r : ℕ) (old new : PlaceView)
-    → slice_get customers r ≡ Some old → new.steps ≡ old.steps → record_of bridges lanes (set customers r new) ≡ record_of bridges lanes customers
-unrecorded_customer bridges lanes customers r old new here same =
-    ap (λ (lists : List (List Step)). rec_of (bridge_lists bridges) (lane_lists lanes) lists) (map-set_kept (λ (p : PlaceView). p.steps) customers r old new here same)
+pub unrecorded_customer : (s : Inside) (r : ℕ) (old new : PlaceView) → slice_get s.customers.items r ≡ Some old
+    → new.steps ≡ old.steps
+    → record_of s.bridges.items s.lanes.items (set s.customers.items r new) ≡ rec_in s
+unrecorded_customer s r old new here same =
+    ap (λ (lists : List (List Step)). rec_of (rec_in s).bridges (rec_in s).lanes lists)
+    (map-set_kept (λ (p : PlaceView). p.steps) s.customers.items r old new here same)

@@ -36,7 +36,7 @@ use Rattle.pb_net.specs.Starts.{AreFreshBridges, AreFreshLanes, AreFreshCustomer
 use Rattle.pb_net.specs.declared.slots.LaneSlots.{LaneSlots}
 use Rattle.pb_net.specs.declared.slots.PortUse.{PortUse}
 use Rattle.pb_net.specs.declared.slots.PortUse.TheVariants.{ToCustomer, ToBridge, ToNobody}
-use Rattle.pb_net.proofs.Done.{items_in}
+use Rattle.pb_net.proofs.KnownSpots.{items_in}
 use Rattle.pb_net.proofs.Lanes.{ab_link, ba_link, ab_odd, ba_even}
 use Rattle.pb_net.proofs.SpotLemmas.{slot_at, slot_of, slot_there}
 

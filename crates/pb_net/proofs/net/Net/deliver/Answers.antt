@@ -1,77 +1,54 @@
-use Rattle.std.proofs.Common.{◌≡◌, ◌*◌, false, length, map, sym, ap, subst, ◌∙◌, refl}
+use Rattle.std.proofs.Common.{sym, subst, ◌∙◌}
 use Rattle.std.proofs.lemmas.Result.{err_from_is_err_and}
-use Rattle.std.proofs.Math.ListN.{set}
-use Rattle.pb_lan.specs.Events.{HasDone, is_idle}
 use Rattle.pb_lan.specs.declared.event.Event.TheVariants.{Deliver}
-use Rattle.pb_lan.specs.declared.record.Record.{Record}
-use Rattle.pb_net.specs.Answers.{NetView}
-use Rattle.pb_net.specs.Nets.{record_of}
-use Rattle.pb_net.specs.Slots.{IsCustomerSpot}
+use Rattle.pb_net.specs.Answers.{NetView, IsDue}
+use Rattle.pb_net.proofs.KnownSpots.{CustomerAt, customer_at, outbox_kept, shown}
 use Rattle.pb_net.proofs.DueLemmas.{idle_deliver_is}
-use Rattle.pb_net.proofs.Done.{box_at, box_kept, items_in, some_there, customer_failed, deliver_done, answers_memory, net_with}
+use Rattle.pb_net.proofs.Done.{some_there, customer_failed, deliver_done, answers_memory, answers_done}
 use Rattle.pb_net.proofs.net.Net.deliver.Goals as goal
+use Rattle.pb_net.proofs.net.Net.deliver.Goals.{After-index_mut-2}
+
+-- what stands at the spot, and that the event is due
+at : (c : After-index_mut-2) → CustomerAt c.self.inside c.args.port c.in-Some.spot c.index_mut.result.now
+at c = customer_at c.self.inside c.self.invariant c.self.view_is (rw c.in-Some.is at c.in_ok-spot.ensures.spot)
+    c.index_mut.ensures.value
+
+due : (c : After-index_mut-2) → IsDue (shown c.self.inside) (Deliver c.args.port)
+due c = subst (λ (v : NetView). IsDue v (Deliver c.args.port)) (sym c.self.view_is)
+    (rw c.in-Some.is at c.in_ok-spot.ensures.due)
 
 pub deliver_at-requires : goal.deliver_at-requires
-deliver_at-requires c =
-    let s = c.self.inside in
-    let spot = c.in-Some.spot in
-    let old = c.index_mut.result.now in
-    let due = rw c.in-Some.is at c.in_ok-spot.ensures.due in
-    let told = rw c.in-Some.is at c.in_ok-spot.ensures.spot in
-    let known = subst (λ (v : NetView). IsCustomerSpot v.plan c.args.port spot) (sym c.self.view_is) told in
-    let box = c.index_mut-2.result.now in
-    let there = box_at items_in s.outboxes.items spot.slot (16 * length s.plan.bridges) box c.self.invariant.2.outbox_count known.slot.at.within c.index_mut-2.ensures.value in
-    let busy : is_idle s.plan (record_of s.bridges.items s.lanes.items s.customers.items) (Deliver c.args.port) ≡ false = subst (λ (v : NetView). is_idle v.plan v.rec (Deliver c.args.port) ≡ false) (sym c.self.view_is) due.busy in
-    some_there (length box.items) (sym (idle_deliver_is s.plan s.bridges.items s.lanes.items s.customers.items (map items_in s.inboxes.items) (map items_in s.outboxes.items) s.limit s.ring c.args.port (length box.items) spot old box.items c.self.invariant.0 c.self.invariant.1 c.self.invariant.2 c.self.invariant.4 known c.index_mut.ensures.value there refl) ∙ busy)
+deliver_at-requires c = let h = (goal.at.deliver_at-requires c).After-index_mut-2 in
+    some_there _ (sym (idle_deliver_is (at h) c.index_mut-2.ensures.value) ∙ (due h).busy)
 
 pub invariant_of-self : goal.invariant_of-self
 invariant_of-self c =
-    let s = c.self.inside in
-    let spot = c.in-Some.spot in
-    let old = c.index_mut.result.now in
-    let due = rw c.in-Some.is at c.in_ok-spot.ensures.due in
-    let told = rw c.in-Some.is at c.in_ok-spot.ensures.spot in
-    let known = subst (λ (v : NetView). IsCustomerSpot v.plan c.args.port spot) (sym c.self.view_is) told in
-    let box = c.index_mut-2.result.now in
-    let failed = customer_failed s.plan s.bridges.items s.lanes.items s.customers.items (map items_in s.inboxes.items) (map items_in s.outboxes.items) spot.place old c.deliver_at.new.place c.self.invariant.1 c.self.invariant.2 known.there c.index_mut.ensures.value c.in_err-deliver_at.ensures.number c.in_err-deliver_at.ensures.kept c.in_err-deliver_at.ensures.err in
-    let kept_box = box_kept items_in s.outboxes.items spot.slot (16 * length s.plan.bridges) box c.deliver_at.new.outbox c.self.invariant.2.outbox_count known.slot.at.within c.index_mut-2.ensures.value c.in_err-deliver_at.ensures.err_outbox in
-    (c.self.invariant.0, failed.0, rw kept_box failed.1, c.self.invariant.3, c.self.invariant.4, c.self.invariant.5)
+    let h = at (goal.at.invariant_of-self c).After-index_mut-2 in
+    let e = c.in_err-deliver_at.ensures in
+    rw (outbox_kept h c.deliver_at.new.outbox c.index_mut-2.ensures.value e.err_outbox)
+    (customer_failed c.deliver_at.new.place h e.number e.kept e.err).0
 
 pub returns-in_err-deliver_at : goal.returns-in_err-deliver_at
 returns-in_err-deliver_at c =
-    let s = c.self.inside in
-    let spot = c.in-Some.spot in
-    let old = c.index_mut.result.now in
-    let due = rw c.in-Some.is at c.in_ok-spot.ensures.due in
-    let told = rw c.in-Some.is at c.in_ok-spot.ensures.spot in
-    let known = subst (λ (v : NetView). IsCustomerSpot v.plan c.args.port spot) (sym c.self.view_is) told in
-    let box = c.index_mut-2.result.now in
-    let failed = customer_failed s.plan s.bridges.items s.lanes.items s.customers.items (map items_in s.inboxes.items) (map items_in s.outboxes.items) spot.place old c.deliver_at.new.place c.self.invariant.1 c.self.invariant.2 known.there c.index_mut.ensures.value c.in_err-deliver_at.ensures.number c.in_err-deliver_at.ensures.kept c.in_err-deliver_at.ensures.err in
-    let p = err_from_is_err_and c.from_residual-in_err-deliver_at.result c.from_residual-in_err-deliver_at.ensures.1 in
-    answers_memory c.args.self.now _ (Deliver c.args.port) c.from_residual-in_err-deliver_at.result p.0 p.1 p.2 due
-    (ap (λ (rec : Record). net_with s.plan rec) failed.2 ∙ c.self.view_is)
+    let h = (goal.at.returns-in_err-deliver_at c).After-index_mut-2 in
+    let e = c.in_err-deliver_at.ensures in
+    let p = err_from_is_err_and c.from_residual-in_err-deliver_at.result
+    c.from_residual-in_err-deliver_at.ensures.1 in
+    let same = (customer_failed c.deliver_at.new.place (at h) e.number e.kept e.err).1 in
+    answers_memory c.self.inside (Deliver c.args.port) _ c.from_residual-in_err-deliver_at.result p.0 c.self.view_is
+    (due h) same p.1 p.2
 
 pub invariant_of-self-2 : goal.invariant_of-self-2
 invariant_of-self-2 c =
-    let s = c.self.inside in
-    let spot = c.in-Some.spot in
-    let old = c.index_mut.result.now in
-    let due = rw c.in-Some.is at c.in_ok-spot.ensures.due in
-    let told = rw c.in-Some.is at c.in_ok-spot.ensures.spot in
-    let known = subst (λ (v : NetView). IsCustomerSpot v.plan c.args.port spot) (sym c.self.view_is) told in
-    let box = c.index_mut-2.result.now in
-    let done = deliver_done items_in s.plan s.bridges.items s.lanes.items s.customers.items s.inboxes.items s.outboxes.items c.args.port spot old c.deliver_at.new.place box c.deliver_at.new.outbox c.self.invariant.0 c.self.invariant.1 c.self.invariant.2 known c.index_mut.ensures.value c.index_mut-2.ensures.value c.in_ok-deliver_at.ensures.number c.in_ok-deliver_at.ensures.kept c.in_ok-deliver_at.ensures.lawful c.in_ok-deliver_at.ensures.ok in
-    (c.self.invariant.0, done.0, done.1, c.self.invariant.3, c.self.invariant.4, c.self.invariant.5)
+    let h = (goal.at.invariant_of-self-2 c).After-index_mut-2 in
+    let e = c.in_ok-deliver_at.ensures in
+    (deliver_done c.deliver_at.new.place c.deliver_at.new.outbox (at h) c.index_mut-2.ensures.value e.number e.kept
+    e.lawful e.ok).0
 
 pub returns : goal.returns
 returns c =
-    let s = c.self.inside in
-    let spot = c.in-Some.spot in
-    let old = c.index_mut.result.now in
-    let due = rw c.in-Some.is at c.in_ok-spot.ensures.due in
-    let told = rw c.in-Some.is at c.in_ok-spot.ensures.spot in
-    let known = subst (λ (v : NetView). IsCustomerSpot v.plan c.args.port spot) (sym c.self.view_is) told in
-    let box = c.index_mut-2.result.now in
-    let done = deliver_done items_in s.plan s.bridges.items s.lanes.items s.customers.items s.inboxes.items s.outboxes.items c.args.port spot old c.deliver_at.new.place box c.deliver_at.new.outbox c.self.invariant.0 c.self.invariant.1 c.self.invariant.2 known c.index_mut.ensures.value c.index_mut-2.ensures.value c.in_ok-deliver_at.ensures.number c.in_ok-deliver_at.ensures.kept c.in_ok-deliver_at.ensures.lawful c.in_ok-deliver_at.ensures.ok in
-    let new = record_of s.bridges.items s.lanes.items (set s.customers.items spot.place c.deliver_at.new.place) in
-    (due, refl, ap (λ (v : NetView). v.plan) c.self.view_is, subst (λ (v : NetView). HasDone v.rec (Deliver c.args.port) new) c.self.view_is done.2)
+    let h = (goal.at.returns c).After-index_mut-2 in
+    let e = c.in_ok-deliver_at.ensures in
+    answers_done c.self.inside (Deliver c.args.port) _ c.self.view_is (due h)
+    (deliver_done c.deliver_at.new.place c.deliver_at.new.outbox (at h) c.index_mut-2.ensures.value e.number e.kept
+    e.lawful e.ok).1

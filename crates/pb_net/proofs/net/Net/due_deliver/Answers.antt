@@ -1,21 +1,17 @@
-use Rattle.std.proofs.Common.{◌≡◌, ◌*◌, length, map, sym, subst, arith, deque_len}
+use Rattle.std.proofs.Common.{◌≡◌, length, is_some, ap, subst, arith, deque_len, refl}
 use Rattle.pb_net.specs.Answers.{NetView}
 use Rattle.pb_lan.specs.declared.event.Event.TheVariants.{Deliver}
 use Rattle.pb_net.specs.Dues.{IsDueOr}
-use Rattle.pb_net.specs.Slots.{IsCustomerSpot}
-use Rattle.pb_net.proofs.DueLemmas.{due_deliver_is}
-use Rattle.pb_net.proofs.Done.{box_at, items_in}
+use Rattle.pb_net.proofs.KnownSpots.{customer_at}
+use Rattle.pb_net.proofs.DueLemmas.{due_is, idle_deliver_is}
 use Rattle.pb_net.proofs.net.Net.due_deliver.Goals as goal
 
 pub returns-clause-due : goal.returns-clause-due
 returns-clause-due c =
-    let s = c.self.inside in
-    let spot = c.in-Some.spot in
-    let place = c.index-customer.result.now in
-    let known = subst (λ (v : NetView). IsCustomerSpot v.plan c.args.port spot) (sym c.self.view_is) c.in-Some.ensures.some in
-    let box = c.index-outbox.result.now in
-    let there = box_at items_in s.outboxes.items spot.slot (16 * length s.plan.bridges) box c.self.invariant.2.outbox_count known.slot.at.within c.index-outbox.ensures in
-    let many : deque_len box ≡ length box.items = omega arith in
+    let at = customer_at c.self.inside c.self.invariant c.self.view_is c.in-Some.ensures.some
+    c.index-customer.ensures in
+    let many : deque_len c.index-outbox.result.now ≡ length c.index-outbox.result.now.items = omega arith in
     subst (λ (v : NetView). IsDueOr v (Deliver c.args.port) c.sift.result) c.self.view_is
-    (due_deliver_is s.plan s.bridges.items s.lanes.items s.customers.items (map items_in s.inboxes.items) (map items_in s.outboxes.items) s.limit s.ring c.args.port (deque_len box) spot place box.items c.sift.result c.self.invariant.0 c.self.invariant.1 c.self.invariant.2 c.self.invariant.4 known c.index-customer.ensures there many
-    (rw (c.step_count.ensures, c.is_empty.ensures) at c.sift.ensures))
+    (due_is at (Deliver c.args.port) c.sift.result (ap is_some at.known.slot.planned)
+    (idle_deliver_is at c.index-outbox.ensures) refl
+    (rw (c.step_count.ensures, c.is_empty.ensures, many) at c.sift.ensures))

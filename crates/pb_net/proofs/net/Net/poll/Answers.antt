@@ -1,72 +1,53 @@
-use Rattle.std.proofs.Common.{◌≡◌, false, map, sym, ap, subst, ◌∙◌, refl}
+use Rattle.std.proofs.Common.{sym, subst, ◌∙◌}
 use Rattle.std.proofs.lemmas.Result.{err_from_is_err_and}
-use Rattle.std.proofs.Math.ListN.{set}
-use Rattle.pb_lan.specs.Events.{HasDone, is_idle}
 use Rattle.pb_lan.specs.declared.event.Event.TheVariants.{Poll}
-use Rattle.pb_lan.specs.declared.record.Record.{Record}
-use Rattle.pb_net.specs.Answers.{NetView}
-use Rattle.pb_net.specs.Nets.{record_of}
-use Rattle.pb_net.specs.Slots.{IsCustomerSpot}
-use Rattle.pb_lan.specs.Events.{is_hand_empty}
 use Rattle.pb_link.specs.Hands.{arrival}
+use Rattle.pb_net.specs.Answers.{NetView, IsDue}
+use Rattle.pb_net.proofs.KnownSpots.{CustomerAt, customer_at, shown}
 use Rattle.pb_net.proofs.DueLemmas.{idle_poll_is}
-use Rattle.pb_net.proofs.Done.{items_in, with_frame, not_false, customer_failed, poll_done, answers_memory, net_with}
+use Rattle.pb_net.proofs.Done.{not_false, with_frame, customer_failed, poll_done, answers_memory, answers_done}
 use Rattle.pb_net.proofs.net.Net.poll.Goals as goal
+use Rattle.pb_net.proofs.net.Net.poll.Goals.{After-index_mut}
+
+-- what stands at the spot, and that the event is due
+at : (c : After-index_mut) → CustomerAt c.self.inside c.args.port c.in-Some.spot c.index_mut.result.now
+at c = customer_at c.self.inside c.self.invariant c.self.view_is (rw c.in-Some.is at c.in_ok-spot.ensures.spot)
+    c.index_mut.ensures.value
+
+due : (c : After-index_mut) → IsDue (shown c.self.inside) (Poll c.args.port c.args.frame)
+due c = subst (λ (v : NetView). IsDue v (Poll c.args.port c.args.frame)) (sym c.self.view_is)
+    (with_frame c.args.self.now c.args.port c.args.frame (rw c.in-Some.is at c.in_ok-spot.ensures.due))
 
 pub poll_at-requires : goal.poll_at-requires
-poll_at-requires c =
-    let s = c.self.inside in
-    let spot = c.in-Some.spot in
-    let old = c.index_mut.result.now in
-    let due = with_frame c.args.self.now c.args.port c.args.frame (rw c.in-Some.is at c.in_ok-spot.ensures.due) in
-    let told = rw c.in-Some.is at c.in_ok-spot.ensures.spot in
-    let known = subst (λ (v : NetView). IsCustomerSpot v.plan c.args.port spot) (sym c.self.view_is) told in
-    let busy : is_idle s.plan (record_of s.bridges.items s.lanes.items s.customers.items) (Poll c.args.port c.args.frame) ≡ false = subst (λ (v : NetView). is_idle v.plan v.rec (Poll c.args.port c.args.frame) ≡ false) (sym c.self.view_is) due.busy in
-    not_false _ (sym (idle_poll_is s.plan s.bridges.items s.lanes.items s.customers.items s.limit s.ring c.args.port c.args.frame spot old (is_hand_empty old.steps) c.self.invariant.1 c.self.invariant.4 known c.index_mut.ensures.value refl) ∙ busy)
+poll_at-requires c = let h = (goal.at.poll_at-requires c).After-index_mut in
+    not_false _ (sym (idle_poll_is (at h) c.args.frame) ∙ (due h).busy)
 
 pub invariant_of-self : goal.invariant_of-self
 invariant_of-self c =
-    let s = c.self.inside in
-    let spot = c.in-Some.spot in
-    let old = c.index_mut.result.now in
-    let due = with_frame c.args.self.now c.args.port c.args.frame (rw c.in-Some.is at c.in_ok-spot.ensures.due) in
-    let told = rw c.in-Some.is at c.in_ok-spot.ensures.spot in
-    let known = subst (λ (v : NetView). IsCustomerSpot v.plan c.args.port spot) (sym c.self.view_is) told in
-    let failed = customer_failed s.plan s.bridges.items s.lanes.items s.customers.items (map items_in s.inboxes.items) (map items_in s.outboxes.items) spot.place old c.poll_at.new.place c.self.invariant.1 c.self.invariant.2 known.there c.index_mut.ensures.value c.in_err-poll_at.ensures.number c.in_err-poll_at.ensures.kept c.in_err-poll_at.ensures.err in
-    (c.self.invariant.0, failed.0, failed.1, c.self.invariant.3, c.self.invariant.4, c.self.invariant.5)
+    let h = at (goal.at.invariant_of-self c).After-index_mut in
+    let e = c.in_err-poll_at.ensures in
+    (customer_failed c.poll_at.new.place h e.number e.kept e.err).0
 
 pub returns-in_err-poll_at : goal.returns-in_err-poll_at
 returns-in_err-poll_at c =
-    let s = c.self.inside in
-    let spot = c.in-Some.spot in
-    let old = c.index_mut.result.now in
-    let due = with_frame c.args.self.now c.args.port c.args.frame (rw c.in-Some.is at c.in_ok-spot.ensures.due) in
-    let told = rw c.in-Some.is at c.in_ok-spot.ensures.spot in
-    let known = subst (λ (v : NetView). IsCustomerSpot v.plan c.args.port spot) (sym c.self.view_is) told in
-    let failed = customer_failed s.plan s.bridges.items s.lanes.items s.customers.items (map items_in s.inboxes.items) (map items_in s.outboxes.items) spot.place old c.poll_at.new.place c.self.invariant.1 c.self.invariant.2 known.there c.index_mut.ensures.value c.in_err-poll_at.ensures.number c.in_err-poll_at.ensures.kept c.in_err-poll_at.ensures.err in
+    let h = (goal.at.returns-in_err-poll_at c).After-index_mut in
+    let e = c.in_err-poll_at.ensures in
     let p = err_from_is_err_and c.from_residual-in_err-poll_at.result c.from_residual-in_err-poll_at.ensures.1 in
-    answers_memory c.args.self.now _ (Poll c.args.port c.args.frame) c.from_residual-in_err-poll_at.result p.0 p.1 p.2 due
-    (ap (λ (rec : Record). net_with s.plan rec) failed.2 ∙ c.self.view_is)
+    let same = (customer_failed c.poll_at.new.place (at h) e.number e.kept e.err).1 in
+    answers_memory c.self.inside (Poll c.args.port c.args.frame) _ c.from_residual-in_err-poll_at.result p.0
+    c.self.view_is (due h) same p.1 p.2
 
 pub invariant_of-self-2 : goal.invariant_of-self-2
 invariant_of-self-2 c =
-    let s = c.self.inside in
-    let spot = c.in-Some.spot in
-    let old = c.index_mut.result.now in
-    let due = with_frame c.args.self.now c.args.port c.args.frame (rw c.in-Some.is at c.in_ok-spot.ensures.due) in
-    let told = rw c.in-Some.is at c.in_ok-spot.ensures.spot in
-    let known = subst (λ (v : NetView). IsCustomerSpot v.plan c.args.port spot) (sym c.self.view_is) told in
-    let done = poll_done s.plan s.bridges.items s.lanes.items s.customers.items (map items_in s.inboxes.items) (map items_in s.outboxes.items) c.args.port spot old c.poll_at.new.place (arrival old c.args.frame) c.self.invariant.1 c.self.invariant.2 known c.index_mut.ensures.value c.in_ok-poll_at.ensures.number c.in_ok-poll_at.ensures.kept c.in_ok-poll_at.ensures.lawful c.in_ok-poll_at.ensures.ok in
-    (c.self.invariant.0, done.0, done.1, c.self.invariant.3, c.self.invariant.4, c.self.invariant.5)
+    let h = (goal.at.invariant_of-self-2 c).After-index_mut in
+    let e = c.in_ok-poll_at.ensures in
+    (poll_done c.poll_at.new.place (arrival c.index_mut.result.now c.args.frame)
+    (at h) e.number e.kept e.lawful e.ok).0
 
 pub returns : goal.returns
 returns c =
-    let s = c.self.inside in
-    let spot = c.in-Some.spot in
-    let old = c.index_mut.result.now in
-    let due = with_frame c.args.self.now c.args.port c.args.frame (rw c.in-Some.is at c.in_ok-spot.ensures.due) in
-    let told = rw c.in-Some.is at c.in_ok-spot.ensures.spot in
-    let known = subst (λ (v : NetView). IsCustomerSpot v.plan c.args.port spot) (sym c.self.view_is) told in
-    let done = poll_done s.plan s.bridges.items s.lanes.items s.customers.items (map items_in s.inboxes.items) (map items_in s.outboxes.items) c.args.port spot old c.poll_at.new.place (arrival old c.args.frame) c.self.invariant.1 c.self.invariant.2 known c.index_mut.ensures.value c.in_ok-poll_at.ensures.number c.in_ok-poll_at.ensures.kept c.in_ok-poll_at.ensures.lawful c.in_ok-poll_at.ensures.ok in
-    let new = record_of s.bridges.items s.lanes.items (set s.customers.items spot.place c.poll_at.new.place) in
-    (due, refl, ap (λ (v : NetView). v.plan) c.self.view_is, subst (λ (v : NetView). HasDone v.rec (Poll c.args.port c.args.frame) new) c.self.view_is done.2)
+    let h = (goal.at.returns c).After-index_mut in
+    let e = c.in_ok-poll_at.ensures in
+    answers_done c.self.inside (Poll c.args.port c.args.frame) _ c.self.view_is (due h)
+    (poll_done c.poll_at.new.place (arrival c.index_mut.result.now c.args.frame)
+    (at h) e.number e.kept e.lawful e.ok).1

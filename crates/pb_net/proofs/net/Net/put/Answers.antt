@@ -1,78 +1,51 @@
-use Rattle.std.proofs.Common.{◌≡◌, ◌*◌, false, length, map, sym, ap, subst, ◌∙◌, refl}
+use Rattle.std.proofs.Common.{sym, subst, ◌∙◌}
 use Rattle.std.proofs.lemmas.Result.{err_from_is_err_and}
-use Rattle.std.proofs.Math.ListN.{set}
-use Rattle.pb_lan.specs.Events.{HasDone, is_idle}
 use Rattle.pb_lan.specs.declared.event.Event.TheVariants.{Put}
-use Rattle.pb_lan.specs.declared.record.Record.{Record}
-use Rattle.pb_net.specs.Answers.{NetView}
-use Rattle.pb_net.specs.Nets.{record_of}
-use Rattle.pb_net.specs.Slots.{IsLaneEnd}
-use Rattle.pb_link.specs.Lanes.{is_hand_empty}
+use Rattle.pb_net.specs.Answers.{NetView, IsDue}
+use Rattle.pb_net.proofs.KnownSpots.{EndAt, end_at, inbox_kept, shown}
 use Rattle.pb_net.proofs.DueLemmas.{idle_put_is}
-use Rattle.pb_net.proofs.Done.{box_at, box_kept, items_in, or_false, lane_failed, put_done, answers_memory, net_with}
+use Rattle.pb_net.proofs.Done.{or_false, lane_failed, put_done, answers_memory, answers_done}
 use Rattle.pb_net.proofs.net.Net.put.Goals as goal
+use Rattle.pb_net.proofs.net.Net.put.Goals.{After-index_mut-2}
+
+-- what stands at the spot, and that the event is due
+at : (c : After-index_mut-2) → EndAt c.self.inside c.args.lane c.in-Some.spot c.index_mut.result.now
+at c = end_at c.self.inside c.self.invariant c.self.view_is (rw c.in-Some.is at c.in_ok-spot.ensures.spot)
+    c.index_mut.ensures.value
+
+due : (c : After-index_mut-2) → IsDue (shown c.self.inside) (Put c.args.lane)
+due c = subst (λ (v : NetView). IsDue v (Put c.args.lane)) (sym c.self.view_is)
+    (rw c.in-Some.is at c.in_ok-spot.ensures.due)
 
 pub put_at-requires : goal.put_at-requires
-put_at-requires c =
-    let s = c.self.inside in
-    let spot = c.in-Some.spot in
-    let old = c.index_mut.result.now in
-    let due = rw c.in-Some.is at c.in_ok-spot.ensures.due in
-    let told = rw c.in-Some.is at c.in_ok-spot.ensures.spot in
-    let known = subst (λ (v : NetView). IsLaneEnd v.plan c.args.lane spot) (sym c.self.view_is) told in
-    let box = c.index_mut-2.result.now in
-    let there = box_at items_in s.inboxes.items spot.slot (16 * length s.plan.bridges) box c.self.invariant.2.inbox_count known.to.within c.index_mut-2.ensures.value in
-    let busy : is_idle s.plan (record_of s.bridges.items s.lanes.items s.customers.items) (Put c.args.lane) ≡ false = subst (λ (v : NetView). is_idle v.plan v.rec (Put c.args.lane) ≡ false) (sym c.self.view_is) due.busy in
-    (or_false _ _ (sym (idle_put_is s.plan s.bridges.items s.lanes.items s.customers.items (map items_in s.inboxes.items) (map items_in s.outboxes.items) s.limit s.ring c.args.lane (length box.items) spot old box.items (is_hand_empty old.steps) c.self.invariant.0 c.self.invariant.1 c.self.invariant.2 c.self.invariant.4 known c.index_mut.ensures.value there refl refl) ∙ busy)).0
+put_at-requires c = let h = (goal.at.put_at-requires c).After-index_mut-2 in
+    (or_false _ _ (sym (idle_put_is (at h) c.index_mut-2.ensures.value) ∙ (due h).busy)).0
 
 pub invariant_of-self : goal.invariant_of-self
 invariant_of-self c =
-    let s = c.self.inside in
-    let spot = c.in-Some.spot in
-    let old = c.index_mut.result.now in
-    let due = rw c.in-Some.is at c.in_ok-spot.ensures.due in
-    let told = rw c.in-Some.is at c.in_ok-spot.ensures.spot in
-    let known = subst (λ (v : NetView). IsLaneEnd v.plan c.args.lane spot) (sym c.self.view_is) told in
-    let box = c.index_mut-2.result.now in
-    let failed = lane_failed s.plan s.bridges.items s.lanes.items s.customers.items (map items_in s.inboxes.items) (map items_in s.outboxes.items) spot.place old c.put_at.new.lane c.self.invariant.1 c.self.invariant.2 known.there c.index_mut.ensures.value c.in_err-put_at.ensures.losses c.in_err-put_at.ensures.kept c.in_err-put_at.ensures.err in
-    let kept_box = box_kept items_in s.inboxes.items spot.slot (16 * length s.plan.bridges) box c.put_at.new.inbox c.self.invariant.2.inbox_count known.to.within c.index_mut-2.ensures.value c.in_err-put_at.ensures.err_inbox in
-    (c.self.invariant.0, failed.0, rw kept_box failed.1, c.self.invariant.3, c.self.invariant.4, c.self.invariant.5)
+    let h = at (goal.at.invariant_of-self c).After-index_mut-2 in
+    let e = c.in_err-put_at.ensures in
+    rw (inbox_kept h c.put_at.new.inbox c.index_mut-2.ensures.value e.err_inbox)
+    (lane_failed c.put_at.new.lane h e.losses e.kept e.err).0
 
 pub returns-in_err-put_at : goal.returns-in_err-put_at
 returns-in_err-put_at c =
-    let s = c.self.inside in
-    let spot = c.in-Some.spot in
-    let old = c.index_mut.result.now in
-    let due = rw c.in-Some.is at c.in_ok-spot.ensures.due in
-    let told = rw c.in-Some.is at c.in_ok-spot.ensures.spot in
-    let known = subst (λ (v : NetView). IsLaneEnd v.plan c.args.lane spot) (sym c.self.view_is) told in
-    let box = c.index_mut-2.result.now in
-    let failed = lane_failed s.plan s.bridges.items s.lanes.items s.customers.items (map items_in s.inboxes.items) (map items_in s.outboxes.items) spot.place old c.put_at.new.lane c.self.invariant.1 c.self.invariant.2 known.there c.index_mut.ensures.value c.in_err-put_at.ensures.losses c.in_err-put_at.ensures.kept c.in_err-put_at.ensures.err in
+    let h = (goal.at.returns-in_err-put_at c).After-index_mut-2 in
+    let e = c.in_err-put_at.ensures in
     let p = err_from_is_err_and c.from_residual-in_err-put_at.result c.from_residual-in_err-put_at.ensures.1 in
-    answers_memory c.args.self.now _ (Put c.args.lane) c.from_residual-in_err-put_at.result p.0 p.1 p.2 due
-    (ap (λ (rec : Record). net_with s.plan rec) failed.2 ∙ c.self.view_is)
+    let same = (lane_failed c.put_at.new.lane (at h) e.losses e.kept e.err).1 in
+    answers_memory c.self.inside (Put c.args.lane) _ c.from_residual-in_err-put_at.result p.0 c.self.view_is
+    (due h) same p.1 p.2
 
 pub invariant_of-self-2 : goal.invariant_of-self-2
 invariant_of-self-2 c =
-    let s = c.self.inside in
-    let spot = c.in-Some.spot in
-    let old = c.index_mut.result.now in
-    let due = rw c.in-Some.is at c.in_ok-spot.ensures.due in
-    let told = rw c.in-Some.is at c.in_ok-spot.ensures.spot in
-    let known = subst (λ (v : NetView). IsLaneEnd v.plan c.args.lane spot) (sym c.self.view_is) told in
-    let box = c.index_mut-2.result.now in
-    let done = put_done items_in s.plan s.bridges.items s.lanes.items s.customers.items s.inboxes.items s.outboxes.items c.args.lane spot old c.put_at.new.lane box c.put_at.new.inbox c.self.invariant.0 c.self.invariant.1 c.self.invariant.2 known c.index_mut.ensures.value c.index_mut-2.ensures.value c.in_ok-put_at.ensures.losses c.in_ok-put_at.ensures.kept c.in_ok-put_at.ensures.lawful c.in_ok-put_at.ensures.ok in
-    (c.self.invariant.0, done.0, done.1, c.self.invariant.3, c.self.invariant.4, c.self.invariant.5)
+    let h = (goal.at.invariant_of-self-2 c).After-index_mut-2 in
+    let e = c.in_ok-put_at.ensures in
+    (put_done c.put_at.new.lane c.put_at.new.inbox (at h) c.index_mut-2.ensures.value e.losses e.kept e.lawful e.ok).0
 
 pub returns : goal.returns
 returns c =
-    let s = c.self.inside in
-    let spot = c.in-Some.spot in
-    let old = c.index_mut.result.now in
-    let due = rw c.in-Some.is at c.in_ok-spot.ensures.due in
-    let told = rw c.in-Some.is at c.in_ok-spot.ensures.spot in
-    let known = subst (λ (v : NetView). IsLaneEnd v.plan c.args.lane spot) (sym c.self.view_is) told in
-    let box = c.index_mut-2.result.now in
-    let done = put_done items_in s.plan s.bridges.items s.lanes.items s.customers.items s.inboxes.items s.outboxes.items c.args.lane spot old c.put_at.new.lane box c.put_at.new.inbox c.self.invariant.0 c.self.invariant.1 c.self.invariant.2 known c.index_mut.ensures.value c.index_mut-2.ensures.value c.in_ok-put_at.ensures.losses c.in_ok-put_at.ensures.kept c.in_ok-put_at.ensures.lawful c.in_ok-put_at.ensures.ok in
-    let new = record_of s.bridges.items (set s.lanes.items spot.place c.put_at.new.lane) s.customers.items in
-    (due, refl, ap (λ (v : NetView). v.plan) c.self.view_is, subst (λ (v : NetView). HasDone v.rec (Put c.args.lane) new) c.self.view_is done.2)
+    let h = (goal.at.returns c).After-index_mut-2 in
+    let e = c.in_ok-put_at.ensures in
+    answers_done c.self.inside (Put c.args.lane) _ c.self.view_is (due h)
+    (put_done c.put_at.new.lane c.put_at.new.inbox (at h) c.index_mut-2.ensures.value e.losses e.kept e.lawful e.ok).1

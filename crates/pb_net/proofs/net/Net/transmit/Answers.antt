@@ -1,99 +1,61 @@
-use Rattle.std.proofs.Common.{◌≡◌, ◌*◌, true, false, Err, length, map, sym, ap, subst, ◌∙◌, arith, refl}
+use Rattle.std.proofs.Common.{Err, sym, ap, ap₂, subst, ◌∙◌}
 use Rattle.std.proofs.lemmas.Result.{err_from_is_err_and}
-use Rattle.std.proofs.Math.ListN.{set}
-use Rattle.pb_lan.specs.Events.{HasDone, is_idle}
-use Rattle.pb_lan.specs.declared.event.Event.TheVariants.{Transmit}
-use Rattle.pb_lan.specs.declared.record.Record.{Record}
-use Rattle.pb_net.specs.Answers.{NetView}
-use Rattle.pb_net.specs.Nets.{record_of}
-use Rattle.pb_net.specs.Slots.{IsBridgeSpot}
-use Rattle.pb_lan.specs.Events.{is_at_limit}
 use Rattle.pb_lan.specs.Ports.{is_used, port_at}
-use Rattle.pb_net.proofs.OneMore.{here_is}
-use Rattle.pb_lan.specs.Queues.{waiting}
-use Rattle.pb_net.proofs.DueLemmas.{idle_transmit_is, never_limit, bridge_used}
-use Rattle.pb_net.proofs.Done.{box_at, box_kept, items_in, or_false, some_there, bridge_failed, transmit_done, answers_fault, net_with}
+use Rattle.pb_lan.specs.declared.event.Event.TheVariants.{Transmit}
+use Rattle.pb_lan.specs.declared.plan.Plan.{Plan}
+use Rattle.pb_net.specs.Answers.{NetView, IsDue}
+use Rattle.pb_net.proofs.KnownSpots.{BridgeAt, bridge_at, outbox_kept, shown}
+use Rattle.pb_net.proofs.DueLemmas.{idle_transmit_is, bridge_is, never_limit}
+use Rattle.pb_net.proofs.Done.{or_false, some_there, bridge_failed, transmit_done, answers_fault, answers_done}
 use Rattle.pb_net.proofs.net.Net.transmit.Goals as goal
+use Rattle.pb_net.proofs.net.Net.transmit.Goals.{After-index_mut}
+
+-- what stands at the spot, and that the event is due
+at : (c : After-index_mut) → BridgeAt c.self.inside c.args.bridge c.args.port c.in-Some.spot c.index_mut-at.result.now
+at c = bridge_at c.self.inside c.self.invariant c.self.view_is (rw c.in-Some.is at c.in_ok-spot.ensures.spot)
+    c.index_mut-at.ensures.value
+
+due : (c : After-index_mut) → IsDue (shown c.self.inside) (Transmit c.args.bridge c.args.port)
+due c = subst (λ (v : NetView). IsDue v (Transmit c.args.bridge c.args.port)) (sym c.self.view_is)
+    (rw c.in-Some.is at c.in_ok-spot.ensures.due)
 
 pub transmit_at-requires-clause-used : goal.transmit_at-requires-clause-used
-transmit_at-requires-clause-used c =
-    let s = c.self.inside in
-    let spot = c.in-Some.spot in
-    let old = c.index_mut-at.result.now in
-    let due = rw c.in-Some.is at c.in_ok-spot.ensures.due in
-    let told = rw c.in-Some.is at c.in_ok-spot.ensures.spot in
-    let known = subst (λ (v : NetView). IsBridgeSpot v.plan c.args.bridge c.args.port spot) (sym c.self.view_is) told in
-    let box = c.index_mut.result.now in
-    let there = box_at items_in s.outboxes.items spot.slot (16 * length s.plan.bridges) box c.self.invariant.2.outbox_count known.slot.within c.index_mut.ensures.value in
-    let used = subst (λ (v : NetView). is_used (port_at v.plan c.args.bridge c.args.port) ≡ true) (sym c.self.view_is) due.named in
-    let busy : is_idle s.plan (record_of s.bridges.items s.lanes.items s.customers.items) (Transmit c.args.bridge c.args.port) ≡ false = subst (λ (v : NetView). is_idle v.plan v.rec (Transmit c.args.bridge c.args.port) ≡ false) (sym c.self.view_is) due.busy in
-    ap is_used (bridge_used s.plan s.bridges.items s.lanes.items s.customers.items c.args.bridge c.args.port spot old c.self.invariant.1 known c.index_mut-at.ensures.value) ∙ used
+transmit_at-requires-clause-used c = let h = (goal.at.transmit_at-requires-clause-used c).After-index_mut in
+    let is = bridge_is (at h) in ap₂ (λ (p : Plan) n. is_used (port_at p n c.args.port)) is.0 is.1 ∙ (due h).named
 
 pub transmit_at-requires-clause-some : goal.transmit_at-requires-clause-some
-transmit_at-requires-clause-some c =
-    let s = c.self.inside in
-    let spot = c.in-Some.spot in
-    let old = c.index_mut-at.result.now in
-    let due = rw c.in-Some.is at c.in_ok-spot.ensures.due in
-    let told = rw c.in-Some.is at c.in_ok-spot.ensures.spot in
-    let known = subst (λ (v : NetView). IsBridgeSpot v.plan c.args.bridge c.args.port spot) (sym c.self.view_is) told in
-    let box = c.index_mut.result.now in
-    let there = box_at items_in s.outboxes.items spot.slot (16 * length s.plan.bridges) box c.self.invariant.2.outbox_count known.slot.within c.index_mut.ensures.value in
-    let used = subst (λ (v : NetView). is_used (port_at v.plan c.args.bridge c.args.port) ≡ true) (sym c.self.view_is) due.named in
-    let busy : is_idle s.plan (record_of s.bridges.items s.lanes.items s.customers.items) (Transmit c.args.bridge c.args.port) ≡ false = subst (λ (v : NetView). is_idle v.plan v.rec (Transmit c.args.bridge c.args.port) ≡ false) (sym c.self.view_is) due.busy in
-    some_there (length (waiting old.plan old.number c.args.port old.steps)) (or_false _ _ (sym (idle_transmit_is s.plan s.bridges.items s.lanes.items s.customers.items (map items_in s.inboxes.items) (map items_in s.outboxes.items) s.limit s.ring c.args.bridge c.args.port (length box.items) (length (waiting old.plan old.number c.args.port old.steps)) spot old box.items c.self.invariant.1 c.self.invariant.2 c.self.invariant.4 known used c.index_mut-at.ensures.value there refl refl) ∙ busy)).0
+transmit_at-requires-clause-some c = let h = (goal.at.transmit_at-requires-clause-some c).After-index_mut in
+    some_there _ (or_false _ _ (sym (idle_transmit_is (at h) c.index_mut.ensures.value) ∙ (due h).busy)).0
 
 pub invariant_of-self : goal.invariant_of-self
 invariant_of-self c =
-    let s = c.self.inside in
-    let spot = c.in-Some.spot in
-    let old = c.index_mut-at.result.now in
-    let due = rw c.in-Some.is at c.in_ok-spot.ensures.due in
-    let told = rw c.in-Some.is at c.in_ok-spot.ensures.spot in
-    let known = subst (λ (v : NetView). IsBridgeSpot v.plan c.args.bridge c.args.port spot) (sym c.self.view_is) told in
-    let box = c.index_mut.result.now in
-    let failed = bridge_failed s.plan s.bridges.items s.lanes.items s.customers.items (map items_in s.inboxes.items) (map items_in s.outboxes.items) spot.place old c.transmit_at.new.bridge c.self.invariant.1 c.self.invariant.2 known.there c.index_mut-at.ensures.value c.in_err-transmit_at.ensures.plan c.in_err-transmit_at.ensures.number c.in_err-transmit_at.ensures.kept c.in_err-transmit_at.ensures.err in
-    let kept_box = box_kept items_in s.outboxes.items spot.slot (16 * length s.plan.bridges) box c.transmit_at.new.outbox c.self.invariant.2.outbox_count known.slot.within c.index_mut.ensures.value c.in_err-transmit_at.ensures.err_outbox in
-    (c.self.invariant.0, failed.0, rw kept_box failed.1, c.self.invariant.3, c.self.invariant.4, c.self.invariant.5)
+    let h = at (goal.at.invariant_of-self c).After-index_mut in
+    let e = c.in_err-transmit_at.ensures in
+    rw (outbox_kept h c.transmit_at.new.outbox c.index_mut.ensures.value e.err_outbox)
+    (bridge_failed c.transmit_at.new.bridge h e.plan e.number e.kept e.err).0
 
 pub returns-in_err-transmit_at : goal.returns-in_err-transmit_at
 returns-in_err-transmit_at c =
-    let s = c.self.inside in
-    let spot = c.in-Some.spot in
-    let old = c.index_mut-at.result.now in
-    let due = rw c.in-Some.is at c.in_ok-spot.ensures.due in
-    let told = rw c.in-Some.is at c.in_ok-spot.ensures.spot in
-    let known = subst (λ (v : NetView). IsBridgeSpot v.plan c.args.bridge c.args.port spot) (sym c.self.view_is) told in
-    let box = c.index_mut.result.now in
-    let failed = bridge_failed s.plan s.bridges.items s.lanes.items s.customers.items (map items_in s.inboxes.items) (map items_in s.outboxes.items) spot.place old c.transmit_at.new.bridge c.self.invariant.1 c.self.invariant.2 known.there c.index_mut-at.ensures.value c.in_err-transmit_at.ensures.plan c.in_err-transmit_at.ensures.number c.in_err-transmit_at.ensures.kept c.in_err-transmit_at.ensures.err in
-    let p = err_from_is_err_and c.from_residual-in_err-transmit_at.result c.from_residual-in_err-transmit_at.ensures.1 in
-    let here = here_is s.bridges.items spot.place old (omega (arith, known.there, c.self.invariant.1.bridge_count)) c.index_mut-at.ensures.value in
-    let within = subst (λ (v : NetView). is_at_limit v.plan v.rec (Transmit c.args.bridge c.args.port) ≡ false) (sym c.self.view_is) due.within in
-    answers_fault c.args.self.now _ (Transmit c.args.bridge c.args.port) c.from_residual-in_err-transmit_at.result p.0 c.in_err-transmit_at.field-0.0 p.1 p.2
-    (λ e. never_limit s.plan s.bridges.items s.lanes.items s.customers.items c.args.bridge spot.place old c.self.invariant.1 known.place here within (c.in_err-transmit_at.ensures.limit.0 (ap (λ z. Err z) e))) due
-    (ap (λ (rec : Record). net_with s.plan rec) failed.2 ∙ c.self.view_is)
+    let h = (goal.at.returns-in_err-transmit_at c).After-index_mut in
+    let e = c.in_err-transmit_at.ensures in
+    let p = err_from_is_err_and c.from_residual-in_err-transmit_at.result
+    c.from_residual-in_err-transmit_at.ensures.1 in
+    let same = (bridge_failed c.transmit_at.new.bridge (at h) e.plan e.number e.kept e.err).1 in
+    answers_fault c.self.inside (Transmit c.args.bridge c.args.port) _ c.from_residual-in_err-transmit_at.result p.0
+    c.in_err-transmit_at.field-0.0 c.self.view_is (due h) same p.1 p.2
+    (λ m. never_limit (at h) (due h).within (e.limit.0 (ap (λ z. Err z) m)))
 
 pub invariant_of-self-2 : goal.invariant_of-self-2
 invariant_of-self-2 c =
-    let s = c.self.inside in
-    let spot = c.in-Some.spot in
-    let old = c.index_mut-at.result.now in
-    let due = rw c.in-Some.is at c.in_ok-spot.ensures.due in
-    let told = rw c.in-Some.is at c.in_ok-spot.ensures.spot in
-    let known = subst (λ (v : NetView). IsBridgeSpot v.plan c.args.bridge c.args.port spot) (sym c.self.view_is) told in
-    let box = c.index_mut.result.now in
-    let done = transmit_done items_in s.plan s.bridges.items s.lanes.items s.customers.items s.inboxes.items s.outboxes.items c.args.bridge c.args.port spot old c.transmit_at.new.bridge box c.transmit_at.new.outbox c.self.invariant.1 c.self.invariant.2 known c.index_mut-at.ensures.value c.index_mut.ensures.value c.in_ok-transmit_at.ensures.plan c.in_ok-transmit_at.ensures.number c.in_ok-transmit_at.ensures.kept c.in_ok-transmit_at.ensures.ok in
-    (c.self.invariant.0, done.0, done.1, c.self.invariant.3, c.self.invariant.4, c.self.invariant.5)
+    let h = (goal.at.invariant_of-self-2 c).After-index_mut in
+    let e = c.in_ok-transmit_at.ensures in
+    (transmit_done c.transmit_at.new.bridge c.transmit_at.new.outbox (at h) c.index_mut.ensures.value e.plan e.number
+    e.kept e.ok).0
 
 pub returns : goal.returns
 returns c =
-    let s = c.self.inside in
-    let spot = c.in-Some.spot in
-    let old = c.index_mut-at.result.now in
-    let due = rw c.in-Some.is at c.in_ok-spot.ensures.due in
-    let told = rw c.in-Some.is at c.in_ok-spot.ensures.spot in
-    let known = subst (λ (v : NetView). IsBridgeSpot v.plan c.args.bridge c.args.port spot) (sym c.self.view_is) told in
-    let box = c.index_mut.result.now in
-    let done = transmit_done items_in s.plan s.bridges.items s.lanes.items s.customers.items s.inboxes.items s.outboxes.items c.args.bridge c.args.port spot old c.transmit_at.new.bridge box c.transmit_at.new.outbox c.self.invariant.1 c.self.invariant.2 known c.index_mut-at.ensures.value c.index_mut.ensures.value c.in_ok-transmit_at.ensures.plan c.in_ok-transmit_at.ensures.number c.in_ok-transmit_at.ensures.kept c.in_ok-transmit_at.ensures.ok in
-    let new = record_of (set s.bridges.items spot.place c.transmit_at.new.bridge) s.lanes.items s.customers.items in
-    (due, refl, ap (λ (v : NetView). v.plan) c.self.view_is, subst (λ (v : NetView). HasDone v.rec (Transmit c.args.bridge c.args.port) new) c.self.view_is done.2)
+    let h = (goal.at.returns c).After-index_mut in
+    let e = c.in_ok-transmit_at.ensures in
+    answers_done c.self.inside (Transmit c.args.bridge c.args.port) _ c.self.view_is (due h)
+    (transmit_done c.transmit_at.new.bridge c.transmit_at.new.outbox (at h) c.index_mut.ensures.value e.plan e.number
+    e.kept e.ok).1
