@@ -1,72 +1,14 @@
 //! What went through a network so far.
 
-ghost use Rattle.std.specs.Prelude.{◌≡◌, ◌++◌, ◌≤◌, List, ℕ, length, map, string_bytes, IfOk, OnOk, IsPermutation};
-ghost use Rattle.std.specs.Cmp.Lexicographic.{slice_cmp};
-ghost use Rattle.std.specs.List.Sorted.{IsSortedByKey};
-ghost use Rattle.std.specs.Ordering.{nat_cmp};
+ghost use Rattle.std.specs.Prelude.{◌≡◌, ◌++◌, List, ℕ, map, string_bytes, OnOk};
 ghost use Rattle.pb_control.specs.Sizes.{IsFew};
-ghost use Rattle.pb_script.specs.Counts.{with_numbers, AreByName};
 ghost use Rattle.pb_control.specs.Texts.{port_line, bridge_line, AreLines, AreLinesByName, IsCountsText};
 
 use crate::board::Board;
 use pb_frame::Memory;
 use pb_lan::Plan;
+use pb_script::{bridges_by_name, ports_by_name};
 use std::alloc::Global;
-
-/// The names of the customer ports, with their numbers.
-fn numbered_ports<'a>(alloc: Global, plan: &'a Plan) -> Result<Vec<(&'a str, u8)>, Memory>
-    requires { length plan.now.customers ≤ 128 }
-    ensures { IfOk result (λ ports. map (λ n. (n.0.now, n.1)) ports.items ≡ with_numbers 1 (map (λ c. c.name) plan.now.customers)) }
-{
-    let mut ports = Vec::new(alloc);
-    for (place, customer) in plan.customers.as_slice().iter().enumerate() {
-        ports.push((customer.name.as_str(), place as u8 + 1))?;
-    }
-    Ok(ports)
-}
-
-/// The names of the bridges, with their numbers.
-fn numbered_bridges<'a>(alloc: Global, plan: &'a Plan) -> Result<Vec<(&'a str, u8)>, Memory>
-    requires { length plan.now.bridges ≤ 32 }
-    ensures { IfOk result (λ bridges. map (λ n. (n.0.now, n.1)) bridges.items ≡ with_numbers 1 (map (λ b. b.name) plan.now.bridges)) }
-{
-    let mut bridges = Vec::new(alloc);
-    for (place, bridge) in plan.bridges.as_slice().iter().enumerate() {
-        bridges.push((bridge.name.as_str(), place as u8 + 1))?;
-    }
-    Ok(bridges)
-}
-
-/// Sorts names by their octets.
-fn sort(names: &mut Vec<(&str, u8)>)
-    ensures same { IsPermutation {X = List ℕ × ℕ} (map (λ n. (n.0.now, n.1)) names.old.items) (map (λ n. (n.0.now, n.1)) names.new.items) }
-    ensures by_name { IsSortedByKey {X = List ℕ × ℕ} (λ n. n.0) (slice_cmp nat_cmp) (map (λ n. (n.0.now, n.1)) names.new.items) }
-{
-    names.sort_unstable();
-}
-
-/// The customer ports by name.
-fn sorted_ports<'a>(alloc: Global, plan: &'a Plan) -> Result<Vec<(&'a str, u8)>, Memory>
-    requires { IsFew plan.now }
-    ensures { IfOk result (λ ports. AreByName (map (λ c. c.name) plan.now.customers) (map (λ n. (n.0.now, n.1)) ports.items)) }
-{
-    let mut ports = numbered_ports(alloc, plan)?;
-    sort(&mut ports);
-    Ok(ports)
-}
-
-/// The bridges by name.
-pub(crate) fn sorted_bridges<'a>(
-    alloc: Global,
-    plan: &'a Plan,
-) -> Result<Vec<(&'a str, u8)>, Memory>
-    requires { IsFew plan.now }
-    ensures { IfOk result (λ bridges. AreByName (map (λ b. b.name) plan.now.bridges) (map (λ n. (n.0.now, n.1)) bridges.items)) }
-{
-    let mut bridges = numbered_bridges(alloc, plan)?;
-    sort(&mut bridges);
-    Ok(bridges)
-}
 
 /// Puts the line of a customer port behind a text.
 fn put_port(out: &mut String, name: &str, counts: (u64, u64)) -> Result<(), Memory>
@@ -121,7 +63,7 @@ fn put_all_ports<B: Board>(
     ensures { OnOk result ((text : List ℕ) × (string_bytes out.new ≡ string_bytes out.old ++ text)
         × AreLinesByName port_line (B.told_port board.now) (map (λ c. c.name) plan.now.customers) text) }
 {
-    let ports = sorted_ports(alloc, plan)?;
+    let ports = ports_by_name(alloc, plan)?;
     put_ports(board, ports.as_slice(), out)
 }
 
@@ -136,7 +78,7 @@ fn put_all_bridges<B: Board>(
     ensures { OnOk result ((text : List ℕ) × (string_bytes out.new ≡ string_bytes out.old ++ text)
         × AreLinesByName bridge_line (B.told_bridge board.now) (map (λ b. b.name) plan.now.bridges) text) }
 {
-    let bridges = sorted_bridges(alloc, plan)?;
+    let bridges = bridges_by_name(alloc, plan)?;
     put_bridges(board, bridges.as_slice(), out)
 }
 

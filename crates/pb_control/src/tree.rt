@@ -6,11 +6,11 @@ ghost use Rattle.pb_control.specs.Texts.{role_words, view_line, line_among, view
 ghost use Rattle.pb_lan.specs.Numbering.{numbered};
 
 use crate::board::Board;
-use crate::counts::sorted_bridges;
 use pb_frame::Memory;
 use pb_lan::Plan;
 use pb_naming::{role_word, state_word};
 use pb_rstp::Role;
+use pb_script::bridges_by_name;
 use pb_work::PortView;
 use std::alloc::Global;
 
@@ -100,6 +100,6 @@ pub(crate) fn put_tree<B: Board>(
     ensures { OnOk result ((text : List ℕ) × (string_bytes out.new ≡ string_bytes out.old ++ text)
         × IsTreeText plan.now (B.told_views board.now) text) }
 {
-    let bridges = sorted_bridges(alloc, plan)?;
+    let bridges = bridges_by_name(alloc, plan)?;
     put_bridges(board, bridges.as_slice(), out)
 }

@@ -5,6 +5,7 @@
 #![tactic(auto)]
 
 mod answer;
+mod by_name;
 mod counts;
 mod line;
 mod names;
@@ -13,6 +14,7 @@ mod verb;
 mod words;
 
 pub use answer::{put_done, put_idle, put_no_such};
+pub use by_name::{bridges_by_name, links_by_name, ports_by_name};
 pub use line::read_line;
 pub use names::Names;
 pub use report::put_counts;

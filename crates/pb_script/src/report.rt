@@ -1,49 +1,15 @@
 //! What is said of a record.
 
-ghost use Rattle.std.specs.Prelude.{◌≡◌, ◌++◌, ◌<◌, ◌≤◌, List, ℕ, length, map, flat_map, string_bytes, IfOk, OnOk, IsPermutation};
-ghost use Rattle.std.specs.Cmp.Lexicographic.{slice_cmp};
-ghost use Rattle.std.specs.List.Sorted.{IsSortedByKey};
-ghost use Rattle.std.specs.Ordering.{nat_cmp};
+ghost use Rattle.std.specs.Prelude.{◌≡◌, ◌++◌, List, ℕ, map, flat_map, string_bytes, OnOk};
 ghost use Rattle.pb_lan.specs.Plans.{IsSound};
-ghost use Rattle.pb_script.specs.Counts.{port_line, link_line, with_numbers, AreByName, IsCountsText};
+ghost use Rattle.pb_script.specs.Counts.{port_line, link_line, IsCountsText};
 
+use crate::by_name::{links_by_name, ports_by_name};
 use crate::counts::{carried, filtered_at, passed};
 use pb_frame::Memory;
 use pb_lan::Plan;
 use pb_steps::Tallies;
 use std::alloc::Global;
-
-/// The names of the customer ports, with their numbers.
-fn numbered_ports<'a>(alloc: Global, plan: &'a Plan) -> Result<Vec<(&'a str, u8)>, Memory>
-    requires { length plan.now.customers ≤ 128 }
-    ensures { IfOk result (λ ports. map (λ n. (n.0.now, n.1)) ports.items ≡ with_numbers 1 (map (λ c. c.name) plan.now.customers)) }
-{
-    let mut ports = Vec::new(alloc);
-    for (place, customer) in plan.customers.as_slice().iter().enumerate() {
-        ports.push((customer.name.as_str(), place as u8 + 1))?;
-    }
-    Ok(ports)
-}
-
-/// The names of the links, with their numbers.
-fn numbered_links<'a>(alloc: Global, plan: &'a Plan) -> Result<Vec<(&'a str, u8)>, Memory>
-    requires { length plan.now.links ≤ 64 }
-    ensures { IfOk result (λ links. map (λ n. (n.0.now, n.1)) links.items ≡ with_numbers 1 (map (λ l. l.name) plan.now.links)) }
-{
-    let mut links = Vec::new(alloc);
-    for (place, link) in plan.links.as_slice().iter().enumerate() {
-        links.push((link.name.as_str(), place as u8 + 1))?;
-    }
-    Ok(links)
-}
-
-/// Sorts names by their octets.
-fn sort(names: &mut Vec<(&str, u8)>)
-    ensures same { IsPermutation {X = List ℕ × ℕ} (map (λ n. (n.0.now, n.1)) names.old.items) (map (λ n. (n.0.now, n.1)) names.new.items) }
-    ensures by_name { IsSortedByKey {X = List ℕ × ℕ} (λ n. n.0) (slice_cmp nat_cmp) (map (λ n. (n.0.now, n.1)) names.new.items) }
-{
-    names.sort_unstable();
-}
 
 /// The line of a customer port.
 fn put_port(
@@ -117,10 +83,8 @@ pub fn put_counts(
     requires { IsSound plan.now }
     ensures { OnOk result ((text : List ℕ) × (string_bytes out.new ≡ string_bytes out.old ++ text) × IsCountsText plan.now tallies.now text) }
 {
-    let mut ports = numbered_ports(alloc, plan)?;
-    sort(&mut ports);
-    let mut links = numbered_links(alloc, plan)?;
-    sort(&mut links);
+    let ports = ports_by_name(alloc, plan)?;
+    let links = links_by_name(alloc, plan)?;
     put_ports(out, plan, tallies, ports.as_slice())?;
     put_links(out, tallies, links.as_slice())
 }

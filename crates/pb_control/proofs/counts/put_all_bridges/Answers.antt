@@ -1,10 +1,8 @@
-use Rattle.std.proofs.Common.{ℕ, List, Bor, map, subst}
+use Rattle.std.proofs.Common.{map, subst}
 use Rattle.std.proofs.lemmas.Result.{on_ok_weaker}
+use Rattle.pb_control.proofs.LineTexts.{seen}
 use Rattle.pb_control.specs.Texts.{bridge_line, AreLines}
 use Rattle.pb_control.proofs.counts.put_all_bridges.Goals as goal
-
-abbrev seen : Bor (List ℕ) × ℕ → List ℕ × ℕ
-seen n = (n.0.now, n.1)
 
 pub returns : goal.returns
 returns g c =

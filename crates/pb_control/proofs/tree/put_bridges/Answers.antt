@@ -1,33 +1,21 @@
-use Rattle.std.proofs.Common.{◌≡◌, ◌+◌, ◌++◌, ℕ, List, [], ◌∷◌, Bor, map, drop, get_or, string_bytes, ap}
+use Rattle.std.proofs.Common.{◌+◌, map, drop, get_or, ap}
 use Rattle.std.proofs.lemmas.List.{at_drop_more, drop_all}
 use Rattle.pb_control.specs.Texts.{view_lines}
-use Rattle.pb_control.proofs.LineTexts.{text_more, lines_more, lines_end}
+use Rattle.pb_control.proofs.LineTexts.{seen, no_name, line_more, lines_end}
 use Rattle.pb_control.proofs.tree.put_bridges.Goals as goal
-
-abbrev seen : Bor (List ℕ) × ℕ → List ℕ × ℕ
-seen n = (n.0.now, n.1)
-
--- what `get_or` reads past the end of the list
-abbrev no_name : Bor (List ℕ) × ℕ
-no_name = (record { ref_ptr = (0, 0); now = [] }, 0)
 
 pub loop-name-preserved : goal.loop-name-preserved
 loop-name-preserved g c =
-    let bridges = c.args.bridges.now in
+    let things = c.args.bridges.now in
     let k = c.loop-name.name-index in
-    let thing = seen (get_or bridges k no_name) in
-    let views = c.views-views.result in
-    let here = view_lines thing.0 views in
-    let split : map seen (drop k bridges) ≡ thing ∷ map seen (drop (k + 1) bridges) = at_drop_more (λ xs. map seen xs) bridges k no_name c.loop-name-test.true in
-    let before = c.loop-name.invariant in (
-      before.0 ++ here,
-      text_more (string_bytes c.args.out.now) (string_bytes c.loop-name.out) (string_bytes c.put_bridge.new.out) before.0 here before.1 c.in_ok-put_bridge.ensures,
-      lines_more view_lines (g.B.Board.told_views c.args.board.now) (map seen bridges) (map seen (drop k bridges)) (map seen (drop (k + 1) bridges)) thing views before.0
-          split c.views-views.ensures before.2,
-    )
+    line_more view_lines (g.B.Board.told_views c.args.board.now) _ _ _ (map seen things) (map seen (drop k things))
+    (map seen (drop (k + 1) things)) (seen (get_or things k no_name)) c.views-views.result
+    (at_drop_more (λ xs. map seen xs) things k no_name c.loop-name-test.true) c.views-views.ensures c.in_ok-put_bridge.ensures
+    c.loop-name.invariant
 
 pub returns : goal.returns
 returns g c =
-    let before = c.loop-name.invariant in
-    let none = ap (λ xs. map seen xs) (drop_all c.loop-name.name-index c.args.bridges.now c.loop-name-test.false) in
-    (before.0, before.1, lines_end view_lines (g.B.Board.told_views c.args.board.now) (map seen c.args.bridges.now) (map seen (drop c.loop-name.name-index c.args.bridges.now)) before.0 none before.2)
+    let things = c.args.bridges.now in
+    lines_end view_lines (g.B.Board.told_views c.args.board.now) _ _ (map seen things)
+    (map seen (drop c.loop-name.name-index things))
+    (ap (λ xs. map seen xs) (drop_all c.loop-name.name-index things c.loop-name-test.false)) c.loop-name.invariant

@@ -1,6 +1,6 @@
 use Rattle.std.proofs.Common.{◌≡◌, ◌++◌, ◌+◌, map, drop}
 use Rattle.pb_script.specs.Counts.{with_numbers}
-use Rattle.pb_script.proofs.report.numbered_ports.Given as goal
+use Rattle.pb_script.proofs.by_name.numbered_ports.Given as goal
 
 abbrev pub invariant-loop-place : goal.invariant-loop-place
 invariant-loop-place l =

@@ -1,6 +1,6 @@
 use Rattle.std.proofs.Common.{◌≡◌, ◌++◌, ◌+◌, map, drop}
 use Rattle.pb_script.specs.Counts.{with_numbers}
-use Rattle.pb_control.proofs.counts.numbered_bridges.Given as goal
+use Rattle.pb_script.proofs.by_name.numbered_bridges.Given as goal
 
 abbrev pub invariant-loop-place : goal.invariant-loop-place
 invariant-loop-place l =
