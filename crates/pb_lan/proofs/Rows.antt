@@ -1,7 +1,8 @@
 -- Worked examples of the definitions: two bridges, joined by a link from port 1 to port 1. Red (VID
 -- 100) has customer port 1 (bridge 1, port 2) and 2 (bridge 2, port 2), blue (VID 200) has 3 (bridge
 -- 2, port 3).
-use Rattle.std.proofs.Common.{◌≡◌, ℕ, subst, zero, suc, ◌+◌, List, [], ◌∷◌, ◌++◌, refl, true, false, Some, None, replicate, inr, ◌||◌, ◌==◌, ap, arith, slice_index, inl, Bool, cond, ◌&&◌, map}
+use Rattle.std.proofs.Common.{◌≡◌, ℕ, subst, zero, suc, ◌+◌, List, [], ◌∷◌, ◌++◌, refl, true, false, Some, None}
+use Rattle.std.proofs.Common.{replicate, inr, ◌||◌, ◌==◌, ap, arith, slice_index, inl, Bool, cond, ◌&&◌, map}
 use Rattle.pb_frame.proofs.Lists.{Some-injective}
 use Rattle.pb_lan.proofs.ExactlyOnce.{each_arrives_exactly_once}
 use Rattle.pb_lan.proofs.ForestEdges.{Edge, trees_of}
@@ -9,7 +10,8 @@ use Rattle.pb_lan.proofs.UniqueWalks.{Walk, walk-unique}
 use Rattle.pb_frame.specs.Admission.{block}
 use Rattle.pb_lan.specs.BridgeLists.{ruling, IsLawfulBridge, Fits}
 use Rattle.pb_lan.specs.Choice.{chosen_ports, found}
-use Rattle.pb_lan.specs.Counts.{IsUnhindered, IsDrained, count, hinders, IsHandledUnder, HasNone, IsLaneDrained, IsPortDrained}
+use Rattle.pb_lan.specs.Counts.{IsUnhindered, IsDrained, count, hinders, IsHandledUnder, HasNone, IsLaneDrained}
+use Rattle.pb_lan.specs.Counts.{IsPortDrained}
 use Rattle.pb_lan.specs.Forests.{IsForest, Shows, LeadsUp, HasOneChild}
 use Rattle.pb_lan.specs.Laws.{IsTraced}
 use Rattle.pb_lan.specs.Numbering.{numbered}
@@ -45,13 +47,28 @@ no_bpdus : Rules
 no_bpdus = record { is_readable = λ x. false; change = λ plan bridge earlier cause. nothing }
 
 an_end : ℕ → ℕ → End
-an_end bridge port = record { bridge = bridge; port = port; cost = 20000; priority = 128; start = Forwarding; services = None }
+an_end bridge port = record {
+  bridge = bridge;
+  port = port;
+  cost = 20000;
+  priority = 128;
+  start = Forwarding;
+  services
+      = None;
+}
 
 bridge_of : ℕ → ℕ → BridgePlan
-bridge_of n queue = record { name = 66 ∷ (48 + n) ∷ []; address = record { 0 = 2 ∷ 0 ∷ 0 ∷ 0 ∷ 0 ∷ n ∷ [] }; priority = 32768; queue = queue }
+bridge_of n queue = record {
+  name = 66 ∷ (48 + n) ∷ [];
+  address = record { 0 = 2 ∷ 0 ∷ 0 ∷ 0 ∷ 0 ∷ n ∷ [] };
+  priority
+      = 32768;
+  queue = queue;
+}
 
 customer_of : ℕ → ℕ → ℕ → ℕ → CustomerPlan
-customer_of n bridge port service = record { name = 67 ∷ (48 + n) ∷ []; bridge = bridge; port = port; service = service; pcp = 0; queue = 64 }
+customer_of n bridge port service =
+    record { name = 67 ∷ (48 + n) ∷ []; bridge = bridge; port = port; service = service; pcp = 0; queue = 64 }
 
 link_of : ℕ → ℕ → ℕ → LinkPlan
 link_of n a b = record { name = 76 ∷ (48 + n) ∷ []; a = an_end 1 a; b = an_end 2 b; lost_ab = []; lost_ba = [] }
@@ -107,12 +124,14 @@ lengths : (ruling no_bpdus plan 1 [] 2 (of_length 1) ≡ Refuses Malformed)
 unfolding no_bpdus plan plan_with an_end bridge_of customer_of link_of item_of of_length addresses
 lengths = (refl, refl, refl, refl)
 
-service_tagged : ruling no_bpdus plan 1 [] 2 (item_of 0 0 (addresses ++ 136 ∷ 168 ∷ 0 ∷ 100 ∷ 8 ∷ 0 ∷ [])) ≡ Refuses STagged
+service_tagged : ruling no_bpdus plan 1 [] 2 (item_of 0 0 (addresses ++ 136 ∷ 168 ∷ 0 ∷ 100 ∷ 8 ∷ 0 ∷ [])) ≡ Refuses
+    STagged
 unfolding no_bpdus plan plan_with an_end bridge_of customer_of link_of item_of addresses
 service_tagged = refl
 
 -- a C-tag is data
-on_link : (copy_of plan (port_at plan 1 2) (port_at plan 1 1) (item_of 0 0 (addresses ++ 129 ∷ 0 ∷ 32 ∷ 5 ∷ 8 ∷ 0 ∷ 65 ∷ 66 ∷ []))).wire
+on_link : (copy_of plan (port_at plan 1 2) (port_at plan 1 1)
+    (item_of 0 0 (addresses ++ 129 ∷ 0 ∷ 32 ∷ 5 ∷ 8 ∷ 0 ∷ 65 ∷ 66 ∷ []))).wire
     ≡ addresses ++ 136 ∷ 168 ∷ 0 ∷ 100 ∷ 129 ∷ 0 ∷ 32 ∷ 5 ∷ 8 ∷ 0 ∷ 65 ∷ 66 ∷ []
 unfolding plan plan_with an_end bridge_of customer_of link_of item_of addresses
 on_link = refl
@@ -132,7 +151,8 @@ out_2 = item_of 0 2 broadcast
 
 rec : Record
 rec = record {
-  bridges = (Receive 2 into_1 (Some New) (Relayed (1 ∷ []) []) None ∷ Transmit 1 over ∷ []) ∷ (Receive 1 over (Some New) (Relayed (2 ∷ []) []) None ∷ Transmit 2 out_2 ∷ []) ∷ [];
+  bridges = (Receive 2 into_1 (Some New) (Relayed (1 ∷ []) []) None ∷ Transmit 1 over ∷ [])
+      ∷ (Receive 1 over (Some New) (Relayed (2 ∷ []) []) None ∷ Transmit 2 out_2 ∷ []) ∷ [];
   lanes = (Take 0 over false ∷ Put over ∷ []) ∷ [] ∷ [];
   customers = (Poll into_1 ∷ Feed into_1 ∷ []) ∷ (Deliver out_2 false ∷ []) ∷ [] ∷ [];
 }
@@ -163,12 +183,16 @@ ports_lawful (suc (suc zero)) = record { kinds = (tt, tt); marked = tt; held = (
 ports_lawful (suc (suc (suc zero))) = record { kinds = tt; marked = tt; held = (None, refl) }
 ports_lawful (suc (suc (suc (suc n)))) = record { kinds = tt; marked = tt; held = (None, refl) }
 
-customers_lawful : (number : ℕ) (c : CustomerPlan) → numbered plan.customers number ≡ Some c → MeetsCustomer rec number c
+customers_lawful : (number : ℕ) (c : CustomerPlan) → numbered plan.customers number ≡ Some c
+    → MeetsCustomer rec number c
 unfolding no_bpdus plan plan_with an_end bridge_of customer_of link_of item_of addresses broadcast into_1 over out_2 rec
 customers_lawful zero c h = cc
-customers_lawful (suc zero) c h = subst (λ d. MeetsCustomer rec 1 d) (Some-injective h) (record { into = ([], refl); out = ([], refl) })
-customers_lawful (suc (suc zero)) c h = subst (λ d. MeetsCustomer rec 2 d) (Some-injective h) (record { into = ([], refl); out = ([], refl) })
-customers_lawful (suc (suc (suc zero))) c h = subst (λ d. MeetsCustomer rec 3 d) (Some-injective h) (record { into = ([], refl); out = ([], refl) })
+customers_lawful (suc zero) c h = subst (λ d. MeetsCustomer rec 1 d) (Some-injective h)
+    (record { into = ([], refl); out = ([], refl) })
+customers_lawful (suc (suc zero)) c h = subst (λ d. MeetsCustomer rec 2 d) (Some-injective h)
+    (record { into = ([], refl); out = ([], refl) })
+customers_lawful (suc (suc (suc zero))) c h = subst (λ d. MeetsCustomer rec 3 d) (Some-injective h)
+    (record { into = ([], refl); out = ([], refl) })
 customers_lawful (suc (suc (suc (suc n)))) c h = cc
 
 record_lawful : IsLawfulRecord no_bpdus plan rec
@@ -189,7 +213,12 @@ station = 2 ∷ 0 ∷ 0 ∷ 0 ∷ 3 ∷ 3 ∷ []
 
 from_3 : List Step
 unfolding station
-from_3 = Receive 1 (record { mark = None; hops = 1; wire = (255 ∷ 255 ∷ 255 ∷ 255 ∷ 255 ∷ 255 ∷ []) ++ station ++ 136 ∷ 168 ∷ 0 ∷ 200 ∷ 8 ∷ 0 ∷ [] }) (Some New) (Relayed [] []) None ∷ []
+from_3 = Receive 1 (record {
+  mark = None;
+  hops = 1;
+  wire = (255 ∷ 255 ∷ 255 ∷ 255 ∷ 255 ∷ 255 ∷ []) ++ station
+      ++ 136 ∷ 168 ∷ 0 ∷ 200 ∷ 8 ∷ 0 ∷ [];
+}) (Some New) (Relayed [] []) None ∷ []
 
 apart : (found plan 1 from_3 200 station ≡ Some 1) × (found plan 1 from_3 100 station ≡ None)
     × (chosen_ports plan 1 from_3 2 100 (station ++ addresses) ≡ 1 ∷ [])
@@ -201,8 +230,10 @@ doubled : Plan
 unfolding plan_with
 doubled = plan_with (link_of 1 1 1 ∷ link_of 2 3 4 ∷ [])
 
-both : (chosen_ports doubled 1 [] 2 100 broadcast ≡ 1 ∷ 3 ∷ []) × (chosen_ports doubled 2 [] 1 100 broadcast ≡ 2 ∷ 4 ∷ [])
-    × (is_active doubled (start_shape doubled) 100 (link_of 1 1 1) ≡ true) × (is_active doubled (start_shape doubled) 100 (link_of 2 3 4) ≡ true)
+both : (chosen_ports doubled 1 [] 2 100 broadcast ≡ 1 ∷ 3 ∷ [])
+    × (chosen_ports doubled 2 [] 1 100 broadcast ≡ 2 ∷ 4 ∷ [])
+    × (is_active doubled (start_shape doubled) 100 (link_of 1 1 1) ≡ true)
+    × (is_active doubled (start_shape doubled) 100 (link_of 2 3 4) ≡ true)
 unfolding doubled plan_with an_end bridge_of customer_of link_of addresses broadcast
 both = (refl, refl, refl, refl)
 
@@ -210,11 +241,46 @@ no_forest : IsForest doubled (start_shape doubled) 100 → ⊥
 unfolding doubled plan_with an_end bridge_of customer_of link_of
 no_forest (rooted, shows) =
     let edge : ℕ → ℕ → ℕ → Type 0 = Edge doubled (start_shape doubled) 100 in
-    let one : Walk edge 1 (1 ∷ []) 2 = (1, (an_end 1 1, an_end 2 1, record { link = link_of 1 1 1; numbered_so = refl; active = refl; ends = inl (refl, refl) }, refl, refl), tt, refl) in
-    let other : Walk edge 1 (2 ∷ []) 2 = (1, (an_end 1 3, an_end 2 4, record { link = link_of 2 3 4; numbered_so = refl; active = refl; ends = inl (refl, refl) }, refl, refl), tt, refl) in
+    let one : Walk edge 1 (1 ∷ []) 2 = (
+      1,
+      (
+        an_end 1 1,
+        an_end 2 1,
+        record {
+          link = link_of 1 1 1;
+          numbered_so = refl;
+          active = refl;
+          ends = inl
+              (refl, refl);
+        },
+        refl,
+        refl,
+      ),
+      tt,
+      refl,
+    ) in
+    let other : Walk edge 1 (2 ∷ []) 2 = (
+      1,
+      (
+        an_end 1 3,
+        an_end 2 4,
+        record {
+          link = link_of 2 3 4;
+          numbered_so = refl;
+          active = refl;
+          ends = inl
+              (refl, refl);
+        },
+        refl,
+        refl,
+      ),
+      tt,
+      refl,
+    ) in
     let by_one : List ℕ = 1 ∷ [] in
     let by_two : List ℕ = 2 ∷ [] in
-    let same_walk : by_one ≡ by_two = walk-unique (trees_of doubled (start_shape doubled) 100 rooted shows) 1 by_one by_two 2 one other in
+    let same_walk : by_one ≡ by_two = walk-unique (trees_of doubled (start_shape doubled) 100 rooted shows) 1 by_one
+    by_two 2 one other in
     let same_link : slice_index by_one 0 ≡ slice_index by_two 0 = ap (λ xs. slice_index xs 0) same_walk in
     omega (arith, same_link)
 
@@ -226,7 +292,8 @@ down_fits : Fits no_bpdus plan 1 [] down
 unfolding no_bpdus plan plan_with an_end bridge_of customer_of link_of down
 down_fits = (refl, record { states = refl; flushed = refl; queued = refl; dropped = (refl, tt); own = tt })
 
-after_down : (chosen_ports plan 1 (down ∷ []) 2 100 broadcast ≡ []) × (ruling no_bpdus plan 1 (down ∷ []) 1 over ≡ Refuses NotForwarding)
+after_down : (chosen_ports plan 1 (down ∷ []) 2 100 broadcast ≡ [])
+    × (ruling no_bpdus plan 1 (down ∷ []) 1 over ≡ Refuses NotForwarding)
 unfolding no_bpdus plan plan_with an_end bridge_of customer_of link_of addresses broadcast down item_of over
 after_down = (refl, refl)
 
@@ -297,26 +364,57 @@ plan_sound = record {
   vids = ((omega arith, omega arith), ((omega arith, omega arith), tt));
   distinct_vids = ((refl, tt), (tt, tt));
   customers = (
-    record { bridge = (omega arith, omega arith); port = (omega arith, omega arith); service = (omega arith, omega arith); priority = omega arith; queue = (omega arith, omega arith) },
+    record {
+      bridge = (omega arith, omega arith);
+      port = (omega arith, omega arith);
+      service =
+          (omega arith, omega arith);
+      priority = omega arith;
+      queue = (omega arith, omega arith);
+    },
     (
-      record { bridge = (omega arith, omega arith); port = (omega arith, omega arith); service = (omega arith, omega arith); priority = omega arith; queue = (omega arith, omega arith) },
+      record {
+        bridge = (omega arith, omega arith);
+        port = (omega arith, omega arith);
+        service =
+            (omega arith, omega arith);
+        priority = omega arith;
+        queue = (omega arith, omega arith);
+      },
       (
-        record { bridge = (omega arith, omega arith); port = (omega arith, omega arith); service = (omega arith, omega arith); priority = omega arith; queue = (omega arith, omega arith) },
+        record {
+          bridge = (omega arith, omega arith);
+          port = (omega arith, omega arith);
+          service =
+              (omega arith, omega arith);
+          priority = omega arith;
+          queue = (omega arith, omega arith);
+        },
         tt,
       ),
     ),
   );
-  ports = ((refl, (refl, (refl, (refl, tt)))), ((refl, (refl, (refl, tt))), ((refl, (refl, tt)), ((refl, tt), (tt, tt)))));
+  ports = (
+    (refl, (refl, (refl, (refl, tt)))),
+    ((refl, (refl, (refl, tt))), ((refl, (refl, tt)), ((refl, tt), (tt, tt)))),
+  );
 }
   where
     sound_bridge : (n : ℕ) → IsSoundBridge (bridge_of n 64)
     sound_bridge n = record { address = refl; priority = (refl, omega arith); queue = (omega arith, omega arith) }
 
     sound_end : (n : ℕ) → IsNumber n 2 → IsSoundEnd plan (an_end n 1)
-    sound_end n h = record { bridge = h; port = (omega arith, omega arith); cost = (omega arith, omega arith); priority = (refl, omega arith); services = tt }
+    sound_end n h = record {
+      bridge = h;
+      port = (omega arith, omega arith);
+      cost = (omega arith, omega arith);
+      priority = (refl, omega arith);
+      services = tt;
+    }
 
 traced : IsTraced plan shape rec mark entry
-unfolding plan plan_with an_end bridge_of customer_of link_of item_of addresses broadcast into_1 over out_2 rec shape mark entry
+unfolding plan plan_with an_end bridge_of customer_of link_of item_of addresses broadcast into_1 over out_2 rec shape
+    mark entry
 traced = record { planned = refl; forest = (rooted, shows); handled = handled }
   where
     rooted : Rooted
@@ -325,7 +423,8 @@ traced = record { planned = refl; forest = (rooted, shows); handled = handled }
     shows : Shows plan shape 100 rooted
     shows = record { parents = refl; depths = refl; ways_up = ways_up; roots = roots; children = children }
       where
-        ways_up : (bridge number : ℕ) → numbered rooted.up bridge ≡ Some (Some number) → LeadsUp plan shape 100 rooted bridge number
+        ways_up : (bridge number : ℕ) → numbered rooted.up bridge ≡ Some (Some number)
+            → LeadsUp plan shape 100 rooted bridge number
         ways_up zero number h = cc
         ways_up (suc zero) number h = cc
         ways_up (suc (suc zero)) number h =
@@ -352,7 +451,8 @@ traced = record { planned = refl; forest = (rooted, shows); handled = handled }
         only (suc (suc zero)) h = refl
         only (suc (suc (suc n))) h = cc
 
-        children : (number : ℕ) (link : LinkPlan) → numbered plan.links number ≡ Some link → is_active plan shape 100 link ≡ true → HasOneChild rooted number
+        children : (number : ℕ) (link : LinkPlan) → numbered plan.links number ≡ Some link
+            → is_active plan shape 100 link ≡ true → HasOneChild rooted number
         children zero link h a = cc
         children (suc zero) link h a = record { child = 2; up = refl; only = only }
         children (suc (suc n)) link h a = cc
@@ -364,22 +464,26 @@ traced = record { planned = refl; forest = (rooted, shows); handled = handled }
     handled (suc (suc (suc n))) = tt
 
 free : IsUnhindered plan shape 100 rec mark
-unfolding plan plan_with an_end bridge_of customer_of link_of item_of addresses broadcast into_1 over out_2 rec shape mark
+unfolding plan plan_with an_end bridge_of customer_of link_of item_of addresses broadcast into_1 over out_2 rec shape
+    mark
 free = record { bridges = bridges; lanes = lanes; customers = customers }
   where
-    bridges : (number : ℕ) → AllByRecursion (λ step. hinders plan shape 100 mark number step ≡ false) (steps_of rec.bridges number)
+    bridges : (number : ℕ) → AllByRecursion (λ step. hinders plan shape 100 mark number step ≡ false)
+        (steps_of rec.bridges number)
     bridges zero = tt
     bridges (suc zero) = (refl, (refl, tt))
     bridges (suc (suc zero)) = (refl, (refl, tt))
     bridges (suc (suc (suc n))) = tt
 
-    lanes : (number : ℕ) → AllByRecursion (λ step. hinders plan shape 100 mark number step ≡ false) (steps_of rec.lanes number)
+    lanes : (number : ℕ) → AllByRecursion (λ step. hinders plan shape 100 mark number step ≡ false)
+        (steps_of rec.lanes number)
     lanes zero = tt
     lanes (suc zero) = (refl, (refl, tt))
     lanes (suc (suc zero)) = tt
     lanes (suc (suc (suc n))) = tt
 
-    customers : (number : ℕ) → AllByRecursion (λ step. hinders plan shape 100 mark number step ≡ false) (steps_of rec.customers number)
+    customers : (number : ℕ) → AllByRecursion (λ step. hinders plan shape 100 mark number step ≡ false)
+        (steps_of rec.customers number)
     customers zero = tt
     customers (suc zero) = (refl, (refl, tt))
     customers (suc (suc zero)) = (refl, tt)
@@ -398,38 +502,71 @@ drained = record { queues = queues; lanes_ab = lanes_ab; lanes_ba = lanes_ba; po
     waits w t = cond t (without (highest (queued w t)) (queued w t)) (queued w t)
 
     copy : ℕ → ℕ → ℕ → Item → Waiting
-    copy bridge q port item = record { class = class_of (priority_in (port_at plan bridge q) item.wire); item = copy_of plan (port_at plan bridge q) (port_at plan bridge port) item }
+    copy bridge q port item =
+        record {
+          class = class_of (priority_in (port_at plan bridge q) item.wire);
+          item = copy_of plan
+              (port_at plan bridge q) (port_at plan bridge port) item;
+        }
 
-    queues : (bridge port : ℕ) → HasNone mark (map (λ w. w.item) (waiting plan bridge port (steps_of rec.bridges bridge)))
+    queues : (bridge port : ℕ)
+        → HasNone mark (map (λ w. w.item) (waiting plan bridge port (steps_of rec.bridges bridge)))
     queues zero port = tt
-    queues (suc zero) port = elim (1 == port) as (λ t. HasNone mark (map (λ (w : Waiting). w.item) (waits (copy 1 2 port into_1) t))) [ true ↦ tt | false ↦ tt ]
-    queues (suc (suc zero)) port = elim (2 == port) as (λ t. HasNone mark (map (λ (w : Waiting). w.item) (waits (copy 2 1 port over) t))) [ true ↦ tt | false ↦ tt ]
+    queues (suc zero) port = elim (1 == port) as
+        (λ t. HasNone mark (map (λ (w : Waiting). w.item) (waits (copy 1 2 port into_1) t)))
+        [ true ↦ tt | false ↦ tt ]
+    queues (suc (suc zero)) port =
+        elim (2 == port) as (λ t. HasNone mark (map (λ (w : Waiting). w.item) (waits (copy 2 1 port over) t)))
+        [ true ↦ tt | false ↦ tt ]
     queues (suc (suc (suc n))) port = tt
 
-    lanes_ab : (number : ℕ) (link : LinkPlan) → numbered plan.links number ≡ Some link → IsLaneDrained rec mark (lane_ab number) link.a link.b
+    lanes_ab : (number : ℕ) (link : LinkPlan) → numbered plan.links number ≡ Some link
+        → IsLaneDrained rec mark (lane_ab number) link.a link.b
     lanes_ab zero link h = cc
-    lanes_ab (suc zero) link h = subst (λ l. IsLaneDrained rec mark (lane_ab 1) l.a l.b) (Some-injective h) (record { onto = tt; hand = tt; off = tt })
+    lanes_ab (suc zero) link h = subst (λ l. IsLaneDrained rec mark (lane_ab 1) l.a l.b) (Some-injective h)
+        (record { onto = tt; hand = tt; off = tt })
     lanes_ab (suc (suc n)) link h = cc
 
-    lanes_ba : (number : ℕ) (link : LinkPlan) → numbered plan.links number ≡ Some link → IsLaneDrained rec mark (lane_ba number) link.b link.a
+    lanes_ba : (number : ℕ) (link : LinkPlan) → numbered plan.links number ≡ Some link
+        → IsLaneDrained rec mark (lane_ba number) link.b link.a
     lanes_ba zero link h = cc
-    lanes_ba (suc zero) link h = subst (λ l. IsLaneDrained rec mark (lane_ba 1) l.b l.a) (Some-injective h) (record { onto = tt; hand = tt; off = tt })
+    lanes_ba (suc zero) link h = subst (λ l. IsLaneDrained rec mark (lane_ba 1) l.b l.a) (Some-injective h)
+        (record { onto = tt; hand = tt; off = tt })
     lanes_ba (suc (suc n)) link h = cc
 
     ports : (number : ℕ) (c : CustomerPlan) → numbered plan.customers number ≡ Some c → IsPortDrained rec mark number c
     ports zero c h = cc
-    ports (suc zero) c h = subst (λ d. IsPortDrained rec mark 1 d) (Some-injective h) (record { hand = tt; into = tt; out = tt })
-    ports (suc (suc zero)) c h = subst (λ d. IsPortDrained rec mark 2 d) (Some-injective h) (record { hand = tt; into = tt; out = tt })
-    ports (suc (suc (suc zero))) c h = subst (λ d. IsPortDrained rec mark 3 d) (Some-injective h) (record { hand = tt; into = tt; out = tt })
+    ports (suc zero) c h = subst (λ d. IsPortDrained rec mark 1 d) (Some-injective h)
+        (record { hand = tt; into = tt; out = tt })
+    ports (suc (suc zero)) c h = subst (λ d. IsPortDrained rec mark 2 d) (Some-injective h)
+        (record { hand = tt; into = tt; out = tt })
+    ports (suc (suc (suc zero))) c h = subst (λ d. IsPortDrained rec mark 3 d) (Some-injective h)
+        (record { hand = tt; into = tt; out = tt })
     ports (suc (suc (suc (suc n)))) c h = cc
 
 -- so the broadcast leaves customer port 2 once
 arrived_once : count mark (steps_of rec.customers 2) ≡ 1
-unfolding plan plan_with an_end bridge_of customer_of link_of item_of addresses broadcast into_1 over out_2 rec shape mark entry IsDistinct
+unfolding plan plan_with an_end bridge_of customer_of link_of item_of addresses broadcast into_1 over out_2 rec shape
+    mark entry IsDistinct
 arrived_once =
-    (each_arrives_exactly_once no_bpdus plan rec plan_sound record_lawful shape mark entry traced drained free 2 (customer_of 2 2 2 1) (1 ∷ []) (record {
+    (each_arrives_exactly_once no_bpdus plan rec plan_sound record_lawful shape mark entry traced drained free 2
+    (customer_of 2 2 2 1) (1 ∷ []) (record {
       other = λ h. absurd (omega (arith, h));
       planned = refl;
       service = refl;
-      path_there = ((an_end 1 1, an_end 2 1, record { link = link_of 1 1 1; numbered_so = refl; active = refl; ends = inl (refl, refl) }, refl, refl), (tt, tt));
+      path_there = (
+        (
+          an_end 1 1,
+          an_end 2 1,
+          record {
+            link = link_of 1 1 1;
+            numbered_so = refl;
+            active = refl;
+            ends = inl (refl, refl);
+          },
+          refl,
+          refl,
+        ),
+        (tt, tt),
+      );
     })).group into_1 refl refl

@@ -6,5 +6,6 @@ use Rattle.pb_control.proofs.counts.put_ports.Given as goal
 abbrev pub invariant-loop-name : goal.invariant-loop-name
 invariant-loop-name g l =
     (done : List ℕ) × (string_bytes l.out ≡ string_bytes l.initial.out ++ done)
-    × ((others : List ℕ) → AreLines port_line (g.B.Board.told_port l.board) (map (λ n. (n.0.now, n.1)) (drop l.name-index l.ports)) others
+    × ((others : List ℕ) → AreLines port_line (g.B.Board.told_port l.board)
+    (map (λ n. (n.0.now, n.1)) (drop l.name-index l.ports)) others
     → AreLines port_line (g.B.Board.told_port l.board) (map (λ n. (n.0.now, n.1)) l.ports) (done ++ others))

@@ -6,6 +6,7 @@ seen n = (n.0.now, n.1)
 
 pub returns : goal.returns
 returns c = record {
-  same = subst (λ names. IsPermutation names (map seen c.sort.new.names.items)) c.in_ok-bridges.ensures c.sort.ensures.same;
+  same = subst (λ names. IsPermutation names (map seen c.sort.new.names.items)) c.in_ok-bridges.ensures
+      c.sort.ensures.same;
   by_name = c.sort.ensures.by_name;
 }

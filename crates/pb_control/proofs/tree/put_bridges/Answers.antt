@@ -18,16 +18,23 @@ loop-name-preserved g c =
     let thing = seen (get_or bridges k no_name) in
     let views = c.views-views.result in
     let here = view_lines thing.0 views in
-    let split : map seen (drop k bridges) ≡ thing ∷ map seen (drop (k + 1) bridges) = at_drop_more (λ xs. map seen xs) bridges k no_name c.loop-name-test.true in
+    let split : map seen (drop k bridges) ≡ thing ∷ map seen (drop (k + 1) bridges) = at_drop_more (λ xs. map seen xs)
+    bridges k no_name c.loop-name-test.true in
     let before = c.loop-name.invariant in (
       before.0 ++ here,
-      text_more (string_bytes c.args.out.now) (string_bytes c.loop-name.out) (string_bytes c.put_bridge.new.out) before.0 here before.1 c.in_ok-put_bridge.ensures,
-      lines_more view_lines (g.B.Board.told_views c.args.board.now) (map seen bridges) (map seen (drop k bridges)) (map seen (drop (k + 1) bridges)) thing views before.0
+      text_more (string_bytes c.args.out.now) (string_bytes c.loop-name.out) (string_bytes c.put_bridge.new.out)
+          before.0 here before.1 c.in_ok-put_bridge.ensures,
+      lines_more view_lines (g.B.Board.told_views c.args.board.now) (map seen bridges) (map seen (drop k bridges))
+          (map seen (drop (k + 1) bridges)) thing views before.0
           split c.views-views.ensures before.2,
     )
 
 pub returns : goal.returns
 returns g c =
     let before = c.loop-name.invariant in
-    let none = ap (λ xs. map seen xs) (drop_all c.loop-name.name-index c.args.bridges.now c.loop-name-test.false) in
-    (before.0, before.1, lines_end view_lines (g.B.Board.told_views c.args.board.now) (map seen c.args.bridges.now) (map seen (drop c.loop-name.name-index c.args.bridges.now)) before.0 none before.2)
+    let none = ap (λ xs. map seen xs) (drop_all c.loop-name.name-index c.args.bridges.now c.loop-name-test.false) in (
+      before.0,
+      before.1,
+      lines_end view_lines (g.B.Board.told_views c.args.board.now) (map seen c.args.bridges.now)
+          (map seen (drop c.loop-name.name-index c.args.bridges.now)) before.0 none before.2,
+    )

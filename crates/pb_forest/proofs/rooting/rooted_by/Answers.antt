@@ -14,22 +14,29 @@ pub loop-branch-preserved : goal.loop-branch-preserved
 loop-branch-preserved c =
     let r = c.loop-branch.invariant in
     let b = c.in-Some.branch in
-    let near = near-next c.args.bridges c.args.branches.items c.loop-branch.branches.items c.pop.new.self.items c.loop-branch.up.items c.loop-branch.depth.items b r c.in-Some.ensures.items c.requires.near in
+    let near = near-next c.args.bridges c.args.branches.items c.loop-branch.branches.items c.pop.new.self.items
+    c.loop-branch.up.items c.loop-branch.depth.items b r c.in-Some.ensures.items c.requires.near in
     let n = r.depths in
     let m = near.above in
-    let at = slice_get_read c.loop-branch.depth.items (length c.loop-branch.depth.items) b.above c.index.result.now refl (omega (arith, n, m)) c.index.ensures in
-    let d = depth-next c.args.bridges c.args.branches.items c.loop-branch.branches.items c.pop.new.self.items c.loop-branch.up.items c.loop-branch.depth.items b c.index.result.now r c.in-Some.ensures.items near at in
-    roots-more c.args.bridges c.args.branches.items c.loop-branch.branches.items c.pop.new.self.items c.loop-branch.up.items c.loop-branch.depth.items b c.index.result.now r c.in-Some.ensures.items near d.0
+    let at = slice_get_read c.loop-branch.depth.items (length c.loop-branch.depth.items) b.above c.index.result.now
+    refl (omega (arith, n, m)) c.index.ensures in
+    let d = depth-next c.args.bridges c.args.branches.items c.loop-branch.branches.items c.pop.new.self.items
+    c.loop-branch.up.items c.loop-branch.depth.items b c.index.result.now r c.in-Some.ensures.items near at in
+    roots-more c.args.bridges c.args.branches.items c.loop-branch.branches.items c.pop.new.self.items
+    c.loop-branch.up.items c.loop-branch.depth.items b c.index.result.now r c.in-Some.ensures.items near d.0
 
 pub overflow_add-index : goal.overflow_add-index
 overflow_add-index c =
     let r = c.loop-branch.invariant in
     let b = c.in-Some.branch in
-    let near = near-next c.args.bridges c.args.branches.items c.loop-branch.branches.items c.pop.new.self.items c.loop-branch.up.items c.loop-branch.depth.items b r c.in-Some.ensures.items c.requires.near in
+    let near = near-next c.args.bridges c.args.branches.items c.loop-branch.branches.items c.pop.new.self.items
+    c.loop-branch.up.items c.loop-branch.depth.items b r c.in-Some.ensures.items c.requires.near in
     let n = r.depths in
     let m = near.above in
-    let at = slice_get_read c.loop-branch.depth.items (length c.loop-branch.depth.items) b.above c.index.result.now refl (omega (arith, n, m)) c.index.ensures in
-    let d = depth-next c.args.bridges c.args.branches.items c.loop-branch.branches.items c.pop.new.self.items c.loop-branch.up.items c.loop-branch.depth.items b c.index.result.now r c.in-Some.ensures.items near at in
+    let at = slice_get_read c.loop-branch.depth.items (length c.loop-branch.depth.items) b.above c.index.result.now
+    refl (omega (arith, n, m)) c.index.ensures in
+    let d = depth-next c.args.bridges c.args.branches.items c.loop-branch.branches.items c.pop.new.self.items
+    c.loop-branch.up.items c.loop-branch.depth.items b c.index.result.now r c.in-Some.ensures.items near at in
     let l = d.1 in
     let few = c.requires.few in
     omega (arith, l, few)
@@ -37,7 +44,8 @@ overflow_add-index c =
 pub index_mut-requires-in-Some : goal.index_mut-requires-in-Some
 index_mut-requires-in-Some c =
     let r = c.loop-branch.invariant in
-    let near = near-next c.args.bridges c.args.branches.items c.loop-branch.branches.items c.pop.new.self.items c.loop-branch.up.items c.loop-branch.depth.items c.in-Some.branch r c.in-Some.ensures.items c.requires.near in
+    let near = near-next c.args.bridges c.args.branches.items c.loop-branch.branches.items c.pop.new.self.items
+    c.loop-branch.up.items c.loop-branch.depth.items c.in-Some.branch r c.in-Some.ensures.items c.requires.near in
     let n = r.depths in
     let m = near.bridge in
     let k = c.loop-branch.depth.ok.0 in
@@ -45,7 +53,9 @@ index_mut-requires-in-Some c =
 
 pub returns : goal.returns
 returns c =
-    let none : c.loop-branch.branches.items ≡ [] = let v = c.in_default.ensures.cases in let k = c.loop-branch.branches.ok.0 in nil_from_length c.loop-branch.branches.items (omega (arith, v, k)) in
+    let none : c.loop-branch.branches.items ≡ [] = let v = c.in_default.ensures.cases in let k =
+    c.loop-branch.branches.ok.0 in nil_from_length c.loop-branch.branches.items (omega (arith, v, k)) in
     roots-all c.args.bridges c.args.branches.items c.loop-branch.up.items c.loop-branch.depth.items _
-    (subst (λ xs. RootsTo c.args.bridges c.args.branches.items xs c.loop-branch.up.items c.loop-branch.depth.items) none c.loop-branch.invariant)
+    (subst (λ xs. RootsTo c.args.bridges c.args.branches.items xs c.loop-branch.up.items c.loop-branch.depth.items)
+    none c.loop-branch.invariant)
     c.from_vec.ensures c.from_vec-2.ensures

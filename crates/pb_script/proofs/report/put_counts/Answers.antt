@@ -1,4 +1,5 @@
-use Rattle.std.proofs.Common.{◌≡◌, ◌++◌, ℕ, List, Bor, map, flat_map, string_bytes, Ok, Err, OnOk, IsPermutation, refl, ap, ◌∙◌, subst, append_assoc}
+use Rattle.std.proofs.Common.{◌≡◌, ◌++◌, ℕ, List, Bor, map, flat_map, string_bytes, Ok, Err, OnOk, IsPermutation}
+use Rattle.std.proofs.Common.{refl, ap, ◌∙◌, subst, append_assoc}
 use Rattle.std.specs.declared.result.Result.{Result}
 use Rattle.pb_script.specs.Counts.{port_line, link_line, AreByName}
 use Rattle.pb_script.proofs.report.put_counts.Goals as goal
@@ -29,7 +30,8 @@ returns c =
     let first = flat_map (port_line plan rec) ports in
     let second = flat_map (link_line rec) links in
     let put : string_bytes c.put_ports.new.out ≡ old ++ first =
-    c.in_ok-put_ports.ensures ∙ ap (λ xs. old ++ flat_map (port_line plan rec) (map seen xs)) c.as_slice.ensures.value in
+    c.in_ok-put_ports.ensures ∙ ap (λ xs. old ++ flat_map (port_line plan rec) (map seen xs)) c.as_slice.ensures.value
+    in
     on_ok c.put_links.result (λ e. (
       first ++ second,
       e ∙ ap (λ z. z ++ flat_map (link_line rec) (map seen c.as_slice-2.result.now)) put

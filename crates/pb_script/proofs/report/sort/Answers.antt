@@ -1,4 +1,5 @@
-use Rattle.std.proofs.Common.{◌≡◌, ◌+◌, ◌<◌, ℕ, List, false, length, get_or, map, Bor, refl, sym, ap, subst, is_lt, nat_cmp}
+use Rattle.std.proofs.Common.{◌≡◌, ◌+◌, ◌<◌, ℕ, List, false, length, get_or, map, Bor, refl, sym, ap, subst, is_lt}
+use Rattle.std.proofs.Common.{nat_cmp}
 use Rattle.std.proofs.Math.ListN.{get_or-map}
 use Rattle.std.proofs.lemmas.List.{length-map}
 use Rattle.std.proofs.lemmas.List.Sorted.{IsPermutation-map}
@@ -19,7 +20,8 @@ abbrev seen : Bor (List ℕ) × ℕ → List ℕ × ℕ
 seen n = (n.0.now, n.1)
 
 pub returns-clause-same : goal.returns-clause-same
-returns-clause-same c = IsPermutation-map seen c.args.names.now.items c.sort_unstable.new.self.items c.sort_unstable.ensures.permutation
+returns-clause-same c = IsPermutation-map seen c.args.names.now.items c.sort_unstable.new.self.items
+    c.sort_unstable.ensures.permutation
 
 pub returns-clause-by_name : goal.returns-clause-by_name
 returns-clause-by_name c = λ k d low high.
