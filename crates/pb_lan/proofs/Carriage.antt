@@ -32,7 +32,8 @@ use Rattle.pb_lan.specs.declared.step.NoRoom.{NoRoom}
 use Rattle.pb_lan.specs.declared.step.Outcome.{Outcome}
 use Rattle.pb_lan.specs.declared.step.Outcome.TheVariants.{Relayed, Filtered, Heard}
 use Rattle.pb_lan.specs.declared.step.Step.{Step}
-use Rattle.pb_lan.specs.declared.step.Step.TheVariants.{Poll, Feed, Deliver, Receive, Transmit, Tick, Admin, Take, Put}
+use Rattle.pb_lan.specs.declared.step.Step.TheVariants.{Poll, Feed, Deliver, Receive, Transmit, Tick, Admin, Take}
+use Rattle.pb_lan.specs.declared.step.Step.TheVariants.{Put}
 
 -- K holds of what is received at a bridge's port and Q of what is queued there, where each of these leads on to the next
 pub record Spreads (rules : Rules) (plan : Plan) (rec : Record) (K Q : ℕ → ℕ → Item → Type 0) : Type 0 where
@@ -73,8 +74,7 @@ copies-spread rules plan rec K Q s n b r earlier later q item learnt (Relayed ch
     → AllWaiting (Below (n + 1) (Q b r))
     (cond t (record {
       class = class_of (priority_in (port_at plan b q) item.wire);
-      item = copy_of plan
-          (port_at plan b q) (port_at plan b r) item;
+      item = copy_of plan (port_at plan b q) (port_at plan b r) item;
     } ∷ []) [])) [
       | true ↦ λ e. (
         λ few. s.relays b r earlier later q item learnt chosen refused moved at follows (and-left _ _ e)
@@ -162,7 +162,8 @@ abbrev AllBelow : ℕ → (ℕ → ℕ → Item → Type 0) → Plan → Record 
 AllBelow n Q plan rec = (b r : ℕ) → AllQueued (Below n (Q b r)) plan b r (steps_of rec.bridges b)
 
 -- what follows from a property of all that is queued
-queued-imply : (P R : Item → Type 0) → ((item : Item) → P item → R item) → (plan : Plan) (b r : ℕ) (steps : List Step)
+pub queued-imply : (P R : Item → Type 0) → ((item : Item) → P item → R item)
+    → (plan : Plan) (b r : ℕ) (steps : List Step)
     → AllQueued P plan b r steps → AllQueued R plan b r steps
 queued-imply P R h plan b r steps a =
     All-imply (λ step. AllWaiting P (queued_by plan b r step)) (λ step. AllWaiting R (queued_by plan b r step))

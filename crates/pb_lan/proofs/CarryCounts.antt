@@ -22,7 +22,8 @@ use Rattle.pb_lan.specs.declared.step.Moved.{Moved}
 use Rattle.pb_lan.specs.declared.step.Outcome.{Outcome}
 use Rattle.pb_lan.specs.declared.step.Outcome.TheVariants.{Relayed, Filtered, Heard}
 use Rattle.pb_lan.specs.declared.step.Step.{Step}
-use Rattle.pb_lan.specs.declared.step.Step.TheVariants.{Poll, Feed, Deliver, Receive, Transmit, Tick, Admin, Take, Put}
+use Rattle.pb_lan.specs.declared.step.Step.TheVariants.{Poll, Feed, Deliver, Receive, Transmit, Tick, Admin, Take}
+use Rattle.pb_lan.specs.declared.step.Step.TheVariants.{Put}
 
 -- an item of the mark after so many hops
 abbrev pub is_after : Mark → ℕ → Item → Bool
@@ -40,7 +41,7 @@ one_if-le true = omega arith
 one_if-le false = omega arith
 
 -- one more on both sides
-suc-eqb : (m n : ℕ) → (m + 1 == n + 1) ≡ (m == n)
+pub suc-eqb : (m n : ℕ) → (m + 1 == n + 1) ≡ (m == n)
 suc-eqb m n = elim (m == n) as (λ b. (m == n) ≡ b → (m + 1 == n + 1) ≡ b)
     [ true ↦ λ h. let e = eqb-true m n h in grind (arith, e) | false ↦ λ h. grind (arith, h) ] refl
 
@@ -57,8 +58,7 @@ copies-count mark n plan b r q item learnt (Relayed chosen refused) moved = by (
     w : Waiting
     w = record {
       class = class_of (priority_in (port_at plan b q) item.wire);
-      item = copy_of plan (port_at plan b q)
-          (port_at plan b r) item;
+      item = copy_of plan (port_at plan b q) (port_at plan b r) item;
     }
 
     one : (x : Bool) → cond (x && (item.hops + 1 == n + 1)) 1 0 ≤ cond ((x && (item.hops == n)) && true) 1 0
@@ -79,7 +79,7 @@ copies-count mark n plan b r q item learnt (Relayed chosen refused) moved = by (
     by false c = omega arith
 
 -- a bridge's own item has no mark
-unmarked : (mark : Mark) (n : ℕ) (item : Item) → item.mark ≡ None → is_after mark n item ≡ false
+pub unmarked : (mark : Mark) (n : ℕ) (item : Item) → item.mark ≡ None → is_after mark n item ≡ false
 unmarked mark n item h = subst (λ o. (has_mark mark o && item.hops == n) ≡ false) (sym h) refl
 
 -- so none of those counts

@@ -7,12 +7,14 @@ use Rattle.std.proofs.lemmas.Bool.{eqb-true}
 use Rattle.std.specs.List.{AllByRecursion, list_any}
 use Rattle.std.specs.Cmp.Derive.{both_true}
 use Rattle.pb_frame.proofs.Lists.{eqb-refl, All-midst, All-unflat_map, list_any-midst, list_any-rest, list_any-filter}
+use Rattle.pb_frame.proofs.Lists.{true-false}
 use Rattle.pb_frame.proofs.TagLaws.{take-tagged, has_service_type-tagged}
 use Rattle.pb_lan.proofs.Arrivals.{MayComeIn}
 use Rattle.pb_lan.proofs.Cases.{refusing-is, heard, is_listening, is_reserving}
+use Rattle.pb_lan.proofs.Handled.{unmoved, handled-at, carried-vid}
 use Rattle.pb_lan.proofs.Priorities.{the-poll}
 use Rattle.pb_lan.proofs.Rulings.{follows-relayed, carried-open, local-listed}
-use Rattle.pb_lan.proofs.Ways.{received-walks, ComesIn, unmoved, handled-at, carried-vid, IsFollowed}
+use Rattle.pb_lan.proofs.Ways.{received-walks, ComesIn, IsFollowed}
 use Rattle.pb_frame.specs.Frames.{dst_of, is_group}
 use Rattle.pb_frame.specs.Tags.{bare, untagged, has_priority_tag, has_service_type, vid_of}
 use Rattle.pb_lan.specs.BridgeLists.{Ruling, ruling, ruling_by, ruling_in, first_case, customer_cases}
@@ -228,6 +230,59 @@ carried-forwarding rules plan b earlier q item v h = by (port_at plan b q) refl 
     by (Provider e) at h = (carried-open rules plan e (state_after plan b earlier q) item v h).0
     by Unused at h = cc
 
+-- what is known of the step by which it came in at a port
+module _ {rules : Rules} {plan : Plan} {rec : Record} {shape : Shape} {entry : CustomerPlan} {rooted : Rooted}
+    {mark : Mark} {arrived : Item} (frame : IsGroupFrame rules plan rec shape entry rooted mark arrived) (b : ℕ)
+    {q : ℕ} (here : IsReceived (is_of mark) q (steps_of rec.bridges b)) where
+  -- the step, with this outcome
+  abbrev step_with : Outcome → Step
+  step_with outcome = Receive q here.item here.learnt outcome here.moved
+
+  -- what it may tell, with this outcome
+  abbrev Told : Outcome → Type 0
+  Told outcome = Follows rules plan b here.earlier q here.item here.learnt outcome here.moved
+      (ruling rules plan b here.earlier q here.item)
+
+  -- it fits the steps before it
+  here-told : Told here.outcome
+  here-told = lawful-at rules plan b [] here.earlier here.later (step_with here.outcome)
+      (subst (LawfulAfter rules plan b []) (sym here.place) (frame.followed.lawful.bridges b))
+
+  -- it was handled under the shape
+  here-handled : numbered shape.states b ≡ Some (states_after plan b here.earlier)
+  here-handled = handled-at plan shape mark b [] here.earlier here.later (step_with here.outcome)
+      (subst (HandledAfter plan shape mark b []) (sym here.place) (frame.followed.handled b)) here.passes
+
+  -- the item may come in
+  here-known : MayComeIn plan rec (port_at plan b q) here.item
+  here-known =
+      let all = All-unflat_map (ComesIn plan rec shape (vid_at plan entry) entry mark b q) (received_by q)
+      (steps_of rec.bridges b) (received-walks rules plan rec shape entry mark rooted frame.followed b q) in
+      let one = All-midst
+      (λ step. AllByRecursion (ComesIn plan rec shape (vid_at plan entry) entry mark b q) (received_by q step))
+      here.earlier (step_with here.outcome) here.later
+      (subst (AllByRecursion (λ step. AllByRecursion (ComesIn plan rec shape (vid_at plan entry) entry mark b q)
+      (received_by q step))) (sym here.place) all) in
+      (subst (λ t. AllByRecursion (ComesIn plan rec shape (vid_at plan entry) entry mark b q)
+      (cond t (here.item ∷ []) [])) (eqb-refl q) one).0.0
+
+  -- it is for a group, and no BPDU
+  here-group : IsNotHeard (ruling rules plan b here.earlier q here.item)
+      × ((w : ℕ) → ruling rules plan b here.earlier q here.item ≡ Carries w → is_group (dst_of here.item.wire) ≡ true)
+  here-group = comes-as-group rules plan rec mark arrived frame.polled_there frame.group (port_at plan b q)
+      (state_after plan b here.earlier q) here.item here-known here.passes
+
+  -- on the tree it is not filtered
+  not-filtered : is_on_tree plan shape (vid_at plan entry) b q ≡ true → (reason : Reason)
+      → here.outcome ≡ Filtered reason → ⊥
+  not-filtered on_tree reason e = true-false (hinders plan shape (vid_at plan entry) mark b
+      (step_with (Filtered reason))) (both_true here.passes on_tree)
+      (subst (λ o. hinders plan shape (vid_at plan entry) mark b (step_with o) ≡ false) e
+      (All-midst (λ step. hinders plan shape (vid_at plan entry) mark b step ≡ false) here.earlier
+      (step_with here.outcome) here.later
+      (subst (AllByRecursion (λ step. hinders plan shape (vid_at plan entry) mark b step ≡ false)) (sym here.place)
+      (frame.free.bridges b))))
+
 -- where it came in on the tree, it is chosen for each other port of the service that is Forwarding
 pub choose-on : (rules : Rules) (plan : Plan) (rec : Record) (shape : Shape) (entry : CustomerPlan) (rooted : Rooted)
     (mark : Mark) (arrived : Item) → IsGroupFrame rules plan rec shape entry rooted mark arrived
@@ -238,80 +293,44 @@ pub choose-on : (rules : Rules) (plan : Plan) (rec : Record) (shape : Shape) (en
     (state_after plan b earlier r) ≡ true)
     → chose rec mark b r ≡ true
 choose-on rules plan rec shape entry rooted mark arrived frame b q r here on_tree number other member forwarding =
-    by_outcome here.outcome refl
+    by_outcome here.outcome refl (here-told frame b here)
   where
-    v : ℕ
-    v = vid_at plan entry
-
-    step : Outcome → Step
-    step outcome = Receive q here.item here.learnt outcome here.moved
-
-    fits : Follows rules plan b here.earlier q here.item here.learnt here.outcome here.moved
-        (ruling rules plan b here.earlier q here.item)
-    fits = lawful-at rules plan b [] here.earlier here.later (Receive q here.item here.learnt here.outcome here.moved)
-        (subst (LawfulAfter rules plan b []) (sym here.place) (frame.followed.lawful.bridges b))
-
-    handled : numbered shape.states b ≡ Some (states_after plan b here.earlier)
-    handled = handled-at plan shape mark b [] here.earlier here.later
-        (Receive q here.item here.learnt here.outcome here.moved)
-        (subst (HandledAfter plan shape mark b []) (sym here.place) (frame.followed.handled b)) here.passes
-
-    calm : hinders plan shape v mark b (Receive q here.item here.learnt here.outcome here.moved) ≡ false
-    calm = All-midst (λ step. hinders plan shape v mark b step ≡ false) here.earlier
-        (Receive q here.item here.learnt here.outcome here.moved) here.later
-        (subst (AllByRecursion (λ step. hinders plan shape v mark b step ≡ false)) (sym here.place)
-        (frame.free.bridges b))
-
     known : MayComeIn plan rec (port_at plan b q) here.item
-    known =
-        let all = All-unflat_map (ComesIn plan rec shape v entry mark b q) (received_by q) (steps_of rec.bridges b)
-        (received-walks rules plan rec shape entry mark rooted frame.followed b q) in
-        let one = All-midst (λ step. AllByRecursion (ComesIn plan rec shape v entry mark b q) (received_by q step))
-        here.earlier (Receive q here.item here.learnt here.outcome here.moved) here.later
-        (subst (AllByRecursion (λ step. AllByRecursion (ComesIn plan rec shape v entry mark b q)
-        (received_by q step))) (sym here.place) all) in
-        (subst (λ t. AllByRecursion (ComesIn plan rec shape v entry mark b q) (cond t (here.item ∷ []) []))
-        (eqb-refl q) one).0.0
+    known = here-known frame b here
 
-    as_group : IsNotHeard (ruling rules plan b here.earlier q here.item)
-        × ((w : ℕ) → ruling rules plan b here.earlier q here.item ≡ Carries w → is_group (dst_of here.item.wire)
-        ≡ true)
-    as_group = comes-as-group rules plan rec mark arrived frame.polled_there frame.group (port_at plan b q)
-        (state_after plan b here.earlier q) here.item known here.passes
+    group : IsNotHeard (ruling rules plan b here.earlier q here.item)
+        × ((w : ℕ) → ruling rules plan b here.earlier q here.item ≡ Carries w
+        → is_group (dst_of here.item.wire) ≡ true)
+    group = here-group frame b here
 
-    filtered : (x y : Bool) → x ≡ true → y ≡ true → (x && y) ≡ false → ⊥
-    filtered true true h k n = cc
-    filtered true false h k n = cc
-    filtered false y h k n = cc
-
-    by_outcome : (outcome : Outcome) → here.outcome ≡ outcome → chose rec mark b r ≡ true
-    by_outcome (Filtered reason) e =
-        absurd (filtered (is_of mark here.item) (is_on_tree plan shape v b q) here.passes on_tree
-        (subst (λ o. hinders plan shape v mark b (Receive q here.item here.learnt o here.moved) ≡ false) e calm))
-    by_outcome Heard e =
-        absurd (as_group.0 (follows-heard rules plan b here.earlier q here.item here.learnt here.moved
+    by_outcome : (outcome : Outcome) → here.outcome ≡ outcome
+        → Told frame b here here.outcome → chose rec mark b r ≡ true
+    by_outcome (Filtered reason) e told =
+        absurd (not-filtered frame b here on_tree reason e)
+    by_outcome Heard e told =
+        absurd (group.0 (follows-heard rules plan b here.earlier q here.item here.learnt here.moved
         (ruling rules plan b here.earlier q here.item)
-        (subst (λ o. Follows rules plan b here.earlier q here.item here.learnt o here.moved
-        (ruling rules plan b here.earlier q here.item)) e fits)))
-    by_outcome (Relayed chosen refused) e =
-        let follows = subst (λ o. Follows rules plan b here.earlier q here.item here.learnt o here.moved
-        (ruling rules plan b here.earlier q here.item)) e fits in
+        (subst (Told frame b here) e told)))
+    by_outcome (Relayed chosen refused) e told =
+        let step = Receive q here.item here.learnt (Relayed chosen refused) here.moved in
         let f = follows-relayed rules plan b here.earlier q here.item here.learnt chosen refused here.moved
-        (ruling rules plan b here.earlier q here.item) follows in
-        let the_step = Receive q here.item here.learnt (Relayed chosen refused) here.moved in
-        let steps = here.earlier ++ the_step ∷ [] in
-        let vid : v ≡ f.0 = carried-vid rules plan rec entry mark frame.followed.sound frame.followed.planned
-        (port_at plan b q) (state_after plan b here.earlier q) here.item f.0 known f.1 here.passes in
+        (ruling rules plan b here.earlier q here.item)
+        (subst (Told frame b here) e told) in
+        let steps = here.earlier ++ step ∷ [] in
+        let vid : vid_at plan entry ≡ f.0 = carried-vid rules plan rec entry mark frame.followed.sound
+        frame.followed.planned (port_at plan b q) (state_after plan b here.earlier q) here.item f.0 known f.1
+        here.passes in
         let same_state : (p : ℕ) → state_after plan b steps p ≡ state_after plan b here.earlier p =
-        unmoved plan b here.earlier the_step (ap moved_part f.3) in
+        unmoved plan b here.earlier step (ap moved_part f.3) in
         let contains : list_any (λ p. p == r) chosen ≡ true =
         subst (λ ports. list_any (λ p. p == r) ports ≡ true) (sym f.2)
         (flooded plan b steps q f.0 r here.item.wire
         (ap is_forwarding (same_state q) ∙ carried-forwarding rules plan b here.earlier q here.item f.0 f.1)
-        (as_group.1 f.0 f.1) number other
-        (ap is_forwarding (same_state r) ∙ forwarding here.earlier handled)
+        (group.1 f.0 f.1) number other
+        (ap is_forwarding (same_state r) ∙ forwarding here.earlier
+        (here-handled frame b here))
         (subst (λ w. is_member plan w (port_at plan b r) ≡ true) vid member)) in
         subst (λ xs. list_any (is_choice mark r) xs ≡ true)
         (subst (λ o. here.earlier ++ Receive q here.item here.learnt o here.moved ∷ here.later ≡ steps_of
         rec.bridges b) e here.place)
-        (list_any-midst (is_choice mark r) here.earlier the_step here.later (both_true here.passes contains))
+        (list_any-midst (is_choice mark r) here.earlier step here.later (both_true here.passes contains))
