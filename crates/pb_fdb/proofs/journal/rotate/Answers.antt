@@ -2,9 +2,9 @@ use Rattle.std.proofs.Common.{◌≡◌, ◌<◌, ◌+◌, ◌∷◌, ◌++◌, 
 use Rattle.std.proofs.Common.{append-nil}
 use Rattle.std.proofs.lemmas.List.{length-map}
 use Rattle.std.specs.List.{filter}
+use Rattle.pb_fdb.proofs.TurnLemmas.{split, turned-on}
 use Rattle.indexmap.specs.IndexMap.{get}
 use Rattle.pb_fdb.specs.Journals.{is_same, entry_at, entries_from, stations, stays}
-use Rattle.pb_fdb.proofs.LogLemmas.{split, turned-on}
 use Rattle.pb_fdb.proofs.journal.rotate.Goals as goal
 
 pub loop-turn-init : goal.loop-turn-init
