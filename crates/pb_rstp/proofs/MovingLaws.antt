@@ -38,8 +38,7 @@ pub same_port-trans : (p q r : Port) → IsSamePort p q → IsSamePort q r → I
 same_port-trans p q r h k = record {
   number = k.number ∙ h.number;
   cost = k.cost ∙ h.cost;
-  priority = k.priority
-      ∙ h.priority;
+  priority = k.priority ∙ h.priority;
 }
 
 pub same_port-if : (b : Bool) (p q r : Port) → IsSamePort p q → IsSamePort p r → IsSamePort p (if b then q else r)

@@ -188,16 +188,14 @@ placed plan i l true e = let d =
       place = double i;
       least = omega (arith, d);
       most = omega (arith, d);
-      is = place_a
-          plan.links i l e;
+      is = place_a plan.links i l e;
     }
 placed plan i l false e = let d =
     double-is i in record {
       place = suc (double i);
       least = omega (arith, d);
       most = omega (arith, d);
-      is = place_b
-          plan.links i l e;
+      is = place_b plan.links i l e;
     }
 
 -- two links that end at one port are one

@@ -64,8 +64,7 @@ ports_known m line has = go m.ports line.roles line.states has.distinct has.smal
       record {
         by_number = distinct.0;
         small = small.0;
-        role = roles.0 (root_vector m.id m.ports)
-            (root_vector-is m.id m.ports);
+        role = roles.0 (root_vector m.id m.ports) (root_vector-is m.id m.ports);
         quiet = quiet.0;
       },
       go ps roles.1 quiet.1 distinct.1 small.1,

@@ -10,8 +10,7 @@ returns-clause-ok c =
     let old : Machine = record {
       id = c.self.inside.id;
       ports = c.self.inside.ports.items;
-      hello_left =
-          c.self.inside.hello_left;
+      hello_left = c.self.inside.hello_left;
     } in
     let found = ap (λ ps. port_of ps c.args.port) (sym c.deref.ensures.value) ∙ sym c.in-Some.ensures in
     c.in_ok-change.ensures.ok
@@ -25,8 +24,7 @@ returns-clause-change c =
     let old : Machine = record {
       id = c.self.inside.id;
       ports = c.self.inside.ports.items;
-      hello_left =
-          c.self.inside.hello_left;
+      hello_left = c.self.inside.hello_left;
     } in
     let found = ap (λ ps. port_of ps c.args.port) (sym c.deref.ensures.value) ∙ sym c.in-Some.ensures in
     c.in_ok-change.ensures.change
@@ -40,8 +38,7 @@ conclude-requires c =
     let old : Machine = record {
       id = c.self.inside.id;
       ports = c.self.inside.ports.items;
-      hello_left =
-          c.self.inside.hello_left;
+      hello_left = c.self.inside.hello_left;
     } in
     moving_of old c.args.self.now (setting c.args.port c.args.up) (same_setting c.args.port c.args.up) c.self.view_is
     c.deref-3.result.now

@@ -45,8 +45,7 @@ returns-clause-same c =
     let old : Machine = record {
       id = c.self.inside.id;
       ports = c.self.inside.ports.items;
-      hello_left =
-          c.self.inside.hello_left;
+      hello_left = c.self.inside.hello_left;
     } in
     let moving : AreMoving old.ports c.args.ports.now = subst (λ (m : Machine). AreMoving m.ports c.args.ports.now)
     (sym c.self.view_is) c.requires in
@@ -56,8 +55,7 @@ returns-clause-same c =
     λ m. IsSameBridge m (record {
       id = old.id;
       ports = c.in_ok-settled.settled.ports.items;
-      hello_left =
-          c.args.hello_left;
+      hello_left = c.args.hello_left;
     }) in
     subst Q c.self.view_is (subst P (sym c.in_ok-settled.ensures.ports)
     (settle_same old.id old.hello_left c.args.hello_left c.args.heard old.ports c.args.ports.now moving))
@@ -67,8 +65,7 @@ returns-clause-old_roots c =
     let old : Machine = record {
       id = c.self.inside.id;
       ports = c.self.inside.ports.items;
-      hello_left =
-          c.self.inside.hello_left;
+      hello_left = c.self.inside.hello_left;
     } in
     let moving : AreMoving old.ports c.args.ports.now = subst (λ (m : Machine). AreMoving m.ports c.args.ports.now)
     (sym c.self.view_is) c.requires in
@@ -78,8 +75,7 @@ returns-clause-old_roots c =
     λ m. HoldsOldRoots m (record {
       id = old.id;
       ports = c.in_ok-settled.settled.ports.items;
-      hello_left =
-          c.args.hello_left;
+      hello_left = c.args.hello_left;
     }) in
     subst Q c.self.view_is (subst P (sym c.in_ok-settled.ensures.ports)
     (settle_old_roots old.id old.hello_left c.args.hello_left c.args.heard old.ports c.args.ports.now moving
@@ -90,8 +86,7 @@ returns-clause-named c =
     let old : Machine = record {
       id = c.self.inside.id;
       ports = c.self.inside.ports.items;
-      hello_left =
-          c.self.inside.hello_left;
+      hello_left = c.self.inside.hello_left;
     } in
     let moving : AreMoving old.ports c.args.ports.now = subst (λ (m : Machine). AreMoving m.ports c.args.ports.now)
     (sym c.self.view_is) c.requires in
@@ -102,8 +97,7 @@ returns-clause-named c =
     λ m. NamesChanges m (record {
       id = old.id;
       ports = c.in_ok-settled.settled.ports.items;
-      hello_left =
-          c.args.hello_left;
+      hello_left = c.args.hello_left;
     }) new.change in
     let R : Change → Type 0 = λ change. NamesChanges c.args.self.now
     (record { id = old.id; ports = c.in_ok-settled.settled.ports.items; hello_left = c.args.hello_left }) change

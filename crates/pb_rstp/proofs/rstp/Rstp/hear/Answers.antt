@@ -11,8 +11,7 @@ returns-clause-ok c =
     let old : Machine = record {
       id = c.self.inside.id;
       ports = c.self.inside.ports.items;
-      hello_left =
-          c.self.inside.hello_left;
+      hello_left = c.self.inside.hello_left;
     } in
     let found = ap (λ ps. port_of ps c.args.port) (sym c.deref.ensures.value) ∙ sym c.in-Some.ensures in
     c.in_ok-change.ensures.ok
@@ -29,8 +28,7 @@ returns-clause-change c =
     let old : Machine = record {
       id = c.self.inside.id;
       ports = c.self.inside.ports.items;
-      hello_left =
-          c.self.inside.hello_left;
+      hello_left = c.self.inside.hello_left;
     } in
     let found = ap (λ ps. port_of ps c.args.port) (sym c.deref.ensures.value) ∙ sym c.in-Some.ensures in
     c.in_ok-change.ensures.change
@@ -47,8 +45,7 @@ conclude-requires c =
     let old : Machine = record {
       id = c.self.inside.id;
       ports = c.self.inside.ports.items;
-      hello_left =
-          c.self.inside.hello_left;
+      hello_left = c.self.inside.hello_left;
     } in
     moving_of old c.args.self.now (hearing c.root_vector-root.result c.in-Some.p.number c.args.m.now)
     (same_hearing c.root_vector-root.result c.in-Some.p.number c.args.m.now) c.self.view_is c.deref-4.result.now

@@ -9,8 +9,7 @@ returns-clause-least c =
     let old : Machine = record {
       id = c.self.inside.id;
       ports = c.self.inside.ports.items;
-      hello_left =
-          c.self.inside.hello_left;
+      hello_left = c.self.inside.hello_left;
     } in
     rw (c.root_vector.ensures, c.deref.ensures.value)
     (subst (λ (m : Machine). IsRootVector m.id m.ports (root_vector old.id old.ports)) c.self.view_is

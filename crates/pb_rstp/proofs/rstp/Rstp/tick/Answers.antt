@@ -10,8 +10,7 @@ returns-clause-ok c =
     let old : Machine = record {
       id = c.self.inside.id;
       ports = c.self.inside.ports.items;
-      hello_left =
-          c.self.inside.hello_left;
+      hello_left = c.self.inside.hello_left;
     } in
     c.in_ok-change.ensures.ok
     ∙ ap (λ a. a.machine) (ticks old c.args.self.now c.delay_of-delay.result c.is_hello_time-hello.result
@@ -26,8 +25,7 @@ returns-clause-change c =
     let old : Machine = record {
       id = c.self.inside.id;
       ports = c.self.inside.ports.items;
-      hello_left =
-          c.self.inside.hello_left;
+      hello_left = c.self.inside.hello_left;
     } in
     c.in_ok-change.ensures.change
     ∙ ap (λ a. a.change) (ticks old c.args.self.now c.delay_of-delay.result c.is_hello_time-hello.result
@@ -42,8 +40,7 @@ conclude-requires c =
     let old : Machine = record {
       id = c.self.inside.id;
       ports = c.self.inside.ports.items;
-      hello_left =
-          c.self.inside.hello_left;
+      hello_left = c.self.inside.hello_left;
     } in
     moving_of old c.args.self.now (ticking c.delay_of-delay.result c.is_hello_time-hello.result)
     (same_ticking c.delay_of-delay.result c.is_hello_time-hello.result) c.self.view_is c.deref-3.result.now
