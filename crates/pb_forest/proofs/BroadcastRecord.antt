@@ -150,8 +150,7 @@ sound = record {
     bridges = ((refl, tt), (tt, tt));
     links = (tt, tt);
     services = (tt, tt);
-    customers =
-        ((refl, tt), (tt, tt));
+    customers = ((refl, tt), (tt, tt));
   };
   bridges = (sound_bridge 1 refl, (sound_bridge 2 refl, tt));
   addresses = ((refl, tt), (tt, tt));

@@ -58,8 +58,7 @@ shows-parts plan shape vid rooted p d stand apart lead = record {
       lead number link h a in record {
         child = suc way.0;
         up = way.1;
-        only = λ other k. one-child rooted.up apart
-            other (suc way.0) number k way.1;
+        only = λ other k. one-child rooted.up apart other (suc way.0) number k way.1;
       };
 }
 

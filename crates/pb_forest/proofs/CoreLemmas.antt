@@ -82,8 +82,7 @@ two-links (Some ends ∷ ys) x h =
         Loop 0 (record {
           ends = ends;
           there = refl;
-          joins = inl
-              (at-is ends.a x 1 (omega (arith, e, p, q)), at-is ends.b x 1 (omega (arith, e, p, q)));
+          joins = inl (at-is ends.a x 1 (omega (arith, e, p, q)), at-is ends.b x 1 (omega (arith, e, p, q)));
         })
 
 -- a deeper bridge at which links are left
@@ -105,8 +104,7 @@ up-or-down plan shape vid rooted s es links edges of x a =
     by (inl u) = inl u
     by (inr u) = inr (record {
       below = a.other;
-      degree_there = meets-degree links a.link a.other x
-          (meets-back links a.link x a.other a.meets);
+      degree_there = meets-degree links a.link a.other x (meets-back links a.link x a.other a.meets);
       deeper = u.deeper;
     })
 

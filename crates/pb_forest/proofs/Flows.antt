@@ -30,7 +30,8 @@ use Rattle.pb_lan.specs.declared.step.Item.{Item}
 use Rattle.pb_lan.specs.declared.step.Outcome.{Outcome}
 use Rattle.pb_lan.specs.declared.step.Outcome.TheVariants.{Relayed, Filtered, Heard}
 use Rattle.pb_lan.specs.declared.step.Step.{Step}
-use Rattle.pb_lan.specs.declared.step.Step.TheVariants.{Poll, Feed, Deliver, Receive, Transmit, Tick, Admin, Take, Put}
+use Rattle.pb_lan.specs.declared.step.Step.TheVariants.{Poll, Feed, Deliver, Receive, Transmit, Tick, Admin, Take}
+use Rattle.pb_lan.specs.declared.step.Step.TheVariants.{Put}
 
 -- the marked items that a step receives at a port, and those that it queues there
 abbrev pub receives : ℕ → ℕ → Step → ℕ
@@ -74,8 +75,7 @@ copies-one plan b r q item (Relayed chosen refused) = by (list_any (λ p. p == r
     w : Waiting
     w = record {
       class = class_of (priority_in (port_at plan b q) item.wire);
-      item = copy_of plan (port_at plan b q)
-          (port_at plan b r) item;
+      item = copy_of plan (port_at plan b q) (port_at plan b r) item;
     }
 
     by : (x : Bool) → count_waiting is_marked (cond x (w ∷ []) []) ≡ cond (is_marked item && x) 1 0
@@ -127,11 +127,7 @@ gives-gain rules plan b earlier (Receive q item learnt outcome moved) fits =
 gives-gain rules plan b earlier (Transmit q item) fits = total-none local_ports
 gives-gain rules plan b earlier (Tick now moved) fits = total-none local_ports
 gives-gain rules plan b earlier (Admin q up moved) fits = total-none local_ports
-gives-gain rules plan b earlier (Poll item) fits = absurd fits
-gives-gain rules plan b earlier (Feed item) fits = absurd fits
-gives-gain rules plan b earlier (Deliver item gone) fits = absurd fits
-gives-gain rules plan b earlier (Take number item lost) fits = absurd fits
-gives-gain rules plan b earlier (Put item) fits = absurd fits
+gives-gain rules plan b earlier _ fits = absurd fits
 
 -- a number that is another
 at-same : (b k : ℕ) (f : ℕ → ℕ) → cond (b == k) (f k) 0 ≡ cond (b == k) (f b) 0
@@ -176,11 +172,7 @@ step-receives rules plan sound b earlier (Receive q item learnt outcome moved) f
 step-receives rules plan sound b earlier (Transmit q item) fits = no-part (used_ports plan) b
 step-receives rules plan sound b earlier (Tick now moved) fits = no-part (used_ports plan) b
 step-receives rules plan sound b earlier (Admin q up moved) fits = no-part (used_ports plan) b
-step-receives rules plan sound b earlier (Poll item) fits = absurd fits
-step-receives rules plan sound b earlier (Feed item) fits = absurd fits
-step-receives rules plan sound b earlier (Deliver item gone) fits = absurd fits
-step-receives rules plan sound b earlier (Take number item lost) fits = absurd fits
-step-receives rules plan sound b earlier (Put item) fits = absurd fits
+step-receives rules plan sound b earlier _ fits = absurd fits
 
 -- what holds of each step of a bridge
 abbrev pub EachStep : Rules → Plan → (ℕ → ℕ → Step → ℕ) → (Step → ℕ) → Type 0

@@ -119,6 +119,12 @@ pub record IsBranch (bs : List Branch) (c : Branch) : Type 0 where
   pub place : ℕ
   pub there : slice_get bs place ≡ Some c
 
+-- it was a link
+branch-met : (old : List (Option Ends)) (bs : List Branch) (new : List (Option Ends)) → AreTakenOff old bs new
+    → (c : Branch) → IsBranch bs c → Meets old c.link c.bridge c.above
+branch-met old bs new t c i = All-at (λ d. Meets old d.link d.bridge d.above) bs i.place c i.there
+    (taken-met old bs new t)
+
 -- each link is left, or a branch's
 pub taken-covers : (old : List (Option Ends)) (bs : List Branch) (new : List (Option Ends)) (k : ℕ) (ends : Ends)
     → AreTakenOff old bs new → slice_get old k ≡ Some (Some ends)
@@ -255,93 +261,103 @@ pub taken-few : (old : List (Option Ends)) (bs : List Branch) (new : List (Optio
     → AreTakenOff old bs new → length bs ≤ 255
 taken-few old bs new few t = let c = taken-count old bs new t in let m = left-most old in omega (arith, c, m, few)
 
+-- the links of a shape were taken off until none was left, and parents and depths are by the branches
+record IsPeeled (plan : Plan) (shape : Shape) (vid : ℕ) (es : List (Option Ends)) (bs : List Branch)
+    (new : List (Option Ends)) (rooted : Rooted) : Type 0 where
+  edges : AreEdges plan shape vid plan.links es
+  within : AreWithin (length plan.bridges) es
+  taken : AreTakenOff es bs new
+  none : list_any is_some new ≡ false
+  by : IsRootedBy (length plan.bridges) bs rooted
+
+-- what the ways up say then
+module _ {plan : Plan} {shape : Shape} {vid : ℕ} {es : List (Option Ends)} {bs : List Branch}
+    {new : List (Option Ends)} {rooted : Rooted} (p : IsPeeled plan shape vid es bs new rooted) where
+  -- an entry is of one of the bridges
+  entry-inside : (x : ℕ) (up : Option ℕ) → slice_get rooted.up x ≡ Some up → x < length plan.bridges
+  entry-inside x up h = let w = slice_get_within rooted.up x up h in let l = p.by.ups in omega (arith, w, l)
+
+  -- it is the way up by the branches
+  entry-way : (x : ℕ) (up : Option ℕ) → slice_get rooted.up x ≡ Some up → way_up bs x ≡ up
+  entry-way x up h = Some-injective (sym (p.by.up x (entry-inside x up h)) ∙ h)
+
+  -- it leads to a bridge that is one less deep
+  entry-leads : (x number : ℕ) → slice_get rooted.up x ≡ Some (Some number)
+      → LeadsUp plan shape vid rooted (suc x) number
+  entry-leads x number h = record {
+    near = at.near;
+    far = at.far;
+    crosses = subst (λ n. Crosses plan shape vid n at.near at.far) (sym (add-one w.branch.link) ∙ w.link) at.crosses;
+    from = at.from ∙ ap (λ n. suc n) w.bridge;
+    depth = depth_below bs w.branch.above;
+    depth_above = ap (numbered rooted.depth) at.to
+        ∙ p.by.depth w.branch.above
+        (p.within w.branch.link w.branch.above w.branch.bridge
+        (meets-back es w.branch.link w.branch.bridge w.branch.above
+        (branch-met es bs new p.taken w.branch w.there)));
+    depth_here = p.by.depth x (entry-inside x (Some number) h) ∙ ap (λ n. Some n) w.deeper;
+  }
+    where
+      w : HasBranch bs x number
+      w = way-branch bs x number (taken-unwinds es bs new p.taken) (entry-way x (Some number) h)
+
+      at : CrossesAt plan shape vid w.branch.link w.branch.bridge w.branch.above
+      at = crosses-at plan shape vid es p.edges w.branch.link w.branch.bridge w.branch.above
+          (branch-met es bs new p.taken w.branch w.there)
+
+-- which bridges have a link as way up
+module _ {plan : Plan} {shape : Shape} {vid : ℕ} {es : List (Option Ends)} {bs : List Branch}
+    {new : List (Option Ends)} {rooted : Rooted} (p : IsPeeled plan shape vid es bs new rooted) where
+  -- a branch's link is the way up of its bridge alone
+  branch-child : (c : Branch) → IsBranch bs c → HasOneChild rooted (suc c.link)
+  branch-child c i = record {
+    child = suc c.bridge;
+    up = p.by.up c.bridge (p.within c.link c.bridge c.above (branch-met es bs new p.taken c i))
+        ∙ ap (λ (o : Option ℕ). Some o)
+        (branch-way bs c (taken-unwinds es bs new p.taken) i ∙ ap (λ n. Some n) (add-one c.link));
+    only = λ other g.
+        let place = numbered-place rooted.up other (Some (suc c.link)) g in
+        let w = way-branch bs place.0 (suc c.link) (taken-unwinds es bs new p.taken)
+        (entry-way p place.0 (Some (suc c.link)) place.2) in
+        let l = w.link in
+        let same : w.branch ≡ c = branch-once bs w.branch c (taken-unwinds es bs new p.taken) w.there i
+        (omega (arith, l)) in
+        place.1 ∙ ap (λ n. suc n) (sym w.bridge ∙ ap (λ (d : Branch). d.bridge) same);
+  }
+
+  -- each active link is that of a branch
+  link-child : (k : ℕ) (link : LinkPlan) → slice_get plan.links k ≡ Some link → is_active plan shape vid link ≡ true
+      → HasOneChild rooted (suc k)
+  link-child k link h a = by_edge (edges-at plan shape vid plan.links es k link p.edges h)
+    where
+      by_edge : (e : Option Ends) × (slice_get es k ≡ Some e) × IsEdge plan shape vid link e
+          → HasOneChild rooted (suc k)
+      by_edge (None, at, is) = absurd cc
+      by_edge (Some ends, at, is) = elim (taken-covers es bs new k ends p.taken at) [
+        | inl left_there ↦ absurd (none-left new k ends p.none left_there)
+        | inr w ↦ subst (λ n. HasOneChild rooted (suc n)) w.2 (branch-child w.0 w.1)
+      ]
+
 -- parents and depths by the branches
 pub shows-taken : (plan : Plan) (shape : Shape) (vid : ℕ) (es : List (Option Ends)) (bs : List Branch)
     (new : List (Option Ends)) (rooted : Rooted) → AreEdges plan shape vid plan.links es
     → AreWithin (length plan.bridges) es
     → AreTakenOff es bs new → list_any is_some new ≡ false → IsRootedBy (length plan.bridges) bs rooted
     → Shows plan shape vid rooted
-shows-taken plan shape vid es bs new rooted edges within taken none by = record {
-  parents = by.ups;
-  depths = by.depths;
-  ways_up = λ bridge number h. let place = numbered-place rooted.up bridge (Some number) h in subst
-      (λ b. LeadsUp plan shape vid rooted b number) (sym place.1) (leads place.0 number place.2);
-  roots = λ bridge h. let place = numbered-place rooted.up bridge None h in ap (numbered rooted.depth) place.1
-      ∙ root place.0 place.2;
-  children = λ number link h a.
-      let place = numbered-place plan.links number link h in
-      subst (HasOneChild rooted) (sym place.1) (child place.0 link place.2 a);
-}
-  where
-    unwinds : Unwinds bs
-    unwinds = taken-unwinds es bs new taken
-
-    inside : (x : ℕ) (up : Option ℕ) → slice_get rooted.up x ≡ Some up → x < length plan.bridges
-    inside x up h = let w = slice_get_within rooted.up x up h in let l = by.ups in omega (arith, w, l)
-
-    way_of : (x : ℕ) (up : Option ℕ) → slice_get rooted.up x ≡ Some up → way_up bs x ≡ up
-    way_of x up h = Some-injective (sym (by.up x (inside x up h)) ∙ h)
-
-    leads : (x number : ℕ) → slice_get rooted.up x ≡ Some (Some number) → LeadsUp plan shape vid rooted (suc x) number
-    leads x number h = record {
-      near = at.near;
-      far = at.far;
-      crosses = subst (λ n. Crosses plan shape vid n at.near at.far) (sym (add-one w.branch.link) ∙ w.link) at.crosses;
-      from = at.from ∙ ap (λ n. suc n) w.bridge;
-      depth = depth_below bs w.branch.above;
-      depth_above = ap (numbered rooted.depth) at.to
-          ∙ by.depth w.branch.above
-          (within w.branch.link w.branch.above w.branch.bridge
-          (meets-back es w.branch.link w.branch.bridge w.branch.above met));
-      depth_here = by.depth x (inside x (Some number) h) ∙ ap (λ n. Some n) w.deeper;
+shows-taken plan shape vid es bs new rooted edges within taken none by =
+    let p : IsPeeled plan shape vid es bs new rooted =
+    record { edges = edges; within = within; taken = taken; none = none; by = by } in
+    record {
+      parents = by.ups;
+      depths = by.depths;
+      ways_up = λ bridge number h.
+          let place = numbered-place rooted.up bridge (Some number) h in
+          subst (λ b. LeadsUp plan shape vid rooted b number) (sym place.1) (entry-leads p place.0 number place.2);
+      roots = λ bridge h.
+          let place = numbered-place rooted.up bridge None h in
+          ap (numbered rooted.depth) place.1 ∙ by.depth place.0 (entry-inside p place.0 None place.2)
+          ∙ ap (λ n. Some n) (root-depth bs place.0 (entry-way p place.0 None place.2));
+      children = λ number link h a.
+          let place = numbered-place plan.links number link h in
+          subst (HasOneChild rooted) (sym place.1) (link-child p place.0 link place.2 a);
     }
-      where
-        w : HasBranch bs x number
-        w = way-branch bs x number unwinds (way_of x (Some number) h)
-
-        met : Meets es w.branch.link w.branch.bridge w.branch.above
-        met = All-at (λ c. Meets es c.link c.bridge c.above) bs w.there.place w.branch w.there.there
-            (taken-met es bs new taken)
-
-        at : CrossesAt plan shape vid w.branch.link w.branch.bridge w.branch.above
-        at = crosses-at plan shape vid es edges w.branch.link w.branch.bridge w.branch.above met
-
-    root : (x : ℕ) → slice_get rooted.up x ≡ Some None → numbered rooted.depth (suc x) ≡ Some 0
-    root x h = by.depth x (inside x None h) ∙ ap (λ n. Some n) (root-depth bs x (way_of x None h))
-
-    child : (k : ℕ) (link : LinkPlan) → slice_get plan.links k ≡ Some link → is_active plan shape vid link ≡ true
-        → HasOneChild rooted (suc k)
-    child k link h a = with_edge (edges-at plan shape vid plan.links es k link edges h)
-      where
-        with_branch : (c : Branch) → IsBranch bs c → c.link ≡ k → HasOneChild rooted (suc k)
-        with_branch c i e = record {
-          child = suc c.bridge;
-          up = up_there;
-          only = λ other g. only other g;
-        }
-          where
-            met : Meets es c.link c.bridge c.above
-            met = All-at (λ d. Meets es d.link d.bridge d.above) bs i.place c i.there (taken-met es bs new taken)
-
-            up_there : slice_get rooted.up c.bridge ≡ Some (Some (suc k))
-            up_there = by.up c.bridge (within c.link c.bridge c.above met)
-                ∙ ap (λ (o : Option ℕ). Some o)
-                (branch-way bs c unwinds i ∙ ap (λ n. Some n) (add-one c.link ∙ ap (λ n. suc n) e))
-
-            only : (other : ℕ) → numbered rooted.up other ≡ Some (Some (suc k)) → other ≡ suc c.bridge
-            only other g =
-                let place = numbered-place rooted.up other (Some (suc k)) g in
-                let w = way-branch bs place.0 (suc k) unwinds (way_of place.0 (Some (suc k)) place.2) in
-                let l = w.link in
-                let same : w.branch ≡ c = branch-once bs w.branch c unwinds w.there i (omega (arith, l, e)) in
-                place.1 ∙ ap (λ n. suc n) (sym w.bridge ∙ ap (λ (d : Branch). d.bridge) same)
-
-        with_edge : (e : Option Ends) × (slice_get es k ≡ Some e) × IsEdge plan shape vid link e
-            → HasOneChild rooted (suc k)
-        with_edge (None, at, is) = absurd cc
-        with_edge (Some ends, at, is) = covered (taken-covers es bs new k ends taken at)
-          where
-            covered : (slice_get new k ≡ Some (Some ends)) ⊎ ((c : Branch) × IsBranch bs c × (c.link ≡ k))
-                → HasOneChild rooted (suc k)
-            covered (inl left_there) = absurd (none-left new k ends none left_there)
-            covered (inr w) = with_branch w.0 w.1 w.2

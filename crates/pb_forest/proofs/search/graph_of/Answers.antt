@@ -1,11 +1,13 @@
-use Rattle.std.proofs.Common.{None, Some, length, take, sym, ◌∙◌, ap, subst, arith}
+use Rattle.std.proofs.Common.{None, Some, length, take, sym, ◌∙◌, ap, subst, arith, ◌<◌}
 use Rattle.std.proofs.lemmas.List.{length-take-le, take_all}
 use Rattle.pb_forest.proofs.EdgeLemmas.{edges-length, edges-more, ends-there}
 use Rattle.pb_forest.specs.Searching.{AreEdges}
+use Rattle.pb_forest.proofs.search.graph_of.Goals.{After-link-item}
 use Rattle.pb_forest.proofs.search.graph_of.Goals as goal
 
-pub push-requires-clause-room : goal.push-requires-clause-room
-push-requires-clause-room c =
+-- there is room for one link more
+room : (c : After-link-item) → length c.loop-link.graph.links.items < 255
+room c =
     let items = c.as_slice-link-items.result.now in
     let less = c.loop-link-test.true in
     let n = edges-length c.args.plan.now c.args.shape.now c.args.vid (take c.loop-link.link-index items)
@@ -15,16 +17,11 @@ push-requires-clause-room c =
     let few = c.requires in
     omega (arith, n, t, e, few, less)
 
+pub push-requires-clause-room : goal.push-requires-clause-room
+push-requires-clause-room c = room (goal.at.push-requires-clause-room c).After-link-item
+
 pub push-requires-in-loop-link-clause-room : goal.push-requires-in-loop-link-clause-room
-push-requires-in-loop-link-clause-room c =
-    let items = c.as_slice-link-items.result.now in
-    let less = c.loop-link-test.true in
-    let n = edges-length c.args.plan.now c.args.shape.now c.args.vid (take c.loop-link.link-index items)
-    c.loop-link.graph.links.items c.loop-link.invariant.edges in
-    let t = length-take-le c.loop-link.link-index items (omega (arith, less)) in
-    let e = ap length c.as_slice-link-items.ensures in
-    let few = c.requires in
-    omega (arith, n, t, e, few, less)
+push-requires-in-loop-link-clause-room c = room (goal.at.push-requires-in-loop-link-clause-room c).After-link-item
 
 pub loop-link-preserved-then-not-is_active : goal.loop-link-preserved-then-not-is_active
 loop-link-preserved-then-not-is_active c =
