@@ -1,5 +1,7 @@
 -- What is read of a frame, against the relation of frames and BPDUs.
-use Rattle.std.proofs.Common.{◌≡◌, ℕ, ◌<◌, ◌≤◌, ◌+◌, ◌*◌, ◌/◌, ◌%◌, List, [], ◌∷◌, ◌++◌, refl, sym, ap, ◌∙◌, length, take, drop, slice_index, arith, Bool, true, false, Some, None, nat_lt, ◌==◌, ◌&&◌, ◌||◌, not, append_assoc, Ok, Err, length-drop, ap₂, subst, IfOk, IfErr, OnOk, is_ok, is_none}
+use Rattle.std.proofs.Common.{◌≡◌, ℕ, ◌<◌, ◌≤◌, ◌+◌, ◌*◌, ◌/◌, ◌%◌, List, [], ◌∷◌, ◌++◌, refl, sym, ap, ◌∙◌, length}
+use Rattle.std.proofs.Common.{take, drop, slice_index, arith, Bool, true, false, Some, None, nat_lt, ◌==◌, ◌&&◌, ◌||◌}
+use Rattle.std.proofs.Common.{not, append_assoc, Ok, Err, length-drop, ap₂, subst, IfOk, IfErr, OnOk, is_ok, is_none}
 use Rattle.std.specs.declared.result.Result.{Result}
 use Rattle.std.specs.declared.option.Option.{Option}
 use Rattle.pb_frame.specs.Admission.{provider_address}
@@ -9,11 +11,13 @@ use Rattle.byteorder.specs.Endian.{big_bytes}
 use Rattle.byteorder.specs.Numbers.{big_number-reads_back}
 use Rattle.pb_frame.specs.Frames.{AreOctets, kind_of}
 use Rattle.pb_bpdu.specs.Layout.{bit, flags, numbers, body, Fits, IsBpduFrame, written}
-use Rattle.pb_bpdu.specs.Reading.{number_at, has_llc, has_no_llc, has_fewer, first_of_cases, first_fault, flags_at, fields_of, is_readable, reading, reading_by}
+use Rattle.pb_bpdu.specs.Reading.{number_at, has_llc, has_no_llc, has_fewer, first_of_cases, first_fault, flags_at}
+use Rattle.pb_bpdu.specs.Reading.{fields_of, is_readable, reading, reading_by}
 use Rattle.pb_bpdu.specs.declared.bpdu.Bpdu.{Bpdu}
 use Rattle.pb_bpdu.specs.declared.fault.BpduFault.{BpduFault}
 use Rattle.pb_bpdu.specs.declared.fault.BpduFault.TheVariants.{Llc, Short, Protocol, Kind, Old}
-use Rattle.pb_bpdu.proofs.Digits.{octet_at, cell_is, cell, part, part_length, number_8, number_4, number_2, number_fits, bit-odd, odd-bit, flags_back, flags_apart}
+use Rattle.pb_bpdu.proofs.Digits.{octet_at, cell_is, cell, part, part_length, number_8, number_4, number_2}
+use Rattle.pb_bpdu.proofs.Digits.{number_fits, bit-odd, odd-bit, flags_back, flags_apart}
 use Rattle.pb_bpdu.proofs.Equal.{bpdu_eq}
 
 -- Tests.
@@ -28,8 +32,10 @@ record NoneOf (a b c d e f : Bool) : Type 0 where
   sixth : f ≡ false
 
 none_of : (a b c d e f : Bool)
-    → first_of_cases ((a, Llc) ∷ (b, Short) ∷ (c, Protocol) ∷ (d, Kind) ∷ (e, Old) ∷ (f, Short) ∷ []) ≡ None → NoneOf a b c d e f
-none_of false false false false false false h = record { first = refl; second = refl; third = refl; fourth = refl; fifth = refl; sixth = refl }
+    → first_of_cases ((a, Llc) ∷ (b, Short) ∷ (c, Protocol) ∷ (d, Kind) ∷ (e, Old) ∷ (f, Short) ∷ []) ≡ None
+    → NoneOf a b c d e f
+none_of false false false false false false h =
+    record { first = refl; second = refl; third = refl; fourth = refl; fifth = refl; sixth = refl }
 none_of true b c d e f h = cc
 none_of false true c d e f h = cc
 none_of false false true d e f h = cc
@@ -64,9 +70,11 @@ record Sound (x : List ℕ) : Type 0 where
 
 -- the six tests
 tests : (x : List ℕ) → first_fault x ≡ None
-    → NoneOf (has_no_llc x) (has_fewer 4 x) (not (slice_index x 17 == 0 && slice_index x 18 == 0)) (not (slice_index x 20 == 2))
+    → NoneOf (has_no_llc x) (has_fewer 4 x) (not (slice_index x 17 == 0 && slice_index x 18 == 0))
+    (not (slice_index x 20 == 2))
     (nat_lt (slice_index x 19) 2) (has_fewer 36 x)
-tests x none = none_of (has_no_llc x) (has_fewer 4 x) (not (slice_index x 17 == 0 && slice_index x 18 == 0)) (not (slice_index x 20 == 2))
+tests x none = none_of (has_no_llc x) (has_fewer 4 x) (not (slice_index x 17 == 0 && slice_index x 18 == 0))
+    (not (slice_index x 20 == 2))
     (nat_lt (slice_index x 19) 2) (has_fewer 36 x) none
 
 -- the four parts of the first test
@@ -78,7 +86,8 @@ record HasLlc (x : List ℕ) : Type 0 where
 
 llc_parts : (x : List ℕ) → has_no_llc x ≡ false → HasLlc x
 llc_parts x e =
-    let o1 = or-false (nat_lt (length x) 17 || nat_lt (kind_of x) 3 || nat_lt (length x) (14 + kind_of x)) (not (has_llc x)) e in
+    let o1 = or-false (nat_lt (length x) 17 || nat_lt (kind_of x) 3 || nat_lt (length x) (14 + kind_of x))
+    (not (has_llc x)) e in
     let o2 = or-false (nat_lt (length x) 17 || nat_lt (kind_of x) 3) (nat_lt (length x) (14 + kind_of x)) o1.0 in
     let o3 = or-false (nat_lt (length x) 17) (nat_lt (kind_of x) 3) o2.0 in
     record { enough = o3.0; counts = o3.1; within = o2.1; llc = not-false (has_llc x) o1.1 }
@@ -89,11 +98,17 @@ sound x none =
     let h = llc_parts x t.first in
     let l1 = and-true (slice_index x 14 == 66 && slice_index x 15 == 66) (slice_index x 16 == 3) h.llc in
     let l2 = and-true (slice_index x 14 == 66) (slice_index x 15 == 66) l1.0 in
-    let p1 = and-true (slice_index x 17 == 0) (slice_index x 18 == 0) (not-false (slice_index x 17 == 0 && slice_index x 18 == 0) t.third) in
+    let p1 = and-true (slice_index x 17 == 0) (slice_index x 18 == 0)
+    (not-false (slice_index x 17 == 0 && slice_index x 18 == 0) t.third) in
     record {
       within = ltb-false (length x) (14 + kind_of x) h.within;
       long = ltb-false (kind_of x) 39 t.sixth;
-      llc = (eqb-true (slice_index x 14) 66 l2.0, eqb-true (slice_index x 15) 66 l2.1, eqb-true (slice_index x 16) 3 l1.1);
+      llc = (
+        eqb-true (slice_index x 14) 66 l2.0,
+        eqb-true (slice_index x 15) 66 l2.1,
+        eqb-true (slice_index x 16) 3
+            l1.1,
+      );
       protocol = (eqb-true (slice_index x 17) 0 p1.0, eqb-true (slice_index x 18) 0 p1.1);
       recent = ltb-false (slice_index x 19) 2 t.fifth;
       kind = eqb-true (slice_index x 20) 2 (not-false (slice_index x 20 == 2) t.fourth);
@@ -101,7 +116,8 @@ sound x none =
 
 -- the flags that are read are those that stand there
 flag_sum : (c c' p p' r l l' w w' a a' h : ℕ) → c ≡ c' → p ≡ p' → l ≡ l' → w ≡ w' → a ≡ a'
-    → c + 2 * p + 4 * r + 16 * l + 32 * w + 64 * a + 128 * h ≡ c' + 2 * p' + 4 * r + 16 * l' + 32 * w' + 64 * a' + 128 * h
+    → c + 2 * p + 4 * r + 16 * l + 32 * w + 64 * a + 128 * h ≡ c' + 2 * p' + 4 * r + 16 * l' + 32 * w' + 64 * a' + 128
+    * h
 flag_sum c c' p p' r l l' w w' a a' h ec ep el ew ea = omega arith
 
 read_flags : (x : List ℕ) → AreOctets x → slice_index x 21 ≡ flags (fields_of x) + 128 * (flags_at x / 128)
@@ -132,7 +148,8 @@ read_last x octets long =
 
 read_head : (x : List ℕ) → Sound x → AreOctets x → 53 ≤ length x
     → drop 12 x ≡ slice_index x 12 ∷ slice_index x 13 ∷ 66 ∷ 66 ∷ 3
-    ∷ (body (slice_index x 19) (flags (fields_of x) + 128 * (flags_at x / 128)) (fields_of x) (slice_index x 52) ++ drop 53 x)
+    ∷ (body (slice_index x 19) (flags (fields_of x) + 128 * (flags_at x / 128)) (fields_of x) (slice_index x 52)
+    ++ drop 53 x)
 read_head x s octets long =
     cell x 12 (omega arith)
     ∙ ap (λ r. slice_index x 12 ∷ r) (cell x 13 (omega arith)
@@ -177,7 +194,8 @@ found x octets none =
         hello = number_fits x 48 2 octets;
         delay = number_fits x 50 2 octets;
       };
-      spelled = sym (take-append-drop 6 x) ∙ ap (λ r. take 6 x ++ r) (part x 6 6 ∙ ap (λ r. take 6 (drop 6 x) ++ r) (read_head x s octets long));
+      spelled = sym (take-append-drop 6 x)
+          ∙ ap (λ r. take 6 x ++ r) (part x 6 6 ∙ ap (λ r. take 6 (drop 6 x) ++ r) (read_head x s octets long));
     }
 
 -- a list of six is its six items
@@ -224,7 +242,8 @@ record Tells (x : List ℕ) (high low version : ℕ) (m : Bpdu) (highest : ℕ) 
   delay : number_at 50 2 x ≡ m.delay
 
 tells : (a b c d e f a' b' c' d' e' f' high low version highest : ℕ) (m : Bpdu) (last : ℕ) (rest : List ℕ) → Fits m
-    → Tells (framed (a ∷ b ∷ c ∷ d ∷ e ∷ f ∷ []) (a' ∷ b' ∷ c' ∷ d' ∷ e' ∷ f' ∷ []) high low version highest m last rest) high low version m highest rest
+    → Tells (framed (a ∷ b ∷ c ∷ d ∷ e ∷ f ∷ []) (a' ∷ b' ∷ c' ∷ d' ∷ e' ∷ f' ∷ []) high low version highest m last
+    rest) high low version m highest rest
 tells a b c d e f a' b' c' d' e' f' high low version highest m last rest fits = record {
   size = omega arith;
   counts = refl;
@@ -251,18 +270,22 @@ no_llc_false : (a b c d : Bool) → a ≡ false → b ≡ false → c ≡ false 
 no_llc_false a b c d ea eb ec ed = rw (ea, eb, ec, ed) refl
 
 -- so no fault is found
-no_fault : (x : List ℕ) (high low version : ℕ) (m : Bpdu) (highest : ℕ) (rest : List ℕ) → Tells x high low version m highest rest
+no_fault : (x : List ℕ) (high low version : ℕ) (m : Bpdu) (highest : ℕ) (rest : List ℕ)
+    → Tells x high low version m highest rest
     → 39 ≤ high * 256 + low → high * 256 + low ≤ 39 + length rest → 2 ≤ version → first_fault x ≡ None
 no_fault x high low version m highest rest t enough within recent =
     let size = t.size in
     let counts = t.counts in
     let version_is = t.version_is in
     let kind = t.kind in
-    none_holds (has_no_llc x) (has_fewer 4 x) (not (slice_index x 17 == 0 && slice_index x 18 == 0)) (not (slice_index x 20 == 2))
+    none_holds (has_no_llc x) (has_fewer 4 x) (not (slice_index x 17 == 0 && slice_index x 18 == 0))
+    (not (slice_index x 20 == 2))
     (nat_lt (slice_index x 19) 2) (has_fewer 36 x)
     (record {
-      first = no_llc_false (nat_lt (length x) 17) (nat_lt (kind_of x) 3) (nat_lt (length x) (14 + kind_of x)) (has_llc x)
-          (le-ltb (length x) 17 (omega arith)) (le-ltb (kind_of x) 3 (omega arith)) (le-ltb (length x) (14 + kind_of x) (omega arith)) t.llc;
+      first = no_llc_false (nat_lt (length x) 17) (nat_lt (kind_of x) 3) (nat_lt (length x) (14 + kind_of x))
+          (has_llc x)
+          (le-ltb (length x) 17 (omega arith)) (le-ltb (kind_of x) 3 (omega arith))
+          (le-ltb (length x) (14 + kind_of x) (omega arith)) t.llc;
       second = le-ltb (kind_of x) 7 (omega arith);
       third = ap not t.zero_high;
       fourth = ap not (eq-eqb (slice_index x 20) 2 t.kind);
@@ -271,13 +294,17 @@ no_fault x high low version m highest rest t enough within recent =
     })
 
 -- and what is read is what it tells
-fields_told : (x : List ℕ) (high low version : ℕ) (m : Bpdu) (highest : ℕ) (rest : List ℕ) → Tells x high low version m highest rest
+fields_told : (x : List ℕ) (high low version : ℕ) (m : Bpdu) (highest : ℕ) (rest : List ℕ)
+    → Tells x high low version m highest rest
     → highest < 2 → fields_of x ≡ m
 fields_told x high low version m highest rest t one =
-    let apart = flags_apart (bit m.change) (bit m.proposal) m.role (bit m.learning) (bit m.forwarding) (bit m.agreement) highest
-    (bit-below m.change) (bit-below m.proposal) m.role_fits (bit-below m.learning) (bit-below m.forwarding) (bit-below m.agreement) one
+    let apart = flags_apart (bit m.change) (bit m.proposal) m.role (bit m.learning) (bit m.forwarding)
+    (bit m.agreement) highest
+    (bit-below m.change) (bit-below m.proposal) m.role_fits (bit-below m.learning) (bit-below m.forwarding)
+    (bit-below m.agreement) one
     (flags_at x) t.flags_are in
-    bpdu_eq (fields_of x) m (odd-bit (flags_at x) m.change apart.0) (odd-bit (flags_at x / 2) m.proposal apart.1) apart.2
+    bpdu_eq (fields_of x) m (odd-bit (flags_at x) m.change apart.0) (odd-bit (flags_at x / 2) m.proposal apart.1)
+    apart.2
     (odd-bit (flags_at x / 16) m.learning apart.3) (odd-bit (flags_at x / 32) m.forwarding apart.4)
     (odd-bit (flags_at x / 64) m.agreement apart.5)
     t.root t.cost t.bridge t.port t.age t.max_age t.hello t.delay
@@ -287,10 +314,12 @@ pub only : (x : List ℕ) (m : Bpdu) → IsBpduFrame x m → reading x ≡ Ok m
 only x m b =
     let dst = six b.dst b.dst_length in
     let src = six b.src b.src_length in
-    let spelled : x ≡ framed (dst.a ∷ dst.b ∷ dst.c ∷ dst.d ∷ dst.e ∷ dst.f ∷ []) (src.a ∷ src.b ∷ src.c ∷ src.d ∷ src.e ∷ src.f ∷ [])
+    let spelled : x ≡ framed (dst.a ∷ dst.b ∷ dst.c ∷ dst.d ∷ dst.e ∷ dst.f ∷ [])
+    (src.a ∷ src.b ∷ src.c ∷ src.d ∷ src.e ∷ src.f ∷ [])
     b.high b.low b.version b.highest m b.last b.rest =
     b.spelled ∙ ap₂ (λ d s. framed d s b.high b.low b.version b.highest m b.last b.rest) dst.is src.is in
-    let t = tells dst.a dst.b dst.c dst.d dst.e dst.f src.a src.b src.c src.d src.e src.f b.high b.low b.version b.highest m b.last b.rest b.fits in
+    let t = tells dst.a dst.b dst.c dst.d dst.e dst.f src.a src.b src.c src.d src.e src.f b.high b.low b.version
+    b.highest m b.last b.rest b.fits in
     ap reading spelled
     ∙ ap₂ reading_by
     (no_fault _ b.high b.low b.version m b.highest b.rest t b.long_enough b.within b.recent)
@@ -339,7 +368,8 @@ fault_is_first x f e = by_fault (first_fault x) (fields_of x) f e
 pub read_stands : (x : List ℕ) (m : Bpdu) → AreOctets x → reading x ≡ Ok m → IsBpduFrame x m
 read_stands x m octets e = by_fault (first_fault x) refl e
   where
-    by_fault : (fault : Option BpduFault) → first_fault x ≡ fault → reading_by fault (fields_of x) ≡ Ok m → IsBpduFrame x m
+    by_fault : (fault : Option BpduFault) → first_fault x ≡ fault → reading_by fault (fields_of x) ≡ Ok m
+        → IsBpduFrame x m
     by_fault None none e = let P : Bpdu → Type 0 = λ n. IsBpduFrame x n in subst P (cc) (found x octets none)
     by_fault (Some g) some e = cc
 
@@ -351,9 +381,11 @@ pub read_fault : (x : List ℕ) (r : Result Bpdu BpduFault) → r ≡ reading x 
 read_fault x (Ok m) e = tt
 read_fault x (Err f) e = fault_is_first x f (sym e)
 
-pub stands : {E : Type 0} (src : List ℕ) (m : Bpdu) (r : Result (List ℕ) E) → length src ≡ 6 → OnOk r (Fits m) → IfOk r (λ x. x ≡ written src m)
+pub stands : {E : Type 0} (src : List ℕ) (m : Bpdu) (r : Result (List ℕ) E) → length src ≡ 6 → OnOk r (Fits m)
+    → IfOk r (λ x. x ≡ written src m)
     → IfOk r (λ x. IsBpduFrame x m)
-stands src m (Ok x) l fits e = let P : List ℕ → Type 0 = λ z. IsBpduFrame z m in subst P (sym e) (written_frame src m l fits)
+stands src m (Ok x) l fits e = let P : List ℕ
+    → Type 0 = λ z. IsBpduFrame z m in subst P (sym e) (written_frame src m l fits)
 stands src m (Err e) l fits h = tt
 
 -- the test says what is read

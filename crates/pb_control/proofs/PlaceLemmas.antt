@@ -1,5 +1,6 @@
 -- What stands at a bridge's port, by links and by their ends.
-use Rattle.std.proofs.Common.{◌≡◌, ◌||◌, ℕ, Bool, true, false, List, [], ◌∷◌, Option, Some, None, is_some, cond, flat_map, Bor, refl, ap, ◌∙◌}
+use Rattle.std.proofs.Common.{◌≡◌, ◌||◌, ℕ, Bool, true, false, List, [], ◌∷◌, Option, Some, None, is_some, cond}
+use Rattle.std.proofs.Common.{flat_map, Bor, refl, ap, ◌∙◌}
 use Rattle.std.specs.Option.{option_copied}
 use Rattle.pb_frame.specs.Lists.{first}
 use Rattle.pb_lan.specs.Ports.{port_at, customer_or_else, is_end_at, ends_of, provider_or_unused, is_provider}

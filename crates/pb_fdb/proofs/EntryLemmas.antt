@@ -1,5 +1,6 @@
 -- Lists of entries, and the sightings that they tell.
-use Rattle.std.proofs.Common.{◌==◌, ◌&&◌, eq-eqb, nat_le, ◌≡◌, ℕ, suc, ◌<◌, ◌≤◌, Bool, true, false, cond, not, List, [], ◌∷◌, ◌++◌, length, refl, sym, ap, ◌∙◌, arith}
+use Rattle.std.proofs.Common.{◌==◌, ◌&&◌, eq-eqb, nat_le, ◌≡◌, ℕ, suc, ◌<◌, ◌≤◌, Bool, true, false, cond, not, List}
+use Rattle.std.proofs.Common.{[], ◌∷◌, ◌++◌, length, refl, sym, ap, ◌∙◌, arith}
 use Rattle.std.proofs.lemmas.List.{length-map, map-append}
 use Rattle.std.proofs.lemmas.Bool.{eqb-true}
 use Rattle.std.specs.List.{filter}
@@ -13,16 +14,21 @@ use Rattle.pb_fdb.specs.Tables.{with_room}
 -- what passes a test is no longer
 pub filter-shorter : {X : Type 0} (p : X → Bool) (xs : List X) → length (filter p xs) ≤ length xs
 filter-shorter p [] = omega arith
-filter-shorter p (x ∷ xs) = elim (p x) as (λ b. length (cond b (x ∷ filter p xs) (filter p xs)) ≤ suc (length xs)) [ true ↦ omega (arith, filter-shorter p xs) | false ↦ omega (arith, filter-shorter p xs) ]
+filter-shorter p (x ∷ xs) = elim (p x) as (λ b. length (cond b (x ∷ filter p xs) (filter p xs)) ≤ suc (length xs))
+    [ true ↦ omega (arith, filter-shorter p xs) | false ↦ omega (arith, filter-shorter p xs) ]
 
 -- a test of sightings is a test of entries
-pub filter-map : (p : Sighting → Bool) (es : List Entry) → filter p (sightings es) ≡ sightings (filter (λ e. p (sighting_of e)) es)
+pub filter-map : (p : Sighting → Bool) (es : List Entry)
+    → filter p (sightings es) ≡ sightings (filter (λ e. p (sighting_of e)) es)
 filter-map p [] = refl
-filter-map p (e ∷ es) = elim (p (sighting_of e)) as (λ b. cond b (sighting_of e ∷ filter p (sightings es)) (filter p (sightings es)) ≡ sightings (cond b (e ∷ filter (λ e. p (sighting_of e)) es) (filter (λ e. p (sighting_of e)) es)))
+filter-map p (e ∷ es) = elim (p (sighting_of e)) as
+    (λ b. cond b (sighting_of e ∷ filter p (sightings es)) (filter p (sightings es)) ≡ sightings
+    (cond b (e ∷ filter (λ e. p (sighting_of e)) es) (filter (λ e. p (sighting_of e)) es)))
     [ true ↦ ap (λ zs. sighting_of e ∷ zs) (filter-map p es) | false ↦ filter-map p es ]
 
 -- so it leaves as many
-pub filter-map-length : (p : Sighting → Bool) (es : List Entry) → length (filter p (sightings es)) ≡ length (filter (λ e. p (sighting_of e)) es)
+pub filter-map-length : (p : Sighting → Bool) (es : List Entry)
+    → length (filter p (sightings es)) ≡ length (filter (λ e. p (sighting_of e)) es)
 filter-map-length p es = ap length (filter-map p es) ∙ length-map (filter (λ e. p (sighting_of e)) es) sighting_of
 
 -- equality of numbers goes both ways
@@ -45,7 +51,8 @@ same-symm (x ∷ xs) (y ∷ ys) = ap (λ t. t && same xs ys) (eqb-symm x y) ∙ 
 
 -- a sighting is overridden by those of its own station
 pub overrides-is_sighted : (s t : Sighting) → overrides t (Seen s) ≡ is_sighted s.vid s.mac t
-overrides-is_sighted s t = ap (λ b. b && same s.mac t.mac) (eqb-symm s.vid t.vid) ∙ ap (λ b. (t.vid == s.vid) && b) (same-symm s.mac t.mac)
+overrides-is_sighted s t = ap (λ b. b && same s.mac t.mac) (eqb-symm s.vid t.vid)
+    ∙ ap (λ b. (t.vid == s.vid) && b) (same-symm s.mac t.mac)
 
 -- what passes a test fits where the list fits
 pub filter_fits : {X : Type 0} (p : X → Bool) (xs : List X) (n : ℕ) → length xs < n → length (filter p xs) < n
@@ -53,7 +60,8 @@ filter_fits p xs n h = omega (arith, filter-shorter p xs)
 
 -- what the entries tell, once one goes last in place of those of its station
 pub sightings-anew : (s : Sighting) (es fs : List Entry) (e : Entry) → sighting_of e ≡ s
-    → fs ≡ filter (λ f. not (overrides (sighting_of f) (Seen s))) es ++ e ∷ [] → sightings fs ≡ after (sightings es) (Seen s)
+    → fs ≡ filter (λ f. not (overrides (sighting_of f) (Seen s))) es ++ e ∷ []
+    → sightings fs ≡ after (sightings es) (Seen s)
 sightings-anew s es fs e i h =
     ap sightings h
     ∙ map-append sighting_of (filter (λ f. not (overrides (sighting_of f) (Seen s))) es) (e ∷ [])
@@ -62,9 +70,12 @@ sightings-anew s es fs e i h =
 
 -- the entries that stay where room is made
 pub with_room-table_of : (limit ageing clock now : ℕ) (es : List Entry)
-    → with_room (table_of limit ageing clock es) now ≡ sightings (cond (nat_le limit (length es)) (filter (λ e. is_fresh ageing now (sighting_of e)) es) es)
+    → with_room (table_of limit ageing clock es) now ≡ sightings
+    (cond (nat_le limit (length es)) (filter (λ e. is_fresh ageing now (sighting_of e)) es) es)
 with_room-table_of limit ageing clock now es =
-    ap (λ n. cond (nat_le limit n) (filter (is_fresh ageing now) (sightings es)) (sightings es)) (length-map es sighting_of)
+    ap (λ n. cond (nat_le limit n) (filter (is_fresh ageing now) (sightings es)) (sightings es))
+    (length-map es sighting_of)
     ∙ elim (nat_le limit (length es))
-    as (λ b. cond b (filter (is_fresh ageing now) (sightings es)) (sightings es) ≡ sightings (cond b (filter (λ e. is_fresh ageing now (sighting_of e)) es) es))
+    as (λ b. cond b (filter (is_fresh ageing now) (sightings es)) (sightings es) ≡ sightings
+    (cond b (filter (λ e. is_fresh ageing now (sighting_of e)) es) es))
     [ true ↦ filter-map (is_fresh ageing now) es | false ↦ refl ]

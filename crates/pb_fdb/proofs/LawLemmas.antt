@@ -1,5 +1,6 @@
 -- What a table keeps and is live is what stands, by all the news.
-use Rattle.std.proofs.Common.{◌≡◌, ℕ, ◌-◌, ◌<◌, ◌≤◌, Bool, true, false, cond, nat_lt, nat_le, not, ◌&&◌, List, [], ◌∷◌, ◌++◌, length, refl, sym, ap, ◌∙◌, append_assoc, append-nil, arith}
+use Rattle.std.proofs.Common.{◌≡◌, ℕ, ◌-◌, ◌<◌, ◌≤◌, Bool, true, false, cond, nat_lt, nat_le, not, ◌&&◌, List, []}
+use Rattle.std.proofs.Common.{◌∷◌, ◌++◌, length, refl, sym, ap, ◌∙◌, append_assoc, append-nil, arith}
 use Rattle.std.proofs.lemmas.Bool.Decides.{nat_tests}
 use Rattle.std.specs.List.{filter}
 use Rattle.pb_frame.proofs.Lists.{filter-append, filter-twice}
@@ -25,28 +26,34 @@ and-twice false true = refl
 and-twice false false = refl
 
 -- what passes a test after news is told by what passes it before
-passed-after : (p : Sighting → Bool) (table : List Sighting) (n : News) → filter p (after table n) ≡ filter p (after (filter p table) n)
+passed-after : (p : Sighting → Bool) (table : List Sighting) (n : News)
+    → filter p (after table n) ≡ filter p (after (filter p table) n)
 passed-after p table n =
     elim n as (λ n. filter p (after table n) ≡ filter p (after (filter p table) n)) [
       | Seen s ↦ filter-append p (filter (λ t. not (overrides t (Seen s))) table) (s ∷ [])
-          ∙ ap (λ zs. zs ++ filter p (s ∷ [])) (kept (Seen s)) ∙ sym (filter-append p (filter (λ t. not (overrides t (Seen s))) (filter p table)) (s ∷ []))
+          ∙ ap (λ zs. zs ++ filter p (s ∷ [])) (kept (Seen s))
+          ∙ sym (filter-append p (filter (λ t. not (overrides t (Seen s))) (filter p table)) (s ∷ []))
       | Flushed port ↦ kept (Flushed port)
     ]
   where
-    kept : (n : News) → filter p (filter (λ t. not (overrides t n)) table) ≡ filter p (filter (λ t. not (overrides t n)) (filter p table))
+    kept : (n : News) → filter p (filter (λ t. not (overrides t n)) table) ≡ filter p
+        (filter (λ t. not (overrides t n)) (filter p table))
     kept n =
         filter-twice p (λ t. not (overrides t n)) (λ t. not (overrides t n) && p t) (λ t. refl) table
-        ∙ sym (filter-twice (λ t. not (overrides t n) && p t) p (λ t. not (overrides t n) && p t) (λ t. and-twice (p t) (not (overrides t n))) table)
+        ∙ sym (filter-twice (λ t. not (overrides t n) && p t) p (λ t. not (overrides t n) && p t)
+        (λ t. and-twice (p t) (not (overrides t n))) table)
         ∙ sym (filter-twice p (λ t. not (overrides t n)) (λ t. not (overrides t n) && p t) (λ t. refl) (filter p table))
 
 -- one more piece of news
-after_all-more : (table : List Sighting) (news : List News) (n : News) → after_all table (news ++ n ∷ []) ≡ after (after_all table news) n
+after_all-more : (table : List Sighting) (news : List News) (n : News)
+    → after_all table (news ++ n ∷ []) ≡ after (after_all table news) n
 after_all-more table [] n = refl
 after_all-more table (m ∷ news) n = after_all-more (after table m) news n
 
 -- sightings that tell what stands do so after one more piece of news
 pub stands-more : (ageing now : ℕ) (table : List Sighting) (news : List News) (n : News)
-    → filter (is_fresh ageing now) table ≡ standing ageing now news → filter (is_fresh ageing now) (after table n) ≡ standing ageing now (news ++ n ∷ [])
+    → filter (is_fresh ageing now) table ≡ standing ageing now news
+    → filter (is_fresh ageing now) (after table n) ≡ standing ageing now (news ++ n ∷ [])
 stands-more ageing now table news n h =
     passed-after (is_fresh ageing now) table n
     ∙ ap (λ zs. filter (is_fresh ageing now) (after zs n)) (h ∙ sym (table_tells_what_stands ageing now news))
@@ -55,9 +62,11 @@ stands-more ageing now table news n h =
     ∙ table_tells_what_stands ageing now (news ++ n ∷ [])
 
 -- what is fresh later is fresh now
-fresh_before : (ageing now later moment : ℕ) → now ≤ later → (nat_lt (now - moment) ageing && nat_lt (later - moment) ageing) ≡ nat_lt (later - moment) ageing
+fresh_before : (ageing now later moment : ℕ) → now ≤ later
+    → (nat_lt (now - moment) ageing && nat_lt (later - moment) ageing) ≡ nat_lt (later - moment) ageing
 fresh_before ageing now later moment h =
-    elim (nat_lt (later - moment) ageing) as (λ b. nat_lt (later - moment) ageing ≡ b → (nat_lt (now - moment) ageing && b) ≡ b) [
+    elim (nat_lt (later - moment) ageing) as
+    (λ b. nat_lt (later - moment) ageing ≡ b → (nat_lt (now - moment) ageing && b) ≡ b) [
       | true ↦ λ e. let l : now - moment < ageing = less e in grind (arith, nat_tests)
       | false ↦ λ e. and-swap (nat_lt (now - moment) ageing) false
     ] refl
@@ -66,34 +75,48 @@ fresh_before ageing now later moment h =
     less e = let l : later - moment < ageing = grind (arith, nat_tests) in omega arith
 
 -- so nothing live later is dropped now
-pub live-dropped : (ageing now later : ℕ) (table : List Sighting) → now ≤ later → filter (is_fresh ageing later) (filter (is_fresh ageing now) table) ≡ filter (is_fresh ageing later) table
-live-dropped ageing now later table h = filter-twice (is_fresh ageing later) (is_fresh ageing now) (is_fresh ageing later) (λ s. fresh_before ageing now later s.moment h) table
+pub live-dropped : (ageing now later : ℕ) (table : List Sighting) → now ≤ later
+    → filter (is_fresh ageing later) (filter (is_fresh ageing now) table) ≡ filter (is_fresh ageing later) table
+live-dropped ageing now later table h = filter-twice (is_fresh ageing later) (is_fresh ageing now)
+    (is_fresh ageing later) (λ s. fresh_before ageing now later s.moment h) table
 
 -- nor where room is made
-pub live-with_room : (table : Table) (now later : ℕ) → now ≤ later → filter (is_fresh table.ageing later) (with_room table now) ≡ live table later
+pub live-with_room : (table : Table) (now later : ℕ) → now ≤ later
+    → filter (is_fresh table.ageing later) (with_room table now) ≡ live table later
 live-with_room table now later h =
-    elim (nat_le table.limit (length table.sightings)) as (λ b. filter (is_fresh table.ageing later) (cond b (live table now) table.sightings) ≡ live table later)
+    elim (nat_le table.limit (length table.sightings)) as
+    (λ b. filter (is_fresh table.ageing later) (cond b (live table now) table.sightings) ≡ live table later)
     [ true ↦ live-dropped table.ageing now later table.sightings h | false ↦ refl ]
 
 -- a table that tells what stands does so after a deed
-pub done-tells : (table : Table) (news : List News) (d : Deed) → IsInTime table d → TellsWhatStands table news → TellsWhatStands (done table d) (news ++ news_of d)
-done-tells table news (Flushes port) t h now l = stands-more table.ageing now table.sightings news (Flushed port) (h now l)
+pub done-tells : (table : Table) (news : List News) (d : Deed) → IsInTime table d → TellsWhatStands table news
+    → TellsWhatStands (done table d) (news ++ news_of d)
+done-tells table news (Flushes port) t h now l = stands-more table.ageing now table.sightings news (Flushed port)
+    (h now l)
 done-tells table news (Expires moment) t h now l =
-    live-dropped table.ageing moment now table.sightings l ∙ h now (omega arith) ∙ ap (standing table.ageing now) (sym (append-nil news))
+    live-dropped table.ageing moment now table.sightings l ∙ h now (omega arith)
+    ∙ ap (standing table.ageing now) (sym (append-nil news))
 done-tells table news (Learns s New) t h now l =
-    stands-more table.ageing now (with_room table s.moment) news (Seen s) (live-with_room table s.moment now l ∙ h now (omega arith))
-done-tells table news (Learns s Kept) t h now l = stands-more table.ageing now table.sightings news (Seen s) (h now (omega arith))
-done-tells table news (Learns s Moved) t h now l = stands-more table.ageing now table.sightings news (Seen s) (h now (omega arith))
-done-tells table news (Learns s Full) t h now l = h now (omega arith) ∙ ap (standing table.ageing now) (sym (append-nil news))
-done-tells table news (Learns s Group) t h now l = h now (omega arith) ∙ ap (standing table.ageing now) (sym (append-nil news))
-done-tells table news (Learns s Memory) t h now l = h now (omega arith) ∙ ap (standing table.ageing now) (sym (append-nil news))
+    stands-more table.ageing now (with_room table s.moment) news (Seen s)
+    (live-with_room table s.moment now l ∙ h now (omega arith))
+done-tells table news (Learns s Kept) t h now l = stands-more table.ageing now table.sightings news (Seen s)
+    (h now (omega arith))
+done-tells table news (Learns s Moved) t h now l = stands-more table.ageing now table.sightings news (Seen s)
+    (h now (omega arith))
+done-tells table news (Learns s Full) t h now l = h now (omega arith)
+    ∙ ap (standing table.ageing now) (sym (append-nil news))
+done-tells table news (Learns s Group) t h now l = h now (omega arith)
+    ∙ ap (standing table.ageing now) (sym (append-nil news))
+done-tells table news (Learns s Memory) t h now l = h now (omega arith)
+    ∙ ap (standing table.ageing now) (sym (append-nil news))
 
 -- and after any number of them
 from-table : (table : Table) (earlier : List News) (deeds : List Deed) (last : Table) (news : List News)
     → TellsWhatStands table earlier → Leads table deeds last news → TellsWhatStands last (earlier ++ news)
 from-table table earlier [] last news h l = rw (l.0, l.1, append-nil) h
 from-table table earlier (d ∷ deeds) last news h l =
-    rw (l.1.2) (rw (← append_assoc earlier (news_of d) l.1.0) (from-table (done table d) (earlier ++ news_of d) deeds last l.1.0 (done-tells table earlier d l.0 h) l.1.1))
+    rw (l.1.2) (rw (← append_assoc earlier (news_of d) l.1.0)
+    (from-table (done table d) (earlier ++ news_of d) deeds last l.1.0 (done-tells table earlier d l.0 h) l.1.1))
 
 -- from the empty one
 pub tables_tell_what_stands : TablesTellWhatStands

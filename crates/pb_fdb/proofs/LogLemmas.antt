@@ -1,9 +1,11 @@
--- The entries of a log, as its index and its places change.
-use Rattle.std.proofs.Common.{◌≡◌, ℕ, zero, suc, ◌+◌, ◌-◌, ◌^◌, ◌<◌, ◌≤◌, ◌%◌, ◌==◌, Bool, true, false, cond, not, is_some, nat_eq, Some, None, List, [], ◌∷◌, ◌++◌, length, drop, slice_get, refl, sym, ap, ◌∙◌, subst, arith, append-nil, append_assoc, length-append}
+-- The entries of a log, as its index changes.
+use Rattle.std.proofs.Common.{◌≡◌, ℕ, zero, suc, ◌+◌, ◌-◌, ◌^◌, ◌<◌, ◌≤◌, ◌%◌, ◌==◌, Bool, true, false, cond, not}
+use Rattle.std.proofs.Common.{is_some, Some, None, List, [], ◌∷◌, ◌++◌, length, drop, slice_get, refl, sym, ap, ◌∙◌}
+use Rattle.std.proofs.Common.{subst, arith, append-nil, append_assoc, length-append}
 use Rattle.std.proofs.lemmas.Bool.{eqb-true}
 use Rattle.std.specs.declared.option.Option.{Option}
 use Rattle.std.specs.List.{filter}
-use Rattle.std.specs.Option.{option_map, option_to_list, option_eq}
+use Rattle.std.specs.Option.{option_map, option_to_list}
 use Rattle.pb_frame.proofs.Lists.{Some-injective, false-unless, eqb-refl, filter-append, filter-twice}
 use Rattle.pb_frame.specs.Stations.{is_sighted}
 use Rattle.pb_frame.specs.declared.mac.Mac.{Mac}
@@ -11,17 +13,21 @@ use Rattle.pb_fdb.specs.Entries.{sighting_of}
 use Rattle.pb_fdb.specs.declared.entry.Entry.{Entry}
 use Rattle.pb_fdb.specs.declared.station.LastSeen.{LastSeen}
 use Rattle.pb_fdb.specs.declared.station.Station.{Station}
-use Rattle.pb_fdb.specs.Journals.{is_same, is_of, entry_of, Index, IsIndexWith, place_after, entry_at, entries_from, HasEach, HasTurned, stays}
-use Rattle.pb_fdb.proofs.StationLemmas.{same_station, itself, other-way, of-one, none-left, none-pass, parted, sighted-of}
+use Rattle.pb_fdb.specs.Journals.{is_same, is_of, entry_of, Index, IsIndexWith, place_after, entry_at, entries_from}
+use Rattle.pb_fdb.specs.Journals.{HasEach, stays}
+use Rattle.pb_fdb.proofs.StationLemmas.{same_station, itself, other-way, of-one, none-left, none-pass, parted}
+use Rattle.pb_fdb.proofs.StationLemmas.{sighted-of}
 
 -- an entry passes a test as all of its station do, or does not
-entry-kept : (p : Entry → Bool) (s : Station) → ((seen : LastSeen) → p (entry_of s seen) ≡ true) → (at : ℕ) (o : Option LastSeen) → filter p (entry_at at s o) ≡ entry_at at s o
+entry-kept : (p : Entry → Bool) (s : Station) → ((seen : LastSeen) → p (entry_of s seen) ≡ true)
+    → (at : ℕ) (o : Option LastSeen) → filter p (entry_at at s o) ≡ entry_at at s o
 entry-kept p s passes at None = refl
 entry-kept p s passes at (Some seen) =
     elim (at == seen.at) as (λ b. filter p (cond b (entry_of s seen ∷ []) []) ≡ cond b (entry_of s seen ∷ []) [])
     [ true ↦ ap (λ b. cond b (entry_of s seen ∷ []) []) (passes seen) | false ↦ refl ]
 
-entry-dropped : (p : Entry → Bool) (s : Station) → ((seen : LastSeen) → p (entry_of s seen) ≡ false) → (at : ℕ) (o : Option LastSeen) → filter p (entry_at at s o) ≡ []
+pub entry-dropped : (p : Entry → Bool) (s : Station) → ((seen : LastSeen) → p (entry_of s seen) ≡ false)
+    → (at : ℕ) (o : Option LastSeen) → filter p (entry_at at s o) ≡ []
 entry-dropped p s fails at None = refl
 entry-dropped p s fails at (Some seen) =
     elim (at == seen.at) as (λ b. filter p (cond b (entry_of s seen ∷ []) []) ≡ [])
@@ -34,7 +40,7 @@ place-none at below = omega arith
 place-more : (at n : ℕ) → place_after (place_after at 1) n ≡ place_after at (suc n)
 place-more at n = omega arith
 
-place-below : (at n : ℕ) → place_after at n < 2 ^ 64
+pub place-below : (at n : ℕ) → place_after at n < 2 ^ 64
 place-below at n = omega arith
 
 -- none of so many places is where a station was seen last
@@ -52,66 +58,84 @@ missed-more None at n m = m
 missed-more (Some seen) at n m = m.1
 
 -- the place behind them is not
-pub misses-behind : (seen : LastSeen) (at k n : ℕ) → at < 2 ^ 64 → k ≤ n → n < 2 ^ 64 → seen.at ≡ place_after at n → Misses (Some seen) at k
+pub misses-behind : (seen : LastSeen) (at k n : ℕ) → at < 2 ^ 64 → k ≤ n → n < 2 ^ 64 → seen.at ≡ place_after at n
+    → Misses (Some seen) at k
 misses-behind seen at zero n a l b is = refl
 misses-behind seen at (suc k) n a l b is =
     let shift : place_after at n ≡ place_after (place_after at 1) (n - 1) = omega arith in (
-      false-unless (at == seen.at) (λ e. let same : at ≡ (at + n) % 2 ^ 64 = eqb-true at seen.at e ∙ is in absurd (omega (arith, same))),
+      false-unless (at == seen.at) (λ e. let same : at ≡ (at + n) % 2 ^ 64 = eqb-true at seen.at e ∙ is in absurd
+          (omega (arith, same))),
       misses-behind seen (place_after at 1) k (n - 1) (place-below at 1) (omega arith) (omega arith) (is ∙ shift),
     )
 
 -- once a station was seen last at none of a log's places, the other entries stand there
-pub entries-with : (f g : Index) (s0 : Station) (w : Option LastSeen) → IsIndexWith s0 w f g → (at : ℕ) (xs : List Station) → Misses w at (length xs)
+pub entries-with : (f g : Index) (s0 : Station) (w : Option LastSeen) → IsIndexWith s0 w f g
+    → (at : ℕ) (xs : List Station) → Misses w at (length xs)
     → entries_from g at xs ≡ filter (λ e. not (is_of s0 e)) (entries_from f at xs)
 entries-with f g s0 w is at [] m = refl
 entries-with f g s0 w is at (s ∷ ss) m =
     let p : Entry → Bool = λ e. not (is_of s0 e) in
     let later = entries-with f g s0 w is (place_after at 1) ss (missed-more w at (length ss) m) in
     let parts = filter-append p (entry_at at s (f s)) (entries_from f (place_after at 1) ss) in
-    elim (is_same s0 s) as (λ b. is_same s0 s ≡ b → entry_at at s (g s) ++ entries_from g (place_after at 1) ss ≡ filter p (entry_at at s (f s) ++ entries_from f (place_after at 1) ss)) [
+    elim (is_same s0 s) as (λ b. is_same s0 s ≡ b → entry_at at s (g s) ++ entries_from g (place_after at 1) ss
+    ≡ filter p (entry_at at s (f s) ++ entries_from f (place_after at 1) ss)) [
       | true ↦ λ h.
           ap (λ o. entry_at at s o ++ entries_from g (place_after at 1) ss) (is s ∙ ap (λ b. cond b w (f s)) h)
           ∙ ap (λ zs. zs ++ entries_from g (place_after at 1) ss) (missed w at (length ss) s m) ∙ later
-          ∙ sym (parts ∙ ap (λ zs. zs ++ filter p (entries_from f (place_after at 1) ss)) (entry-dropped p s (λ seen. ap not h) at (f s)))
+          ∙ sym (parts ∙ ap (λ zs. zs ++ filter p (entries_from f (place_after at 1) ss))
+          (entry-dropped p s (λ seen. ap not h) at (f s)))
       | false ↦ λ h.
           ap (λ o. entry_at at s o ++ entries_from g (place_after at 1) ss) (is s ∙ ap (λ b. cond b w (f s)) h)
           ∙ ap (λ zs. entry_at at s (f s) ++ zs) later
-          ∙ sym (parts ∙ ap (λ zs. zs ++ filter p (entries_from f (place_after at 1) ss)) (entry-kept p s (λ seen. ap not h) at (f s)))
+          ∙ sym (parts ∙ ap (λ zs. zs ++ filter p (entries_from f (place_after at 1) ss))
+          (entry-kept p s (λ seen. ap not h) at (f s)))
     ] refl
 
 -- the entries of two logs, one behind the other
-pub entries-append : (f : Index) (at : ℕ) (xs ys : List Station) → at < 2 ^ 64 → entries_from f at (xs ++ ys) ≡ entries_from f at xs ++ entries_from f (place_after at (length xs)) ys
+pub entries-append : (f : Index) (at : ℕ) (xs ys : List Station) → at < 2 ^ 64
+    → entries_from f at (xs ++ ys) ≡ entries_from f at xs ++ entries_from f (place_after at (length xs)) ys
 entries-append f at [] ys below = ap (λ n. entries_from f n ys) (sym (place-none at below))
 entries-append f at (x ∷ xs) ys below =
-    ap (λ zs. entry_at at x (f x) ++ zs) (entries-append f (place_after at 1) xs ys (place-below at 1) ∙ ap (λ n. entries_from f (place_after at 1) xs ++ entries_from f n ys) (place-more at (length xs)))
-    ∙ sym (append_assoc (entry_at at x (f x)) (entries_from f (place_after at 1) xs) (entries_from f (place_after at (suc (length xs))) ys))
+    ap (λ zs. entry_at at x (f x) ++ zs) (entries-append f (place_after at 1) xs ys (place-below at 1) ∙ ap
+    (λ n. entries_from f (place_after at 1) xs ++ entries_from f n ys) (place-more at (length xs)))
+    ∙ sym (append_assoc (entry_at at x (f x)) (entries_from f (place_after at 1) xs)
+    (entries_from f (place_after at (suc (length xs))) ys))
 
 -- the entry at a last place
-entry-here : (s : Station) (seen : LastSeen) (at : ℕ) (o : Option LastSeen) → o ≡ Some seen → at ≡ seen.at → entry_at at s o ≡ entry_of s seen ∷ []
-entry-here s seen at o is place = ap (entry_at at s) is ∙ ap (λ n. cond (n == seen.at) (entry_of s seen ∷ []) []) place ∙ ap (λ b. cond b (entry_of s seen ∷ []) []) (eqb-refl seen.at)
+pub entry-here : (s : Station) (seen : LastSeen) (at : ℕ) (o : Option LastSeen) → o ≡ Some seen → at ≡ seen.at
+    → entry_at at s o ≡ entry_of s seen ∷ []
+entry-here s seen at o is place = ap (entry_at at s) is ∙ ap (λ n. cond (n == seen.at) (entry_of s seen ∷ []) [])
+    place ∙ ap (λ b. cond b (entry_of s seen ∷ []) []) (eqb-refl seen.at)
 
 -- what an index says of the station with which it is
 with-itself : (f g : Index) (s : Station) (w : Option LastSeen) → IsIndexWith s w f g → g s ≡ w
 with-itself f g s w is = is s ∙ ap (λ b. cond b w (f s)) (itself s)
 
 -- a station that is seen last behind a log has its entry last
-pub entries-put : (f g : Index) (s : Station) (seen : LastSeen) (at : ℕ) (xs : List Station) → IsIndexWith s (Some seen) f g → at < 2 ^ 64 → length xs < 2 ^ 64 → seen.at ≡ place_after at (length xs)
+pub entries-put : (f g : Index) (s : Station) (seen : LastSeen) (at : ℕ) (xs : List Station)
+    → IsIndexWith s (Some seen) f g → at < 2 ^ 64 → length xs < 2 ^ 64 → seen.at ≡ place_after at (length xs)
     → entries_from g at (xs ++ s ∷ []) ≡ filter (λ e. not (is_of s e)) (entries_from f at xs) ++ entry_of s seen ∷ []
 entries-put f g s seen at xs is below fits place =
     entries-append g at xs (s ∷ []) below
-    ∙ ap (λ zs. entries_from g at xs ++ zs) (append-nil (entry_at (place_after at (length xs)) s (g s)) ∙ entry-here s seen (place_after at (length xs)) (g s) (with-itself f g s (Some seen) is) (sym place))
-    ∙ ap (λ zs. zs ++ entry_of s seen ∷ []) (entries-with f g s (Some seen) is at xs (misses-behind seen at (length xs) (length xs) below (omega arith) fits place))
+    ∙ ap (λ zs. entries_from g at xs ++ zs) (append-nil (entry_at (place_after at (length xs)) s (g s)) ∙ entry-here s
+    seen (place_after at (length xs)) (g s) (with-itself f g s (Some seen) is) (sym place))
+    ∙ ap (λ zs. zs ++ entry_of s seen ∷ [])
+    (entries-with f g s (Some seen) is at xs
+    (misses-behind seen at (length xs) (length xs) below (omega arith) fits place))
 
 -- each station keeps its one entry, where one is put last
-pub each-with : (f g : Index) (s0 : Station) (seen : LastSeen) → IsIndexWith s0 (Some seen) f g → (es : List Entry) → HasEach f es → HasEach g (filter (λ e. not (is_of s0 e)) es ++ entry_of s0 seen ∷ [])
+pub each-with : (f g : Index) (s0 : Station) (seen : LastSeen) → IsIndexWith s0 (Some seen) f g → (es : List Entry)
+    → HasEach f es → HasEach g (filter (λ e. not (is_of s0 e)) es ++ entry_of s0 seen ∷ [])
 each-with f g s0 seen is es each s seen_now at_s =
     let p : Entry → Bool = λ e. not (is_of s0 e) in
-    elim (is_same s0 s) as (λ b. is_same s0 s ≡ b → filter (is_of s) (filter p es ++ entry_of s0 seen ∷ []) ≡ entry_of s seen_now ∷ []) [
+    elim (is_same s0 s) as (λ b. is_same s0 s ≡ b → filter (is_of s) (filter p es ++ entry_of s0 seen ∷ []) ≡ entry_of
+    s seen_now ∷ []) [
       | true ↦ λ h.
           let one : s0 ≡ s = same_station s0 s h in
           let same_seen : seen ≡ seen_now = Some-injective (sym (is s ∙ ap (λ b. cond b (Some seen) (f s)) h) ∙ at_s) in
           subst (λ t. filter (is_of t) (filter p es ++ entry_of s0 seen ∷ []) ≡ entry_of t seen_now ∷ []) one (
-          filter-append (is_of s0) (filter p es) (entry_of s0 seen ∷ []) ∙ ap (λ zs. zs ++ filter (is_of s0) (entry_of s0 seen ∷ [])) (none-left (is_of s0) es)
+          filter-append (is_of s0) (filter p es) (entry_of s0 seen ∷ [])
+          ∙ ap (λ zs. zs ++ filter (is_of s0) (entry_of s0 seen ∷ [])) (none-left (is_of s0) es)
           ∙ ap (λ b. cond b (entry_of s0 seen ∷ []) []) (itself s0) ∙ ap (λ x. entry_of s0 x ∷ []) same_seen)
       | false ↦ λ h.
           filter-append (is_of s) (filter p es) (entry_of s0 seen ∷ [])
@@ -121,7 +145,8 @@ each-with f g s0 seen is es each s seen_now at_s =
     ] refl
 
 -- and where one goes
-pub each-without : (f g : Index) (s0 : Station) → IsIndexWith s0 None f g → (es : List Entry) → HasEach f es → HasEach g (filter (λ e. not (is_of s0 e)) es)
+pub each-without : (f g : Index) (s0 : Station) → IsIndexWith s0 None f g → (es : List Entry) → HasEach f es
+    → HasEach g (filter (λ e. not (is_of s0 e)) es)
 each-without f g s0 is es each s seen_now at_s =
     let p : Entry → Bool = λ e. not (is_of s0 e) in
     elim (is_same s0 s) as (λ b. is_same s0 s ≡ b → filter (is_of s) (filter p es) ≡ entry_of s seen_now ∷ []) [
@@ -132,7 +157,8 @@ each-without f g s0 is es each s seen_now at_s =
     ] refl
 
 -- a station that the index lacks has no entry
-pub of-none : (f : Index) (s0 : Station) → f s0 ≡ None → (at : ℕ) (xs : List Station) → filter (is_of s0) (entries_from f at xs) ≡ []
+pub of-none : (f : Index) (s0 : Station) → f s0 ≡ None → (at : ℕ) (xs : List Station)
+    → filter (is_of s0) (entries_from f at xs) ≡ []
 of-none f s0 none at [] = refl
 of-none f s0 none at (s ∷ ss) =
     filter-append (is_of s0) (entry_at at s (f s)) (entries_from f (place_after at 1) ss)
@@ -147,151 +173,43 @@ of-none f s0 none at (s ∷ ss) =
 pub entries-of : (f : Index) (at : ℕ) (xs : List Station) → HasEach f (entries_from f at xs) → (s : Station)
     → filter (is_of s) (entries_from f at xs) ≡ option_to_list (option_map (entry_of s) (f s))
 entries-of f at xs each s =
-    elim (f s) as (λ o. f s ≡ o → filter (is_of s) (entries_from f at xs) ≡ option_to_list (option_map (entry_of s) o)) [
+    elim (f s) as (λ o. f s ≡ o → filter (is_of s) (entries_from f at xs) ≡ option_to_list
+    (option_map (entry_of s) o)) [
       | None ↦ λ h. of-none f s h at xs
       | Some seen ↦ λ h. each s seen h
     ] refl
 
--- where two lists joined are empty, so is the first
-append-empty : {X : Type 0} (xs ys : List X) → xs ++ ys ≡ [] → xs ≡ []
-append-empty [] ys h = refl
-append-empty (x ∷ xs) ys h = let n : suc (length (xs ++ ys)) ≡ 0 = ap length h in cc
-
--- once a station's entry stands at the first place, none of its stands in any beginning of the rest
-rest-none : (f : Index) (at : ℕ) (s : Station) (seen : LastSeen) (rest : List Station) → HasEach f (entries_from f at (s ∷ rest)) → f s ≡ Some seen → at ≡ seen.at
-    → filter (is_of s) (entries_from f (place_after at 1) rest) ≡ []
-rest-none f at s seen rest each is place =
-    let whole : entries_from f at (s ∷ rest) ≡ entry_of s seen ∷ entries_from f (place_after at 1) rest = ap (λ zs. zs ++ entries_from f (place_after at 1) rest) (entry-here s seen at (f s) is place) in
-    ap (drop 1) (
-    ap (λ b. cond b (entry_of s seen ∷ filter (is_of s) (entries_from f (place_after at 1) rest)) (filter (is_of s) (entries_from f (place_after at 1) rest))) (sym (itself s))
-    ∙ ap (filter (is_of s)) (sym whole) ∙ each s seen is)
-
-front-none : (f : Index) (at : ℕ) (s : Station) (front back : List Station) → at < 2 ^ 64 → filter (is_of s) (entries_from f at (front ++ back)) ≡ [] → filter (is_of s) (entries_from f at front) ≡ []
-front-none f at s front back below h =
-    append-empty (filter (is_of s) (entries_from f at front)) (filter (is_of s) (entries_from f (place_after at (length front)) back)) (
-    sym (filter-append (is_of s) (entries_from f at front) (entries_from f (place_after at (length front)) back))
-    ∙ ap (filter (is_of s)) (sym (entries-append f at front back below)) ∙ h)
-
--- what stood there went
-pub turned-gone : (keep : Entry → Bool) (f g : Index) (at : ℕ) (s : Station) (seen : LastSeen) (rest : List Station) → HasEach f (entries_from f at (s ∷ rest)) → f s ≡ Some seen → at ≡ seen.at
-    → keep (entry_of s seen) ≡ false → IsIndexWith s None f g → HasTurned keep f g at s rest rest
-turned-gone keep f g at s seen rest each is place goes without =
-    let next = place_after at 1 in
-    let rest_none = rest-none f at s seen rest each is place in
-    let dropped : filter keep (entry_at at s (f s)) ≡ [] = ap (filter keep) (entry-here s seen at (f s) is place) ∙ ap (λ b. cond b (entry_of s seen ∷ []) []) goes in
-    let same : (front : List Station) → filter (is_of s) (entries_from f next front) ≡ [] → entries_from g next front ≡ entries_from f next front
-    = λ front none. entries-with f g s None without next front refl ∙ none-pass (is_of s) (entries_from f next front) none in record {
-      kept = [];
-      log_is = sym (append-nil rest);
-      kept_count = sym (ap length dropped);
-      entries = same rest rest_none ∙ sym (ap (λ zs. entries_from f next rest ++ zs) dropped ∙ append-nil (entries_from f next rest));
-      fronts = λ front back parts. same front (front-none f next s front back (place-below at 1) (ap (λ zs. filter (is_of s) (entries_from f next zs)) (sym parts) ∙ rest_none));
-    }
-
--- what stood there went last
-pub turned-last : (keep : Entry → Bool) (f g : Index) (at : ℕ) (s : Station) (seen new : LastSeen) (rest : List Station) → HasEach f (entries_from f at (s ∷ rest)) → f s ≡ Some seen → at ≡ seen.at
-    → keep (entry_of s seen) ≡ true → IsIndexWith s (Some new) f g → entry_of s new ≡ entry_of s seen → new.at ≡ place_after (place_after at 1) (length rest) → length rest < 2 ^ 64
-    → HasTurned keep f g at s rest (rest ++ s ∷ [])
-turned-last keep f g at s seen new rest each is place stay with_new same_entry behind fits =
-    let next = place_after at 1 in
-    let rest_none = rest-none f at s seen rest each is place in
-    let kept_one : filter keep (entry_at at s (f s)) ≡ entry_of s seen ∷ [] = ap (filter keep) (entry-here s seen at (f s) is place) ∙ ap (λ b. cond b (entry_of s seen ∷ []) []) stay in
-    record {
-      kept = s ∷ [];
-      log_is = refl;
-      kept_count = sym (ap length kept_one);
-      entries =
-          entries-put f g s new next rest with_new (place-below at 1) fits behind
-          ∙ ap (λ zs. zs ++ entry_of s new ∷ []) (none-pass (is_of s) (entries_from f next rest) rest_none)
-          ∙ ap (λ e. entries_from f next rest ++ e ∷ []) same_entry ∙ sym (ap (λ zs. entries_from f next rest ++ zs) kept_one);
-      fronts = λ front back parts.
-          let none = front-none f next s front back (place-below at 1) (ap (λ zs. filter (is_of s) (entries_from f next zs)) (sym parts) ∙ rest_none) in
-          let shorter : length front ≤ length rest = omega (arith, ap length parts, length-append front back) in
-          entries-with f g s (Some new) with_new next front (misses-behind new next (length front) (length rest) (place-below at 1) shorter fits behind)
-          ∙ none-pass (is_of s) (entries_from f next front) none;
-    }
-
--- the entries once the first place had its turn, where its station goes
-pub gone-entries : (f g : Index) (at : ℕ) (s : Station) (seen : LastSeen) (rest : List Station) → HasEach f (entries_from f at (s ∷ rest)) → f s ≡ Some seen → at ≡ seen.at → IsIndexWith s None f g
-    → entries_from g (place_after at 1) rest ≡ filter (λ e. not (is_of s e)) (entries_from f at (s ∷ rest))
-gone-entries f g at s seen rest each is place without =
-    entries-with f g s None without (place_after at 1) rest refl
-    ∙ sym (
-    filter-append (λ e. not (is_of s e)) (entry_at at s (f s)) (entries_from f (place_after at 1) rest)
-    ∙ ap (λ zs. zs ++ filter (λ e. not (is_of s e)) (entries_from f (place_after at 1) rest)) (entry-dropped (λ e. not (is_of s e)) s (λ any. ap not (itself s)) at (f s)))
-
--- and where it goes last
-pub last-entries : (f g : Index) (at : ℕ) (s : Station) (seen new : LastSeen) (rest : List Station) → f s ≡ Some seen → at ≡ seen.at → IsIndexWith s (Some new) f g
-    → new.at ≡ place_after (place_after at 1) (length rest) → length rest < 2 ^ 64
-    → entries_from g (place_after at 1) (rest ++ s ∷ []) ≡ filter (λ e. not (is_of s e)) (entries_from f at (s ∷ rest)) ++ entry_of s new ∷ []
-last-entries f g at s seen new rest is place with_new behind fits =
-    entries-put f g s new (place_after at 1) rest with_new (place-below at 1) fits behind
-    ∙ ap (λ zs. zs ++ entry_of s new ∷ []) (sym (
-    filter-append (λ e. not (is_of s e)) (entry_at at s (f s)) (entries_from f (place_after at 1) rest)
-    ∙ ap (λ zs. zs ++ filter (λ e. not (is_of s e)) (entries_from f (place_after at 1) rest)) (entry-dropped (λ e. not (is_of s e)) s (λ any. ap not (itself s)) at (f s))))
-
 -- how many there are without a station that has one, and with one more
-pub one-less : (f : Index) (s : Station) (seen : LastSeen) (es : List Entry) → HasEach f es → f s ≡ Some seen → length (filter (λ e. not (is_of s e)) es) + 1 ≡ length es
+pub one-less : (f : Index) (s : Station) (seen : LastSeen) (es : List Entry) → HasEach f es → f s ≡ Some seen
+    → length (filter (λ e. not (is_of s e)) es) + 1 ≡ length es
 one-less f s seen es each is = omega (arith, parted (is_of s) es, ap length (each s seen is))
 
 pub one-more : (f : Index) (at : ℕ) (xs : List Station) (s : Station) (e : Entry) → HasEach f (entries_from f at xs)
-    → length (filter (λ e. not (is_of s e)) (entries_from f at xs) ++ e ∷ []) ≡ length (entries_from f at xs) + cond (is_some (f s)) 0 1
+    → length (filter (λ e. not (is_of s e)) (entries_from f at xs) ++ e ∷ []) ≡ length (entries_from f at xs) + cond
+    (is_some (f s)) 0 1
 one-more f at xs s e each =
     let p : Entry → Bool = λ e. not (is_of s e) in
     let es = entries_from f at xs in
     elim (f s) as (λ o. f s ≡ o → length (filter p es ++ e ∷ []) ≡ length es + cond (is_some o) 0 1) [
-      | None ↦ λ h. omega (arith, length-append (filter p es) (e ∷ []), parted (is_of s) es, ap length (of-none f s h at xs))
-      | Some seen ↦ λ h. omega (arith, length-append (filter p es) (e ∷ []), parted (is_of s) es, ap length (each s seen h))
+      | None ↦ λ h. omega (
+        arith,
+        length-append (filter p es) (e ∷ []),
+        parted (is_of s) es,
+        ap length
+            (of-none f s h at xs),
+      )
+      | Some seen ↦ λ h. omega (
+        arith,
+        length-append (filter p es) (e ∷ []),
+        parted (is_of s) es,
+        ap length
+            (each s seen h),
+      )
     ] refl
 
--- the parts of a list
+-- the first of a list
 pub first-part : {X : Type 0} {a b : X} {xs ys : List X} → a ∷ xs ≡ b ∷ ys → a ≡ b
 first-part k = Some-injective (ap (λ zs. slice_get zs 0) k)
-
-pub turned-as : (keep : Entry → Bool) (f g : Index) (at : ℕ) (a b : Station) (xs ys log : List Station) → HasTurned keep f g at a xs log → a ∷ xs ≡ b ∷ ys → HasTurned keep f g at b ys log
-turned-as keep f g at a b xs ys log t k = subst (λ x. HasTurned keep f g at x ys log) (first-part k) (subst (λ zs. HasTurned keep f g at a zs log) (ap (drop 1) k) t)
-
--- what goes and what stays
-pub goes-at : (port : Option ℕ) (e : Entry) → option_eq nat_eq port (Some e.port) ≡ true → stays port e ≡ false
-goes-at None e h = cc
-goes-at (Some p) e h = ap not h
-
-pub stays-at : (port : Option ℕ) (e : Entry) → option_eq nat_eq port (Some e.port) ≡ false → stays port e ≡ true
-stays-at None e h = refl
-stays-at (Some p) e h = ap not h
-
--- a list with one more in front of both of two
-append-cancel : {X : Type 0} (xs ys zs : List X) → xs ++ ys ≡ xs ++ zs → ys ≡ zs
-append-cancel [] ys zs h = h
-append-cancel (x ∷ xs) ys zs h = append-cancel xs ys zs (ap (drop 1) h)
-
--- a place parts a list
-pub split : {X : Type 0} (xs : List X) (i : ℕ) → i < length xs → (x : X) × (drop i xs ≡ x ∷ drop (suc i) xs)
-split [] i h = absurd (omega arith)
-split (x ∷ xs) zero h = (x, refl)
-split (x ∷ xs) (suc i) h = let r = split xs i (omega arith) in (r.0, r.1)
-
--- after so many turns one more: what had its turn is told apart from what has not
-pub turned-on : (keep : Entry → Bool) (f g : Index) (at : ℕ) (s : Station) (rest behind log : List Station) (gone all : List Entry) (t : HasTurned keep f g at s (rest ++ behind) log)
-    → all ≡ gone ++ entries_from f at (s ∷ rest)
-    → entries_from f at (s ∷ (rest ++ behind)) ≡ entries_from f at (s ∷ rest) ++ filter keep gone
-    → length behind ≡ length (filter keep gone)
-    → (log ≡ rest ++ (behind ++ t.kept))
-    × (all ≡ (gone ++ entry_at at s (f s)) ++ entries_from g (place_after at 1) rest)
-    × (entries_from g (place_after at 1) log ≡ entries_from g (place_after at 1) rest ++ filter keep (gone ++ entry_at at s (f s)))
-    × (length (behind ++ t.kept) ≡ length (filter keep (gone ++ entry_at at s (f s))))
-turned-on keep f g at s rest behind log gone all t whole entries count =
-    let next = place_after at 1 in
-    let here = entry_at at s (f s) in
-    let front = t.fronts rest behind refl in
-    let later : entries_from f next (rest ++ behind) ≡ entries_from f next rest ++ filter keep gone
-    = append-cancel here (entries_from f next (rest ++ behind)) (entries_from f next rest ++ filter keep gone) (entries ∙ append_assoc here (entries_from f next rest) (filter keep gone)) in (
-      t.log_is ∙ append_assoc rest behind t.kept,
-      whole ∙ sym (append_assoc gone here (entries_from f next rest)) ∙ ap (λ zs. (gone ++ here) ++ zs) (sym front),
-      t.entries ∙ ap (λ zs. zs ++ filter keep here) later ∙ append_assoc (entries_from f next rest) (filter keep gone) (filter keep here)
-          ∙ ap (λ zs. zs ++ (filter keep gone ++ filter keep here)) (sym front) ∙ ap (λ zs. entries_from g next rest ++ zs) (sym (filter-append keep gone here)),
-      omega (arith, length-append behind t.kept, count, t.kept_count, ap length (filter-append keep gone here), length-append (filter keep gone) (filter keep here)),
-    )
 
 -- where no port is named, all stay
 pub all_stay : (es : List Entry) → filter (stays None) es ≡ es
@@ -300,21 +218,26 @@ all_stay (e ∷ es) = ap (λ zs. e ∷ zs) (all_stay es)
 
 -- the entries that are sighted are those that the index tells of
 pub found-sighted : (f : Index) (at : ℕ) (xs : List Station) → HasEach f (entries_from f at xs) → (vid : ℕ) (mac : Mac)
-    → filter (λ e. is_sighted vid mac.0 (sighting_of e)) (entries_from f at xs) ≡ option_to_list (option_map (entry_of (record { vid = vid; mac = mac })) (f (record { vid = vid; mac = mac })))
-found-sighted f at xs each vid mac = sighted-of vid mac.0 (entries_from f at xs) ∙ entries-of f at xs each (record { vid = vid; mac = mac })
+    → filter (λ e. is_sighted vid mac.0 (sighting_of e)) (entries_from f at xs) ≡ option_to_list
+    (option_map (entry_of (record { vid = vid; mac = mac })) (f (record { vid = vid; mac = mac })))
+found-sighted f at xs each vid mac = sighted-of vid mac.0 (entries_from f at xs)
+    ∙ entries-of f at xs each (record { vid = vid; mac = mac })
 
 -- the station of an entry
 abbrev pub station_in : Entry → Station
 station_in e = record { vid = e.vid; mac = e.mac }
 
 -- the index knows the station of the first entry
-head-known : (f : Index) (at : ℕ) (xs : List Station) (e : Entry) (es : List Entry) → entries_from f at xs ≡ e ∷ es → (seen : LastSeen) × (f (station_in e) ≡ Some seen)
+head-known : (f : Index) (at : ℕ) (xs : List Station) (e : Entry) (es : List Entry) → entries_from f at xs ≡ e ∷ es
+    → (seen : LastSeen) × (f (station_in e) ≡ Some seen)
 head-known f at [] e es h = let n : 0 ≡ suc (length es) = ap length h in cc
 head-known f at (s ∷ ss) e es h =
-    elim (f s) as (λ o. f s ≡ o → entry_at at s o ++ entries_from f (place_after at 1) ss ≡ e ∷ es → (seen : LastSeen) × (f (station_in e) ≡ Some seen)) [
+    elim (f s) as (λ o. f s ≡ o → entry_at at s o ++ entries_from f (place_after at 1) ss ≡ e ∷ es → (seen : LastSeen)
+    × (f (station_in e) ≡ Some seen)) [
       | None ↦ λ is k. head-known f (place_after at 1) ss e es k
       | Some seen ↦ λ is.
-          elim (at == seen.at) as (λ b. cond b (entry_of s seen ∷ []) [] ++ entries_from f (place_after at 1) ss ≡ e ∷ es → (seen : LastSeen) × (f (station_in e) ≡ Some seen)) [
+          elim (at == seen.at) as (λ b. cond b (entry_of s seen ∷ []) [] ++ entries_from f (place_after at 1) ss ≡ e
+          ∷ es → (seen : LastSeen) × (f (station_in e) ≡ Some seen)) [
             | true ↦ λ k. (seen, ap (λ x. f (station_in x)) (sym (first-part k)) ∙ is)
             | false ↦ λ k. head-known f (place_after at 1) ss e es k
           ]
@@ -325,10 +248,12 @@ first-rest [] x h = cc
 first-rest (y ∷ ys) x h = ap (λ z. z ∷ ys) (sym (Some-injective h))
 
 -- the entries less the first one
-pub first-known : (f : Index) (at : ℕ) (xs : List Station) (e : Entry) → Some e ≡ slice_get (entries_from f at xs) 0 → (seen : LastSeen) × (f (station_in e) ≡ Some seen)
+pub first-known : (f : Index) (at : ℕ) (xs : List Station) (e : Entry) → Some e ≡ slice_get (entries_from f at xs) 0
+    → (seen : LastSeen) × (f (station_in e) ≡ Some seen)
 first-known f at xs e h = head-known f at xs e (drop 1 (entries_from f at xs)) (first-rest (entries_from f at xs) e h)
 
-pub less-first : (f : Index) (at : ℕ) (xs : List Station) (e : Entry) → HasEach f (entries_from f at xs) → Some e ≡ slice_get (entries_from f at xs) 0
+pub less-first : (f : Index) (at : ℕ) (xs : List Station) (e : Entry) → HasEach f (entries_from f at xs)
+    → Some e ≡ slice_get (entries_from f at xs) 0
     → filter (λ x. not (is_of (station_in e) x)) (entries_from f at xs) ≡ drop 1 (entries_from f at xs)
 less-first f at xs e each h =
     let s = station_in e in
@@ -337,9 +262,11 @@ less-first f at xs e each h =
     let known = first-known f at xs e h in
     let mine : is_of s e ≡ true = itself s in
     let none : filter (is_of s) (drop 1 es) ≡ []
-    = ap (drop 1) (ap (λ b. cond b (e ∷ filter (is_of s) (drop 1 es)) (filter (is_of s) (drop 1 es))) (sym mine) ∙ ap (filter (is_of s)) (sym parts) ∙ each s known.0 known.1) in
+    = ap (drop 1) (ap (λ b. cond b (e ∷ filter (is_of s) (drop 1 es)) (filter (is_of s) (drop 1 es))) (sym mine) ∙ ap
+    (filter (is_of s)) (sym parts) ∙ each s known.0 known.1) in
     ap (filter (λ x. not (is_of s x))) parts
-    ∙ ap (λ b. cond (not b) (e ∷ filter (λ x. not (is_of s x)) (drop 1 es)) (filter (λ x. not (is_of s x)) (drop 1 es))) mine
+    ∙ ap (λ b. cond (not b) (e ∷ filter (λ x. not (is_of s x)) (drop 1 es))
+    (filter (λ x. not (is_of s x)) (drop 1 es))) mine
     ∙ none-pass (is_of s) (drop 1 es) none
 
 -- whatever the index knew, it knows of one station more at most

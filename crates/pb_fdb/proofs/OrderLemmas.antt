@@ -1,5 +1,6 @@
 -- Entries in the order of learning.
-use Rattle.std.proofs.Common.{◌≡◌, ℕ, ◌-◌, ◌<◌, ◌≤◌, ◌&&◌, Bool, true, false, cond, nat_le, nat_lt, Some, None, List, [], ◌∷◌, ◌++◌, length, drop, slice_get, refl, sym, ap, ◌∙◌, length-append, arith}
+use Rattle.std.proofs.Common.{◌≡◌, ℕ, ◌-◌, ◌<◌, ◌≤◌, ◌&&◌, Bool, true, false, cond, nat_le, nat_lt, Some, None, List}
+use Rattle.std.proofs.Common.{[], ◌∷◌, ◌++◌, length, drop, slice_get, refl, sym, ap, ◌∙◌, length-append, arith}
 use Rattle.std.proofs.lemmas.Bool.Decides.{nat_tests}
 use Rattle.std.specs.declared.option.Option.{Option}
 use Rattle.std.specs.List.{AllByRecursion, filter}
@@ -9,13 +10,16 @@ use Rattle.pb_frame.specs.Lists.{first}
 use Rattle.pb_frame.specs.Stations.{is_fresh, is_sighted}
 use Rattle.pb_fdb.proofs.EntryLemmas.{filter-map, filter-shorter}
 use Rattle.pb_fdb.specs.declared.entry.Entry.{Entry}
-use Rattle.pb_fdb.specs.Entries.{sighting_of, sightings, fresh_entries, entries_with_room, without_station, InOrder, IsKept, table_of}
+use Rattle.pb_fdb.specs.Entries.{sighting_of, sightings, fresh_entries, entries_with_room, without_station, InOrder}
+use Rattle.pb_fdb.specs.Entries.{IsKept, table_of}
 use Rattle.pb_fdb.specs.Tables.{where_in}
 
 -- what all have, those have that pass a test
-pub All-passed : {X : Type 0} (P : X → Type 0) (p : X → Bool) (xs : List X) → AllByRecursion P xs → AllByRecursion P (filter p xs)
+pub All-passed : {X : Type 0} (P : X → Type 0) (p : X → Bool) (xs : List X) → AllByRecursion P xs
+    → AllByRecursion P (filter p xs)
 All-passed P p [] a = tt
-All-passed P p (x ∷ xs) a = elim (p x) as (λ b. AllByRecursion P (cond b (x ∷ filter p xs) (filter p xs))) [ true ↦ (a.0, All-passed P p xs a.1) | false ↦ All-passed P p xs a.1 ]
+All-passed P p (x ∷ xs) a = elim (p x) as (λ b. AllByRecursion P (cond b (x ∷ filter p xs) (filter p xs)))
+    [ true ↦ (a.0, All-passed P p xs a.1) | false ↦ All-passed P p xs a.1 ]
 
 -- what passes a test stays in order
 pub InOrder-filter : (p : Entry → Bool) (es : List Entry) → InOrder es → InOrder (filter p es)
@@ -27,9 +31,11 @@ InOrder-filter p (e ∷ es) o =
     ]
 
 -- and so do entries with a later one behind them
-pub InOrder-push : (es : List Entry) (e : Entry) → InOrder es → AllByRecursion (λ f. f.learnt ≤ e.learnt) es → InOrder (es ++ e ∷ [])
+pub InOrder-push : (es : List Entry) (e : Entry) → InOrder es → AllByRecursion (λ f. f.learnt ≤ e.learnt) es
+    → InOrder (es ++ e ∷ [])
 InOrder-push [] e o a = (tt, tt)
-InOrder-push (f ∷ es) e o a = (All-append (λ g. f.learnt ≤ g.learnt) es (e ∷ []) o.0 (a.0, tt), InOrder-push es e o.1 a.1)
+InOrder-push (f ∷ es) e o a =
+    (All-append (λ g. f.learnt ≤ g.learnt) es (e ∷ []) o.0 (a.0, tt), InOrder-push es e o.1 a.1)
 
 -- the rest stays in order
 pub InOrder-rest : (es : List Entry) → InOrder es → InOrder (drop 1 es)
@@ -37,40 +43,52 @@ InOrder-rest [] o = tt
 InOrder-rest (e ∷ es) o = o.1
 
 -- a later clock
-pub before-later : (clock now : ℕ) (es : List Entry) → clock ≤ now → AllByRecursion (λ e. e.learnt ≤ clock) es → AllByRecursion (λ e. e.learnt ≤ now) es
+pub before-later : (clock now : ℕ) (es : List Entry) → clock ≤ now → AllByRecursion (λ e. e.learnt ≤ clock) es
+    → AllByRecursion (λ e. e.learnt ≤ now) es
 before-later clock now es h = All-imply (λ e. e.learnt ≤ clock) (λ e. e.learnt ≤ now) (λ e l. omega (arith, h, l)) es
 
 -- where one is fresh, so is any that was learnt later
-fresh-later : (ageing now first later : ℕ) → first ≤ later → nat_lt (now - first) ageing ≡ true → nat_lt (now - later) ageing ≡ true
-fresh-later ageing now first later h f = let l : now - first < ageing = grind (arith, nat_tests) in grind (arith, nat_tests)
+fresh-later : (ageing now first later : ℕ) → first ≤ later → nat_lt (now - first) ageing ≡ true
+    → nat_lt (now - later) ageing ≡ true
+fresh-later ageing now first later h f = let l : now - first < ageing = grind (arith, nat_tests) in grind
+    (arith, nat_tests)
 
-all-fresh : (ageing now : ℕ) (es : List Entry) → AllByRecursion (λ e. is_fresh ageing now (sighting_of e) ≡ true) es → fresh_entries ageing now es ≡ es
+all-fresh : (ageing now : ℕ) (es : List Entry) → AllByRecursion (λ e. is_fresh ageing now (sighting_of e) ≡ true) es
+    → fresh_entries ageing now es ≡ es
 all-fresh ageing now [] a = refl
-all-fresh ageing now (e ∷ es) a = ap (λ b. cond b (e ∷ fresh_entries ageing now es) (fresh_entries ageing now es)) a.0 ∙ ap (λ zs. e ∷ zs) (all-fresh ageing now es a.1)
+all-fresh ageing now (e ∷ es) a = ap (λ b. cond b (e ∷ fresh_entries ageing now es) (fresh_entries ageing now es)) a.0
+    ∙ ap (λ zs. e ∷ zs) (all-fresh ageing now es a.1)
 
 -- where the oldest is fresh, all are
-pub oldest-fresh : (ageing now : ℕ) (es : List Entry) (e : Entry) → InOrder es → Some e ≡ slice_get es 0 → is_fresh ageing now (sighting_of e) ≡ true → fresh_entries ageing now es ≡ es
+pub oldest-fresh : (ageing now : ℕ) (es : List Entry) (e : Entry) → InOrder es → Some e ≡ slice_get es 0
+    → is_fresh ageing now (sighting_of e) ≡ true → fresh_entries ageing now es ≡ es
 oldest-fresh ageing now [] e o is h = cc
 oldest-fresh ageing now (f ∷ es) e o is h =
-    let fresh : is_fresh ageing now (sighting_of f) ≡ true = ap (λ g. is_fresh ageing now (sighting_of g)) (sym (Some-injective is)) ∙ h in
+    let fresh : is_fresh ageing now (sighting_of f) ≡ true = ap (λ g. is_fresh ageing now (sighting_of g))
+    (sym (Some-injective is)) ∙ h in
     all-fresh ageing now (f ∷ es) (
       fresh,
-      All-imply (λ g. f.learnt ≤ g.learnt) (λ g. is_fresh ageing now (sighting_of g) ≡ true) (λ g l. fresh-later ageing now f.learnt g.learnt l fresh) es o.0,
+      All-imply (λ g. f.learnt ≤ g.learnt) (λ g. is_fresh ageing now (sighting_of g) ≡ true)
+          (λ g l. fresh-later ageing now f.learnt g.learnt l fresh) es o.0,
     )
 
 -- where it isn't, the others are left
-pub oldest-old : (ageing now : ℕ) (es : List Entry) (e : Entry) → Some e ≡ slice_get es 0 → is_fresh ageing now (sighting_of e) ≡ false
+pub oldest-old : (ageing now : ℕ) (es : List Entry) (e : Entry) → Some e ≡ slice_get es 0
+    → is_fresh ageing now (sighting_of e) ≡ false
     → fresh_entries ageing now es ≡ fresh_entries ageing now (drop 1 es)
 oldest-old ageing now [] e is h = cc
 oldest-old ageing now (f ∷ es) e is h =
-    ap (λ b. cond b (f ∷ fresh_entries ageing now es) (fresh_entries ageing now es)) (ap (λ g. is_fresh ageing now (sighting_of g)) (sym (Some-injective is)) ∙ h)
+    ap (λ b. cond b (f ∷ fresh_entries ageing now es) (fresh_entries ageing now es))
+    (ap (λ g. is_fresh ageing now (sighting_of g)) (sym (Some-injective is)) ∙ h)
 
 -- so that there are fewer
-pub oldest-old-fewer : (ageing now : ℕ) (es : List Entry) (e : Entry) → Some e ≡ slice_get es 0 → is_fresh ageing now (sighting_of e) ≡ false
+pub oldest-old-fewer : (ageing now : ℕ) (es : List Entry) (e : Entry) → Some e ≡ slice_get es 0
+    → is_fresh ageing now (sighting_of e) ≡ false
     → length (fresh_entries ageing now es) < length es
 oldest-old-fewer ageing now [] e is h = cc
 oldest-old-fewer ageing now (f ∷ es) e is h =
-    rw (oldest-old ageing now (f ∷ es) e is h) (omega (arith, filter-shorter (λ g. is_fresh ageing now (sighting_of g)) es))
+    rw (oldest-old ageing now (f ∷ es) e is h)
+    (omega (arith, filter-shorter (λ g. is_fresh ageing now (sighting_of g)) es))
 
 -- no first entry, none
 pub oldest-none : (es : List Entry) → None ≡ slice_get es 0 → es ≡ []
@@ -79,7 +97,8 @@ oldest-none (e ∷ es) is = cc
 
 -- two filters, either first
 filter-swap : {X : Type 0} (p q : X → Bool) (xs : List X) → filter p (filter q xs) ≡ filter q (filter p xs)
-filter-swap p q xs = filter-twice p q (λ x. q x && p x) (λ x. refl) xs ∙ sym (filter-twice q p (λ x. q x && p x) (λ x. and-swap (p x) (q x)) xs)
+filter-swap p q xs = filter-twice p q (λ x. q x && p x) (λ x. refl) xs
+    ∙ sym (filter-twice q p (λ x. q x && p x) (λ x. and-swap (p x) (q x)) xs)
   where
     and-swap : (a b : Bool) → (a && b) ≡ (b && a)
     and-swap true true = refl
@@ -89,7 +108,8 @@ filter-swap p q xs = filter-twice p q (λ x. q x && p x) (λ x. refl) xs ∙ sym
 
 -- old entries may go before or after a new one comes
 pub fresh-replaced : (ageing : ℕ) (es : List Entry) (e : Entry) → 0 < ageing
-    → fresh_entries ageing e.learnt (without_station e es ++ e ∷ []) ≡ without_station e (fresh_entries ageing e.learnt es) ++ e ∷ []
+    → fresh_entries ageing e.learnt (without_station e es ++ e ∷ []) ≡ without_station e
+    (fresh_entries ageing e.learnt es) ++ e ∷ []
 fresh-replaced ageing es e h =
     let fresh : is_fresh ageing e.learnt (sighting_of e) ≡ true = grind (arith, nat_tests) in
     filter-append (λ f. is_fresh ageing e.learnt (sighting_of f)) (without_station e es) (e ∷ [])
@@ -99,11 +119,15 @@ fresh-replaced ageing es e h =
 -- the first that passes is the first of those that pass
 first-head : {X : Type 0} (p : X → Bool) (xs : List X) → first p xs ≡ slice_get (filter p xs) 0
 first-head p [] = refl
-first-head p (x ∷ xs) = elim (p x) as (λ b. cond b (Some x) (first p xs) ≡ slice_get (cond b (x ∷ filter p xs) (filter p xs)) 0) [ true ↦ refl | false ↦ first-head p xs ]
+first-head p (x ∷ xs) = elim (p x) as
+    (λ b. cond b (Some x) (first p xs) ≡ slice_get (cond b (x ∷ filter p xs) (filter p xs)) 0)
+    [ true ↦ refl | false ↦ first-head p xs ]
 
 -- the station's entry, if it is fresh, tells where the station is
-pub where-found : (limit ageing clock now vid : ℕ) (mac : List ℕ) (es : List Entry) (o : Option Entry) → filter (λ e. is_sighted vid mac (sighting_of e)) es ≡ option_to_list o
-    → where_in (table_of limit ageing clock es) now vid mac ≡ option_map (λ s. s.port) (slice_get (filter (is_fresh ageing now) (sightings (option_to_list o))) 0)
+pub where-found : (limit ageing clock now vid : ℕ) (mac : List ℕ) (es : List Entry) (o : Option Entry)
+    → filter (λ e. is_sighted vid mac (sighting_of e)) es ≡ option_to_list o
+    → where_in (table_of limit ageing clock es) now vid mac ≡ option_map (λ s. s.port)
+    (slice_get (filter (is_fresh ageing now) (sightings (option_to_list o))) 0)
 where-found limit ageing clock now vid mac es o h =
     ap (option_map (λ s. s.port)) (
     first-head (is_sighted vid mac) (filter (is_fresh ageing now) (sightings es))
@@ -112,7 +136,8 @@ where-found limit ageing clock now vid mac es o h =
     )
 
 -- a table keeps what passes a test
-pub IsKept-filter : (limit ageing clock : ℕ) (p : Entry → Bool) (es : List Entry) → IsKept limit ageing clock es → IsKept limit ageing clock (filter p es)
+pub IsKept-filter : (limit ageing clock : ℕ) (p : Entry → Bool) (es : List Entry) → IsKept limit ageing clock es
+    → IsKept limit ageing clock (filter p es)
 IsKept-filter limit ageing clock p es k = record {
   ageing_is = k.ageing_is;
   fits = let n = k.fits in omega (arith, filter-shorter p es);
@@ -121,11 +146,14 @@ IsKept-filter limit ageing clock p es k = record {
 }
 
 -- at a later clock it keeps the same
-pub IsKept-later : (limit ageing clock now : ℕ) (es : List Entry) → clock ≤ now → IsKept limit ageing clock es → IsKept limit ageing now es
-IsKept-later limit ageing clock now es h k = record { ageing_is = k.ageing_is; fits = k.fits; order = k.order; before = before-later clock now es h k.before }
+pub IsKept-later : (limit ageing clock now : ℕ) (es : List Entry) → clock ≤ now → IsKept limit ageing clock es
+    → IsKept limit ageing now es
+IsKept-later limit ageing clock now es h k =
+    record { ageing_is = k.ageing_is; fits = k.fits; order = k.order; before = before-later clock now es h k.before }
 
 -- and one more, that is learnt by the clock, where there is room
-pub IsKept-push : (limit ageing : ℕ) (es : List Entry) (e : Entry) → IsKept limit ageing e.learnt es → length es < limit → IsKept limit ageing e.learnt (es ++ e ∷ [])
+pub IsKept-push : (limit ageing : ℕ) (es : List Entry) (e : Entry) → IsKept limit ageing e.learnt es
+    → length es < limit → IsKept limit ageing e.learnt (es ++ e ∷ [])
 IsKept-push limit ageing es e k room = record {
   ageing_is = k.ageing_is;
   fits = omega (arith, length-append es (e ∷ []));
@@ -134,22 +162,27 @@ IsKept-push limit ageing es e k room = record {
 }
 
 -- it keeps the entries that stay where one more is to come
-pub IsKept-room : (limit ageing now : ℕ) (es : List Entry) → IsKept limit ageing now es → IsKept limit ageing now (entries_with_room limit ageing now es)
+pub IsKept-room : (limit ageing now : ℕ) (es : List Entry) → IsKept limit ageing now es
+    → IsKept limit ageing now (entries_with_room limit ageing now es)
 IsKept-room limit ageing now es k =
     elim (nat_le limit (length es)) as (λ b. IsKept limit ageing now (cond b (fresh_entries ageing now es) es))
     [ true ↦ IsKept-filter limit ageing now (λ e. is_fresh ageing now (sighting_of e)) es k | false ↦ k ]
 
 -- there is room for it unless as many are live as may be kept
-pub room-left : (limit ageing now : ℕ) (es : List Entry) → nat_le limit (length (fresh_entries ageing now es)) ≡ false → length (entries_with_room limit ageing now es) < limit
+pub room-left : (limit ageing now : ℕ) (es : List Entry) → nat_le limit (length (fresh_entries ageing now es)) ≡ false
+    → length (entries_with_room limit ageing now es) < limit
 room-left limit ageing now es h =
-    elim (nat_le limit (length es)) as (λ b. nat_le limit (length es) ≡ b → length (cond b (fresh_entries ageing now es) es) < limit)
+    elim (nat_le limit (length es)) as
+    (λ b. nat_le limit (length es) ≡ b → length (cond b (fresh_entries ageing now es) es) < limit)
     [ true ↦ λ f. grind (arith, nat_tests) | false ↦ λ f. grind (arith, nat_tests) ] refl
 
 -- where as many are kept as may be, as many are live if the oldest is
-pub full-fresh : (limit ageing now : ℕ) (es : List Entry) (e : Entry) → InOrder es → length es ≤ limit → limit ≤ length es → Some e ≡ slice_get es 0
+pub full-fresh : (limit ageing now : ℕ) (es : List Entry) (e : Entry) → InOrder es → length es ≤ limit
+    → limit ≤ length es → Some e ≡ slice_get es 0
     → is_fresh ageing now (sighting_of e) ≡ nat_le limit (length (fresh_entries ageing now es))
 full-fresh limit ageing now es e o fits full is =
-    elim (is_fresh ageing now (sighting_of e)) as (λ b. is_fresh ageing now (sighting_of e) ≡ b → b ≡ nat_le limit (length (fresh_entries ageing now es))) [
+    elim (is_fresh ageing now (sighting_of e)) as (λ b. is_fresh ageing now (sighting_of e) ≡ b → b ≡ nat_le limit
+    (length (fresh_entries ageing now es))) [
       | true ↦ λ f. let same = ap length (oldest-fresh ageing now es e o is f) in grind (arith, nat_tests)
       | false ↦ λ f. let fewer = oldest-old-fewer ageing now es e is f in grind (arith, nat_tests)
     ] refl

@@ -1,5 +1,7 @@
 -- The bridge's ports send what waits there.
-use Rattle.std.proofs.Common.{◌≡◌, ℕ, suc, ◌+◌, ◌^◌, ◌<◌, ◌≤◌, ◌==◌, ◌⊎◌, inl, inr, max, cond, true, false, nat_le, nat_lt, List, [], ◌∷◌, ◌++◌, length, refl, sym, ap, subst, ◌∙◌, arith, append-nil, ne_eqb}
+use Rattle.std.proofs.Common.{◌≡◌, ℕ, suc, ◌+◌, ◌^◌, ◌<◌, ◌≤◌, ◌==◌, ◌⊎◌, inl, inr, max, cond, true, false, nat_le}
+use Rattle.std.proofs.Common.{nat_lt, List, [], ◌∷◌, ◌++◌, length, refl, sym, ap, subst, ◌∙◌, arith, append-nil}
+use Rattle.std.proofs.Common.{ne_eqb}
 use Rattle.std.proofs.lemmas.Bool.{le-leb, eq-eqb}
 use Rattle.std.proofs.lemmas.Bool.Decides.{leb_tells}
 use Rattle.std.specs.List.{AllByRecursion}
@@ -25,14 +27,17 @@ gtb a b h = elim (leb_tells a b) [ inl r ↦ absurd (omega (arith, r.1, h)) | in
 -- the only one that waits leaves nothing behind
 alone : (ws : List Waiting) → length ws ≤ 1 → length (without (highest ws) ws) ≡ 0
 alone [] few = refl
-alone (w ∷ []) few = let top : (w.class == max w.class 0) ≡ true = eq-eqb w.class (max w.class 0) (omega arith) in ap (λ b. length (cond b [] (w ∷ []))) top
+alone (w ∷ []) few = let top : (w.class == max w.class 0) ≡ true = eq-eqb w.class (max w.class 0) (omega arith) in ap
+    (λ b. length (cond b [] (w ∷ []))) top
 alone (w ∷ v ∷ ws) few = absurd (omega arith)
 
 -- a frame leaves
 waiting-sent : (plan : Plan) (r p : ℕ) (steps : List Step) (item : Item)
-    → waiting plan 1 r (steps ++ Transmitted p item ∷ []) ≡ cond (p == r) (without (highest (waiting plan 1 r steps)) (waiting plan 1 r steps)) (waiting plan 1 r steps)
+    → waiting plan 1 r (steps ++ Transmitted p item ∷ []) ≡ cond (p == r)
+    (without (highest (waiting plan 1 r steps)) (waiting plan 1 r steps)) (waiting plan 1 r steps)
 waiting-sent plan r p steps item =
-    waiting_from-append plan 1 r [] steps (Transmitted p item) ∙ ap (λ ws. cond (p == r) (without (highest ws) ws) ws) (append-nil (waiting plan 1 r steps))
+    waiting_from-append plan 1 r [] steps (Transmitted p item) ∙ ap (λ ws. cond (p == r) (without (highest ws) ws) ws)
+    (append-nil (waiting plan 1 r steps))
 
 -- what a port's sending changes
 pub record Drained (ports q : ℕ) (old new : BridgeView) : Type 0 where
@@ -66,22 +71,31 @@ drained ports q old new alone_there (one item some appended) =
       counted = ap (λ (b : BridgeView). b.is_kept) appended ∙ alone_there.counted;
     } in
     let earlier = old.steps in
-    let left : (n : ℕ) → waits new n ≡ length (cond (q == n) (without (highest (waiting plan 1 n earlier)) (waiting plan 1 n earlier)) (waiting plan 1 n earlier)) =
-    λ n. waits-alone ports new alone_here n ∙ ap (λ ms. length (waiting plan 1 n ms)) steps ∙ ap length (waiting-sent plan n q earlier item) in
+    let left : (n : ℕ) → waits new n ≡ length
+    (cond (q == n) (without (highest (waiting plan 1 n earlier)) (waiting plan 1 n earlier))
+    (waiting plan 1 n earlier)) =
+    λ n. waits-alone ports new alone_here n ∙ ap (λ ms. length (waiting plan 1 n ms)) steps
+    ∙ ap length (waiting-sent plan n q earlier item) in
     record {
       alone = alone_here;
       same = ap receipts steps ∙ flat_map-more receipt_by earlier (Transmitted q item) ∙ append-nil (receipts earlier);
-      clear = λ all. subst (AllByRecursion IsClear) (sym steps) (All-append IsClear earlier (Transmitted q item ∷ []) all (tt, tt));
-      here = λ few. left q ∙ ap (λ b. length (cond b (without (highest (waiting plan 1 q earlier)) (waiting plan 1 q earlier)) (waiting plan 1 q earlier))) (eqb-refl q)
+      clear = λ all. subst (AllByRecursion IsClear) (sym steps)
+          (All-append IsClear earlier (Transmitted q item ∷ []) all (tt, tt));
+      here = λ few. left q ∙ ap
+          (λ b. length (cond b (without (highest (waiting plan 1 q earlier)) (waiting plan 1 q earlier))
+          (waiting plan 1 q earlier))) (eqb-refl q)
           ∙ alone (waiting plan 1 q earlier) (subst (λ k. k ≤ 1) (waits-alone ports old alone_there q) few);
-      others = λ n ne. left n ∙ ap (λ b. length (cond b (without (highest (waiting plan 1 n earlier)) (waiting plan 1 n earlier)) (waiting plan 1 n earlier))) (ne_eqb q n (λ e. ne (sym e)))
+      others = λ n ne. left n ∙ ap
+          (λ b. length (cond b (without (highest (waiting plan 1 n earlier)) (waiting plan 1 n earlier))
+          (waiting plan 1 n earlier))) (ne_eqb q n (λ e. ne (sym e)))
           ∙ sym (waits-alone ports old alone_there n);
       few = omega (arith, ap length steps, grown-length earlier (Transmitted q item));
       none = λ e. absurd (omega (arith, e, some));
     }
 
 -- before the first port
-pub draining_start : (ports port : ℕ) (bridge : BridgeView) → 1 ≤ port → IsWaiting ports port bridge → IsDraining ports port 1 bridge bridge
+pub draining_start : (ports port : ℕ) (bridge : BridgeView) → 1 ≤ port → IsWaiting ports port bridge
+    → IsDraining ports port 1 bridge bridge
 draining_start ports port bridge from waiting = record {
   alone = waiting.alone;
   same = refl;
@@ -89,7 +103,8 @@ draining_start ports port bridge from waiting = record {
   done = λ n low high top. absurd (omega (arith, low, high));
   left = waiting.near;
   own = waiting.own;
-  few = let flag : nat_lt port 1 ≡ false = gtb (suc port) 1 (omega (arith, from)) in rw flag (omega (arith, waiting.few));
+  few = let flag : nat_lt port 1 ≡ false = gtb (suc port) 1 (omega (arith, from)) in rw flag
+      (omega (arith, waiting.few));
 }
 
 -- past a port
@@ -104,7 +119,8 @@ flag_past port q ne =
     ]
   where
     by_cases : {port q : ℕ} → q < suc port → (q ≡ port → ⊥) → q + 1 < suc port
-    by_cases {port} {q} low ne = elim (leb_tells (q + 1) port) [ inl l ↦ omega (arith, l.1) | inr l ↦ absurd (ne (omega (arith, low, l.1))) ]
+    by_cases {port} {q} low ne =
+        elim (leb_tells (q + 1) port) [ inl l ↦ omega (arith, l.1) | inr l ↦ absurd (ne (omega (arith, low, l.1))) ]
 
 flag_at : (port : ℕ) → nat_lt port (port + 1) ≡ true
 flag_at port = le-leb (suc port) (port + 1) (omega arith)
@@ -116,7 +132,8 @@ low_or : (n q : ℕ) → n < q + 1 → (n < q) ⊎ (n ≡ q)
 low_or n q h = elim (leb_tells (suc n) q) [ inl l ↦ inl (omega (arith, l.1)) | inr l ↦ inr (omega (arith, h, l.1)) ]
 
 -- past each port
-pub draining_next : (ports port q : ℕ) (old mid new : BridgeView) → IsDraining ports port q old mid → 1 ≤ q → q ≤ ports → HasDrained q mid new → IsDraining ports port (q + 1) old new
+pub draining_next : (ports port q : ℕ) (old mid new : BridgeView) → IsDraining ports port q old mid → 1 ≤ q
+    → q ≤ ports → HasDrained q mid new → IsDraining ports port (q + 1) old new
 draining_next ports port q old mid new so_far low high sent =
     let drain = drained ports q mid new so_far.alone sent in
     let told : length (receipts new.steps) ≡ length (receipts mid.steps) = ap length drain.same in
@@ -147,7 +164,8 @@ draining_next ports port q old mid new so_far low high sent =
     }
 
 -- where the list of steps is full, many frames were received
-pub full_then_many : (ports port q : ℕ) (old bridge : BridgeView) → ports ≤ 16 → 1 ≤ port → port ≤ ports → IsDraining ports port q old bridge → q ≤ ports → 0 < waits bridge q
+pub full_then_many : (ports port q : ℕ) (old bridge : BridgeView) → ports ≤ 16 → 1 ≤ port → port ≤ ports
+    → IsDraining ports port q old bridge → q ≤ ports → 0 < waits bridge q
     → length bridge.steps ≡ bridge.plan.steps → 2 ^ 60 ≤ length (receipts old.steps)
 full_then_many ports port q old bridge most from to so_far high some full =
     let told : length (receipts bridge.steps) ≡ length (receipts old.steps) = ap length so_far.same in
@@ -156,15 +174,21 @@ full_then_many ports port q old bridge most from to so_far high some full =
       | inl l ↦ let at = rw l.0 at so_far.few in omega (arith, at, full, limit, told, high, most)
       | inr l ↦ let at = rw l.0 at so_far.few in elim (same_or_not q port) [
         | inl e ↦ absurd (omega (arith, some, subst (λ k. waits bridge k ≡ 0) (sym e) so_far.own))
-        | inr other ↦ elim (leb_tells (q + 1) port) [ inl below ↦ omega (arith, at, full, limit, told, below.1, to, most) | inr above ↦ absurd (other (omega (arith, l.1, above.1))) ]
+        | inr other ↦ elim (leb_tells (q + 1) port) [
+          | inl below ↦ omega (arith, at, full, limit, told, below.1, to, most)
+          | inr above ↦ absurd
+              (other (omega (arith, l.1, above.1)))
+        ]
       ]
     ]
 
 -- at the end the bridge is quiet again
-pub quiet_again : (ports port : ℕ) (old bridge : BridgeView) → ports ≤ 16 → port ≤ ports → IsDraining ports port (ports + 1) old bridge → AllByRecursion IsClear old.steps → IsQuiet ports bridge
+pub quiet_again : (ports port : ℕ) (old bridge : BridgeView) → ports ≤ 16 → port ≤ ports
+    → IsDraining ports port (ports + 1) old bridge → AllByRecursion IsClear old.steps → IsQuiet ports bridge
 quiet_again ports port old bridge most to end clear = record {
   alone = end.alone;
-  few = let flag : nat_lt port (ports + 1) ≡ true = le-leb (suc port) (ports + 1) (omega (arith, to)) in let at = rw flag at end.few in omega (arith, at, most);
+  few = let flag : nat_lt port (ports + 1) ≡ true = le-leb (suc port) (ports + 1) (omega (arith, to)) in let at =
+      rw flag at end.few in omega (arith, at, most);
   clear = end.clear clear;
   calm = λ n low high. end.done n low (omega (arith, high)) high;
 }

@@ -1,5 +1,6 @@
 -- The plan of one bridge that stands alone: its customer ports, and that it is sound.
-use Rattle.std.proofs.Common.{◌≡◌, ℕ, zero, suc, ◌+◌, ◌<◌, ◌≤◌, ◌⊎◌, inl, inr, Bool, true, false, List, [], ◌∷◌, ◌++◌, Some, slice_get, length, map, refl, sym, ap, subst, ◌∙◌, arith, ◌==◌, ◌&&◌, nat_eq}
+use Rattle.std.proofs.Common.{◌≡◌, ℕ, zero, suc, ◌+◌, ◌<◌, ◌≤◌, ◌⊎◌, inl, inr, Bool, true, false, List, [], ◌∷◌, ◌++◌}
+use Rattle.std.proofs.Common.{Some, slice_get, length, map, refl, sym, ap, subst, ◌∙◌, arith, ◌==◌, ◌&&◌, nat_eq}
 use Rattle.std.proofs.lemmas.List.{map-append, length_push}
 use Rattle.std.specs.List.{AllByRecursion, IsDistinct}
 use Rattle.pb_frame.specs.Admission.{same}
@@ -60,27 +61,33 @@ flat_customer-at ports zero l h = absurd (omega (arith, l))
 flat_customer-at ports (suc k) l h = stands_at ports k (omega (arith, h))
 
 -- and no others
-pub flat_customer-only : (ports n : ℕ) (c : CustomerPlan) → numbered (flat_customers ports) n ≡ Some c → (1 ≤ n) × (n ≤ ports) × (c ≡ flat_customer n)
+pub flat_customer-only : (ports n : ℕ) (c : CustomerPlan) → numbered (flat_customers ports) n ≡ Some c
+    → (1 ≤ n) × (n ≤ ports) × (c ≡ flat_customer n)
 flat_customer-only ports zero c h = cc
 flat_customer-only ports (suc k) c h =
     let i : k < ports = rw (length-flat_customers ports) at (within (flat_customers ports) k c h) in
     (omega arith, omega (arith, i), Some-injective (sym h ∙ stands_at ports k i))
 
 -- what each of the customer ports has, all have
-every_customer : (P : CustomerPlan → Type 0) (n : ℕ) → ((k : ℕ) → 1 ≤ k → k ≤ n → P (flat_customer k)) → AllByRecursion P (flat_customers n)
+every_customer : (P : CustomerPlan → Type 0) (n : ℕ) → ((k : ℕ) → 1 ≤ k → k ≤ n → P (flat_customer k))
+    → AllByRecursion P (flat_customers n)
 every_customer P zero h = tt
 every_customer P (suc n) h =
-    All-append P (flat_customers n) (flat_customer (suc n) ∷ []) (every_customer P n (λ k l u. h k l (omega (arith, u))))
+    All-append P (flat_customers n) (flat_customer (suc n) ∷ [])
+    (every_customer P n (λ k l u. h k l (omega (arith, u))))
     (h (suc n) (omega arith) (omega arith), tt)
 
 -- one more key, which is none of those before it
-distinct_push : {K : Type 0} (e : K → K → Bool) (ks : List K) (k : K) → IsDistinct e ks → AllByRecursion (λ x. e x k ≡ false) ks → IsDistinct e (ks ++ k ∷ [])
+distinct_push : {K : Type 0} (e : K → K → Bool) (ks : List K) (k : K) → IsDistinct e ks
+    → AllByRecursion (λ x. e x k ≡ false) ks → IsDistinct e (ks ++ k ∷ [])
 unfolding IsDistinct
 distinct_push e [] k d a = (tt, tt)
-distinct_push e (x ∷ ks) k d a = (All-append (λ y. e x y ≡ false) ks (k ∷ []) d.0 (a.0, tt), distinct_push e ks k d.1 a.1)
+distinct_push e (x ∷ ks) k d a =
+    (All-append (λ y. e x y ≡ false) ks (k ∷ []) d.0 (a.0, tt), distinct_push e ks k d.1 a.1)
 
 -- a key of the customer ports that differs wherever their numbers do
-distinct_customers : {K : Type 0} (e : K → K → Bool) (f : CustomerPlan → K) → ((a b : ℕ) → a < b → e (f (flat_customer a)) (f (flat_customer b)) ≡ false)
+distinct_customers : {K : Type 0} (e : K → K → Bool) (f : CustomerPlan → K)
+    → ((a b : ℕ) → a < b → e (f (flat_customer a)) (f (flat_customer b)) ≡ false)
     → (n : ℕ) → IsDistinct e (map f (flat_customers n))
 unfolding IsDistinct
 distinct_customers e f apart zero = tt
@@ -88,7 +95,8 @@ distinct_customers e f apart (suc n) =
     subst (IsDistinct e) (sym (map-append f (flat_customers n) (flat_customer (suc n) ∷ [])))
     (distinct_push e (map f (flat_customers n)) (f (flat_customer (suc n))) (distinct_customers e f apart n)
     (All-map (λ x. e x (f (flat_customer (suc n))) ≡ false) f (flat_customers n)
-    (every_customer (λ c. e (f c) (f (flat_customer (suc n))) ≡ false) n (λ k l u. apart k (suc n) (omega (arith, u))))))
+    (every_customer (λ c. e (f c) (f (flat_customer (suc n))) ≡ false) n
+    (λ k l u. apart k (suc n) (omega (arith, u))))))
 
 -- names differ
 names_apart : (a b : ℕ) → a < b → (nat_eq (96 + a) (96 + b) && true) ≡ false
@@ -137,8 +145,10 @@ flat_sound ports l h = record {
     few = let n = length-flat_customers ports in omega (arith, n, h)
 
 -- the first that passes a test, and its number
-first-at : {X : Type 0} (test : X → Bool) (i : ℕ) (xs : List X) (k : ℕ) (x : X) → slice_get xs k ≡ Some x → test x ≡ true
-    → ((j : ℕ) (y : X) → j < k → slice_get xs j ≡ Some y → test y ≡ false) → (first test xs ≡ Some x) × (number_of test i xs ≡ i + k)
+first-at : {X : Type 0} (test : X → Bool) (i : ℕ) (xs : List X) (k : ℕ) (x : X) → slice_get xs k ≡ Some x
+    → test x ≡ true
+    → ((j : ℕ) (y : X) → j < k → slice_get xs j ≡ Some y → test y ≡ false) → (first test xs ≡ Some x)
+    × (number_of test i xs ≡ i + k)
 first-at test i [] k x h t before = cc
 first-at test i (y ∷ ys) zero x h t before =
     let passes : test y ≡ true = subst (λ z. test z ≡ true) (sym (Some-injective h)) t in
@@ -150,16 +160,20 @@ first-at test i (y ∷ ys) (suc k) x h t before =
 
 -- the customer port of a number is the first at the local port of that number
 first_there : (ports n : ℕ) → 1 ≤ n → n ≤ ports
-    → (first (is_customer_at 1 n) (flat_customers ports) ≡ Some (flat_customer n)) × (number_of (is_customer_at 1 n) 1 (flat_customers ports) ≡ n)
+    → (first (is_customer_at 1 n) (flat_customers ports) ≡ Some (flat_customer n))
+    × (number_of (is_customer_at 1 n) 1 (flat_customers ports) ≡ n)
 first_there ports zero l h = absurd (omega (arith, l))
 first_there ports (suc k) l h = (found.0, found.1 ∙ omega arith)
   where
     here : (m : ℕ) → ((1 == 1) && (m == m)) ≡ true
     here m = grind arith
 
-    found : (first (is_customer_at 1 (suc k)) (flat_customers ports) ≡ Some (flat_customer (suc k))) × (number_of (is_customer_at 1 (suc k)) 1 (flat_customers ports) ≡ 1 + k)
-    found = first-at (is_customer_at 1 (suc k)) 1 (flat_customers ports) k (flat_customer (suc k)) (flat_customer-at ports (suc k) l h) (here (suc k))
-        (λ j c below at. subst (λ d. is_customer_at 1 (suc k) d ≡ false) (sym (flat_customer-only ports (suc j) c at).2) (ports_apart (suc j) (suc k) (omega (arith, below))))
+    found : (first (is_customer_at 1 (suc k)) (flat_customers ports) ≡ Some (flat_customer (suc k)))
+        × (number_of (is_customer_at 1 (suc k)) 1 (flat_customers ports) ≡ 1 + k)
+    found = first-at (is_customer_at 1 (suc k)) 1 (flat_customers ports) k (flat_customer (suc k))
+        (flat_customer-at ports (suc k) l h) (here (suc k))
+        (λ j c below at. subst (λ d. is_customer_at 1 (suc k) d ≡ false)
+        (sym (flat_customer-only ports (suc j) c at).2) (ports_apart (suc j) (suc k) (omega (arith, below))))
 
 -- a customer port stands at the local port of its number
 pub flat_port-at : (ports n : ℕ) → 1 ≤ n → n ≤ ports → port_at (flat_plan ports) 1 n ≡ Customer (flat_customer n)

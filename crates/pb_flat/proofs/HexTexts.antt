@@ -1,5 +1,6 @@
 -- Hexadecimal texts.
-use Rattle.std.proofs.Common.{◌≡◌, ℕ, suc, ◌<◌, ◌/◌, ◌%◌, List, [], ◌∷◌, ◌++◌, length, get_or, refl, sym, ap, ◌∙◌, arith, map}
+use Rattle.std.proofs.Common.{◌≡◌, ℕ, suc, ◌<◌, ◌/◌, ◌%◌, List, [], ◌∷◌, ◌++◌, length, get_or, refl, sym, ap, ◌∙◌}
+use Rattle.std.proofs.Common.{arith, map}
 use Rattle.std.specs.List.{range_with_len}
 use Rattle.std.proofs.lemmas.List.FromFn.{get_or-map-range_with_len}
 use Rattle.hex.specs.Hex.{lower_digits, encode_lower, encode_with}
@@ -15,7 +16,8 @@ same_digit n h =
     ∙ ap (λ z. get_or z n 0) same_digits
     ∙ get_or-map-range_with_len lower_digit 0 16 n n 0 h (omega arith)
 
-pub same_text : (octets : List ℕ) → ((k : ℕ) → k < length octets → get_or octets k 0 < 256) → encode_lower octets ≡ hex_text octets
+pub same_text : (octets : List ℕ) → ((k : ℕ) → k < length octets → get_or octets k 0 < 256)
+    → encode_lower octets ≡ hex_text octets
 unfolding encode_with
 same_text [] fits = refl
 same_text (b ∷ octets) fits =

@@ -1,5 +1,7 @@
 -- A line has one reading.
-use Rattle.std.proofs.Common.{◌≡◌, ◌≢◌, ℕ, zero, suc, ◌+◌, ◌-◌, ◌*◌, ◌<◌, ◌≤◌, Bool, true, false, ◌&&◌, List, [], ◌∷◌, ◌++◌, length, take, drop, get_or, Some, None, is_some, refl, sym, ap, ◌∙◌, arith, codes, cond, leb, leb-true, length-drop, nat_eq}
+use Rattle.std.proofs.Common.{◌≡◌, ◌≢◌, ℕ, zero, suc, ◌+◌, ◌-◌, ◌*◌, ◌<◌, ◌≤◌, Bool, true, false, ◌&&◌, List, [], ◌∷◌}
+use Rattle.std.proofs.Common.{◌++◌, length, take, drop, get_or, Some, None, is_some, refl, sym, ap, ◌∙◌, arith, codes}
+use Rattle.std.proofs.Common.{cond, leb, leb-true, length-drop, nat_eq}
 use Rattle.std.specs.List.{list_all, starts_with}
 use Rattle.std.proofs.lemmas.List.{take_all}
 use Rattle.std.proofs.lemmas.Bool.{and_parts}
@@ -9,29 +11,38 @@ use Rattle.pb_frame.specs.Hex.{IsHex, is_digit}
 use Rattle.pb_flat.specs.Words.{is_first, is_decimal, port_of, HasNoSpace, IsFrameLine}
 
 first_not_space : (a : ℕ) → is_first a ≡ true → a ≢ 32
-first_not_space a h = λ e. let low : 49 ≤ a = leb-true 49 a (and_parts (leb 49 a) (leb a 57) h).0 in absurd (omega arith)
+first_not_space a h = λ e. let low : 49 ≤ a = leb-true 49 a (and_parts (leb 49 a) (leb a 57) h).0 in absurd
+    (omega arith)
 
 decimal_not_space : (a : ℕ) → is_decimal a ≡ true → a ≢ 32
-decimal_not_space a h = λ e. let low : 48 ≤ a = leb-true 48 a (and_parts (leb 48 a) (leb a 57) h).0 in absurd (omega arith)
+decimal_not_space a h = λ e. let low : 48 ≤ a = leb-true 48 a (and_parts (leb 48 a) (leb a 57) h).0 in absurd
+    (omega arith)
 
 test_of : (b : Bool) (n p : ℕ) → cond b (Some n) None ≡ Some p → b ≡ true
 test_of true n p e = refl
 test_of false n p e = cc
 
 -- a port's digits have no space
-pub port_has_no_space : (digits : List ℕ) (p : ℕ) → port_of digits ≡ Some p → (k : ℕ) → k < length digits → get_or digits k 0 ≢ 32
+pub port_has_no_space : (digits : List ℕ) (p : ℕ) → port_of digits ≡ Some p → (k : ℕ) → k < length digits
+    → get_or digits k 0 ≢ 32
 port_has_no_space [] p e k h = absurd (omega arith)
 port_has_no_space (a ∷ []) p e zero h = first_not_space a (test_of (is_first a) (a - 48) p e)
 port_has_no_space (a ∷ []) p e (suc k) h = absurd (omega arith)
-port_has_no_space (a ∷ b ∷ []) p e zero h = first_not_space a (and_parts (is_first a) (is_decimal b) (test_of (is_first a && is_decimal b) ((a - 48) * 10 + (b - 48)) p e)).0
-port_has_no_space (a ∷ b ∷ []) p e (suc zero) h = decimal_not_space b (and_parts (is_first a) (is_decimal b) (test_of (is_first a && is_decimal b) ((a - 48) * 10 + (b - 48)) p e)).1
+port_has_no_space (a ∷ b ∷ []) p e zero h =
+    first_not_space a (and_parts (is_first a) (is_decimal b)
+    (test_of (is_first a && is_decimal b) ((a - 48) * 10 + (b - 48)) p e)).0
+port_has_no_space (a ∷ b ∷ []) p e (suc zero) h =
+    decimal_not_space b (and_parts (is_first a) (is_decimal b)
+    (test_of (is_first a && is_decimal b) ((a - 48) * 10 + (b - 48)) p e)).1
 port_has_no_space (a ∷ b ∷ []) p e (suc (suc k)) h = absurd (omega arith)
 port_has_no_space (a ∷ b ∷ c ∷ []) p e zero h =
     let all = test_of (is_first a && is_decimal b && is_decimal c) ((a - 48) * 100 + (b - 48) * 10 + (c - 48)) p e in
-    first_not_space a (and_parts (is_first a) (is_decimal b) (and_parts (is_first a && is_decimal b) (is_decimal c) all).0).0
+    first_not_space a (and_parts (is_first a) (is_decimal b)
+    (and_parts (is_first a && is_decimal b) (is_decimal c) all).0).0
 port_has_no_space (a ∷ b ∷ c ∷ []) p e (suc zero) h =
     let all = test_of (is_first a && is_decimal b && is_decimal c) ((a - 48) * 100 + (b - 48) * 10 + (c - 48)) p e in
-    decimal_not_space b (and_parts (is_first a) (is_decimal b) (and_parts (is_first a && is_decimal b) (is_decimal c) all).0).1
+    decimal_not_space b (and_parts (is_first a) (is_decimal b)
+    (and_parts (is_first a && is_decimal b) (is_decimal c) all).0).1
 port_has_no_space (a ∷ b ∷ c ∷ []) p e (suc (suc zero)) h =
     let all = test_of (is_first a && is_decimal b && is_decimal c) ((a - 48) * 100 + (b - 48) * 10 + (c - 48)) p e in
     decimal_not_space c (and_parts (is_first a && is_decimal b) (is_decimal c) all).1
@@ -74,10 +85,12 @@ IsHex-length (x ∷ y ∷ hex) [] h = absurd h
 IsHex-length (x ∷ y ∷ hex) (b ∷ frame) h = let rest = IsHex-length hex frame h.1 in omega arith
 
 -- the parts that are read are the line's parts
-pub same_parts : (limit ports : ℕ) (line digits hex : List ℕ) (port : ℕ) (frame : List ℕ) (l : IsFrameLine limit ports line port frame) → HasNoSpace digits
+pub same_parts : (limit ports : ℕ) (line digits hex : List ℕ) (port : ℕ) (frame : List ℕ)
+    (l : IsFrameLine limit ports line port frame) → HasNoSpace digits
     → drop 3 line ≡ digits ++ 32 ∷ hex → (l.digits ≡ digits) × (l.hex ≡ hex)
 same_parts limit ports line digits hex port frame l none e =
-    split_unique l.digits digits l.hex hex (port_has_no_space l.digits port l.number) none (sym (ap (λ z. drop 3 z) l.spelled) ∙ e)
+    split_unique l.digits digits l.hex hex (port_has_no_space l.digits port l.number) none
+    (sym (ap (λ z. drop 3 z) l.spelled) ∙ e)
 
 -- a slice from an index on
 pub slice_from : (xs : List ℕ) (i : ℕ) → take (length xs - i) (drop i xs) ≡ drop i xs

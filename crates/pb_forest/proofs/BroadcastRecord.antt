@@ -73,9 +73,11 @@ relays from came to goes = Receive from came (Some New) (Relayed (to ∷ []) [])
 
 abbrev the_record : Record
 the_record = record {
-  bridges = relays 2 (an_item 0 bare_wire) 1 (an_item 1 tagged_wire) ∷ relays 1 (an_item 1 tagged_wire) 2 (an_item 2 bare_wire) ∷ [];
+  bridges = relays 2 (an_item 0 bare_wire) 1 (an_item 1 tagged_wire) ∷ relays 1 (an_item 1 tagged_wire) 2
+      (an_item 2 bare_wire) ∷ [];
   lanes = (Take 0 (an_item 1 tagged_wire) false ∷ Put (an_item 1 tagged_wire) ∷ []) ∷ [] ∷ [];
-  customers = (Poll (an_item 0 bare_wire) ∷ Feed (an_item 0 bare_wire) ∷ []) ∷ (Deliver (an_item 2 bare_wire) false ∷ []) ∷ [];
+  customers = (Poll (an_item 0 bare_wire) ∷ Feed (an_item 0 bare_wire) ∷ [])
+      ∷ (Deliver (an_item 2 bare_wire) false ∷ []) ∷ [];
 }
 
 -- it is lawful
@@ -110,7 +112,8 @@ lawful = record {
     bridges (suc (suc zero)) = second
     bridges (suc (suc (suc n))) = tt
 
-    links : (number : ℕ) (link : LinkPlan) → numbered the_plan.links number ≡ Some link → IsLawfulLink the_record number link
+    links : (number : ℕ) (link : LinkPlan) → numbered the_plan.links number ≡ Some link
+        → IsLawfulLink the_record number link
     links zero link h = cc
     links (suc zero) link h = subst (IsLawfulLink the_record 1) (Some-injective h) lawful_lane
     links (suc (suc n)) link h = cc
@@ -121,18 +124,34 @@ lawful = record {
     ports (suc (suc zero)) = record { kinds = (tt, tt); marked = tt; held = (None, refl) }
     ports (suc (suc (suc n))) = record { kinds = tt; marked = tt; held = (None, refl) }
 
-    customers : (number : ℕ) (c : CustomerPlan) → numbered the_plan.customers number ≡ Some c → MeetsCustomer the_record number c
+    customers : (number : ℕ) (c : CustomerPlan) → numbered the_plan.customers number ≡ Some c
+        → MeetsCustomer the_record number c
     customers zero c h = cc
-    customers (suc zero) c h = subst (MeetsCustomer the_record 1) (Some-injective h) (record { into = ([], refl); out = ([], refl) })
-    customers (suc (suc zero)) c h = subst (MeetsCustomer the_record 2) (Some-injective h) (record { into = ([], refl); out = ([], refl) })
+    customers (suc zero) c h = subst (MeetsCustomer the_record 1) (Some-injective h)
+        (record { into = ([], refl); out = ([], refl) })
+    customers (suc (suc zero)) c h = subst (MeetsCustomer the_record 2) (Some-injective h)
+        (record { into = ([], refl); out = ([], refl) })
     customers (suc (suc (suc n))) c h = cc
 
 -- its plan is sound
 sound : IsSound the_plan
 unfolding IsDistinct
 sound = record {
-  limits = record { bridges = omega arith; links = omega arith; services = omega arith; customers = omega arith; ring = (omega arith, omega arith); steps = (omega arith, omega arith); ageing = (omega arith, omega arith) };
-  names = record { bridges = ((refl, tt), (tt, tt)); links = (tt, tt); services = (tt, tt); customers = ((refl, tt), (tt, tt)) };
+  limits = record {
+    bridges = omega arith;
+    links = omega arith;
+    services = omega arith;
+    customers = omega arith;
+    ring = (omega arith, omega arith);
+    steps = (omega arith, omega arith);
+    ageing = (omega arith, omega arith);
+  };
+  names = record {
+    bridges = ((refl, tt), (tt, tt));
+    links = (tt, tt);
+    services = (tt, tt);
+    customers = ((refl, tt), (tt, tt));
+  };
   bridges = (sound_bridge 1 refl, (sound_bridge 2 refl, tt));
   addresses = ((refl, tt), (tt, tt));
   ends = (sound_end 1 (omega arith, omega arith), (sound_end 2 (omega arith, omega arith), tt));
@@ -147,10 +166,22 @@ sound = record {
     sound_bridge n h = record { address = h; priority = (refl, omega arith); queue = (omega arith, omega arith) }
 
     sound_end : (n : ℕ) → IsNumber n 2 → IsSoundEnd the_plan (an_end n)
-    sound_end n h = record { bridge = h; port = (omega arith, omega arith); cost = (omega arith, omega arith); priority = (refl, omega arith); services = tt }
+    sound_end n h = record {
+      bridge = h;
+      port = (omega arith, omega arith);
+      cost = (omega arith, omega arith);
+      priority = (refl, omega arith);
+      services = tt;
+    }
 
     sound_customer : (n : ℕ) → IsNumber n 2 → IsSoundCustomer the_plan (a_customer n)
-    sound_customer n h = record { bridge = h; port = (omega arith, omega arith); service = (omega arith, omega arith); priority = omega arith; queue = (omega arith, omega arith) }
+    sound_customer n h = record {
+      bridge = h;
+      port = (omega arith, omega arith);
+      service = (omega arith, omega arith);
+      priority = omega arith;
+      queue = (omega arith, omega arith);
+    }
 
 -- its shape is a forest
 abbrev the_rooted : Rooted
@@ -163,12 +194,22 @@ shows : Shows the_plan (start_shape the_plan) 100 the_rooted
 shows = record { parents = refl; depths = refl; ways_up = ways_up; roots = roots; children = children }
   where
     leads : LeadsUp the_plan (start_shape the_plan) 100 the_rooted 2 1
-    leads = record { near = an_end 2; far = an_end 1; crosses = crosses (an_end 2) (an_end 1) (inr (refl, refl)); from = refl; depth = 0; depth_above = refl; depth_here = refl }
+    leads = record {
+      near = an_end 2;
+      far = an_end 1;
+      crosses = crosses (an_end 2) (an_end 1) (inr (refl, refl));
+      from = refl;
+      depth = 0;
+      depth_above = refl;
+      depth_here = refl;
+    }
 
-    ways_up : (bridge number : ℕ) → numbered the_rooted.up bridge ≡ Some (Some number) → LeadsUp the_plan (start_shape the_plan) 100 the_rooted bridge number
+    ways_up : (bridge number : ℕ) → numbered the_rooted.up bridge ≡ Some (Some number)
+        → LeadsUp the_plan (start_shape the_plan) 100 the_rooted bridge number
     ways_up zero number h = cc
     ways_up (suc zero) number h = let e : None ≡ Some number = Some-injective h in cc
-    ways_up (suc (suc zero)) number h = subst (LeadsUp the_plan (start_shape the_plan) 100 the_rooted 2) (Some-injective (Some-injective h)) leads
+    ways_up (suc (suc zero)) number h = subst (LeadsUp the_plan (start_shape the_plan) 100 the_rooted 2)
+        (Some-injective (Some-injective h)) leads
     ways_up (suc (suc (suc n))) number h = cc
 
     roots : (bridge : ℕ) → numbered the_rooted.up bridge ≡ Some None → numbered the_rooted.depth bridge ≡ Some 0
@@ -183,7 +224,8 @@ shows = record { parents = refl; depths = refl; ways_up = ways_up; roots = roots
     only (suc (suc zero)) h = refl
     only (suc (suc (suc n))) h = cc
 
-    children : (number : ℕ) (link : LinkPlan) → numbered the_plan.links number ≡ Some link → is_active the_plan (start_shape the_plan) 100 link ≡ true → HasOneChild the_rooted number
+    children : (number : ℕ) (link : LinkPlan) → numbered the_plan.links number ≡ Some link
+        → is_active the_plan (start_shape the_plan) 100 link ≡ true → HasOneChild the_rooted number
     children zero link h a = cc
     children (suc zero) link h a = record { child = 2; up = refl; only = only }
     children (suc (suc n)) link h a = cc
@@ -197,19 +239,22 @@ handled (suc (suc (suc n))) = tt
 unhindered : IsUnhindered the_plan (start_shape the_plan) 100 the_record the_mark
 unhindered = record { bridges = bridges; lanes = lanes; customers = customers }
   where
-    bridges : (number : ℕ) → AllByRecursion (λ step. hinders the_plan (start_shape the_plan) 100 the_mark number step ≡ false) (steps_of the_record.bridges number)
+    bridges : (number : ℕ) → AllByRecursion (λ step. hinders the_plan (start_shape the_plan) 100 the_mark number step
+        ≡ false) (steps_of the_record.bridges number)
     bridges zero = tt
     bridges (suc zero) = (refl, (refl, tt))
     bridges (suc (suc zero)) = (refl, (refl, tt))
     bridges (suc (suc (suc n))) = tt
 
-    lanes : (number : ℕ) → AllByRecursion (λ step. hinders the_plan (start_shape the_plan) 100 the_mark number step ≡ false) (steps_of the_record.lanes number)
+    lanes : (number : ℕ) → AllByRecursion (λ step. hinders the_plan (start_shape the_plan) 100 the_mark number step
+        ≡ false) (steps_of the_record.lanes number)
     lanes zero = tt
     lanes (suc zero) = (refl, (refl, tt))
     lanes (suc (suc zero)) = tt
     lanes (suc (suc (suc n))) = tt
 
-    customers : (number : ℕ) → AllByRecursion (λ step. hinders the_plan (start_shape the_plan) 100 the_mark number step ≡ false) (steps_of the_record.customers number)
+    customers : (number : ℕ) → AllByRecursion (λ step. hinders the_plan (start_shape the_plan) 100 the_mark number
+        step ≡ false) (steps_of the_record.customers number)
     customers zero = tt
     customers (suc zero) = (refl, (refl, tt))
     customers (suc (suc zero)) = (refl, tt)

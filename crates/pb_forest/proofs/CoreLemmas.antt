@@ -1,5 +1,6 @@
 -- Where links are left, and at each bridge none or more than one, there is no forest.
-use Rattle.std.proofs.Common.{◌≡◌, ◌≢◌, ◌⊎◌, inl, inr, ℕ, zero, suc, ◌+◌, ◌<◌, ◌≤◌, true, Some, None, Option, List, [], ◌∷◌, slice_get, length, refl, sym, ◌∙◌, subst, unwrap_or, arith}
+use Rattle.std.proofs.Common.{◌≡◌, ◌≢◌, ◌⊎◌, inl, inr, ℕ, zero, suc, ◌+◌, ◌<◌, ◌≤◌, true, Some, None, Option, List}
+use Rattle.std.proofs.Common.{[], ◌∷◌, slice_get, length, refl, sym, ◌∙◌, subst, unwrap_or, arith}
 use Rattle.std.specs.List.{list_any}
 use Rattle.std.specs.Option.{is_some}
 use Rattle.pb_frame.proofs.Lists.{Some-injective}
@@ -32,7 +33,11 @@ pub data HasTwo (links : List (Option Ends)) (x : ℕ) : Type 0 where
   Loop : (k : ℕ) → Meets links k x x → HasTwo links x
 
 abbrev later : (e : Option Ends) (xs : List (Option Ends)) (x : ℕ) → HasLink xs x → HasLink (e ∷ xs) x
-later e xs x h = record { link = suc h.link; other = h.other; meets = record { ends = h.meets.ends; there = h.meets.there; joins = h.meets.joins } }
+later e xs x h = record {
+  link = suc h.link;
+  other = h.other;
+  meets = record { ends = h.meets.ends; there = h.meets.there; joins = h.meets.joins };
+}
 
 two-later : (e : Option Ends) (xs : List (Option Ends)) (x : ℕ) → HasTwo xs x → HasTwo (e ∷ xs) x
 two-later e xs x (Two a b n) = Two (later e xs x a) (later e xs x b) (λ h. n (omega (arith, h)))
@@ -74,7 +79,11 @@ two-links (Some ends ∷ ys) x h =
     at_least (suc m) e =
         let p = at-most ends.a x 1 in
         let q = at-most ends.b x 1 in
-        Loop 0 (record { ends = ends; there = refl; joins = inl (at-is ends.a x 1 (omega (arith, e, p, q)), at-is ends.b x 1 (omega (arith, e, p, q))) })
+        Loop 0 (record {
+          ends = ends;
+          there = refl;
+          joins = inl (at-is ends.a x 1 (omega (arith, e, p, q)), at-is ends.b x 1 (omega (arith, e, p, q)));
+        })
 
 -- a deeper bridge at which links are left
 pub record HasDeeper (links : List (Option Ends)) (rooted : Rooted) (x : ℕ) : Type 0 where
@@ -83,25 +92,38 @@ pub record HasDeeper (links : List (Option Ends)) (rooted : Rooted) (x : ℕ) : 
   pub deeper : depth_of rooted (suc below) ≡ depth_of rooted (suc x) + 1
 
 -- a link leads up from the bridge, or down to a deeper one
-up-or-down : (plan : Plan) (shape : Shape) (vid : ℕ) (rooted : Rooted) → Shows plan shape vid rooted → (es links : List (Option Ends)) → AreEdges plan shape vid plan.links es
-    → ((k x y : ℕ) → Meets links k x y → Meets es k x y) → (x : ℕ) (a : HasLink links x) → IsUp plan rooted (suc x) (suc a.link) (suc a.other) ⊎ HasDeeper links rooted x
-up-or-down plan shape vid rooted s es links edges of x a = by (edge-up plan shape vid rooted s es edges a.link x a.other (of a.link x a.other a.meets))
+up-or-down : (plan : Plan) (shape : Shape) (vid : ℕ) (rooted : Rooted) → Shows plan shape vid rooted
+    → (es links : List (Option Ends)) → AreEdges plan shape vid plan.links es
+    → ((k x y : ℕ) → Meets links k x y → Meets es k x y) → (x : ℕ) (a : HasLink links x)
+    → IsUp plan rooted (suc x) (suc a.link) (suc a.other) ⊎ HasDeeper links rooted x
+up-or-down plan shape vid rooted s es links edges of x a =
+    by (edge-up plan shape vid rooted s es edges a.link x a.other (of a.link x a.other a.meets))
   where
-    by : IsUp plan rooted (suc x) (suc a.link) (suc a.other) ⊎ IsUp plan rooted (suc a.other) (suc a.link) (suc x) → IsUp plan rooted (suc x) (suc a.link) (suc a.other) ⊎ HasDeeper links rooted x
+    by : IsUp plan rooted (suc x) (suc a.link) (suc a.other) ⊎ IsUp plan rooted (suc a.other) (suc a.link) (suc x)
+        → IsUp plan rooted (suc x) (suc a.link) (suc a.other) ⊎ HasDeeper links rooted x
     by (inl u) = inl u
-    by (inr u) = inr (record { below = a.other; degree_there = meets-degree links a.link a.other x (meets-back links a.link x a.other a.meets); deeper = u.deeper })
+    by (inr u) = inr (record {
+      below = a.other;
+      degree_there = meets-degree links a.link a.other x (meets-back links a.link x a.other a.meets);
+      deeper = u.deeper;
+    })
 
-two-down : (plan : Plan) (shape : Shape) (vid : ℕ) (rooted : Rooted) → Shows plan shape vid rooted → (es links : List (Option Ends)) → AreEdges plan shape vid plan.links es
+two-down : (plan : Plan) (shape : Shape) (vid : ℕ) (rooted : Rooted) → Shows plan shape vid rooted
+    → (es links : List (Option Ends)) → AreEdges plan shape vid plan.links es
     → ((k x y : ℕ) → Meets links k x y → Meets es k x y) → (x : ℕ) → HasTwo links x → HasDeeper links rooted x
-two-down plan shape vid rooted s es links edges of x (Two a b n) = by (up-or-down plan shape vid rooted s es links edges of x a) (up-or-down plan shape vid rooted s es links edges of x b)
+two-down plan shape vid rooted s es links edges of x (Two a b n) =
+    by (up-or-down plan shape vid rooted s es links edges of x a)
+    (up-or-down plan shape vid rooted s es links edges of x b)
   where
-    by : IsUp plan rooted (suc x) (suc a.link) (suc a.other) ⊎ HasDeeper links rooted x → IsUp plan rooted (suc x) (suc b.link) (suc b.other) ⊎ HasDeeper links rooted x → HasDeeper links rooted x
+    by : IsUp plan rooted (suc x) (suc a.link) (suc a.other) ⊎ HasDeeper links rooted x
+        → IsUp plan rooted (suc x) (suc b.link) (suc b.other) ⊎ HasDeeper links rooted x → HasDeeper links rooted x
     by (inr d) w = d
     by (inl u) (inr d) = d
     by (inl u) (inl v) =
         let e : suc a.link ≡ suc b.link = Some-injective (Some-injective (sym u.up ∙ v.up)) in
         absurd (n (omega (arith, e)))
-two-down plan shape vid rooted s es links edges of x (Loop k m) = absurd (by (edge-up plan shape vid rooted s es edges k x x (of k x x m)))
+two-down plan shape vid rooted s es links edges of x (Loop k m) =
+    absurd (by (edge-up plan shape vid rooted s es edges k x x (of k x x m)))
   where
     by : IsUp plan rooted (suc x) (suc k) (suc x) ⊎ IsUp plan rooted (suc x) (suc k) (suc x) → ⊥
     by (inl u) = let d = u.deeper in omega (arith, d)
@@ -114,9 +136,12 @@ depth-most (d ∷ ds) zero = omega arith
 depth-most (d ∷ ds) (suc x) = let r = depth-most ds x in omega (arith, r)
 
 -- so it cannot go on
-descends : (plan : Plan) (shape : Shape) (vid : ℕ) (rooted : Rooted) → Shows plan shape vid rooted → (es links : List (Option Ends)) → AreEdges plan shape vid plan.links es
-    → ((k x y : ℕ) → Meets links k x y → Meets es k x y) → ((x : ℕ) → degree links x ≢ 1) → (n x : ℕ) → 1 ≤ degree links x → total (λ d. d) rooted.depth < n + depth_of rooted (suc x) → ⊥
-descends plan shape vid rooted s es links edges of none zero x h l = let m = depth-most rooted.depth x in omega (arith, l, m)
+descends : (plan : Plan) (shape : Shape) (vid : ℕ) (rooted : Rooted) → Shows plan shape vid rooted
+    → (es links : List (Option Ends)) → AreEdges plan shape vid plan.links es
+    → ((k x y : ℕ) → Meets links k x y → Meets es k x y) → ((x : ℕ) → degree links x ≢ 1) → (n x : ℕ)
+    → 1 ≤ degree links x → total (λ d. d) rooted.depth < n + depth_of rooted (suc x) → ⊥
+descends plan shape vid rooted s es links edges of none zero x h l = let m = depth-most rooted.depth x in omega
+    (arith, l, m)
 descends plan shape vid rooted s es links edges of none (suc n) x h l =
     let ne = none x in
     let d = two-down plan shape vid rooted s es links edges of x (two-links links x (omega (arith, h, ne))) in
@@ -124,22 +149,27 @@ descends plan shape vid rooted s es links edges of none (suc n) x h l =
     descends plan shape vid rooted s es links edges of none n d.below d.degree_there (omega (arith, l, e))
 
 -- what is left was there
-taken-meets : (old : List (Option Ends)) (bs : List Branch) (new : List (Option Ends)) → AreTakenOff old bs new → (k x y : ℕ) → Meets new k x y → Meets old k x y
+taken-meets : (old : List (Option Ends)) (bs : List Branch) (new : List (Option Ends)) → AreTakenOff old bs new
+    → (k x y : ℕ) → Meets new k x y → Meets old k x y
 taken-meets old [] new t k x y m = subst (λ xs. Meets xs k x y) (sym t) m
 taken-meets old (b ∷ bs) new t k x y m = off-meets old b.link k x y (taken-meets _ bs new t.1 k x y m)
 
 -- some link is left
-some-left : (xs : List (Option Ends)) → list_any is_some xs ≡ true → (k : ℕ) × (ends : Ends) × (slice_get xs k ≡ Some (Some ends))
+some-left : (xs : List (Option Ends)) → list_any is_some xs ≡ true → (k : ℕ) × (ends : Ends)
+    × (slice_get xs k ≡ Some (Some ends))
 some-left [] h = cc
 some-left (Some ends ∷ xs) h = (0, ends, refl)
 some-left (None ∷ xs) h = let r = some-left xs h in (suc r.0, r.1, r.2)
 
 -- then there is no forest
-pub core-none : (plan : Plan) (shape : Shape) (vid : ℕ) (es : List (Option Ends)) (bs : List Branch) (g : Graph) → AreEdges plan shape vid plan.links es → AreTakenOff es bs g.links.items → IsCounted g
+pub core-none : (plan : Plan) (shape : Shape) (vid : ℕ) (es : List (Option Ends)) (bs : List Branch) (g : Graph)
+    → AreEdges plan shape vid plan.links es → AreTakenOff es bs g.links.items → IsCounted g
     → IsCleared (length g.degrees.items) g → list_any is_some g.links.items ≡ true → IsForest plan shape vid → ⊥
 core-none plan shape vid es bs g edges taken counted clear any (rooted, s) =
-    descends plan shape vid rooted s es g.links.items edges (taken-meets es bs g.links.items taken) none (suc (total (λ d. d) rooted.depth)) left.1.a
-    (meets-degree g.links.items left.0 left.1.a left.1.b (record { ends = left.1; there = left.2; joins = inl (refl, refl) })) (omega arith)
+    descends plan shape vid rooted s es g.links.items edges (taken-meets es bs g.links.items taken) none
+    (suc (total (λ d. d) rooted.depth)) left.1.a
+    (meets-degree g.links.items left.0 left.1.a left.1.b
+    (record { ends = left.1; there = left.2; joins = inl (refl, refl) })) (omega arith)
   where
     left : (k : ℕ) × (ends : Ends) × (slice_get g.links.items k ≡ Some (Some ends))
     left = some-left g.links.items any

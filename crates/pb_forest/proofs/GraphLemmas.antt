@@ -1,5 +1,6 @@
 -- What is at the bridges of a graph, as links are added and taken off.
-use Rattle.std.proofs.Common.{◌≡◌, ◌≢◌, inl, inr, ℕ, zero, suc, ◌+◌, ◌*◌, ◌<◌, ◌≤◌, ◌==◌, Some, None, Option, true, false, cond, List, [], ◌∷◌, ◌++◌, slice_get, slice_set, length, refl, ap, arith}
+use Rattle.std.proofs.Common.{◌≡◌, ◌≢◌, inl, inr, ℕ, zero, suc, ◌+◌, ◌*◌, ◌<◌, ◌≤◌, ◌==◌, Some, None, Option, true}
+use Rattle.std.proofs.Common.{false, cond, List, [], ◌∷◌, ◌++◌, slice_get, slice_set, length, refl, ap, arith}
 use Rattle.pb_frame.proofs.Lists.{Some-injective, eqb-refl}
 use Rattle.std.proofs.lemmas.Bool.{eqb-true}
 use Rattle.pb_forest.specs.Graphs.{at, share, degree, index_sum, Joins, Meets}
@@ -11,18 +12,21 @@ at-same b n = ap (λ t. cond t n 0) (eqb-refl b)
 
 -- at another one
 pub at-other : (b x n : ℕ) → b ≢ x → at b x n ≡ 0
-at-other b x n h = elim (b == x) as (λ t. (b == x) ≡ t → cond t n 0 ≡ 0) [ true ↦ λ e. absurd (h (eqb-true b x e)) | false ↦ λ e. refl ] refl
+at-other b x n h = elim (b == x) as (λ t. (b == x) ≡ t → cond t n 0 ≡ 0)
+    [ true ↦ λ e. absurd (h (eqb-true b x e)) | false ↦ λ e. refl ] refl
 
 -- where something is at a bridge, it is that one
 pub at-is : (b x n : ℕ) → 1 ≤ at b x n → b ≡ x
-at-is b x n h = elim (b == x) as (λ t. (b == x) ≡ t → 1 ≤ cond t n 0 → b ≡ x) [ true ↦ λ e k. eqb-true b x e | false ↦ λ e k. absurd (omega (arith, k)) ] refl h
+at-is b x n h = elim (b == x) as (λ t. (b == x) ≡ t → 1 ≤ cond t n 0 → b ≡ x)
+    [ true ↦ λ e k. eqb-true b x e | false ↦ λ e k. absurd (omega (arith, k)) ] refl h
 
 pub at-most : (b x n : ℕ) → at b x n ≤ n
 at-most b x n = elim (b == x) as (λ t. cond t n 0 ≤ n) [ true ↦ omega arith | false ↦ omega arith ]
 
 -- an end more or less
 pub at-times : (b x n m : ℕ) → n ≤ m → at b x n ≤ m * at b x 1
-at-times b x n m h = elim (b == x) as (λ t. cond t n 0 ≤ m * cond t 1 0) [ true ↦ omega (arith, h) | false ↦ omega arith ]
+at-times b x n m h = elim (b == x) as (λ t. cond t n 0 ≤ m * cond t 1 0)
+    [ true ↦ omega (arith, h) | false ↦ omega arith ]
 
 pub share-most : (e : Option Ends) (x : ℕ) → share e x 1 ≤ 2
 share-most None x = omega arith
@@ -30,7 +34,8 @@ share-most (Some ends) x = let a = at-most ends.a x 1 in let b = at-most ends.b 
 
 pub share-times : (e : Option Ends) (x n m : ℕ) → n ≤ m → share e x n ≤ m * share e x 1
 share-times None x n m h = omega arith
-share-times (Some ends) x n m h = let a = at-times ends.a x n m h in let b = at-times ends.b x n m h in omega (arith, a, b)
+share-times (Some ends) x n m h = let a = at-times ends.a x n m h in let b = at-times ends.b x n m h in omega
+    (arith, a, b)
 
 -- a share of n is n shares of one
 at-scaled : (b x n : ℕ) → at b x n ≡ n * at b x 1
@@ -46,16 +51,21 @@ share-scaled (Some ends) x n m h =
 
 -- a share of a link that joins two bridges
 pub joins-share : (ends : Ends) (x y z n : ℕ) → Joins ends x y → share (Some ends) z n ≡ at x z n + at y z n
-joins-share ends x y z n (inl h) = let a = ap (λ b. at b z n) h.0 in let b = ap (λ b. at b z n) h.1 in omega (arith, a, b)
-joins-share ends x y z n (inr h) = let a = ap (λ b. at b z n) h.0 in let b = ap (λ b. at b z n) h.1 in omega (arith, a, b)
+joins-share ends x y z n (inl h) = let a = ap (λ b. at b z n) h.0 in let b = ap (λ b. at b z n) h.1 in omega
+    (arith, a, b)
+joins-share ends x y z n (inr h) = let a = ap (λ b. at b z n) h.0 in let b = ap (λ b. at b z n) h.1 in omega
+    (arith, a, b)
 
 -- a link more
-pub degree-append : (xs : List (Option Ends)) (e : Option Ends) (x : ℕ) → degree (xs ++ e ∷ []) x ≡ degree xs x + share e x 1
+pub degree-append : (xs : List (Option Ends)) (e : Option Ends) (x : ℕ)
+    → degree (xs ++ e ∷ []) x ≡ degree xs x + share e x 1
 degree-append [] e x = omega arith
 degree-append (y ∷ ys) e x = let r = degree-append ys e x in omega (arith, r)
 
-pub sum-append : (n : ℕ) (xs : List (Option Ends)) (e : Option Ends) (x : ℕ) → index_sum n (xs ++ e ∷ []) x ≡ index_sum n xs x + share e x (n + length xs)
-sum-append n [] e x = let h : n + 0 ≡ n = omega arith in let s : share e x (n + 0) ≡ share e x n = ap (share e x) h in omega (arith, s)
+pub sum-append : (n : ℕ) (xs : List (Option Ends)) (e : Option Ends) (x : ℕ)
+    → index_sum n (xs ++ e ∷ []) x ≡ index_sum n xs x + share e x (n + length xs)
+sum-append n [] e x = let h : n + 0 ≡ n = omega arith in let s : share e x (n + 0) ≡ share e x n =
+    ap (share e x) h in omega (arith, s)
 sum-append n (y ∷ ys) e x =
     let r = sum-append (n + 1) ys e x in
     let h : (n + 1) + length ys ≡ n + suc (length ys) = omega arith in
@@ -75,9 +85,11 @@ sum-most n m (y ∷ ys) x h =
     omega (arith, r, s)
 
 -- a link that is taken off
-pub degree-off : (xs : List (Option Ends)) (k : ℕ) (e : Option Ends) (x : ℕ) → slice_get xs k ≡ Some e → degree (slice_set xs k None) x + share e x 1 ≡ degree xs x
+pub degree-off : (xs : List (Option Ends)) (k : ℕ) (e : Option Ends) (x : ℕ) → slice_get xs k ≡ Some e
+    → degree (slice_set xs k None) x + share e x 1 ≡ degree xs x
 degree-off [] k e x h = cc
-degree-off (y ∷ ys) zero e x h = let s : share y x 1 ≡ share e x 1 = ap (λ z. share z x 1) (Some-injective h) in omega (arith, s)
+degree-off (y ∷ ys) zero e x h = let s : share y x 1 ≡ share e x 1 = ap (λ z. share z x 1) (Some-injective h) in omega
+    (arith, s)
 degree-off (y ∷ ys) (suc k) e x h = let r = degree-off ys k e x h in omega (arith, r)
 
 pub sum-off : (n : ℕ) (xs : List (Option Ends)) (k : ℕ) (e : Option Ends) (x : ℕ) → slice_get xs k ≡ Some e
@@ -95,7 +107,8 @@ sum-off n (y ∷ ys) (suc k) e x h =
     omega (arith, r, t)
 
 -- what stands at another place
-pub get-set_other : {X : Type 0} (xs : List X) (k j : ℕ) (v : X) → j ≢ k → slice_get (slice_set xs k v) j ≡ slice_get xs j
+pub get-set_other : {X : Type 0} (xs : List X) (k j : ℕ) (v : X) → j ≢ k
+    → slice_get (slice_set xs k v) j ≡ slice_get xs j
 get-set_other [] k j v h = refl
 get-set_other (x ∷ xs) zero zero v h = absurd (h refl)
 get-set_other (x ∷ xs) zero (suc j) v h = refl
@@ -109,7 +122,8 @@ get-set_same (x ∷ xs) zero v h = refl
 get-set_same (x ∷ xs) (suc k) v h = get-set_same xs k v (omega (arith, h))
 
 -- what is left after a link was taken off was there
-pub off-there : (xs : List (Option Ends)) (k j : ℕ) (ends : Ends) → slice_get (slice_set xs k None) j ≡ Some (Some ends) → slice_get xs j ≡ Some (Some ends)
+pub off-there : (xs : List (Option Ends)) (k j : ℕ) (ends : Ends)
+    → slice_get (slice_set xs k None) j ≡ Some (Some ends) → slice_get xs j ≡ Some (Some ends)
 off-there [] k j ends h = cc
 off-there (x ∷ xs) zero zero ends h = let e : None ≡ Some ends = Some-injective h in cc
 off-there (x ∷ xs) zero (suc j) ends h = h
@@ -152,7 +166,8 @@ sum-none n (y ∷ ys) x h =
     omega (arith, r, s)
 
 -- an end of a link that has one
-pub share-joins : (e : Option Ends) (x : ℕ) → 1 ≤ share e x 1 → (ends : Ends) × (y : ℕ) × (e ≡ Some ends) × Joins ends x y
+pub share-joins : (e : Option Ends) (x : ℕ) → 1 ≤ share e x 1 → (ends : Ends) × (y : ℕ) × (e ≡ Some ends)
+    × Joins ends x y
 share-joins None x h = absurd (omega (arith, h))
 share-joins (Some ends) x h =
     elim (ends.a == x) as (λ t. (ends.a == x) ≡ t → (es : Ends) × (y : ℕ) × (Some ends ≡ Some es) × Joins es x y) [
@@ -167,14 +182,17 @@ meets-later : (e : Option Ends) (xs : List (Option Ends)) (k x y : ℕ) → Meet
 meets-later e xs k x y m = record { ends = m.ends; there = m.there; joins = m.joins }
 
 -- where there is one end at a bridge, the sum names its link
-pub only-link : (n : ℕ) (xs : List (Option Ends)) (x : ℕ) → degree xs x ≡ 1 → (k : ℕ) × (y : ℕ) × (index_sum n xs x ≡ n + k) × Meets xs k x y
+pub only-link : (n : ℕ) (xs : List (Option Ends)) (x : ℕ) → degree xs x ≡ 1
+    → (k : ℕ) × (y : ℕ) × (index_sum n xs x ≡ n + k) × Meets xs k x y
 only-link n [] x h = absurd (omega (arith, h))
 only-link n (None ∷ ys) x h =
     let r = only-link (n + 1) ys x (omega (arith, h)) in
     let s = r.2 in
     (suc r.0, r.1, omega (arith, s), meets-later None ys r.0 x r.1 r.3)
 only-link n (Some ends ∷ ys) x h =
-    elim (share (Some ends) x 1) as (λ m. share (Some ends) x 1 ≡ m → (k : ℕ) × (y : ℕ) × (index_sum n (Some ends ∷ ys) x ≡ n + k) × Meets (Some ends ∷ ys) k x y) [
+    elim (share (Some ends) x 1) as
+    (λ m. share (Some ends) x 1 ≡ m → (k : ℕ) × (y : ℕ) × (index_sum n (Some ends ∷ ys) x ≡ n + k) × Meets
+    (Some ends ∷ ys) k x y) [
       | zero ↦ λ e.
           let r = only-link (n + 1) ys x (omega (arith, h, e)) in
           let s = r.2 in

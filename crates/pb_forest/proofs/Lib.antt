@@ -2,6 +2,7 @@ pub mod CertificateLemmas
 pub mod Sums
 pub mod UsedOnce
 pub mod Flows
+pub mod Leftovers
 pub mod DrainedBalance
 pub mod PathLemmas
 pub mod GraphLemmas

@@ -1,5 +1,7 @@
 -- Climbing from both sides of a path.
-use Rattle.std.proofs.Common.{◌≡◌, ◌≢◌, ◌⊎◌, inl, inr, ℕ, zero, suc, ◌+◌, ◌<◌, ◌≤◌, Some, None, Option, true, false, List, [], ◌∷◌, ◌++◌, reverse, refl, sym, ◌∙◌, ap, subst, unwrap_or, arith, add-one, append_assoc, nat_eq}
+use Rattle.std.proofs.Common.{◌≡◌, ◌≢◌, ◌⊎◌, inl, inr, ℕ, zero, suc, ◌+◌, ◌<◌, ◌≤◌, Some, None, Option, true, false}
+use Rattle.std.proofs.Common.{List, [], ◌∷◌, ◌++◌, reverse, refl, sym, ◌∙◌, ap, subst, unwrap_or, arith, add-one}
+use Rattle.std.proofs.Common.{append_assoc, nat_eq}
 use Rattle.std.proofs.lemmas.List.{reverse-append}
 use Rattle.std.specs.List.{AllByRecursion, IsDistinct}
 use Rattle.pb_forest.specs.Paths.{depth_of, across, HasUp}
@@ -23,24 +25,31 @@ pub record IsUp (plan : Plan) (rooted : Rooted) (x k p : ℕ) : Type 0 where
   pub deeper : depth_of rooted x ≡ depth_of rooted p + 1
 
 -- a certificate's way up does
-lead-up : (plan : Plan) (shape : Shape) (vid : ℕ) (rooted : Rooted) (x k : ℕ) → HasUp rooted x k → (way : LeadsUp plan shape vid rooted x k) → IsUp plan rooted x k way.far.bridge
+lead-up : (plan : Plan) (shape : Shape) (vid : ℕ) (rooted : Rooted) (x k : ℕ) → HasUp rooted x k
+    → (way : LeadsUp plan shape vid rooted x k) → IsUp plan rooted x k way.far.bridge
 lead-up plan shape vid rooted x k h way = record {
   up = h;
-  above = ap (across x) way.crosses.numbered_so ∙ other-far way.crosses.link way.near way.far x way.crosses.ends way.from;
-  deeper = let a = ap (λ o. unwrap_or o 0) way.depth_above in let b = ap (λ o. unwrap_or o 0) way.depth_here in omega (arith, a, b);
+  above = ap (across x) way.crosses.numbered_so ∙ other-far way.crosses.link way.near way.far x way.crosses.ends
+      way.from;
+  deeper = let a = ap (λ o. unwrap_or o 0) way.depth_above in let b = ap (λ o. unwrap_or o 0) way.depth_here in omega
+      (arith, a, b);
 }
 
 -- the two ends of a link, in one of two orders
-same-ends : (link : LinkPlan) (near far e f : End) → HasEnds link near far → HasEnds link e f → ((near ≡ e) × (far ≡ f)) ⊎ ((near ≡ f) × (far ≡ e))
+same-ends : (link : LinkPlan) (near far e f : End) → HasEnds link near far → HasEnds link e f
+    → ((near ≡ e) × (far ≡ f)) ⊎ ((near ≡ f) × (far ≡ e))
 same-ends link near far e f (inl h) (inl g) = inl (sym h.0 ∙ g.0, sym h.1 ∙ g.1)
 same-ends link near far e f (inl h) (inr g) = inr (sym h.0 ∙ g.1, sym h.1 ∙ g.0)
 same-ends link near far e f (inr h) (inl g) = inr (sym h.0 ∙ g.1, sym h.1 ∙ g.0)
 same-ends link near far e f (inr h) (inr g) = inl (sym h.0 ∙ g.0, sym h.1 ∙ g.1)
 
 -- each active link leads up, from one end or the other
-pub cross-up : (plan : Plan) (shape : Shape) (vid : ℕ) (rooted : Rooted) → Shows plan shape vid rooted → (k : ℕ) (near far : End) → Crosses plan shape vid k near far
+pub cross-up : (plan : Plan) (shape : Shape) (vid : ℕ) (rooted : Rooted) → Shows plan shape vid rooted
+    → (k : ℕ) (near far : End) → Crosses plan shape vid k near far
     → IsUp plan rooted near.bridge k far.bridge ⊎ IsUp plan rooted far.bridge k near.bridge
-cross-up plan shape vid rooted s k near far c = by (same-ends c.link near far way.near way.far c.ends (subst (λ l. HasEnds l way.near way.far) one way.crosses.ends))
+cross-up plan shape vid rooted s k near far c =
+    by (same-ends c.link near far way.near way.far c.ends
+    (subst (λ l. HasEnds l way.near way.far) one way.crosses.ends))
   where
     child : HasOneChild rooted k
     child = s.children k c.link c.numbered_so c.active
@@ -60,7 +69,8 @@ cross-up plan shape vid rooted s k near far c = by (same-ends c.link near far wa
         let j : way.far.bridge ≡ f.bridge = ap (λ x. x.bridge) (sym g) in
         subst (λ x. IsUp plan rooted x k f.bridge) i (subst (λ y. IsUp plan rooted child.child k y) j is_up)
 
-    by : ((near ≡ way.near) × (far ≡ way.far)) ⊎ ((near ≡ way.far) × (far ≡ way.near)) → IsUp plan rooted near.bridge k far.bridge ⊎ IsUp plan rooted far.bridge k near.bridge
+    by : ((near ≡ way.near) × (far ≡ way.far)) ⊎ ((near ≡ way.far) × (far ≡ way.near))
+        → IsUp plan rooted near.bridge k far.bridge ⊎ IsUp plan rooted far.bridge k near.bridge
     by (inl h) = inl (turn near far h.0 h.1)
     by (inr h) = inr (turn far near h.1 h.0)
 
@@ -79,25 +89,30 @@ abbrev root_of : Plan → Rooted → ℕ → ℕ
 root_of plan rooted x = top plan rooted (depth_of rooted x) x
 
 -- a bridge has its parent's root
-up-root : (plan : Plan) (rooted : Rooted) (x k p : ℕ) → IsUp plan rooted x k p → root_of plan rooted x ≡ root_of plan rooted p
+up-root : (plan : Plan) (rooted : Rooted) (x k p : ℕ) → IsUp plan rooted x k p
+    → root_of plan rooted x ≡ root_of plan rooted p
 up-root plan rooted x k p u =
     let d : depth_of rooted x ≡ suc (depth_of rooted p) = u.deeper ∙ add-one (depth_of rooted p) in
     let e : parent_by plan x (numbered rooted.up x) ≡ p = ap (parent_by plan x) u.up ∙ u.above in
     ap (λ n. top plan rooted n x) d ∙ ap (top plan rooted (depth_of rooted p)) e
 
 -- bridges that are joined have one root
-walk-root : (plan : Plan) (shape : Shape) (vid : ℕ) (rooted : Rooted) → Shows plan shape vid rooted → (here : ℕ) (ks : List ℕ) (there : ℕ)
+walk-root : (plan : Plan) (shape : Shape) (vid : ℕ) (rooted : Rooted) → Shows plan shape vid rooted
+    → (here : ℕ) (ks : List ℕ) (there : ℕ)
     → IsWalk plan shape vid here ks there → root_of plan rooted here ≡ root_of plan rooted there
 walk-root plan shape vid rooted s here [] there w = ap (root_of plan rooted) w
 walk-root plan shape vid rooted s here (k ∷ ks) there (near, far, c, n, w) =
-    ap (root_of plan rooted) (sym n) ∙ step (cross-up plan shape vid rooted s k near far c) ∙ walk-root plan shape vid rooted s far.bridge ks there w
+    ap (root_of plan rooted) (sym n) ∙ step (cross-up plan shape vid rooted s k near far c)
+    ∙ walk-root plan shape vid rooted s far.bridge ks there w
   where
-    step : IsUp plan rooted near.bridge k far.bridge ⊎ IsUp plan rooted far.bridge k near.bridge → root_of plan rooted near.bridge ≡ root_of plan rooted far.bridge
+    step : IsUp plan rooted near.bridge k far.bridge ⊎ IsUp plan rooted far.bridge k near.bridge
+        → root_of plan rooted near.bridge ≡ root_of plan rooted far.bridge
     step (inl u) = up-root plan rooted near.bridge k far.bridge u
     step (inr u) = sym (up-root plan rooted far.bridge k near.bridge u)
 
 -- a bridge without way up has depth 0
-no-up : (plan : Plan) (shape : Shape) (vid : ℕ) (rooted : Rooted) → Shows plan shape vid rooted → (x : ℕ) → ((k : ℕ) → HasUp rooted x k → ⊥) → depth_of rooted x ≡ 0
+no-up : (plan : Plan) (shape : Shape) (vid : ℕ) (rooted : Rooted) → Shows plan shape vid rooted → (x : ℕ)
+    → ((k : ℕ) → HasUp rooted x k → ⊥) → depth_of rooted x ≡ 0
 no-up plan shape vid rooted s x none = by (numbered rooted.up x) refl
   where
     by : (o : Option (Option ℕ)) → numbered rooted.up x ≡ o → depth_of rooted x ≡ 0
@@ -107,50 +122,61 @@ no-up plan shape vid rooted s x none = by (numbered rooted.up x) refl
 
 -- what is passed on the one side: lower than where both sides stand, or as low as the other and not there
 abbrev IsPassed : Rooted → ℕ → ℕ → ℕ → Type 0
-IsPassed rooted x y k = (u : ℕ) → HasUp rooted u k → (depth_of rooted x < depth_of rooted u) × (depth_of rooted y ≤ depth_of rooted u) × (u ≢ y)
+IsPassed rooted x y k = (u : ℕ) → HasUp rooted u k → (depth_of rooted x < depth_of rooted u)
+    × (depth_of rooted y ≤ depth_of rooted u) × (u ≢ y)
 
 -- and on the other: lower than both
 abbrev IsBelow : Rooted → ℕ → ℕ → ℕ → Type 0
-IsBelow rooted x y k = (v : ℕ) → HasUp rooted v k → (depth_of rooted x < depth_of rooted v) × (depth_of rooted y < depth_of rooted v)
+IsBelow rooted x y k = (v : ℕ) → HasUp rooted v k → (depth_of rooted x < depth_of rooted v)
+    × (depth_of rooted y < depth_of rooted v)
 
 -- both sides have climbed, by different links
-pub record Goes (plan : Plan) (shape : Shape) (vid : ℕ) (rooted : Rooted) (a b x : ℕ) (xs : List ℕ) (y : ℕ) (ys : List ℕ) : Type 0 where
+pub record Goes (plan : Plan) (shape : Shape) (vid : ℕ) (rooted : Rooted) (a b x : ℕ) (xs : List ℕ) (y : ℕ)
+    (ys : List ℕ) : Type 0 where
   pub walk_a : IsWalk plan shape vid a xs x
   pub walk_b : IsWalk plan shape vid y (reverse ys) b
   pub distinct : IsDistinct nat_eq (xs ++ reverse ys)
   pub passed : AllByRecursion (IsPassed rooted x y) xs
   pub below : AllByRecursion (IsBelow rooted x y) (reverse ys)
 
-pub goes-start : (plan : Plan) (shape : Shape) (vid : ℕ) (rooted : Rooted) (a b : ℕ) → Goes plan shape vid rooted a b a [] b []
+pub goes-start : (plan : Plan) (shape : Shape) (vid : ℕ) (rooted : Rooted) (a b : ℕ)
+    → Goes plan shape vid rooted a b a [] b []
 unfolding IsDistinct
 goes-start plan shape vid rooted a b = record { walk_a = refl; walk_b = refl; distinct = tt; passed = tt; below = tt }
 
 -- one link more, in the midst
-distinct-insert : (k : ℕ) (xs ys : List ℕ) → AllByRecursion (λ z. k ≢ z) xs → AllByRecursion (λ z. k ≢ z) ys → IsDistinct nat_eq (xs ++ ys) → IsDistinct nat_eq (xs ++ k ∷ ys)
+distinct-insert : (k : ℕ) (xs ys : List ℕ) → AllByRecursion (λ z. k ≢ z) xs → AllByRecursion (λ z. k ≢ z) ys
+    → IsDistinct nat_eq (xs ++ ys) → IsDistinct nat_eq (xs ++ k ∷ ys)
 unfolding IsDistinct
 distinct-insert k [] ys a b d = (All-imply (λ z. k ≢ z) (λ z. nat_eq k z ≡ false) (λ z h. grind (arith, h)) ys b, d)
 distinct-insert k (x ∷ xs) ys a b d = (insert xs d.0, distinct-insert k xs ys a.1 b d.1)
   where
-    insert : (zs : List ℕ) → AllByRecursion (λ z. nat_eq x z ≡ false) (zs ++ ys) → AllByRecursion (λ z. nat_eq x z ≡ false) (zs ++ k ∷ ys)
+    insert : (zs : List ℕ) → AllByRecursion (λ z. nat_eq x z ≡ false) (zs ++ ys)
+        → AllByRecursion (λ z. nat_eq x z ≡ false) (zs ++ k ∷ ys)
     insert [] h = (let ne = a.0 in grind (arith, ne), h)
     insert (z ∷ zs) h = (h.0, insert zs h.1)
 
 -- a walk goes on
 walk-append : (plan : Plan) (shape : Shape) (vid here : ℕ) (ks : List ℕ) (there : ℕ) (ls : List ℕ) (last : ℕ)
-    → IsWalk plan shape vid here ks there → IsWalk plan shape vid there ls last → IsWalk plan shape vid here (ks ++ ls) last
+    → IsWalk plan shape vid here ks there → IsWalk plan shape vid there ls last
+    → IsWalk plan shape vid here (ks ++ ls) last
 walk-append plan shape vid here [] there ls last w v = subst (λ z. IsWalk plan shape vid z ls last) (sym w) v
-walk-append plan shape vid here (k ∷ ks) there ls last (near, far, c, n, w) v = (near, far, c, n, walk-append plan shape vid far.bridge ks there ls last w v)
+walk-append plan shape vid here (k ∷ ks) there ls last (near, far, c, n, w) v =
+    (near, far, c, n, walk-append plan shape vid far.bridge ks there ls last w v)
 
 -- the link is the way up of that bridge alone
-only-child : (plan : Plan) (shape : Shape) (vid : ℕ) (rooted : Rooted) → Shows plan shape vid rooted → (x k : ℕ) → HasUp rooted x k → (u : ℕ) → HasUp rooted u k → u ≡ x
+only-child : (plan : Plan) (shape : Shape) (vid : ℕ) (rooted : Rooted) → Shows plan shape vid rooted → (x k : ℕ)
+    → HasUp rooted x k → (u : ℕ) → HasUp rooted u k → u ≡ x
 only-child plan shape vid rooted s x k h u g =
     let way = s.ways_up x k h in
     let child = s.children k way.crosses.link way.crosses.numbered_so way.crosses.active in
     child.only u g ∙ sym (child.only x h)
 
 -- the one side climbs
-climb-a : (plan : Plan) (shape : Shape) (vid : ℕ) (rooted : Rooted) → Shows plan shape vid rooted → (a b x : ℕ) (xs : List ℕ) (y : ℕ) (ys : List ℕ) → Goes plan shape vid rooted a b x xs y ys
-    → x ≢ y → depth_of rooted y ≤ depth_of rooted x → (k p : ℕ) → HasUp rooted x k → p ≡ across x (numbered plan.links k)
+climb-a : (plan : Plan) (shape : Shape) (vid : ℕ) (rooted : Rooted) → Shows plan shape vid rooted
+    → (a b x : ℕ) (xs : List ℕ) (y : ℕ) (ys : List ℕ) → Goes plan shape vid rooted a b x xs y ys
+    → x ≢ y → depth_of rooted y ≤ depth_of rooted x → (k p : ℕ) → HasUp rooted x k
+    → p ≡ across x (numbered plan.links k)
     → Goes plan shape vid rooted a b p (xs ++ k ∷ []) y ys × (depth_of rooted x ≡ depth_of rooted p + 1)
 climb-a plan shape vid rooted s a b x xs y ys g ne le k p h e = (made, deeper)
   where
@@ -176,23 +202,30 @@ climb-a plan shape vid rooted s a b x xs y ys g ne le k p h e = (made, deeper)
     step = (way.near, way.far, way.crosses, way.from, to)
 
     apart_a : AllByRecursion (λ z. k ≢ z) xs
-    apart_a = All-imply (IsPassed rooted x y) (λ z. k ≢ z) (λ z q f. let l = (q x (subst (λ n. HasUp rooted x n) f h)).0 in omega (arith, l)) xs g.passed
+    apart_a = All-imply (IsPassed rooted x y) (λ z. k ≢ z)
+        (λ z q f. let l = (q x (subst (λ n. HasUp rooted x n) f h)).0 in omega (arith, l)) xs g.passed
 
     apart_b : AllByRecursion (λ z. k ≢ z) (reverse ys)
-    apart_b = All-imply (IsBelow rooted x y) (λ z. k ≢ z) (λ z q f. let l = (q x (subst (λ n. HasUp rooted x n) f h)).0 in omega (arith, l)) (reverse ys) g.below
+    apart_b = All-imply (IsBelow rooted x y) (λ z. k ≢ z)
+        (λ z q f. let l = (q x (subst (λ n. HasUp rooted x n) f h)).0 in omega (arith, l)) (reverse ys) g.below
 
     made : Goes plan shape vid rooted a b p (xs ++ k ∷ []) y ys
     made = record {
       walk_a = walk-append plan shape vid a xs x (k ∷ []) p g.walk_a step;
       walk_b = g.walk_b;
-      distinct = subst (IsDistinct nat_eq) (sym (append_assoc xs (k ∷ []) (reverse ys))) (distinct-insert k xs (reverse ys) apart_a apart_b g.distinct);
+      distinct = subst (IsDistinct nat_eq) (sym (append_assoc xs (k ∷ []) (reverse ys)))
+          (distinct-insert k xs (reverse ys) apart_a apart_b g.distinct);
       passed = All-append (IsPassed rooted p y) xs (k ∷ [])
-          (All-imply (IsPassed rooted x y) (IsPassed rooted p y) (λ z q u i. let r = q u i in let l = r.0 in (omega (arith, l, deeper), r.1, r.2)) xs g.passed) (new, tt);
-      below = All-imply (IsBelow rooted x y) (IsBelow rooted p y) (λ z q v i. let r = q v i in let l = r.0 in (omega (arith, l, deeper), r.1)) (reverse ys) g.below;
+          (All-imply (IsPassed rooted x y) (IsPassed rooted p y)
+          (λ z q u i. let r = q u i in let l = r.0 in (omega (arith, l, deeper), r.1, r.2)) xs g.passed)
+          (new, tt);
+      below = All-imply (IsBelow rooted x y) (IsBelow rooted p y)
+          (λ z q v i. let r = q v i in let l = r.0 in (omega (arith, l, deeper), r.1)) (reverse ys) g.below;
     }
 
 -- the other side climbs
-climb-b : (plan : Plan) (shape : Shape) (vid : ℕ) (rooted : Rooted) → Shows plan shape vid rooted → (a b x : ℕ) (xs : List ℕ) (y : ℕ) (ys : List ℕ) → Goes plan shape vid rooted a b x xs y ys
+climb-b : (plan : Plan) (shape : Shape) (vid : ℕ) (rooted : Rooted) → Shows plan shape vid rooted
+    → (a b x : ℕ) (xs : List ℕ) (y : ℕ) (ys : List ℕ) → Goes plan shape vid rooted a b x xs y ys
     → depth_of rooted x < depth_of rooted y → (k p : ℕ) → HasUp rooted y k → p ≡ across y (numbered plan.links k)
     → Goes plan shape vid rooted a b x xs p (ys ++ k ∷ []) × (depth_of rooted y ≡ depth_of rooted p + 1)
 climb-b plan shape vid rooted s a b x xs y ys g lt k p h e = (made, deeper)
@@ -220,13 +253,20 @@ climb-b plan shape vid rooted s a b x xs y ys g lt k p h e = (made, deeper)
     turned link near far (inr h) = inl (h.1, h.0)
 
     back : Crosses plan shape vid k way.far way.near
-    back = record { link = way.crosses.link; numbered_so = way.crosses.numbered_so; active = way.crosses.active; ends = turned way.crosses.link way.near way.far way.crosses.ends }
+    back = record {
+      link = way.crosses.link;
+      numbered_so = way.crosses.numbered_so;
+      active = way.crosses.active;
+      ends = turned way.crosses.link way.near way.far way.crosses.ends;
+    }
 
     apart_a : AllByRecursion (λ z. k ≢ z) xs
-    apart_a = All-imply (IsPassed rooted x y) (λ z. k ≢ z) (λ z q f. (q y (subst (λ n. HasUp rooted y n) f h)).2 refl) xs g.passed
+    apart_a = All-imply (IsPassed rooted x y) (λ z. k ≢ z) (λ z q f. (q y (subst (λ n. HasUp rooted y n) f h)).2 refl)
+        xs g.passed
 
     apart_b : AllByRecursion (λ z. k ≢ z) (reverse ys)
-    apart_b = All-imply (IsBelow rooted x y) (λ z. k ≢ z) (λ z q f. let l = (q y (subst (λ n. HasUp rooted y n) f h)).1 in omega (arith, l)) (reverse ys) g.below
+    apart_b = All-imply (IsBelow rooted x y) (λ z. k ≢ z)
+        (λ z q f. let l = (q y (subst (λ n. HasUp rooted y n) f h)).1 in omega (arith, l)) (reverse ys) g.below
 
     turn : k ∷ reverse ys ≡ reverse (ys ++ k ∷ [])
     turn = sym (reverse-append ys (k ∷ []))
@@ -237,11 +277,17 @@ climb-b plan shape vid rooted s a b x xs y ys g lt k p h e = (made, deeper)
     made : Goes plan shape vid rooted a b x xs p (ys ++ k ∷ [])
     made = record {
       walk_a = g.walk_a;
-      walk_b = subst (λ ks. IsWalk plan shape vid p ks b) turn (way.far, way.near, back, to, subst (λ q. IsWalk plan shape vid q (reverse ys) b) (sym way.from) g.walk_b);
-      distinct = subst (λ ks. IsDistinct nat_eq (xs ++ ks)) turn (distinct-insert k xs (reverse ys) apart_a apart_b g.distinct);
-      passed = All-imply (IsPassed rooted x y) (IsPassed rooted x p) (λ z q u i. let r = q u i in let l = r.1 in (r.0, omega (arith, l, deeper), lower u l)) xs g.passed;
-      below = subst (AllByRecursion (IsBelow rooted x p)) turn
-          (new, All-imply (IsBelow rooted x y) (IsBelow rooted x p) (λ z q v i. let r = q v i in let l = r.1 in (r.0, omega (arith, l, deeper))) (reverse ys) g.below);
+      walk_b = subst (λ ks. IsWalk plan shape vid p ks b) turn
+          (way.far, way.near, back, to, subst (λ q. IsWalk plan shape vid q (reverse ys) b) (sym way.from) g.walk_b);
+      distinct = subst (λ ks. IsDistinct nat_eq (xs ++ ks)) turn
+          (distinct-insert k xs (reverse ys) apart_a apart_b g.distinct);
+      passed = All-imply (IsPassed rooted x y) (IsPassed rooted x p)
+          (λ z q u i. let r = q u i in let l = r.1 in (r.0, omega (arith, l, deeper), lower u l)) xs g.passed;
+      below = subst (AllByRecursion (IsBelow rooted x p)) turn (
+        new,
+        All-imply (IsBelow rooted x y) (IsBelow rooted x p)
+            (λ z q v i. let r = q v i in let l = r.1 in (r.0, omega (arith, l, deeper))) (reverse ys) g.below,
+      );
     }
 
 -- which side is deeper
@@ -249,8 +295,10 @@ order : (m n : ℕ) → (n ≤ m) ⊎ (m < n)
 order m n = grind arith
 
 -- what a climb at the deeper side keeps
-pub goes-on : (plan : Plan) (shape : Shape) (vid : ℕ) (rooted : Rooted) → Shows plan shape vid rooted → (a b : ℕ) (i j m n : Side)
-    → Goes plan shape vid rooted a b i.bridge i.links.items j.bridge j.links.items → i.bridge ≢ j.bridge → ClimbsDeeper plan rooted i j m n true
+pub goes-on : (plan : Plan) (shape : Shape) (vid : ℕ) (rooted : Rooted) → Shows plan shape vid rooted
+    → (a b : ℕ) (i j m n : Side)
+    → Goes plan shape vid rooted a b i.bridge i.links.items j.bridge j.links.items → i.bridge ≢ j.bridge
+    → ClimbsDeeper plan rooted i j m n true
     → Goes plan shape vid rooted a b m.bridge m.links.items n.bridge n.links.items
     × (depth_of rooted m.bridge + depth_of rooted n.bridge < depth_of rooted i.bridge + depth_of rooted j.bridge)
 goes-on plan shape vid rooted s a b i j m n g ne c = by (order (depth_of rooted i.bridge) (depth_of rooted j.bridge))
@@ -260,7 +308,8 @@ goes-on plan shape vid rooted s a b i j m n g ne c = by (order (depth_of rooted 
         × (depth_of rooted m.bridge + depth_of rooted n.bridge < depth_of rooted i.bridge + depth_of rooted j.bridge)
     by (inl le) =
         let r = c.first le in
-        let made = climb-a plan shape vid rooted s a b i.bridge i.links.items j.bridge j.links.items g ne le r.0.0 m.bridge r.0.1 r.0.2 in
+        let made = climb-a plan shape vid rooted s a b i.bridge i.links.items j.bridge j.links.items g ne le r.0.0
+        m.bridge r.0.1 r.0.2 in
         let d = made.1 in
         let stays : depth_of rooted n.bridge ≡ depth_of rooted j.bridge = ap (λ z. depth_of rooted z.bridge) r.1 in (
           subst (λ z. Goes plan shape vid rooted a b m.bridge m.links.items z.bridge z.links.items) (sym r.1)
@@ -269,7 +318,8 @@ goes-on plan shape vid rooted s a b i j m n g ne c = by (order (depth_of rooted 
         )
     by (inr lt) =
         let r = c.second lt in
-        let made = climb-b plan shape vid rooted s a b i.bridge i.links.items j.bridge j.links.items g lt r.0.0 n.bridge r.0.1 r.0.2 in
+        let made = climb-b plan shape vid rooted s a b i.bridge i.links.items j.bridge j.links.items g lt r.0.0
+        n.bridge r.0.1 r.0.2 in
         let d = made.1 in
         let stays : depth_of rooted m.bridge ≡ depth_of rooted i.bridge = ap (λ z. depth_of rooted z.bridge) r.1 in (
           subst (λ z. Goes plan shape vid rooted a b z.bridge z.links.items n.bridge n.links.items) (sym r.1)
@@ -278,12 +328,16 @@ goes-on plan shape vid rooted s a b i j m n g ne c = by (order (depth_of rooted 
         )
 
 -- where the deeper side cannot climb, both are roots
-pub goes-nowhere : (plan : Plan) (shape : Shape) (vid : ℕ) (rooted : Rooted) → Shows plan shape vid rooted → (a b : ℕ) (i j m n : Side)
-    → Goes plan shape vid rooted a b i.bridge i.links.items j.bridge j.links.items → i.bridge ≢ j.bridge → ClimbsDeeper plan rooted i j m n false
+pub goes-nowhere : (plan : Plan) (shape : Shape) (vid : ℕ) (rooted : Rooted) → Shows plan shape vid rooted
+    → (a b : ℕ) (i j m n : Side)
+    → Goes plan shape vid rooted a b i.bridge i.links.items j.bridge j.links.items → i.bridge ≢ j.bridge
+    → ClimbsDeeper plan rooted i j m n false
     → AreJoined plan shape vid a b → ⊥
-goes-nowhere plan shape vid rooted s a b i j m n g ne c joined = by (order (depth_of rooted i.bridge) (depth_of rooted j.bridge))
+goes-nowhere plan shape vid rooted s a b i j m n g ne c joined =
+    by (order (depth_of rooted i.bridge) (depth_of rooted j.bridge))
   where
-    by : (depth_of rooted j.bridge ≤ depth_of rooted i.bridge) ⊎ (depth_of rooted i.bridge < depth_of rooted j.bridge) → ⊥
+    by : (depth_of rooted j.bridge ≤ depth_of rooted i.bridge) ⊎ (depth_of rooted i.bridge < depth_of rooted j.bridge)
+        → ⊥
     by (inr lt) = let z = no-up plan shape vid rooted s j.bridge (c.second lt).0 in omega (arith, lt, z)
     by (inl le) =
         let z = no-up plan shape vid rooted s i.bridge (c.first le).0 in
@@ -296,7 +350,10 @@ goes-nowhere plan shape vid rooted s a b i j m n g ne c joined = by (order (dept
         ne (sym root_i ∙ sym from_a ∙ both ∙ sym from_b ∙ root_j)
 
 -- where both sides meet, the way is a path
-pub goes-there : (plan : Plan) (shape : Shape) (vid : ℕ) (rooted : Rooted) (a b x : ℕ) (xs : List ℕ) (y : ℕ) (ys : List ℕ) → Goes plan shape vid rooted a b x xs y ys
+pub goes-there : (plan : Plan) (shape : Shape) (vid : ℕ) (rooted : Rooted) (a b x : ℕ) (xs : List ℕ) (y : ℕ)
+    (ys : List ℕ) → Goes plan shape vid rooted a b x xs y ys
     → x ≡ y → IsPath plan shape vid a (xs ++ reverse ys) b
-goes-there plan shape vid rooted a b x xs y ys g e =
-    (walk-append plan shape vid a xs y (reverse ys) b (subst (λ z. IsWalk plan shape vid a xs z) e g.walk_a) g.walk_b, g.distinct)
+goes-there plan shape vid rooted a b x xs y ys g e = (
+  walk-append plan shape vid a xs y (reverse ys) b (subst (λ z. IsWalk plan shape vid a xs z) e g.walk_a) g.walk_b,
+  g.distinct,
+)

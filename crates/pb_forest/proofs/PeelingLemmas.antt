@@ -1,5 +1,7 @@
 -- Bridges are taken off one after the other.
-use Rattle.std.proofs.Common.{◌≡◌, ◌≢◌, ℕ, zero, suc, ◌+◌, ◌≤◌, ◌==◌, true, false, Some, None, Option, List, [], ◌∷◌, ◌++◌, slice_get, slice_set, length, refl, sym, ◌∙◌, ap, subst, arith, append_assoc, append-nil}
+use Rattle.std.proofs.Common.{◌≡◌, ◌≢◌, ℕ, zero, suc, ◌+◌, ◌≤◌, ◌==◌, true, false, Some, None, Option, List, [], ◌∷◌}
+use Rattle.std.proofs.Common.{◌++◌, slice_get, slice_set, length, refl, sym, ◌∙◌, ap, subst, arith, append_assoc}
+use Rattle.std.proofs.Common.{append-nil}
 use Rattle.std.proofs.lemmas.Bool.{eqb-true}
 use Rattle.pb_frame.proofs.Lists.{Some-injective}
 use Rattle.pb_forest.proofs.GraphLemmas.{at-same, at-other, joins-share, degree-off}
@@ -20,7 +22,8 @@ left-most [] = omega arith
 left-most (None ∷ xs) = let r = left-most xs in omega (arith, r)
 left-most (Some ends ∷ xs) = let r = left-most xs in omega (arith, r)
 
-pub left-off : (xs : List (Option Ends)) (k : ℕ) (ends : Ends) → slice_get xs k ≡ Some (Some ends) → left (slice_set xs k None) + 1 ≡ left xs
+pub left-off : (xs : List (Option Ends)) (k : ℕ) (ends : Ends) → slice_get xs k ≡ Some (Some ends)
+    → left (slice_set xs k None) + 1 ≡ left xs
 left-off [] k ends h = cc
 left-off (None ∷ xs) zero ends h = let e : None ≡ Some ends = Some-injective h in cc
 left-off (Some es ∷ xs) zero ends h = refl
@@ -28,7 +31,8 @@ left-off (None ∷ xs) (suc k) ends h = left-off xs k ends h
 left-off (Some es ∷ xs) (suc k) ends h = let r = left-off xs k ends h in omega (arith, r)
 
 -- each branch takes one
-pub taken-count : (old : List (Option Ends)) (bs : List Branch) (new : List (Option Ends)) → AreTakenOff old bs new → length bs + left new ≡ left old
+pub taken-count : (old : List (Option Ends)) (bs : List Branch) (new : List (Option Ends)) → AreTakenOff old bs new
+    → length bs + left new ≡ left old
 taken-count old [] new t = let e = ap left t in omega (arith, e)
 taken-count old (b ∷ bs) new t =
     let r = taken-count (slice_set old b.link None) bs new t.1 in
@@ -36,7 +40,8 @@ taken-count old (b ∷ bs) new t =
     omega (arith, r, o)
 
 -- one branch more
-taken-append : (old : List (Option Ends)) (bs : List Branch) (mid : List (Option Ends)) (b : Branch) → AreTakenOff old bs mid → IsLast mid b
+taken-append : (old : List (Option Ends)) (bs : List Branch) (mid : List (Option Ends)) (b : Branch)
+    → AreTakenOff old bs mid → IsLast mid b
     → AreTakenOff old (bs ++ b ∷ []) (slice_set mid b.link None)
 taken-append old [] mid b t l = (subst (λ xs. IsLast xs b) (sym t) l, ap (λ xs. slice_set xs b.link None) t)
 taken-append old (c ∷ bs) mid b t l = (t.0, taken-append (slice_set old c.link None) bs mid b t.1 l)
@@ -44,22 +49,26 @@ taken-append old (c ∷ bs) mid b t l = (t.0, taken-append (slice_set old c.link
 pub takes-none : (g : Graph) (bs : List Branch) → IsCounted g → TakesOff g g bs bs
 takes-none g bs c = record { counted = c; bridges = refl; more = []; added = sym (append-nil bs); taken = refl }
 
-pub takes-more : (old mid new : Graph) (before after : List Branch) (b : Branch) → TakesOff old mid before after → IsLast mid.links.items b → IsNext mid new (slice_set mid.links.items b.link None)
+pub takes-more : (old mid new : Graph) (before after : List Branch) (b : Branch) → TakesOff old mid before after
+    → IsLast mid.links.items b → IsNext mid new (slice_set mid.links.items b.link None)
     → TakesOff old new before (after ++ b ∷ [])
 takes-more old mid new before after b t l n = record {
   counted = n.counted;
   bridges = n.bridges ∙ t.bridges;
   more = t.more ++ b ∷ [];
   added = ap (λ (xs : List Branch). xs ++ b ∷ []) t.added ∙ append_assoc before t.more (b ∷ []);
-  taken = subst (AreTakenOff old.links.items (t.more ++ b ∷ [])) (sym n.joined) (taken-append old.links.items t.more mid.links.items b t.taken l);
+  taken = subst (AreTakenOff old.links.items (t.more ++ b ∷ [])) (sym n.joined)
+      (taken-append old.links.items t.more mid.links.items b t.taken l);
 }
 
 -- some branches, and then some more
-taken-both : (old : List (Option Ends)) (bs : List Branch) (mid : List (Option Ends)) (cs : List Branch) (new : List (Option Ends)) → AreTakenOff old bs mid → AreTakenOff mid cs new → AreTakenOff old (bs ++ cs) new
+taken-both : (old : List (Option Ends)) (bs : List Branch) (mid : List (Option Ends)) (cs : List Branch)
+    (new : List (Option Ends)) → AreTakenOff old bs mid → AreTakenOff mid cs new → AreTakenOff old (bs ++ cs) new
 taken-both old [] mid cs new t u = subst (λ xs. AreTakenOff xs cs new) (sym t) u
 taken-both old (b ∷ bs) mid cs new t u = (t.0, taken-both (slice_set old b.link None) bs mid cs new t.1 u)
 
-pub takes-both : (old mid new : Graph) (before midst after : List Branch) → TakesOff old mid before midst → TakesOff mid new midst after → TakesOff old new before after
+pub takes-both : (old mid new : Graph) (before midst after : List Branch) → TakesOff old mid before midst
+    → TakesOff mid new midst after → TakesOff old new before after
 takes-both old mid new before midst after t u = record {
   counted = u.counted;
   bridges = u.bridges ∙ t.bridges;
@@ -69,7 +78,8 @@ takes-both old mid new before midst after t u = record {
 }
 
 -- a step up leaves more than one link, or none, at all that were left so, but perhaps at the bridge above
-pub step-clears : (xs new : List (Option Ends)) (b : Branch) → IsLast xs b → new ≡ slice_set xs b.link None → (x : ℕ) → (x ≢ b.bridge → degree xs x ≢ 1) → x ≢ b.above → degree new x ≢ 1
+pub step-clears : (xs new : List (Option Ends)) (b : Branch) → IsLast xs b → new ≡ slice_set xs b.link None → (x : ℕ)
+    → (x ≢ b.bridge → degree xs x ≢ 1) → x ≢ b.above → degree new x ≢ 1
 step-clears xs new b l e x h n one =
     elim (x == b.bridge) as (λ t. (x == b.bridge) ≡ t → ⊥) [
       | true ↦ λ t.

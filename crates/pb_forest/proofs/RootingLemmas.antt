@@ -1,5 +1,7 @@
 -- Parents and depths are set from the branch that was taken off last to the first.
-use Rattle.std.proofs.Common.{◌≡◌, ◌≢◌, ℕ, suc, ◌+◌, ◌<◌, ◌≤◌, ◌==◌, true, false, cond, Some, None, Option, List, [], ◌∷◌, ◌++◌, slice_get, slice_set, length, replicate, refl, sym, ◌∙◌, ap, subst, arith, append_assoc, length-append}
+use Rattle.std.proofs.Common.{◌≡◌, ◌≢◌, ℕ, suc, ◌+◌, ◌<◌, ◌≤◌, ◌==◌, true, false, cond, Some, None, Option, List, []}
+use Rattle.std.proofs.Common.{◌∷◌, ◌++◌, slice_get, slice_set, length, replicate, refl, sym, ◌∙◌, ap, subst, arith}
+use Rattle.std.proofs.Common.{append_assoc, length-append}
 use Rattle.std.proofs.Math.ListN.{length-set}
 use Rattle.std.proofs.lemmas.Bool.{eqb-true}
 use Rattle.std.proofs.lemmas.List.{length-replicate, get_or-replicate}
@@ -17,7 +19,8 @@ depth-few [] x = omega arith
 depth-few (b ∷ bs) x =
     let r = depth-few bs x in
     let s = depth-few bs b.above in
-    elim (b.bridge == x) as (λ t. cond t (depth_below bs b.above + 1) (depth_below bs x) ≤ suc (length bs)) [ true ↦ omega (arith, s) | false ↦ omega (arith, r) ]
+    elim (b.bridge == x) as (λ t. cond t (depth_below bs b.above + 1) (depth_below bs x) ≤ suc (length bs))
+    [ true ↦ omega (arith, s) | false ↦ omega (arith, r) ]
 
 -- the entries are those of the later branches
 pub record RootsTo (bridges : ℕ) (all rest : List Branch) (up : List (Option ℕ)) (depth : List ℕ) : Type 0 where
@@ -30,9 +33,11 @@ pub record RootsTo (bridges : ℕ) (all rest : List Branch) (up : List (Option �
 
 -- without branches, each is a root
 get-replicate : {X : Type 0} (n x : ℕ) (v : X) → x < n → slice_get (replicate n v) x ≡ Some v
-get-replicate n x v h = slice_get-get_or (replicate n v) x v (let e = length-replicate n v in omega (arith, e, h)) ∙ ap (λ y. Some y) (get_or-replicate n x v v h)
+get-replicate n x v h = slice_get-get_or (replicate n v) x v (let e = length-replicate n v in omega (arith, e, h))
+    ∙ ap (λ y. Some y) (get_or-replicate n x v v h)
 
-pub roots-none : (n : ℕ) (all : List Branch) (up : List (Option ℕ)) (depth : List ℕ) → up ≡ replicate n None → depth ≡ replicate n 0 → RootsTo n all all up depth
+pub roots-none : (n : ℕ) (all : List Branch) (up : List (Option ℕ)) (depth : List ℕ) → up ≡ replicate n None
+    → depth ≡ replicate n 0 → RootsTo n all all up depth
 roots-none n all up depth u d = record {
   later = [];
   split = nil all;
@@ -47,14 +52,19 @@ roots-none n all up depth u d = record {
     nil (b ∷ bs) = ap (λ (cs : List Branch). b ∷ cs) (nil bs)
 
 -- the branch that comes next
-pub split-next : (all rest new later : List Branch) (b : Branch) → rest ++ later ≡ all → rest ≡ new ++ b ∷ [] → new ++ b ∷ later ≡ all
-split-next all rest new later b s e = sym (append_assoc new (b ∷ []) later) ∙ ap (λ (xs : List Branch). xs ++ later) (sym e) ∙ s
+pub split-next : (all rest new later : List Branch) (b : Branch) → rest ++ later ≡ all → rest ≡ new ++ b ∷ []
+    → new ++ b ∷ later ≡ all
+split-next all rest new later b s e = sym (append_assoc new (b ∷ []) later)
+    ∙ ap (λ (xs : List Branch). xs ++ later) (sym e) ∙ s
 
-pub near-next : (n : ℕ) (all rest new : List Branch) (up : List (Option ℕ)) (depth : List ℕ) (b : Branch) → RootsTo n all rest up depth → rest ≡ new ++ b ∷ [] → AllByRecursion (IsNear n) all → IsNear n b
-near-next n all rest new up depth b r e near = All-midst (IsNear n) new b r.later (subst (AllByRecursion (IsNear n)) (sym (split-next all rest new r.later b r.split e)) near)
+pub near-next : (n : ℕ) (all rest new : List Branch) (up : List (Option ℕ)) (depth : List ℕ) (b : Branch)
+    → RootsTo n all rest up depth → rest ≡ new ++ b ∷ [] → AllByRecursion (IsNear n) all → IsNear n b
+near-next n all rest new up depth b r e near = All-midst (IsNear n) new b r.later
+    (subst (AllByRecursion (IsNear n)) (sym (split-next all rest new r.later b r.split e)) near)
 
 -- its depth
-pub depth-next : (n : ℕ) (all rest new : List Branch) (up : List (Option ℕ)) (depth : List ℕ) (b : Branch) (d : ℕ) → (r : RootsTo n all rest up depth) → rest ≡ new ++ b ∷ [] → IsNear n b → slice_get depth b.above ≡ Some d
+pub depth-next : (n : ℕ) (all rest new : List Branch) (up : List (Option ℕ)) (depth : List ℕ) (b : Branch) (d : ℕ)
+    → (r : RootsTo n all rest up depth) → rest ≡ new ++ b ∷ [] → IsNear n b → slice_get depth b.above ≡ Some d
     → (d ≡ depth_below r.later b.above) × (d + 1 ≤ length all)
 depth-next n all rest new up depth b d r e near h =
     let is : d ≡ depth_below r.later b.above = Some-injective (sym h ∙ r.depth_at b.above near.above) in
@@ -64,7 +74,8 @@ depth-next n all rest new up depth b d r e near h =
     (is, omega (arith, is, few, l, k))
 
 -- one branch more
-pub roots-more : (n : ℕ) (all rest new : List Branch) (up : List (Option ℕ)) (depth : List ℕ) (b : Branch) (d : ℕ) → (r : RootsTo n all rest up depth) → rest ≡ new ++ b ∷ [] → IsNear n b → d ≡ depth_below r.later b.above
+pub roots-more : (n : ℕ) (all rest new : List Branch) (up : List (Option ℕ)) (depth : List ℕ) (b : Branch) (d : ℕ)
+    → (r : RootsTo n all rest up depth) → rest ≡ new ++ b ∷ [] → IsNear n b → d ≡ depth_below r.later b.above
     → RootsTo n all new (slice_set up b.bridge (Some (b.link + 1))) (slice_set depth b.bridge (d + 1))
 roots-more n all rest new up depth b d r e near is = record {
   later = b ∷ r.later;
@@ -72,10 +83,12 @@ roots-more n all rest new up depth b d r e near is = record {
   ups = length-set up b.bridge (Some (b.link + 1)) ∙ r.ups;
   depths = length-set depth b.bridge (d + 1) ∙ r.depths;
   up_at = λ x h. at up (Some (b.link + 1)) (way_up r.later x) x r.ups (r.up_at x h);
-  depth_at = λ x h. at depth (d + 1) (depth_below r.later x) x r.depths (r.depth_at x h) ∙ ap (λ k. Some (cond (b.bridge == x) (k + 1) (depth_below r.later x))) is;
+  depth_at = λ x h. at depth (d + 1) (depth_below r.later x) x r.depths (r.depth_at x h)
+      ∙ ap (λ k. Some (cond (b.bridge == x) (k + 1) (depth_below r.later x))) is;
 }
   where
-    at : {X : Type 0} (xs : List X) (v w : X) (x : ℕ) → length xs ≡ n → slice_get xs x ≡ Some w → slice_get (slice_set xs b.bridge v) x ≡ Some (cond (b.bridge == x) v w)
+    at : {X : Type 0} (xs : List X) (v w : X) (x : ℕ) → length xs ≡ n → slice_get xs x ≡ Some w
+        → slice_get (slice_set xs b.bridge v) x ≡ Some (cond (b.bridge == x) v w)
     at xs v w x l h =
         elim (b.bridge == x) as (λ t. (b.bridge == x) ≡ t → slice_get (slice_set xs b.bridge v) x ≡ Some (cond t v w)) [
           | true ↦ λ t.
@@ -86,7 +99,8 @@ roots-more n all rest new up depth b d r e near is = record {
         ] refl
 
 -- all of them
-pub roots-all : (n : ℕ) (all : List Branch) (up : List (Option ℕ)) (depth : List ℕ) (rooted : Rooted) → RootsTo n all [] up depth → rooted.up ≡ up → rooted.depth ≡ depth → IsRootedBy n all rooted
+pub roots-all : (n : ℕ) (all : List Branch) (up : List (Option ℕ)) (depth : List ℕ) (rooted : Rooted)
+    → RootsTo n all [] up depth → rooted.up ≡ up → rooted.depth ≡ depth → IsRootedBy n all rooted
 roots-all n all up depth rooted r u d = record {
   ups = ap length u ∙ r.ups;
   depths = ap length d ∙ r.depths;

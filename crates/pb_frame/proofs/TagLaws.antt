@@ -1,5 +1,6 @@
 -- A service tag comes off as it went on.
-use Rattle.std.proofs.Common.{◌≡◌, ℕ, ◌+◌, ◌*◌, ◌/◌, ◌%◌, ◌<◌, ◌≤◌, true, List, ◌∷◌, take, length, get_or, refl, sym, ap, ◌∙◌, arith}
+use Rattle.std.proofs.Common.{◌≡◌, ℕ, ◌+◌, ◌*◌, ◌/◌, ◌%◌, ◌<◌, ◌≤◌, true, List, ◌∷◌, take, length, get_or, refl, sym}
+use Rattle.std.proofs.Common.{ap, ◌∙◌, arith}
 use Rattle.std.proofs.lemmas.Bool.Decides.{nat_tests}
 use Rattle.pb_frame.specs.Tags.{control, tagged, untagged, control_of, IsTag, vid_of, priority_of, has_service_type}
 
@@ -18,7 +19,8 @@ pub vid_of-tagged : (x : List ℕ) (p d v : ℕ) → 12 ≤ length x → v < 409
 vid_of-tagged x p d v long small = rw (control_of-tagged x p d v long) (omega arith)
 
 -- and the priority
-pub priority_of-tagged : (x : List ℕ) (p d v : ℕ) → 12 ≤ length x → p < 8 → d < 2 → v < 4096 → priority_of (tagged x p d v) ≡ p
+pub priority_of-tagged : (x : List ℕ) (p d v : ℕ) → 12 ≤ length x → p < 8 → d < 2 → v < 4096
+    → priority_of (tagged x p d v) ≡ p
 priority_of-tagged x p d v long a b c = rw (control_of-tagged x p d v long) (omega arith)
 
 -- the type stands there
@@ -49,7 +51,8 @@ low n a b e h = omega arith
 -- a frame with a whole tag is what is left without it, tagged by what the tag says
 pub tagged-untagged : (f : List ℕ) (p d v : ℕ) → 18 ≤ length f → get_or f 12 0 ≡ 136 → get_or f 13 0 ≡ 168
     → control p d v ≡ control_of f → get_or f 15 0 < 256 → f ≡ tagged (untagged f) p d v
-tagged-untagged (a ∷ b ∷ c ∷ e ∷ f ∷ g ∷ h ∷ i ∷ j ∷ k ∷ l ∷ m ∷ n ∷ o ∷ q ∷ r ∷ rest) p d v long twelve thirteen number fits =
+tagged-untagged (a ∷ b ∷ c ∷ e ∷ f ∷ g ∷ h ∷ i ∷ j ∷ k ∷ l ∷ m ∷ n ∷ o ∷ q ∷ r ∷ rest) p d v long twelve thirteen
+    number fits =
     let hi : control p d v / 256 ≡ q = high (control p d v) q r number fits in
     let lo : control p d v % 256 ≡ r = low (control p d v) q r number fits in cc
 tagged-untagged _ p d v long twelve thirteen number fits = absurd (omega arith)
@@ -63,7 +66,8 @@ tagged-inj x y p d v q e w hx hy same = (
 )
 
 -- and, within their bits, the tag's parts
-pub parts-of-control : (p d v q e w : ℕ) → IsTag p d v → IsTag q e w → control p d v ≡ control q e w → (p ≡ q) × (d ≡ e) × (v ≡ w)
+pub parts-of-control : (p d v q e w : ℕ) → IsTag p d v → IsTag q e w → control p d v ≡ control q e w
+    → (p ≡ q) × (d ≡ e) × (v ≡ w)
 parts-of-control p d v q e w here there same =
     let a = here.0 in let b = here.1 in let c = here.2 in
     let f = there.0 in let g = there.1 in let h = there.2 in

@@ -1,5 +1,6 @@
 -- Texts that are put behind one another.
-use Rattle.std.proofs.Common.{◌≡◌, ℕ, suc, ◌+◌, ◌-◌, ◌<◌, List, ◌∷◌, ◌++◌, flat_map, Ok, Err, OnOk, sym, ap, ◌∙◌, arith, append_assoc}
+use Rattle.std.proofs.Common.{◌≡◌, ℕ, suc, ◌+◌, ◌-◌, ◌<◌, List, ◌∷◌, ◌++◌, flat_map, Ok, Err, OnOk, sym, ap, ◌∙◌}
+use Rattle.std.proofs.Common.{arith, append_assoc}
 use Rattle.std.specs.List.{range_with_len}
 use Rattle.std.specs.declared.result.Result.{Result}
 
@@ -8,7 +9,8 @@ pub with_piece : (old mid new a b : List ℕ) → mid ≡ old ++ a → new ≡ m
 with_piece old mid new a b e f = f ∙ ap (λ t. t ++ b) e ∙ append_assoc old a b
 
 -- the same of a call whose result is returned as it is
-pub last_piece : {T E : Type 0} (r : Result T E) (old mid new a b : List ℕ) → mid ≡ old ++ a → OnOk r (new ≡ mid ++ b) → OnOk r (new ≡ old ++ (a ++ b))
+pub last_piece : {T E : Type 0} (r : Result T E) (old mid new a b : List ℕ) → mid ≡ old ++ a → OnOk r (new ≡ mid ++ b)
+    → OnOk r (new ≡ old ++ (a ++ b))
 last_piece (Ok x) old mid new a b e f = with_piece old mid new a b e f
 last_piece (Err d) old mid new a b e f = f
 
@@ -20,7 +22,9 @@ from_first k n l =
 
 -- one number's text more, where those of the numbers from there on make the whole
 pub numbers_more : (f : ℕ → List ℕ) (k n : ℕ) (old new whole : List ℕ) → k < n → new ≡ old ++ f (k + 1)
-    → old ++ flat_map f (range_with_len (k + 1) (n - k)) ≡ whole → new ++ flat_map f (range_with_len (k + 1 + 1) (n - (k + 1))) ≡ whole
+    → old ++ flat_map f (range_with_len (k + 1) (n - k)) ≡ whole
+    → new ++ flat_map f (range_with_len (k + 1 + 1) (n - (k + 1))) ≡ whole
 numbers_more f k n old new whole l e w =
     let rest = flat_map f (range_with_len (k + 1 + 1) (n - (k + 1))) in
-    ap (λ t. t ++ rest) e ∙ append_assoc old (f (k + 1)) rest ∙ sym (ap (λ ks. old ++ flat_map f ks) (from_first k n l)) ∙ w
+    ap (λ t. t ++ rest) e ∙ append_assoc old (f (k + 1)) rest
+    ∙ sym (ap (λ ks. old ++ flat_map f ks) (from_first k n l)) ∙ w

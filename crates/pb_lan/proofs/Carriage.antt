@@ -1,9 +1,11 @@
 -- What spreads from polled frames over bridges and links, by induction on hops.
-use Rattle.std.proofs.Common.{◌≡◌, ◌⊎◌, inl, inr, ℕ, zero, suc, ◌+◌, ◌<◌, Some, Option, true, false, cond, not, ◌&&◌, ◌==◌, List, [], ◌∷◌, ◌++◌, refl, ◌∙◌, subst, arith, add-one, append_assoc}
+use Rattle.std.proofs.Common.{◌≡◌, ◌⊎◌, inl, inr, ℕ, zero, suc, ◌+◌, ◌<◌, Some, Option, true, false, cond, not, ◌&&◌}
+use Rattle.std.proofs.Common.{◌==◌, List, [], ◌∷◌, ◌++◌, refl, ◌∙◌, subst, arith, add-one, append_assoc}
 use Rattle.std.proofs.lemmas.Bool.{eqb-true}
 use Rattle.std.specs.List.{AllByRecursion, filter, flat_map, list_any}
 use Rattle.pb_frame.specs.declared.learnt.Learnt.{Learnt}
-use Rattle.pb_frame.proofs.Lists.{and-left, All-append, All-map, All-imply, All-filter, All-flat_map, All-front, All-back, All-every, eqb-refl}
+use Rattle.pb_frame.proofs.Lists.{and-left, All-append, All-map, All-imply, All-filter, All-flat_map, All-front}
+use Rattle.pb_frame.proofs.Lists.{All-back, All-every, eqb-refl}
 use Rattle.pb_frame.proofs.Parts.{All-part}
 use Rattle.pb_lan.proofs.PortsInPlans.{customer_at, end_at}
 use Rattle.pb_lan.proofs.ReceivedWasSent.{IsEntry, into-All, link-part}
@@ -13,7 +15,8 @@ use Rattle.pb_lan.specs.BridgeLists.{ruling, Follows, Fits, LawfulAfter, IsOwn}
 use Rattle.pb_lan.specs.Forests.{HasEnds}
 use Rattle.pb_lan.specs.Numbering.{numbered}
 use Rattle.pb_lan.specs.Ports.{Port, port_at}
-use Rattle.pb_lan.specs.Queues.{Waiting, copy_of, copies, is_refused, class_of, priority_in, queued_by, relayed_by, own_by}
+use Rattle.pb_lan.specs.Queues.{Waiting, copy_of, copies, is_refused, class_of, priority_in, queued_by, relayed_by}
+use Rattle.pb_lan.specs.Queues.{own_by}
 use Rattle.pb_lan.specs.Records.{transmitted, IsLawfulRecord, steps_of, received, received_by}
 use Rattle.pb_lan.specs.Rules.{Rules}
 use Rattle.pb_lan.specs.Shapes.{moved_of}
@@ -29,16 +32,19 @@ use Rattle.pb_lan.specs.declared.step.NoRoom.{NoRoom}
 use Rattle.pb_lan.specs.declared.step.Outcome.{Outcome}
 use Rattle.pb_lan.specs.declared.step.Outcome.TheVariants.{Relayed, Filtered, Heard}
 use Rattle.pb_lan.specs.declared.step.Step.{Step}
-use Rattle.pb_lan.specs.declared.step.Step.TheVariants.{Poll, Feed, Deliver, Receive, Transmit, Tick, Admin, Take, Put}
+use Rattle.pb_lan.specs.declared.step.Step.TheVariants.{Poll, Feed, Deliver, Receive, Transmit, Tick, Admin, Take}
+use Rattle.pb_lan.specs.declared.step.Step.TheVariants.{Put}
 
 -- K holds of what is received at a bridge's port and Q of what is queued there, where each of these leads on to the next
 pub record Spreads (rules : Rules) (plan : Plan) (rec : Record) (K Q : ℕ → ℕ → Item → Type 0) : Type 0 where
-  pub enters : (k : ℕ) (c : CustomerPlan) → numbered plan.customers k ≡ Some c → (item : Item) → IsEntry rec k item → K c.bridge c.port item
+  pub enters : (k : ℕ) (c : CustomerPlan) → numbered plan.customers k ≡ Some c → (item : Item) → IsEntry rec k item
+      → K c.bridge c.port item
   pub crosses : (k : ℕ) (link : LinkPlan) (near far : End) → numbered plan.links k ≡ Some link → HasEnds link near far
       → (item : Item) → Q near.bridge near.port item → K far.bridge far.port item
   pub unused : (b q : ℕ) → port_at plan b q ≡ Unused → (item : Item) → K b q item
   pub own : (b q : ℕ) (item : Item) → IsOwn plan b (q, item) → Q b q item
-  pub relays : (b r : ℕ) (earlier later : List Step) (q : ℕ) (item : Item) (learnt : Option Learnt) (chosen : List ℕ) (refused : List (ℕ × NoRoom)) (moved : Option Moved)
+  pub relays : (b r : ℕ) (earlier later : List Step) (q : ℕ) (item : Item) (learnt : Option Learnt) (chosen : List ℕ)
+      (refused : List (ℕ × NoRoom)) (moved : Option Moved)
       → earlier ++ Receive q item learnt (Relayed chosen refused) moved ∷ later ≡ steps_of rec.bridges b
       → Follows rules plan b earlier q item learnt (Relayed chosen refused) moved (ruling rules plan b earlier q item)
       → list_any (λ p. p == r) chosen ≡ true → K b q item
@@ -55,7 +61,8 @@ StepBelow n K b _ = Unit {0}
 
 -- from a received item to its copy
 copies-spread : (rules : Rules) (plan : Plan) (rec : Record) (K Q : ℕ → ℕ → Item → Type 0) → Spreads rules plan rec K Q
-    → (n b r : ℕ) (earlier later : List Step) (q : ℕ) (item : Item) (learnt : Option Learnt) (outcome : Outcome) (moved : Option Moved)
+    → (n b r : ℕ) (earlier later : List Step) (q : ℕ) (item : Item) (learnt : Option Learnt) (outcome : Outcome)
+    (moved : Option Moved)
     → earlier ++ Receive q item learnt outcome moved ∷ later ≡ steps_of rec.bridges b
     → Follows rules plan b earlier q item learnt outcome moved (ruling rules plan b earlier q item)
     → Below n (K b q) item → AllWaiting (Below (n + 1) (Q b r)) (copies plan b q item outcome r)
@@ -64,19 +71,32 @@ copies-spread rules plan rec K Q s n b r earlier later q item learnt Heard moved
 copies-spread rules plan rec K Q s n b r earlier later q item learnt (Relayed chosen refused) moved at follows known =
     elim (list_any (λ p. p == r) chosen && not (is_refused refused r))
     as (λ t. (list_any (λ p. p == r) chosen && not (is_refused refused r)) ≡ t
-    → AllWaiting (Below (n + 1) (Q b r)) (cond t (record { class = class_of (priority_in (port_at plan b q) item.wire); item = copy_of plan (port_at plan b q) (port_at plan b r) item } ∷ []) []))
-    [ true ↦ λ e. (λ few. s.relays b r earlier later q item learnt chosen refused moved at follows (and-left _ _ e) (known (omega (arith, few))), tt) | false ↦ λ e. tt ] refl
+    → AllWaiting (Below (n + 1) (Q b r))
+    (cond t (record {
+      class = class_of (priority_in (port_at plan b q) item.wire);
+      item = copy_of plan (port_at plan b q) (port_at plan b r) item;
+    } ∷ []) [])) [
+      | true ↦ λ e. (
+        λ few. s.relays b r earlier later q item learnt chosen refused moved at follows (and-left _ _ e)
+            (known (omega (arith, few))),
+        tt,
+      )
+      | false ↦ λ e. tt
+    ] refl
 
 -- what a bridge queues of its own is for other bridges
-pub step-own : (rules : Rules) (plan : Plan) (b : ℕ) (earlier : List Step) (step : Step) → Fits rules plan b earlier step
+pub step-own : (rules : Rules) (plan : Plan) (b : ℕ) (earlier : List Step) (step : Step)
+    → Fits rules plan b earlier step
     → AllByRecursion (λ m. AllByRecursion (IsOwn plan b) m.queued) (moved_of step)
-step-own rules plan b earlier (Receive q item learnt outcome moved) fits = follows-own rules plan b earlier q item learnt outcome moved (ruling rules plan b earlier q item) fits
+step-own rules plan b earlier (Receive q item learnt outcome moved) fits = follows-own rules plan b earlier q item
+    learnt outcome moved (ruling rules plan b earlier q item) fits
 step-own rules plan b earlier (Tick now moved) fits = (fits.1.own, tt)
 step-own rules plan b earlier (Admin port up moved) fits = (fits.1.own, tt)
 step-own rules plan b earlier _ fits = tt
 
 -- what its own items have, what it queues of its own at a port has
-pub own-All : (P : Waiting → Type 0) (plan : Plan) (b r : ℕ) (step : Step) → ((item : Item) → IsOwn plan b (r, item) → P (record { class = 7; item = item }))
+pub own-All : (P : Waiting → Type 0) (plan : Plan) (b r : ℕ) (step : Step)
+    → ((item : Item) → IsOwn plan b (r, item) → P (record { class = 7; item = item }))
     → AllByRecursion (λ m. AllByRecursion (IsOwn plan b) m.queued) (moved_of step) → AllByRecursion P (own_by r step)
 own-All P plan b r step h own =
     let all = flat_map (λ m. m.queued) (moved_of step) in
@@ -86,27 +106,34 @@ own-All P plan b r step h own =
     (All-filter (IsOwn plan b) (λ q. q.0 == r) all (All-flat_map (IsOwn plan b) (λ m. m.queued) (moved_of step) own)))
 
 -- so does what spreads
-own-spread : (rules : Rules) (plan : Plan) (rec : Record) (K Q : ℕ → ℕ → Item → Type 0) → Spreads rules plan rec K Q → (n b r : ℕ) (step : Step)
-    → AllByRecursion (λ m. AllByRecursion (IsOwn plan b) m.queued) (moved_of step) → AllWaiting (Below n (Q b r)) (own_by r step)
-own-spread rules plan rec K Q s n b r step own = own-All (λ w. Below n (Q b r) w.item) plan b r step (λ item o few. s.own b r item o) own
+own-spread : (rules : Rules) (plan : Plan) (rec : Record) (K Q : ℕ → ℕ → Item → Type 0) → Spreads rules plan rec K Q
+    → (n b r : ℕ) (step : Step)
+    → AllByRecursion (λ m. AllByRecursion (IsOwn plan b) m.queued) (moved_of step)
+    → AllWaiting (Below n (Q b r)) (own_by r step)
+own-spread rules plan rec K Q s n b r step own = own-All (λ w. Below n (Q b r) w.item) plan b r step
+    (λ item o few. s.own b r item o) own
 
 -- from what a step receives to what it relays
 step-spread : (rules : Rules) (plan : Plan) (rec : Record) (K Q : ℕ → ℕ → Item → Type 0) → Spreads rules plan rec K Q
     → (n b r : ℕ) (earlier later : List Step) (step : Step) → earlier ++ step ∷ later ≡ steps_of rec.bridges b
-    → Fits rules plan b earlier step → StepBelow n K b step → AllWaiting (Below (n + 1) (Q b r)) (relayed_by plan b r step)
-step-spread rules plan rec K Q s n b r earlier later (Receive q item learnt outcome moved) at fits known = copies-spread rules plan rec K Q s n b r earlier later q item learnt outcome moved at fits known
+    → Fits rules plan b earlier step → StepBelow n K b step
+    → AllWaiting (Below (n + 1) (Q b r)) (relayed_by plan b r step)
+step-spread rules plan rec K Q s n b r earlier later (Receive q item learnt outcome moved) at fits known =
+    copies-spread rules plan rec K Q s n b r earlier later q item learnt outcome moved at fits known
 step-spread rules plan rec K Q s n b r earlier later _ at fits known = tt
 
 -- from what the steps receive to what they queue
 steps-spread : (rules : Rules) (plan : Plan) (rec : Record) (K Q : ℕ → ℕ → Item → Type 0) → Spreads rules plan rec K Q
-    → (n b r : ℕ) (earlier steps : List Step) → earlier ++ steps ≡ steps_of rec.bridges b → LawfulAfter rules plan b earlier steps
+    → (n b r : ℕ) (earlier steps : List Step) → earlier ++ steps ≡ steps_of rec.bridges b
+    → LawfulAfter rules plan b earlier steps
     → AllByRecursion (StepBelow n K b) steps → AllQueued (Below (n + 1) (Q b r)) plan b r steps
 steps-spread rules plan rec K Q s n b r earlier [] at lawful known = tt
 steps-spread rules plan rec K Q s n b r earlier (step ∷ steps) at lawful known = (
   All-append (λ w. Below (n + 1) (Q b r) w.item) (relayed_by plan b r step) (own_by r step)
       (step-spread rules plan rec K Q s n b r earlier steps step at lawful.0 known.0)
       (own-spread rules plan rec K Q s (n + 1) b r step (step-own rules plan b earlier step lawful.0)),
-  steps-spread rules plan rec K Q s n b r (earlier ++ step ∷ []) steps (append_assoc earlier (step ∷ []) steps ∙ at) lawful.1 known.1,
+  steps-spread rules plan rec K Q s n b r (earlier ++ step ∷ []) steps (append_assoc earlier (step ∷ []) steps ∙ at)
+      lawful.1 known.1,
 )
 
 -- what is received at any port is received by some step
@@ -119,7 +146,8 @@ received-steps n K b (step ∷ steps) h = (
 )
   where
     at_step : (step : Step) → ((q : ℕ) → AllByRecursion (Below n (K b q)) (received_by q step)) → StepBelow n K b step
-    at_step (Receive q item learnt outcome moved) k = (subst (λ t. AllByRecursion (Below n (K b q)) (cond t (item ∷ []) [])) (eqb-refl q) (k q)).0
+    at_step (Receive q item learnt outcome moved) k =
+        (subst (λ t. AllByRecursion (Below n (K b q)) (cond t (item ∷ []) [])) (eqb-refl q) (k q)).0
     at_step (Transmit q item) k = tt
     at_step (Tick now moved) k = tt
     at_step (Admin port up moved) k = tt
@@ -134,18 +162,23 @@ abbrev AllBelow : ℕ → (ℕ → ℕ → Item → Type 0) → Plan → Record 
 AllBelow n Q plan rec = (b r : ℕ) → AllQueued (Below n (Q b r)) plan b r (steps_of rec.bridges b)
 
 -- what follows from a property of all that is queued
-queued-imply : (P R : Item → Type 0) → ((item : Item) → P item → R item) → (plan : Plan) (b r : ℕ) (steps : List Step) → AllQueued P plan b r steps → AllQueued R plan b r steps
+pub queued-imply : (P R : Item → Type 0) → ((item : Item) → P item → R item)
+    → (plan : Plan) (b r : ℕ) (steps : List Step)
+    → AllQueued P plan b r steps → AllQueued R plan b r steps
 queued-imply P R h plan b r steps a =
     All-imply (λ step. AllWaiting P (queued_by plan b r step)) (λ step. AllWaiting R (queued_by plan b r step))
     (λ step ws. All-imply (λ w. P w.item) (λ w. R w.item) (λ w p. h w.item p) (queued_by plan b r step) ws) steps a
 
 -- from what is queued with few hops to what is received with as few
-pub received-spread : (rules : Rules) (plan : Plan) (rec : Record) (K Q : ℕ → ℕ → Item → Type 0) → Spreads rules plan rec K Q → IsLawfulRecord rules plan rec
-    → (n : ℕ) → AllBelow n Q plan rec → (b q : ℕ) → AllByRecursion (Below n (K b q)) (received q (steps_of rec.bridges b))
+pub received-spread : (rules : Rules) (plan : Plan) (rec : Record) (K Q : ℕ → ℕ → Item → Type 0)
+    → Spreads rules plan rec K Q → IsLawfulRecord rules plan rec
+    → (n : ℕ) → AllBelow n Q plan rec → (b q : ℕ)
+    → AllByRecursion (Below n (K b q)) (received q (steps_of rec.bridges b))
 received-spread rules plan rec K Q s lawful n all b q =
     by_port (port_at plan b q) refl
   where
-    moved_to : (x y : ℕ) → x ≡ b → y ≡ q → AllByRecursion (Below n (K x y)) (received y (steps_of rec.bridges x)) → AllByRecursion (Below n (K b q)) (received q (steps_of rec.bridges b))
+    moved_to : (x y : ℕ) → x ≡ b → y ≡ q → AllByRecursion (Below n (K x y)) (received y (steps_of rec.bridges x))
+        → AllByRecursion (Below n (K b q)) (received q (steps_of rec.bridges b))
     moved_to x y e f a =
         subst (λ y. AllByRecursion (Below n (K b y)) (received y (steps_of rec.bridges b))) f
         (subst (λ x. AllByRecursion (Below n (K x y)) (received y (steps_of rec.bridges x))) e a)
@@ -153,10 +186,13 @@ received-spread rules plan rec K Q s lawful n all b q =
     over_link : (k : ℕ) (link : LinkPlan) (near far : End) → numbered plan.links k ≡ Some link → HasEnds link near far
         → AllByRecursion (Below n (K far.bridge far.port)) (received far.port (steps_of rec.bridges far.bridge))
     over_link k link near far at ends =
-        All-part (Below n (K far.bridge far.port)) (received far.port (steps_of rec.bridges far.bridge)) (transmitted near.port (steps_of rec.bridges near.bridge))
+        All-part (Below n (K far.bridge far.port)) (received far.port (steps_of rec.bridges far.bridge))
+        (transmitted near.port (steps_of rec.bridges near.bridge))
         (link-part rec k link near far (lawful.links k link at) ends)
-        (transmitted-All (Below n (K far.bridge far.port)) rules plan near.bridge near.port [] (steps_of rec.bridges near.bridge) (lawful.bridges near.bridge) tt
-        (queued-imply (Below n (Q near.bridge near.port)) (Below n (K far.bridge far.port)) (λ item p. λ few. s.crosses k link near far at ends item (p few))
+        (transmitted-All (Below n (K far.bridge far.port)) rules plan near.bridge near.port []
+        (steps_of rec.bridges near.bridge) (lawful.bridges near.bridge) tt
+        (queued-imply (Below n (Q near.bridge near.port)) (Below n (K far.bridge far.port))
+        (λ item p. λ few. s.crosses k link near far at ends item (p few))
         plan near.bridge near.port (steps_of rec.bridges near.bridge) (all near.bridge near.port)))
 
     to_end : (k : ℕ) (link : LinkPlan) (e : End) → numbered plan.links k ≡ Some link → (link.a ≡ e) ⊎ (link.b ≡ e)
@@ -168,22 +204,27 @@ received-spread rules plan rec K Q s lawful n all b q =
     by_port (Customer c) h =
         let at = customer_at plan b q c h in
         moved_to c.bridge c.port at.2 at.3
-        (All-imply (IsEntry rec at.0) (Below n (K c.bridge c.port)) (λ item e. λ few. s.enters at.0 c at.1 item e) (received c.port (steps_of rec.bridges c.bridge))
+        (All-imply (IsEntry rec at.0) (Below n (K c.bridge c.port)) (λ item e. λ few. s.enters at.0 c at.1 item e)
+        (received c.port (steps_of rec.bridges c.bridge))
         (into-All rec at.0 c (lawful.ports at.0) (lawful.customers at.0 c at.1)))
     by_port (Provider e) h =
         let at = end_at plan b q e h in
         moved_to e.bridge e.port at.1 at.2 (to_end (suc at.0.0) at.0.1 e at.0.2 at.0.3)
-    by_port Unused h = All-every (Below n (K b q)) (λ item. λ few. s.unused b q h item) (received q (steps_of rec.bridges b))
+    by_port Unused h = All-every (Below n (K b q)) (λ item. λ few. s.unused b q h item)
+        (received q (steps_of rec.bridges b))
 
 -- by induction on hops
-pub all-below : (rules : Rules) (plan : Plan) (rec : Record) (K Q : ℕ → ℕ → Item → Type 0) → Spreads rules plan rec K Q → IsLawfulRecord rules plan rec → (n : ℕ) → AllBelow n Q plan rec
+pub all-below : (rules : Rules) (plan : Plan) (rec : Record) (K Q : ℕ → ℕ → Item → Type 0)
+    → Spreads rules plan rec K Q → IsLawfulRecord rules plan rec → (n : ℕ) → AllBelow n Q plan rec
 all-below rules plan rec K Q s lawful zero b r =
     All-every (λ step. AllWaiting (Below 0 (Q b r)) (queued_by plan b r step))
-    (λ step. All-every (λ w. Below 0 (Q b r) w.item) (λ w. λ few. absurd (omega (arith, few))) (queued_by plan b r step)) (steps_of rec.bridges b)
+    (λ step. All-every (λ w. Below 0 (Q b r) w.item) (λ w. λ few. absurd (omega (arith, few)))
+    (queued_by plan b r step)) (steps_of rec.bridges b)
 all-below rules plan rec K Q s lawful (suc n) b r =
     subst (λ m. AllQueued (Below m (Q b r)) plan b r (steps_of rec.bridges b)) (add-one n)
     (steps-spread rules plan rec K Q s n b r [] (steps_of rec.bridges b) refl (lawful.bridges b)
-    (received-steps n K b (steps_of rec.bridges b) (received-spread rules plan rec K Q s lawful n (all-below rules plan rec K Q s lawful n) b)))
+    (received-steps n K b (steps_of rec.bridges b)
+    (received-spread rules plan rec K Q s lawful n (all-below rules plan rec K Q s lawful n) b)))
 
 -- each item has some number of hops
 of_waiting : (P : Item → Type 0) (ws : List Waiting) → ((n : ℕ) → AllWaiting (Below n P) ws) → AllWaiting P ws
@@ -191,18 +232,24 @@ of_waiting P [] h = tt
 of_waiting P (w ∷ ws) h = ((h (w.item.hops + 1)).0 (omega arith), of_waiting P ws (λ n. (h n).1))
 
 -- what is queued anywhere
-pub queued-all : (rules : Rules) (plan : Plan) (rec : Record) (K Q : ℕ → ℕ → Item → Type 0) → Spreads rules plan rec K Q → IsLawfulRecord rules plan rec
+pub queued-all : (rules : Rules) (plan : Plan) (rec : Record) (K Q : ℕ → ℕ → Item → Type 0)
+    → Spreads rules plan rec K Q → IsLawfulRecord rules plan rec
     → (b r : ℕ) → AllQueued (Q b r) plan b r (steps_of rec.bridges b)
-queued-all rules plan rec K Q s lawful b r = of_steps (steps_of rec.bridges b) (λ n. all-below rules plan rec K Q s lawful n b r)
+queued-all rules plan rec K Q s lawful b r = of_steps (steps_of rec.bridges b)
+    (λ n. all-below rules plan rec K Q s lawful n b r)
   where
-    of_steps : (steps : List Step) → ((n : ℕ) → AllQueued (Below n (Q b r)) plan b r steps) → AllQueued (Q b r) plan b r steps
+    of_steps : (steps : List Step) → ((n : ℕ) → AllQueued (Below n (Q b r)) plan b r steps)
+        → AllQueued (Q b r) plan b r steps
     of_steps [] h = tt
-    of_steps (step ∷ steps) h = (of_waiting (Q b r) (queued_by plan b r step) (λ n. (h n).0), of_steps steps (λ n. (h n).1))
+    of_steps (step ∷ steps) h =
+        (of_waiting (Q b r) (queued_by plan b r step) (λ n. (h n).0), of_steps steps (λ n. (h n).1))
 
 -- what is received anywhere
-pub received-all : (rules : Rules) (plan : Plan) (rec : Record) (K Q : ℕ → ℕ → Item → Type 0) → Spreads rules plan rec K Q → IsLawfulRecord rules plan rec
+pub received-all : (rules : Rules) (plan : Plan) (rec : Record) (K Q : ℕ → ℕ → Item → Type 0)
+    → Spreads rules plan rec K Q → IsLawfulRecord rules plan rec
     → (b q : ℕ) → AllByRecursion (K b q) (received q (steps_of rec.bridges b))
-received-all rules plan rec K Q s lawful b q = of_items (received q (steps_of rec.bridges b)) (λ n. received-spread rules plan rec K Q s lawful n (all-below rules plan rec K Q s lawful n) b q)
+received-all rules plan rec K Q s lawful b q = of_items (received q (steps_of rec.bridges b))
+    (λ n. received-spread rules plan rec K Q s lawful n (all-below rules plan rec K Q s lawful n) b q)
   where
     of_items : (items : List Item) → ((n : ℕ) → AllByRecursion (Below n (K b q)) items) → AllByRecursion (K b q) items
     of_items [] h = tt

@@ -1,5 +1,6 @@
 -- Under a forest a frame is queued at each port at most once.
-use Rattle.std.proofs.Common.{◌≡◌, ℕ, ◌+◌, ◌≤◌, None, Option, Bool, true, false, cond, not, ◌&&◌, ◌==◌, List, [], ◌∷◌, ◌++◌, refl, sym, ap, subst, arith}
+use Rattle.std.proofs.Common.{◌≡◌, ℕ, ◌+◌, ◌≤◌, None, Option, Bool, true, false, cond, not, ◌&&◌, ◌==◌, List, [], ◌∷◌}
+use Rattle.std.proofs.Common.{◌++◌, refl, sym, ap, subst, arith}
 use Rattle.std.proofs.lemmas.Bool.{eqb-true}
 use Rattle.std.specs.List.{AllByRecursion, count_by, list_any}
 use Rattle.pb_frame.specs.declared.learnt.Learnt.{Learnt}
@@ -21,7 +22,8 @@ use Rattle.pb_lan.specs.declared.step.Moved.{Moved}
 use Rattle.pb_lan.specs.declared.step.Outcome.{Outcome}
 use Rattle.pb_lan.specs.declared.step.Outcome.TheVariants.{Relayed, Filtered, Heard}
 use Rattle.pb_lan.specs.declared.step.Step.{Step}
-use Rattle.pb_lan.specs.declared.step.Step.TheVariants.{Poll, Feed, Deliver, Receive, Transmit, Tick, Admin, Take, Put}
+use Rattle.pb_lan.specs.declared.step.Step.TheVariants.{Poll, Feed, Deliver, Receive, Transmit, Tick, Admin, Take}
+use Rattle.pb_lan.specs.declared.step.Step.TheVariants.{Put}
 
 -- an item of the mark after so many hops
 abbrev pub is_after : Mark → ℕ → Item → Bool
@@ -29,7 +31,8 @@ is_after mark n item = is_of mark item && item.hops == n
 
 -- the step received such an item, and chose the port
 abbrev pub is_carry : Mark → ℕ → ℕ → Step → Bool
-is_carry mark n r (Receive q item learnt (Relayed chosen refused) moved) = is_after mark n item && list_any (λ p. p == r) chosen
+is_carry mark n r (Receive q item learnt (Relayed chosen refused) moved) = is_after mark n item && list_any
+    (λ p. p == r) chosen
 is_carry mark n r _ = false
 
 -- a test counts at most 1
@@ -38,49 +41,65 @@ one_if-le true = omega arith
 one_if-le false = omega arith
 
 -- one more on both sides
-suc-eqb : (m n : ℕ) → (m + 1 == n + 1) ≡ (m == n)
-suc-eqb m n = elim (m == n) as (λ b. (m == n) ≡ b → (m + 1 == n + 1) ≡ b) [ true ↦ λ h. let e = eqb-true m n h in grind (arith, e) | false ↦ λ h. grind (arith, h) ] refl
+pub suc-eqb : (m n : ℕ) → (m + 1 == n + 1) ≡ (m == n)
+suc-eqb m n = elim (m == n) as (λ b. (m == n) ≡ b → (m + 1 == n + 1) ≡ b)
+    [ true ↦ λ h. let e = eqb-true m n h in grind (arith, e) | false ↦ λ h. grind (arith, h) ] refl
 
 -- of a received item
-copies-count : (mark : Mark) (n : ℕ) (plan : Plan) (b r q : ℕ) (item : Item) (learnt : Option Learnt) (outcome : Outcome) (moved : Option Moved)
-    → count_waiting (is_after mark (n + 1)) (copies plan b q item outcome r) ≤ cond (is_carry mark n r (Receive q item learnt outcome moved)) 1 0
+copies-count : (mark : Mark) (n : ℕ) (plan : Plan) (b r q : ℕ) (item : Item) (learnt : Option Learnt)
+    (outcome : Outcome) (moved : Option Moved)
+    → count_waiting (is_after mark (n + 1)) (copies plan b q item outcome r) ≤ cond
+    (is_carry mark n r (Receive q item learnt outcome moved)) 1 0
 copies-count mark n plan b r q item learnt (Filtered reason) moved = omega arith
 copies-count mark n plan b r q item learnt Heard moved = omega arith
-copies-count mark n plan b r q item learnt (Relayed chosen refused) moved = by (list_any (λ p. p == r) chosen) (is_refused refused r)
+copies-count mark n plan b r q item learnt (Relayed chosen refused) moved = by (list_any (λ p. p == r) chosen)
+    (is_refused refused r)
   where
     w : Waiting
-    w = record { class = class_of (priority_in (port_at plan b q) item.wire); item = copy_of plan (port_at plan b q) (port_at plan b r) item }
+    w = record {
+      class = class_of (priority_in (port_at plan b q) item.wire);
+      item = copy_of plan (port_at plan b q) (port_at plan b r) item;
+    }
 
     one : (x : Bool) → cond (x && (item.hops + 1 == n + 1)) 1 0 ≤ cond ((x && (item.hops == n)) && true) 1 0
-    one true = let e : one_if (item.hops + 1 == n + 1) ≡ one_if (item.hops == n) = ap (λ b. cond b 1 0) (suc-eqb item.hops n) in last (item.hops == n) e
+    one true = let e : one_if (item.hops + 1 == n + 1) ≡ one_if (item.hops == n) =
+        ap (λ b. cond b 1 0) (suc-eqb item.hops n) in last (item.hops == n) e
       where
-        last : (b : Bool) → one_if (item.hops + 1 == n + 1) ≡ one_if b → cond (item.hops + 1 == n + 1) 1 0 ≤ cond (b && true) 1 0
+        last : (b : Bool) → one_if (item.hops + 1 == n + 1) ≡ one_if b
+            → cond (item.hops + 1 == n + 1) 1 0 ≤ cond (b && true) 1 0
         last true e = omega (arith, e)
         last false e = omega (arith, e)
     one false = omega arith
 
-    by : (a c : Bool) → count_waiting (is_after mark (n + 1)) (cond (a && not c) (w ∷ []) []) ≤ cond (is_after mark n item && a) 1 0
-    by true false = let h = one (is_of mark item) in let c = count_by-cons (λ u. is_after mark (n + 1) u.item) w [] in omega (arith, h, c)
+    by : (a c : Bool) → count_waiting (is_after mark (n + 1)) (cond (a && not c) (w ∷ []) []) ≤ cond
+        (is_after mark n item && a) 1 0
+    by true false = let h = one (is_of mark item) in let c = count_by-cons (λ u. is_after mark (n + 1) u.item) w []
+        in omega (arith, h, c)
     by true true = omega arith
     by false c = omega arith
 
 -- a bridge's own item has no mark
-unmarked : (mark : Mark) (n : ℕ) (item : Item) → item.mark ≡ None → is_after mark n item ≡ false
+pub unmarked : (mark : Mark) (n : ℕ) (item : Item) → item.mark ≡ None → is_after mark n item ≡ false
 unmarked mark n item h = subst (λ o. (has_mark mark o && item.hops == n) ≡ false) (sym h) refl
 
 -- so none of those counts
-own-count : (mark : Mark) (n : ℕ) (plan : Plan) (b r : ℕ) (step : Step) → AllByRecursion (λ m. AllByRecursion (IsOwn plan b) m.queued) (moved_of step)
+own-count : (mark : Mark) (n : ℕ) (plan : Plan) (b r : ℕ) (step : Step)
+    → AllByRecursion (λ m. AllByRecursion (IsOwn plan b) m.queued) (moved_of step)
     → count_waiting (is_after mark n) (own_by r step) ≡ 0
 own-count mark n plan b r step own =
-    count-none (λ w. is_after mark n w.item) (own_by r step) (own-All (λ w. is_after mark n w.item ≡ false) plan b r step (λ item o. unmarked mark n item o.0) own)
+    count-none (λ w. is_after mark n w.item) (own_by r step)
+    (own-All (λ w. is_after mark n w.item ≡ false) plan b r step (λ item o. unmarked mark n item o.0) own)
 
 -- of a step
-relayed-count : (mark : Mark) (n : ℕ) (plan : Plan) (b r : ℕ) (step : Step) → count_waiting (is_after mark (n + 1)) (relayed_by plan b r step) ≤ cond (is_carry mark n r step) 1 0
-relayed-count mark n plan b r (Receive q item learnt outcome moved) = copies-count mark n plan b r q item learnt outcome moved
+relayed-count : (mark : Mark) (n : ℕ) (plan : Plan) (b r : ℕ) (step : Step)
+    → count_waiting (is_after mark (n + 1)) (relayed_by plan b r step) ≤ cond (is_carry mark n r step) 1 0
+relayed-count mark n plan b r (Receive q item learnt outcome moved) = copies-count mark n plan b r q item learnt
+    outcome moved
 relayed-count mark n plan b r _ = omega arith
 
 -- what is queued after one hop more is no more than the steps that carried it
-pub carry-count : (mark : Mark) (n : ℕ) (rules : Rules) (plan : Plan) (b r : ℕ) (earlier steps : List Step) → LawfulAfter rules plan b earlier steps
+pub carry-count : (mark : Mark) (n : ℕ) (rules : Rules) (plan : Plan) (b r : ℕ) (earlier steps : List Step)
+    → LawfulAfter rules plan b earlier steps
     → count_queued (is_after mark (n + 1)) plan b r steps ≤ count_by (is_carry mark n r) steps
 carry-count mark n rules plan b r earlier [] lawful = omega arith
 carry-count mark n rules plan b r earlier (step ∷ steps) lawful =
@@ -97,10 +116,12 @@ IsAt q (Receive at item learnt outcome moved) = at ≡ q
 IsAt q _ = Unit {0}
 
 -- a step that carried at the port received there
-carry-received : (mark : Mark) (n r q : ℕ) (step : Step) → (is_carry mark n r step ≡ true → IsAt q step) → cond (is_carry mark n r step) 1 0 ≤ count_by (is_after mark n) (received_by q step)
+carry-received : (mark : Mark) (n r q : ℕ) (step : Step) → (is_carry mark n r step ≡ true → IsAt q step)
+    → cond (is_carry mark n r step) 1 0 ≤ count_by (is_after mark n) (received_by q step)
 carry-received mark n r q (Receive at item learnt (Relayed chosen refused) moved) h =
     elim (is_after mark n item && list_any (λ p. p == r) chosen)
-    as (λ c. (is_after mark n item && list_any (λ p. p == r) chosen) ≡ c → cond c 1 0 ≤ count_by (is_after mark n) (cond (at == q) (item ∷ []) [])) [
+    as (λ c. (is_after mark n item && list_any (λ p. p == r) chosen) ≡ c → cond c 1 0 ≤ count_by (is_after mark n)
+    (cond (at == q) (item ∷ []) [])) [
       | true ↦ λ e.
           let same_port : (at == q) ≡ true = subst (λ x. (at == x) ≡ true) (h e) (eqb-refl at) in
           let c = count_by-cons (is_after mark n) item [] in
@@ -120,7 +141,8 @@ carry-received mark n r q (Take number item lost) h = omega arith
 carry-received mark n r q (Put item) h = omega arith
 
 -- where all that carry received at one port, they are no more than what was received there
-pub carries-received : (mark : Mark) (n r q : ℕ) (steps : List Step) → AllByRecursion (λ step. is_carry mark n r step ≡ true → IsAt q step) steps
+pub carries-received : (mark : Mark) (n r q : ℕ) (steps : List Step)
+    → AllByRecursion (λ step. is_carry mark n r step ≡ true → IsAt q step) steps
     → count_by (is_carry mark n r) steps ≤ count_by (is_after mark n) (received q steps)
 carries-received mark n r q [] h = omega arith
 carries-received mark n r q (step ∷ steps) h =

@@ -55,7 +55,8 @@ passed false b h = h
 
 -- where each case stops the frame and yet it goes on, none of them holds
 pub none-holds : (cs : List (Bool × Ruling)) (rest target : Ruling) → list_all (λ c. stops c.1) cs ≡ true
-    → stops target ≡ false → first_case cs rest ≡ target → ((kind : Ruling → Bool) → holds kind cs ≡ false) × (rest ≡ target)
+    → stops target ≡ false → first_case cs rest ≡ target → ((kind : Ruling → Bool) → holds kind cs ≡ false)
+    × (rest ≡ target)
 none-holds [] rest target all on h = (λ kind. refl, h)
 none-holds ((true, g) ∷ cs) rest target all on h = stopped g target _ all on h
   where

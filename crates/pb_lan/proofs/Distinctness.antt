@@ -1,5 +1,6 @@
 -- Distinct keys, tested one against those after it.
-use Rattle.std.proofs.Common.{◌≡◌, ◌≤◌, ◌<◌, Bool, true, false, List, [], ◌∷◌, map, ◌||◌, ◌↔◌, length, get_or, take, drop, ◌-◌, arith, sym, ◌∙◌, refl, ap}
+use Rattle.std.proofs.Common.{◌≡◌, ◌≤◌, ◌<◌, Bool, true, false, List, [], ◌∷◌, map, ◌||◌, ◌↔◌, length, get_or, take}
+use Rattle.std.proofs.Common.{drop, ◌-◌, arith, sym, ◌∙◌, refl, ap}
 use Rattle.std.proofs.lemmas.Grind.{common_steps}
 use Rattle.std.specs.List.{list_any, AllByRecursion, IsDistinct}
 
@@ -19,7 +20,8 @@ none_tested e k [] h = refl
 none_tested e k (y ∷ ks) (a, rest) = rw a (none_tested e k ks rest)
 
 -- a test of the keys of things
-pub list_any-map : {X K : Type 0} (p : K → Bool) (f : X → K) (xs : List X) → list_any p (map f xs) ≡ list_any (λ x. p (f x)) xs
+pub list_any-map : {X K : Type 0} (p : K → Bool) (f : X → K) (xs : List X)
+    → list_any p (map f xs) ≡ list_any (λ x. p (f x)) xs
 list_any-map p f [] = refl
 list_any-map p f (x ∷ xs) = ap (λ o. p (f x) || o) (list_any-map p f xs)
 
@@ -39,7 +41,8 @@ distinct_rest e f [] x k some is key h = absurd (omega arith)
 distinct_rest e f (y ∷ xs) x k some is key h =
     let first : k ≡ f y = cc in
     let none : list_any (λ t. e k (f t)) xs ≡ false = rw (after_first-cons y xs) at h in
-    rw (after_first-cons y xs) ((λ d. d.1), (λ d. (rw (← first) (none_is e k (map f xs) (list_any-map (e k) f xs ∙ none)), d)))
+    rw (after_first-cons y xs)
+    ((λ d. d.1), (λ d. (rw (← first) (none_is e k (map f xs) (list_any-map (e k) f xs ∙ none)), d)))
 
 -- a key that one after it has
 pub not_distinct : {X K : Type 0} (e : K → K → Bool) (f : X → K) (xs : List X) (x : X) (k : K)
@@ -50,7 +53,8 @@ not_distinct e f [] x k some is key h d = absurd (omega arith)
 not_distinct e f (y ∷ xs) x k some is key h d =
     let first : f y ≡ k = cc in
     let has : list_any (λ t. e k (f t)) xs ≡ true = rw (after_first-cons y xs) at h in
-    let n : list_any (λ t. e k (f t)) xs ≡ false = sym (list_any-map (e k) f xs) ∙ none_tested e k (map f xs) (rw first at d.0) in
+    let n : list_any (λ t. e k (f t)) xs ≡ false = sym (list_any-map (e k) f xs)
+    ∙ none_tested e k (map f xs) (rw first at d.0) in
     cc
 
 pub distinct_end : {X K : Type 0} (e : K → K → Bool) (f : X → K) (xs : List X) → length xs < 1 → IsDistinct e (map f xs)

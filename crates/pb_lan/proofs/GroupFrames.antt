@@ -1,19 +1,24 @@
 -- A frame to a group, handled under a forest, unhindered and drained, is chosen at each bridge for the
 -- next port of each path.
-use Rattle.std.proofs.Common.{◌≡◌, inl, inr, ℕ, Some, None, Option, Bool, true, false, cond, not, ◌&&◌, ◌||◌, ◌==◌, List, [], ◌∷◌, ◌++◌, refl, sym, ◌∙◌, ap, subst, slice_get, take, append_assoc, append-nil}
+use Rattle.std.proofs.Common.{◌≡◌, inl, inr, ℕ, Some, None, Option, Bool, true, false, cond, not, ◌&&◌, ◌||◌, ◌==◌}
+use Rattle.std.proofs.Common.{List, [], ◌∷◌, ◌++◌, refl, sym, ◌∙◌, ap, subst, slice_get, take, append_assoc}
+use Rattle.std.proofs.Common.{append-nil}
 use Rattle.std.proofs.lemmas.Bool.{eqb-true}
 use Rattle.std.specs.List.{AllByRecursion, list_any}
 use Rattle.std.specs.Cmp.Derive.{both_true}
 use Rattle.pb_frame.proofs.Lists.{eqb-refl, All-midst, All-unflat_map, list_any-midst, list_any-rest, list_any-filter}
+use Rattle.pb_frame.proofs.Lists.{true-false}
 use Rattle.pb_frame.proofs.TagLaws.{take-tagged, has_service_type-tagged}
 use Rattle.pb_lan.proofs.Arrivals.{MayComeIn}
 use Rattle.pb_lan.proofs.Cases.{refusing-is, heard, is_listening, is_reserving}
+use Rattle.pb_lan.proofs.Handled.{unmoved, handled-at, carried-vid}
 use Rattle.pb_lan.proofs.Priorities.{the-poll}
 use Rattle.pb_lan.proofs.Rulings.{follows-relayed, carried-open, local-listed}
-use Rattle.pb_lan.proofs.Ways.{received-walks, ComesIn, unmoved, handled-at, carried-vid, IsFollowed}
+use Rattle.pb_lan.proofs.Ways.{received-walks, ComesIn, IsFollowed}
 use Rattle.pb_frame.specs.Frames.{dst_of, is_group}
 use Rattle.pb_frame.specs.Tags.{bare, untagged, has_priority_tag, has_service_type, vid_of}
-use Rattle.pb_lan.specs.BridgeLists.{Ruling, ruling, ruling_by, ruling_in, first_case, customer_cases, customer_reasons, provider_cases, is_for_bridges, Fits, Follows, LawfulAfter}
+use Rattle.pb_lan.specs.BridgeLists.{Ruling, ruling, ruling_by, ruling_in, first_case, customer_cases}
+use Rattle.pb_lan.specs.BridgeLists.{customer_reasons, provider_cases, is_for_bridges, Fits, Follows, LawfulAfter}
 use Rattle.pb_lan.specs.Choice.{flood, narrowed, found, chosen_ports}
 use Rattle.pb_lan.specs.Counts.{has_mark, is_of, HandledAfter, IsUnhindered, IsDrained, hinders, is_on_tree}
 use Rattle.pb_lan.specs.Laws.{is_choice, chose}
@@ -57,13 +62,16 @@ pub record IsReceived (test : Item → Bool) (q : ℕ) (steps : List Step) : Typ
   pub passes : test item ≡ true
 
 -- what is received at a port some step received
-pub received-step : (test : Item → Bool) (q : ℕ) (before steps : List Step) → list_any test (received q steps) ≡ true → IsReceived test q (before ++ steps)
+pub received-step : (test : Item → Bool) (q : ℕ) (before steps : List Step) → list_any test (received q steps) ≡ true
+    → IsReceived test q (before ++ steps)
 received-step test q before [] h = cc
 received-step test q before (step ∷ steps) h =
-    elim (list_any test (received_by q step)) as (λ b. list_any test (received_by q step) ≡ b → IsReceived test q (before ++ step ∷ steps)) [
+    elim (list_any test (received_by q step)) as (λ b. list_any test (received_by q step) ≡ b → IsReceived test q
+    (before ++ step ∷ steps)) [
       | true ↦ λ e. here step e
       | false ↦ λ e. subst (IsReceived test q) (append_assoc before (step ∷ []) steps)
-          (received-step test q (before ++ step ∷ []) steps (list_any-rest test (received_by q step) (received q steps) e h))
+          (received-step test q (before ++ step ∷ []) steps
+          (list_any-rest test (received_by q step) (received q steps) e h))
     ] refl
   where
     or-false : (b : Bool) → (b || false) ≡ true → b ≡ true
@@ -72,7 +80,8 @@ received-step test q before (step ∷ steps) h =
 
     here : (s : Step) → list_any test (received_by q s) ≡ true → IsReceived test q (before ++ s ∷ steps)
     here (Receive at item learnt outcome moved) e =
-        elim (at == q) as (λ b. (at == q) ≡ b → list_any test (cond b (item ∷ []) []) ≡ true → IsReceived test q (before ++ Receive at item learnt outcome moved ∷ steps)) [
+        elim (at == q) as (λ b. (at == q) ≡ b → list_any test (cond b (item ∷ []) []) ≡ true → IsReceived test q
+        (before ++ Receive at item learnt outcome moved ∷ steps)) [
           | true ↦ λ a k. record {
             earlier = before;
             later = steps;
@@ -88,10 +97,12 @@ received-step test q before (step ∷ steps) h =
     here _ e = cc
 
 -- each step in its place fits those before it
-pub lawful-at : (rules : Rules) (plan : Plan) (b : ℕ) (start earlier later : List Step) (step : Step) → LawfulAfter rules plan b start (earlier ++ step ∷ later) → Fits rules plan b (start ++ earlier) step
+pub lawful-at : (rules : Rules) (plan : Plan) (b : ℕ) (start earlier later : List Step) (step : Step)
+    → LawfulAfter rules plan b start (earlier ++ step ∷ later) → Fits rules plan b (start ++ earlier) step
 lawful-at rules plan b start [] later step h = subst (λ xs. Fits rules plan b xs step) (sym (append-nil start)) h.0
 lawful-at rules plan b start (s ∷ earlier) later step h =
-    subst (λ xs. Fits rules plan b xs step) (append_assoc start (s ∷ []) earlier) (lawful-at rules plan b (start ++ s ∷ []) earlier later step h.1)
+    subst (λ xs. Fits rules plan b xs step) (append_assoc start (s ∷ []) earlier)
+    (lawful-at rules plan b (start ++ s ∷ []) earlier later step h.1)
 
 -- the ruling is not that of a BPDU
 abbrev IsNotHeard : Ruling → Type 0
@@ -106,12 +117,14 @@ carried-not-heard : (v : ℕ) → IsNotHeard (Carries v)
 carried-not-heard v h = cc
 
 -- nothing is heard at a customer port
-customer-not-heard : (plan : Plan) (c : CustomerPlan) (item : Item) → IsNotHeard (first_case (customer_cases item) (Carries (vid_at plan c)))
+customer-not-heard : (plan : Plan) (c : CustomerPlan) (item : Item)
+    → IsNotHeard (first_case (customer_cases item) (Carries (vid_at plan c)))
 customer-not-heard plan c item =
     refusing-is IsNotHeard (customer_reasons item) (Carries (vid_at plan c)) refused-not-heard (carried-not-heard _)
 
 -- a frame with a service tag is no BPDU
-provider-not-heard : (rules : Rules) (plan : Plan) (e : End) (state : PortState) (item : Item) → has_service_type item.wire ≡ true
+provider-not-heard : (rules : Rules) (plan : Plan) (e : End) (state : PortState) (item : Item)
+    → has_service_type item.wire ≡ true
     → IsNotHeard (first_case (provider_cases rules plan e item) (ruling_in state (vid_of item.wire)))
 provider-not-heard rules plan e state item tag h =
     let a = heard (provider_cases rules plan e item) (ruling_in state (vid_of item.wire)) (in_state state) h in
@@ -129,7 +142,8 @@ provider-not-heard rules plan e state item tag h =
     in_state Forwarding = refl
 
 -- what is heard was ruled to be a BPDU
-follows-heard : (rules : Rules) (plan : Plan) (b : ℕ) (earlier : List Step) (q : ℕ) (item : Item) (learnt : Option Learnt) (moved : Option Moved) (g : Ruling)
+follows-heard : (rules : Rules) (plan : Plan) (b : ℕ) (earlier : List Step) (q : ℕ) (item : Item)
+    (learnt : Option Learnt) (moved : Option Moved) (g : Ruling)
     → Follows rules plan b earlier q item learnt Heard moved g → g ≡ Listens
 follows-heard rules plan b earlier q item learnt moved (Refuses r) h = let e = h.1 in cc
 follows-heard rules plan b earlier q item learnt moved Listens h = refl
@@ -140,7 +154,8 @@ follows-heard rules plan b earlier q item learnt moved Closed h = absurd h
 
 -- a priority tag stands after the addresses
 take-bare : (x : List ℕ) → take 6 (bare x) ≡ take 6 x
-take-bare x = elim (has_priority_tag x) as (λ b. take 6 (cond b (untagged x) x) ≡ take 6 x) [ true ↦ of_untagged x | false ↦ refl ]
+take-bare x = elim (has_priority_tag x) as (λ b. take 6 (cond b (untagged x) x) ≡ take 6 x)
+    [ true ↦ of_untagged x | false ↦ refl ]
   where
     of_untagged : (x : List ℕ) → take 6 (untagged x) ≡ take 6 x
     of_untagged [] = refl
@@ -152,19 +167,24 @@ take-bare x = elim (has_priority_tag x) as (λ b. take 6 (cond b (untagged x) x)
     of_untagged (a ∷ b ∷ c ∷ d ∷ e ∷ f ∷ rest) = refl
 
 -- a group frame is flooded, to each other Forwarding port of the service
-flooded : (plan : Plan) (b : ℕ) (steps : List Step) (q v r : ℕ) (wire : List ℕ) → is_forwarding (state_after plan b steps q) ≡ true → is_group (dst_of wire) ≡ true
-    → IsNumber r 16 → (r == q) ≡ false → is_forwarding (state_after plan b steps r) ≡ true → is_member plan v (port_at plan b r) ≡ true
+flooded : (plan : Plan) (b : ℕ) (steps : List Step) (q v r : ℕ) (wire : List ℕ)
+    → is_forwarding (state_after plan b steps q) ≡ true → is_group (dst_of wire) ≡ true
+    → IsNumber r 16 → (r == q) ≡ false → is_forwarding (state_after plan b steps r) ≡ true
+    → is_member plan v (port_at plan b r) ≡ true
     → list_any (λ p. p == r) (chosen_ports plan b steps q v wire) ≡ true
 flooded plan b steps q v r wire opened group number other forwarding member =
     let ports = flood plan b steps q v in
     let at = found plan b steps v (dst_of wire) in
-    subst (λ f. list_any (λ p. p == r) (cond f (cond (is_group (dst_of wire)) ports (narrowed ports at)) []) ≡ true) (sym opened)
+    subst (λ f. list_any (λ p. p == r) (cond f (cond (is_group (dst_of wire)) ports (narrowed ports at)) []) ≡ true)
+    (sym opened)
     (subst (λ g. list_any (λ p. p == r) (cond g ports (narrowed ports at)) ≡ true) (sym group)
-    (list_any-filter (λ p. not (p == q) && (is_forwarding (state_after plan b steps p) && is_member plan v (port_at plan b p))) r local_ports
+    (list_any-filter (λ p. not (p == q) && (is_forwarding (state_after plan b steps p) && is_member plan v
+    (port_at plan b p))) r local_ports
     (both_true (ap not other) (both_true forwarding member)) (local-listed r number)))
 
 -- a group frame of a mark, followed under a forest, drained and unhindered
-pub record IsGroupFrame (rules : Rules) (plan : Plan) (rec : Record) (shape : Shape) (entry : CustomerPlan) (rooted : Rooted) (mark : Mark) (arrived : Item) : Type 0 where
+pub record IsGroupFrame (rules : Rules) (plan : Plan) (rec : Record) (shape : Shape) (entry : CustomerPlan)
+    (rooted : Rooted) (mark : Mark) (arrived : Item) : Type 0 where
   pub followed : IsFollowed rules plan rec shape entry mark rooted
   pub drained : IsDrained plan rec mark
   pub free : IsUnhindered plan shape (vid_at plan entry) rec mark
@@ -172,9 +192,12 @@ pub record IsGroupFrame (rules : Rules) (plan : Plan) (rec : Record) (shape : Sh
   pub group : is_group (dst_of arrived.wire) ≡ true
 
 -- wherever it comes in, it is for a group, and no BPDU
-comes-as-group : (rules : Rules) (plan : Plan) (rec : Record) (mark : Mark) (arrived : Item) → slice_get (polled (steps_of rec.customers mark.port)) mark.number ≡ Some arrived
-    → is_group (dst_of arrived.wire) ≡ true → (port : Port) (state : PortState) (item : Item) → MayComeIn plan rec port item → is_of mark item ≡ true
-    → IsNotHeard (ruling_by rules plan port state item) × ((v : ℕ) → ruling_by rules plan port state item ≡ Carries v → is_group (dst_of item.wire) ≡ true)
+comes-as-group : (rules : Rules) (plan : Plan) (rec : Record) (mark : Mark) (arrived : Item)
+    → slice_get (polled (steps_of rec.customers mark.port)) mark.number ≡ Some arrived
+    → is_group (dst_of arrived.wire) ≡ true → (port : Port) (state : PortState) (item : Item)
+    → MayComeIn plan rec port item → is_of mark item ≡ true
+    → IsNotHeard (ruling_by rules plan port state item)
+    × ((v : ℕ) → ruling_by rules plan port state item ≡ Carries v → is_group (dst_of item.wire) ≡ true)
 comes-as-group rules plan rec mark arrived at group (Customer c) state item (k, known, e) m = (
   customer-not-heard plan c item,
   λ v h.
@@ -185,85 +208,129 @@ comes-as-group rules plan rec mark arrived at group (Provider e) state item (inl
     let none : has_mark mark None ≡ true = subst (λ o. has_mark mark o ≡ true) own.0 m in cc
 comes-as-group rules plan rec mark arrived at group (Provider e) state item (inr t) m = (
   provider-not-heard rules plan e state item
-      (ap has_service_type t.octets ∙ has_service_type-tagged (bare t.arrived.wire) (priority_in (Customer t.there) t.arrived.wire) 0 (vid_at plan t.there) t.long),
+      (ap has_service_type t.octets ∙ has_service_type-tagged (bare t.arrived.wire)
+      (priority_in (Customer t.there) t.arrived.wire) 0 (vid_at plan t.there) t.long),
   λ v h.
       let poll = the-poll rec mark item arrived t.arrived t.port t.which t.mark m t.polled_there at in
-      ap is_group (ap (take 6) t.octets ∙ take-tagged (bare t.arrived.wire) (priority_in (Customer t.there) t.arrived.wire) 0 (vid_at plan t.there) t.long ∙ take-bare t.arrived.wire)
+      ap is_group (ap (take 6) t.octets ∙ take-tagged (bare t.arrived.wire)
+      (priority_in (Customer t.there) t.arrived.wire) 0 (vid_at plan t.there) t.long ∙ take-bare t.arrived.wire)
       ∙ ap (λ i. is_group (dst_of i.wire)) poll.1 ∙ group,
 )
 comes-as-group rules plan rec mark arrived at group Unused state item known m = (λ h. cc, λ v h. cc)
 
 -- a port by which a frame was carried in is Forwarding
-carried-forwarding : (rules : Rules) (plan : Plan) (b : ℕ) (earlier : List Step) (q : ℕ) (item : Item) (v : ℕ) → ruling rules plan b earlier q item ≡ Carries v → is_forwarding (state_after plan b earlier q) ≡ true
+carried-forwarding : (rules : Rules) (plan : Plan) (b : ℕ) (earlier : List Step) (q : ℕ) (item : Item) (v : ℕ)
+    → ruling rules plan b earlier q item ≡ Carries v → is_forwarding (state_after plan b earlier q) ≡ true
 carried-forwarding rules plan b earlier q item v h = by (port_at plan b q) refl h
   where
-    by : (port : Port) → port_at plan b q ≡ port → ruling_by rules plan port (state_after plan b earlier q) item ≡ Carries v → is_forwarding (state_after plan b earlier q) ≡ true
+    by : (port : Port) → port_at plan b q ≡ port
+        → ruling_by rules plan port (state_after plan b earlier q) item ≡ Carries v
+        → is_forwarding (state_after plan b earlier q) ≡ true
     by (Customer c) at h = ap (λ p. is_forwarding (state_by plan.spanning p q (changes_of earlier))) at
     by (Provider e) at h = (carried-open rules plan e (state_after plan b earlier q) item v h).0
     by Unused at h = cc
 
+-- what is known of the step by which it came in at a port
+module _ {rules : Rules} {plan : Plan} {rec : Record} {shape : Shape} {entry : CustomerPlan} {rooted : Rooted}
+    {mark : Mark} {arrived : Item} (frame : IsGroupFrame rules plan rec shape entry rooted mark arrived) (b : ℕ)
+    {q : ℕ} (here : IsReceived (is_of mark) q (steps_of rec.bridges b)) where
+  -- the step, with this outcome
+  abbrev step_with : Outcome → Step
+  step_with outcome = Receive q here.item here.learnt outcome here.moved
+
+  -- what it may tell, with this outcome
+  abbrev Told : Outcome → Type 0
+  Told outcome = Follows rules plan b here.earlier q here.item here.learnt outcome here.moved
+      (ruling rules plan b here.earlier q here.item)
+
+  -- it fits the steps before it
+  here-told : Told here.outcome
+  here-told = lawful-at rules plan b [] here.earlier here.later (step_with here.outcome)
+      (subst (LawfulAfter rules plan b []) (sym here.place) (frame.followed.lawful.bridges b))
+
+  -- it was handled under the shape
+  here-handled : numbered shape.states b ≡ Some (states_after plan b here.earlier)
+  here-handled = handled-at plan shape mark b [] here.earlier here.later (step_with here.outcome)
+      (subst (HandledAfter plan shape mark b []) (sym here.place) (frame.followed.handled b)) here.passes
+
+  -- the item may come in
+  here-known : MayComeIn plan rec (port_at plan b q) here.item
+  here-known =
+      let all = All-unflat_map (ComesIn plan rec shape (vid_at plan entry) entry mark b q) (received_by q)
+      (steps_of rec.bridges b) (received-walks rules plan rec shape entry mark rooted frame.followed b q) in
+      let one = All-midst
+      (λ step. AllByRecursion (ComesIn plan rec shape (vid_at plan entry) entry mark b q) (received_by q step))
+      here.earlier (step_with here.outcome) here.later
+      (subst (AllByRecursion (λ step. AllByRecursion (ComesIn plan rec shape (vid_at plan entry) entry mark b q)
+      (received_by q step))) (sym here.place) all) in
+      (subst (λ t. AllByRecursion (ComesIn plan rec shape (vid_at plan entry) entry mark b q)
+      (cond t (here.item ∷ []) [])) (eqb-refl q) one).0.0
+
+  -- it is for a group, and no BPDU
+  here-group : IsNotHeard (ruling rules plan b here.earlier q here.item)
+      × ((w : ℕ) → ruling rules plan b here.earlier q here.item ≡ Carries w → is_group (dst_of here.item.wire) ≡ true)
+  here-group = comes-as-group rules plan rec mark arrived frame.polled_there frame.group (port_at plan b q)
+      (state_after plan b here.earlier q) here.item here-known here.passes
+
+  -- on the tree it is not filtered
+  not-filtered : is_on_tree plan shape (vid_at plan entry) b q ≡ true → (reason : Reason)
+      → here.outcome ≡ Filtered reason → ⊥
+  not-filtered on_tree reason e = true-false (hinders plan shape (vid_at plan entry) mark b
+      (step_with (Filtered reason))) (both_true here.passes on_tree)
+      (subst (λ o. hinders plan shape (vid_at plan entry) mark b (step_with o) ≡ false) e
+      (All-midst (λ step. hinders plan shape (vid_at plan entry) mark b step ≡ false) here.earlier
+      (step_with here.outcome) here.later
+      (subst (AllByRecursion (λ step. hinders plan shape (vid_at plan entry) mark b step ≡ false)) (sym here.place)
+      (frame.free.bridges b))))
+
 -- where it came in on the tree, it is chosen for each other port of the service that is Forwarding
-pub choose-on : (rules : Rules) (plan : Plan) (rec : Record) (shape : Shape) (entry : CustomerPlan) (rooted : Rooted) (mark : Mark) (arrived : Item) → IsGroupFrame rules plan rec shape entry rooted mark arrived
-    → (b q r : ℕ) → IsReceived (is_of mark) q (steps_of rec.bridges b) → is_on_tree plan shape (vid_at plan entry) b q ≡ true
+pub choose-on : (rules : Rules) (plan : Plan) (rec : Record) (shape : Shape) (entry : CustomerPlan) (rooted : Rooted)
+    (mark : Mark) (arrived : Item) → IsGroupFrame rules plan rec shape entry rooted mark arrived
+    → (b q r : ℕ) → IsReceived (is_of mark) q (steps_of rec.bridges b)
+    → is_on_tree plan shape (vid_at plan entry) b q ≡ true
     → IsNumber r 16 → (r == q) ≡ false → is_member plan (vid_at plan entry) (port_at plan b r) ≡ true
-    → ((earlier : List Step) → numbered shape.states b ≡ Some (states_after plan b earlier) → is_forwarding (state_after plan b earlier r) ≡ true)
+    → ((earlier : List Step) → numbered shape.states b ≡ Some (states_after plan b earlier) → is_forwarding
+    (state_after plan b earlier r) ≡ true)
     → chose rec mark b r ≡ true
-choose-on rules plan rec shape entry rooted mark arrived frame b q r here on_tree number other member forwarding = by_outcome here.outcome refl
+choose-on rules plan rec shape entry rooted mark arrived frame b q r here on_tree number other member forwarding =
+    by_outcome here.outcome refl (here-told frame b here)
   where
-    v : ℕ
-    v = vid_at plan entry
-
-    step : Outcome → Step
-    step outcome = Receive q here.item here.learnt outcome here.moved
-
-    fits : Follows rules plan b here.earlier q here.item here.learnt here.outcome here.moved (ruling rules plan b here.earlier q here.item)
-    fits = lawful-at rules plan b [] here.earlier here.later (Receive q here.item here.learnt here.outcome here.moved)
-        (subst (LawfulAfter rules plan b []) (sym here.place) (frame.followed.lawful.bridges b))
-
-    handled : numbered shape.states b ≡ Some (states_after plan b here.earlier)
-    handled = handled-at plan shape mark b [] here.earlier here.later (Receive q here.item here.learnt here.outcome here.moved)
-        (subst (HandledAfter plan shape mark b []) (sym here.place) (frame.followed.handled b)) here.passes
-
-    calm : hinders plan shape v mark b (Receive q here.item here.learnt here.outcome here.moved) ≡ false
-    calm = All-midst (λ step. hinders plan shape v mark b step ≡ false) here.earlier (Receive q here.item here.learnt here.outcome here.moved) here.later
-        (subst (AllByRecursion (λ step. hinders plan shape v mark b step ≡ false)) (sym here.place) (frame.free.bridges b))
-
     known : MayComeIn plan rec (port_at plan b q) here.item
-    known =
-        let all = All-unflat_map (ComesIn plan rec shape v entry mark b q) (received_by q) (steps_of rec.bridges b)
-        (received-walks rules plan rec shape entry mark rooted frame.followed b q) in
-        let one = All-midst (λ step. AllByRecursion (ComesIn plan rec shape v entry mark b q) (received_by q step)) here.earlier (Receive q here.item here.learnt here.outcome here.moved) here.later
-        (subst (AllByRecursion (λ step. AllByRecursion (ComesIn plan rec shape v entry mark b q) (received_by q step))) (sym here.place) all) in
-        (subst (λ t. AllByRecursion (ComesIn plan rec shape v entry mark b q) (cond t (here.item ∷ []) [])) (eqb-refl q) one).0.0
+    known = here-known frame b here
 
-    as_group : IsNotHeard (ruling rules plan b here.earlier q here.item) × ((w : ℕ) → ruling rules plan b here.earlier q here.item ≡ Carries w → is_group (dst_of here.item.wire) ≡ true)
-    as_group = comes-as-group rules plan rec mark arrived frame.polled_there frame.group (port_at plan b q) (state_after plan b here.earlier q) here.item known here.passes
+    group : IsNotHeard (ruling rules plan b here.earlier q here.item)
+        × ((w : ℕ) → ruling rules plan b here.earlier q here.item ≡ Carries w
+        → is_group (dst_of here.item.wire) ≡ true)
+    group = here-group frame b here
 
-    filtered : (x y : Bool) → x ≡ true → y ≡ true → (x && y) ≡ false → ⊥
-    filtered true true h k n = cc
-    filtered true false h k n = cc
-    filtered false y h k n = cc
-
-    by_outcome : (outcome : Outcome) → here.outcome ≡ outcome → chose rec mark b r ≡ true
-    by_outcome (Filtered reason) e =
-        absurd (filtered (is_of mark here.item) (is_on_tree plan shape v b q) here.passes on_tree
-        (subst (λ o. hinders plan shape v mark b (Receive q here.item here.learnt o here.moved) ≡ false) e calm))
-    by_outcome Heard e =
-        absurd (as_group.0 (follows-heard rules plan b here.earlier q here.item here.learnt here.moved (ruling rules plan b here.earlier q here.item)
-        (subst (λ o. Follows rules plan b here.earlier q here.item here.learnt o here.moved (ruling rules plan b here.earlier q here.item)) e fits)))
-    by_outcome (Relayed chosen refused) e =
-        let follows = subst (λ o. Follows rules plan b here.earlier q here.item here.learnt o here.moved (ruling rules plan b here.earlier q here.item)) e fits in
-        let f = follows-relayed rules plan b here.earlier q here.item here.learnt chosen refused here.moved (ruling rules plan b here.earlier q here.item) follows in
-        let the_step = Receive q here.item here.learnt (Relayed chosen refused) here.moved in
-        let steps = here.earlier ++ the_step ∷ [] in
-        let vid : v ≡ f.0 = carried-vid rules plan rec entry mark frame.followed.sound frame.followed.planned (port_at plan b q) (state_after plan b here.earlier q) here.item f.0 known f.1 here.passes in
-        let same_state : (p : ℕ) → state_after plan b steps p ≡ state_after plan b here.earlier p = unmoved plan b here.earlier the_step (ap moved_part f.3) in
+    by_outcome : (outcome : Outcome) → here.outcome ≡ outcome
+        → Told frame b here here.outcome → chose rec mark b r ≡ true
+    by_outcome (Filtered reason) e told =
+        absurd (not-filtered frame b here on_tree reason e)
+    by_outcome Heard e told =
+        absurd (group.0 (follows-heard rules plan b here.earlier q here.item here.learnt here.moved
+        (ruling rules plan b here.earlier q here.item)
+        (subst (Told frame b here) e told)))
+    by_outcome (Relayed chosen refused) e told =
+        let step = Receive q here.item here.learnt (Relayed chosen refused) here.moved in
+        let f = follows-relayed rules plan b here.earlier q here.item here.learnt chosen refused here.moved
+        (ruling rules plan b here.earlier q here.item)
+        (subst (Told frame b here) e told) in
+        let steps = here.earlier ++ step ∷ [] in
+        let vid : vid_at plan entry ≡ f.0 = carried-vid rules plan rec entry mark frame.followed.sound
+        frame.followed.planned (port_at plan b q) (state_after plan b here.earlier q) here.item f.0 known f.1
+        here.passes in
+        let same_state : (p : ℕ) → state_after plan b steps p ≡ state_after plan b here.earlier p =
+        unmoved plan b here.earlier step (ap moved_part f.3) in
         let contains : list_any (λ p. p == r) chosen ≡ true =
         subst (λ ports. list_any (λ p. p == r) ports ≡ true) (sym f.2)
         (flooded plan b steps q f.0 r here.item.wire
         (ap is_forwarding (same_state q) ∙ carried-forwarding rules plan b here.earlier q here.item f.0 f.1)
-        (as_group.1 f.0 f.1) number other
-        (ap is_forwarding (same_state r) ∙ forwarding here.earlier handled)
+        (group.1 f.0 f.1) number other
+        (ap is_forwarding (same_state r) ∙ forwarding here.earlier
+        (here-handled frame b here))
         (subst (λ w. is_member plan w (port_at plan b r) ≡ true) vid member)) in
-        subst (λ xs. list_any (is_choice mark r) xs ≡ true) (subst (λ o. here.earlier ++ Receive q here.item here.learnt o here.moved ∷ here.later ≡ steps_of rec.bridges b) e here.place)
-        (list_any-midst (is_choice mark r) here.earlier the_step here.later (both_true here.passes contains))
+        subst (λ xs. list_any (is_choice mark r) xs ≡ true)
+        (subst (λ o. here.earlier ++ Receive q here.item here.learnt o here.moved ∷ here.later ≡ steps_of
+        rec.bridges b) e here.place)
+        (list_any-midst (is_choice mark r) here.earlier step here.later (both_true here.passes contains))

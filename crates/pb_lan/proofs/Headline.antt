@@ -11,7 +11,8 @@ use Rattle.pb_lan.specs.declared.plan.Plan.{Plan}
 use Rattle.pb_lan.specs.declared.record.Record.{Record}
 use Rattle.pb_lan.specs.Headline.{IsFaithful}
 
-pub faithful : (rules : Rules) (plan : Plan) (rec : Record) → IsSound plan → IsLawfulRecord rules plan rec → IsFaithful plan rec
+pub faithful : (rules : Rules) (plan : Plan) (rec : Record) → IsSound plan → IsLawfulRecord rules plan rec
+    → IsFaithful plan rec
 faithful rules plan rec sound lawful = record {
   arrivals = every_departure_is_an_arrival rules plan rec sound lawful;
   at_most_once = each_leaves_at_most_once rules plan rec sound lawful;

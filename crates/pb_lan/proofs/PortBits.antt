@@ -1,5 +1,7 @@
 -- Ports in a few bits.
-use Rattle.std.proofs.Common.{◌≡◌, zero, suc, ℕ, ◌+◌, ◌-◌, ◌*◌, ◌/◌, ◌%◌, ◌^◌, ◌<◌, ◌≤◌, ◌==◌, Bool, true, false, cond, List, [], ◌∷◌, ◌++◌, map, get_or, length, refl, sym, ap, ◌∙◌, subst, arith, append_assoc, append-nil}
+use Rattle.std.proofs.Common.{◌≡◌, zero, suc, ℕ, ◌+◌, ◌-◌, ◌*◌, ◌/◌, ◌%◌, ◌^◌, ◌<◌, ◌≤◌, ◌==◌, Bool, true, false}
+use Rattle.std.proofs.Common.{cond, List, [], ◌∷◌, ◌++◌, map, get_or, length, refl, sym, ap, ◌∙◌, subst, arith}
+use Rattle.std.proofs.Common.{append_assoc, append-nil}
 use Rattle.std.proofs.Math.Nat.{pow-succ', mul_left_comm}
 use Rattle.std.proofs.lemmas.Bool.{eqb-true}
 use Rattle.std.proofs.lemmas.Nat.{pow_pos}
@@ -16,7 +18,8 @@ no_ports zero p = refl
 no_ports (suc n) p = no_ports n (p + 1)
 
 -- the next bit is one more port, behind those that are there
-pub port_more : (k n p bits : ℕ) → k < n → bits < 2 ^ k → ports_in n p (bits + 2 ^ k) ≡ ports_in n p bits ++ (p + k) ∷ []
+pub port_more : (k n p bits : ℕ) → k < n → bits < 2 ^ k → ports_in n p (bits + 2 ^ k) ≡ ports_in n p bits
+    ++ (p + k) ∷ []
 unfolding ports_in
 port_more k zero p bits l b = absurd (omega (arith, l))
 port_more zero (suc n) p bits l b =
@@ -45,9 +48,11 @@ unfolding ports_in
 low_bits zero p b bits h a = let o : 0 < 2 ^ (b - p) = pow_pos (b - p) in omega (arith, h, o)
 low_bits (suc n) p b bits h a =
     let w : 2 ^ suc n ≡ 2 * 2 ^ n = pow-succ' 2 n in
-    elim (bits % 2 == 1) as (λ c. (bits % 2 == 1) ≡ c → AllByRecursion (λ q. q < b) (cond c (p ∷ []) [] ++ ports_in n (p + 1) (bits / 2)) → bits < 2 ^ (b - p)) [
+    elim (bits % 2 == 1) as (λ c. (bits % 2 == 1) ≡ c → AllByRecursion (λ q. q < b)
+    (cond c (p ∷ []) [] ++ ports_in n (p + 1) (bits / 2)) → bits < 2 ^ (b - p)) [
       | true ↦ λ e a. here (b - p) refl a.0 (low_bits n (p + 1) b (bits / 2) (omega (arith, h, w)) a.1)
-      | false ↦ λ e a. there (b - p) refl (even (bits % 2) (omega arith) e) (low_bits n (p + 1) b (bits / 2) (omega (arith, h, w)) a)
+      | false ↦ λ e a. there (b - p) refl (even (bits % 2) (omega arith) e)
+          (low_bits n (p + 1) b (bits / 2) (omega (arith, h, w)) a)
     ] refl a
   where
     even : (r : ℕ) → r < 2 → (r == 1) ≡ false → r ≡ 0
@@ -78,7 +83,8 @@ low_bits (suc n) p b bits h a =
         subst (λ (k : ℕ). bits < 2 ^ k) (sym e) t
 
 -- the ports from one on are this one, if its bit is set, and those behind it
-port_first : (p bits : ℕ) → p < 17 → ports_in (17 - p) p bits ≡ cond (bits % 2 == 1) (p ∷ []) [] ++ ports_in (17 - (p + 1)) (p + 1) (bits / 2)
+port_first : (p bits : ℕ) → p < 17 → ports_in (17 - p) p bits ≡ cond (bits % 2 == 1) (p ∷ []) []
+    ++ ports_in (17 - (p + 1)) (p + 1) (bits / 2)
 unfolding ports_in
 port_first p bits l =
     let f : 17 - p ≡ suc (17 - (p + 1)) = omega (arith, l) in
@@ -86,11 +92,14 @@ port_first p bits l =
 
 -- numbers that differ are not the same
 pub unequal : (a b : ℕ) → (a ≡ b → ⊥) → (a == b) ≡ false
-unequal a b n = elim (a == b) as (λ t. (a == b) ≡ t → t ≡ false) [ true ↦ λ e. absurd (n (eqb-true a b e)) | false ↦ λ e. refl ] refl
+unequal a b n = elim (a == b) as (λ t. (a == b) ≡ t → t ≡ false)
+    [ true ↦ λ e. absurd (n (eqb-true a b e)) | false ↦ λ e. refl ] refl
 
 -- one more port has been listed, or passed over
-pub port_listed : (p bits : ℕ) (list more all : List ℕ) (is_set : Bool) → p < 17 → list ++ ports_in (17 - p) p bits ≡ all
-    → (bits % 2 == 1) ≡ is_set → more ≡ list ++ cond is_set (p ∷ []) [] → more ++ ports_in (17 - (p + 1)) (p + 1) (bits / 2) ≡ all
+pub port_listed : (p bits : ℕ) (list more all : List ℕ) (is_set : Bool) → p < 17
+    → list ++ ports_in (17 - p) p bits ≡ all
+    → (bits % 2 == 1) ≡ is_set → more ≡ list ++ cond is_set (p ∷ []) []
+    → more ++ ports_in (17 - (p + 1)) (p + 1) (bits / 2) ≡ all
 port_listed p bits list more all is_set l e b m =
     ap (λ ps. ps ++ ports_in (17 - (p + 1)) (p + 1) (bits / 2)) (m ∙ ap (λ c. list ++ cond c (p ∷ []) []) (sym b))
     ∙ append_assoc list (cond (bits % 2 == 1) (p ∷ []) []) (ports_in (17 - (p + 1)) (p + 1) (bits / 2))
@@ -126,12 +135,14 @@ refusal_more zero (suc n) p words d l b h =
     ∙ ap (λ rs. word_in p d ++ rs) (no_refusals n (p + 1))
     ∙ append-nil (word_in p d)
     ∙ ap (λ i. word_in i d) s
-    ∙ sym (ap (λ x. refusals_in (suc n) p x ++ word_in (p + 0) d) z ∙ ap (λ rs. rs ++ word_in (p + 0) d) (no_refusals n (p + 1)))
+    ∙ sym (ap (λ x. refusals_in (suc n) p x ++ word_in (p + 0) d) z ∙ ap (λ rs. rs ++ word_in (p + 0) d)
+    (no_refusals n (p + 1)))
 refusal_more (suc k) (suc n) p words d l b h =
     let w : 2 ^ (2 * suc k) ≡ 4 * 2 ^ (2 * k) = quad k in
     let m : d * 2 ^ (2 * suc k) ≡ 4 * (d * 2 ^ (2 * k)) = ap (λ x. d * x) w ∙ mul_left_comm d 4 (2 ^ (2 * k)) in
     let r : (words + d * 2 ^ (2 * suc k)) % 4 ≡ words % 4 = ap (λ x. (words + x) % 4) m ∙ omega arith in
-    let q : (words + d * 2 ^ (2 * suc k)) / 4 ≡ words / 4 + d * 2 ^ (2 * k) = ap (λ x. (words + x) / 4) m ∙ omega arith in
+    let q : (words + d * 2 ^ (2 * suc k)) / 4 ≡ words / 4 + d * 2 ^ (2 * k) = ap (λ x. (words + x) / 4) m
+    ∙ omega arith in
     let f : words / 4 < 2 ^ (2 * k) = omega (arith, w, b) in
     let s : p + 1 + k ≡ p + suc k = omega arith in
     ap (λ x. word_in p x ++ refusals_in n (p + 1) ((words + d * 2 ^ (2 * suc k)) / 4)) r
@@ -141,7 +152,8 @@ refusal_more (suc k) (suc n) p words d l b h =
     ∙ ap (λ i. refusals_in (suc n) p words ++ word_in i d) s
 
 -- where all named ports are below one, so are the words below its own
-pub low_words : (n p b words : ℕ) → words < 2 ^ (2 * n) → AllByRecursion (λ q. q < b) (map (λ r. r.0) (refusals_in n p words)) → words < 2 ^ (2 * (b - p))
+pub low_words : (n p b words : ℕ) → words < 2 ^ (2 * n)
+    → AllByRecursion (λ q. q < b) (map (λ r. r.0) (refusals_in n p words)) → words < 2 ^ (2 * (b - p))
 unfolding refusals_in
 low_words zero p b words h a = let o : 0 < 2 ^ (2 * (b - p)) = pow_pos (2 * (b - p)) in omega (arith, h, o)
 low_words (suc n) p b words h a =
@@ -170,20 +182,25 @@ low_words (suc n) p b words h a =
         let t : words < 2 ^ (2 * suc m) = omega (arith, w, r) in
         subst (λ (k : ℕ). words < 2 ^ (2 * k)) (sym e) t
 
-    by : (d : ℕ) → words % 4 ≡ d → (AllByRecursion (λ q. q < b) (map (λ r. r.0) (refusals_in n (p + 1) (words / 4))) → words / 4 < 2 ^ (2 * (b - (p + 1))))
-        → AllByRecursion (λ q. q < b) (map (λ r. r.0) (word_in p d ++ refusals_in n (p + 1) (words / 4))) → words < 2 ^ (2 * (b - p))
+    by : (d : ℕ) → words % 4 ≡ d
+        → (AllByRecursion (λ q. q < b) (map (λ r. r.0) (refusals_in n (p + 1) (words / 4))) → words / 4 < 2 ^
+        (2 * (b - (p + 1))))
+        → AllByRecursion (λ q. q < b) (map (λ r. r.0) (word_in p d ++ refusals_in n (p + 1) (words / 4)))
+        → words < 2 ^ (2 * (b - p))
     by zero e f a = there (b - p) refl e (f a)
     by (suc zero) e f a = here (b - p) refl a.0 (f a.1)
     by (suc (suc d)) e f a = here (b - p) refl a.0 (f a.1)
 
-refusal_first : (p words : ℕ) → p < 17 → refusals_in (17 - p) p words ≡ word_in p (words % 4) ++ refusals_in (17 - (p + 1)) (p + 1) (words / 4)
+refusal_first : (p words : ℕ) → p < 17 → refusals_in (17 - p) p words ≡ word_in p (words % 4)
+    ++ refusals_in (17 - (p + 1)) (p + 1) (words / 4)
 unfolding refusals_in
 refusal_first p words l =
     let f : 17 - p ≡ suc (17 - (p + 1)) = omega (arith, l) in
     ap (λ n. refusals_in n p words) f
 
 -- one more port has been listed, or passed over
-pub refusal_listed : (p words d : ℕ) (list more all : List (ℕ × NoRoom)) → p < 17 → list ++ refusals_in (17 - p) p words ≡ all
+pub refusal_listed : (p words d : ℕ) (list more all : List (ℕ × NoRoom)) → p < 17
+    → list ++ refusals_in (17 - p) p words ≡ all
     → words % 4 ≡ d → more ≡ list ++ word_in p d → more ++ refusals_in (17 - (p + 1)) (p + 1) (words / 4) ≡ all
 refusal_listed p words d list more all l e b m =
     ap (λ rs. rs ++ refusals_in (17 - (p + 1)) (p + 1) (words / 4)) (m ∙ ap (λ x. list ++ word_in p x) (sym b))
@@ -201,7 +218,8 @@ pub empty_words : (words : ℕ) → words < 4294967296 → (words == 0) ≡ (len
 empty_words zero h = ap (λ rs. length rs == 0) (sym (no_refusals 16 1))
 empty_words (suc w) h = go (refusals_in 16 1 (suc w)) (low_words 16 1 1 (suc w) h)
   where
-    go : (rs : List (ℕ × NoRoom)) → (AllByRecursion (λ q. q < 1) (map (λ r. r.0) rs) → suc w < 2 ^ (2 * (1 - 1))) → (suc w == 0) ≡ (length rs == 0)
+    go : (rs : List (ℕ × NoRoom)) → (AllByRecursion (λ q. q < 1) (map (λ r. r.0) rs) → suc w < 2 ^ (2 * (1 - 1)))
+        → (suc w == 0) ≡ (length rs == 0)
     go [] f = let l : suc w < 1 = f tt in absurd (omega (arith, l))
     go (r ∷ rs) f = unequal (suc w) 0 (λ e. cc) ∙ sym (unequal (suc (length rs)) 0 (λ e. cc))
 
@@ -221,22 +239,26 @@ refusals_before zero p words = tt
 refusals_before (suc n) p words =
     let s : p + 1 + n ≡ p + suc n = omega arith in
     All-append (λ r. r.0 < p + suc n) (word_in p (words % 4)) (refusals_in n (p + 1) (words / 4)) (one (words % 4))
-    (subst (λ (k : ℕ). AllByRecursion (λ r. r.0 < k) (refusals_in n (p + 1) (words / 4))) s (refusals_before n (p + 1) (words / 4)))
+    (subst (λ (k : ℕ). AllByRecursion (λ r. r.0 < k) (refusals_in n (p + 1) (words / 4))) s
+    (refusals_before n (p + 1) (words / 4)))
   where
     one : (d : ℕ) → AllByRecursion (λ r. r.0 < p + suc n) (word_in p d)
     one zero = tt
     one (suc zero) = (omega arith, tt)
     one (suc (suc d)) = (omega arith, tt)
 
-pub refusals_within : (words : ℕ) (rs : List (ℕ × NoRoom)) → refusals_in 16 1 words ≡ rs → AllByRecursion (λ r. r.0 ≤ 16) rs
-refusals_within words rs e = subst (λ (rs : List (ℕ × NoRoom)). AllByRecursion (λ r. r.0 ≤ 16) rs) e (below (refusals_in 16 1 words) (refusals_before 16 1 words))
+pub refusals_within : (words : ℕ) (rs : List (ℕ × NoRoom)) → refusals_in 16 1 words ≡ rs
+    → AllByRecursion (λ r. r.0 ≤ 16) rs
+refusals_within words rs e = subst (λ (rs : List (ℕ × NoRoom)). AllByRecursion (λ r. r.0 ≤ 16) rs) e
+    (below (refusals_in 16 1 words) (refusals_before 16 1 words))
   where
     below : (rs : List (ℕ × NoRoom)) → AllByRecursion (λ r. r.0 < 17) rs → AllByRecursion (λ r. r.0 ≤ 16) rs
     below [] a = tt
     below (r ∷ rs) a = let h : r.0 < 17 = a.0 in (omega (arith, h), below rs a.1)
 
 -- and so is each of them
-pub within_at : (rs : List (ℕ × NoRoom)) (i : ℕ) (d : ℕ × NoRoom) → i < length rs → AllByRecursion (λ r. r.0 ≤ 16) rs → (get_or rs i d).0 ≤ 16
+pub within_at : (rs : List (ℕ × NoRoom)) (i : ℕ) (d : ℕ × NoRoom) → i < length rs → AllByRecursion (λ r. r.0 ≤ 16) rs
+    → (get_or rs i d).0 ≤ 16
 within_at [] i d l a = absurd (omega (arith, l))
 within_at (r ∷ rs) zero d l a = a.0
 within_at (r ∷ rs) (suc i) d l a = within_at rs i d (omega (arith, l)) a.1

@@ -1,5 +1,6 @@
 -- As many of the local ports stand in a list of ports as the list has, and as its bits have ones.
-use Rattle.std.proofs.Common.{◌≡◌, zero, suc, ℕ, ◌+◌, ◌*◌, ◌/◌, ◌%◌, ◌^◌, ◌<◌, ◌==◌, Bool, true, false, cond, ◌||◌, List, [], ◌∷◌, ◌++◌, length, count_ones, refl, sym, ap, ◌∙◌, arith, eq-eqb}
+use Rattle.std.proofs.Common.{◌≡◌, zero, suc, ℕ, ◌+◌, ◌*◌, ◌/◌, ◌%◌, ◌^◌, ◌<◌, ◌==◌, Bool, true, false, cond, ◌||◌}
+use Rattle.std.proofs.Common.{List, [], ◌∷◌, ◌++◌, length, count_ones, refl, sym, ap, ◌∙◌, arith, eq-eqb}
 use Rattle.std.proofs.Math.Nat.{pow-succ'}
 use Rattle.std.proofs.lemmas.List.Sums.{sum_by-cons}
 use Rattle.std.specs.List.{count_by, list_any, range_with_len}
@@ -16,12 +17,15 @@ unfolding ports_in
 none_before zero p q bits l = refl
 none_before (suc n) p q bits l = by (bits % 2 == 1) (none_before n (p + 1) q (bits / 2) (omega (arith, l)))
   where
-    by : (b : Bool) → stands (ports_in n (p + 1) (bits / 2)) q ≡ false → stands (cond b (p ∷ []) [] ++ ports_in n (p + 1) (bits / 2)) q ≡ false
-    by true rest = ap (λ c. c || stands (ports_in n (p + 1) (bits / 2)) q) (unequal p q (λ e. absurd (omega (arith, e, l)))) ∙ rest
+    by : (b : Bool) → stands (ports_in n (p + 1) (bits / 2)) q ≡ false
+        → stands (cond b (p ∷ []) [] ++ ports_in n (p + 1) (bits / 2)) q ≡ false
+    by true rest = ap (λ c. c || stands (ports_in n (p + 1) (bits / 2)) q)
+        (unequal p q (λ e. absurd (omega (arith, e, l)))) ∙ rest
     by false rest = rest
 
 -- what tests say alike of all later numbers they count alike
-count_same : (f g : ℕ → Bool) (p n k : ℕ) → p < k → ((q : ℕ) → p < q → f q ≡ g q) → count_by f (range_with_len k n) ≡ count_by g (range_with_len k n)
+count_same : (f g : ℕ → Bool) (p n k : ℕ) → p < k → ((q : ℕ) → p < q → f q ≡ g q)
+    → count_by f (range_with_len k n) ≡ count_by g (range_with_len k n)
 count_same f g p zero k l same = refl
 count_same f g p (suc n) k l same =
     sum_by-cons (λ q. cond (f q) 1 0) k (range_with_len (k + 1) n)
@@ -38,11 +42,13 @@ all_stand (suc n) p bits = by (bits % 2 == 1) (all_stand n (p + 1) (bits / 2))
     rest = ports_in n (p + 1) (bits / 2)
 
     by : (b : Bool) → count_by (stands rest) (range_with_len (p + 1) n) ≡ length rest
-        → count_by (stands (cond b (p ∷ []) [] ++ rest)) (range_with_len p (suc n)) ≡ length (cond b (p ∷ []) [] ++ rest)
+        → count_by (stands (cond b (p ∷ []) [] ++ rest)) (range_with_len p (suc n)) ≡ length
+        (cond b (p ∷ []) [] ++ rest)
     by true later =
         let here = sum_by-cons (λ q. cond (stands (p ∷ rest) q) 1 0) p (range_with_len (p + 1) n) in
         let one = ap {B = ℕ} (λ b. cond (b || stands rest p) 1 0) (eq-eqb p p refl) in
-        let others = count_same (stands (p ∷ rest)) (stands rest) p n (p + 1) (omega arith) (λ q l. ap (λ b. b || stands rest q) (unequal p q (λ e. absurd (omega (arith, e, l))))) in
+        let others = count_same (stands (p ∷ rest)) (stands rest) p n (p + 1) (omega arith)
+        (λ q l. ap (λ b. b || stands rest q) (unequal p q (λ e. absurd (omega (arith, e, l))))) in
         omega (arith, here, one, others, later)
     by false later =
         let here = sum_by-cons (λ q. cond (stands rest q) 1 0) p (range_with_len (p + 1) n) in
@@ -60,7 +66,8 @@ ones_are (suc n) p bits l =
     rest : List ℕ
     rest = ports_in n (p + 1) (bits / 2)
 
-    by : (d : ℕ) → d < 2 → count_ones bits ≡ d + count_ones (bits / 2) → length rest ≡ count_ones (bits / 2) → length (cond (d == 1) (p ∷ []) [] ++ rest) ≡ count_ones bits
+    by : (d : ℕ) → d < 2 → count_ones bits ≡ d + count_ones (bits / 2) → length rest ≡ count_ones (bits / 2)
+        → length (cond (d == 1) (p ∷ []) [] ++ rest) ≡ count_ones bits
     by zero l e f = omega (arith, e, f)
     by (suc zero) l e f = omega (arith, e, f)
     by (suc (suc d)) l e f = absurd (omega (arith, l))

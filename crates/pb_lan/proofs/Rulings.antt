@@ -1,5 +1,7 @@
 -- What is known of a frame that is carried, and where it goes.
-use Rattle.std.proofs.Common.{map, ◌≡◌, inl, inr, ℕ, ◌<◌, ◌≤◌, Some, None, Option, Bool, true, false, cond, not, ◌&&◌, ◌==◌, List, [], ◌∷◌, ◌++◌, refl, sym, subst, unwrap_or, arith, nat_lt, length, suc, zero}
+use Rattle.std.proofs.Common.{map, ◌≡◌, inl, inr, ℕ, ◌<◌, ◌≤◌, Some, None, Option, Bool, true, false, cond, not, ◌&&◌}
+use Rattle.std.proofs.Common.{◌==◌, List, [], ◌∷◌, ◌++◌, refl, sym, subst, unwrap_or, arith, nat_lt, length, suc}
+use Rattle.std.proofs.Common.{zero}
 use Rattle.std.specs.List.{AllByRecursion, filter, list_any}
 use Rattle.std.proofs.lemmas.Bool.{eqb-true}
 use Rattle.std.specs.Option.{option_map}
@@ -8,7 +10,8 @@ use Rattle.pb_lan.proofs.Cases.{none-holds, neither-left, neither-right, is_malf
 use Rattle.pb_lan.proofs.Numbers.{numbered-All}
 use Rattle.pb_frame.specs.Frames.{dst_of, is_group}
 use Rattle.pb_frame.specs.Tags.{vid_of}
-use Rattle.pb_lan.specs.BridgeLists.{ruling, Ruling, first_case, customer_cases, provider_cases, is_for_bridges, ruling_in, Follows, IsOwn}
+use Rattle.pb_lan.specs.BridgeLists.{ruling, Ruling, first_case, customer_cases, provider_cases, is_for_bridges}
+use Rattle.pb_lan.specs.BridgeLists.{ruling_in, Follows, IsOwn}
 use Rattle.pb_lan.specs.Choice.{flood, narrowed, found, chosen_ports}
 use Rattle.pb_lan.specs.Numbering.{numbered}
 use Rattle.pb_lan.specs.Plans.{IsSound, IsNumber}
@@ -36,7 +39,8 @@ carries-injective : (a b : ℕ) → Carries a ≡ Carries b → a ≡ b
 carries-injective a b h = cc
 
 -- a frame carried from a customer port is long enough, and goes in its service
-pub carried-customer : (plan : Plan) (c : CustomerPlan) (item : Item) (v : ℕ) → first_case (customer_cases item) (Carries (vid_at plan c)) ≡ Carries v
+pub carried-customer : (plan : Plan) (c : CustomerPlan) (item : Item) (v : ℕ)
+    → first_case (customer_cases item) (Carries (vid_at plan c)) ≡ Carries v
     → (14 ≤ length item.wire) × (vid_at plan c ≡ v)
 carried-customer plan c item v h =
     let a = none-holds (customer_cases item) (Carries (vid_at plan c)) (Carries v) refl refl h in
@@ -50,7 +54,8 @@ pub carried-provider : (rules : Rules) (plan : Plan) (e : End) (state : PortStat
     → first_case (provider_cases rules plan e item) (ruling_in state (vid_of item.wire)) ≡ Carries v
     → (is_for_bridges item.wire ≡ false) × (vid_of item.wire ≡ v)
 carried-provider rules plan e state item v h =
-    let a = none-holds (provider_cases rules plan e item) (ruling_in state (vid_of item.wire)) (Carries v) refl refl h in
+    let a = none-holds (provider_cases rules plan e item) (ruling_in state (vid_of item.wire)) (Carries v) refl refl h
+    in
     (neither-left (is_for_bridges item.wire) _ (neither-right _ _ (a.0 is_malformed)), in_state state a.1)
   where
     in_state : (s : PortState) → ruling_in s (vid_of item.wire) ≡ Carries v → vid_of item.wire ≡ v
@@ -59,11 +64,14 @@ carried-provider rules plan e state item v h =
     in_state Forwarding h = carries-injective _ v h
 
 -- a step that moves nothing queues nothing of its own
-none-own : (plan : Plan) (b : ℕ) (moved : Option Moved) → moved ≡ None → AllByRecursion (λ m. AllByRecursion (IsOwn plan b) m.queued) (moved_part moved)
-none-own plan b moved e = subst (λ o. AllByRecursion (λ m. AllByRecursion (IsOwn plan b) m.queued) (moved_part o)) (sym e) tt
+none-own : (plan : Plan) (b : ℕ) (moved : Option Moved) → moved ≡ None
+    → AllByRecursion (λ m. AllByRecursion (IsOwn plan b) m.queued) (moved_part moved)
+none-own plan b moved e = subst (λ o. AllByRecursion (λ m. AllByRecursion (IsOwn plan b) m.queued) (moved_part o))
+    (sym e) tt
 
 -- what a bridge queues of its own is for other bridges
-pub follows-own : (rules : Rules) (plan : Plan) (b : ℕ) (earlier : List Step) (q : ℕ) (item : Item) (learnt : Option Learnt)
+pub follows-own : (rules : Rules) (plan : Plan) (b : ℕ) (earlier : List Step) (q : ℕ) (item : Item)
+    (learnt : Option Learnt)
     (outcome : Outcome) (moved : Option Moved) (g : Ruling)
     → Follows rules plan b earlier q item learnt outcome moved g
     → AllByRecursion (λ m. AllByRecursion (IsOwn plan b) m.queued) (moved_part moved)
@@ -80,18 +88,24 @@ follows-own rules plan b earlier q item learnt outcome moved Closed h = absurd h
 pub vid_at-small : (plan : Plan) (c : CustomerPlan) → IsSound plan → vid_at plan c < 4096
 vid_at-small plan c sound = by_service (numbered plan.services c.service) refl
   where
-    by_service : (o : Option ServicePlan) → numbered plan.services c.service ≡ o → unwrap_or (option_map (λ s. s.vid) o) 0 < 4096
+    by_service : (o : Option ServicePlan) → numbered plan.services c.service ≡ o
+        → unwrap_or (option_map (λ s. s.vid) o) 0 < 4096
     by_service None e = omega arith
-    by_service (Some s) e = let n = numbered-All (λ s. IsNumber s.vid 4094) plan.services c.service s e sound.vids in omega (arith, n.1)
+    by_service (Some s) e = let n = numbered-All (λ s. IsNumber s.vid 4094) plan.services c.service s e sound.vids
+        in omega (arith, n.1)
 
 -- a frame that is carried in at a provider port found it Forwarding, and a member of the frame's service
 pub carried-open : (rules : Rules) (plan : Plan) (e : End) (state : PortState) (item : Item) (v : ℕ)
     → first_case (provider_cases rules plan e item) (ruling_in state (vid_of item.wire)) ≡ Carries v
     → (is_forwarding state ≡ true) × (serves plan v e ≡ true)
 carried-open rules plan e state item v h =
-    let a = none-holds (provider_cases rules plan e item) (ruling_in state (vid_of item.wire)) (Carries v) refl refl h in
-    let w = (carried-provider rules plan e state item v h).1 in
-    (in_state state a.1, subst (λ n. serves plan n e ≡ true) w (un-not (serves plan (vid_of item.wire) e) (neither-left _ _ (a.0 is_not_member))))
+    let a = none-holds (provider_cases rules plan e item) (ruling_in state (vid_of item.wire)) (Carries v) refl refl h
+    in
+    let w = (carried-provider rules plan e state item v h).1 in (
+      in_state state a.1,
+      subst (λ n. serves plan n e ≡ true) w
+          (un-not (serves plan (vid_of item.wire) e) (neither-left _ _ (a.0 is_not_member))),
+    )
   where
     in_state : (s : PortState) → ruling_in s (vid_of item.wire) ≡ Carries v → is_forwarding s ≡ true
     in_state Discarding h = cc
@@ -103,10 +117,13 @@ carried-open rules plan e state item v h =
     un-not false h = cc
 
 -- what is relayed changes no state, and its ports were chosen with the step itself in mind
-pub follows-relayed : (rules : Rules) (plan : Plan) (b : ℕ) (earlier : List Step) (q : ℕ) (item : Item) (learnt : Option Learnt)
+pub follows-relayed : (rules : Rules) (plan : Plan) (b : ℕ) (earlier : List Step) (q : ℕ) (item : Item)
+    (learnt : Option Learnt)
     (chosen : List ℕ) (refused : List (ℕ × NoRoom)) (moved : Option Moved) (g : Ruling)
     → Follows rules plan b earlier q item learnt (Relayed chosen refused) moved g
-    → (v : ℕ) × (g ≡ Carries v) × (chosen ≡ chosen_ports plan b (earlier ++ Receive q item learnt (Relayed chosen refused) moved ∷ []) q v item.wire) × (moved ≡ None)
+    → (v : ℕ) × (g ≡ Carries v)
+    × (chosen ≡ chosen_ports plan b (earlier ++ Receive q item learnt (Relayed chosen refused) moved ∷ []) q v
+    item.wire) × (moved ≡ None)
 follows-relayed rules plan b earlier q item learnt chosen refused moved (Refuses r) h = let e = h.1 in cc
 follows-relayed rules plan b earlier q item learnt chosen refused moved Listens (inl h) = let e = h.1 in cc
 follows-relayed rules plan b earlier q item learnt chosen refused moved Listens (inr h) = let e = h.1 in cc
@@ -121,7 +138,40 @@ IsLocal p = (f : ℕ → PortState) → numbered (map f local_ports) p ≡ Some 
 
 -- the local ports are local
 pub all-local : AllByRecursion IsLocal local_ports
-all-local = (λ f. refl, (λ f. refl, (λ f. refl, (λ f. refl, (λ f. refl, (λ f. refl, (λ f. refl, (λ f. refl, (λ f. refl, (λ f. refl, (λ f. refl, (λ f. refl, (λ f. refl, (λ f. refl, (λ f. refl, (λ f. refl, tt))))))))))))))))
+all-local = (
+  λ f. refl,
+  (
+    λ f. refl,
+    (
+      λ f. refl,
+      (
+        λ f. refl,
+        (
+          λ f. refl,
+          (
+            λ f. refl,
+            (
+              λ f. refl,
+              (
+                λ f. refl,
+                (
+                  λ f. refl,
+                  (
+                    λ f. refl,
+                    (
+                      λ f. refl,
+                      (λ f. refl, (λ f. refl, (λ f. refl, (λ f. refl, (λ f. refl, tt))))),
+                    ),
+                  ),
+                ),
+              ),
+            ),
+          ),
+        ),
+      ),
+    ),
+  ),
+)
 
 -- the ports from 1 to 16 are the local ports
 pub local-listed : (n : ℕ) → IsNumber n 16 → list_any (λ p. p == n) local_ports ≡ true
@@ -141,12 +191,15 @@ local-listed (suc (suc (suc (suc (suc (suc (suc (suc (suc (suc (suc (suc zero)))
 local-listed (suc (suc (suc (suc (suc (suc (suc (suc (suc (suc (suc (suc (suc zero))))))))))))) h = refl
 local-listed (suc (suc (suc (suc (suc (suc (suc (suc (suc (suc (suc (suc (suc (suc zero)))))))))))))) h = refl
 local-listed (suc (suc (suc (suc (suc (suc (suc (suc (suc (suc (suc (suc (suc (suc (suc zero))))))))))))))) h = refl
-local-listed (suc (suc (suc (suc (suc (suc (suc (suc (suc (suc (suc (suc (suc (suc (suc (suc zero)))))))))))))))) h = refl
-local-listed (suc (suc (suc (suc (suc (suc (suc (suc (suc (suc (suc (suc (suc (suc (suc (suc (suc n))))))))))))))))) h = absurd (omega (arith, h.1))
+local-listed (suc (suc (suc (suc (suc (suc (suc (suc (suc (suc (suc (suc (suc (suc (suc (suc zero)))))))))))))))) h =
+    refl
+local-listed (suc (suc (suc (suc (suc (suc (suc (suc (suc (suc (suc (suc (suc (suc (suc (suc (suc n))))))))))))))))) h
+    = absurd (omega (arith, h.1))
 
 -- so they are local
 pub number-local : (p : ℕ) → IsNumber p 16 → IsLocal p
-number-local p h = let found = list_any-found IsLocal (λ x. x == p) local_ports (local-listed p h) all-local in subst IsLocal (eqb-true found.0 p found.2) found.1
+number-local p h = let found = list_any-found IsLocal (λ x. x == p) local_ports (local-listed p h) all-local in subst
+    IsLocal (eqb-true found.0 p found.2) found.1
 
 -- a port of choice is another one, Forwarding, and a member of the service
 pub record IsChoice (plan : Plan) (b : ℕ) (steps : List Step) (q v p : ℕ) : Type 0 where
@@ -156,17 +209,27 @@ pub record IsChoice (plan : Plan) (b : ℕ) (steps : List Step) (q v p : ℕ) : 
   pub local : IsLocal p
 
 -- each chosen port is a choice
-pub chosen-choice : (plan : Plan) (b : ℕ) (steps : List Step) (q v : ℕ) (wire : List ℕ) → AllByRecursion (IsChoice plan b steps q v) (chosen_ports plan b steps q v wire)
+pub chosen-choice : (plan : Plan) (b : ℕ) (steps : List Step) (q v : ℕ) (wire : List ℕ)
+    → AllByRecursion (IsChoice plan b steps q v) (chosen_ports plan b steps q v wire)
 chosen-choice plan b steps q v wire =
     let ports = flood plan b steps q v in
     let at = found plan b steps v (dst_of wire) in
-    let test : ℕ → Bool = λ p. not (p == q) && (is_forwarding (state_after plan b steps p) && is_member plan v (port_at plan b p)) in
+    let test : ℕ → Bool = λ p. not (p == q) && (is_forwarding (state_after plan b steps p) && is_member plan v
+    (port_at plan b p)) in
     let all : AllByRecursion (IsChoice plan b steps q v) ports =
     All-imply (λ p. IsLocal p × (test p ≡ true)) (IsChoice plan b steps q v)
-    (λ p h. record { other = un-not (p == q) (and-left _ _ h.1); forwarding = and-left _ _ (and-right _ _ h.1); member = and-right _ _ (and-right _ _ h.1); local = h.0 })
+    (λ p h. record {
+      other = un-not (p == q) (and-left _ _ h.1);
+      forwarding = and-left _ _ (and-right _ _ h.1);
+      member = and-right _ _ (and-right _ _ h.1);
+      local = h.0;
+    })
     ports (All-filter IsLocal test local_ports all-local) in
-    elim (is_forwarding (state_after plan b steps q)) as (λ f. AllByRecursion (IsChoice plan b steps q v) (cond f (cond (is_group (dst_of wire)) ports (narrowed ports at)) [])) [
-      | true ↦ elim (is_group (dst_of wire)) as (λ g. AllByRecursion (IsChoice plan b steps q v) (cond g ports (narrowed ports at)))
+    elim (is_forwarding (state_after plan b steps q)) as
+    (λ f. AllByRecursion (IsChoice plan b steps q v)
+    (cond f (cond (is_group (dst_of wire)) ports (narrowed ports at)) [])) [
+      | true ↦ elim (is_group (dst_of wire)) as
+          (λ g. AllByRecursion (IsChoice plan b steps q v) (cond g ports (narrowed ports at)))
           [ true ↦ all | false ↦ narrow at all ]
       | false ↦ tt
     ]
@@ -175,22 +238,29 @@ chosen-choice plan b steps q v wire =
     un-not true h = cc
     un-not false h = refl
 
-    narrow : (o : Option ℕ) → AllByRecursion (IsChoice plan b steps q v) (flood plan b steps q v) → AllByRecursion (IsChoice plan b steps q v) (narrowed (flood plan b steps q v) o)
+    narrow : (o : Option ℕ) → AllByRecursion (IsChoice plan b steps q v) (flood plan b steps q v)
+        → AllByRecursion (IsChoice plan b steps q v) (narrowed (flood plan b steps q v) o)
     narrow None a = a
     narrow (Some at) a =
-        All-imply (λ p. IsChoice plan b steps q v p × ((p == at) ≡ true)) (IsChoice plan b steps q v) (λ p h. h.0) (filter (λ p. p == at) (flood plan b steps q v))
+        All-imply (λ p. IsChoice plan b steps q v p × ((p == at) ≡ true)) (IsChoice plan b steps q v) (λ p h. h.0)
+        (filter (λ p. p == at) (flood plan b steps q v))
         (All-filter (IsChoice plan b steps q v) (λ p. p == at) (flood plan b steps q v) a)
 
 -- each port to which a frame was relayed was a choice, with the step itself in mind
-pub chosen-there : (rules : Rules) (plan : Plan) (b r : ℕ) (earlier : List Step) (q : ℕ) (item : Item) (learnt : Option Learnt)
+pub chosen-there : (rules : Rules) (plan : Plan) (b r : ℕ) (earlier : List Step) (q : ℕ) (item : Item)
+    (learnt : Option Learnt)
     (chosen : List ℕ) (refused : List (ℕ × NoRoom)) (moved : Option Moved)
-    → (follows : Follows rules plan b earlier q item learnt (Relayed chosen refused) moved (ruling rules plan b earlier q item))
+    → (follows : Follows rules plan b earlier q item learnt (Relayed chosen refused) moved
+    (ruling rules plan b earlier q item))
     → list_any (λ p. p == r) chosen ≡ true
     → IsChoice plan b (earlier ++ Receive q item learnt (Relayed chosen refused) moved ∷ []) q
-    (follows-relayed rules plan b earlier q item learnt chosen refused moved (ruling rules plan b earlier q item) follows).0 r
+    (follows-relayed rules plan b earlier q item learnt chosen refused moved (ruling rules plan b earlier q item)
+    follows).0 r
 chosen-there rules plan b r earlier q item learnt chosen refused moved follows contains =
-    let f = follows-relayed rules plan b earlier q item learnt chosen refused moved (ruling rules plan b earlier q item) follows in
+    let f = follows-relayed rules plan b earlier q item learnt chosen refused moved
+    (ruling rules plan b earlier q item) follows in
     let steps = earlier ++ Receive q item learnt (Relayed chosen refused) moved ∷ [] in
-    let all : AllByRecursion (IsChoice plan b steps q f.0) chosen = subst (AllByRecursion (IsChoice plan b steps q f.0)) (sym f.2) (chosen-choice plan b steps q f.0 item.wire) in
+    let all : AllByRecursion (IsChoice plan b steps q f.0) chosen =
+    subst (AllByRecursion (IsChoice plan b steps q f.0)) (sym f.2) (chosen-choice plan b steps q f.0 item.wire) in
     let p = list_any-found (IsChoice plan b steps q f.0) (λ p. p == r) chosen contains all in
     subst (IsChoice plan b steps q f.0) (eqb-true p.0 r p.2) p.1

@@ -1,5 +1,7 @@
 -- The states of ports, by what stands at them, and lists of them.
-use Rattle.std.proofs.Common.{◌≡◌, ℕ, zero, suc, ◌+◌, ◌<◌, Bool, true, false, if◌then◌else◌, ◌||◌, ◌==◌, flat_map, List, [], ◌∷◌, ◌++◌, Some, None, is_some, map, take, length, refl, sym, ap, ◌∙◌, arith, add-one, append-nil, unwrap_or}
+use Rattle.std.proofs.Common.{◌≡◌, ℕ, zero, suc, ◌+◌, ◌<◌, Bool, true, false, if◌then◌else◌, ◌||◌, ◌==◌, flat_map}
+use Rattle.std.proofs.Common.{List, [], ◌∷◌, ◌++◌, Some, None, is_some, map, take, length, refl, sym, ap, ◌∙◌, arith}
+use Rattle.std.proofs.Common.{add-one, append-nil, unwrap_or}
 use Rattle.std.proofs.lemmas.Grind.{flat_map-append}
 use Rattle.std.specs.List.{list_any}
 use Rattle.std.specs.declared.option.Option.{Option}
@@ -25,43 +27,52 @@ pub is_some-first : {X : Type 0} (test : X → Bool) (xs : List X) → is_some (
 is_some-first test [] = refl
 is_some-first {X} test (x ∷ xs) = by (test x) (is_some-first test xs)
   where
-    by : (b : Bool) → is_some (first test xs) ≡ list_any test xs → is_some (if b then Some x else first test xs) ≡ (b || list_any test xs)
+    by : (b : Bool) → is_some (first test xs) ≡ list_any test xs
+        → is_some (if b then Some x else first test xs) ≡ (b || list_any test xs)
     by true rest = refl
     by false rest = rest
 
-customer_first : (spanning : Spanning) (other : Port) (newest : Option PortState) (o : Option CustomerPlan) → is_some o ≡ true
+customer_first : (spanning : Spanning) (other : Port) (newest : Option PortState) (o : Option CustomerPlan)
+    → is_some o ≡ true
     → newest_by spanning (customer_or_else o other) newest ≡ Forwarding
 customer_first spanning other newest None e = cc
 customer_first spanning other newest (Some c) e = refl
 
 -- a customer port is Forwarding
-pub newest-customer : (plan : Plan) (b q : ℕ) (newest : Option PortState) → list_any (is_customer_at b q) plan.customers ≡ true → newest_state plan b q newest ≡ Forwarding
+pub newest-customer : (plan : Plan) (b q : ℕ) (newest : Option PortState)
+    → list_any (is_customer_at b q) plan.customers ≡ true → newest_state plan b q newest ≡ Forwarding
 newest-customer plan b q newest e =
-    customer_first plan.spanning (provider_or_unused (first (is_end_at b q) (all_ends plan))) newest (first (is_customer_at b q) plan.customers)
+    customer_first plan.spanning (provider_or_unused (first (is_end_at b q) (all_ends plan))) newest
+    (first (is_customer_at b q) plan.customers)
     (is_some-first (is_customer_at b q) plan.customers ∙ e)
 
-other_first : (spanning : Spanning) (other : Port) (newest : Option PortState) (o : Option CustomerPlan) → is_some o ≡ false
+other_first : (spanning : Spanning) (other : Port) (newest : Option PortState) (o : Option CustomerPlan)
+    → is_some o ≡ false
     → newest_by spanning (customer_or_else o other) newest ≡ newest_by spanning other newest
 other_first spanning other newest None e = refl
 other_first spanning other newest (Some c) e = cc
 
 -- else what stands there is an end of a link, or nothing
-pub newest-other : (plan : Plan) (b q : ℕ) (newest : Option PortState) (o : Option End) → list_any (is_customer_at b q) plan.customers ≡ false → o ≡ first (is_end_at b q) (all_ends plan)
+pub newest-other : (plan : Plan) (b q : ℕ) (newest : Option PortState) (o : Option End)
+    → list_any (is_customer_at b q) plan.customers ≡ false → o ≡ first (is_end_at b q) (all_ends plan)
     → newest_state plan b q newest ≡ newest_by plan.spanning (provider_or_unused o) newest
 newest-other plan b q newest o e found =
-    other_first plan.spanning (provider_or_unused (first (is_end_at b q) (all_ends plan))) newest (first (is_customer_at b q) plan.customers)
+    other_first plan.spanning (provider_or_unused (first (is_end_at b q) (all_ends plan))) newest
+    (first (is_customer_at b q) plan.customers)
     (is_some-first (is_customer_at b q) plan.customers ∙ e)
     ∙ ap (λ (p : Option End). newest_by plan.spanning (provider_or_unused p) newest) (sym found)
 
 -- a port has the state to which changes led, where that is the newest state, whatever the port started with
 newest-by : (spanning : Spanning) (p : Port) (port : ℕ) (newest : Option PortState) (changes : List (ℕ × PortState))
-    → ((start : PortState) → unwrap_or newest start ≡ changed port start changes) → newest_by spanning p newest ≡ state_by spanning p port changes
+    → ((start : PortState) → unwrap_or newest start ≡ changed port start changes)
+    → newest_by spanning p newest ≡ state_by spanning p port changes
 newest-by spanning (Customer c) port newest changes led = refl
 newest-by spanning (Provider e) port newest changes led = led (start_by spanning e.start)
 newest-by spanning Unused port newest changes led = refl
 
 pub newest-after : (plan : Plan) (b q : ℕ) (newest : Option PortState) (steps : List Step)
-    → ((start : PortState) → unwrap_or newest start ≡ changed q start (changes_of steps)) → newest_state plan b q newest ≡ state_after plan b steps q
+    → ((start : PortState) → unwrap_or newest start ≡ changed q start (changes_of steps))
+    → newest_state plan b q newest ≡ state_after plan b steps q
 newest-after plan b q newest steps led = newest-by plan.spanning (port_at plan b q) q newest (changes_of steps) led
 
 -- where no step set it, that is the state in which it starts
@@ -69,7 +80,8 @@ pub start_newest : (plan : Plan) (b q : ℕ) → newest_state plan b q None ≡ 
 start_newest plan b q = newest-after plan b q None [] (λ start. refl)
 
 -- changes one after the other
-changed-append : (q : ℕ) (s : PortState) (front bs : List (ℕ × PortState)) → changed q s (front ++ bs) ≡ changed q (changed q s front) bs
+changed-append : (q : ℕ) (s : PortState) (front bs : List (ℕ × PortState))
+    → changed q s (front ++ bs) ≡ changed q (changed q s front) bs
 changed-append q s [] bs = refl
 changed-append q s (a ∷ front) bs = changed-append q (if a.0 == q then a.1 else s) front bs
 
@@ -78,9 +90,12 @@ states_of moved = moved.states
 
 -- one step more
 pub changed-push : (q : ℕ) (s : PortState) (steps : List Step) (step : Step)
-    → changed q s (changes_of (steps ++ step ∷ [])) ≡ changed q (changed q s (changes_of steps)) (flat_map (λ moved. moved.states) (moved_of step))
+    → changed q s (changes_of (steps ++ step ∷ [])) ≡ changed q (changed q s (changes_of steps))
+    (flat_map (λ moved. moved.states) (moved_of step))
 changed-push q s steps step =
-    ap (changed q s) (ap (flat_map states_of) (flat_map-append moved_of steps (step ∷ []) ∙ ap (λ ms. flat_map moved_of steps ++ ms) (append-nil (moved_of step)))
+    ap (changed q s) (ap (flat_map states_of)
+    (flat_map-append moved_of steps (step ∷ []) ∙ ap (λ ms. flat_map moved_of steps ++ ms)
+    (append-nil (moved_of step)))
     ∙ flat_map-append states_of (flat_map moved_of steps) (moved_of step))
     ∙ changed-append q s (changes_of steps) (flat_map states_of (moved_of step))
 
@@ -90,20 +105,25 @@ pub changed-next : (q : ℕ) (s : PortState) (changes : List (ℕ × PortState))
 changed-next q s changes change = changed-append q s changes (change ∷ [])
 
 -- one number more
-numbers-suc : {X Y : Type 0} (f : ℕ → Y) (j k : ℕ) (xs : List X) → k < length xs → map f (take (suc k) (numbers_from j xs)) ≡ map f (take k (numbers_from j xs)) ++ f (j + k) ∷ []
+numbers-suc : {X Y : Type 0} (f : ℕ → Y) (j k : ℕ) (xs : List X) → k < length xs
+    → map f (take (suc k) (numbers_from j xs)) ≡ map f (take k (numbers_from j xs)) ++ f (j + k) ∷ []
 numbers-suc f j k [] h = absurd (omega arith)
 numbers-suc f j zero (x ∷ xs) h = let e : j ≡ j + 0 = omega arith in ap (λ n. f n ∷ []) e
 numbers-suc f j (suc k) (x ∷ xs) h =
     let e : (j + 1) + k ≡ j + suc k = omega arith in
-    ap (λ ys. f j ∷ ys) (numbers-suc f (j + 1) k xs (omega arith) ∙ ap (λ n. map f (take k (numbers_from (j + 1) xs)) ++ f n ∷ []) e)
+    ap (λ ys. f j ∷ ys) (numbers-suc f (j + 1) k xs (omega arith) ∙ ap
+    (λ n. map f (take k (numbers_from (j + 1) xs)) ++ f n ∷ []) e)
 
-pub numbers-more : {X Y : Type 0} (f : ℕ → Y) (j k : ℕ) (xs : List X) → k < length xs → map f (take (k + 1) (numbers_from j xs)) ≡ map f (take k (numbers_from j xs)) ++ f (k + j) ∷ []
+pub numbers-more : {X Y : Type 0} (f : ℕ → Y) (j k : ℕ) (xs : List X) → k < length xs
+    → map f (take (k + 1) (numbers_from j xs)) ≡ map f (take k (numbers_from j xs)) ++ f (k + j) ∷ []
 numbers-more f j k xs h =
     let e : j + k ≡ k + j = omega arith in
-    ap (λ n. map f (take n (numbers_from j xs))) (add-one k) ∙ numbers-suc f j k xs h ∙ ap (λ n. map f (take k (numbers_from j xs)) ++ f n ∷ []) e
+    ap (λ n. map f (take n (numbers_from j xs))) (add-one k) ∙ numbers-suc f j k xs h
+    ∙ ap (λ n. map f (take k (numbers_from j xs)) ++ f n ∷ []) e
 
 -- all of them
-pub numbers-all : {X Y : Type 0} (f : ℕ → Y) (j k : ℕ) (xs : List X) → k ≡ length xs → map f (take k (numbers_from j xs)) ≡ map f (numbers_from j xs)
+pub numbers-all : {X Y : Type 0} (f : ℕ → Y) (j k : ℕ) (xs : List X) → k ≡ length xs
+    → map f (take k (numbers_from j xs)) ≡ map f (numbers_from j xs)
 numbers-all f j zero [] h = refl
 numbers-all f j (suc k) [] h = refl
 numbers-all f j zero (x ∷ xs) h = absurd (omega (arith, h))

@@ -1,5 +1,6 @@
 -- What a place has in hand.
-use Rattle.std.proofs.Common.{◌≡◌, ℕ, zero, suc, Bool, true, false, List, [], ◌∷◌, ◌++◌, Some, length, slice_get, refl, sym, ap, subst, ◌∙◌, arith, append-nil, length-append}
+use Rattle.std.proofs.Common.{◌≡◌, ℕ, zero, suc, Bool, true, false, List, [], ◌∷◌, ◌++◌, Some, length, slice_get}
+use Rattle.std.proofs.Common.{refl, sym, ap, subst, ◌∙◌, arith, append-nil, length-append}
 use Rattle.std.proofs.lemmas.Grind.{flat_map-append}
 use Rattle.std.specs.List.{flat_map}
 use Rattle.std.specs.declared.option.Option.{Option}
@@ -13,7 +14,8 @@ use Rattle.pb_link.specs.declared.holding.Holding.{Holding}
 use Rattle.pb_link.specs.declared.holding.Holding.TheVariants.{Nothing, At, This}
 
 -- what a step more adds to a list that steps give
-pub flat_map-more : {X : Type 0} (f : Step → List X) (steps : List Step) (step : Step) → flat_map f (steps ++ step ∷ []) ≡ flat_map f steps ++ f step
+pub flat_map-more : {X : Type 0} (f : Step → List X) (steps : List Step) (step : Step)
+    → flat_map f (steps ++ step ∷ []) ≡ flat_map f steps ++ f step
 flat_map-more f steps step = flat_map-append f steps (step ∷ []) ∙ ap (λ z. flat_map f steps ++ z) (append-nil (f step))
 
 -- what follows a list stands behind it
@@ -22,7 +24,8 @@ slice_get-next [] ys y = refl
 slice_get-next (x ∷ xs) ys y = slice_get-next xs ys y
 
 -- what a step brought stands there still when more follows
-brought-front : (steps more : List Step) (place : ℕ) (item : Item) → brought_at (slice_get steps place) ≡ Some item → brought_at (slice_get (steps ++ more) place) ≡ Some item
+brought-front : (steps more : List Step) (place : ℕ) (item : Item) → brought_at (slice_get steps place) ≡ Some item
+    → brought_at (slice_get (steps ++ more) place) ≡ Some item
 brought-front [] more place item e = cc
 brought-front (step ∷ steps) more zero item e = e
 brought-front (step ∷ steps) more (suc place) item e = brought-front steps more place item e
@@ -35,53 +38,62 @@ pub one-left : (gone come : List Item) (item : Item) → gone ++ item ∷ [] ≡
 one-left gone come item e = grind (arith, ap length e, length-append gone (item ∷ []))
 
 -- nothing is in hand where all that came has gone
-pub nothing-is : (steps : List Step) (is_kept : Bool) (gone come : List Item) (hand : Holding) → IsHand steps is_kept gone come hand → is_nothing hand ≡ is_all_fetched come gone
+pub nothing-is : (steps : List Step) (is_kept : Bool) (gone come : List Item) (hand : Holding)
+    → IsHand steps is_kept gone come hand → is_nothing hand ≡ is_all_fetched come gone
 nothing-is steps is_kept gone come Nothing h = sym (all-gone gone come h)
 nothing-is steps is_kept gone come (At place) h = sym (one-left gone come h.1 h.3)
 nothing-is steps is_kept gone come (This item) h = sym (one-left gone come item h.1)
 
-pub nothing_in_hand : (steps : List Step) (is_kept : Bool) (gone come : List Item) (hand : Holding) → IsHand steps is_kept gone come hand
+pub nothing_in_hand : (steps : List Step) (is_kept : Bool) (gone come : List Item) (hand : Holding)
+    → IsHand steps is_kept gone come hand
     → is_all_fetched come gone ≡ true → hand ≡ Nothing
 nothing_in_hand steps is_kept gone come Nothing h e = refl
 nothing_in_hand steps is_kept gone come (At place) h e = let one = one-left gone come h.1 h.3 in cc
 nothing_in_hand steps is_kept gone come (This item) h e = let one = one-left gone come item h.1 in cc
 
 -- an item is in hand where not all that came has gone, and by value where steps are only counted
-pub some_in_hand : (steps : List Step) (is_kept : Bool) (gone come : List Item) (hand : Holding) → IsHand steps is_kept gone come hand
+pub some_in_hand : (steps : List Step) (is_kept : Bool) (gone come : List Item) (hand : Holding)
+    → IsHand steps is_kept gone come hand
     → is_all_fetched come gone ≡ false → (item : Item) × (held steps hand ≡ Some item)
 some_in_hand steps is_kept gone come Nothing h e = let all = all-gone gone come h in cc
 some_in_hand steps is_kept gone come (At place) h e = (h.1, h.2)
 some_in_hand steps is_kept gone come (This item) h e = (item, refl)
 
-pub this_in_hand : (steps : List Step) (is_kept : Bool) (gone come : List Item) (hand : Holding) → IsHand steps is_kept gone come hand
+pub this_in_hand : (steps : List Step) (is_kept : Bool) (gone come : List Item) (hand : Holding)
+    → IsHand steps is_kept gone come hand
     → is_kept ≡ false → is_all_fetched come gone ≡ false → (item : Item) × (hand ≡ This item)
 this_in_hand steps is_kept gone come Nothing h k e = let all = all-gone gone come h in cc
 this_in_hand steps is_kept gone come (At place) h k e = let so = h.0 in cc
 this_in_hand steps is_kept gone come (This item) h k e = (item, refl)
 
 -- the item in hand is the one that came and has not gone
-pub whole_by : (steps : List Step) (is_kept : Bool) (gone come : List Item) (hand : Holding) (item : Item) → IsHand steps is_kept gone come hand
+pub whole_by : (steps : List Step) (is_kept : Bool) (gone come : List Item) (hand : Holding) (item : Item)
+    → IsHand steps is_kept gone come hand
     → held steps hand ≡ Some item → gone ++ item ∷ [] ≡ come
 whole_by steps is_kept gone come Nothing item h e = cc
-whole_by steps is_kept gone come (At place) item h e = let same : h.1 ≡ item = Some-injective (sym h.2 ∙ e) in rw (← same) h.3
+whole_by steps is_kept gone come (At place) item h e = let same : h.1 ≡ item = Some-injective (sym h.2 ∙ e) in rw
+    (← same) h.3
 whole_by steps is_kept gone come (This other) item h e = let same : other ≡ item = Some-injective e in rw (← same) h.1
 
 -- it is found in the steps that can be seen
-pub held-seen : (seen steps : List Step) (is_kept : Bool) (gone come : List Item) (hand : Holding) → IsHand steps is_kept gone come hand
+pub held-seen : (seen steps : List Step) (is_kept : Bool) (gone come : List Item) (hand : Holding)
+    → IsHand steps is_kept gone come hand
     → (is_kept ≡ true → seen ≡ steps) → held seen hand ≡ held steps hand
 held-seen seen steps is_kept gone come Nothing h same = refl
 held-seen seen steps is_kept gone come (At place) h same = ap (λ (s : List Step). held s (At place)) (same h.0)
 held-seen seen steps is_kept gone come (This item) h same = refl
 
 -- after a step that neither brings an item nor lets one go
-pub hand-kept : (steps : List Step) (step : Step) (is_kept : Bool) (gone come : List Item) (hand : Holding) → IsHand steps is_kept gone come hand
+pub hand-kept : (steps : List Step) (step : Step) (is_kept : Bool) (gone come : List Item) (hand : Holding)
+    → IsHand steps is_kept gone come hand
     → IsHand (steps ++ step ∷ []) is_kept gone come hand
 hand-kept steps step is_kept gone come Nothing h = h
 hand-kept steps step is_kept gone come (At place) h = (h.0, h.1, brought-front steps (step ∷ []) place h.1 h.2, h.3)
 hand-kept steps step is_kept gone come (This item) h = h
 
 -- after a step that brings an item
-pub hand-new : (steps : List Step) (step : Step) (is_kept : Bool) (gone come : List Item) (item : Item) → brought_by step ≡ Some item → gone ++ item ∷ [] ≡ come
+pub hand-new : (steps : List Step) (step : Step) (is_kept : Bool) (gone come : List Item) (item : Item)
+    → brought_by step ≡ Some item → gone ++ item ∷ [] ≡ come
     → IsHand (steps ++ step ∷ []) is_kept gone come (holding_of (length steps) (given_back is_kept step))
 hand-new steps step true gone come item e whole = (refl, item, ap brought_at (slice_get-next steps [] step) ∙ e, whole)
 hand-new steps step false gone come item e whole =

@@ -1,5 +1,7 @@
 -- A lane's steps, with one step more.
-use Rattle.std.proofs.Common.{◌≡◌, ℕ, suc, ◌+◌, ◌≤◌, Bool, true, false, not, if◌then◌else◌, ◌==◌, List, [], ◌∷◌, ◌++◌, Some, None, length, map, slice_get, refl, sym, ap, subst, ◌∙◌, arith, append-nil, length-append}
+use Rattle.std.proofs.Common.{◌≡◌, ℕ, suc, ◌+◌, ◌≤◌, Bool, true, false, not, if◌then◌else◌, ◌==◌, List, [], ◌∷◌, ◌++◌}
+use Rattle.std.proofs.Common.{Some, None, length, map, slice_get, refl, sym, ap, subst, ◌∙◌, arith, append-nil}
+use Rattle.std.proofs.Common.{length-append}
 use Rattle.std.proofs.lemmas.List.{map-append, length-map}
 use Rattle.std.specs.List.{list_any, filter}
 use Rattle.pb_frame.proofs.Lists.{All-append, filter-append}
@@ -42,20 +44,24 @@ none-behind (x ∷ xs) = none-behind xs
 
 -- what the lists say of the item in hand
 pub none_in_hand : (steps : List Step) → put steps ≡ carried steps → in_hand steps ≡ None
-none_in_hand steps held = ap (λ (items : List Item). slice_get (carried steps) (length items)) held ∙ none-behind (carried steps)
+none_in_hand steps held = ap (λ (items : List Item). slice_get (carried steps) (length items)) held
+    ∙ none-behind (carried steps)
 
 pub one_in_hand : (steps : List Step) (item : Item) → put steps ++ item ∷ [] ≡ carried steps → in_hand steps ≡ Some item
-one_in_hand steps item whole = ap (λ (items : List Item). slice_get items (length (put steps))) (sym whole) ∙ slice_get-next (put steps) [] item
+one_in_hand steps item whole = ap (λ (items : List Item). slice_get items (length (put steps))) (sym whole)
+    ∙ slice_get-next (put steps) [] item
 
 -- the hand has the item that the lists tell
-pub hand-item : (steps : List Step) (is_kept : Bool) (hand : Holding) → IsHand steps is_kept (put steps) (carried steps) hand → held steps hand ≡ in_hand steps
+pub hand-item : (steps : List Step) (is_kept : Bool) (hand : Holding)
+    → IsHand steps is_kept (put steps) (carried steps) hand → held steps hand ≡ in_hand steps
 hand-item steps is_kept Nothing h = sym (none_in_hand steps h)
 hand-item steps is_kept (At place) h = h.2 ∙ sym (one_in_hand steps h.1 h.3)
 hand-item steps is_kept (This item) h = sym (one_in_hand steps item h.1)
 
 -- what a Take adds to the lists
 all-take : (steps : List Step) (number : ℕ) (item : Item) (lost : Bool)
-    → all_taken (steps ++ Take number item lost ∷ []) ≡ all_taken steps ++ record { number = number; item = item; lost = lost } ∷ []
+    → all_taken (steps ++ Take number item lost ∷ []) ≡ all_taken steps
+    ++ record { number = number; item = item; lost = lost } ∷ []
 all-take steps number item lost = flat_map-more taken_by steps (Take number item lost)
 
 abbrev items_of : List Taken → List Item
@@ -64,15 +70,19 @@ items_of ts = map (λ (t : Taken). t.item) ts
 abbrev kept_of : List Taken → List Taken
 kept_of ts = filter (λ (t : Taken). not t.lost) ts
 
-taken-take : (steps : List Step) (number : ℕ) (item : Item) (lost : Bool) → taken (steps ++ Take number item lost ∷ []) ≡ taken steps ++ item ∷ []
+taken-take : (steps : List Step) (number : ℕ) (item : Item) (lost : Bool)
+    → taken (steps ++ Take number item lost ∷ []) ≡ taken steps ++ item ∷ []
 taken-take steps number item lost =
-    ap items_of (all-take steps number item lost) ∙ map-append (λ (t : Taken). t.item) (all_taken steps) (record { number = number; item = item; lost = lost } ∷ [])
+    ap items_of (all-take steps number item lost) ∙ map-append (λ (t : Taken). t.item) (all_taken steps)
+    (record { number = number; item = item; lost = lost } ∷ [])
 
-put-take : (steps : List Step) (number : ℕ) (item : Item) (lost : Bool) → put (steps ++ Take number item lost ∷ []) ≡ put steps
+put-take : (steps : List Step) (number : ℕ) (item : Item) (lost : Bool)
+    → put (steps ++ Take number item lost ∷ []) ≡ put steps
 put-take steps number item lost = flat_map-more put_by steps (Take number item lost) ∙ append-nil (put steps)
 
 carried-take : (steps : List Step) (number : ℕ) (item : Item) (lost : Bool)
-    → carried (steps ++ Take number item lost ∷ []) ≡ carried steps ++ items_of (kept_of (record { number = number; item = item; lost = lost } ∷ []))
+    → carried (steps ++ Take number item lost ∷ []) ≡ carried steps
+    ++ items_of (kept_of (record { number = number; item = item; lost = lost } ∷ []))
 carried-take steps number item lost =
     let one : List Taken = record { number = number; item = item; lost = lost } ∷ [] in
     ap (λ (ts : List Taken). items_of (kept_of ts)) (all-take steps number item lost)
@@ -80,24 +90,31 @@ carried-take steps number item lost =
     ∙ map-append (λ (t : Taken). t.item) (kept_of (all_taken steps)) (kept_of one)
 
 -- the lists of a lane that took one more are counted
-counted-take : (losses : List ℕ) (steps : List Step) (count : ℕ) (item : Item) (lost : Bool) → AreCounted losses 0 (all_taken steps) → count ≡ length (taken steps)
+counted-take : (losses : List ℕ) (steps : List Step) (count : ℕ) (item : Item) (lost : Bool)
+    → AreCounted losses 0 (all_taken steps) → count ≡ length (taken steps)
     → lost ≡ list_any (λ k. k == count) losses → AreCounted losses 0 (all_taken (steps ++ Take count item lost ∷ []))
 counted-take losses steps count item lost counted e is_lost =
-    let many : count ≡ 0 + length (all_taken steps) = e ∙ length-map (all_taken steps) (λ (t : Taken). t.item) ∙ omega arith in
+    let many : count ≡ 0 + length (all_taken steps) = e ∙ length-map (all_taken steps) (λ (t : Taken). t.item)
+    ∙ omega arith in
     subst (λ (ts : List Taken). AreCounted losses 0 ts) (sym (all-take steps count item lost))
-    (counted-more losses 0 (all_taken steps) (record { number = count; item = item; lost = lost }) counted many (is_lost ∙ ap (λ (n : ℕ). list_any (λ k. k == n) losses) many))
+    (counted-more losses 0 (all_taken steps) (record { number = count; item = item; lost = lost }) counted many
+    (is_lost ∙ ap (λ (n : ℕ). list_any (λ k. k == n) losses) many))
 
-length-take : (steps : List Step) (count : ℕ) (item : Item) (lost : Bool) → count ≡ length (taken steps) → count + 1 ≡ length (taken (steps ++ Take count item lost ∷ []))
-length-take steps count item lost e = omega (arith, e, ap length (taken-take steps count item lost), length-append (taken steps) (item ∷ []))
+length-take : (steps : List Step) (count : ℕ) (item : Item) (lost : Bool) → count ≡ length (taken steps)
+    → count + 1 ≡ length (taken (steps ++ Take count item lost ∷ []))
+length-take steps count item lost e =
+    omega (arith, e, ap length (taken-take steps count item lost), length-append (taken steps) (item ∷ []))
 
 -- after a Take
-after_take : (losses : List ℕ) (steps : List Step) (is_kept : Bool) (count : ℕ) (item : Item) (lost : Bool) → IsLaneKept losses steps is_kept Nothing count
+after_take : (losses : List ℕ) (steps : List Step) (is_kept : Bool) (count : ℕ) (item : Item) (lost : Bool)
+    → IsLaneKept losses steps is_kept Nothing count
     → lost ≡ list_any (λ k. k == count) losses
     → IsLaneKept losses (steps ++ Take count item lost ∷ []) is_kept
     (if lost then Nothing else holding_of (length steps) (given_back is_kept (Take count item lost))) (count + 1)
 after_take losses steps is_kept count item true kept e =
     let empty : put (steps ++ Take count item true ∷ []) ≡ carried (steps ++ Take count item true ∷ []) =
-    put-take steps count item true ∙ kept.held ∙ sym (carried-take steps count item true ∙ append-nil (carried steps)) in
+    put-take steps count item true ∙ kept.held ∙ sym (carried-take steps count item true ∙ append-nil (carried steps))
+    in
     record {
       lawful = record {
         kinds = All-append IsLaneStep steps (Take count item true ∷ []) kept.lawful.kinds (tt, tt);
@@ -109,38 +126,49 @@ after_take losses steps is_kept count item true kept e =
     }
 after_take losses steps is_kept count item false kept e =
     let full : put (steps ++ Take count item false ∷ []) ++ item ∷ [] ≡ carried (steps ++ Take count item false ∷ []) =
-    ap (λ (items : List Item). items ++ item ∷ []) (put-take steps count item false ∙ kept.held) ∙ sym (carried-take steps count item false) in
+    ap (λ (items : List Item). items ++ item ∷ []) (put-take steps count item false ∙ kept.held)
+    ∙ sym (carried-take steps count item false) in
     record {
       lawful = record {
         kinds = All-append IsLaneStep steps (Take count item false ∷ []) kept.lawful.kinds (tt, tt);
         counted = counted-take losses steps count item false kept.lawful.counted kept.counted e;
         held = (Some item, full);
       };
-      held = hand-new steps (Take count item false) is_kept (put (steps ++ Take count item false ∷ [])) (carried (steps ++ Take count item false ∷ [])) item refl full;
+      held = hand-new steps (Take count item false) is_kept (put (steps ++ Take count item false ∷ []))
+          (carried (steps ++ Take count item false ∷ [])) item refl full;
       counted = length-take steps count item false kept.counted;
     }
 
 -- after the Take of the next item, where the hand was empty
-pub after_coming : (losses : List ℕ) (s : StepsView) (hand : Holding) (count : ℕ) (item : Item) (lost : Bool) → IsLaneKept losses s.steps s.is_kept hand count
+pub after_coming : (losses : List ℕ) (s : StepsView) (hand : Holding) (count : ℕ) (item : Item) (lost : Bool)
+    → IsLaneKept losses s.steps s.is_kept hand count
     → is_hand_empty s.steps ≡ true → lost ≡ list_any (λ k. k == count) losses
     → IsLaneKept losses (s.steps ++ Take count item lost ∷ []) s.is_kept
     (if lost then Nothing else holding_of (length s.steps) (given_back s.is_kept (Take count item lost))) (count + 1)
 after_coming losses s hand count item lost kept empty e =
-    let none : hand ≡ Nothing = nothing_in_hand s.steps s.is_kept (put s.steps) (carried s.steps) hand kept.held empty in
-    after_take losses s.steps s.is_kept count item lost (subst (λ (h : Holding). IsLaneKept losses s.steps s.is_kept h count) none kept) e
+    let none : hand ≡ Nothing = nothing_in_hand s.steps s.is_kept (put s.steps) (carried s.steps) hand kept.held empty
+    in
+    after_take losses s.steps s.is_kept count item lost
+    (subst (λ (h : Holding). IsLaneKept losses s.steps s.is_kept h count) none kept) e
 
 -- the item that is in hand is the next to be put
-next_put : (steps : List Step) (is_kept : Bool) (hand : Holding) (item : Item) → IsHand steps is_kept (put steps) (carried steps) hand → in_hand steps ≡ Some item
+next_put : (steps : List Step) (is_kept : Bool) (hand : Holding) (item : Item)
+    → IsHand steps is_kept (put steps) (carried steps) hand → in_hand steps ≡ Some item
     → put steps ++ item ∷ [] ≡ carried steps
-next_put steps is_kept hand item h e = whole_by steps is_kept (put steps) (carried steps) hand item h (hand-item steps is_kept hand h ∙ e)
+next_put steps is_kept hand item h e = whole_by steps is_kept (put steps) (carried steps) hand item h
+    (hand-item steps is_kept hand h ∙ e)
 
 -- after a Put
-pub after_put : (losses : List ℕ) (steps : List Step) (is_kept : Bool) (hand : Holding) (count : ℕ) (item : Item) → IsLaneKept losses steps is_kept hand count
+pub after_put : (losses : List ℕ) (steps : List Step) (is_kept : Bool) (hand : Holding) (count : ℕ) (item : Item)
+    → IsLaneKept losses steps is_kept hand count
     → in_hand steps ≡ Some item → IsLaneKept losses (steps ++ Put item ∷ []) is_kept Nothing count
 after_put losses steps is_kept hand count item kept e =
-    let all_so : all_taken (steps ++ Put item ∷ []) ≡ all_taken steps = flat_map-more taken_by steps (Put item) ∙ append-nil (all_taken steps) in
+    let all_so : all_taken (steps ++ Put item ∷ []) ≡ all_taken steps = flat_map-more taken_by steps (Put item)
+    ∙ append-nil (all_taken steps) in
     let put_so : put (steps ++ Put item ∷ []) ≡ put steps ++ item ∷ [] = flat_map-more put_by steps (Put item) in
-    let empty : put (steps ++ Put item ∷ []) ≡ carried (steps ++ Put item ∷ []) = put_so ∙ next_put steps is_kept hand item kept.held e ∙ ap (λ (ts : List Taken). items_of (kept_of ts)) (sym all_so) in
+    let empty : put (steps ++ Put item ∷ []) ≡ carried (steps ++ Put item ∷ []) = put_so
+    ∙ next_put steps is_kept hand item kept.held e ∙ ap (λ (ts : List Taken). items_of (kept_of ts)) (sym all_so)
+    in
     record {
       lawful = record {
         kinds = All-append IsLaneStep steps (Put item ∷ []) kept.lawful.kinds (tt, tt);

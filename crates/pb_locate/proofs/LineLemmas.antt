@@ -1,5 +1,6 @@
 -- The lines of a file one by one.
-use Rattle.std.proofs.Common.{◌≡◌, ℕ, suc, ◌+◌, ◌<◌, ◌≤◌, Bool, true, false, List, [], ◌∷◌, length, get_or, take, drop, Some, None, refl, sym, ap, ◌∙◌, arith, add-one, drop-cons}
+use Rattle.std.proofs.Common.{◌≡◌, ℕ, suc, ◌+◌, ◌<◌, ◌≤◌, Bool, true, false, List, [], ◌∷◌, length, get_or, take}
+use Rattle.std.proofs.Common.{drop, Some, None, refl, sym, ap, ◌∙◌, arith, add-one, drop-cons}
 use Rattle.std.specs.Prelude.{Option, ◌==◌, ◌||◌, not, nat_lt, cond}
 use Rattle.std.specs.List.{onto_first, position_or_len}
 use Rattle.std.specs.Option.{option_map}
@@ -45,7 +46,8 @@ unfolding lines_parted
 last_line text e = parted_lines text ∙ ap (λ o. lines_parted text o) (sym e)
 
 -- no text begins at an octet
-pub text_more : (file : List ℕ) (i : ℕ) → i < length file → begins_text (drop i file) ≡ false → has_text (drop i file) ≡ has_text (drop (i + 1) file)
+pub text_more : (file : List ℕ) (i : ℕ) → i < length file → begins_text (drop i file) ≡ false
+    → has_text (drop i file) ≡ has_text (drop (i + 1) file)
 text_more file i l h =
     let e : drop i file ≡ get_or file i 0 ∷ drop (i + 1) file = rw (add-one, drop-cons file i 0) refl in
     ap has_text e ∙ ap (λ b. b || has_text (drop (i + 1) file)) (ap begins_text (sym e) ∙ h)

@@ -1,5 +1,6 @@
 -- A line behind its beginning.
-use Rattle.std.proofs.Common.{◌≡◌, inl, inr, ℕ, suc, arith, Bool, true, false, List, [], ◌∷◌, ◌++◌, length, Some, None, refl, sym, ap, ◌∙◌}
+use Rattle.std.proofs.Common.{◌≡◌, inl, inr, ℕ, suc, arith, Bool, true, false, List, [], ◌∷◌, ◌++◌, length, Some}
+use Rattle.std.proofs.Common.{None, refl, sym, ap, ◌∙◌}
 use Rattle.std.specs.Prelude.{◌==◌, ◌&&◌, if◌then◌else◌}
 use Rattle.std.specs.Option.{option_and_then}
 use Rattle.std.proofs.lemmas.Bool.Decides.{eqb_tells}
@@ -33,14 +34,18 @@ ends-behind (x ∷ a) (y ∷ t) = step (y == x) (ends-behind a t)
     step false rest = refl
 
 -- the same of three texts
-whole : (a b d t : List ℕ) → same t (a ++ b ++ d) ≡ ends (option_and_then (behind d) (option_and_then (behind b) (behind a t)))
-whole a b d t = ends-behind (a ++ b ++ d) t ∙ ap ends (behind-append (a ++ b) d t ∙ ap (λ o. option_and_then (behind d) o) (behind-append a b t))
+whole : (a b d t : List ℕ)
+    → same t (a ++ b ++ d) ≡ ends (option_and_then (behind d) (option_and_then (behind b) (behind a t)))
+whole a b d t = ends-behind (a ++ b ++ d) t
+    ∙ ap ends (behind-append (a ++ b) d t ∙ ap (λ o. option_and_then (behind d) o) (behind-append a b t))
 
 pub not_first : (a b d t : List ℕ) → None ≡ behind a t → false ≡ same t (a ++ b ++ d)
-not_first a b d t e = sym (whole a b d t ∙ ap (λ o. ends (option_and_then (behind d) (option_and_then (behind b) o))) (sym e))
+not_first a b d t e = sym (whole a b d t ∙ ap (λ o. ends (option_and_then (behind d) (option_and_then (behind b) o)))
+    (sym e))
 
 -- what is left behind the first two
-second : (a b d t r : List ℕ) → Some r ≡ behind a t → same t (a ++ b ++ d) ≡ ends (option_and_then (behind d) (behind b r))
+second : (a b d t r : List ℕ) → Some r ≡ behind a t
+    → same t (a ++ b ++ d) ≡ ends (option_and_then (behind d) (behind b r))
 second a b d t r e = whole a b d t ∙ ap (λ o. ends (option_and_then (behind d) (option_and_then (behind b) o))) (sym e)
 
 pub not_second : (a b d t r : List ℕ) → Some r ≡ behind a t → None ≡ behind b r → false ≡ same t (a ++ b ++ d)
@@ -49,8 +54,10 @@ not_second a b d t r e f = sym (second a b d t r e ∙ ap (λ o. ends (option_an
 third : (a b d t r s : List ℕ) → Some r ≡ behind a t → Some s ≡ behind b r → same t (a ++ b ++ d) ≡ ends (behind d s)
 third a b d t r s e f = second a b d t r e ∙ ap (λ o. ends (option_and_then (behind d) o)) (sym f)
 
-pub not_third : (a b d t r s : List ℕ) → Some r ≡ behind a t → Some s ≡ behind b r → None ≡ behind d s → false ≡ same t (a ++ b ++ d)
+pub not_third : (a b d t r s : List ℕ) → Some r ≡ behind a t → Some s ≡ behind b r → None ≡ behind d s
+    → false ≡ same t (a ++ b ++ d)
 not_third a b d t r s e f g = sym (third a b d t r s e f ∙ ap ends (sym g))
 
-pub all_three : (a b d t r s u : List ℕ) → Some r ≡ behind a t → Some s ≡ behind b r → Some u ≡ behind d s → (length u == 0) ≡ same t (a ++ b ++ d)
+pub all_three : (a b d t r s u : List ℕ) → Some r ≡ behind a t → Some s ≡ behind b r → Some u ≡ behind d s
+    → (length u == 0) ≡ same t (a ++ b ++ d)
 all_three a b d t r s u e f g = sym (third a b d t r s e f ∙ ap ends (sym g))

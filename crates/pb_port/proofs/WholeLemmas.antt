@@ -1,5 +1,7 @@
 -- A stream has one reading: its parts are told by their lengths.
-use Rattle.std.proofs.Common.{◌≡◌, ℕ, zero, suc, ◌+◌, ◌<◌, ◌≤◌, false, nat_lt, List, [], ◌∷◌, ◌++◌, length, take, drop, refl, sym, ap, ◌∙◌, subst, append_assoc, arith, length-append, Option, Some, None, ne_eqb, eqb}
+use Rattle.std.proofs.Common.{◌≡◌, ℕ, zero, suc, ◌+◌, ◌<◌, ◌≤◌, false, nat_lt, List, [], ◌∷◌, ◌++◌, length, take}
+use Rattle.std.proofs.Common.{drop, refl, sym, ap, ◌∙◌, subst, append_assoc, arith, length-append, Option, Some, None}
+use Rattle.std.proofs.Common.{ne_eqb, eqb}
 use Rattle.std.specs.Prelude.{⊤}
 use Rattle.std.proofs.lemmas.Bool.{le-ltb}
 use Rattle.std.proofs.Math.Seq.{take-append_seam, drop-append_seam}
@@ -9,7 +11,8 @@ use Rattle.pb_port.specs.declared.place.Order.TheVariants.{Big}
 use Rattle.pb_port.specs.declared.place.Place.{Place}
 use Rattle.pb_port.specs.declared.place.Place.TheVariants.{Header, Records, Lengths}
 use Rattle.pb_port.specs.Ports.{Frames}
-use Rattle.pb_port.specs.Streams.{captured, original, order_of, fault_at, Passes, AreSkipped, IsHeader, IsRecord, IsSkipped, IsFrame, IsFramed}
+use Rattle.pb_port.specs.Streams.{captured, original, order_of, fault_at, Passes, AreSkipped, IsHeader, IsRecord}
+use Rattle.pb_port.specs.Streams.{IsSkipped, IsFrame, IsFramed}
 use Rattle.pb_port.specs.Whole.{Ends, IsStream}
 use Rattle.pb_port.proofs.StreamLemmas.{number-front, header_fault-front}
 
@@ -19,7 +22,8 @@ append_parts a b x y same e = (
   sym (drop-append_seam a x) ∙ ap (λ z. drop (length a) z) e ∙ ap (λ n. drop n (b ++ y)) same ∙ drop-append_seam b y,
 )
 
-record_same : (order : Order) (a b x y : List ℕ) → IsRecord order a → IsRecord order b → a ++ x ≡ b ++ y → (a ≡ b) × (x ≡ y)
+record_same : (order : Order) (a b x y : List ℕ) → IsRecord order a → IsRecord order b → a ++ x ≡ b ++ y
+    → (a ≡ b) × (x ≡ y)
 record_same order a b x y is is' e =
     let here : captured order (a ++ x) ≡ captured order a = number-front order 4 8 a x (omega arith) in
     let there : captured order (b ++ y) ≡ captured order b = number-front order 4 8 b y (omega arith) in
@@ -74,7 +78,8 @@ frame_long (Records order) a f is = omega (arith, is.whole)
 frame_long Lengths a f is = omega arith
 
 -- where the input ends or has a fault, no whole part stands
-ends_short : (p : Place) (rest a x : List ℕ) (fault : Option ℕ) → Ends p rest fault → rest ≡ a ++ x → 0 < length a → fault_at p (a ++ x) ≡ None → ⊥
+ends_short : (p : Place) (rest a x : List ℕ) (fault : Option ℕ) → Ends p rest fault → rest ≡ a ++ x → 0 < length a
+    → fault_at p (a ++ x) ≡ None → ⊥
 ends_short p rest a x fault (here, none) e long sound =
     let is_none : fault ≡ None = sym here ∙ ap (λ z. fault_at p z) e ∙ sound in
     let empty : a ++ x ≡ [] = sym e ∙ none is_none in
@@ -90,7 +95,8 @@ ends_stop : (p : Place) (rest : List ℕ) (fault : Option ℕ) → Ends p rest f
 ends_stop Header rest fault ends = λ order header more is e.
     ends_short Header rest header more fault ends e (omega arith) (header_sound order header more is)
 ends_stop (Records order) rest fault ends = λ first more is e.
-    ends_short (Records order) rest first more fault ends e (omega (arith, is.whole)) (record_sound order first more is.whole)
+    ends_short (Records order) rest first more fault ends e (omega (arith, is.whole))
+    (record_sound order first more is.whole)
 ends_stop Lengths rest fault ends = tt
 
 frame_stops : (p : Place) (part rest f : List ℕ) → IsFrame p part f → Stops p (part ++ rest)
@@ -108,18 +114,23 @@ skips_same : (order : Order) (m n : ℕ) (xs ys rest rest' : List ℕ) → AreSk
 skips_same order zero zero xs ys rest rest' a b stop stop' e =
     (refl, sym (ap (λ z. z ++ rest) a) ∙ e ∙ ap (λ z. z ++ rest') b)
 skips_same order zero (suc n) xs ys rest rest' a (first, more, is, left, parts) stop stop' e =
-    absurd (stop first (more ++ rest') is (sym (ap (λ z. z ++ rest) a) ∙ e ∙ ap (λ z. z ++ rest') parts ∙ append_assoc first more rest'))
+    absurd (stop first (more ++ rest') is (sym (ap (λ z. z ++ rest) a) ∙ e ∙ ap (λ z. z ++ rest') parts ∙ append_assoc
+    first more rest'))
 skips_same order (suc m) zero xs ys rest rest' (first, more, is, left, parts) b stop stop' e =
-    absurd (stop' first (more ++ rest) is (sym (ap (λ z. z ++ rest') b) ∙ sym e ∙ ap (λ z. z ++ rest) parts ∙ append_assoc first more rest))
-skips_same order (suc m) (suc n) xs ys rest rest' (first, more, is, left, parts) (first', more', is', left', parts') stop stop' e =
+    absurd (stop' first (more ++ rest) is (sym (ap (λ z. z ++ rest') b) ∙ sym e ∙ ap (λ z. z ++ rest) parts
+    ∙ append_assoc first more rest))
+skips_same order (suc m) (suc n) xs ys rest rest' (first, more, is, left, parts) (first', more', is', left', parts')
+    stop stop' e =
     let whole : first ++ (more ++ rest) ≡ first' ++ (more' ++ rest') =
-    sym (ap (λ z. z ++ rest) parts ∙ append_assoc first more rest) ∙ e ∙ ap (λ z. z ++ rest') parts' ∙ append_assoc first' more' rest' in
+    sym (ap (λ z. z ++ rest) parts ∙ append_assoc first more rest) ∙ e ∙ ap (λ z. z ++ rest') parts'
+    ∙ append_assoc first' more' rest' in
     let both = record_same order first first' (more ++ rest) (more' ++ rest') is.whole is'.whole whole in
     let next = skips_same order m n more more' rest rest' left left' stop stop' both.1 in
     (ap suc next.0, next.1)
 
 -- two headers at one front, and the records behind them
-headers_same : (o o' : Order) (m n : ℕ) (header header' xs ys rest rest' : List ℕ) → IsHeader o header → IsHeader o' header'
+headers_same : (o o' : Order) (m n : ℕ) (header header' xs ys rest rest' : List ℕ) → IsHeader o header
+    → IsHeader o' header'
     → AreSkipped o m xs → AreSkipped o' n ys → Stops (Records o) rest → Stops (Records o') rest'
     → header ++ (xs ++ rest) ≡ header' ++ (ys ++ rest') → (Records o ≡ Records o') × (m ≡ n) × (rest ≡ rest')
 headers_same o o' m n header header' xs ys rest rest' is is' a b stop stop' e =
@@ -131,18 +142,25 @@ headers_same o o' m n header header' xs ys rest rest' is is' a b stop stop' e =
     let next = skips_same o m n xs ys rest rest' a (subst P (sym same) b) stop (subst Q (sym same) stop') both.1 in
     (ap (λ z. Records z) same, next.0, next.1)
 
-passes_same : (p q q' : Place) (m n : ℕ) (xs ys rest rest' : List ℕ) → Passes p xs q m → Passes p ys q' n → Stops q rest → Stops q' rest'
+passes_same : (p q q' : Place) (m n : ℕ) (xs ys rest rest' : List ℕ) → Passes p xs q m → Passes p ys q' n
+    → Stops q rest → Stops q' rest'
     → xs ++ rest ≡ ys ++ rest' → (q ≡ q') × (m ≡ n) × (rest ≡ rest')
 passes_same Header Header Header m n xs ys rest rest' (a, zero_m) (b, zero_n) stop stop' e =
     (refl, zero_m ∙ sym zero_n, sym (ap (λ z. z ++ rest) a) ∙ e ∙ ap (λ z. z ++ rest') b)
-passes_same Header Header (Records o) m n xs ys rest rest' (a, zero_m) (header, records, is, skipped, parts) stop stop' e =
-    absurd (stop o header (records ++ rest') is (sym (ap (λ z. z ++ rest) a) ∙ e ∙ ap (λ z. z ++ rest') parts ∙ append_assoc header records rest'))
+passes_same Header Header (Records o) m n xs ys rest rest' (a, zero_m) (header, records, is, skipped, parts) stop
+    stop' e =
+    absurd (stop o header (records ++ rest') is (sym (ap (λ z. z ++ rest) a) ∙ e ∙ ap (λ z. z ++ rest') parts
+    ∙ append_assoc header records rest'))
 passes_same Header Header Lengths m n xs ys rest rest' a b stop stop' e = absurd b
-passes_same Header (Records o) Header m n xs ys rest rest' (header, records, is, skipped, parts) (b, zero_n) stop stop' e =
-    absurd (stop' o header (records ++ rest) is (sym (ap (λ z. z ++ rest') b) ∙ sym e ∙ ap (λ z. z ++ rest) parts ∙ append_assoc header records rest))
-passes_same Header (Records o) (Records o') m n xs ys rest rest' (header, records, is, skipped, parts) (header', records', is', skipped', parts') stop stop' e =
+passes_same Header (Records o) Header m n xs ys rest rest' (header, records, is, skipped, parts) (b, zero_n) stop
+    stop' e =
+    absurd (stop' o header (records ++ rest) is (sym (ap (λ z. z ++ rest') b) ∙ sym e ∙ ap (λ z. z ++ rest) parts
+    ∙ append_assoc header records rest))
+passes_same Header (Records o) (Records o') m n xs ys rest rest' (header, records, is, skipped, parts)
+    (header', records', is', skipped', parts') stop stop' e =
     headers_same o o' m n header header' records records' rest rest' is is' skipped skipped' stop stop'
-    (sym (ap (λ z. z ++ rest) parts ∙ append_assoc header records rest) ∙ e ∙ ap (λ z. z ++ rest') parts' ∙ append_assoc header' records' rest')
+    (sym (ap (λ z. z ++ rest) parts ∙ append_assoc header records rest) ∙ e ∙ ap (λ z. z ++ rest') parts'
+    ∙ append_assoc header' records' rest')
 passes_same Header (Records o) Lengths m n xs ys rest rest' a b stop stop' e = absurd b
 passes_same Header Lengths q' m n xs ys rest rest' a b stop stop' e = absurd a
 passes_same (Records o) (Records o1) (Records o2) m n xs ys rest rest' (one, a) (two, b) stop stop' e =
@@ -162,25 +180,34 @@ passes_same Lengths Header q' m n xs ys rest rest' a b stop stop' e = absurd a
 passes_same Lengths (Records o) q' m n xs ys rest rest' a b stop stop' e = absurd a
 
 -- no frame stands where the other reading ends
-end_or_frame : (p q q' : Place) (m n : ℕ) (xs ys rest part rest' f : List ℕ) (fault : Option ℕ) → Passes p xs q m → Passes p ys q' n
+end_or_frame : (p q q' : Place) (m n : ℕ) (xs ys rest part rest' f : List ℕ) (fault : Option ℕ) → Passes p xs q m
+    → Passes p ys q' n
     → Ends q rest fault → IsFrame q' part f → xs ++ rest ≡ ys ++ (part ++ rest') → ⊥
 end_or_frame p q q' m n xs ys rest part rest' f fault pass pass' ends is e =
-    let same = passes_same p q q' m n xs ys rest (part ++ rest') pass pass' (ends_stop q rest fault ends) (frame_stops q' part rest' f is) e in
+    let same = passes_same p q q' m n xs ys rest (part ++ rest') pass pass' (ends_stop q rest fault ends)
+    (frame_stops q' part rest' f is) e in
     let P : Place → Type 0 = λ z. Ends z rest fault in
-    ends_short q' rest part rest' fault (subst P same.0 ends) same.2 (frame_long q' part f is) (frame_sound q' part rest' f is)
+    ends_short q' rest part rest' fault (subst P same.0 ends) same.2 (frame_long q' part f is)
+    (frame_sound q' part rest' f is)
 
 pub one_reading : (p : Place) (octets : List ℕ) (fs gs : Frames) (m n : ℕ) (fault fault' : Option ℕ)
     → IsStream p octets fs m fault → IsStream p octets gs n fault' → (fs ≡ gs) × (m ≡ n) × (fault ≡ fault')
 one_reading p octets [] [] m n fault fault' (q, front, rest, pass, e, ends) (q', front', rest', pass', e', ends') =
-    let same = passes_same p q q' m n front front' rest rest' pass pass' (ends_stop q rest fault ends) (ends_stop q' rest' fault' ends') (sym e ∙ e') in
-    let here : fault_at q rest ≡ fault_at q' rest' = ap (λ z. fault_at z rest) same.0 ∙ ap (λ z. fault_at q' z) same.2 in
+    let same = passes_same p q q' m n front front' rest rest' pass pass' (ends_stop q rest fault ends)
+    (ends_stop q' rest' fault' ends') (sym e ∙ e') in
+    let here : fault_at q rest ≡ fault_at q' rest' = ap (λ z. fault_at z rest) same.0
+    ∙ ap (λ z. fault_at q' z) same.2 in
     (refl, same.1, sym ends.0 ∙ here ∙ ends'.0)
-one_reading p octets [] (g ∷ gs) m n fault fault' (q, front, rest, pass, e, ends) (q', front', part', rest', k', more', pass', is', e', left', sum') =
+one_reading p octets [] (g ∷ gs) m n fault fault' (q, front, rest, pass, e, ends)
+    (q', front', part', rest', k', more', pass', is', e', left', sum') =
     absurd (end_or_frame p q q' m k' front front' rest part' rest' g fault pass pass' ends is' (sym e ∙ e'))
-one_reading p octets (f ∷ fs) [] m n fault fault' (q, front, part, rest, k, more, pass, is, e, left, sum) (q', front', rest', pass', e', ends') =
+one_reading p octets (f ∷ fs) [] m n fault fault' (q, front, part, rest, k, more, pass, is, e, left, sum)
+    (q', front', rest', pass', e', ends') =
     absurd (end_or_frame p q' q n k front' front rest' part rest f fault' pass' pass ends' is (sym e' ∙ e))
-one_reading p octets (f ∷ fs) (g ∷ gs) m n fault fault' (q, front, part, rest, k, more, pass, is, e, left, sum) (q', front', part', rest', k', more', pass', is', e', left', sum') =
-    let same = passes_same p q q' k k' front front' (part ++ rest) (part' ++ rest') pass pass' (frame_stops q part rest f is) (frame_stops q' part' rest' g is') (sym e ∙ e') in
+one_reading p octets (f ∷ fs) (g ∷ gs) m n fault fault' (q, front, part, rest, k, more, pass, is, e, left, sum)
+    (q', front', part', rest', k', more', pass', is', e', left', sum') =
+    let same = passes_same p q q' k k' front front' (part ++ rest) (part' ++ rest') pass pass'
+    (frame_stops q part rest f is) (frame_stops q' part' rest' g is') (sym e ∙ e') in
     let P : Place → Type 0 = λ z. IsFrame z part f in
     let both = frame_same q' part part' f g rest rest' (subst P same.0 is) is' same.2 in
     let Q : Place → Type 0 = λ z. IsStream z rest fs more fault in

@@ -1,5 +1,6 @@
 -- What is written is read as the same frames.
-use Rattle.std.proofs.Common.{◌≡◌, ℕ, ◌+◌, ◌<◌, true, false, List, [], ◌∷◌, ◌++◌, length, refl, arith, length-append, None}
+use Rattle.std.proofs.Common.{◌≡◌, ℕ, ◌+◌, ◌<◌, true, false, List, [], ◌∷◌, ◌++◌, length, refl, arith, length-append}
+use Rattle.std.proofs.Common.{None}
 use Rattle.byteorder.specs.Endian.{big_number, big_bytes, little_bytes}
 use Rattle.byteorder.specs.Numbers.{little_number-reads_back, big_number-reads_back}
 use Rattle.pb_port.specs.declared.place.Order.TheVariants.{Little}
@@ -14,18 +15,23 @@ use Rattle.pb_port.specs.Written.{place_of, spelled_all, frames_of, AreShort}
 header_written : IsHeader Little file_header
 header_written = record { long = refl; magic = refl; sound = refl }
 
-record_written : (micros : ℕ) (f : List ℕ) → length f < 65536 → IsFrameRecord Little (record_head micros (length f) ++ f) f
+record_written : (micros : ℕ) (f : List ℕ) → length f < 65536
+    → IsFrameRecord Little (record_head micros (length f) ++ f) f
 record_written micros f short =
     let kept : captured Little (record_head micros (length f) ++ f) ≡ length f =
     little_number-reads_back 4 (length f) (little_bytes 4 (length f) ++ f) (omega arith) in
-    let had : original Little (record_head micros (length f) ++ f) ≡ length f = little_number-reads_back 4 (length f) f (omega arith) in
-    let long : length (record_head micros (length f) ++ f) ≡ 16 + length f = omega (arith, length-append (record_head micros (length f)) f) in
+    let had : original Little (record_head micros (length f) ++ f) ≡ length f = little_number-reads_back 4 (length f)
+    f (omega arith) in
+    let long : length (record_head micros (length f) ++ f) ≡ 16 + length f =
+    omega (arith, length-append (record_head micros (length f)) f) in
     record { whole = record { limit = omega arith; long = omega arith }; full = omega arith; content = refl }
 
 frame_written : (f : List ℕ) → length f < 65536 → IsFramed (big_bytes 2 (length f) ++ f) f
 frame_written f short =
-    let number : big_number 2 (big_bytes 2 (length f) ++ f) ≡ length f = big_number-reads_back 2 (length f) f (omega arith) in
-    let long : length (big_bytes 2 (length f) ++ f) ≡ 2 + length f = omega (arith, length-append (big_bytes 2 (length f)) f) in
+    let number : big_number 2 (big_bytes 2 (length f) ++ f) ≡ length f = big_number-reads_back 2 (length f) f
+    (omega arith) in
+    let long : length (big_bytes 2 (length f) ++ f) ≡ 2 + length f =
+    omega (arith, length-append (big_bytes 2 (length f)) f) in
     record { long = omega arith; content = refl }
 
 written_behind : (framing : Framing) (frames : List (ℕ × List ℕ)) → AreShort frames
@@ -59,8 +65,10 @@ written_behind Socket ((micros, f) ∷ more) (short, shorts) = (
   refl,
 )
 
-pub written_read : (framing : Framing) (micros : ℕ) (f : List ℕ) (more : List (ℕ × List ℕ)) → AreShort ((micros, f) ∷ more)
-    → IsStream (place_of framing true) (spelled_all framing true ((micros, f) ∷ more)) (frames_of ((micros, f) ∷ more)) 0 None
+pub written_read : (framing : Framing) (micros : ℕ) (f : List ℕ) (more : List (ℕ × List ℕ))
+    → AreShort ((micros, f) ∷ more)
+    → IsStream (place_of framing true) (spelled_all framing true ((micros, f) ∷ more))
+    (frames_of ((micros, f) ∷ more)) 0 None
 written_read Capture micros f more (short, shorts) = (
   Records Little,
   file_header,

@@ -1,5 +1,6 @@
 -- The services for which a shape is no forest.
-use Rattle.std.proofs.Common.{◌≡◌, ℕ, zero, suc, true, false, Option, is_some, None, ◌+◌, ◌<◌, inl, inr, List, [], ◌∷◌, Some, length, drop, get_or, unwrap_or, refl, sym, ap, subst, ◌∙◌, arith, add-one}
+use Rattle.std.proofs.Common.{◌≡◌, ℕ, zero, suc, true, false, Option, is_some, None, ◌+◌, ◌<◌, inl, inr, List, []}
+use Rattle.std.proofs.Common.{◌∷◌, Some, length, drop, get_or, unwrap_or, refl, sym, ap, subst, ◌∙◌, arith, add-one}
 use Rattle.std.proofs.lemmas.Option.{slice_get-get_or}
 use Rattle.std.specs.Option.{option_map}
 use Rattle.pb_forest.specs.Searching.{AnswersForest}
@@ -13,7 +14,8 @@ use Rattle.pb_lan.specs.declared.shape.Rooted.{Rooted}
 use Rattle.pb_print.specs.ForestTexts.{AreLooping}
 
 -- the services from one on
-pub from_one : {X : Type 0} (xs : List X) (i : ℕ) (x : X) → i < length xs → x ≡ get_or xs i x → drop i xs ≡ x ∷ drop (i + 1) xs
+pub from_one : {X : Type 0} (xs : List X) (i : ℕ) (x : X) → i < length xs → x ≡ get_or xs i x
+    → drop i xs ≡ x ∷ drop (i + 1) xs
 from_one [] i x h e = absurd (omega (arith, h))
 from_one (y ∷ ys) zero x h e = ap (λ z. z ∷ ys) (sym e)
 from_one (y ∷ ys) (suc i) x h e =
@@ -21,27 +23,35 @@ from_one (y ∷ ys) (suc i) x h e =
     from_one ys i x (omega (arith, h)) e ∙ ap (λ n. x ∷ drop n (y ∷ ys)) next
 
 -- the VID of a service, by its number
-pub vid_there : (plan : Plan) (i : ℕ) (service : ServicePlan) → i < length plan.services → service ≡ get_or plan.services i service → vid_numbered plan (i + 1) ≡ service.vid
+pub vid_there : (plan : Plan) (i : ℕ) (service : ServicePlan) → i < length plan.services
+    → service ≡ get_or plan.services i service → vid_numbered plan (i + 1) ≡ service.vid
 vid_there plan i service h e =
     ap (λ n. unwrap_or (option_map (λ s. s.vid) (numbered plan.services n)) 0) {x = i + 1} {y = suc i} (add-one i)
-    ∙ ap (λ o. unwrap_or (option_map (λ s. s.vid) o) 0) (slice_get-get_or plan.services i service h ∙ ap (λ z. Some z) (sym e))
+    ∙ ap (λ o. unwrap_or (option_map (λ s. s.vid) o) 0) (slice_get-get_or plan.services i service h ∙ ap (λ z. Some z)
+    (sym e))
 
 -- a service with a ring, and one without
-pub with_ring : (plan : Plan) (shape : Shape) (services : List ServicePlan) (i : ℕ) (service : ServicePlan) (rest : List (List ℕ)) → drop i services ≡ service ∷ drop (i + 1) services
-    → (IsForest plan shape service.vid → ⊥) → AreLooping plan shape (drop (i + 1) services) rest → AreLooping plan shape (drop i services) (service.name ∷ rest)
+pub with_ring : (plan : Plan) (shape : Shape) (services : List ServicePlan) (i : ℕ) (service : ServicePlan)
+    (rest : List (List ℕ)) → drop i services ≡ service ∷ drop (i + 1) services
+    → (IsForest plan shape service.vid → ⊥) → AreLooping plan shape (drop (i + 1) services) rest
+    → AreLooping plan shape (drop i services) (service.name ∷ rest)
 with_ring plan shape services i service rest e none are =
     subst (λ z. AreLooping plan shape z (service.name ∷ rest)) (sym e) (rest, are, inr (none, refl))
 
-pub without_ring : (plan : Plan) (shape : Shape) (services : List ServicePlan) (i : ℕ) (service : ServicePlan) (rest : List (List ℕ)) → drop i services ≡ service ∷ drop (i + 1) services
-    → IsForest plan shape service.vid → AreLooping plan shape (drop (i + 1) services) rest → AreLooping plan shape (drop i services) rest
+pub without_ring : (plan : Plan) (shape : Shape) (services : List ServicePlan) (i : ℕ) (service : ServicePlan)
+    (rest : List (List ℕ)) → drop i services ≡ service ∷ drop (i + 1) services
+    → IsForest plan shape service.vid → AreLooping plan shape (drop (i + 1) services) rest
+    → AreLooping plan shape (drop i services) rest
 without_ring plan shape services i service rest e forest are =
     subst (λ z. AreLooping plan shape z rest) (sym e) (rest, are, inl (forest, refl))
 
 -- what the search for a forest answers
-pub ring_told : (plan : Plan) (shape : Shape) (vid : ℕ) (o : Option Rooted) → AnswersForest plan shape vid o → is_some o ≡ false → IsForest plan shape vid → ⊥
+pub ring_told : (plan : Plan) (shape : Shape) (vid : ℕ) (o : Option Rooted) → AnswersForest plan shape vid o
+    → is_some o ≡ false → IsForest plan shape vid → ⊥
 ring_told plan shape vid None none e = none
 ring_told plan shape vid (Some rooted) shows e = cc
 
-pub forest_told : (plan : Plan) (shape : Shape) (vid : ℕ) (o : Option Rooted) → AnswersForest plan shape vid o → is_some o ≡ true → IsForest plan shape vid
+pub forest_told : (plan : Plan) (shape : Shape) (vid : ℕ) (o : Option Rooted) → AnswersForest plan shape vid o
+    → is_some o ≡ true → IsForest plan shape vid
 forest_told plan shape vid None none e = cc
 forest_told plan shape vid (Some rooted) shows e = (rooted, shows)

@@ -1,5 +1,6 @@
 -- What one of many things shows, and what changes where it does.
-use Rattle.std.proofs.Common.{◌≡◌, ◌==◌, ◌<◌, ℕ, zero, suc, List, [], ◌∷◌, ◌++◌, slice_index_or, slice_set, if◌then◌else◌, length, false, map, append-nil, refl, sym, arith, ap, ◌∙◌}
+use Rattle.std.proofs.Common.{◌≡◌, ◌==◌, ◌<◌, ℕ, zero, suc, List, [], ◌∷◌, ◌++◌, slice_index_or, slice_set}
+use Rattle.std.proofs.Common.{if◌then◌else◌, length, false, map, append-nil, refl, sym, arith, ap, ◌∙◌}
 use Rattle.std.proofs.lemmas.Bool.Decides.{nat_tests}
 use Rattle.pb_ring.specs.Rings.{shown_at}
 
@@ -13,7 +14,9 @@ suc_suc : (q p : ℕ) → (suc q == suc p) ≡ (q == p)
 suc_suc q p = grind (arith, nat_tests)
 
 -- one thing shows more than before: its place shows that, and every other what it did
-pub grows_at : {X A : Type 0} → (f : X → List A) (xs : List X) (q : ℕ) (x y : X) (ys : List A) (p : ℕ) → q < length xs → x ≡ slice_index_or xs q x → f y ≡ f x ++ ys → shown_at f (slice_set xs q y) p ≡ shown_at f xs p ++ (if q == p then ys else [])
+pub grows_at : {X A : Type 0} → (f : X → List A) (xs : List X) (q : ℕ) (x y : X) (ys : List A) (p : ℕ) → q < length xs
+    → x ≡ slice_index_or xs q x → f y ≡ f x ++ ys → shown_at f (slice_set xs q y) p ≡ shown_at f xs p
+    ++ (if q == p then ys else [])
 grows_at f [] q x y ys p b at is = absurd (grind (arith))
 grows_at f (z ∷ zs) zero x y ys zero b at is = is ∙ ap (λ v. f v ++ ys) at
 grows_at f (z ∷ zs) zero x y ys (suc p) b at is = rw (zero_suc p) (sym (append-nil _))
@@ -21,13 +24,15 @@ grows_at f (z ∷ zs) (suc q) x y ys zero b at is = rw (suc_zero q) (sym (append
 grows_at f (z ∷ zs) (suc q) x y ys (suc p) b at is = rw (suc_suc q p) (grows_at f zs q x y ys p (grind (arith)) at is)
 
 -- what one thing shows, by its place
-pub at_place : {X Y : Type 0} → (f : X → Y) (xs : List X) (q : ℕ) (x : X) (d : Y) → q < length xs → x ≡ slice_index_or xs q x → slice_index_or (map f xs) q d ≡ f x
+pub at_place : {X Y : Type 0} → (f : X → Y) (xs : List X) (q : ℕ) (x : X) (d : Y) → q < length xs
+    → x ≡ slice_index_or xs q x → slice_index_or (map f xs) q d ≡ f x
 at_place f [] q x d b at = absurd (grind (arith))
 at_place f (z ∷ zs) zero x d b at = ap f (sym at)
 at_place f (z ∷ zs) (suc q) x d b at = at_place f zs q x d (grind (arith)) at
 
 -- the same where the thing was put there
-pub put_there : {X Y : Type 0} → (f : X → Y) (xs : List X) (q : ℕ) (y : X) (d : Y) → q < length xs → slice_index_or (map f (slice_set xs q y)) q d ≡ f y
+pub put_there : {X Y : Type 0} → (f : X → Y) (xs : List X) (q : ℕ) (y : X) (d : Y) → q < length xs
+    → slice_index_or (map f (slice_set xs q y)) q d ≡ f y
 put_there f [] q y d b = absurd (grind (arith))
 put_there f (z ∷ zs) zero y d b = refl
 put_there f (z ∷ zs) (suc q) y d b = put_there f zs q y d (grind (arith))

@@ -1,5 +1,6 @@
 -- What a call tells names each change once, and an old Root port is Discarding.
-use Rattle.std.proofs.Common.{◌≡◌, ℕ, ◌+◌, ◌≤◌, List, [], ◌∷◌, ◌++◌, Some, None, refl, sym, ap, ap₂, ◌∙◌, Bool, true, false, ◌==◌, if◌then◌else◌, map, arith}
+use Rattle.std.proofs.Common.{◌≡◌, ℕ, ◌+◌, ◌≤◌, List, [], ◌∷◌, ◌++◌, Some, None, refl, sym, ap, ap₂, ◌∙◌, Bool, true}
+use Rattle.std.proofs.Common.{false, ◌==◌, if◌then◌else◌, map, arith}
 use Rattle.std.specs.declared.option.Option.{Option}
 use Rattle.std.specs.List.{filter}
 use Rattle.std.specs.Option.{option_map}
@@ -24,7 +25,8 @@ use Rattle.pb_rstp.proofs.MovingLaws.{moving_settled, first-none, port_of-cons}
 
 -- Each list rises.
 
-rising-states : (n m : ℕ) → m ≤ n → (ps : List Port) (ms : List Moving) → AreMoving ps ms → AreRising n (map (λ p. p.number) ps)
+rising-states : (n m : ℕ) → m ≤ n → (ps : List Port) (ms : List Moving) → AreMoving ps ms
+    → AreRising n (map (λ p. p.number) ps)
     → AreRising m (map (λ s. s.0) (state_changes ms))
 rising-states n m below [] [] h r = (tt, tt)
 rising-states n m below [] (x ∷ xs) h r = absurd h
@@ -34,12 +36,15 @@ rising-states n m below (p ∷ ps) (x ∷ xs) h r =
     (rising-states p.number m (omega (arith, r.0.0)) ps xs h.1 r.1)
     (rising-states p.number x.now.number (omega (arith, h.0.1.number)) ps xs h.1 r.1)
   where
-    by_test : (t : Bool) → AreRising m (map (λ s. s.0) (state_changes xs)) → AreRising x.now.number (map (λ s. s.0) (state_changes xs))
+    by_test : (t : Bool) → AreRising m (map (λ s. s.0) (state_changes xs))
+        → AreRising x.now.number (map (λ s. s.0) (state_changes xs))
         → AreRising m (map (λ s. s.0) ((if t then [] else ((x.now.number, x.now.state) ∷ [])) ++ state_changes xs))
     by_test true skip take = skip
-    by_test false skip take = rises-above m x.now.number (omega (arith, r.0.0, h.0.1.number)) (map (λ s. s.0) (state_changes xs)) take
+    by_test false skip take = rises-above m x.now.number (omega (arith, r.0.0, h.0.1.number))
+        (map (λ s. s.0) (state_changes xs)) take
 
-rising-filter : (test : Moving → Bool) (n m : ℕ) → m ≤ n → (ps : List Port) (ms : List Moving) → AreMoving ps ms → AreRising n (map (λ p. p.number) ps)
+rising-filter : (test : Moving → Bool) (n m : ℕ) → m ≤ n → (ps : List Port) (ms : List Moving) → AreMoving ps ms
+    → AreRising n (map (λ p. p.number) ps)
     → AreRising m (map (λ x. x.now.number) (filter test ms))
 rising-filter test n m below [] [] h r = (tt, tt)
 rising-filter test n m below [] (x ∷ xs) h r = absurd h
@@ -49,16 +54,19 @@ rising-filter test n m below (p ∷ ps) (x ∷ xs) h r =
     (rising-filter test p.number m (omega (arith, r.0.0)) ps xs h.1 r.1)
     (rising-filter test p.number x.now.number (omega (arith, h.0.1.number)) ps xs h.1 r.1)
   where
-    by_test : (t : Bool) → AreRising m (map (λ y. y.now.number) (filter test xs)) → AreRising x.now.number (map (λ y. y.now.number) (filter test xs))
+    by_test : (t : Bool) → AreRising m (map (λ y. y.now.number) (filter test xs))
+        → AreRising x.now.number (map (λ y. y.now.number) (filter test xs))
         → AreRising m (map (λ y. y.now.number) (if t then x ∷ filter test xs else filter test xs))
-    by_test true skip take = rises-above m x.now.number (omega (arith, r.0.0, h.0.1.number)) (map (λ y. y.now.number) (filter test xs)) take
+    by_test true skip take = rises-above m x.now.number (omega (arith, r.0.0, h.0.1.number))
+        (map (λ y. y.now.number) (filter test xs)) take
     by_test false skip take = skip
 
 -- the ports that send
 abbrev sent_numbers : ℕ → List Port → List Port → List ℕ
 sent_numbers id all ps = map (λ (s : ℕ × Bpdu). s.0) (map (λ (p : Port). (p.number, message_of id all p)) ps)
 
-rising-sent : (id : ℕ) (all : List Port) (n m : ℕ) → m ≤ n → (ps : List Port) (ms : List Moving) → AreMoving ps ms → AreRising n (map (λ p. p.number) ps)
+rising-sent : (id : ℕ) (all : List Port) (n m : ℕ) → m ≤ n → (ps : List Port) (ms : List Moving) → AreMoving ps ms
+    → AreRising n (map (λ p. p.number) ps)
     → AreRising m (sent_numbers id all (filter is_sending (nows ms)))
 rising-sent id all n m below [] [] h r = (tt, tt)
 rising-sent id all n m below [] (x ∷ xs) h r = absurd h
@@ -70,15 +78,18 @@ rising-sent id all n m below (p ∷ ps) (x ∷ xs) h r =
   where
     by_test : (t : Bool) → AreRising m (sent_numbers id all (filter is_sending (nows xs)))
         → AreRising x.now.number (sent_numbers id all (filter is_sending (nows xs)))
-        → AreRising m (sent_numbers id all (if t then x.now ∷ filter is_sending (nows xs) else filter is_sending (nows xs)))
+        → AreRising m (sent_numbers id all (if t then x.now ∷ filter is_sending (nows xs) else filter is_sending
+        (nows xs)))
     by_test true skip take =
-        rises-above m x.now.number (omega (arith, r.0.0, h.0.1.number)) (sent_numbers id all (filter is_sending (nows xs))) take
+        rises-above m x.now.number (omega (arith, r.0.0, h.0.1.number))
+        (sent_numbers id all (filter is_sending (nows xs))) take
     by_test false skip take = skip
 
 -- What is told of a port.
 
 told-cons : (k n : ℕ) (a b : PortState) (rest : List (ℕ × PortState)) (s t : Bool) → is_same a b ≡ s → (n == k) ≡ t
-    → told_state (from_to n a b ++ rest) k ≡ (if s then told_state rest k else (if t then Some b else told_state rest k))
+    → told_state (from_to n a b ++ rest) k
+    ≡ (if s then told_state rest k else (if t then Some b else told_state rest k))
 told-cons k n a b rest true t es et = ap (λ u. told_state ((if u then [] else ((n, b) ∷ [])) ++ rest) k) es
 told-cons k n a b rest false true es et =
     ap (λ u. told_state ((if u then [] else ((n, b) ∷ [])) ++ rest) k) es
@@ -87,7 +98,8 @@ told-cons k n a b rest false false es et =
     ap (λ u. told_state ((if u then [] else ((n, b) ∷ [])) ++ rest) k) es
     ∙ ap (λ u. option_map (λ (c : ℕ × PortState). c.1) (if u then Some (n, b) else first (λ c. c.0 == k) rest)) et
 
-state_of-cons : (k : ℕ) (p : Port) (ps : List Port) (t : Bool) → (p.number == k) ≡ t → state_of (p ∷ ps) k ≡ (if t then Some p.state else state_of ps k)
+state_of-cons : (k : ℕ) (p : Port) (ps : List Port) (t : Bool) → (p.number == k) ≡ t
+    → state_of (p ∷ ps) k ≡ (if t then Some p.state else state_of ps k)
 state_of-cons k p ps true e = ap (λ o. option_map (λ (q : Port). q.state) o) (port_of-cons k p ps true e)
 state_of-cons k p ps false e = ap (λ o. option_map (λ (q : Port). q.state) o) (port_of-cons k p ps false e)
 
@@ -140,34 +152,44 @@ state_sent : (k : ℕ) (ms : List Moving) → state_of (nows (with_sent ms)) k �
 state_sent k [] = refl
 state_sent k (x ∷ xs) = by_test (is_sending x.now) refl (state_sent k xs)
   where
-    number : (b : Bool) → (if b then record x.now { due = false; sent = x.now.sent + 1 } else x.now).number ≡ x.now.number
+    number : (b : Bool) → (if b then record x.now { due = false; sent = x.now.sent + 1 } else x.now).number
+        ≡ x.now.number
     number true = refl
     number false = refl
 
     by_test : (b : Bool) → is_sending x.now ≡ b → state_of (nows (with_sent xs)) k ≡ state_of (nows xs) k
         → state_of (nows (with_sent (x ∷ xs))) k ≡ state_of (nows (x ∷ xs)) k
     by_test true e rest =
-        ap (λ b. state_of ((if b then record x.now { due = false; sent = x.now.sent + 1 } else x.now) ∷ nows (with_sent xs)) k) e
+        ap (λ b. state_of ((if b then record x.now { due = false; sent = x.now.sent + 1 } else x.now) ∷ nows
+        (with_sent xs)) k) e
         ∙ by_number (x.now.number == k) refl
       where
         by_number : (t : Bool) → (x.now.number == k) ≡ t
-            → state_of (record x.now { due = false; sent = x.now.sent + 1 } ∷ nows (with_sent xs)) k ≡ state_of (x.now ∷ nows xs) k
+            → state_of (record x.now { due = false; sent = x.now.sent + 1 } ∷ nows (with_sent xs)) k ≡ state_of
+            (x.now ∷ nows xs) k
         by_number true et =
-            state_of-cons k (record x.now { due = false; sent = x.now.sent + 1 }) (nows (with_sent xs)) true et ∙ sym (state_of-cons k x.now (nows xs) true et)
+            state_of-cons k (record x.now { due = false; sent = x.now.sent + 1 }) (nows (with_sent xs)) true et
+            ∙ sym (state_of-cons k x.now (nows xs) true et)
         by_number false et =
-            state_of-cons k (record x.now { due = false; sent = x.now.sent + 1 }) (nows (with_sent xs)) false et ∙ rest ∙ sym (state_of-cons k x.now (nows xs) false et)
+            state_of-cons k (record x.now { due = false; sent = x.now.sent + 1 }) (nows (with_sent xs)) false et
+            ∙ rest ∙ sym (state_of-cons k x.now (nows xs) false et)
     by_test false e rest =
-        ap (λ b. state_of ((if b then record x.now { due = false; sent = x.now.sent + 1 } else x.now) ∷ nows (with_sent xs)) k) e
+        ap (λ b. state_of ((if b then record x.now { due = false; sent = x.now.sent + 1 } else x.now) ∷ nows
+        (with_sent xs)) k) e
         ∙ by_number (x.now.number == k) refl
       where
         by_number : (t : Bool) → (x.now.number == k) ≡ t
             → state_of (x.now ∷ nows (with_sent xs)) k ≡ state_of (x.now ∷ nows xs) k
-        by_number true et = state_of-cons k x.now (nows (with_sent xs)) true et ∙ sym (state_of-cons k x.now (nows xs) true et)
-        by_number false et = state_of-cons k x.now (nows (with_sent xs)) false et ∙ rest ∙ sym (state_of-cons k x.now (nows xs) false et)
+        by_number true et = state_of-cons k x.now (nows (with_sent xs)) true et
+            ∙ sym (state_of-cons k x.now (nows xs) true et)
+        by_number false et = state_of-cons k x.now (nows (with_sent xs)) false et ∙ rest
+            ∙ sym (state_of-cons k x.now (nows xs) false et)
 
-pub settle_named : (id hello_left hello_now : ℕ) (heard : Option Heard) (ps : List Port) (ms : List Moving) → AreMoving ps ms
+pub settle_named : (id hello_left hello_now : ℕ) (heard : Option Heard) (ps : List Port) (ms : List Moving)
+    → AreMoving ps ms
     → AreRising 0 (map (λ p. p.number) ps)
-    → NamesChanges (record { id = id; ports = ps; hello_left = hello_left }) (settle id hello_now heard ms).machine (settle id hello_now heard ms).change
+    → NamesChanges (record { id = id; ports = ps; hello_left = hello_left }) (settle id hello_now heard ms).machine
+    (settle id hello_now heard ms).change
 settle_named id hello_left hello_now heard ps ms h r =
     let all = settled id heard ms in
     let moving = moving_settled id heard ps ms h in
@@ -180,34 +202,41 @@ settle_named id hello_left hello_now heard ps ms h r =
 
 -- Changes that are told, one after another, lead from the states before to the states after.
 
-changed-none : (k : ℕ) (s : PortState) (changes : List (ℕ × PortState)) → told_state changes k ≡ None → changed k s changes ≡ s
+changed-none : (k : ℕ) (s : PortState) (changes : List (ℕ × PortState)) → told_state changes k ≡ None
+    → changed k s changes ≡ s
 changed-none k s [] none = refl
 changed-none k s (c ∷ cs) none = by_test (c.0 == k) refl (changed-none k s cs)
   where
     by_test : (t : Bool) → (c.0 == k) ≡ t → (told_state cs k ≡ None → changed k s cs ≡ s) → changed k s (c ∷ cs) ≡ s
     by_test true t rest =
         let some : Some c.1 ≡ None =
-        ap (λ b. option_map (λ (d : ℕ × PortState). d.1) (if b then Some c else first (λ d. d.0 == k) cs)) (sym t) ∙ none in cc
+        ap (λ b. option_map (λ (d : ℕ × PortState). d.1) (if b then Some c else first (λ d. d.0 == k) cs)) (sym t)
+        ∙ none in cc
     by_test false t rest =
         ap (λ b. changed k (if b then c.1 else s) cs) t
-        ∙ rest (ap (λ b. option_map (λ (d : ℕ × PortState). d.1) (if b then Some c else first (λ d. d.0 == k) cs)) (sym t) ∙ none)
+        ∙ rest (ap (λ b. option_map (λ (d : ℕ × PortState). d.1) (if b then Some c else first (λ d. d.0 == k) cs))
+        (sym t) ∙ none)
 
 changed-some : (k n : ℕ) (s new : PortState) (changes : List (ℕ × PortState)) → AreRising n (map (λ c. c.0) changes)
     → told_state changes k ≡ Some new → changed k s changes ≡ new
 changed-some k n s new [] r some = cc
 changed-some k n s new (c ∷ cs) r some = by_test (c.0 == k) refl (changed-some k c.0 s new cs r.1)
   where
-    by_test : (t : Bool) → (c.0 == k) ≡ t → (told_state cs k ≡ Some new → changed k s cs ≡ new) → changed k s (c ∷ cs) ≡ new
+    by_test : (t : Bool) → (c.0 == k) ≡ t → (told_state cs k ≡ Some new → changed k s cs ≡ new)
+        → changed k s (c ∷ cs) ≡ new
     by_test true t rest =
         let same : Some c.1 ≡ Some new =
-        ap (λ b. option_map (λ (d : ℕ × PortState). d.1) (if b then Some c else first (λ d. d.0 == k) cs)) (sym t) ∙ some in
+        ap (λ b. option_map (λ (d : ℕ × PortState). d.1) (if b then Some c else first (λ d. d.0 == k) cs)) (sym t)
+        ∙ some in
         let number = eqb-true c.0 k t in
         let none : told_state cs k ≡ None =
-        ap (λ (o : Option (ℕ × PortState)). option_map (λ d. d.1) o) (first-none (λ (d : ℕ × PortState). d.0) k c.0 (omega (arith, number)) cs r.1) in
+        ap (λ (o : Option (ℕ × PortState)). option_map (λ d. d.1) o)
+        (first-none (λ (d : ℕ × PortState). d.0) k c.0 (omega (arith, number)) cs r.1) in
         ap (λ b. changed k (if b then c.1 else s) cs) t ∙ changed-none k c.1 cs none ∙ Some-injective same
     by_test false t rest =
         ap (λ b. changed k (if b then c.1 else s) cs) t
-        ∙ rest (ap (λ b. option_map (λ (d : ℕ × PortState). d.1) (if b then Some c else first (λ d. d.0 == k) cs)) (sym t) ∙ some)
+        ∙ rest (ap (λ b. option_map (λ (d : ℕ × PortState). d.1) (if b then Some c else first (λ d. d.0 == k) cs))
+        (sym t) ∙ some)
 
 same_is : (a b : PortState) → is_same a b ≡ true → a ≡ b
 same_is Discarding Discarding e = refl
@@ -226,8 +255,11 @@ changes_lead_on before after change names number was is stood stands = by_test (
     told_is : told_state change.states number ≡ new_state (Some was.state) (Some is.state)
     told_is =
         names.states number
-        ∙ ap₂ new_state (ap (λ (o : Option Port). option_map (λ p. p.state) o) stood) (ap (λ (o : Option Port). option_map (λ p. p.state) o) stands)
+        ∙ ap₂ new_state (ap (λ (o : Option Port). option_map (λ p. p.state) o) stood)
+        (ap (λ (o : Option Port). option_map (λ p. p.state) o) stands)
 
     by_test : (t : Bool) → is_same was.state is.state ≡ t → changed number was.state change.states ≡ is.state
-    by_test true t = changed-none number was.state change.states (told_is ∙ new-some was.state is.state true t) ∙ same_is was.state is.state t
-    by_test false t = changed-some number 0 was.state is.state change.states names.states_rise (told_is ∙ new-some was.state is.state false t)
+    by_test true t = changed-none number was.state change.states (told_is ∙ new-some was.state is.state true t)
+        ∙ same_is was.state is.state t
+    by_test false t = changed-some number 0 was.state is.state change.states names.states_rise
+        (told_is ∙ new-some was.state is.state false t)

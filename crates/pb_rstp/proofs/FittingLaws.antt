@@ -1,5 +1,6 @@
 -- What a bridge of a plan changes are its own ports to other bridges.
-use Rattle.std.proofs.Common.{◌≡◌, ℕ, ◌≤◌, List, [], ◌∷◌, ◌++◌, Some, None, Ok, Err, refl, sym, ap, subst, Bool, true, false, if◌then◌else◌, map, arith, lit≤}
+use Rattle.std.proofs.Common.{◌≡◌, ℕ, ◌≤◌, List, [], ◌∷◌, ◌++◌, Some, None, Ok, Err, refl, sym, ap, subst, Bool, true}
+use Rattle.std.proofs.Common.{false, if◌then◌else◌, map, arith, lit≤}
 use Rattle.std.specs.declared.option.Option.{Option}
 use Rattle.std.specs.declared.result.Result.{Result}
 use Rattle.std.specs.List.{flat_map, filter, AllByRecursion}
@@ -14,7 +15,8 @@ use Rattle.pb_lan.specs.declared.plan.Plan.{Plan}
 use Rattle.pb_lan.specs.declared.shape.PortState.{PortState}
 use Rattle.pb_lan.specs.declared.step.Step.{Step}
 use Rattle.pb_rstp.specs.Changes.{AreSamePorts, AreMoving}
-use Rattle.pb_rstp.specs.Machine.{settle, moved_by, ticking, is_hello_time, hello_after, heard_at, hearing, setting, hear_by, hear_at, admin_at, admin_by, is_same_setting, unchanged}
+use Rattle.pb_rstp.specs.Machine.{settle, moved_by, ticking, is_hello_time, hello_after, heard_at, hearing, setting}
+use Rattle.pb_rstp.specs.Machine.{hear_by, hear_at, admin_at, admin_by, is_same_setting, unchanged}
 use Rattle.pb_rstp.specs.Messages.{message_of}
 use Rattle.pb_rstp.specs.Ports.{Machine, fresh, delay_of, port_of}
 use Rattle.pb_rstp.specs.Profile.{after, hear_read, causes_of, rstp_port, rstp_ports, machine_at_start, machine_of}
@@ -37,7 +39,8 @@ pub record IsOf (P : ℕ → Type 0) (change : Change) : Type 0 where
   pub send : AllByRecursion (λ (s : ℕ × Bpdu). P s.0) change.send
   pub rises : AreRising 0 (map (λ s. s.0) change.send)
 
-states-of : (P : ℕ → Type 0) (ps : List Port) (ms : List Moving) → AreMoving ps ms → AllByRecursion (λ (p : Port). P p.number) ps
+states-of : (P : ℕ → Type 0) (ps : List Port) (ms : List Moving) → AreMoving ps ms
+    → AllByRecursion (λ (p : Port). P p.number) ps
     → AllByRecursion (λ (s : ℕ × PortState). P s.0) (state_changes ms)
 states-of P [] [] h a = tt
 states-of P [] (x ∷ xs) h a = absurd h
@@ -45,24 +48,32 @@ states-of P (p ∷ ps) [] h a = absurd h
 states-of P (p ∷ ps) (x ∷ xs) h a = by_test (is_same x.was.state x.now.state) (states-of P ps xs h.1 a.1)
   where
     by_test : (t : Bool) → AllByRecursion (λ (s : ℕ × PortState). P s.0) (state_changes xs)
-        → AllByRecursion (λ (s : ℕ × PortState). P s.0) ((if t then [] else ((x.now.number, x.now.state) ∷ [])) ++ state_changes xs)
+        → AllByRecursion (λ (s : ℕ × PortState). P s.0)
+        ((if t then [] else ((x.now.number, x.now.state) ∷ [])) ++ state_changes xs)
     by_test true rest = rest
     by_test false rest = (subst P (sym h.0.1.number) a.0, rest)
 
-sent-of : (P : ℕ → Type 0) (id : ℕ) (all : List Port) (ps : List Port) (ms : List Moving) → AreMoving ps ms → AllByRecursion (λ (p : Port). P p.number) ps
-    → AllByRecursion (λ (s : ℕ × Bpdu). P s.0) (map (λ (p : Port). (p.number, message_of id all p)) (filter is_sending (nows ms)))
+sent-of : (P : ℕ → Type 0) (id : ℕ) (all : List Port) (ps : List Port) (ms : List Moving) → AreMoving ps ms
+    → AllByRecursion (λ (p : Port). P p.number) ps
+    → AllByRecursion (λ (s : ℕ × Bpdu). P s.0)
+    (map (λ (p : Port). (p.number, message_of id all p)) (filter is_sending (nows ms)))
 sent-of P id all [] [] h a = tt
 sent-of P id all [] (x ∷ xs) h a = absurd h
 sent-of P id all (p ∷ ps) [] h a = absurd h
 sent-of P id all (p ∷ ps) (x ∷ xs) h a = by_test (is_sending x.now) (sent-of P id all ps xs h.1 a.1)
   where
-    by_test : (t : Bool) → AllByRecursion (λ (s : ℕ × Bpdu). P s.0) (map (λ (p : Port). (p.number, message_of id all p)) (filter is_sending (nows xs)))
-        → AllByRecursion (λ (s : ℕ × Bpdu). P s.0) (map (λ (p : Port). (p.number, message_of id all p)) (if t then x.now ∷ filter is_sending (nows xs) else filter is_sending (nows xs)))
+    by_test : (t : Bool) → AllByRecursion (λ (s : ℕ × Bpdu). P s.0)
+        (map (λ (p : Port). (p.number, message_of id all p)) (filter is_sending (nows xs)))
+        → AllByRecursion (λ (s : ℕ × Bpdu). P s.0)
+        (map (λ (p : Port). (p.number, message_of id all p))
+        (if t then x.now ∷ filter is_sending (nows xs) else filter is_sending (nows xs)))
     by_test true rest = (subst P (sym h.0.1.number) a.0, rest)
     by_test false rest = rest
 
-settle_of : (P : ℕ → Type 0) (id hello_left : ℕ) (heard : Option Heard) (ps : List Port) (ms : List Moving) → AreMoving ps ms
-    → AllByRecursion (λ (p : Port). P p.number) ps → AreRising 0 (map (λ p. p.number) ps) → IsOf P (settle id hello_left heard ms).change
+settle_of : (P : ℕ → Type 0) (id hello_left : ℕ) (heard : Option Heard) (ps : List Port) (ms : List Moving)
+    → AreMoving ps ms
+    → AllByRecursion (λ (p : Port). P p.number) ps → AreRising 0 (map (λ p. p.number) ps)
+    → IsOf P (settle id hello_left heard ms).change
 settle_of P id hello_left heard ps ms h a r =
     let all = settled id heard ms in
     let moving = moving_settled id heard ps ms h in
@@ -76,18 +87,22 @@ unchanged_of : (P : ℕ → Type 0) (machine : Machine) → IsOf P (unchanged ma
 unchanged_of P machine = record { states = tt; send = tt; rises = (tt, tt) }
 
 -- so it is of every cause
-after_of : (P : ℕ → Type 0) (machine : Machine) (cause : Cause) → AllByRecursion (λ (p : Port). P p.number) machine.ports → AreRising 0 (map (λ p. p.number) machine.ports)
+after_of : (P : ℕ → Type 0) (machine : Machine) (cause : Cause)
+    → AllByRecursion (λ (p : Port). P p.number) machine.ports → AreRising 0 (map (λ p. p.number) machine.ports)
     → IsOf P (after machine cause).change
 after_of P machine Ticks a r =
-    settle_of P machine.id (hello_after machine) None machine.ports (moved_by (ticking (delay_of machine.ports) (is_hello_time machine)) machine.ports)
-    (moving_by (ticking (delay_of machine.ports) (is_hello_time machine)) (same_ticking (delay_of machine.ports) (is_hello_time machine)) machine.ports) a r
+    settle_of P machine.id (hello_after machine) None machine.ports
+    (moved_by (ticking (delay_of machine.ports) (is_hello_time machine)) machine.ports)
+    (moving_by (ticking (delay_of machine.ports) (is_hello_time machine))
+    (same_ticking (delay_of machine.ports) (is_hello_time machine)) machine.ports) a r
 after_of P machine (Hears port wire) a r = by_read (reading wire)
   where
     by_up : (m : Bpdu) (p : Port) (b : Bool) → IsOf P (if b then hear_at machine m p else unchanged machine).change
     by_up m p true =
         settle_of P machine.id machine.hello_left (Some (heard_at m p)) machine.ports
         (moved_by (hearing (root_vector machine.id machine.ports) p.number m) machine.ports)
-        (moving_by (hearing (root_vector machine.id machine.ports) p.number m) (same_hearing (root_vector machine.id machine.ports) p.number m) machine.ports) a r
+        (moving_by (hearing (root_vector machine.id machine.ports) p.number m)
+        (same_hearing (root_vector machine.id machine.ports) p.number m) machine.ports) a r
     by_up m p false = unchanged_of P machine
 
     by_port : (m : Bpdu) (o : Option Port) → IsOf P (hear_by machine m o).change
@@ -109,7 +124,8 @@ after_of P machine (Sets port up) a r = by_port (port_of machine.ports port)
     by_port None = unchanged_of P machine
     by_port (Some p) = by_same (is_same_setting p.up up)
 
-same-of : (P : ℕ → Type 0) (ps qs : List Port) → AreSamePorts ps qs → AllByRecursion (λ (p : Port). P p.number) ps → AllByRecursion (λ (p : Port). P p.number) qs
+same-of : (P : ℕ → Type 0) (ps qs : List Port) → AreSamePorts ps qs → AllByRecursion (λ (p : Port). P p.number) ps
+    → AllByRecursion (λ (p : Port). P p.number) qs
 same-of P [] [] h a = tt
 same-of P [] (q ∷ qs) h a = absurd h
 same-of P (p ∷ ps) [] h a = absurd h
@@ -124,22 +140,65 @@ ports-of : (at : ℕ → LocalPort) (ns : List ℕ) → AllByRecursion (λ n. (1
 ports-of at [] h = tt
 ports-of at (k ∷ ks) h = by_port (at k) refl (ports-of at ks h.1)
   where
-    by_port : (o : LocalPort) → at k ≡ o → AllByRecursion (λ (p : Port). GoesToBridge at p.number) (map fresh (flat_map (λ i. rstp_port i (at i)) ks))
-        → AllByRecursion (λ (p : Port). GoesToBridge at p.number) (map fresh (rstp_port k o ++ flat_map (λ i. rstp_port i (at i)) ks))
+    by_port : (o : LocalPort) → at k ≡ o
+        → AllByRecursion (λ (p : Port). GoesToBridge at p.number) (map fresh (flat_map (λ i. rstp_port i (at i)) ks))
+        → AllByRecursion (λ (p : Port). GoesToBridge at p.number)
+        (map fresh (rstp_port k o ++ flat_map (λ i. rstp_port i (at i)) ks))
     by_port (Customer c) e rest = rest
     by_port (Provider end) e rest = ((ap is_provider e, h.0.0, h.0.1), rest)
     by_port Unused e rest = rest
 
 local_few : AllByRecursion (λ n. (1 ≤ n) × (n ≤ 16)) local_ports
-local_few = ((lit≤ tt, lit≤ tt), ((lit≤ tt, lit≤ tt), ((lit≤ tt, lit≤ tt), ((lit≤ tt, lit≤ tt), ((lit≤ tt, lit≤ tt), ((lit≤ tt, lit≤ tt), ((lit≤ tt, lit≤ tt), ((lit≤ tt, lit≤ tt), ((lit≤ tt, lit≤ tt), ((lit≤ tt, lit≤ tt), ((lit≤ tt, lit≤ tt), ((lit≤ tt, lit≤ tt), ((lit≤ tt, lit≤ tt), ((lit≤ tt, lit≤ tt), ((lit≤ tt, lit≤ tt), ((lit≤ tt, lit≤ tt), tt))))))))))))))))
+local_few = (
+  (lit≤ tt, lit≤ tt),
+  (
+    (lit≤ tt, lit≤ tt),
+    (
+      (lit≤ tt, lit≤ tt),
+      (
+        (lit≤ tt, lit≤ tt),
+        (
+          (lit≤ tt, lit≤ tt),
+          (
+            (lit≤ tt, lit≤ tt),
+            (
+              (lit≤ tt, lit≤ tt),
+              (
+                (lit≤ tt, lit≤ tt),
+                (
+                  (lit≤ tt, lit≤ tt),
+                  (
+                    (lit≤ tt, lit≤ tt),
+                    (
+                      (lit≤ tt, lit≤ tt),
+                      (
+                        (lit≤ tt, lit≤ tt),
+                        (
+                          (lit≤ tt, lit≤ tt),
+                          ((lit≤ tt, lit≤ tt), ((lit≤ tt, lit≤ tt), ((lit≤ tt, lit≤ tt), tt))),
+                        ),
+                      ),
+                    ),
+                  ),
+                ),
+              ),
+            ),
+          ),
+        ),
+      ),
+    ),
+  ),
+)
 
 -- what a bridge of a plan changes are its ports to other bridges
-pub plan_changes : (plan : Plan) (bridge : ℕ) (steps : List Step) (cause : Cause) → IsOf (GoesToBridge (port_at plan bridge)) (after (machine_of plan bridge steps) cause).change
+pub plan_changes : (plan : Plan) (bridge : ℕ) (steps : List Step) (cause : Cause)
+    → IsOf (GoesToBridge (port_at plan bridge)) (after (machine_of plan bridge steps) cause).change
 plan_changes plan bridge steps cause =
     let same = same_after (machine_at_start plan bridge) (flat_map causes_of steps) in
     let rises = rising-ports (λ port. port_at plan bridge port) 0 0 (omega arith) local_ports local_rise in
     after_of (GoesToBridge (port_at plan bridge)) (machine_of plan bridge steps) cause
-    (same-of (GoesToBridge (port_at plan bridge)) (machine_at_start plan bridge).ports (machine_of plan bridge steps).ports same (ports-of (port_at plan bridge) local_ports local_few))
+    (same-of (GoesToBridge (port_at plan bridge)) (machine_at_start plan bridge).ports
+    (machine_of plan bridge steps).ports same (ports-of (port_at plan bridge) local_ports local_few))
     (rising-same 0 0 refl (machine_at_start plan bridge).ports (machine_of plan bridge steps).ports same rises)
 
 numbers-fresh : (ps : List RstpPort) → map (λ p. p.number) (map fresh ps) ≡ map (λ p. p.port) ps
@@ -149,4 +208,5 @@ numbers-fresh (p ∷ ps) = ap (λ ns. p.port ∷ ns) (numbers-fresh ps)
 -- the ports of a plan's bridge rise
 pub plan_ports_rise : (plan : Plan) (bridge : ℕ) → AreAbove 0 (rstp_ports plan bridge)
 plan_ports_rise plan bridge =
-    subst (AreRising 0) (numbers-fresh (rstp_ports plan bridge)) (rising-ports (λ port. port_at plan bridge port) 0 0 (omega arith) local_ports local_rise)
+    subst (AreRising 0) (numbers-fresh (rstp_ports plan bridge))
+    (rising-ports (λ port. port_at plan bridge port) 0 0 (omega arith) local_ports local_rise)

@@ -1,5 +1,6 @@
 -- Each call leaves the machine in line.
-use Rattle.std.proofs.Common.{◌≡◌, ℕ, zero, suc, ◌≤◌, ◌+◌, List, [], ◌∷◌, Some, None, Ok, Err, refl, sym, ap, ◌∙◌, subst, Bool, true, false, ◌==◌, ◌&&◌, not, if◌then◌else◌, map, arith}
+use Rattle.std.proofs.Common.{◌≡◌, ℕ, zero, suc, ◌≤◌, ◌+◌, List, [], ◌∷◌, Some, None, Ok, Err, refl, sym, ap, ◌∙◌}
+use Rattle.std.proofs.Common.{subst, Bool, true, false, ◌==◌, ◌&&◌, not, if◌then◌else◌, map, arith}
 use Rattle.std.specs.declared.option.Option.{Option}
 use Rattle.std.specs.declared.result.Result.{Result}
 use Rattle.std.specs.List.{flat_map, list_any, AllByRecursion}
@@ -10,13 +11,18 @@ use Rattle.pb_bpdu.specs.declared.fault.BpduFault.{BpduFault}
 use Rattle.pb_lan.specs.Rules.{Cause}
 use Rattle.pb_lan.specs.Rules.Cause.{Hears, Ticks, Sets}
 use Rattle.pb_rstp.specs.Vectors.{own_vector, port_id}
-use Rattle.pb_rstp.specs.Ports.{Machine, start, fresh, is_designated, is_root_or_designated, is_discarding, delay_of, port_of}
+use Rattle.pb_rstp.specs.Ports.{Machine, start, fresh, is_designated, is_root_or_designated, is_discarding, delay_of}
+use Rattle.pb_rstp.specs.Ports.{port_of}
 use Rattle.pb_rstp.specs.declared.port.Port.{Port}
 use Rattle.pb_rstp.specs.Roles.{offers, best, root_vector}
-use Rattle.pb_rstp.specs.Settling.{nows, each, with_roles, with_agreements, with_infos, held_back, state_by, with_state, synced, agreeing, with_agreement_at, with_proposal, is_proposed, is_root_agreeing, is_agreeing, with_changing, is_telling, is_sending, after_sending, with_sent, in_line, settled}
+use Rattle.pb_rstp.specs.Settling.{nows, each, with_roles, with_agreements, with_infos, held_back, state_by}
+use Rattle.pb_rstp.specs.Settling.{with_state, synced, agreeing, with_agreement_at, with_proposal, is_proposed}
+use Rattle.pb_rstp.specs.Settling.{is_root_agreeing, is_agreeing, with_changing, is_telling, is_sending}
+use Rattle.pb_rstp.specs.Settling.{after_sending, with_sent, in_line, settled}
 use Rattle.pb_rstp.specs.declared.moving.Moving.{Moving}
 use Rattle.pb_rstp.specs.declared.moving.Heard.{Heard}
-use Rattle.pb_rstp.specs.Machine.{settle, moved_by, ticking, is_hello_time, hello_after, heard_at, hearing, setting, hear_by, hear_at, admin_at, admin_by, is_same_setting, unchanged}
+use Rattle.pb_rstp.specs.Machine.{settle, moved_by, ticking, is_hello_time, hello_after, heard_at, hearing, setting}
+use Rattle.pb_rstp.specs.Machine.{hear_by, hear_at, admin_at, admin_by, is_same_setting, unchanged}
 use Rattle.pb_rstp.specs.Profile.{after, hear_read}
 use Rattle.pb_rstp.specs.Laws.{IsQuiet, IsInLine}
 use Rattle.pb_rstp.specs.Readings.{AreAbove}
@@ -39,7 +45,9 @@ quiet_state delay was now = by_role now.role refl
     by_role : (r : Role) → now.role ≡ r → IsQuiet (state_by delay r was now)
     by_role Root e = λ none. let yes = ap is_root_or_designated e in cc
     by_role Designated e = λ none.
-        let same : (state_by delay Designated was now).role ≡ Designated = let P : Role → Type 0 = λ r. (state_by delay r was now).role ≡ now.role in subst P e (keeps-state delay was now).role ∙ e in
+        let same : (state_by delay Designated was now).role ≡ Designated = let P : Role
+        → Type 0 = λ r. (state_by delay r was now).role ≡ now.role in subst P e (keeps-state delay was now).role
+        ∙ e in
         let yes = ap is_root_or_designated same in cc
     by_role Disabled e = λ none. refl
     by_role Alternate e = λ none. refl
@@ -53,24 +61,29 @@ quiet_states : (delay : ℕ) (ports : List Moving) → AllByRecursion IsQuiet (n
 quiet_states delay [] = tt
 quiet_states delay (p ∷ ps) = (quiet_state delay p.was p.now, quiet_states delay ps)
 
-quiet-or : (b : Bool) (ps qs : List Moving) → AllByRecursion IsQuiet (nows ps) → AllByRecursion IsQuiet (nows qs) → AllByRecursion IsQuiet (nows (if b then ps else qs))
+quiet-or : (b : Bool) (ps qs : List Moving) → AllByRecursion IsQuiet (nows ps) → AllByRecursion IsQuiet (nows qs)
+    → AllByRecursion IsQuiet (nows (if b then ps else qs))
 quiet-or true ps qs hp hq = hp
 quiet-or false ps qs hp hq = hq
 
 quiet_synced : (delay : ℕ) (was now : Port) → IsQuiet now → IsQuiet (synced delay was now)
 quiet_synced delay was now h =
-    quiet-if (is_designated now.role && not now.agreed && not (is_discarding now.state)) (held_back delay now) now (λ none. refl) h
+    quiet-if (is_designated now.role && not now.agreed && not (is_discarding now.state)) (held_back delay now) now
+    (λ none. refl) h
 
 quiet_agreeing : (number : ℕ) (was now : Port) → IsQuiet now → IsQuiet (agreeing number was now)
 quiet_agreeing number was now h = quiet-if (is_agreeing number now) (record now { agree = true; due = true }) now h h
 
-quiet_changing : (heard : Option Heard) (ports : List Moving) (was now : Port) → IsQuiet now → IsQuiet (with_changing heard ports was now)
-quiet_changing heard ports was now h = quiet-if (is_telling heard ports now) (record now { changing = 3; due = true }) now h h
+quiet_changing : (heard : Option Heard) (ports : List Moving) (was now : Port) → IsQuiet now
+    → IsQuiet (with_changing heard ports was now)
+quiet_changing heard ports was now h = quiet-if (is_telling heard ports now) (record now { changing = 3; due = true })
+    now h h
 
 quiet_sending : (was now : Port) → IsQuiet now → IsQuiet (after_sending was now)
 quiet_sending was now h = quiet-if (is_sending now) (record now { due = false; sent = now.sent + 1 }) now h h
 
-quiet_proposal : (heard : Option Heard) (ports : List Moving) → AllByRecursion IsQuiet (nows ports) → AllByRecursion IsQuiet (nows (with_proposal heard ports))
+quiet_proposal : (heard : Option Heard) (ports : List Moving) → AllByRecursion IsQuiet (nows ports)
+    → AllByRecursion IsQuiet (nows (with_proposal heard ports))
 quiet_proposal None ports h = h
 quiet_proposal (Some heard) ports h =
     quiet-or (is_proposed heard) (with_agreement_at heard.port ports) ports
@@ -78,21 +91,25 @@ quiet_proposal (Some heard) ports h =
     (quiet-or (list_any (is_root_agreeing heard.port) (nows ports)) (each (synced (delay_of (nows ports))) ports) ports
     (quiet-each (synced (delay_of (nows ports))) (quiet_synced (delay_of (nows ports))) ports h) h)) h
 
-quiet_settled : (id : ℕ) (heard : Option Heard) (ports : List Moving) → AllByRecursion IsQuiet (nows (with_sent (settled id heard ports)))
+quiet_settled : (id : ℕ) (heard : Option Heard) (ports : List Moving)
+    → AllByRecursion IsQuiet (nows (with_sent (settled id heard ports)))
 quiet_settled id heard ports =
     let infos = with_infos (with_agreements id (with_roles id ports)) in
     let fourth : AllByRecursion IsQuiet (nows (in_line id ports)) = quiet_states (delay_of (nows infos)) infos in
     let proposed = with_proposal heard (in_line id ports) in
     quiet-each after_sending quiet_sending (settled id heard ports)
-    (quiet-each (with_changing heard proposed) (quiet_changing heard proposed) proposed (quiet_proposal heard (in_line id ports) fourth))
+    (quiet-each (with_changing heard proposed) (quiet_changing heard proposed) proposed
+    (quiet_proposal heard (in_line id ports) fourth))
 
 -- Calls.
 
-pub settled_in_line : (id hello_left : ℕ) (heard : Option Heard) (ports : List Moving) → IsInLine (settle id hello_left heard ports).machine
+pub settled_in_line : (id hello_left : ℕ) (heard : Option Heard) (ports : List Moving)
+    → IsInLine (settle id hello_left heard ports).machine
 settled_in_line id hello_left heard ports =
     let h = roles_settled id heard ports in
     record {
-      roles = roles_related id (root_vector id (nows ports)) (nows (with_sent (settled id heard ports))) (nows (with_sent (settled id heard ports))) h.0 h.1;
+      roles = roles_related id (root_vector id (nows ports)) (nows (with_sent (settled id heard ports)))
+          (nows (with_sent (settled id heard ports))) h.0 h.1;
       states = quiet_settled id heard ports;
     }
 
@@ -103,7 +120,8 @@ calls_keep_line machine Ticks h =
 calls_keep_line machine (Hears port wire) h = by_read (reading wire)
   where
     by_up : (m : Bpdu) (p : Port) (b : Bool) → IsInLine (if b then hear_at machine m p else unchanged machine).machine
-    by_up m p true = settled_in_line machine.id machine.hello_left (Some (heard_at m p)) (moved_by (hearing (root_vector machine.id machine.ports) p.number m) machine.ports)
+    by_up m p true = settled_in_line machine.id machine.hello_left (Some (heard_at m p))
+        (moved_by (hearing (root_vector machine.id machine.ports) p.number m) machine.ports)
     by_up m p false = h
 
     by_port : (m : Bpdu) (o : Option Port) → IsInLine (hear_by machine m o).machine
@@ -134,13 +152,15 @@ own_root id ports = ap (λ os. best (own_vector id) os) (no_offers id ports)
 
 not_zero : (n : ℕ) → 1 ≤ n → (0 == n) ≡ false
 not_zero zero h = absurd (omega arith)
-not_zero (suc n) h = elim (0 == suc n) as (λ t. (0 == suc n) ≡ t → (0 == suc n) ≡ false) [ true ↦ λ e. absurd (omega (arith, eqb-true 0 (suc n) e)) | false ↦ λ e. e ] refl
+not_zero (suc n) h = elim (0 == suc n) as (λ t. (0 == suc n) ≡ t → (0 == suc n) ≡ false)
+    [ true ↦ λ e. absurd (omega (arith, eqb-true 0 (suc n) e)) | false ↦ λ e. e ] refl
 
 fresh_role : (id : ℕ) (p : RstpPort) → 1 ≤ p.port → HasRoleBy id (own_vector id) (fresh p)
 fresh_role id p above =
     ap (λ c. if c then Root else Designated) (sym (not_zero (port_id p.priority p.port) (omega arith)))
 
-fresh_roles : (id : ℕ) (ports : List RstpPort) → AllByRecursion (λ p. 1 ≤ p.port) ports → AllByRecursion (HasRoleBy id (own_vector id)) (map fresh ports)
+fresh_roles : (id : ℕ) (ports : List RstpPort) → AllByRecursion (λ p. 1 ≤ p.port) ports
+    → AllByRecursion (HasRoleBy id (own_vector id)) (map fresh ports)
 fresh_roles id [] h = tt
 fresh_roles id (p ∷ ps) h = (fresh_role id p h.0, fresh_roles id ps h.1)
 
@@ -148,9 +168,11 @@ fresh_quiet : (ports : List RstpPort) → AllByRecursion IsQuiet (map fresh port
 fresh_quiet [] = tt
 fresh_quiet (p ∷ ps) = (λ none. refl, fresh_quiet ps)
 
-pub start_is_in_line : (id : ℕ) (ports : List RstpPort) → AllByRecursion (λ p. 1 ≤ p.port) ports → IsInLine (start id ports)
+pub start_is_in_line : (id : ℕ) (ports : List RstpPort) → AllByRecursion (λ p. 1 ≤ p.port) ports
+    → IsInLine (start id ports)
 start_is_in_line id ports above = record {
-  roles = roles_related id (own_vector id) (map fresh ports) (map fresh ports) (own_root id ports) (fresh_roles id ports above);
+  roles = roles_related id (own_vector id) (map fresh ports) (map fresh ports) (own_root id ports)
+      (fresh_roles id ports above);
   states = fresh_quiet ports;
 }
 
@@ -160,6 +182,7 @@ above_zero n [] h = tt
 above_zero n (p ∷ ps) h = (omega (arith, h.0.0), above_zero p.port ps h.1)
 
 -- the ports of the start have the numbers that were given
-pub fresh_rising : (n : ℕ) (ports : List RstpPort) → AreAbove n ports → AreRising n (map (λ p. p.number) (map fresh ports))
+pub fresh_rising : (n : ℕ) (ports : List RstpPort) → AreAbove n ports
+    → AreRising n (map (λ p. p.number) (map fresh ports))
 fresh_rising n [] h = (tt, tt)
 fresh_rising n (p ∷ ps) h = rises-above n p.port h.0.0 (map (λ p. p.number) (map fresh ps)) (fresh_rising p.port ps h.1)

@@ -1,5 +1,6 @@
 -- The steps of a call keep the ports.
-use Rattle.std.proofs.Common.{◌≡◌, ℕ, ◌≤◌, List, [], ◌∷◌, Some, None, refl, sym, ap, ◌∙◌, subst, Bool, true, false, is_some, nat_lt, ◌-◌, ◌==◌, ◌&&◌, not, if◌then◌else◌, map, arith}
+use Rattle.std.proofs.Common.{◌≡◌, ℕ, ◌≤◌, List, [], ◌∷◌, Some, None, refl, sym, ap, ◌∙◌, subst, Bool, true, false}
+use Rattle.std.proofs.Common.{is_some, nat_lt, ◌-◌, ◌==◌, ◌&&◌, not, if◌then◌else◌, map, arith}
 use Rattle.std.specs.declared.option.Option.{Option}
 use Rattle.std.specs.List.{list_any, AllByRecursion}
 use Rattle.std.proofs.lemmas.Bool.{eqb-true}
@@ -9,7 +10,9 @@ use Rattle.pb_lan.specs.declared.shape.PortState.{PortState}
 use Rattle.pb_lan.specs.declared.shape.PortState.TheVariants.{Discarding, Learning, Forwarding}
 use Rattle.pb_frame.specs.Lists.{first}
 use Rattle.pb_rstp.specs.Changes.{IsSamePort, AreSamePorts, AreMoving, IsSameBridge}
-use Rattle.pb_rstp.specs.Machine.{moved_by, settle, takes_place, with_news, has_agreed, with_answer, hearing, with_timers, opened_by, opened, with_opening, is_hello, with_hello, ticking, with_admin, setting}
+use Rattle.pb_rstp.specs.Machine.{moved_by, settle, takes_place, with_news, has_agreed, with_answer, hearing}
+use Rattle.pb_rstp.specs.Machine.{with_timers, opened_by, opened, with_opening, is_hello, with_hello, ticking}
+use Rattle.pb_rstp.specs.Machine.{with_admin, setting}
 use Rattle.pb_rstp.specs.Messages.{is_young, info_of}
 use Rattle.pb_rstp.specs.Ports.{Machine, is_designated, delay_of, port_of}
 use Rattle.pb_lan.specs.Shapes.{is_forwarding}
@@ -17,18 +20,26 @@ use Rattle.pb_rstp.specs.Rising.{AreRising}
 use Rattle.pb_rstp.proofs.RisingLaws.{rises-above}
 use Rattle.pb_rstp.specs.Roles.{root_vector}
 use Rattle.pb_rstp.specs.Vectors.{is_same_vector}
-use Rattle.pb_rstp.specs.Settling.{befores, nows, each, with_role, with_roles, without_agreement, with_agreements, without_info, with_infos, with_state, with_states, synced, agreeing, with_agreement_at, with_proposal, is_proposed, is_root_agreeing, with_changing, with_topology, after_sending, with_sent, in_line, settled}
+use Rattle.pb_rstp.specs.Settling.{befores, nows, each, with_role, with_roles, without_agreement, with_agreements}
+use Rattle.pb_rstp.specs.Settling.{without_info, with_infos, with_state, with_states, synced, agreeing}
+use Rattle.pb_rstp.specs.Settling.{with_agreement_at, with_proposal, is_proposed, is_root_agreeing, with_changing}
+use Rattle.pb_rstp.specs.Settling.{with_topology, after_sending, with_sent, in_line, settled}
 use Rattle.pb_rstp.specs.declared.moving.Heard.{Heard}
 use Rattle.pb_rstp.specs.declared.moving.Moving.{Moving}
 use Rattle.pb_rstp.specs.declared.port.Port.{Port}
 use Rattle.pb_rstp.specs.declared.vector.Vector.{Vector}
-use Rattle.pb_rstp.proofs.RoleLaws.{Keeps, keeps-agreement, keeps-state, keeps-synced, keeps-agreeing, keeps-changing, keeps-sending}
+use Rattle.pb_rstp.proofs.RoleLaws.{Keeps, keeps-agreement, keeps-state, keeps-synced, keeps-agreeing, keeps-changing}
+use Rattle.pb_rstp.proofs.RoleLaws.{keeps-sending}
 
 pub is_same_port : (p : Port) → IsSamePort p p
 is_same_port p = record { number = refl; cost = refl; priority = refl }
 
 pub same_port-trans : (p q r : Port) → IsSamePort p q → IsSamePort q r → IsSamePort p r
-same_port-trans p q r h k = record { number = k.number ∙ h.number; cost = k.cost ∙ h.cost; priority = k.priority ∙ h.priority }
+same_port-trans p q r h k = record {
+  number = k.number ∙ h.number;
+  cost = k.cost ∙ h.cost;
+  priority = k.priority ∙ h.priority;
+}
 
 pub same_port-if : (b : Bool) (p q r : Port) → IsSamePort p q → IsSamePort p r → IsSamePort p (if b then q else r)
 same_port-if true p q r hq hr = hq
@@ -43,7 +54,8 @@ same_ports (p ∷ ps) = (is_same_port p, same_ports ps)
 
 -- Ports in the course of a call.
 
-pub moving-each : (f : Port → Port → Port) → ((was now : Port) → IsSamePort now (f was now)) → (ps : List Port) (ms : List Moving)
+pub moving-each : (f : Port → Port → Port) → ((was now : Port) → IsSamePort now (f was now))
+    → (ps : List Port) (ms : List Moving)
     → AreMoving ps ms → AreMoving ps (each f ms)
 moving-each f same [] [] h = tt
 moving-each f same [] (m ∷ ms) h = absurd h
@@ -51,11 +63,13 @@ moving-each f same (p ∷ ps) [] h = absurd h
 moving-each f same (p ∷ ps) (m ∷ ms) h =
     ((h.0.0, same_port-trans p m.now (f m.was m.now) h.0.1 (same m.was m.now)), moving-each f same ps ms h.1)
 
-moving-if : (b : Bool) (ps : List Port) (ms ns : List Moving) → AreMoving ps ms → AreMoving ps ns → AreMoving ps (if b then ms else ns)
+moving-if : (b : Bool) (ps : List Port) (ms ns : List Moving) → AreMoving ps ms → AreMoving ps ns
+    → AreMoving ps (if b then ms else ns)
 moving-if true ps ms ns hm hn = hm
 moving-if false ps ms ns hm hn = hn
 
-pub moving_by : (change : Port → Port) → ((p : Port) → IsSamePort p (change p)) → (ps : List Port) → AreMoving ps (moved_by change ps)
+pub moving_by : (change : Port → Port) → ((p : Port) → IsSamePort p (change p)) → (ps : List Port)
+    → AreMoving ps (moved_by change ps)
 moving_by change same [] = tt
 moving_by change same (p ∷ ps) = ((refl, same p), moving_by change same ps)
 
@@ -75,57 +89,70 @@ moving_before (p ∷ ps) (m ∷ ms) h = let tail = moving_before ps ms h.1 in le
 
 pub moving_first : (id : ℕ) (ps : List Port) (ms : List Moving) → AreMoving ps ms → AreMoving ps (with_roles id ms)
 moving_first id ps ms h =
-    moving-each (with_role id (root_vector id (nows ms))) (λ was now. record { number = refl; cost = refl; priority = refl }) ps ms h
+    moving-each (with_role id (root_vector id (nows ms)))
+    (λ was now. record { number = refl; cost = refl; priority = refl }) ps ms h
 
-pub moving_second : (id : ℕ) (ps : List Port) (ms : List Moving) → AreMoving ps ms → AreMoving ps (with_agreements id ms)
+pub moving_second : (id : ℕ) (ps : List Port) (ms : List Moving) → AreMoving ps ms
+    → AreMoving ps (with_agreements id ms)
 moving_second id ps ms h =
-    moving-if (is_same_vector (root_vector id (befores ms)) (root_vector id (nows ms))) ps ms (each without_agreement ms) h
+    moving-if (is_same_vector (root_vector id (befores ms)) (root_vector id (nows ms))) ps ms
+    (each without_agreement ms) h
     (moving-each without_agreement (λ was now. of_keeps now _ (keeps-agreement was now)) ps ms h)
 
 pub moving_third : (ps : List Port) (ms : List Moving) → AreMoving ps ms → AreMoving ps (with_infos ms)
 moving_third ps ms h =
     moving-each without_info
-    (λ was now. same_port-if (is_designated now.role && is_some now.info) now (record now { info = None; due = true }) now
+    (λ was now. same_port-if (is_designated now.role && is_some now.info) now (record now { info = None; due = true })
+    now
     (record { number = refl; cost = refl; priority = refl }) (is_same_port now)) ps ms h
 
 pub moving_fourth : (ps : List Port) (ms : List Moving) → AreMoving ps ms → AreMoving ps (with_states ms)
 moving_fourth ps ms h =
-    moving-each (with_state (delay_of (nows ms))) (λ was now. of_keeps now _ (keeps-state (delay_of (nows ms)) was now)) ps ms h
+    moving-each (with_state (delay_of (nows ms)))
+    (λ was now. of_keeps now _ (keeps-state (delay_of (nows ms)) was now)) ps ms h
 
 pub moving_in_line : (id : ℕ) (ps : List Port) (ms : List Moving) → AreMoving ps ms → AreMoving ps (in_line id ms)
 moving_in_line id ps ms h =
     moving_fourth ps _ (moving_third ps _ (moving_second id ps (with_roles id ms) (moving_first id ps ms h)))
 
-pub moving_fifth : (heard : Option Heard) (ps : List Port) (ms : List Moving) → AreMoving ps ms → AreMoving ps (with_proposal heard ms)
+pub moving_fifth : (heard : Option Heard) (ps : List Port) (ms : List Moving) → AreMoving ps ms
+    → AreMoving ps (with_proposal heard ms)
 moving_fifth None ps ms h = h
 moving_fifth (Some heard) ps ms h =
     moving-if (is_proposed heard) ps (with_agreement_at heard.port ms) ms
     (moving-each (agreeing heard.port) (λ was now. of_keeps now _ (keeps-agreeing heard.port was now)) ps _
     (moving-if (list_any (is_root_agreeing heard.port) (nows ms)) ps (each (synced (delay_of (nows ms))) ms) ms
-    (moving-each (synced (delay_of (nows ms))) (λ was now. of_keeps now _ (keeps-synced (delay_of (nows ms)) was now)) ps ms h) h)) h
+    (moving-each (synced (delay_of (nows ms))) (λ was now. of_keeps now _ (keeps-synced (delay_of (nows ms)) was now))
+    ps ms h) h)) h
 
-pub moving_sixth : (heard : Option Heard) (ps : List Port) (ms : List Moving) → AreMoving ps ms → AreMoving ps (with_topology heard ms)
+pub moving_sixth : (heard : Option Heard) (ps : List Port) (ms : List Moving) → AreMoving ps ms
+    → AreMoving ps (with_topology heard ms)
 moving_sixth heard ps ms h =
     moving-each (with_changing heard ms) (λ was now. of_keeps now _ (keeps-changing heard ms was now)) ps ms h
 
-pub moving_settled : (id : ℕ) (heard : Option Heard) (ps : List Port) (ms : List Moving) → AreMoving ps ms → AreMoving ps (settled id heard ms)
+pub moving_settled : (id : ℕ) (heard : Option Heard) (ps : List Port) (ms : List Moving) → AreMoving ps ms
+    → AreMoving ps (settled id heard ms)
 moving_settled id heard ps ms h =
-    moving_sixth heard ps (with_proposal heard (in_line id ms)) (moving_fifth heard ps (in_line id ms) (moving_in_line id ps ms h))
+    moving_sixth heard ps (with_proposal heard (in_line id ms))
+    (moving_fifth heard ps (in_line id ms) (moving_in_line id ps ms h))
 
 pub moving_sent : (ps : List Port) (ms : List Moving) → AreMoving ps ms → AreMoving ps (with_sent ms)
 moving_sent ps ms h = moving-each after_sending (λ was now. of_keeps now _ (keeps-sending was now)) ps ms h
 
 -- Numbers.
 
-pub rising-same : (n m : ℕ) → m ≡ n → (ps qs : List Port) → AreSamePorts ps qs → AreRising n (map (λ p. p.number) ps) → AreRising m (map (λ p. p.number) qs)
+pub rising-same : (n m : ℕ) → m ≡ n → (ps qs : List Port) → AreSamePorts ps qs → AreRising n (map (λ p. p.number) ps)
+    → AreRising m (map (λ p. p.number) qs)
 rising-same n m e [] [] h r = (tt, tt)
 rising-same n m e [] (q ∷ qs) h r = absurd h
 rising-same n m e (p ∷ ps) [] h r = absurd h
 rising-same n m e (p ∷ ps) (q ∷ qs) h r =
-    rises-above m q.number (omega (arith, e, h.0.number, r.0.0)) (map (λ x. x.number) qs) (rising-same p.number q.number h.0.number ps qs h.1 r.1)
+    rises-above m q.number (omega (arith, e, h.0.number, r.0.0)) (map (λ x. x.number) qs)
+    (rising-same p.number q.number h.0.number ps qs h.1 r.1)
 
 -- what has a number that is no greater than n isn't among those that rise above n
-pub first-none : {X : Type 0} (key : X → ℕ) (k n : ℕ) → k ≤ n → (xs : List X) → AreRising n (map key xs) → first (λ x. key x == k) xs ≡ None
+pub first-none : {X : Type 0} (key : X → ℕ) (k n : ℕ) → k ≤ n → (xs : List X) → AreRising n (map key xs)
+    → first (λ x. key x == k) xs ≡ None
 first-none key k n below [] r = refl
 first-none key k n below (x ∷ xs) r = by_test (key x == k) refl (first-none key k (key x) (omega (arith, r.0.0)) xs r.1)
   where
@@ -134,12 +161,14 @@ first-none key k n below (x ∷ xs) r = by_test (key x == k) refl (first-none ke
     by_test true e rest = absurd (omega (arith, eqb-true (key x) k e, r.0.0))
     by_test false e rest = rest
 
-pub port_of-cons : (k : ℕ) (p : Port) (ps : List Port) (t : Bool) → (p.number == k) ≡ t → port_of (p ∷ ps) k ≡ (if t then Some p else port_of ps k)
+pub port_of-cons : (k : ℕ) (p : Port) (ps : List Port) (t : Bool) → (p.number == k) ≡ t
+    → port_of (p ∷ ps) k ≡ (if t then Some p else port_of ps k)
 port_of-cons k p ps t e = ap (λ u. if u then Some p else port_of ps k) e
 
 -- what holds of each port as it was and as it is, holds of the two that a number names
 pub found_pair : (P : Port → Port → Type 0) (k : ℕ) (ps : List Port) (ms : List Moving) → AreMoving ps ms
-    → AllByRecursion (λ m. P m.was m.now) ms → (p q : Port) → port_of ps k ≡ Some p → port_of (nows ms) k ≡ Some q → P p q
+    → AllByRecursion (λ m. P m.was m.now) ms → (p q : Port) → port_of ps k ≡ Some p → port_of (nows ms) k ≡ Some q
+    → P p q
 found_pair P k [] [] h all p q ep eq = cc
 found_pair P k [] (m ∷ ms) h all p q ep eq = absurd h
 found_pair P k (x ∷ xs) [] h all p q ep eq = absurd h
@@ -149,7 +178,8 @@ found_pair P k (x ∷ xs) (m ∷ ms) h all p q ep eq =
     same : (x.number == k) ≡ (m.now.number == k)
     same = ap (λ n. n == k) (sym h.0.1.number)
 
-    by_test : (t : Bool) → (m.now.number == k) ≡ t → (port_of xs k ≡ Some p → port_of (nows ms) k ≡ Some q → P p q) → P p q
+    by_test : (t : Bool) → (m.now.number == k) ≡ t → (port_of xs k ≡ Some p → port_of (nows ms) k ≡ Some q → P p q)
+        → P p q
     by_test true e rest =
         let was : m.was ≡ p = h.0.0 ∙ Some-injective (sym (port_of-cons k x xs true (same ∙ e)) ∙ ep) in
         let is : m.now ≡ q = Some-injective (sym (port_of-cons k m.now (nows ms) true e) ∙ eq) in
@@ -161,7 +191,8 @@ found_pair P k (x ∷ xs) (m ∷ ms) h all p q ep eq =
 
 -- The machine after a call.
 
-pub settle_same : (id hello_left hello_now : ℕ) (heard : Option Heard) (ps : List Port) (ms : List Moving) → AreMoving ps ms
+pub settle_same : (id hello_left hello_now : ℕ) (heard : Option Heard) (ps : List Port) (ms : List Moving)
+    → AreMoving ps ms
     → IsSameBridge (record { id = id; ports = ps; hello_left = hello_left }) (settle id hello_now heard ms).machine
 settle_same id hello_left hello_now heard ps ms h =
     let all = settled id heard ms in
@@ -171,7 +202,8 @@ pub settle_rising : (id : ℕ) (heard : Option Heard) (ps : List Port) (ms : Lis
     → AreRising 0 (map (λ p. p.number) ps) → AreRising 0 (map (λ p. p.number) (nows (with_sent (settled id heard ms))))
 settle_rising id heard ps ms h r =
     let all = settled id heard ms in
-    rising-same 0 0 refl ps (nows (with_sent all)) (moving_now ps (with_sent all) (moving_sent ps all (moving_settled id heard ps ms h))) r
+    rising-same 0 0 refl ps (nows (with_sent all))
+    (moving_now ps (with_sent all) (moving_sent ps all (moving_settled id heard ps ms h))) r
 
 pub is_same_bridge : (m : Machine) → IsSameBridge m m
 is_same_bridge m = record { id = refl; ports = same_ports m.ports }
@@ -185,12 +217,14 @@ same_news m p =
 
 same_answer : (root : Vector) (m : Bpdu) (p : Port) → IsSamePort p (with_answer root m p)
 same_answer root m p =
-    same_port-if (has_agreed root m p) p (record p { agreed = true }) p (record { number = refl; cost = refl; priority = refl }) (is_same_port p)
+    same_port-if (has_agreed root m p) p (record p { agreed = true }) p
+    (record { number = refl; cost = refl; priority = refl }) (is_same_port p)
 
 pub same_hearing : (root : Vector) (port : ℕ) (m : Bpdu) (p : Port) → IsSamePort p (hearing root port m p)
 same_hearing root port m p =
     same_port-if (p.number == port) p (with_answer root m (with_news m p)) p
-    (same_port-trans p (with_news m p) (with_answer root m (with_news m p)) (same_news m p) (same_answer root m (with_news m p))) (is_same_port p)
+    (same_port-trans p (with_news m p) (with_answer root m (with_news m p)) (same_news m p)
+    (same_answer root m (with_news m p))) (is_same_port p)
 
 same_opened_by : (delay : ℕ) (state : PortState) (p : Port) → IsSamePort p (opened_by delay state p)
 same_opened_by delay Discarding p = record { number = refl; cost = refl; priority = refl }
@@ -205,12 +239,14 @@ same_opening delay p =
 
 same_hello : (hello : Bool) (p : Port) → IsSamePort p (with_hello hello p)
 same_hello hello p =
-    same_port-if (hello && is_hello p) p (record p { due = true }) p (record { number = refl; cost = refl; priority = refl }) (is_same_port p)
+    same_port-if (hello && is_hello p) p (record p { due = true }) p
+    (record { number = refl; cost = refl; priority = refl }) (is_same_port p)
 
 pub same_ticking : (delay : ℕ) (hello : Bool) (p : Port) → IsSamePort p (ticking delay hello p)
 same_ticking delay hello p =
     same_port-trans p (with_opening delay (with_timers p)) _
-    (same_port-trans p (with_timers p) _ (record { number = refl; cost = refl; priority = refl }) (same_opening delay (with_timers p)))
+    (same_port-trans p (with_timers p) _ (record { number = refl; cost = refl; priority = refl })
+    (same_opening delay (with_timers p)))
     (same_hello hello (with_opening delay (with_timers p)))
 
 same_admin : (up : Bool) (p : Port) → IsSamePort p (with_admin up p)
@@ -221,7 +257,8 @@ pub same_setting : (port : ℕ) (up : Bool) (p : Port) → IsSamePort p (setting
 same_setting port up p = same_port-if (p.number == port) p (with_admin up p) p (same_admin up p) (is_same_port p)
 
 -- the ports in the course of a call are those of the machine
-pub moving_of : (old now : Machine) (change : Port → Port) → ((p : Port) → IsSamePort p (change p)) → old ≡ now → (ms : List Moving)
+pub moving_of : (old now : Machine) (change : Port → Port) → ((p : Port) → IsSamePort p (change p)) → old ≡ now
+    → (ms : List Moving)
     → ms ≡ moved_by change old.ports → AreMoving now.ports ms
 moving_of old now change same view ms e =
     let P : Machine → Type 0 = λ m. AreMoving m.ports ms in

@@ -1,5 +1,6 @@
 -- What the test of settled bridges looks at.
-use Rattle.std.proofs.Common.{◌≡◌, ℕ, zero, suc, ◌+◌, ◌<◌, List, [], ◌∷◌, refl, sym, ap₂, subst, Bool, true, false, ◌&&◌, ◌||◌, map, length, get_or, drop, drop-cons, add-one, arith}
+use Rattle.std.proofs.Common.{◌≡◌, ℕ, zero, suc, ◌+◌, ◌<◌, List, [], ◌∷◌, refl, sym, ap₂, subst, Bool, true, false}
+use Rattle.std.proofs.Common.{◌&&◌, ◌||◌, map, length, get_or, drop, drop-cons, add-one, arith}
 use Rattle.std.specs.List.{list_all, AllByRecursion}
 use Rattle.std.specs.Option.{option_map}
 use Rattle.std.proofs.lemmas.Option.{slice_get-map}
@@ -9,7 +10,8 @@ use Rattle.pb_rstp.specs.Ports.{is_root_or_designated, is_discarding}
 use Rattle.pb_rstp.specs.Tree.{is_quiet}
 use Rattle.pb_rstp.specs.declared.port.Port.{Port}
 
-pub numbered-map : {A B : Type 0} (f : A → B) (xs : List A) (k : ℕ) → numbered (map f xs) k ≡ option_map f (numbered xs k)
+pub numbered-map : {A B : Type 0} (f : A → B) (xs : List A) (k : ℕ)
+    → numbered (map f xs) k ≡ option_map f (numbered xs k)
 numbered-map f xs zero = refl
 numbered-map f xs (suc n) = slice_get-map f xs n
 
@@ -25,7 +27,8 @@ quiet_tests [] h = refl
 quiet_tests (p ∷ ps) h = ap₂ (λ a b. a && b) (quiet_test p h.0) (quiet_tests ps h.1)
 
 -- what is left, after a front whose items all have P
-pub all-front : {A B : Type 0} (P : B → Type 0) (f : A → B) (xs : List A) (i : ℕ) (x : A) → i < length xs → x ≡ get_or xs i x → P (f x)
+pub all-front : {A B : Type 0} (P : B → Type 0) (f : A → B) (xs : List A) (i : ℕ) (x : A) → i < length xs
+    → x ≡ get_or xs i x → P (f x)
     → AllByRecursion P (map f (drop (i + 1) xs)) → AllByRecursion P (map f (drop i xs))
 all-front {A} P f xs i x below is here rest =
     let Q : List A → Type 0 = λ ys. AllByRecursion P (map f ys) in
@@ -33,7 +36,8 @@ all-front {A} P f xs i x below is here rest =
     let rest' : Q (drop (suc i) xs) = subst (λ k. Q (drop k xs)) (add-one i) rest in
     subst Q (sym (drop-cons xs i x below)) (subst R is here, rest')
 
-pub all-item : {A B : Type 0} (P : B → Type 0) (f : A → B) (xs : List A) (i : ℕ) (x : A) → i < length xs → x ≡ get_or xs i x
+pub all-item : {A B : Type 0} (P : B → Type 0) (f : A → B) (xs : List A) (i : ℕ) (x : A) → i < length xs
+    → x ≡ get_or xs i x
     → AllByRecursion P (map f xs) → P (f x)
 all-item P f [] i x below is all = absurd (omega arith)
 all-item {A} P f (y ∷ ys) zero x below is all = let R : A → Type 0 = λ z. P (f z) in subst R (sym is) all.0

@@ -1,5 +1,6 @@
 -- A port that stops being the Root port is Discarding.
-use Rattle.std.proofs.Common.{◌≡◌, ◌⊎◌, ℕ, ◌+◌, List, [], ◌∷◌, Some, None, refl, sym, ap, ap₂, ◌∙◌, subst, Bool, true, false, is_some, ◌==◌, ◌&&◌, not, if◌then◌else◌, inl, inr}
+use Rattle.std.proofs.Common.{◌≡◌, ◌⊎◌, ℕ, ◌+◌, List, [], ◌∷◌, Some, None, refl, sym, ap, ap₂, ◌∙◌, subst, Bool, true}
+use Rattle.std.proofs.Common.{false, is_some, ◌==◌, ◌&&◌, not, if◌then◌else◌, inl, inr}
 use Rattle.std.specs.declared.option.Option.{Option}
 use Rattle.std.specs.List.{list_any, AllByRecursion}
 use Rattle.std.proofs.lemmas.Bool.{eqb-true}
@@ -10,7 +11,11 @@ use Rattle.pb_rstp.specs.Machine.{settle}
 use Rattle.pb_rstp.specs.Ports.{is_root, is_designated, is_discarding, id_of, delay_of}
 use Rattle.pb_rstp.specs.Roles.{root_vector, came_from, other_role, HasRole, IsRootVector}
 use Rattle.pb_rstp.specs.Vectors.{is_same_vector, port_id}
-use Rattle.pb_rstp.specs.Settling.{befores, nows, each, with_role, with_roles, without_agreement, with_agreements, without_info, with_infos, held_back, forwarding_if_agreed, designated_state, state_by, with_state, synced, agreeing, with_agreement_at, with_proposal, is_proposed, is_root_agreeing, is_agreeing, with_changing, is_telling, after_sending, is_sending, with_sent, in_line, settled}
+use Rattle.pb_rstp.specs.Settling.{befores, nows, each, with_role, with_roles, without_agreement, with_agreements}
+use Rattle.pb_rstp.specs.Settling.{without_info, with_infos, held_back, forwarding_if_agreed, designated_state}
+use Rattle.pb_rstp.specs.Settling.{state_by, with_state, synced, agreeing, with_agreement_at, with_proposal}
+use Rattle.pb_rstp.specs.Settling.{is_proposed, is_root_agreeing, is_agreeing, with_changing, is_telling}
+use Rattle.pb_rstp.specs.Settling.{after_sending, is_sending, with_sent, in_line, settled}
 use Rattle.pb_rstp.specs.declared.moving.Heard.{Heard}
 use Rattle.pb_rstp.specs.declared.moving.Moving.{Moving}
 use Rattle.pb_rstp.specs.declared.port.Port.{Port}
@@ -23,7 +28,8 @@ use Rattle.pb_rstp.proofs.RoleLaws.{roles-first}
 use Rattle.pb_rstp.proofs.RootLaws.{root_vector-is}
 use Rattle.pb_rstp.proofs.SettledLaws.{root_is}
 
-pub moved-all : (P Q : Port → Port → Type 0) (f : Port → Port → Port) → ((was now : Port) → P was now → Q was (f was now)) → (ms : List Moving)
+pub moved-all : (P Q : Port → Port → Type 0) (f : Port → Port → Port)
+    → ((was now : Port) → P was now → Q was (f was now)) → (ms : List Moving)
     → AllByRecursion (λ m. P m.was m.now) ms → AllByRecursion (λ m. Q m.was m.now) (each f ms)
 moved-all P Q f keeps [] h = tt
 moved-all P Q f keeps (m ∷ ms) h = (keeps m.was m.now h.0, moved-all P Q f keeps ms h.1)
@@ -32,7 +38,8 @@ moved-all P Q f keeps (m ∷ ms) h = (keeps m.was m.now h.0, moved-all P Q f kee
 abbrev Came : ℕ → Port → Port → Type 0
 Came id was now = is_root was.role ≡ true → (id == id_of now) ≡ true
 
-came_from_root : (id : ℕ) (root : Vector) (p q : Port) → IsSamePort p q → HasRole id root p p.role → Came root.receiving p q
+came_from_root : (id : ℕ) (root : Vector) (p q : Port) → IsSamePort p q → HasRole id root p p.role
+    → Came root.receiving p q
 came_from_root id root p q same has is =
     let P : Role → Type 0 = λ r. HasRole id root p r in
     let came : HasRole id root p Root = subst P (root_is p.role is) has in
@@ -45,25 +52,31 @@ came id root all [] [] h is roles = tt
 came id root all [] (m ∷ ms) h is roles = absurd h
 came id root all (p ∷ ps) [] h is roles = absurd h
 came id root all (p ∷ ps) (m ∷ ms) h is roles =
-    let P : Port → Type 0 = λ q. Came root.receiving q m.now in
-    (subst P (sym h.0.0) (came_from_root id root p m.now h.0.1 (roles.0 root is)), came id root all ps ms h.1 is roles.1)
+    let P : Port → Type 0 = λ q. Came root.receiving q m.now in (
+      subst P (sym h.0.0) (came_from_root id root p m.now h.0.1 (roles.0 root is)),
+      came id root all ps ms h.1 is
+          roles.1,
+    )
 
 -- a port that was the Root port has no agreement, or isn't Designated
 abbrev IsFree : Port → Port → Type 0
 IsFree was now = is_root was.role ≡ true → (now.agreed ≡ false) ⊎ (is_designated now.role ≡ false)
 
 -- the same root vector gives the port the role Root, if it is up
-free_role : (id : ℕ) (root : Vector) (was now : Port) → Came root.receiving was now → IsFree was (with_role id root was now)
+free_role : (id : ℕ) (root : Vector) (was now : Port) → Came root.receiving was now
+    → IsFree was (with_role id root was now)
 free_role id root was now came is = inr (by_up now.up)
   where
-    by_up : (up : Bool) → is_designated (if up then (if came_from root now then Root else other_role id root now now.info) else Disabled) ≡ false
+    by_up : (up : Bool) → is_designated
+        (if up then (if came_from root now then Root else other_role id root now now.info) else Disabled) ≡ false
     by_up true = ap (λ b. is_designated (if b then Root else other_role id root now now.info)) (came is)
     by_up false = refl
 
 same_receiving : (v w : Vector) → is_same_vector v w ≡ true → v.receiving ≡ w.receiving
 same_receiving v w e =
     eqb-true v.receiving w.receiving
-    (and-true (v.root == w.root && v.cost == w.cost && v.bridge == w.bridge && v.port == w.port) (v.receiving == w.receiving) e).1
+    (and-true (v.root == w.root && v.cost == w.cost && v.bridge == w.bridge && v.port == w.port)
+    (v.receiving == w.receiving) e).1
 
 all_free : (ms : List Moving) → AllByRecursion (λ m. IsFree m.was m.now) (each without_agreement ms)
 all_free [] = tt
@@ -84,8 +97,10 @@ free-second id ps ms h roles =
     now : root_vector id (nows (with_roles id ms)) ≡ root_vector id (nows ms)
     now = (roles-first id ms).0
 
-    by_test : (b : Bool) → is_same_vector (root_vector id (befores (with_roles id ms))) (root_vector id (nows (with_roles id ms))) ≡ b
-        → AllByRecursion (λ m. IsFree m.was m.now) (if b then with_roles id ms else each without_agreement (with_roles id ms))
+    by_test : (b : Bool) → is_same_vector (root_vector id (befores (with_roles id ms)))
+        (root_vector id (nows (with_roles id ms))) ≡ b
+        → AllByRecursion (λ m. IsFree m.was m.now)
+        (if b then with_roles id ms else each without_agreement (with_roles id ms))
     by_test true e =
         let same : (root_vector id ps).receiving ≡ (root_vector id (nows ms)).receiving =
         ap (λ (v : Vector). v.receiving) (sym before)
@@ -101,10 +116,12 @@ free-if : (b : Bool) (was q r : Port) → IsFree was q → IsFree was r → IsFr
 free-if true was q r hq hr = hq
 free-if false was q r hq hr = hr
 
-free-third : (ms : List Moving) → AllByRecursion (λ m. IsFree m.was m.now) ms → AllByRecursion (λ m. IsFree m.was m.now) (with_infos ms)
+free-third : (ms : List Moving) → AllByRecursion (λ m. IsFree m.was m.now) ms
+    → AllByRecursion (λ m. IsFree m.was m.now) (with_infos ms)
 free-third ms h =
     moved-all IsFree IsFree without_info
-    (λ was now f. free-if (is_designated now.role && is_some now.info) was (record now { info = None; due = true }) now f f) ms h
+    (λ was now f. free-if (is_designated now.role && is_some now.info) was (record now { info = None; due = true })
+    now f f) ms h
 
 -- a port that was the Root port and isn't is Discarding
 abbrev IsHeld : Port → Port → Type 0
@@ -122,10 +139,13 @@ held-state delay was now free is = by_role now.role refl
 
     held : now.agreed ≡ false → is_discarding (designated_state delay was now).state ≡ true
     held agreed =
-        ap (λ b. is_discarding (forwarding_if_agreed (if b then now else held_back delay now)).state) (not_designated was.role is)
-        ∙ ap (λ b. is_discarding (if b then record (held_back delay now) { state = Forwarding } else held_back delay now).state) agreed
+        ap (λ b. is_discarding (forwarding_if_agreed (if b then now else held_back delay now)).state)
+        (not_designated was.role is)
+        ∙ ap (λ b. is_discarding (if b then record (held_back delay now) { state = Forwarding } else held_back delay
+        now).state) agreed
 
-    by_role : (r : Role) → now.role ≡ r → is_root (state_by delay r was now).role ≡ false → is_discarding (state_by delay r was now).state ≡ true
+    by_role : (r : Role) → now.role ≡ r → is_root (state_by delay r was now).role ≡ false
+        → is_discarding (state_by delay r was now).state ≡ true
     by_role Root e other = let yes = ap is_root e in cc
     by_role Disabled e other = refl
     by_role Alternate e other = refl
@@ -139,7 +159,8 @@ held-if : (b : Bool) (was q r : Port) → IsHeld was q → IsHeld was r → IsHe
 held-if true was q r hq hr = hq
 held-if false was q r hq hr = hr
 
-held-or : (b : Bool) (ms ns : List Moving) → AllByRecursion (λ m. IsHeld m.was m.now) ms → AllByRecursion (λ m. IsHeld m.was m.now) ns
+held-or : (b : Bool) (ms ns : List Moving) → AllByRecursion (λ m. IsHeld m.was m.now) ms
+    → AllByRecursion (λ m. IsHeld m.was m.now) ns
     → AllByRecursion (λ m. IsHeld m.was m.now) (if b then ms else ns)
 held-or true ms ns hm hn = hm
 held-or false ms ns hm hn = hn
@@ -153,7 +174,8 @@ held-fifth (Some heard) ms h =
     (λ was now f. held-if (is_agreeing heard.port now) was (record now { agree = true; due = true }) now f f) _
     (held-or (list_any (is_root_agreeing heard.port) (nows ms)) (each (synced (delay_of (nows ms))) ms) ms
     (moved-all IsHeld IsHeld (synced (delay_of (nows ms)))
-    (λ was now f. held-if (is_designated now.role && not now.agreed && not (is_discarding now.state)) was (held_back (delay_of (nows ms)) now) now (λ _ _. refl) f) ms h)
+    (λ was now f. held-if (is_designated now.role && not now.agreed && not (is_discarding now.state)) was
+    (held_back (delay_of (nows ms)) now) now (λ _ _. refl) f) ms h)
     h)) h
 
 held_settled : (id : ℕ) (heard : Option Heard) (ps : List Port) (ms : List Moving) → AreMoving ps ms
@@ -161,20 +183,25 @@ held_settled : (id : ℕ) (heard : Option Heard) (ps : List Port) (ms : List Mov
     → AllByRecursion (λ m. IsHeld m.was m.now) (with_sent (settled id heard ms))
 held_settled id heard ps ms h roles =
     let infos = with_infos (with_agreements id (with_roles id ms)) in
-    let third : AllByRecursion (λ m. IsFree m.was m.now) infos = free-third (with_agreements id (with_roles id ms)) (free-second id ps ms h roles) in
+    let third : AllByRecursion (λ m. IsFree m.was m.now) infos = free-third (with_agreements id (with_roles id ms))
+    (free-second id ps ms h roles) in
     let fourth : AllByRecursion (λ m. IsHeld m.was m.now) (in_line id ms) =
     moved-all IsFree IsHeld (with_state (delay_of (nows infos))) (held-state (delay_of (nows infos))) infos third in
     let proposed = with_proposal heard (in_line id ms) in
     let fifth : AllByRecursion (λ m. IsHeld m.was m.now) proposed = held-fifth heard (in_line id ms) fourth in
     let sixth : AllByRecursion (λ m. IsHeld m.was m.now) (settled id heard ms) =
     moved-all IsHeld IsHeld (with_changing heard proposed)
-    (λ was now f. held-if (is_telling heard proposed now) was (record now { changing = 3; due = true }) now f f) proposed fifth in
+    (λ was now f. held-if (is_telling heard proposed now) was (record now { changing = 3; due = true }) now f f)
+    proposed fifth in
     moved-all IsHeld IsHeld after_sending
-    (λ was now f. held-if (is_sending now) was (record now { due = false; sent = now.sent + 1 }) now f f) (settled id heard ms) sixth
+    (λ was now f. held-if (is_sending now) was (record now { due = false; sent = now.sent + 1 }) now f f)
+    (settled id heard ms) sixth
 
-pub settle_old_roots : (id hello_left hello_now : ℕ) (heard : Option Heard) (ps : List Port) (ms : List Moving) → AreMoving ps ms
+pub settle_old_roots : (id hello_left hello_now : ℕ) (heard : Option Heard) (ps : List Port) (ms : List Moving)
+    → AreMoving ps ms
     → IsInLine (record { id = id; ports = ps; hello_left = hello_left })
     → HoldsOldRoots (record { id = id; ports = ps; hello_left = hello_left }) (settle id hello_now heard ms).machine
 settle_old_roots id hello_left hello_now heard ps ms h line number was is before after =
-    found_pair IsHeld number ps (with_sent (settled id heard ms)) (moving_sent ps (settled id heard ms) (moving_settled id heard ps ms h))
+    found_pair IsHeld number ps (with_sent (settled id heard ms))
+    (moving_sent ps (settled id heard ms) (moving_settled id heard ps ms h))
     (held_settled id heard ps ms h line.roles) was is before after

@@ -1,5 +1,7 @@
 -- The machines of a plan's bridges have the plan's ports, whatever they were told.
-use Rattle.std.proofs.Common.{◌≡◌, ℕ, suc, ◌+◌, ◌≤◌, ◌<◌, List, [], ◌∷◌, ◌++◌, Some, None, Ok, Err, refl, sym, ap, ◌∙◌, Bool, true, false, ◌==◌, ◌||◌, if◌then◌else◌, map, length, inl, inr, slice_get, arith, lit<, lit≤}
+use Rattle.std.proofs.Common.{◌≡◌, ℕ, suc, ◌+◌, ◌≤◌, ◌<◌, List, [], ◌∷◌, ◌++◌, Some, None, Ok, Err, refl, sym, ap}
+use Rattle.std.proofs.Common.{◌∙◌, Bool, true, false, ◌==◌, ◌||◌, if◌then◌else◌, map, length, inl, inr, slice_get}
+use Rattle.std.proofs.Common.{arith, lit<, lit≤}
 use Rattle.std.specs.declared.option.Option.{Option}
 use Rattle.std.specs.declared.result.Result.{Result}
 use Rattle.std.specs.List.{flat_map, list_any, AllByRecursion}
@@ -21,7 +23,8 @@ use Rattle.pb_lan.specs.declared.plan.End.{End}
 use Rattle.pb_lan.specs.declared.plan.LinkPlan.{LinkPlan}
 use Rattle.pb_lan.specs.declared.step.Step.{Step}
 use Rattle.pb_rstp.specs.Changes.{AreSamePorts, IsSameBridge}
-use Rattle.pb_rstp.specs.Machine.{moved_by, ticking, is_hello_time, hello_after, heard_at, hearing, setting, hear_by, hear_at, admin_at, admin_by, is_same_setting, unchanged}
+use Rattle.pb_rstp.specs.Machine.{moved_by, ticking, is_hello_time, hello_after, heard_at, hearing, setting, hear_by}
+use Rattle.pb_rstp.specs.Machine.{hear_at, admin_at, admin_by, is_same_setting, unchanged}
 use Rattle.pb_rstp.specs.Ports.{Machine, fresh, delay_of, port_of}
 use Rattle.pb_rstp.specs.Profile.{after, hear_read, causes_of, machine_after, rstp_port, machine_at_start, machine_of}
 use Rattle.pb_rstp.specs.Rising.{AreRising}
@@ -30,21 +33,26 @@ use Rattle.pb_rstp.specs.Roles.{root_vector}
 use Rattle.pb_rstp.specs.Tree.{HasPorts, HasPortAt, CallsKeepBridges, machines_of, PlannedAreMachines}
 use Rattle.pb_rstp.specs.declared.port.Port.{Port}
 use Rattle.pb_rstp.proofs.ForestLaws.{numbered-at}
-use Rattle.pb_rstp.proofs.MovingLaws.{same_port-trans, same_ports, is_same_bridge, moving_by, same_hearing, same_ticking, same_setting, settle_same, rising-same, port_of-cons}
+use Rattle.pb_rstp.proofs.MovingLaws.{same_port-trans, same_ports, is_same_bridge, moving_by, same_hearing}
+use Rattle.pb_rstp.proofs.MovingLaws.{same_ticking, same_setting, settle_same, rising-same, port_of-cons}
 
 -- Calls keep the bridge.
 
 pub calls_keep_bridges : CallsKeepBridges
 calls_keep_bridges machine Ticks =
-    settle_same machine.id machine.hello_left (hello_after machine) None machine.ports (moved_by (ticking (delay_of machine.ports) (is_hello_time machine)) machine.ports)
-    (moving_by (ticking (delay_of machine.ports) (is_hello_time machine)) (same_ticking (delay_of machine.ports) (is_hello_time machine)) machine.ports)
+    settle_same machine.id machine.hello_left (hello_after machine) None machine.ports
+    (moved_by (ticking (delay_of machine.ports) (is_hello_time machine)) machine.ports)
+    (moving_by (ticking (delay_of machine.ports) (is_hello_time machine))
+    (same_ticking (delay_of machine.ports) (is_hello_time machine)) machine.ports)
 calls_keep_bridges machine (Hears port wire) = by_read (reading wire)
   where
-    by_up : (m : Bpdu) (p : Port) (b : Bool) → IsSameBridge machine (if b then hear_at machine m p else unchanged machine).machine
+    by_up : (m : Bpdu) (p : Port) (b : Bool)
+        → IsSameBridge machine (if b then hear_at machine m p else unchanged machine).machine
     by_up m p true =
         settle_same machine.id machine.hello_left machine.hello_left (Some (heard_at m p)) machine.ports
         (moved_by (hearing (root_vector machine.id machine.ports) p.number m) machine.ports)
-        (moving_by (hearing (root_vector machine.id machine.ports) p.number m) (same_hearing (root_vector machine.id machine.ports) p.number m) machine.ports)
+        (moving_by (hearing (root_vector machine.id machine.ports) p.number m)
+        (same_hearing (root_vector machine.id machine.ports) p.number m) machine.ports)
     by_up m p false = is_same_bridge machine
 
     by_port : (m : Bpdu) (o : Option Port) → IsSameBridge machine (hear_by machine m o).machine
@@ -59,7 +67,8 @@ calls_keep_bridges machine (Sets port up) = by_port (port_of machine.ports port)
     by_same : (b : Bool) → IsSameBridge machine (if b then unchanged machine else admin_at machine port up).machine
     by_same true = is_same_bridge machine
     by_same false =
-        settle_same machine.id machine.hello_left machine.hello_left None machine.ports (moved_by (setting port up) machine.ports)
+        settle_same machine.id machine.hello_left machine.hello_left None machine.ports
+        (moved_by (setting port up) machine.ports)
         (moving_by (setting port up) (same_setting port up) machine.ports)
 
     by_port : (o : Option Port) → IsSameBridge machine (admin_by machine port up o).machine
@@ -74,29 +83,34 @@ same_ports-trans (p ∷ ps) (q ∷ qs) [] h k = absurd k
 same_ports-trans (p ∷ ps) (q ∷ qs) (r ∷ rs) h k = (same_port-trans p q r h.0 k.0, same_ports-trans ps qs rs h.1 k.1)
 
 -- whatever the causes were
-pub same_after : (machine : Machine) (causes : List Cause) → AreSamePorts machine.ports (machine_after machine causes).ports
+pub same_after : (machine : Machine) (causes : List Cause)
+    → AreSamePorts machine.ports (machine_after machine causes).ports
 same_after machine [] = same_ports machine.ports
 same_after machine (cause ∷ causes) =
-    same_ports-trans machine.ports (after machine cause).machine.ports (machine_after (after machine cause).machine causes).ports
+    same_ports-trans machine.ports (after machine cause).machine.ports
+    (machine_after (after machine cause).machine causes).ports
     (calls_keep_bridges machine cause).ports (same_after (after machine cause).machine causes)
 
 -- Ports by number.
 
 -- what rises above n is above it
-all-above : (n m : ℕ) → m ≤ n → (ps : List Port) → AreRising n (map (λ p. p.number) ps) → AllByRecursion (λ p. m < p.number) ps
+all-above : (n m : ℕ) → m ≤ n → (ps : List Port) → AreRising n (map (λ p. p.number) ps)
+    → AllByRecursion (λ p. m < p.number) ps
 all-above n m below [] r = tt
 all-above n m below (p ∷ ps) r = (omega (arith, r.0.0), all-above p.number m (omega (arith, r.0.0)) ps r.1)
 
 not_same : (m n : ℕ) → m < n → (m == n) ≡ false
 not_same m n h = false-unless (m == n) (λ e. omega (arith, eqb-true m n e))
 
-found-behind : (p : Port) (ps qs : List Port) → AllByRecursion (λ q. p.number < q.number) qs → AllByRecursion (λ q. port_of ps q.number ≡ Some q) qs
+found-behind : (p : Port) (ps qs : List Port) → AllByRecursion (λ q. p.number < q.number) qs
+    → AllByRecursion (λ q. port_of ps q.number ≡ Some q) qs
     → AllByRecursion (λ q. port_of (p ∷ ps) q.number ≡ Some q) qs
 found-behind p ps [] h k = tt
 found-behind p ps (q ∷ qs) h k =
     (port_of-cons q.number p ps false (not_same p.number q.number h.0) ∙ k.0, found-behind p ps qs h.1 k.1)
 
-rising-distinct : (n : ℕ) (ps : List Port) → AreRising n (map (λ p. p.number) ps) → AllByRecursion (λ p. port_of ps p.number ≡ Some p) ps
+rising-distinct : (n : ℕ) (ps : List Port) → AreRising n (map (λ p. p.number) ps)
+    → AllByRecursion (λ p. port_of ps p.number ≡ Some p) ps
 rising-distinct n [] r = tt
 rising-distinct n (p ∷ ps) r = (
   port_of-cons p.number p ps true (eqb-refl p.number),
@@ -112,13 +126,15 @@ small-same (p ∷ ps) (q ∷ qs) h s =
     ((omega (arith, s.0.0, h.0.number), omega (arith, s.0.1, h.0.number)), small-same ps qs h.1 s.1)
 
 -- a port that is found is found again, with its cost
-found-same : (k : ℕ) (ps qs : List Port) → AreSamePorts ps qs → (p : Port) → port_of ps k ≡ Some p → (q : Port) × (port_of qs k ≡ Some q) × (q.cost ≡ p.cost)
+found-same : (k : ℕ) (ps qs : List Port) → AreSamePorts ps qs → (p : Port) → port_of ps k ≡ Some p
+    → (q : Port) × (port_of qs k ≡ Some q) × (q.cost ≡ p.cost)
 found-same k [] [] h p e = cc
 found-same k [] (y ∷ ys) h p e = absurd h
 found-same k (x ∷ xs) [] h p e = absurd h
 found-same k (x ∷ xs) (y ∷ ys) h p e = by_test (x.number == k) refl (λ f. found-same k xs ys h.1 p f)
   where
-    by_test : (t : Bool) → (x.number == k) ≡ t → (port_of xs k ≡ Some p → (q : Port) × (port_of ys k ≡ Some q) × (q.cost ≡ p.cost))
+    by_test : (t : Bool) → (x.number == k) ≡ t
+        → (port_of xs k ≡ Some p → (q : Port) × (port_of ys k ≡ Some q) × (q.cost ≡ p.cost))
         → (q : Port) × (port_of (y ∷ ys) k ≡ Some q) × (q.cost ≡ p.cost)
     by_test true t rest =
         let same : x ≡ p = let f : Some x ≡ Some p = sym (port_of-cons k x xs true t) ∙ e in cc in
@@ -139,7 +155,8 @@ rising-ports at n m below (k ∷ ks) r =
         → AreRising k (map (λ p. p.number) (map fresh (flat_map (λ i. rstp_port i (at i)) ks)))
         → AreRising m (map (λ p. p.number) (map fresh (rstp_port k o ++ flat_map (λ i. rstp_port i (at i)) ks)))
     by_port (Customer c) skip take = skip
-    by_port (Provider e) skip take = rises-above m k (omega (arith, r.0.0)) (map (λ p. p.number) (map fresh (flat_map (λ i. rstp_port i (at i)) ks))) take
+    by_port (Provider e) skip take = rises-above m k (omega (arith, r.0.0))
+        (map (λ p. p.number) (map fresh (flat_map (λ i. rstp_port i (at i)) ks))) take
     by_port Unused skip take = skip
 
 small-ports : (at : ℕ → LocalPort) (ns : List ℕ) → AllByRecursion (λ n. (1 ≤ n) × (n < 256)) ns
@@ -147,8 +164,10 @@ small-ports : (at : ℕ → LocalPort) (ns : List ℕ) → AllByRecursion (λ n.
 small-ports at [] h = tt
 small-ports at (k ∷ ks) h = by_port (at k) (small-ports at ks h.1)
   where
-    by_port : (o : LocalPort) → AllByRecursion (λ p. (1 ≤ p.number) × (p.number < 256)) (map fresh (flat_map (λ i. rstp_port i (at i)) ks))
-        → AllByRecursion (λ p. (1 ≤ p.number) × (p.number < 256)) (map fresh (rstp_port k o ++ flat_map (λ i. rstp_port i (at i)) ks))
+    by_port : (o : LocalPort)
+        → AllByRecursion (λ p. (1 ≤ p.number) × (p.number < 256)) (map fresh (flat_map (λ i. rstp_port i (at i)) ks))
+        → AllByRecursion (λ p. (1 ≤ p.number) × (p.number < 256))
+        (map fresh (rstp_port k o ++ flat_map (λ i. rstp_port i (at i)) ks))
     by_port (Customer c) rest = rest
     by_port (Provider e) rest = (h.0, rest)
     by_port Unused rest = rest
@@ -157,19 +176,23 @@ small-ports at (k ∷ ks) h = by_port (at k) (small-ports at ks h.1)
 abbrev port_for : ℕ → End → Port
 port_for k e = fresh (record { port = k; cost = e.cost; priority = e.priority })
 
-found-port : (at : ℕ → LocalPort) (k : ℕ) (e : End) → at k ≡ Provider e → (ns : List ℕ) → list_any (λ n. n == k) ns ≡ true
+found-port : (at : ℕ → LocalPort) (k : ℕ) (e : End) → at k ≡ Provider e → (ns : List ℕ)
+    → list_any (λ n. n == k) ns ≡ true
     → port_of (map fresh (flat_map (λ n. rstp_port n (at n)) ns)) k ≡ Some (port_for k e)
 found-port at k e is [] listed = cc
 found-port at k e is (n ∷ ns) listed = by_test (n == k) refl (found-port at k e is ns)
   where
-    by_port : (o : LocalPort) → (n == k) ≡ false → port_of (map fresh (flat_map (λ i. rstp_port i (at i)) ns)) k ≡ Some (port_for k e)
+    by_port : (o : LocalPort) → (n == k) ≡ false
+        → port_of (map fresh (flat_map (λ i. rstp_port i (at i)) ns)) k ≡ Some (port_for k e)
         → port_of (map fresh (rstp_port n o ++ flat_map (λ i. rstp_port i (at i)) ns)) k ≡ Some (port_for k e)
     by_port (Customer c) t rest = rest
-    by_port (Provider f) t rest = port_of-cons k (port_for n f) (map fresh (flat_map (λ i. rstp_port i (at i)) ns)) false t ∙ rest
+    by_port (Provider f) t rest = port_of-cons k (port_for n f) (map fresh (flat_map (λ i. rstp_port i (at i)) ns))
+        false t ∙ rest
     by_port Unused t rest = rest
 
     by_test : (t : Bool) → (n == k) ≡ t
-        → (list_any (λ i. i == k) ns ≡ true → port_of (map fresh (flat_map (λ i. rstp_port i (at i)) ns)) k ≡ Some (port_for k e))
+        → (list_any (λ i. i == k) ns ≡ true → port_of (map fresh (flat_map (λ i. rstp_port i (at i)) ns)) k ≡ Some
+        (port_for k e))
         → port_of (map fresh (rstp_port n (at n) ++ flat_map (λ i. rstp_port i (at i)) ns)) k ≡ Some (port_for k e)
     by_test true t rest =
         let same : n ≡ k = eqb-true n k t in
@@ -180,10 +203,63 @@ found-port at k e is (n ∷ ns) listed = by_test (n == k) refl (found-port at k 
     by_test false t rest = by_port (at n) t (rest (sym (ap (λ b. b || list_any (λ i. i == k) ns) t) ∙ listed))
 
 pub local_rise : AreRising 0 local_ports
-local_rise = rises-above 0 1 (lit< tt) (2 ∷ 3 ∷ 4 ∷ 5 ∷ 6 ∷ 7 ∷ 8 ∷ 9 ∷ 10 ∷ 11 ∷ 12 ∷ 13 ∷ 14 ∷ 15 ∷ 16 ∷ []) (rises-above 1 2 (lit< tt) (3 ∷ 4 ∷ 5 ∷ 6 ∷ 7 ∷ 8 ∷ 9 ∷ 10 ∷ 11 ∷ 12 ∷ 13 ∷ 14 ∷ 15 ∷ 16 ∷ []) (rises-above 2 3 (lit< tt) (4 ∷ 5 ∷ 6 ∷ 7 ∷ 8 ∷ 9 ∷ 10 ∷ 11 ∷ 12 ∷ 13 ∷ 14 ∷ 15 ∷ 16 ∷ []) (rises-above 3 4 (lit< tt) (5 ∷ 6 ∷ 7 ∷ 8 ∷ 9 ∷ 10 ∷ 11 ∷ 12 ∷ 13 ∷ 14 ∷ 15 ∷ 16 ∷ []) (rises-above 4 5 (lit< tt) (6 ∷ 7 ∷ 8 ∷ 9 ∷ 10 ∷ 11 ∷ 12 ∷ 13 ∷ 14 ∷ 15 ∷ 16 ∷ []) (rises-above 5 6 (lit< tt) (7 ∷ 8 ∷ 9 ∷ 10 ∷ 11 ∷ 12 ∷ 13 ∷ 14 ∷ 15 ∷ 16 ∷ []) (rises-above 6 7 (lit< tt) (8 ∷ 9 ∷ 10 ∷ 11 ∷ 12 ∷ 13 ∷ 14 ∷ 15 ∷ 16 ∷ []) (rises-above 7 8 (lit< tt) (9 ∷ 10 ∷ 11 ∷ 12 ∷ 13 ∷ 14 ∷ 15 ∷ 16 ∷ []) (rises-above 8 9 (lit< tt) (10 ∷ 11 ∷ 12 ∷ 13 ∷ 14 ∷ 15 ∷ 16 ∷ []) (rises-above 9 10 (lit< tt) (11 ∷ 12 ∷ 13 ∷ 14 ∷ 15 ∷ 16 ∷ []) (rises-above 10 11 (lit< tt) (12 ∷ 13 ∷ 14 ∷ 15 ∷ 16 ∷ []) (rises-above 11 12 (lit< tt) (13 ∷ 14 ∷ 15 ∷ 16 ∷ []) (rises-above 12 13 (lit< tt) (14 ∷ 15 ∷ 16 ∷ []) (rises-above 13 14 (lit< tt) (15 ∷ 16 ∷ []) (rises-above 14 15 (lit< tt) (16 ∷ []) (rises-above 15 16 (lit< tt) [] (tt, tt))))))))))))))))
+local_rise = rises-above 0 1 (lit< tt) (2 ∷ 3 ∷ 4 ∷ 5 ∷ 6 ∷ 7 ∷ 8 ∷ 9 ∷ 10 ∷ 11 ∷ 12 ∷ 13 ∷ 14 ∷ 15 ∷ 16 ∷ [])
+    (rises-above 1 2 (lit< tt) (3 ∷ 4 ∷ 5 ∷ 6 ∷ 7 ∷ 8 ∷ 9 ∷ 10 ∷ 11 ∷ 12 ∷ 13 ∷ 14 ∷ 15 ∷ 16 ∷ [])
+    (rises-above 2 3 (lit< tt) (4 ∷ 5 ∷ 6 ∷ 7 ∷ 8 ∷ 9 ∷ 10 ∷ 11 ∷ 12 ∷ 13 ∷ 14 ∷ 15 ∷ 16 ∷ [])
+    (rises-above 3 4 (lit< tt) (5 ∷ 6 ∷ 7 ∷ 8 ∷ 9 ∷ 10 ∷ 11 ∷ 12 ∷ 13 ∷ 14 ∷ 15 ∷ 16 ∷ [])
+    (rises-above 4 5 (lit< tt) (6 ∷ 7 ∷ 8 ∷ 9 ∷ 10 ∷ 11 ∷ 12 ∷ 13 ∷ 14 ∷ 15 ∷ 16 ∷ [])
+    (rises-above 5 6 (lit< tt) (7 ∷ 8 ∷ 9 ∷ 10 ∷ 11 ∷ 12 ∷ 13 ∷ 14 ∷ 15 ∷ 16 ∷ [])
+    (rises-above 6 7 (lit< tt) (8 ∷ 9 ∷ 10 ∷ 11 ∷ 12 ∷ 13 ∷ 14 ∷ 15 ∷ 16 ∷ [])
+    (rises-above 7 8 (lit< tt) (9 ∷ 10 ∷ 11 ∷ 12 ∷ 13 ∷ 14 ∷ 15 ∷ 16 ∷ [])
+    (rises-above 8 9 (lit< tt) (10 ∷ 11 ∷ 12 ∷ 13 ∷ 14 ∷ 15 ∷ 16 ∷ [])
+    (rises-above 9 10 (lit< tt) (11 ∷ 12 ∷ 13 ∷ 14 ∷ 15 ∷ 16 ∷ [])
+    (rises-above 10 11 (lit< tt) (12 ∷ 13 ∷ 14 ∷ 15 ∷ 16 ∷ [])
+    (rises-above 11 12 (lit< tt) (13 ∷ 14 ∷ 15 ∷ 16 ∷ [])
+    (rises-above 12 13 (lit< tt) (14 ∷ 15 ∷ 16 ∷ [])
+    (rises-above 13 14 (lit< tt) (15 ∷ 16 ∷ [])
+    (rises-above 14 15 (lit< tt) (16 ∷ []) (rises-above 15 16 (lit< tt) [] (tt, tt))))))))))))))))
 
 local_small : AllByRecursion (λ n. (1 ≤ n) × (n < 256)) local_ports
-local_small = ((lit≤ tt, lit< tt), ((lit≤ tt, lit< tt), ((lit≤ tt, lit< tt), ((lit≤ tt, lit< tt), ((lit≤ tt, lit< tt), ((lit≤ tt, lit< tt), ((lit≤ tt, lit< tt), ((lit≤ tt, lit< tt), ((lit≤ tt, lit< tt), ((lit≤ tt, lit< tt), ((lit≤ tt, lit< tt), ((lit≤ tt, lit< tt), ((lit≤ tt, lit< tt), ((lit≤ tt, lit< tt), ((lit≤ tt, lit< tt), ((lit≤ tt, lit< tt), tt))))))))))))))))
+local_small = (
+  (lit≤ tt, lit< tt),
+  (
+    (lit≤ tt, lit< tt),
+    (
+      (lit≤ tt, lit< tt),
+      (
+        (lit≤ tt, lit< tt),
+        (
+          (lit≤ tt, lit< tt),
+          (
+            (lit≤ tt, lit< tt),
+            (
+              (lit≤ tt, lit< tt),
+              (
+                (lit≤ tt, lit< tt),
+                (
+                  (lit≤ tt, lit< tt),
+                  (
+                    (lit≤ tt, lit< tt),
+                    (
+                      (lit≤ tt, lit< tt),
+                      (
+                        (lit≤ tt, lit< tt),
+                        (
+                          (lit≤ tt, lit< tt),
+                          ((lit≤ tt, lit< tt), ((lit≤ tt, lit< tt), ((lit≤ tt, lit< tt), tt))),
+                        ),
+                      ),
+                    ),
+                  ),
+                ),
+              ),
+            ),
+          ),
+        ),
+      ),
+    ),
+  ),
+)
 
 -- The machines.
 
@@ -192,19 +268,31 @@ has_ports plan bridge steps =
     let same = same_after (machine_at_start plan bridge) (flat_map causes_of steps) in
     let rises = rising-ports (λ port. port_at plan bridge port) 0 0 (omega arith) local_ports local_rise in
     record {
-      distinct = rising-distinct 0 (machine_of plan bridge steps).ports (rising-same 0 0 refl (machine_at_start plan bridge).ports (machine_of plan bridge steps).ports same rises);
-      small = small-same (machine_at_start plan bridge).ports (machine_of plan bridge steps).ports same (small-ports (λ port. port_at plan bridge port) local_ports local_small);
+      distinct = rising-distinct 0 (machine_of plan bridge steps).ports
+          (rising-same 0 0 refl (machine_at_start plan bridge).ports (machine_of plan bridge steps).ports same rises);
+      small = small-same (machine_at_start plan bridge).ports (machine_of plan bridge steps).ports same
+          (small-ports (λ port. port_at plan bridge port) local_ports local_small);
     }
 
-has_port_at : (plan : Plan) (past : ℕ → List Step) → IsSound plan → (k : ℕ) (link : LinkPlan) (e : End) → numbered plan.links k ≡ Some link → IsEndOf link e
+has_port_at : (plan : Plan) (past : ℕ → List Step) → IsSound plan → (k : ℕ) (link : LinkPlan) (e : End)
+    → numbered plan.links k ≡ Some link → IsEndOf link e
     → HasPortAt (machines_of plan past) e
 has_port_at plan past sound k link e at which =
     let limits = sound-end plan sound k link e at which in
-    let found = found-port (λ port. port_at plan e.bridge port) e.port e (port_at-end plan sound k link e at which) local_ports (local-listed e.port limits.port) in
+    let found = found-port (λ port. port_at plan e.bridge port) e.port e (port_at-end plan sound k link e at which)
+    local_ports (local-listed e.port limits.port) in
     let machine = machine_of plan e.bridge (past e.bridge) in
     let again = found-same e.port (machine_at_start plan e.bridge).ports machine.ports
-    (same_after (machine_at_start plan e.bridge) (flat_map causes_of (past e.bridge))) (port_for e.port e) found in
-    (machine, again.0, record { machine = numbered-at (λ bridge. machine_of plan bridge (past bridge)) plan.bridges e.bridge limits.bridge.0 limits.bridge.1; port = again.1 }, again.2)
+    (same_after (machine_at_start plan e.bridge) (flat_map causes_of (past e.bridge))) (port_for e.port e) found in (
+      machine,
+      again.0,
+      record {
+        machine = numbered-at (λ bridge. machine_of plan bridge (past bridge)) plan.bridges
+            e.bridge limits.bridge.0 limits.bridge.1;
+        port = again.1;
+      },
+      again.2,
+    )
 
 length-machines : (plan : Plan) (past : ℕ → List Step) {X : Type 0} (k : ℕ) (xs : List X)
     → length (map (λ bridge. machine_of plan bridge (past bridge)) (numbers_from k xs)) ≡ length xs
@@ -215,8 +303,14 @@ pub planned_are_machines : PlannedAreMachines
 planned_are_machines plan past sound = record {
   count = length-machines plan past 1 plan.bridges;
   ports = All-map HasPorts (λ bridge. machine_of plan bridge (past bridge)) (numbers_from 1 plan.bridges)
-      (All-every (λ bridge. HasPorts (machine_of plan bridge (past bridge))) (λ bridge. has_ports plan bridge (past bridge)) (numbers_from 1 plan.bridges));
-  ends = All-imply (λ link. (i : ℕ) × (slice_get plan.links i ≡ Some link)) (λ link. HasPortAt (machines_of plan past) link.a × HasPortAt (machines_of plan past) link.b)
-      (λ link placed. (has_port_at plan past sound (suc placed.0) link link.a placed.1 (inl refl), has_port_at plan past sound (suc placed.0) link link.b placed.1 (inr refl)))
+      (All-every (λ bridge. HasPorts (machine_of plan bridge (past bridge)))
+      (λ bridge. has_ports plan bridge (past bridge)) (numbers_from 1 plan.bridges));
+  ends = All-imply (λ link. (i : ℕ) × (slice_get plan.links i ≡ Some link))
+      (λ link. HasPortAt (machines_of plan past) link.a × HasPortAt (machines_of plan past) link.b)
+      (λ link placed. (
+        has_port_at plan past sound (suc placed.0) link link.a placed.1 (inl refl),
+        has_port_at plan
+            past sound (suc placed.0) link link.b placed.1 (inr refl),
+      ))
       plan.links (All-placed plan.links);
 }

@@ -1,5 +1,6 @@
 -- What brings all into line gives each port its role.
-use Rattle.std.proofs.Common.{◌≡◌, ℕ, List, [], ◌∷◌, ◌++◌, Some, None, refl, sym, ap, ap₂, ◌∙◌, subst, Bool, true, false, is_some, ◌==◌, ◌&&◌, not, if◌then◌else◌, inl, inr}
+use Rattle.std.proofs.Common.{◌≡◌, ℕ, List, [], ◌∷◌, ◌++◌, Some, None, refl, sym, ap, ap₂, ◌∙◌, subst, Bool, true}
+use Rattle.std.proofs.Common.{false, is_some, ◌==◌, ◌&&◌, not, if◌then◌else◌, inl, inr}
 use Rattle.std.specs.declared.option.Option.{Option}
 use Rattle.std.specs.List.{flat_map, list_any, AllByRecursion}
 use Rattle.std.proofs.lemmas.Bool.{eq-eqb}
@@ -7,8 +8,12 @@ use Rattle.pb_rstp.specs.Vectors.{is_better, own_vector, port_id, raised}
 use Rattle.pb_rstp.specs.Ports.{is_designated, is_discarding, id_of, stored_vector, designated_vector, delay_of}
 use Rattle.pb_rstp.specs.declared.port.Info.{Info}
 use Rattle.pb_rstp.specs.declared.port.Port.{Port}
-use Rattle.pb_rstp.specs.Roles.{offer_of, offers, best, root_vector, came_from, other_role, role_by, IsWay, IsWayOfSome, IsRootVector, OffersBetter, StoresBetter, HasRole}
-use Rattle.pb_rstp.specs.Settling.{nows, each, with_role, with_roles, without_agreement, with_agreements, without_info, with_infos, held_back, forwarding_if_agreed, state_by, with_state, synced, agreeing, with_proposal, is_proposed, is_root_agreeing, is_agreeing, with_changing, is_telling, is_sending, after_sending, with_sent, in_line, settled}
+use Rattle.pb_rstp.specs.Roles.{offer_of, offers, best, root_vector, came_from, other_role, role_by, IsWay}
+use Rattle.pb_rstp.specs.Roles.{IsWayOfSome, IsRootVector, OffersBetter, StoresBetter, HasRole}
+use Rattle.pb_rstp.specs.Settling.{nows, each, with_role, with_roles, without_agreement, with_agreements}
+use Rattle.pb_rstp.specs.Settling.{without_info, with_infos, held_back, forwarding_if_agreed, state_by, with_state}
+use Rattle.pb_rstp.specs.Settling.{synced, agreeing, with_proposal, is_proposed, is_root_agreeing, is_agreeing}
+use Rattle.pb_rstp.specs.Settling.{with_changing, is_telling, is_sending, after_sending, with_sent, in_line, settled}
 use Rattle.pb_rstp.specs.declared.moving.Moving.{Moving}
 use Rattle.pb_rstp.specs.declared.moving.Heard.{Heard}
 use Rattle.pb_rstp.specs.declared.vector.Vector.{Vector}
@@ -27,7 +32,13 @@ pub record SameSeen (p q : Port) : Type 0 where
 abbrev offer_at : ℕ → Option Info → ℕ → ℕ → List Vector
 offer_at id None cost receiving = []
 offer_at id (Some info) cost receiving =
-    if info.bridge == id then [] else record { root = info.root; cost = raised info.cost cost; bridge = info.bridge; port = info.port; receiving = receiving } ∷ []
+    if info.bridge == id then [] else record {
+      root = info.root;
+      cost = raised info.cost cost;
+      bridge = info.bridge;
+      port = info.port;
+      receiving = receiving;
+    } ∷ []
 
 abbrev offers_at : ℕ → Bool → Option Info → ℕ → ℕ → ℕ → List Vector
 offers_at id up info cost priority number = if up then offer_at id info cost (port_id priority number) else []
@@ -55,7 +66,8 @@ other_at id root receiving (Some info) =
 
 abbrev role_at : ℕ → Vector → Bool → Option Info → ℕ → ℕ → Role
 role_at id root up info priority number =
-    if up then (if root.receiving == port_id priority number then Root else other_at id root (port_id priority number) info) else Disabled
+    if up then (if root.receiving == port_id priority number then Root else other_at id root (port_id priority number)
+    info) else Disabled
 
 role-at : (id : ℕ) (root : Vector) (p : Port) → role_by id root p ≡ role_at id root p.up p.info p.priority p.number
 role-at id root p = ap (λ r. if p.up then (if came_from root p then Root else r) else Disabled) (by_info p.info)
@@ -79,12 +91,14 @@ HaveRoles id root ports = (root_vector id (nows ports) ≡ root) × AllByRecursi
 
 -- Changes of each port.
 
-pub each-all : (P Q : Port → Type 0) (f : Port → Port → Port) → ((was now : Port) → P now → Q (f was now)) → (ports : List Moving)
+pub each-all : (P Q : Port → Type 0) (f : Port → Port → Port) → ((was now : Port) → P now → Q (f was now))
+    → (ports : List Moving)
     → AllByRecursion P (nows ports) → AllByRecursion Q (nows (each f ports))
 each-all P Q f keeps [] h = tt
 each-all P Q f keeps (p ∷ ps) h = (keeps p.was p.now h.0, each-all P Q f keeps ps h.1)
 
-offers-each : (id : ℕ) (f : Port → Port → Port) → ((was now : Port) → offers id (f was now) ≡ offers id now) → (ports : List Moving)
+offers-each : (id : ℕ) (f : Port → Port → Port) → ((was now : Port) → offers id (f was now) ≡ offers id now)
+    → (ports : List Moving)
     → flat_map (offers id) (nows (each f ports)) ≡ flat_map (offers id) (nows ports)
 offers-each id f same [] = refl
 offers-each id f same (p ∷ ps) = ap₂ (λ a b. a ++ b) (same p.was p.now) (offers-each id f same ps)
@@ -92,14 +106,16 @@ offers-each id f same (p ∷ ps) = ap₂ (λ a b. a ++ b) (same p.was p.now) (of
 root-each : (id : ℕ) (f : Port → Port → Port) → ((was now : Port) → SameSeen now (f was now)) → (ports : List Moving)
     → root_vector id (nows (each f ports)) ≡ root_vector id (nows ports)
 root-each id f same ports =
-    ap (λ os. best (own_vector id) os) (offers-each id f (λ was now. offers-same id now (f was now) (same was now)) ports)
+    ap (λ os. best (own_vector id) os) (offers-each id f (λ was now. offers-same id now (f was now) (same was now))
+    ports)
 
 -- a change that leaves alone what roles hang on, and the role
 pub record Keeps (p q : Port) : Type 0 where
   pub seen : SameSeen p q
   pub role : q.role ≡ p.role
 
-pub roles-each : (id : ℕ) (root : Vector) (f : Port → Port → Port) → ((was now : Port) → Keeps now (f was now)) → (ports : List Moving)
+pub roles-each : (id : ℕ) (root : Vector) (f : Port → Port → Port) → ((was now : Port) → Keeps now (f was now))
+    → (ports : List Moving)
     → HaveRoles id root ports → HaveRoles id root (each f ports)
 roles-each id root f keeps ports h = (
   root-each id f (λ was now. (keeps was now).seen) ports ∙ h.0,
@@ -120,28 +136,37 @@ keeps-if false p q r kq kr = kr
 -- first
 pub roles-first : (id : ℕ) (ports : List Moving) → HaveRoles id (root_vector id (nows ports)) (with_roles id ports)
 roles-first id ports = (
-  root-each id (with_role id (root_vector id (nows ports))) (λ was now. same_role was now (root_vector id (nows ports))) ports,
+  root-each id (with_role id (root_vector id (nows ports)))
+      (λ was now. same_role was now (root_vector id (nows ports))) ports,
   all (root_vector id (nows ports)) ports,
 )
   where
     same_role : (was now : Port) (root : Vector) → SameSeen now (with_role id root was now)
     same_role was now root = record { number = refl; cost = refl; priority = refl; up = refl; info = refl }
 
-    all : (root : Vector) (ports : List Moving) → AllByRecursion (HasRoleBy id root) (nows (each (with_role id root) ports))
+    all : (root : Vector) (ports : List Moving)
+        → AllByRecursion (HasRoleBy id root) (nows (each (with_role id root) ports))
     all root [] = tt
-    all root (p ∷ ps) = (sym (role-same id root p.now (with_role id root p.was p.now) (same_role p.was p.now root)), all root ps)
+    all root (p ∷ ps) = (
+      sym (role-same id root p.now (with_role id root p.was p.now) (same_role p.was p.now root)),
+      all root ps,
+    )
 
 -- second
 pub keeps-agreement : (was now : Port) → Keeps now (without_agreement was now)
-keeps-agreement was now = record { seen = record { number = refl; cost = refl; priority = refl; up = refl; info = refl }; role = refl }
+keeps-agreement was now =
+    record { seen = record { number = refl; cost = refl; priority = refl; up = refl; info = refl }; role = refl }
 
-roles-if : (id : ℕ) (root : Vector) (b : Bool) (ps qs : List Moving) → HaveRoles id root ps → HaveRoles id root qs → HaveRoles id root (if b then ps else qs)
+roles-if : (id : ℕ) (root : Vector) (b : Bool) (ps qs : List Moving) → HaveRoles id root ps → HaveRoles id root qs
+    → HaveRoles id root (if b then ps else qs)
 roles-if id root true ps qs hp hq = hp
 roles-if id root false ps qs hp hq = hq
 
-pub roles-second : (id : ℕ) (root : Vector) (ports : List Moving) → HaveRoles id root ports → HaveRoles id root (with_agreements id ports)
+pub roles-second : (id : ℕ) (root : Vector) (ports : List Moving) → HaveRoles id root ports
+    → HaveRoles id root (with_agreements id ports)
 roles-second id root ports h =
-    roles-if id root _ ports (each without_agreement ports) h (roles-each id root without_agreement keeps-agreement ports h)
+    roles-if id root _ ports (each without_agreement ports) h
+    (roles-each id root without_agreement keeps-agreement ports h)
 
 -- third
 designated_is : (r : Role) → is_designated r ≡ true → r ≡ Designated
@@ -159,7 +184,8 @@ root_role id root p (info, up, stored, other, is) =
     ap₂ (λ u c. if u then (if c then Root else other_role id root p p.info) else Disabled) up came
 
 root_port_kept : (was p : Port) → p.role ≡ Root → without_info was p ≡ p
-root_port_kept was p role = ap (λ r. if is_designated r && is_some p.info then record p { info = None; due = true } else p) role
+root_port_kept was p role =
+    ap (λ r. if is_designated r && is_some p.info then record p { info = None; due = true } else p) role
 
 way_kept : (id : ℕ) (root : Vector) (ports : List Moving) → AllByRecursion (HasRoleBy id root) (nows ports)
     → IsWayOfSome id (nows ports) root → IsWayOfSome id (nows (each without_info ports)) root
@@ -169,7 +195,8 @@ way_kept id root (m ∷ ms) roles (inl way) =
     inl (subst P (sym (root_port_kept m.was m.now (roles.0 ∙ root_role id root m.now way))) way)
 way_kept id root (m ∷ ms) roles (inr h) = inr (way_kept id root ms roles.1 h)
 
-way_was : (id : ℕ) (v : Vector) (ports : List Moving) → IsWayOfSome id (nows (each without_info ports)) v → IsWayOfSome id (nows ports) v
+way_was : (id : ℕ) (v : Vector) (ports : List Moving) → IsWayOfSome id (nows (each without_info ports)) v
+    → IsWayOfSome id (nows ports) v
 way_was id v [] h = absurd h
 way_was id v (m ∷ ms) (inl way) = inl (by_test (is_designated m.now.role && is_some m.now.info) way)
   where
@@ -178,7 +205,8 @@ way_was id v (m ∷ ms) (inl way) = inl (by_test (is_designated m.now.role && is
     by_test false way = way
 way_was id v (m ∷ ms) (inr h) = inr (way_was id v ms h)
 
-without_info_root : (id : ℕ) (root : Vector) (ports : List Moving) → HaveRoles id root ports → root_vector id (nows (with_infos ports)) ≡ root
+without_info_root : (id : ℕ) (root : Vector) (ports : List Moving) → HaveRoles id root ports
+    → root_vector id (nows (with_infos ports)) ≡ root
 without_info_root id root ports h =
     let P : Vector → Type 0 = λ v. IsRootVector id (nows ports) v in
     let is : IsRootVector id (nows ports) root = subst P h.0 (root_vector-is id (nows ports)) in
@@ -186,23 +214,29 @@ without_info_root id root ports h =
       candidate = elim is.candidate [ inl e ↦ inl e | inr way ↦ inr (way_kept id root ports h.1 way) ];
       least = λ v candidate. is.least v (elim candidate [ inl e ↦ inl e | inr way ↦ inr (way_was id v ports way) ]);
     } in
-    root_vector-unique id (nows (with_infos ports)) (root_vector id (nows (with_infos ports))) root (root_vector-is id (nows (with_infos ports))) still
+    root_vector-unique id (nows (with_infos ports)) (root_vector id (nows (with_infos ports))) root
+    (root_vector-is id (nows (with_infos ports))) still
 
-designated_still : (up came : Bool) (r other : Role) → r ≡ Designated → r ≡ (if up then (if came then Root else other) else Disabled)
+designated_still : (up came : Bool) (r other : Role) → r ≡ Designated
+    → r ≡ (if up then (if came then Root else other) else Disabled)
     → r ≡ (if up then (if came then Root else Designated) else Disabled)
 designated_still true true r other d e = e
 designated_still true false r other d e = d
 designated_still false came r other d e = e
 
-role_without_info : (id : ℕ) (root : Vector) (was now : Port) → HasRoleBy id root now → HasRoleBy id root (without_info was now)
+role_without_info : (id : ℕ) (root : Vector) (was now : Port) → HasRoleBy id root now
+    → HasRoleBy id root (without_info was now)
 role_without_info id root was now e = by_test (is_designated now.role) (is_some now.info) refl
   where
-    by_test : (d s : Bool) → is_designated now.role ≡ d → HasRoleBy id root (if d && s then record now { info = None; due = true } else now)
-    by_test true true d = designated_still now.up (came_from root now) now.role (other_role id root now now.info) (designated_is now.role d) e
+    by_test : (d s : Bool) → is_designated now.role ≡ d
+        → HasRoleBy id root (if d && s then record now { info = None; due = true } else now)
+    by_test true true d = designated_still now.up (came_from root now) now.role (other_role id root now now.info)
+        (designated_is now.role d) e
     by_test true false d = e
     by_test false s d = e
 
-pub roles-third : (id : ℕ) (root : Vector) (ports : List Moving) → HaveRoles id root ports → HaveRoles id root (with_infos ports)
+pub roles-third : (id : ℕ) (root : Vector) (ports : List Moving) → HaveRoles id root ports
+    → HaveRoles id root (with_infos ports)
 roles-third id root ports h = (
   without_info_root id root ports h,
   each-all (HasRoleBy id root) (HasRoleBy id root) without_info (role_without_info id root) ports h.1,
@@ -213,30 +247,68 @@ pub keeps-state : (delay : ℕ) (was now : Port) → Keeps now (with_state delay
 keeps-state delay was now = by_role now.role
   where
     agreed : (p q : Port) → Keeps p q → Keeps p (forwarding_if_agreed q)
-    agreed p q k = keeps-if q.agreed p _ q (record { seen = record { number = k.seen.number; cost = k.seen.cost; priority = k.seen.priority; up = k.seen.up; info = k.seen.info }; role = k.role }) k
+    agreed p q k = keeps-if q.agreed p _ q
+        (record {
+          seen = record {
+            number = k.seen.number;
+            cost = k.seen.cost;
+            priority = k.seen.priority;
+            up = k.seen.up;
+            info = k.seen.info;
+          };
+          role = k.role;
+        }) k
 
     by_role : (r : Role) → Keeps now (state_by delay r was now)
-    by_role Root = record { seen = record { number = refl; cost = refl; priority = refl; up = refl; info = refl }; role = refl }
-    by_role Disabled = record { seen = record { number = refl; cost = refl; priority = refl; up = refl; info = refl }; role = refl }
-    by_role Alternate = record { seen = record { number = refl; cost = refl; priority = refl; up = refl; info = refl }; role = refl }
-    by_role Backup = record { seen = record { number = refl; cost = refl; priority = refl; up = refl; info = refl }; role = refl }
+    by_role Root = record {
+      seen = record { number = refl; cost = refl; priority = refl; up = refl; info = refl };
+      role = refl;
+    }
+    by_role Disabled = record {
+      seen = record { number = refl; cost = refl; priority = refl; up = refl; info = refl };
+      role = refl;
+    }
+    by_role Alternate = record {
+      seen = record {
+        number = refl;
+        cost = refl;
+        priority = refl;
+        up = refl;
+        info = refl;
+      };
+      role = refl;
+    }
+    by_role Backup = record {
+      seen = record { number = refl; cost = refl; priority = refl; up = refl; info = refl };
+      role = refl;
+    }
     by_role Designated = agreed now (if is_designated was.role then now else held_back delay now)
-        (keeps-if (is_designated was.role) now now (held_back delay now) (keeps_all now) (record { seen = record { number = refl; cost = refl; priority = refl; up = refl; info = refl }; role = refl }))
+        (keeps-if (is_designated was.role) now now (held_back delay now) (keeps_all now)
+        (record {
+          seen = record { number = refl; cost = refl; priority = refl; up = refl; info = refl };
+          role = refl;
+        }))
 
 -- fifth
 keeps_held : (delay : ℕ) (p : Port) → Keeps p (held_back delay p)
-keeps_held delay p = record { seen = record { number = refl; cost = refl; priority = refl; up = refl; info = refl }; role = refl }
+keeps_held delay p = record {
+  seen = record { number = refl; cost = refl; priority = refl; up = refl; info = refl };
+  role = refl;
+}
 
 pub keeps-synced : (delay : ℕ) (was now : Port) → Keeps now (synced delay was now)
 keeps-synced delay was now =
-    keeps-if (is_designated now.role && not now.agreed && not (is_discarding now.state)) now _ now (keeps_held delay now) (keeps_all now)
+    keeps-if (is_designated now.role && not now.agreed && not (is_discarding now.state)) now _ now
+    (keeps_held delay now) (keeps_all now)
 
 pub keeps-agreeing : (number : ℕ) (was now : Port) → Keeps now (agreeing number was now)
 keeps-agreeing number was now =
     keeps-if (is_agreeing number now) now _ now
-    (record { seen = record { number = refl; cost = refl; priority = refl; up = refl; info = refl }; role = refl }) (keeps_all now)
+    (record { seen = record { number = refl; cost = refl; priority = refl; up = refl; info = refl }; role = refl })
+    (keeps_all now)
 
-pub roles-fifth : (id : ℕ) (root : Vector) (heard : Option Heard) (ports : List Moving) → HaveRoles id root ports → HaveRoles id root (with_proposal heard ports)
+pub roles-fifth : (id : ℕ) (root : Vector) (heard : Option Heard) (ports : List Moving) → HaveRoles id root ports
+    → HaveRoles id root (with_proposal heard ports)
 roles-fifth id root None ports h = h
 roles-fifth id root (Some heard) ports h =
     roles-if id root (is_proposed heard) _ ports
@@ -245,15 +317,18 @@ roles-fifth id root (Some heard) ports h =
     (roles-each id root (synced (delay_of (nows ports))) (keeps-synced (delay_of (nows ports))) ports h) h)) h
 
 -- sixth and seventh
-pub keeps-changing : (heard : Option Heard) (ports : List Moving) (was now : Port) → Keeps now (with_changing heard ports was now)
+pub keeps-changing : (heard : Option Heard) (ports : List Moving) (was now : Port)
+    → Keeps now (with_changing heard ports was now)
 keeps-changing heard ports was now =
     keeps-if (is_telling heard ports now) now _ now
-    (record { seen = record { number = refl; cost = refl; priority = refl; up = refl; info = refl }; role = refl }) (keeps_all now)
+    (record { seen = record { number = refl; cost = refl; priority = refl; up = refl; info = refl }; role = refl })
+    (keeps_all now)
 
 pub keeps-sending : (was now : Port) → Keeps now (after_sending was now)
 keeps-sending was now =
     keeps-if (is_sending now) now _ now
-    (record { seen = record { number = refl; cost = refl; priority = refl; up = refl; info = refl }; role = refl }) (keeps_all now)
+    (record { seen = record { number = refl; cost = refl; priority = refl; up = refl; info = refl }; role = refl })
+    (keeps_all now)
 
 -- all seven
 pub roles_settled : (id : ℕ) (heard : Option Heard) (ports : List Moving)
@@ -278,7 +353,8 @@ pub has_role : (id : ℕ) (root : Vector) (p : Port) → HasRole id root p (role
 has_role id root p = by_up p.up refl
   where
     by_better : (info : Info) → p.up ≡ true → came_from root p ≡ false → p.info ≡ Some info
-        → (t own : Bool) → is_better (designated_vector id root p) (stored_vector p info) ≡ t → (info.bridge == id) ≡ own
+        → (t own : Bool) → is_better (designated_vector id root p) (stored_vector p info) ≡ t
+        → (info.bridge == id) ≡ own
         → HasRole id root p (if t then Designated else (if own then Backup else Alternate))
     by_better info up came stored true own e eo =
         let P : Option Info → Type 0 = λ o. OffersBetter id root p o in (up, came, subst P (sym stored) e)
@@ -287,23 +363,30 @@ has_role id root p = by_up p.up refl
     by_better info up came stored false false e eo =
         let P : Option Info → Type 0 = λ o. StoresBetter id root p o false in (up, came, subst P (sym stored) (e, eo))
 
-    by_info : p.up ≡ true → came_from root p ≡ false → (o : Option Info) → p.info ≡ o → HasRole id root p (other_role id root p o)
-    by_info up came None stored = let P : Option Info → Type 0 = λ o. OffersBetter id root p o in (up, came, subst P (sym stored) tt)
+    by_info : p.up ≡ true → came_from root p ≡ false → (o : Option Info) → p.info ≡ o
+        → HasRole id root p (other_role id root p o)
+    by_info up came None stored = let P : Option Info
+        → Type 0 = λ o. OffersBetter id root p o in (up, came, subst P (sym stored) tt)
     by_info up came (Some info) stored = by_better info up came stored _ _ refl refl
 
-    by_came : p.up ≡ true → (c : Bool) → came_from root p ≡ c → HasRole id root p (if c then Root else other_role id root p p.info)
+    by_came : p.up ≡ true → (c : Bool) → came_from root p ≡ c
+        → HasRole id root p (if c then Root else other_role id root p p.info)
     by_came up true came = (up, came)
     by_came up false came = by_info up came p.info refl
 
-    by_up : (u : Bool) → p.up ≡ u → HasRole id root p (if u then (if came_from root p then Root else other_role id root p p.info) else Disabled)
+    by_up : (u : Bool) → p.up ≡ u
+        → HasRole id root p (if u then (if came_from root p then Root else other_role id root p p.info) else Disabled)
     by_up true up = by_came up (came_from root p) refl
     by_up false up = up
 
-pub roles_related : (id : ℕ) (root : Vector) (all ports : List Port) → root_vector id all ≡ root → AllByRecursion (HasRoleBy id root) ports
+pub roles_related : (id : ℕ) (root : Vector) (all ports : List Port) → root_vector id all ≡ root
+    → AllByRecursion (HasRoleBy id root) ports
     → AllByRecursion (λ p. (v : Vector) → IsRootVector id all v → HasRole id v p p.role) ports
 roles_related id root all [] e h = tt
-roles_related id root all (p ∷ ps) e h =
-    (λ v is. related p v (sym e ∙ root_vector-unique id all (root_vector id all) v (root_vector-is id all) is) h.0, roles_related id root all ps e h.1)
+roles_related id root all (p ∷ ps) e h = (
+  λ v is. related p v (sym e ∙ root_vector-unique id all (root_vector id all) v (root_vector-is id all) is) h.0,
+  roles_related id root all ps e h.1,
+)
   where
     related : (p : Port) (v : Vector) → root ≡ v → HasRoleBy id root p → HasRole id v p p.role
     related p v same role =

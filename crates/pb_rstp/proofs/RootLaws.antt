@@ -1,5 +1,6 @@
 -- The root vector is the least candidate.
-use Rattle.std.proofs.Common.{◌≡◌, ◌⊎◌, ℕ, List, [], ◌∷◌, ◌++◌, Some, None, refl, sym, ◌∙◌, subst, Bool, true, false, ◌==◌, if◌then◌else◌, inl, inr}
+use Rattle.std.proofs.Common.{◌≡◌, ◌⊎◌, ℕ, List, [], ◌∷◌, ◌++◌, Some, None, refl, sym, ◌∙◌, subst, Bool, true, false}
+use Rattle.std.proofs.Common.{◌==◌, if◌then◌else◌, inl, inr}
 use Rattle.std.specs.declared.option.Option.{Option}
 use Rattle.std.specs.List.{flat_map}
 use Rattle.std.proofs.lemmas.Bool.{eqb-true, eqb-false}
@@ -92,12 +93,14 @@ offered_way id p v h = by_up p.up refl h
     by_up true up h = by_info up p.info refl h
     by_up false up h = absurd h
 
-pub ways_offered : (id : ℕ) (ports : List Port) (v : Vector) → IsWayOfSome id ports v → In v (flat_map (offers id) ports)
+pub ways_offered : (id : ℕ) (ports : List Port) (v : Vector) → IsWayOfSome id ports v
+    → In v (flat_map (offers id) ports)
 ways_offered id [] v h = absurd h
 ways_offered id (p ∷ ps) v (inl way) = in_left v (offers id p) (flat_map (offers id) ps) (way_offered id p v way)
 ways_offered id (p ∷ ps) v (inr h) = in_right v (offers id p) (flat_map (offers id) ps) (ways_offered id ps v h)
 
-pub offered_ways : (id : ℕ) (ports : List Port) (v : Vector) → In v (flat_map (offers id) ports) → IsWayOfSome id ports v
+pub offered_ways : (id : ℕ) (ports : List Port) (v : Vector) → In v (flat_map (offers id) ports)
+    → IsWayOfSome id ports v
 offered_ways id [] v h = absurd h
 offered_ways id (p ∷ ps) v h = elim (in-append v (offers id p) (flat_map (offers id) ps) h)
     [ inl a ↦ inl (offered_way id p v a) | inr b ↦ inr (offered_ways id ps v b) ]
@@ -115,5 +118,6 @@ root_vector-is id ports = record {
 }
 
 -- there is one least candidate
-pub root_vector-unique : (id : ℕ) (ports : List Port) (v w : Vector) → IsRootVector id ports v → IsRootVector id ports w → v ≡ w
+pub root_vector-unique : (id : ℕ) (ports : List Port) (v w : Vector) → IsRootVector id ports v
+    → IsRootVector id ports w → v ≡ w
 root_vector-unique id ports v w a b = better-antisym v w (b.least v a.candidate) (a.least w b.candidate)

@@ -177,5 +177,6 @@ settled_or_not :
     × (is_settled plan (first_ticked ∷ second_heard ∷ []) ≡ true)
     × (is_settled plan both_done ≡ true)
     × (is_settled plan (first_ticked ∷ (after both_heard Ticks).machine ∷ []) ≡ false)
-unfolding address bridge front id_octets times from_first from_second ticks end_of bridge_plan plan first_ticked second_heard both_done both_heard
+unfolding address bridge front id_octets times from_first from_second ticks end_of bridge_plan plan first_ticked
+    second_heard both_done both_heard
 settled_or_not = (refl, refl, refl, refl)

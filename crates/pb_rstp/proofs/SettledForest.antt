@@ -1,12 +1,14 @@
 -- Where bridges are settled, their Forwarding ports are a forest.
-use Rattle.std.proofs.Common.{◌≡◌, ◌⊎◌, ℕ, zero, suc, ◌+◌, ◌≤◌, ◌<◌, List, [], ◌∷◌, Some, map, slice_get, unwrap_or, refl, sym, ap, ap₂, ◌∙◌, subst, Bool, true, false, ◌&&◌, inl, inr, arith}
+use Rattle.std.proofs.Common.{◌≡◌, ◌⊎◌, ℕ, zero, suc, ◌+◌, ◌≤◌, ◌<◌, List, [], ◌∷◌, Some, map, slice_get, unwrap_or}
+use Rattle.std.proofs.Common.{refl, sym, ap, ap₂, ◌∙◌, subst, Bool, true, false, ◌&&◌, inl, inr, arith}
 use Rattle.std.specs.Option.{option_and_then, option_map_or}
 use Rattle.std.specs.List.{IsDistinct, flat_map}
 use Rattle.std.proofs.lemmas.Bool.{eq-eqb}
 use Rattle.pb_lan.specs.Numbering.{numbered}
 use Rattle.pb_lan.specs.Plans.{IsSound, is_same_port}
 use Rattle.pb_lan.specs.Ports.{all_ends, ends_of, local_ports, port_at, serves}
-use Rattle.pb_lan.specs.Shapes.{state_in, is_open, is_active, is_end_forwarding, are_ends_forwarding, is_forwarding as is_open_state, is_forwarding}
+use Rattle.pb_lan.specs.Shapes.{state_in, is_open, is_active, is_end_forwarding, are_ends_forwarding}
+use Rattle.pb_lan.specs.Shapes.{is_forwarding as is_open_state, is_forwarding}
 use Rattle.pb_lan.specs.Forests.{HasEnds}
 use Rattle.pb_lan.specs.declared.plan.Plan.{Plan}
 use Rattle.pb_lan.specs.declared.plan.End.{End}
@@ -19,10 +21,12 @@ use Rattle.pb_lan.proofs.PortsInPlans.{IsEndOf, port_at-end, sound-end}
 use Rattle.pb_rstp.specs.Ports.{Machine, id_of, port_of, is_root, is_designated}
 use Rattle.pb_rstp.specs.declared.port.Port.{Port}
 use Rattle.pb_rstp.specs.Roles.{root_vector}
-use Rattle.pb_rstp.specs.Tree.{root_cost, StandsAt, HasPortAt, Rises, AreBothForwarding, SettledIsForest, LeadsBehindRoots, IsForestBehindRoots, state_at, states_of, shape_of}
+use Rattle.pb_rstp.specs.Tree.{root_cost, StandsAt, HasPortAt, Rises, AreBothForwarding, SettledIsForest}
+use Rattle.pb_rstp.specs.Tree.{LeadsBehindRoots, IsForestBehindRoots, state_at, states_of, shape_of}
 use Rattle.pb_rstp.specs.declared.role.Role.{Role}
 use Rattle.pb_rstp.specs.declared.role.Role.TheVariants.{Disabled, Root, Designated, Alternate, Backup}
-use Rattle.pb_rstp.proofs.ForestLaws.{lower, upper, Falls, numbered-at, numbered-only, is_up, up_of, rooted_by, falling-shows}
+use Rattle.pb_rstp.proofs.ForestLaws.{lower, upper, Falls, numbered-at, numbered-only, is_up, up_of, rooted_by}
+use Rattle.pb_rstp.proofs.ForestLaws.{falling-shows}
 use Rattle.pb_rstp.proofs.SettledLaws.{Network, stands, rises, root_way, root_is, same_number, at_number, cost_rises}
 
 -- The state of a port in the shape.
@@ -33,15 +37,21 @@ local_at f k above below = numbered-at f (sixteen) k above (omega (arith, below)
     sixteen : List ℕ
     sixteen = local_ports
 
-shape_state : (plan : Plan) (machines : List Machine) → Network plan machines → (k : ℕ) (link : LinkPlan) (e : End) → numbered plan.links k ≡ Some link
-    → IsEndOf link e → (m : Machine) (p : Port) → StandsAt machines e m p → state_in (shape_of plan machines) e.bridge e.port ≡ p.state
+shape_state : (plan : Plan) (machines : List Machine) → Network plan machines → (k : ℕ) (link : LinkPlan) (e : End)
+    → numbered plan.links k ≡ Some link
+    → IsEndOf link e → (m : Machine) (p : Port) → StandsAt machines e m p
+    → state_in (shape_of plan machines) e.bridge e.port ≡ p.state
 shape_state plan machines net k link e at which m p s =
     let sound_end = sound-end plan net.sound k link e at which in
     let count = net.are.count in
-    let bridge = numbered-at (states_of plan machines) machines e.bridge sound_end.bridge.0 (omega (arith, sound_end.bridge.1, count)) in
-    let machine : states_of plan machines e.bridge ≡ map (λ port. state_at m (port_at plan e.bridge port) port) local_ports =
-    ap (λ o. option_map_or (λ (n : Machine). map (λ port. state_at n (port_at plan e.bridge port) port) local_ports) o []) s.machine in
-    let port = local_at (λ port. state_at m (port_at plan e.bridge port) port) e.port sound_end.port.0 sound_end.port.1 in
+    let bridge = numbered-at (states_of plan machines) machines e.bridge sound_end.bridge.0
+    (omega (arith, sound_end.bridge.1, count)) in
+    let machine : states_of plan machines e.bridge ≡ map (λ port. state_at m (port_at plan e.bridge port) port)
+    local_ports =
+    ap (λ o. option_map_or (λ (n : Machine). map (λ port. state_at n (port_at plan e.bridge port) port) local_ports) o
+    []) s.machine in
+    let port = local_at (λ port. state_at m (port_at plan e.bridge port) port) e.port sound_end.port.0
+    sound_end.port.1 in
     let state : state_at m (port_at plan e.bridge e.port) e.port ≡ p.state =
     ap (λ l. state_at m l e.port) (port_at-end plan net.sound k link e at which)
     ∙ ap (λ o. option_map_or (λ (q : Port). q.state) o Discarding) s.port in
@@ -57,9 +67,11 @@ same_test Discarding e = cc
 
 -- a link passes only where its ends are both Forwarding
 abbrev Forwards : Plan → List Machine → (LinkPlan → Bool) → Type 0
-Forwards plan machines passes = (link : LinkPlan) → passes link ≡ true → are_ends_forwarding (shape_of plan machines) link ≡ true
+Forwards plan machines passes = (link : LinkPlan) → passes link ≡ true
+    → are_ends_forwarding (shape_of plan machines) link ≡ true
 
-active_forwards : (plan : Plan) (machines : List Machine) (vid : ℕ) → Forwards plan machines (is_active plan (shape_of plan machines) vid)
+active_forwards : (plan : Plan) (machines : List Machine) (vid : ℕ)
+    → Forwards plan machines (is_active plan (shape_of plan machines) vid)
 active_forwards plan machines vid link active =
     let shape = shape_of plan machines in
     let open_a = and-left (is_open plan shape vid link.a) (is_open plan shape vid link.b) active in
@@ -68,12 +80,15 @@ active_forwards plan machines vid link active =
     let forwarding_b = and-left (is_end_forwarding shape link.b) (serves plan vid link.b) open_b in
     ap₂ (λ x y. x && y) forwarding_a forwarding_b
 
-both_forwarding : (plan : Plan) (machines : List Machine) → Network plan machines → (k : ℕ) (link : LinkPlan) → numbered plan.links k ≡ Some link
+both_forwarding : (plan : Plan) (machines : List Machine) → Network plan machines → (k : ℕ) (link : LinkPlan)
+    → numbered plan.links k ≡ Some link
     → are_ends_forwarding (shape_of plan machines) link ≡ true → AreBothForwarding machines link
 both_forwarding plan machines net k link at both =
     let ends = at_number (λ l. HasPortAt machines l.a × HasPortAt machines l.b) plan.links k link at net.are.ends in
-    let open_a = and-left (is_end_forwarding (shape_of plan machines) link.a) (is_end_forwarding (shape_of plan machines) link.b) both in
-    let open_b = and-right (is_end_forwarding (shape_of plan machines) link.a) (is_end_forwarding (shape_of plan machines) link.b) both in
+    let open_a = and-left (is_end_forwarding (shape_of plan machines) link.a)
+    (is_end_forwarding (shape_of plan machines) link.b) both in
+    let open_b = and-right (is_end_forwarding (shape_of plan machines) link.a)
+    (is_end_forwarding (shape_of plan machines) link.b) both in
     let a = shape_state plan machines net k link link.a at (inl refl) ends.0.0 ends.0.1 ends.0.2 in
     let b = shape_state plan machines net k link link.b at (inr refl) ends.1.0 ends.1.1 ends.1.2 in (
       ends.0.0,
@@ -90,11 +105,14 @@ both_forwarding plan machines net k link at both =
 
 -- the port at the end is a Root port
 abbrev is_root_at : List Machine → End → Bool
-is_root_at machines e = option_map_or (λ (p : Port). is_root p.role) (option_and_then (λ (m : Machine). port_of m.ports e.port) (numbered machines e.bridge)) false
+is_root_at machines e = option_map_or (λ (p : Port). is_root p.role)
+    (option_and_then (λ (m : Machine). port_of m.ports e.port) (numbered machines e.bridge)) false
 
-root_test : (machines : List Machine) (e : End) (m : Machine) (p : Port) → StandsAt machines e m p → is_root_at machines e ≡ is_root p.role
+root_test : (machines : List Machine) (e : End) (m : Machine) (p : Port) → StandsAt machines e m p
+    → is_root_at machines e ≡ is_root p.role
 root_test machines e m p s =
-    ap (λ o. option_map_or (λ (q : Port). is_root q.role) (option_and_then (λ (n : Machine). port_of n.ports e.port) o) false) s.machine
+    ap (λ o. option_map_or (λ (q : Port). is_root q.role)
+    (option_and_then (λ (n : Machine). port_of n.ports e.port) o) false) s.machine
     ∙ ap (λ o. option_map_or (λ (q : Port). is_root q.role) o false) s.port
 
 abbrev low_of : List Machine → LinkPlan → Bool
@@ -114,13 +132,17 @@ not_root Backup e = cc
 record Oriented (machines : List Machine) (link : LinkPlan) (t : Bool) : Type 0 where
   rises : Rises machines (upper t link) (lower t link)
 
-oriented : (plan : Plan) (machines : List Machine) → Network plan machines → (k : ℕ) (link : LinkPlan) → numbered plan.links k ≡ Some link
+oriented : (plan : Plan) (machines : List Machine) → Network plan machines → (k : ℕ) (link : LinkPlan)
+    → numbered plan.links k ≡ Some link
     → are_ends_forwarding (shape_of plan machines) link ≡ true → Oriented machines link (low_of machines link)
-oriented plan machines net k link at both = by_case (rises plan machines net k link at (both_forwarding plan machines net k link at both))
+oriented plan machines net k link at both =
+    by_case (rises plan machines net k link at (both_forwarding plan machines net k link at both))
   where
-    by_case : Rises machines link.a link.b ⊎ Rises machines link.b link.a → Oriented machines link (low_of machines link)
+    by_case : Rises machines link.a link.b ⊎ Rises machines link.b link.a
+        → Oriented machines link (low_of machines link)
     by_case (inl r) =
-        let low : low_of machines link ≡ false = root_test machines link.a r.above r.designated r.stands_above ∙ not_root r.designated.role r.is_designated in
+        let low : low_of machines link ≡ false = root_test machines link.a r.above r.designated r.stands_above
+        ∙ not_root r.designated.role r.is_designated in
         let P : Bool → Type 0 = λ t. Oriented machines link t in
         subst P (sym low) (record { rises = r })
     by_case (inr r) =
@@ -139,13 +161,15 @@ unfolding double
 double-is zero = refl
 double-is (suc n) = let h = double-is n in omega (arith, h)
 
-place_a : (links : List LinkPlan) (i : ℕ) (l : LinkPlan) → slice_get links i ≡ Some l → slice_get (flat_map ends_of links) (double i) ≡ Some l.a
+place_a : (links : List LinkPlan) (i : ℕ) (l : LinkPlan) → slice_get links i ≡ Some l
+    → slice_get (flat_map ends_of links) (double i) ≡ Some l.a
 unfolding double
 place_a [] i l e = cc
 place_a (m ∷ ls) zero l e = ap (λ (x : LinkPlan). Some x.a) (Some-injective e)
 place_a (m ∷ ls) (suc i) l e = place_a ls i l e
 
-place_b : (links : List LinkPlan) (i : ℕ) (l : LinkPlan) → slice_get links i ≡ Some l → slice_get (flat_map ends_of links) (suc (double i)) ≡ Some l.b
+place_b : (links : List LinkPlan) (i : ℕ) (l : LinkPlan) → slice_get links i ≡ Some l
+    → slice_get (flat_map ends_of links) (suc (double i)) ≡ Some l.b
 unfolding double
 place_b [] i l e = cc
 place_b (m ∷ ls) zero l e = ap (λ (x : LinkPlan). Some x.b) (Some-injective e)
@@ -159,14 +183,28 @@ record Placed (plan : Plan) (i : ℕ) (e : End) : Type 0 where
   is : slice_get (all_ends plan) place ≡ Some e
 
 placed : (plan : Plan) (i : ℕ) (l : LinkPlan) (t : Bool) → slice_get plan.links i ≡ Some l → Placed plan i (lower t l)
-placed plan i l true e = let d = double-is i in record { place = double i; least = omega (arith, d); most = omega (arith, d); is = place_a plan.links i l e }
-placed plan i l false e = let d = double-is i in record { place = suc (double i); least = omega (arith, d); most = omega (arith, d); is = place_b plan.links i l e }
+placed plan i l true e = let d =
+    double-is i in record {
+      place = double i;
+      least = omega (arith, d);
+      most = omega (arith, d);
+      is = place_a plan.links i l e;
+    }
+placed plan i l false e = let d =
+    double-is i in record {
+      place = suc (double i);
+      least = omega (arith, d);
+      most = omega (arith, d);
+      is = place_b plan.links i l e;
+    }
 
 -- two links that end at one port are one
-one_link : (plan : Plan) → IsSound plan → (i j : ℕ) (e f : End) → Placed plan i e → Placed plan j f → e.bridge ≡ f.bridge → e.port ≡ f.port → i ≡ j
+one_link : (plan : Plan) → IsSound plan → (i j : ℕ) (e f : End) → Placed plan i e → Placed plan j f
+    → e.bridge ≡ f.bridge → e.port ≡ f.port → i ≡ j
 one_link plan sound i j e f a b bridge port =
     let distinct : IsDistinct is_same_port (map (λ x. (x.bridge, x.port)) (all_ends plan)) =
-    IsDistinct-front is_same_port (map (λ x. (x.bridge, x.port)) (all_ends plan)) (map (λ d. (d.bridge, d.port)) plan.customers) sound.ports in
+    IsDistinct-front is_same_port (map (λ x. (x.bridge, x.port)) (all_ends plan))
+    (map (λ d. (d.bridge, d.port)) plan.customers) sound.ports in
     let same = same_place is_same_port (λ x. (x.bridge, x.port)) (all_ends plan) a.place b.place e f distinct a.is b.is
     (ap₂ (λ x y. x && y) (eq-eqb e.bridge f.bridge bridge) (eq-eqb e.port f.port port))
     (ap₂ (λ x y. x && y) (eq-eqb f.bridge e.bridge (sym bridge)) (eq-eqb f.port e.port (sym port))) in
@@ -178,31 +216,40 @@ lower_end true l = inl refl
 lower_end false l = inr refl
 
 -- two lower ends at one bridge are one port
-one_port : (plan : Plan) (machines : List Machine) → Network plan machines → (u e v f : End) → Rises machines u e → Rises machines v f → e.bridge ≡ f.bridge → e.port ≡ f.port
+one_port : (plan : Plan) (machines : List Machine) → Network plan machines → (u e v f : End) → Rises machines u e
+    → Rises machines v f → e.bridge ≡ f.bridge → e.port ≡ f.port
 one_port plan machines net u e v f r s bridge =
-    let machine : r.below ≡ s.below = Some-injective (sym r.stands_below.machine ∙ ap (λ b. numbered machines b) bridge ∙ s.stands_below.machine) in
+    let machine : r.below ≡ s.below =
+    Some-injective (sym r.stands_below.machine ∙ ap (λ b. numbered machines b) bridge ∙ s.stands_below.machine) in
     let re = stands plan machines net e r.below r.root r.stands_below in
     let sf = stands plan machines net f s.below s.root s.stands_below in
     let way = root_way r.below re.line re.has r.root re.port (root_is r.root.role r.is_root) in
     let way' = root_way s.below sf.line sf.has s.root sf.port (root_is s.root.role s.is_root) in
     let id : (root_vector r.below.id r.below.ports).receiving ≡ id_of r.root = ap (λ z. z.receiving) way.4 in
     let id' : (root_vector s.below.id s.below.ports).receiving ≡ id_of s.root = ap (λ z. z.receiving) way'.4 in
-    let ids : id_of r.root ≡ id_of s.root = sym id ∙ ap (λ (m : Machine). (root_vector m.id m.ports).receiving) machine ∙ id' in
-    let number : r.root.number ≡ s.root.number = same_number r.root.priority s.root.priority r.root.number s.root.number re.port.small.1 sf.port.small.1 ids in
+    let ids : id_of r.root ≡ id_of s.root = sym id ∙ ap (λ (m : Machine). (root_vector m.id m.ports).receiving)
+    machine ∙ id' in
+    let number : r.root.number ≡ s.root.number = same_number r.root.priority s.root.priority r.root.number
+    s.root.number re.port.small.1 sf.port.small.1 ids in
     sym re.number ∙ number ∙ sf.number
 
-cost_is : (machines : List Machine) (e : End) (m : Machine) (p : Port) → StandsAt machines e m p → cost_of machines e.bridge ≡ root_cost m
+cost_is : (machines : List Machine) (e : End) (m : Machine) (p : Port) → StandsAt machines e m p
+    → cost_of machines e.bridge ≡ root_cost m
 cost_is machines e m p s = ap (λ o. option_map_or root_cost o 0) s.machine
 
-settled_falls : (plan : Plan) (machines : List Machine) (passes : LinkPlan → Bool) → Network plan machines → Forwards plan machines passes
+settled_falls : (plan : Plan) (machines : List Machine) (passes : LinkPlan → Bool) → Network plan machines
+    → Forwards plan machines passes
     → Falls plan passes (low_of machines) (cost_of machines)
 settled_falls plan machines passes net forwards = record {
   known = λ n l at t. (sound-end plan net.sound n l (lower t l) at (lower_end t l)).bridge;
   falls = λ n l at active. fall (low_of machines l) l (oriented plan machines net n l at (forwards l active));
-  one = λ n n' l l' at at' active active' bridge. one n n' l l' at at' (oriented plan machines net n l at (forwards l active)) (oriented plan machines net n' l' at' (forwards l' active')) bridge;
+  one = λ n n' l l' at at' active active' bridge. one n n' l l' at at'
+      (oriented plan machines net n l at (forwards l active))
+      (oriented plan machines net n' l' at' (forwards l' active')) bridge;
 }
   where
-    fall : (t : Bool) (l : LinkPlan) → Oriented machines l t → cost_of machines (upper t l).bridge < cost_of machines (lower t l).bridge
+    fall : (t : Bool) (l : LinkPlan) → Oriented machines l t
+        → cost_of machines (upper t l).bridge < cost_of machines (lower t l).bridge
     fall t l o =
         let r = o.rises in
         let above = cost_is machines (upper t l) r.above r.designated r.stands_above in
@@ -218,14 +265,17 @@ settled_falls plan machines passes net forwards = record {
     one (suc i) (suc j) l l' at at' o o' bridge =
         let t = low_of machines l in
         let t' = low_of machines l' in
-        let port = one_port plan machines net (upper t l) (lower t l) (upper t' l') (lower t' l') o.rises o'.rises bridge in
-        ap suc (one_link plan net.sound i j (lower t l) (lower t' l') (placed plan i l t at) (placed plan j l' t' at') bridge port)
+        let port = one_port plan machines net (upper t l) (lower t l) (upper t' l') (lower t' l') o.rises o'.rises
+        bridge in
+        ap suc (one_link plan net.sound i j (lower t l) (lower t' l') (placed plan i l t at) (placed plan j l' t' at')
+        bridge port)
 
 ends_of_link : (t : Bool) (l : LinkPlan) → HasEnds l (lower t l) (upper t l)
 ends_of_link true l = inl (refl, refl)
 ends_of_link false l = inr (refl, refl)
 
-behind_roots : (plan : Plan) (machines : List Machine) (passes : LinkPlan → Bool) → Network plan machines → Forwards plan machines passes
+behind_roots : (plan : Plan) (machines : List Machine) (passes : LinkPlan → Bool) → Network plan machines
+    → Forwards plan machines passes
     → LeadsBehindRoots plan machines (rooted_by plan passes (low_of machines) (cost_of machines))
 behind_roots plan machines passes net forwards bridge number e =
     let h = numbered-only (up_of plan passes (low_of machines)) plan.bridges bridge (Some number) e in
@@ -239,7 +289,8 @@ behind_roots plan machines passes net forwards bridge number e =
       (oriented plan machines net number u.link u.numbered_so (forwards u.link u.active)).rises,
     )
 
-forest_over : (plan : Plan) (machines : List Machine) (passes : LinkPlan → Bool) → Network plan machines → Forwards plan machines passes
+forest_over : (plan : Plan) (machines : List Machine) (passes : LinkPlan → Bool) → Network plan machines
+    → Forwards plan machines passes
     → IsForestBehindRoots plan machines passes
 forest_over plan machines passes net forwards = (
   rooted_by plan passes (low_of machines) (cost_of machines),
@@ -252,6 +303,7 @@ settled_is_forest plan machines sound are settled none_held =
     let net : Network plan machines = record { sound = sound; are = are; settled = settled; none_held = none_held } in
     record {
       whole = forest_over plan machines (are_ends_forwarding (shape_of plan machines)) net (λ link both. both);
-      services = λ vid. forest_over plan machines (is_active plan (shape_of plan machines) vid) net (active_forwards plan machines vid);
+      services = λ vid. forest_over plan machines (is_active plan (shape_of plan machines) vid) net
+          (active_forwards plan machines vid);
       rises = λ number link at both. cost_rises plan machines sound are settled none_held number link at both;
     }

@@ -1,5 +1,6 @@
 -- Where bridges are settled, cost rises along every link whose ends are both Forwarding.
-use Rattle.std.proofs.Common.{◌≡◌, ◌⊎◌, ℕ, zero, suc, ◌+◌, ◌*◌, ◌≤◌, ◌<◌, List, [], ◌∷◌, Some, refl, sym, ap, ◌∙◌, subst, true, false, ◌==◌, inl, inr, arith}
+use Rattle.std.proofs.Common.{◌≡◌, ◌⊎◌, ℕ, zero, suc, ◌+◌, ◌*◌, ◌≤◌, ◌<◌, List, [], ◌∷◌, Some, refl, sym, ap, ◌∙◌}
+use Rattle.std.proofs.Common.{subst, true, false, ◌==◌, inl, inr, arith}
 use Rattle.std.specs.List.{AllByRecursion}
 use Rattle.std.proofs.lemmas.Bool.{eqb-true}
 use Rattle.pb_lan.specs.Numbering.{numbered}
@@ -16,7 +17,8 @@ use Rattle.pb_rstp.specs.declared.port.Info.{Info}
 use Rattle.pb_rstp.specs.declared.port.Port.{Port}
 use Rattle.pb_rstp.specs.Roles.{root_vector, IsWay, IsWayOfSome, IsRootVector, HasRole}
 use Rattle.pb_rstp.specs.Laws.{IsInLine, IsQuiet}
-use Rattle.pb_rstp.specs.Tree.{root_cost, StandsAt, StoresOffer, LeadsTo, IsSettledLink, IsSettled, HasPorts, HasPortAt, AreMachines, IsNotHeld, NoneHeld, Rises, AreBothForwarding, CostRises}
+use Rattle.pb_rstp.specs.Tree.{root_cost, StandsAt, StoresOffer, LeadsTo, IsSettledLink, IsSettled, HasPorts}
+use Rattle.pb_rstp.specs.Tree.{HasPortAt, AreMachines, IsNotHeld, NoneHeld, Rises, AreBothForwarding, CostRises}
 use Rattle.pb_rstp.specs.declared.vector.Vector.{Vector}
 use Rattle.pb_rstp.specs.declared.role.Role.{Role}
 use Rattle.pb_rstp.specs.declared.role.Role.TheVariants.{Disabled, Root, Designated, Alternate, Backup}
@@ -25,7 +27,8 @@ use Rattle.pb_lan.specs.declared.shape.PortState.TheVariants.{Discarding, Learni
 use Rattle.pb_rstp.proofs.RootLaws.{root_vector-is}
 
 -- the port that has a way
-way_port : (P : Port → Type 0) (id : ℕ) (ports : List Port) (v : Vector) → AllByRecursion P ports → IsWayOfSome id ports v
+way_port : (P : Port → Type 0) (id : ℕ) (ports : List Port) (v : Vector) → AllByRecursion P ports
+    → IsWayOfSome id ports v
     → (p : Port) × P p × IsWay id p v
 way_port P id [] v all h = absurd h
 way_port P id (p ∷ ps) v all (inl way) = (p, all.0, way)
@@ -58,18 +61,25 @@ ports_known m line has = go m.ports line.roles line.states has.distinct has.smal
         → AllByRecursion (λ p. (1 ≤ p.number) × (p.number < 256)) ports → AllByRecursion (IsPortOf m) ports
     go [] roles quiet distinct small = tt
     go (p ∷ ps) roles quiet distinct small = (
-      record { by_number = distinct.0; small = small.0; role = roles.0 (root_vector m.id m.ports) (root_vector-is m.id m.ports); quiet = quiet.0 },
+      record {
+        by_number = distinct.0;
+        small = small.0;
+        role = roles.0 (root_vector m.id m.ports) (root_vector-is m.id m.ports);
+        quiet = quiet.0;
+      },
       go ps roles.1 quiet.1 distinct.1 small.1,
     )
 
 -- a port that is found is one of them
-known_port : (m : Machine) → IsInLine m → HasPorts m → (k : ℕ) (q : Port) → port_of m.ports k ≡ Some q → IsPortOf m q × (q.number ≡ k)
+known_port : (m : Machine) → IsInLine m → HasPorts m → (k : ℕ) (q : Port) → port_of m.ports k ≡ Some q
+    → IsPortOf m q × (q.number ≡ k)
 known_port m line has k q e =
     let h = first-found (IsPortOf m) (λ p. p.number == k) m.ports q e (ports_known m line has) in
     (h.0, eqb-true q.number k h.1)
 
 -- the root vector is the way through the Root port
-pub root_way : (m : Machine) → IsInLine m → HasPorts m → (q : Port) → IsPortOf m q → q.role ≡ Root → IsWay m.id q (root_vector m.id m.ports)
+pub root_way : (m : Machine) → IsInLine m → HasPorts m → (q : Port) → IsPortOf m q → q.role ≡ Root
+    → IsWay m.id q (root_vector m.id m.ports)
 root_way m line has q port role = by_candidate (root_vector-is m.id m.ports).candidate
   where
     root : Vector
@@ -92,7 +102,8 @@ root_way m line has q port role = by_candidate (root_vector-is m.id m.ports).can
         let w = way_port (IsPortOf m) m.id m.ports (root_vector m.id m.ports) (ports_known m line has) ways in
         let c = came refl in
         let z : (root_vector m.id m.ports).receiving ≡ id_of w.0 = ap (λ v. v.receiving) w.2.4 in
-        let number : q.number ≡ w.0.number = same_number q.priority w.0.priority q.number w.0.number port.small.1 w.1.small.1 (sym c ∙ z) in
+        let number : q.number ≡ w.0.number = same_number q.priority w.0.priority q.number w.0.number port.small.1
+        w.1.small.1 (sym c ∙ z) in
         let same : q ≡ w.0 = Some-injective (sym port.by_number ∙ ap (λ k. port_of m.ports k) number ∙ w.1.by_number) in
         let P : Port → Type 0 = λ p. IsWay m.id p (root_vector m.id m.ports) in
         subst P (sym same) w.2
@@ -101,12 +112,14 @@ held : (cost more : ℕ) → cost + more ≤ greatest_cost → raised cost more 
 held cost more h = omega arith
 
 -- a Root port that stores what another machine offers is behind a greater cost
-cost_falls : (m n : Machine) (p q : Port) → IsInLine n → HasPorts n → IsPortOf n q → q.role ≡ Root → IsNotHeld q → 1 ≤ q.cost
+cost_falls : (m n : Machine) (p q : Port) → IsInLine n → HasPorts n → IsPortOf n q → q.role ≡ Root → IsNotHeld q
+    → 1 ≤ q.cost
     → StoresOffer q m p → root_cost m < root_cost n
 cost_falls m n p q line has port role not_held above (info, stored, offer) =
     let way = root_way n line has q port role in
     let same : way.0 ≡ info = Some-injective (sym way.2 ∙ stored) in
-    let cost : root_cost n ≡ raised info.cost q.cost = ap (λ v. v.cost) way.4 ∙ ap (λ (i : Info). raised i.cost q.cost) same in
+    let cost : root_cost n ≡ raised info.cost q.cost = ap (λ v. v.cost) way.4
+    ∙ ap (λ (i : Info). raised i.cost q.cost) same in
     let told : info.cost ≡ root_cost m = second_of _ _ _ _ _ _ _ _ offer in
     let free = not_held (ap is_root role) info stored in
     let plain = held info.cost q.cost free in
@@ -115,7 +128,8 @@ cost_falls m n p q line has port role not_held above (info, stored, offer) =
     second_of : (a b c d a' b' c' d' : ℕ) → a ∷ b ∷ c ∷ d ∷ [] ≡ a' ∷ b' ∷ c' ∷ d' ∷ [] → b ≡ b'
     second_of a b c d a' b' c' d' e = cc
 
-pub at_number : {X : Type 0} (P : X → Type 0) (xs : List X) (b : ℕ) (x : X) → numbered xs b ≡ Some x → AllByRecursion P xs → P x
+pub at_number : {X : Type 0} (P : X → Type 0) (xs : List X) (b : ℕ) (x : X) → numbered xs b ≡ Some x
+    → AllByRecursion P xs → P x
 at_number P xs zero x e all = cc
 at_number P xs (suc i) x e all = All-at P xs i x e all
 
@@ -125,14 +139,16 @@ not_both Learning d f = cc
 not_both Forwarding d f = cc
 
 -- a Forwarding port is Root or Designated, and up
-active_role : (r : Role) (s : PortState) → (is_root_or_designated r ≡ false → is_discarding s ≡ true) → is_forwarding s ≡ true → is_root_or_designated r ≡ true
+active_role : (r : Role) (s : PortState) → (is_root_or_designated r ≡ false → is_discarding s ≡ true)
+    → is_forwarding s ≡ true → is_root_or_designated r ≡ true
 active_role Root s quiet e = refl
 active_role Designated s quiet e = refl
 active_role Disabled s quiet e = absurd (not_both s (quiet refl) e)
 active_role Alternate s quiet e = absurd (not_both s (quiet refl) e)
 active_role Backup s quiet e = absurd (not_both s (quiet refl) e)
 
-role_up : (id : ℕ) (root : Vector) (p : Port) (r : Role) → HasRole id root p r → is_root_or_designated r ≡ true → p.up ≡ true
+role_up : (id : ℕ) (root : Vector) (p : Port) (r : Role) → HasRole id root p r → is_root_or_designated r ≡ true
+    → p.up ≡ true
 role_up id root p Root h e = h.0
 role_up id root p Designated h e = h.0
 role_up id root p Disabled h e = cc
@@ -162,7 +178,8 @@ pub record Stands (plan : Plan) (machines : List Machine) (e : End) (m : Machine
   pub number : p.number ≡ e.port
   pub not_held : IsNotHeld p
 
-pub stands : (plan : Plan) (machines : List Machine) → Network plan machines → (e : End) (m : Machine) (p : Port) → StandsAt machines e m p → Stands plan machines e m p
+pub stands : (plan : Plan) (machines : List Machine) → Network plan machines → (e : End) (m : Machine) (p : Port)
+    → StandsAt machines e m p → Stands plan machines e m p
 stands plan machines net e m p at =
     let line = at_number IsInLine machines e.bridge m at.machine net.settled.in_line in
     let has = at_number HasPorts machines e.bridge m at.machine net.are.ports in
@@ -178,13 +195,15 @@ stands plan machines net e m p at =
     }
 
 -- the port that stands at an end costs what the plan says
-cost_above : (plan : Plan) (machines : List Machine) → Network plan machines → (k : ℕ) (link : LinkPlan) (e : End) → numbered plan.links k ≡ Some link
+cost_above : (plan : Plan) (machines : List Machine) → Network plan machines → (k : ℕ) (link : LinkPlan) (e : End)
+    → numbered plan.links k ≡ Some link
     → IsEndOf link e → (m : Machine) (p : Port) → StandsAt machines e m p → 1 ≤ p.cost
 cost_above plan machines net k link e at which m p stands_at =
     let ends = at_number (λ l. HasPortAt machines l.a × HasPortAt machines l.b) plan.links k link at net.are.ends in
     let here : HasPortAt machines e = of_end ends which in
     let machine : here.0 ≡ m = Some-injective (sym here.2.machine ∙ stands_at.machine) in
-    let port : here.1 ≡ p = Some-injective (sym here.2.port ∙ ap (λ (n : Machine). port_of n.ports e.port) machine ∙ stands_at.port) in
+    let port : here.1 ≡ p = Some-injective (sym here.2.port ∙ ap (λ (n : Machine). port_of n.ports e.port) machine
+    ∙ stands_at.port) in
     let cost : p.cost ≡ e.cost = ap (λ (q : Port). q.cost) (sym port) ∙ here.3 in
     let sound_cost = (sound-end plan net.sound k link e at which).cost in
     omega (arith, cost, sound_cost.0)
@@ -193,8 +212,10 @@ cost_above plan machines net k link e at which m p stands_at =
     of_end both (inl h) = let P : End → Type 0 = λ f. HasPortAt machines f in subst P h both.0
     of_end both (inr h) = let P : End → Type 0 = λ f. HasPortAt machines f in subst P h both.1
 
-rise : (plan : Plan) (machines : List Machine) → Network plan machines → (k : ℕ) (link : LinkPlan) → numbered plan.links k ≡ Some link
-    → (upper lower : End) → IsEndOf link lower → (m n : Machine) (p q : Port) → StandsAt machines upper m p → StandsAt machines lower n q
+rise : (plan : Plan) (machines : List Machine) → Network plan machines → (k : ℕ) (link : LinkPlan)
+    → numbered plan.links k ≡ Some link
+    → (upper lower : End) → IsEndOf link lower → (m n : Machine) (p q : Port) → StandsAt machines upper m p
+    → StandsAt machines lower n q
     → LeadsTo m p q → is_forwarding q.state ≡ true → Rises machines upper lower
 rise plan machines net k link at upper lower which m n p q above below leads forwarding =
     let s = stands plan machines net lower n q below in
@@ -209,19 +230,25 @@ rise plan machines net k link at upper lower which m n p q above below leads for
       stands_below = below;
       is_designated = leads.here;
       is_root = root;
-      cost = cost_falls m n p q s.line s.has s.port (root_is q.role root) s.not_held (cost_above plan machines net k link lower at which n q below) leads.stores;
+      cost = cost_falls m n p q s.line s.has s.port (root_is q.role root) s.not_held
+          (cost_above plan machines net k link lower at which n q below) leads.stores;
     }
 
-pub rises : (plan : Plan) (machines : List Machine) → Network plan machines → (k : ℕ) (link : LinkPlan) → numbered plan.links k ≡ Some link
+pub rises : (plan : Plan) (machines : List Machine) → Network plan machines → (k : ℕ) (link : LinkPlan)
+    → numbered plan.links k ≡ Some link
     → AreBothForwarding machines link → Rises machines link.a link.b ⊎ Rises machines link.b link.a
 rises plan machines net k link at (m, n, p, q, here, there, p_forwarding, q_forwarding) =
     let sp = stands plan machines net link.a m p here in
     let sq = stands plan machines net link.b n q there in
-    let p_up = role_up m.id (root_vector m.id m.ports) p p.role sp.port.role (active_role p.role p.state sp.port.quiet p_forwarding) in
-    let q_up = role_up n.id (root_vector n.id n.ports) q q.role sq.port.role (active_role q.role q.state sq.port.quiet q_forwarding) in
+    let p_up = role_up m.id (root_vector m.id m.ports) p p.role sp.port.role
+    (active_role p.role p.state sp.port.quiet p_forwarding) in
+    let q_up = role_up n.id (root_vector n.id n.ports) q q.role sq.port.role
+    (active_role q.role q.state sq.port.quiet q_forwarding) in
     elim (at_number (IsSettledLink machines) plan.links k link at net.settled.links m n p q here there p_up q_up) [
-      | inl leads ↦ inl (rise plan machines net k link at link.a link.b (inr refl) m n p q here there leads q_forwarding)
-      | inr leads ↦ inr (rise plan machines net k link at link.b link.a (inl refl) n m q p there here leads p_forwarding)
+      | inl leads ↦ inl (rise plan machines net k link at link.a link.b (inr refl) m n p q here there leads
+          q_forwarding)
+      | inr leads ↦ inr (rise plan machines net k link at link.b link.a (inl refl) n m q p there here leads
+          p_forwarding)
     ]
 
 pub cost_rises : CostRises

@@ -1,5 +1,6 @@
 -- Plans of files and their ports.
-use Rattle.std.proofs.Common.{◌≡◌, ℕ, Bool, refl, List, [], ◌∷◌, ◌++◌, length, map, ap, sym, ◌∙◌, append_assoc, append-nil, arith, Ok, Err, IfOk}
+use Rattle.std.proofs.Common.{◌≡◌, ℕ, Bool, refl, List, [], ◌∷◌, ◌++◌, length, map, ap, sym, ◌∙◌, append_assoc}
+use Rattle.std.proofs.Common.{append-nil, arith, Ok, Err, IfOk}
 use Rattle.std.proofs.lemmas.List.{map-append}
 use Rattle.std.proofs.lemmas.Slice.Zip.{AllZip-long}
 use Rattle.std.specs.declared.result.Result.{Result}
@@ -16,13 +17,17 @@ use Rattle.pb_running.specs.declared.strictness.Strictness.{Strictness}
 use Rattle.pb_running.specs.declared.strictness.Strictness.TheVariants.{Strict, Lenient}
 
 -- a file has as many ports as its plan
-pub ports_per_plan : (file : List ℕ) (plan : Plan) (specs : List PortSpec) → Tells file (λ document. IsPlanOf document plan specs) → length specs ≡ length plan.customers
-ports_per_plan file plan specs (document, parsed, told) = AllZip-long _ _ specs told.ports ∙ sym (AllZip-long _ _ plan.customers told.customers)
+pub ports_per_plan : (file : List ℕ) (plan : Plan) (specs : List PortSpec)
+    → Tells file (λ document. IsPlanOf document plan specs) → length specs ≡ length plan.customers
+ports_per_plan file plan specs (document, parsed, told) = AllZip-long _ _ specs told.ports
+    ∙ sym (AllZip-long _ _ plan.customers told.customers)
 
 -- the exit status of a run by what it lost, where a strict run knows that
 pub exits : (strictness : Strictness) (ended : Ended) (lost text : List ℕ) (told : ℕ) (whole : Bool) (status : ℕ)
-    → status ≡ exit_status strictness whole told → whole ≡ is_whole ended lost → (strictness ≡ Strict → lost ≡ text) → status ≡ exit_status strictness (is_whole ended text) told
-exits Strict ended lost text told whole status s w l = s ∙ ap (λ x. exit_status Strict x told) (w ∙ ap (is_whole ended) (l refl))
+    → status ≡ exit_status strictness whole told → whole ≡ is_whole ended lost → (strictness ≡ Strict → lost ≡ text)
+    → status ≡ exit_status strictness (is_whole ended text) told
+exits Strict ended lost text told whole status s w l = s
+    ∙ ap (λ x. exit_status Strict x told) (w ∙ ap (is_whole ended) (l refl))
 exits Lenient ended lost text told whole status s w l = s
 
 -- what a fact of a value that is Ok gives
@@ -32,7 +37,8 @@ on_value (Err e) f p = p
 
 -- what entered at ports that had to give what a file lists
 pub are_scripted : (specs : List PortSpec) (before after : Lists) (customers : List (List Step)) (lasts : List Last)
-    → before.scripts ≡ map script_in specs → ArePortsKept before after customers lasts → AreScripted specs customers lasts
+    → before.scripts ≡ map script_in specs → ArePortsKept before after customers lasts
+    → AreScripted specs customers lasts
 are_scripted specs before after customers lasts same kept = record {
   rest = after.scripts;
   begun = λ number. ap (λ scripts. frames_of scripts number) (sym same) ∙ kept.script number;
@@ -46,8 +52,10 @@ all_moved f xs g [] all ys before none same = sym (append-nil (map f xs)) ∙ be
 all_moved f xs g (y ∷ left) all ys before none same = absurd (omega arith)
 
 -- one thing more goes from the things to come to those that were made of them, and shows the same
-pub moved_over : {X Y Z : Type 0} (f : X → Z) (xs ys : List X) (x : X) (g : Y → Z) (rest left : List Y) (y : Y) (all : List Z)
+pub moved_over : {X Y Z : Type 0} (f : X → Z) (xs ys : List X) (x : X) (g : Y → Z) (rest left : List Y) (y : Y)
+    (all : List Z)
     → map f xs ++ map g rest ≡ all → ys ≡ xs ++ x ∷ [] → rest ≡ y ∷ left → f x ≡ g y → map f ys ++ map g left ≡ all
 moved_over f xs ys x g rest left y all before grown next same =
-    ap (λ zs. map f zs ++ map g left) grown ∙ ap (λ zs. zs ++ map g left) (map-append f xs (x ∷ [])) ∙ append_assoc (map f xs) (f x ∷ []) (map g left)
+    ap (λ zs. map f zs ++ map g left) grown ∙ ap (λ zs. zs ++ map g left) (map-append f xs (x ∷ []))
+    ∙ append_assoc (map f xs) (f x ∷ []) (map g left)
     ∙ ap (λ z. map f xs ++ z ∷ map g left) same ∙ ap (λ zs. map f xs ++ map g zs) (sym next) ∙ before

@@ -4,7 +4,8 @@ use Rattle.pb_lan.specs.declared.plan.CustomerPlan.{CustomerPlan}
 use Rattle.pb_running.specs.Telling.{name_at}
 
 -- a place of the plan has the name that stands there
-pub named : (customers : List CustomerPlan) (place : ℕ) (d : CustomerPlan) → place < length customers → name_at customers place ≡ (get_or customers place d).name
+pub named : (customers : List CustomerPlan) (place : ℕ) (d : CustomerPlan) → place < length customers
+    → name_at customers place ≡ (get_or customers place d).name
 named [] place d within = absurd (omega arith)
 named (customer ∷ customers) zero d within = refl
 named (customer ∷ customers) (suc place) d within = named customers place d (omega arith)

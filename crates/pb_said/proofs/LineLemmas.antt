@@ -1,5 +1,6 @@
 -- Lines that are read, and texts that are written.
-use Rattle.std.proofs.Common.{true, false, ◌≢◌, ◌≡◌, ℕ, suc, ◌+◌, ◌≤◌, List, [], ◌∷◌, ◌++◌, length, take, Option, Some, None, refl, sym, ap, ◌∙◌, arith, append_assoc, append-nil, length-take}
+use Rattle.std.proofs.Common.{true, false, ◌≢◌, ◌≡◌, ℕ, suc, ◌+◌, ◌≤◌, List, [], ◌∷◌, ◌++◌, length, take, Option}
+use Rattle.std.proofs.Common.{Some, None, refl, sym, ap, ◌∙◌, arith, append_assoc, append-nil, length-take}
 use Rattle.std.proofs.lemmas.List.{take_all}
 use Rattle.std.specs.Io.KnownBytes.{Appends, Keeps}
 use Rattle.pb_lines.specs.Lines.{GivesLine, HasNoLine}
@@ -20,7 +21,8 @@ whole_line limit line h = take_all (limit + 1) line (omega (arith, length-take (
 pub uncut : (limit : ℕ) (line : List ℕ) → length line ≤ limit → take (limit + 1) line ≡ line
 uncut limit line h = take_all (limit + 1) line (omega arith)
 
-pub Appends-twice : (a b c : Option (List ℕ)) (xs ys : List ℕ) → Appends a b xs → Appends b c ys → Appends a c (xs ++ ys)
+pub Appends-twice : (a b c : Option (List ℕ)) (xs ys : List ℕ) → Appends a b xs → Appends b c ys
+    → Appends a c (xs ++ ys)
 Appends-twice None b c xs ys p q = tt
 Appends-twice (Some u) None c xs ys p q = absurd p
 Appends-twice (Some u) (Some v) None xs ys p q = absurd q
@@ -42,20 +44,25 @@ of_line-not-steps line_unread = λ q. cc
 of_line-not-steps line_unheld = λ q. cc
 
 -- what was found, by what the program tests
-pub line_found : (found : Found) (limit : ℕ) (old : Option (List ℕ)) (front : List ℕ) (new : Option (List ℕ)) (back line : List ℕ)
-    → false ≡ sameb the_type found End → Finds found limit old front new back line → GivesLine limit old front new back line
+pub line_found : (found : Found) (limit : ℕ) (old : Option (List ℕ)) (front : List ℕ) (new : Option (List ℕ))
+    (back line : List ℕ)
+    → false ≡ sameb the_type found End → Finds found limit old front new back line
+    → GivesLine limit old front new back line
 line_found Line limit old front new back line q f = f
 line_found Last limit old front new back line q f = f.0
 line_found End limit old front new back line q f = cc
 
-pub none_found : (found : Found) (limit : ℕ) (old : Option (List ℕ)) (front : List ℕ) (new : Option (List ℕ)) (back line : List ℕ)
+pub none_found : (found : Found) (limit : ℕ) (old : Option (List ℕ)) (front : List ℕ) (new : Option (List ℕ))
+    (back line : List ℕ)
     → true ≡ sameb the_type found End → Finds found limit old front new back line → HasNoLine limit old front
 none_found Line limit old front new back line q f = cc
 none_found Last limit old front new back line q f = cc
 none_found End limit old front new back line q f = f
 
-pub last_found : (found : Found) (limit : ℕ) (old : Option (List ℕ)) (front : List ℕ) (new : Option (List ℕ)) (back line : List ℕ)
-    → true ≡ sameb the_type found Last → Finds found limit old front new back line → GivesLine limit old front new back line × HasNoLine limit new back
+pub last_found : (found : Found) (limit : ℕ) (old : Option (List ℕ)) (front : List ℕ) (new : Option (List ℕ))
+    (back line : List ℕ)
+    → true ≡ sameb the_type found Last → Finds found limit old front new back line
+    → GivesLine limit old front new back line × HasNoLine limit new back
 last_found Line limit old front new back line q f = cc
 last_found Last limit old front new back line q f = f
 last_found End limit old front new back line q f = cc

@@ -13,27 +13,35 @@ use Rattle.pb_service.specs.Formats.{bridge_keys, own_keys, port_keys}
 use Rattle.pb_service.specs.Told.{has_key, text_told, items_told}
 use Rattle.pb_service.specs.Tables.{text_at, items_at}
 
-taken_address : (name : List ℕ) (value : Option Data) → IsTaken (without_default name Address) value → IsAddress (text_told value)
+taken_address : (name : List ℕ) (value : Option Data) → IsTaken (without_default name Address) value
+    → IsAddress (text_told value)
 taken_address name None h = absurd cc
 taken_address name (Some d) h = h
 
 pub accepted_address : (row : Members) → IsAccepted bridge_keys row → IsAddress (text_at row (codes "address"))
 accepted_address row h = taken_address (codes "address") _ h.taken.1.0
 
-frames_listed : (items : Option Items) → option_map_or (all_items (is_text is_hex)) items false ≡ true → all_items (is_text is_hex) (unwrap_or items no_items) ≡ true
+frames_listed : (items : Option Items) → option_map_or (all_items (is_text is_hex)) items false ≡ true
+    → all_items (is_text is_hex) (unwrap_or items no_items) ≡ true
 frames_listed None h = absurd (false≢true h)
 frames_listed (Some ds) h = h
 
-taken_frames : (name : List ℕ) (value : Option Data) → IsTaken (with_default name Frames) value → all_items (is_text is_hex) (items_told value) ≡ true
+taken_frames : (name : List ℕ) (value : Option Data) → IsTaken (with_default name Frames) value
+    → all_items (is_text is_hex) (items_told value) ≡ true
 taken_frames name None h = refl
 taken_frames name (Some d) h = frames_listed (as_array d) h
 
-memory_keys : (kind : List ℕ) (listens : Bool) → same kind (codes "capture") ≡ false → same kind (codes "socket") ≡ false → own_keys kind listens ≡ with_default (codes "in") Frames ∷ []
+memory_keys : (kind : List ℕ) (listens : Bool) → same kind (codes "capture") ≡ false
+    → same kind (codes "socket") ≡ false → own_keys kind listens ≡ with_default (codes "in") Frames ∷ []
 memory_keys kind listens a b = rw (a, b)
 
 -- the frames of a port in memory are hexadecimal
-pub accepted_frames : (row : Members) → IsAccepted (port_keys (text_at row (codes "kind")) (has_key row (codes "listen"))) row → same (text_at row (codes "kind")) (codes "capture") ≡ false
-    → same (text_at row (codes "kind")) (codes "socket") ≡ false → all_items (is_text is_hex) (items_at row (codes "in")) ≡ true
+pub accepted_frames : (row : Members)
+    → IsAccepted (port_keys (text_at row (codes "kind")) (has_key row (codes "listen"))) row
+    → same (text_at row (codes "kind")) (codes "capture") ≡ false
+    → same (text_at row (codes "kind")) (codes "socket") ≡ false
+    → all_items (is_text is_hex) (items_at row (codes "in")) ≡ true
 accepted_frames row h a b =
-    let own = subst (λ (keys : List KeyRule). AllByRecursion (λ k. IsTaken k (get_member k.name row)) keys) (memory_keys (text_at row (codes "kind")) (has_key row (codes "listen")) a b) h.taken.1.1.1.1.1.1.1 in
+    let own = subst (λ (keys : List KeyRule). AllByRecursion (λ k. IsTaken k (get_member k.name row)) keys)
+    (memory_keys (text_at row (codes "kind")) (has_key row (codes "listen")) a b) h.taken.1.1.1.1.1.1.1 in
     taken_frames (codes "in") (get_member (codes "in") row) own.0

@@ -1,5 +1,6 @@
 -- Lists in which nothing stands twice, and one thing more.
-use Rattle.std.proofs.Common.{◌≡◌, ℕ, ◌+◌, ◌≤◌, Bool, true, false, List, [], ◌∷◌, ◌++◌, zero, suc, length, map, take, Some, Bor, refl, sym, ap, subst, ◌∙◌, arith}
+use Rattle.std.proofs.Common.{◌≡◌, ℕ, ◌+◌, ◌≤◌, Bool, true, false, List, [], ◌∷◌, ◌++◌, zero, suc, length, map, take}
+use Rattle.std.proofs.Common.{Some, Bor, refl, sym, ap, subst, ◌∙◌, arith}
 use Rattle.std.specs.Prelude.{slice_get, codes}
 use Rattle.std.proofs.lemmas.Bool.{or_parts, or_from}
 use Rattle.std.proofs.lemmas.List.{map-append, length-map, take_more, take_all, take-map}
@@ -20,7 +21,8 @@ use Rattle.pb_service.specs.UsedPorts.{is_used, AreUsedOnce}
 use Rattle.pb_service.specs.Refusals.{names_of, link_ports, customer_ports, ports_told}
 use Rattle.pb_service.proofs.Refusing.{Table, long_rows}
 
-distinct_last : {K : Type 0} (e : K → K → Bool) (ks : List K) (k : K) → IsDistinct e ks → list_any (λ x. e x k) ks ≡ false → IsDistinct e (ks ++ k ∷ [])
+distinct_last : {K : Type 0} (e : K → K → Bool) (ks : List K) (k : K) → IsDistinct e ks
+    → list_any (λ x. e x k) ks ≡ false → IsDistinct e (ks ++ k ∷ [])
 unfolding IsDistinct
 distinct_last e [] k d h = (tt, tt)
 distinct_last e (x ∷ ks) k d h =
@@ -36,12 +38,15 @@ pub distinct_empty : {X K : Type 0} (e : K → K → Bool) (f : X → K) (xs : L
 distinct_empty e f xs is = rw is (distinct_none e)
 
 -- one thing more, with a key that none of the others has
-pub distinct_next : {X K : Type 0} (e : K → K → Bool) (f : X → K) (xs new : List X) (x : X) → IsDistinct e (map f xs) → list_any (λ y. e (f y) (f x)) xs ≡ false
+pub distinct_next : {X K : Type 0} (e : K → K → Bool) (f : X → K) (xs new : List X) (x : X) → IsDistinct e (map f xs)
+    → list_any (λ y. e (f y) (f x)) xs ≡ false
     → new ≡ xs ++ x ∷ [] → IsDistinct e (map f new)
-distinct_next e f xs new x d h is = rw (is, map-append f xs (x ∷ [])) (distinct_last e (map f xs) (f x) d (list_any-map (λ k. e k (f x)) f xs ∙ h))
+distinct_next e f xs new x d h is = rw (is, map-append f xs (x ∷ []))
+    (distinct_last e (map f xs) (f x) d (list_any-map (λ k. e k (f x)) f xs ∙ h))
 
 same-flip : (a b : List ℕ) → same a b ≡ false → same b a ≡ false
-same-flip a b h = false-unless (same b a) (λ t. let again : same a b ≡ true = rw (same-one b a t) (same-self a) in true-false (same a b) again h)
+same-flip a b h = false-unless (same b a) (λ t. let again : same a b ≡ true = rw (same-one b a t) (same-self a)
+    in true-false (same a b) again h)
 
 any-flip : (k : List ℕ) (ks : List (List ℕ)) → list_any (same k) ks ≡ false → list_any (λ x. same x k) ks ≡ false
 any-flip k [] h = refl
@@ -49,48 +54,69 @@ any-flip k (x ∷ ks) h =
     let parts = or_parts (same k x) (list_any (same k) ks) h in
     or_from (same x k) (list_any (λ y. same y k) ks) (same-flip k x parts.0) (any-flip k ks parts.1)
 
-get_mapped : {X Y : Type 0} (f : X → Y) (xs : List X) (i : ℕ) (x : X) → slice_get xs i ≡ Some x → slice_get (map f xs) i ≡ Some (f x)
+get_mapped : {X Y : Type 0} (f : X → Y) (xs : List X) (i : ℕ) (x : X) → slice_get xs i ≡ Some x
+    → slice_get (map f xs) i ≡ Some (f x)
 get_mapped f [] i x h = absurd cc
 get_mapped f (y ∷ xs) zero x h = let e : y ≡ x = cc in ap (λ z. Some (f z)) e
 get_mapped f (y ∷ xs) (suc i) x h = get_mapped f xs i x h
 
 take_next : {X : Type 0} (xs : List X) (i : ℕ) (x : X) → slice_get xs i ≡ Some x → take (i + 1) xs ≡ take i xs ++ x ∷ []
-take_next xs i x h = take_more xs i x (slice_get_within xs i x h) ∙ ap (λ z. take i xs ++ z ∷ []) (get_or_from_slice_get xs i x x h)
+take_next xs i x h = take_more xs i x (slice_get_within xs i x h)
+    ∙ ap (λ z. take i xs ++ z ∷ []) (get_or_from_slice_get xs i x x h)
 
 -- the names of the first tables, and of one more, whose name none of these has
-pub name_next : (document : Members) (section : Section) (names : List (Bor (List ℕ))) (i : ℕ) (row : Members) → map (λ n. n.now) names ≡ names_of document section
-    → slice_get (rows_of document section) i ≡ Some row → is_one_of (map (λ n. n.now) (take i names)) (text_at row (codes "name")) ≡ false
+pub name_next : (document : Members) (section : Section) (names : List (Bor (List ℕ))) (i : ℕ) (row : Members)
+    → map (λ n. n.now) names ≡ names_of document section
+    → slice_get (rows_of document section) i ≡ Some row
+    → is_one_of (map (λ n. n.now) (take i names)) (text_at row (codes "name")) ≡ false
     → IsDistinct same (take i (names_of document section)) → IsDistinct same (take (i + 1) (names_of document section))
 name_next document section names i row e at new d =
     let name = text_at row (codes "name") in
     let here = get_mapped (λ r. text_at r (codes "name")) (rows_of document section) i row at in
-    let first : take i (names_of document section) ≡ map (λ n. n.now) (take i names) = ap (take i) (sym e) ∙ take-map (λ n. n.now) i names in
+    let first : take i (names_of document section) ≡ map (λ n. n.now) (take i names) = ap (take i) (sym e)
+    ∙ take-map (λ n. n.now) i names in
     let others : list_any (same name) (take i (names_of document section)) ≡ false = rw first new in
-    rw (take_next (names_of document section) i name here) (distinct_last same (take i (names_of document section)) name d (any-flip name (take i (names_of document section)) others))
+    rw (take_next (names_of document section) i name here)
+    (distinct_last same (take i (names_of document section)) name d
+    (any-flip name (take i (names_of document section)) others))
 
 -- the names of all tables
-pub names_all : (document : Members) (section : Section) (rows : List (Bor Table)) (n : ℕ) → length rows ≤ n → map (λ t. table_view t.now) rows ≡ rows_of document section
+pub names_all : (document : Members) (section : Section) (rows : List (Bor Table)) (n : ℕ) → length rows ≤ n
+    → map (λ t. table_view t.now) rows ≡ rows_of document section
     → IsDistinct same (take n (names_of document section)) → IsDistinct same (names_of document section)
 names_all document section rows n h e d =
-    let few : length (names_of document section) ≤ n = omega (arith, long_rows document section rows e, length-map (rows_of document section) (λ r. text_at r (codes "name"))) in
+    let few : length (names_of document section) ≤ n =
+    omega (
+      arith,
+      long_rows document section rows e,
+      length-map (rows_of document section)
+          (λ r. text_at r (codes "name")),
+    ) in
     rw (take_all n (names_of document section) few) at d
 
 pub used_none : (used : List LocalPort) → used ≡ [] → AreUsedOnce used
 used_none used is = distinct_empty is_same_port (λ p. (p.bridge, p.port)) used is
 
 -- one more port, that nothing has used
-pub used_next : (used new : List LocalPort) (port : LocalPort) → AreUsedOnce used → is_used used port ≡ false → new ≡ used ++ port ∷ [] → AreUsedOnce new
+pub used_next : (used new : List LocalPort) (port : LocalPort) → AreUsedOnce used → is_used used port ≡ false
+    → new ≡ used ++ port ∷ [] → AreUsedOnce new
 used_next used new port d h is = distinct_next is_same_port (λ p. (p.bridge, p.port)) used new port d h is
 
 -- all ports of a document
-pub ports_all : (document : Members) (rows : List (Bor Table)) (n : ℕ) (bridges : List (List ℕ)) (first used : List LocalPort) → length rows ≤ n → map (λ t. table_view t.now) rows ≡ rows_of document Port
-    → bridges ≡ names_of document Bridge → first ≡ flat_map (link_ports (names_of document Bridge)) (rows_of document Link)
-    → used ≡ first ++ flat_map (customer_ports bridges) (map (λ t. table_view t.now) (take n rows)) → AreUsedOnce used → AreUsedOnce (ports_told document)
+pub ports_all : (document : Members) (rows : List (Bor Table)) (n : ℕ) (bridges : List (List ℕ))
+    (first used : List LocalPort) → length rows ≤ n → map (λ t. table_view t.now) rows ≡ rows_of document Port
+    → bridges ≡ names_of document Bridge
+    → first ≡ flat_map (link_ports (names_of document Bridge)) (rows_of document Link)
+    → used ≡ first ++ flat_map (customer_ports bridges) (map (λ t. table_view t.now) (take n rows)) → AreUsedOnce used
+    → AreUsedOnce (ports_told document)
 ports_all document rows n bridges first used h er eb ef eu once =
-    let rest : flat_map (customer_ports bridges) (map (λ t. table_view t.now) (take n rows)) ≡ flat_map (customer_ports (names_of document Bridge)) (rows_of document Port) =
+    let rest : flat_map (customer_ports bridges) (map (λ t. table_view t.now) (take n rows)) ≡ flat_map
+    (customer_ports (names_of document Bridge)) (rows_of document Port) =
     ap (λ (b : List (List ℕ)). flat_map (customer_ports b) (map (λ t. table_view t.now) (take n rows))) eb
-    ∙ ap (λ (z : List (Bor Table)). flat_map (customer_ports (names_of document Bridge)) (map (λ t. table_view t.now) z)) (take_all n rows h)
+    ∙ ap (λ (z : List (Bor Table)). flat_map (customer_ports (names_of document Bridge))
+    (map (λ t. table_view t.now) z)) (take_all n rows h)
     ∙ ap (flat_map (customer_ports (names_of document Bridge))) er in
-    let told : used ≡ ports_told document = eu ∙ ap (λ z. z ++ flat_map (customer_ports bridges) (map (λ t. table_view t.now) (take n rows))) ef
+    let told : used ≡ ports_told document = eu
+    ∙ ap (λ z. z ++ flat_map (customer_ports bridges) (map (λ t. table_view t.now) (take n rows))) ef
     ∙ ap (λ z. flat_map (link_ports (names_of document Bridge)) (rows_of document Link) ++ z) rest in
     subst AreUsedOnce told once

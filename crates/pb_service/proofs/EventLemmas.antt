@@ -14,13 +14,18 @@ use Rattle.pb_service.specs.Tables.{IsRead}
 use Rattle.pb_service.specs.Told.{rows_of}
 
 -- the fault of an event is handed on
-pub event_passed : {X : Type 0} (document : Members) (bridges : List (List ℕ)) (ends : List LocalPort) (index : ℕ) (row : Members) (r : Result X PlanFault) (e : PlanFault)
-    → bridges ≡ names_of document Bridge → ends ≡ ends_told document → slice_get (rows_of document Event) index ≡ Some row → ((y : PlanFault) × (r ≡ Err y) × (y ≡ e))
+pub event_passed : {X : Type 0} (document : Members) (bridges : List (List ℕ)) (ends : List LocalPort) (index : ℕ)
+    (row : Members) (r : Result X PlanFault) (e : PlanFault)
+    → bridges ≡ names_of document Bridge → ends ≡ ends_told document
+    → slice_get (rows_of document Event) index ≡ Some row → ((y : PlanFault) × (r ≡ Err y) × (y ≡ e))
     → RefusesEvent bridges ends index row e → IfErr r (Refuses document)
-event_passed document bridges ends index row r e names told at p h = rw (p.1, p.2) (in_event document index row e at (rw (← told, ← names) h))
+event_passed document bridges ends index row r e names told at p h =
+    rw (p.1, p.2) (in_event document index row e at (rw (← told, ← names) h))
 
 -- the events of all tables
-pub events_whole : (document : Members) (bridges : List (List ℕ)) (ends : List LocalPort) (events : List PortEvent) → bridges ≡ names_of document Bridge → ends ≡ ends_told document
+pub events_whole : (document : Members) (bridges : List (List ℕ)) (ends : List LocalPort) (events : List PortEvent)
+    → bridges ≡ names_of document Bridge → ends ≡ ends_told document
     → AllZip (IsRead (IsEventOf bridges ends) event_keys) (rows_of document Event) events
-    → AllZip (IsRead (IsEventOf (names_of document Bridge) (ends_told document)) event_keys) (rows_of document Event) events
+    → AllZip (IsRead (IsEventOf (names_of document Bridge) (ends_told document)) event_keys) (rows_of document Event)
+    events
 events_whole document bridges ends events names told all = rw (← told, ← names) all

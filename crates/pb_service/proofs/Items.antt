@@ -1,5 +1,6 @@
 -- Lists of values, and the data that they stand for.
-use Rattle.std.proofs.Common.{◌≡◌, ℕ, ◌+◌, ◌<◌, ◌≤◌, Bool, true, false, zero, suc, List, [], ◌∷◌, ◌++◌, inl, inr, length, get_or, drop, Option, Some, None, unwrap_or, refl, ap, arith}
+use Rattle.std.proofs.Common.{◌≡◌, ℕ, ◌+◌, ◌<◌, ◌≤◌, Bool, true, false, zero, suc, List, [], ◌∷◌, ◌++◌, inl, inr}
+use Rattle.std.proofs.Common.{length, get_or, drop, Option, Some, None, unwrap_or, refl, ap, arith}
 use Rattle.std.proofs.lemmas.Bool.{cases_Bool, false≢true}
 use Rattle.std.proofs.lemmas.List.{drop_more, drop_all, append-nil}
 use Rattle.std.specs.Prelude.{◌&&◌, ◌||◌}
@@ -13,27 +14,33 @@ use Rattle.toml.specs.declared.value.Value.{Value}
 use Rattle.pb_service.specs.Tables.{AreFrames}
 use Rattle.pb_service.specs.Values.{all_items, any_item, are_distinct, is_hex, is_text, text_in}
 
-pub all_items-view : (test : Data → Bool) (vs : List Value) → all_items test (items_view vs) ≡ list_all (λ v. test (view v)) vs
+pub all_items-view : (test : Data → Bool) (vs : List Value)
+    → all_items test (items_view vs) ≡ list_all (λ v. test (view v)) vs
 all_items-view test [] = refl
 all_items-view test (v ∷ vs) = ap (λ b. test (view v) && b) (all_items-view test vs)
 
-pub any_item-view : (test : Data → Bool) (vs : List Value) → any_item test (items_view vs) ≡ list_any (λ v. test (view v)) vs
+pub any_item-view : (test : Data → Bool) (vs : List Value)
+    → any_item test (items_view vs) ≡ list_any (λ v. test (view v)) vs
 any_item-view test [] = refl
 any_item-view test (v ∷ vs) = ap (λ b. test (view v) || b) (any_item-view test vs)
 
-pub distinct_stop : (vs : List Value) (i : ℕ) (d x : Value) (t : List ℕ) (later : List Value) → i < length vs → x ≡ get_or vs i d → t ≡ text_in (view x) → later ≡ drop (i + 1) vs
+pub distinct_stop : (vs : List Value) (i : ℕ) (d x : Value) (t : List ℕ) (later : List Value) → i < length vs
+    → x ≡ get_or vs i d → t ≡ text_in (view x) → later ≡ drop (i + 1) vs
     → any_item (is_text (same t)) (items_view later) ≡ true → are_distinct (items_view (drop i vs)) ≡ false
 distinct_stop vs i d x t later h ex et el has =
     let here = rw (el, et, ex) at has in
     rw (drop_more vs i d h, here)
 
-pub distinct_on : (vs : List Value) (i : ℕ) (d x : Value) (t : List ℕ) (later : List Value) → i < length vs → x ≡ get_or vs i d → t ≡ text_in (view x) → later ≡ drop (i + 1) vs
-    → any_item (is_text (same t)) (items_view later) ≡ false → are_distinct (items_view (drop i vs)) ≡ are_distinct (items_view (drop (i + 1) vs))
+pub distinct_on : (vs : List Value) (i : ℕ) (d x : Value) (t : List ℕ) (later : List Value) → i < length vs
+    → x ≡ get_or vs i d → t ≡ text_in (view x) → later ≡ drop (i + 1) vs
+    → any_item (is_text (same t)) (items_view later) ≡ false
+    → are_distinct (items_view (drop i vs)) ≡ are_distinct (items_view (drop (i + 1) vs))
 distinct_on vs i d x t later h ex et el has =
     let here = rw (el, et, ex) at has in
     rw (drop_more vs i d h, here)
 
-pub any_at : (test : Data → Bool) (vs : List Value) (i : ℕ) (d x : Value) → i < length vs → x ≡ get_or vs i d → test (view x) ≡ true → any_item test (items_view vs) ≡ true
+pub any_at : (test : Data → Bool) (vs : List Value) (i : ℕ) (d x : Value) → i < length vs → x ≡ get_or vs i d
+    → test (view x) ≡ true → any_item test (items_view vs) ≡ true
 any_at test [] i d x h is t = absurd (omega arith)
 any_at test (v ∷ vs) zero d x h is t = rw (← is, t)
 any_at test (v ∷ vs) (suc i) d x h is t =
@@ -43,21 +50,26 @@ any_at test (v ∷ vs) (suc i) d x h is t =
     ]
 
 -- what each item passes, one of them does
-all_at : (test : Data → Bool) (vs : List Value) (i : ℕ) (d x : Value) → all_items test (items_view vs) ≡ true → i < length vs → x ≡ get_or vs i d → test (view x) ≡ true
+all_at : (test : Data → Bool) (vs : List Value) (i : ℕ) (d x : Value) → all_items test (items_view vs) ≡ true
+    → i < length vs → x ≡ get_or vs i d → test (view x) ≡ true
 all_at test [] i d x a h is = absurd (omega arith)
 all_at test (v ∷ vs) zero d x a h is = rw is (and-left (test (view v)) (all_items test (items_view vs)) a)
-all_at test (v ∷ vs) (suc i) d x a h is = all_at test vs i d x (and-right (test (view v)) (all_items test (items_view vs)) a) (omega arith) is
+all_at test (v ∷ vs) (suc i) d x a h is =
+    all_at test vs i d x (and-right (test (view v)) (all_items test (items_view vs)) a) (omega arith) is
 
-text_passes : (test : List ℕ → Bool) (text : Option (List ℕ)) → option_map_or test text false ≡ true → test (unwrap_or text []) ≡ true
+text_passes : (test : List ℕ → Bool) (text : Option (List ℕ)) → option_map_or test text false ≡ true
+    → test (unwrap_or text []) ≡ true
 text_passes test None h = absurd (false≢true h)
 text_passes test (Some t) h = h
 
 -- one of hexadecimal texts
-pub hex_at : (vs : List Value) (i : ℕ) (d x : Value) (t : List ℕ) → all_items (is_text is_hex) (items_view vs) ≡ true → i < length vs → x ≡ get_or vs i d → t ≡ text_in (view x) → is_hex t ≡ true
+pub hex_at : (vs : List Value) (i : ℕ) (d x : Value) (t : List ℕ) → all_items (is_text is_hex) (items_view vs) ≡ true
+    → i < length vs → x ≡ get_or vs i d → t ≡ text_in (view x) → is_hex t ≡ true
 hex_at vs i d x t a h is et = rw et (text_passes is_hex (as_str (view x)) (all_at (is_text is_hex) vs i d x a h is))
 
 pub frames_end : (vs : List Value) (n : ℕ) (frames : List (List ℕ)) → length vs ≤ n
-    → ((more : List (List ℕ)) → AreFrames (items_view (drop n vs)) more → AreFrames (items_view vs) (frames ++ more)) → AreFrames (items_view vs) frames
+    → ((more : List (List ℕ)) → AreFrames (items_view (drop n vs)) more → AreFrames (items_view vs) (frames ++ more))
+    → AreFrames (items_view vs) frames
 frames_end vs n frames h f =
     let none : AreFrames (items_view (drop n vs)) [] = rw (drop_all n vs h) tt in
     rw append-nil at (f [] none)

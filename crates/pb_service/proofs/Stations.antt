@@ -12,5 +12,6 @@ one_octet h l b c p q =
 
 pub one_group : (text m n : List ℕ) → IsMacText text m → IsMacText text n → is_group m ≡ is_group n
 one_group text m n p q =
-    let e : slice_index m 0 ≡ slice_index n 0 = one_octet (slice_index text (3 * 0)) (slice_index text (3 * 0 + 1)) _ _ (p.pairs 0 (omega arith)) (q.pairs 0 (omega arith)) in
+    let e : slice_index m 0 ≡ slice_index n 0 = one_octet (slice_index text (3 * 0)) (slice_index text (3 * 0 + 1)) _
+    _ (p.pairs 0 (omega arith)) (q.pairs 0 (omega arith)) in
     rw e

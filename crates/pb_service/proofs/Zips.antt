@@ -1,5 +1,6 @@
 -- Tables beside what they tell.
-use Rattle.std.proofs.Common.{◌≡◌, ℕ, ◌+◌, ◌<◌, ◌≤◌, Bool, true, List, [], ◌∷◌, ◌++◌, length, get_or, map, take, Bor, inl, inr}
+use Rattle.std.proofs.Common.{◌≡◌, ℕ, ◌+◌, ◌<◌, ◌≤◌, Bool, true, List, [], ◌∷◌, ◌++◌, length, get_or, map, take, Bor}
+use Rattle.std.proofs.Common.{inl, inr}
 use Rattle.std.proofs.lemmas.Bool.{cases_Bool, false≢true}
 use Rattle.std.proofs.lemmas.List.{take_more, take_all, take-map}
 use Rattle.std.specs.List.{AllZip, list_any}
@@ -10,31 +11,38 @@ use Rattle.pb_service.specs.Keys.{SomeOf}
 use Rattle.pb_service.specs.Told.{rows_of}
 use Rattle.pb_service.proofs.Refusing.{Table}
 
-zip_last : {A B : Type 0} (R : A → B → Type 0) (xs : List A) (ys : List B) (x : A) (y : B) → AllZip R xs ys → R x y → AllZip R (xs ++ x ∷ []) (ys ++ y ∷ [])
+zip_last : {A B : Type 0} (R : A → B → Type 0) (xs : List A) (ys : List B) (x : A) (y : B) → AllZip R xs ys → R x y
+    → AllZip R (xs ++ x ∷ []) (ys ++ y ∷ [])
 zip_last R [] [] x y z r = (r, tt)
 zip_last R [] (b ∷ ys) x y z r = absurd z
 zip_last R (a ∷ xs) [] x y z r = absurd z
 zip_last R (a ∷ xs) (b ∷ ys) x y z r = (z.0, zip_last R xs ys x y z.1 r)
 
 -- one more table
-pub zip_next : {A B : Type 0} (R : A → B → Type 0) (xs : List A) (i : ℕ) (d x : A) (ys new : List B) (y : B) → i < length xs → x ≡ get_or xs i d → AllZip R (take i xs) ys → R x y
+pub zip_next : {A B : Type 0} (R : A → B → Type 0) (xs : List A) (i : ℕ) (d x : A) (ys new : List B) (y : B)
+    → i < length xs → x ≡ get_or xs i d → AllZip R (take i xs) ys → R x y
     → new ≡ ys ++ y ∷ [] → AllZip R (take (i + 1) xs) new
-zip_next R xs i d x ys new y h is z r e = rw (take_more xs i d h, e) (zip_last R (take i xs) ys (get_or xs i d) y z (rw is at r))
+zip_next R xs i d x ys new y h is z r e = rw (take_more xs i d h, e)
+    (zip_last R (take i xs) ys (get_or xs i d) y z (rw is at r))
 
-zip_map : {A B C : Type 0} (R : C → B → Type 0) (f : A → C) (xs : List A) (ys : List B) → AllZip (λ x y. R (f x) y) xs ys → AllZip R (map f xs) ys
+zip_map : {A B C : Type 0} (R : C → B → Type 0) (f : A → C) (xs : List A) (ys : List B)
+    → AllZip (λ x y. R (f x) y) xs ys → AllZip R (map f xs) ys
 zip_map R f [] [] z = tt
 zip_map R f [] (y ∷ ys) z = absurd z
 zip_map R f (x ∷ xs) [] z = absurd z
 zip_map R f (x ∷ xs) (y ∷ ys) z = (z.0, zip_map R f xs ys z.1)
 
 -- all tables of an array
-pub zip_all : {X : Type 0} (R : Members → X → Type 0) (document : Members) (section : Section) (rows : List (Bor Table)) (n : ℕ) (xs : List X) → length rows ≤ n
-    → map (λ r. table_view r.now) rows ≡ rows_of document section → AllZip (λ r x. R (table_view r.now) x) (take n rows) xs → AllZip R (rows_of document section) xs
+pub zip_all : {X : Type 0} (R : Members → X → Type 0) (document : Members) (section : Section)
+    (rows : List (Bor Table)) (n : ℕ) (xs : List X) → length rows ≤ n
+    → map (λ r. table_view r.now) rows ≡ rows_of document section
+    → AllZip (λ r x. R (table_view r.now) x) (take n rows) xs → AllZip R (rows_of document section) xs
 zip_all R document section rows n xs h e z =
     let whole = rw (take_all n rows h) at z in
     rw (← e) (zip_map R (λ r. table_view r.now) rows xs whole)
 
-zip_some : {A B : Type 0} (R : A → B → Type 0) (P : A → Type 0) (p : B → Bool) (xs : List A) (ys : List B) → ((x : A) (y : B) → R x y → p y ≡ true → P x) → AllZip R xs ys
+zip_some : {A B : Type 0} (R : A → B → Type 0) (P : A → Type 0) (p : B → Bool) (xs : List A) (ys : List B)
+    → ((x : A) (y : B) → R x y → p y ≡ true → P x) → AllZip R xs ys
     → list_any p ys ≡ true → SomeOf P xs
 zip_some R P p [] [] f z h = absurd (false≢true h)
 zip_some R P p [] (y ∷ ys) f z h = absurd z
@@ -51,9 +59,14 @@ some_map P f (x ∷ xs) (inl h) = inl h
 some_map P f (x ∷ xs) (inr h) = inr (some_map P f xs h)
 
 -- what an earlier thing passes, its table does
-pub earlier : {X : Type 0} (R : Members → X → Type 0) (P : Members → Type 0) (p : X → Bool) (document : Members) (section : Section) (rows : List (Bor Table)) (i : ℕ) (xs : List X)
-    → map (λ r. table_view r.now) rows ≡ rows_of document section → ((row : Members) (x : X) → R row x → p x ≡ true → P row)
-    → AllZip (λ r x. R (table_view r.now) x) (take i rows) xs → list_any p xs ≡ true → SomeOf P (take i (rows_of document section))
+pub earlier : {X : Type 0} (R : Members → X → Type 0) (P : Members → Type 0) (p : X → Bool) (document : Members)
+    (section : Section) (rows : List (Bor Table)) (i : ℕ) (xs : List X)
+    → map (λ r. table_view r.now) rows ≡ rows_of document section
+    → ((row : Members) (x : X) → R row x → p x ≡ true → P row)
+    → AllZip (λ r x. R (table_view r.now) x) (take i rows) xs → list_any p xs ≡ true
+    → SomeOf P (take i (rows_of document section))
 earlier R P p document section rows i xs e f z h =
     rw (← e, take-map (λ r. table_view r.now) i rows)
-    (some_map P (λ r. table_view r.now) (take i rows) (zip_some (λ r x. R (table_view r.now) x) (λ r. P (table_view r.now)) p (take i rows) xs (λ r x. f (table_view r.now) x) z h))
+    (some_map P (λ r. table_view r.now) (take i rows)
+    (zip_some (λ r x. R (table_view r.now) x) (λ r. P (table_view r.now)) p (take i rows) xs
+    (λ r x. f (table_view r.now) x) z h))

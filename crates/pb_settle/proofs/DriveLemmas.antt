@@ -1,9 +1,11 @@
 -- Events that were done one after the other.
-use Rattle.std.proofs.Common.{◌≡◌, ◌≤◌, ◌+◌, ◌-◌, ℕ, Bool, true, List, [], ◌∷◌, ◌++◌, length, Ok, Err, refl, ap, subst, ◌∙◌, arith, length-append}
+use Rattle.std.proofs.Common.{◌≡◌, ◌≤◌, ◌+◌, ◌-◌, ℕ, Bool, true, List, [], ◌∷◌, ◌++◌, length, Ok, Err, refl, ap}
+use Rattle.std.proofs.Common.{subst, ◌∙◌, arith, length-append}
 use Rattle.pb_frame.proofs.Lists.{All-append, All-imply}
 use Rattle.pb_lan.specs.Events.{place_of}
 use Rattle.pb_lan.specs.declared.event.Event.{Event}
-use Rattle.pb_lan.specs.declared.event.Event.TheVariants.{Poll, Feed, Deliver, Receive, Transmit, Tick, Admin, Take, Put}
+use Rattle.pb_lan.specs.declared.event.Event.TheVariants.{Poll, Feed, Deliver, Receive, Transmit, Tick, Admin, Take}
+use Rattle.pb_lan.specs.declared.event.Event.TheVariants.{Put}
 use Rattle.pb_lan.specs.declared.step.Place.{Place}
 use Rattle.pb_net.specs.Answers.{NetView, IsAnswer, HaveRun}
 use Rattle.std.specs.declared.result.Result.{Result}
@@ -18,15 +20,19 @@ use Rattle.pb_settle.specs.declared.fault.DriveFault.TheVariants.{Events}
 -- events that were done were answered, none with a fault
 pub have_run : (old new : NetView) (events : List Event) → HaveDone old events new → HaveRun old events new
 have_run old new [] e = e
-have_run old new (event ∷ events) (between, answer, rest) = (between, Done (place_of event), answer, have_run between new events rest)
+have_run old new (event ∷ events) (between, answer, rest) =
+    (between, Done (place_of event), answer, have_run between new events rest)
 
 -- some, and then others
-pub done-append : (old mid new : NetView) (front back : List Event) → HaveDone old front mid → HaveDone mid back new → HaveDone old (front ++ back) new
+pub done-append : (old mid new : NetView) (front back : List Event) → HaveDone old front mid → HaveDone mid back new
+    → HaveDone old (front ++ back) new
 done-append old mid new [] back e h = subst (λ v. HaveDone v back new) e h
-done-append old mid new (event ∷ front) back (between, answer, rest) h = (between, answer, done-append between mid new front back rest h)
+done-append old mid new (event ∷ front) back (between, answer, rest) h =
+    (between, answer, done-append between mid new front back rest h)
 
 -- one event was done
-pub done-one : (old new : NetView) (event : Event) (place : Place) → IsAnswer old event (Ok (Done place)) new → HaveDone old (event ∷ []) new
+pub done-one : (old new : NetView) (event : Event) (place : Place) → IsAnswer old event (Ok (Done place)) new
+    → HaveDone old (event ∷ []) new
 done-one old new event place h = (new, subst (λ p. IsAnswer old event (Ok (Done p)) new) h.1 h, refl)
 
 -- the plan stays
@@ -34,7 +40,8 @@ pub done-plan : (old new : NetView) (events : List Event) → HaveDone old event
 done-plan old new [] e = ap (λ v. v.plan) e
 done-plan old new (event ∷ events) (between, answer, rest) = done-plan between new events rest ∙ answer.2
 
-pub answer-plan : (old new : NetView) (event : Event) (result : Result Did NetFault) → IsAnswer old event result new → new.plan ≡ old.plan
+pub answer-plan : (old new : NetView) (event : Event) (result : Result Did NetFault) → IsAnswer old event result new
+    → new.plan ≡ old.plan
 answer-plan old new event (Err NoSuch) h = ap (λ v. v.plan) h.1
 answer-plan old new event (Err StepLimit) h = ap (λ v. v.plan) h.3
 answer-plan old new event (Err Memory) h = ap (λ v. v.plan) h.1
@@ -49,13 +56,17 @@ done-nothing old new (event ∷ events) n h = absurd (omega (arith, n))
 pub gone-none : (kind : Event → Bool) (old new : NetView) → new ≡ old → HaveGone kind 0 old new
 gone-none kind old new e = record { events = []; kinds = tt; done = e; number = refl }
 
-pub gone-nothing : (kind : Event → Bool) (count : ℕ) (old new : NetView) → HaveGone kind count old new → count ≡ 0 → new ≡ old
+pub gone-nothing : (kind : Event → Bool) (count : ℕ) (old new : NetView) → HaveGone kind count old new → count ≡ 0
+    → new ≡ old
 gone-nothing kind count old new g z = done-nothing old new g.events (g.number ∙ z) g.done
 
-pub gone-one : (kind : Event → Bool) (old new : NetView) (event : Event) (place : Place) → kind event ≡ true → IsAnswer old event (Ok (Done place)) new → HaveGone kind 1 old new
-gone-one kind old new event place is h = record { events = event ∷ []; kinds = (is, tt); done = done-one old new event place h; number = refl }
+pub gone-one : (kind : Event → Bool) (old new : NetView) (event : Event) (place : Place) → kind event ≡ true
+    → IsAnswer old event (Ok (Done place)) new → HaveGone kind 1 old new
+gone-one kind old new event place is h =
+    record { events = event ∷ []; kinds = (is, tt); done = done-one old new event place h; number = refl }
 
-pub gone-append : (kind : Event → Bool) (a b : ℕ) (old mid new : NetView) → HaveGone kind a old mid → HaveGone kind b mid new → HaveGone kind (a + b) old new
+pub gone-append : (kind : Event → Bool) (a b : ℕ) (old mid new : NetView) → HaveGone kind a old mid
+    → HaveGone kind b mid new → HaveGone kind (a + b) old new
 gone-append kind a b old mid new f s = record {
   events = f.events ++ s.events;
   kinds = All-append (λ e. kind e ≡ true) f.events s.events f.kinds s.kinds;
@@ -64,13 +75,30 @@ gone-append kind a b old mid new f s = record {
 }
 
 -- driving ended behind some events
-pub stopped-here : (most : ℕ) (fault : DriveFault) (old new : NetView) → (fault ≡ Events → ⊥) → new ≡ old → HasStopped most fault old new
-stopped-here most fault old new other e = record { count = 0; gone = gone-none is_onward old new e; too_many = λ is. absurd (other is); within = λ _. omega arith }
+pub stopped-here : (most : ℕ) (fault : DriveFault) (old new : NetView) → (fault ≡ Events → ⊥) → new ≡ old
+    → HasStopped most fault old new
+stopped-here most fault old new other e =
+    record {
+      count = 0;
+      gone = gone-none is_onward old new e;
+      too_many = λ is. absurd (other is);
+      within = λ _. omega
+          arith;
+    }
 
-pub stopped-over : (most : ℕ) (old new : NetView) (event : Event) (place : Place) → most ≡ 0 → is_onward event ≡ true → IsAnswer old event (Ok (Done place)) new → HasStopped most Events old new
-stopped-over most old new event place z is h = record { count = 1; gone = gone-one is_onward old new event place is h; too_many = λ _. omega (arith, z); within = λ other. absurd (other refl) }
+pub stopped-over : (most : ℕ) (old new : NetView) (event : Event) (place : Place) → most ≡ 0 → is_onward event ≡ true
+    → IsAnswer old event (Ok (Done place)) new → HasStopped most Events old new
+stopped-over most old new event place z is h =
+    record {
+      count = 1;
+      gone = gone-one is_onward old new event place is h;
+      too_many = λ _. omega (arith, z);
+      within =
+          λ other. absurd (other refl);
+    }
 
-pub stopped-later : (most a : ℕ) (fault : DriveFault) (old mid new : NetView) → HaveGone is_onward a old mid → a ≤ most → HasStopped (most - a) fault mid new → HasStopped most fault old new
+pub stopped-later : (most a : ℕ) (fault : DriveFault) (old mid new : NetView) → HaveGone is_onward a old mid
+    → a ≤ most → HasStopped (most - a) fault mid new → HasStopped most fault old new
 stopped-later most a fault old mid new g within s = record {
   count = a + s.count;
   gone = gone-append is_onward a s.count old mid new g s.gone;
@@ -105,4 +133,9 @@ pub driven-none : (old new : NetView) → new ≡ old → HasBeenDriven old new
 driven-none old new e = record { count = 0; gone = gone-none is_onward_or_tick old new e }
 
 pub driven-append : (old mid new : NetView) → HasBeenDriven old mid → HasBeenDriven mid new → HasBeenDriven old new
-driven-append old mid new f s = record { count = f.count + s.count; gone = gone-append is_onward_or_tick f.count s.count old mid new f.gone s.gone }
+driven-append old mid new f s =
+    record {
+      count = f.count + s.count;
+      gone = gone-append is_onward_or_tick f.count s.count old mid new f.gone
+          s.gone;
+    }

@@ -1,11 +1,13 @@
 -- What sweeps have tried.
-use Rattle.std.proofs.Common.{◌≡◌, ◌<◌, ◌+◌, ◌*◌, ◌⊎◌, inl, inr, ℕ, zero, suc, true, false, length, Ok, Err, refl, sym, ap, subst, ◌∙◌, arith}
+use Rattle.std.proofs.Common.{◌≡◌, ◌<◌, ◌+◌, ◌*◌, ◌⊎◌, inl, inr, ℕ, zero, suc, true, false, length, Ok, Err, refl}
+use Rattle.std.proofs.Common.{sym, ap, subst, ◌∙◌, arith}
 use Rattle.pb_lan.specs.Events.{names_something}
 use Rattle.pb_lan.specs.Plans.{IsSound, IsNumber}
 use Rattle.pb_lan.specs.Ports.{Port, port_at, is_used}
 use Rattle.pb_lan.specs.Ports.Port.{Unused}
 use Rattle.pb_lan.specs.declared.event.Event.{Event}
-use Rattle.pb_lan.specs.declared.event.Event.TheVariants.{Poll, Feed, Deliver, Receive, Transmit, Tick, Admin, Take, Put}
+use Rattle.pb_lan.specs.declared.event.Event.TheVariants.{Poll, Feed, Deliver, Receive, Transmit, Tick, Admin, Take}
+use Rattle.pb_lan.specs.declared.event.Event.TheVariants.{Put}
 use Rattle.pb_lan.specs.declared.plan.Plan.{Plan}
 use Rattle.pb_lan.specs.declared.step.Place.{Place}
 use Rattle.pb_net.proofs.OneMore.{same_or_not}
@@ -25,21 +27,28 @@ still event old new e not = record {
   none_due = λ z other is. subst (λ x. IsNotDue new x) (sym is) (subst (λ v. IsNotDue v event) (sym e) not);
 }
 
-pub tried-idle : (event : Event) (old new : NetView) → IsAnswer old event (Ok Idle) new → HaveTried (IsThis event) 0 old new
+pub tried-idle : (event : Event) (old new : NetView) → IsAnswer old event (Ok Idle) new
+    → HaveTried (IsThis event) 0 old new
 tried-idle event old new h = still event old new h.2 (λ named. h.1)
 
-pub tried-absent : (event : Event) (old new : NetView) → IsAnswer old event (Err NoSuch) new → HaveTried (IsThis event) 0 old new
+pub tried-absent : (event : Event) (old new : NetView) → IsAnswer old event (Err NoSuch) new
+    → HaveTried (IsThis event) 0 old new
 tried-absent event old new h = still event old new h.1 (λ named. let f : false ≡ true = sym h.0 ∙ named in cc)
 
-pub tried-done : (event : Event) (place : Place) (old new : NetView) → is_onward event ≡ true → IsAnswer old event (Ok (Done place)) new → HaveTried (IsThis event) 1 old new
-tried-done event place old new is h = record { gone = gone-one is_onward old new event place is h; none_due = λ z. absurd (omega (arith, z)) }
+pub tried-done : (event : Event) (place : Place) (old new : NetView) → is_onward event ≡ true
+    → IsAnswer old event (Ok (Done place)) new → HaveTried (IsThis event) 1 old new
+tried-done event place old new is h =
+    record { gone = gone-one is_onward old new event place is h; none_due = λ z. absurd (omega (arith, z)) }
 
 -- nothing was tried
-pub tried-none : (tried : Event → Type 0) (net : NetView) → ((event : Event) → tried event → ⊥) → HaveTried tried 0 net net
-tried-none tried net never = record { gone = gone-none is_onward net net refl; none_due = λ z event is. absurd (never event is) }
+pub tried-none : (tried : Event → Type 0) (net : NetView) → ((event : Event) → tried event → ⊥)
+    → HaveTried tried 0 net net
+tried-none tried net never =
+    record { gone = gone-none is_onward net net refl; none_due = λ z event is. absurd (never event is) }
 
 -- some were tried, and then others
-pub tried-join : (some others all : Event → Type 0) (a b : ℕ) (old mid new : NetView) → ((event : Event) → all event → some event ⊎ others event)
+pub tried-join : (some others all : Event → Type 0) (a b : ℕ) (old mid new : NetView)
+    → ((event : Event) → all event → some event ⊎ others event)
     → HaveTried some a old mid → HaveTried others b mid new → HaveTried all (a + b) old new
 tried-join some others all a b old mid new which f s = record {
   gone = gone-append is_onward a b old mid new f.gone s.gone;
@@ -56,14 +65,17 @@ tried-join some others all a b old mid new which f s = record {
 pub none_of : (at : ℕ → Event → Type 0) (event : Event) → IsAtOneOf at 0 event → ⊥
 none_of at event (n, range, is) = omega (arith, range.0, range.1)
 
-one_of_more : (at : ℕ → Event → Type 0) (k : ℕ) (event : Event) → IsAtOneOf at (k + 1) event → IsAtOneOf at k event ⊎ at (k + 1) event
+one_of_more : (at : ℕ → Event → Type 0) (k : ℕ) (event : Event) → IsAtOneOf at (k + 1) event → IsAtOneOf at k event
+    ⊎ at (k + 1) event
 one_of_more at k event (n, range, is) = elim (same_or_not n (k + 1)) [
   | inl e ↦ inr (subst (λ m. at m event) e is)
   | inr ne ↦ inl (n, (range.0, omega (arith, range.1, ne)), is)
 ]
 
-pub tried-more : (at : ℕ → Event → Type 0) (k a b : ℕ) (old mid new : NetView) → HaveTried (IsAtOneOf at k) a old mid → HaveTried (at (k + 1)) b mid new → HaveTried (IsAtOneOf at (k + 1)) (a + b) old new
-tried-more at k a b old mid new f s = tried-join (IsAtOneOf at k) (at (k + 1)) (IsAtOneOf at (k + 1)) a b old mid new (one_of_more at k) f s
+pub tried-more : (at : ℕ → Event → Type 0) (k a b : ℕ) (old mid new : NetView) → HaveTried (IsAtOneOf at k) a old mid
+    → HaveTried (at (k + 1)) b mid new → HaveTried (IsAtOneOf at (k + 1)) (a + b) old new
+tried-more at k a b old mid new f s = tried-join (IsAtOneOf at k) (at (k + 1)) (IsAtOneOf at (k + 1)) a b old mid new
+    (one_of_more at k) f s
 
 -- a number from 1 to a highest one, or not
 in_range : (n highest : ℕ) → ((n ≡ 0) ⊎ (highest < n)) ⊎ IsNumber n highest
@@ -77,7 +89,8 @@ in_range (suc n) (suc highest) = elim (in_range n highest) [
 unused_is_not : (p : Port) → p ≡ Unused → is_used p ≡ true → ⊥
 unused_is_not p e u = let f : false ≡ true = sym (ap is_used e) ∙ u in cc
 
-bridge_there : (plan : Plan) → IsSound plan → (b q : ℕ) → is_used (port_at plan b q) ≡ true → IsNumber b (length plan.bridges)
+bridge_there : (plan : Plan) → IsSound plan → (b q : ℕ) → is_used (port_at plan b q) ≡ true
+    → IsNumber b (length plan.bridges)
 bridge_there plan sound b q u = elim (in_range b (length plan.bridges)) [
   | inl out ↦ absurd (unused_is_not (port_at plan b q) (out_of_range plan sound b q out) u)
   | inr h ↦ h
@@ -90,21 +103,34 @@ port_there plan sound b q u = elim (in_range q 16) [
 ]
 
 -- a sweep tries every event by which what is under way goes on
-pub anywhere : (plan : Plan) → IsSound plan → (event : Event) → is_onward event ≡ true → names_something plan event ≡ true → IsAnywhere plan event
+pub anywhere : (plan : Plan) → IsSound plan → (event : Event) → is_onward event ≡ true
+    → names_something plan event ≡ true → IsAnywhere plan event
 anywhere plan sound (Poll port frame) is named = cc
 anywhere plan sound (Feed port) is named = inl (port, known_number plan.customers port named, inr refl)
 anywhere plan sound (Deliver port) is named = inl (port, known_number plan.customers port named, inl refl)
-anywhere plan sound (Receive bridge port) is named = inr (inl (bridge, bridge_there plan sound bridge port named, (port, port_there plan sound bridge port named, inl refl)))
-anywhere plan sound (Transmit bridge port) is named = inr (inl (bridge, bridge_there plan sound bridge port named, (port, port_there plan sound bridge port named, inr refl)))
+anywhere plan sound (Receive bridge port) is named =
+    inr (inl (
+      bridge,
+      bridge_there plan sound bridge port named,
+      (port, port_there plan sound bridge port named, inl refl),
+    ))
+anywhere plan sound (Transmit bridge port) is named =
+    inr (inl (
+      bridge,
+      bridge_there plan sound bridge port named,
+      (port, port_there plan sound bridge port named, inr refl),
+    ))
 anywhere plan sound (Tick bridge) is named = cc
 anywhere plan sound (Admin bridge port up) is named = cc
 anywhere plan sound (Take lane) is named = inr (inr (lane, known_lane lane (2 * length plan.links) named, inl refl))
 anywhere plan sound (Put lane) is named = inr (inr (lane, known_lane lane (2 * length plan.links) named, inr refl))
 
 -- the sweep that finds nothing is the last one
-pub drained : (plan : Plan) (done more : ℕ) (old mid new : NetView) → IsSound plan → new.plan ≡ plan → HaveGone is_onward done old mid → HaveTried (IsAnywhere plan) more mid new → more ≡ 0
+pub drained : (plan : Plan) (done more : ℕ) (old mid new : NetView) → IsSound plan → new.plan ≡ plan
+    → HaveGone is_onward done old mid → HaveTried (IsAnywhere plan) more mid new → more ≡ 0
     → HasDrained done old new
 drained plan done more old mid new sound e g t z = record {
   gone = subst (λ v. HaveGone is_onward done old v) (sym (gone-nothing is_onward more mid new t.gone z)) g;
-  none_due = λ event is named. t.none_due z event (anywhere plan sound event is (subst (λ p. names_something p event ≡ true) e named)) named;
+  none_due = λ event is named. t.none_due z event
+      (anywhere plan sound event is (subst (λ p. names_something p event ≡ true) e named)) named;
 }

@@ -1,5 +1,7 @@
 -- A network that is driven line by line.
-use Rattle.std.proofs.Common.{true, ◌≢◌, ◌≡◌, ℕ, suc, ◌+◌, List, [], ◌∷◌, ◌++◌, length, take, map, Option, Some, None, Ok, Err, IfErr, refl, sym, ap, subst, ◌∙◌, arith, append_assoc, append-nil, length-append}
+use Rattle.std.proofs.Common.{true, ◌≢◌, ◌≡◌, ℕ, suc, ◌+◌, List, [], ◌∷◌, ◌++◌, length, take, map, Option, Some, None}
+use Rattle.std.proofs.Common.{Ok, Err, IfErr, refl, sym, ap, subst, ◌∙◌, arith, append_assoc, append-nil}
+use Rattle.std.proofs.Common.{length-append}
 use Rattle.std.specs.Io.KnownBytes.{Appends, Keeps}
 use Rattle.std.specs.declared.result.Result.{Result}
 use Rattle.pb_lines.specs.Lines.{lines_of, cut_lines, GivesLine, HasNoLine}
@@ -19,7 +21,9 @@ use Rattle.pb_net.specs.declared.fault.NetFault.TheVariants.{StepLimit, NoSuch}
 use Rattle.pb_script.specs.Answers.{step_line, idle_line, no_such_line}
 use Rattle.pb_step.proofs.PlaceLemmas.{named_place}
 use Rattle.pb_script.specs.Lines.{Asks}
-use Rattle.pb_step.specs.Steps.{newest_at, HasGrown, StepAnswer, bad, absent, idle, done, StepAnswers, start_of, IsReport, IsAtLimit, no_report, part_report, PrintsSteps, HaveAnswered, PrintsStepsBeginning, StepsProgress}
+use Rattle.pb_step.specs.Steps.{newest_at, HasGrown, StepAnswer, bad, absent, idle, done, StepAnswers, start_of}
+use Rattle.pb_step.specs.Steps.{IsReport, IsAtLimit, no_report, part_report, PrintsSteps, HaveAnswered}
+use Rattle.pb_step.specs.Steps.{PrintsStepsBeginning, StepsProgress}
 use Rattle.pb_said.specs.BadLines.{bad_line}
 use Rattle.pb_said.specs.declared.fault.CommandFault.{CommandFault}
 use Rattle.pb_print.specs.RecordTexts.{IsRecordText}
@@ -45,37 +49,59 @@ StepAnswers-snoc limit n (l ∷ front) line old mid new text more (between, head
     )
 
 -- a line that was cut asks for what the whole line does
-Asks-uncut : (limit : ℕ) (plan : Plan) (line : List ℕ) (event : Event) → Asks limit plan (take (limit + 1) line) event → Asks limit plan line event
+Asks-uncut : (limit : ℕ) (plan : Plan) (line : List ℕ) (event : Event) → Asks limit plan (take (limit + 1) line) event
+    → Asks limit plan line event
 Asks-uncut limit plan line event a = subst (λ z. Asks limit plan z event) (whole_line limit line a.short) a
 
-Asks-cut : (limit : ℕ) (plan : Plan) (line : List ℕ) (event : Event) → Asks limit plan line event → Asks limit plan (take (limit + 1) line) event
+Asks-cut : (limit : ℕ) (plan : Plan) (line : List ℕ) (event : Event) → Asks limit plan line event
+    → Asks limit plan (take (limit + 1) line) event
 Asks-cut limit plan line event a = subst (λ z. Asks limit plan z event) (sym (uncut limit line a.short)) a
 
-StepAnswer-uncut : (limit n : ℕ) (line : List ℕ) (old new : NetView) (text : List ℕ) → StepAnswer limit n (take (limit + 1) line) old new text → StepAnswer limit n line old new text
-StepAnswer-uncut limit n line old new text (bad none s t) = bad (λ event a. none event (Asks-cut limit old.plan line event a)) s t
-StepAnswer-uncut limit n line old new text (absent event a i t) = absent event (Asks-uncut limit old.plan line event a) i t
+StepAnswer-uncut : (limit n : ℕ) (line : List ℕ) (old new : NetView) (text : List ℕ)
+    → StepAnswer limit n (take (limit + 1) line) old new text → StepAnswer limit n line old new text
+StepAnswer-uncut limit n line old new text (bad none s t) =
+    bad (λ event a. none event (Asks-cut limit old.plan line event a)) s t
+StepAnswer-uncut limit n line old new text (absent event a i t) =
+    absent event (Asks-uncut limit old.plan line event a) i t
 StepAnswer-uncut limit n line old new text (idle event a i t) = idle event (Asks-uncut limit old.plan line event a) i t
-StepAnswer-uncut limit n line old new text (done event place step a i l w t) = done event place step (Asks-uncut limit old.plan line event a) i l w t
+StepAnswer-uncut limit n line old new text (done event place step a i l w t) =
+    done event place step (Asks-uncut limit old.plan line event a) i l w t
 
 StepAnswers-uncut : (limit n : ℕ) (lines : List (List ℕ)) (old new : NetView) (text : List ℕ)
-    → StepAnswers limit n (map (λ line. take (limit + 1) line) lines) old new text → StepAnswers limit n lines old new text
+    → StepAnswers limit n (map (λ line. take (limit + 1) line) lines) old new text
+    → StepAnswers limit n lines old new text
 StepAnswers-uncut limit n [] old new text a = a
-StepAnswers-uncut limit n (line ∷ lines) old new text (mid, front, back, first, others, e) =
-    (mid, front, back, StepAnswer-uncut limit n line old mid front first, StepAnswers-uncut limit (suc n) lines mid new back others, e)
+StepAnswers-uncut limit n (line ∷ lines) old new text (mid, front, back, first, others, e) = (
+  mid,
+  front,
+  back,
+  StepAnswer-uncut limit n line old mid front first,
+  StepAnswers-uncut limit (suc n) lines mid
+      new back others,
+  e,
+)
 
 -- the parts of the cut lines are the cut parts of the lines
 parts_of_map : (n : ℕ) (lines front back : List (List ℕ)) → map (λ line. take n line) lines ≡ front ++ back
-    → (a : List (List ℕ)) × (b : List (List ℕ)) × (lines ≡ a ++ b) × (front ≡ map (λ line. take n line) a) × (back ≡ map (λ line. take n line) b)
+    → (a : List (List ℕ)) × (b : List (List ℕ)) × (lines ≡ a ++ b) × (front ≡ map (λ line. take n line) a)
+    × (back ≡ map (λ line. take n line) b)
 parts_of_map n lines [] back e = ([], lines, refl, refl, sym e)
 parts_of_map n [] (f ∷ front) back e = cc
 parts_of_map n (l ∷ lines) (f ∷ front) back e =
     let head : take n l ≡ f = cc in
     let tail : map (λ line. take n line) lines ≡ front ++ back = cc in
-    let parts = parts_of_map n lines front back tail in
-    (l ∷ parts.0, parts.1, ap (λ z. l ∷ z) {y = parts.0 ++ parts.1} parts.2, let same : front ≡ map (λ line. take n line) parts.0 = parts.3 in cc, parts.4)
+    let parts = parts_of_map n lines front back tail in (
+      l ∷ parts.0,
+      parts.1,
+      ap (λ z. l ∷ z) {y = parts.0 ++ parts.1} parts.2,
+      let same : front ≡ map
+          (λ line. take n line) parts.0 = parts.3 in cc,
+      parts.4,
+    )
 
 -- the limit that the next cut line meets, the next line meets
-IsAtLimit-uncut : (limit : ℕ) (net : NetView) (lines : List (List ℕ)) (line : List ℕ) (rest : List (List ℕ)) → line ∷ rest ≡ map (λ l. take (limit + 1) l) lines
+IsAtLimit-uncut : (limit : ℕ) (net : NetView) (lines : List (List ℕ)) (line : List ℕ) (rest : List (List ℕ))
+    → line ∷ rest ≡ map (λ l. take (limit + 1) l) lines
     → IsAtLimit limit net (line ∷ []) → IsAtLimit limit net lines
 IsAtLimit-uncut limit net [] line rest e at = cc
 IsAtLimit-uncut limit net (l ∷ lines) line rest e (event, asks, met) =
@@ -83,7 +109,8 @@ IsAtLimit-uncut limit net (l ∷ lines) line rest e (event, asks, met) =
     (event, Asks-uncut limit net.plan l event (subst (λ z. Asks limit net.plan z event) same asks), met)
 
 -- before line 1 nothing is written
-pub steps_start : (limit : ℕ) (plan : Plan) (input : Option (List ℕ)) (held : List ℕ) (before : Option (List ℕ)) (net : NetView) → held ≡ [] → net ≡ start_of plan
+pub steps_start : (limit : ℕ) (plan : Plan) (input : Option (List ℕ)) (held : List ℕ) (before : Option (List ℕ))
+    (net : NetView) → held ≡ [] → net ≡ start_of plan
     → StepsProgress limit 1 plan input held input before before net
 steps_start limit plan None held before net e f = tt
 steps_start limit plan (Some octets) held before net e f = record {
@@ -96,17 +123,22 @@ steps_start limit plan (Some octets) held before net e f = record {
 }
 
 -- a line is answered
-pub steps_go_on : (limit n : ℕ) (plan : Plan) (input mid left before now after : Option (List ℕ)) (held held' line text : List ℕ) (old new : NetView)
-    → StepsProgress limit n plan input held mid before now old → GivesLine limit mid held left held' line → StepAnswer limit n line old new text
+pub steps_go_on : (limit n : ℕ) (plan : Plan) (input mid left before now after : Option (List ℕ))
+    (held held' line text : List ℕ) (old new : NetView)
+    → StepsProgress limit n plan input held mid before now old → GivesLine limit mid held left held' line
+    → StepAnswer limit n line old new text
     → Appends now after text → StepsProgress limit (n + 1) plan input held' left before after new
 steps_go_on limit n plan None mid left before now after held held' line text old new p gives a w = tt
 steps_go_on limit n plan (Some octets) None left before now after held held' line text old new p gives a w = absurd p
-steps_go_on limit n plan (Some octets) (Some rest) None before now after held held' line text old new p gives a w = absurd gives
-steps_go_on limit n plan (Some octets) (Some rest) (Some rest') before now after held held' line text old new p gives a w =
+steps_go_on limit n plan (Some octets) (Some rest) None before now after held held' line text old new p gives a w =
+    absurd gives
+steps_go_on limit n plan (Some octets) (Some rest) (Some rest') before now after held held' line text old new p gives
+    a w =
     let at_n : 1 + length p.front ≡ n = omega (arith, p.number) in
     record {
       front = p.front ++ line ∷ [];
-      lines = p.lines ∙ ap (λ z. p.front ++ z) gives ∙ sym (append_assoc p.front (line ∷ []) (cut_lines limit (held' ++ rest')));
+      lines = p.lines ∙ ap (λ z. p.front ++ z) gives
+          ∙ sym (append_assoc p.front (line ∷ []) (cut_lines limit (held' ++ rest')));
       number = omega (arith, p.number, length-append p.front (line ∷ []));
       text = p.text ++ text;
       written = Appends-twice before now after p.text text p.written w;
@@ -115,7 +147,8 @@ steps_go_on limit n plan (Some octets) (Some rest) (Some rest') before now after
 
 -- no line is left
 pub steps_end : (limit n : ℕ) (plan : Plan) (input left before now : Option (List ℕ)) (held : List ℕ) (net : NetView)
-    → StepsProgress limit n plan input held left before now net → HasNoLine limit left held → HaveAnswered limit plan input before now net
+    → StepsProgress limit n plan input held left before now net → HasNoLine limit left held
+    → HaveAnswered limit plan input before now net
 steps_end limit n plan None left before now held net p none = tt
 steps_end limit n plan (Some octets) None before now held net p none = absurd p
 steps_end limit n plan (Some octets) (Some rest) before now held net p none =
@@ -126,8 +159,10 @@ steps_end limit n plan (Some octets) (Some rest) before now held net p none =
     )
 
 -- at any line what is written are the answers to the first lines
-pub steps_begun : (fault : CommandFault) (limit n : ℕ) (plan : Plan) (input left before now : Option (List ℕ)) (held : List ℕ) (net : NetView)
-    → StepsProgress limit n plan input held left before now net → fault ≢ Steps → PrintsStepsBeginning fault limit plan input before now
+pub steps_begun : (fault : CommandFault) (limit n : ℕ) (plan : Plan) (input left before now : Option (List ℕ))
+    (held : List ℕ) (net : NetView)
+    → StepsProgress limit n plan input held left before now net → fault ≢ Steps
+    → PrintsStepsBeginning fault limit plan input before now
 steps_begun fault limit n plan None left before now held net p ne = tt
 steps_begun fault limit n plan (Some octets) None before now held net p ne = absurd p
 steps_begun fault limit n plan (Some octets) (Some rest) before now held net p ne =
@@ -149,8 +184,10 @@ steps_begun fault limit n plan (Some octets) (Some rest) before now held net p n
     )
 
 -- the same where the next line is known
-pub steps_stopped : (fault : CommandFault) (limit n : ℕ) (plan : Plan) (input mid left before now : Option (List ℕ)) (held held' line : List ℕ) (net : NetView)
-    → StepsProgress limit n plan input held mid before now net → GivesLine limit mid held left held' line → (fault ≡ Steps → IsAtLimit limit net (line ∷ []))
+pub steps_stopped : (fault : CommandFault) (limit n : ℕ) (plan : Plan) (input mid left before now : Option (List ℕ))
+    (held held' line : List ℕ) (net : NetView)
+    → StepsProgress limit n plan input held mid before now net → GivesLine limit mid held left held' line
+    → (fault ≡ Steps → IsAtLimit limit net (line ∷ []))
     → PrintsStepsBeginning fault limit plan input before now
 steps_stopped fault limit n plan None mid left before now held held' line net p gives at = tt
 steps_stopped fault limit n plan (Some octets) None left before now held held' line net p gives at = absurd p
@@ -166,7 +203,8 @@ steps_stopped fault limit n plan (Some octets) (Some rest) (Some rest') before n
         last = net;
         answers = p.text;
         are_answers = StepAnswers-uncut limit 1 parts.0 (start_of plan) net p.text (rw parts.3 at p.answers);
-        steps = λ e. IsAtLimit-uncut limit net parts.1 line (cut_lines limit (held' ++ rest')) (sym gives ∙ parts.4) (at e);
+        steps = λ e. IsAtLimit-uncut limit net parts.1 line (cut_lines limit (held' ++ rest')) (sym gives ∙ parts.4)
+            (at e);
         more = [];
         follows = no_report refl;
         text_is = sym (append-nil p.text);
@@ -174,14 +212,32 @@ steps_stopped fault limit n plan (Some octets) (Some rest) (Some rest') before n
     )
 
 -- before anything is read
-pub steps_unread : (fault : CommandFault) (limit : ℕ) (plan : Plan) (input before : Option (List ℕ)) → fault ≢ Steps → PrintsStepsBeginning fault limit plan input before before
+pub steps_unread : (fault : CommandFault) (limit : ℕ) (plan : Plan) (input before : Option (List ℕ)) → fault ≢ Steps
+    → PrintsStepsBeginning fault limit plan input before before
 steps_unread fault limit plan None before ne = tt
-steps_unread fault limit plan (Some octets) before ne =
-    ([], Appends-nothing before, record { front = []; back = lines_of octets; lines = refl; last = start_of plan; answers = []; are_answers = (refl, refl); steps = λ e. absurd (ne e); more = []; follows = no_report refl; text_is = refl })
+steps_unread fault limit plan (Some octets) before ne = (
+  [],
+  Appends-nothing before,
+  record {
+    front = [];
+    back = lines_of octets;
+    lines = refl;
+    last = start_of plan;
+    answers = [];
+    are_answers = (refl, refl);
+    steps = λ e. absurd (ne e);
+    more = [];
+    follows =
+        no_report refl;
+    text_is = refl;
+  },
+)
 
 -- the answers and the report
-pub reported : (limit : ℕ) (plan : Plan) (input before now after : Option (List ℕ)) (net : NetView) (rec : Record) (report : List ℕ)
-    → HaveAnswered limit plan input before now net → rec ≡ net.rec → IsLawfulRecord spanning_tree plan rec → Appends now after report → IsReport plan rec report
+pub reported : (limit : ℕ) (plan : Plan) (input before now after : Option (List ℕ)) (net : NetView) (rec : Record)
+    (report : List ℕ)
+    → HaveAnswered limit plan input before now net → rec ≡ net.rec → IsLawfulRecord spanning_tree plan rec
+    → Appends now after report → IsReport plan rec report
     → PrintsSteps limit plan input before after
 reported limit plan None before now after net rec report a e lawful w r = tt
 reported limit plan (Some octets) before now after net rec report (text, written, answers) e lawful w r = (
@@ -199,23 +255,14 @@ reported limit plan (Some octets) before now after net rec report (text, written
 )
 
 -- the answers without the report
-pub unreported : (fault : CommandFault) (limit : ℕ) (plan : Plan) (input before now after : Option (List ℕ)) (net : NetView)
-    → HaveAnswered limit plan input before now net → Keeps now after → fault ≢ Steps → PrintsStepsBeginning fault limit plan input before after
+pub unreported : (fault : CommandFault) (limit : ℕ) (plan : Plan) (input before now after : Option (List ℕ))
+    (net : NetView)
+    → HaveAnswered limit plan input before now net → Keeps now after → fault ≢ Steps
+    → PrintsStepsBeginning fault limit plan input before after
 unreported fault limit plan None before now after net a k ne = tt
 unreported fault limit plan (Some octets) before now after net (text, written, answers) k ne = (
   text,
   Appends-keeps before now after text written k,
-  record { front = lines_of octets; back = []; lines = sym (append-nil (lines_of octets)); last = net; answers = text; are_answers = answers; steps = λ e. absurd (ne e); more = []; follows = no_report refl; text_is = sym (append-nil text) },
-)
-
--- the answers, and what is told of the record, where there was no memory to look whether the bridges are settled
-pub part_reported : (fault : CommandFault) (limit : ℕ) (plan : Plan) (input before now after : Option (List ℕ)) (net : NetView) (rec : Record) (more : List ℕ)
-    → HaveAnswered limit plan input before now net → rec ≡ net.rec → IsLawfulRecord spanning_tree plan rec → fault ≡ Memory → plan.spanning ≡ Rstp
-    → Appends now after more → IsRecordText plan rec more → PrintsStepsBeginning fault limit plan input before after
-part_reported fault limit plan None before now after net rec more a e lawful m rstp w told = tt
-part_reported fault limit plan (Some octets) before now after net rec more (text, written, answers) e lawful m rstp w told = (
-  text ++ more,
-  Appends-twice before now after text more written w,
   record {
     front = lines_of octets;
     back = [];
@@ -223,56 +270,97 @@ part_reported fault limit plan (Some octets) before now after net rec more (text
     last = net;
     answers = text;
     are_answers = answers;
-    steps = λ s. let clash : Memory ≡ Steps = sym m ∙ s in cc;
-    more = more;
-    follows = part_report m rstp refl (subst (λ x. IsLawfulRecord spanning_tree plan x) e lawful) (subst (λ x. IsRecordText plan x more) e told);
-    text_is = refl;
+    steps = λ e. absurd (ne e);
+    more = [];
+    follows = no_report refl;
+    text_is =
+        sym (append-nil text);
   },
 )
 
+-- the answers, and what is told of the record, where there was no memory to look whether the bridges are settled
+pub part_reported : (fault : CommandFault) (limit : ℕ) (plan : Plan) (input before now after : Option (List ℕ))
+    (net : NetView) (rec : Record) (more : List ℕ)
+    → HaveAnswered limit plan input before now net → rec ≡ net.rec → IsLawfulRecord spanning_tree plan rec
+    → fault ≡ Memory → plan.spanning ≡ Rstp
+    → Appends now after more → IsRecordText plan rec more → PrintsStepsBeginning fault limit plan input before after
+part_reported fault limit plan None before now after net rec more a e lawful m rstp w told = tt
+part_reported fault limit plan (Some octets) before now after net rec more (text, written, answers) e lawful m rstp w
+    told = (
+      text ++ more,
+      Appends-twice before now after text more written w,
+      record {
+        front = lines_of octets;
+        back = [];
+        lines = sym (append-nil (lines_of octets));
+        last = net;
+        answers = text;
+        are_answers = answers;
+        steps = λ s. let clash : Memory ≡ Steps = sym m ∙ s in cc;
+        more = more;
+        follows = part_report m rstp refl (subst (λ x. IsLawfulRecord spanning_tree plan x) e lawful)
+            (subst (λ x. IsRecordText plan x more) e told);
+        text_is = refl;
+      },
+    )
+
 -- what two facts give of an error
-pub on_err : {A E : Type 0} {P Q S : E → Type 0} (r : Result A E) → ((e : E) → P e → Q e → S e) → IfErr r P → IfErr r Q → IfErr r S
+pub on_err : {A E : Type 0} {P Q S : E → Type 0} (r : Result A E) → ((e : E) → P e → Q e → S e) → IfErr r P
+    → IfErr r Q → IfErr r S
 on_err (Ok x) f p q = p
 on_err (Err e) f p q = f e p q
 
 -- the place of an event that was done is there, and has taken one step more
-pub place_there : (plan : Plan) → IsSound plan → (old new : NetView) (event : Event) (place : Place) → old.plan ≡ plan → IsAnswer old event (Ok (Done place)) new
+pub place_there : (plan : Plan) → IsSound plan → (old new : NetView) (event : Event) (place : Place) → old.plan ≡ plan
+    → IsAnswer old event (Ok (Done place)) new
     → has_place new.plan place ≡ true
 place_there plan sound old new event place e h =
     subst (λ p. has_place p place ≡ true) (sym h.2)
-    (subst (λ q. has_place old.plan q ≡ true) (sym h.1) (named_place old.plan (subst (λ p. IsSound p) (sym e) sound) event h.0.named))
+    (subst (λ q. has_place old.plan q ≡ true) (sym h.1)
+    (named_place old.plan (subst (λ p. IsSound p) (sym e) sound) event h.0.named))
 
-pub place_grew : (old new : NetView) (event : Event) (place : Place) → IsAnswer old event (Ok (Done place)) new → HasGrown new.rec place
+pub place_grew : (old new : NetView) (event : Event) (place : Place) → IsAnswer old event (Ok (Done place)) new
+    → HasGrown new.rec place
 place_grew old new event place h =
     let step : Step = h.3.0 in
     (old.rec, step, subst (λ q. new.rec ≡ with_step old.rec q step) (sym h.1) h.3.2)
 
 -- the answer to a line, where the network has the plan that the line was read by
-pub answered_done : (limit n : ℕ) (line : List ℕ) (plan : Plan) (old new : NetView) (event : Event) (place : Place) (step : Step) (out out' : List ℕ)
-    → old.plan ≡ plan → Asks limit plan line event → IsAnswer old event (Ok (Done place)) new → IsLawfulRecord spanning_tree new.plan new.rec → newest_at new.rec place ≡ Some step
-    → out' ≡ out ++ step_line plan place step → (text : List ℕ) × (out' ≡ out ++ text) × StepAnswer limit n line old new text
+pub answered_done : (limit n : ℕ) (line : List ℕ) (plan : Plan) (old new : NetView) (event : Event) (place : Place)
+    (step : Step) (out out' : List ℕ)
+    → old.plan ≡ plan → Asks limit plan line event → IsAnswer old event (Ok (Done place)) new
+    → IsLawfulRecord spanning_tree new.plan new.rec → newest_at new.rec place ≡ Some step
+    → out' ≡ out ++ step_line plan place step → (text : List ℕ) × (out' ≡ out ++ text)
+    × StepAnswer limit n line old new text
 answered_done limit n line plan old new event place step out out' e asks is lawful newest t = (
   step_line plan place step,
   t,
-  done event place step (subst (λ p. Asks limit p line event) (sym e) asks) is lawful newest (ap (λ p. step_line p place step) (sym e)),
+  done event place step (subst (λ p. Asks limit p line event) (sym e) asks) is lawful newest
+      (ap (λ p. step_line p place step) (sym e)),
 )
 
 pub answered_idle : (limit n : ℕ) (line : List ℕ) (plan : Plan) (old new : NetView) (event : Event) (out out' : List ℕ)
     → old.plan ≡ plan → Asks limit plan line event → IsAnswer old event (Ok Idle) new → out' ≡ out ++ idle_line
     → (text : List ℕ) × (out' ≡ out ++ text) × StepAnswer limit n line old new text
-answered_idle limit n line plan old new event out out' e asks is t = (idle_line, t, idle event (subst (λ p. Asks limit p line event) (sym e) asks) is refl)
+answered_idle limit n line plan old new event out out' e asks is t =
+    (idle_line, t, idle event (subst (λ p. Asks limit p line event) (sym e) asks) is refl)
 
-pub answered_absent : (limit n : ℕ) (line : List ℕ) (plan : Plan) (old new : NetView) (event : Event) (out out' : List ℕ)
+pub answered_absent : (limit n : ℕ) (line : List ℕ) (plan : Plan) (old new : NetView) (event : Event)
+    (out out' : List ℕ)
     → old.plan ≡ plan → Asks limit plan line event → IsAnswer old event (Err NoSuch) new → out' ≡ out ++ no_such_line
     → (text : List ℕ) × (out' ≡ out ++ text) × StepAnswer limit n line old new text
-answered_absent limit n line plan old new event out out' e asks is t = (no_such_line, t, absent event (subst (λ p. Asks limit p line event) (sym e) asks) is refl)
+answered_absent limit n line plan old new event out out' e asks is t =
+    (no_such_line, t, absent event (subst (λ p. Asks limit p line event) (sym e) asks) is refl)
 
 pub answered_bad : (limit n : ℕ) (line : List ℕ) (plan : Plan) (net : NetView) (out out' : List ℕ)
     → net.plan ≡ plan → ((event : Event) → Asks limit plan line event → ⊥) → out' ≡ out ++ bad_line n
     → (text : List ℕ) × (out' ≡ out ++ text) × StepAnswer limit n line net net text
-answered_bad limit n line plan net out out' e none t = (bad_line n, t, bad (λ event asks. none event (subst (λ p. Asks limit p line event) e asks)) refl refl)
+answered_bad limit n line plan net out out' e none t =
+    (bad_line n, t, bad (λ event asks. none event (subst (λ p. Asks limit p line event) e asks)) refl refl)
 
 -- the event of a line meets the limit
-pub met_limit : (limit : ℕ) (line : List ℕ) (plan : Plan) (old new : NetView) (event : Event) → old.plan ≡ plan → Asks limit plan line event → IsAnswer old event (Err StepLimit) new
+pub met_limit : (limit : ℕ) (line : List ℕ) (plan : Plan) (old new : NetView) (event : Event) → old.plan ≡ plan
+    → Asks limit plan line event → IsAnswer old event (Err StepLimit) new
     → IsAtLimit limit old (line ∷ [])
-met_limit limit line plan old new event e asks h = (event, subst (λ p. Asks limit p line event) (sym e) asks, (h.0, h.1, h.2, refl))
+met_limit limit line plan old new event e asks h =
+    (event, subst (λ p. Asks limit p line event) (sym e) asks, (h.0, h.1, h.2, refl))

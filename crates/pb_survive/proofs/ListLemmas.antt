@@ -1,9 +1,12 @@
 -- Lists in step.
-use Rattle.std.proofs.Common.{◌≡◌, ◌≤◌, ℕ, zero, suc, ◌+◌, ◌<◌, List, [], ◌∷◌, ◌++◌, Result, Ok, Err, IfOk, MatchResult, map, length, take, drop, get_or, flat_map, min, refl, sym, ap, ◌∙◌, subst, arith, append_assoc, append-nil}
+use Rattle.std.proofs.Common.{◌≡◌, ◌≤◌, ℕ, zero, suc, ◌+◌, ◌<◌, List, [], ◌∷◌, ◌++◌, Result, Ok, Err, IfOk}
+use Rattle.std.proofs.Common.{MatchResult, map, length, take, drop, get_or, flat_map, min, refl, sym, ap, ◌∙◌, subst}
+use Rattle.std.proofs.Common.{arith, append_assoc, append-nil}
 use Rattle.std.specs.List.{AllZip, Contains, zip}
 
 -- one more at the end of both
-pub zip_one_more : {A B : Type 0} (R : A → B → Type 0) (xs : List A) (i : ℕ) (d : A) (ys : List B) (y : B) → i < length xs → AllZip R (take i xs) ys → R (get_or xs i d) y
+pub zip_one_more : {A B : Type 0} (R : A → B → Type 0) (xs : List A) (i : ℕ) (d : A) (ys : List B) (y : B)
+    → i < length xs → AllZip R (take i xs) ys → R (get_or xs i d) y
     → AllZip R (take (i + 1) xs) (ys ++ y ∷ [])
 zip_one_more R [] i d ys y h a r = absurd (omega (arith, h))
 zip_one_more R (x ∷ xs) zero d [] y h a r = (r, tt)
@@ -11,7 +14,8 @@ zip_one_more R (x ∷ xs) zero d (z ∷ zs) y h a r = absurd a
 zip_one_more R (x ∷ xs) (suc i) d [] y h a r = absurd a
 zip_one_more R (x ∷ xs) (suc i) d (z ∷ zs) y h a r =
     let next : suc (i + 1) ≡ suc i + 1 = omega arith in
-    subst (λ n. AllZip R (take n (x ∷ xs)) ((z ∷ zs) ++ y ∷ [])) next (a.0, zip_one_more R xs i d zs y (omega (arith, h)) a.1 r)
+    subst (λ n. AllZip R (take n (x ∷ xs)) ((z ∷ zs) ++ y ∷ [])) next
+    (a.0, zip_one_more R xs i d zs y (omega (arith, h)) a.1 r)
 
 -- a text in five parts, from the left or from the right
 pub regroup : (a b c d e : List ℕ) → (((a ++ b) ++ c) ++ d) ++ e ≡ a ++ (b ++ (c ++ (d ++ e)))
@@ -29,7 +33,8 @@ zip_there (x ∷ xs) [] i d e h g = absurd (omega (arith, g))
 zip_there (x ∷ xs) (y ∷ ys) zero d e h g = refl
 zip_there (x ∷ xs) (y ∷ ys) (suc i) d e h g =
     let next : suc (i + 1) ≡ suc i + 1 = omega arith in
-    zip_there xs ys i d e (omega (arith, h)) (omega (arith, g)) ∙ ap (λ n. (get_or xs i d, get_or ys i e) ∷ zip (drop n (x ∷ xs)) (drop n (y ∷ ys))) next
+    zip_there xs ys i d e (omega (arith, h)) (omega (arith, g))
+    ∙ ap (λ n. (get_or xs i d, get_or ys i e) ∷ zip (drop n (x ∷ xs)) (drop n (y ∷ ys))) next
 
 -- and from the end of one of them on
 zip-nil : {A B : Type 0} (xs : List A) (ys : List B) → ys ≡ [] → zip xs ys ≡ []
@@ -37,7 +42,8 @@ zip-nil [] ys e = refl
 zip-nil (x ∷ xs) [] e = refl
 zip-nil (x ∷ xs) (y ∷ ys) e = cc
 
-pub zip_past : {A B : Type 0} (xs : List A) (ys : List B) (i : ℕ) → min (length xs) (length ys) ≤ i → zip (drop i xs) (drop i ys) ≡ []
+pub zip_past : {A B : Type 0} (xs : List A) (ys : List B) (i : ℕ) → min (length xs) (length ys) ≤ i
+    → zip (drop i xs) (drop i ys) ≡ []
 zip_past [] [] zero h = refl
 zip_past [] [] (suc i) h = refl
 zip_past [] (y ∷ ys) zero h = refl
@@ -48,13 +54,16 @@ zip_past (x ∷ xs) (y ∷ ys) zero h = absurd (omega (arith, h))
 zip_past (x ∷ xs) (y ∷ ys) (suc i) h = zip_past xs ys i (omega (arith, h))
 
 -- one more text, and the rest behind it
-pub text_more : {X : Type 0} (f : X → List ℕ) (start before now : List ℕ) (x : X) (these later all : List X) → these ≡ x ∷ later → now ≡ before ++ f x
+pub text_more : {X : Type 0} (f : X → List ℕ) (start before now : List ℕ) (x : X) (these later all : List X)
+    → these ≡ x ∷ later → now ≡ before ++ f x
     → before ++ flat_map f these ≡ start ++ flat_map f all → now ++ flat_map f later ≡ start ++ flat_map f all
 text_more f start before now x these later all e g h =
-    ap (λ z. z ++ flat_map f later) g ∙ append_assoc before (f x) (flat_map f later) ∙ ap (λ z. before ++ flat_map f z) (sym e) ∙ h
+    ap (λ z. z ++ flat_map f later) g ∙ append_assoc before (f x) (flat_map f later)
+    ∙ ap (λ z. before ++ flat_map f z) (sym e) ∙ h
 
 -- no text is left
-pub text_end : {X : Type 0} (f : X → List ℕ) (start now : List ℕ) (these all : List X) → these ≡ [] → now ++ flat_map f these ≡ start ++ flat_map f all
+pub text_end : {X : Type 0} (f : X → List ℕ) (start now : List ℕ) (these all : List X) → these ≡ []
+    → now ++ flat_map f these ≡ start ++ flat_map f all
     → now ≡ start ++ flat_map f all
 text_end f start now these all e h = sym (append-nil now) ∙ ap (λ z. now ++ flat_map f z) (sym e) ∙ h
 
@@ -67,7 +76,8 @@ pub rejoin_four : (old a b c d : List ℕ) → (((old ++ a) ++ b) ++ c) ++ d ≡
 rejoin_four old a b c d = simp append_assoc
 
 -- answers that are all there, in step with what was asked
-zip_oks : {A B : Type 0} (E : Type 0) (R : A → B → Type 0) (xs : List A) (ys : List B) → AllZip (λ x (r : Result B E). IfOk r (R x)) xs (map Ok ys)
+zip_oks : {A B : Type 0} (E : Type 0) (R : A → B → Type 0) (xs : List A) (ys : List B)
+    → AllZip (λ x (r : Result B E). IfOk r (R x)) xs (map Ok ys)
     → AllZip R xs ys
 zip_oks E R [] [] a = tt
 zip_oks E R [] (y ∷ ys) a = absurd a
@@ -75,8 +85,10 @@ zip_oks E R (x ∷ xs) [] a = absurd a
 zip_oks E R (x ∷ xs) (y ∷ ys) a = (a.0, zip_oks E R xs ys a.1)
 
 -- where a list is gathered of answers that are each right where they are there, each of the list is right
-pub gathered : {A B V E : Type 0} (R : A → B → Type 0) (items : V → List B) (xs : List A) (rs : List (Result B E)) (r : Result V E)
-    → AllZip (λ x b. IfOk b (R x)) xs rs → MatchResult r (λ v. (ys : List B) × (rs ≡ map Ok ys) × (items v ≡ ys)) (λ e. Contains rs (Err e))
+pub gathered : {A B V E : Type 0} (R : A → B → Type 0) (items : V → List B) (xs : List A) (rs : List (Result B E))
+    (r : Result V E)
+    → AllZip (λ x b. IfOk b (R x)) xs rs → MatchResult r (λ v. (ys : List B) × (rs ≡ map Ok ys) × (items v ≡ ys))
+    (λ e. Contains rs (Err e))
     → IfOk r (λ v. AllZip R xs (items v))
 gathered {E = E} R items xs rs (Ok v) a (ys, e, i) =
     subst (AllZip R xs) (sym i) (zip_oks E R xs ys (subst (AllZip (λ x b. IfOk b (R x)) xs) e a))

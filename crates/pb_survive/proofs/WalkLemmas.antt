@@ -1,5 +1,7 @@
 -- Walks over active links, and marks that tell of them.
-use Rattle.std.proofs.Common.{◌≡◌, ◌⊎◌, inl, inr, ℕ, zero, suc, ◌+◌, ◌-◌, ◌<◌, ◌≤◌, Bool, true, false, cond, Some, List, [], ◌∷◌, ◌++◌, length, map, get_or, refl, sym, ◌∙◌, ap, subst, arith, nat_eq, slice_get, zero-add}
+use Rattle.std.proofs.Common.{◌≡◌, ◌⊎◌, inl, inr, ℕ, zero, suc, ◌+◌, ◌-◌, ◌<◌, ◌≤◌, Bool, true, false, cond, Some}
+use Rattle.std.proofs.Common.{List, [], ◌∷◌, ◌++◌, length, map, get_or, refl, sym, ◌∙◌, ap, subst, arith, nat_eq}
+use Rattle.std.proofs.Common.{slice_get, zero-add}
 use Rattle.std.proofs.lemmas.Bool.Decides.{nat_tests}
 use Rattle.std.proofs.lemmas.List.{get_or-map, get_or_past, length-map}
 use Rattle.std.proofs.lemmas.Option.{slice_get-get_or}
@@ -19,15 +21,19 @@ use Rattle.pb_survive.specs.Reach.{mark_at, TellsJoined}
 
 -- a walk goes on
 walk-append : (plan : Plan) (shape : Shape) (vid here : ℕ) (ks : List ℕ) (there : ℕ) (ls : List ℕ) (last : ℕ)
-    → IsWalk plan shape vid here ks there → IsWalk plan shape vid there ls last → IsWalk plan shape vid here (ks ++ ls) last
+    → IsWalk plan shape vid here ks there → IsWalk plan shape vid there ls last
+    → IsWalk plan shape vid here (ks ++ ls) last
 walk-append plan shape vid here [] there ls last w v = subst (λ z. IsWalk plan shape vid z ls last) (sym w) v
-walk-append plan shape vid here (k ∷ ks) there ls last (near, far, c, n, w) v = (near, far, c, n, walk-append plan shape vid far.bridge ks there ls last w v)
+walk-append plan shape vid here (k ∷ ks) there ls last (near, far, c, n, w) v =
+    (near, far, c, n, walk-append plan shape vid far.bridge ks there ls last w v)
 
-pub joined_through : (plan : Plan) (shape : Shape) (vid a b c : ℕ) → AreJoined plan shape vid a b → AreJoined plan shape vid b c → AreJoined plan shape vid a c
+pub joined_through : (plan : Plan) (shape : Shape) (vid a b c : ℕ) → AreJoined plan shape vid a b
+    → AreJoined plan shape vid b c → AreJoined plan shape vid a c
 joined_through plan shape vid a b c (ks, w) (ls, v) = (ks ++ ls, walk-append plan shape vid a ks b ls c w v)
 
 -- a link is crossed both ways
-crosses_back : (plan : Plan) (shape : Shape) (vid k : ℕ) (near far : End) → Crosses plan shape vid k near far → Crosses plan shape vid k far near
+crosses_back : (plan : Plan) (shape : Shape) (vid k : ℕ) (near far : End) → Crosses plan shape vid k near far
+    → Crosses plan shape vid k far near
 crosses_back plan shape vid k near far c = record {
   link = c.link;
   numbered_so = c.numbered_so;
@@ -39,30 +45,45 @@ crosses_back plan shape vid k near far c = record {
     turned (inl h) = inr (h.1, h.0)
     turned (inr h) = inl (h.1, h.0)
 
-walk_back : (plan : Plan) (shape : Shape) (vid a : ℕ) (ks : List ℕ) (b : ℕ) → IsWalk plan shape vid a ks b → AreJoined plan shape vid b a
+walk_back : (plan : Plan) (shape : Shape) (vid a : ℕ) (ks : List ℕ) (b : ℕ) → IsWalk plan shape vid a ks b
+    → AreJoined plan shape vid b a
 walk_back plan shape vid a [] b w = ([], sym w)
 walk_back plan shape vid a (k ∷ ks) b (near, far, c, n, w) =
-    joined_through plan shape vid b far.bridge a (walk_back plan shape vid far.bridge ks b w) (k ∷ [], (far, near, crosses_back plan shape vid k near far c, refl, n))
+    joined_through plan shape vid b far.bridge a (walk_back plan shape vid far.bridge ks b w)
+    (k ∷ [], (far, near, crosses_back plan shape vid k near far c, refl, n))
 
-pub joined_back : (plan : Plan) (shape : Shape) (vid a b : ℕ) → AreJoined plan shape vid a b → AreJoined plan shape vid b a
+pub joined_back : (plan : Plan) (shape : Shape) (vid a b : ℕ) → AreJoined plan shape vid a b
+    → AreJoined plan shape vid b a
 joined_back plan shape vid a b (ks, w) = walk_back plan shape vid a ks b w
 
 -- an active link joins its bridges
-pub joined_by : (plan : Plan) (shape : Shape) (vid k : ℕ) (link : LinkPlan) → slice_get plan.links k ≡ Some link → is_active plan shape vid link ≡ true
+pub joined_by : (plan : Plan) (shape : Shape) (vid k : ℕ) (link : LinkPlan) → slice_get plan.links k ≡ Some link
+    → is_active plan shape vid link ≡ true
     → AreJoined plan shape vid link.a.bridge link.b.bridge
-joined_by plan shape vid k link e active =
-    (suc k ∷ [], (link.a, link.b, record { link = link; numbered_so = e; active = active; ends = inl (refl, refl) }, refl, refl))
+joined_by plan shape vid k link e active = (
+  suc k ∷ [],
+  (
+    link.a,
+    link.b,
+    record { link = link; numbered_so = e; active = active; ends = inl (refl, refl) },
+    refl,
+    refl,
+  ),
+)
 
 -- each of the first so many links that are active has one mark at both its ends
 pub record CloseFirst (plan : Plan) (shape : Shape) (vid count : ℕ) (marks : List ℕ) : Type 0 where
-  pub close : (k : ℕ) (link : LinkPlan) → k < count → slice_get plan.links k ≡ Some link → is_active plan shape vid link ≡ true
+  pub close : (k : ℕ) (link : LinkPlan) → k < count → slice_get plan.links k ≡ Some link
+      → is_active plan shape vid link ≡ true
       → mark_at marks link.a.bridge ≡ mark_at marks link.b.bridge
 
 -- bridges with one mark are joined
 pub record MarkJoined (plan : Plan) (shape : Shape) (vid : ℕ) (marks : List ℕ) : Type 0 where
-  pub joins : (a b : ℕ) → IsNumber a 32 → IsNumber b 32 → mark_at marks a ≡ mark_at marks b → AreJoined plan shape vid a b
+  pub joins : (a b : ℕ) → IsNumber a 32 → IsNumber b 32 → mark_at marks a ≡ mark_at marks b
+      → AreJoined plan shape vid a b
 
-marked_walk : (plan : Plan) (shape : Shape) (vid : ℕ) (marks : List ℕ) → CloseFirst plan shape vid (length plan.links) marks
+marked_walk : (plan : Plan) (shape : Shape) (vid : ℕ) (marks : List ℕ)
+    → CloseFirst plan shape vid (length plan.links) marks
     → (a : ℕ) (ks : List ℕ) (b : ℕ) → IsWalk plan shape vid a ks b → mark_at marks a ≡ mark_at marks b
 marked_walk plan shape vid marks all a [] b w = ap (mark_at marks) w
 marked_walk plan shape vid marks all a (k ∷ ks) b (near, far, c, n, w) =
@@ -84,9 +105,11 @@ marked_walk plan shape vid marks all a (k ∷ ks) b (near, far, c, n, w) =
     across (inr h) = ap (λ e. mark_at marks e.bridge) (sym h.0) ∙ sym both ∙ ap (λ e. mark_at marks e.bridge) h.1
 
 -- so marks by which all active links are closed, and that join, tell of all bridges
-pub tells_joined : (plan : Plan) (shape : Shape) (vid : ℕ) (marks : List ℕ) → CloseFirst plan shape vid (length plan.links) marks → MarkJoined plan shape vid marks
+pub tells_joined : (plan : Plan) (shape : Shape) (vid : ℕ) (marks : List ℕ)
+    → CloseFirst plan shape vid (length plan.links) marks → MarkJoined plan shape vid marks
     → TellsJoined plan shape vid marks
-tells_joined plan shape vid marks all sound a b i j = (sound.joins a b i j, λ joined. marked_walk plan shape vid marks all a joined.0 b joined.1)
+tells_joined plan shape vid marks all sound a b i j =
+    (sound.joins a b i j, λ joined. marked_walk plan shape vid marks all a joined.0 b joined.1)
 
 -- a mark after another was replaced by a third
 abbrev pub replaced : ℕ → ℕ → ℕ → ℕ
@@ -95,11 +118,13 @@ replaced gone kept mark = cond (nat_eq mark gone) kept mark
 abbrev pub replaced_in : List ℕ → ℕ → ℕ → List ℕ
 replaced_in marks gone kept = map (replaced gone kept) marks
 
-mark-replaced : (marks : List ℕ) (gone kept a : ℕ) → length marks ≡ 32 → IsNumber a 32 → mark_at (replaced_in marks gone kept) a ≡ replaced gone kept (mark_at marks a)
+mark-replaced : (marks : List ℕ) (gone kept a : ℕ) → length marks ≡ 32 → IsNumber a 32
+    → mark_at (replaced_in marks gone kept) a ≡ replaced gone kept (mark_at marks a)
 mark-replaced marks gone kept a e i = get_or-map (replaced gone kept) marks (a - 1) 0 0 (omega (arith, e, i.0, i.1))
 
 -- two marks that are one now were one before, or were the two
-split : (gone kept m n : ℕ) → replaced gone kept m ≡ replaced gone kept n → (m ≡ n) ⊎ (((m ≡ gone) × (n ≡ kept)) ⊎ ((m ≡ kept) × (n ≡ gone)))
+split : (gone kept m n : ℕ) → replaced gone kept m ≡ replaced gone kept n
+    → (m ≡ n) ⊎ (((m ≡ gone) × (n ≡ kept)) ⊎ ((m ≡ kept) × (n ≡ gone)))
 split gone kept m n e = grind (arith, nat_tests)
 
 -- the mark that is kept, and the one that is gone
@@ -107,67 +132,91 @@ kept_twice : (gone kept : ℕ) → replaced gone kept kept ≡ replaced gone kep
 kept_twice gone kept = grind (arith, nat_tests)
 
 -- what two marks were, they both are now
-same_replaced : (marks : List ℕ) (gone kept a b : ℕ) → length marks ≡ 32 → IsNumber a 32 → IsNumber b 32 → mark_at marks a ≡ mark_at marks b
+same_replaced : (marks : List ℕ) (gone kept a b : ℕ) → length marks ≡ 32 → IsNumber a 32 → IsNumber b 32
+    → mark_at marks a ≡ mark_at marks b
     → mark_at (replaced_in marks gone kept) a ≡ mark_at (replaced_in marks gone kept) b
 same_replaced marks gone kept a b e i j h =
     mark-replaced marks gone kept a e i ∙ ap (replaced gone kept) h ∙ sym (mark-replaced marks gone kept b e j)
 
 -- two bridges that are joined may get one mark
-pub joins_after : (plan : Plan) (shape : Shape) (vid : ℕ) (marks : List ℕ) (x y : ℕ) → length marks ≡ 32 → IsNumber x 32 → IsNumber y 32
-    → AreJoined plan shape vid x y → MarkJoined plan shape vid marks → MarkJoined plan shape vid (replaced_in marks (mark_at marks y) (mark_at marks x))
+pub joins_after : (plan : Plan) (shape : Shape) (vid : ℕ) (marks : List ℕ) (x y : ℕ) → length marks ≡ 32
+    → IsNumber x 32 → IsNumber y 32
+    → AreJoined plan shape vid x y → MarkJoined plan shape vid marks
+    → MarkJoined plan shape vid (replaced_in marks (mark_at marks y) (mark_at marks x))
 joins_after plan shape vid marks x y e i j xy old = record {
   joins = λ a b k l h. by a b k l (split (mark_at marks y) (mark_at marks x) (mark_at marks a) (mark_at marks b)
-      (sym (mark-replaced marks (mark_at marks y) (mark_at marks x) a e k) ∙ h ∙ mark-replaced marks (mark_at marks y) (mark_at marks x) b e l));
+      (sym (mark-replaced marks (mark_at marks y) (mark_at marks x) a e k) ∙ h ∙ mark-replaced marks (mark_at marks y)
+      (mark_at marks x) b e l));
 }
   where
     by : (a b : ℕ) → IsNumber a 32 → IsNumber b 32
-        → (mark_at marks a ≡ mark_at marks b) ⊎ (((mark_at marks a ≡ mark_at marks y) × (mark_at marks b ≡ mark_at marks x)) ⊎ ((mark_at marks a ≡ mark_at marks x) × (mark_at marks b ≡ mark_at marks y)))
+        → (mark_at marks a ≡ mark_at marks b)
+        ⊎ (((mark_at marks a ≡ mark_at marks y) × (mark_at marks b ≡ mark_at marks x))
+        ⊎ ((mark_at marks a ≡ mark_at marks x) × (mark_at marks b ≡ mark_at marks y)))
         → AreJoined plan shape vid a b
     by a b k l (inl h) = old.joins a b k l h
     by a b k l (inr (inl h)) =
         joined_through plan shape vid a y b (old.joins a y k j h.0)
         (joined_through plan shape vid y x b (joined_back plan shape vid x y xy) (old.joins x b i l (sym h.1)))
     by a b k l (inr (inr h)) =
-        joined_through plan shape vid a x b (old.joins a x k i h.0) (joined_through plan shape vid x y b xy (old.joins y b j l (sym h.1)))
+        joined_through plan shape vid a x b (old.joins a x k i h.0)
+        (joined_through plan shape vid x y b xy (old.joins y b j l (sym h.1)))
 
 -- the ends of a sound plan's links are at bridges of few
-pub end_number : (plan : Plan) → IsSound plan → (k : ℕ) (link : LinkPlan) → slice_get plan.links k ≡ Some link → IsNumber link.a.bridge 32 × IsNumber link.b.bridge 32
-end_number plan sound k link e = (few link.a (sound-end plan sound (suc k) link link.a e (inl refl)), few link.b (sound-end plan sound (suc k) link link.b e (inr refl)))
+pub end_number : (plan : Plan) → IsSound plan → (k : ℕ) (link : LinkPlan) → slice_get plan.links k ≡ Some link
+    → IsNumber link.a.bridge 32 × IsNumber link.b.bridge 32
+end_number plan sound k link e = (
+  few link.a (sound-end plan sound (suc k) link link.a e (inl refl)),
+  few link.b
+      (sound-end plan sound (suc k) link link.b e (inr refl)),
+)
   where
     few : (z : End) → IsSoundEnd plan z → IsNumber z.bridge 32
     few z s = (s.bridge.0, let up = s.bridge.1 in let most = sound.limits.bridges in omega (arith, up, most))
 
 -- what was closed stays closed, and the next link is closed when the marks at its ends are made one
-pub closes_after : (plan : Plan) (shape : Shape) (vid i : ℕ) (marks : List ℕ) (link : LinkPlan) → IsSound plan → length marks ≡ 32 → slice_get plan.links i ≡ Some link
-    → CloseFirst plan shape vid i marks → CloseFirst plan shape vid (i + 1) (replaced_in marks (mark_at marks link.b.bridge) (mark_at marks link.a.bridge))
-closes_after plan shape vid i marks link sound e here old = record { close = λ k l h at active. by k l at active (before k h) }
+pub closes_after : (plan : Plan) (shape : Shape) (vid i : ℕ) (marks : List ℕ) (link : LinkPlan) → IsSound plan
+    → length marks ≡ 32 → slice_get plan.links i ≡ Some link
+    → CloseFirst plan shape vid i marks
+    → CloseFirst plan shape vid (i + 1)
+    (replaced_in marks (mark_at marks link.b.bridge) (mark_at marks link.a.bridge))
+closes_after plan shape vid i marks link sound e here old =
+    record { close = λ k l h at active. by k l at active (before k h) }
   where
     before : (k : ℕ) → k < i + 1 → (k < i) ⊎ (k ≡ i)
     before k h = grind arith
 
-    by : (k : ℕ) (l : LinkPlan) → slice_get plan.links k ≡ Some l → is_active plan shape vid l ≡ true → (k < i) ⊎ (k ≡ i)
-        → mark_at (replaced_in marks (mark_at marks link.b.bridge) (mark_at marks link.a.bridge)) l.a.bridge ≡ mark_at (replaced_in marks (mark_at marks link.b.bridge) (mark_at marks link.a.bridge)) l.b.bridge
+    by : (k : ℕ) (l : LinkPlan) → slice_get plan.links k ≡ Some l → is_active plan shape vid l ≡ true
+        → (k < i) ⊎ (k ≡ i)
+        → mark_at (replaced_in marks (mark_at marks link.b.bridge) (mark_at marks link.a.bridge)) l.a.bridge ≡ mark_at
+        (replaced_in marks (mark_at marks link.b.bridge) (mark_at marks link.a.bridge)) l.b.bridge
     by k l at active (inl h) =
         let few = end_number plan sound k l at in
-        same_replaced marks (mark_at marks link.b.bridge) (mark_at marks link.a.bridge) l.a.bridge l.b.bridge e few.0 few.1 (old.close k l h at active)
+        same_replaced marks (mark_at marks link.b.bridge) (mark_at marks link.a.bridge) l.a.bridge l.b.bridge e few.0
+        few.1 (old.close k l h at active)
     by k l at active (inr h) =
         let one : l ≡ link = Some-injective (sym at ∙ ap (slice_get plan.links) h ∙ here) in
         let few = end_number plan sound i link here in
-        subst (λ (z : LinkPlan). mark_at (replaced_in marks (mark_at marks link.b.bridge) (mark_at marks link.a.bridge)) z.a.bridge ≡ mark_at (replaced_in marks (mark_at marks link.b.bridge) (mark_at marks link.a.bridge)) z.b.bridge)
+        subst (λ (z : LinkPlan). mark_at
+        (replaced_in marks (mark_at marks link.b.bridge) (mark_at marks link.a.bridge)) z.a.bridge ≡ mark_at
+        (replaced_in marks (mark_at marks link.b.bridge) (mark_at marks link.a.bridge)) z.b.bridge)
         (sym one)
         (mark-replaced marks (mark_at marks link.b.bridge) (mark_at marks link.a.bridge) link.a.bridge e few.0
         ∙ kept_twice (mark_at marks link.b.bridge) (mark_at marks link.a.bridge)
         ∙ sym (mark-replaced marks (mark_at marks link.b.bridge) (mark_at marks link.a.bridge) link.b.bridge e few.1))
 
 -- a link that is not active needs no closing
-pub closes_past : (plan : Plan) (shape : Shape) (vid i : ℕ) (marks : List ℕ) (link : LinkPlan) → slice_get plan.links i ≡ Some link → is_active plan shape vid link ≡ false
+pub closes_past : (plan : Plan) (shape : Shape) (vid i : ℕ) (marks : List ℕ) (link : LinkPlan)
+    → slice_get plan.links i ≡ Some link → is_active plan shape vid link ≡ false
     → CloseFirst plan shape vid i marks → CloseFirst plan shape vid (i + 1) marks
-closes_past plan shape vid i marks link here passive old = record { close = λ k l h at active. by k l at active (before k h) }
+closes_past plan shape vid i marks link here passive old =
+    record { close = λ k l h at active. by k l at active (before k h) }
   where
     before : (k : ℕ) → k < i + 1 → (k < i) ⊎ (k ≡ i)
     before k h = grind arith
 
-    by : (k : ℕ) (l : LinkPlan) → slice_get plan.links k ≡ Some l → is_active plan shape vid l ≡ true → (k < i) ⊎ (k ≡ i) → mark_at marks l.a.bridge ≡ mark_at marks l.b.bridge
+    by : (k : ℕ) (l : LinkPlan) → slice_get plan.links k ≡ Some l → is_active plan shape vid l ≡ true
+        → (k < i) ⊎ (k ≡ i) → mark_at marks l.a.bridge ≡ mark_at marks l.b.bridge
     by k l at active (inl h) = old.close k l h at active
     by k l at active (inr h) =
         let one : l ≡ link = Some-injective (sym at ∙ ap (slice_get plan.links) h ∙ here) in
@@ -176,10 +225,12 @@ closes_past plan shape vid i marks link here passive old = record { close = λ k
 
 -- at the start, each bridge has a mark of its own
 own_mark : (a : ℕ) → IsNumber a 32 → mark_at (range_with_len 0 32) a ≡ a - 1
-own_mark a i = get_or-range_with_len 0 32 (a - 1) 0 (let low = i.0 in let high = i.1 in omega (arith, low, high)) ∙ zero-add (a - 1)
+own_mark a i = get_or-range_with_len 0 32 (a - 1) 0 (let low = i.0 in let high = i.1 in omega (arith, low, high))
+    ∙ zero-add (a - 1)
 
 pub own_marks_join : (plan : Plan) (shape : Shape) (vid : ℕ) → MarkJoined plan shape vid (range_with_len 0 32)
-own_marks_join plan shape vid = record { joins = λ a b i j h. ([], same a b i j (sym (own_mark a i) ∙ h ∙ own_mark b j)) }
+own_marks_join plan shape vid =
+    record { joins = λ a b i j h. ([], same a b i j (sym (own_mark a i) ∙ h ∙ own_mark b j)) }
   where
     same : (a b : ℕ) → IsNumber a 32 → IsNumber b 32 → a - 1 ≡ b - 1 → a ≡ b
     same a b i j h = let low = i.0 in let low' = j.0 in omega (arith, low, low', h)
@@ -193,10 +244,12 @@ own_marks_below a = by (le_or_lt 32 (a - 1))
 
     by : (a - 1 < 32) ⊎ (32 ≤ a - 1) → mark_at (range_with_len 0 32) a < 32
     by (inl h) = let e = get_or-range_with_len 0 32 (a - 1) 0 h in omega (arith, e, h)
-    by (inr h) = let e = get_or_past (range_with_len 0 32) (a - 1) 0 (omega (arith, h, length-range_with_len 0 32)) in omega (arith, e)
+    by (inr h) = let e = get_or_past (range_with_len 0 32) (a - 1) 0 (omega (arith, h, length-range_with_len 0 32))
+        in omega (arith, e)
 
 -- and they stay so
-pub below_after : (marks : List ℕ) (gone x : ℕ) → ((a : ℕ) → mark_at marks a < 32) → (a : ℕ) → mark_at (replaced_in marks gone (mark_at marks x)) a < 32
+pub below_after : (marks : List ℕ) (gone x : ℕ) → ((a : ℕ) → mark_at marks a < 32) → (a : ℕ)
+    → mark_at (replaced_in marks gone (mark_at marks x)) a < 32
 below_after marks gone x few a = by (le_or_lt (length marks) (a - 1))
   where
     le_or_lt : (n k : ℕ) → (k < n) ⊎ (n ≤ k)
@@ -212,10 +265,12 @@ below_after marks gone x few a = by (le_or_lt (length marks) (a - 1))
         let less = choice (nat_eq (mark_at marks a) gone) (mark_at marks x) (mark_at marks a) (few x) (few a) in
         omega (arith, e, less)
     by (inr h) =
-        let e = get_or_past (replaced_in marks gone (mark_at marks x)) (a - 1) 0 (omega (arith, h, length-map marks (replaced gone (mark_at marks x)))) in
+        let e = get_or_past (replaced_in marks gone (mark_at marks x)) (a - 1) 0
+        (omega (arith, h, length-map marks (replaced gone (mark_at marks x)))) in
         omega (arith, e)
 
 -- the link of an iteration stands in the plan
-pub link_there : (links items : List LinkPlan) (i : ℕ) (link : LinkPlan) → items ≡ links → i < length items → link ≡ get_or items i link → slice_get links i ≡ Some link
+pub link_there : (links items : List LinkPlan) (i : ℕ) (link : LinkPlan) → items ≡ links → i < length items
+    → link ≡ get_or items i link → slice_get links i ≡ Some link
 link_there links items i link e h is =
     ap (λ z. slice_get z i) (sym e) ∙ slice_get-get_or items i link h ∙ ap (λ z. Some z) (sym is)

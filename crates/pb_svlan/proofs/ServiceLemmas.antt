@@ -8,7 +8,9 @@ use Rattle.pb_frame.proofs.Lists.{All-imply}
 use Rattle.pb_frame.specs.Lists.{first, Rises}
 use Rattle.pb_svlan.specs.ServiceTables.{place_of, role_in}
 use Rattle.pb_svlan.specs.declared.port.Attachment.{Attachment}
-use Rattle.std.proofs.Common.{eq-eqb, length, is_some, get_or, subst, ◌≡◌, ℕ, zero, suc, ◌<◌, ◌≤◌, Bool, true, false, cond, nat_lt, ◌||◌, ◌==◌, List, [], ◌∷◌, ◌++◌, map, insert, Some, None, refl, sym, ap, ◌∙◌, arith}
+use Rattle.std.proofs.Common.{eq-eqb, length, is_some, get_or, subst, ◌≡◌, ℕ, zero, suc, ◌<◌, ◌≤◌, Bool, true, false}
+use Rattle.std.proofs.Common.{cond, nat_lt, ◌||◌, ◌==◌, List, [], ◌∷◌, ◌++◌, map, insert, Some, None, refl, sym, ap}
+use Rattle.std.proofs.Common.{◌∙◌, arith}
 use Rattle.std.specs.List.{list_any, filter, AllByRecursion}
 use Rattle.std.specs.Map.{keys_of, values_of}
 
@@ -22,11 +24,13 @@ or-false_right true b h = cc
 or-false_right false b h = h
 
 -- a test of keys is a test of pairs
-pub list_any-keys : {K X : Type 0} (p : K → Bool) (es : List (K × X)) → list_any p (keys_of es) ≡ list_any (λ e. p e.0) es
+pub list_any-keys : {K X : Type 0} (p : K → Bool) (es : List (K × X))
+    → list_any p (keys_of es) ≡ list_any (λ e. p e.0) es
 list_any-keys p [] = refl
 list_any-keys p (e ∷ es) = ap (λ b. p e.0 || b) (list_any-keys p es)
 
-pub list_any-values : {K X : Type 0} (p : X → Bool) (es : List (K × X)) → list_any p (values_of es) ≡ list_any (λ e. p e.1) es
+pub list_any-values : {K X : Type 0} (p : X → Bool) (es : List (K × X))
+    → list_any p (values_of es) ≡ list_any (λ e. p e.1) es
 list_any-values p [] = refl
 list_any-values p (e ∷ es) = ap (λ b. p e.1 || b) (list_any-values p es)
 
@@ -42,7 +46,8 @@ eqb-symm a b =
     ] refl
 
 -- a service with a new VID goes last
-pub insert_entry-last : {X : Type 0} (eq : ℕ → ℕ → Bool) → ((a b : ℕ) → eq a b ≡ (b == a)) → (es : List (ℕ × X)) (k : ℕ) (v : X)
+pub insert_entry-last : {X : Type 0} (eq : ℕ → ℕ → Bool) → ((a b : ℕ) → eq a b ≡ (b == a))
+    → (es : List (ℕ × X)) (k : ℕ) (v : X)
     → list_any (λ e. e.0 == k) es ≡ false → insert_entry eq es k v ≡ es ++ (k, v) ∷ []
 insert_entry-last eq same [] k v h = refl
 insert_entry-last eq same (e ∷ es) k v h =
@@ -57,26 +62,43 @@ place_of-within port (a ∷ others) =
     [ true ↦ omega (arith, place_of-within port others) | false ↦ omega arith ]
 
 -- what all ports keep, and one more, all keep where it goes
-All-placed : (P : ℕ → Type 0) (ports : List Attachment) (a : Attachment) → AllByRecursion P (map (λ a. a.port) ports) → P a.port
+All-placed : (P : ℕ → Type 0) (ports : List Attachment) (a : Attachment) → AllByRecursion P (map (λ a. a.port) ports)
+    → P a.port
     → AllByRecursion P (map (λ a. a.port) (insert ports (place_of a.port ports) a))
 All-placed P [] a all h = (h, tt)
 All-placed P (b ∷ others) a all h =
-    elim (nat_lt b.port a.port) as (λ t. AllByRecursion P (map (λ a. a.port) (insert (b ∷ others) (cond t (suc (place_of a.port others)) 0) a)))
+    elim (nat_lt b.port a.port) as
+    (λ t. AllByRecursion P (map (λ a. a.port) (insert (b ∷ others) (cond t (suc (place_of a.port others)) 0) a)))
     [ true ↦ (all.0, All-placed P others a all.1 h) | false ↦ (h, all) ]
 
 -- ports that are ascending stay so
-pub ascending-placed : (ports : List Attachment) (a : Attachment) → Rises (map (λ a. a.port) ports) → role_in ports a.port ≡ None
+pub ascending-placed : (ports : List Attachment) (a : Attachment) → Rises (map (λ a. a.port) ports)
+    → role_in ports a.port ≡ None
     → Rises (map (λ a. a.port) (insert ports (place_of a.port ports) a))
 ascending-placed [] a rise none = (tt, tt)
 ascending-placed (b ∷ others) a rise none =
     let differs = unlike (b.port == a.port) none in
     elim (nat_lt b.port a.port)
-    as (λ t. nat_lt b.port a.port ≡ t → Rises (map (λ a. a.port) (insert (b ∷ others) (cond t (suc (place_of a.port others)) 0) a))) [
-      | true ↦ λ e. (All-placed (λ m. b.port < m) others a rise.0 (below b.port a.port e), ascending-placed others a rise.1 differs.1)
-      | false ↦ λ e. let l = above b.port a.port e differs.0 in ((l, All-imply (λ m. b.port < m) (λ m. a.port < m) (λ m k. omega (arith, l, k)) (map (λ a. a.port) others) rise.0), rise)
+    as (λ t. nat_lt b.port a.port ≡ t → Rises
+    (map (λ a. a.port) (insert (b ∷ others) (cond t (suc (place_of a.port others)) 0) a))) [
+      | true ↦ λ e. (
+        All-placed (λ m. b.port < m) others a rise.0 (below b.port a.port e),
+        ascending-placed others a
+            rise.1 differs.1,
+      )
+      | false ↦ λ e. let l = above b.port a.port e differs.0
+          in (
+            (
+              l,
+              All-imply (λ m. b.port < m) (λ m. a.port < m) (λ m k. omega (arith, l, k))
+                  (map (λ a. a.port) others) rise.0,
+            ),
+            rise,
+          )
     ] refl
   where
-    unlike : (t : Bool) → option_map (λ a. a.role) (cond t (Some b) (first (λ c. c.port == a.port) others)) ≡ None → (t ≡ false) × (role_in others a.port ≡ None)
+    unlike : (t : Bool) → option_map (λ a. a.role) (cond t (Some b) (first (λ c. c.port == a.port) others)) ≡ None
+        → (t ≡ false) × (role_in others a.port ≡ None)
     unlike true h = cc
     unlike false h = (refl, h)
 
@@ -87,17 +109,22 @@ ascending-placed (b ∷ others) a rise none =
     above m n h k = grind (arith, nat_tests)
 
 -- and so do some of them
-All-some : (P : ℕ → Type 0) (p : Attachment → Bool) (ports : List Attachment) → AllByRecursion P (map (λ a. a.port) ports) → AllByRecursion P (map (λ a. a.port) (filter p ports))
+All-some : (P : ℕ → Type 0) (p : Attachment → Bool) (ports : List Attachment)
+    → AllByRecursion P (map (λ a. a.port) ports) → AllByRecursion P (map (λ a. a.port) (filter p ports))
 All-some P p [] all = tt
 All-some P p (a ∷ others) all =
     elim (p a) as (λ t. AllByRecursion P (map (λ a. a.port) (cond t (a ∷ filter p others) (filter p others))))
     [ true ↦ (all.0, All-some P p others all.1) | false ↦ All-some P p others all.1 ]
 
-pub ascending-some : (p : Attachment → Bool) (ports : List Attachment) → Rises (map (λ a. a.port) ports) → Rises (map (λ a. a.port) (filter p ports))
+pub ascending-some : (p : Attachment → Bool) (ports : List Attachment) → Rises (map (λ a. a.port) ports)
+    → Rises (map (λ a. a.port) (filter p ports))
 ascending-some p [] rise = tt
 ascending-some p (a ∷ others) rise =
-    elim (p a) as (λ t. Rises (map (λ a. a.port) (cond t (a ∷ filter p others) (filter p others))))
-    [ true ↦ (All-some (λ m. a.port < m) p others rise.0, ascending-some p others rise.1) | false ↦ ascending-some p others rise.1 ]
+    elim (p a) as (λ t. Rises (map (λ a. a.port) (cond t (a ∷ filter p others) (filter p others)))) [
+      | true ↦ (All-some (λ m. a.port < m) p others rise.0, ascending-some p others rise.1)
+      | false ↦ ascending-some p
+          others rise.1
+    ]
 
 -- nothing is there
 none_from : {X : Type 0} (o : Option X) → is_some o ≡ false → o ≡ None
@@ -105,25 +132,32 @@ none_from None h = refl
 none_from (Some x) h = cc
 
 -- ports with one more in its place
-pub ascending-attached : (ports others : List Attachment) (a : Attachment) → Rises (map (λ a. a.port) ports) → is_some (role_in ports a.port) ≡ false
+pub ascending-attached : (ports others : List Attachment) (a : Attachment) → Rises (map (λ a. a.port) ports)
+    → is_some (role_in ports a.port) ≡ false
     → others ≡ insert ports (place_of a.port ports) a → Rises (map (λ a. a.port) others)
-ascending-attached ports others a rise free h = rw h (ascending-placed ports a rise (none_from (role_in ports a.port) free))
+ascending-attached ports others a rise free h =
+    rw h (ascending-placed ports a rise (none_from (role_in ports a.port) free))
 
 -- where a port stands in its place among ascending ones, it is what is found
-pub found-there : (ports : List Attachment) (i port : ℕ) (a : Attachment) → Rises (map (λ a. a.port) ports) → i < length ports → a ≡ get_or ports i a → a.port ≡ port
+pub found-there : (ports : List Attachment) (i port : ℕ) (a : Attachment) → Rises (map (λ a. a.port) ports)
+    → i < length ports → a ≡ get_or ports i a → a.port ≡ port
     → role_in ports port ≡ Some a.role
 found-there [] i port a rise within there is = absurd (omega arith)
 found-there (b ∷ others) zero port a rise within there is =
-    ap (λ t. option_map (λ c. c.role) (cond t (Some b) (first (λ c. c.port == port) others))) (eq-eqb b.port port (ap (λ (z : Attachment). z.port) (sym there) ∙ is)) ∙ ap (λ (z : Attachment). Some z.role) (sym there)
+    ap (λ t. option_map (λ c. c.role) (cond t (Some b) (first (λ c. c.port == port) others)))
+    (eq-eqb b.port port (ap (λ (z : Attachment). z.port) (sym there) ∙ is))
+    ∙ ap (λ (z : Attachment). Some z.role) (sym there)
 found-there (b ∷ others) (suc i) port a rise within there is =
     let below : b.port < a.port = among others i rise.0 (omega arith) there in
     let differs : (b.port == port) ≡ false = unequal b.port port (omega (arith, below, is)) in
-    ap (λ t. option_map (λ c. c.role) (cond t (Some b) (first (λ c. c.port == port) others))) differs ∙ found-there others i port a rise.1 (omega arith) there is
+    ap (λ t. option_map (λ c. c.role) (cond t (Some b) (first (λ c. c.port == port) others))) differs
+    ∙ found-there others i port a rise.1 (omega arith) there is
   where
     unequal : (m n : ℕ) → m < n → (m == n) ≡ false
     unequal m n h = grind (arith, nat_tests)
 
-    among : (others : List Attachment) (i : ℕ) → AllByRecursion (λ m. b.port < m) (map (λ a. a.port) others) → i < length others → a ≡ get_or others i a → b.port < a.port
+    among : (others : List Attachment) (i : ℕ) → AllByRecursion (λ m. b.port < m) (map (λ a. a.port) others)
+        → i < length others → a ≡ get_or others i a → b.port < a.port
     among [] i all within there = absurd (omega arith)
     among (c ∷ others) zero all within there = subst (λ (z : Attachment). b.port < z.port) (sym there) all.0
     among (c ∷ others) (suc i) all within there = among others i all.1 (omega arith) there

@@ -1,5 +1,7 @@
 -- Texts of several things, one behind the other.
-use Rattle.std.proofs.Common.{◌≡◌, ◌≤◌, ◌<◌, ◌+◌, ◌==◌, ℕ, zero, suc, List, [], ◌∷◌, ◌++◌, drop, flat_map, length, slice_get, get_or, codes, Some, IsSome, refl, sym, ap, subst, ◌∙◌, arith, rules, append_assoc, append-nil}
+use Rattle.std.proofs.Common.{◌≡◌, ◌≤◌, ◌<◌, ◌+◌, ◌==◌, ℕ, zero, suc, List, [], ◌∷◌, ◌++◌, drop, flat_map, length}
+use Rattle.std.proofs.Common.{slice_get, get_or, codes, Some, IsSome, refl, sym, ap, subst, ◌∙◌, arith, rules}
+use Rattle.std.proofs.Common.{append_assoc, append-nil}
 use Rattle.std.proofs.lemmas.List.{drop_all, length-map}
 use Rattle.std.specs.Fmt.{decimal}
 use Rattle.pb_frame.proofs.Lists.{Some-injective, first-finds, eqb-refl}
@@ -18,64 +20,80 @@ use Rattle.pb_rstp.specs.Profile.{machine_of}
 use Rattle.pb_rstp.specs.Readings.{roles_of, states_of}
 use Rattle.pb_rstp.specs.declared.port.Port.{Port}
 use Rattle.pb_rstp.specs.declared.role.Role.{Role}
-use Rattle.pb_tree.specs.TreeTexts.{designated_at, port_words, port_line, IsServiceTextAt, AreServiceTexts, IsGivenText, IsProtocolText, IsTreeText}
+use Rattle.pb_tree.specs.TreeTexts.{designated_at, port_words, port_line, IsServiceTextAt, AreServiceTexts}
+use Rattle.pb_tree.specs.TreeTexts.{IsGivenText, IsProtocolText, IsTreeText}
 use Rattle.pb_settle.specs.declared.rest.Rest.{Rest}
 use Rattle.pb_settle.specs.declared.rest.Rest.TheVariants.{Given, Settled, Unsettled}
 
 -- the bridges have machines where they decide the states
-pub machine_there : (plan : Plan) (n : ℕ) (steps : List Step) → plan.spanning ≡ Rstp → machine_in plan n steps ≡ Some (machine_of plan n steps)
+pub machine_there : (plan : Plan) (n : ℕ) (steps : List Step) → plan.spanning ≡ Rstp
+    → machine_in plan n steps ≡ Some (machine_of plan n steps)
 unfolding machine_in
 machine_there plan n steps e = ap (λ s. machine_by s (machine_of plan n steps)) e
 
 -- a bridge's own machine
-pub machine_is : (plan : Plan) (n : ℕ) (steps : List Step) (machine : Machine) → plan.spanning ≡ Rstp → Some machine ≡ machine_in plan n steps → machine ≡ machine_of plan n steps
+pub machine_is : (plan : Plan) (n : ℕ) (steps : List Step) (machine : Machine) → plan.spanning ≡ Rstp
+    → Some machine ≡ machine_in plan n steps → machine ≡ machine_of plan n steps
 machine_is plan n steps machine e h = Some-injective (h ∙ machine_there plan n steps e)
 
 -- the ports from here on
 drop_step : {X : Type 0} (xs : List X) (k : ℕ) (x : X) → slice_get xs k ≡ Some x → drop k xs ≡ x ∷ drop (k + 1) xs
 drop_step [] k x h = cc
 drop_step (y ∷ xs) zero x h = let e : y ≡ x = Some-injective h in ap (λ z. z ∷ xs) e
-drop_step (y ∷ xs) (suc k) x h = let e : suc (k + 1) ≡ suc k + 1 = omega arith in subst (λ m. drop k xs ≡ x ∷ drop m (y ∷ xs)) e (drop_step xs k x h)
+drop_step (y ∷ xs) (suc k) x h = let e : suc (k + 1) ≡ suc k + 1 =
+    omega arith in subst (λ m. drop k xs ≡ x ∷ drop m (y ∷ xs)) e (drop_step xs k x h)
 
 pub item_there : {X : Type 0} (xs : List X) (k : ℕ) → k < length xs → (x : X) × (slice_get xs k ≡ Some x)
 item_there [] k h = absurd (omega (arith, h))
 item_there (x ∷ xs) zero h = (x, refl)
 item_there (x ∷ xs) (suc k) h = item_there xs k (omega (arith, h))
 
-role_at : (ports : List Port) (k : ℕ) (p : Port) (other : ℕ × Role) → slice_get ports k ≡ Some p → get_or (roles_of ports) k other ≡ (p.number, p.role)
+role_at : (ports : List Port) (k : ℕ) (p : Port) (other : ℕ × Role) → slice_get ports k ≡ Some p
+    → get_or (roles_of ports) k other ≡ (p.number, p.role)
 role_at [] k p other h = cc
 role_at (q ∷ ports) zero p other h = let e : q ≡ p = Some-injective h in ap (λ z. (z.number, z.role)) e
 role_at (q ∷ ports) (suc k) p other h = role_at ports k p other h
 
-state_at : (ports : List Port) (k : ℕ) (p : Port) (other : ℕ × PortState) → slice_get ports k ≡ Some p → get_or (states_of ports) k other ≡ (p.number, p.state)
+state_at : (ports : List Port) (k : ℕ) (p : Port) (other : ℕ × PortState) → slice_get ports k ≡ Some p
+    → get_or (states_of ports) k other ≡ (p.number, p.state)
 state_at [] k p other h = cc
 state_at (q ∷ ports) zero p other h = let e : q ≡ p = Some-injective h in ap (λ z. (z.number, z.state)) e
 state_at (q ∷ ports) (suc k) p other h = state_at ports k p other h
 
-role_count : (ports : List Port) (roles : List (ℕ × Role)) (k : ℕ) → roles ≡ roles_of ports → k < length roles → k < length ports
+role_count : (ports : List Port) (roles : List (ℕ × Role)) (k : ℕ) → roles ≡ roles_of ports → k < length roles
+    → k < length ports
 role_count ports roles k e within =
     let pair : Port → ℕ × Role = λ p. (p.number, p.role) in
     subst (λ n. k < n) (ap length e ∙ length-map ports pair) within
 
 -- one port more
-pub ports_more : (plan : Plan) (bridge : ℕ) (machine : Machine) (roles : List (ℕ × Role)) (states : List (ℕ × PortState)) (k from : ℕ) (d : ℕ × Role) (s : ℕ × PortState) (out more all : List ℕ)
-    → roles ≡ roles_of machine.ports → states ≡ states_of machine.ports → k < length roles → from ≡ designated_at machine (get_or roles k d).0 (get_or roles k d).1
+pub ports_more : (plan : Plan) (bridge : ℕ) (machine : Machine) (roles : List (ℕ × Role))
+    (states : List (ℕ × PortState)) (k from : ℕ) (d : ℕ × Role) (s : ℕ × PortState) (out more all : List ℕ)
+    → roles ≡ roles_of machine.ports → states ≡ states_of machine.ports → k < length roles
+    → from ≡ designated_at machine (get_or roles k d).0 (get_or roles k d).1
     → more ≡ out ++ port_words plan bridge (get_or roles k d).0 (get_or roles k d).1 (get_or states k s).1 from
-    → out ++ flat_map (port_line plan bridge machine) (drop k machine.ports) ≡ all → more ++ flat_map (port_line plan bridge machine) (drop (k + 1) machine.ports) ≡ all
+    → out ++ flat_map (port_line plan bridge machine) (drop k machine.ports) ≡ all
+    → more ++ flat_map (port_line plan bridge machine) (drop (k + 1) machine.ports) ≡ all
 ports_more plan bridge machine roles states k from d s out more all are_roles are_states within from_is grown so_far =
     let at = item_there machine.ports k (role_count machine.ports roles k are_roles within) in
     let p = at.0 in
-    let r_is : get_or roles k d ≡ (p.number, p.role) = ap (λ xs. get_or xs k d) are_roles ∙ role_at machine.ports k p d at.1 in
-    let s_is : get_or states k s ≡ (p.number, p.state) = ap (λ xs. get_or xs k s) are_states ∙ state_at machine.ports k p s at.1 in
+    let r_is : get_or roles k d ≡ (p.number, p.role) = ap (λ xs. get_or xs k d) are_roles
+    ∙ role_at machine.ports k p d at.1 in
+    let s_is : get_or states k s ≡ (p.number, p.state) = ap (λ xs. get_or xs k s) are_states
+    ∙ state_at machine.ports k p s at.1 in
     let f_is : from ≡ designated_at machine p.number p.role = from_is ∙ ap (λ r. designated_at machine r.0 r.1) r_is in
-    let line : port_words plan bridge (get_or roles k d).0 (get_or roles k d).1 (get_or states k s).1 from ≡ port_line plan bridge machine p =
-    ap (λ r. port_words plan bridge r.0 r.1 (get_or states k s).1 from) r_is ∙ ap (λ z. port_words plan bridge p.number p.role z.1 from) s_is ∙ ap (port_words plan bridge p.number p.role p.state) f_is in
+    let line : port_words plan bridge (get_or roles k d).0 (get_or roles k d).1 (get_or states k s).1 from ≡ port_line
+    plan bridge machine p =
+    ap (λ r. port_words plan bridge r.0 r.1 (get_or states k s).1 from) r_is
+    ∙ ap (λ z. port_words plan bridge p.number p.role z.1 from) s_is
+    ∙ ap (port_words plan bridge p.number p.role p.state) f_is in
     let rest = flat_map (port_line plan bridge machine) (drop (k + 1) machine.ports) in
     ap (λ z. z ++ rest) (grown ∙ ap (λ w. out ++ w) line) ∙ append_assoc out (port_line plan bridge machine p) rest
     ∙ sym (ap (λ ps. out ++ flat_map (port_line plan bridge machine) ps) (drop_step machine.ports k p at.1)) ∙ so_far
 
 -- each of the roles is a port's
-pub port_is_there : (ports : List Port) (roles : List (ℕ × Role)) (k : ℕ) (d : ℕ × Role) → roles ≡ roles_of ports → k < length roles → IsSome (port_of ports (get_or roles k d).0)
+pub port_is_there : (ports : List Port) (roles : List (ℕ × Role)) (k : ℕ) (d : ℕ × Role) → roles ≡ roles_of ports
+    → k < length roles → IsSome (port_of ports (get_or roles k d).0)
 port_is_there ports roles k d are_roles within =
     let at = item_there ports k (role_count ports roles k are_roles within) in
     let p = at.0 in
@@ -85,15 +103,20 @@ port_is_there ports roles k d are_roles within =
 
 -- the texts of services
 pub services_more : (plan : Plan) (shape : Shape) (k : ℕ) (done text rest : List ℕ) → IsServiceTextAt plan shape k text
-    → ((others : List ℕ) → AreServiceTexts plan shape (drop k plan.services) others → AreServiceTexts plan shape plan.services (done ++ others))
-    → AreServiceTexts plan shape (drop (k + 1) plan.services) rest → AreServiceTexts plan shape plan.services ((done ++ text) ++ rest)
+    → ((others : List ℕ) → AreServiceTexts plan shape (drop k plan.services) others → AreServiceTexts plan shape
+    plan.services (done ++ others))
+    → AreServiceTexts plan shape (drop (k + 1) plan.services) rest
+    → AreServiceTexts plan shape plan.services ((done ++ text) ++ rest)
 services_more plan shape k done text rest (service, there, is) complete are =
     let here : AreServiceTexts plan shape (drop k plan.services) (text ++ rest) =
-    subst (λ ss. AreServiceTexts plan shape ss (text ++ rest)) (sym (drop_step plan.services k service there)) (text, rest, refl, is, are) in
-    subst (λ t. AreServiceTexts plan shape plan.services t) (sym (append_assoc done text rest)) (complete (text ++ rest) here)
+    subst (λ ss. AreServiceTexts plan shape ss (text ++ rest)) (sym (drop_step plan.services k service there))
+    (text, rest, refl, is, are) in
+    subst (λ t. AreServiceTexts plan shape plan.services t) (sym (append_assoc done text rest))
+    (complete (text ++ rest) here)
 
 pub services_end : (plan : Plan) (shape : Shape) (k : ℕ) (done : List ℕ) → length plan.services ≤ k
-    → ((others : List ℕ) → AreServiceTexts plan shape (drop k plan.services) others → AreServiceTexts plan shape plan.services (done ++ others))
+    → ((others : List ℕ) → AreServiceTexts plan shape (drop k plan.services) others → AreServiceTexts plan shape
+    plan.services (done ++ others))
     → AreServiceTexts plan shape plan.services done
 services_end plan shape k done past complete =
     subst (λ t. AreServiceTexts plan shape plan.services t) (append-nil done)
@@ -102,13 +125,15 @@ services_end plan shape k done past complete =
 -- what is told of a port before the bridge that serves its link
 abbrev pub shown_words : List ℕ → ℕ → List ℕ → List ℕ → List ℕ → ℕ → List ℕ
 shown_words name port link role state cost =
-    codes "port " ++ name ++ codes " " ++ decimal port ++ codes " link " ++ link ++ codes " " ++ role ++ codes " " ++ state ++ codes " cost " ++ decimal cost ++ codes " from "
+    codes "port " ++ name ++ codes " " ++ decimal port ++ codes " link " ++ link ++ codes " " ++ role ++ codes " "
+    ++ state ++ codes " cost " ++ decimal cost ++ codes " from "
 
 pub shown_same : (name name' : List ℕ) (port : ℕ) (link link' role role' state state' : List ℕ) (cost cost' : ℕ)
     → name ≡ name' → link ≡ link' → role ≡ role' → state ≡ state' → cost ≡ cost'
     → shown_words name port link role state cost ≡ shown_words name' port link' role' state' cost'
 shown_same name name' port link link' role role' state state' cost cost' n l r s k =
-    ap (λ z. shown_words z port link role state cost) n ∙ ap (λ z. shown_words name' port z role state cost) l ∙ ap (λ z. shown_words name' port link' z state cost) r
+    ap (λ z. shown_words z port link role state cost) n ∙ ap (λ z. shown_words name' port z role state cost) l
+    ∙ ap (λ z. shown_words name' port link' z state cost) r
     ∙ ap (λ z. shown_words name' port link' role' z cost) s ∙ ap (λ z. shown_words name' port link' role' state' z) k
 
 -- the thing at a place
@@ -118,13 +143,16 @@ item_is (y ∷ xs) zero x h = sym (Some-injective h)
 item_is (y ∷ xs) (suc k) x h = item_is xs k x h
 
 -- the trees, by who decides the states
-pub given_tree : (plan : Plan) (rec : Record) (spanning : Spanning) (rest : Rest) (text : List ℕ) → IsRestIn spanning rest → spanning ≡ Fixed → IsGivenText plan (last_shape plan rec) text → IsTreeText plan rec rest text
+pub given_tree : (plan : Plan) (rec : Record) (spanning : Spanning) (rest : Rest) (text : List ℕ)
+    → IsRestIn spanning rest → spanning ≡ Fixed → IsGivenText plan (last_shape plan rec) text
+    → IsTreeText plan rec rest text
 given_tree plan rec Fixed Given text fits e t = t
 given_tree plan rec Fixed (Settled ticks) text fits e t = absurd fits
 given_tree plan rec Fixed (Unsettled ticks) text fits e t = absurd fits
 given_tree plan rec Rstp rest text fits e t = cc
 
-pub protocol_tree : (plan : Plan) (rec : Record) (spanning : Spanning) (rest : Rest) (text : List ℕ) → IsRestIn spanning rest → spanning ≡ Rstp → IsProtocolText plan rec rest text → IsTreeText plan rec rest text
+pub protocol_tree : (plan : Plan) (rec : Record) (spanning : Spanning) (rest : Rest) (text : List ℕ)
+    → IsRestIn spanning rest → spanning ≡ Rstp → IsProtocolText plan rec rest text → IsTreeText plan rec rest text
 protocol_tree plan rec Rstp Given text fits e t = absurd fits
 protocol_tree plan rec Rstp (Settled ticks) text fits e t = t
 protocol_tree plan rec Rstp (Unsettled ticks) text fits e t = t

@@ -6,4 +6,5 @@ use Rattle.pb_control.proofs.places.bridge_named.Given as goal
 
 abbrev pub invariant-loop-place : goal.invariant-loop-place
 invariant-loop-place l =
-    number_of (λ other. same other l.name) (l.place + 1) (map (λ b. b.name) (drop l.place l.plan.bridges)) ≡ bridge_named l.plan l.name
+    number_of (λ other. same other l.name) (l.place + 1) (map (λ b. b.name) (drop l.place l.plan.bridges))
+    ≡ bridge_named l.plan l.name

@@ -9,5 +9,7 @@ returns c =
     let parts = string_bytes c.put_parts.new.out in
     let head = codes "graph network {\n" in
     let all = parts_text c.args.plan.now c.args.scene.now in
-    let with_parts = with_piece old (string_bytes c.push_str.new.self) parts head all c.in_ok-push_str.ensures.bytes c.in_ok-put_parts.ensures in
-    with_piece old parts (string_bytes c.push_str-2.new.self) (head ++ all) (codes "}\n") with_parts c.in_ok-push_str-2.ensures.bytes
+    let with_parts = with_piece old (string_bytes c.push_str.new.self) parts head all c.in_ok-push_str.ensures.bytes
+    c.in_ok-put_parts.ensures in
+    with_piece old parts (string_bytes c.push_str-2.new.self) (head ++ all) (codes "}\n") with_parts
+    c.in_ok-push_str-2.ensures.bytes

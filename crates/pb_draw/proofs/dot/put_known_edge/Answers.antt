@@ -12,5 +12,7 @@ returns c =
     let old = string_bytes c.args.out.now in
     let words = string_bytes c.put_link_words.new.out in
     let told = link_words c.args.plan.now link facts in
-    let with_words = with_piece old (string_bytes c.put_edge_head.new.out) words (edge_head link facts) told c.in_ok-put_edge_head.ensures c.in_ok-put_link_words.ensures in
-    last_piece c.put_tone.result old words (string_bytes c.put_tone.new.out) (edge_head link facts ++ told) (tone_style facts.tone) with_words c.put_tone.ensures
+    let with_words = with_piece old (string_bytes c.put_edge_head.new.out) words (edge_head link facts) told
+    c.in_ok-put_edge_head.ensures c.in_ok-put_link_words.ensures in
+    last_piece c.put_tone.result old words (string_bytes c.put_tone.new.out) (edge_head link facts ++ told)
+    (tone_style facts.tone) with_words c.put_tone.ensures

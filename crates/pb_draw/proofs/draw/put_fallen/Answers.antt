@@ -9,9 +9,22 @@ put_rested-requires-clause-plan c =
     done-plan (fresh c.args.plan.now) c.falls.new.net fallen.events fallen.done
 
 pub returns-in-Some : goal.returns-in-Some
-returns-in-Some c = ([], sym (append-nil (string_bytes c.args.out.now)), (rw c.in-Some.is at c.in_ok-index.ensures, refl))
+returns-in-Some c = (
+  [],
+  sym (append-nil (string_bytes c.args.out.now)),
+  (rw c.in-Some.is at c.in_ok-index.ensures, refl),
+)
 
 pub returns-in_ok-rest-in-None : goal.returns-in_ok-rest-in-None
 returns-in_ok-rest-in-None c =
-    let t = c.in_ok-rest-in-None.ensures in
-    (t.0, t.1, record { found = c.requires.found; fallen = c.falls.new.net; falls = rw c.in-None.is at c.in_ok-index.ensures; drawing = t.2 })
+    let t = c.in_ok-rest-in-None.ensures in (
+      t.0,
+      t.1,
+      record {
+        found = c.requires.found;
+        fallen = c.falls.new.net;
+        falls = rw c.in-None.is at
+            c.in_ok-index.ensures;
+        drawing = t.2;
+      },
+    )

@@ -5,4 +5,10 @@ use Rattle.pb_draw.proofs.draw.put_last.Goals as goal
 
 pub returns : goal.returns
 returns c =
-    on_ok_weaker c.put_picture.result (λ t. (t.0, t.1, subst (λ shape. IsPictureOf c.args.plan.now shape c.args.chosen c.args.format t.0) c.in_ok-shape.ensures t.2)) c.put_picture.ensures
+    on_ok_weaker c.put_picture.result
+    (λ t. (
+      t.0,
+      t.1,
+      subst (λ shape. IsPictureOf c.args.plan.now shape c.args.chosen c.args.format t.0)
+          c.in_ok-shape.ensures t.2,
+    )) c.put_picture.ensures

@@ -7,4 +7,6 @@ use Rattle.pb_draw.proofs.marks.bridge_marks.Given as goal
 -- the facts so far, and those of the numbers from here on, are the facts of all
 abbrev pub invariant-loop-place : goal.invariant-loop-place
 invariant-loop-place l =
-    map (λ (m : BridgeMark). m.facts) l.marks.items ++ map (bridge_facts l.plan l.shape l.chosen) (numbers_from (l.place + 1) (drop l.place l.plan.bridges)) ≡ map (bridge_facts l.plan l.shape l.chosen) (numbers_from 1 l.plan.bridges)
+    map (λ (m : BridgeMark). m.facts) l.marks.items
+    ++ map (bridge_facts l.plan l.shape l.chosen) (numbers_from (l.place + 1) (drop l.place l.plan.bridges)) ≡ map
+    (bridge_facts l.plan l.shape l.chosen) (numbers_from 1 l.plan.bridges)

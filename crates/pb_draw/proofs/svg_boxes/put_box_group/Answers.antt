@@ -5,5 +5,6 @@ use Rattle.pb_draw.proofs.svg_boxes.put_box_group.Goals as goal
 
 pub returns : goal.returns
 returns c =
-    last_piece c.put_stand.result (string_bytes c.args.out.now) (string_bytes c.push_str.new.self) (string_bytes c.put_stand.new.out) (codes "<g class=\"bridge ") (stand_text c.args.tone c.args.corner)
+    last_piece c.put_stand.result (string_bytes c.args.out.now) (string_bytes c.push_str.new.self)
+    (string_bytes c.put_stand.new.out) (codes "<g class=\"bridge ") (stand_text c.args.tone c.args.corner)
     c.in_ok-push_str.ensures.bytes c.put_stand.ensures

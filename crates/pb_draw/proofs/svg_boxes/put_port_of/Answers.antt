@@ -13,6 +13,9 @@ returns c =
     let title = string_bytes c.put_port_title.new.out in
     let group = bar_group (codes "port") facts.service facts.tone c.args.mark.now.corner in
     let told = port_title c.args.plan.now port service in
-    let with_title = with_piece old (string_bytes c.put_bar_group.new.out) title group told c.in_ok-put_bar_group.ensures c.in_ok-put_port_title.ensures in
-    let bar = subst (λ name. OnOk c.put_bar.result (string_bytes c.put_bar.new.out ≡ title ++ bar_text name service)) c.as_str.ensures c.put_bar.ensures in
-    last_piece c.put_bar.result old title (string_bytes c.put_bar.new.out) (group ++ told) (bar_text port.name service) with_title bar
+    let with_title = with_piece old (string_bytes c.put_bar_group.new.out) title group told
+    c.in_ok-put_bar_group.ensures c.in_ok-put_port_title.ensures in
+    let bar = subst (λ name. OnOk c.put_bar.result (string_bytes c.put_bar.new.out ≡ title ++ bar_text name service))
+    c.as_str.ensures c.put_bar.ensures in
+    last_piece c.put_bar.result old title (string_bytes c.put_bar.new.out) (group ++ told)
+    (bar_text port.name service) with_title bar

@@ -7,6 +7,8 @@ use Rattle.pb_drive.proofs.falling.is_named.Goals as goal
 
 pub returns : goal.returns
 returns c =
-    let told : c.as_str.result.now ≡ end_words c.args.plan.now c.args.end.now = c.as_str.ensures.value ∙ (rw c.bridge_name-name.ensures at c.in_ok-text.ensures.ok)
+    let told : c.as_str.result.now ≡ end_words c.args.plan.now c.args.end.now = c.as_str.ensures.value
+    ∙ (rw c.bridge_name-name.ensures at c.in_ok-text.ensures.ok)
     ∙ sym (append_assoc (bridge_name c.args.plan.now c.args.end.now.bridge) (58 ∷ []) (decimal c.args.end.now.port)) in
-    subst (λ t. IsTrue c.eq.result ↔ (c.args.words.now ≡ t)) told (text_tells c.args.words.now c.as_str.result.now c.eq.result c.eq.ensures)
+    subst (λ t. IsTrue c.eq.result ↔ (c.args.words.now ≡ t)) told
+    (text_tells c.args.words.now c.as_str.result.now c.eq.result c.eq.ensures)

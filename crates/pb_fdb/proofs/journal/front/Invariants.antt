@@ -6,7 +6,8 @@ use Rattle.pb_fdb.proofs.journal.front.Given as goal
 
 abbrev pub invariant-loop-place : goal.invariant-loop-place
 invariant-loop-place l = record {
-  entries : entries_from (get is_same l.index) l.first (stations l.log.items) ≡ entries_from (get is_same l.index) l.initial.first (stations l.initial.log.items);
+  entries : entries_from (get is_same l.index) l.first (stations l.log.items) ≡ entries_from (get is_same l.index)
+      l.initial.first (stations l.initial.log.items);
   capacity : deque_capacity l.log ≡ deque_capacity l.initial.log;
 }
 

@@ -13,8 +13,10 @@ invariant-loop-turn l = record {
   gone : List Entry;
   behind : List Station;
   log : stations l.log.items ≡ drop l._turn (stations l.initial.log.items) ++ behind;
-  all : entries_from (get is_same l.initial.index) l.initial.first (stations l.initial.log.items) ≡ gone ++ entries_from (get is_same l.index) l.first (drop l._turn (stations l.initial.log.items));
-  entries : entries_from (get is_same l.index) l.first (stations l.log.items) ≡ entries_from (get is_same l.index) l.first (drop l._turn (stations l.initial.log.items)) ++ filter (stays l.port) gone;
+  all : entries_from (get is_same l.initial.index) l.initial.first (stations l.initial.log.items) ≡ gone
+      ++ entries_from (get is_same l.index) l.first (drop l._turn (stations l.initial.log.items));
+  entries : entries_from (get is_same l.index) l.first (stations l.log.items) ≡ entries_from (get is_same l.index)
+      l.first (drop l._turn (stations l.initial.log.items)) ++ filter (stays l.port) gone;
   behind_count : length behind ≡ length (filter (stays l.port) gone);
   each : HasEach (get is_same l.index) (entries_from (get is_same l.index) l.first (stations l.log.items));
   count : length (entries_from (get is_same l.index) l.first (stations l.log.items)) ≡ index_map_len l.index;

@@ -1,126 +1,166 @@
-use Rattle.std.proofs.Common.{◌≡◌, ◌<◌, ◌+◌, ◌^◌, ◌∷◌, ◌++◌, [], Some, not, cond, length, refl, sym, ap, ◌∙◌, subst, arith, length-append}
+use Rattle.std.proofs.Common.{◌≡◌, ◌<◌, ◌+◌, ◌^◌, ◌∷◌, ◌++◌, [], Some, not, cond, length, refl, sym, ap, ◌∙◌, subst}
+use Rattle.std.proofs.Common.{arith, length-append, ℕ, List, None}
 use Rattle.std.proofs.lemmas.List.{length-map}
 use Rattle.std.specs.List.{filter}
 use Rattle.std.specs.Option.{option_to_list}
+use Rattle.pb_fdb.proofs.TurnLemmas.{turned-as, turned-gone, turned-last, gone-entries, last-entries, goes-at}
+use Rattle.pb_fdb.proofs.TurnLemmas.{stays-at}
 use Rattle.indexmap.specs.IndexMap.{get, index_map_len}
 use Rattle.pb_fdb.specs.declared.station.LastSeen.{LastSeen}
-use Rattle.pb_fdb.specs.Journals.{is_same, is_of, entry_of, entries_from, place_after, stations, stays, HasEach, HasTurned, IsIndexWith}
-use Rattle.pb_fdb.proofs.LogLemmas.{turned-as, turned-gone, turned-last, gone-entries, last-entries, each-with, each-without, one-less, goes-at, stays-at}
+use Rattle.pb_fdb.specs.Journals.{is_same, is_of, entry_of, entries_from, place_after, stations, stays, HasEach}
+use Rattle.pb_fdb.specs.Journals.{HasTurned, IsIndexWith, Index}
+use Rattle.pb_fdb.proofs.LogLemmas.{each-with, each-without, one-less}
 use Rattle.pb_fdb.proofs.SlotLemmas.{stations-put, taken-at}
+use Rattle.pb_fdb.proofs.journal.turn.Goals.{Else-seen-at, After-swap_remove_index, After-push_back_reserved}
+use Rattle.pb_fdb.specs.declared.station.Station.{Station}
 use Rattle.pb_fdb.proofs.journal.turn.Goals as goal
+
+-- the first place of a log counts: its station was seen last there
+record First : Type 0 where
+  f : Index
+  at : ℕ
+  s : Station
+  seen : LastSeen
+  log : List Station
+  each : HasEach f (entries_from f at (s ∷ log))
+  known : f s ≡ Some seen
+  here : at ≡ seen.at
+
+-- the log is its first place and the rest
+whole : (c : Else-seen-at) → stations c.args.log.now.items ≡ c.in-Some.place.station
+    ∷ stations c.pop_front.new.self.items
+whole c = ap stations (c.pop_front.ensures.items ∙ ap (λ o. option_to_list o ++ c.pop_front.new.self.items)
+    c.in-Some.is)
+
+abbrev first-of : Else-seen-at → First
+first-of c = record {
+  f = get is_same c.args.index.now;
+  at = c.args.first.now;
+  s = c.in-Some.place.station;
+  seen = c.index-seen.result.now;
+  log = stations c.pop_front.new.self.items;
+  each = subst (λ xs. HasEach (get is_same c.args.index.now)
+      (entries_from (get is_same c.args.index.now) c.args.first.now xs)) (whole c) c.requires.each;
+  known = sym c.in-Some-slot_of.ensures.seen ∙ c.index-seen.ensures;
+  here = sym c.if-seen-at.false;
+}
+
+-- where the station goes, the index loses it, and nothing else
+gone : (c : After-swap_remove_index) → IsIndexWith c.in-Some.place.station None (get is_same c.args.index.now)
+    (get is_same c.swap_remove_index.new.self)
+    × (index_map_len c.swap_remove_index.new.self + 1 ≡ index_map_len c.args.index.now)
+gone c =
+    let taken = taken-at c.args.index.now c.in-Some-slot_of.slot c.swap_remove_index.new.self
+    c.in-Some.place.station c.swap_remove_index.result c.swap_remove_index.ensures.entry
+    c.in-Some-slot_of.ensures.station c.swap_remove_index.ensures.updates in (
+      taken.0,
+      ap (λ b. index_map_len c.swap_remove_index.new.self + cond b 1 0) (sym taken.1)
+          ∙ c.swap_remove_index.ensures.len,
+    )
 
 pub returns-then-eq-clause-turned : goal.returns-then-eq-clause-turned
 returns-then-eq-clause-turned c s rest is =
-    let f = get is_same c.args.index.now in
+    let at = (goal.at.returns-then-eq-clause-turned c).Else-seen-at in
+    let p = first-of at in
     let g = get is_same c.swap_remove_index.new.self in
-    let s0 = c.in-Some.place.station in
-    let log = stations c.pop_front.new.self.items in
-    let whole : stations c.args.log.now.items ≡ s0 ∷ log = ap stations (c.pop_front.ensures.items ∙ ap (λ o. option_to_list o ++ c.pop_front.new.self.items) c.in-Some.is) in
-    let seen = c.index-seen.result.now in
-    let known : f s0 ≡ Some seen = sym c.in-Some-slot_of.ensures.seen ∙ c.index-seen.ensures in
-    let here : c.args.first.now ≡ seen.at = omega (arith, c.if-seen-at.false) in
-    let taken = taken-at c.args.index.now c.in-Some-slot_of.slot c.swap_remove_index.new.self s0 c.swap_remove_index.result c.swap_remove_index.ensures.entry c.in-Some-slot_of.ensures.station c.swap_remove_index.ensures.updates in
-    let each = subst (λ xs. HasEach f (entries_from f c.args.first.now xs)) whole c.requires.each in
-    let goes = goes-at c.args.port (entry_of s0 seen) (sym c.eq.ensures ∙ c.if-eq.true) in
-    turned-as (stays c.args.port) f g c.args.first.now s0 s log rest log
-    (turned-gone (stays c.args.port) f g c.args.first.now s0 seen log each known here goes taken.0) (sym whole ∙ is)
+    let goes = goes-at c.args.port (entry_of p.s p.seen) (sym c.eq.ensures ∙ c.if-eq.true) in
+    turned-as (stays c.args.port) p.f g p.at p.s s p.log rest p.log
+    (turned-gone (stays c.args.port) p.f g p.at p.s p.seen p.log p.each p.known p.here goes (gone c).0)
+    (sym (whole at) ∙ is)
 
 pub returns-then-eq-clause-each : goal.returns-then-eq-clause-each
 returns-then-eq-clause-each c =
-    let f = get is_same c.args.index.now in
+    let p = first-of (goal.at.returns-then-eq-clause-each c).Else-seen-at in
     let g = get is_same c.swap_remove_index.new.self in
-    let s0 = c.in-Some.place.station in
-    let log = stations c.pop_front.new.self.items in
-    let whole : stations c.args.log.now.items ≡ s0 ∷ log = ap stations (c.pop_front.ensures.items ∙ ap (λ o. option_to_list o ++ c.pop_front.new.self.items) c.in-Some.is) in
-    let seen = c.index-seen.result.now in
-    let known : f s0 ≡ Some seen = sym c.in-Some-slot_of.ensures.seen ∙ c.index-seen.ensures in
-    let here : c.args.first.now ≡ seen.at = omega (arith, c.if-seen-at.false) in
-    let taken = taken-at c.args.index.now c.in-Some-slot_of.slot c.swap_remove_index.new.self s0 c.swap_remove_index.result c.swap_remove_index.ensures.entry c.in-Some-slot_of.ensures.station c.swap_remove_index.ensures.updates in
-    let each = subst (λ xs. HasEach f (entries_from f c.args.first.now xs)) whole c.requires.each in
-    subst (HasEach g) (sym (gone-entries f g c.args.first.now s0 seen log each known here taken.0))
-    (each-without f g s0 taken.0 (entries_from f c.args.first.now (s0 ∷ log)) each)
+    subst (HasEach g) (sym (gone-entries p.f g p.at p.s p.seen p.log p.each p.known p.here (gone c).0))
+    (each-without p.f g p.s (gone c).0 (entries_from p.f p.at (p.s ∷ p.log)) p.each)
 
 pub returns-then-eq-clause-count : goal.returns-then-eq-clause-count
 returns-then-eq-clause-count c counted =
-    let f = get is_same c.args.index.now in
-    let g = get is_same c.swap_remove_index.new.self in
-    let s0 = c.in-Some.place.station in
-    let log = stations c.pop_front.new.self.items in
-    let whole : stations c.args.log.now.items ≡ s0 ∷ log = ap stations (c.pop_front.ensures.items ∙ ap (λ o. option_to_list o ++ c.pop_front.new.self.items) c.in-Some.is) in
-    let seen = c.index-seen.result.now in
-    let known : f s0 ≡ Some seen = sym c.in-Some-slot_of.ensures.seen ∙ c.index-seen.ensures in
-    let here : c.args.first.now ≡ seen.at = omega (arith, c.if-seen-at.false) in
-    let taken = taken-at c.args.index.now c.in-Some-slot_of.slot c.swap_remove_index.new.self s0 c.swap_remove_index.result c.swap_remove_index.ensures.entry c.in-Some-slot_of.ensures.station c.swap_remove_index.ensures.updates in
-    let each = subst (λ xs. HasEach f (entries_from f c.args.first.now xs)) whole c.requires.each in
-    let entries = ap length (gone-entries f g c.args.first.now s0 seen log each known here taken.0) in
-    let less = one-less f s0 seen (entries_from f c.args.first.now (s0 ∷ log)) each known in
-    let before = sym (ap (λ xs. length (entries_from f c.args.first.now xs)) whole) ∙ counted in
-    let after : index_map_len c.swap_remove_index.new.self + 1 ≡ index_map_len c.args.index.now
-    = ap (λ b. index_map_len c.swap_remove_index.new.self + cond b 1 0) (sym taken.1) ∙ c.swap_remove_index.ensures.len in
+    let at = (goal.at.returns-then-eq-clause-count c).Else-seen-at in
+    let p = first-of at in
+    let entries = ap length (gone-entries p.f (get is_same c.swap_remove_index.new.self) p.at p.s p.seen p.log p.each
+    p.known p.here (gone c).0) in
+    let less = one-less p.f p.s p.seen (entries_from p.f p.at (p.s ∷ p.log)) p.each p.known in
+    let before = sym (ap (λ xs. length (entries_from p.f p.at xs)) (whole at)) ∙ counted in
+    let after = (gone c).1 in
     omega (arith, entries, less, before, after)
+
+-- how a station was seen last whose place goes last
+abbrev seen-last : After-push_back_reserved → LastSeen
+seen-last c = record {
+  at = place_after (place_after c.args.first.now 1) c.len.result;
+  learnt = c.index-seen.result.now.learnt;
+  port = c.index-seen.result.now.port;
+}
+
+-- where the station stays, its place goes last
+record GoesLast (f g : Index) (at : ℕ) (s : Station) (new : LastSeen) (log after : List Station) : Type 0 where
+  noted : IsIndexWith s (Some new) f g
+  put : after ≡ log ++ s ∷ []
+  behind : new.at ≡ place_after (place_after at 1) (length log)
+  fits : length log < 2 ^ 64
+
+goes-last : (c : After-push_back_reserved) → GoesLast (get is_same c.args.index.now) (get is_same c.note.new.index)
+    c.args.first.now c.in-Some.place.station (seen-last c) (stations c.pop_front.new.self.items)
+    (stations c.push_back_reserved.new.self.items)
+goes-last c =
+    let count = length-map c.pop_front.new.self.items (λ p. p.station) in
+    record {
+      noted = c.note.ensures.noted c.in-Some.place.station c.in-Some-slot_of.ensures.station;
+      put = stations-put c.pop_front.new.self.items c.push_back_reserved.new.self.items c.new.result
+          c.in-Some.place.station c.push_back_reserved.ensures.items c.new.ensures.station;
+      behind = ap (place_after (place_after c.args.first.now 1))
+          (c.len.ensures ∙ c.pop_front.new.self.ok.0 ∙ sym count);
+      fits = omega (
+        arith,
+        count,
+        c.pop_front.new.self.small.0,
+        c.pop_front.new.self.small.1,
+        c.pop_front.new.self.ok.0,
+      );
+    }
+
+-- the entries are then those of the other stations, and its own last
+last-all : (c : After-push_back_reserved) (p : First) → GoesLast p.f (get is_same c.note.new.index) p.at p.s
+    (seen-last c) p.log (stations c.push_back_reserved.new.self.items)
+    → entries_from (get is_same c.note.new.index) (place_after p.at 1) (stations c.push_back_reserved.new.self.items)
+    ≡ filter (λ e. not (is_of p.s e)) (entries_from p.f p.at (p.s ∷ p.log)) ++ entry_of p.s (seen-last c) ∷ []
+last-all c p l = ap (entries_from (get is_same c.note.new.index) (place_after p.at 1)) l.put
+    ∙ last-entries p.f (get is_same c.note.new.index) p.at p.s p.seen (seen-last c) p.log p.known p.here l.noted
+    l.behind l.fits
 
 pub returns-clause-turned : goal.returns-clause-turned
 returns-clause-turned c s rest is =
-    let f = get is_same c.args.index.now in
+    let at = (goal.at.returns-clause-turned c).Else-seen-at in
+    let p = first-of at in
+    let l = goes-last c in
     let g = get is_same c.note.new.index in
-    let s0 = c.in-Some.place.station in
-    let log = stations c.pop_front.new.self.items in
-    let whole : stations c.args.log.now.items ≡ s0 ∷ log = ap stations (c.pop_front.ensures.items ∙ ap (λ o. option_to_list o ++ c.pop_front.new.self.items) c.in-Some.is) in
-    let seen = c.index-seen.result.now in
-    let new : LastSeen = record { at = place_after (place_after c.args.first.now 1) c.len.result; learnt = seen.learnt; port = seen.port } in
-    let known : f s0 ≡ Some seen = sym c.in-Some-slot_of.ensures.seen ∙ c.index-seen.ensures in
-    let here : c.args.first.now ≡ seen.at = omega (arith, c.if-seen-at.false) in
-    let each = subst (λ xs. HasEach f (entries_from f c.args.first.now xs)) whole c.requires.each in
-    let stay = stays-at c.args.port (entry_of s0 seen) (sym c.eq.ensures ∙ c.if-eq.false) in
-    let noted : IsIndexWith s0 (Some new) f g = c.note.ensures.noted s0 c.in-Some-slot_of.ensures.station in
-    let count = length-map c.pop_front.new.self.items (λ p. p.station) in
-    let put = stations-put c.pop_front.new.self.items c.push_back_reserved.new.self.items c.new.result s0 c.push_back_reserved.ensures.items c.new.ensures.station in
-    let behind = ap (place_after (place_after c.args.first.now 1)) (c.len.ensures ∙ c.pop_front.new.self.ok.0 ∙ sym count) in
-    let fits : length log < 2 ^ 64 = omega (arith, count, c.pop_front.new.self.small.0, c.pop_front.new.self.small.1, c.pop_front.new.self.ok.0) in
-    subst (HasTurned (stays c.args.port) f g c.args.first.now s rest) (sym put)
-    (turned-as (stays c.args.port) f g c.args.first.now s0 s log rest (log ++ s0 ∷ [])
-    (turned-last (stays c.args.port) f g c.args.first.now s0 seen new log each known here stay noted refl behind fits) (sym whole ∙ is))
+    let stay = stays-at c.args.port (entry_of p.s p.seen) (sym c.eq.ensures ∙ c.if-eq.false) in
+    subst (HasTurned (stays c.args.port) p.f g p.at s rest) (sym l.put)
+    (turned-as (stays c.args.port) p.f g p.at p.s s p.log rest (p.log ++ p.s ∷ [])
+    (turned-last (stays c.args.port) p.f g p.at p.s p.seen (seen-last c) p.log p.each p.known p.here stay l.noted refl
+    l.behind l.fits)
+    (sym (whole at) ∙ is))
 
 pub returns-clause-each : goal.returns-clause-each
 returns-clause-each c =
-    let f = get is_same c.args.index.now in
-    let g = get is_same c.note.new.index in
-    let s0 = c.in-Some.place.station in
-    let log = stations c.pop_front.new.self.items in
-    let whole : stations c.args.log.now.items ≡ s0 ∷ log = ap stations (c.pop_front.ensures.items ∙ ap (λ o. option_to_list o ++ c.pop_front.new.self.items) c.in-Some.is) in
-    let seen = c.index-seen.result.now in
-    let new : LastSeen = record { at = place_after (place_after c.args.first.now 1) c.len.result; learnt = seen.learnt; port = seen.port } in
-    let known : f s0 ≡ Some seen = sym c.in-Some-slot_of.ensures.seen ∙ c.index-seen.ensures in
-    let here : c.args.first.now ≡ seen.at = omega (arith, c.if-seen-at.false) in
-    let each = subst (λ xs. HasEach f (entries_from f c.args.first.now xs)) whole c.requires.each in
-    let noted : IsIndexWith s0 (Some new) f g = c.note.ensures.noted s0 c.in-Some-slot_of.ensures.station in
-    let count = length-map c.pop_front.new.self.items (λ p. p.station) in
-    let put = stations-put c.pop_front.new.self.items c.push_back_reserved.new.self.items c.new.result s0 c.push_back_reserved.ensures.items c.new.ensures.station in
-    let behind = ap (place_after (place_after c.args.first.now 1)) (c.len.ensures ∙ c.pop_front.new.self.ok.0 ∙ sym count) in
-    let fits : length log < 2 ^ 64 = omega (arith, count, c.pop_front.new.self.small.0, c.pop_front.new.self.small.1, c.pop_front.new.self.ok.0) in
-    subst (HasEach g)
-    (sym (ap (entries_from g (place_after c.args.first.now 1)) put ∙ last-entries f g c.args.first.now s0 seen new log known here noted behind fits))
-    (each-with f g s0 new noted (entries_from f c.args.first.now (s0 ∷ log)) each)
+    let p = first-of (goal.at.returns-clause-each c).Else-seen-at in
+    let l = goes-last c in
+    subst (HasEach (get is_same c.note.new.index)) (sym (last-all c p l))
+    (each-with p.f (get is_same c.note.new.index) p.s (seen-last c) l.noted
+    (entries_from p.f p.at (p.s ∷ p.log)) p.each)
 
 pub returns-clause-count : goal.returns-clause-count
 returns-clause-count c counted =
-    let f = get is_same c.args.index.now in
-    let g = get is_same c.note.new.index in
-    let s0 = c.in-Some.place.station in
-    let log = stations c.pop_front.new.self.items in
-    let whole : stations c.args.log.now.items ≡ s0 ∷ log = ap stations (c.pop_front.ensures.items ∙ ap (λ o. option_to_list o ++ c.pop_front.new.self.items) c.in-Some.is) in
-    let seen = c.index-seen.result.now in
-    let new : LastSeen = record { at = place_after (place_after c.args.first.now 1) c.len.result; learnt = seen.learnt; port = seen.port } in
-    let known : f s0 ≡ Some seen = sym c.in-Some-slot_of.ensures.seen ∙ c.index-seen.ensures in
-    let here : c.args.first.now ≡ seen.at = omega (arith, c.if-seen-at.false) in
-    let each = subst (λ xs. HasEach f (entries_from f c.args.first.now xs)) whole c.requires.each in
-    let noted : IsIndexWith s0 (Some new) f g = c.note.ensures.noted s0 c.in-Some-slot_of.ensures.station in
-    let count = length-map c.pop_front.new.self.items (λ p. p.station) in
-    let put = stations-put c.pop_front.new.self.items c.push_back_reserved.new.self.items c.new.result s0 c.push_back_reserved.ensures.items c.new.ensures.station in
-    let behind = ap (place_after (place_after c.args.first.now 1)) (c.len.ensures ∙ c.pop_front.new.self.ok.0 ∙ sym count) in
-    let fits : length log < 2 ^ 64 = omega (arith, count, c.pop_front.new.self.small.0, c.pop_front.new.self.small.1, c.pop_front.new.self.ok.0) in
-    let entries = ap length (ap (entries_from g (place_after c.args.first.now 1)) put ∙ last-entries f g c.args.first.now s0 seen new log known here noted behind fits) in
-    let all = entries_from f c.args.first.now (s0 ∷ log) in
-    let less = one-less f s0 seen all each known in
-    let before = sym (ap (λ xs. length (entries_from f c.args.first.now xs)) whole) ∙ counted in
-    omega (arith, entries, length-append (filter (λ e. not (is_of s0 e)) all) (entry_of s0 new ∷ []), less, before, c.note.ensures.len)
+    let at = (goal.at.returns-clause-count c).Else-seen-at in
+    let p = first-of at in
+    let all = entries_from p.f p.at (p.s ∷ p.log) in
+    omega (
+      arith,
+      ap length (last-all c p (goes-last c)),
+      length-append (filter (λ e. not (is_of p.s e)) all) (entry_of p.s (seen-last c) ∷ []),
+      one-less p.f p.s p.seen all p.each p.known,
+      sym (ap (λ xs. length (entries_from p.f p.at xs)) (whole at)) ∙ counted,
+      c.note.ensures.len,
+    )

@@ -15,7 +15,9 @@ pub returns-in-Some-clause-entries : goal.returns-in-Some-clause-entries
 returns-in-Some-clause-entries c = c.oldest.ensures.entries
 
 pub returns-in-Some-clause-full : goal.returns-in-Some-clause-full
-returns-in-Some-clause-full c = c.is_fresh.ensures ∙ full-fresh c.args.limit c.args.ageing c.args.now c.args.journal.now c.in-Some.entry c.requires.order c.requires.fits (omega arith) (sym c.in-Some.is ∙ c.oldest.ensures.oldest)
+returns-in-Some-clause-full c = c.is_fresh.ensures
+    ∙ full-fresh c.args.limit c.args.ageing c.args.now c.args.journal.now c.in-Some.entry c.requires.order
+    c.requires.fits (omega arith) (sym c.in-Some.is ∙ c.oldest.ensures.oldest)
 
 pub returns-in-None-clause-entries : goal.returns-in-None-clause-entries
 returns-in-None-clause-entries c = c.oldest.ensures.entries

@@ -1,4 +1,5 @@
-use Rattle.std.proofs.Common.{◌≡◌, ◌*◌, ◌∷◌, ◌++◌, length, true, false, drop, arith, rules, ap, sym, ◌∙◌, Some, None, nat_eq, codes, eqb}
+use Rattle.std.proofs.Common.{◌≡◌, ◌*◌, ◌∷◌, ◌++◌, length, true, false, drop, arith, rules, ap, sym, ◌∙◌, Some, None}
+use Rattle.std.proofs.Common.{nat_eq, codes, eqb}
 use Rattle.std.proofs.lemmas.Bool.{eqb-false}
 use Rattle.std.specs.List.{list_all, starts_with}
 use Rattle.pb_frame.specs.Hex.{is_digit, IsHex}
@@ -15,7 +16,8 @@ returns-in_default-clause-none c = λ port frame l.
 pub returns-in_default-read_port-clause-none : goal.returns-in_default-read_port-clause-none
 returns-in_default-read_port-clause-none c = λ port frame l.
     let parts = rw slice_from at c.in-Some.ensures.some in
-    let same = same_parts c.args.limit c.args.ports c.args.line.now c.in-Some.digits.now c.in-Some.hex.now port frame l parts.1 parts.0 in
+    let same = same_parts c.args.limit c.args.ports c.args.line.now c.in-Some.digits.now c.in-Some.hex.now port frame
+    l parts.1 parts.0 in
     let number : port_of c.in-Some.digits.now ≡ Some port = rw same.0 at l.number in
     let none : None ≡ port_of c.in-Some.digits.now = c.in_default-read_port.ensures in
     cc
@@ -42,7 +44,8 @@ returns-in-Ok-clause-some c =
 pub returns-in-Err-Digit-clause-none : goal.returns-in-Err-Digit-clause-none
 returns-in-Err-Digit-clause-none c = λ port frame l.
     let parts = rw slice_from at c.in-Some.ensures.some in
-    let same = same_parts c.args.limit c.args.ports c.args.line.now c.in-Some.digits.now c.in-Some.hex.now port frame l parts.1 parts.0 in
+    let same = same_parts c.args.limit c.args.ports c.args.line.now c.in-Some.digits.now c.in-Some.hex.now port frame
+    l parts.1 parts.0 in
     let digits : list_all is_digit c.in-Some.hex.now ≡ true = rw same.1 at (IsHex-digits l.hex frame l.octets) in
     let wrong : list_all is_digit c.in-Some.hex.now ≡ false = c.hex_octets_in.ensures.digit.0 (search rules) in
     cc
@@ -50,7 +53,8 @@ returns-in-Err-Digit-clause-none c = λ port frame l.
 pub returns-in-Err-Odd-clause-none : goal.returns-in-Err-Odd-clause-none
 returns-in-Err-Odd-clause-none c = λ port frame l.
     let parts = rw slice_from at c.in-Some.ensures.some in
-    let same = same_parts c.args.limit c.args.ports c.args.line.now c.in-Some.digits.now c.in-Some.hex.now port frame l parts.1 parts.0 in
+    let same = same_parts c.args.limit c.args.ports c.args.line.now c.in-Some.digits.now c.in-Some.hex.now port frame
+    l parts.1 parts.0 in
     let even : length c.in-Some.hex.now ≡ 2 * length frame = rw same.1 at (IsHex-length l.hex frame l.octets) in
     let odd = (c.hex_octets_in.ensures.odd.0 (search rules)).1 in
     omega (arith, odd)

@@ -9,5 +9,6 @@ pub returns-in_ok-handle-in-Some-clause-ok : goal.returns-in_ok-handle-in-Some-c
 returns-in_ok-handle-in-Some-clause-ok c =
     let h = c.in_ok-handle-in-Some.ensures.ok in
     let r : Receipt = record { port = c.in-Some.handed.port; wire = c.in-Some.handed.frame; outcome = h.outcome } in
-    let line : IsFrameLine c.args.limit c.args.ports c.args.line.now r.port r.wire = rw c.in-Some.is at c.in_ok-read_frame_line.ensures.some in
+    let line : IsFrameLine c.args.limit c.args.ports c.args.line.now r.port r.wire =
+    rw c.in-Some.is at c.in_ok-read_frame_line.ensures.some in
     (answer_text r, h.text, frame r line h.receipts refl)

@@ -7,7 +7,8 @@ use Rattle.pb_flat.proofs.run.answer_lines.Given as goal
 
 abbrev pub invariant-loop-number : goal.invariant-loop-number
 invariant-loop-number g l = record {
-  progress : Progress l.limit l.ports l.number (g.R.Read.remaining l.fn.reader) (held l.lines) (g.R.Read.remaining l.reader)
+  progress : Progress l.limit l.ports l.number (g.R.Read.remaining l.fn.reader) (held l.lines)
+      (g.R.Read.remaining l.reader)
       (g.W.Write.contents l.fn.writer) (g.W.Write.contents l.writer) (receipts l.switch.steps);
   limit : limit_of l.lines ≡ l.limit;
   ports : l.switch.ports ≡ l.ports;

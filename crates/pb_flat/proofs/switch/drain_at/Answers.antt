@@ -7,4 +7,5 @@ use Rattle.pb_flat.proofs.switch.drain_at.Goals as goal
 pub returns-clause-ok : goal.returns-clause-ok
 returns-clause-ok c =
     one c.pop_out.result (omega (arith, c.waiting.ensures, c.if-waiting-eq0.false))
-    (c.pop_out.ensures.step ∙ ap (λ (b : BridgeView). with_step b (Transmit c.args.port c.pop_out.result)) c.in_default.ensures.ok)
+    (c.pop_out.ensures.step ∙ ap (λ (b : BridgeView). with_step b (Transmit c.args.port c.pop_out.result))
+    c.in_default.ensures.ok)

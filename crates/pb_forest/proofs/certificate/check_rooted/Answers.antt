@@ -12,7 +12,8 @@ returns-then-has_all_entries c =
     let lengths = c.has_all_entries.ensures.0 c.if-has_all_entries.true in (
       (λ t.
           let e = c.entries_show.ensures.0 t in
-          subst (λ v. Shows plan shape v rooted) c.vid_numbered-vid.ensures (shows-parts plan shape vid rooted lengths.0 lengths.1 e.0 e.1.0 e.1.1)),
+          subst (λ v. Shows plan shape v rooted) c.vid_numbered-vid.ensures
+          (shows-parts plan shape vid rooted lengths.0 lengths.1 e.0 e.1.0 e.1.1)),
       (λ s.
           let h = subst (λ v. Shows plan shape v rooted) (sym c.vid_numbered-vid.ensures) s in
           c.entries_show.ensures.1 (stand-of plan shape vid rooted h, parts-of plan shape vid rooted h)),

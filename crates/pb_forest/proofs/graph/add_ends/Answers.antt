@@ -3,7 +3,8 @@ use Rattle.pb_forest.proofs.GraphLemmas.{at-same}
 use Rattle.pb_forest.proofs.graph.add_ends.Goals as goal
 
 pub add_at-requires-clause-fits : goal.add_at-requires-clause-fits
-add_at-requires-clause-fits c = let f = c.requires.fits c.args.ends.a in let s = at-same c.args.ends.a c.args.n in omega (arith, f, s)
+add_at-requires-clause-fits c = let f = c.requires.fits c.args.ends.a in let s = at-same c.args.ends.a c.args.n
+    in omega (arith, f, s)
 
 pub add_at-requires-2-clause-fits : goal.add_at-requires-2-clause-fits
 add_at-requires-2-clause-fits c =

@@ -4,4 +4,5 @@ use Rattle.pb_formats.specs.Documents.{with_top}
 use Rattle.pb_formats.proofs.documents.put_top.Given as goal
 
 abbrev pub invariant-loop-row : goal.invariant-loop-row
-invariant-loop-row l = with_top (drop l.row-index l.rows) (members_view l.map.entries) ≡ with_top l.rows (members_view l.initial.map.entries)
+invariant-loop-row l = with_top (drop l.row-index l.rows) (members_view l.map.entries) ≡ with_top l.rows
+    (members_view l.initial.map.entries)

@@ -5,7 +5,8 @@ use Rattle.pb_formats.proofs.parts.depth_at.Goals as goal
 
 pub loop-depth-preserved : goal.loop-depth-preserved
 loop-depth-preserved c = record {
-  text_is = rw add-one (c.loop-depth.invariant.text_is ∙ ap (λ (z : List ℕ). spaces c.loop-depth.depth ++ z) c.in-Some.ensures
+  text_is = rw add-one (c.loop-depth.invariant.text_is ∙ ap (λ (z : List ℕ). spaces c.loop-depth.depth ++ z)
+      c.in-Some.ensures
       ∙ spaces_more c.loop-depth.depth c.in-Some.inner.now);
   utf8 = search rules;
 }

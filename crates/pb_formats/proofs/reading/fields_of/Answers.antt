@@ -10,7 +10,9 @@ loop-slot-preserved c =
     let grown = c.in_ok-push.ensures.items in
     let fields = c.loop-slot.fields.items in
     let inv = c.loop-slot.invariant in record {
-      filled = filled_more c.args.slots.now fields _ c.loop-slot.slot-index _ c.in-Some.filled c.loop-slot-test.true inv.filled got.0 grown;
-      text_is = rw grown (text_more filled_text fields c.in-Some.filled c.args.text.now c.loop-slot.rest.now c.in-Some.later.now inv.text_is got.1);
+      filled = filled_more c.args.slots.now fields _ c.loop-slot.slot-index _ c.in-Some.filled c.loop-slot-test.true
+          inv.filled got.0 grown;
+      text_is = rw grown (text_more filled_text fields c.in-Some.filled c.args.text.now c.loop-slot.rest.now
+          c.in-Some.later.now inv.text_is got.1);
       utf8 = search rules;
     }

@@ -5,4 +5,9 @@ use denote.Text.{Utf8}
 use Rattle.pb_formats.proofs.reading.fields_of.Given as goal
 
 abbrev pub invariant-loop-slot : goal.invariant-loop-slot
-invariant-loop-slot l = record { filled : AreFilled (take l.slot-index l.slots) l.fields.items; text_is : l.fn.text ≡ fields_text l.fields.items ++ l.rest; utf8 : shadow (Utf8 l.rest) }
+invariant-loop-slot l = record {
+  filled : AreFilled (take l.slot-index l.slots) l.fields.items;
+  text_is : l.fn.text
+      ≡ fields_text l.fields.items ++ l.rest;
+  utf8 : shadow (Utf8 l.rest);
+}

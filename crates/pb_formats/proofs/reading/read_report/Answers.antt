@@ -14,8 +14,10 @@ lines-preserved c =
     let later = c.in-Some.later.now in
     let inv = c.lines.invariant in
     let cut : c.lines.rest.now ≡ (row_text row ++ 10 ∷ []) ++ later =
-    c.in-Some.ensures ∙ sym (append_assoc c.in-Some.line.now (10 ∷ []) later) ∙ ap (λ (z : List ℕ). (z ++ 10 ∷ []) ++ later) got.1 in record {
+    c.in-Some.ensures ∙ sym (append_assoc c.in-Some.line.now (10 ∷ []) later)
+    ∙ ap (λ (z : List ℕ). (z ++ 10 ∷ []) ++ later) got.1 in record {
       are = rw grown (All-push (IsRowOf c.args.templates.now) rows row inv.are got.0);
-      text_is = rw grown (text_more (λ (r : Row). row_text r ++ 10 ∷ []) rows row c.args.text.now c.lines.rest.now later inv.text_is cut);
+      text_is = rw grown (text_more (λ (r : Row). row_text r ++ 10 ∷ []) rows row c.args.text.now c.lines.rest.now
+          later inv.text_is cut);
       utf8 = search rules;
     }

@@ -6,7 +6,12 @@ use denote.Text.{Utf8}
 use Rattle.pb_formats.proofs.reading.read_report.Given as goal
 
 abbrev pub invariant-lines : goal.invariant-lines
-invariant-lines l = record { are : All (IsRowOf l.templates) l.rows.items; text_is : l.fn.text ≡ report_text l.rows.items ++ l.rest; utf8 : shadow (Utf8 l.rest) }
+invariant-lines l = record {
+  are : All (IsRowOf l.templates) l.rows.items;
+  text_is : l.fn.text ≡ report_text
+      l.rows.items ++ l.rest;
+  utf8 : shadow (Utf8 l.rest);
+}
 
 abbrev pub decreases-lines : goal.decreases-lines
 decreases-lines l = length l.rest

@@ -8,10 +8,14 @@ use Rattle.pb_formats.proofs.values.numbers_value.Goals as goal
 
 pub loop-number-preserved : goal.loop-number-preserved
 loop-number-preserved c =
-    values_more (λ n. number (unsigned n)) c.args.numbers.now c.loop-number.number-index _ c.loop-number.values.items c.push.new.self.items _ c.loop-number-test.true c.from.ensures
+    values_more (λ n. number (unsigned n)) c.args.numbers.now c.loop-number.number-index _ c.loop-number.values.items
+    c.push.new.self.items _ c.loop-number-test.true c.from.ensures
     c.in_ok-push.ensures.items c.loop-number.invariant
 
 pub returns : goal.returns
 returns c =
-    view-Array c.loop-number.values ∙ ap (λ (ds : List Data). array (items_of ds)) (values_end (λ n. number (unsigned n)) c.args.numbers.now c.loop-number.number-index c.loop-number.values.items
+    view-Array c.loop-number.values
+    ∙ ap (λ (ds : List Data). array (items_of ds))
+    (values_end (λ n. number (unsigned n)) c.args.numbers.now c.loop-number.number-index
+    c.loop-number.values.items
     c.loop-number-test.false c.loop-number.invariant)

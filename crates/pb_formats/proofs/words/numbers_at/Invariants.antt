@@ -5,7 +5,11 @@ use denote.Text.{Utf8}
 use Rattle.pb_formats.proofs.words.numbers_at.Given as goal
 
 abbrev pub invariant-numbers : goal.invariant-numbers
-invariant-numbers l = record { text_is : l.fn.text ≡ numbers_text l.numbers.items ++ l.rest; utf8 : shadow (Utf8 l.rest) }
+invariant-numbers l = record {
+  text_is : l.fn.text ≡ numbers_text l.numbers.items ++ l.rest;
+  utf8 : shadow
+      (Utf8 l.rest);
+}
 
 abbrev pub decreases-numbers : goal.decreases-numbers
 decreases-numbers l = length l.rest

@@ -12,7 +12,8 @@ overflow_cast-octets c =
     let low = get_or text (2 * i + 1) 0 in
     let first : is_digit high ≡ true = true_at is_digit text (2 * i) (omega arith) c.requires.digits in
     let second : is_digit low ≡ true = true_at is_digit text (2 * i + 1) (omega arith) c.requires.digits in
-    let fits = octet_fits high low (omega (arith, c.type_inv.digits (2 * i))) (omega (arith, c.type_inv.digits (2 * i + 1))) first second in
+    let fits = octet_fits high low (omega (arith, c.type_inv.digits (2 * i)))
+    (omega (arith, c.type_inv.digits (2 * i + 1))) first second in
     rw (c.from.ensures, c.from-in-loop-i.ensures) (omega (arith, fits))
 
 pub loop-i-preserved : goal.loop-i-preserved
@@ -24,7 +25,8 @@ loop-i-preserved c = λ more rest.
     let first : is_digit high ≡ true = true_at is_digit text (2 * i) (omega arith) c.requires.digits in
     let second : is_digit low ≡ true = true_at is_digit text (2 * i + 1) (omega arith) c.requires.digits in
     let octet = octet_of high low in
-    let pair = octet_pair high low (omega (arith, c.type_inv.digits (2 * i))) (omega (arith, c.type_inv.digits (2 * i + 1))) first second in
+    let pair = octet_pair high low (omega (arith, c.type_inv.digits (2 * i)))
+    (omega (arith, c.type_inv.digits (2 * i + 1))) first second in
     rw (c.from.ensures, c.from-in-loop-i.ensures) (IsHex_set text _ i octet more (omega arith)
     (c.loop-i.invariant (octet ∷ more) (IsHex_more text i octet more (omega arith) pair rest)))
 

@@ -6,5 +6,6 @@ pub returns : goal.returns
 returns c =
     let old = string_bytes c.args.out.now in
     let link = c.args.link in
-    let told : string_bytes c.write.new.self ≡ old ++ ends_text link c.ends-a.result = c.in_ok-write.ensures.bytes ∙ simp append_assoc in
+    let told : string_bytes c.write.new.self ≡ old ++ ends_text link c.ends-a.result = c.in_ok-write.ensures.bytes
+    ∙ simp append_assoc in
     told ∙ ap (λ ends. old ++ ends_text link ends) c.ends-a.ensures

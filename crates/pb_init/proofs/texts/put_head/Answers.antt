@@ -9,5 +9,6 @@ returns c =
     let head = string_bytes c.push_str.new.self in
     let keys = string_bytes c.push_str-2.new.self in
     let shape = c.args.shape in
-    let put = with_piece old head keys head_text (keys_text shape) c.in_ok-push_str.ensures.bytes (c.in_ok-push_str-2.ensures.bytes ∙ ap (λ t. head ++ t) c.keys_of.ensures) in
+    let put = with_piece old head keys head_text (keys_text shape) c.in_ok-push_str.ensures.bytes
+    (c.in_ok-push_str-2.ensures.bytes ∙ ap (λ t. head ++ t) c.keys_of.ensures) in
     with_piece old keys (string_bytes c.push_str-3.new.self) _ places_text put c.in_ok-push_str-3.ensures.bytes

@@ -14,7 +14,8 @@ returns-then-is_customer_there c =
 pub returns-in-Some : goal.returns-in-Some
 returns-in-Some c =
     let none : list_any (is_customer_at c.args.bridge c.args.port) c.args.plan.now.customers ≡ false = cc in
-    let found : Some c.in-Some.end.now ≡ first (is_end_at c.args.bridge c.args.port) (all_ends c.args.plan.now) = cc c.in-Some.ensures in
+    let found : Some c.in-Some.end.now ≡ first (is_end_at c.args.bridge c.args.port) (all_ends c.args.plan.now) =
+    cc c.in-Some.ensures in
     c.unwrap_or.ensures ∙ ap (λ (s : PortState). unwrap_or c.args.newest s) c.start_by.ensures
     ∙ sym (newest-other c.args.plan.now c.args.bridge c.args.port c.args.newest (Some c.in-Some.end.now) none found)
 

@@ -4,4 +4,5 @@ use Rattle.pb_lan.specs.Shapes.{states_after}
 use Rattle.pb_lan.proofs.states.start_shape.Given as goal
 
 abbrev pub invariant-loop-place : goal.invariant-loop-place
-invariant-loop-place l = l.states.items ≡ map (λ bridge. states_after l.plan bridge []) (take l.place (numbers_from 1 l.plan.bridges))
+invariant-loop-place l = l.states.items ≡ map (λ bridge. states_after l.plan bridge [])
+    (take l.place (numbers_from 1 l.plan.bridges))

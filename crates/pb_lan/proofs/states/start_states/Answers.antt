@@ -10,5 +10,6 @@ loop-place-preserved c =
     let f = state_after c.args.plan.now c.args.bridge [] in
     let k = c.loop-place.place in
     c.in_ok-push.ensures.items ∙ ap (λ (xs : List PortState). xs ++ c.port_state.result ∷ []) c.loop-place.invariant
-    ∙ ap (λ (s : PortState). map f (take k local_ports) ++ s ∷ []) (c.port_state.ensures ∙ start_newest c.args.plan.now c.args.bridge (k + 1))
+    ∙ ap (λ (s : PortState). map f (take k local_ports) ++ s ∷ [])
+    (c.port_state.ensures ∙ start_newest c.args.plan.now c.args.bridge (k + 1))
     ∙ sym (numbers-more f 1 k local_ports c.loop-place-test.true)

@@ -7,7 +7,8 @@ use Rattle.pb_locate.proofs.header.has_quoted.Given as goal
 
 -- the lines before are not quoted
 abbrev pub invariant-loop-rest : goal.invariant-loop-rest
-invariant-loop-rest l = list_any is_quoted (lines_left (option_map (λ t. t.now) l.rest)) ≡ list_any is_quoted (lines_of l.file)
+invariant-loop-rest l = list_any is_quoted (lines_left (option_map (λ t. t.now) l.rest)) ≡ list_any is_quoted
+    (lines_of l.file)
 
 abbrev pub decreases-loop-rest : goal.decreases-loop-rest
 decreases-loop-rest l = left_of l.rest

@@ -8,5 +8,6 @@ pub loop-i-preserved : goal.loop-i-preserved
 loop-i-preserved c =
     let file = c.args.file.now in
     let i = c.loop-i.i in
-    let none : begins_text (drop i file) ≡ false = ap begins_text (sym (take_rest file i)) ∙ sym c.begins_text.ensures ∙ c.if-begins_text.false in
+    let none : begins_text (drop i file) ≡ false = ap begins_text (sym (take_rest file i)) ∙ sym c.begins_text.ensures
+    ∙ c.if-begins_text.false in
     sym (text_more file i c.loop-i-test.true none) ∙ c.loop-i.invariant

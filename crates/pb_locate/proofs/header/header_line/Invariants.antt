@@ -8,7 +8,8 @@ use Rattle.pb_locate.proofs.header.header_line.Given as goal
 -- among the lines that are left, the header is behind so many others as are left
 abbrev pub invariant-loop-rest : goal.invariant-loop-rest
 invariant-loop-rest l = record {
-  header : slice_get (headers_from l.number l.word (lines_left (option_map (λ t. t.now) l.rest))) l.left ≡ header_line l.word l.others (lines_of l.file);
+  header : slice_get (headers_from l.number l.word (lines_left (option_map (λ t. t.now) l.rest))) l.left ≡ header_line
+      l.word l.others (lines_of l.file);
   within : l.number + left_of l.rest ≤ length l.file + 2;
 }
 

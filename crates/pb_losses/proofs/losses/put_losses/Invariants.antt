@@ -8,5 +8,6 @@ use Rattle.pb_losses.proofs.losses.put_losses.Given as goal
 -- the lines so far, and those of the bridges from here on, are the lines of all bridges
 abbrev pub invariant-loop-bridge : goal.invariant-loop-bridge
 invariant-loop-bridge l =
-    string_bytes l.out ++ flat_map (λ b. bridge_lines b.0.name b.1) (zip (iter_rest (zip_first l.bridge-iterator)) (iter_rest (zip_second l.bridge-iterator)))
+    string_bytes l.out ++ flat_map (λ b. bridge_lines b.0.name b.1)
+    (zip (iter_rest (zip_first l.bridge-iterator)) (iter_rest (zip_second l.bridge-iterator)))
     ≡ string_bytes l.initial.out ++ flat_map (λ b. bridge_lines b.0.name b.1) (zip l.plan.bridges l.tallies.bridges)

@@ -10,6 +10,8 @@ loop-port-preserved c =
     let steps = c.args.tally.now in
     let port = c.loop-port.port in
     let old = string_bytes c.loop-port.out in
-    let put = c.in_ok-put_port.ensures ∙ ap (λ x. old ++ port_lines name port x c.bpdus_not_queued.result) c.copies_not_queued-copies.ensures
+    let put = c.in_ok-put_port.ensures ∙ ap (λ x. old ++ port_lines name port x c.bpdus_not_queued.result)
+    c.copies_not_queued-copies.ensures
     ∙ ap (λ x. old ++ port_lines name port (counts_at port (flat_map refused_by steps)) x) c.bpdus_not_queued.ensures in
-    numbers_more (λ p. port_lines name p (counts_at p (flat_map refused_by steps)) (counts_at p (flat_map dropped_by steps))) port 17 old _ _ c.loop-port-test.true put c.loop-port.invariant
+    numbers_more (λ p. port_lines name p (counts_at p (flat_map refused_by steps))
+    (counts_at p (flat_map dropped_by steps))) port 17 old _ _ c.loop-port-test.true put c.loop-port.invariant

@@ -7,5 +7,8 @@ use Rattle.pb_losses.proofs.losses.put_ports.Given as goal
 -- the lines so far, and those of the ports from here on, are the lines of all ports
 abbrev pub invariant-loop-port : goal.invariant-loop-port
 invariant-loop-port l =
-    string_bytes l.out ++ flat_map (λ port. port_lines l.name port (counts_at port (flat_map refused_by l.tally)) (counts_at port (flat_map dropped_by l.tally))) (range_with_len l.port (17 - l.port))
-    ≡ string_bytes l.initial.out ++ flat_map (λ port. port_lines l.name port (counts_at port (flat_map refused_by l.tally)) (counts_at port (flat_map dropped_by l.tally))) (range_with_len 1 16)
+    string_bytes l.out ++ flat_map (λ port. port_lines l.name port (counts_at port (flat_map refused_by l.tally))
+    (counts_at port (flat_map dropped_by l.tally))) (range_with_len l.port (17 - l.port))
+    ≡ string_bytes l.initial.out
+    ++ flat_map (λ port. port_lines l.name port (counts_at port (flat_map refused_by l.tally))
+    (counts_at port (flat_map dropped_by l.tally))) (range_with_len 1 16)

@@ -5,4 +5,5 @@ use Rattle.pb_naming.proofs.places.customer_at.Given as goal
 
 abbrev pub invariant-loop-customer : goal.invariant-loop-customer
 invariant-loop-customer l =
-    first (is_customer_at l.bridge l.port) (drop l.customer-index l.plan.customers) ≡ first (is_customer_at l.bridge l.port) l.plan.customers
+    first (is_customer_at l.bridge l.port) (drop l.customer-index l.plan.customers) ≡ first
+    (is_customer_at l.bridge l.port) l.plan.customers

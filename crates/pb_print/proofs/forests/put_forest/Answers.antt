@@ -14,7 +14,8 @@ returns c =
         looping = map (λ n. n.now) c.in_ok-names.names.items;
         are = c.in_ok-names.ensures;
         names = names;
-        same = IsPermutation-map (λ n. n.now) c.in_ok-names.names.items c.sort_unstable.new.self.items c.sort_unstable.ensures.permutation;
+        same = IsPermutation-map (λ n. n.now) c.in_ok-names.names.items c.sort_unstable.new.self.items
+            c.sort_unstable.ensures.permutation;
         text_is = refl;
       },
     )) c.put_loops.ensures

@@ -4,4 +4,5 @@ use Rattle.pb_print.proofs.forests.put_loops.Given as goal
 
 abbrev pub invariant-loop-name : goal.invariant-loop-name
 invariant-loop-name l =
-    string_bytes l.out ++ flat_map loop_line (map (λ n. n.now) (drop l.name-index l.names)) ≡ string_bytes l.initial.out ++ flat_map loop_line (map (λ n. n.now) l.names)
+    string_bytes l.out ++ flat_map loop_line (map (λ n. n.now) (drop l.name-index l.names)) ≡ string_bytes
+    l.initial.out ++ flat_map loop_line (map (λ n. n.now) l.names)

@@ -5,4 +5,5 @@ use Rattle.pb_rstp.proofs.network.are_in_line.Given as goal
 
 -- what is left decides
 abbrev pub invariant-loop-bridge : goal.invariant-loop-bridge
-invariant-loop-bridge l = AllByRecursion IsInLine (map (λ m. m.now) (drop l.bridge-index l.bridges)) → AllByRecursion IsInLine (map (λ m. m.now) l.bridges)
+invariant-loop-bridge l = AllByRecursion IsInLine (map (λ m. m.now) (drop l.bridge-index l.bridges))
+    → AllByRecursion IsInLine (map (λ m. m.now) l.bridges)

@@ -5,4 +5,5 @@ use Rattle.pb_rstp.proofs.network.bridge_at.Goals as goal
 
 pub returns : goal.returns
 returns c =
-    ap option_copied (c.copied.ensures ∙ c.numbered.ensures) ∙ sym (numbered-map (λ m. m.now) c.args.bridges.now c.args.number)
+    ap option_copied (c.copied.ensures ∙ c.numbered.ensures)
+    ∙ sym (numbered-map (λ m. m.now) c.args.bridges.now c.args.number)

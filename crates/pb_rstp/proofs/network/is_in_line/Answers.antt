@@ -7,5 +7,8 @@ use Rattle.pb_rstp.proofs.network.is_in_line.Goals as goal
 
 pub returns : goal.returns
 returns c =
-    let line : IsInLine c.args.bridge.now = subst IsInLine c.bridge.view_is c.bridge.invariant.in_line in
-    (λ _. line, λ _. c.are_quiet.ensures ∙ ap (λ ps. list_all is_quiet ps) c.deref.ensures.value ∙ quiet_tests c.bridge.inside.ports.items c.bridge.invariant.in_line.states)
+    let line : IsInLine c.args.bridge.now = subst IsInLine c.bridge.view_is c.bridge.invariant.in_line in (
+      λ _. line,
+      λ _. c.are_quiet.ensures ∙ ap (λ ps. list_all is_quiet ps) c.deref.ensures.value ∙ quiet_tests
+          c.bridge.inside.ports.items c.bridge.invariant.in_line.states,
+    )

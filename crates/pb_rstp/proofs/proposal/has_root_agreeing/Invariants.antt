@@ -4,4 +4,5 @@ use Rattle.pb_rstp.specs.Settling.{is_root_agreeing}
 use Rattle.pb_rstp.proofs.proposal.has_root_agreeing.Given as goal
 
 abbrev pub invariant-loop-p : goal.invariant-loop-p
-invariant-loop-p l = list_any (is_root_agreeing l.number) (drop l.p-index l.ports) ≡ list_any (is_root_agreeing l.number) l.ports
+invariant-loop-p l = list_any (is_root_agreeing l.number) (drop l.p-index l.ports) ≡ list_any
+    (is_root_agreeing l.number) l.ports

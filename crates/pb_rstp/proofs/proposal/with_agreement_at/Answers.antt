@@ -13,5 +13,6 @@ returns-then-has_root_agreeing c =
     c.in_ok-with_agreeing.ensures
     ∙ ap (λ ps. each (agreeing c.args.number) ps) (c.deref-then-has_root_agreeing-2.ensures.value
     ∙ c.in_ok-held.ensures
-    ∙ ap (λ delay. each (synced delay) ports) (c.delay_of.ensures ∙ ap delay_of (c.deref-then-has_root_agreeing.ensures.value ∙ c.in_ok-all.ensures))
+    ∙ ap (λ delay. each (synced delay) ports)
+    (c.delay_of.ensures ∙ ap delay_of (c.deref-then-has_root_agreeing.ensures.value ∙ c.in_ok-all.ensures))
     ∙ ap (λ b. if b then each (synced (delay_of (nows ports))) ports else ports) (sym yes))

@@ -10,4 +10,10 @@ run_opened-ran-requires-clause-count g c = λ lifetimes alive.
 pub returns-in_ok-plug-in-Ok-clause-ok : goal.returns-in_ok-plug-in-Ok-clause-ok
 returns-in_ok-plug-in-Ok-clause-ok g c =
     let network = c.in-Ok.field-0 in
-    on_value c.run_opened-ran.result (λ status ran. inr (record { plan = network.plan; specs = network.ports.items; told = c.in-Ok.ensures.ok; prints = ran })) c.run_opened-ran.ensures.ok
+    on_value c.run_opened-ran.result
+    (λ status ran. inr (record {
+      plan = network.plan;
+      specs = network.ports.items;
+      told = c.in-Ok.ensures.ok;
+      prints = ran;
+    })) c.run_opened-ran.ensures.ok

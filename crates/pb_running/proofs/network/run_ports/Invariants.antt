@@ -7,6 +7,7 @@ use Rattle.pb_running.proofs.network.run_ports.Given as goal
 abbrev pub invariant-loop-port : goal.invariant-loop-port
 invariant-loop-port g l = record {
   count : vec_len l.held ≡ length l.yielded;
-  scripts : map (λ b. (own-1.entry b.vtable).1.script b.value) l.held.items ++ map (λ w. script_at w.port) (into_iter_items l.port-iterator)
+  scripts : map (λ b. (own-1.entry b.vtable).1.script b.value) l.held.items
+      ++ map (λ w. script_at w.port) (into_iter_items l.port-iterator)
       ≡ map (λ w. script_at w.port) (into_iter_items l.initial.port-iterator);
 }

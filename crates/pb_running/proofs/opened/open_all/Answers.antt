@@ -8,4 +8,5 @@ returns-in_err-find_clash-clause-err g c =
 
 pub returns-in_err-shared-in-Some-clause-err : goal.returns-in_err-shared-in-Some-clause-err
 returns-in_err-shared-in-Some-clause-err g c =
-    let p = err_from_is_err_and c.from_residual-in_err-shared-in-Some.result c.from_residual-in_err-shared-in-Some.ensures.1 in rw (p.1, p.2) (_, begun_none _ _)
+    let p = err_from_is_err_and c.from_residual-in_err-shared-in-Some.result
+    c.from_residual-in_err-shared-in-Some.ensures.1 in rw (p.1, p.2) (_, begun_none _ _)

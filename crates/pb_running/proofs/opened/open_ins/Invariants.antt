@@ -7,6 +7,9 @@ use Rattle.pb_running.proofs.opened.open_ins.Given as goal
 
 abbrev pub invariant-loop-spec : goal.invariant-loop-spec
 invariant-loop-spec g l = record {
-  ports : map shown l.ports.items ++ map asked (into_iter_items l.spec-iterator) ≡ map asked (into_iter_items l.initial.spec-iterator);
-  done : Begun (g.O.Openings.done l.initial.opener) (g.O.Openings.done l.opener) (flat_map entering (into_iter_items l.initial.spec-iterator)) (flat_map entering (into_iter_items l.spec-iterator));
+  ports : map shown l.ports.items ++ map asked (into_iter_items l.spec-iterator) ≡ map asked
+      (into_iter_items l.initial.spec-iterator);
+  done : Begun (g.O.Openings.done l.initial.opener) (g.O.Openings.done l.opener)
+      (flat_map entering (into_iter_items l.initial.spec-iterator))
+      (flat_map entering (into_iter_items l.spec-iterator));
 }

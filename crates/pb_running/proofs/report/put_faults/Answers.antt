@@ -4,6 +4,8 @@ use Rattle.pb_running.proofs.report.put_faults.Goals as goal
 
 pub returns-clause-status : goal.returns-clause-status
 returns-clause-status c =
-    told_status (string_bytes c.args.out.now) (string_bytes c.put_port_faults.new.out) (string_bytes c.put_memory_fault.new.out) _ _ _ _
-    c.in_ok-put_port_faults.ensures c.in_ok-put_memory_fault.ensures (ap length c.as_bytes-before.ensures.value) (ap length c.as_bytes.ensures.value)
+    told_status (string_bytes c.args.out.now) (string_bytes c.put_port_faults.new.out)
+    (string_bytes c.put_memory_fault.new.out) _ _ _ _
+    c.in_ok-put_port_faults.ensures c.in_ok-put_memory_fault.ensures (ap length c.as_bytes-before.ensures.value)
+    (ap length c.as_bytes.ensures.value)
     c.if-as_bytes-before.false

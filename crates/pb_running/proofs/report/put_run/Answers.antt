@@ -10,7 +10,8 @@ returns g c =
     let k = c.in_ok-put_record.ensures in
     let faults = fault_lines c.as_slice-customers.result.now c.as_slice-lasts.result.now ++ memory_line ran.settled in (
       ended_line ran.ended ++ k.0 ++ settled_lines ran.settled ++ faults,
-      four_parts _ _ _ _ _ _ _ _ _ c.in_ok-put_ended.ensures k.1 c.in_ok-put_settling.ensures c.in_ok-status.ensures.text,
+      four_parts _ _ _ _ _ _ _ _ _ c.in_ok-put_ended.ensures k.1 c.in_ok-put_settling.ensures
+          c.in_ok-status.ensures.text,
       record {
         told = k.0;
         is_told = k.2;

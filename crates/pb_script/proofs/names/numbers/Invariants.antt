@@ -6,4 +6,5 @@ use Rattle.pb_script.proofs.names.numbers.Given as goal
 
 abbrev pub invariant-loop-place : goal.invariant-loop-place
 invariant-loop-place l =
-    (q : List ℕ) → unwrap_or (get_by (λ k. bytes_eq q k.now) l.numbers) 0 ≡ number_of (λ n. same n.now q) (l.place + 1) (drop l.place l.names)
+    (q : List ℕ) → unwrap_or (get_by (λ k. bytes_eq q k.now) l.numbers) 0 ≡ number_of (λ n. same n.now q)
+    (l.place + 1) (drop l.place l.names)

@@ -16,27 +16,38 @@ loop-index-init c = record { read = rw c.new-events.ensures.items tt }
 
 pub loop-index-preserved : goal.loop-index-preserved
 loop-index-preserved c = record {
-  read = zip_next (λ r x. IsRead (IsEventOf (map (λ n. n.now) c.as_slice-bridges.result.now) c.args.ends.now) event_keys (table_view r.now) x)
-      c.as_slice-rows.result.now c.loop-index.index _ _ _ _ _ c.loop-index-test.true c.index-rows-index.is c.loop-index.invariant.read c.in_ok-event.ensures.ok c.in_ok-put.ensures.ok;
+  read = zip_next (λ r x. IsRead (IsEventOf (map (λ n. n.now) c.as_slice-bridges.result.now) c.args.ends.now)
+      event_keys (table_view r.now) x)
+      c.as_slice-rows.result.now c.loop-index.index _ _ _ _ _ c.loop-index-test.true c.index-rows-index.is
+      c.loop-index.invariant.read c.in_ok-event.ensures.ok c.in_ok-put.ensures.ok;
 }
 
 pub read_event-requires : goal.read_event-requires
 read_event-requires c =
     let names = ap (map (λ n. n.now)) c.as_slice-bridges.ensures.value ∙ c.in_ok-bridge_names.ensures.ok in
-    omega (arith, few_names (table_view c.args.document.now) Bridge c.as_slice-bridges.result.now c.requires.bridges names)
+    omega (
+      arith,
+      few_names (table_view c.args.document.now) Bridge c.as_slice-bridges.result.now c.requires.bridges
+          names,
+    )
 
 pub returns-in_err-bridge_names-clause-err : goal.returns-in_err-bridge_names-clause-err
-returns-in_err-bridge_names-clause-err c = memory_passed _ _ _ (err_from_is_err_and _ c.from_residual-in_err-bridge_names.ensures.1) c.in_err-bridge_names.ensures.err
+returns-in_err-bridge_names-clause-err c =
+    memory_passed _ _ _ (err_from_is_err_and _ c.from_residual-in_err-bridge_names.ensures.1)
+    c.in_err-bridge_names.ensures.err
 
 pub returns-in_err-put-clause-err : goal.returns-in_err-put-clause-err
-returns-in_err-put-clause-err c = memory_passed _ _ _ (err_from_is_err_and _ c.from_residual-in_err-put.ensures.1) c.in_err-put.ensures.err
+returns-in_err-put-clause-err c = memory_passed _ _ _ (err_from_is_err_and _ c.from_residual-in_err-put.ensures.1)
+    c.in_err-put.ensures.err
 
 pub returns-in_err-event-clause-err : goal.returns-in_err-event-clause-err
 returns-in_err-event-clause-err c =
     let rows = ap (map (λ t. table_view t.now)) c.as_slice-rows.ensures.value ∙ c.in_ok-tables.ensures.ok in
     let names = ap (map (λ n. n.now)) c.as_slice-bridges.ensures.value ∙ c.in_ok-bridge_names.ensures.ok in
-    let at = row_at (table_view c.args.document.now) Event c.as_slice-rows.result.now c.loop-index.index _ _ rows c.loop-index-test.true c.index-rows-index.is in
-    event_passed _ _ _ _ _ _ _ names c.requires.ends at (err_from_is_err_and _ c.from_residual-in_err-event.ensures.1) c.in_err-event.ensures.err
+    let at = row_at (table_view c.args.document.now) Event c.as_slice-rows.result.now c.loop-index.index _ _ rows
+    c.loop-index-test.true c.index-rows-index.is in
+    event_passed _ _ _ _ _ _ _ names c.requires.ends at (err_from_is_err_and _ c.from_residual-in_err-event.ensures.1)
+    c.in_err-event.ensures.err
 
 pub returns-clause-ok : goal.returns-clause-ok
 returns-clause-ok c =
@@ -44,4 +55,5 @@ returns-clause-ok c =
     let names = ap (map (λ n. n.now)) c.as_slice-bridges.ensures.value ∙ c.in_ok-bridge_names.ensures.ok in
     events_whole (table_view c.args.document.now) _ _ _ names c.requires.ends
     (zip_all (IsRead (IsEventOf (map (λ n. n.now) c.as_slice-bridges.result.now) c.args.ends.now) event_keys)
-    (table_view c.args.document.now) Event c.as_slice-rows.result.now c.loop-index.index _ (omega arith) rows c.loop-index.invariant.read)
+    (table_view c.args.document.now) Event c.as_slice-rows.result.now c.loop-index.index _ (omega arith) rows
+    c.loop-index.invariant.read)

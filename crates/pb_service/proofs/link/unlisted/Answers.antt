@@ -8,8 +8,10 @@ use Rattle.pb_service.proofs.link.unlisted.Goals as goal
 
 pub returns-then-not-is_one_of-clause-some : goal.returns-then-not-is_one_of-clause-some
 returns-then-not-is_one_of-clause-some c =
-    let own : same c.text_in-name.result.now (text_in (view c.item-item.result)) ≡ true = rw (← c.text_in-name.ensures) (same-self c.text_in-name.result.now) in
+    let own : same c.text_in-name.result.now (text_in (view c.item-item.result)) ≡ true =
+    rw (← c.text_in-name.ensures) (same-self c.text_in-name.result.now) in
     record {
-      stands = any_at (λ d. same c.text_in-name.result.now (text_in d)) c.args.listed.now c.loop-item.item-index _ _ c.loop-item-test.true c.item-item.is own;
+      stands = any_at (λ d. same c.text_in-name.result.now (text_in d)) c.args.listed.now c.loop-item.item-index _ _
+          c.loop-item-test.true c.item-item.is own;
       unknown = sym c.is_one_of.ensures ∙ c.if-not-is_one_of.true;
     }

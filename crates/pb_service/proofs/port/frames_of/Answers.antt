@@ -6,4 +6,5 @@ pub returns-clause-ok : goal.returns-clause-ok
 returns-clause-ok c = frames_end c.args.items.now c.loop-item.item-index _ (omega arith) c.loop-item.invariant
 
 pub frame_of-requires : goal.frame_of-requires
-frame_of-requires c = hex_at c.args.items.now c.loop-item.item-index _ _ _ c.requires c.loop-item-test.true c.item-item.is c.text_in.ensures
+frame_of-requires c = hex_at c.args.items.now c.loop-item.item-index _ _ _ c.requires c.loop-item-test.true
+    c.item-item.is c.text_in.ensures

@@ -4,4 +4,5 @@ use Rattle.pb_service.specs.Tables.{AreFrames}
 use Rattle.pb_service.proofs.port.frames_of.Given as goal
 
 abbrev pub invariant-loop-item : goal.invariant-loop-item
-invariant-loop-item l = (more : List (List ℕ)) → AreFrames (items_view (drop l.item-index l.items)) more → AreFrames (items_view l.items) (l.frames.items ++ more)
+invariant-loop-item l = (more : List (List ℕ)) → AreFrames (items_view (drop l.item-index l.items)) more
+    → AreFrames (items_view l.items) (l.frames.items ++ more)

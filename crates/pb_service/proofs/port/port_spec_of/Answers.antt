@@ -5,4 +5,5 @@ use Rattle.pb_service.proofs.Acceptance.{accepted_frames}
 use Rattle.pb_service.proofs.port.port_spec_of.Goals as goal
 
 pub frames_of-requires : goal.frames_of-requires
-frames_of-requires c = ap (all_items (is_text is_hex)) c.items_at.ensures ∙ accepted_frames (table_view c.args.row.now) c.requires (search rules) (search rules)
+frames_of-requires c = ap (all_items (is_text is_hex)) c.items_at.ensures
+    ∙ accepted_frames (table_view c.args.row.now) c.requires (search rules) (search rules)

@@ -10,9 +10,11 @@ use Rattle.pb_service.proofs.port.read_customers.Given as goal
 
 abbrev pub invariant-loop-index : goal.invariant-loop-index
 invariant-loop-index l = record {
-  read : AllZip (λ r x. IsReadPort (IsCustomerOf (map (λ n. n.now) l.bridges) (map (λ n. n.now) l.services)) (table_view r.now) x) (take l.index l.rows) l.customers.items;
+  read : AllZip (λ r x. IsReadPort (IsCustomerOf (map (λ n. n.now) l.bridges) (map (λ n. n.now) l.services))
+      (table_view r.now) x) (take l.index l.rows) l.customers.items;
   specs : AllZip (λ r x. IsPortSpecOf l.limits (table_view r.now) x) (take l.index l.rows) l.specs.items;
-  used : l.used.items ≡ l.fn.used.items ++ flat_map (customer_ports (map (λ n. n.now) l.bridges)) (map (λ t. table_view t.now) (take l.index l.rows));
+  used : l.used.items ≡ l.fn.used.items ++ flat_map (customer_ports (map (λ n. n.now) l.bridges))
+      (map (λ t. table_view t.now) (take l.index l.rows));
   names : IsDistinct same (take l.index (names_of (table_view l.fn.document) Port));
   once : AreUsedOnce l.used.items;
 }

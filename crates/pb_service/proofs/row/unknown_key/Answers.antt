@@ -6,4 +6,5 @@ pub returns-in-None : goal.returns-in-None
 returns-in-None c = ap (option_map string_bytes) c.in-None.ensures ∙ first_unknown-find _ c.args.table.now.entries
 
 pub returns-in-Some : goal.returns-in-Some
-returns-in-Some c = ap Some c.as_str.ensures.value ∙ ap (option_map string_bytes) c.in-Some.ensures ∙ first_unknown-find _ c.args.table.now.entries
+returns-in-Some c = ap Some c.as_str.ensures.value ∙ ap (option_map string_bytes) c.in-Some.ensures
+    ∙ first_unknown-find _ c.args.table.now.entries

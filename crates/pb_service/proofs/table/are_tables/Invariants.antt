@@ -6,4 +6,5 @@ use Rattle.pb_service.specs.Values.{all_items}
 use Rattle.pb_service.proofs.table.are_tables.Given as goal
 
 abbrev pub invariant-loop-item : goal.invariant-loop-item
-invariant-loop-item l = all_items (λ d. is_some (as_table d)) (items_view l.items) ≡ all_items (λ d. is_some (as_table d)) (items_view (drop l.item-index l.items))
+invariant-loop-item l = all_items (λ d. is_some (as_table d)) (items_view l.items) ≡ all_items
+    (λ d. is_some (as_table d)) (items_view (drop l.item-index l.items))

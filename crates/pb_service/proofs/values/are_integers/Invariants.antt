@@ -6,4 +6,5 @@ use Rattle.pb_service.specs.Values.{all_items}
 use Rattle.pb_service.proofs.values.are_integers.Given as goal
 
 abbrev pub invariant-loop-item : goal.invariant-loop-item
-invariant-loop-item l = all_items (λ e. is_some (as_integer e)) (items_view l.items) ≡ all_items (λ e. is_some (as_integer e)) (items_view (drop l.item-index l.items))
+invariant-loop-item l = all_items (λ e. is_some (as_integer e)) (items_view l.items) ≡ all_items
+    (λ e. is_some (as_integer e)) (items_view (drop l.item-index l.items))

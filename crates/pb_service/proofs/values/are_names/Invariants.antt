@@ -4,4 +4,5 @@ use Rattle.pb_service.specs.Values.{all_items, is_text, is_name}
 use Rattle.pb_service.proofs.values.are_names.Given as goal
 
 abbrev pub invariant-loop-item : goal.invariant-loop-item
-invariant-loop-item l = all_items (is_text is_name) (items_view l.items) ≡ all_items (is_text is_name) (items_view (drop l.item-index l.items))
+invariant-loop-item l = all_items (is_text is_name) (items_view l.items) ≡ all_items (is_text is_name)
+    (items_view (drop l.item-index l.items))

@@ -12,9 +12,11 @@ nothing = record { at = 0; bridge = 0; port = 0; up = false }
 pub loop-event-preserved : goal.loop-event-preserved
 loop-event-preserved c = elim c.if-event-bridge.branch [
   | then-event-bridge+in_ok-push w ↦
-      taken (λ e. e.bridge == c.args.bridge) c.args.events.now c.loop-event.own.items _ c.loop-event.event-index nothing c.loop-event-test.true c.loop-event.invariant (eq-eqb _ _ w.if-event-bridge.true)
+      taken (λ e. e.bridge == c.args.bridge) c.args.events.now c.loop-event.own.items _ c.loop-event.event-index
+      nothing c.loop-event-test.true c.loop-event.invariant (eq-eqb _ _ w.if-event-bridge.true)
       (ap (λ v. v.items) w.own-is ∙ w.in_ok-push.ensures.items)
   | else-event-bridge w ↦
-      left_out (λ e. e.bridge == c.args.bridge) c.args.events.now c.loop-event.own.items _ c.loop-event.event-index nothing c.loop-event-test.true c.loop-event.invariant (ne_eqb _ _ w.if-event-bridge.false)
+      left_out (λ e. e.bridge == c.args.bridge) c.args.events.now c.loop-event.own.items _ c.loop-event.event-index
+      nothing c.loop-event-test.true c.loop-event.invariant (ne_eqb _ _ w.if-event-bridge.false)
       (ap (λ v. v.items) w.own-is)
 ]

@@ -7,9 +7,11 @@ use Rattle.pb_step.proofs.steps.run_steps.Goals as goal
 pub returns-in_err-clone-clause-part : goal.returns-in_err-clone-clause-part
 returns-in_err-clone-clause-part g c =
     let p = err_from_is_err_and c.from_residual.result c.from_residual.ensures.1 in
-    rw p.1 (λ ne. steps_unread p.0 longest_line c.args.plan (g.R.Read.remaining c.args.reader.now) (g.W.Write.contents c.args.writer.now) (λ s. let e = sym p.2 ∙ s in cc))
+    rw p.1 (λ ne. steps_unread p.0 longest_line c.args.plan (g.R.Read.remaining c.args.reader.now)
+    (g.W.Write.contents c.args.writer.now) (λ s. let e = sym p.2 ∙ s in cc))
 
 pub returns-in_err-net-clause-part : goal.returns-in_err-net-clause-part
 returns-in_err-net-clause-part g c =
     let p = err_from_is_err_and c.from_residual-in_err-net.result c.from_residual-in_err-net.ensures.1 in
-    rw p.1 (λ ne. steps_unread p.0 longest_line c.args.plan (g.R.Read.remaining c.args.reader.now) (g.W.Write.contents c.args.writer.now) (λ s. let e = sym p.2 ∙ s in cc))
+    rw p.1 (λ ne. steps_unread p.0 longest_line c.args.plan (g.R.Read.remaining c.args.reader.now)
+    (g.W.Write.contents c.args.writer.now) (λ s. let e = sym p.2 ∙ s in cc))

@@ -5,4 +5,5 @@ use Rattle.pb_steps.proofs.balance.copies.Goals as goal
 
 pub returns-then-is_empty-clause-exact : goal.returns-then-is_empty-clause-exact
 returns-then-is_empty-clause-exact c =
-    c.from.ensures ∙ c.len.ensures.exact ∙ sym (none_refused c.args.chosen.now c.args.refused.now local_ports (search rules) ∙ c.len.ensures.each)
+    c.from.ensures ∙ c.len.ensures.exact
+    ∙ sym (none_refused c.args.chosen.now c.args.refused.now local_ports (search rules) ∙ c.len.ensures.each)

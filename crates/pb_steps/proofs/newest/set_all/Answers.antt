@@ -13,15 +13,20 @@ loop-change-preserved c =
     let i = c.loop-change.invariant in
     elim c.if-place-lt-PLACES.branch [
       | then-place-lt-PLACES w ↦ record {
-        set = rw w.states-is (set_more c.args.states.now c.loop-change.states c.args.changes.now c.loop-change.change-index _ c.from-place.result c.loop-change-test.true c.from-place.ensures i.places i.set);
+        set = rw w.states-is (set_more c.args.states.now c.loop-change.states c.args.changes.now
+            c.loop-change.change-index _ c.from-place.result c.loop-change-test.true c.from-place.ensures i.places
+            i.set);
         places = c.if-place-lt-PLACES.array_long;
       }
       | else-place-lt-PLACES w ↦ record {
-        set = rw w.states-is (set_none c.args.states.now c.loop-change.states c.args.changes.now c.loop-change.change-index _ c.from-place.result c.loop-change-test.true c.from-place.ensures w.if-place-lt-PLACES.false i.set);
+        set = rw w.states-is (set_none c.args.states.now c.loop-change.states c.args.changes.now
+            c.loop-change.change-index _ c.from-place.result c.loop-change-test.true c.from-place.ensures
+            w.if-place-lt-PLACES.false i.set);
         places = c.if-place-lt-PLACES.array_long;
       }
     ]
 
 pub returns : goal.returns
 returns c =
-    subst (λ changes. HaveSet c.args.states.now c.loop-change.states changes) (take_all c.loop-change.change-index c.args.changes.now c.loop-change-test.false) c.loop-change.invariant.set
+    subst (λ changes. HaveSet c.args.states.now c.loop-change.states changes)
+    (take_all c.loop-change.change-index c.args.changes.now c.loop-change-test.false) c.loop-change.invariant.set

@@ -5,4 +5,6 @@ use Rattle.pb_lan.specs.Shapes.{states_after}
 use Rattle.pb_steps.proofs.shape.last_shape.Given as goal
 
 abbrev pub invariant-loop-place : goal.invariant-loop-place
-invariant-loop-place l = l.states.items ≡ map (λ bridge. states_after l.plan bridge (steps_of l.tallies.bridges bridge)) (take l.place (numbers_from 1 l.plan.bridges))
+invariant-loop-place l = l.states.items ≡ map
+    (λ bridge. states_after l.plan bridge (steps_of l.tallies.bridges bridge))
+    (take l.place (numbers_from 1 l.plan.bridges))

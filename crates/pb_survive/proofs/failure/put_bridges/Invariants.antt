@@ -5,4 +5,5 @@ use Rattle.pb_survive.proofs.failure.put_bridges.Given as goal
 
 abbrev pub invariant-loop-place : goal.invariant-loop-place
 invariant-loop-place l =
-    l.failures.items ++ map Bridge (numbers_from (l.place + 1) (drop l.place l.bridges)) ≡ l.initial.failures.items ++ map Bridge (numbers_from 1 l.bridges)
+    l.failures.items ++ map Bridge (numbers_from (l.place + 1) (drop l.place l.bridges)) ≡ l.initial.failures.items
+    ++ map Bridge (numbers_from 1 l.bridges)

@@ -5,4 +5,5 @@ use Rattle.pb_survive.proofs.failure.put_pairs.Given as goal
 
 abbrev pub invariant-loop-place : goal.invariant-loop-place
 invariant-loop-place l =
-    l.failures.items ++ pairs_of (numbers_from (l.place + 1) (drop l.place l.links)) ≡ l.initial.failures.items ++ pairs_of (numbers_from 1 l.links)
+    l.failures.items ++ pairs_of (numbers_from (l.place + 1) (drop l.place l.links)) ≡ l.initial.failures.items
+    ++ pairs_of (numbers_from 1 l.links)

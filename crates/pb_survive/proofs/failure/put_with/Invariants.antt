@@ -5,4 +5,5 @@ use Rattle.pb_survive.proofs.failure.put_with.Given as goal
 
 abbrev pub invariant-loop-place : goal.invariant-loop-place
 invariant-loop-place l =
-    l.failures.items ++ map (Pair l.link) (numbers_from (l.before + l.place + 1) (drop l.place l.later)) ≡ l.initial.failures.items ++ map (Pair l.link) (numbers_from (l.before + 1) l.later)
+    l.failures.items ++ map (Pair l.link) (numbers_from (l.before + l.place + 1) (drop l.place l.later))
+    ≡ l.initial.failures.items ++ map (Pair l.link) (numbers_from (l.before + 1) l.later)

@@ -11,4 +11,5 @@ returns-in-Ok g c =
     let found = c.in-Ok.ensures in
     let chain = rw (c.map.ensures.base, c.map.ensures.f, c.with_min_len.ensures.base) at found.1 in
     gathered is_outcome (λ v. v.items) failures found.0 c.in-Ok.outcomes
-    (slice-AllZip chain.0 failures (chain.1 ∙ c.par_iter.ensures) (λ x r. IfOk r (is_outcome x)) found.0 chain.2) found.2
+    (slice-AllZip chain.0 failures (chain.1 ∙ c.par_iter.ensures) (λ x r. IfOk r (is_outcome x)) found.0 chain.2)
+    found.2

@@ -11,5 +11,6 @@ loop-mark-preserved c =
     let within : i < length old = omega arith in
     let here : i < length marks = omega arith in
     ap (λ v. slice_set marks i v) c.replaced.ensures
-    ∙ map_over_more (λ m. cond (nat_eq m (get_or old c.args.from 0)) (get_or old c.args.into 0) m) old marks i (get_or marks i 0)
+    ∙ map_over_more (λ m. cond (nat_eq m (get_or old c.args.from 0)) (get_or old c.args.into 0) m) old marks i
+    (get_or marks i 0)
     within c.loop-mark.invariant (get_or_default marks i 0 (get_or marks i 0) here)

@@ -11,10 +11,12 @@ pub returns : goal.returns
 returns c =
     let old = string_bytes c.args.out.now in
     let start = string_bytes c.write.new.self in
-    let told = λ (before now : List Site). flat_map (lost_text c.args.plan.now (Some c.args.port) (zip before now)) (zip before now) in
+    let told = λ (before now : List Site). flat_map (lost_text c.args.plan.now (Some c.args.port) (zip before now))
+    (zip before now) in
     let pairs = zip c.args.old.now.sites c.args.new.now.sites in
     let lost = flat_map (lost_text c.args.plan.now (Some c.args.port) pairs) pairs in
-    let head : string_bytes c.write.new.self ≡ old ++ (codes "  " ++ (port_name c.args.plan.now c.args.port ++ codes " cut off from:")) =
+    let head : string_bytes c.write.new.self ≡ old
+    ++ (codes "  " ++ (port_name c.args.plan.now c.args.port ++ codes " cut off from:")) =
     c.in_ok-write.ensures.bytes ∙ ap (λ n. old ++ (codes "  " ++ (n ++ codes " cut off from:"))) c.port_name.ensures in
     c.in_ok-push_str.ensures.bytes
     ∙ ap (λ z. z ++ 10 ∷ []) c.in_ok-put_lost.ensures

@@ -4,4 +4,5 @@ use Rattle.pb_survive.proofs.report.put_group.Given as goal
 
 abbrev pub invariant-loop-site : goal.invariant-loop-site
 invariant-loop-site l =
-    string_bytes l.out ++ flat_map (member_text l.plan l.group) (drop l.site-index l.sites) ≡ string_bytes l.initial.out ++ group_text l.plan l.sites l.group
+    string_bytes l.out ++ flat_map (member_text l.plan l.group) (drop l.site-index l.sites) ≡ string_bytes
+    l.initial.out ++ group_text l.plan l.sites l.group

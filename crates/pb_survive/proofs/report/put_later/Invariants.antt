@@ -4,4 +4,5 @@ use Rattle.pb_survive.proofs.report.put_later.Given as goal
 
 abbrev pub invariant-loop-site : goal.invariant-loop-site
 invariant-loop-site l =
-    string_bytes l.out ++ flat_map (later_text l.plan l.sites) (drop l.site-index l.later) ≡ string_bytes l.initial.out ++ flat_map (later_text l.plan l.sites) l.later
+    string_bytes l.out ++ flat_map (later_text l.plan l.sites) (drop l.site-index l.later) ≡ string_bytes
+    l.initial.out ++ flat_map (later_text l.plan l.sites) l.later

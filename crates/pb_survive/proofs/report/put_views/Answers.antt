@@ -14,7 +14,8 @@ loop-place-preserved c =
     let later = zip (drop (i + 1) old) (drop (i + 1) new) in
     let before : i < length old = omega (arith, c.loop-place-test.true, c.min-place-end.ensures) in
     let now : i < length new = omega (arith, c.loop-place-test.true, c.min-place-end.ensures) in
-    text_more (view_text c.args.plan.now c.args.from) (string_bytes c.args.out.now) (string_bytes c.loop-place.out) (string_bytes c.put_view.new.out)
+    text_more (view_text c.args.plan.now c.args.from) (string_bytes c.args.out.now) (string_bytes c.loop-place.out)
+    (string_bytes c.put_view.new.out)
     (was, is) (zip (drop i old) (drop i new)) later (zip old new)
     (zip_there old new i was is before now
     ∙ ap (λ v. (v, get_or new i is) ∷ later) (sym c.index-old-place.is)

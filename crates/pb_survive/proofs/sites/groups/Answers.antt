@@ -14,9 +14,12 @@ returns c =
     let marks : AreMarks plan shape vid c.marks-marks.result =
     subst (λ v. AreMarks plan shape v c.marks-marks.result) c.vid_numbered.ensures
     (record { sound = c.requires; joined = c.marks-marks.ensures.joined; below = c.marks-marks.ensures.below }) in
-    let ports : c.as_slice.result.now ≡ ports_of plan c.args.service = c.as_slice.ensures.value ∙ c.in_ok-ports.ensures in
-    IfOk-weaker c.sites_of.result (λ sites. sites.items ≡ map (site_of color c.as_slice.result.now) c.as_slice.result.now)
+    let ports : c.as_slice.result.now ≡ ports_of plan c.args.service = c.as_slice.ensures.value
+    ∙ c.in_ok-ports.ensures in
+    IfOk-weaker c.sites_of.result
+    (λ sites. sites.items ≡ map (site_of color c.as_slice.result.now) c.as_slice.result.now)
     (λ sites. AreGroups plan shape c.args.failure c.args.service vid sites.items)
-    (λ sites e. subst (λ z. AreGroups plan shape c.args.failure c.args.service vid z) (sym (e ∙ ap (λ ps. map (site_of color ps) ps) ports))
+    (λ sites e. subst (λ z. AreGroups plan shape c.args.failure c.args.service vid z)
+    (sym (e ∙ ap (λ ps. map (site_of color ps) ps) ports))
     (groups_are plan shape c.args.failure c.args.service vid c.marks-marks.result marks))
     c.sites_of.ensures

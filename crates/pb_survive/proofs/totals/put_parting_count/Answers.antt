@@ -7,4 +7,6 @@ use Rattle.pb_survive.proofs.totals.put_parting_count.Goals as goal
 pub returns : goal.returns
 returns c =
     c.in_ok-writeln.ensures.bytes
-    ∙ ap (λ z. string_bytes c.args.out.now ++ z) (sym (regroup (decimal c.args.parting) (codes " of ") (decimal c.args.all) (codes " failures part a service") (10 ∷ [])))
+    ∙ ap (λ z. string_bytes c.args.out.now ++ z)
+    (sym (regroup (decimal c.args.parting) (codes " of ") (decimal c.args.all) (codes " failures part a service")
+    (10 ∷ [])))

@@ -7,4 +7,6 @@ use Rattle.pb_survive.proofs.totals.put_quiet_count.Goals as goal
 pub returns : goal.returns
 returns c =
     c.in_ok-writeln.ensures.bytes
-    ∙ ap (λ z. string_bytes c.args.out.now ++ z) (sym (regroup_six (decimal c.args.quiet) (codes " of ") (decimal c.args.all) (codes " failures part nothing, ticks at most ") (decimal c.args.ticks) (10 ∷ [])))
+    ∙ ap (λ z. string_bytes c.args.out.now ++ z)
+    (sym (regroup_six (decimal c.args.quiet) (codes " of ") (decimal c.args.all)
+    (codes " failures part nothing, ticks at most ") (decimal c.args.ticks) (10 ∷ [])))

@@ -9,4 +9,5 @@ within i n h = grind (arith, nat_tests)
 pub returns-in-Some : goal.returns-in-Some
 returns-in-Some c =
     let there = c.in-Some.ensures.lookup in
-    sym (found-there c.args.ports.now c.from.result c.args.port c.in-Some.attachment.now c.requires (within _ _ there.0) there.1 c.if-attachment-port.true)
+    sym (found-there c.args.ports.now c.from.result c.args.port c.in-Some.attachment.now c.requires
+    (within _ _ there.0) there.1 c.if-attachment-port.true)

@@ -12,7 +12,9 @@ loop-place-preserved c =
     let p = c.loop-place.place - 1 in
     let inside : p < length chosen = omega arith in
     let next : c.loop-place.place ≡ p + 1 = omega arith in
-    let before : c.loop-place.todo.items ≡ old ++ sendings bridge refused (drop (p + 1) chosen) = c.loop-place.invariant ∙ ap (λ n. old ++ sendings bridge refused (drop n chosen)) next in
+    let before : c.loop-place.todo.items ≡ old ++ sendings bridge refused (drop (p + 1) chosen) =
+    c.loop-place.invariant ∙ ap (λ n. old ++ sendings bridge refused (drop n chosen)) next in
     let here = copies_of bridge refused (get_or chosen p 0) in
-    c.in_ok-push_sending.ensures ∙ ap (λ z. z ++ here) before ∙ append_assoc old (sendings bridge refused (drop (p + 1) chosen)) here
+    c.in_ok-push_sending.ensures ∙ ap (λ z. z ++ here) before
+    ∙ append_assoc old (sendings bridge refused (drop (p + 1) chosen)) here
     ∙ sym (ap (λ xs. old ++ sendings bridge refused xs) (from_one chosen p 0 inside))

@@ -6,5 +6,10 @@ pub returns : goal.returns
 returns c = (
   entry_line c.args.plan.now c.args.port c.newest.result.1.now,
   c.in_ok-put_entry.ensures,
-  record { step = c.newest.result.1.now; newest = c.newest.ensures.newest; number_is = c.entry_number.ensures; text_is = refl },
+  record {
+    step = c.newest.result.1.now;
+    newest = c.newest.ensures.newest;
+    number_is = c.entry_number.ensures;
+    text_is = refl;
+  },
 )

@@ -16,4 +16,9 @@ pub returns-in-Ok-Done-clause-ok : goal.returns-in-Ok-Done-clause-ok
 returns-in-Ok-Done-clause-ok c =
     let h = rw c.in-Ok-Done.field-0-is at c.in-Ok-Done.ensures in
     IfOk-weaker c.follow.result _ _
-    (λ fate f. (f.0, f.1, frame_followed c.args.plan.now c.args.port c.args.frame fate c.in-Ok-Done.field-0-0 c.args.net.now c.step.new.self c.follow.new.net f.0 h f.2)) c.follow.ensures.ok
+    (λ fate f. (
+      f.0,
+      f.1,
+      frame_followed c.args.plan.now c.args.port c.args.frame fate c.in-Ok-Done.field-0-0
+          c.args.net.now c.step.new.self c.follow.new.net f.0 h f.2,
+    )) c.follow.ensures.ok

@@ -10,8 +10,11 @@ returns-in-GoesRound-clause-ok c =
     let entry = c.index-entries-index.result in
     let before = c.loop-index.invariant.told in
     let f = rw c.in-GoesRound.is at c.in_ok-trace_entry.ensures.ok in
-    round_told plan c.args.entries.now c.loop-index.index entry (record { port = c.port_named-port.result; number = c.in-GoesRound.number }) c.args.net.now c.loop-index.net c.trace_entry.new.net
-    (string_bytes c.args.out.now) before.0 f.0 (string_bytes c.loop-index.out) (string_bytes c.trace_entry.new.out) c.loop-index-test.true c.index-entries-index.is before.1 before.2 f.1 f.2
+    round_told plan c.args.entries.now c.loop-index.index entry
+    (record { port = c.port_named-port.result; number = c.in-GoesRound.number }) c.args.net.now c.loop-index.net
+    c.trace_entry.new.net
+    (string_bytes c.args.out.now) before.0 f.0 (string_bytes c.loop-index.out) (string_bytes c.trace_entry.new.out)
+    c.loop-index-test.true c.index-entries-index.is before.1 before.2 f.1 f.2
     (c.port_named-port.ensures ∙ ap (λ t. port_named plan t) c.as_str.ensures.value)
 
 pub returns-in-NoPort-clause-ok : goal.returns-in-NoPort-clause-ok
@@ -24,7 +27,8 @@ returns-in-NoPort-clause-ok c =
       (
         entry,
         here_is c.args.entries.now c.loop-index.index entry c.loop-index-test.true c.index-entries-index.is,
-        entry_lacks_port c.args.plan.now entry c.loop-index.net c.trace_entry.new.net f.0 c.loop-index.invariant.plan f.2,
+        entry_lacks_port c.args.plan.now entry c.loop-index.net c.trace_entry.new.net f.0 c.loop-index.invariant.plan
+            f.2,
       ),
     )
 
@@ -48,7 +52,10 @@ loop-index-preserved c =
     let before = c.loop-index.invariant.told in
     let f = rw c.in-Ended.is at c.in_ok-trace_entry.ensures.ok in
     record {
-      told = stories-more c.args.plan.now c.args.entries.now c.loop-index.index entry c.args.net.now c.loop-index.net c.trace_entry.new.net
-          (string_bytes c.args.out.now) before.0 f.0 (string_bytes c.loop-index.out) (string_bytes c.trace_entry.new.out) c.loop-index-test.true c.index-entries-index.is before.1 before.2 f.1 f.2;
+      told = stories-more c.args.plan.now c.args.entries.now c.loop-index.index entry c.args.net.now c.loop-index.net
+          c.trace_entry.new.net
+          (string_bytes c.args.out.now) before.0 f.0 (string_bytes c.loop-index.out)
+          (string_bytes c.trace_entry.new.out) c.loop-index-test.true c.index-entries-index.is before.1 before.2
+          f.1 f.2;
       plan = c.in_ok-trace_entry.ensures.plan;
     }

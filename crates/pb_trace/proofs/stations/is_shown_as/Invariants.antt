@@ -5,4 +5,5 @@ use Rattle.pb_trace.proofs.stations.is_shown_as.Given as goal
 
 abbrev pub invariant-loop-step : goal.invariant-loop-step
 invariant-loop-step l =
-    list_any (shows l.plan l.bridge l.vid l.address) (drop l.step-index l.steps) ≡ list_any (shows l.plan l.bridge l.vid l.address) l.steps
+    list_any (shows l.plan l.bridge l.vid l.address) (drop l.step-index l.steps) ≡ list_any
+    (shows l.plan l.bridge l.vid l.address) l.steps

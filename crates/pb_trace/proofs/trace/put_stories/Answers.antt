@@ -10,6 +10,16 @@ returns-in_ok-put_end-in-Told c =
     let last = c.travel.new.net in
     let end = end_lines c.args.plan.now last.rec c.in-Told.round in (
       b.0 ++ t.0 ++ end,
-      join_three (string_bytes c.args.out.now) b.0 t.0 end (string_bytes c.begin.new.out) (string_bytes c.travel.new.out) (string_bytes c.put_end.new.out) b.1 t.1 c.in_ok-put_end-in-Told.ensures,
-      record { head = b.0; rested = c.begin.new.net; begun = b.2; round = c.in-Told.round; last = last; body = t.0; stories = t.2; text_is = refl },
+      join_three (string_bytes c.args.out.now) b.0 t.0 end (string_bytes c.begin.new.out)
+          (string_bytes c.travel.new.out) (string_bytes c.put_end.new.out) b.1 t.1 c.in_ok-put_end-in-Told.ensures,
+      record {
+        head = b.0;
+        rested = c.begin.new.net;
+        begun = b.2;
+        round = c.in-Told.round;
+        last = last;
+        body = t.0;
+        stories = t.2;
+        text_is = refl;
+      },
     )

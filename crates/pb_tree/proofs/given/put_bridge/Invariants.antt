@@ -6,4 +6,6 @@ use Rattle.pb_tree.proofs.given.put_bridge.Given as goal
 
 abbrev pub invariant-loop-place : goal.invariant-loop-place
 invariant-loop-place l =
-    string_bytes l.out ++ flat_map (given_port_line l.plan l.shape l.bridge) (numbers_from (l.place + 1) (drop l.place local_ports)) ≡ string_bytes l.fn.out ++ given_bridge_lines l.plan l.shape l.bridge
+    string_bytes l.out ++ flat_map (given_port_line l.plan l.shape l.bridge)
+    (numbers_from (l.place + 1) (drop l.place local_ports)) ≡ string_bytes l.fn.out
+    ++ given_bridge_lines l.plan l.shape l.bridge

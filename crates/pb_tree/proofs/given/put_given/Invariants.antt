@@ -5,4 +5,6 @@ use Rattle.pb_tree.proofs.given.put_given.Given as goal
 
 abbrev pub invariant-loop-place : goal.invariant-loop-place
 invariant-loop-place l =
-    string_bytes l.out ++ flat_map (given_bridge_lines l.plan l.shape) (numbers_from (l.place + 1) (drop l.place l.plan.bridges)) ≡ string_bytes l.initial.out ++ given_lines l.plan l.shape
+    string_bytes l.out ++ flat_map (given_bridge_lines l.plan l.shape)
+    (numbers_from (l.place + 1) (drop l.place l.plan.bridges)) ≡ string_bytes l.initial.out
+    ++ given_lines l.plan l.shape

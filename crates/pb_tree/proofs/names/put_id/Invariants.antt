@@ -5,4 +5,5 @@ use Rattle.pb_tree.proofs.names.put_id.Given as goal
 
 abbrev pub invariant-loop-bridge : goal.invariant-loop-bridge
 invariant-loop-bridge l =
-    (first (λ b. plan_id b == l.id) (drop l.bridge-index l.plan.bridges) ≡ first (λ b. plan_id b == l.id) l.plan.bridges) × (string_bytes l.out ≡ string_bytes l.initial.out)
+    (first (λ b. plan_id b == l.id) (drop l.bridge-index l.plan.bridges) ≡ first (λ b. plan_id b == l.id)
+    l.plan.bridges) × (string_bytes l.out ≡ string_bytes l.initial.out)

@@ -4,4 +4,5 @@ use Rattle.pb_tree.proofs.protocol.put_ports.Given as goal
 
 abbrev pub invariant-loop-place : goal.invariant-loop-place
 invariant-loop-place l =
-    string_bytes l.out ++ flat_map (port_line l.plan l.bridge l.machine) (drop l.place l.machine.ports) ≡ string_bytes l.initial.out ++ flat_map (port_line l.plan l.bridge l.machine) l.machine.ports
+    string_bytes l.out ++ flat_map (port_line l.plan l.bridge l.machine) (drop l.place l.machine.ports) ≡ string_bytes
+    l.initial.out ++ flat_map (port_line l.plan l.bridge l.machine) l.machine.ports

@@ -20,7 +20,10 @@ loop-place-preserved c =
     let plan = c.args.plan.now in
     let n = c.loop-place.place + 1 in
     let rstp = ap (λ p. p.spanning) c.requires.plan ∙ c.requires.protocol in
-    let m_is = machine_is net.plan n (steps_of net.rec.bridges n) c.in-Some.machine.now rstp c.in-Some.ensures ∙ ap (λ p. machine_of p n (steps_of net.rec.bridges n)) c.requires.plan in
-    let grown : string_bytes c.put_tree.new.out ≡ string_bytes c.loop-place.out ++ own_lines plan net.rec n = c.in_ok-put_tree.ensures ∙ ap (λ m. string_bytes c.loop-place.out ++ bridge_lines plan n m) m_is in
-    numbers_more (own_lines plan net.rec) plan.bridges c.loop-place.place (string_bytes c.loop-place.out) (string_bytes c.put_tree.new.out) _
+    let m_is = machine_is net.plan n (steps_of net.rec.bridges n) c.in-Some.machine.now rstp c.in-Some.ensures
+    ∙ ap (λ p. machine_of p n (steps_of net.rec.bridges n)) c.requires.plan in
+    let grown : string_bytes c.put_tree.new.out ≡ string_bytes c.loop-place.out ++ own_lines plan net.rec n =
+    c.in_ok-put_tree.ensures ∙ ap (λ m. string_bytes c.loop-place.out ++ bridge_lines plan n m) m_is in
+    numbers_more (own_lines plan net.rec) plan.bridges c.loop-place.place (string_bytes c.loop-place.out)
+    (string_bytes c.put_tree.new.out) _
     (subst (λ k. c.loop-place.place < k) c.len-place-end.ensures c.loop-place-test.true) grown c.loop-place.invariant

@@ -5,4 +5,6 @@ use Rattle.pb_tree.proofs.protocol.put_protocol.Given as goal
 
 abbrev pub invariant-loop-place : goal.invariant-loop-place
 invariant-loop-place l =
-    string_bytes l.out ++ flat_map (own_lines l.plan l.net.rec) (numbers_from (l.place + 1) (drop l.place l.plan.bridges)) ≡ string_bytes l.initial.out ++ protocol_lines l.plan l.net.rec
+    string_bytes l.out ++ flat_map (own_lines l.plan l.net.rec)
+    (numbers_from (l.place + 1) (drop l.place l.plan.bridges)) ≡ string_bytes l.initial.out
+    ++ protocol_lines l.plan l.net.rec

@@ -5,4 +5,5 @@ use Rattle.pb_tree.proofs.protocol.put_root_port.Given as goal
 
 abbrev pub invariant-loop-port : goal.invariant-loop-port
 invariant-loop-port l =
-    (first (λ p. is_root p.1) (drop l.port-index l.roles) ≡ first (λ p. is_root p.1) l.roles) × (string_bytes l.out ≡ string_bytes l.initial.out)
+    (first (λ p. is_root p.1) (drop l.port-index l.roles) ≡ first (λ p. is_root p.1) l.roles)
+    × (string_bytes l.out ≡ string_bytes l.initial.out)

@@ -9,11 +9,13 @@ loop-place-preserved c =
     let old = string_bytes c.args.out.now in (
       before.0 ++ here.0,
       here.1 ∙ ap (λ z. z ++ here.0) before.1 ∙ append_assoc old before.0 here.0,
-      λ rest are. services_more c.args.plan.now c.args.shape.now c.loop-place.place before.0 here.0 rest here.2 before.2 are,
+      λ rest are. services_more c.args.plan.now c.args.shape.now c.loop-place.place before.0 here.0 rest here.2
+          before.2 are,
     )
 
 pub returns : goal.returns
 returns c =
     let before = c.loop-place.invariant in
-    let past : length c.args.plan.now.services ≤ c.loop-place.place = subst (λ k. k ≤ c.loop-place.place) c.len-place-end.ensures c.loop-place-test.false in
+    let past : length c.args.plan.now.services ≤ c.loop-place.place = subst (λ k. k ≤ c.loop-place.place)
+    c.len-place-end.ensures c.loop-place-test.false in
     (before.0, before.1, services_end c.args.plan.now c.args.shape.now c.loop-place.place before.0 past before.2)

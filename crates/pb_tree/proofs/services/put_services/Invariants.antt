@@ -6,4 +6,5 @@ use Rattle.pb_tree.proofs.services.put_services.Given as goal
 abbrev pub invariant-loop-place : goal.invariant-loop-place
 invariant-loop-place l =
     (done : List ℕ) × (string_bytes l.out ≡ string_bytes l.initial.out ++ done)
-    × ((rest : List ℕ) → AreServiceTexts l.plan l.shape (drop l.place l.plan.services) rest → AreServiceTexts l.plan l.shape l.plan.services (done ++ rest))
+    × ((rest : List ℕ) → AreServiceTexts l.plan l.shape (drop l.place l.plan.services) rest → AreServiceTexts l.plan
+    l.shape l.plan.services (done ++ rest))

@@ -5,4 +5,6 @@ use Rattle.pb_tree.proofs.services.put_ups.Given as goal
 
 abbrev pub invariant-loop-place : goal.invariant-loop-place
 invariant-loop-place l =
-    string_bytes l.out ++ flat_map (up_line l.plan l.service l.rooted) (numbers_from (l.place + 1) (drop l.place l.plan.bridges)) ≡ string_bytes l.initial.out ++ up_lines l.plan l.service l.rooted
+    string_bytes l.out ++ flat_map (up_line l.plan l.service l.rooted)
+    (numbers_from (l.place + 1) (drop l.place l.plan.bridges)) ≡ string_bytes l.initial.out
+    ++ up_lines l.plan l.service l.rooted

@@ -13,6 +13,8 @@ returns c =
     let f = c.in_ok-put_forest.ensures in
     on_ok_weaker c.put_services.result (λ s. (
       given ++ f.0 ++ s.0,
-      join_three old given f.0 s.0 (string_bytes c.put_given.new.out) (string_bytes c.put_forest.new.out) (string_bytes c.put_services.new.out) c.in_ok-put_given.ensures f.1 s.1,
-      subst (λ sh. IsGivenText plan sh (given ++ f.0 ++ s.0)) c.in_ok-shape.ensures (record { forest = f.0; is_forest = f.2; services = s.0; are_services = s.2; text_is = refl }),
+      join_three old given f.0 s.0 (string_bytes c.put_given.new.out) (string_bytes c.put_forest.new.out)
+          (string_bytes c.put_services.new.out) c.in_ok-put_given.ensures f.1 s.1,
+      subst (λ sh. IsGivenText plan sh (given ++ f.0 ++ s.0)) c.in_ok-shape.ensures
+          (record { forest = f.0; is_forest = f.2; services = s.0; are_services = s.2; text_is = refl }),
     )) c.put_services.ensures

@@ -17,8 +17,14 @@ returns-in_ok-put_protocol-in-Rstp c =
     let trees = protocol_lines plan rec in
     on_ok_weaker c.put_last_forest.result (λ f. (
       front ++ trees ++ f.0,
-      join_three (string_bytes c.args.out.now) front trees f.0 (string_bytes c.put_rest.new.out) (string_bytes c.put_protocol.new.out) (string_bytes c.put_last_forest.new.out)
+      join_three (string_bytes c.args.out.now) front trees f.0 (string_bytes c.put_rest.new.out)
+          (string_bytes c.put_protocol.new.out) (string_bytes c.put_last_forest.new.out)
           c.in_ok-put_rest-in-Rstp.ensures c.in_ok-put_protocol-in-Rstp.ensures f.1,
       protocol_tree plan rec plan.spanning rest (front ++ trees ++ f.0) c.requires.rest c.in-Rstp.is
-          (record { forest = f.0; is_forest = subst (λ x. IsForestText plan (last_shape plan x) f.0) c.finish-in-Rstp.ensures.record f.2; text_is = refl }),
+          (record {
+            forest = f.0;
+            is_forest = subst (λ x. IsForestText plan (last_shape plan x) f.0)
+                c.finish-in-Rstp.ensures.record f.2;
+            text_is = refl;
+          }),
     )) c.put_last_forest.ensures

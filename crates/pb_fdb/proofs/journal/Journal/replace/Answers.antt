@@ -18,20 +18,39 @@ invariant_of-self-2 c =
     let log = c.make_room.new.log in
     let xs = stations log.items in
     let count = length-map log.items (λ p. p.station) in
-    let put = stations-put log.items c.push_back_reserved.new.self.items c.new.result key c.push_back_reserved.ensures.items c.new.ensures.station in
-    let new : LastSeen = record { at = place_after at c.len-2.result; learnt = c.args.entry.learnt; port = c.args.entry.port } in
-    let each = subst (λ xs. HasEach f (entries_from f at xs)) (sym (ap stations c.make_room.ensures.items)) c.self.invariant.each in
+    let put = stations-put log.items c.push_back_reserved.new.self.items c.new.result key
+    c.push_back_reserved.ensures.items c.new.ensures.station in
+    let new : LastSeen = record {
+      at = place_after at c.len-2.result;
+      learnt = c.args.entry.learnt;
+      port = c.args.entry.port;
+    } in
+    let each = subst (λ xs. HasEach f (entries_from f at xs)) (sym (ap stations c.make_room.ensures.items))
+    c.self.invariant.each in
     let noted : IsIndexWith key (Some new) f g = c.in_ok-slot.ensures.updates.0 in
     let below : at < 2 ^ 64 = omega (arith, c.self.ranges) in
     let fits : length xs < 2 ^ 64 = omega (arith, count, log.small.0, log.small.1, log.ok.0) in
-    let entries = ap (entries_from g at) put ∙ entries-put f g key new at xs noted below fits (ap (place_after at) (c.len-2.ensures ∙ log.ok.0 ∙ sym count)) in
-    let before = ap (λ ps. length (entries_from f at (stations ps))) c.make_room.ensures.items ∙ c.self.invariant.counted in
+    let entries = ap (entries_from g at) put ∙ entries-put f g key new at xs noted below fits
+    (ap (place_after at) (c.len-2.ensures ∙ log.ok.0 ∙ sym count)) in
+    let before = ap (λ ps. length (entries_from f at (stations ps))) c.make_room.ensures.items
+    ∙ c.self.invariant.counted in
     let more = one-more f at xs key (entry_of key new) each in
     let old = ap {B = ℕ} (λ o. cond (is_some o) 0 1) c.in_ok-slot.ensures.old in
     record {
       each = subst (HasEach g) (sym entries) (each-with f g key new noted (entries_from f at xs) each);
       counted = omega (arith, ap length entries, more, before, old, c.in_ok-slot.ensures.len);
-      roomy = omega (arith, c.in_ok-make_room.ensures.room, c.len.ensures.len, ap length entries, more, before, old, one_at_most c.in_ok-slot.field-0-1, c.in_ok-slot.ensures.len, c.push_back_reserved.ensures.capacity);
+      roomy = omega (
+        arith,
+        c.in_ok-make_room.ensures.room,
+        c.len.ensures.len,
+        ap length entries,
+        more,
+        before,
+        old,
+        one_at_most c.in_ok-slot.field-0-1,
+        c.in_ok-slot.ensures.len,
+        c.push_back_reserved.ensures.capacity,
+      );
     }
 
 pub returns-clause-ok : goal.returns-clause-ok
@@ -43,11 +62,18 @@ returns-clause-ok c =
     let log = c.make_room.new.log in
     let xs = stations log.items in
     let count = length-map log.items (λ p. p.station) in
-    let put = stations-put log.items c.push_back_reserved.new.self.items c.new.result key c.push_back_reserved.ensures.items c.new.ensures.station in
-    let new : LastSeen = record { at = place_after at c.len-2.result; learnt = c.args.entry.learnt; port = c.args.entry.port } in
+    let put = stations-put log.items c.push_back_reserved.new.self.items c.new.result key
+    c.push_back_reserved.ensures.items c.new.ensures.station in
+    let new : LastSeen = record {
+      at = place_after at c.len-2.result;
+      learnt = c.args.entry.learnt;
+      port = c.args.entry.port;
+    } in
     let noted : IsIndexWith key (Some new) f g = c.in_ok-slot.ensures.updates.0 in
     let below : at < 2 ^ 64 = omega (arith, c.self.ranges) in
     let fits : length xs < 2 ^ 64 = omega (arith, count, log.small.0, log.small.1, log.ok.0) in
-    ap (entries_from g at) put ∙ entries-put f g key new at xs noted below fits (ap (place_after at) (c.len-2.ensures ∙ log.ok.0 ∙ sym count))
-    ∙ ap (λ ps. filter (λ e. not (is_of key e)) (entries_from f at (stations ps)) ++ c.args.entry ∷ []) c.make_room.ensures.items
+    ap (entries_from g at) put ∙ entries-put f g key new at xs noted below fits
+    (ap (place_after at) (c.len-2.ensures ∙ log.ok.0 ∙ sym count))
+    ∙ ap (λ ps. filter (λ e. not (is_of key e)) (entries_from f at (stations ps)) ++ c.args.entry ∷ [])
+    c.make_room.ensures.items
     ∙ ap (λ es. filter (λ e. not (is_of key e)) es ++ c.args.entry ∷ []) c.self.view_is

@@ -12,10 +12,12 @@ invariant_of-self c =
     let now = c.args.now in
     let in_time = subst (λ (t : Table). t.clock ≤ now) (sym c.self.view_is) c.requires in
     subst (IsKept f.limit f.ageing now) (sym c.forget_old.ensures)
-    (IsKept-filter f.limit f.ageing now (λ e. is_fresh f.ageing now (sighting_of e)) f.journal (IsKept-later f.limit f.ageing f.clock now f.journal in_time c.self.invariant))
+    (IsKept-filter f.limit f.ageing now (λ e. is_fresh f.ageing now (sighting_of e)) f.journal
+    (IsKept-later f.limit f.ageing f.clock now f.journal in_time c.self.invariant))
 
 pub returns : goal.returns
 returns c =
     ap (λ zs. record (table_of c.self.inside.limit c.self.inside.ageing c.args.now []) { sightings = zs })
-    (ap sightings c.forget_old.ensures ∙ sym (filter-map (is_fresh c.self.inside.ageing c.args.now) c.self.inside.journal))
+    (ap sightings c.forget_old.ensures
+    ∙ sym (filter-map (is_fresh c.self.inside.ageing c.args.now) c.self.inside.journal))
     ∙ ap (λ t. expired t c.args.now) c.self.view_is

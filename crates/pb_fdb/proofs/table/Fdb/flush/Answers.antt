@@ -8,7 +8,8 @@ use Rattle.pb_fdb.proofs.table.Fdb.flush.Goals as goal
 pub invariant_of-self : goal.invariant_of-self
 invariant_of-self c =
     let f = c.self.inside in
-    subst (IsKept f.limit f.ageing f.clock) (sym c.flush.ensures) (IsKept-filter f.limit f.ageing f.clock (λ e. not (c.args.port == e.port)) f.journal c.self.invariant)
+    subst (IsKept f.limit f.ageing f.clock) (sym c.flush.ensures)
+    (IsKept-filter f.limit f.ageing f.clock (λ e. not (c.args.port == e.port)) f.journal c.self.invariant)
 
 pub returns : goal.returns
 returns c =

@@ -16,5 +16,10 @@ counting-requires-clause-sound c =
 pub invariant_of-result : goal.invariant_of-result
 invariant_of-result c =
     let same : c.in_ok-plan.plan ≡ flat_plan c.args.ports = c.in_ok-plan.ensures in
-    let bridge : c.in_ok-bridge.bridge ≡ at_start (flat_plan c.args.ports) 1 false = c.in_ok-bridge.ensures ∙ ap (λ (p : Plan). at_start p 1 false) same in
-    (c.requires.0, c.requires.1, λ e. subst (λ (v : BridgeView). IsQuiet c.args.ports v) (sym bridge) (quiet_start c.args.ports))
+    let bridge : c.in_ok-bridge.bridge ≡ at_start (flat_plan c.args.ports) 1 false = c.in_ok-bridge.ensures
+    ∙ ap (λ (p : Plan). at_start p 1 false) same in (
+      c.requires.0,
+      c.requires.1,
+      λ e. subst (λ (v : BridgeView). IsQuiet c.args.ports v) (sym bridge)
+          (quiet_start c.args.ports),
+    )

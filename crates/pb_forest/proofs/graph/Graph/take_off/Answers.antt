@@ -9,14 +9,16 @@ pub take_ends-requires-clause-fits : goal.take_ends-requires-clause-fits
 take_ends-requires-clause-fits c x =
     let ends : Ends = record { a = c.args.branch.bridge; b = c.args.branch.above } in
     let f = branch-degree c.args.self.now c.requires.counted c.args.branch c.requires.last ends refl refl x in
-    let e : slice_index c.deref_mut.result.now x ≡ slice_index c.args.self.now.degrees.items x = ap (λ xs. slice_index xs x) c.deref_mut.ensures.value in
+    let e : slice_index c.deref_mut.result.now x ≡ slice_index c.args.self.now.degrees.items x =
+    ap (λ xs. slice_index xs x) c.deref_mut.ensures.value in
     omega (arith, f, e)
 
 pub take_ends-requires-2-clause-fits : goal.take_ends-requires-2-clause-fits
 take_ends-requires-2-clause-fits c x =
     let ends : Ends = record { a = c.args.branch.bridge; b = c.args.branch.above } in
     let f = branch-sum c.args.self.now c.requires.counted c.args.branch c.requires.last ends refl refl x in
-    let e : slice_index c.deref_mut-2.result.now x ≡ slice_index c.args.self.now.sums.items x = ap (λ xs. slice_index xs x) c.deref_mut-2.ensures.value in
+    let e : slice_index c.deref_mut-2.result.now x ≡ slice_index c.args.self.now.sums.items x =
+    ap (λ xs. slice_index xs x) c.deref_mut-2.ensures.value in
     omega (arith, f, e)
 
 pub take_ends-requires-clause-there : goal.take_ends-requires-clause-there
@@ -24,7 +26,8 @@ take_ends-requires-clause-there c =
     let g = c.args.self.now in
     let b = c.args.branch in
     let near = c.requires.counted.within b.link b.bridge b.above c.requires.last.link in
-    let far = c.requires.counted.within b.link b.above b.bridge (meets-back g.links.items b.link b.bridge b.above c.requires.last.link) in
+    let far = c.requires.counted.within b.link b.above b.bridge
+    (meets-back g.links.items b.link b.bridge b.above c.requires.last.link) in
     let e : length c.deref_mut.result.now ≡ length g.degrees.items = ap length c.deref_mut.ensures.value in
     (omega (arith, near, e), omega (arith, far, e))
 
@@ -33,7 +36,8 @@ take_ends-requires-2-clause-there c =
     let g = c.args.self.now in
     let b = c.args.branch in
     let near = c.requires.counted.within b.link b.bridge b.above c.requires.last.link in
-    let far = c.requires.counted.within b.link b.above b.bridge (meets-back g.links.items b.link b.bridge b.above c.requires.last.link) in
+    let far = c.requires.counted.within b.link b.above b.bridge
+    (meets-back g.links.items b.link b.bridge b.above c.requires.last.link) in
     let same = c.requires.counted.same in
     let e : length c.deref_mut-2.result.now ≡ length g.sums.items = ap length c.deref_mut-2.ensures.value in
     (omega (arith, near, same, e), omega (arith, far, same, e))
@@ -56,10 +60,12 @@ returns c =
     (λ x.
     let a = ap (λ xs. slice_index xs x) d in
     let b = c.take_ends.ensures x in
-    let e : slice_index c.deref_mut.result.now x ≡ slice_index g.degrees.items x = ap (λ xs. slice_index xs x) c.deref_mut.ensures.value in
+    let e : slice_index c.deref_mut.result.now x ≡ slice_index g.degrees.items x =
+    ap (λ xs. slice_index xs x) c.deref_mut.ensures.value in
     omega (arith, a, b, e))
     (λ x.
     let a = ap (λ xs. slice_index xs x) s in
     let b = c.take_ends-2.ensures x in
-    let e : slice_index c.deref_mut-2.result.now x ≡ slice_index g.sums.items x = ap (λ xs. slice_index xs x) c.deref_mut-2.ensures.value in
+    let e : slice_index c.deref_mut-2.result.now x ≡ slice_index g.sums.items x =
+    ap (λ xs. slice_index xs x) c.deref_mut-2.ensures.value in
     omega (arith, a, b, e))

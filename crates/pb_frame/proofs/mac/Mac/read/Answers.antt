@@ -4,6 +4,7 @@ use Rattle.pb_frame.proofs.mac.Mac.read.Goals as goal
 
 pub loop-i-preserved : goal.loop-i-preserved
 loop-i-preserved c = (
-  pairs_more c.as_bytes-digits.result.now c.loop-i.octets c.loop-i.i c.in_ok-octets.field-0 (omega arith) c.loop-i.invariant.0 c.in_ok-octets.ensures.pair,
+  pairs_more c.as_bytes-digits.result.now c.loop-i.octets c.loop-i.i c.in_ok-octets.field-0 (omega arith)
+      c.loop-i.invariant.0 c.in_ok-octets.ensures.pair,
   omega (arith, length-set {A = ℕ}),
 )

@@ -6,4 +6,5 @@ abbrev pub invariant-loop-k : goal.invariant-loop-k
 invariant-loop-k l = (j : ℕ) → j < l.k → get_or l.digits (3 * j + 2) 0 ≡ 45
 
 abbrev pub invariant-loop-i : goal.invariant-loop-i
-invariant-loop-i l = ((j : ℕ) → j < l.i → IsPair (get_or l.digits (3 * j) 0) (get_or l.digits (3 * j + 1) 0) (get_or l.octets j 0)) × (length l.octets ≡ 6)
+invariant-loop-i l = ((j : ℕ) → j < l.i → IsPair (get_or l.digits (3 * j) 0) (get_or l.digits (3 * j + 1) 0)
+    (get_or l.octets j 0)) × (length l.octets ≡ 6)

@@ -9,4 +9,5 @@ returns-clause-exact c = sym (ones_are 16 1 c.self.inside.bits (omega arith)) �
 
 pub returns-clause-each : goal.returns-clause-each
 returns-clause-each c =
-    subst (λ (ps : List ℕ). count_by (λ port. list_any (λ p. p == port) ps) local_ports ≡ length ps) c.self.view_is (all_stand 16 1 c.self.inside.bits)
+    subst (λ (ps : List ℕ). count_by (λ port. list_any (λ p. p == port) ps) local_ports ≡ length ps) c.self.view_is
+    (all_stand 16 1 c.self.inside.bits)

@@ -1,4 +1,5 @@
-use Rattle.std.proofs.Common.{◌≡◌, ◌+◌, ◌-◌, ◌*◌, ◌%◌, ◌^◌, ◌<◌, ◌≤◌, ◌∷◌, ◌++◌, [], ℕ, List, ap, sym, subst, ◌∙◌, arith}
+use Rattle.std.proofs.Common.{◌≡◌, ◌+◌, ◌-◌, ◌*◌, ◌%◌, ◌^◌, ◌<◌, ◌≤◌, ◌∷◌, ◌++◌, [], ℕ, List, ap, sym, subst, ◌∙◌}
+use Rattle.std.proofs.Common.{arith}
 use Rattle.std.proofs.Math.Pow.{pow_mono}
 use Rattle.std.specs.List.{AllByRecursion}
 use Rattle.pb_lan.specs.PortSets.{ports_in, ComesAfter}
@@ -6,8 +7,10 @@ use Rattle.pb_lan.proofs.PortBits.{low_bits, port_more}
 use Rattle.pb_lan.proofs.port_set.PortSet.push.Goals as goal
 
 -- the port's bit is above all that are set
-below : (bits port : ℕ) (ports : List ℕ) → bits < 65536 → ports_in 16 1 bits ≡ ports → ComesAfter ports port → bits < 2 ^ (port - 1)
-below bits port ports h v r = low_bits 16 1 port bits h (subst (λ (ps : List ℕ). AllByRecursion (λ p. p < port) ps) (sym v) r.after)
+below : (bits port : ℕ) (ports : List ℕ) → bits < 65536 → ports_in 16 1 bits ≡ ports → ComesAfter ports port
+    → bits < 2 ^ (port - 1)
+below bits port ports h v r = low_bits 16 1 port bits h
+    (subst (λ (ps : List ℕ). AllByRecursion (λ p. p < port) ps) (sym v) r.after)
 
 -- and is one of sixteen
 least : (port : ℕ) → port ≤ 16 → 2 ^ (port - 1) ≤ 32768

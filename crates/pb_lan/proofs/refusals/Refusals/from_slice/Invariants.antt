@@ -8,5 +8,6 @@ invariant-loop-refusal l = record {
   set : l.set ++ drop l.refusal-index l.refusals ≡ l.refusals;
   before : (b : ℕ) → l.last < b → AllByRecursion (λ p. p < b) (map (λ r. r.0) l.set);
   last : l.last ≤ 16;
-  behind : AreAscending 0 (map (λ r. r.0) l.refusals) → AreAscending l.last (map (λ r. r.0) (drop l.refusal-index l.refusals));
+  behind : AreAscending 0 (map (λ r. r.0) l.refusals)
+      → AreAscending l.last (map (λ r. r.0) (drop l.refusal-index l.refusals));
 }

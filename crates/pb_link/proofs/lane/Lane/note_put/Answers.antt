@@ -6,11 +6,14 @@ use Rattle.pb_link.proofs.HandLemmas.{unreserved}
 use Rattle.pb_link.proofs.LaneLemmas.{after_put}
 use Rattle.pb_link.proofs.lane.Lane.note_put.Goals as goal
 
-kept : (c : goal.After-append) → IsLaneKept c.self.inside.losses.numbers c.append.new.steps.steps c.append.new.steps.is_kept Nothing c.self.inside.losses.taken
+kept : (c : goal.After-append)
+    → IsLaneKept c.self.inside.losses.numbers c.append.new.steps.steps c.append.new.steps.is_kept Nothing
+    c.self.inside.losses.taken
 kept c =
     let s = c.self.inside in
     let held = subst (λ (v : LaneView). in_hand v.steps ≡ Some c.args.item) (sym c.self.view_is) c.requires.held in
-    rw c.append.ensures (after_put s.losses.numbers s.steps.steps s.steps.is_kept s.hand s.losses.taken c.args.item c.self.invariant.0 held)
+    rw c.append.ensures (after_put s.losses.numbers s.steps.steps s.steps.is_kept s.hand s.losses.taken c.args.item
+    c.self.invariant.0 held)
 
 pub invariant_of-self : goal.invariant_of-self
 invariant_of-self c = (kept c, unreserved c.self.inside.steps c.append.new.steps (Put c.args.item) c.append.ensures)

@@ -1,4 +1,5 @@
-use Rattle.std.proofs.Common.{◌≡◌, ◌+◌, ◌-◌, ◌++◌, ℕ, List, length, take, drop, sym, ap, ◌∙◌, subst, arith, append_assoc, add-zero, length-drop, take-append-drop}
+use Rattle.std.proofs.Common.{◌≡◌, ◌+◌, ◌-◌, ◌++◌, ℕ, List, length, take, drop, sym, ap, ◌∙◌, subst, arith}
+use Rattle.std.proofs.Common.{append_assoc, add-zero, length-drop, take-append-drop}
 use Rattle.pb_port.specs.Sending.{Adds, IsNext}
 use Rattle.pb_port.proofs.PuttingLemmas.{take_all}
 use Rattle.pb_port.proofs.SendingLemmas.{adds_after}
@@ -30,7 +31,8 @@ loop-rest-preserved c =
     let after : Adds (m + 1) c.args.now u w (added.0 ++ take n rest) =
     adds_after m 1 c.args.now u c.loop-rest.self w added.0 (take n rest) added.1 sent.adds in
     let same : (added.0 ++ take n rest) ++ take (length rest - n) (drop n rest) ≡ c.args.written.now =
-    append_assoc added.0 (take n rest) (take (length rest - n) (drop n rest)) ∙ ap (λ z. added.0 ++ (take n rest ++ z)) left
+    append_assoc added.0 (take n rest) (take (length rest - n) (drop n rest))
+    ∙ ap (λ z. added.0 ++ (take n rest ++ z)) left
     ∙ ap (λ z. added.0 ++ z) (take-append-drop n rest) ∙ added.2 in
     let Next : List ℕ → Type 0 = λ z. IsNext c.args.now w z in
     let kept = c.advance.ensures.kept in record {

@@ -22,10 +22,14 @@ returns-then-at-run-clause-next c =
     let f = first_of (drop v.i us) in
     let h = c.make_head-head.result in
     let frame = c.as_slice-octets.result.now in
-    let same : f ≡ frame = first_at us v.i c.index.result.now (omega arith) c.index.ensures ∙ sym c.as_slice-octets.ensures in
-    let spells = head_and_frame w.framing v.fresh v.stamp h.start h.octets frame f c.make_head-head.ensures.octets same in
+    let same : f ≡ frame = first_at us v.i c.index.result.now (omega arith) c.index.ensures
+    ∙ sym c.as_slice-octets.ensures in
+    let spells = head_and_frame w.framing v.fresh v.stamp h.start h.octets frame f c.make_head-head.ensures.octets
+    same in
     let some : 0 < length (drop v.i us) = omega (arith, length-drop v.i us) in (
-      drop (length v.run - v.at) (drop v.done (spelled w.framing v.fresh v.stamp f)) ++ stream_behind w.framing c.args.now (drop 1 (drop v.i us)),
-      staged w.framing v.fresh v.stamp c.args.now v.done (length v.run - v.at) (drop v.i us) (begun w) (take v.at v.run) (take c.put_part-at.result c.put_part-at.new.run) _ _
+      drop (length v.run - v.at) (drop v.done (spelled w.framing v.fresh v.stamp f))
+          ++ stream_behind w.framing c.args.now (drop 1 (drop v.i us)),
+      staged w.framing v.fresh v.stamp c.args.now v.done (length v.run - v.at) (drop v.i us) (begun w)
+          (take v.at v.run) (take c.put_part-at.result c.put_part-at.new.run) _ _
           spells (omega (arith, v.invariant.done)) some c.put_part-at.ensures.octets v.invariant.next,
     )

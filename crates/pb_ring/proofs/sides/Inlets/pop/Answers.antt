@@ -5,10 +5,13 @@ use Rattle.pb_ring.proofs.Places.{grows_at, put_there}
 use Rattle.pb_ring.proofs.sides.Inlets.pop.Goals as goal
 
 pub returns-clause-received : goal.returns-clause-received
-returns-clause-received g c = λ p. grows_at (λ i. received i.end) _ _ c.index_mut.result.now _ _ p (search rules) c.index_mut.ensures.value c.pop.ensures.received
+returns-clause-received g c = λ p. grows_at (λ i. received i.end) _ _ c.index_mut.result.now _ _ p (search rules)
+    c.index_mut.ensures.value c.pop.ensures.received
 
 pub returns-clause-none : goal.returns-clause-none
-returns-clause-none g c = λ none. put_there (λ i. known_items i.end) c.args.self.now.ends.items c.args.place c.pop.new.self [] (search rules) ∙ c.pop.ensures.none none
+returns-clause-none g c = λ none. put_there (λ i. known_items i.end) c.args.self.now.ends.items c.args.place
+    c.pop.new.self [] (search rules) ∙ c.pop.ensures.none none
 
 pub returns-clause-numbers : goal.returns-clause-numbers
-returns-clause-numbers g c = map-set_same (λ i. i.number) _ _ _ c.index_mut.result.now (c.pop.ensures.number ∙ ap (λ i. i.number) c.index_mut.ensures.value)
+returns-clause-numbers g c = map-set_same (λ i. i.number) _ _ _ c.index_mut.result.now
+    (c.pop.ensures.number ∙ ap (λ i. i.number) c.index_mut.ensures.value)

@@ -7,23 +7,42 @@ use Rattle.pb_rstp.proofs.rstp.Rstp.tick.Goals as goal
 
 pub returns-clause-ok : goal.returns-clause-ok
 returns-clause-ok c =
-    let old : Machine = record { id = c.self.inside.id; ports = c.self.inside.ports.items; hello_left = c.self.inside.hello_left } in
+    let old : Machine = record {
+      id = c.self.inside.id;
+      ports = c.self.inside.ports.items;
+      hello_left = c.self.inside.hello_left;
+    } in
     c.in_ok-change.ensures.ok
-    ∙ ap (λ a. a.machine) (ticks old c.args.self.now c.delay_of-delay.result c.is_hello_time-hello.result c.hello_after-hello_left.result c.deref-3.result.now
-    c.self.view_is (c.delay_of-delay.ensures ∙ ap delay_of c.deref.ensures.value) c.is_hello_time-hello.ensures c.hello_after-hello_left.ensures
-    (c.deref-3.ensures.value ∙ c.in_ok-ports.ensures ∙ ap (λ ps. moved_by (ticking c.delay_of-delay.result c.is_hello_time-hello.result) ps) c.deref-2.ensures.value))
+    ∙ ap (λ a. a.machine) (ticks old c.args.self.now c.delay_of-delay.result c.is_hello_time-hello.result
+    c.hello_after-hello_left.result c.deref-3.result.now
+    c.self.view_is (c.delay_of-delay.ensures ∙ ap delay_of c.deref.ensures.value) c.is_hello_time-hello.ensures
+    c.hello_after-hello_left.ensures
+    (c.deref-3.ensures.value ∙ c.in_ok-ports.ensures ∙ ap
+    (λ ps. moved_by (ticking c.delay_of-delay.result c.is_hello_time-hello.result) ps) c.deref-2.ensures.value))
 
 pub returns-clause-change : goal.returns-clause-change
 returns-clause-change c =
-    let old : Machine = record { id = c.self.inside.id; ports = c.self.inside.ports.items; hello_left = c.self.inside.hello_left } in
+    let old : Machine = record {
+      id = c.self.inside.id;
+      ports = c.self.inside.ports.items;
+      hello_left = c.self.inside.hello_left;
+    } in
     c.in_ok-change.ensures.change
-    ∙ ap (λ a. a.change) (ticks old c.args.self.now c.delay_of-delay.result c.is_hello_time-hello.result c.hello_after-hello_left.result c.deref-3.result.now
-    c.self.view_is (c.delay_of-delay.ensures ∙ ap delay_of c.deref.ensures.value) c.is_hello_time-hello.ensures c.hello_after-hello_left.ensures
-    (c.deref-3.ensures.value ∙ c.in_ok-ports.ensures ∙ ap (λ ps. moved_by (ticking c.delay_of-delay.result c.is_hello_time-hello.result) ps) c.deref-2.ensures.value))
+    ∙ ap (λ a. a.change) (ticks old c.args.self.now c.delay_of-delay.result c.is_hello_time-hello.result
+    c.hello_after-hello_left.result c.deref-3.result.now
+    c.self.view_is (c.delay_of-delay.ensures ∙ ap delay_of c.deref.ensures.value) c.is_hello_time-hello.ensures
+    c.hello_after-hello_left.ensures
+    (c.deref-3.ensures.value ∙ c.in_ok-ports.ensures ∙ ap
+    (λ ps. moved_by (ticking c.delay_of-delay.result c.is_hello_time-hello.result) ps) c.deref-2.ensures.value))
 
 pub conclude-requires : goal.conclude-requires
 conclude-requires c =
-    let old : Machine = record { id = c.self.inside.id; ports = c.self.inside.ports.items; hello_left = c.self.inside.hello_left } in
+    let old : Machine = record {
+      id = c.self.inside.id;
+      ports = c.self.inside.ports.items;
+      hello_left = c.self.inside.hello_left;
+    } in
     moving_of old c.args.self.now (ticking c.delay_of-delay.result c.is_hello_time-hello.result)
     (same_ticking c.delay_of-delay.result c.is_hello_time-hello.result) c.self.view_is c.deref-3.result.now
-    (c.deref-3.ensures.value ∙ c.in_ok-ports.ensures ∙ ap (λ ps. moved_by (ticking c.delay_of-delay.result c.is_hello_time-hello.result) ps) c.deref-2.ensures.value)
+    (c.deref-3.ensures.value ∙ c.in_ok-ports.ensures ∙ ap
+    (λ ps. moved_by (ticking c.delay_of-delay.result c.is_hello_time-hello.result) ps) c.deref-2.ensures.value)

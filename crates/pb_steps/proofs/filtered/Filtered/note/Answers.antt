@@ -9,9 +9,11 @@ invariant_of-self c =
     let step = c.args.step.now in
     elim c.match-filtered_by.branch [
       | in-Some w ↦
-          let more = filtered_more steps step c.self.inside.counts w.in-Some.port c.self.told c.self.invariant (sym c.filtered_by.ensures ∙ w.in-Some.is) in
+          let more = filtered_more steps step c.self.inside.counts w.in-Some.port c.self.told c.self.invariant
+          (sym c.filtered_by.ensures ∙ w.in-Some.is) in
           rw (c.note.ensures, w.self-inside-is, w.count_one.ensures.one) more
       | in_default w ↦
           let none : c.filtered_by.result ≡ None = search rules in
-          rw (c.note.ensures, w.self-inside-is) (filtered_none steps step c.self.inside.counts c.self.invariant (sym c.filtered_by.ensures ∙ none))
+          rw (c.note.ensures, w.self-inside-is) (filtered_none steps step c.self.inside.counts c.self.invariant
+          (sym c.filtered_by.ensures ∙ none))
     ]

@@ -12,9 +12,13 @@ invariant_of-self c =
     let step = c.args.step.now in
     elim c.match-moved_by.branch [
       | in-Some w ↦
-          let by : moved_of step ≡ w.in-Some.moved.now ∷ [] = sym c.moved_by.ensures ∙ ap (λ (o : Option (Bor Moved)). option_to_list (option_copied o)) w.in-Some.is in
-          let set = subst (λ changes. HaveSet c.self.inside.states w.set_all.new.states changes) w.as_slice.ensures w.set_all.ensures in
-          rw (c.note.ensures, w.self-inside-is) (newest_more steps step c.self.inside.states w.set_all.new.states w.in-Some.moved.now by set c.self.invariant)
+          let by : moved_of step ≡ w.in-Some.moved.now ∷ [] = sym c.moved_by.ensures
+          ∙ ap (λ (o : Option (Bor Moved)). option_to_list (option_copied o)) w.in-Some.is in
+          let set = subst (λ changes. HaveSet c.self.inside.states w.set_all.new.states changes) w.as_slice.ensures
+          w.set_all.ensures in
+          rw (c.note.ensures, w.self-inside-is)
+          (newest_more steps step c.self.inside.states w.set_all.new.states w.in-Some.moved.now by set
+          c.self.invariant)
       | in_default w ↦
           let none : moved_of step ≡ [] = search rules in
           rw (c.note.ensures, w.self-inside-is) (newest_none steps step c.self.inside.states none c.self.invariant)

@@ -8,4 +8,6 @@ invariant_of-self c =
     let before = c.self.inside in
     let noted = before.noted.items ++ (c.args.port, c.args.cause) ∷ [] in
     subst (λ ns. AreCounts ns c.count_one.new.counts) (sym c.note.ensures)
-    (subst (λ cs. AreCounts noted cs) (sym c.count_one.ensures.one) (counted before.noted.items before.counts c.args.port c.args.cause c.count_one.ensures.places c.self.invariant))
+    (subst (λ cs. AreCounts noted cs) (sym c.count_one.ensures.one)
+    (counted before.noted.items before.counts c.args.port c.args.cause c.count_one.ensures.places
+    c.self.invariant))

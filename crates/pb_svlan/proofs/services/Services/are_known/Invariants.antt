@@ -4,4 +4,5 @@ use Rattle.pb_svlan.specs.ServiceTables.{is_known}
 use Rattle.pb_svlan.proofs.services.Services.are_known.Given as goal
 
 abbrev pub invariant-loop-number : goal.invariant-loop-number
-invariant-loop-number l = list_all (is_known l.self) (drop l.number-index l.numbers) ≡ list_all (is_known l.self) l.numbers
+invariant-loop-number l = list_all (is_known l.self) (drop l.number-index l.numbers) ≡ list_all (is_known l.self)
+    l.numbers

@@ -9,4 +9,7 @@ returns-in-Some-clause-admitted c =
     (λ h. cc, λ h. let none : Some c.in-Some.reason ≡ None = sym refused ∙ refusal-admitted c.args.frame.now h in cc)
 
 pub returns-clause-admitted : goal.returns-clause-admitted
-returns-clause-admitted c = (λ h. admitted-unrefused c.args.frame.now (sym c.refusal.ensures ∙ c.in_default.is), λ h. refl)
+returns-clause-admitted c = (
+  λ h. admitted-unrefused c.args.frame.now (sym c.refusal.ensures ∙ c.in_default.is),
+  λ h. refl,
+)
