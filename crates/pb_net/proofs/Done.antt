@@ -1,5 +1,6 @@
 -- What a network keeps and answers after an event was done, and after one that met want of memory.
-use Rattle.std.proofs.Common.{◌≡◌, ℕ, suc, ◌+◌, ◌<◌, Bool, true, false, not, ◌||◌, ◌==◌, List, [], ◌∷◌, ◌++◌, Some, Ok, Err, map, length, slice_get, get_or, refl, sym, ap, subst, ◌∙◌, arith, Global}
+use Rattle.std.proofs.Common.{◌≡◌, ℕ, suc, ◌+◌, ◌<◌, Bool, true, false, not, ◌||◌, ◌==◌, List, [], ◌∷◌, ◌++◌, Some}
+use Rattle.std.proofs.Common.{Ok, Err, map, length, slice_get, get_or, refl, sym, ap, subst, ◌∙◌, arith, Global}
 use Rattle.std.proofs.lemmas.Bool.Decides.{nat_tests}
 use Rattle.std.proofs.lemmas.List.{map-set}
 use Rattle.std.proofs.Math.ListN.{set}
@@ -13,14 +14,17 @@ use Rattle.pb_lan.specs.PortLists.{IsLawfulPort}
 use Rattle.pb_lan.specs.Records.{steps_of, received_by, transmitted_by}
 use Rattle.pb_relay.specs.Protocol.{spanning_tree}
 use Rattle.pb_lan.specs.declared.event.Event.{Event}
-use Rattle.pb_lan.specs.declared.event.Event.TheVariants.{Poll, Feed, Deliver, Receive, Transmit, Tick, Admin, Take, Put}
+use Rattle.pb_lan.specs.declared.event.Event.TheVariants.{Poll, Feed, Deliver, Receive, Transmit, Tick, Admin, Take}
+use Rattle.pb_lan.specs.declared.event.Event.TheVariants.{Put}
 use Rattle.pb_lan.specs.declared.plan.Plan.{Plan}
 use Rattle.pb_lan.specs.declared.record.Record.{Record}
 use Rattle.pb_lan.specs.declared.step.Item.{Item}
 use Rattle.pb_lan.specs.declared.step.Place.{Place}
 use Rattle.pb_lan.specs.declared.step.Place.TheVariants.{Bridge, Lane, Customer}
 use Rattle.pb_lan.specs.declared.step.Step.{Step}
-use Rattle.pb_lan.specs.declared.step.Step.TheVariants.{Poll as Polled, Feed as Fed, Deliver as Delivered, Receive as Received, Transmit as Transmitted, Tick as Ticked, Admin as Administered, Put as Put_on}
+use Rattle.pb_lan.specs.declared.step.Step.TheVariants.{Poll as Polled, Feed as Fed, Deliver as Delivered}
+use Rattle.pb_lan.specs.declared.step.Step.TheVariants.{Receive as Received, Transmit as Transmitted, Tick as Ticked}
+use Rattle.pb_lan.specs.declared.step.Step.TheVariants.{Admin as Administered, Put as Put_on}
 use Rattle.pb_link.specs.Hands.{PlaceView}
 use Rattle.pb_link.specs.Lanes.{LaneView, taking}
 use Rattle.pb_relay.proofs.StepLemmas.{lawful_more}
@@ -40,10 +44,12 @@ use Rattle.pb_net.specs.declared.fault.NetFault.TheVariants.{Memory}
 use Rattle.pb_net.specs.declared.net.Net.TheInside.{Inside}
 use Rattle.pb_net.specs.declared.slots.Spot.{Spot}
 use Rattle.pb_net.proofs.BridgeMoves.{after_receive, after_transmit, after_quiet}
-use Rattle.pb_net.proofs.KnownSpots.{items_in, ins_of, outs_of, rec_in, shown, KeepsAs, Keeps, StandsAt, BridgeAt, CustomerAt, StartAt, EndAt, inbox_at, outbox_at}
+use Rattle.pb_net.proofs.KnownSpots.{items_in, ins_of, outs_of, rec_in, shown, KeepsAs, Keeps, StandsAt, BridgeAt}
+use Rattle.pb_net.proofs.KnownSpots.{CustomerAt, StartAt, EndAt, inbox_at, outbox_at}
 use Rattle.pb_net.proofs.LaneMoves.{after_take, after_put}
 use Rattle.pb_net.proofs.OneMore.{steps_of-map}
-use Rattle.pb_net.proofs.Placing.{placed_bridge, placed_lane, placed_customer, recorded_bridge, recorded_lane, recorded_customer, unrecorded_bridge, unrecorded_lane, unrecorded_customer}
+use Rattle.pb_net.proofs.Placing.{placed_bridge, placed_lane, placed_customer, recorded_bridge, recorded_lane}
+use Rattle.pb_net.proofs.Placing.{recorded_customer, unrecorded_bridge, unrecorded_lane, unrecorded_customer}
 use Rattle.pb_net.proofs.PortMoves.{after_poll, after_feed, after_deliver}
 
 abbrev pub net_with : Plan → Record → NetView

@@ -1,12 +1,16 @@
 -- Whether an event is due, told from what the network keeps.
-use Rattle.std.proofs.Common.{◌≡◌, ℕ, ◌+◌, ◌<◌, ◌≤◌, inl, inr, Bool, true, false, not, ◌||◌, ◌&&◌, ◌==◌, nat_le, List, ◌++◌, Some, None, Ok, Err, map, length, get_or, sym, ap, ap₂, ◌∙◌, arith, length-append, Global}
+use Rattle.std.proofs.Common.{◌≡◌, ℕ, ◌+◌, ◌<◌, ◌≤◌, inl, inr, Bool, true, false, not, ◌||◌, ◌&&◌, ◌==◌, nat_le, List}
+use Rattle.std.proofs.Common.{◌++◌, Some, None, Ok, Err, map, length, get_or, sym, ap, ap₂, ◌∙◌, arith, length-append}
+use Rattle.std.proofs.Common.{Global}
 use Rattle.std.proofs.lemmas.Bool.Decides.{leb_tells, nat_tests}
 use Rattle.std.proofs.lemmas.Bool.{eq-eqb}
 use Rattle.std.specs.declared.collections.VecDeque.{VecDeque}
 use Rattle.std.specs.declared.option.Option.{Option}
 use Rattle.std.specs.declared.result.Result.{Result}
 use Rattle.pb_frame.proofs.Lists.{true-false}
-use Rattle.pb_lan.specs.Events.{names_something, is_idle, is_at_limit, is_hand_empty, is_ring_full, is_all_fetched, is_feed_idle, is_deliver_idle, is_take_idle, is_put_idle, sent_to, fetched_from, begins_at, ends_at}
+use Rattle.pb_lan.specs.Events.{names_something, is_idle, is_at_limit, is_hand_empty, is_ring_full, is_all_fetched}
+use Rattle.pb_lan.specs.Events.{is_feed_idle, is_deliver_idle, is_take_idle, is_put_idle, sent_to, fetched_from}
+use Rattle.pb_lan.specs.Events.{begins_at, ends_at}
 use Rattle.pb_lan.specs.LaneLists.{taken, put}
 use Rattle.pb_lan.specs.PortLists.{fed, delivered}
 use Rattle.pb_lan.specs.Queues.{Waiting, waiting}
@@ -30,7 +34,8 @@ use Rattle.pb_net.specs.declared.fault.NetFault.{NetFault}
 use Rattle.pb_net.specs.declared.fault.NetFault.TheVariants.{StepLimit, Memory, NoSuch}
 use Rattle.pb_net.specs.declared.net.Net.TheInside.{Inside}
 use Rattle.pb_net.specs.declared.slots.Spot.{Spot}
-use Rattle.pb_net.proofs.KnownSpots.{StandsAt, BridgeAt, CustomerAt, StartAt, EndAt, ins_of, outs_of, rec_in, shown, inbox_at, outbox_at}
+use Rattle.pb_net.proofs.KnownSpots.{StandsAt, BridgeAt, CustomerAt, StartAt, EndAt, ins_of, outs_of, rec_in, shown}
+use Rattle.pb_net.proofs.KnownSpots.{inbox_at, outbox_at}
 use Rattle.pb_net.proofs.Meetings.{sent_to-customer, fetched_from-customer, sent_to-lane, fetched_from-lane}
 use Rattle.pb_net.proofs.OneMore.{items_at-here}
 

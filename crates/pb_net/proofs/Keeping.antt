@@ -1,5 +1,6 @@
 -- A network's lists and meeting places, with one step more.
-use Rattle.std.proofs.Common.{◌≡◌, ℕ, suc, ◌*◌, ◌<◌, ◌/◌, ◌%◌, inl, inr, List, [], ◌∷◌, ◌++◌, length, sym, ap, subst, ◌∙◌, arith, length-set}
+use Rattle.std.proofs.Common.{◌≡◌, ℕ, suc, ◌*◌, ◌<◌, ◌/◌, ◌%◌, inl, inr, List, [], ◌∷◌, ◌++◌, length, sym, ap, subst}
+use Rattle.std.proofs.Common.{◌∙◌, arith, length-set}
 use Rattle.std.proofs.Math.ListN.{set}
 use Rattle.pb_lan.specs.BridgeLists.{IsLawfulBridge}
 use Rattle.pb_lan.specs.Events.{with_step, sent_to, fetched_from}
@@ -18,7 +19,8 @@ use Rattle.pb_net.proofs.Meetings.{sent_to-bridge, fetched_from-bridge}
 use Rattle.pb_net.proofs.OneMore.{same_or_not, steps_of-set_same, steps_of-set_other}
 
 -- a bridge's port has one slot
-pub one_slot : (plan : Plan) (bridge port s t : ℕ) → IsSlot plan bridge port s → bridge_of t ≡ bridge → port_of t ≡ port → t ≡ s
+pub one_slot : (plan : Plan) (bridge port s t : ℕ) → IsSlot plan bridge port s → bridge_of t ≡ bridge
+    → port_of t ≡ port → t ≡ s
 one_slot plan bridge port s t is b q =
     let rows : t / 16 ≡ s / 16 = omega (arith, is.of_bridge, b) in
     let columns : t % 16 ≡ s % 16 = omega (arith, is.of_port, q) in
@@ -27,18 +29,21 @@ one_slot plan bridge port s t is b q =
 -- what was sent to slots, and fetched from them, as the meeting places changed
 abbrev pub Sends : Plan → Record → Record → List (List Item) → List (List Item) → Type 0
 Sends plan rec rec' ins ins' =
-    (s : ℕ) (front : List Item) → front ++ items_at ins s ≡ sent_to plan rec (bridge_of s) (port_of s) → front ++ items_at ins' s ≡ sent_to plan rec' (bridge_of s) (port_of s)
+    (s : ℕ) (front : List Item) → front ++ items_at ins s ≡ sent_to plan rec (bridge_of s) (port_of s)
+    → front ++ items_at ins' s ≡ sent_to plan rec' (bridge_of s) (port_of s)
 
 abbrev pub Fetches : Plan → Record → Record → List (List Item) → List (List Item) → Type 0
 Fetches plan rec rec' outs outs' =
-    (s : ℕ) (whole : List Item) → fetched_from plan rec (bridge_of s) (port_of s) ++ items_at outs s ≡ whole → fetched_from plan rec' (bridge_of s) (port_of s) ++ items_at outs' s ≡ whole
+    (s : ℕ) (whole : List Item) → fetched_from plan rec (bridge_of s) (port_of s) ++ items_at outs s ≡ whole
+    → fetched_from plan rec' (bridge_of s) (port_of s) ++ items_at outs' s ≡ whole
 
 -- a customer port has taken a step
 pub after_port : (plan : Plan) (rec : Record) (ins outs ins' outs' : List (List Item)) (r : ℕ) (step : Step)
     → IsKept plan rec ins outs → r < length plan.customers
     → IsLawfulPort (suc r) (steps_of rec.customers (suc r) ++ step ∷ [])
     → length ins' ≡ length ins → length outs' ≡ length outs
-    → Sends plan rec (with_step rec (Customer (suc r)) step) ins ins' → Fetches plan rec (with_step rec (Customer (suc r)) step) outs outs'
+    → Sends plan rec (with_step rec (Customer (suc r)) step) ins ins'
+    → Fetches plan rec (with_step rec (Customer (suc r)) step) outs outs'
     → IsKept plan (with_step rec (Customer (suc r)) step) ins' outs'
 after_port plan rec ins outs ins' outs' r step kept within lawful ins_so outs_so sends fetches =
     let grown = steps_of rec.customers (suc r) ++ step ∷ [] in
@@ -53,7 +58,8 @@ after_port plan rec ins outs ins' outs' r step kept within lawful ins_so outs_so
       bridges = kept.bridges;
       lanes = kept.lanes;
       ports = λ n. elim (same_or_not n (suc r)) [
-        | inl e ↦ subst (λ k. IsLawfulPort k (steps_of (set rec.customers r grown) k)) (sym e) (subst (λ ms. IsLawfulPort (suc r) ms) (sym here) lawful)
+        | inl e ↦ subst (λ k. IsLawfulPort k (steps_of (set rec.customers r grown) k)) (sym e)
+            (subst (λ ms. IsLawfulPort (suc r) ms) (sym here) lawful)
         | inr ne ↦ subst (λ ms. IsLawfulPort n ms) (sym (steps_of-set_other rec.customers r n grown ne)) (kept.ports n)
       ];
       into = λ s. sends s (received (port_of s) (steps_of rec.bridges (bridge_of s))) (kept.into s);
@@ -65,7 +71,8 @@ pub after_lane : (plan : Plan) (rec : Record) (ins outs ins' outs' : List (List 
     → IsKept plan rec ins outs → r < 2 * length plan.links
     → IsLawfulLane (losses_of plan (suc r)) (steps_of rec.lanes (suc r) ++ step ∷ [])
     → length ins' ≡ length ins → length outs' ≡ length outs
-    → Sends plan rec (with_step rec (Lane (suc r)) step) ins ins' → Fetches plan rec (with_step rec (Lane (suc r)) step) outs outs'
+    → Sends plan rec (with_step rec (Lane (suc r)) step) ins ins'
+    → Fetches plan rec (with_step rec (Lane (suc r)) step) outs outs'
     → IsKept plan (with_step rec (Lane (suc r)) step) ins' outs'
 after_lane plan rec ins outs ins' outs' r step kept within lawful ins_so outs_so sends fetches =
     let grown = steps_of rec.lanes (suc r) ++ step ∷ [] in
@@ -79,8 +86,10 @@ after_lane plan rec ins outs ins' outs' r step kept within lawful ins_so outs_so
       outbox_count = outs_so ∙ kept.outbox_count;
       bridges = kept.bridges;
       lanes = λ n. elim (same_or_not n (suc r)) [
-        | inl e ↦ subst (λ k. IsLawfulLane (losses_of plan k) (steps_of (set rec.lanes r grown) k)) (sym e) (subst (λ ms. IsLawfulLane (losses_of plan (suc r)) ms) (sym here) lawful)
-        | inr ne ↦ subst (λ ms. IsLawfulLane (losses_of plan n) ms) (sym (steps_of-set_other rec.lanes r n grown ne)) (kept.lanes n)
+        | inl e ↦ subst (λ k. IsLawfulLane (losses_of plan k) (steps_of (set rec.lanes r grown) k)) (sym e)
+            (subst (λ ms. IsLawfulLane (losses_of plan (suc r)) ms) (sym here) lawful)
+        | inr ne ↦ subst (λ ms. IsLawfulLane (losses_of plan n) ms) (sym (steps_of-set_other rec.lanes r n grown ne))
+            (kept.lanes n)
       ];
       ports = kept.ports;
       into = λ s. sends s (received (port_of s) (steps_of rec.bridges (bridge_of s))) (kept.into s);
@@ -93,9 +102,11 @@ pub after_bridge : (plan : Plan) (rec : Record) (ins outs ins' outs' : List (Lis
     → IsLawfulBridge spanning_tree plan (suc r) (steps_of rec.bridges (suc r) ++ step ∷ [])
     → length ins' ≡ length ins → length outs' ≡ length outs
     → ((s : ℕ) → (bridge_of s ≡ suc r → ⊥) → (items_at ins' s ≡ items_at ins s) × (items_at outs' s ≡ items_at outs s))
-    → ((s : ℕ) → bridge_of s ≡ suc r → (whole : List Item) → received (port_of s) (steps_of rec.bridges (suc r)) ++ items_at ins s ≡ whole
+    → ((s : ℕ) → bridge_of s ≡ suc r → (whole : List Item) → received (port_of s) (steps_of rec.bridges (suc r))
+    ++ items_at ins s ≡ whole
     → received (port_of s) (steps_of rec.bridges (suc r) ++ step ∷ []) ++ items_at ins' s ≡ whole)
-    → ((s : ℕ) → bridge_of s ≡ suc r → (front : List Item) → front ++ items_at outs s ≡ transmitted (port_of s) (steps_of rec.bridges (suc r))
+    → ((s : ℕ) → bridge_of s ≡ suc r → (front : List Item) → front ++ items_at outs s ≡ transmitted (port_of s)
+    (steps_of rec.bridges (suc r))
     → front ++ items_at outs' s ≡ transmitted (port_of s) (steps_of rec.bridges (suc r) ++ step ∷ []))
     → IsKept plan (with_step rec (Bridge (suc r)) step) ins' outs'
 after_bridge plan rec ins outs ins' outs' r step kept within lawful ins_so outs_so else_so into out =
@@ -111,20 +122,28 @@ after_bridge plan rec ins outs ins' outs' r step kept within lawful ins_so outs_
       inbox_count = ins_so ∙ kept.inbox_count;
       outbox_count = outs_so ∙ kept.outbox_count;
       bridges = λ n. elim (same_or_not n (suc r)) [
-        | inl e ↦ subst (λ k. IsLawfulBridge spanning_tree plan k (steps_of (set rec.bridges r grown) k)) (sym e) (subst (λ ms. IsLawfulBridge spanning_tree plan (suc r) ms) (sym here) lawful)
-        | inr ne ↦ subst (λ ms. IsLawfulBridge spanning_tree plan n ms) (sym (steps_of-set_other rec.bridges r n grown ne)) (kept.bridges n)
+        | inl e ↦ subst (λ k. IsLawfulBridge spanning_tree plan k (steps_of (set rec.bridges r grown) k)) (sym e)
+            (subst (λ ms. IsLawfulBridge spanning_tree plan (suc r) ms) (sym here) lawful)
+        | inr ne ↦ subst (λ ms. IsLawfulBridge spanning_tree plan n ms)
+            (sym (steps_of-set_other rec.bridges r n grown ne)) (kept.bridges n)
       ];
       lanes = kept.lanes;
       ports = kept.ports;
       into = λ s. elim (same_or_not (bridge_of s) (suc r)) [
-        | inl e ↦ ap (λ ms. received (port_of s) ms ++ items_at ins' s) (ap (λ k. steps_of (set rec.bridges r grown) k) e ∙ here)
-            ∙ into s e (sent_to plan rec (bridge_of s) (port_of s)) (ap (λ k. received (port_of s) (steps_of rec.bridges k) ++ items_at ins s) (sym e) ∙ kept.into s) ∙ sent s
-        | inr ne ↦ ap (λ ms. received (port_of s) ms ++ items_at ins' s) (steps_of-set_other rec.bridges r (bridge_of s) grown ne)
-            ∙ ap (λ z. received (port_of s) (steps_of rec.bridges (bridge_of s)) ++ z) (else_so s ne).0 ∙ kept.into s ∙ sent s
+        | inl e ↦ ap (λ ms. received (port_of s) ms ++ items_at ins' s)
+            (ap (λ k. steps_of (set rec.bridges r grown) k) e ∙ here)
+            ∙ into s e (sent_to plan rec (bridge_of s) (port_of s))
+            (ap (λ k. received (port_of s) (steps_of rec.bridges k) ++ items_at ins s) (sym e) ∙ kept.into s)
+            ∙ sent s
+        | inr ne ↦ ap (λ ms. received (port_of s) ms ++ items_at ins' s)
+            (steps_of-set_other rec.bridges r (bridge_of s) grown ne)
+            ∙ ap (λ z. received (port_of s) (steps_of rec.bridges (bridge_of s)) ++ z) (else_so s ne).0 ∙ kept.into s
+            ∙ sent s
       ];
       out = λ s. elim (same_or_not (bridge_of s) (suc r)) [
         | inl e ↦ ap (λ z. z ++ items_at outs' s) (fetched s)
-            ∙ out s e (fetched_from plan rec (bridge_of s) (port_of s)) (kept.out s ∙ ap (λ k. transmitted (port_of s) (steps_of rec.bridges k)) e)
+            ∙ out s e (fetched_from plan rec (bridge_of s) (port_of s))
+            (kept.out s ∙ ap (λ k. transmitted (port_of s) (steps_of rec.bridges k)) e)
             ∙ ap (transmitted (port_of s)) (sym (ap (λ k. steps_of (set rec.bridges r grown) k) e ∙ here))
         | inr ne ↦ ap (λ z. z ++ items_at outs' s) (fetched s)
             ∙ ap (λ z. fetched_from plan rec (bridge_of s) (port_of s) ++ z) (else_so s ne).1 ∙ kept.out s

@@ -1,5 +1,6 @@
 -- What a network keeps, by its fields, and what is known of a spot among them.
-use Rattle.std.proofs.Common.{◌≡◌, ℕ, suc, ◌+◌, ◌*◌, ◌<◌, List, Some, map, length, slice_get, get_or, sym, ap, subst, ◌∙◌, arith, Global}
+use Rattle.std.proofs.Common.{◌≡◌, ℕ, suc, ◌+◌, ◌*◌, ◌<◌, List, Some, map, length, slice_get, get_or, sym, ap, subst}
+use Rattle.std.proofs.Common.{◌∙◌, arith, Global}
 use Rattle.std.proofs.lemmas.List.{length-map}
 use Rattle.std.proofs.Math.ListN.{set}
 use Rattle.std.specs.declared.collections.VecDeque.{VecDeque}

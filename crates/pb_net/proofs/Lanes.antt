@@ -1,5 +1,7 @@
 -- The lanes of a sound plan, and the ports where they begin and end.
-use Rattle.std.proofs.Common.{◌≡◌, ℕ, zero, suc, ◌%◌, ◌<◌, inl, inr, Bool, true, false, if◌then◌else◌, nat_lt, ◌==◌, List, [], ◌∷◌, Some, map, slice_get, flat_map, refl, sym, ap, subst, ◌∙◌, arith, eqb-true}
+use Rattle.std.proofs.Common.{◌≡◌, ℕ, zero, suc, ◌%◌, ◌<◌, inl, inr, Bool, true, false, if◌then◌else◌, nat_lt, ◌==◌}
+use Rattle.std.proofs.Common.{List, [], ◌∷◌, Some, map, slice_get, flat_map, refl, sym, ap, subst, ◌∙◌, arith}
+use Rattle.std.proofs.Common.{eqb-true}
 use Rattle.std.proofs.lemmas.Bool.Decides.{nat_tests}
 use Rattle.std.specs.Cmp.Derive.{both_true}
 use Rattle.std.specs.List.{IsDistinct}
@@ -22,63 +24,82 @@ is_at : (e : End) → is_end_at e.bridge e.port e ≡ true
 is_at e = both_true (eqb-refl e.bridge) (eqb-refl e.port)
 
 -- two ends of links at one port are one
-one_end : (plan : Plan) → IsSound plan → (k l : ℕ) (one other : LinkPlan) (d e : End) → numbered plan.links k ≡ Some one → numbered plan.links l ≡ Some other
+one_end : (plan : Plan) → IsSound plan → (k l : ℕ) (one other : LinkPlan) (d e : End)
+    → numbered plan.links k ≡ Some one → numbered plan.links l ≡ Some other
     → IsEndOf one d → IsEndOf other e → d.bridge ≡ e.bridge → d.port ≡ e.port → d ≡ e
 one_end plan sound k l one other d e h g x y b q =
     let p = port_at-end plan sound k one d h x in
     let r = port_at-end plan sound l other e g y in
-    let same : Provider d ≡ Provider e = sym p ∙ ap (λ n. port_at plan n d.port) b ∙ ap (λ n. port_at plan e.bridge n) q ∙ r in
+    let same : Provider d ≡ Provider e = sym p ∙ ap (λ n. port_at plan n d.port) b
+    ∙ ap (λ n. port_at plan e.bridge n) q ∙ r in
     cc
 
 -- the two ends of a link are two ports
-two_ends : (plan : Plan) → IsSound plan → (n : ℕ) (link : LinkPlan) → numbered plan.links n ≡ Some link → link.a.bridge ≡ link.b.bridge → link.a.port ≡ link.b.port → ⊥
+two_ends : (plan : Plan) → IsSound plan → (n : ℕ) (link : LinkPlan) → numbered plan.links n ≡ Some link
+    → link.a.bridge ≡ link.b.bridge → link.a.port ≡ link.b.port → ⊥
 unfolding IsDistinct
 two_ends plan sound zero link at b q = cc
 two_ends plan sound (suc k) link at b q =
-    there plan.links k at (IsDistinct-front is_same_port (map (λ e. (e.bridge, e.port)) (all_ends plan)) (map (λ c. (c.bridge, c.port)) plan.customers) sound.ports)
+    there plan.links k at (IsDistinct-front is_same_port (map (λ e. (e.bridge, e.port)) (all_ends plan))
+    (map (λ c. (c.bridge, c.port)) plan.customers) sound.ports)
   where
     clash : (l : LinkPlan) → l ≡ link → is_same_port (l.a.bridge, l.a.port) (l.b.bridge, l.b.port) ≡ false → ⊥
     clash l same apart =
-        let t : is_same_port (link.a.bridge, link.a.port) (link.b.bridge, link.b.port) ≡ true = both_true (ap (λ n. link.a.bridge == n) (sym b) ∙ eqb-refl link.a.bridge) (ap (λ n. link.a.port == n) (sym q) ∙ eqb-refl link.a.port) in
-        let f = subst (λ (x : LinkPlan). is_same_port (x.a.bridge, x.a.port) (x.b.bridge, x.b.port) ≡ false) same apart in
+        let t : is_same_port (link.a.bridge, link.a.port) (link.b.bridge, link.b.port) ≡ true =
+        both_true (ap (λ n. link.a.bridge == n) (sym b) ∙ eqb-refl link.a.bridge)
+        (ap (λ n. link.a.port == n) (sym q) ∙ eqb-refl link.a.port) in
+        let f = subst (λ (x : LinkPlan). is_same_port (x.a.bridge, x.a.port) (x.b.bridge, x.b.port) ≡ false) same
+        apart in
         cc
 
-    there : (links : List LinkPlan) (i : ℕ) → slice_get links i ≡ Some link → IsDistinct is_same_port (map (λ e. (e.bridge, e.port)) (flat_map ends_of links)) → ⊥
+    there : (links : List LinkPlan) (i : ℕ) → slice_get links i ≡ Some link
+        → IsDistinct is_same_port (map (λ e. (e.bridge, e.port)) (flat_map ends_of links)) → ⊥
     there [] i h d = cc
     there (l ∷ links) zero h d = clash l (Some-injective h) d.0.0
     there (l ∷ links) (suc i) h d = there links i h d.1.1
 
 -- the link that has this end is found by it
-link_a-a : (plan : Plan) → IsSound plan → (n : ℕ) (link : LinkPlan) → numbered plan.links n ≡ Some link → link_a plan link.a.bridge link.a.port ≡ n
+link_a-a : (plan : Plan) → IsSound plan → (n : ℕ) (link : LinkPlan) → numbered plan.links n ≡ Some link
+    → link_a plan link.a.bridge link.a.port ≡ n
 link_a-a plan sound zero link at = cc
 link_a-a plan sound (suc k) link at =
     elim (number_of-cases (λ (l : LinkPlan). is_end_at link.a.bridge link.a.port l.a) 1 plan.links) [
-      | inl none ↦ let some = first-finds (λ (l : LinkPlan). is_end_at link.a.bridge link.a.port l.a) plan.links k link at (is_at link.a) in let wrong = none.1 in let right = some.1 in cc
+      | inl none ↦ let some = first-finds (λ (l : LinkPlan). is_end_at link.a.bridge link.a.port l.a) plan.links k
+          link at (is_at link.a) in let wrong = none.1 in let right = some.1 in cc
       | inr (i, l, n, g, f, t) ↦
-          let one = one_end plan sound (suc i) (suc k) l link l.a link.a g at (inl refl) (inl refl) (eqb-true l.a.bridge link.a.bridge (and-left _ _ t)) (eqb-true l.a.port link.a.port (and-right _ _ t)) in
+          let one = one_end plan sound (suc i) (suc k) l link l.a link.a g at (inl refl) (inl refl)
+          (eqb-true l.a.bridge link.a.bridge (and-left _ _ t)) (eqb-true l.a.port link.a.port (and-right _ _ t))
+          in
           let same = end-link plan sound (suc i) (suc k) l link link.a g at (inl one) (inl refl) in
           n ∙ omega (arith, same)
     ]
 
-link_b-b : (plan : Plan) → IsSound plan → (n : ℕ) (link : LinkPlan) → numbered plan.links n ≡ Some link → link_b plan link.b.bridge link.b.port ≡ n
+link_b-b : (plan : Plan) → IsSound plan → (n : ℕ) (link : LinkPlan) → numbered plan.links n ≡ Some link
+    → link_b plan link.b.bridge link.b.port ≡ n
 link_b-b plan sound zero link at = cc
 link_b-b plan sound (suc k) link at =
     elim (number_of-cases (λ (l : LinkPlan). is_end_at link.b.bridge link.b.port l.b) 1 plan.links) [
-      | inl none ↦ let some = first-finds (λ (l : LinkPlan). is_end_at link.b.bridge link.b.port l.b) plan.links k link at (is_at link.b) in let wrong = none.1 in let right = some.1 in cc
+      | inl none ↦ let some = first-finds (λ (l : LinkPlan). is_end_at link.b.bridge link.b.port l.b) plan.links k
+          link at (is_at link.b) in let wrong = none.1 in let right = some.1 in cc
       | inr (i, l, n, g, f, t) ↦
-          let one = one_end plan sound (suc i) (suc k) l link l.b link.b g at (inr refl) (inr refl) (eqb-true l.b.bridge link.b.bridge (and-left _ _ t)) (eqb-true l.b.port link.b.port (and-right _ _ t)) in
+          let one = one_end plan sound (suc i) (suc k) l link l.b link.b g at (inr refl) (inr refl)
+          (eqb-true l.b.bridge link.b.bridge (and-left _ _ t)) (eqb-true l.b.port link.b.port (and-right _ _ t))
+          in
           let same = end-link plan sound (suc i) (suc k) l link link.b g at (inr one) (inr refl) in
           n ∙ omega (arith, same)
     ]
 
 -- and no link has its first end at another's second
-link_a-b : (plan : Plan) → IsSound plan → (n : ℕ) (link : LinkPlan) → numbered plan.links n ≡ Some link → link_a plan link.b.bridge link.b.port ≡ 0
+link_a-b : (plan : Plan) → IsSound plan → (n : ℕ) (link : LinkPlan) → numbered plan.links n ≡ Some link
+    → link_a plan link.b.bridge link.b.port ≡ 0
 link_a-b plan sound zero link at = cc
 link_a-b plan sound (suc k) link at =
     elim (number_of-cases (λ (l : LinkPlan). is_end_at link.b.bridge link.b.port l.a) 1 plan.links) [
       | inl none ↦ none.0
       | inr (i, l, n, g, f, t) ↦
-          let one = one_end plan sound (suc i) (suc k) l link l.a link.b g at (inl refl) (inr refl) (eqb-true l.a.bridge link.b.bridge (and-left _ _ t)) (eqb-true l.a.port link.b.port (and-right _ _ t)) in
+          let one = one_end plan sound (suc i) (suc k) l link l.a link.b g at (inl refl) (inr refl)
+          (eqb-true l.a.bridge link.b.bridge (and-left _ _ t)) (eqb-true l.a.port link.b.port (and-right _ _ t))
+          in
           let same = end-link plan sound (suc i) (suc k) l link link.b g at (inl one) (inr refl) in
           let here : Some l ≡ Some link = sym g ∙ ap (λ (j : ℕ). numbered plan.links j) same ∙ at in
           let it : l ≡ link = Some-injective here in
@@ -87,23 +108,31 @@ link_a-b plan sound (suc k) link at =
     ]
 
 -- what leads from a port and to it, where a link with this number begins or ends there
-pub lane_from-a : (plan : Plan) → IsSound plan → (n : ℕ) (link : LinkPlan) → numbered plan.links n ≡ Some link → lane_from plan link.a.bridge link.a.port ≡ lane_ab n
+pub lane_from-a : (plan : Plan) → IsSound plan → (n : ℕ) (link : LinkPlan) → numbered plan.links n ≡ Some link
+    → lane_from plan link.a.bridge link.a.port ≡ lane_ab n
 lane_from-a plan sound zero link at = cc
 lane_from-a plan sound (suc k) link at =
-    ap (λ (m : ℕ). if nat_lt 0 m then lane_ab m else lane_ba (link_b plan link.a.bridge link.a.port)) (link_a-a plan sound (suc k) link at) ∙ grind (arith, nat_tests)
+    ap (λ (m : ℕ). if nat_lt 0 m then lane_ab m else lane_ba (link_b plan link.a.bridge link.a.port))
+    (link_a-a plan sound (suc k) link at) ∙ grind (arith, nat_tests)
 
-pub lane_to-a : (plan : Plan) → IsSound plan → (n : ℕ) (link : LinkPlan) → numbered plan.links n ≡ Some link → lane_to plan link.a.bridge link.a.port ≡ lane_ba n
+pub lane_to-a : (plan : Plan) → IsSound plan → (n : ℕ) (link : LinkPlan) → numbered plan.links n ≡ Some link
+    → lane_to plan link.a.bridge link.a.port ≡ lane_ba n
 lane_to-a plan sound zero link at = cc
 lane_to-a plan sound (suc k) link at =
-    ap (λ (m : ℕ). if nat_lt 0 m then lane_ba m else lane_ab (link_b plan link.a.bridge link.a.port)) (link_a-a plan sound (suc k) link at) ∙ grind (arith, nat_tests)
+    ap (λ (m : ℕ). if nat_lt 0 m then lane_ba m else lane_ab (link_b plan link.a.bridge link.a.port))
+    (link_a-a plan sound (suc k) link at) ∙ grind (arith, nat_tests)
 
-pub lane_from-b : (plan : Plan) → IsSound plan → (n : ℕ) (link : LinkPlan) → numbered plan.links n ≡ Some link → lane_from plan link.b.bridge link.b.port ≡ lane_ba n
+pub lane_from-b : (plan : Plan) → IsSound plan → (n : ℕ) (link : LinkPlan) → numbered plan.links n ≡ Some link
+    → lane_from plan link.b.bridge link.b.port ≡ lane_ba n
 lane_from-b plan sound n link at =
-    ap (λ (m : ℕ). if nat_lt 0 m then lane_ab m else lane_ba (link_b plan link.b.bridge link.b.port)) (link_a-b plan sound n link at) ∙ ap lane_ba (link_b-b plan sound n link at)
+    ap (λ (m : ℕ). if nat_lt 0 m then lane_ab m else lane_ba (link_b plan link.b.bridge link.b.port))
+    (link_a-b plan sound n link at) ∙ ap lane_ba (link_b-b plan sound n link at)
 
-pub lane_to-b : (plan : Plan) → IsSound plan → (n : ℕ) (link : LinkPlan) → numbered plan.links n ≡ Some link → lane_to plan link.b.bridge link.b.port ≡ lane_ab n
+pub lane_to-b : (plan : Plan) → IsSound plan → (n : ℕ) (link : LinkPlan) → numbered plan.links n ≡ Some link
+    → lane_to plan link.b.bridge link.b.port ≡ lane_ab n
 lane_to-b plan sound n link at =
-    ap (λ (m : ℕ). if nat_lt 0 m then lane_ba m else lane_ab (link_b plan link.b.bridge link.b.port)) (link_a-b plan sound n link at) ∙ ap lane_ab (link_b-b plan sound n link at)
+    ap (λ (m : ℕ). if nat_lt 0 m then lane_ba m else lane_ab (link_b plan link.b.bridge link.b.port))
+    (link_a-b plan sound n link at) ∙ ap lane_ab (link_b-b plan sound n link at)
 
 -- a lane is one of its link's two
 odd : (k : ℕ) → (k % 2 == 1) ≡ true → lane_ab (link_of k) ≡ k
@@ -116,26 +145,33 @@ even k e = let small : k % 2 < 2 = omega arith in let less : k % 2 ≡ 0 = not_o
     not_one m h e = grind (arith, h, e)
 
 -- the port at a lane's end is led to by it, and the one at its beginning leads to it
-pub lane_to-is : (plan : Plan) → IsSound plan → (k : ℕ) (link : LinkPlan) → numbered plan.links (link_of k) ≡ Some link → lane_to plan (ends_at k link).bridge (ends_at k link).port ≡ k
+pub lane_to-is : (plan : Plan) → IsSound plan → (k : ℕ) (link : LinkPlan)
+    → numbered plan.links (link_of k) ≡ Some link → lane_to plan (ends_at k link).bridge (ends_at k link).port ≡ k
 lane_to-is plan sound k link at =
-    elim (k % 2 == 1) as (λ b. (k % 2 == 1) ≡ b → lane_to plan (if b then link.b else link.a).bridge (if b then link.b else link.a).port ≡ k) [
+    elim (k % 2 == 1) as (λ b. (k % 2 == 1) ≡ b → lane_to plan (if b then link.b else link.a).bridge
+    (if b then link.b else link.a).port ≡ k) [
       | true ↦ λ e. lane_to-b plan sound (link_of k) link at ∙ odd k e
       | false ↦ λ e. lane_to-a plan sound (link_of k) link at ∙ even k e
     ] refl
 
-pub lane_from-is : (plan : Plan) → IsSound plan → (k : ℕ) (link : LinkPlan) → numbered plan.links (link_of k) ≡ Some link → lane_from plan (begins_at k link).bridge (begins_at k link).port ≡ k
+pub lane_from-is : (plan : Plan) → IsSound plan → (k : ℕ) (link : LinkPlan)
+    → numbered plan.links (link_of k) ≡ Some link
+    → lane_from plan (begins_at k link).bridge (begins_at k link).port ≡ k
 lane_from-is plan sound k link at =
-    elim (k % 2 == 1) as (λ b. (k % 2 == 1) ≡ b → lane_from plan (if b then link.a else link.b).bridge (if b then link.a else link.b).port ≡ k) [
+    elim (k % 2 == 1) as (λ b. (k % 2 == 1) ≡ b → lane_from plan (if b then link.a else link.b).bridge
+    (if b then link.a else link.b).port ≡ k) [
       | true ↦ λ e. lane_from-a plan sound (link_of k) link at ∙ odd k e
       | false ↦ λ e. lane_from-b plan sound (link_of k) link at ∙ even k e
     ] refl
 
 -- both are ends of the link
 pub ends_at-end : (k : ℕ) (link : LinkPlan) → IsEndOf link (ends_at k link)
-ends_at-end k link = elim (k % 2 == 1) as (λ b. IsEndOf link (if b then link.b else link.a)) [ true ↦ inr refl | false ↦ inl refl ]
+ends_at-end k link = elim (k % 2 == 1) as (λ b. IsEndOf link (if b then link.b else link.a))
+    [ true ↦ inr refl | false ↦ inl refl ]
 
 pub begins_at-end : (k : ℕ) (link : LinkPlan) → IsEndOf link (begins_at k link)
-begins_at-end k link = elim (k % 2 == 1) as (λ b. IsEndOf link (if b then link.a else link.b)) [ true ↦ inl refl | false ↦ inr refl ]
+begins_at-end k link = elim (k % 2 == 1) as (λ b. IsEndOf link (if b then link.a else link.b))
+    [ true ↦ inl refl | false ↦ inr refl ]
 
 -- the lanes of the link of a number
 pub ab_link : (n : ℕ) → link_of (lane_ab (suc n)) ≡ suc n
@@ -151,7 +187,8 @@ pub ba_even : (n : ℕ) → (lane_ba (suc n) % 2 == 1) ≡ false
 ba_even n = let none : lane_ba (suc n) % 2 ≡ 0 = omega arith in ap (λ m. m == 1) none
 
 -- where a lane leads to a port it ends there
-pub lane_to-back : (plan : Plan) → IsSound plan → (b q k : ℕ) (e : End) (link : LinkPlan) → port_at plan b q ≡ Provider e → lane_to plan b q ≡ k → numbered plan.links (link_of k) ≡ Some link
+pub lane_to-back : (plan : Plan) → IsSound plan → (b q k : ℕ) (e : End) (link : LinkPlan)
+    → port_at plan b q ≡ Provider e → lane_to plan b q ≡ k → numbered plan.links (link_of k) ≡ Some link
     → ((ends_at k link).bridge ≡ b) × ((ends_at k link).port ≡ q)
 lane_to-back plan sound b q k e link here leads at =
     let there = end_at plan b q e here in
@@ -160,20 +197,28 @@ lane_to-back plan sound b q k e link here leads at =
     same_link : (j : ℕ) (l : LinkPlan) → slice_get plan.links j ≡ Some l → link_of k ≡ suc j → l ≡ link
     same_link j l h n = Some-injective (sym h ∙ ap (λ (i : ℕ). numbered plan.links i) (sym n) ∙ at)
 
-    by : (j : ℕ) (l : LinkPlan) → slice_get plan.links j ≡ Some l → IsEndOf l e → e.bridge ≡ b → e.port ≡ q → ((ends_at k link).bridge ≡ b) × ((ends_at k link).port ≡ q)
+    by : (j : ℕ) (l : LinkPlan) → slice_get plan.links j ≡ Some l → IsEndOf l e → e.bridge ≡ b → e.port ≡ q
+        → ((ends_at k link).bridge ≡ b) × ((ends_at k link).port ≡ q)
     by j l h (inl a) eb eq =
-        let lane : lane_ba (suc j) ≡ k = sym (lane_to-a plan sound (suc j) l h) ∙ ap (λ (d : End). lane_to plan d.bridge d.port) a ∙ ap (λ n. lane_to plan n e.port) eb ∙ ap (λ n. lane_to plan b n) eq ∙ leads in
+        let lane : lane_ba (suc j) ≡ k = sym (lane_to-a plan sound (suc j) l h)
+        ∙ ap (λ (d : End). lane_to plan d.bridge d.port) a ∙ ap (λ n. lane_to plan n e.port) eb
+        ∙ ap (λ n. lane_to plan b n) eq ∙ leads in
         let it = same_link j l h (ap link_of (sym lane) ∙ ba_link j) in
-        let end : ends_at k link ≡ e = ap (λ (t : Bool). if t then link.b else link.a) (ap (λ n. n % 2 == 1) (sym lane) ∙ ba_even j) ∙ ap (λ (x : LinkPlan). x.a) (sym it) ∙ a in
+        let end : ends_at k link ≡ e = ap (λ (t : Bool). if t then link.b else link.a)
+        (ap (λ n. n % 2 == 1) (sym lane) ∙ ba_even j) ∙ ap (λ (x : LinkPlan). x.a) (sym it) ∙ a in
         (ap (λ (d : End). d.bridge) end ∙ eb, ap (λ (d : End). d.port) end ∙ eq)
     by j l h (inr a) eb eq =
-        let lane : lane_ab (suc j) ≡ k = sym (lane_to-b plan sound (suc j) l h) ∙ ap (λ (d : End). lane_to plan d.bridge d.port) a ∙ ap (λ n. lane_to plan n e.port) eb ∙ ap (λ n. lane_to plan b n) eq ∙ leads in
+        let lane : lane_ab (suc j) ≡ k = sym (lane_to-b plan sound (suc j) l h)
+        ∙ ap (λ (d : End). lane_to plan d.bridge d.port) a ∙ ap (λ n. lane_to plan n e.port) eb
+        ∙ ap (λ n. lane_to plan b n) eq ∙ leads in
         let it = same_link j l h (ap link_of (sym lane) ∙ ab_link j) in
-        let end : ends_at k link ≡ e = ap (λ (t : Bool). if t then link.b else link.a) (ap (λ n. n % 2 == 1) (sym lane) ∙ ab_odd j) ∙ ap (λ (x : LinkPlan). x.b) (sym it) ∙ a in
+        let end : ends_at k link ≡ e = ap (λ (t : Bool). if t then link.b else link.a)
+        (ap (λ n. n % 2 == 1) (sym lane) ∙ ab_odd j) ∙ ap (λ (x : LinkPlan). x.b) (sym it) ∙ a in
         (ap (λ (d : End). d.bridge) end ∙ eb, ap (λ (d : End). d.port) end ∙ eq)
 
 -- and where it leads from one, it begins there
-pub lane_from-back : (plan : Plan) → IsSound plan → (b q k : ℕ) (e : End) (link : LinkPlan) → port_at plan b q ≡ Provider e → lane_from plan b q ≡ k → numbered plan.links (link_of k) ≡ Some link
+pub lane_from-back : (plan : Plan) → IsSound plan → (b q k : ℕ) (e : End) (link : LinkPlan)
+    → port_at plan b q ≡ Provider e → lane_from plan b q ≡ k → numbered plan.links (link_of k) ≡ Some link
     → ((begins_at k link).bridge ≡ b) × ((begins_at k link).port ≡ q)
 lane_from-back plan sound b q k e link here leads at =
     let there = end_at plan b q e here in
@@ -182,14 +227,21 @@ lane_from-back plan sound b q k e link here leads at =
     same_link : (j : ℕ) (l : LinkPlan) → slice_get plan.links j ≡ Some l → link_of k ≡ suc j → l ≡ link
     same_link j l h n = Some-injective (sym h ∙ ap (λ (i : ℕ). numbered plan.links i) (sym n) ∙ at)
 
-    by : (j : ℕ) (l : LinkPlan) → slice_get plan.links j ≡ Some l → IsEndOf l e → e.bridge ≡ b → e.port ≡ q → ((begins_at k link).bridge ≡ b) × ((begins_at k link).port ≡ q)
+    by : (j : ℕ) (l : LinkPlan) → slice_get plan.links j ≡ Some l → IsEndOf l e → e.bridge ≡ b → e.port ≡ q
+        → ((begins_at k link).bridge ≡ b) × ((begins_at k link).port ≡ q)
     by j l h (inl a) eb eq =
-        let lane : lane_ab (suc j) ≡ k = sym (lane_from-a plan sound (suc j) l h) ∙ ap (λ (d : End). lane_from plan d.bridge d.port) a ∙ ap (λ n. lane_from plan n e.port) eb ∙ ap (λ n. lane_from plan b n) eq ∙ leads in
+        let lane : lane_ab (suc j) ≡ k = sym (lane_from-a plan sound (suc j) l h)
+        ∙ ap (λ (d : End). lane_from plan d.bridge d.port) a ∙ ap (λ n. lane_from plan n e.port) eb
+        ∙ ap (λ n. lane_from plan b n) eq ∙ leads in
         let it = same_link j l h (ap link_of (sym lane) ∙ ab_link j) in
-        let end : begins_at k link ≡ e = ap (λ (t : Bool). if t then link.a else link.b) (ap (λ n. n % 2 == 1) (sym lane) ∙ ab_odd j) ∙ ap (λ (x : LinkPlan). x.a) (sym it) ∙ a in
+        let end : begins_at k link ≡ e = ap (λ (t : Bool). if t then link.a else link.b)
+        (ap (λ n. n % 2 == 1) (sym lane) ∙ ab_odd j) ∙ ap (λ (x : LinkPlan). x.a) (sym it) ∙ a in
         (ap (λ (d : End). d.bridge) end ∙ eb, ap (λ (d : End). d.port) end ∙ eq)
     by j l h (inr a) eb eq =
-        let lane : lane_ba (suc j) ≡ k = sym (lane_from-b plan sound (suc j) l h) ∙ ap (λ (d : End). lane_from plan d.bridge d.port) a ∙ ap (λ n. lane_from plan n e.port) eb ∙ ap (λ n. lane_from plan b n) eq ∙ leads in
+        let lane : lane_ba (suc j) ≡ k = sym (lane_from-b plan sound (suc j) l h)
+        ∙ ap (λ (d : End). lane_from plan d.bridge d.port) a ∙ ap (λ n. lane_from plan n e.port) eb
+        ∙ ap (λ n. lane_from plan b n) eq ∙ leads in
         let it = same_link j l h (ap link_of (sym lane) ∙ ba_link j) in
-        let end : begins_at k link ≡ e = ap (λ (t : Bool). if t then link.a else link.b) (ap (λ n. n % 2 == 1) (sym lane) ∙ ba_even j) ∙ ap (λ (x : LinkPlan). x.b) (sym it) ∙ a in
+        let end : begins_at k link ≡ e = ap (λ (t : Bool). if t then link.a else link.b)
+        (ap (λ n. n % 2 == 1) (sym lane) ∙ ba_even j) ∙ ap (λ (x : LinkPlan). x.b) (sym it) ∙ a in
         (ap (λ (d : End). d.bridge) end ∙ eb, ap (λ (d : End). d.port) end ∙ eq)

@@ -1,11 +1,13 @@
 -- What was sent to a bridge's port, and what was fetched from it, as a customer port or a lane takes
 -- steps.
-use Rattle.std.proofs.Common.{◌≡◌, ℕ, suc, ◌<◌, inl, inr, List, [], ◌∷◌, ◌++◌, Some, length, slice_get, refl, sym, ap, ◌∙◌, arith, eqb-true}
+use Rattle.std.proofs.Common.{◌≡◌, ℕ, suc, ◌<◌, inl, inr, List, [], ◌∷◌, ◌++◌, Some, length, slice_get, refl, sym, ap}
+use Rattle.std.proofs.Common.{◌∙◌, arith, eqb-true}
 use Rattle.std.specs.Cmp.Derive.{both_true}
 use Rattle.pb_frame.proofs.Lists.{and-left, and-right, eqb-refl, first-finds, Some-injective}
 use Rattle.pb_lan.proofs.Numbers.{numbered-place}
 use Rattle.pb_lan.proofs.PortsInPlans.{port_at-customer, port_at-end, customer-place}
-use Rattle.pb_lan.specs.Events.{customer_there, lane_from, lane_to, sent_by, sent_to, fetched_by, fetched_from, begins_at, ends_at, with_step}
+use Rattle.pb_lan.specs.Events.{customer_there, lane_from, lane_to, sent_by, sent_to, fetched_by, fetched_from}
+use Rattle.pb_lan.specs.Events.{begins_at, ends_at, with_step}
 use Rattle.pb_lan.specs.LaneLists.{taken, put}
 use Rattle.pb_lan.specs.Numbering.{numbered}
 use Rattle.pb_lan.specs.Plans.{IsSound}
@@ -25,53 +27,69 @@ use Rattle.pb_net.proofs.Lanes.{lane_to-is, lane_from-is, lane_to-back, lane_fro
 use Rattle.pb_net.proofs.OneMore.{one_more-kept, steps_of-set_other}
 
 -- a customer port has its number where it stands
-pub customer_there-is : (plan : Plan) → IsSound plan → (n : ℕ) (c : CustomerPlan) → numbered plan.customers n ≡ Some c → customer_there plan c.bridge c.port ≡ n
+pub customer_there-is : (plan : Plan) → IsSound plan → (n : ℕ) (c : CustomerPlan) → numbered plan.customers n ≡ Some c
+    → customer_there plan c.bridge c.port ≡ n
 customer_there-is plan sound n c at =
     let place = numbered-place plan.customers n c at in
     elim (number_of-cases (is_customer_at c.bridge c.port) 1 plan.customers) [
-      | inl none ↦ let some = first-finds (is_customer_at c.bridge c.port) plan.customers place.0 c place.2 (both_true (eqb-refl c.bridge) (eqb-refl c.port)) in let wrong = none.1 in let right = some.1 in cc
+      | inl none ↦ let some = first-finds (is_customer_at c.bridge c.port) plan.customers place.0 c place.2
+          (both_true (eqb-refl c.bridge) (eqb-refl c.port)) in let wrong = none.1 in let right = some.1 in cc
       | inr (i, d, m, g, f, t) ↦
-          let same = customer-place plan sound (suc i) n d c g at (eqb-true d.bridge c.bridge (and-left _ _ t)) (eqb-true d.port c.port (and-right _ _ t)) in
+          let same = customer-place plan sound (suc i) n d c g at (eqb-true d.bridge c.bridge (and-left _ _ t))
+          (eqb-true d.port c.port (and-right _ _ t)) in
           m ∙ omega (arith, same)
     ]
 
 -- and one that has a number stands where its plan says
-customer_there-back : (plan : Plan) (b q r : ℕ) (c : CustomerPlan) → customer_there plan b q ≡ suc r → numbered plan.customers (suc r) ≡ Some c → (c.bridge ≡ b) × (c.port ≡ q)
+customer_there-back : (plan : Plan) (b q r : ℕ) (c : CustomerPlan) → customer_there plan b q ≡ suc r
+    → numbered plan.customers (suc r) ≡ Some c → (c.bridge ≡ b) × (c.port ≡ q)
 customer_there-back plan b q r c there at =
     elim (number_of-cases (is_customer_at b q) 1 plan.customers) [
       | inl none ↦ absurd (omega (arith, none.0, there))
       | inr (i, d, m, g, f, t) ↦
           let same : i ≡ r = omega (arith, m, there) in
-          let one : d ≡ c = Some-injective (sym g ∙ ap (λ k. slice_get plan.customers k) same ∙ at) in
-          (ap (λ (x : CustomerPlan). x.bridge) (sym one) ∙ eqb-true d.bridge b (and-left _ _ t), ap (λ (x : CustomerPlan). x.port) (sym one) ∙ eqb-true d.port q (and-right _ _ t))
+          let one : d ≡ c = Some-injective (sym g ∙ ap (λ k. slice_get plan.customers k) same ∙ at) in (
+            ap (λ (x : CustomerPlan). x.bridge) (sym one) ∙ eqb-true d.bridge b (and-left _ _ t),
+            ap
+                (λ (x : CustomerPlan). x.port) (sym one) ∙ eqb-true d.port q (and-right _ _ t),
+          )
     ]
 
 -- at a customer port
-pub sent_to-customer : (plan : Plan) → IsSound plan → (rec : Record) (n : ℕ) (c : CustomerPlan) → numbered plan.customers n ≡ Some c
+pub sent_to-customer : (plan : Plan) → IsSound plan → (rec : Record) (n : ℕ) (c : CustomerPlan)
+    → numbered plan.customers n ≡ Some c
     → sent_to plan rec c.bridge c.port ≡ fed (steps_of rec.customers n)
 sent_to-customer plan sound rec n c at =
-    ap (sent_by plan rec c.bridge c.port) (port_at-customer plan sound n c at) ∙ ap (λ k. fed (steps_of rec.customers k)) (customer_there-is plan sound n c at)
+    ap (sent_by plan rec c.bridge c.port) (port_at-customer plan sound n c at)
+    ∙ ap (λ k. fed (steps_of rec.customers k)) (customer_there-is plan sound n c at)
 
-pub fetched_from-customer : (plan : Plan) → IsSound plan → (rec : Record) (n : ℕ) (c : CustomerPlan) → numbered plan.customers n ≡ Some c
+pub fetched_from-customer : (plan : Plan) → IsSound plan → (rec : Record) (n : ℕ) (c : CustomerPlan)
+    → numbered plan.customers n ≡ Some c
     → fetched_from plan rec c.bridge c.port ≡ delivered (steps_of rec.customers n)
 fetched_from-customer plan sound rec n c at =
-    ap (fetched_by plan rec c.bridge c.port) (port_at-customer plan sound n c at) ∙ ap (λ k. delivered (steps_of rec.customers k)) (customer_there-is plan sound n c at)
+    ap (fetched_by plan rec c.bridge c.port) (port_at-customer plan sound n c at)
+    ∙ ap (λ k. delivered (steps_of rec.customers k)) (customer_there-is plan sound n c at)
 
 -- at the ends of a lane
-pub sent_to-lane : (plan : Plan) → IsSound plan → (rec : Record) (k : ℕ) (link : LinkPlan) → numbered plan.links (link_of k) ≡ Some link
+pub sent_to-lane : (plan : Plan) → IsSound plan → (rec : Record) (k : ℕ) (link : LinkPlan)
+    → numbered plan.links (link_of k) ≡ Some link
     → sent_to plan rec (ends_at k link).bridge (ends_at k link).port ≡ put (steps_of rec.lanes k)
 sent_to-lane plan sound rec k link at =
-    ap (sent_by plan rec (ends_at k link).bridge (ends_at k link).port) (port_at-end plan sound (link_of k) link (ends_at k link) at (ends_at-end k link))
+    ap (sent_by plan rec (ends_at k link).bridge (ends_at k link).port)
+    (port_at-end plan sound (link_of k) link (ends_at k link) at (ends_at-end k link))
     ∙ ap (λ m. put (steps_of rec.lanes m)) (lane_to-is plan sound k link at)
 
-pub fetched_from-lane : (plan : Plan) → IsSound plan → (rec : Record) (k : ℕ) (link : LinkPlan) → numbered plan.links (link_of k) ≡ Some link
+pub fetched_from-lane : (plan : Plan) → IsSound plan → (rec : Record) (k : ℕ) (link : LinkPlan)
+    → numbered plan.links (link_of k) ≡ Some link
     → fetched_from plan rec (begins_at k link).bridge (begins_at k link).port ≡ taken (steps_of rec.lanes k)
 fetched_from-lane plan sound rec k link at =
-    ap (fetched_by plan rec (begins_at k link).bridge (begins_at k link).port) (port_at-end plan sound (link_of k) link (begins_at k link) at (begins_at-end k link))
+    ap (fetched_by plan rec (begins_at k link).bridge (begins_at k link).port)
+    (port_at-end plan sound (link_of k) link (begins_at k link) at (begins_at-end k link))
     ∙ ap (λ m. taken (steps_of rec.lanes m)) (lane_from-is plan sound k link at)
 
 -- a bridge's steps send nothing to a port, and fetch nothing from one
-pub sent_to-bridge : (plan : Plan) (rec : Record) (r : ℕ) (step : Step) (b q : ℕ) → sent_to plan (with_step rec (Bridge (suc r)) step) b q ≡ sent_to plan rec b q
+pub sent_to-bridge : (plan : Plan) (rec : Record) (r : ℕ) (step : Step) (b q : ℕ)
+    → sent_to plan (with_step rec (Bridge (suc r)) step) b q ≡ sent_to plan rec b q
 sent_to-bridge plan rec r step b q = by (port_at plan b q)
   where
     by : (p : Port) → sent_by plan (with_step rec (Bridge (suc r)) step) b q p ≡ sent_by plan rec b q p
@@ -79,7 +97,8 @@ sent_to-bridge plan rec r step b q = by (port_at plan b q)
     by (Provider e) = refl
     by Unused = refl
 
-pub fetched_from-bridge : (plan : Plan) (rec : Record) (r : ℕ) (step : Step) (b q : ℕ) → fetched_from plan (with_step rec (Bridge (suc r)) step) b q ≡ fetched_from plan rec b q
+pub fetched_from-bridge : (plan : Plan) (rec : Record) (r : ℕ) (step : Step) (b q : ℕ)
+    → fetched_from plan (with_step rec (Bridge (suc r)) step) b q ≡ fetched_from plan rec b q
 fetched_from-bridge plan rec r step b q = by (port_at plan b q)
   where
     by : (p : Port) → fetched_by plan (with_step rec (Bridge (suc r)) step) b q p ≡ fetched_by plan rec b q p
@@ -88,7 +107,8 @@ fetched_from-bridge plan rec r step b q = by (port_at plan b q)
     by Unused = refl
 
 -- a customer port's step that feeds nothing sends nothing
-pub sent_to-unfed : (plan : Plan) (rec : Record) (r : ℕ) (step : Step) → r < length rec.customers → ((ms : List Step) → fed (ms ++ step ∷ []) ≡ fed ms)
+pub sent_to-unfed : (plan : Plan) (rec : Record) (r : ℕ) (step : Step) → r < length rec.customers
+    → ((ms : List Step) → fed (ms ++ step ∷ []) ≡ fed ms)
     → (b q : ℕ) → sent_to plan (with_step rec (CustomerPort (suc r)) step) b q ≡ sent_to plan rec b q
 sent_to-unfed plan rec r step within each b q = by (port_at plan b q)
   where
@@ -98,7 +118,8 @@ sent_to-unfed plan rec r step within each b q = by (port_at plan b q)
     by Unused = refl
 
 -- and one that delivers nothing fetches nothing
-pub fetched_from-undelivered : (plan : Plan) (rec : Record) (r : ℕ) (step : Step) → r < length rec.customers → ((ms : List Step) → delivered (ms ++ step ∷ []) ≡ delivered ms)
+pub fetched_from-undelivered : (plan : Plan) (rec : Record) (r : ℕ) (step : Step) → r < length rec.customers
+    → ((ms : List Step) → delivered (ms ++ step ∷ []) ≡ delivered ms)
     → (b q : ℕ) → fetched_from plan (with_step rec (CustomerPort (suc r)) step) b q ≡ fetched_from plan rec b q
 fetched_from-undelivered plan rec r step within each b q = by (port_at plan b q)
   where
@@ -108,26 +129,33 @@ fetched_from-undelivered plan rec r step within each b q = by (port_at plan b q)
     by Unused = refl
 
 -- a step of another customer port
-pub sent_to-elsewhere : (plan : Plan) (rec : Record) (r : ℕ) (c : CustomerPlan) (step : Step) → numbered plan.customers (suc r) ≡ Some c
-    → (b q : ℕ) → ((c.bridge ≡ b) × (c.port ≡ q) → ⊥) → sent_to plan (with_step rec (CustomerPort (suc r)) step) b q ≡ sent_to plan rec b q
+pub sent_to-elsewhere : (plan : Plan) (rec : Record) (r : ℕ) (c : CustomerPlan) (step : Step)
+    → numbered plan.customers (suc r) ≡ Some c
+    → (b q : ℕ) → ((c.bridge ≡ b) × (c.port ≡ q) → ⊥)
+    → sent_to plan (with_step rec (CustomerPort (suc r)) step) b q ≡ sent_to plan rec b q
 sent_to-elsewhere plan rec r c step at b q ne = by (port_at plan b q)
   where
     by : (p : Port) → sent_by plan (with_step rec (CustomerPort (suc r)) step) b q p ≡ sent_by plan rec b q p
-    by (Customer d) = ap fed (steps_of-set_other rec.customers r (customer_there plan b q) (steps_of rec.customers (suc r) ++ step ∷ []) (λ e. ne (customer_there-back plan b q r c e at)))
+    by (Customer d) = ap fed (steps_of-set_other rec.customers r (customer_there plan b q)
+        (steps_of rec.customers (suc r) ++ step ∷ []) (λ e. ne (customer_there-back plan b q r c e at)))
     by (Provider e) = refl
     by Unused = refl
 
-pub fetched_from-elsewhere : (plan : Plan) (rec : Record) (r : ℕ) (c : CustomerPlan) (step : Step) → numbered plan.customers (suc r) ≡ Some c
-    → (b q : ℕ) → ((c.bridge ≡ b) × (c.port ≡ q) → ⊥) → fetched_from plan (with_step rec (CustomerPort (suc r)) step) b q ≡ fetched_from plan rec b q
+pub fetched_from-elsewhere : (plan : Plan) (rec : Record) (r : ℕ) (c : CustomerPlan) (step : Step)
+    → numbered plan.customers (suc r) ≡ Some c
+    → (b q : ℕ) → ((c.bridge ≡ b) × (c.port ≡ q) → ⊥)
+    → fetched_from plan (with_step rec (CustomerPort (suc r)) step) b q ≡ fetched_from plan rec b q
 fetched_from-elsewhere plan rec r c step at b q ne = by (port_at plan b q)
   where
     by : (p : Port) → fetched_by plan (with_step rec (CustomerPort (suc r)) step) b q p ≡ fetched_by plan rec b q p
-    by (Customer d) = ap delivered (steps_of-set_other rec.customers r (customer_there plan b q) (steps_of rec.customers (suc r) ++ step ∷ []) (λ e. ne (customer_there-back plan b q r c e at)))
+    by (Customer d) = ap delivered (steps_of-set_other rec.customers r (customer_there plan b q)
+        (steps_of rec.customers (suc r) ++ step ∷ []) (λ e. ne (customer_there-back plan b q r c e at)))
     by (Provider e) = refl
     by Unused = refl
 
 -- a lane's step that puts nothing sends nothing
-pub sent_to-unput : (plan : Plan) (rec : Record) (r : ℕ) (step : Step) → r < length rec.lanes → ((ms : List Step) → put (ms ++ step ∷ []) ≡ put ms)
+pub sent_to-unput : (plan : Plan) (rec : Record) (r : ℕ) (step : Step) → r < length rec.lanes
+    → ((ms : List Step) → put (ms ++ step ∷ []) ≡ put ms)
     → (b q : ℕ) → sent_to plan (with_step rec (Lane (suc r)) step) b q ≡ sent_to plan rec b q
 sent_to-unput plan rec r step within each b q = by (port_at plan b q)
   where
@@ -137,7 +165,8 @@ sent_to-unput plan rec r step within each b q = by (port_at plan b q)
     by Unused = refl
 
 -- and one that takes nothing fetches nothing
-pub fetched_from-untaken : (plan : Plan) (rec : Record) (r : ℕ) (step : Step) → r < length rec.lanes → ((ms : List Step) → taken (ms ++ step ∷ []) ≡ taken ms)
+pub fetched_from-untaken : (plan : Plan) (rec : Record) (r : ℕ) (step : Step) → r < length rec.lanes
+    → ((ms : List Step) → taken (ms ++ step ∷ []) ≡ taken ms)
     → (b q : ℕ) → fetched_from plan (with_step rec (Lane (suc r)) step) b q ≡ fetched_from plan rec b q
 fetched_from-untaken plan rec r step within each b q = by (port_at plan b q)
   where
@@ -147,20 +176,30 @@ fetched_from-untaken plan rec r step within each b q = by (port_at plan b q)
     by Unused = refl
 
 -- a step of another lane
-pub sent_to-other_lane : (plan : Plan) → IsSound plan → (rec : Record) (r : ℕ) (link : LinkPlan) (step : Step) → numbered plan.links (link_of (suc r)) ≡ Some link
-    → (b q : ℕ) → (((ends_at (suc r) link).bridge ≡ b) × ((ends_at (suc r) link).port ≡ q) → ⊥) → sent_to plan (with_step rec (Lane (suc r)) step) b q ≡ sent_to plan rec b q
+pub sent_to-other_lane : (plan : Plan) → IsSound plan → (rec : Record) (r : ℕ) (link : LinkPlan) (step : Step)
+    → numbered plan.links (link_of (suc r)) ≡ Some link
+    → (b q : ℕ) → (((ends_at (suc r) link).bridge ≡ b) × ((ends_at (suc r) link).port ≡ q) → ⊥)
+    → sent_to plan (with_step rec (Lane (suc r)) step) b q ≡ sent_to plan rec b q
 sent_to-other_lane plan sound rec r link step at b q ne = by (port_at plan b q) refl
   where
-    by : (p : Port) → port_at plan b q ≡ p → sent_by plan (with_step rec (Lane (suc r)) step) b q p ≡ sent_by plan rec b q p
+    by : (p : Port) → port_at plan b q ≡ p → sent_by plan (with_step rec (Lane (suc r)) step) b q p ≡ sent_by plan rec
+        b q p
     by (Customer c) h = refl
-    by (Provider e) h = ap put (steps_of-set_other rec.lanes r (lane_to plan b q) (steps_of rec.lanes (suc r) ++ step ∷ []) (λ leads. ne (lane_to-back plan sound b q (suc r) e link h leads at)))
+    by (Provider e) h = ap put
+        (steps_of-set_other rec.lanes r (lane_to plan b q) (steps_of rec.lanes (suc r) ++ step ∷ [])
+        (λ leads. ne (lane_to-back plan sound b q (suc r) e link h leads at)))
     by Unused h = refl
 
-pub fetched_from-other_lane : (plan : Plan) → IsSound plan → (rec : Record) (r : ℕ) (link : LinkPlan) (step : Step) → numbered plan.links (link_of (suc r)) ≡ Some link
-    → (b q : ℕ) → (((begins_at (suc r) link).bridge ≡ b) × ((begins_at (suc r) link).port ≡ q) → ⊥) → fetched_from plan (with_step rec (Lane (suc r)) step) b q ≡ fetched_from plan rec b q
+pub fetched_from-other_lane : (plan : Plan) → IsSound plan → (rec : Record) (r : ℕ) (link : LinkPlan) (step : Step)
+    → numbered plan.links (link_of (suc r)) ≡ Some link
+    → (b q : ℕ) → (((begins_at (suc r) link).bridge ≡ b) × ((begins_at (suc r) link).port ≡ q) → ⊥)
+    → fetched_from plan (with_step rec (Lane (suc r)) step) b q ≡ fetched_from plan rec b q
 fetched_from-other_lane plan sound rec r link step at b q ne = by (port_at plan b q) refl
   where
-    by : (p : Port) → port_at plan b q ≡ p → fetched_by plan (with_step rec (Lane (suc r)) step) b q p ≡ fetched_by plan rec b q p
+    by : (p : Port) → port_at plan b q ≡ p
+        → fetched_by plan (with_step rec (Lane (suc r)) step) b q p ≡ fetched_by plan rec b q p
     by (Customer c) h = refl
-    by (Provider e) h = ap taken (steps_of-set_other rec.lanes r (lane_from plan b q) (steps_of rec.lanes (suc r) ++ step ∷ []) (λ leads. ne (lane_from-back plan sound b q (suc r) e link h leads at)))
+    by (Provider e) h = ap taken
+        (steps_of-set_other rec.lanes r (lane_from plan b q) (steps_of rec.lanes (suc r) ++ step ∷ [])
+        (λ leads. ne (lane_from-back plan sound b q (suc r) e link h leads at)))
     by Unused h = refl

@@ -1,5 +1,6 @@
 -- Lists by number, with one of them changed.
-use Rattle.std.proofs.Common.{◌≡◌, ℕ, zero, suc, ◌<◌, ◌⊎◌, inl, inr, List, [], ◌∷◌, ◌++◌, Some, map, length, unwrap_or, slice_get, get_or, refl, sym, ap, ◌∙◌, arith, append-nil}
+use Rattle.std.proofs.Common.{◌≡◌, ℕ, zero, suc, ◌<◌, ◌⊎◌, inl, inr, List, [], ◌∷◌, ◌++◌, Some, map, length}
+use Rattle.std.proofs.Common.{unwrap_or, slice_get, get_or, refl, sym, ap, ◌∙◌, arith, append-nil}
 use Rattle.std.proofs.Math.ListN.{set}
 use Rattle.std.proofs.lemmas.List.{map-set}
 use Rattle.std.proofs.lemmas.Option.{slice_get-get_or}
@@ -17,7 +18,8 @@ pub same_or_not : (m n : ℕ) → (m ≡ n) ⊎ (m ≡ n → ⊥)
 same_or_not zero zero = inl refl
 same_or_not zero (suc n) = inr (λ e. omega arith)
 same_or_not (suc m) zero = inr (λ e. omega arith)
-same_or_not (suc m) (suc n) = elim (same_or_not m n) [ inl e ↦ inl (ap (λ k. suc k) e) | inr ne ↦ inr (λ e. ne (omega arith)) ]
+same_or_not (suc m) (suc n) =
+    elim (same_or_not m n) [ inl e ↦ inl (ap (λ k. suc k) e) | inr ne ↦ inr (λ e. ne (omega arith)) ]
 
 -- the thing at a place of a list that was changed there
 pub slice_get-set_same : {X : Type 0} (xs : List X) (r : ℕ) (y : X) → r < length xs → slice_get (set xs r y) r ≡ Some y
@@ -30,7 +32,8 @@ pub here_is : {X : Type 0} (xs : List X) (r : ℕ) (x : X) → r < length xs →
 here_is xs r x within e = slice_get-get_or xs r x within ∙ ap (λ z. Some z) (sym e)
 
 -- and elsewhere
-pub slice_get-set_other : {X : Type 0} (xs : List X) (r s : ℕ) (y : X) → (s ≡ r → ⊥) → slice_get (set xs r y) s ≡ slice_get xs s
+pub slice_get-set_other : {X : Type 0} (xs : List X) (r s : ℕ) (y : X) → (s ≡ r → ⊥)
+    → slice_get (set xs r y) s ≡ slice_get xs s
 slice_get-set_other [] r s y ne = refl
 slice_get-set_other (x ∷ xs) zero zero y ne = absurd (ne refl)
 slice_get-set_other (x ∷ xs) zero (suc s) y ne = refl
@@ -38,61 +41,77 @@ slice_get-set_other (x ∷ xs) (suc r) zero y ne = refl
 slice_get-set_other (x ∷ xs) (suc r) (suc s) y ne = slice_get-set_other xs r s y (λ e. ne (ap (λ n. suc n) e))
 
 -- the same by number
-pub numbered-set_same : {X : Type 0} (xs : List X) (r : ℕ) (y : X) → r < length xs → numbered (set xs r y) (suc r) ≡ Some y
+pub numbered-set_same : {X : Type 0} (xs : List X) (r : ℕ) (y : X) → r < length xs
+    → numbered (set xs r y) (suc r) ≡ Some y
 numbered-set_same xs r y h = slice_get-set_same xs r y h
 
-pub numbered-set_other : {X : Type 0} (xs : List X) (r n : ℕ) (y : X) → (n ≡ suc r → ⊥) → numbered (set xs r y) n ≡ numbered xs n
+pub numbered-set_other : {X : Type 0} (xs : List X) (r n : ℕ) (y : X) → (n ≡ suc r → ⊥)
+    → numbered (set xs r y) n ≡ numbered xs n
 numbered-set_other xs r zero y ne = refl
 numbered-set_other xs r (suc s) y ne = slice_get-set_other xs r s y (λ e. ne (ap (λ n. suc n) e))
 
 -- the steps of the place that took a step, and of another
-pub steps_of-set_same : (lists : List (List Step)) (r : ℕ) (steps : List Step) → r < length lists → steps_of (set lists r steps) (suc r) ≡ steps
+pub steps_of-set_same : (lists : List (List Step)) (r : ℕ) (steps : List Step) → r < length lists
+    → steps_of (set lists r steps) (suc r) ≡ steps
 steps_of-set_same lists r steps h = ap (λ o. unwrap_or o []) (numbered-set_same lists r steps h)
 
-pub steps_of-set_other : (lists : List (List Step)) (r n : ℕ) (steps : List Step) → (n ≡ suc r → ⊥) → steps_of (set lists r steps) n ≡ steps_of lists n
+pub steps_of-set_other : (lists : List (List Step)) (r n : ℕ) (steps : List Step) → (n ≡ suc r → ⊥)
+    → steps_of (set lists r steps) n ≡ steps_of lists n
 steps_of-set_other lists r n steps ne = ap (λ o. unwrap_or o []) (numbered-set_other lists r n steps ne)
 
 -- what is read of a place's steps, where the step adds nothing to it
 pub one_more-kept : {X : Type 0} (f : List Step → X) (step : Step) → ((ms : List Step) → f (ms ++ step ∷ []) ≡ f ms)
-    → (lists : List (List Step)) (r m : ℕ) → r < length lists → f (steps_of (set lists r (steps_of lists (suc r) ++ step ∷ [])) m) ≡ f (steps_of lists m)
+    → (lists : List (List Step)) (r m : ℕ) → r < length lists
+    → f (steps_of (set lists r (steps_of lists (suc r) ++ step ∷ [])) m) ≡ f (steps_of lists m)
 one_more-kept f step each lists r m within =
     let grown = steps_of lists (suc r) ++ step ∷ [] in
     elim (same_or_not m (suc r)) [
-      | inl e ↦ ap (λ k. f (steps_of (set lists r grown) k)) e ∙ ap f (steps_of-set_same lists r grown within) ∙ each (steps_of lists (suc r)) ∙ ap (λ k. f (steps_of lists k)) (sym e)
+      | inl e ↦ ap (λ k. f (steps_of (set lists r grown) k)) e ∙ ap f (steps_of-set_same lists r grown within)
+          ∙ each (steps_of lists (suc r)) ∙ ap (λ k. f (steps_of lists k)) (sym e)
       | inr ne ↦ ap f (steps_of-set_other lists r m grown ne)
     ]
 
 -- the items of the meeting place that changed, and of another
-pub items_at-set_same : (lists : List (List Item)) (s : ℕ) (items : List Item) → s < length lists → items_at (set lists s items) s ≡ items
+pub items_at-set_same : (lists : List (List Item)) (s : ℕ) (items : List Item) → s < length lists
+    → items_at (set lists s items) s ≡ items
 items_at-set_same lists s items h = ap (λ o. unwrap_or o []) (slice_get-set_same lists s items h)
 
-pub items_at-set_other : (lists : List (List Item)) (s t : ℕ) (items : List Item) → (t ≡ s → ⊥) → items_at (set lists s items) t ≡ items_at lists t
+pub items_at-set_other : (lists : List (List Item)) (s t : ℕ) (items : List Item) → (t ≡ s → ⊥)
+    → items_at (set lists s items) t ≡ items_at lists t
 items_at-set_other lists s t items ne = ap (λ o. unwrap_or o []) (slice_get-set_other lists s t items ne)
 
 -- what is looked up in a list of things is looked up in the list of their parts
-pub slice_get-map : {X Y : Type 0} (f : X → Y) (xs : List X) (r : ℕ) (x : X) → slice_get xs r ≡ Some x → slice_get (map f xs) r ≡ Some (f x)
+pub slice_get-map : {X Y : Type 0} (f : X → Y) (xs : List X) (r : ℕ) (x : X) → slice_get xs r ≡ Some x
+    → slice_get (map f xs) r ≡ Some (f x)
 slice_get-map f [] r x e = cc
 slice_get-map f (y ∷ xs) zero x e = let same : y ≡ x = cc in ap (λ z. Some (f z)) same
 slice_get-map f (y ∷ xs) (suc r) x e = slice_get-map f xs r x e
 
-pub steps_of-map : {X : Type 0} (f : X → List Step) (xs : List X) (r : ℕ) (x : X) → slice_get xs r ≡ Some x → steps_of (map f xs) (suc r) ≡ f x
+pub steps_of-map : {X : Type 0} (f : X → List Step) (xs : List X) (r : ℕ) (x : X) → slice_get xs r ≡ Some x
+    → steps_of (map f xs) (suc r) ≡ f x
 steps_of-map f xs r x e = ap (λ o. unwrap_or o []) (slice_get-map f xs r x e)
 
-pub items_at-here : (lists : List (List Item)) (s : ℕ) (items : List Item) → slice_get lists s ≡ Some items → items_at lists s ≡ items
+pub items_at-here : (lists : List (List Item)) (s : ℕ) (items : List Item) → slice_get lists s ≡ Some items
+    → items_at lists s ≡ items
 items_at-here lists s items e = ap (λ o. unwrap_or o []) e
 
 -- one thing has taken a step: so have the lists
-pub one_more-map : {X : Type 0} (f : X → List Step) (xs : List X) (r : ℕ) (old new : X) (step : Step) → slice_get xs r ≡ Some old
+pub one_more-map : {X : Type 0} (f : X → List Step) (xs : List X) (r : ℕ) (old new : X) (step : Step)
+    → slice_get xs r ≡ Some old
     → f new ≡ f old ++ step ∷ [] → map f (set xs r new) ≡ one_more (map f xs) (suc r) step
 one_more-map f xs r old new step here grown =
-    map-set f xs r new ∙ ap (λ z. set (map f xs) r z) (grown ∙ ap (λ z. z ++ step ∷ []) (sym (steps_of-map f xs r old here)))
+    map-set f xs r new ∙ ap (λ z. set (map f xs) r z)
+    (grown ∙ ap (λ z. z ++ step ∷ []) (sym (steps_of-map f xs r old here)))
 
 -- one thing has changed, and shows what it showed
-pub map-set_kept : {X Y : Type 0} (f : X → Y) (xs : List X) (r : ℕ) (old new : X) → slice_get xs r ≡ Some old → f new ≡ f old → map f (set xs r new) ≡ map f xs
+pub map-set_kept : {X Y : Type 0} (f : X → Y) (xs : List X) (r : ℕ) (old new : X) → slice_get xs r ≡ Some old
+    → f new ≡ f old → map f (set xs r new) ≡ map f xs
 map-set_kept f [] r old new here same = refl
-map-set_kept f (x ∷ xs) zero old new here same = let one : x ≡ old = cc in ap (λ z. z ∷ map f xs) (same ∙ ap f (sym one))
+map-set_kept f (x ∷ xs) zero old new here same = let one : x ≡ old = cc in ap (λ z. z ∷ map f xs)
+    (same ∙ ap f (sym one))
 map-set_kept f (x ∷ xs) (suc r) old new here same = ap (λ z. f x ∷ z) (map-set_kept f xs r old new here same)
 
 -- what a list of steps gives, with one step more
-pub flat_map-more : {X : Type 0} (f : Step → List X) (steps : List Step) (step : Step) → flat_map f (steps ++ step ∷ []) ≡ flat_map f steps ++ f step
+pub flat_map-more : {X : Type 0} (f : Step → List X) (steps : List Step) (step : Step)
+    → flat_map f (steps ++ step ∷ []) ≡ flat_map f steps ++ f step
 flat_map-more f steps step = flat_map-append f steps (step ∷ []) ∙ ap (λ z. flat_map f steps ++ z) (append-nil (f step))

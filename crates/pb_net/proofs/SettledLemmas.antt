@@ -1,5 +1,6 @@
 -- The machines of a network's bridges.
-use Rattle.std.proofs.Common.{◌↔◌, IsTrue, Bool, ◌≡◌, ℕ, zero, suc, ◌+◌, ◌-◌, ◌<◌, ◌≤◌, List, [], ◌∷◌, ◌++◌, Some, map, length, take, get_or, refl, sym, ap, ◌∙◌, subst, arith}
+use Rattle.std.proofs.Common.{◌↔◌, IsTrue, Bool, ◌≡◌, ℕ, zero, suc, ◌+◌, ◌-◌, ◌<◌, ◌≤◌, List, [], ◌∷◌, ◌++◌, Some}
+use Rattle.std.proofs.Common.{map, length, take, get_or, refl, sym, ap, ◌∙◌, subst, arith}
 use Rattle.std.proofs.lemmas.List.{take_more, get_or-map, length-map}
 use Rattle.pb_lan.specs.Numbering.{numbers_from}
 use Rattle.pb_lan.specs.Records.{steps_of}
@@ -27,22 +28,27 @@ length-numbers k (x ∷ xs) = ap suc (length-numbers (k + 1) xs)
 numbers-at : {X : Type 0} (k i : ℕ) (xs : List X) → i < length xs → get_or (numbers_from k xs) i 0 ≡ k + i
 numbers-at k i [] l = absurd (omega arith)
 numbers-at k zero (x ∷ xs) l = omega arith
-numbers-at k (suc i) (x ∷ xs) l = let s : k + 1 + i ≡ k + suc i = omega arith in numbers-at (k + 1) i xs (omega arith) ∙ s
+numbers-at k (suc i) (x ∷ xs) l = let s : k + 1 + i ≡ k + suc i = omega arith in numbers-at (k + 1) i xs (omega arith)
+    ∙ s
 
 -- the machine of the bridge at a place of the list
-pub machine_there : (plan : Plan) (bridges : List BridgeView) (lanes : List LaneView) (customers : List PlaceView) (r : ℕ) (b : BridgeView) → plan.spanning ≡ Rstp
+pub machine_there : (plan : Plan) (bridges : List BridgeView) (lanes : List LaneView) (customers : List PlaceView)
+    (r : ℕ) (b : BridgeView) → plan.spanning ≡ Rstp
     → ArePlaced plan bridges lanes customers → r < length bridges → b ≡ get_or bridges r b
-    → machine_in b.plan b.number b.steps ≡ Some (machine_of plan (r + 1) (steps_of (record_of bridges lanes customers).bridges (r + 1)))
+    → machine_in b.plan b.number b.steps ≡ Some
+    (machine_of plan (r + 1) (steps_of (record_of bridges lanes customers).bridges (r + 1)))
 machine_there plan bridges lanes customers r b rstp placed within value =
     let here = here_is bridges r b within value in
     let s : suc r ≡ r + 1 = omega arith in
     ap (λ (p : Plan). machine_in p b.number b.steps) (placed.planned r b here)
     ∙ ap (λ n. machine_in plan n b.steps) (placed.bridge_numbers r b here)
-    ∙ ap (machine_in plan (r + 1)) (sym (steps_of-map (λ (x : BridgeView). x.steps) bridges r b here) ∙ ap (steps_of (record_of bridges lanes customers).bridges) s)
+    ∙ ap (machine_in plan (r + 1)) (sym (steps_of-map (λ (x : BridgeView). x.steps) bridges r b here) ∙ ap
+    (steps_of (record_of bridges lanes customers).bridges) s)
     ∙ a_machine plan (r + 1) (steps_of (record_of bridges lanes customers).bridges (r + 1)) rstp
 
 -- the machine of the bridge of a number, if it has one
-pub machine_of_bridge : (plan : Plan) (bridges : List BridgeView) (lanes : List LaneView) (customers : List PlaceView) (n : ℕ) (b : BridgeView)
+pub machine_of_bridge : (plan : Plan) (bridges : List BridgeView) (lanes : List LaneView) (customers : List PlaceView)
+    (n : ℕ) (b : BridgeView)
     → ArePlaced plan bridges lanes customers → 1 ≤ n → n - 1 < length bridges → b ≡ get_or bridges (n - 1) b
     → machine_in b.plan b.number b.steps ≡ machine_in plan n (steps_of (record_of bridges lanes customers).bridges n)
 machine_of_bridge plan bridges lanes customers n b placed one within value =
@@ -53,8 +59,10 @@ machine_of_bridge plan bridges lanes customers n b placed one within value =
     ∙ ap (machine_in plan n) (sym (steps_at_number (λ (x : BridgeView). x.steps) bridges n b one here))
 
 -- one machine more
-pub machines_more : (plan : Plan) (bridges : List BridgeView) (lanes : List LaneView) (customers : List PlaceView) (r : ℕ) (b : BridgeView) (before : List Machine) (m : Machine)
-    → plan.spanning ≡ Rstp → ArePlaced plan bridges lanes customers → r < length bridges → b ≡ get_or bridges r b → Some m ≡ machine_in b.plan b.number b.steps
+pub machines_more : (plan : Plan) (bridges : List BridgeView) (lanes : List LaneView) (customers : List PlaceView)
+    (r : ℕ) (b : BridgeView) (before : List Machine) (m : Machine)
+    → plan.spanning ≡ Rstp → ArePlaced plan bridges lanes customers → r < length bridges → b ≡ get_or bridges r b
+    → Some m ≡ machine_in b.plan b.number b.steps
     → before ≡ take r (machines_in plan (record_of bridges lanes customers))
     → before ++ m ∷ [] ≡ take (r + 1) (machines_in plan (record_of bridges lanes customers))
 unfolding machines_in
@@ -65,7 +73,8 @@ machines_more plan bridges lanes customers r b before m rstp placed within value
     let n = length-numbers 1 plan.bridges in
     let k = length-map (numbers_from 1 plan.bridges) f in
     let s : 1 + r ≡ r + 1 = omega arith in
-    let there : Some m ≡ Some (f (r + 1)) = some ∙ machine_there plan bridges lanes customers r b rstp placed within value in
+    let there : Some m ≡ Some (f (r + 1)) = some ∙ machine_there plan bridges lanes customers r b rstp placed within
+    value in
     let same : m ≡ f (r + 1) = cc in
     let at : get_or (map f (numbers_from 1 plan.bridges)) r m ≡ f (r + 1) =
     get_or-map f (numbers_from 1 plan.bridges) r 0 m (omega arith) ∙ ap f (numbers-at 1 r plan.bridges few ∙ s) in
@@ -73,8 +82,10 @@ machines_more plan bridges lanes customers r b before m rstp placed within value
     ∙ sym (take_more (map f (numbers_from 1 plan.bridges)) r m (omega arith))
 
 -- and all of them
-pub machines_all : (plan : Plan) (bridges : List BridgeView) (lanes : List LaneView) (customers : List PlaceView) → ArePlaced plan bridges lanes customers
-    → take (length bridges) (machines_in plan (record_of bridges lanes customers)) ≡ machines_in plan (record_of bridges lanes customers)
+pub machines_all : (plan : Plan) (bridges : List BridgeView) (lanes : List LaneView) (customers : List PlaceView)
+    → ArePlaced plan bridges lanes customers
+    → take (length bridges) (machines_in plan (record_of bridges lanes customers)) ≡ machines_in plan
+    (record_of bridges lanes customers)
 unfolding machines_in
 machines_all plan bridges lanes customers placed =
     let past = steps_of (record_of bridges lanes customers).bridges in
@@ -89,15 +100,21 @@ machines_all plan bridges lanes customers placed =
     take-all (x ∷ xs) = ap (λ zs. x ∷ zs) (take-all xs)
 
 -- a network's own machines are the plan's
-are_machines : (plan : Plan) (rec : Record) → IsSound plan → PlannedAreMachines → AreMachines plan (machines_in plan rec)
+are_machines : (plan : Plan) (rec : Record) → IsSound plan → PlannedAreMachines
+    → AreMachines plan (machines_in plan rec)
 unfolding machines_in
 are_machines plan rec sound planned = planned plan (steps_of rec.bridges) sound
 
 -- what the answer tells of a network's own machines
-pub tells : (plan : Plan) (rec : Record) (machines : List Machine) (answer : Bool) → machines ≡ machines_in plan rec → IsSound plan → PlannedAreMachines
+pub tells : (plan : Plan) (rec : Record) (machines : List Machine) (answer : Bool) → machines ≡ machines_in plan rec
+    → IsSound plan → PlannedAreMachines
     → (IsTrue answer ↔ IsSettled plan machines)
     → (IsTrue answer → IsSound plan → AreMachines plan machines → NoneHeld machines → AreForests plan machines)
     → TellsOf plan (machines_in plan rec) answer
 tells plan rec machines answer e sound planned settled forest =
     subst (λ (ms : List Machine). TellsOf plan ms answer) e
-    (record { settled = settled; forest = λ t none. forest t sound (subst (AreMachines plan) (sym e) (are_machines plan rec sound planned)) none })
+    (record {
+      settled = settled;
+      forest = λ t none. forest t sound
+          (subst (AreMachines plan) (sym e) (are_machines plan rec sound planned)) none;
+    })

@@ -1,7 +1,9 @@
 -- What a local port becomes.
 use Rattle.pb_svlan.specs.ServiceTables.{role_in}
 use Rattle.pb_svlan.specs.declared.port.Attachment.{Attachment}
-use Rattle.std.proofs.Common.{◌≢◌, length-set, get_or-set_same, get_or-set_other, ◌≡◌, ℕ, ◌+◌, ◌-◌, ◌<◌, true, false, cond, ◌==◌, Some, None, is_some, List, [], map, length, get_or, set, unwrap_or, eq-eqb, refl, sym, ap, ◌∙◌, subst, arith}
+use Rattle.std.proofs.Common.{◌≢◌, length-set, get_or-set_same, get_or-set_other, ◌≡◌, ℕ, ◌+◌, ◌-◌, ◌<◌, true, false}
+use Rattle.std.proofs.Common.{cond, ◌==◌, Some, None, is_some, List, [], map, length, get_or, set, unwrap_or, eq-eqb}
+use Rattle.std.proofs.Common.{refl, sym, ap, ◌∙◌, subst, arith}
 use Rattle.std.proofs.lemmas.Bool.{eqb-true}
 use Rattle.std.specs.List.{AllByRecursion}
 use Rattle.std.specs.Option.{option_map}
@@ -11,7 +13,8 @@ use Rattle.pb_frame.specs.Lists.{first}
 use Rattle.pb_lan.proofs.Numbers.{numbered-exists}
 use Rattle.pb_lan.specs.Numbering.{numbered}
 use Rattle.pb_lan.specs.Plans.{IsSound, IsSoundCustomer, IsSoundEnd, IsNumber}
-use Rattle.pb_lan.specs.Ports.{port_at, is_customer_at, is_end_at, all_ends, has_vid, serves, customer_or_else, provider_or_unused}
+use Rattle.pb_lan.specs.Ports.{port_at, is_customer_at, is_end_at, all_ends, has_vid, serves, customer_or_else}
+use Rattle.pb_lan.specs.Ports.{provider_or_unused}
 use Rattle.pb_lan.specs.declared.plan.Plan.{Plan}
 use Rattle.pb_lan.specs.declared.plan.CustomerPlan.{CustomerPlan}
 use Rattle.pb_lan.specs.declared.plan.End.{End}
@@ -34,27 +37,33 @@ none_there None h = refl
 none_there (Some x) h = cc
 
 -- a port that is attached is what it is attached as, and the others are what they were
-pub role-here : (table : ServiceTable) (port : ℕ) (role : Role) → is_taken table port ≡ false → role_at (attached table port role) port ≡ Some role
+pub role-here : (table : ServiceTable) (port : ℕ) (role : Role) → is_taken table port ≡ false
+    → role_at (attached table port role) port ≡ Some role
 role-here table port role free =
     role-attached table.ports (record { port = port; role = role }) port (none_there (role_at table port) free)
     ∙ ap (λ b. cond b (Some role) (role_at table port)) (eq-eqb port port refl)
 
-pub role-elsewhere : (table : ServiceTable) (port q : ℕ) (role : Role) → is_taken table port ≡ false → (q == port) ≡ false → role_at (attached table port role) q ≡ role_at table q
+pub role-elsewhere : (table : ServiceTable) (port q : ℕ) (role : Role) → is_taken table port ≡ false
+    → (q == port) ≡ false → role_at (attached table port role) q ≡ role_at table q
 role-elsewhere table port q role free other =
     role-attached table.ports (record { port = port; role = role }) q (none_there (role_at table port) free)
     ∙ ap (λ b. cond b (Some role) (role_at table q)) turned
   where
     turned : (port == q) ≡ false
-    turned = elim (port == q) as (λ t. (port == q) ≡ t → t ≡ false) [ true ↦ λ e. sym (eq-eqb q port (sym (eqb-true port q e))) ∙ other | false ↦ λ e. refl ] refl
+    turned = elim (port == q) as (λ t. (port == q) ≡ t → t ≡ false)
+        [ true ↦ λ e. sym (eq-eqb q port (sym (eqb-true port q e))) ∙ other | false ↦ λ e. refl ] refl
 
 -- the customer that stands at a port is sound, and has the port
-pub customer_there : (plan : Plan) (number port : ℕ) (c : CustomerPlan) → IsSound plan → Some c ≡ first (is_customer_at number port) plan.customers
+pub customer_there : (plan : Plan) (number port : ℕ) (c : CustomerPlan) → IsSound plan
+    → Some c ≡ first (is_customer_at number port) plan.customers
     → IsSoundCustomer plan c × (c.port ≡ port)
 customer_there plan number port c sound found =
-    let there = first-found (IsSoundCustomer plan) (is_customer_at number port) plan.customers c (sym found) sound.customers in
+    let there = first-found (IsSoundCustomer plan) (is_customer_at number port) plan.customers c (sym found)
+    sound.customers in
     (there.0, eqb-true c.port port (and-right _ _ there.1))
 
-pub end_there : (plan : Plan) (number port : ℕ) (e : End) → IsSound plan → Some e ≡ first (is_end_at number port) (all_ends plan)
+pub end_there : (plan : Plan) (number port : ℕ) (e : End) → IsSound plan
+    → Some e ≡ first (is_end_at number port) (all_ends plan)
     → IsSoundEnd plan e × (e.port ≡ port)
 end_there plan number port e sound found =
     let there = first-found (IsSoundEnd plan) (is_end_at number port) (all_ends plan) e (sym found) sound.ends in
@@ -68,7 +77,8 @@ listed-sound plan e services h s numbers k =
     let found : e.services ≡ Some numbers = h ∙ k in
     (rw found at all).1
 
-pub end_known : (plan : Plan) (table : ServiceTable) (e : End) → HasServices plan table → IsSoundEnd plan e → are_known table e.services ≡ true
+pub end_known : (plan : Plan) (table : ServiceTable) (e : End) → HasServices plan table → IsSoundEnd plan e
+    → are_known table e.services ≡ true
 end_known plan table e h s = by_list e.services refl
   where
     by_list : (services : Option (List ℕ)) → e.services ≡ services → are_known table services ≡ true
@@ -76,55 +86,74 @@ end_known plan table e h s = by_list e.services refl
     by_list (Some numbers) k = all-known plan table numbers h (listed-sound plan e (Some numbers) k s numbers refl)
 
 -- a customer port is kept with the VID of its service
-pub customer_kept : (plan : Plan) (number port : ℕ) (table new : ServiceTable) (join : Join) (start : PortState) (c : CustomerPlan) → IsSound plan → HasServices plan table
+pub customer_kept : (plan : Plan) (number port : ℕ) (table new : ServiceTable) (join : Join) (start : PortState)
+    (c : CustomerPlan) → IsSound plan → HasServices plan table
     → Some c ≡ first (is_customer_at number port) plan.customers → is_taken table port ≡ false
     → vid_of table c.service ≡ Some join.vid → join.pcp ≡ c.pcp → new ≡ attached table c.port (Customer join)
     → IsKept plan (port_at plan number port) (local_as new start (role_at new port))
 customer_kept plan number port table new join start c sound h found free vid pcp e =
     let there = customer_there plan number port c sound found in
     let s = numbered-exists plan.services c.service there.0.service in
-    let same_vid : Some join.vid ≡ option_map (λ t. t.vid) (numbered plan.services c.service) = sym vid ∙ vid-known plan table c.service h in
-    let one : join.vid ≡ unwrap_or (option_map (λ t. t.vid) (numbered plan.services c.service)) 0 = ap (λ o. unwrap_or o 0) same_vid in
+    let same_vid : Some join.vid ≡ option_map (λ t. t.vid) (numbered plan.services c.service) = sym vid
+    ∙ vid-known plan table c.service h in
+    let one : join.vid ≡ unwrap_or (option_map (λ t. t.vid) (numbered plan.services c.service)) 0 =
+    ap (λ o. unwrap_or o 0) same_vid in
     let all : (v : ℕ) → (join.vid == v) ≡ has_vid plan v c.service = λ v.
-    ap (λ n. n == v) (one ∙ ap (λ o. unwrap_or (option_map (λ t. t.vid) o) 0) s.1) ∙ sym (ap (λ o. unwrap_or (option_map (λ t. t.vid == v) o) false) s.1) in
+    ap (λ n. n == v) (one ∙ ap (λ o. unwrap_or (option_map (λ t. t.vid) o) 0) s.1)
+    ∙ sym (ap (λ o. unwrap_or (option_map (λ t. t.vid == v) o) false) s.1) in
     let here : role_at new port ≡ Some (Customer join) =
-    ap (λ (t : ServiceTable). role_at t port) (e ∙ ap (λ n. attached table n (Customer join)) there.1) ∙ role-here table port (Customer join) free in
+    ap (λ (t : ServiceTable). role_at t port) (e ∙ ap (λ n. attached table n (Customer join)) there.1)
+    ∙ role-here table port (Customer join) free in
     let kept : IsKept plan (port_at plan number port) (ToCustomer join.vid join.pcp) =
-    subst (λ o. IsKept plan (customer_or_else o (provider_or_unused (first (is_end_at number port) (all_ends plan)))) (ToCustomer join.vid join.pcp)) found (one, pcp, all) in
+    subst (λ o. IsKept plan (customer_or_else o (provider_or_unused (first (is_end_at number port) (all_ends plan))))
+    (ToCustomer join.vid join.pcp)) found (one, pcp, all) in
     subst (λ (o : Option Role). IsKept plan (port_at plan number port) (local_as new start o)) (sym here) kept
 
 -- a port to another bridge is kept with the services of its end
-pub end_kept : (plan : Plan) (number port : ℕ) (table new : ServiceTable) (e : End) → IsSound plan → HasServices plan table
-    → None ≡ first (is_customer_at number port) plan.customers → Some e ≡ first (is_end_at number port) (all_ends plan) → is_taken table port ≡ false
+pub end_kept : (plan : Plan) (number port : ℕ) (table new : ServiceTable) (e : End) → IsSound plan
+    → HasServices plan table
+    → None ≡ first (is_customer_at number port) plan.customers
+    → Some e ≡ first (is_end_at number port) (all_ends plan) → is_taken table port ≡ false
     → new ≡ attached table e.port (Trunk (carried table e.services))
     → IsKept plan (port_at plan number port) (local_as new e.start (role_at new port))
 end_kept plan number port table new e sound h nobody found free a =
     let there = end_there plan number port e sound found in
     let here : role_at new port ≡ Some (Trunk (carried table e.services)) =
-    ap (λ (t : ServiceTable). role_at t port) (a ∙ ap (λ n. attached table n (Trunk (carried table e.services))) there.1) ∙ role-here table port (Trunk (carried table e.services)) free in
-    let carries : (v : ℕ) → serves_of (vids_of new (carried table e.services)) v ≡ serves plan v e = λ v. carried-serves plan table new e.services v h (ap (λ (t : ServiceTable). t.services) a) (listed-sound plan e e.services refl there.0) in
+    ap (λ (t : ServiceTable). role_at t port)
+    (a ∙ ap (λ n. attached table n (Trunk (carried table e.services))) there.1)
+    ∙ role-here table port (Trunk (carried table e.services)) free in
+    let carries : (v : ℕ) → serves_of (vids_of new (carried table e.services)) v ≡ serves plan v e =
+    λ v. carried-serves plan table new e.services v h (ap (λ (t : ServiceTable). t.services) a)
+    (listed-sound plan e e.services refl there.0) in
     subst (λ (o : Option Role). IsKept plan (port_at plan number port) (local_as new e.start o)) (sym here)
-    (subst (λ o. IsKept plan (customer_or_else o (provider_or_unused (first (is_end_at number port) (all_ends plan)))) (local_as new e.start (Some (Trunk (carried table e.services))))) nobody
-    (subst (λ o. IsKept plan (provider_or_unused o) (local_as new e.start (Some (Trunk (carried table e.services))))) found (refl, carries)))
+    (subst (λ o. IsKept plan (customer_or_else o (provider_or_unused (first (is_end_at number port) (all_ends plan))))
+    (local_as new e.start (Some (Trunk (carried table e.services))))) nobody
+    (subst (λ o. IsKept plan (provider_or_unused o) (local_as new e.start (Some (Trunk (carried table e.services)))))
+    found (refl, carries)))
 
 -- where nobody stands, nothing is kept
 pub nobody_kept : (plan : Plan) (number port : ℕ) (table : ServiceTable) (start : PortState)
-    → None ≡ first (is_customer_at number port) plan.customers → None ≡ first (is_end_at number port) (all_ends plan) → is_taken table port ≡ false
+    → None ≡ first (is_customer_at number port) plan.customers → None ≡ first (is_end_at number port) (all_ends plan)
+    → is_taken table port ≡ false
     → IsKept plan (port_at plan number port) (local_as table start (role_at table port))
 nobody_kept plan number port table start nobody none free =
-    subst (λ (o : Option Role). IsKept plan (port_at plan number port) (local_as table start o)) (sym (none_there (role_at table port) free))
-    (subst (λ o. IsKept plan (customer_or_else o (provider_or_unused (first (is_end_at number port) (all_ends plan)))) ToNobody) nobody
+    subst (λ (o : Option Role). IsKept plan (port_at plan number port) (local_as table start o))
+    (sym (none_there (role_at table port) free))
+    (subst (λ o. IsKept plan (customer_or_else o (provider_or_unused (first (is_end_at number port) (all_ends plan))))
+    ToNobody) nobody
     (subst (λ o. IsKept plan (provider_or_unused o) ToNobody) none tt))
 
 -- where the services are the same, so is what a role makes of a port
-as-same : (t u : ServiceTable) (start : PortState) (role : Option Role) → t.services ≡ u.services → local_as t start role ≡ local_as u start role
+as-same : (t u : ServiceTable) (start : PortState) (role : Option Role) → t.services ≡ u.services
+    → local_as t start role ≡ local_as u start role
 as-same t u start None e = refl
 as-same t u start (Some (Customer join)) e = refl
 as-same t u start (Some (Trunk None)) e = ap (λ ss. ToBridge start (map (λ s. s.0) ss)) e
 as-same t u start (Some (Trunk (Some vids))) e = refl
 
 -- before the first port is asked
-pub attached_none : (plan : Plan) (number : ℕ) (table : ServiceTable) (starts : List PortState) → HasServices plan table → table.ports ≡ [] → length starts ≡ 16 → HasAttached plan number table starts 0
+pub attached_none : (plan : Plan) (number : ℕ) (table : ServiceTable) (starts : List PortState)
+    → HasServices plan table → table.ports ≡ [] → length starts ≡ 16 → HasAttached plan number table starts 0
 attached_none plan number table starts h none count = record {
   services = h;
   count = count;
@@ -133,17 +162,23 @@ attached_none plan number table starts h none count = record {
 }
 
 -- one port more
-pub attached_more : (plan : Plan) (number : ℕ) (old new : ServiceTable) (starts : List PortState) (r : ℕ) (start : PortState) → r < 16 → HasAttached plan number old starts r
+pub attached_more : (plan : Plan) (number : ℕ) (old new : ServiceTable) (starts : List PortState) (r : ℕ)
+    (start : PortState) → r < 16 → HasAttached plan number old starts r
     → new.services ≡ old.services → ((p : ℕ) → (p == r + 1) ≡ false → role_at new p ≡ role_at old p)
     → IsKept plan (port_at plan number (r + 1)) (local_as new start (role_at new (r + 1)))
     → HasAttached plan number new (set starts r start) (r + 1)
 attached_more plan number old new starts r start few h e others here = record {
   services = e ∙ h.services;
   count = length-set _ _ _ ∙ h.count;
-  kept = λ k l. elim (k == r) as (λ b. (k == r) ≡ b → IsKept plan (port_at plan number (k + 1)) (local_of new (set starts r start) (k + 1))) [
-    | true ↦ λ t. let same_place : r ≡ k = sym (eqb-true k r t) in subst (λ (n : ℕ). IsKept plan (port_at plan number (n + 1)) (local_of new (set starts r start) (n + 1))) same_place newest
-    | false ↦ λ t. let below : k < r = omega (arith, l, unequal k r t) in subst (IsKept plan (port_at plan number (k + 1))) (sym (older k below)) (h.kept k below)
-  ] refl;
+  kept = λ k l. elim (k == r) as (λ b. (k == r) ≡ b → IsKept plan (port_at plan number (k + 1))
+      (local_of new (set starts r start) (k + 1))) [
+        | true ↦ λ t. let same_place : r ≡ k = sym (eqb-true k r t) in subst
+            (λ (n : ℕ). IsKept plan (port_at plan number (n + 1)) (local_of new (set starts r start) (n + 1)))
+            same_place
+            newest
+        | false ↦ λ t. let below : k < r = omega (arith, l, unequal k r t) in subst
+            (IsKept plan (port_at plan number (k + 1))) (sym (older k below)) (h.kept k below)
+      ] refl;
   free = λ p l. others p (apart p (r + 1) (omega (arith, l))) ∙ h.free p (omega (arith, l));
 }
   where
@@ -151,33 +186,46 @@ attached_more plan number old new starts r start few h e others here = record {
     unequal m n h e = let t = eq-eqb m n e in cc
 
     apart : (m n : ℕ) → n < m → (m == n) ≡ false
-    apart m n l = elim (m == n) as (λ b. (m == n) ≡ b → b ≡ false) [ true ↦ λ e. let same_number = eqb-true m n e in absurd (omega (arith, l, same_number)) | false ↦ λ e. refl ] refl
+    apart m n l = elim (m == n) as (λ b. (m == n) ≡ b → b ≡ false)
+        [ true ↦ λ e. let same_number = eqb-true m n e in absurd (omega (arith, l, same_number)) | false ↦ λ e. refl ]
+        refl
 
     place : (k : ℕ) → k + 1 - 1 ≡ k
     place k = omega arith
 
     newest : IsKept plan (port_at plan number (r + 1)) (local_of new (set starts r start) (r + 1))
     newest =
-        let at : get_or (set starts r start) (r + 1 - 1) Discarding ≡ start = ap (λ n. get_or (set starts r start) n Discarding) (place r) ∙ get_or-set_same starts r start Discarding (omega (arith, h.count)) in
-        subst (λ (s : PortState). IsKept plan (port_at plan number (r + 1)) (local_as new s (role_at new (r + 1)))) (sym at) here
+        let at : get_or (set starts r start) (r + 1 - 1) Discarding ≡ start =
+        ap (λ n. get_or (set starts r start) n Discarding) (place r)
+        ∙ get_or-set_same starts r start Discarding (omega (arith, h.count)) in
+        subst (λ (s : PortState). IsKept plan (port_at plan number (r + 1)) (local_as new s (role_at new (r + 1))))
+        (sym at) here
 
     below : (k r : ℕ) → k < r → (k + 1 == r + 1) ≡ false
-    below k r l = elim (k + 1 == r + 1) as (λ b. (k + 1 == r + 1) ≡ b → b ≡ false) [ true ↦ λ e. let same_number = eqb-true (k + 1) (r + 1) e in absurd (omega (arith, l, same_number)) | false ↦ λ e. refl ] refl
+    below k r l = elim (k + 1 == r + 1) as (λ b. (k + 1 == r + 1) ≡ b → b ≡ false) [
+      | true ↦ λ e. let same_number = eqb-true (k + 1) (r + 1) e in absurd (omega (arith, l, same_number))
+      | false ↦
+          λ e. refl
+    ] refl
 
     older : (k : ℕ) → k < r → local_of new (set starts r start) (k + 1) ≡ local_of old starts (k + 1)
     older k l =
         let n : k ≢ r = omega arith in
         let at : get_or (set starts r start) (k + 1 - 1) Discarding ≡ get_or starts (k + 1 - 1) Discarding =
-        ap (λ i. get_or (set starts r start) i Discarding) (place k) ∙ get_or-set_other starts r k start Discarding n ∙ ap (λ i. get_or starts i Discarding) (sym (place k)) in
+        ap (λ i. get_or (set starts r start) i Discarding) (place k) ∙ get_or-set_other starts r k start Discarding n
+        ∙ ap (λ i. get_or starts i Discarding) (sym (place k)) in
         ap (λ (s : PortState). local_as new s (role_at new (k + 1))) at
         ∙ ap (local_as new (get_or starts (k + 1 - 1) Discarding)) (others (k + 1) (below k r l))
         ∙ as-same new old (get_or starts (k + 1 - 1) Discarding) (role_at old (k + 1)) e
 
 -- all ports were asked
-pub attached_all : (plan : Plan) (number : ℕ) (table : ServiceTable) (starts : List PortState) (n : ℕ) → n ≡ 16 → HasAttached plan number table starts n → KeepsPorts plan number (locals table starts) 16
+pub attached_all : (plan : Plan) (number : ℕ) (table : ServiceTable) (starts : List PortState) (n : ℕ) → n ≡ 16
+    → HasAttached plan number table starts n → KeepsPorts plan number (locals table starts) 16
 attached_all plan number table starts n e h = record {
   count = locals-length table starts;
   kept = λ r l. let within : r < n = omega (arith, l, e) in
       let p : r + 1 - 1 ≡ r = omega arith in
-      subst (IsKept plan (port_at plan number (r + 1))) (ap (λ i. local_as table (get_or starts i Discarding) (role_at table (r + 1))) p ∙ sym (local_here table starts r l)) (h.kept r within);
+      subst (IsKept plan (port_at plan number (r + 1)))
+      (ap (λ i. local_as table (get_or starts i Discarding) (role_at table (r + 1))) p
+      ∙ sym (local_here table starts r l)) (h.kept r within);
 }

@@ -1,5 +1,7 @@
 -- BPDUs that are queued one by one.
-use Rattle.std.proofs.Common.{◌≡◌, ◌≢◌, ℕ, zero, suc, ◌+◌, ◌-◌, set, ◌<◌, ◌≤◌, Bool, false, cond, not, is_some, None, Ok, Err, List, [], ◌∷◌, ◌++◌, map, length, take, get_or, refl, sym, ap, ◌∙◌, subst, arith, eq-eqb}
+use Rattle.std.proofs.Common.{◌≡◌, ◌≢◌, ℕ, zero, suc, ◌+◌, ◌-◌, set, ◌<◌, ◌≤◌, Bool, false, cond, not, is_some, None}
+use Rattle.std.proofs.Common.{Ok, Err, List, [], ◌∷◌, ◌++◌, map, length, take, get_or, refl, sym, ap, ◌∙◌, subst}
+use Rattle.std.proofs.Common.{arith, eq-eqb}
 use Rattle.std.proofs.lemmas.List.{map-append, get_or-map, length-map, take_more}
 use Rattle.std.specs.declared.result.Result.{Result}
 use Rattle.std.specs.List.{AllByRecursion, filter, take-map}
@@ -14,7 +16,8 @@ use Rattle.pb_relay.specs.Bpdus.{HasSent, told_queued, word_of, frames_of}
 use Rattle.pb_relay.specs.Copies.{AreCopied, AreSeparate, named, item_with}
 use Rattle.pb_relay.specs.Moves.{own_at, own_queued, places_of}
 use Rattle.pb_relay.specs.Outboxes.{OutboxView, HasEnqueued, KeepsOutbox}
-use Rattle.pb_relay.proofs.CopyLemmas.{IsOther, unequal, refused-other, refused-own, none_refused, separate_at, separate_before, copied_more, answered-keeps, answered-count}
+use Rattle.pb_relay.proofs.CopyLemmas.{IsOther, unequal, refused-other, refused-own, none_refused, separate_at}
+use Rattle.pb_relay.proofs.CopyLemmas.{separate_before, copied_more, answered-keeps, answered-count}
 
 -- a frame and its port
 abbrev Send : Type 0
@@ -24,12 +27,14 @@ Send = ℕ × List ℕ
 own_at-other : (p : ℕ) (fs : List Send) (f : Send) → f.0 ≢ p → own_at (f ∷ fs) p ≡ own_at fs p
 own_at-other p fs f n = ap (λ b. cond b (item_with None 0 f.1) (own_at fs p)) (unequal f.0 p n)
 
-other-place : (p : ℕ) (fs : List Send) (i : ℕ) (d : Send) → i < length fs → AllByRecursion (λ q. q ≢ p) (places_of fs) → (get_or fs i d).0 ≢ p
+other-place : (p : ℕ) (fs : List Send) (i : ℕ) (d : Send) → i < length fs → AllByRecursion (λ q. q ≢ p) (places_of fs)
+    → (get_or fs i d).0 ≢ p
 other-place p [] i d l a = absurd (omega arith)
 other-place p (f ∷ fs) zero d l a = a.0
 other-place p (f ∷ fs) (suc i) d l a = other-place p fs i d (omega arith) a.1
 
-pub own_at-here : (fs : List Send) (i : ℕ) (d : Send) → i < length fs → AreSeparate (places_of fs) → own_at fs (get_or fs i d).0 ≡ item_with None 0 (get_or fs i d).1
+pub own_at-here : (fs : List Send) (i : ℕ) (d : Send) → i < length fs → AreSeparate (places_of fs)
+    → own_at fs (get_or fs i d).0 ≡ item_with None 0 (get_or fs i d).1
 own_at-here [] i d l a = absurd (omega arith)
 own_at-here (f ∷ fs) zero d l a = ap (λ b. cond b (item_with None 0 f.1) (own_at fs f.0)) (eq-eqb f.0 f.0 refl)
 own_at-here (f ∷ fs) (suc i) d l a =
@@ -37,7 +42,8 @@ own_at-here (f ∷ fs) (suc i) d l a =
     own_at-other (get_or fs i d).0 fs f (λ e. other-place f.0 fs i d b a.1 (sym e)) ∙ own_at-here fs i d b a.2
 
 -- tests that agree on other ports keep the same frames of other ports
-filter-others : (p : ℕ) (g h : ℕ → Bool) → ((q : ℕ) → q ≢ p → g q ≡ h q) → (fs : List Send) → AllByRecursion (IsOther p) (places_of fs)
+filter-others : (p : ℕ) (g h : ℕ → Bool) → ((q : ℕ) → q ≢ p → g q ≡ h q) → (fs : List Send)
+    → AllByRecursion (IsOther p) (places_of fs)
     → filter (λ (s : Send). g s.0) fs ≡ filter (λ (s : Send). h s.0) fs
 filter-others p g h e [] a = refl
 filter-others p g h e (f ∷ fs) a =
@@ -50,11 +56,16 @@ queued_more : (p : ℕ) (wire : List ℕ) (old new : OutboxView) (place : ℕ) (
     → HasSent old place wire answer new → is_refused rs p ≡ false → AllByRecursion (IsOther p) (places_of done)
     → own_queued (rs ++ named p (word_of answer)) (done ++ (p, wire) ∷ []) ≡ own_queued rs done ++ told_queued p answer
 queued_more p wire old new place answer rs done h n a =
-    ap (map own_item) (filter-append (λ (s : Send). not (is_refused (rs ++ named p (word_of answer)) s.0)) done ((p, wire) ∷ []))
-    ∙ map-append own_item (filter (λ (s : Send). not (is_refused (rs ++ named p (word_of answer)) s.0)) done) (filter (λ (s : Send). not (is_refused (rs ++ named p (word_of answer)) s.0)) ((p, wire) ∷ []))
-    ∙ ap (λ zs. map own_item zs ++ map own_item (filter (λ (s : Send). not (is_refused (rs ++ named p (word_of answer)) s.0)) ((p, wire) ∷ [])))
-    (filter-others p (λ q. not (is_refused (rs ++ named p (word_of answer)) q)) (λ q. not (is_refused rs q)) (λ q o. ap not (refused-other p q (word_of answer) rs o)) done a)
-    ∙ ap (λ b. own_queued rs done ++ map own_item (cond (not b) ((p, wire) ∷ []) [])) (refused-own p (word_of answer) rs n)
+    ap (map own_item) (filter-append (λ (s : Send). not (is_refused (rs ++ named p (word_of answer)) s.0)) done
+    ((p, wire) ∷ []))
+    ∙ map-append own_item (filter (λ (s : Send). not (is_refused (rs ++ named p (word_of answer)) s.0)) done)
+    (filter (λ (s : Send). not (is_refused (rs ++ named p (word_of answer)) s.0)) ((p, wire) ∷ []))
+    ∙ ap (λ zs. map own_item zs ++ map own_item
+    (filter (λ (s : Send). not (is_refused (rs ++ named p (word_of answer)) s.0)) ((p, wire) ∷ [])))
+    (filter-others p (λ q. not (is_refused (rs ++ named p (word_of answer)) q)) (λ q. not (is_refused rs q))
+    (λ q o. ap not (refused-other p q (word_of answer) rs o)) done a)
+    ∙ ap (λ b. own_queued rs done ++ map own_item (cond (not b) ((p, wire) ∷ []) []))
+    (refused-own p (word_of answer) rs n)
     ∙ ap (λ zs. own_queued rs done ++ zs) (by_answer answer h)
   where
     by_answer : (z : Result Item NoRoom) → HasSent old place wire z new
@@ -79,8 +90,10 @@ abbrev Sent : Type 0
 Sent = ℕ × Bpdu
 
 frame-at : (address : List ℕ) (sends : List Sent) (i : ℕ) (d : Sent) → i < length sends
-    → get_or (frames_of address sends) i (d.0, written address d.1) ≡ ((get_or sends i d).0, written address (get_or sends i d).1)
-frame-at address sends i d l = get_or-map (λ (s : Sent). (s.0, written address s.1)) sends i d (d.0, written address d.1) l
+    → get_or (frames_of address sends) i (d.0, written address d.1)
+    ≡ ((get_or sends i d).0, written address (get_or sends i d).1)
+frame-at address sends i d l = get_or-map (λ (s : Sent). (s.0, written address s.1)) sends i d
+    (d.0, written address d.1) l
 
 length-frames : (address : List ℕ) (sends : List Sent) → length (frames_of address sends) ≡ length sends
 length-frames address sends = length-map sends (λ (s : Sent). (s.0, written address s.1))
@@ -88,19 +101,22 @@ length-frames address sends = length-map sends (λ (s : Sent). (s.0, written add
 length-places : (fs : List Send) → length (places_of fs) ≡ length fs
 length-places fs = length-map fs (λ (s : Send). s.0)
 
-place-at : (address : List ℕ) (sends : List Sent) (i : ℕ) (d : Sent) → i < length sends → get_or (places_of (frames_of address sends)) i 0 ≡ (get_or sends i d).0
+place-at : (address : List ℕ) (sends : List Sent) (i : ℕ) (d : Sent) → i < length sends
+    → get_or (places_of (frames_of address sends)) i 0 ≡ (get_or sends i d).0
 place-at address sends i d l =
     let n = length-frames address sends in
     get_or-map (λ (s : Send). s.0) (frames_of address sends) i (d.0, written address d.1) 0 (omega arith)
     ∙ ap (λ (s : Send). s.0) (frame-at address sends i d l)
 
 -- the port of a BPDU is one of 16
-pub bpdu_place : (address : List ℕ) (sends : List Sent) (i : ℕ) (d : Sent) → i < length sends → AreSeparate (places_of (frames_of address sends))
+pub bpdu_place : (address : List ℕ) (sends : List Sent) (i : ℕ) (d : Sent) → i < length sends
+    → AreSeparate (places_of (frames_of address sends))
     → (1 ≤ (get_or sends i d).0) × ((get_or sends i d).0 ≤ 16)
 bpdu_place address sends i d l a =
     let n = length-frames address sends in
     let m = length-places (frames_of address sends) in
-    subst (λ (p : ℕ). (1 ≤ p) × (p ≤ 16)) (place-at address sends i d l) (separate_at (places_of (frames_of address sends)) i (omega arith) a)
+    subst (λ (p : ℕ). (1 ≤ p) × (p ≤ 16)) (place-at address sends i d l)
+    (separate_at (places_of (frames_of address sends)) i (omega arith) a)
 
 -- one BPDU more
 bpdu_more : (first from to : OutboxView) (address : List ℕ) (sends : List Sent) (i : ℕ) (d : Sent)
@@ -126,9 +142,11 @@ bpdu_more first from to address sends i d rs answer queued l a copied count keep
     let p-at = place-at address sends i d l in
     let few : i < length fs = omega arith in
     let fewer : i < length ps = omega arith in
-    let before : AllByRecursion (IsOther x.0) (take i ps) = subst (λ (k : ℕ). AllByRecursion (IsOther k) (take i ps)) p-at (separate_before ps i fewer a) in
+    let before : AllByRecursion (IsOther x.0) (take i ps) = subst (λ (k : ℕ). AllByRecursion (IsOther k) (take i ps))
+    p-at (separate_before ps i fewer a) in
     let here : own_at fs x.0 ≡ item_with None 0 (written address x.1) =
-    subst (λ (s : Send). own_at fs s.0 ≡ item_with None 0 s.1) f-at (own_at-here fs i (d.0, written address d.1) few a) in
+    subst (λ (s : Send). own_at fs s.0 ≡ item_with None 0 s.1) f-at
+    (own_at-here fs i (d.0, written address d.1) few a) in
     let more = copied_more first from to 7 (own_at fs) (take i ps) rs x.0 (word_of answer) copied before
     (bpdu_place address sends i d l a) count keeps
     (subst (λ (z : Item). HasEnqueued from (x.0 - 1) 7 z (word_of answer) to) (sym here)
@@ -140,12 +158,15 @@ bpdu_more first from to address sends i d rs answer queued l a copied count keep
           ∙ sym (queued_more x.0 (written address x.1) from to (x.0 - 1) answer rs (take i fs) h
           (none_refused x.0 (take i ps) rs copied.refusals.0 before)
           (subst (λ (zs : List ℕ). AllByRecursion (IsOther x.0) zs) (take-map (λ (s : Send). s.0) i fs) before))
-          ∙ ap (own_queued (rs ++ named x.0 (word_of answer))) (sym (take_more fs i (d.0, written address d.1) few ∙ ap (λ (s : Send). take i fs ++ s ∷ []) f-at)),
+          ∙ ap (own_queued (rs ++ named x.0 (word_of answer)))
+          (sym (take_more fs i (d.0, written address d.1) few ∙ ap (λ (s : Send). take i fs ++ s ∷ []) f-at)),
     )
 
 -- and so for the BPDU that stands there
-pub place_of : (address : List ℕ) (sends : List Sent) (i : ℕ) (x : Sent) → i < length sends → x ≡ get_or sends i x → AreSeparate (places_of (frames_of address sends)) → (1 ≤ x.0) × (x.0 ≤ 16)
-place_of address sends i x l e a = subst (λ (y : Sent). (1 ≤ y.0) × (y.0 ≤ 16)) (sym e) (bpdu_place address sends i x l a)
+pub place_of : (address : List ℕ) (sends : List Sent) (i : ℕ) (x : Sent) → i < length sends → x ≡ get_or sends i x
+    → AreSeparate (places_of (frames_of address sends)) → (1 ≤ x.0) × (x.0 ≤ 16)
+place_of address sends i x l e a = subst (λ (y : Sent). (1 ≤ y.0) × (y.0 ≤ 16)) (sym e)
+    (bpdu_place address sends i x l a)
 
 pub one_bpdu : (first from to : OutboxView) (address : List ℕ) (sends : List Sent) (i : ℕ) (x : Sent)
     (rs : List (ℕ × NoRoom))
@@ -158,13 +179,15 @@ pub one_bpdu : (first from to : OutboxView) (address : List ℕ) (sends : List S
     → AreCopied first.capacity 7 (own_at (frames_of address sends)) first.ports
     (take (i + 1) (places_of (frames_of address sends)))
     (rs ++ named x.0 (word_of answer)) to.ports
-    × (queued ++ told_queued x.0 answer ≡ own_queued (rs ++ named x.0 (word_of answer)) (take (i + 1) (frames_of address sends)))
+    × (queued ++ told_queued x.0 answer ≡ own_queued (rs ++ named x.0 (word_of answer))
+    (take (i + 1) (frames_of address sends)))
 one_bpdu first from to address sends i x rs answer queued l e a copied count keeps told h =
     subst (λ (y : Sent). HasSent from (y.0 - 1) (written address y.1) answer to
     → AreCopied first.capacity 7 (own_at (frames_of address sends)) first.ports
     (take (i + 1) (places_of (frames_of address sends)))
     (rs ++ named y.0 (word_of answer)) to.ports
-    × (queued ++ told_queued y.0 answer ≡ own_queued (rs ++ named y.0 (word_of answer)) (take (i + 1) (frames_of address sends))))
+    × (queued ++ told_queued y.0 answer ≡ own_queued (rs ++ named y.0 (word_of answer))
+    (take (i + 1) (frames_of address sends))))
     (sym e) (bpdu_more first from to address sends i x rs answer queued l a copied count keeps told) h
 
 -- the outbox is the same but for what waits, and has as many ports

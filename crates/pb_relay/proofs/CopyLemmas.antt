@@ -1,5 +1,7 @@
 -- One more port has got its copy or is refused.
-use Rattle.std.proofs.Common.{◌≡◌, ◌≢◌, ℕ, zero, suc, ◌+◌, ◌-◌, ◌<◌, ◌≤◌, Bool, true, false, cond, not, ◌&&◌, ◌||◌, is_some, Some, None, List, [], ◌∷◌, ◌++◌, map, length, take, get_or, set, nat_le, ◌==◌, if◌then◌else◌, refl, sym, ap, ◌∙◌, subst, arith, eq-eqb}
+use Rattle.std.proofs.Common.{◌≡◌, ◌≢◌, ℕ, zero, suc, ◌+◌, ◌-◌, ◌<◌, ◌≤◌, Bool, true, false, cond, not, ◌&&◌, ◌||◌}
+use Rattle.std.proofs.Common.{is_some, Some, None, List, [], ◌∷◌, ◌++◌, map, length, take, get_or, set, nat_le, ◌==◌}
+use Rattle.std.proofs.Common.{if◌then◌else◌, refl, sym, ap, ◌∙◌, subst, arith, eq-eqb}
 use Rattle.std.proofs.lemmas.Bool.{eqb-true}
 use Rattle.std.proofs.lemmas.List.{get_or-set_same, get_or-set_other, length-set, map-append, set-get_or}
 use Rattle.std.specs.declared.option.Option.{Option}
@@ -23,11 +25,13 @@ or-false true = refl
 or-false false = refl
 
 pub unequal : (a b : ℕ) → a ≢ b → (a == b) ≡ false
-unequal a b n = elim (a == b) as (λ t. (a == b) ≡ t → t ≡ false) [ true ↦ λ e. absurd (n (eqb-true a b e)) | false ↦ λ e. refl ] refl
+unequal a b n = elim (a == b) as (λ t. (a == b) ≡ t → t ≡ false)
+    [ true ↦ λ e. absurd (n (eqb-true a b e)) | false ↦ λ e. refl ] refl
 
 any-append : {X : Type 0} (t : X → Bool) (xs ys : List X) → list_any t (xs ++ ys) ≡ (list_any t xs || list_any t ys)
 any-append t [] ys = refl
-any-append t (x ∷ xs) ys = elim (t x) as (λ b. (b || list_any t (xs ++ ys)) ≡ ((b || list_any t xs) || list_any t ys)) [ true ↦ refl | false ↦ any-append t xs ys ]
+any-append t (x ∷ xs) ys = elim (t x) as (λ b. (b || list_any t (xs ++ ys)) ≡ ((b || list_any t xs) || list_any t ys))
+    [ true ↦ refl | false ↦ any-append t xs ys ]
 
 any-none : (t : ℕ → Bool) (xs : List ℕ) → AllByRecursion (λ x. t x ≡ false) xs → list_any t xs ≡ false
 any-none t [] a = refl
@@ -39,16 +43,19 @@ others-none p (x ∷ xs) a = ap (λ b. b || list_any (λ q. q == p) xs) (unequal
 
 pub filter-others : (P : ℕ → Type 0) (g : ℕ → Bool) (xs : List ℕ) → AllByRecursion P xs → AllByRecursion P (filter g xs)
 filter-others P g [] a = tt
-filter-others P g (x ∷ xs) a = elim (g x) as (λ b. AllByRecursion P (cond b (x ∷ filter g xs) (filter g xs))) [ true ↦ (a.0, filter-others P g xs a.1) | false ↦ filter-others P g xs a.1 ]
+filter-others P g (x ∷ xs) a = elim (g x) as (λ b. AllByRecursion P (cond b (x ∷ filter g xs) (filter g xs)))
+    [ true ↦ (a.0, filter-others P g xs a.1) | false ↦ filter-others P g xs a.1 ]
 
 any-names : (p : ℕ) (rs : List (ℕ × NoRoom)) → is_refused rs p ≡ list_any (λ q. q == p) (map (λ r. r.0) rs)
 any-names p [] = refl
 any-names p (r ∷ rs) = ap (λ b. (r.0 == p) || b) (any-names p rs)
 
 -- no port is refused that wasn't tried
-pub none_refused : (p : ℕ) (done : List ℕ) (rs : List (ℕ × NoRoom)) → map (λ r. r.0) rs ≡ filter (is_refused rs) done → AllByRecursion (IsOther p) done → is_refused rs p ≡ false
+pub none_refused : (p : ℕ) (done : List ℕ) (rs : List (ℕ × NoRoom)) → map (λ r. r.0) rs ≡ filter (is_refused rs) done
+    → AllByRecursion (IsOther p) done → is_refused rs p ≡ false
 none_refused p done rs e a =
-    any-names p rs ∙ ap (list_any (λ q. q == p)) e ∙ others-none p (filter (is_refused rs) done) (filter-others (IsOther p) (is_refused rs) done a)
+    any-names p rs ∙ ap (list_any (λ q. q == p)) e
+    ∙ others-none p (filter (is_refused rs) done) (filter-others (IsOther p) (is_refused rs) done a)
 
 -- a port that is not named is not named full
 pub none_full : (p : ℕ) (rs : List (ℕ × NoRoom)) → is_refused rs p ≡ false → is_named_full rs p ≡ false
@@ -58,56 +65,73 @@ none_full p (r ∷ rs) h =
     [ true ↦ λ e. cc | false ↦ λ e. none_full p rs e ] h
 
 -- what is named of a port says nothing of others
-pub refused-other : (p q : ℕ) (word : Option NoRoom) (rs : List (ℕ × NoRoom)) → q ≢ p → is_refused (rs ++ named p word) q ≡ is_refused rs q
+pub refused-other : (p q : ℕ) (word : Option NoRoom) (rs : List (ℕ × NoRoom)) → q ≢ p
+    → is_refused (rs ++ named p word) q ≡ is_refused rs q
 refused-other p q None rs n = any-append (λ r. r.0 == q) rs [] ∙ or-false (is_refused rs q)
 refused-other p q (Some word) rs n =
-    any-append (λ r. r.0 == q) rs ((p, word) ∷ []) ∙ ap (λ b. is_refused rs q || (b || false)) (unequal p q (λ e. n (sym e))) ∙ or-false (is_refused rs q)
+    any-append (λ r. r.0 == q) rs ((p, word) ∷ [])
+    ∙ ap (λ b. is_refused rs q || (b || false)) (unequal p q (λ e. n (sym e))) ∙ or-false (is_refused rs q)
 
-pub refused-own : (p : ℕ) (word : Option NoRoom) (rs : List (ℕ × NoRoom)) → is_refused rs p ≡ false → is_refused (rs ++ named p word) p ≡ is_some word
+pub refused-own : (p : ℕ) (word : Option NoRoom) (rs : List (ℕ × NoRoom)) → is_refused rs p ≡ false
+    → is_refused (rs ++ named p word) p ≡ is_some word
 refused-own p None rs h = any-append (λ r. r.0 == p) rs [] ∙ ap (λ b. b || false) h
 refused-own p (Some word) rs h =
-    any-append (λ r. r.0 == p) rs ((p, word) ∷ []) ∙ ap (λ b. b || ((p == p) || false)) h ∙ ap (λ b. b || false) (eq-eqb p p refl)
+    any-append (λ r. r.0 == p) rs ((p, word) ∷ []) ∙ ap (λ b. b || ((p == p) || false)) h
+    ∙ ap (λ b. b || false) (eq-eqb p p refl)
 
-full-other : (p q : ℕ) (word : Option NoRoom) (rs : List (ℕ × NoRoom)) → q ≢ p → is_named_full (rs ++ named p word) q ≡ is_named_full rs q
+full-other : (p q : ℕ) (word : Option NoRoom) (rs : List (ℕ × NoRoom)) → q ≢ p
+    → is_named_full (rs ++ named p word) q ≡ is_named_full rs q
 full-other p q None rs n = any-append (λ r. r.0 == q && is_full_word r.1) rs [] ∙ or-false (is_named_full rs q)
 full-other p q (Some word) rs n =
     any-append (λ r. r.0 == q && is_full_word r.1) rs ((p, word) ∷ [])
-    ∙ ap (λ b. is_named_full rs q || ((b && is_full_word word) || false)) (unequal p q (λ e. n (sym e))) ∙ or-false (is_named_full rs q)
+    ∙ ap (λ b. is_named_full rs q || ((b && is_full_word word) || false)) (unequal p q (λ e. n (sym e)))
+    ∙ or-false (is_named_full rs q)
 
 abbrev pub is_full_answer : Option NoRoom → Bool
 is_full_answer None = false
 is_full_answer (Some word) = is_full_word word
 
-full-own : (p : ℕ) (word : Option NoRoom) (rs : List (ℕ × NoRoom)) → is_refused rs p ≡ false → is_named_full (rs ++ named p word) p ≡ is_full_answer word
+full-own : (p : ℕ) (word : Option NoRoom) (rs : List (ℕ × NoRoom)) → is_refused rs p ≡ false
+    → is_named_full (rs ++ named p word) p ≡ is_full_answer word
 full-own p None rs h = any-append (λ r. r.0 == p && is_full_word r.1) rs [] ∙ ap (λ b. b || false) (none_full p rs h)
 full-own p (Some word) rs h =
     any-append (λ r. r.0 == p && is_full_word r.1) rs ((p, word) ∷ [])
     ∙ ap (λ b. b || (((p == p) && is_full_word word) || false)) (none_full p rs h)
     ∙ ap (λ b. (b && is_full_word word) || false) (eq-eqb p p refl) ∙ or-false (is_full_word word)
 
-filter-same : (p : ℕ) (g h : ℕ → Bool) → ((q : ℕ) → q ≢ p → g q ≡ h q) → (xs : List ℕ) → AllByRecursion (IsOther p) xs → filter g xs ≡ filter h xs
+filter-same : (p : ℕ) (g h : ℕ → Bool) → ((q : ℕ) → q ≢ p → g q ≡ h q) → (xs : List ℕ) → AllByRecursion (IsOther p) xs
+    → filter g xs ≡ filter h xs
 filter-same p g h e [] a = refl
-filter-same p g h e (x ∷ xs) a = ap (λ b. cond b (x ∷ filter g xs) (filter g xs)) (e x a.0) ∙ ap (λ zs. cond (h x) (x ∷ zs) zs) (filter-same p g h e xs a.1)
+filter-same p g h e (x ∷ xs) a = ap (λ b. cond b (x ∷ filter g xs) (filter g xs)) (e x a.0)
+    ∙ ap (λ zs. cond (h x) (x ∷ zs) zs) (filter-same p g h e xs a.1)
 
 names-own : (p : ℕ) (word : Option NoRoom) → map (λ r. r.0) (named p word) ≡ cond (is_some word) (p ∷ []) []
 names-own p None = refl
 names-own p (Some word) = refl
 
-refusals-others : (p : ℕ) (word : Option NoRoom) (full : ℕ → Bool) (rs : List (ℕ × NoRoom)) (xs : List ℕ) → AllByRecursion (IsOther p) xs
-    → AllByRecursion (λ q. full q ≡ is_named_full rs q) xs → AllByRecursion (λ q. full q ≡ is_named_full (rs ++ named p word) q) xs
+refusals-others : (p : ℕ) (word : Option NoRoom) (full : ℕ → Bool) (rs : List (ℕ × NoRoom)) (xs : List ℕ)
+    → AllByRecursion (IsOther p) xs
+    → AllByRecursion (λ q. full q ≡ is_named_full rs q) xs
+    → AllByRecursion (λ q. full q ≡ is_named_full (rs ++ named p word) q) xs
 refusals-others p word full rs [] a h = tt
-refusals-others p word full rs (x ∷ xs) a h = (h.0 ∙ sym (full-other p x word rs a.0), refusals-others p word full rs xs a.1 h.1)
+refusals-others p word full rs (x ∷ xs) a h =
+    (h.0 ∙ sym (full-other p x word rs a.0), refusals-others p word full rs xs a.1 h.1)
 
-refusals-more : (p : ℕ) (word : Option NoRoom) (full : ℕ → Bool) (done : List ℕ) (rs : List (ℕ × NoRoom)) → AreRefused full done rs → AllByRecursion (IsOther p) done
+refusals-more : (p : ℕ) (word : Option NoRoom) (full : ℕ → Bool) (done : List ℕ) (rs : List (ℕ × NoRoom))
+    → AreRefused full done rs → AllByRecursion (IsOther p) done
     → full p ≡ is_full_answer word → AreRefused full (done ++ p ∷ []) (rs ++ named p word)
 refusals-more p word full done rs h a f =
     let n = none_refused p done rs h.0 a in
     let own = refused-own p word rs n in (
       map-append (λ r. r.0) rs (named p word)
-          ∙ ap (λ zs. zs ++ map (λ r. r.0) (named p word)) (h.0 ∙ filter-same p (is_refused rs) (is_refused (rs ++ named p word)) (λ q o. sym (refused-other p q word rs o)) done a)
-          ∙ ap (λ zs. filter (is_refused (rs ++ named p word)) done ++ zs) (names-own p word ∙ ap (λ b. cond b (p ∷ []) []) (sym own))
+          ∙ ap (λ zs. zs ++ map (λ r. r.0) (named p word))
+          (h.0 ∙ filter-same p (is_refused rs) (is_refused (rs ++ named p word))
+          (λ q o. sym (refused-other p q word rs o)) done a)
+          ∙ ap (λ zs. filter (is_refused (rs ++ named p word)) done ++ zs)
+          (names-own p word ∙ ap (λ b. cond b (p ∷ []) []) (sym own))
           ∙ sym (filter-append (is_refused (rs ++ named p word)) done (p ∷ [])),
-      All-append (λ q. full q ≡ is_named_full (rs ++ named p word) q) done (p ∷ []) (refusals-others p word full rs done a h.1) (f ∙ sym (full-own p word rs n), tt),
+      All-append (λ q. full q ≡ is_named_full (rs ++ named p word) q) done (p ∷ [])
+          (refusals-others p word full rs done a h.1) (f ∙ sym (full-own p word rs n), tt),
     )
 
 answered-full : (from to : OutboxView) (place class : ℕ) (item : Item) (word : Option NoRoom)
@@ -147,7 +171,8 @@ answered-count from to place class item word h =
 -- one port more
 copied_at : (capacity class : ℕ) (item_at : ℕ → Item) (old : List (List (List Item))) (done : List ℕ)
     (rs : List (ℕ × NoRoom)) (new : List (List (List Item))) (p : ℕ) (word : Option NoRoom)
-    → AreCopied capacity class item_at old done rs new → AllByRecursion (IsOther p) done → (1 ≤ p) × (p ≤ 16) → length new ≡ 16
+    → AreCopied capacity class item_at old done rs new → AllByRecursion (IsOther p) done → (1 ≤ p) × (p ≤ 16)
+    → length new ≡ 16
     → nat_le capacity (number_in (get_or new (p - 1) [])) ≡ is_full_answer word
     → AreCopied capacity class item_at old (done ++ p ∷ []) (rs ++ named p word)
     (set new (p - 1) (with_answer class (item_at p) word (get_or new (p - 1) [])))
@@ -168,37 +193,52 @@ copied_at capacity class item_at old done rs new p word h a l n full = record {
         let l0 : 1 ≤ p = l.0 in
         let l1 : p ≤ 16 = l.1 in
         let s : p - 1 + 1 ≡ p = omega arith in
-        let none : list_any (λ x. x == p - 1 + 1) done ≡ false = subst (λ (k : ℕ). list_any (λ x. x == k) done ≡ false) (sym s) (others-none p done a) in
+        let none : list_any (λ x. x == p - 1 + 1) done ≡ false =
+        subst (λ (k : ℕ). list_any (λ x. x == k) done ≡ false) (sym s) (others-none p done a) in
         h.copies (p - 1) (omega arith)
-        ∙ ap (λ b. cond (b && not (is_refused rs (p - 1 + 1))) (put_in class (item_at (p - 1 + 1)) (get_or old (p - 1) [])) (get_or old (p - 1) [])) none
+        ∙ ap (λ b. cond (b && not (is_refused rs (p - 1 + 1)))
+        (put_in class (item_at (p - 1 + 1)) (get_or old (p - 1) [])) (get_or old (p - 1) [])) none
 
-    here : (r : ℕ) → r < 16 → r + 1 ≡ p → get_or (set new (p - 1) after) r [] ≡ with_copy class item_at (done ++ p ∷ []) (rs ++ named p word) p (get_or old r [])
+    here : (r : ℕ) → r < 16 → r + 1 ≡ p
+        → get_or (set new (p - 1) after) r [] ≡ with_copy class item_at (done ++ p ∷ []) (rs ++ named p word) p
+        (get_or old r [])
     here r b f =
         let d : p - 1 ≡ r = omega arith in
         let s : r ≡ p - 1 = sym d in
         let own = refused-own p word rs (none_refused p done rs h.refusals.0 a) in
         let any : list_any (λ x. x == p) (done ++ p ∷ []) ≡ true =
-        any-append (λ x. x == p) done (p ∷ []) ∙ ap (λ b. b || ((p == p) || false)) (others-none p done a) ∙ ap (λ b. b || false) (eq-eqb p p refl) in
+        any-append (λ x. x == p) done (p ∷ []) ∙ ap (λ b. b || ((p == p) || false)) (others-none p done a)
+        ∙ ap (λ b. b || false) (eq-eqb p p refl) in
         ap (λ k. get_or (set new k after) r []) d
         ∙ get_or-set_same new r after [] (omega arith)
         ∙ ap (with_answer class (item_at p) word) (same ∙ ap (λ k. get_or old k []) d)
         ∙ ap (λ b. cond (not b) (put_in class (item_at p) (get_or old r [])) (get_or old r [])) (sym own)
-        ∙ ap (λ b. cond (b && not (is_refused (rs ++ named p word) p)) (put_in class (item_at p) (get_or old r [])) (get_or old r [])) (sym any)
+        ∙ ap (λ b. cond (b && not (is_refused (rs ++ named p word) p)) (put_in class (item_at p) (get_or old r []))
+        (get_or old r [])) (sym any)
 
-    other : (r : ℕ) → r < 16 → r + 1 ≢ p → get_or (set new (p - 1) after) r [] ≡ with_copy class item_at (done ++ p ∷ []) (rs ++ named p word) (r + 1) (get_or old r [])
+    other : (r : ℕ) → r < 16 → r + 1 ≢ p
+        → get_or (set new (p - 1) after) r [] ≡ with_copy class item_at (done ++ p ∷ []) (rs ++ named p word) (r + 1)
+        (get_or old r [])
     other r b f =
         let l0 : 1 ≤ p = l.0 in
         let d : r ≢ p - 1 = omega arith in
         let any : list_any (λ x. x == r + 1) (done ++ p ∷ []) ≡ list_any (λ x. x == r + 1) done =
-        any-append (λ x. x == r + 1) done (p ∷ []) ∙ ap (λ b. list_any (λ x. x == r + 1) done || (b || false)) (unequal p (r + 1) (λ z. f (sym z))) ∙ or-false (list_any (λ x. x == r + 1) done) in
+        any-append (λ x. x == r + 1) done (p ∷ []) ∙ ap (λ b. list_any (λ x. x == r + 1) done || (b || false))
+        (unequal p (r + 1) (λ z. f (sym z))) ∙ or-false (list_any (λ x. x == r + 1) done) in
         get_or-set_other new (p - 1) r after [] d ∙ h.copies r b
-        ∙ ap (λ b. cond (b && not (is_refused rs (r + 1))) (put_in class (item_at (r + 1)) (get_or old r [])) (get_or old r [])) (sym any)
-        ∙ ap (λ b. cond (list_any (λ x. x == r + 1) (done ++ p ∷ []) && not b) (put_in class (item_at (r + 1)) (get_or old r [])) (get_or old r [])) (sym (refused-other p (r + 1) word rs f))
+        ∙ ap (λ b. cond (b && not (is_refused rs (r + 1))) (put_in class (item_at (r + 1)) (get_or old r []))
+        (get_or old r [])) (sym any)
+        ∙ ap (λ b. cond (list_any (λ x. x == r + 1) (done ++ p ∷ []) && not b)
+        (put_in class (item_at (r + 1)) (get_or old r [])) (get_or old r []))
+        (sym (refused-other p (r + 1) word rs f))
 
-    at : (r : ℕ) → r < 16 → get_or (set new (p - 1) after) r [] ≡ with_copy class item_at (done ++ p ∷ []) (rs ++ named p word) (r + 1) (get_or old r [])
+    at : (r : ℕ) → r < 16 → get_or (set new (p - 1) after) r [] ≡ with_copy class item_at (done ++ p ∷ [])
+        (rs ++ named p word) (r + 1) (get_or old r [])
     at r b =
-        elim (r + 1 == p) as (λ t. (r + 1 == p) ≡ t → get_or (set new (p - 1) after) r [] ≡ with_copy class item_at (done ++ p ∷ []) (rs ++ named p word) (r + 1) (get_or old r [])) [
-          | true ↦ λ t. let f = eqb-true (r + 1) p t in here r b f ∙ ap (λ k. with_copy class item_at (done ++ p ∷ []) (rs ++ named p word) k (get_or old r [])) (sym f)
+        elim (r + 1 == p) as (λ t. (r + 1 == p) ≡ t → get_or (set new (p - 1) after) r [] ≡ with_copy class item_at
+        (done ++ p ∷ []) (rs ++ named p word) (r + 1) (get_or old r [])) [
+          | true ↦ λ t. let f = eqb-true (r + 1) p t in here r b f
+              ∙ ap (λ k. with_copy class item_at (done ++ p ∷ []) (rs ++ named p word) k (get_or old r [])) (sym f)
           | false ↦ λ t. other r b (λ f. let g = eq-eqb (r + 1) p f in cc)
         ] refl
 
@@ -227,7 +267,8 @@ other-at p (q ∷ ps) zero l a = λ e. a.0 (sym e)
 other-at p (q ∷ ps) (suc i) l a = other-at p ps i (omega arith) a.1
 
 -- a port was not among those before it
-pub separate_before : (ps : List ℕ) (i : ℕ) → i < length ps → AreSeparate ps → AllByRecursion (IsOther (get_or ps i 0)) (take i ps)
+pub separate_before : (ps : List ℕ) (i : ℕ) → i < length ps → AreSeparate ps
+    → AllByRecursion (IsOther (get_or ps i 0)) (take i ps)
 separate_before [] i l a = absurd (omega arith)
 separate_before (p ∷ ps) zero l a = tt
 separate_before (p ∷ ps) (suc i) l a = (other-at p ps i (omega arith) a.1, separate_before ps i (omega arith) a.2)
@@ -235,11 +276,13 @@ separate_before (p ∷ ps) (suc i) l a = (other-at p ps i (omega arith) a.1, sep
 -- ports that ascend are separate
 apart : (p low : ℕ) (ps : List ℕ) → p ≤ low → AreAscending low ps → AllByRecursion (λ q. q ≢ p) ps
 apart p low [] l a = tt
-apart p low (q ∷ ps) l a = let above : low < q = a.0 in (omega (arith, l, above), apart p q ps (omega (arith, l, above)) a.2)
+apart p low (q ∷ ps) l a = let above : low < q =
+    a.0 in (omega (arith, l, above), apart p q ps (omega (arith, l, above)) a.2)
 
 pub separate_of : (low : ℕ) (ps : List ℕ) → AreAscending low ps → AreSeparate ps
 separate_of low [] a = tt
-separate_of low (p ∷ ps) a = let above : low < p = a.0 in ((omega (arith, above), a.1), apart p p ps (omega arith) a.2, separate_of p ps a.2)
+separate_of low (p ∷ ps) a = let above : low < p =
+    a.0 in ((omega (arith, above), a.1), apart p p ps (omega arith) a.2, separate_of p ps a.2)
 
 -- and each is above those before it
 above-at : (low : ℕ) (ps : List ℕ) (i : ℕ) → i < length ps → AreAscending low ps → low < get_or ps i 0
@@ -250,10 +293,12 @@ above-at low (p ∷ ps) (suc i) l a =
     let rest : p < get_or ps i 0 = above-at p ps i (omega (arith, l)) a.2 in
     omega (arith, above, rest)
 
-pub ascending_before : (low : ℕ) (ps : List ℕ) (i : ℕ) → i < length ps → AreAscending low ps → AllByRecursion (λ q. q < get_or ps i 0) (take i ps)
+pub ascending_before : (low : ℕ) (ps : List ℕ) (i : ℕ) → i < length ps → AreAscending low ps
+    → AllByRecursion (λ q. q < get_or ps i 0) (take i ps)
 ascending_before low [] i l a = absurd (omega (arith, l))
 ascending_before low (p ∷ ps) zero l a = tt
-ascending_before low (p ∷ ps) (suc i) l a = (above-at p ps i (omega (arith, l)) a.2, ascending_before p ps i (omega (arith, l)) a.2)
+ascending_before low (p ∷ ps) (suc i) l a =
+    (above-at p ps i (omega (arith, l)) a.2, ascending_before p ps i (omega (arith, l)) a.2)
 
 -- at most one word is named of a port
 pub named-few : (p : ℕ) (word : Option NoRoom) → length (named p word) ≤ 1

@@ -37,7 +37,8 @@ use Rattle.pb_relay.proofs.StandingLemmas.{live_later, standing_later}
 use Rattle.pb_relay.proofs.TableLemmas.{live_expired}
 
 -- a machine's change is of local ports
-pub of_ports : (plan : Plan) (b : ℕ) (steps : List Step) (machine : Option Machine) (address : List ℕ) (cause : Cause) (change : Change)
+pub of_ports : (plan : Plan) (b : ℕ) (steps : List Step) (machine : Option Machine) (address : List ℕ) (cause : Cause)
+    (change : Change)
     → IsSpanning plan b steps machine address → change_next machine cause ≡ Some change → IsOfPorts address change
 of_ports plan b steps machine address cause change s some =
     let running = is_running plan b steps machine address cause change s some in
@@ -69,7 +70,8 @@ pub after_followed : (plan : Plan) (b : ℕ) (steps : List Step) (states states'
     → IsSpanning plan b steps machine address → change_next machine cause ≡ Some change
     → HasFollowed address change states old outbox moved states' new outbox'
     → Fits spanning_tree plan b steps step
-    → moved_of step ≡ moved ∷ [] → ((r : ℕ) → relayed_by plan b r step ≡ []) → ((r : ℕ) (ws : List Waiting) → after_sending r step ws ≡ ws)
+    → moved_of step ≡ moved ∷ [] → ((r : ℕ) → relayed_by plan b r step ≡ [])
+    → ((r : ℕ) (ws : List Waiting) → after_sending r step ws ≡ ws)
     → sightings plan b (now_after steps) step ≡ [] → later ≡ now + ticked step
     → filter (is_fresh plan.ageing later) old.sightings ≡ standing plan.ageing later (news_of plan b steps)
     → IsStanding plan b (steps ++ step ∷ []) states' outbox'.ports later new.sightings
@@ -91,7 +93,8 @@ after_followed plan b steps states states' outbox outbox' now later table old ne
       queued = f.queued;
       refused = refused;
       separate = apart.0;
-      bridges = subst (λ (cs : List (ℕ × PortState)). AllByRecursion (λ (c : ℕ × PortState). IsBridgePort plan b c.0) cs) (sym f.told) (states_placed plan b steps cause change running.1);
+      bridges = subst (λ (cs : List (ℕ × PortState)). AllByRecursion (λ (c : ℕ × PortState). IsBridgePort plan b c.0)
+          cs) (sym f.told) (states_placed plan b steps cause change running.1);
     })
     clock f.copied f.count
     (ap (λ (t : Table). filter (is_fresh plan.ageing later) t.sightings) f.flushed_table
@@ -99,24 +102,31 @@ after_followed plan b steps states states' outbox outbox' now later table old ne
     ∙ ap (λ ps. standing plan.ageing later (news_of plan b steps ++ map (λ port. Flushed port) ps)) (sym f.flushed)))
 
 -- a table of which ports were flushed is still the bridge's
-pub table_all_flushed : (plan : Plan) (now : ℕ) (old : Table) (ports : List ℕ) → IsTableOf plan now old → IsTableOf plan now (all_flushed old ports)
+pub table_all_flushed : (plan : Plan) (now : ℕ) (old : Table) (ports : List ℕ) → IsTableOf plan now old
+    → IsTableOf plan now (all_flushed old ports)
 table_all_flushed plan now old [] t = t
-table_all_flushed plan now old (p ∷ ps) t = table_all_flushed plan now (flushed old p) ps (record { limit = t.limit; ageing = t.ageing; in_time = t.in_time })
+table_all_flushed plan now old (p ∷ ps) t = table_all_flushed plan now (flushed old p) ps
+    (record { limit = t.limit; ageing = t.ageing; in_time = t.in_time })
 
 -- what stands a tick later is fresh in the table a tick later
 pub expired_later : (plan : Plan) (b now : ℕ) (steps : List Step) (old : Table) → IsTableOf plan now old
     → filter (is_fresh plan.ageing now) old.sightings ≡ standing plan.ageing now (news_of plan b steps)
-    → filter (is_fresh plan.ageing (now + 1)) (expired old (now + 1)).sightings ≡ standing plan.ageing (now + 1) (news_of plan b steps)
+    → filter (is_fresh plan.ageing (now + 1)) (expired old (now + 1)).sightings ≡ standing plan.ageing (now + 1)
+    (news_of plan b steps)
 expired_later plan b now steps old t h =
     live_expired plan now old t ∙ live_later plan.ageing now old.sightings
     ∙ ap (filter (is_fresh plan.ageing (now + 1))) h ∙ standing_later plan.ageing now (news_of plan b steps)
 
 -- The steps.
 
-pub heard_fits : (plan : Plan) (b : ℕ) (steps : List Step) (port : ℕ) (item : Item) (moved : Moved) → ruling spanning_tree plan b steps port item ≡ Listens
-    → Names spanning_tree plan b steps (Hears port item.wire) moved → Fits spanning_tree plan b steps (Receive port item None Heard (Some moved))
+pub heard_fits : (plan : Plan) (b : ℕ) (steps : List Step) (port : ℕ) (item : Item) (moved : Moved)
+    → ruling spanning_tree plan b steps port item ≡ Listens
+    → Names spanning_tree plan b steps (Hears port item.wire) moved
+    → Fits spanning_tree plan b steps (Receive port item None Heard (Some moved))
 heard_fits plan b steps port item moved r n =
-    subst (λ (g : Ruling). Follows spanning_tree plan b steps port item None Heard (Some moved) g) (sym r) (inr (refl, refl, (moved, refl, n)))
+    subst (λ (g : Ruling). Follows spanning_tree plan b steps port item None Heard (Some moved) g) (sym r)
+    (inr (refl, refl, (moved, refl, n)))
 
-pub ticked_fits : (plan : Plan) (b now : ℕ) (steps : List Step) (moved : Moved) → now ≡ now_after steps → Names spanning_tree plan b steps Ticks moved → Fits spanning_tree plan b steps (Tick (now + 1) moved)
+pub ticked_fits : (plan : Plan) (b now : ℕ) (steps : List Step) (moved : Moved) → now ≡ now_after steps
+    → Names spanning_tree plan b steps Ticks moved → Fits spanning_tree plan b steps (Tick (now + 1) moved)
 ticked_fits plan b now steps moved e n = (ap (λ k. k + 1) e, n)

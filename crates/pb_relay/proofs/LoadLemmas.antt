@@ -1,5 +1,6 @@
 -- What a frame brings to the ports of a bridge.
-use Rattle.std.proofs.Common.{◌≡◌, ℕ, zero, suc, ◌+◌, ◌-◌, ◌<◌, ◌≤◌, Bool, true, false, cond, ◌||◌, List, [], ◌∷◌, get_or, unwrap_or, refl, sym, ap, ◌∙◌, subst, arith}
+use Rattle.std.proofs.Common.{◌≡◌, ℕ, zero, suc, ◌+◌, ◌-◌, ◌<◌, ◌≤◌, Bool, true, false, cond, ◌||◌, List, [], ◌∷◌}
+use Rattle.std.proofs.Common.{get_or, unwrap_or, refl, sym, ap, ◌∙◌, subst, arith}
 use Rattle.std.specs.List.{list_any}
 use Rattle.pb_frame.specs.Tags.{bare, tagged, has_priority_tag, priority_of}
 use Rattle.pb_lan.specs.Ports.{Port, port_at, vid_at, is_used}
@@ -15,23 +16,27 @@ use Rattle.pb_relay.specs.Loads.{IsLoad, IsLoadedAt, brought, is_member_of}
 use Rattle.pb_relay.specs.LocalPorts.{IsKept, IsConfigured}
 
 -- what is kept of a local port
-pub kept_here : (plan : Plan) (b : ℕ) (ports : List LocalPort) (capacity limit p : ℕ) → IsConfigured plan b ports capacity limit → (1 ≤ p) × (p ≤ 16)
+pub kept_here : (plan : Plan) (b : ℕ) (ports : List LocalPort) (capacity limit p : ℕ)
+    → IsConfigured plan b ports capacity limit → (1 ≤ p) × (p ≤ 16)
     → IsKept plan (port_at plan b p) (get_or ports (p - 1) ToNobody)
 kept_here plan b ports capacity limit p k l =
     let l0 : 1 ≤ p = l.0 in
     let l1 : p ≤ 16 = l.1 in
     let h : p - 1 + 1 ≡ p = omega arith in
-    subst (λ (r : ℕ). IsKept plan (port_at plan b r) (get_or ports (p - 1) ToNobody)) h (k.kept_ports (p - 1) (omega arith))
+    subst (λ (r : ℕ). IsKept plan (port_at plan b r) (get_or ports (p - 1) ToNobody)) h
+    (k.kept_ports (p - 1) (omega arith))
 
 -- what one of the ports is, some port is
-some_port : (q : LocalPort → Bool) (ports : List LocalPort) (i : ℕ) → q ToNobody ≡ false → q (get_or ports i ToNobody) ≡ true → list_any q ports ≡ true
+some_port : (q : LocalPort → Bool) (ports : List LocalPort) (i : ℕ) → q ToNobody ≡ false
+    → q (get_or ports i ToNobody) ≡ true → list_any q ports ≡ true
 some_port q [] i n h = let t : false ≡ true = sym n ∙ h in cc
 some_port q (x ∷ ports) zero n h = ap (λ b. b || list_any q ports) h
 some_port q (x ∷ ports) (suc i) n h =
     elim (q x) as (λ b. (b || list_any q ports) ≡ true) [ true ↦ refl | false ↦ some_port q ports i n h ]
 
 -- a customer's frame brings this
-customer_brings : (plan : Plan) (vid pcp : ℕ) (wire : List ℕ) (load : Load) (customers bridges : Bool) (entry exit : Port) (local : LocalPort)
+customer_brings : (plan : Plan) (vid pcp : ℕ) (wire : List ℕ) (load : Load) (customers bridges : Bool)
+    (entry exit : Port) (local : LocalPort)
     → IsKept plan entry (ToCustomer vid pcp) → IsLoad customers bridges (told (ToCustomer vid pcp)) wire load
     → IsKept plan exit local → (is_to_bridge local ≡ true → bridges ≡ true) → is_used exit ≡ true
     → brought exit wire load ≡ wire_out plan entry exit wire
@@ -46,11 +51,13 @@ customer_brings plan vid pcp wire load customers bridges (Provider f) exit local
 customer_brings plan vid pcp wire load customers bridges Unused exit local k l q b u = absurd k
 
 -- a bridge's frame brings this
-bridge_brings : (plan : Plan) (start : PortState) (vids : List ℕ) (wire : List ℕ) (load : Load) (customers bridges : Bool) (entry exit : Port) (local : LocalPort)
+bridge_brings : (plan : Plan) (start : PortState) (vids : List ℕ) (wire : List ℕ) (load : Load)
+    (customers bridges : Bool) (entry exit : Port) (local : LocalPort)
     → IsKept plan entry (ToBridge start vids) → IsLoad customers bridges (told (ToBridge start vids)) wire load
     → IsKept plan exit local → (is_to_customer local ≡ true → customers ≡ true) → is_used exit ≡ true
     → brought exit wire load ≡ wire_out plan entry exit wire
-bridge_brings plan start vids wire load customers bridges (Provider f) (Customer d) (ToCustomer v p) k l q c u = l.0 (c refl)
+bridge_brings plan start vids wire load customers bridges (Provider f) (Customer d) (ToCustomer v p) k l q c u =
+    l.0 (c refl)
 bridge_brings plan start vids wire load customers bridges (Provider f) (Customer d) (ToBridge s w) k l q c u = absurd q
 bridge_brings plan start vids wire load customers bridges (Provider f) (Customer d) ToNobody k l q c u = absurd q
 bridge_brings plan start vids wire load customers bridges (Provider f) (Provider e) local k l q c u = l.1
@@ -59,18 +66,24 @@ bridge_brings plan start vids wire load customers bridges (Customer d) exit loca
 bridge_brings plan start vids wire load customers bridges Unused exit local k l q c u = absurd k
 
 -- so at every kind of port
-brings : (plan : Plan) (entry : Port) (here : LocalPort) (wire : List ℕ) (load : Load) (customers bridges : Bool) (exit : Port) (local : LocalPort)
+brings : (plan : Plan) (entry : Port) (here : LocalPort) (wire : List ℕ) (load : Load) (customers bridges : Bool)
+    (exit : Port) (local : LocalPort)
     → IsKept plan entry here → IsLoad customers bridges (told here) wire load → IsKept plan exit local
-    → (is_to_customer local ≡ true → customers ≡ true) → (is_to_bridge local ≡ true → bridges ≡ true) → is_used exit ≡ true
+    → (is_to_customer local ≡ true → customers ≡ true) → (is_to_bridge local ≡ true → bridges ≡ true)
+    → is_used exit ≡ true
     → brought exit wire load ≡ wire_out plan entry exit wire
-brings plan entry (ToCustomer vid pcp) wire load customers bridges exit local k l q c b u = customer_brings plan vid pcp wire load customers bridges entry exit local k l q b u
-brings plan entry (ToBridge start vids) wire load customers bridges exit local k l q c b u = bridge_brings plan start vids wire load customers bridges entry exit local k l q c u
+brings plan entry (ToCustomer vid pcp) wire load customers bridges exit local k l q c b u =
+    customer_brings plan vid pcp wire load customers bridges entry exit local k l q b u
+brings plan entry (ToBridge start vids) wire load customers bridges exit local k l q c b u =
+    bridge_brings plan start vids wire load customers bridges entry exit local k l q c u
 brings plan entry ToNobody wire load customers bridges exit local k l q c b u = absurd l
 
 -- and so is the class
-class_is : (plan : Plan) (entry : Port) (here : LocalPort) (wire : List ℕ) (load : Load) (customers bridges : Bool) → IsKept plan entry here → IsLoad customers bridges (told here) wire load
+class_is : (plan : Plan) (entry : Port) (here : LocalPort) (wire : List ℕ) (load : Load) (customers bridges : Bool)
+    → IsKept plan entry here → IsLoad customers bridges (told here) wire load
     → (load.class ≡ class_of (priority_in entry wire)) × (load.class < 8)
-class_is plan (Customer c) (ToCustomer vid pcp) wire load customers bridges k l = (l.2 ∙ ap (λ p. class_of (cond (has_priority_tag wire) (priority_of wire) p)) k.1, l.3)
+class_is plan (Customer c) (ToCustomer vid pcp) wire load customers bridges k l =
+    (l.2 ∙ ap (λ p. class_of (cond (has_priority_tag wire) (priority_of wire) p)) k.1, l.3)
 class_is plan (Provider f) (ToBridge start vids) wire load customers bridges k l = (l.2, l.3)
 class_is plan entry ToNobody wire load customers bridges k l = absurd l
 class_is plan (Customer c) (ToBridge start vids) wire load customers bridges k l = absurd k
@@ -79,12 +92,16 @@ class_is plan Unused (ToCustomer vid pcp) wire load customers bridges k l = absu
 class_is plan Unused (ToBridge start vids) wire load customers bridges k l = absurd k
 
 -- what is made of a frame by the port where it came in and by the kinds of ports is what it brings to each
-pub loaded : (plan : Plan) (b : ℕ) (ports : List LocalPort) (capacity limit : ℕ) (entry : Port) (here : LocalPort) (wire : List ℕ) (load : Load)
-    → IsConfigured plan b ports capacity limit → IsKept plan entry here → IsLoad (list_any is_to_customer ports) (list_any is_to_bridge ports) (told here) wire load
+pub loaded : (plan : Plan) (b : ℕ) (ports : List LocalPort) (capacity limit : ℕ) (entry : Port) (here : LocalPort)
+    (wire : List ℕ) (load : Load)
+    → IsConfigured plan b ports capacity limit → IsKept plan entry here
+    → IsLoad (list_any is_to_customer ports) (list_any is_to_bridge ports) (told here) wire load
     → IsLoadedAt plan b entry wire load
 loaded plan b ports capacity limit entry here wire load k e l =
-    let class = class_is plan entry here wire load (list_any is_to_customer ports) (list_any is_to_bridge ports) e l in record {
-      wires = λ p first last used. brings plan entry here wire load (list_any is_to_customer ports) (list_any is_to_bridge ports) (port_at plan b p) (get_or ports (p - 1) ToNobody)
+    let class = class_is plan entry here wire load (list_any is_to_customer ports) (list_any is_to_bridge ports) e l
+    in record {
+      wires = λ p first last used. brings plan entry here wire load (list_any is_to_customer ports)
+          (list_any is_to_bridge ports) (port_at plan b p) (get_or ports (p - 1) ToNobody)
           e l (kept_here plan b ports capacity limit p k (first, last))
           (some_port is_to_customer ports (p - 1) refl) (some_port is_to_bridge ports (p - 1) refl) used;
       class = class.0;
@@ -92,7 +109,8 @@ loaded plan b ports capacity limit entry here wire load k e l =
     }
 
 -- a member is used
-pub member_used : (plan : Plan) (port : Port) (local : LocalPort) (service : ℕ) → IsKept plan port local → is_member_of local service ≡ true → is_used port ≡ true
+pub member_used : (plan : Plan) (port : Port) (local : LocalPort) (service : ℕ) → IsKept plan port local
+    → is_member_of local service ≡ true → is_used port ≡ true
 member_used plan (Customer c) local service k m = refl
 member_used plan (Provider e) local service k m = refl
 member_used plan Unused ToNobody service k m = cc
@@ -100,7 +118,8 @@ member_used plan Unused (ToCustomer vid pcp) service k m = absurd k
 member_used plan Unused (ToBridge start vids) service k m = absurd k
 
 -- and is sent its own of what the frame brings
-pub sent_is : (plan : Plan) (port : Port) (local : LocalPort) (service : ℕ) (wire : List ℕ) (load : Load) → IsKept plan port local → is_member_of local service ≡ true
+pub sent_is : (plan : Plan) (port : Port) (local : LocalPort) (service : ℕ) (wire : List ℕ) (load : Load)
+    → IsKept plan port local → is_member_of local service ≡ true
     → cond (is_to_customer local) (unwrap_or load.bare wire) (unwrap_or load.tagged wire) ≡ brought port wire load
 sent_is plan (Customer c) (ToCustomer vid pcp) service wire load k m = refl
 sent_is plan (Provider e) (ToBridge start vids) service wire load k m = refl

@@ -1,5 +1,6 @@
 -- The ports of a bridge's spanning tree.
-use Rattle.std.proofs.Common.{◌≡◌, ℕ, ◌+◌, ◌<◌, List, [], ◌∷◌, ◌++◌, take, get_or, sym, ap, refl, Some, None, unwrap_or, ◌∙◌, arith, append-nil}
+use Rattle.std.proofs.Common.{◌≡◌, ℕ, ◌+◌, ◌<◌, List, [], ◌∷◌, ◌++◌, take, get_or, sym, ap, refl, Some, None}
+use Rattle.std.proofs.Common.{unwrap_or, ◌∙◌, arith, append-nil}
 use Rattle.std.proofs.lemmas.List.{take_more}
 use Rattle.std.specs.List.{flat_map}
 use Rattle.pb_lan.specs.Ports.{port_at, local_ports}
@@ -16,14 +17,16 @@ use Rattle.pb_relay.proofs.StepLemmas.{flat_map-append}
 use Rattle.pb_relay.proofs.VerdictLemmas.{get_up}
 
 -- what the next local port adds
-pub rstp_ports_more : (plan : Plan) (b r : ℕ) (ports port new : List RstpPort) → r < 16 → ports ≡ flat_map (λ p. rstp_port p (port_at plan b p)) (take r local_ports)
+pub rstp_ports_more : (plan : Plan) (b r : ℕ) (ports port new : List RstpPort) → r < 16
+    → ports ≡ flat_map (λ p. rstp_port p (port_at plan b p)) (take r local_ports)
     → port ≡ rstp_port (r + 1) (port_at plan b (r + 1)) → new ≡ ports ++ port
     → new ≡ flat_map (λ p. rstp_port p (port_at plan b p)) (take (r + 1) local_ports)
 rstp_ports_more plan b r ports port new l before here after =
     let s : 1 + r ≡ r + 1 = omega arith in
     after ∙ ap (λ zs. zs ++ port) before
     ∙ ap (λ zs. flat_map (λ p. rstp_port p (port_at plan b p)) (take r local_ports) ++ zs)
-    (here ∙ ap (λ p. rstp_port p (port_at plan b p)) (sym (get_up (λ p. p) 16 1 r 0 l ∙ s)) ∙ sym (append-nil (rstp_port (get_or local_ports r 0) (port_at plan b (get_or local_ports r 0)))))
+    (here ∙ ap (λ p. rstp_port p (port_at plan b p)) (sym (get_up (λ p. p) 16 1 r 0 l ∙ s))
+    ∙ sym (append-nil (rstp_port (get_or local_ports r 0) (port_at plan b (get_or local_ports r 0)))))
     ∙ sym (flat_map-append (λ p. rstp_port p (port_at plan b p)) (take r local_ports) (get_or local_ports r 0 ∷ []))
     ∙ ap (flat_map (λ p. rstp_port p (port_at plan b p))) (sym (take_more local_ports r 0 l))
 
@@ -31,11 +34,13 @@ rstp_ports_more plan b r ports port new l before here after =
 pub id_is : (plan : Plan) (b : ℕ) → bridge_id (priority_in plan b) (address_in plan b) ≡ id_in plan b
 id_is plan b =
     elim (numbered plan.bridges b)
-    as (λ o. bridge_id (unwrap_or (option_map (λ (x : BridgePlan). x.priority) o) 0) (unwrap_or (option_map (λ (x : BridgePlan). x.address.0) o) []) ≡ unwrap_or (option_map plan_id o) 0)
+    as (λ o. bridge_id (unwrap_or (option_map (λ (x : BridgePlan). x.priority) o) 0)
+    (unwrap_or (option_map (λ (x : BridgePlan). x.address.0) o) []) ≡ unwrap_or (option_map plan_id o) 0)
     [ Some x ↦ refl | None ↦ refl ]
 
 -- a machine of these parts is the bridge's at its start
-pub starts : (plan : Plan) (b priority : ℕ) (address : List ℕ) (ports : List RstpPort) → priority ≡ priority_in plan b → address ≡ address_in plan b → ports ≡ rstp_ports plan b
+pub starts : (plan : Plan) (b priority : ℕ) (address : List ℕ) (ports : List RstpPort) → priority ≡ priority_in plan b
+    → address ≡ address_in plan b → ports ≡ rstp_ports plan b
     → start (bridge_id priority address) ports ≡ machine_at_start plan b
 starts plan b priority address ports p a r =
     ap (λ n. start (bridge_id n address) ports) p ∙ ap (λ w. start (bridge_id (priority_in plan b) w) ports) a

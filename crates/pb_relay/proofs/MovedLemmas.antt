@@ -1,5 +1,7 @@
 -- What a bridge keeps, after a step that tells what its spanning tree changed.
-use Rattle.std.proofs.Common.{◌≡◌, ◌≢◌, ℕ, ◌+◌, ◌-◌, ◌<◌, ◌≤◌, Bool, true, false, cond, not, ◌&&◌, ◌||◌, List, [], ◌∷◌, ◌++◌, map, length, get_or, set, nat_le, ◌==◌, refl, sym, ap, ◌∙◌, subst, arith, append-nil, append_assoc, eq-eqb}
+use Rattle.std.proofs.Common.{◌≡◌, ◌≢◌, ℕ, ◌+◌, ◌-◌, ◌<◌, ◌≤◌, Bool, true, false, cond, not, ◌&&◌, ◌||◌, List, []}
+use Rattle.std.proofs.Common.{◌∷◌, ◌++◌, map, length, get_or, set, nat_le, ◌==◌, refl, sym, ap, ◌∙◌, subst, arith}
+use Rattle.std.proofs.Common.{append-nil, append_assoc, eq-eqb}
 use Rattle.std.proofs.lemmas.Bool.{eqb-true}
 use Rattle.std.specs.List.{AllByRecursion, filter, flat_map, list_any}
 use Rattle.pb_fdb.specs.Tables.{Table}
@@ -34,12 +36,14 @@ use Rattle.pb_relay.proofs.WaitingLemmas.{at_one}
 -- States.
 
 -- one change sets the state of its port
-state-changed : (plan : Plan) (port : Port) (p : ℕ) (changes : List (ℕ × PortState)) (new : PortState) → is_provider port ≡ true
+state-changed : (plan : Plan) (port : Port) (p : ℕ) (changes : List (ℕ × PortState)) (new : PortState)
+    → is_provider port ≡ true
     → state_by plan.spanning port p (changes ++ (p, new) ∷ []) ≡ new
 state-changed plan (Customer c) p changes new h = cc
 state-changed plan Unused p changes new h = cc
 state-changed plan (Provider e) p changes new h =
-    changed-append p _ changes ((p, new) ∷ []) ∙ ap (λ t. cond t new (state_by plan.spanning (Provider e) p changes)) (eq-eqb p p refl)
+    changed-append p _ changes ((p, new) ∷ []) ∙ ap (λ t. cond t new (state_by plan.spanning (Provider e) p changes))
+    (eq-eqb p p refl)
 
 -- and leaves that of the others
 state-left : (plan : Plan) (port : Port) (p q : ℕ) (changes : List (ℕ × PortState)) (new : PortState) → q ≢ p
@@ -60,12 +64,14 @@ state-set plan b changes p new h =
     let l0 : 1 ≤ p = h.1 in
     let l1 : p ≤ 16 = h.2 in
     let at : p ≡ 1 + (p - 1) = omega arith in
-    sym (at_one (λ q. state_by plan.spanning (port_at plan b q) q changes) (λ q. state_by plan.spanning (port_at plan b q) q (changes ++ (p, new) ∷ [])) p
+    sym (at_one (λ q. state_by plan.spanning (port_at plan b q) q changes)
+    (λ q. state_by plan.spanning (port_at plan b q) q (changes ++ (p, new) ∷ [])) p
     (λ q n. state-left plan (port_at plan b q) p q changes new n) 16 1 (p - 1) at (omega arith)
     ∙ ap (set (states_by plan b changes) (p - 1)) (state-changed plan (port_at plan b p) p changes new h.0))
 
 -- changes of ports to other bridges, each made in turn
-states-changed : (plan : Plan) (b : ℕ) (before changes : List (ℕ × PortState)) → AllByRecursion (λ (c : ℕ × PortState). IsBridgePort plan b c.0) changes
+states-changed : (plan : Plan) (b : ℕ) (before changes : List (ℕ × PortState))
+    → AllByRecursion (λ (c : ℕ × PortState). IsBridgePort plan b c.0) changes
     → states_changed (states_by plan b before) changes ≡ states_by plan b (before ++ changes)
 states-changed plan b before [] h = ap (states_by plan b) (sym (append-nil before))
 states-changed plan b before (c ∷ cs) h =
@@ -75,25 +81,30 @@ states-changed plan b before (c ∷ cs) h =
 
 -- Tables.
 
-flushed-after : (table : Table) (ports : List ℕ) → (all_flushed table ports).sightings ≡ after_all table.sightings (map (λ port. Flushed port) ports)
+flushed-after : (table : Table) (ports : List ℕ)
+    → (all_flushed table ports).sightings ≡ after_all table.sightings (map (λ port. Flushed port) ports)
 flushed-after table [] = refl
 flushed-after table (p ∷ ps) = flushed-after (record table { sightings = after table.sightings (Flushed p) }) ps
 
 fresh-flushed : (ageing now : ℕ) (table : List Sighting) (ports : List ℕ)
-    → filter (is_fresh ageing now) (after_all table (map (λ port. Flushed port) ports)) ≡ after_all (filter (is_fresh ageing now) table) (map (λ port. Flushed port) ports)
+    → filter (is_fresh ageing now) (after_all table (map (λ port. Flushed port) ports)) ≡ after_all
+    (filter (is_fresh ageing now) table) (map (λ port. Flushed port) ports)
 fresh-flushed ageing now table [] = refl
 fresh-flushed ageing now table (p ∷ ps) =
     fresh-flushed ageing now (after table (Flushed p)) ps
-    ∙ ap (λ t. after_all t (map (λ port. Flushed port) ps)) (filter-swap (is_fresh ageing now) (λ s. not (p == s.port)) table)
+    ∙ ap (λ t. after_all t (map (λ port. Flushed port) ps))
+    (filter-swap (is_fresh ageing now) (λ s. not (p == s.port)) table)
 
-after_all-more : (table : List Sighting) (news more : List News) → after_all table (news ++ more) ≡ after_all (after_all table news) more
+after_all-more : (table : List Sighting) (news more : List News)
+    → after_all table (news ++ more) ≡ after_all (after_all table news) more
 after_all-more table [] more = refl
 after_all-more table (n ∷ news) more = after_all-more (after table n) news more
 
 -- what stands, once ports are flushed
 pub stations_flushed : (ageing now : ℕ) (news : List News) (table : Table) (ports : List ℕ)
     → filter (is_fresh ageing now) table.sightings ≡ standing ageing now news
-    → filter (is_fresh ageing now) (all_flushed table ports).sightings ≡ standing ageing now (news ++ map (λ port. Flushed port) ports)
+    → filter (is_fresh ageing now) (all_flushed table ports).sightings ≡ standing ageing now
+    (news ++ map (λ port. Flushed port) ports)
 stations_flushed ageing now news table ports h =
     ap (filter (is_fresh ageing now)) (flushed-after table ports)
     ∙ fresh-flushed ageing now table.sightings ports
@@ -118,40 +129,55 @@ own_there dropped sends r =
 
 -- the frames that got room, where the first one did or not
 abbrev kept_of : List (ℕ × NoRoom) → (ℕ × List ℕ) → List (ℕ × List ℕ) → Bool → List (ℕ × List ℕ)
-kept_of dropped s ss k = cond k (s ∷ filter (λ z. not (is_refused dropped z.0)) ss) (filter (λ z. not (is_refused dropped z.0)) ss)
+kept_of dropped s ss k = cond k (s ∷ filter (λ z. not (is_refused dropped z.0)) ss)
+    (filter (λ z. not (is_refused dropped z.0)) ss)
 
-own-one : (dropped : List (ℕ × NoRoom)) (sends : List (ℕ × List ℕ)) (r : ℕ) → AreSeparate (places_of sends) → own_waiting dropped sends r ≡ own_there dropped sends r
+own-one : (dropped : List (ℕ × NoRoom)) (sends : List (ℕ × List ℕ)) (r : ℕ) → AreSeparate (places_of sends)
+    → own_waiting dropped sends r ≡ own_there dropped sends r
 own-one dropped [] r a = refl
 own-one dropped (s ∷ ss) r a = by_tests (s.0 == r) (not (is_refused dropped s.0)) refl refl (own-one dropped ss r a.2)
   where
     none : s.0 ≡ r → list_any (λ p. p == r) (places_of ss) ≡ false
     none e = subst (λ (n : ℕ). list_any (λ p. p == n) (places_of ss) ≡ false) e (others-none s.0 (places_of ss) a.1)
 
-    by_tests : (t k : Bool) → (s.0 == r) ≡ t → not (is_refused dropped s.0) ≡ k → own_waiting dropped ss r ≡ own_there dropped ss r
+    by_tests : (t k : Bool) → (s.0 == r) ≡ t → not (is_refused dropped s.0) ≡ k
+        → own_waiting dropped ss r ≡ own_there dropped ss r
         → own_waiting dropped (s ∷ ss) r ≡ own_there dropped (s ∷ ss) r
     by_tests true true et ek rest =
         ap (λ b. map (λ q. in_highest q.1) (filter (λ q. q.0 == r) (map own_item (kept_of dropped s ss b)))) ek
-        ∙ ap (λ b. map (λ q. in_highest q.1) (cond b (own_item s ∷ filter (λ q. q.0 == r) (own_queued dropped ss)) (filter (λ q. q.0 == r) (own_queued dropped ss)))) et
-        ∙ ap (λ ws. in_highest (own_item s).1 ∷ ws) (rest ∙ ap (λ b. cond (b && not (is_refused dropped r)) (in_highest (own_at ss r) ∷ []) []) (none (eqb-true s.0 r et)))
-        ∙ sym (ap (λ b. cond ((b || list_any (λ p. p == r) (places_of ss)) && not (is_refused dropped r)) (in_highest (cond b (own_item s).1 (own_at ss r)) ∷ []) []) et
-        ∙ ap (λ b. cond b (in_highest (own_item s).1 ∷ []) []) (ap (λ n. not (is_refused dropped n)) (sym (eqb-true s.0 r et)) ∙ ek))
+        ∙ ap (λ b. map (λ q. in_highest q.1) (cond b (own_item s ∷ filter (λ q. q.0 == r) (own_queued dropped ss))
+        (filter (λ q. q.0 == r) (own_queued dropped ss)))) et
+        ∙ ap (λ ws. in_highest (own_item s).1 ∷ ws)
+        (rest ∙ ap (λ b. cond (b && not (is_refused dropped r)) (in_highest (own_at ss r) ∷ []) [])
+        (none (eqb-true s.0 r et)))
+        ∙ sym (ap (λ b. cond ((b || list_any (λ p. p == r) (places_of ss)) && not (is_refused dropped r))
+        (in_highest (cond b (own_item s).1 (own_at ss r)) ∷ []) []) et
+        ∙ ap (λ b. cond b (in_highest (own_item s).1 ∷ []) [])
+        (ap (λ n. not (is_refused dropped n)) (sym (eqb-true s.0 r et)) ∙ ek))
     by_tests true false et ek rest =
         ap (λ b. map (λ q. in_highest q.1) (filter (λ q. q.0 == r) (map own_item (kept_of dropped s ss b)))) ek
-        ∙ rest ∙ ap (λ b. cond (b && not (is_refused dropped r)) (in_highest (own_at ss r) ∷ []) []) (none (eqb-true s.0 r et))
-        ∙ sym (ap (λ b. cond ((b || list_any (λ p. p == r) (places_of ss)) && not (is_refused dropped r)) (in_highest (cond b (own_item s).1 (own_at ss r)) ∷ []) []) et
-        ∙ ap (λ b. cond b (in_highest (own_item s).1 ∷ []) []) (ap (λ n. not (is_refused dropped n)) (sym (eqb-true s.0 r et)) ∙ ek))
+        ∙ rest ∙ ap (λ b. cond (b && not (is_refused dropped r)) (in_highest (own_at ss r) ∷ []) [])
+        (none (eqb-true s.0 r et))
+        ∙ sym (ap (λ b. cond ((b || list_any (λ p. p == r) (places_of ss)) && not (is_refused dropped r))
+        (in_highest (cond b (own_item s).1 (own_at ss r)) ∷ []) []) et
+        ∙ ap (λ b. cond b (in_highest (own_item s).1 ∷ []) [])
+        (ap (λ n. not (is_refused dropped n)) (sym (eqb-true s.0 r et)) ∙ ek))
     by_tests false true et ek rest =
         ap (λ b. map (λ q. in_highest q.1) (filter (λ q. q.0 == r) (map own_item (kept_of dropped s ss b)))) ek
-        ∙ ap (λ b. map (λ q. in_highest q.1) (cond b (own_item s ∷ filter (λ q. q.0 == r) (own_queued dropped ss)) (filter (λ q. q.0 == r) (own_queued dropped ss)))) et
+        ∙ ap (λ b. map (λ q. in_highest q.1) (cond b (own_item s ∷ filter (λ q. q.0 == r) (own_queued dropped ss))
+        (filter (λ q. q.0 == r) (own_queued dropped ss)))) et
         ∙ rest
-        ∙ sym (ap (λ b. cond ((b || list_any (λ p. p == r) (places_of ss)) && not (is_refused dropped r)) (in_highest (cond b (own_item s).1 (own_at ss r)) ∷ []) []) et)
+        ∙ sym (ap (λ b. cond ((b || list_any (λ p. p == r) (places_of ss)) && not (is_refused dropped r))
+        (in_highest (cond b (own_item s).1 (own_at ss r)) ∷ []) []) et)
     by_tests false false et ek rest =
         ap (λ b. map (λ q. in_highest q.1) (filter (λ q. q.0 == r) (map own_item (kept_of dropped s ss b)))) ek
         ∙ rest
-        ∙ sym (ap (λ b. cond ((b || list_any (λ p. p == r) (places_of ss)) && not (is_refused dropped r)) (in_highest (cond b (own_item s).1 (own_at ss r)) ∷ []) []) et)
+        ∙ sym (ap (λ b. cond ((b || list_any (λ p. p == r) (places_of ss)) && not (is_refused dropped r))
+        (in_highest (cond b (own_item s).1 (own_at ss r)) ∷ []) []) et)
 
 -- a step that moves, and does nothing else
-pub record IsMove (plan : Plan) (b : ℕ) (steps : List Step) (step : Step) (m : Moved) (sends : List (ℕ × List ℕ)) : Type 0 where
+pub record IsMove (plan : Plan) (b : ℕ) (steps : List Step) (step : Step) (m : Moved) (sends : List (ℕ × List ℕ)) :
+    Type 0 where
   pub told : moved_of step ≡ m ∷ []
   pub unrelayed : (r : ℕ) → relayed_by plan b r step ≡ []
   pub unsent : (r : ℕ) (ws : List Waiting) → after_sending r step ws ≡ ws
@@ -166,25 +192,33 @@ abbrev is_there : List (ℕ × List ℕ) → List (ℕ × NoRoom) → ℕ → Bo
 is_there sends dropped r = list_any (λ p. p == r) (places_of sends) && not (is_refused dropped r)
 
 -- a bridge's spanning tree has changed something: what is kept is kept
-pub after_moved : (plan : Plan) (b : ℕ) (steps : List Step) (states : List PortState) (queues new : List (List (List Item))) (now later : ℕ) (table : List Sighting) (newer : List Sighting)
+pub after_moved : (plan : Plan) (b : ℕ) (steps : List Step) (states : List PortState)
+    (queues new : List (List (List Item))) (now later : ℕ) (table : List Sighting) (newer : List Sighting)
     (step : Step) (m : Moved) (sends : List (ℕ × List ℕ)) (capacity : ℕ)
-    → IsStanding plan b steps states queues now table → Fits spanning_tree plan b steps step → IsMove plan b steps step m sends
+    → IsStanding plan b steps states queues now table → Fits spanning_tree plan b steps step
+    → IsMove plan b steps step m sends
     → later ≡ now + ticked step
     → AreCopied capacity 7 (own_at sends) queues (places_of sends) m.dropped new → length new ≡ 16
-    → filter (is_fresh plan.ageing later) newer ≡ standing plan.ageing later (news_of plan b steps ++ map (λ port. Flushed port) m.flushed)
+    → filter (is_fresh plan.ageing later) newer ≡ standing plan.ageing later
+    (news_of plan b steps ++ map (λ port. Flushed port) m.flushed)
     → IsStanding plan b (steps ++ step ∷ []) (states_changed states m.states) new later newer
-after_moved plan b steps states queues new now later table newer step m sends capacity s fits move clock copied count stations = record {
-  lawful = lawful_more spanning_tree plan b steps step s.lawful fits;
-  kept_states = ap (λ ss. states_changed ss m.states) s.kept_states ∙ states-changed plan b (changes_of steps) m.states move.bridges
-      ∙ ap (states_by plan b) (ap (λ cs. changes_of steps ++ cs) (sym changes) ∙ sym (changes_more steps step));
-  count = count;
-  kept_queues = λ r h. kept r h;
-  classes = λ r. subst AreClassed (sym (waits r)) (classes_relayed (is_there sends m.dropped r) 7 (own_at sends r) (waiting plan b r steps) (omega arith) (s.classes r));
-  within = λ r. subst (λ (ws : List Waiting). length ws ≤ capacity_of plan b) (sym (waits r))
-      (fewer_relayed (is_there sends m.dropped r) (in_highest (own_at sends r)) (waiting plan b r steps) (capacity_of plan b) (s.within r) (room r));
-  clock = clock ∙ ap (λ n. n + ticked step) s.clock ∙ sym (now_more steps step);
-  stations = stations ∙ ap (standing plan.ageing later) (sym (news_more plan b steps step ∙ ap (λ ns. news_of plan b steps ++ ns) news));
-}
+after_moved plan b steps states queues new now later table newer step m sends capacity s fits move clock copied count
+    stations = record {
+      lawful = lawful_more spanning_tree plan b steps step s.lawful fits;
+      kept_states = ap (λ ss. states_changed ss m.states) s.kept_states
+          ∙ states-changed plan b (changes_of steps) m.states move.bridges
+          ∙ ap (states_by plan b) (ap (λ cs. changes_of steps ++ cs) (sym changes) ∙ sym (changes_more steps step));
+      count = count;
+      kept_queues = λ r h. kept r h;
+      classes = λ r. subst AreClassed (sym (waits r)) (classes_relayed (is_there sends m.dropped r) 7 (own_at sends r)
+          (waiting plan b r steps) (omega arith) (s.classes r));
+      within = λ r. subst (λ (ws : List Waiting). length ws ≤ capacity_of plan b) (sym (waits r))
+          (fewer_relayed (is_there sends m.dropped r) (in_highest (own_at sends r)) (waiting plan b r steps)
+          (capacity_of plan b) (s.within r) (room r));
+      clock = clock ∙ ap (λ n. n + ticked step) s.clock ∙ sym (now_more steps step);
+      stations = stations ∙ ap (standing plan.ageing later)
+          (sym (news_more plan b steps step ∙ ap (λ ns. news_of plan b steps ++ ns) news));
+    }
   where
     changes : changes_of (step ∷ []) ≡ m.states
     changes = ap (λ ms. flat_map (λ (x : Moved). x.states) (ms ++ [])) move.told ∙ append-nil m.states
@@ -201,21 +235,25 @@ after_moved plan b steps states queues new now later table newer step m sends ca
         ∙ ap (λ qs. map (λ q. in_highest q.1) (filter (λ q. q.0 == r) qs)) (append-nil m.queued ∙ move.queued)
         ∙ own-one m.dropped sends r move.separate
 
-    waits : (r : ℕ) → waiting plan b r (steps ++ step ∷ []) ≡ waiting plan b r steps ++ cond (is_there sends m.dropped r) (in_highest (own_at sends r) ∷ []) []
+    waits : (r : ℕ) → waiting plan b r (steps ++ step ∷ []) ≡ waiting plan b r steps
+        ++ cond (is_there sends m.dropped r) (in_highest (own_at sends r) ∷ []) []
     waits r =
         waiting_from-append plan b r [] steps step
         ∙ move.unsent r (waiting plan b r steps ++ (relayed_by plan b r step ++ own_by r step))
         ∙ ap (λ ws. waiting plan b r steps ++ (ws ++ own_by r step)) (move.unrelayed r)
         ∙ ap (λ ws. waiting plan b r steps ++ ws) (own r)
 
-    room : (r : ℕ) → is_there sends m.dropped r ≡ true → nat_le (capacity_of plan b) (length (waiting plan b r steps)) ≡ false
-    room r t = let f = and-true (list_any (λ p. p == r) (places_of sends)) (is_refused m.dropped r) t in not_full (is_full plan b steps) (places_of sends) m.dropped r move.refused f.0 f.1
+    room : (r : ℕ) → is_there sends m.dropped r ≡ true
+        → nat_le (capacity_of plan b) (length (waiting plan b r steps)) ≡ false
+    room r t = let f = and-true (list_any (λ p. p == r) (places_of sends)) (is_refused m.dropped r) t in not_full
+        (is_full plan b steps) (places_of sends) m.dropped r move.refused f.0 f.1
 
     kept : (r : ℕ) → r < 16 → get_or new r [] ≡ by_class (waiting plan b (r + 1) (steps ++ step ∷ []))
     kept r h =
         copied.copies r h
         ∙ ap (λ q. with_copy 7 (own_at sends) (places_of sends) m.dropped (r + 1) q) (s.kept_queues r h)
-        ∙ sym (queue_relayed (is_there sends m.dropped (r + 1)) 7 (own_at sends (r + 1)) (waiting plan b (r + 1) steps) (omega arith))
+        ∙ sym (queue_relayed (is_there sends m.dropped (r + 1)) 7 (own_at sends (r + 1))
+        (waiting plan b (r + 1) steps) (omega arith))
         ∙ ap by_class (sym (waits (r + 1)))
 
 -- one more change of state
@@ -225,6 +263,9 @@ states_changed-more states [] p new = refl
 states_changed-more states (c ∷ cs) p new = states_changed-more (set states (c.0 - 1) c.1) cs p new
 
 -- one more port is flushed
-pub all_flushed-more : (table : Table) (ports : List ℕ) (p : ℕ) → all_flushed table (ports ++ p ∷ []) ≡ record (all_flushed table ports) { sightings = after (all_flushed table ports).sightings (Flushed p) }
+pub all_flushed-more : (table : Table) (ports : List ℕ) (p : ℕ)
+    → all_flushed table (ports ++ p ∷ []) ≡ record (all_flushed table ports)
+    { sightings = after (all_flushed table ports).sightings (Flushed p) }
 all_flushed-more table [] p = refl
-all_flushed-more table (q ∷ qs) p = all_flushed-more (record table { sightings = after table.sightings (Flushed q) }) qs p
+all_flushed-more table (q ∷ qs) p = all_flushed-more (record table { sightings = after table.sightings (Flushed q) })
+    qs p

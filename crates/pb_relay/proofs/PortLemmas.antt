@@ -12,7 +12,8 @@ use Rattle.pb_relay.specs.LocalPorts.{IsKept, IsConfigured}
 use Rattle.pb_relay.specs.Roles.{LocalPort}
 use Rattle.pb_relay.specs.Roles.LocalPort.{ToCustomer, ToBridge, ToNobody}
 
-used_where : (plan : Plan) (port : Port) (local : LocalPort) → IsKept plan port local → (is_to_customer local || is_to_bridge local) ≡ is_used port
+used_where : (plan : Plan) (port : Port) (local : LocalPort) → IsKept plan port local
+    → (is_to_customer local || is_to_bridge local) ≡ is_used port
 used_where plan (Customer c) (ToCustomer vid pcp) k = refl
 used_where plan (Provider e) (ToBridge start vids) k = refl
 used_where plan Unused ToNobody k = refl
@@ -23,7 +24,8 @@ used_where plan (Provider e) ToNobody k = absurd k
 used_where plan Unused (ToCustomer vid pcp) k = absurd k
 used_where plan Unused (ToBridge start vids) k = absurd k
 
-provider_where : (plan : Plan) (port : Port) (local : LocalPort) → IsKept plan port local → is_to_bridge local ≡ is_provider port
+provider_where : (plan : Plan) (port : Port) (local : LocalPort) → IsKept plan port local
+    → is_to_bridge local ≡ is_provider port
 provider_where plan (Customer c) (ToCustomer vid pcp) k = refl
 provider_where plan (Provider e) (ToBridge start vids) k = refl
 provider_where plan Unused ToNobody k = refl
@@ -35,15 +37,20 @@ provider_where plan Unused (ToCustomer vid pcp) k = absurd k
 provider_where plan Unused (ToBridge start vids) k = absurd k
 
 -- of one of the sixteen
-pub used_is : (plan : Plan) (number : ℕ) (ports : List LocalPort) (capacity limit p : ℕ) → IsConfigured plan number ports capacity limit
-    → (p ≡ 0 → ⊥) → p ≤ 16 → (is_to_customer (get_or ports (p - 1) ToNobody) || is_to_bridge (get_or ports (p - 1) ToNobody)) ≡ is_used (port_at plan number p)
+pub used_is : (plan : Plan) (number : ℕ) (ports : List LocalPort) (capacity limit p : ℕ)
+    → IsConfigured plan number ports capacity limit
+    → (p ≡ 0 → ⊥) → p ≤ 16 → (is_to_customer (get_or ports (p - 1) ToNobody) || is_to_bridge
+    (get_or ports (p - 1) ToNobody)) ≡ is_used (port_at plan number p)
 used_is plan number ports capacity limit p s some few =
-    used_where plan (port_at plan number p) (get_or ports (p - 1) ToNobody) (kept_here plan number ports capacity limit p s (omega arith, few))
+    used_where plan (port_at plan number p) (get_or ports (p - 1) ToNobody)
+    (kept_here plan number ports capacity limit p s (omega arith, few))
 
-pub provider_is : (plan : Plan) (number : ℕ) (ports : List LocalPort) (capacity limit p : ℕ) → IsConfigured plan number ports capacity limit
+pub provider_is : (plan : Plan) (number : ℕ) (ports : List LocalPort) (capacity limit p : ℕ)
+    → IsConfigured plan number ports capacity limit
     → (p ≡ 0 → ⊥) → p ≤ 16 → is_to_bridge (get_or ports (p - 1) ToNobody) ≡ is_provider (port_at plan number p)
 provider_is plan number ports capacity limit p s some few =
-    provider_where plan (port_at plan number p) (get_or ports (p - 1) ToNobody) (kept_here plan number ports capacity limit p s (omega arith, few))
+    provider_where plan (port_at plan number p) (get_or ports (p - 1) ToNobody)
+    (kept_here plan number ports capacity limit p s (omega arith, few))
 
 -- what cannot be is not
 not_true : (b : Bool) → (b ≡ true → ⊥) → b ≡ false
@@ -51,11 +58,14 @@ not_true true never = absurd (never refl)
 not_true false never = refl
 
 -- no other is used
-pub none_elsewhere : (plan : Plan) (number p : ℕ) → IsSound plan → ((1 ≤ p) × (p ≤ 16) → ⊥) → false ≡ is_used (port_at plan number p)
+pub none_elsewhere : (plan : Plan) (number p : ℕ) → IsSound plan → ((1 ≤ p) × (p ≤ 16) → ⊥)
+    → false ≡ is_used (port_at plan number p)
 none_elsewhere plan number p sound never =
     sym (not_true (is_used (port_at plan number p)) (λ u. never (used_port plan number p sound u)))
 
 -- nor goes to another bridge
-pub no_link_elsewhere : (plan : Plan) (number p : ℕ) → IsSound plan → ((1 ≤ p) × (p ≤ 16) → ⊥) → false ≡ is_provider (port_at plan number p)
+pub no_link_elsewhere : (plan : Plan) (number p : ℕ) → IsSound plan → ((1 ≤ p) × (p ≤ 16) → ⊥)
+    → false ≡ is_provider (port_at plan number p)
 no_link_elsewhere plan number p sound never =
-    sym (not_true (is_provider (port_at plan number p)) (λ u. never (used_port plan number p sound (provider_used (port_at plan number p) u))))
+    sym (not_true (is_provider (port_at plan number p))
+    (λ u. never (used_port plan number p sound (provider_used (port_at plan number p) u))))

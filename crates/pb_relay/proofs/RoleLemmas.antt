@@ -1,5 +1,6 @@
 -- What the services say of local ports.
-use Rattle.std.proofs.Common.{◌≡◌, ℕ, suc, ◌+◌, ◌-◌, ◌<◌, ◌==◌, Bool, true, false, ◌||◌, Some, None, List, drop, length, get_or, unwrap_or, refl, sym, ap, ◌∙◌, arith}
+use Rattle.std.proofs.Common.{◌≡◌, ℕ, suc, ◌+◌, ◌-◌, ◌<◌, ◌==◌, Bool, true, false, ◌||◌, Some, None, List, drop}
+use Rattle.std.proofs.Common.{length, get_or, unwrap_or, refl, sym, ap, ◌∙◌, arith}
 use Rattle.std.proofs.Math.Seq.{drop-cons, drop-length}
 use Rattle.std.specs.List.{list_any}
 use Rattle.std.specs.Option.{option_map}
@@ -22,7 +23,8 @@ locals-length table starts = refl
 
 -- what stands at a place
 pub local_here : (table : ServiceTable) (starts : List PortState) (place : ℕ) → place < 16
-    → get_or (locals table starts) place ToNobody ≡ local_as table (get_or starts place Discarding) (role_at table (place + 1))
+    → get_or (locals table starts) place ToNobody ≡ local_as table (get_or starts place Discarding)
+    (role_at table (place + 1))
 unfolding locals
 local_here table starts place l =
     let s : 1 + place ≡ place + 1 = omega arith in
@@ -30,11 +32,14 @@ local_here table starts place l =
     get_up (local_of table starts) 16 1 place ToNobody l ∙ ap (local_of table starts) s
     ∙ ap (λ n. local_as table (get_or starts n Discarding) (role_at table (place + 1))) t
 
-pub told_here : (table : ServiceTable) (starts : List PortState) (place : ℕ) (role : Option Role) → place < 16 → role ≡ role_at table (place + 1)
+pub told_here : (table : ServiceTable) (starts : List PortState) (place : ℕ) (role : Option Role) → place < 16
+    → role ≡ role_at table (place + 1)
     → told (local_as table (get_or starts place Discarding) role) ≡ told (get_or (locals table starts) place ToNobody)
-told_here table starts place role l e = ap (λ o. told (local_as table (get_or starts place Discarding) o)) e ∙ ap told (sym (local_here table starts place l))
+told_here table starts place role l e = ap (λ o. told (local_as table (get_or starts place Discarding) o)) e
+    ∙ ap told (sym (local_here table starts place l))
 
-pub told_role : (table : ServiceTable) (start : PortState) (role : Role) → told_as start role ≡ told (local_as table start (Some role))
+pub told_role : (table : ServiceTable) (start : PortState) (role : Role)
+    → told_as start role ≡ told (local_as table start (Some role))
 told_role table start (Customer join) = refl
 told_role table start (Trunk vids) = refl
 
@@ -49,19 +54,26 @@ member_as table start vid (Some (Trunk (Some vids))) = refl
 pub member_here : (table : ServiceTable) (starts : List PortState) (place vid : ℕ) → place < 16
     → is_member table (place + 1) vid ≡ is_member_of (get_or (locals table starts) place ToNobody) vid
 member_here table starts place vid l =
-    member_as table (get_or starts place Discarding) vid (role_at table (place + 1)) ∙ ap (λ z. is_member_of z vid) (sym (local_here table starts place l))
+    member_as table (get_or starts place Discarding) vid (role_at table (place + 1))
+    ∙ ap (λ z. is_member_of z vid) (sym (local_here table starts place l))
 
 -- some one from a place on: it, or one after it
-pub any_from : (q : LocalPort → Bool) (ports : List LocalPort) (i : ℕ) → i < length ports → list_any q (drop i ports) ≡ (q (get_or ports i ToNobody) || list_any q (drop (i + 1) ports))
+pub any_from : (q : LocalPort → Bool) (ports : List LocalPort) (i : ℕ) → i < length ports
+    → list_any q (drop i ports) ≡ (q (get_or ports i ToNobody) || list_any q (drop (i + 1) ports))
 any_from q ports i l =
     let s : suc i ≡ i + 1 = omega arith in
-    ap (list_any q) (drop-cons ports i ToNobody l) ∙ ap (λ n. q (get_or ports i ToNobody) || list_any q (drop n ports)) s
+    ap (list_any q) (drop-cons ports i ToNobody l)
+    ∙ ap (λ n. q (get_or ports i ToNobody) || list_any q (drop n ports)) s
 
-pub any_there : (q : LocalPort → Bool) (ports : List LocalPort) (i : ℕ) → i < length ports → list_any q (drop i ports) ≡ list_any q ports → q (get_or ports i ToNobody) ≡ true → true ≡ list_any q ports
+pub any_there : (q : LocalPort → Bool) (ports : List LocalPort) (i : ℕ) → i < length ports
+    → list_any q (drop i ports) ≡ list_any q ports → q (get_or ports i ToNobody) ≡ true → true ≡ list_any q ports
 any_there q ports i l h t = sym (ap (λ b. b || list_any q (drop (i + 1) ports)) t) ∙ sym (any_from q ports i l) ∙ h
 
-pub any_later : (q : LocalPort → Bool) (ports : List LocalPort) (i : ℕ) → i < length ports → list_any q (drop i ports) ≡ list_any q ports → q (get_or ports i ToNobody) ≡ false → list_any q (drop (i + 1) ports) ≡ list_any q ports
+pub any_later : (q : LocalPort → Bool) (ports : List LocalPort) (i : ℕ) → i < length ports
+    → list_any q (drop i ports) ≡ list_any q ports → q (get_or ports i ToNobody) ≡ false
+    → list_any q (drop (i + 1) ports) ≡ list_any q ports
 any_later q ports i l h t = sym (ap (λ b. b || list_any q (drop (i + 1) ports)) t) ∙ sym (any_from q ports i l) ∙ h
 
-pub any_none : (q : LocalPort → Bool) (ports : List LocalPort) (i : ℕ) → i ≡ length ports → list_any q (drop i ports) ≡ list_any q ports → false ≡ list_any q ports
+pub any_none : (q : LocalPort → Bool) (ports : List LocalPort) (i : ℕ) → i ≡ length ports
+    → list_any q (drop i ports) ≡ list_any q ports → false ≡ list_any q ports
 any_none q ports i e h = sym (ap (list_any q) (ap (λ n. drop n ports) e ∙ drop-length ports)) ∙ h

@@ -1,5 +1,7 @@
 -- The plan's services, one after another.
-use Rattle.std.proofs.Common.{◌≡◌, ℕ, zero, suc, ◌+◌, ◌<◌, Bool, true, false, cond, ◌==◌, ◌||◌, ◌&&◌, nat_eq, nat_lt, Some, None, is_some, List, [], ◌∷◌, ◌++◌, map, insert, take, length, get_or, slice_get, unwrap_or, eq-eqb, refl, sym, ap, ◌∙◌, arith}
+use Rattle.std.proofs.Common.{◌≡◌, ℕ, zero, suc, ◌+◌, ◌<◌, Bool, true, false, cond, ◌==◌, ◌||◌, ◌&&◌, nat_eq, nat_lt}
+use Rattle.std.proofs.Common.{Some, None, is_some, List, [], ◌∷◌, ◌++◌, map, insert, take, length, get_or, slice_get}
+use Rattle.std.proofs.Common.{unwrap_or, eq-eqb, refl, sym, ap, ◌∙◌, arith}
 use Rattle.std.proofs.lemmas.Bool.{eqb-true}
 use Rattle.std.proofs.lemmas.List.{map-append, take_more}
 use Rattle.std.proofs.lemmas.Option.{slice_get-map}
@@ -15,7 +17,8 @@ use Rattle.pb_lan.specs.Plans.{IsNumber, IsSound}
 use Rattle.pb_lan.specs.Ports.{has_vid as has_vid_of, listed}
 use Rattle.pb_lan.specs.declared.plan.Plan.{Plan}
 use Rattle.pb_lan.specs.declared.plan.ServicePlan.{ServicePlan}
-use Rattle.pb_svlan.specs.ServiceTables.{ServiceTable, vid_of, is_known, has_name, has_vid, role_in, place_of, carried, vids_of as vids_numbered}
+use Rattle.pb_svlan.specs.ServiceTables.{ServiceTable, vid_of, is_known, has_name, has_vid, role_in, place_of}
+use Rattle.pb_svlan.specs.ServiceTables.{carried, vids_of as vids_numbered}
 use Rattle.pb_svlan.specs.declared.port.Attachment.{Attachment}
 use Rattle.pb_relay.specs.Roles.{serves_of, vids_of}
 use Rattle.pb_relay.specs.Starts.{HasServices}
@@ -25,30 +28,35 @@ abbrev pub pair_of : ServicePlan → ℕ × List ℕ
 pair_of s = (s.vid, s.name)
 
 -- what all of a list have, the one at a place has
-all-get : {X K : Type 0} (P : K → Type 0) (f : X → K) (xs : List X) (i : ℕ) (d : X) → i < length xs → AllByRecursion P (map f xs) → P (f (get_or xs i d))
+all-get : {X K : Type 0} (P : K → Type 0) (f : X → K) (xs : List X) (i : ℕ) (d : X) → i < length xs
+    → AllByRecursion P (map f xs) → P (f (get_or xs i d))
 all-get P f [] i d l a = absurd (omega arith)
 all-get P f (x ∷ xs) zero d l a = a.0
 all-get P f (x ∷ xs) (suc i) d l a = all-get P f xs i d (omega arith) a.1
 
 -- none before a place has its key
-pub distinct-before : {X K : Type 0} (e : K → K → Bool) (f : X → K) (xs : List X) (i : ℕ) (d : X) → i < length xs → IsDistinct e (map f xs)
+pub distinct-before : {X K : Type 0} (e : K → K → Bool) (f : X → K) (xs : List X) (i : ℕ) (d : X) → i < length xs
+    → IsDistinct e (map f xs)
     → list_any (λ y. e (f y) (f (get_or xs i d))) (take i xs) ≡ false
 unfolding IsDistinct
 distinct-before e f [] i d l h = absurd (omega arith)
 distinct-before e f (x ∷ xs) zero d l h = refl
 distinct-before e f (x ∷ xs) (suc i) d l h =
-    ap (λ b. b || list_any (λ y. e (f y) (f (get_or xs i d))) (take i xs)) (all-get (λ k. e (f x) k ≡ false) f xs i d (omega arith) h.0)
+    ap (λ b. b || list_any (λ y. e (f y) (f (get_or xs i d))) (take i xs))
+    (all-get (λ k. e (f x) k ≡ false) f xs i d (omega arith) h.0)
     ∙ distinct-before e f xs i d (omega arith) h.1
 
 -- so none of the services so far has the next one's name, or its VID
-pub new_name : (plan : Plan) (table : ServiceTable) (i : ℕ) (s : ServicePlan) → IsSound plan → i < length plan.services → s ≡ get_or plan.services i s
+pub new_name : (plan : Plan) (table : ServiceTable) (i : ℕ) (s : ServicePlan) → IsSound plan
+    → i < length plan.services → s ≡ get_or plan.services i s
     → table.services ≡ map pair_of (take i plan.services) → has_name table s.name ≡ false
 new_name plan table i s sound l e t =
     ap (list_any (λ z. same z.1 s.name)) t ∙ list_any-map (λ z. same z.1 s.name) pair_of (take i plan.services)
     ∙ ap (λ (z : ServicePlan). list_any (λ y. same y.name z.name) (take i plan.services)) e
     ∙ distinct-before same (λ (y : ServicePlan). y.name) plan.services i s l sound.names.services
 
-pub new_vid : (plan : Plan) (table : ServiceTable) (i : ℕ) (s : ServicePlan) → IsSound plan → i < length plan.services → s ≡ get_or plan.services i s
+pub new_vid : (plan : Plan) (table : ServiceTable) (i : ℕ) (s : ServicePlan) → IsSound plan → i < length plan.services
+    → s ≡ get_or plan.services i s
     → table.services ≡ map pair_of (take i plan.services) → has_vid table s.vid ≡ false
 new_vid plan table i s sound l e t =
     ap (list_any (λ z. z.0 == s.vid)) t ∙ list_any-map (λ z. z.0 == s.vid) pair_of (take i plan.services)
@@ -56,68 +64,89 @@ new_vid plan table i s sound l e t =
     ∙ distinct-before nat_eq (λ (y : ServicePlan). y.vid) plan.services i s l sound.distinct_vids
 
 -- the services so far, and the next one
-pub services-more : (plan : Plan) (i : ℕ) (s : ServicePlan) (old new : List (ℕ × List ℕ)) → i < length plan.services → s ≡ get_or plan.services i s
-    → old ≡ map pair_of (take i plan.services) → new ≡ old ++ (s.vid, s.name) ∷ [] → new ≡ map pair_of (take (i + 1) plan.services)
+pub services-more : (plan : Plan) (i : ℕ) (s : ServicePlan) (old new : List (ℕ × List ℕ)) → i < length plan.services
+    → s ≡ get_or plan.services i s
+    → old ≡ map pair_of (take i plan.services) → new ≡ old ++ (s.vid, s.name) ∷ []
+    → new ≡ map pair_of (take (i + 1) plan.services)
 services-more plan i s old new l e o n =
     n ∙ ap (λ zs. zs ++ (s.vid, s.name) ∷ []) o
     ∙ ap (λ (z : ServicePlan). map pair_of (take i plan.services) ++ pair_of z ∷ []) e
-    ∙ sym (map-append pair_of (take i plan.services) (get_or plan.services i s ∷ [])) ∙ ap (map pair_of) (sym (take_more plan.services i s l))
+    ∙ sym (map-append pair_of (take i plan.services) (get_or plan.services i s ∷ []))
+    ∙ ap (map pair_of) (sym (take_more plan.services i s l))
 
 -- the VID of a service of the plan
-pub vid-known : (plan : Plan) (table : ServiceTable) (n : ℕ) → HasServices plan table → vid_of table n ≡ option_map (λ s. s.vid) (numbered plan.services n)
+pub vid-known : (plan : Plan) (table : ServiceTable) (n : ℕ) → HasServices plan table
+    → vid_of table n ≡ option_map (λ s. s.vid) (numbered plan.services n)
 vid-known plan table zero h = refl
 vid-known plan table (suc n) h =
-    ap (λ ss. option_map (λ s. s.0) (slice_get ss n)) h ∙ ap (option_map (λ s. s.0)) (slice_get-map pair_of plan.services n) ∙ twice (slice_get plan.services n)
+    ap (λ ss. option_map (λ s. s.0) (slice_get ss n)) h
+    ∙ ap (option_map (λ s. s.0)) (slice_get-map pair_of plan.services n) ∙ twice (slice_get plan.services n)
   where
     twice : (o : Option ServicePlan) → option_map (λ s. s.0) (option_map pair_of o) ≡ option_map (λ s. s.vid) o
     twice None = refl
     twice (Some s) = refl
 
-pub known : (plan : Plan) (table : ServiceTable) (n : ℕ) → HasServices plan table → IsNumber n (length plan.services) → is_known table n ≡ true
+pub known : (plan : Plan) (table : ServiceTable) (n : ℕ) → HasServices plan table → IsNumber n (length plan.services)
+    → is_known table n ≡ true
 known plan table n h l =
     let s = numbered-exists plan.services n l in
     ap is_some (vid-known plan table n h ∙ ap (option_map (λ s. s.vid)) s.1)
 
-pub all-known : (plan : Plan) (table : ServiceTable) (numbers : List ℕ) → HasServices plan table → AllByRecursion (λ n. IsNumber n (length plan.services)) numbers → list_all (is_known table) numbers ≡ true
+pub all-known : (plan : Plan) (table : ServiceTable) (numbers : List ℕ) → HasServices plan table
+    → AllByRecursion (λ n. IsNumber n (length plan.services)) numbers → list_all (is_known table) numbers ≡ true
 all-known plan table [] h a = refl
-all-known plan table (n ∷ numbers) h a = ap (λ b. b && list_all (is_known table) numbers) (known plan table n h a.0) ∙ all-known plan table numbers h a.1
+all-known plan table (n ∷ numbers) h a = ap (λ b. b && list_all (is_known table) numbers) (known plan table n h a.0)
+    ∙ all-known plan table numbers h a.1
 
 -- what a port to another bridge carries is what its end lists
-carried-listed : (plan : Plan) (table : ServiceTable) (numbers : List ℕ) (v : ℕ) → HasServices plan table → AllByRecursion (λ n. IsNumber n (length plan.services)) numbers
+carried-listed : (plan : Plan) (table : ServiceTable) (numbers : List ℕ) (v : ℕ) → HasServices plan table
+    → AllByRecursion (λ n. IsNumber n (length plan.services)) numbers
     → list_any (λ w. w == v) (vids_numbered table numbers) ≡ list_any (has_vid_of plan v) numbers
 carried-listed plan table [] v h a = refl
 carried-listed plan table (n ∷ numbers) v h a =
     let s = numbered-exists plan.services n a.0 in
     let here : (unwrap_or (vid_of table n) 0 == v) ≡ has_vid_of plan v n =
-    ap (λ o. unwrap_or o 0 == v) (vid-known plan table n h ∙ ap (option_map (λ s. s.vid)) s.1) ∙ sym (ap (λ o. unwrap_or (option_map (λ s. s.vid == v) o) false) s.1) in
-    ap (λ b. b || list_any (λ w. w == v) (vids_numbered table numbers)) here ∙ ap (λ b. has_vid_of plan v n || b) (carried-listed plan table numbers v h a.1)
+    ap (λ o. unwrap_or o 0 == v) (vid-known plan table n h ∙ ap (option_map (λ s. s.vid)) s.1)
+    ∙ sym (ap (λ o. unwrap_or (option_map (λ s. s.vid == v) o) false) s.1) in
+    ap (λ b. b || list_any (λ w. w == v) (vids_numbered table numbers)) here
+    ∙ ap (λ b. has_vid_of plan v n || b) (carried-listed plan table numbers v h a.1)
 
-pub carried-serves : (plan : Plan) (old new : ServiceTable) (services : Option (List ℕ)) (v : ℕ) → HasServices plan old → new.services ≡ old.services
+pub carried-serves : (plan : Plan) (old new : ServiceTable) (services : Option (List ℕ)) (v : ℕ)
+    → HasServices plan old → new.services ≡ old.services
     → ((numbers : List ℕ) → services ≡ Some numbers → AllByRecursion (λ n. IsNumber n (length plan.services)) numbers)
     → serves_of (vids_of new (carried old services)) v ≡ listed plan v services
 carried-serves plan old new None v h e a =
-    ap (λ ss. list_any (λ w. w == v) (map (λ s. s.0) ss)) (e ∙ h) ∙ list_any-map (λ w. w == v) (λ s. s.0) (map pair_of plan.services)
+    ap (λ ss. list_any (λ w. w == v) (map (λ s. s.0) ss)) (e ∙ h)
+    ∙ list_any-map (λ w. w == v) (λ s. s.0) (map pair_of plan.services)
     ∙ list_any-map (λ s. s.0 == v) pair_of plan.services
 carried-serves plan old new (Some numbers) v h e a = carried-listed plan old numbers v h (a numbers refl)
 
 -- ports with one more that was nothing
 pub role-attached : (ports : List Attachment) (a : Attachment) (q : ℕ) → role_in ports a.port ≡ None
     → role_in (insert ports (place_of a.port ports) a) q ≡ cond (a.port == q) (Some a.role) (role_in ports q)
-role-attached [] a q none = elim (a.port == q) as (λ t. option_map (λ z. z.role) (cond t (Some a) None) ≡ cond t (Some a.role) None) [ true ↦ refl | false ↦ refl ]
+role-attached [] a q none = elim (a.port == q) as (λ t. option_map (λ z. z.role) (cond t (Some a) None) ≡ cond t
+    (Some a.role) None) [ true ↦ refl | false ↦ refl ]
 role-attached (b ∷ others) a q none =
-    elim (nat_lt b.port a.port) as (λ t. role_in (insert (b ∷ others) (cond t (suc (place_of a.port others)) 0) a) q ≡ cond (a.port == q) (Some a.role) (role_in (b ∷ others) q)) [
-      | true ↦ by_ports (b.port == q) (a.port == q) refl refl (role-attached others a q (differs (b.port == a.port) none).1)
-      | false ↦ elim (a.port == q) as (λ t. option_map (λ z. z.role) (cond t (Some a) (first (λ z. z.port == q) (b ∷ others))) ≡ cond t (Some a.role) (role_in (b ∷ others) q)) [ true ↦ refl | false ↦ refl ]
+    elim (nat_lt b.port a.port) as (λ t. role_in (insert (b ∷ others) (cond t (suc (place_of a.port others)) 0) a) q
+    ≡ cond (a.port == q) (Some a.role) (role_in (b ∷ others) q)) [
+      | true ↦ by_ports (b.port == q) (a.port == q) refl refl
+          (role-attached others a q (differs (b.port == a.port) none).1)
+      | false ↦ elim (a.port == q) as
+          (λ t. option_map (λ z. z.role) (cond t (Some a) (first (λ z. z.port == q) (b ∷ others))) ≡ cond t
+          (Some a.role) (role_in (b ∷ others) q)) [ true ↦ refl | false ↦ refl ]
     ]
   where
-    differs : (t : Bool) → option_map (λ z. z.role) (cond t (Some b) (first (λ z. z.port == a.port) others)) ≡ None → (t ≡ false) × (role_in others a.port ≡ None)
+    differs : (t : Bool) → option_map (λ z. z.role) (cond t (Some b) (first (λ z. z.port == a.port) others)) ≡ None
+        → (t ≡ false) × (role_in others a.port ≡ None)
     differs true h = cc
     differs false h = (refl, h)
 
     by_ports : (s t : Bool) → (b.port == q) ≡ s → (a.port == q) ≡ t
         → role_in (insert others (place_of a.port others) a) q ≡ cond (a.port == q) (Some a.role) (role_in others q)
-        → option_map (λ z. z.role) (cond (b.port == q) (Some b) (first (λ z. z.port == q) (insert others (place_of a.port others) a)))
-        ≡ cond (a.port == q) (Some a.role) (option_map (λ z. z.role) (cond (b.port == q) (Some b) (first (λ z. z.port == q) others)))
+        → option_map (λ z. z.role)
+        (cond (b.port == q) (Some b) (first (λ z. z.port == q) (insert others (place_of a.port others) a)))
+        ≡ cond (a.port == q) (Some a.role)
+        (option_map (λ z. z.role) (cond (b.port == q) (Some b) (first (λ z. z.port == q) others)))
     by_ports true true e f rest =
         let same_port : b.port ≡ a.port = eqb-true b.port q e ∙ sym (eqb-true a.port q f) in
         let unlike = (differs (b.port == a.port) none).0 in

@@ -1,11 +1,13 @@
 -- The learning table.
-use Rattle.std.proofs.Common.{◌==◌, ◌&&◌, eq-eqb, ◌≡◌, ℕ, ◌+◌, ◌-◌, ◌<◌, Bool, true, false, cond, not, nat_le, Some, List, [], ◌∷◌, ◌++◌, length, refl, sym, ap, ◌∙◌, subst, arith}
+use Rattle.std.proofs.Common.{◌==◌, ◌&&◌, eq-eqb, ◌≡◌, ℕ, ◌+◌, ◌-◌, ◌<◌, Bool, true, false, cond, not, nat_le, Some}
+use Rattle.std.proofs.Common.{List, [], ◌∷◌, ◌++◌, length, refl, sym, ap, ◌∙◌, subst, arith}
 use Rattle.std.proofs.lemmas.Bool.{eqb-true}
 use Rattle.std.proofs.lemmas.Bool.Decides.{nat_tests}
 use Rattle.std.specs.List.{filter}
 use Rattle.std.specs.declared.option.Option.{Option}
 use Rattle.pb_fdb.proofs.LawLemmas.{live-with_room}
-use Rattle.pb_fdb.specs.Tables.{Table, sighting_at, where_in, is_full, with_room, learnt_sightings, learnt_table, expired, flushed}
+use Rattle.pb_fdb.specs.Tables.{Table, sighting_at, where_in, is_full, with_room, learnt_sightings, learnt_table}
+use Rattle.pb_fdb.specs.Tables.{expired, flushed}
 use Rattle.pb_frame.proofs.Lists.{filter-append, filter-same}
 use Rattle.pb_frame.specs.Admission.{same}
 use Rattle.pb_frame.specs.Frames.{is_group}
@@ -21,29 +23,44 @@ use Rattle.pb_relay.specs.Tables.{seen_anew, HasLearnt, IsTableOf}
 pub filter-twice : {X : Type 0} (p : X → Bool) (xs : List X) → filter p (filter p xs) ≡ filter p xs
 filter-twice p [] = refl
 filter-twice p (x ∷ xs) =
-    elim (p x) as (λ b. p x ≡ b → filter p (cond b (x ∷ filter p xs) (filter p xs)) ≡ cond b (x ∷ filter p xs) (filter p xs))
-    [ true ↦ λ e. ap (λ b. cond b (x ∷ filter p (filter p xs)) (filter p (filter p xs))) e ∙ ap (λ zs. x ∷ zs) (filter-twice p xs) | false ↦ λ e. filter-twice p xs ] refl
+    elim (p x) as (λ b. p x ≡ b → filter p (cond b (x ∷ filter p xs) (filter p xs)) ≡ cond b (x ∷ filter p xs)
+    (filter p xs)) [
+      | true ↦ λ e. ap (λ b. cond b (x ∷ filter p (filter p xs)) (filter p (filter p xs))) e ∙ ap (λ zs. x ∷ zs)
+          (filter-twice p xs)
+      | false ↦ λ e. filter-twice p xs
+    ] refl
 
 -- two tests may change places
 pub filter-swap : {X : Type 0} (p q : X → Bool) (xs : List X) → filter p (filter q xs) ≡ filter q (filter p xs)
 filter-swap p q [] = refl
 filter-swap p q (x ∷ xs) =
-    elim (q x) as (λ b. q x ≡ b → filter p (cond b (x ∷ filter q xs) (filter q xs)) ≡ filter q (cond (p x) (x ∷ filter p xs) (filter p xs))) [
-      | true ↦ λ e. elim (p x) as (λ a. cond a (x ∷ filter p (filter q xs)) (filter p (filter q xs)) ≡ filter q (cond a (x ∷ filter p xs) (filter p xs)))
-          [ true ↦ ap (λ zs. x ∷ zs) (filter-swap p q xs) ∙ ap (λ b. cond b (x ∷ filter q (filter p xs)) (filter q (filter p xs))) (sym e) | false ↦ filter-swap p q xs ]
-      | false ↦ λ e. elim (p x) as (λ a. filter p (filter q xs) ≡ filter q (cond a (x ∷ filter p xs) (filter p xs)))
-          [ true ↦ filter-swap p q xs ∙ ap (λ b. cond b (x ∷ filter q (filter p xs)) (filter q (filter p xs))) (sym e) | false ↦ filter-swap p q xs ]
+    elim (q x) as (λ b. q x ≡ b → filter p (cond b (x ∷ filter q xs) (filter q xs)) ≡ filter q
+    (cond (p x) (x ∷ filter p xs) (filter p xs))) [
+      | true ↦ λ e. elim (p x) as (λ a. cond a (x ∷ filter p (filter q xs)) (filter p (filter q xs)) ≡ filter q
+          (cond a (x ∷ filter p xs) (filter p xs))) [
+            | true ↦ ap (λ zs. x ∷ zs) (filter-swap p q xs) ∙ ap
+                (λ b. cond b (x ∷ filter q (filter p xs)) (filter q (filter p xs))) (sym e)
+            | false ↦ filter-swap p q
+                xs
+          ]
+      | false ↦ λ e. elim (p x) as (λ a. filter p (filter q xs) ≡ filter q (cond a (x ∷ filter p xs) (filter p xs))) [
+        | true ↦ filter-swap p q xs ∙ ap (λ b. cond b (x ∷ filter q (filter p xs)) (filter q (filter p xs)))
+            (sym e)
+        | false ↦ filter-swap p q xs
+      ]
     ] refl
 
 -- what is seen now is fresh
-pub fresh_now : (ageing now vid port : ℕ) (mac : List ℕ) → 0 < ageing → is_fresh ageing now (sighting_at vid mac port now) ≡ true
+pub fresh_now : (ageing now vid port : ℕ) (mac : List ℕ) → 0 < ageing
+    → is_fresh ageing now (sighting_at vid mac port now) ≡ true
 fresh_now ageing now vid port mac h =
     let z : now - now ≡ 0 = omega arith in
     rw z (grind (arith, nat_tests))
 
 -- the live ones, once a station is seen anew
 pub live_after : (ageing now : ℕ) (s : Sighting) (table : List Sighting) → is_fresh ageing now s ≡ true
-    → live ageing now (filter (λ t. not (is_sighted s.vid s.mac t)) table ++ s ∷ []) ≡ seen_anew s (live ageing now table)
+    → live ageing now (filter (λ t. not (is_sighted s.vid s.mac t)) table ++ s ∷ []) ≡ seen_anew s
+    (live ageing now table)
 live_after ageing now s table f =
     filter-append (is_fresh ageing now) (filter (λ t. not (is_sighted s.vid s.mac t)) table) (s ∷ [])
     ∙ ap (λ b. live ageing now (filter (λ t. not (is_sighted s.vid s.mac t)) table) ++ cond b (s ∷ []) []) f
@@ -70,17 +87,21 @@ pub after_seen : (s : Sighting) (table : List Sighting) → after table (Seen s)
 after_seen s table =
     ap (λ zs. zs ++ s ∷ [])
     (filter-same (λ t. not (is_sighted t.vid t.mac s)) (λ t. not (is_sighted s.vid s.mac t))
-    (λ t. ap (λ b. not (b && same s.mac t.mac)) (eqb-symm s.vid t.vid) ∙ ap (λ b. not ((t.vid == s.vid) && b)) (same-symm s.mac t.mac)) table)
+    (λ t. ap (λ b. not (b && same s.mac t.mac)) (eqb-symm s.vid t.vid) ∙ ap (λ b. not ((t.vid == s.vid) && b))
+    (same-symm s.mac t.mac)) table)
 
 -- the live ones once a station is seen, as the news tell it
-seen_live : (ageing now : ℕ) (s : Sighting) (table : List Sighting) → is_fresh ageing now s ≡ true → live ageing now (after table (Seen s)) ≡ seen_anew s (live ageing now table)
+seen_live : (ageing now : ℕ) (s : Sighting) (table : List Sighting) → is_fresh ageing now s ≡ true
+    → live ageing now (after table (Seen s)) ≡ seen_anew s (live ageing now table)
 seen_live ageing now s table f = ap (live ageing now) (after_seen s table) ∙ live_after ageing now s table f
 
 -- what is live once the table was told and has answered
 live_learnt : (old : Table) (s : Sighting) (learnt : Learnt) → is_fresh old.ageing s.moment s ≡ true
-    → live old.ageing s.moment (learnt_sightings old s learnt) ≡ cond (is_noted (Some learnt)) (seen_anew s (live old.ageing s.moment old.sightings)) (live old.ageing s.moment old.sightings)
+    → live old.ageing s.moment (learnt_sightings old s learnt) ≡ cond (is_noted (Some learnt))
+    (seen_anew s (live old.ageing s.moment old.sightings)) (live old.ageing s.moment old.sightings)
 live_learnt old s New f =
-    seen_live old.ageing s.moment s (with_room old s.moment) f ∙ ap (seen_anew s) (live-with_room old s.moment s.moment (omega arith))
+    seen_live old.ageing s.moment s (with_room old s.moment) f
+    ∙ ap (seen_anew s) (live-with_room old s.moment s.moment (omega arith))
 live_learnt old s Kept f = seen_live old.ageing s.moment s old.sightings f
 live_learnt old s Moved f = seen_live old.ageing s.moment s old.sightings f
 live_learnt old s Full f = refl
@@ -88,35 +109,47 @@ live_learnt old s Group f = refl
 live_learnt old s Memory f = refl
 
 -- a table that was told of a station and has answered
-pub has_learnt : (plan : Plan) (now vid port : ℕ) (mac : List ℕ) (old new : Table) (learnt : Learnt) → 0 < plan.ageing → IsTableOf plan now old
-    → IsLearnt (is_group mac) (where_in old now vid mac) (is_full old now) port learnt → new ≡ learnt_table old (sighting_at vid mac port now) learnt
+pub has_learnt : (plan : Plan) (now vid port : ℕ) (mac : List ℕ) (old new : Table) (learnt : Learnt) → 0 < plan.ageing
+    → IsTableOf plan now old
+    → IsLearnt (is_group mac) (where_in old now vid mac) (is_full old now) port learnt
+    → new ≡ learnt_table old (sighting_at vid mac port now) learnt
     → HasLearnt plan.ageing now vid port mac old.sightings learnt new.sightings
-has_learnt plan now vid port mac old new learnt h t a e = subst (λ (ageing : ℕ). HasLearnt ageing now vid port mac old.sightings learnt new.sightings) t.ageing (record {
-  answer = subst (λ (limit : ℕ). IsLearnt (is_group mac) (where_in old now vid mac) (nat_le limit (length (live old.ageing now old.sightings))) port learnt) t.limit a;
-  table = ap (λ (z : Table). live old.ageing now z.sightings) e
-      ∙ live_learnt old (sighting_at vid mac port now) learnt (fresh_now old.ageing now vid port mac (subst (λ (n : ℕ). 0 < n) (sym t.ageing) h));
-})
+has_learnt plan now vid port mac old new learnt h t a e =
+    subst (λ (ageing : ℕ). HasLearnt ageing now vid port mac old.sightings learnt new.sightings) t.ageing (record {
+      answer = subst (λ (limit : ℕ). IsLearnt (is_group mac) (where_in old now vid mac)
+          (nat_le limit (length (live old.ageing now old.sightings))) port learnt) t.limit a;
+      table = ap (λ (z : Table). live old.ageing now z.sightings) e
+          ∙ live_learnt old (sighting_at vid mac port now) learnt
+          (fresh_now old.ageing now vid port mac (subst (λ (n : ℕ). 0 < n) (sym t.ageing) h));
+    })
 
 -- it is still the bridge's
-pub table_learnt : (plan : Plan) (now : ℕ) (old new : Table) (s : Sighting) (learnt : Learnt) → IsTableOf plan now old → s.moment ≡ now → new ≡ learnt_table old s learnt → IsTableOf plan now new
-table_learnt plan now old new s learnt t m e = rw e (record { limit = t.limit; ageing = t.ageing; in_time = rw m (omega arith) })
+pub table_learnt : (plan : Plan) (now : ℕ) (old new : Table) (s : Sighting) (learnt : Learnt) → IsTableOf plan now old
+    → s.moment ≡ now → new ≡ learnt_table old s learnt → IsTableOf plan now new
+table_learnt plan now old new s learnt t m e =
+    rw e (record { limit = t.limit; ageing = t.ageing; in_time = rw m (omega arith) })
 
 -- where the table finds a station
-pub found_in : (plan : Plan) (now vid : ℕ) (mac : List ℕ) (old : Table) → old.ageing ≡ plan.ageing → where_in old now vid mac ≡ list_where plan.ageing now vid mac old.sightings
+pub found_in : (plan : Plan) (now vid : ℕ) (mac : List ℕ) (old : Table) → old.ageing ≡ plan.ageing
+    → where_in old now vid mac ≡ list_where plan.ageing now vid mac old.sightings
 found_in plan now vid mac old e = ap (λ ageing. list_where ageing now vid mac old.sightings) e
 
 -- a table whose sightings that are too old were dropped
-pub table_expired : (plan : Plan) (now : ℕ) (old : Table) → IsTableOf plan now old → IsTableOf plan (now + 1) (expired old (now + 1))
+pub table_expired : (plan : Plan) (now : ℕ) (old : Table) → IsTableOf plan now old
+    → IsTableOf plan (now + 1) (expired old (now + 1))
 table_expired plan now old t = record { limit = t.limit; ageing = t.ageing; in_time = omega arith }
 
-pub live_expired : (plan : Plan) (now : ℕ) (old : Table) → IsTableOf plan now old → live plan.ageing (now + 1) (expired old (now + 1)).sightings ≡ live plan.ageing (now + 1) old.sightings
+pub live_expired : (plan : Plan) (now : ℕ) (old : Table) → IsTableOf plan now old
+    → live plan.ageing (now + 1) (expired old (now + 1)).sightings ≡ live plan.ageing (now + 1) old.sightings
 live_expired plan now old t = rw (sym t.ageing) (filter-twice (is_fresh old.ageing (now + 1)) old.sightings)
 
 -- a table of which a port was flushed
-pub table_flushed_or : (plan : Plan) (now port : ℕ) (up : Bool) (old : Table) → IsTableOf plan now old → IsTableOf plan now (cond up old (flushed old port))
+pub table_flushed_or : (plan : Plan) (now port : ℕ) (up : Bool) (old : Table) → IsTableOf plan now old
+    → IsTableOf plan now (cond up old (flushed old port))
 table_flushed_or plan now port true old t = t
 table_flushed_or plan now port false old t = record { limit = t.limit; ageing = t.ageing; in_time = t.in_time }
 
-pub sightings_flushed_or : (port : ℕ) (up : Bool) (old : Table) → (cond up old (flushed old port)).sightings ≡ cond up old.sightings (after old.sightings (Flushed port))
+pub sightings_flushed_or : (port : ℕ) (up : Bool) (old : Table)
+    → (cond up old (flushed old port)).sightings ≡ cond up old.sightings (after old.sightings (Flushed port))
 sightings_flushed_or port true old = refl
 sightings_flushed_or port false old = refl

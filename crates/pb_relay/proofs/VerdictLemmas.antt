@@ -1,5 +1,6 @@
 -- The ruling by what a bridge keeps of a port is the ruling.
-use Rattle.std.proofs.Common.{◌≡◌, ℕ, zero, suc, ◌+◌, ◌-◌, ◌<◌, ◌≤◌, Bool, true, false, Some, None, List, [], ◌∷◌, ◌++◌, map, get_or, refl, sym, ap, ◌∙◌, subst, arith}
+use Rattle.std.proofs.Common.{◌≡◌, ℕ, zero, suc, ◌+◌, ◌-◌, ◌<◌, ◌≤◌, Bool, true, false, Some, None, List, [], ◌∷◌}
+use Rattle.std.proofs.Common.{◌++◌, map, get_or, refl, sym, ap, ◌∙◌, subst, arith}
 use Rattle.std.proofs.lemmas.List.{get_or_read}
 use Rattle.pb_lan.specs.Ports.{Port, port_at, local_ports, serves}
 use Rattle.pb_lan.specs.Ports.Port.{Customer, Provider, Unused}
@@ -23,12 +24,17 @@ use Rattle.pb_relay.specs.Verdicts.{local_ruling, is_to_somebody}
 use Rattle.pb_relay.proofs.WaitingLemmas.{count_up}
 
 -- the ruling by what is kept of a port is the ruling there
-pub ruled : (plan : Plan) (port : Port) (local : LocalPort) (state : PortState) (item : Item) → IsKept plan port local → local_ruling local state item ≡ ruling_by spanning_tree plan port state item
+pub ruled : (plan : Plan) (port : Port) (local : LocalPort) (state : PortState) (item : Item) → IsKept plan port local
+    → local_ruling local state item ≡ ruling_by spanning_tree plan port state item
 ruled plan (Customer c) (ToCustomer vid pcp) state item k = ap (λ v. first_case (customer_cases item) (Carries v)) k.0
-ruled plan (Provider e) (ToBridge start vids) state item k = served (serves_of vids (vid_of item.wire)) (serves plan (vid_of item.wire) e) (k.1 (vid_of item.wire))
+ruled plan (Provider e) (ToBridge start vids) state item k = served (serves_of vids (vid_of item.wire))
+    (serves plan (vid_of item.wire) e) (k.1 (vid_of item.wire))
   where
-    served : (a b : Bool) → a ≡ b → first_case (bridge_cases spanning_tree.is_readable (λ _. a) item) (ruling_in state (vid_of item.wire)) ≡ first_case (bridge_cases spanning_tree.is_readable (λ _. b) item) (ruling_in state (vid_of item.wire))
-    served a b h = ap (λ z. first_case (bridge_cases spanning_tree.is_readable (λ _. z) item) (ruling_in state (vid_of item.wire))) h
+    served : (a b : Bool) → a ≡ b → first_case (bridge_cases spanning_tree.is_readable (λ _. a) item)
+        (ruling_in state (vid_of item.wire)) ≡ first_case (bridge_cases spanning_tree.is_readable (λ _. b) item)
+        (ruling_in state (vid_of item.wire))
+    served a b h = ap (λ z. first_case (bridge_cases spanning_tree.is_readable (λ _. z) item)
+        (ruling_in state (vid_of item.wire))) h
 ruled plan Unused ToNobody state item k = refl
 ruled plan (Customer c) (ToBridge start vids) state item k = absurd k
 ruled plan (Customer c) ToNobody state item k = absurd k
@@ -38,7 +44,8 @@ ruled plan Unused (ToCustomer vid pcp) state item k = absurd k
 ruled plan Unused (ToBridge start vids) state item k = absurd k
 
 -- somebody is at a port that is used
-pub used_here : (plan : Plan) (port : Port) (local : LocalPort) → IsKept plan port local → is_used port ≡ true → is_to_somebody local ≡ true
+pub used_here : (plan : Plan) (port : Port) (local : LocalPort) → IsKept plan port local → is_used port ≡ true
+    → is_to_somebody local ≡ true
 used_here plan (Customer c) (ToCustomer vid pcp) k u = refl
 used_here plan (Provider e) (ToBridge start vids) k u = refl
 used_here plan Unused local k u = cc
@@ -51,7 +58,8 @@ used_here plan (Provider e) ToNobody k u = absurd k
 pub get_up : {X : Type 0} (f : ℕ → X) (n k i : ℕ) (d : X) → i < n → get_or (map f (count_up k n)) i d ≡ f (k + i)
 get_up f zero k i d l = absurd (omega arith)
 get_up f (suc n) k zero d l = let s : k ≡ k + 0 = omega arith in ap f s
-get_up f (suc n) k (suc i) d l = let s : (k + 1) + i ≡ k + suc i = omega arith in get_up f n (k + 1) i d (omega arith) ∙ ap f s
+get_up f (suc n) k (suc i) d l = let s : (k + 1) + i ≡ k + suc i = omega arith in get_up f n (k + 1) i d (omega arith)
+    ∙ ap f s
 
 -- what a list by local ports has at a port
 pub at_port : {X : Type 0} (f : ℕ → X) (p : ℕ) (d : X) → 1 ≤ p → p ≤ 16 → get_or (map f local_ports) (p - 1) d ≡ f p
@@ -60,7 +68,8 @@ at_port f p d a b =
     get_up f 16 1 (p - 1) d (omega arith) ∙ ap f s
 
 -- what is read of the ports
-pub kept_port : (plan : Plan) (b : ℕ) (ports : List LocalPort) (capacity limit p : ℕ) (local : LocalPort) → IsConfigured plan b ports capacity limit → (1 ≤ p) × (p ≤ 16)
+pub kept_port : (plan : Plan) (b : ℕ) (ports : List LocalPort) (capacity limit p : ℕ) (local : LocalPort)
+    → IsConfigured plan b ports capacity limit → (1 ≤ p) × (p ≤ 16)
     → local ≡ get_or ports (p - 1) local → IsKept plan (port_at plan b p) local
 kept_port plan b ports capacity limit p local s l e =
     let c = s.count in
@@ -68,10 +77,12 @@ kept_port plan b ports capacity limit p local s l e =
     let l1 : p ≤ 16 = l.1 in
     let h : p - 1 + 1 ≡ p = omega arith in
     subst (IsKept plan (port_at plan b p)) (sym (get_or_read ports (p - 1) local (omega arith) e ToNobody))
-    (subst (λ (r : ℕ). IsKept plan (port_at plan b r) (get_or ports (p - 1) ToNobody)) h (s.kept_ports (p - 1) (omega arith)))
+    (subst (λ (r : ℕ). IsKept plan (port_at plan b r) (get_or ports (p - 1) ToNobody)) h
+    (s.kept_ports (p - 1) (omega arith)))
 
 -- the ruling by what is kept
-pub rule_is : (plan : Plan) (b : ℕ) (steps : List Step) (states : List PortState) (p : ℕ) (local : LocalPort) (item : Item) (d : PortState)
+pub rule_is : (plan : Plan) (b : ℕ) (steps : List Step) (states : List PortState) (p : ℕ) (local : LocalPort)
+    (item : Item) (d : PortState)
     → states ≡ states_after plan b steps → (1 ≤ p) × (p ≤ 16) → IsKept plan (port_at plan b p) local
     → local_ruling local (get_or states (p - 1) d) item ≡ ruling spanning_tree plan b steps p item
 rule_is plan b steps states p local item d e l k =

@@ -1,5 +1,7 @@
 -- What waits, by class, is what waits.
-use Rattle.std.proofs.Common.{◌≡◌, ◌≢◌, ℕ, zero, suc, ◌+◌, ◌<◌, ◌≤◌, Bool, true, false, cond, Some, None, List, [], ◌∷◌, ◌++◌, map, length, get_or, set, drop, slice_get, ◌==◌, refl, sym, ap, ◌∙◌, subst, arith, eq-eqb}
+use Rattle.std.proofs.Common.{◌≡◌, ◌≢◌, ℕ, zero, suc, ◌+◌, ◌<◌, ◌≤◌, Bool, true, false, cond, Some, None, List, []}
+use Rattle.std.proofs.Common.{◌∷◌, ◌++◌, map, length, get_or, set, drop, slice_get, ◌==◌, refl, sym, ap, ◌∙◌, subst}
+use Rattle.std.proofs.Common.{arith, eq-eqb}
 use Rattle.std.proofs.lemmas.Bool.{eqb-true}
 use Rattle.std.specs.List.{AllByRecursion, filter}
 use Rattle.std.specs.Option.{option_map}
@@ -14,9 +16,11 @@ count_up k zero = []
 count_up k (suc n) = k ∷ count_up (k + 1) n
 
 -- lists by class that differ in one class alone
-pub at_none : {X : Type 0} (F G : ℕ → X) (c : ℕ) → ((j : ℕ) → j ≢ c → G j ≡ F j) → (n k : ℕ) → c < k → map G (count_up k n) ≡ map F (count_up k n)
+pub at_none : {X : Type 0} (F G : ℕ → X) (c : ℕ) → ((j : ℕ) → j ≢ c → G j ≡ F j) → (n k : ℕ) → c < k
+    → map G (count_up k n) ≡ map F (count_up k n)
 at_none F G c h zero k l = refl
-at_none F G c h (suc n) k l = ap (λ q. q ∷ map G (count_up (k + 1) n)) (h k (omega arith)) ∙ ap (λ qs. F k ∷ qs) (at_none F G c h n (k + 1) (omega arith))
+at_none F G c h (suc n) k l = ap (λ q. q ∷ map G (count_up (k + 1) n)) (h k (omega arith))
+    ∙ ap (λ qs. F k ∷ qs) (at_none F G c h n (k + 1) (omega arith))
 
 -- so only one place of the lists changes
 pub at_one : {X : Type 0} (F G : ℕ → X) (c : ℕ) → ((j : ℕ) → j ≢ c → G j ≡ F j) → (n k i : ℕ) → c ≡ k + i → i < n
@@ -26,13 +30,15 @@ at_one F G c h (suc n) k zero e l =
     let s : k ≡ c = omega arith in
     ap (λ j. G j ∷ map G (count_up (k + 1) n)) s ∙ ap (λ qs. G c ∷ qs) (at_none F G c h n (k + 1) (omega arith))
 at_one F G c h (suc n) k (suc i) e l =
-    ap (λ q. q ∷ map G (count_up (k + 1) n)) (h k (omega arith)) ∙ ap (λ qs. F k ∷ qs) (at_one F G c h n (k + 1) i (omega arith) (omega arith))
+    ap (λ q. q ∷ map G (count_up (k + 1) n)) (h k (omega arith))
+    ∙ ap (λ qs. F k ∷ qs) (at_one F G c h n (k + 1) i (omega arith) (omega arith))
 
 -- what the lists have at a class
 pub get_class : (F : ℕ → List Item) (n k i : ℕ) → i < n → get_or (map F (count_up k n)) i [] ≡ F (k + i)
 get_class F zero k i l = absurd (omega arith)
 get_class F (suc n) k zero l = let s : k ≡ k + 0 = omega arith in ap F s
-get_class F (suc n) k (suc i) l = let s : (k + 1) + i ≡ k + suc i = omega arith in get_class F n (k + 1) i (omega arith) ∙ ap F s
+get_class F (suc n) k (suc i) l = let s : (k + 1) + i ≡ k + suc i = omega arith in get_class F n (k + 1) i
+    (omega arith) ∙ ap F s
 
 -- there are as many lists as classes
 pub length_classes : (F : ℕ → List Item) (n k : ℕ) → length (map F (count_up k n)) ≡ n
@@ -40,28 +46,35 @@ length_classes F zero k = refl
 length_classes F (suc n) k = ap suc (length_classes F n (k + 1))
 
 -- empty lists have nothing to send
-pub none_above : (F : ℕ → List Item) (n k m : ℕ) → ((j : ℕ) → k + m ≤ j → F j ≡ []) → first_out (drop m (map F (count_up k n))) ≡ None
+pub none_above : (F : ℕ → List Item) (n k m : ℕ) → ((j : ℕ) → k + m ≤ j → F j ≡ [])
+    → first_out (drop m (map F (count_up k n))) ≡ None
 none_above F zero k zero h = refl
 none_above F zero k (suc m) h = refl
 none_above F (suc n) k zero h =
-    ap (λ o. or_else o (slice_get (F k) 0)) (none_above F n (k + 1) 0 (λ j l. h j (omega arith))) ∙ ap (λ q. slice_get q 0) (h k (omega arith))
+    ap (λ o. or_else o (slice_get (F k) 0)) (none_above F n (k + 1) 0 (λ j l. h j (omega arith)))
+    ∙ ap (λ q. slice_get q 0) (h k (omega arith))
 none_above F (suc n) k (suc m) h = none_above F n (k + 1) m (λ j l. h j (omega arith))
 
 -- one more item
-of_class-push : (j : ℕ) (ws : List Waiting) (w : Waiting) → of_class j (ws ++ w ∷ []) ≡ of_class j ws ++ of_class j (w ∷ [])
+of_class-push : (j : ℕ) (ws : List Waiting) (w : Waiting) → of_class j (ws ++ w ∷ []) ≡ of_class j ws
+    ++ of_class j (w ∷ [])
 of_class-push j [] w = refl
 of_class-push j (v ∷ vs) w =
-    elim (v.class == j) as (λ b. map (λ w. w.item) (cond b (v ∷ filter (λ w. w.class == j) (vs ++ w ∷ [])) (filter (λ w. w.class == j) (vs ++ w ∷ [])))
-    ≡ map (λ w. w.item) (cond b (v ∷ filter (λ w. w.class == j) vs) (filter (λ w. w.class == j) vs)) ++ of_class j (w ∷ []))
+    elim (v.class == j) as (λ b. map (λ w. w.item)
+    (cond b (v ∷ filter (λ w. w.class == j) (vs ++ w ∷ [])) (filter (λ w. w.class == j) (vs ++ w ∷ [])))
+    ≡ map (λ w. w.item) (cond b (v ∷ filter (λ w. w.class == j) vs) (filter (λ w. w.class == j) vs))
+    ++ of_class j (w ∷ []))
     [ true ↦ ap (λ zs. v.item ∷ zs) (of_class-push j vs w) | false ↦ of_class-push j vs w ]
 
 of_class-own : (j : ℕ) (w : Waiting) (ws : List Waiting) → w.class ≡ j → of_class j (w ∷ ws) ≡ w.item ∷ of_class j ws
 of_class-own j w ws e =
-    ap (λ b. map (λ w. w.item) (cond b (w ∷ filter (λ w. w.class == j) ws) (filter (λ w. w.class == j) ws))) (eq-eqb w.class j e)
+    ap (λ b. map (λ w. w.item) (cond b (w ∷ filter (λ w. w.class == j) ws) (filter (λ w. w.class == j) ws)))
+    (eq-eqb w.class j e)
 
 of_class-other : (j : ℕ) (w : Waiting) (ws : List Waiting) → j ≢ w.class → of_class j (w ∷ ws) ≡ of_class j ws
 of_class-other j w ws n =
-    elim (w.class == j) as (λ b. (w.class == j) ≡ b → map (λ w. w.item) (cond b (w ∷ filter (λ w. w.class == j) ws) (filter (λ w. w.class == j) ws)) ≡ of_class j ws)
+    elim (w.class == j) as (λ b. (w.class == j) ≡ b → map (λ w. w.item)
+    (cond b (w ∷ filter (λ w. w.class == j) ws) (filter (λ w. w.class == j) ws)) ≡ of_class j ws)
     [ true ↦ λ e. absurd (n (sym (eqb-true w.class j e))) | false ↦ λ e. refl ] refl
 
 append_none : (xs : List Item) → xs ++ [] ≡ xs
@@ -69,14 +82,17 @@ append_none [] = refl
 append_none (x ∷ xs) = ap (λ zs. x ∷ zs) (append_none xs)
 
 -- one more that waits goes into the list of its class
-pub by_class-push : (ws : List Waiting) (w : Waiting) → w.class < 8 → by_class (ws ++ w ∷ []) ≡ put_in w.class w.item (by_class ws)
+pub by_class-push : (ws : List Waiting) (w : Waiting) → w.class < 8
+    → by_class (ws ++ w ∷ []) ≡ put_in w.class w.item (by_class ws)
 by_class-push ws w l =
     at_one (λ j. of_class j ws) (λ j. of_class j (ws ++ w ∷ [])) w.class
-    (λ j n. of_class-push j ws w ∙ ap (λ zs. of_class j ws ++ zs) (of_class-other j w [] n) ∙ append_none (of_class j ws))
+    (λ j n. of_class-push j ws w ∙ ap (λ zs. of_class j ws ++ zs) (of_class-other j w [] n) ∙ append_none
+    (of_class j ws))
     8 0 w.class (omega arith) l
     ∙ ap (set (by_class ws) w.class)
     (of_class-push w.class ws w ∙ ap (λ zs. of_class w.class ws ++ zs) (of_class-own w.class w [] refl)
-    ∙ ap (λ zs. zs ++ w.item ∷ []) (sym (get_class (λ j. of_class j ws) 8 0 w.class l ∙ ap (λ j. of_class j ws) zero-plus)))
+    ∙ ap (λ zs. zs ++ w.item ∷ [])
+    (sym (get_class (λ j. of_class j ws) 8 0 w.class l ∙ ap (λ j. of_class j ws) zero-plus)))
   where
     zero-plus : 0 + w.class ≡ w.class
     zero-plus = omega arith
@@ -96,24 +112,30 @@ highest-below n [] p a = p
 highest-below n (w ∷ ws) p a = let r = highest-below n ws p a.1 in let h = a.0 in omega arith
 
 highest-some : (w : Waiting) (ws : List Waiting) → 0 < length (of_class (highest (w ∷ ws)) (w ∷ ws))
-highest-some w [] = subst (λ (n : ℕ). 0 < length (of_class n (w ∷ []))) same (rw (of_class-own w.class w [] refl) (omega arith))
+highest-some w [] = subst (λ (n : ℕ). 0 < length (of_class n (w ∷ []))) same
+    (rw (of_class-own w.class w [] refl) (omega arith))
   where
     same : w.class ≡ highest (w ∷ [])
     same = omega arith
 highest-some w (v ∷ vs) =
-    elim (w.class == highest (w ∷ v ∷ vs)) as (λ b. (w.class == highest (w ∷ v ∷ vs)) ≡ b → 0 < length (of_class (highest (w ∷ v ∷ vs)) (w ∷ v ∷ vs))) [
-      | true ↦ λ e. rw (of_class-own (highest (w ∷ v ∷ vs)) w (v ∷ vs) (eqb-true w.class (highest (w ∷ v ∷ vs)) e)) (omega arith)
+    elim (w.class == highest (w ∷ v ∷ vs)) as
+    (λ b. (w.class == highest (w ∷ v ∷ vs)) ≡ b → 0 < length (of_class (highest (w ∷ v ∷ vs)) (w ∷ v ∷ vs))) [
+      | true ↦ λ e. rw (of_class-own (highest (w ∷ v ∷ vs)) w (v ∷ vs) (eqb-true w.class (highest (w ∷ v ∷ vs)) e))
+          (omega arith)
       | false ↦ λ e. let n = other e in let s : highest (v ∷ vs) ≡ highest (w ∷ v ∷ vs) = omega arith in
-          rw (of_class-other (highest (w ∷ v ∷ vs)) w (v ∷ vs) n) (subst (λ (k : ℕ). 0 < length (of_class k (v ∷ vs))) s (highest-some v vs))
+          rw (of_class-other (highest (w ∷ v ∷ vs)) w (v ∷ vs) n)
+          (subst (λ (k : ℕ). 0 < length (of_class k (v ∷ vs))) s (highest-some v vs))
     ] refl
   where
     other : (w.class == highest (w ∷ v ∷ vs)) ≡ false → highest (w ∷ v ∷ vs) ≢ w.class
     other e h = let t = eq-eqb w.class (highest (w ∷ v ∷ vs)) (sym h) in cc
 
-first_of_class : (j : ℕ) (ws : List Waiting) → slice_get (of_class j ws) 0 ≡ option_map (λ w. w.item) (first (λ w. w.class == j) ws)
+first_of_class : (j : ℕ) (ws : List Waiting)
+    → slice_get (of_class j ws) 0 ≡ option_map (λ w. w.item) (first (λ w. w.class == j) ws)
 first_of_class j [] = refl
 first_of_class j (w ∷ ws) =
-    elim (w.class == j) as (λ b. slice_get (map (λ w. w.item) (cond b (w ∷ filter (λ w. w.class == j) ws) (filter (λ w. w.class == j) ws))) 0
+    elim (w.class == j) as (λ b. slice_get
+    (map (λ w. w.item) (cond b (w ∷ filter (λ w. w.class == j) ws) (filter (λ w. w.class == j) ws))) 0
     ≡ option_map (λ w. w.item) (cond b (Some w) (first (λ w. w.class == j) ws)))
     [ true ↦ refl | false ↦ first_of_class j ws ]
 
@@ -123,7 +145,9 @@ without-own j (w ∷ ws) =
     elim (w.class == j) as (λ b. (w.class == j) ≡ b → of_class j (cond b ws (w ∷ without j ws))
     ≡ drop 1 (map (λ w. w.item) (cond b (w ∷ filter (λ w. w.class == j) ws) (filter (λ w. w.class == j) ws)))) [
       | true ↦ λ e. refl
-      | false ↦ λ e. ap (λ b. map (λ w. w.item) (cond b (w ∷ filter (λ w. w.class == j) (without j ws)) (filter (λ w. w.class == j) (without j ws)))) e ∙ without-own j ws
+      | false ↦ λ e. ap (λ b. map (λ w. w.item)
+          (cond b (w ∷ filter (λ w. w.class == j) (without j ws)) (filter (λ w. w.class == j) (without j ws)))) e
+          ∙ without-own j ws
     ] refl
 
 without-other : (j h : ℕ) (ws : List Waiting) → j ≢ h → of_class j (without h ws) ≡ of_class j ws
@@ -135,18 +159,21 @@ without-other j h (w ∷ ws) n =
     ] refl
   where
     keep : (b : Bool) → of_class j (without h ws) ≡ of_class j ws
-        → map (λ w. w.item) (cond b (w ∷ filter (λ w. w.class == j) (without h ws)) (filter (λ w. w.class == j) (without h ws)))
+        → map (λ w. w.item) (cond b (w ∷ filter (λ w. w.class == j) (without h ws))
+        (filter (λ w. w.class == j) (without h ws)))
         ≡ map (λ w. w.item) (cond b (w ∷ filter (λ w. w.class == j) ws) (filter (λ w. w.class == j) ws))
     keep true ih = ap (λ zs. w.item ∷ zs) ih
     keep false ih = ih
 
 -- the highest list of the classes that isn't empty has the items of the highest class
-highest_class : (w : Waiting) (ws : List Waiting) → AllByRecursion (λ w. w.class < 8) (w ∷ ws) → IsHighest (by_class (w ∷ ws)) (Some (highest (w ∷ ws)))
+highest_class : (w : Waiting) (ws : List Waiting) → AllByRecursion (λ w. w.class < 8) (w ∷ ws)
+    → IsHighest (by_class (w ∷ ws)) (Some (highest (w ∷ ws)))
 highest_class w ws a =
     let h = highest (w ∷ ws) in
     let l : h < 8 = highest-below 8 (w ∷ ws) (omega arith) a in
     let z : 0 + h ≡ h = omega arith in
-    let g : get_or (by_class (w ∷ ws)) h [] ≡ of_class h (w ∷ ws) = get_class (λ j. of_class j (w ∷ ws)) 8 0 h l ∙ ap (λ j. of_class j (w ∷ ws)) z in
+    let g : get_or (by_class (w ∷ ws)) h [] ≡ of_class h (w ∷ ws) = get_class (λ j. of_class j (w ∷ ws)) 8 0 h l
+    ∙ ap (λ j. of_class j (w ∷ ws)) z in
     is_highest (by_class (w ∷ ws)) h l
     (subst (λ (q : List Item). 0 < length q) (sym g) (highest-some w ws))
     (none_above (λ j. of_class j (w ∷ ws)) 8 0 (suc h) (λ j b. above_highest j (w ∷ ws) (omega arith)))
@@ -158,18 +185,22 @@ next_by_class (w ∷ ws) a =
     let h = highest (w ∷ ws) in
     let l : h < 8 = highest-below 8 (w ∷ ws) (omega arith) a in
     let z : 0 + h ≡ h = omega arith in
-    let g : get_or (by_class (w ∷ ws)) h [] ≡ of_class h (w ∷ ws) = get_class (λ j. of_class j (w ∷ ws)) 8 0 h l ∙ ap (λ j. of_class j (w ∷ ws)) z in
+    let g : get_or (by_class (w ∷ ws)) h [] ≡ of_class h (w ∷ ws) = get_class (λ j. of_class j (w ∷ ws)) 8 0 h l
+    ∙ ap (λ j. of_class j (w ∷ ws)) z in
     (highest_class w ws a).2 ∙ ap (λ q. slice_get q 0) g ∙ first_of_class h (w ∷ ws)
 
 -- and so does what is left
-pub rest_by_class : (ws : List Waiting) → AllByRecursion (λ w. w.class < 8) ws → by_class (without (highest ws) ws) ≡ after_first (by_class ws)
+pub rest_by_class : (ws : List Waiting) → AllByRecursion (λ w. w.class < 8) ws
+    → by_class (without (highest ws) ws) ≡ after_first (by_class ws)
 rest_by_class [] a = refl
 rest_by_class (w ∷ ws) a =
     let h = highest (w ∷ ws) in
     let l : h < 8 = highest-below 8 (w ∷ ws) (omega arith) a in
     let z : 0 + h ≡ h = omega arith in
-    let g : get_or (by_class (w ∷ ws)) h [] ≡ of_class h (w ∷ ws) = get_class (λ j. of_class j (w ∷ ws)) 8 0 h l ∙ ap (λ j. of_class j (w ∷ ws)) z in
-    at_one (λ j. of_class j (w ∷ ws)) (λ j. of_class j (without h (w ∷ ws))) h (λ j n. without-other j h (w ∷ ws) n) 8 0 h (omega arith) l
+    let g : get_or (by_class (w ∷ ws)) h [] ≡ of_class h (w ∷ ws) = get_class (λ j. of_class j (w ∷ ws)) 8 0 h l
+    ∙ ap (λ j. of_class j (w ∷ ws)) z in
+    at_one (λ j. of_class j (w ∷ ws)) (λ j. of_class j (without h (w ∷ ws))) h (λ j n. without-other j h (w ∷ ws) n) 8
+    0 h (omega arith) l
     ∙ ap (set (by_class (w ∷ ws)) h) (without-own h (w ∷ ws) ∙ ap (drop 1) (sym g))
     ∙ sym (highest_class w ws a).3
 
@@ -178,14 +209,24 @@ pub number_by_class : (ws : List Waiting) → AllByRecursion (λ w. w.class < 8)
 number_by_class [] a = refl
 number_by_class (w ∷ ws) a =
     let z : 0 + w.class ≡ w.class = omega arith in
-    let g : get_or (by_class ws) w.class [] ≡ of_class w.class ws = get_class (λ j. of_class j ws) 8 0 w.class a.0 ∙ ap (λ j. of_class j ws) z in
+    let g : get_or (by_class ws) w.class [] ≡ of_class w.class ws = get_class (λ j. of_class j ws) 8 0 w.class a.0
+    ∙ ap (λ j. of_class j ws) z in
     let e : by_class (w ∷ ws) ≡ set (by_class ws) w.class (w.item ∷ of_class w.class ws) =
-    at_one (λ j. of_class j ws) (λ j. of_class j (w ∷ ws)) w.class (λ j n. of_class-other j w ws n) 8 0 w.class (omega arith) a.0
+    at_one (λ j. of_class j ws) (λ j. of_class j (w ∷ ws)) w.class (λ j n. of_class-other j w ws n) 8 0 w.class
+    (omega arith) a.0
     ∙ ap (set (by_class ws) w.class) (of_class-own w.class w ws refl) in
-    omega (arith, ap number_in e, number_set (by_class ws) w.class (w.item ∷ of_class w.class ws) a.0, ap length g, number_by_class ws a.1)
+    omega (
+      arith,
+      ap number_in e,
+      number_set (by_class ws) w.class (w.item ∷ of_class w.class ws) a.0,
+      ap length g,
+      number_by_class ws a.1,
+    )
 
 -- taking one away leaves the others in their classes
-pub without-below : (n h : ℕ) (ws : List Waiting) → AllByRecursion (λ w. w.class < n) ws → AllByRecursion (λ w. w.class < n) (without h ws)
+pub without-below : (n h : ℕ) (ws : List Waiting) → AllByRecursion (λ w. w.class < n) ws
+    → AllByRecursion (λ w. w.class < n) (without h ws)
 without-below n h [] a = tt
 without-below n h (w ∷ ws) a =
-    elim (w.class == h) as (λ b. AllByRecursion (λ w. w.class < n) (cond b ws (w ∷ without h ws))) [ true ↦ a.1 | false ↦ (a.0, without-below n h ws a.1) ]
+    elim (w.class == h) as (λ b. AllByRecursion (λ w. w.class < n) (cond b ws (w ∷ without h ws)))
+    [ true ↦ a.1 | false ↦ (a.0, without-below n h ws a.1) ]

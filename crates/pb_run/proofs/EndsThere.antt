@@ -1,5 +1,6 @@
 -- The ends of rings that have not been given away.
-use Rattle.std.proofs.Common.{◌≡◌, ℕ, zero, suc, ◌+◌, ◌*◌, ◌<◌, ◌≤◌, List, [], ◌∷◌, ◌++◌, Some, None, false, true, length, map, drop, slice_get, slice_set, refl, sym, ap, ◌∙◌, subst, arith, add-one}
+use Rattle.std.proofs.Common.{◌≡◌, ℕ, zero, suc, ◌+◌, ◌*◌, ◌<◌, ◌≤◌, List, [], ◌∷◌, ◌++◌, Some, None, false, true}
+use Rattle.std.proofs.Common.{length, map, drop, slice_get, slice_set, refl, sym, ap, ◌∙◌, subst, arith, add-one}
 use Rattle.std.proofs.Math.Seq.{drop-cons}
 use Rattle.std.proofs.lemmas.Bool.{eq-eqb}
 use Rattle.std.proofs.lemmas.Option.{slice_get_within, get_or_from_slice_get}
@@ -15,26 +16,31 @@ use Rattle.pb_lan.specs.declared.plan.Plan.{Plan}
 use Rattle.pb_run.specs.Wires.{ring_into, ring_out, IsThere, HasInner, HasOuter}
 
 -- what is given away leaves the others
-still_there : {X : Type 0} (ends : List (Option X)) (i n : ℕ) → (n ≡ i → ⊥) → IsThere ends n → IsThere (slice_set ends i None) n
+still_there : {X : Type 0} (ends : List (Option X)) (i n : ℕ) → (n ≡ i → ⊥) → IsThere ends n
+    → IsThere (slice_set ends i None) n
 still_there [] i n other h = h
 still_there (end ∷ ends) zero zero other h = absurd (other refl)
 still_there (end ∷ ends) zero (suc n) other h = h
 still_there (end ∷ ends) (suc i) zero other h = h
 still_there (end ∷ ends) (suc i) (suc n) other h = still_there ends i n (λ same. other (ap suc same)) h
 
-stays : {X : Type 0} (ends left : List (Option X)) (given i n : ℕ) → left ≡ slice_set ends given None → given ≡ i → (n ≡ i → ⊥) → IsThere ends n → IsThere left n
+stays : {X : Type 0} (ends left : List (Option X)) (given i n : ℕ) → left ≡ slice_set ends given None → given ≡ i
+    → (n ≡ i → ⊥) → IsThere ends n → IsThere left n
 stays {X} ends left given i n e is other h =
-    subst (λ (zs : List (Option X)). IsThere zs n) (sym (e ∙ ap (λ m. slice_set ends m None) is)) (still_there ends i n other h)
+    subst (λ (zs : List (Option X)). IsThere zs n) (sym (e ∙ ap (λ m. slice_set ends m None) is))
+    (still_there ends i n other h)
 
 -- the end of the ring of a number that was worked out
 pub there_as : {X : Type 0} (ends : List (Option X)) (n m : ℕ) → n ≡ m → IsThere ends m → IsThere ends n
 there_as ends n m e h = subst (IsThere ends) (sym e) h
 
-pub there_still : {X : Type 0} (ends left : List (Option X)) (n m : ℕ) → left ≡ ends → n ≡ m → IsThere ends m → IsThere left n
+pub there_still : {X : Type 0} (ends left : List (Option X)) (n m : ℕ) → left ≡ ends → n ≡ m → IsThere ends m
+    → IsThere left n
 there_still {X} ends left n m e is h = subst (λ (zs : List (Option X)). IsThere zs n) (sym e) (there_as ends n m is h)
 
 -- two local ports have no ring in common
-into_apart : (one two : ℕ × ℕ) → 1 ≤ one.0 → IsNumber one.1 16 → 1 ≤ two.0 → IsNumber two.1 16 → (two ≡ one → ⊥) → ring_into two.0 two.1 ≡ ring_into one.0 one.1 → ⊥
+into_apart : (one two : ℕ × ℕ) → 1 ≤ one.0 → IsNumber one.1 16 → 1 ≤ two.0 → IsNumber two.1 16 → (two ≡ one → ⊥)
+    → ring_into two.0 two.1 ≡ ring_into one.0 one.1 → ⊥
 into_apart (b, p) (c, q) some within some_too within_too other same =
     let bridge : c ≡ b = numbers b p c q some within some_too within_too same in
     let port : q ≡ p = ports b p c q some within some_too within_too same in
@@ -46,55 +52,73 @@ into_apart (b, p) (c, q) some within some_too within_too other same =
     ports : (b p c q : ℕ) → 1 ≤ b → IsNumber p 16 → 1 ≤ c → IsNumber q 16 → ring_into c q ≡ ring_into b p → q ≡ p
     ports b p c q some within some_too within_too same = omega arith
 
-out_apart : (one two : ℕ × ℕ) → 1 ≤ one.0 → IsNumber one.1 16 → 1 ≤ two.0 → IsNumber two.1 16 → (two ≡ one → ⊥) → ring_out two.0 two.1 ≡ ring_out one.0 one.1 → ⊥
-out_apart one two some within some_too within_too other same = into_apart one two some within some_too within_too other (omega arith)
+out_apart : (one two : ℕ × ℕ) → 1 ≤ one.0 → IsNumber one.1 16 → 1 ≤ two.0 → IsNumber two.1 16 → (two ≡ one → ⊥)
+    → ring_out two.0 two.1 ≡ ring_out one.0 one.1 → ⊥
+out_apart one two some within some_too within_too other same = into_apart one two some within some_too within_too
+    other (omega arith)
 
 into_no_out : (one two : ℕ × ℕ) → ring_into two.0 two.1 ≡ ring_out one.0 one.1 → ⊥
 into_no_out one two same = omega arith
 
 -- what is left once a bridge has its ends at a local port
-module _ {X Y : Type 0} (outlets outlets_left : List (Option X)) (inlets inlets_left : List (Option Y)) (one : ℕ × ℕ) (into out : ℕ) (has : HasInner outlets inlets one)
-    (is_into : into ≡ ring_into one.0 one.1) (is_out : out ≡ ring_out one.0 one.1) (left_in : inlets_left ≡ slice_set inlets into None) (left_out : outlets_left ≡ slice_set outlets out None) where
-  pub inner_stay : (at : ℕ × ℕ) → (at ≡ one → ⊥) → HasInner outlets inlets at → HasInner outlets_left inlets_left at
-  inner_stay at other h = record {
-    bridge = h.bridge;
-    port = h.port;
-    receiving = stays inlets inlets_left into (ring_into one.0 one.1) (ring_into at.0 at.1) left_in is_into (into_apart one at has.bridge has.port h.bridge h.port other) h.receiving;
-    sending = stays outlets outlets_left out (ring_out one.0 one.1) (ring_out at.0 at.1) left_out is_out (out_apart one at has.bridge has.port h.bridge h.port other) h.sending;
-  }
+module _ {X Y : Type 0} (outlets outlets_left : List (Option X)) (inlets inlets_left : List (Option Y)) (one : ℕ × ℕ)
+    (into out : ℕ) (has : HasInner outlets inlets one)
+    (is_into : into ≡ ring_into one.0 one.1) (is_out : out ≡ ring_out one.0 one.1)
+    (left_in : inlets_left ≡ slice_set inlets into None) (left_out : outlets_left ≡ slice_set outlets out None)
+  where
+    pub inner_stay : (at : ℕ × ℕ) → (at ≡ one → ⊥) → HasInner outlets inlets at → HasInner outlets_left inlets_left at
+    inner_stay at other h = record {
+      bridge = h.bridge;
+      port = h.port;
+      receiving = stays inlets inlets_left into (ring_into one.0 one.1) (ring_into at.0 at.1) left_in is_into
+          (into_apart one at has.bridge has.port h.bridge h.port other) h.receiving;
+      sending = stays outlets outlets_left out (ring_out one.0 one.1) (ring_out at.0 at.1) left_out is_out
+          (out_apart one at has.bridge has.port h.bridge h.port other) h.sending;
+    }
 
-  pub outer_stay : (at : ℕ × ℕ) → HasOuter outlets inlets at → HasOuter outlets_left inlets_left at
-  outer_stay at h = record {
-    bridge = h.bridge;
-    port = h.port;
-    sending = stays outlets outlets_left out (ring_out one.0 one.1) (ring_into at.0 at.1) left_out is_out (into_no_out one at) h.sending;
-    receiving = stays inlets inlets_left into (ring_into one.0 one.1) (ring_out at.0 at.1) left_in is_into (λ same. into_no_out at one (sym same)) h.receiving;
-  }
+    pub outer_stay : (at : ℕ × ℕ) → HasOuter outlets inlets at → HasOuter outlets_left inlets_left at
+    outer_stay at h = record {
+      bridge = h.bridge;
+      port = h.port;
+      sending = stays outlets outlets_left out (ring_out one.0 one.1) (ring_into at.0 at.1) left_out is_out
+          (into_no_out one at) h.sending;
+      receiving = stays inlets inlets_left into (ring_into one.0 one.1) (ring_out at.0 at.1) left_in is_into
+          (λ same. into_no_out at one (sym same)) h.receiving;
+    }
 
 -- and once what stands there has the other two
-pub outer_rest : {X Y : Type 0} (outlets outlets_left : List (Option X)) (inlets inlets_left : List (Option Y)) (one : ℕ × ℕ) (into out : ℕ) → HasOuter outlets inlets one
-    → into ≡ ring_into one.0 one.1 → out ≡ ring_out one.0 one.1 → outlets_left ≡ slice_set outlets into None → inlets_left ≡ slice_set inlets out None
+pub outer_rest : {X Y : Type 0} (outlets outlets_left : List (Option X)) (inlets inlets_left : List (Option Y))
+    (one : ℕ × ℕ) (into out : ℕ) → HasOuter outlets inlets one
+    → into ≡ ring_into one.0 one.1 → out ≡ ring_out one.0 one.1 → outlets_left ≡ slice_set outlets into None
+    → inlets_left ≡ slice_set inlets out None
     → (at : ℕ × ℕ) → (at ≡ one → ⊥) → HasOuter outlets inlets at → HasOuter outlets_left inlets_left at
-outer_rest outlets outlets_left inlets inlets_left one into out has is_into is_out left_out left_in at other h = record {
-  bridge = h.bridge;
-  port = h.port;
-  sending = stays outlets outlets_left into (ring_into one.0 one.1) (ring_into at.0 at.1) left_out is_into (into_apart one at has.bridge has.port h.bridge h.port other) h.sending;
-  receiving = stays inlets inlets_left out (ring_out one.0 one.1) (ring_out at.0 at.1) left_in is_out (out_apart one at has.bridge has.port h.bridge h.port other) h.receiving;
-}
+outer_rest outlets outlets_left inlets inlets_left one into out has is_into is_out left_out left_in at other h =
+    record {
+      bridge = h.bridge;
+      port = h.port;
+      sending = stays outlets outlets_left into (ring_into one.0 one.1) (ring_into at.0 at.1) left_out is_into
+          (into_apart one at has.bridge has.port h.bridge h.port other) h.sending;
+      receiving = stays inlets inlets_left out (ring_out one.0 one.1) (ring_out at.0 at.1) left_in is_out
+          (out_apart one at has.bridge has.port h.bridge h.port other) h.receiving;
+    }
 
 -- where all are there, and one more is
-pub one_more_there : {X : Type 0} (ends more : List (Option X)) (x : X) → more ≡ ends ++ Some x ∷ [] → ((n : ℕ) → n < length ends → IsThere ends n) → (n : ℕ) → n < length more → IsThere more n
+pub one_more_there : {X : Type 0} (ends more : List (Option X)) (x : X) → more ≡ ends ++ Some x ∷ []
+    → ((n : ℕ) → n < length ends → IsThere ends n) → (n : ℕ) → n < length more → IsThere more n
 one_more_there {X} ends more x e all n within =
-    subst (λ (zs : List (Option X)). IsThere zs n) (sym e) (by ends all n (subst (λ (zs : List (Option X)). n < length zs) e within))
+    subst (λ (zs : List (Option X)). IsThere zs n) (sym e)
+    (by ends all n (subst (λ (zs : List (Option X)). n < length zs) e within))
   where
-    by : (xs : List (Option X)) → ((n : ℕ) → n < length xs → IsThere xs n) → (n : ℕ) → n < length (xs ++ Some x ∷ []) → IsThere (xs ++ Some x ∷ []) n
+    by : (xs : List (Option X)) → ((n : ℕ) → n < length xs → IsThere xs n) → (n : ℕ) → n < length (xs ++ Some x ∷ [])
+        → IsThere (xs ++ Some x ∷ []) n
     by [] each zero less = (x, refl)
     by [] each (suc n) less = absurd (omega arith)
     by (y ∷ xs) each zero less = each zero (omega arith)
     by (y ∷ xs) each (suc n) less = by xs (λ m h. each (suc m) (omega arith)) n (omega arith)
 
 -- where the ends of all rings are there, so are those of each local port
-module _ {X Y : Type 0} (outlets : List (Option X)) (inlets : List (Option Y)) (count bridges : ℕ) (is : count ≡ 32 * bridges) (all : (n : ℕ) → n < count → IsThere outlets n × IsThere inlets n) where
+module _ {X Y : Type 0} (outlets : List (Option X)) (inlets : List (Option Y)) (count bridges : ℕ)
+    (is : count ≡ 32 * bridges) (all : (n : ℕ) → n < count → IsThere outlets n × IsThere inlets n) where
   pub all_inner : (at : ℕ × ℕ) → IsNumber at.0 bridges → IsNumber at.1 16 → HasInner outlets inlets at
   all_inner at bridge port = record {
     bridge = bridge.0;
@@ -112,89 +136,116 @@ module _ {X Y : Type 0} (outlets : List (Option X)) (inlets : List (Option Y)) (
   }
 
 -- what holds of each local port holds of those that a sound plan uses
-pub all_used : (P : (ℕ × ℕ) → Type 0) (plan : Plan) → IsSound plan → ((at : ℕ × ℕ) → IsNumber at.0 (length plan.bridges) → IsNumber at.1 16 → P at) → AllByRecursion P (ports_in plan.links plan.customers)
+pub all_used : (P : (ℕ × ℕ) → Type 0) (plan : Plan) → IsSound plan
+    → ((at : ℕ × ℕ) → IsNumber at.0 (length plan.bridges) → IsNumber at.1 16 → P at)
+    → AllByRecursion P (ports_in plan.links plan.customers)
 all_used P plan sound each =
     All-append P (map (λ e. (e.bridge, e.port)) (all_ends plan)) (map (λ c. (c.bridge, c.port)) plan.customers)
     (All-map P (λ e. (e.bridge, e.port)) (all_ends plan)
-    (All-imply (IsSoundEnd plan) (λ e. P (e.bridge, e.port)) (λ e is. each (e.bridge, e.port) is.bridge is.port) (all_ends plan) sound.ends))
+    (All-imply (IsSoundEnd plan) (λ e. P (e.bridge, e.port)) (λ e is. each (e.bridge, e.port) is.bridge is.port)
+    (all_ends plan) sound.ends))
     (All-map P (λ c. (c.bridge, c.port)) plan.customers
-    (All-imply (IsSoundCustomer plan) (λ c. P (c.bridge, c.port)) (λ c is. each (c.bridge, c.port) is.bridge is.port) plan.customers sound.customers))
+    (All-imply (IsSoundCustomer plan) (λ c. P (c.bridge, c.port)) (λ c is. each (c.bridge, c.port) is.bridge is.port)
+    plan.customers sound.customers))
 
 -- no two customer ports stand at one local port
 pub customers_apart : (plan : Plan) → IsSound plan → IsDistinct is_same_port (ports_in [] plan.customers)
-customers_apart plan sound = IsDistinct-back is_same_port (map (λ e. (e.bridge, e.port)) (all_ends plan)) (map (λ c. (c.bridge, c.port)) plan.customers) sound.ports
+customers_apart plan sound = IsDistinct-back is_same_port (map (λ e. (e.bridge, e.port)) (all_ends plan))
+    (map (λ c. (c.bridge, c.port)) plan.customers) sound.ports
 
 -- two local ports that the test tells apart
 tested_apart : (one two : ℕ × ℕ) → is_same_port one two ≡ false → two ≡ one → ⊥
 tested_apart one two test same =
-    let yes : is_same_port one two ≡ true = both_true (eq-eqb one.0 two.0 (ap (λ (at : ℕ × ℕ). at.0) (sym same))) (eq-eqb one.1 two.1 (ap (λ (at : ℕ × ℕ). at.1) (sym same))) in
+    let yes : is_same_port one two ≡ true = both_true (eq-eqb one.0 two.0 (ap (λ (at : ℕ × ℕ). at.0) (sym same)))
+    (eq-eqb one.1 two.1 (ap (λ (at : ℕ × ℕ). at.1) (sym same))) in
     cc
 
 -- what holds of the others stays so, where it stays so of each port but one
-all_kept : (P Q : (ℕ × ℕ) → Type 0) (one : ℕ × ℕ) (others : List (ℕ × ℕ)) → ((at : ℕ × ℕ) → (at ≡ one → ⊥) → P at → Q at)
+all_kept : (P Q : (ℕ × ℕ) → Type 0) (one : ℕ × ℕ) (others : List (ℕ × ℕ))
+    → ((at : ℕ × ℕ) → (at ≡ one → ⊥) → P at → Q at)
     → AllByRecursion (λ at. is_same_port one at ≡ false) others → AllByRecursion P others → AllByRecursion Q others
 all_kept P Q one [] keeps apart all = tt
-all_kept P Q one (at ∷ others) keeps apart all = (keeps at (tested_apart one at apart.0) all.0, all_kept P Q one others keeps apart.1 all.1)
+all_kept P Q one (at ∷ others) keeps apart all =
+    (keeps at (tested_apart one at apart.0) all.0, all_kept P Q one others keeps apart.1 all.1)
 
 -- a list from one of its places on
 from_here : {X : Type 0} (xs : List X) (k : ℕ) (x : X) → slice_get xs k ≡ Some x → drop k xs ≡ x ∷ drop (k + 1) xs
 from_here xs k x at =
-    rw add-one (drop-cons xs k x (slice_get_within xs k x at) ∙ ap (λ z. z ∷ drop (suc k) xs) (get_or_from_slice_get xs k x x at))
+    rw add-one (drop-cons xs k x (slice_get_within xs k x at) ∙ ap (λ z. z ∷ drop (suc k) xs)
+    (get_or_from_slice_get xs k x x at))
 
 -- the local ports of one link, and of those after it
-module _ (links : List LinkPlan) (customers : List CustomerPlan) (k : ℕ) (link : LinkPlan) (at : slice_get links k ≡ Some link) where
-  link_ports : ports_in (drop k links) customers ≡ (link.a.bridge, link.a.port) ∷ (link.b.bridge, link.b.port) ∷ ports_in (drop (k + 1) links) customers
+module _ (links : List LinkPlan) (customers : List CustomerPlan) (k : ℕ) (link : LinkPlan)
+    (at : slice_get links k ≡ Some link) where
+  link_ports : ports_in (drop k links) customers ≡ (link.a.bridge, link.a.port) ∷ (link.b.bridge, link.b.port)
+      ∷ ports_in (drop (k + 1) links) customers
   link_ports = ap (λ (ls : List LinkPlan). ports_in ls customers) (from_here links k link at)
 
   link_all : (P : (ℕ × ℕ) → Type 0) → AllByRecursion P (ports_in (drop k links) customers)
-      → P (link.a.bridge, link.a.port) × (P (link.b.bridge, link.b.port) × AllByRecursion P (ports_in (drop (k + 1) links) customers))
+      → P (link.a.bridge, link.a.port)
+      × (P (link.b.bridge, link.b.port) × AllByRecursion P (ports_in (drop (k + 1) links) customers))
   link_all P all = subst (AllByRecursion P) link_ports all
 
-  pub first_end : (P : (ℕ × ℕ) → Type 0) → AllByRecursion P (ports_in (drop k links) customers) → P (link.a.bridge, link.a.port)
+  pub first_end : (P : (ℕ × ℕ) → Type 0) → AllByRecursion P (ports_in (drop k links) customers)
+      → P (link.a.bridge, link.a.port)
   first_end P all = (link_all P all).0
 
   link_distinct : IsDistinct is_same_port (ports_in (drop k links) customers)
-      → IsDistinct is_same_port ((link.a.bridge, link.a.port) ∷ (link.b.bridge, link.b.port) ∷ ports_in (drop (k + 1) links) customers)
+      → IsDistinct is_same_port ((link.a.bridge, link.a.port) ∷ (link.b.bridge, link.b.port) ∷ ports_in
+      (drop (k + 1) links) customers)
   link_distinct distinct = subst (IsDistinct is_same_port) link_ports distinct
 
   pub second_end : (P Q : (ℕ × ℕ) → Type 0) → IsDistinct is_same_port (ports_in (drop k links) customers)
-      → ((there : ℕ × ℕ) → (there ≡ (link.a.bridge, link.a.port) → ⊥) → P there → Q there) → AllByRecursion P (ports_in (drop k links) customers) → Q (link.b.bridge, link.b.port)
+      → ((there : ℕ × ℕ) → (there ≡ (link.a.bridge, link.a.port) → ⊥) → P there → Q there)
+      → AllByRecursion P (ports_in (drop k links) customers) → Q (link.b.bridge, link.b.port)
   unfolding IsDistinct
   second_end P Q distinct keeps all =
-      keeps (link.b.bridge, link.b.port) (tested_apart (link.a.bridge, link.a.port) (link.b.bridge, link.b.port) (link_distinct distinct).0.0) (link_all P all).1.0
+      keeps (link.b.bridge, link.b.port) (tested_apart (link.a.bridge, link.a.port) (link.b.bridge, link.b.port)
+      (link_distinct distinct).0.0) (link_all P all).1.0
 
   pub after_link : (P Q R : (ℕ × ℕ) → Type 0) → IsDistinct is_same_port (ports_in (drop k links) customers)
-      → ((there : ℕ × ℕ) → (there ≡ (link.a.bridge, link.a.port) → ⊥) → P there → Q there) → ((there : ℕ × ℕ) → (there ≡ (link.b.bridge, link.b.port) → ⊥) → Q there → R there)
-      → AllByRecursion P (ports_in (drop k links) customers) → AllByRecursion R (ports_in (drop (k + 1) links) customers)
+      → ((there : ℕ × ℕ) → (there ≡ (link.a.bridge, link.a.port) → ⊥) → P there → Q there)
+      → ((there : ℕ × ℕ) → (there ≡ (link.b.bridge, link.b.port) → ⊥) → Q there → R there)
+      → AllByRecursion P (ports_in (drop k links) customers)
+      → AllByRecursion R (ports_in (drop (k + 1) links) customers)
   unfolding IsDistinct
   after_link P Q R distinct one two all =
       let apart = link_distinct distinct in
-      all_kept Q R (link.b.bridge, link.b.port) _ two apart.1.0 (all_kept P Q (link.a.bridge, link.a.port) _ one apart.0.1 (link_all P all).1.1)
+      all_kept Q R (link.b.bridge, link.b.port) _ two apart.1.0
+      (all_kept P Q (link.a.bridge, link.a.port) _ one apart.0.1 (link_all P all).1.1)
 
-  pub apart_after_link : IsDistinct is_same_port (ports_in (drop k links) customers) → IsDistinct is_same_port (ports_in (drop (k + 1) links) customers)
+  pub apart_after_link : IsDistinct is_same_port (ports_in (drop k links) customers)
+      → IsDistinct is_same_port (ports_in (drop (k + 1) links) customers)
   unfolding IsDistinct
   apart_after_link distinct = (link_distinct distinct).1.1
 
 -- and those of one customer port, and of those after it
-module _ (customers : List CustomerPlan) (k : ℕ) (customer : CustomerPlan) (at : slice_get customers k ≡ Some customer) where
-  customer_ports : ports_in [] (drop k customers) ≡ (customer.bridge, customer.port) ∷ ports_in [] (drop (k + 1) customers)
+module _ (customers : List CustomerPlan) (k : ℕ) (customer : CustomerPlan)
+    (at : slice_get customers k ≡ Some customer) where
+  customer_ports : ports_in [] (drop k customers) ≡ (customer.bridge, customer.port) ∷ ports_in []
+      (drop (k + 1) customers)
   customer_ports = ap (λ (cs : List CustomerPlan). ports_in [] cs) (from_here customers k customer at)
 
-  customer_all : (P : (ℕ × ℕ) → Type 0) → AllByRecursion P (ports_in [] (drop k customers)) → P (customer.bridge, customer.port) × AllByRecursion P (ports_in [] (drop (k + 1) customers))
+  customer_all : (P : (ℕ × ℕ) → Type 0) → AllByRecursion P (ports_in [] (drop k customers))
+      → P (customer.bridge, customer.port) × AllByRecursion P (ports_in [] (drop (k + 1) customers))
   customer_all P all = subst (AllByRecursion P) customer_ports all
 
-  pub this_customer : (P : (ℕ × ℕ) → Type 0) → AllByRecursion P (ports_in [] (drop k customers)) → P (customer.bridge, customer.port)
+  pub this_customer : (P : (ℕ × ℕ) → Type 0) → AllByRecursion P (ports_in [] (drop k customers))
+      → P (customer.bridge, customer.port)
   this_customer P all = (customer_all P all).0
 
-  customer_distinct : IsDistinct is_same_port (ports_in [] (drop k customers)) → IsDistinct is_same_port ((customer.bridge, customer.port) ∷ ports_in [] (drop (k + 1) customers))
+  customer_distinct : IsDistinct is_same_port (ports_in [] (drop k customers))
+      → IsDistinct is_same_port ((customer.bridge, customer.port) ∷ ports_in [] (drop (k + 1) customers))
   customer_distinct distinct = subst (IsDistinct is_same_port) customer_ports distinct
 
   pub after_customer : (P Q : (ℕ × ℕ) → Type 0) → IsDistinct is_same_port (ports_in [] (drop k customers))
       → ((there : ℕ × ℕ) → (there ≡ (customer.bridge, customer.port) → ⊥) → P there → Q there)
       → AllByRecursion P (ports_in [] (drop k customers)) → AllByRecursion Q (ports_in [] (drop (k + 1) customers))
   unfolding IsDistinct
-  after_customer P Q distinct keeps all = all_kept P Q (customer.bridge, customer.port) _ keeps (customer_distinct distinct).0 (customer_all P all).1
+  after_customer P Q distinct keeps all = all_kept P Q (customer.bridge, customer.port) _ keeps
+      (customer_distinct distinct).0 (customer_all P all).1
 
-  pub apart_after_customer : IsDistinct is_same_port (ports_in [] (drop k customers)) → IsDistinct is_same_port (ports_in [] (drop (k + 1) customers))
+  pub apart_after_customer : IsDistinct is_same_port (ports_in [] (drop k customers))
+      → IsDistinct is_same_port (ports_in [] (drop (k + 1) customers))
   unfolding IsDistinct
   apart_after_customer distinct = (customer_distinct distinct).1

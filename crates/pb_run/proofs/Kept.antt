@@ -1,5 +1,6 @@
 -- What each port gave and took, in lists of ports.
-use Rattle.std.proofs.Common.{◌≡◌, ℕ, zero, suc, List, [], ◌∷◌, All, Some, None, map, length, unwrap_or, slice_get, refl, sym, ap, subst, ◌∙◌, append-nil}
+use Rattle.std.proofs.Common.{◌≡◌, ℕ, zero, suc, List, [], ◌∷◌, All, Some, None, map, length, unwrap_or, slice_get}
+use Rattle.std.proofs.Common.{refl, sym, ap, subst, ◌∙◌, append-nil}
 use Rattle.std.proofs.lemmas.List.{length-map}
 use Rattle.std.specs.declared.option.Option.{Option}
 use Rattle.pb_lan.specs.Counts.{entered, left}
@@ -13,45 +14,56 @@ use Rattle.pb_run.specs.declared.access.Last.{Last}
 use Rattle.pb_run.specs.declared.access.Last.TheVariants.{More}
 use Rattle.pb_run.proofs.Lists.{all_rest, all_head}
 
-module _ {X P : Type 0} (script tally : P → Option Frames) (was port : X → P) (steps : X → List Step) (last : X → Last) where
+module _ {X P : Type 0} (script tally : P → Option Frames) (was port : X → P) (steps : X → List Step)
+    (last : X → Last) where
   abbrev Keeps : X → Type 0
   Keeps w = KeepsPort script tally (was w) (port w) (steps w) (last w)
 
   script_at : (ws : List X) (r : ℕ) → All Keeps ws
-      → unwrap_or (slice_get (map script (map was ws)) r) None ≡ in_front (entered (unwrap_or (slice_get (map steps ws) r) [])) (unwrap_or (slice_get (map script (map port ws)) r) None)
+      → unwrap_or (slice_get (map script (map was ws)) r) None ≡ in_front
+      (entered (unwrap_or (slice_get (map steps ws) r) []))
+      (unwrap_or (slice_get (map script (map port ws)) r) None)
   script_at [] r all = refl
   script_at (w ∷ ws) zero all = (all_head Keeps w ws (w ∷ ws) refl all).0
   script_at (w ∷ ws) (suc r) all = script_at ws r (all_rest Keeps w ws (w ∷ ws) refl all)
 
   tally_at : (ws : List X) (r : ℕ) → All Keeps ws
-      → unwrap_or (slice_get (map tally (map port ws)) r) None ≡ behind (unwrap_or (slice_get (map tally (map was ws)) r) None) (left (unwrap_or (slice_get (map steps ws) r) []))
+      → unwrap_or (slice_get (map tally (map port ws)) r) None ≡ behind
+      (unwrap_or (slice_get (map tally (map was ws)) r) None) (left (unwrap_or (slice_get (map steps ws) r) []))
   tally_at [] r all = refl
   tally_at (w ∷ ws) zero all = (all_head Keeps w ws (w ∷ ws) refl all).1
   tally_at (w ∷ ws) (suc r) all = tally_at ws r (all_rest Keeps w ws (w ∷ ws) refl all)
 
-  ended_at : (ws : List X) (r : ℕ) → All Keeps ws → IsEnded (unwrap_or (slice_get (map last ws) r) More) (unwrap_or (slice_get (map script (map port ws)) r) None)
+  ended_at : (ws : List X) (r : ℕ) → All Keeps ws
+      → IsEnded (unwrap_or (slice_get (map last ws) r) More) (unwrap_or (slice_get (map script (map port ws)) r) None)
   ended_at [] r all = tt
   ended_at (w ∷ ws) zero all = (all_head Keeps w ws (w ∷ ws) refl all).2
   ended_at (w ∷ ws) (suc r) all = ended_at ws r (all_rest Keeps w ws (w ∷ ws) refl all)
 
   script_by : (ws : List X) → All Keeps ws → (number : ℕ)
-      → frames_of (map script (map was ws)) number ≡ in_front (entered (steps_of (map steps ws) number)) (frames_of (map script (map port ws)) number)
+      → frames_of (map script (map was ws)) number ≡ in_front (entered (steps_of (map steps ws) number))
+      (frames_of (map script (map port ws)) number)
   script_by ws all zero = refl
   script_by ws all (suc r) = script_at ws r all
 
   tally_by : (ws : List X) → All Keeps ws → (number : ℕ)
-      → frames_of (map tally (map port ws)) number ≡ behind (frames_of (map tally (map was ws)) number) (left (steps_of (map steps ws) number))
+      → frames_of (map tally (map port ws)) number ≡ behind (frames_of (map tally (map was ws)) number)
+      (left (steps_of (map steps ws) number))
   tally_by ws all zero = refl
   tally_by ws all (suc r) = tally_at ws r all
 
-  ended_by : (ws : List X) → All Keeps ws → (number : ℕ) → IsEnded (last_of (map last ws) number) (frames_of (map script (map port ws)) number)
+  ended_by : (ws : List X) → All Keeps ws → (number : ℕ)
+      → IsEnded (last_of (map last ws) number) (frames_of (map script (map port ws)) number)
   ended_by ws all zero = tt
   ended_by ws all (suc r) = ended_at ws r all
 
   pub kept_ports : (ws : List X) → All Keeps ws
-      → ArePortsKept (record { scripts = map script (map was ws); tallies = map tally (map was ws) }) (record { scripts = map script (map port ws); tallies = map tally (map port ws) }) (map steps ws) (map last ws)
+      → ArePortsKept (record { scripts = map script (map was ws); tallies = map tally (map was ws) })
+      (record { scripts = map script (map port ws); tallies = map tally (map port ws) }) (map steps ws)
+      (map last ws)
   kept_ports ws all = record {
-    port_count = length-map (map port ws) script ∙ length-map ws port ∙ sym (length-map (map was ws) script ∙ length-map ws was);
+    port_count = length-map (map port ws) script ∙ length-map ws port
+        ∙ sym (length-map (map was ws) script ∙ length-map ws was);
     last_count = length-map ws last ∙ sym (length-map (map was ws) script ∙ length-map ws was);
     script = script_by ws all;
     tally = tally_by ws all;
@@ -59,29 +71,42 @@ module _ {X P : Type 0} (script tally : P → Option Frames) (was port : X → P
   }
 
   -- the same of ports, lists and answers that come back
-  pub kept_back : (ws : List X) (before after : List P) (customers : List (List Step)) (lasts : List Last) → map was ws ≡ before → after ≡ map port ws → customers ≡ map steps ws → lasts ≡ map last ws → All Keeps ws
-      → ArePortsKept (record { scripts = map script before; tallies = map tally before }) (record { scripts = map script after; tallies = map tally after }) customers lasts
+  pub kept_back : (ws : List X) (before after : List P) (customers : List (List Step)) (lasts : List Last)
+      → map was ws ≡ before → after ≡ map port ws → customers ≡ map steps ws → lasts ≡ map last ws → All Keeps ws
+      → ArePortsKept (record { scripts = map script before; tallies = map tally before })
+      (record { scripts = map script after; tallies = map tally after }) customers lasts
   kept_back ws before after customers lasts eb ea ec el all =
-      subst (λ (zs : List Last). ArePortsKept (record { scripts = map script before; tallies = map tally before }) (record { scripts = map script after; tallies = map tally after }) customers zs) (sym el)
-      (subst (λ (zs : List (List Step)). ArePortsKept (record { scripts = map script before; tallies = map tally before }) (record { scripts = map script after; tallies = map tally after }) zs (map last ws)) (sym ec)
-      (subst (λ (zs : List P). ArePortsKept (record { scripts = map script before; tallies = map tally before }) (record { scripts = map script zs; tallies = map tally zs }) (map steps ws) (map last ws)) (sym ea)
-      (subst (λ (zs : List P). ArePortsKept (record { scripts = map script zs; tallies = map tally zs }) (record { scripts = map script (map port ws); tallies = map tally (map port ws) }) (map steps ws) (map last ws)) eb
+      subst (λ (zs : List Last). ArePortsKept (record { scripts = map script before; tallies = map tally before })
+      (record { scripts = map script after; tallies = map tally after }) customers zs) (sym el)
+      (subst (λ (zs : List (List Step)). ArePortsKept
+      (record { scripts = map script before; tallies = map tally before })
+      (record { scripts = map script after; tallies = map tally after }) zs (map last ws)) (sym ec)
+      (subst (λ (zs : List P). ArePortsKept (record { scripts = map script before; tallies = map tally before })
+      (record { scripts = map script zs; tallies = map tally zs }) (map steps ws) (map last ws)) (sym ea)
+      (subst (λ (zs : List P). ArePortsKept (record { scripts = map script zs; tallies = map tally zs })
+      (record { scripts = map script (map port ws); tallies = map tally (map port ws) }) (map steps ws)
+      (map last ws)) eb
       (kept_ports ws all))))
 
 -- what is seen of things through what is seen of them
-through : {X G Y : Type 0} (given : X → G) (seen : G → Y) (shown : X → Y) (ws : List X) → ((w : X) → shown w ≡ seen (given w)) → map shown ws ≡ map seen (map given ws)
+through : {X G Y : Type 0} (given : X → G) (seen : G → Y) (shown : X → Y) (ws : List X)
+    → ((w : X) → shown w ≡ seen (given w)) → map shown ws ≡ map seen (map given ws)
 through given seen shown [] same = refl
 through given seen shown (w ∷ ws) same = let here = same w in let rest = through given seen shown ws same in cc
 
 -- what is seen through what stayed stays
-pub seen_through : {X G Y : Type 0} (given : X → G) (seen : G → Y) (shown : X → Y) (ws olds : List X) → ((w : X) → shown w ≡ seen (given w)) → map given ws ≡ map given olds → map shown ws ≡ map shown olds
-seen_through given seen shown ws olds same e = through given seen shown ws same ∙ ap (map seen) e ∙ sym (through given seen shown olds same)
+pub seen_through : {X G Y : Type 0} (given : X → G) (seen : G → Y) (shown : X → Y) (ws olds : List X)
+    → ((w : X) → shown w ≡ seen (given w)) → map given ws ≡ map given olds → map shown ws ≡ map shown olds
+seen_through given seen shown ws olds same e = through given seen shown ws same ∙ ap (map seen) e
+    ∙ sym (through given seen shown olds same)
 
-part_by_part : {X Y Z : Type 0} (part : X → Y) (shown : Y → Z) (ws : List X) → map shown (map part ws) ≡ map (λ w. shown (part w)) ws
+part_by_part : {X Y Z : Type 0} (part : X → Y) (shown : Y → Z) (ws : List X)
+    → map shown (map part ws) ≡ map (λ w. shown (part w)) ws
 part_by_part part shown [] = refl
 part_by_part part shown (w ∷ ws) = ap (λ us. shown (part w) ∷ us) (part_by_part part shown ws)
 
-pub of_parts : {X Y Z : Type 0} (part : X → Y) (shown : Y → Z) (ws : List X) (ys : List Y) → ys ≡ map part ws → map shown ys ≡ map (λ w. shown (part w)) ws
+pub of_parts : {X Y Z : Type 0} (part : X → Y) (shown : Y → Z) (ws : List X) (ys : List Y) → ys ≡ map part ws
+    → map shown ys ≡ map (λ w. shown (part w)) ws
 of_parts part shown ws ys e = ap (map shown) e ∙ part_by_part part shown ws
 
 -- a port that has given and taken nothing
@@ -93,31 +118,44 @@ nothing_taken : (o : Option Frames) → o ≡ behind o []
 nothing_taken None = refl
 nothing_taken (Some frames) = ap (λ fs. Some fs) (sym (append-nil frames))
 
-pub keeps_fresh : {P : Type 0} (script tally : P → Option Frames) (was port : P) (steps : List Step) (last : Last) → was ≡ port → steps ≡ [] → last ≡ More → KeepsPort script tally was port steps last
+pub keeps_fresh : {P : Type 0} (script tally : P → Option Frames) (was port : P) (steps : List Step) (last : Last)
+    → was ≡ port → steps ≡ [] → last ≡ More → KeepsPort script tally was port steps last
 keeps_fresh {P} script tally was port steps last same none more =
     subst (λ (p : P). KeepsPort script tally p port steps last) (sym same)
     (subst (λ (ss : List Step). KeepsPort script tally port port ss last) (sym none)
-    (subst (λ (l : Last). KeepsPort script tally port port [] l) (sym more) (nothing_given (script port), nothing_taken (tally port), tt)))
+    (subst (λ (l : Last). KeepsPort script tally port port [] l) (sym more)
+    (nothing_given (script port), nothing_taken (tally port), tt)))
 
 -- as many come back as were given, one for each port
-pub as_many : {X G P : Type 0} (given : X → G) (port : X → P) (ws olds : List X) (ports : List P) → map given ws ≡ map given olds → map port olds ≡ ports
+pub as_many : {X G P : Type 0} (given : X → G) (port : X → P) (ws olds : List X) (ports : List P)
+    → map given ws ≡ map given olds → map port olds ≡ ports
     → length ws ≡ length ports
-as_many given port ws olds ports kept are = sym (length-map ws given) ∙ ap length kept ∙ length-map olds given ∙ sym (length-map olds port) ∙ ap length are
+as_many given port ws olds ports kept are = sym (length-map ws given) ∙ ap length kept ∙ length-map olds given
+    ∙ sym (length-map olds port) ∙ ap length are
 
 -- the accesses that come back have the numbers that they had
-pub accesses_back : {X D G : Type 0} (given : X → G) (ws olds : List X) (after : List D) (before : List AccessGift) (access : X → D) (gift : D → AccessGift) (plan : Plan) (n : ℕ)
-    → map given ws ≡ map given olds → after ≡ map access ws → map (λ w. gift (access w)) olds ≡ before → (seen : G → AccessGift) → ((w : X) → gift (access w) ≡ seen (given w))
+pub accesses_back : {X D G : Type 0} (given : X → G) (ws olds : List X) (after : List D) (before : List AccessGift)
+    (access : X → D) (gift : D → AccessGift) (plan : Plan) (n : ℕ)
+    → map given ws ≡ map given olds → after ≡ map access ws → map (λ w. gift (access w)) olds ≡ before
+    → (seen : G → AccessGift) → ((w : X) → gift (access w) ≡ seen (given w))
     → AreAccesses plan n before → AreAccesses plan n (map gift after)
 accesses_back given ws olds after before access gift plan n kept parts was seen same are =
-    let all : map gift after ≡ before = of_parts access gift ws after parts ∙ seen_through given seen (λ w. gift (access w)) ws olds same kept ∙ was in
+    let all : map gift after ≡ before = of_parts access gift ws after parts
+    ∙ seen_through given seen (λ w. gift (access w)) ws olds same kept ∙ was in
     subst (λ gs. AreAccesses plan n gs) (sym all) are
 
 -- what each port gave and took in a run
-pub run_kept : {X P D G : Type 0} (script tally : P → Option Frames) (given : X → G) (ws olds : List X) (before after : List P) (accesses : List D) (customers : List (List Step)) (lasts : List Last)
+pub run_kept : {X P D G : Type 0} (script tally : P → Option Frames) (given : X → G) (ws olds : List X)
+    (before after : List P) (accesses : List D) (customers : List (List Step)) (lasts : List Last)
     (was port : X → P) (access : X → D) (steps : D → List Step) (last : X → Last)
-    → map given ws ≡ map given olds → map was olds ≡ before → after ≡ map port ws → accesses ≡ map access ws → customers ≡ map steps accesses → lasts ≡ map last ws
-    → (seen : G → P) → ((w : X) → was w ≡ seen (given w)) → All (λ w. KeepsPort script tally (was w) (port w) (steps (access w)) (last w)) ws
-    → ArePortsKept (record { scripts = map script before; tallies = map tally before }) (record { scripts = map script after; tallies = map tally after }) customers lasts
-run_kept script tally given ws olds before after accesses customers lasts was port access steps last kept ports ports_now parts list said seen same all =
+    → map given ws ≡ map given olds → map was olds ≡ before → after ≡ map port ws → accesses ≡ map access ws
+    → customers ≡ map steps accesses → lasts ≡ map last ws
+    → (seen : G → P) → ((w : X) → was w ≡ seen (given w))
+    → All (λ w. KeepsPort script tally (was w) (port w) (steps (access w)) (last w)) ws
+    → ArePortsKept (record { scripts = map script before; tallies = map tally before })
+    (record { scripts = map script after; tallies = map tally after }) customers lasts
+run_kept script tally given ws olds before after accesses customers lasts was port access steps last kept ports
+    ports_now parts list said seen same all =
     kept_back script tally was port (λ w. steps (access w)) last ws before after customers lasts
-    (seen_through given seen was ws olds same kept ∙ ports) ports_now (list ∙ of_parts access steps ws accesses parts) said all
+    (seen_through given seen was ws olds same kept ∙ ports) ports_now (list ∙ of_parts access steps ws accesses parts)
+    said all

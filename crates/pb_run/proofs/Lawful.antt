@@ -1,5 +1,6 @@
 -- The record of workers that have met is lawful.
-use Rattle.std.proofs.Common.{◌≡◌, ◌↔◌, Bool, IsTrue, ℕ, zero, suc, ◌+◌, ◌*◌, ◌<◌, List, [], ◌∷◌, Some, None, All, map, length, unwrap_or, slice_get, refl, sym, ap, ◌∙◌, subst, arith}
+use Rattle.std.proofs.Common.{◌≡◌, ◌↔◌, Bool, IsTrue, ℕ, zero, suc, ◌+◌, ◌*◌, ◌<◌, List, [], ◌∷◌, Some, None, All}
+use Rattle.std.proofs.Common.{map, length, unwrap_or, slice_get, refl, sym, ap, ◌∙◌, subst, arith}
 use Rattle.std.proofs.lemmas.List.{length-map}
 use Rattle.std.proofs.lemmas.Option.{slice_get_within}
 use Rattle.pb_frame.proofs.Lists.{Some-injective}
@@ -16,7 +17,8 @@ use Rattle.pb_lan.specs.declared.plan.Plan.{Plan}
 use Rattle.pb_lan.specs.declared.record.Record.{Record}
 use Rattle.pb_lan.specs.declared.step.Step.{Step}
 use Rattle.pb_relay.specs.Protocol.{spanning_tree}
-use Rattle.pb_run.specs.Gifts.{BridgeGift, AreBridges, LaneGift, lane_gift, AreLanes, AccessGift, access_gift, AreAccesses}
+use Rattle.pb_run.specs.Gifts.{BridgeGift, AreBridges, LaneGift, lane_gift, AreLanes, AccessGift, access_gift}
+use Rattle.pb_run.specs.Gifts.{AreAccesses}
 use Rattle.pb_run.specs.Meetings.{of_customers, of_lanes}
 use Rattle.pb_run.specs.Runs.{TellsAllDrained, TellsEnded}
 use Rattle.pb_run.specs.declared.access.Last.{Last}
@@ -26,53 +28,67 @@ use Rattle.pb_run.proofs.Lists.{all_at, part_at, thing_at}
 use Rattle.pb_run.proofs.Meeting.{steps_there}
 
 -- what holds of each place's steps, and of none, holds at every number
-by_place : {X : Type 0} (L : ℕ → List Step → Type 0) (steps : X → List Step) (ws : List X) (r : ℕ) → ((n : ℕ) → L n []) → ((j : ℕ) (w : X) → slice_get ws j ≡ Some w → L j (steps w))
+by_place : {X : Type 0} (L : ℕ → List Step → Type 0) (steps : X → List Step) (ws : List X) (r : ℕ)
+    → ((n : ℕ) → L n []) → ((j : ℕ) (w : X) → slice_get ws j ≡ Some w → L j (steps w))
     → L r (unwrap_or (slice_get (map steps ws) r) [])
 by_place L steps [] r none each = none r
 by_place L steps (w ∷ ws) zero none each = each 0 w refl
-by_place L steps (w ∷ ws) (suc r) none each = by_place (λ n ms. L (suc n) ms) steps ws r (λ n. none (suc n)) (λ j x h. each (suc j) x h)
+by_place L steps (w ∷ ws) (suc r) none each = by_place (λ n ms. L (suc n) ms) steps ws r (λ n. none (suc n))
+    (λ j x h. each (suc j) x h)
 
-by_number : {X : Type 0} (L : ℕ → List Step → Type 0) (steps : X → List Step) (ws : List X) (n : ℕ) → ((m : ℕ) → L m []) → ((j : ℕ) (w : X) → slice_get ws j ≡ Some w → L (suc j) (steps w))
+by_number : {X : Type 0} (L : ℕ → List Step → Type 0) (steps : X → List Step) (ws : List X) (n : ℕ)
+    → ((m : ℕ) → L m []) → ((j : ℕ) (w : X) → slice_get ws j ≡ Some w → L (suc j) (steps w))
     → L n (steps_of (map steps ws) n)
 by_number L steps ws zero none each = none 0
 by_number L steps ws (suc r) none each = by_place (λ m ms. L (suc m) ms) steps ws r (λ m. none (suc m)) each
 
-pub lawful_bridges : {X : Type 0} (gift : X → BridgeGift) (steps : X → List Step) (plan : Plan) (ws : List X) → AreBridges plan (length plan.bridges) (map gift ws)
-    → All (λ w. IsLawfulBridge spanning_tree (gift w).2 (gift w).1 (steps w)) ws → (n : ℕ) → IsLawfulBridge spanning_tree plan n (steps_of (map steps ws) n)
+pub lawful_bridges : {X : Type 0} (gift : X → BridgeGift) (steps : X → List Step) (plan : Plan) (ws : List X)
+    → AreBridges plan (length plan.bridges) (map gift ws)
+    → All (λ w. IsLawfulBridge spanning_tree (gift w).2 (gift w).1 (steps w)) ws → (n : ℕ)
+    → IsLawfulBridge spanning_tree plan n (steps_of (map steps ws) n)
 lawful_bridges gift steps plan ws are all n =
     by_number (λ m ms. IsLawfulBridge spanning_tree plan m ms) steps ws n (λ m. tt)
     (λ j w h.
     let is = are.each j (gift w) (part_at gift ws j w h) in
     let same : (gift w).1 ≡ suc j = is.bridge ∙ next j in
     let lawful = all_at (λ x. IsLawfulBridge spanning_tree (gift x).2 (gift x).1 (steps x)) ws j w all h in
-    subst (λ (p : Plan). IsLawfulBridge spanning_tree p (suc j) (steps w)) is.plans (subst (λ m. IsLawfulBridge spanning_tree (gift w).2 m (steps w)) same lawful))
+    subst (λ (p : Plan). IsLawfulBridge spanning_tree p (suc j) (steps w)) is.plans
+    (subst (λ m. IsLawfulBridge spanning_tree (gift w).2 m (steps w)) same lawful))
   where
     next : (j : ℕ) → j + 1 ≡ suc j
     next j = omega arith
 
-lawful_lane : {X : Type 0} (gift : X → LaneGift) (steps : X → List Step) (ws : List X) (r n : ℕ) (g : LaneGift) → slice_get (map gift ws) r ≡ Some g → n ≡ suc r
+lawful_lane : {X : Type 0} (gift : X → LaneGift) (steps : X → List Step) (ws : List X) (r n : ℕ) (g : LaneGift)
+    → slice_get (map gift ws) r ≡ Some g → n ≡ suc r
     → All (λ w. IsLawfulLane (gift w).3 (steps w)) ws → IsLawfulLane g.3 (steps_of (map steps ws) n)
 lawful_lane gift steps ws r n g at e all =
     let there = thing_at gift ws r g at in
     let lawful = all_at (λ w. IsLawfulLane (gift w).3 (steps w)) ws r there.0 all there.1 in
-    subst (λ ms. IsLawfulLane g.3 ms) (sym (steps_there steps ws r n there.0 there.1 e)) (subst (λ (z : LaneGift). IsLawfulLane z.3 (steps there.0)) there.2 lawful)
+    subst (λ ms. IsLawfulLane g.3 ms) (sym (steps_there steps ws r n there.0 there.1 e))
+    (subst (λ (z : LaneGift). IsLawfulLane z.3 (steps there.0)) there.2 lawful)
 
-pub lawful_lanes : {X : Type 0} (gift : X → LaneGift) (steps : X → List Step) (plan : Plan) (ws : List X) (k : ℕ) (link : LinkPlan) → AreLanes plan (length plan.links) (map gift ws)
+pub lawful_lanes : {X : Type 0} (gift : X → LaneGift) (steps : X → List Step) (plan : Plan) (ws : List X) (k : ℕ)
+    (link : LinkPlan) → AreLanes plan (length plan.links) (map gift ws)
     → All (λ w. IsLawfulLane (gift w).3 (steps w)) ws → slice_get plan.links k ≡ Some link
-    → IsLawfulLane link.lost_ab (steps_of (map steps ws) (2 * k + 1)) × IsLawfulLane link.lost_ba (steps_of (map steps ws) (2 * k + 2))
+    → IsLawfulLane link.lost_ab (steps_of (map steps ws) (2 * k + 1))
+    × IsLawfulLane link.lost_ba (steps_of (map steps ws) (2 * k + 2))
 lawful_lanes gift steps plan ws k link are all at =
     let within = slice_get_within plan.links k link at in (
-      lawful_lane gift steps ws (2 * k) (2 * k + 1) (lane_gift (2 * k + 1) link.a link.b link.lost_ab) (are.ab k link within at) (omega arith) all,
-      lawful_lane gift steps ws (2 * k + 1) (2 * k + 2) (lane_gift (2 * k + 2) link.b link.a link.lost_ba) (are.ba k link within at) (omega arith) all,
+      lawful_lane gift steps ws (2 * k) (2 * k + 1) (lane_gift (2 * k + 1) link.a link.b link.lost_ab)
+          (are.ab k link within at) (omega arith) all,
+      lawful_lane gift steps ws (2 * k + 1) (2 * k + 2) (lane_gift (2 * k + 2) link.b link.a link.lost_ba)
+          (are.ba k link within at) (omega arith) all,
     )
 
-pub lawful_ports : {X : Type 0} (gift : X → AccessGift) (steps : X → List Step) (plan : Plan) (ws : List X) → AreAccesses plan (length plan.customers) (map gift ws)
+pub lawful_ports : {X : Type 0} (gift : X → AccessGift) (steps : X → List Step) (plan : Plan) (ws : List X)
+    → AreAccesses plan (length plan.customers) (map gift ws)
     → All (λ w. IsLawfulPort (gift w).0 (steps w)) ws → (n : ℕ) → IsLawfulPort n (steps_of (map steps ws) n)
 lawful_ports gift steps plan ws are all n =
     by_number (λ m ms. IsLawfulPort m ms) steps ws n (λ m. record { kinds = tt; marked = tt; held = (None, refl) })
     (λ j w h.
     let at = part_at gift ws j w h in
-    let within : j < length plan.customers = let b = slice_get_within (map gift ws) j (gift w) at in omega (arith, are.counted) in
+    let within : j < length plan.customers = let b = slice_get_within (map gift ws) j (gift w) at in omega
+    (arith, are.counted) in
     let c = numbered-exists plan.customers (suc j) (omega arith, omega arith) in
     let same : gift w ≡ access_gift (j + 1) c.0 = Some-injective (sym at ∙ are.each j c.0 within c.1) in
     let number : (gift w).0 ≡ suc j = ap (λ (z : AccessGift). z.0) same ∙ next j in
@@ -83,13 +99,17 @@ lawful_ports gift steps plan ws are all n =
 
 -- what each part of a record says makes it lawful
 pub lawful_record : (plan : Plan) (rec : Record)
-    → length rec.bridges ≡ length plan.bridges → length rec.lanes ≡ 2 * length plan.links → length rec.customers ≡ length plan.customers
+    → length rec.bridges ≡ length plan.bridges → length rec.lanes ≡ 2 * length plan.links
+    → length rec.customers ≡ length plan.customers
     → ((n : ℕ) → IsLawfulBridge spanning_tree plan n (steps_of rec.bridges n))
-    → ((k : ℕ) (link : LinkPlan) → slice_get plan.links k ≡ Some link → IsLawfulLane link.lost_ab (steps_of rec.lanes (2 * k + 1)) × IsLawfulLane link.lost_ba (steps_of rec.lanes (2 * k + 2)))
+    → ((k : ℕ) (link : LinkPlan) → slice_get plan.links k ≡ Some link → IsLawfulLane link.lost_ab
+    (steps_of rec.lanes (2 * k + 1)) × IsLawfulLane link.lost_ba (steps_of rec.lanes (2 * k + 2)))
     → ((n : ℕ) → IsLawfulPort n (steps_of rec.customers n))
-    → ((k : ℕ) (c : CustomerPlan) → k < length plan.customers → slice_get plan.customers k ≡ Some c → MeetsCustomer (of_customers rec.bridges rec.customers) (k + 1) c)
+    → ((k : ℕ) (c : CustomerPlan) → k < length plan.customers → slice_get plan.customers k ≡ Some c → MeetsCustomer
+    (of_customers rec.bridges rec.customers) (k + 1) c)
     → ((k : ℕ) (link : LinkPlan) → k < length plan.links → slice_get plan.links k ≡ Some link
-    → MeetsOver (of_lanes rec.bridges rec.lanes) (2 * k + 1) link.a link.b × MeetsOver (of_lanes rec.bridges rec.lanes) (2 * k + 2) link.b link.a)
+    → MeetsOver (of_lanes rec.bridges rec.lanes) (2 * k + 1) link.a link.b
+    × MeetsOver (of_lanes rec.bridges rec.lanes) (2 * k + 2) link.b link.a)
     → IsLawfulRecord spanning_tree plan rec
 lawful_record plan rec bridge_count lane_count customer_count bridges lanes ports accesses links = record {
   bridge_count = bridge_count;
@@ -105,7 +125,8 @@ lawful_record plan rec bridge_count lane_count customer_count bridges lanes port
     by_customer zero c h = cc
     by_customer (suc k) c h =
         let e : k + 1 ≡ suc k = omega arith in
-        let meets = subst (λ n. MeetsCustomer (of_customers rec.bridges rec.customers) n c) e (accesses k c (slice_get_within plan.customers k c h) h) in
+        let meets = subst (λ n. MeetsCustomer (of_customers rec.bridges rec.customers) n c) e
+        (accesses k c (slice_get_within plan.customers k c h) h) in
         record { into = meets.into; out = meets.out }
 
     by_link : (number : ℕ) (link : LinkPlan) → numbered plan.links number ≡ Some link → IsLawfulLink rec number link
@@ -125,18 +146,26 @@ lawful_record plan rec bridge_count lane_count customer_count bridges lanes port
         }
 
 -- the same of the workers of a plan that are back and have met
-pub lawful_workers : {X Y Z : Type 0} (bridge : X → BridgeGift) (bridge_steps : X → List Step) (lane : Y → LaneGift) (lane_steps : Y → List Step) (access : Z → AccessGift) (access_steps : Z → List Step)
-    (plan : Plan) (rec : Record) (bs : List X) (ls : List Y) (ds : List Z) (bridges : List BridgeGift) (lanes : List LaneGift) (accesses : List AccessGift) (b1 b2 l1 d1 : List (List Step))
+pub lawful_workers : {X Y Z : Type 0} (bridge : X → BridgeGift) (bridge_steps : X → List Step) (lane : Y → LaneGift)
+    (lane_steps : Y → List Step) (access : Z → AccessGift) (access_steps : Z → List Step)
+    (plan : Plan) (rec : Record) (bs : List X) (ls : List Y) (ds : List Z) (bridges : List BridgeGift)
+    (lanes : List LaneGift) (accesses : List AccessGift) (b1 b2 l1 d1 : List (List Step))
     → rec.bridges ≡ map bridge_steps bs → rec.lanes ≡ map lane_steps ls → rec.customers ≡ map access_steps ds
     → map bridge bs ≡ bridges → map lane ls ≡ lanes → map access ds ≡ accesses
     → map bridge_steps bs ≡ b1 → map access_steps ds ≡ d1 → map bridge_steps bs ≡ b2 → map lane_steps ls ≡ l1
-    → AreBridges plan (length plan.bridges) bridges → AreLanes plan (length plan.links) lanes → AreAccesses plan (length plan.customers) accesses
-    → All (λ w. IsLawfulBridge spanning_tree (bridge w).2 (bridge w).1 (bridge_steps w)) bs → All (λ w. IsLawfulLane (lane w).3 (lane_steps w)) ls → All (λ w. IsLawfulPort (access w).0 (access_steps w)) ds
-    → ((k : ℕ) (c : CustomerPlan) → k < length plan.customers → slice_get plan.customers k ≡ Some c → MeetsCustomer (of_customers b1 d1) (k + 1) c)
+    → AreBridges plan (length plan.bridges) bridges → AreLanes plan (length plan.links) lanes
+    → AreAccesses plan (length plan.customers) accesses
+    → All (λ w. IsLawfulBridge spanning_tree (bridge w).2 (bridge w).1 (bridge_steps w)) bs
+    → All (λ w. IsLawfulLane (lane w).3 (lane_steps w)) ls
+    → All (λ w. IsLawfulPort (access w).0 (access_steps w)) ds
+    → ((k : ℕ) (c : CustomerPlan) → k < length plan.customers → slice_get plan.customers k ≡ Some c → MeetsCustomer
+    (of_customers b1 d1) (k + 1) c)
     → ((k : ℕ) (link : LinkPlan) → k < length plan.links → slice_get plan.links k ≡ Some link
     → MeetsOver (of_lanes b2 l1) (2 * k + 1) link.a link.b × MeetsOver (of_lanes b2 l1) (2 * k + 2) link.b link.a)
     → IsLawfulRecord spanning_tree plan rec
-lawful_workers bridge bridge_steps lane lane_steps access access_steps plan rec bs ls ds bridges lanes accesses b1 b2 l1 d1 rec_bs rec_ls rec_ds is_bs is_ls is_ds eb1 ed1 eb2 el1 are_bs are_ls are_ds law_bs law_ls law_ds met_ds met_ls =
+lawful_workers bridge bridge_steps lane lane_steps access access_steps plan rec bs ls ds bridges lanes accesses b1 b2
+    l1 d1 rec_bs rec_ls rec_ds is_bs is_ls is_ds eb1 ed1 eb2 el1 are_bs are_ls are_ds law_bs law_ls law_ds met_ds
+    met_ls =
     let fits_bs = subst (λ gs. AreBridges plan (length plan.bridges) gs) (sym is_bs) are_bs in
     let fits_ls = subst (λ gs. AreLanes plan (length plan.links) gs) (sym is_ls) are_ls in
     let fits_ds = subst (λ gs. AreAccesses plan (length plan.customers) gs) (sym is_ds) are_ds in
@@ -144,18 +173,26 @@ lawful_workers bridge bridge_steps lane lane_steps access access_steps plan rec 
     (ap length rec_bs ∙ length-map bs bridge_steps ∙ sym (length-map bs bridge) ∙ fits_bs.counted)
     (ap length rec_ls ∙ length-map ls lane_steps ∙ sym (length-map ls lane) ∙ fits_ls.counted)
     (ap length rec_ds ∙ length-map ds access_steps ∙ sym (length-map ds access) ∙ fits_ds.counted)
-    (λ n. subst (λ (zs : List (List Step)). IsLawfulBridge spanning_tree plan n (steps_of zs n)) (sym rec_bs) (lawful_bridges bridge bridge_steps plan bs fits_bs law_bs n))
-    (λ k link at. subst (λ (zs : List (List Step)). IsLawfulLane link.lost_ab (steps_of zs (2 * k + 1)) × IsLawfulLane link.lost_ba (steps_of zs (2 * k + 2))) (sym rec_ls)
+    (λ n. subst (λ (zs : List (List Step)). IsLawfulBridge spanning_tree plan n (steps_of zs n)) (sym rec_bs)
+    (lawful_bridges bridge bridge_steps plan bs fits_bs law_bs n))
+    (λ k link at. subst (λ (zs : List (List Step)). IsLawfulLane link.lost_ab (steps_of zs (2 * k + 1)) × IsLawfulLane
+    link.lost_ba (steps_of zs (2 * k + 2))) (sym rec_ls)
     (lawful_lanes lane lane_steps plan ls k link fits_ls law_ls at))
-    (λ n. subst (λ (zs : List (List Step)). IsLawfulPort n (steps_of zs n)) (sym rec_ds) (lawful_ports access access_steps plan ds fits_ds law_ds n))
-    (λ k c less at. subst (λ (zs : List (List Step)). MeetsCustomer (of_customers rec.bridges zs) (k + 1) c) (sym (rec_ds ∙ ed1))
-    (subst (λ (zs : List (List Step)). MeetsCustomer (of_customers zs d1) (k + 1) c) (sym (rec_bs ∙ eb1)) (met_ds k c less at)))
+    (λ n. subst (λ (zs : List (List Step)). IsLawfulPort n (steps_of zs n)) (sym rec_ds)
+    (lawful_ports access access_steps plan ds fits_ds law_ds n))
+    (λ k c less at. subst (λ (zs : List (List Step)). MeetsCustomer (of_customers rec.bridges zs) (k + 1) c)
+    (sym (rec_ds ∙ ed1))
+    (subst (λ (zs : List (List Step)). MeetsCustomer (of_customers zs d1) (k + 1) c) (sym (rec_bs ∙ eb1))
+    (met_ds k c less at)))
     (λ k link less at.
-    subst (λ (zs : List (List Step)). MeetsOver (of_lanes rec.bridges zs) (2 * k + 1) link.a link.b × MeetsOver (of_lanes rec.bridges zs) (2 * k + 2) link.b link.a) (sym (rec_ls ∙ el1))
-    (subst (λ (zs : List (List Step)). MeetsOver (of_lanes zs l1) (2 * k + 1) link.a link.b × MeetsOver (of_lanes zs l1) (2 * k + 2) link.b link.a) (sym (rec_bs ∙ eb2)) (met_ls k link less at)))
+    subst (λ (zs : List (List Step)). MeetsOver (of_lanes rec.bridges zs) (2 * k + 1) link.a link.b × MeetsOver
+    (of_lanes rec.bridges zs) (2 * k + 2) link.b link.a) (sym (rec_ls ∙ el1))
+    (subst (λ (zs : List (List Step)). MeetsOver (of_lanes zs l1) (2 * k + 1) link.a link.b × MeetsOver
+    (of_lanes zs l1) (2 * k + 2) link.b link.a) (sym (rec_bs ∙ eb2)) (met_ls k link less at)))
 
 -- how a run ended, by a record that is lawful
-pub tells_ended : (plan : Plan) (rec : Record) (lasts looked : List Last) (drained : Bool) (ended : Ended) → ((ended ≡ Drained) ↔ IsTrue drained) → TellsAllDrained rec looked drained → looked ≡ lasts
+pub tells_ended : (plan : Plan) (rec : Record) (lasts looked : List Last) (drained : Bool) (ended : Ended)
+    → ((ended ≡ Drained) ↔ IsTrue drained) → TellsAllDrained rec looked drained → looked ≡ lasts
     → IsSound plan → IsLawfulRecord spanning_tree plan rec → TellsEnded plan rec lasts ended
 tells_ended plan rec lasts looked drained ended told tells same sound lawful =
     let all = tells spanning_tree plan sound lawful in

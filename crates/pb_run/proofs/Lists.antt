@@ -1,5 +1,7 @@
 -- Lists that grow, and things at their places.
-use Rattle.std.proofs.Common.{◌≡◌, ◌⊎◌, inl, inr, ℕ, zero, suc, ◌+◌, ◌<◌, false, List, [], ◌∷◌, ◌++◌, Some, None, All, map, length, slice_get, slice_set, slice_index_or, get_or, refl, sym, ap, ◌∙◌, subst, arith, append_assoc}
+use Rattle.std.proofs.Common.{◌≡◌, ◌⊎◌, inl, inr, ℕ, zero, suc, ◌+◌, ◌<◌, false, List, [], ◌∷◌, ◌++◌, Some, None, All}
+use Rattle.std.proofs.Common.{map, length, slice_get, slice_set, slice_index_or, get_or, refl, sym, ap, ◌∙◌, subst}
+use Rattle.std.proofs.Common.{arith, append_assoc}
 use Rattle.std.proofs.Math.Seq.{map-set_same}
 use Rattle.std.proofs.lemmas.List.{map-append}
 use Rattle.std.proofs.lemmas.List.Elements.{All-append}
@@ -13,7 +15,8 @@ use Rattle.pb_ring.specs.Rings.{shown_at}
 
 -- the first of those that have a property, and the others
 pub all_rest : {X : Type 0} → (P : X → Type 0) (x : X) (xs ys : List X) → ys ≡ x ∷ xs → All P ys → All P xs
-all_rest {X} P x xs ys e h = let Q : List X → Type 0 = λ zs. All P zs in let h' = subst Q e h in λ k d b. h' (suc k) d (omega arith)
+all_rest {X} P x xs ys e h = let Q : List X → Type 0 = λ zs. All P zs in let h' = subst Q e h in λ k d b. h' (suc k) d
+    (omega arith)
 
 pub all_head : {X : Type 0} → (P : X → Type 0) (x : X) (xs ys : List X) → ys ≡ x ∷ xs → All P ys → P x
 all_head {X} P x xs ys e h = let Q : List X → Type 0 = λ zs. All P zs in let h' = subst Q e h in h' 0 x (omega arith)
@@ -29,36 +32,45 @@ all_none P (x ∷ xs) none k d b = cc
 
 -- one more that has it
 pub all_more : {X : Type 0} → (P : X → Type 0) (y : X) (xs ys : List X) → ys ≡ xs ++ y ∷ [] → All P xs → P y → All P ys
-all_more {X} P y xs ys e h p = let Q : List X → Type 0 = λ zs. All P zs in subst Q (sym e) (All-append P xs (y ∷ []) h (one P y p))
+all_more {X} P y xs ys e h p = let Q : List X
+    → Type 0 = λ zs. All P zs in subst Q (sym e) (All-append P xs (y ∷ []) h (one P y p))
 
 -- the one at a place has it
 pub all_at : {X : Type 0} → (P : X → Type 0) (xs : List X) (r : ℕ) (x : X) → All P xs → slice_get xs r ≡ Some x → P x
 all_at P xs r x h e = subst P (get_or_from_slice_get xs r x x e) (h r x (slice_get_within xs r x e))
 
 -- what holds of each thing at its place, and of one more
-pub each_more : {X : Type 0} (P : ℕ → X → Type 0) (xs : List X) (x : X) → ((r : ℕ) (y : X) → slice_get xs r ≡ Some y → P r y) → P (length xs) x
+pub each_more : {X : Type 0} (P : ℕ → X → Type 0) (xs : List X) (x : X)
+    → ((r : ℕ) (y : X) → slice_get xs r ≡ Some y → P r y) → P (length xs) x
     → (r : ℕ) (y : X) → slice_get (xs ++ x ∷ []) r ≡ Some y → P r y
 each_more P [] x each here zero y e = let same : x ≡ y = cc in subst (λ z. P 0 z) same here
 each_more P [] x each here (suc r) y e = cc
 each_more P (z ∷ xs) x each here zero y e = each zero y e
-each_more P (z ∷ xs) x each here (suc r) y e = each_more (λ n w. P (suc n) w) xs x (λ n w h. each (suc n) w h) here r y e
+each_more P (z ∷ xs) x each here (suc r) y e = each_more (λ n w. P (suc n) w) xs x (λ n w h. each (suc n) w h) here r
+    y e
 
 -- what holds of the things to come, by their numbers, and what after the first
-pub first_to_come : {X : Type 0} (P : ℕ → X → Type 0) (k : ℕ) (x : X) (xs ys : List X) → ys ≡ x ∷ xs → ((n : ℕ) (y : X) → slice_get ys n ≡ Some y → P (k + n) y) → P k x
-first_to_come P k x xs ys e each = let same : k + 0 ≡ k = omega arith in subst (λ n. P n x) same (each 0 x (ap (λ zs. slice_get zs 0) e))
+pub first_to_come : {X : Type 0} (P : ℕ → X → Type 0) (k : ℕ) (x : X) (xs ys : List X) → ys ≡ x ∷ xs
+    → ((n : ℕ) (y : X) → slice_get ys n ≡ Some y → P (k + n) y) → P k x
+first_to_come P k x xs ys e each = let same : k + 0 ≡ k = omega arith in subst (λ n. P n x) same
+    (each 0 x (ap (λ zs. slice_get zs 0) e))
 
-pub still_to_come : {X : Type 0} (P : ℕ → X → Type 0) (k : ℕ) (x : X) (xs ys : List X) → ys ≡ x ∷ xs → ((n : ℕ) (y : X) → slice_get ys n ≡ Some y → P (k + n) y)
+pub still_to_come : {X : Type 0} (P : ℕ → X → Type 0) (k : ℕ) (x : X) (xs ys : List X) → ys ≡ x ∷ xs
+    → ((n : ℕ) (y : X) → slice_get ys n ≡ Some y → P (k + n) y)
     → (n : ℕ) (y : X) → slice_get xs n ≡ Some y → P (k + 1 + n) y
-still_to_come P k x xs ys e each n y h = let same : k + suc n ≡ k + 1 + n = omega arith in subst (λ m. P m y) same (each (suc n) y (ap (λ zs. slice_get zs (suc n)) e ∙ h))
+still_to_come P k x xs ys e each n y h = let same : k + suc n ≡ k + 1 + n = omega arith in subst (λ m. P m y) same
+    (each (suc n) y (ap (λ zs. slice_get zs (suc n)) e ∙ h))
 
 -- what stands in a list stands there still when more follows
-pub slice_get-front : {X : Type 0} (xs ys : List X) (k : ℕ) (x : X) → slice_get xs k ≡ Some x → slice_get (xs ++ ys) k ≡ Some x
+pub slice_get-front : {X : Type 0} (xs ys : List X) (k : ℕ) (x : X) → slice_get xs k ≡ Some x
+    → slice_get (xs ++ ys) k ≡ Some x
 slice_get-front [] ys k x e = cc
 slice_get-front (y ∷ xs) ys zero x e = e
 slice_get-front (y ∷ xs) ys (suc k) x e = slice_get-front xs ys k x e
 
 -- what is taken out of a place leaves the others
-pub others_stay : {X : Type 0} (xs : List (Option X)) (i n : ℕ) (x : X) → slice_get (slice_set xs i None) n ≡ Some (Some x) → slice_get xs n ≡ Some (Some x)
+pub others_stay : {X : Type 0} (xs : List (Option X)) (i n : ℕ) (x : X)
+    → slice_get (slice_set xs i None) n ≡ Some (Some x) → slice_get xs n ≡ Some (Some x)
 others_stay [] i n x e = e
 others_stay (y ∷ xs) zero zero x e = cc
 others_stay (y ∷ xs) zero (suc n) x e = e
@@ -70,39 +82,45 @@ pub here_is : {X : Type 0} (xs : List X) (r : ℕ) (x : X) → r < length xs →
 here_is xs r x within e = slice_get-get_or xs r x within ∙ ap (λ z. Some z) (sym e)
 
 -- what is looked up in a list of things is looked up in the list of their parts
-pub part_at : {X Y : Type 0} (f : X → Y) (xs : List X) (r : ℕ) (x : X) → slice_get xs r ≡ Some x → slice_get (map f xs) r ≡ Some (f x)
+pub part_at : {X Y : Type 0} (f : X → Y) (xs : List X) (r : ℕ) (x : X) → slice_get xs r ≡ Some x
+    → slice_get (map f xs) r ≡ Some (f x)
 part_at f [] r x e = cc
 part_at f (y ∷ xs) zero x e = let same : y ≡ x = cc in ap (λ z. Some (f z)) same
 part_at f (y ∷ xs) (suc r) x e = part_at f xs r x e
 
 -- and the other way round
-pub thing_at : {X Y : Type 0} (f : X → Y) (xs : List X) (r : ℕ) (y : Y) → slice_get (map f xs) r ≡ Some y → (x : X) × (slice_get xs r ≡ Some x) × (f x ≡ y)
+pub thing_at : {X Y : Type 0} (f : X → Y) (xs : List X) (r : ℕ) (y : Y) → slice_get (map f xs) r ≡ Some y
+    → (x : X) × (slice_get xs r ≡ Some x) × (f x ≡ y)
 thing_at f [] r y e = cc
 thing_at f (x ∷ xs) zero y e = (x, refl, Some-injective e)
 thing_at f (x ∷ xs) (suc r) y e = thing_at f xs r y e
 
 -- the numbers that a list shows at its places, and one more
-pub numbers_more : {X : Type 0} (f : X → ℕ) (g : ℕ → ℕ) (xs : List X) (x : X) (k : ℕ) → length xs ≡ k → ((q : ℕ) → q < k → slice_index_or (map f xs) q 0 ≡ g q) → f x ≡ g k
+pub numbers_more : {X : Type 0} (f : X → ℕ) (g : ℕ → ℕ) (xs : List X) (x : X) (k : ℕ) → length xs ≡ k
+    → ((q : ℕ) → q < k → slice_index_or (map f xs) q 0 ≡ g q) → f x ≡ g k
     → (q : ℕ) → q < k + 1 → slice_index_or (map f (xs ++ x ∷ [])) q 0 ≡ g q
 numbers_more f g [] x k counted each here zero below = here ∙ ap g (sym counted)
 numbers_more f g [] x k counted each here (suc q) below = absurd (omega arith)
 numbers_more f g (y ∷ xs) x k counted each here zero below = each zero (omega arith)
 numbers_more f g (y ∷ xs) x k counted each here (suc q) below =
-    numbers_more f (λ n. g (suc n)) xs x (length xs) refl (λ p less. each (suc p) (omega arith)) (here ∙ ap g (sym counted)) q (omega arith)
+    numbers_more f (λ n. g (suc n)) xs x (length xs) refl (λ p less. each (suc p) (omega arith))
+    (here ∙ ap g (sym counted)) q (omega arith)
 
 -- nothing is shown where nothing is, and things that show nothing, and one more
 pub none_shown : {X Y : Type 0} (f : X → List Y) (xs : List X) → xs ≡ [] → (q : ℕ) → shown_at f xs q ≡ []
 none_shown f [] none q = refl
 none_shown f (x ∷ xs) none q = cc
 
-pub nothing_more : {X Y : Type 0} (f : X → List Y) (xs : List X) (x : X) → ((q : ℕ) → shown_at f xs q ≡ []) → f x ≡ [] → (q : ℕ) → shown_at f (xs ++ x ∷ []) q ≡ []
+pub nothing_more : {X Y : Type 0} (f : X → List Y) (xs : List X) (x : X) → ((q : ℕ) → shown_at f xs q ≡ []) → f x ≡ []
+    → (q : ℕ) → shown_at f (xs ++ x ∷ []) q ≡ []
 nothing_more f [] x each here zero = here
 nothing_more f [] x each here (suc q) = each (suc q)
 nothing_more f (y ∷ xs) x each here zero = each zero
 nothing_more f (y ∷ xs) x each here (suc q) = nothing_more f xs x (λ p. each (suc p)) here q
 
 -- one of the things is replaced by one that looks the same
-pub kept_at : {X Y : Type 0} (f : X → Y) (xs : List X) (i : ℕ) (y x : X) → x ≡ get_or xs i x → f y ≡ f x → map f (slice_set xs i y) ≡ map f xs
+pub kept_at : {X Y : Type 0} (f : X → Y) (xs : List X) (i : ℕ) (y x : X) → x ≡ get_or xs i x → f y ≡ f x
+    → map f (slice_set xs i y) ≡ map f xs
 kept_at f xs i y x value same = map-set_same f xs i y x (same ∙ ap f value)
 
 -- nothing stands in an empty list
@@ -111,21 +129,27 @@ none_there [] n x e h = cc
 none_there (y ∷ xs) n x e h = cc
 
 -- there is a thing where there is a part of one
-pub thing_within : {X Y : Type 0} (f : X → Y) (xs : List X) (r : ℕ) (y : Y) → slice_get (map f xs) r ≡ Some y → r < length xs
+pub thing_within : {X Y : Type 0} (f : X → Y) (xs : List X) (r : ℕ) (y : Y) → slice_get (map f xs) r ≡ Some y
+    → r < length xs
 thing_within f xs r y e = let there = thing_at f xs r y e in slice_get_within xs r there.0 there.1
 
-pub thing_is : {X Y : Type 0} (f : X → Y) (xs : List X) (r : ℕ) (y : Y) (x : X) → slice_get (map f xs) r ≡ Some y → x ≡ get_or xs r x → slice_get xs r ≡ Some x
+pub thing_is : {X Y : Type 0} (f : X → Y) (xs : List X) (r : ℕ) (y : Y) (x : X) → slice_get (map f xs) r ≡ Some y
+    → x ≡ get_or xs r x → slice_get xs r ≡ Some x
 thing_is f xs r y x e value = here_is xs r x (thing_within f xs r y e) value
 
 -- the images of things, and one more
-pub mapped_more : {X Y : Type 0} (f : X → Y) (xs : List X) (x : X) (ys zs : List Y) (y : Y) → ys ≡ map f xs → zs ≡ ys ++ y ∷ [] → y ≡ f x → zs ≡ map f (xs ++ x ∷ [])
-mapped_more f xs x ys zs y before e is = e ∙ ap (λ us. us ++ y ∷ []) before ∙ ap (λ u. map f xs ++ u ∷ []) is ∙ sym (map-append f xs (x ∷ []))
+pub mapped_more : {X Y : Type 0} (f : X → Y) (xs : List X) (x : X) (ys zs : List Y) (y : Y) → ys ≡ map f xs
+    → zs ≡ ys ++ y ∷ [] → y ≡ f x → zs ≡ map f (xs ++ x ∷ [])
+mapped_more f xs x ys zs y before e is = e ∙ ap (λ us. us ++ y ∷ []) before ∙ ap (λ u. map f xs ++ u ∷ []) is
+    ∙ sym (map-append f xs (x ∷ []))
 
 -- what holds of the things that are there, and one more is there
-pub there_more : {X : Type 0} (Q : ℕ → X → Type 0) (xs ys : List (Option X)) (x : X) → ys ≡ xs ++ Some x ∷ [] → ((n : ℕ) (o : X) → slice_get xs n ≡ Some (Some o) → Q n o) → Q (length xs) x
+pub there_more : {X : Type 0} (Q : ℕ → X → Type 0) (xs ys : List (Option X)) (x : X) → ys ≡ xs ++ Some x ∷ []
+    → ((n : ℕ) (o : X) → slice_get xs n ≡ Some (Some o) → Q n o) → Q (length xs) x
     → (n : ℕ) (o : X) → slice_get ys n ≡ Some (Some o) → Q n o
 there_more {X} Q xs ys x e each here n o h =
-    each_more (λ m z. (p : X) → z ≡ Some p → Q m p) xs (Some x) (λ m z at p is. each m p (at ∙ ap (λ u. Some u) is)) (λ p is. subst (λ u. Q (length xs) u) (Some-injective is) here)
+    each_more (λ m z. (p : X) → z ≡ Some p → Q m p) xs (Some x) (λ m z at p is. each m p (at ∙ ap (λ u. Some u) is))
+    (λ p is. subst (λ u. Q (length xs) u) (Some-injective is) here)
     n (Some o) (ap (λ zs. slice_get zs n) (sym e) ∙ h) o refl
 
 -- a number below the next one is below or the same
@@ -133,7 +157,8 @@ pub below_next : (j k : ℕ) → j < k + 1 → (j < k) ⊎ (j ≡ k)
 below_next zero zero h = inr refl
 below_next zero (suc k) h = inl (omega arith)
 below_next (suc j) zero h = absurd (omega arith)
-below_next (suc j) (suc k) h = elim (below_next j k (omega arith)) [ inl less ↦ inl (omega arith) | inr same ↦ inr (ap suc same) ]
+below_next (suc j) (suc k) h = elim (below_next j k (omega arith))
+    [ inl less ↦ inl (omega arith) | inr same ↦ inr (ap suc same) ]
 
 -- one thing in front of those that have a property
 pub all_front : {X : Type 0} → (P : X → Type 0) (x : X) (xs ys : List X) → ys ≡ x ∷ xs → P x → All P xs → All P ys
@@ -144,15 +169,20 @@ all_front {X} P x xs ys e p h = let Q : List X → Type 0 = λ zs. All P zs in s
     by here rest (suc k) d b = rest k d (omega arith)
 
 -- one thing moves from what is to come to what is done
-pub moved_on : {X Y : Type 0} (f : X → Y) (xs ys : List X) (x : X) (rest left all : List Y) (y : Y) → map f xs ++ rest ≡ all → ys ≡ xs ++ x ∷ [] → rest ≡ y ∷ left → f x ≡ y → map f ys ++ left ≡ all
+pub moved_on : {X Y : Type 0} (f : X → Y) (xs ys : List X) (x : X) (rest left all : List Y) (y : Y)
+    → map f xs ++ rest ≡ all → ys ≡ xs ++ x ∷ [] → rest ≡ y ∷ left → f x ≡ y → map f ys ++ left ≡ all
 moved_on f xs ys x rest left all y before e er is =
-    ap (λ zs. map f zs ++ left) e ∙ ap (λ zs. zs ++ left) (map-append f xs (x ∷ [])) ∙ append_assoc (map f xs) (f x ∷ []) left
+    ap (λ zs. map f zs ++ left) e ∙ ap (λ zs. zs ++ left) (map-append f xs (x ∷ []))
+    ∙ append_assoc (map f xs) (f x ∷ []) left
     ∙ ap (λ z. map f xs ++ z ∷ left) is ∙ ap (λ zs. map f xs ++ zs) (sym er) ∙ before
 
 -- one list more in which no port is set
 abbrev IsUnset : List Step → Type 0
 IsUnset steps = list_any is_setting steps ≡ false
 
-pub unset_more : (olds news : List (List Step)) (steps : List Step) → AllByRecursion (λ steps. list_any is_setting steps ≡ false) olds
-    → news ≡ olds ++ steps ∷ [] → list_any is_setting steps ≡ false → AllByRecursion (λ steps. list_any is_setting steps ≡ false) news
-unset_more olds news steps all grown unset = subst (AllByRecursion IsUnset) (sym grown) (each-append IsUnset olds (steps ∷ []) all (unset, tt))
+pub unset_more : (olds news : List (List Step)) (steps : List Step)
+    → AllByRecursion (λ steps. list_any is_setting steps ≡ false) olds
+    → news ≡ olds ++ steps ∷ [] → list_any is_setting steps ≡ false
+    → AllByRecursion (λ steps. list_any is_setting steps ≡ false) news
+unset_more olds news steps all grown unset = subst (AllByRecursion IsUnset) (sym grown)
+    (each-append IsUnset olds (steps ∷ []) all (unset, tt))

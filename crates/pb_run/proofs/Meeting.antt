@@ -1,5 +1,6 @@
 -- The places whose rings meet.
-use Rattle.std.proofs.Common.{◌≡◌, ◌⊎◌, inl, inr, ◌*◌, ℕ, suc, ◌+◌, ◌-◌, ◌<◌, List, [], Some, map, length, get_or, slice_get, slice_index_or, unwrap_or, sym, ap, ◌∙◌, subst, arith}
+use Rattle.std.proofs.Common.{◌≡◌, ◌⊎◌, inl, inr, ◌*◌, ℕ, suc, ◌+◌, ◌-◌, ◌<◌, List, [], Some, map, length, get_or}
+use Rattle.std.proofs.Common.{slice_get, slice_index_or, unwrap_or, sym, ap, ◌∙◌, subst, arith}
 use Rattle.std.proofs.lemmas.List.{length-map}
 use Rattle.pb_frame.proofs.Lists.{Some-injective}
 use Rattle.pb_frame.specs.Lists.{IsBeginning}
@@ -18,26 +19,36 @@ use Rattle.pb_run.proofs.Gifts.{rings_at}
 use Rattle.pb_run.proofs.Lists.{here_is, part_at, below_next}
 
 -- the steps of a place that is known by its place in the list
-pub steps_there : {X : Type 0} (steps : X → List Step) (ws : List X) (r n : ℕ) (w : X) → slice_get ws r ≡ Some w → n ≡ suc r → steps_of (map steps ws) n ≡ steps w
-steps_there steps ws r n w at e = ap (λ m. steps_of (map steps ws) m) e ∙ ap (λ o. unwrap_or o []) (part_at steps ws r w at)
+pub steps_there : {X : Type 0} (steps : X → List Step) (ws : List X) (r n : ℕ) (w : X) → slice_get ws r ≡ Some w
+    → n ≡ suc r → steps_of (map steps ws) n ≡ steps w
+steps_there steps ws r n w at e = ap (λ m. steps_of (map steps ws) m) e
+    ∙ ap (λ o. unwrap_or o []) (part_at steps ws r w at)
 
 -- what begins something at two places does so in the lists of all places
-pub begins_there : {X Y : Type 0} (part_of whole_of : List Step → List Item) (one : X → List Step) (two : Y → List Step) (xs : List X) (ys : List Y) (r s n m : ℕ) (x : X) (y : Y)
-    → slice_get xs r ≡ Some x → slice_get ys s ≡ Some y → n ≡ suc r → m ≡ suc s → IsBeginning (part_of (one x)) (whole_of (two y))
+pub begins_there : {X Y : Type 0} (part_of whole_of : List Step → List Item) (one : X → List Step)
+    (two : Y → List Step) (xs : List X) (ys : List Y) (r s n m : ℕ) (x : X) (y : Y)
+    → slice_get xs r ≡ Some x → slice_get ys s ≡ Some y → n ≡ suc r → m ≡ suc s
+    → IsBeginning (part_of (one x)) (whole_of (two y))
     → IsBeginning (part_of (steps_of (map one xs) n)) (whole_of (steps_of (map two ys) m))
 begins_there part_of whole_of one two xs ys r s n m x y at_x at_y n_is m_is begins =
-    subst (λ (z : List Step). IsBeginning (part_of (steps_of (map one xs) n)) (whole_of z)) (sym (steps_there two ys s m y at_y m_is))
-    (subst (λ (z : List Step). IsBeginning (part_of z) (whole_of (two y))) (sym (steps_there one xs r n x at_x n_is)) begins)
+    subst (λ (z : List Step). IsBeginning (part_of (steps_of (map one xs) n)) (whole_of z))
+    (sym (steps_there two ys s m y at_y m_is))
+    (subst (λ (z : List Step). IsBeginning (part_of z) (whole_of (two y))) (sym (steps_there one xs r n x at_x n_is))
+    begins)
 
 -- the worker of a bridge stands at its place
-pub bridge_here : {X : Type 0} (gift : X → BridgeGift) (plan : Plan) (xs : List X) (bridge i : ℕ) (x : X) → AreBridges plan (length plan.bridges) (map gift xs) → IsNumber bridge (length plan.bridges)
+pub bridge_here : {X : Type 0} (gift : X → BridgeGift) (plan : Plan) (xs : List X) (bridge i : ℕ) (x : X)
+    → AreBridges plan (length plan.bridges) (map gift xs) → IsNumber bridge (length plan.bridges)
     → i ≡ bridge → x ≡ get_or xs (i - 1) x → slice_get xs (i - 1) ≡ Some x
-bridge_here gift plan xs bridge i x are number e value = here_is xs (i - 1) x (omega (arith, are.counted, length-map xs gift, number.0, number.1)) value
+bridge_here gift plan xs bridge i x are number e value =
+    here_is xs (i - 1) x (omega (arith, are.counted, length-map xs gift, number.0, number.1)) value
 
 -- its ports have places for their rings, and these rings
-pub bridge_rings : {X : Type 0} (gift : X → BridgeGift) (plan : Plan) (xs : List X) (bridge port i : ℕ) (x : X) → AreBridges plan (length plan.bridges) (map gift xs) → IsNumber bridge (length plan.bridges)
+pub bridge_rings : {X : Type 0} (gift : X → BridgeGift) (plan : Plan) (xs : List X) (bridge port i : ℕ) (x : X)
+    → AreBridges plan (length plan.bridges) (map gift xs) → IsNumber bridge (length plan.bridges)
     → IsNumber port 16 → i ≡ bridge → x ≡ get_or xs (i - 1) x
-    → (slice_index_or (gift x).3 (port - 1) 0 ≡ ring_into bridge port) × (slice_index_or (gift x).4 (port - 1) 0 ≡ ring_out bridge port) × (length (gift x).3 ≡ 16)
+    → (slice_index_or (gift x).3 (port - 1) 0 ≡ ring_into bridge port)
+    × (slice_index_or (gift x).4 (port - 1) 0 ≡ ring_out bridge port) × (length (gift x).3 ≡ 16)
 bridge_rings gift plan xs bridge port i x are number there e value =
     let at = part_at gift xs (i - 1) x (bridge_here gift plan xs bridge i x are number e value) in
     let same : i - 1 ≡ bridge - 1 = ap (λ n. n - 1) e in
@@ -46,29 +57,37 @@ bridge_rings gift plan xs bridge port i x are number there e value =
     (rings.0, rings.1, (are.each (bridge - 1) (gift x) here).count)
 
 -- a place of a list has what the list of gifts says
-pub gift_here : {X Y : Type 0} (gift : X → Y) (xs : List X) (r : ℕ) (x : X) (y : Y) → slice_get xs r ≡ Some x → slice_get (map gift xs) r ≡ Some y → gift x ≡ y
+pub gift_here : {X Y : Type 0} (gift : X → Y) (xs : List X) (r : ℕ) (x : X) (y : Y) → slice_get xs r ≡ Some x
+    → slice_get (map gift xs) r ≡ Some y → gift x ≡ y
 gift_here gift xs r x y at is = Some-injective (sym (part_at gift xs r x at) ∙ is)
 
 -- what begins something in the lists after a call does so in those before
-pub as_before : (part_of whole_of : List Step → List Item) (xs xs' ys ys' : List (List Step)) (n n' m m' : ℕ) → xs' ≡ xs → ys' ≡ ys → n' ≡ n → m' ≡ m
-    → IsBeginning (part_of (steps_of xs' n')) (whole_of (steps_of ys' m')) → IsBeginning (part_of (steps_of xs n)) (whole_of (steps_of ys m))
+pub as_before : (part_of whole_of : List Step → List Item) (xs xs' ys ys' : List (List Step)) (n n' m m' : ℕ)
+    → xs' ≡ xs → ys' ≡ ys → n' ≡ n → m' ≡ m
+    → IsBeginning (part_of (steps_of xs' n')) (whole_of (steps_of ys' m'))
+    → IsBeginning (part_of (steps_of xs n)) (whole_of (steps_of ys m))
 as_before part_of whole_of xs xs' ys ys' n n' m m' ex ey en em begins =
     let part : steps_of xs' n' ≡ steps_of xs n = ap (λ zs. steps_of zs n') ex ∙ ap (steps_of xs) en in
     let whole : steps_of ys' m' ≡ steps_of ys m = ap (λ zs. steps_of zs m') ey ∙ ap (steps_of ys) em in
-    subst (λ (z : List Step). IsBeginning (part_of (steps_of xs n)) (whole_of z)) whole (subst (λ (z : List Step). IsBeginning (part_of z) (whole_of (steps_of ys' m'))) part begins)
+    subst (λ (z : List Step). IsBeginning (part_of (steps_of xs n)) (whole_of z)) whole
+    (subst (λ (z : List Step). IsBeginning (part_of z) (whole_of (steps_of ys' m'))) part begins)
 
 -- the customer port and the link are those of the plan
 pub customer_meets : (rec : Record) (n : ℕ) (c d : CustomerPlan) → c ≡ d → MeetsCustomer rec n c → MeetsCustomer rec n d
 customer_meets rec n c d e meets = subst (λ x. MeetsCustomer rec n x) e meets
 
-pub link_meets : (rec : Record) (n m : ℕ) (k l : LinkPlan) → k ≡ l → MeetsOver rec n k.a k.b × MeetsOver rec m k.b k.a → MeetsOver rec n l.a l.b × MeetsOver rec m l.b l.a
+pub link_meets : (rec : Record) (n m : ℕ) (k l : LinkPlan) → k ≡ l → MeetsOver rec n k.a k.b × MeetsOver rec m k.b k.a
+    → MeetsOver rec n l.a l.b × MeetsOver rec m l.b l.a
 link_meets rec n m k l e meet = subst (λ (x : LinkPlan). MeetsOver rec n x.a x.b × MeetsOver rec m x.b x.a) e meet
 
 -- one customer port more has met, and one link more
 pub accesses_met : (plan : Plan) (place : ℕ) (bs bs' ds ds' : List (List Step)) → bs' ≡ bs → ds' ≡ ds
-    → ((k : ℕ) (c : CustomerPlan) → k < place → slice_get plan.customers k ≡ Some c → MeetsCustomer (of_customers bs ds) (k + 1) c)
-    → ((c : CustomerPlan) → slice_get plan.customers place ≡ Some c → MeetsCustomer (of_customers bs' ds') (place + 1) c)
-    → (k : ℕ) (c : CustomerPlan) → k < place + 1 → slice_get plan.customers k ≡ Some c → MeetsCustomer (of_customers bs ds) (k + 1) c
+    → ((k : ℕ) (c : CustomerPlan) → k < place → slice_get plan.customers k ≡ Some c → MeetsCustomer
+    (of_customers bs ds) (k + 1) c)
+    → ((c : CustomerPlan) → slice_get plan.customers place ≡ Some c → MeetsCustomer (of_customers bs' ds') (place + 1)
+    c)
+    → (k : ℕ) (c : CustomerPlan) → k < place + 1 → slice_get plan.customers k ≡ Some c
+    → MeetsCustomer (of_customers bs ds) (k + 1) c
 accesses_met plan place bs bs' ds ds' eb ed before here k c less at = by (below_next k place less)
   where
     by : (k < place) ⊎ (k ≡ place) → MeetsCustomer (of_customers bs ds) (k + 1) c
@@ -76,21 +95,27 @@ accesses_met plan place bs bs' ds ds' eb ed before here k c less at = by (below_
     by (inr same) =
         let meets = here c (ap (slice_get plan.customers) (sym same) ∙ at) in
         subst (λ (zs : List (List Step)). MeetsCustomer (of_customers bs zs) (k + 1) c) ed
-        (subst (λ (zs : List (List Step)). MeetsCustomer (of_customers zs ds') (k + 1) c) eb (subst (λ n. MeetsCustomer (of_customers bs' ds') (n + 1) c) (sym same) meets))
+        (subst (λ (zs : List (List Step)). MeetsCustomer (of_customers zs ds') (k + 1) c) eb
+        (subst (λ n. MeetsCustomer (of_customers bs' ds') (n + 1) c) (sym same) meets))
 
 pub links_met : (plan : Plan) (place : ℕ) (bs bs' ls ls' : List (List Step)) → bs' ≡ bs → ls' ≡ ls
     → ((k : ℕ) (link : LinkPlan) → k < place → slice_get plan.links k ≡ Some link
     → MeetsOver (of_lanes bs ls) (2 * k + 1) link.a link.b × MeetsOver (of_lanes bs ls) (2 * k + 2) link.b link.a)
     → ((link : LinkPlan) → slice_get plan.links place ≡ Some link
-    → MeetsOver (of_lanes bs' ls') (2 * place + 1) link.a link.b × MeetsOver (of_lanes bs' ls') (2 * place + 2) link.b link.a)
+    → MeetsOver (of_lanes bs' ls') (2 * place + 1) link.a link.b
+    × MeetsOver (of_lanes bs' ls') (2 * place + 2) link.b link.a)
     → (k : ℕ) (link : LinkPlan) → k < place + 1 → slice_get plan.links k ≡ Some link
     → MeetsOver (of_lanes bs ls) (2 * k + 1) link.a link.b × MeetsOver (of_lanes bs ls) (2 * k + 2) link.b link.a
 links_met plan place bs bs' ls ls' eb el before here k link less at = by (below_next k place less)
   where
-    by : (k < place) ⊎ (k ≡ place) → MeetsOver (of_lanes bs ls) (2 * k + 1) link.a link.b × MeetsOver (of_lanes bs ls) (2 * k + 2) link.b link.a
+    by : (k < place) ⊎ (k ≡ place) → MeetsOver (of_lanes bs ls) (2 * k + 1) link.a link.b
+        × MeetsOver (of_lanes bs ls) (2 * k + 2) link.b link.a
     by (inl earlier) = before k link earlier at
     by (inr same) =
         let meet = here link (ap (slice_get plan.links) (sym same) ∙ at) in
-        subst (λ (zs : List (List Step)). MeetsOver (of_lanes bs zs) (2 * k + 1) link.a link.b × MeetsOver (of_lanes bs zs) (2 * k + 2) link.b link.a) el
-        (subst (λ (zs : List (List Step)). MeetsOver (of_lanes zs ls') (2 * k + 1) link.a link.b × MeetsOver (of_lanes zs ls') (2 * k + 2) link.b link.a) eb
-        (subst (λ n. MeetsOver (of_lanes bs' ls') (2 * n + 1) link.a link.b × MeetsOver (of_lanes bs' ls') (2 * n + 2) link.b link.a) (sym same) meet))
+        subst (λ (zs : List (List Step)). MeetsOver (of_lanes bs zs) (2 * k + 1) link.a link.b × MeetsOver
+        (of_lanes bs zs) (2 * k + 2) link.b link.a) el
+        (subst (λ (zs : List (List Step)). MeetsOver (of_lanes zs ls') (2 * k + 1) link.a link.b × MeetsOver
+        (of_lanes zs ls') (2 * k + 2) link.b link.a) eb
+        (subst (λ n. MeetsOver (of_lanes bs' ls') (2 * n + 1) link.a link.b × MeetsOver (of_lanes bs' ls') (2 * n + 2)
+        link.b link.a) (sym same) meet))

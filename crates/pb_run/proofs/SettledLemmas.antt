@@ -1,5 +1,6 @@
 -- The machines of a run's bridges.
-use Rattle.std.proofs.Common.{◌≡◌, ◌↔◌, IsTrue, Bool, ℕ, suc, ◌+◌, ◌<◌, List, [], ◌∷◌, ◌++◌, Some, map, length, get_or, slice_get, refl, sym, ap, ◌∙◌, subst, arith}
+use Rattle.std.proofs.Common.{◌≡◌, ◌↔◌, IsTrue, Bool, ℕ, suc, ◌+◌, ◌<◌, List, [], ◌∷◌, ◌++◌, Some, map, length}
+use Rattle.std.proofs.Common.{get_or, slice_get, refl, sym, ap, ◌∙◌, subst, arith}
 use Rattle.std.proofs.lemmas.List.{length-map, map-append}
 use Rattle.pb_lan.specs.Numbering.{numbers_from}
 use Rattle.pb_lan.specs.Plans.{IsSound}
@@ -20,7 +21,8 @@ use Rattle.pb_run.proofs.Lists.{here_is, part_at, each_more}
 use Rattle.pb_run.proofs.Meeting.{steps_there}
 
 -- the machine of the worker at a place of the list
-pub machine_there : {X : Type 0} (gift : X → BridgeGift) (steps : X → List Step) (plan : Plan) (ws : List X) (r : ℕ) (w : X) → plan.spanning ≡ Rstp
+pub machine_there : {X : Type 0} (gift : X → BridgeGift) (steps : X → List Step) (plan : Plan) (ws : List X) (r : ℕ)
+    (w : X) → plan.spanning ≡ Rstp
     → AreBridges plan (length plan.bridges) (map gift ws) → r < length ws → w ≡ get_or ws r w
     → machine_in (gift w).2 (gift w).1 (steps w) ≡ Some (machine_of plan (r + 1) (steps_of (map steps ws) (r + 1)))
 machine_there gift steps plan ws r w rstp are within value =
@@ -33,45 +35,61 @@ machine_there gift steps plan ws r w rstp are within value =
     ∙ a_machine plan (r + 1) (steps_of (map steps ws) (r + 1)) rstp
 
 -- one more thing that is known by its number
-pub one_more_known : {X Y : Type 0} (see : X → Y) (f : ℕ → Y) (olds news : List X) (x : X) (r : ℕ) → length olds ≡ r → news ≡ olds ++ x ∷ []
-    → ((q : ℕ) (y : Y) → slice_get (map see olds) q ≡ Some y → y ≡ f q) → see x ≡ f r → (q : ℕ) (y : Y) → slice_get (map see news) q ≡ Some y → y ≡ f q
+pub one_more_known : {X Y : Type 0} (see : X → Y) (f : ℕ → Y) (olds news : List X) (x : X) (r : ℕ) → length olds ≡ r
+    → news ≡ olds ++ x ∷ []
+    → ((q : ℕ) (y : Y) → slice_get (map see olds) q ≡ Some y → y ≡ f q) → see x ≡ f r → (q : ℕ) (y : Y)
+    → slice_get (map see news) q ≡ Some y → y ≡ f q
 one_more_known see f olds news x r counted grown each here q y at =
     let all : map see news ≡ map see olds ++ see x ∷ [] = ap (map see) grown ∙ map-append see olds (x ∷ []) in
-    each_more (λ n z. z ≡ f n) (map see olds) (see x) each (here ∙ ap f (sym (length-map olds see ∙ counted))) q y (ap (λ zs. slice_get zs q) (sym all) ∙ at)
+    each_more (λ n z. z ≡ f n) (map see olds) (see x) each (here ∙ ap f (sym (length-map olds see ∙ counted))) q y
+    (ap (λ zs. slice_get zs q) (sym all) ∙ at)
 
 -- what stands at each place is known by its number
-by_numbers : {X Y : Type 0} (f : ℕ → Y) (k : ℕ) (xs : List X) (ys : List Y) → length ys ≡ length xs → ((r : ℕ) (y : Y) → slice_get ys r ≡ Some y → y ≡ f (k + r)) → ys ≡ map f (numbers_from k xs)
+by_numbers : {X Y : Type 0} (f : ℕ → Y) (k : ℕ) (xs : List X) (ys : List Y) → length ys ≡ length xs
+    → ((r : ℕ) (y : Y) → slice_get ys r ≡ Some y → y ≡ f (k + r)) → ys ≡ map f (numbers_from k xs)
 by_numbers f k [] [] counted each = refl
 by_numbers f k [] (y ∷ ys) counted each = absurd (omega (arith, counted))
 by_numbers f k (x ∷ xs) [] counted each = absurd (omega (arith, counted))
 by_numbers f k (x ∷ xs) (y ∷ ys) counted each =
     let start : k + 0 ≡ k = omega arith in
     let first : y ≡ f k = each 0 y refl ∙ ap f start in
-    let others = by_numbers f (k + 1) xs ys (omega (arith, counted)) (λ r z at. let s : k + suc r ≡ k + 1 + r = omega arith in each (suc r) z at ∙ ap f s) in
+    let others = by_numbers f (k + 1) xs ys (omega (arith, counted))
+    (λ r z at. let s : k + suc r ≡ k + 1 + r = omega arith in each (suc r) z at ∙ ap f s) in
     ap (λ z. z ∷ ys) first ∙ ap (λ zs. f k ∷ zs) others
 
 -- as many machines as bridges, each by its number, are those of the record
-pub machines_all : {X : Type 0} (gift : X → BridgeGift) (steps : X → List Step) (plan : Plan) (rec : Record) (ws : List X) (machines : List Machine) → AreBridges plan (length plan.bridges) (map gift ws)
+pub machines_all : {X : Type 0} (gift : X → BridgeGift) (steps : X → List Step) (plan : Plan) (rec : Record)
+    (ws : List X) (machines : List Machine) → AreBridges plan (length plan.bridges) (map gift ws)
     → rec.bridges ≡ map steps ws → length machines ≡ length ws
-    → ((r : ℕ) (m : Machine) → slice_get machines r ≡ Some m → m ≡ machine_of plan (r + 1) (steps_of (map steps ws) (r + 1)))
+    → ((r : ℕ) (m : Machine) → slice_get machines r ≡ Some m → m ≡ machine_of plan (r + 1)
+    (steps_of (map steps ws) (r + 1)))
     → machines ≡ machines_in plan rec
 unfolding machines_in
 machines_all gift steps plan rec ws machines are lists counted each =
-    let there = by_numbers (λ bridge. machine_of plan bridge (steps_of (map steps ws) bridge)) 1 plan.bridges machines (omega (arith, counted, are.counted, length-map ws gift))
-    (λ r m at. let s : r + 1 ≡ 1 + r = omega arith in each r m at ∙ ap (λ n. machine_of plan n (steps_of (map steps ws) n)) s) in
-    there ∙ ap (λ (zs : List (List Step)). map (λ bridge. machine_of plan bridge (steps_of zs bridge)) (numbers_from 1 plan.bridges)) (sym lists)
+    let there = by_numbers (λ bridge. machine_of plan bridge (steps_of (map steps ws) bridge)) 1 plan.bridges machines
+    (omega (arith, counted, are.counted, length-map ws gift))
+    (λ r m at. let s : r + 1 ≡ 1 + r = omega arith in each r m at ∙ ap
+    (λ n. machine_of plan n (steps_of (map steps ws) n)) s) in
+    there ∙ ap (λ (zs : List (List Step)). map (λ bridge. machine_of plan bridge (steps_of zs bridge))
+    (numbers_from 1 plan.bridges)) (sym lists)
 
 -- a plan's own machines, whatever the steps were
-are_machines : (plan : Plan) (rec : Record) → IsSound plan → PlannedAreMachines → AreMachines plan (machines_in plan rec)
+are_machines : (plan : Plan) (rec : Record) → IsSound plan → PlannedAreMachines
+    → AreMachines plan (machines_in plan rec)
 unfolding machines_in
 are_machines plan rec sound planned = planned plan (steps_of rec.bridges) sound
 
 -- what the answer tells of the machines of a record
-pub tells : (plan : Plan) (rec : Record) (machines : List Machine) (answer : Bool) → plan.spanning ≡ Rstp → machines ≡ machines_in plan rec → IsSound plan → PlannedAreMachines
+pub tells : (plan : Plan) (rec : Record) (machines : List Machine) (answer : Bool) → plan.spanning ≡ Rstp
+    → machines ≡ machines_in plan rec → IsSound plan → PlannedAreMachines
     → (IsTrue answer ↔ IsSettled plan machines)
     → (IsTrue answer → IsSound plan → AreMachines plan machines → NoneHeld machines → AreForests plan machines)
     → TellsSettled plan rec (Some answer)
 tells plan rec machines answer rstp e sound planned settled forest =
     let all = subst (λ (ms : List Machine). TellsOf plan ms answer) e
-    (record { settled = settled; forest = λ t none. forest t sound (subst (AreMachines plan) (sym e) (are_machines plan rec sound planned)) none }) in
+    (record {
+      settled = settled;
+      forest = λ t none. forest t sound
+          (subst (AreMachines plan) (sym e) (are_machines plan rec sound planned)) none;
+    }) in
     subst (λ (z : Spanning). TellsBy z plan (machines_in plan rec) (Some answer)) (sym rstp) (answer, refl, all)

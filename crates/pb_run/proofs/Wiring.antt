@@ -12,7 +12,8 @@ one_name : {T A P : Type 0} → (p : Producer T A P) (c : Consumer T A P) → Is
 one_name p c pair = cc
 
 -- rings go by the names of their writing ends
-pub all_named : {T A P : Type 0} → (rings : List (Producer T A P × Consumer T A P)) → AreNew rings → AreNamed (map (λ r. writer_name r.0) rings) rings
+pub all_named : {T A P : Type 0} → (rings : List (Producer T A P × Consumer T A P)) → AreNew rings
+    → AreNamed (map (λ r. writer_name r.0) rings) rings
 all_named rings new n ring at =
     let here = part_at (λ r. writer_name r.0) rings n ring at in
     (here, here ∙ ap (λ name. Some name) (sym (one_name ring.0 ring.1 (new n ring at).0)))
@@ -24,19 +25,25 @@ module _ {T A P : Type 0} where
       (n : ℕ) (ring : Producer T A P × Consumer T A P) → slice_get rings n ≡ Some ring
       → (slice_get names (k + n) ≡ Some (writer_name ring.0)) × (slice_get names (k + n) ≡ Some (reader_name ring.1))
 
-  pub first_named : (k : ℕ) (names : List (RingName A)) (ring : Producer T A P × Consumer T A P) (xs ys : List (Producer T A P × Consumer T A P)) → ys ≡ ring ∷ xs → AreNamedFrom k names ys
+  pub first_named : (k : ℕ) (names : List (RingName A)) (ring : Producer T A P × Consumer T A P)
+      (xs ys : List (Producer T A P × Consumer T A P)) → ys ≡ ring ∷ xs → AreNamedFrom k names ys
       → (slice_get names k ≡ Some (writer_name ring.0)) × (slice_get names k ≡ Some (reader_name ring.1))
   first_named k names ring xs ys e each =
-      first_to_come (λ n r. (slice_get names n ≡ Some (writer_name r.0)) × (slice_get names n ≡ Some (reader_name r.1))) k ring xs ys e each
+      first_to_come (λ n r. (slice_get names n ≡ Some (writer_name r.0))
+      × (slice_get names n ≡ Some (reader_name r.1))) k ring xs ys e each
 
-  pub others_named : (k : ℕ) (names : List (RingName A)) (ring : Producer T A P × Consumer T A P) (xs ys : List (Producer T A P × Consumer T A P)) → ys ≡ ring ∷ xs → AreNamedFrom k names ys
+  pub others_named : (k : ℕ) (names : List (RingName A)) (ring : Producer T A P × Consumer T A P)
+      (xs ys : List (Producer T A P × Consumer T A P)) → ys ≡ ring ∷ xs → AreNamedFrom k names ys
       → AreNamedFrom (k + 1) names xs
   others_named k names ring xs ys e each =
-      still_to_come (λ n r. (slice_get names n ≡ Some (writer_name r.0)) × (slice_get names n ≡ Some (reader_name r.1))) k ring xs ys e each
+      still_to_come (λ n r. (slice_get names n ≡ Some (writer_name r.0))
+      × (slice_get names n ≡ Some (reader_name r.1))) k ring xs ys e each
 
-  pub first_new : (ring : Producer T A P × Consumer T A P) (xs ys : List (Producer T A P × Consumer T A P)) → ys ≡ ring ∷ xs → AreNew ys
+  pub first_new : (ring : Producer T A P × Consumer T A P) (xs ys : List (Producer T A P × Consumer T A P))
+      → ys ≡ ring ∷ xs → AreNew ys
       → IsPair ring.0 ring.1 × (sent ring.0 ≡ []) × (received ring.1 ≡ [])
   first_new ring xs ys e new = new 0 ring (ap (λ zs. slice_get zs 0) e)
 
-  pub others_new : (ring : Producer T A P × Consumer T A P) (xs ys : List (Producer T A P × Consumer T A P)) → ys ≡ ring ∷ xs → AreNew ys → AreNew xs
+  pub others_new : (ring : Producer T A P × Consumer T A P) (xs ys : List (Producer T A P × Consumer T A P))
+      → ys ≡ ring ∷ xs → AreNew ys → AreNew xs
   others_new ring xs ys e new n r h = new (suc n) r (ap (λ zs. slice_get zs (suc n)) e ∙ h)

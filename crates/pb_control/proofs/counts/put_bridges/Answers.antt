@@ -10,7 +10,8 @@ loop-name-preserved g c =
     let k = c.loop-name.name-index in
     line_more bridge_line (g.B.Board.told_bridge c.args.board.now) _ _ _ (map seen things) (map seen (drop k things))
     (map seen (drop (k + 1) things)) (seen (get_or things k no_name)) c.bridge-counts.result
-    (at_drop_more (λ xs. map seen xs) things k no_name c.loop-name-test.true) c.bridge-counts.ensures c.in_ok-put_bridge.ensures
+    (at_drop_more (λ xs. map seen xs) things k no_name c.loop-name-test.true) c.bridge-counts.ensures
+    c.in_ok-put_bridge.ensures
     c.loop-name.invariant
 
 pub returns : goal.returns

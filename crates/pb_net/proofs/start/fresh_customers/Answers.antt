@@ -7,4 +7,5 @@ pub loop-place-preserved : goal.loop-place-preserved
 loop-place-preserved c =
     let n = c.loop-place.place in
     let number : c.new.result ≡ fresh_customer (n + 1) = c.new.ensures in
-    rw c.in_ok-push.ensures.items (fresh_customers-more n c.loop-place.customers.items c.new.result c.loop-place.invariant number)
+    rw c.in_ok-push.ensures.items
+    (fresh_customers-more n c.loop-place.customers.items c.new.result c.loop-place.invariant number)

@@ -12,11 +12,13 @@ returns-then-is_customer_there c =
 pub returns-then-is_end_there : goal.returns-then-is_end_there
 returns-then-is_end_there c =
     let none : list_any (is_customer_at c.args.bridge c.args.port) c.args.plan.now.customers ≡ false = cc in
-    let there : list_any (λ l. is_end_at c.args.bridge c.args.port l.a || is_end_at c.args.bridge c.args.port l.b) c.args.plan.now.links ≡ true = cc in
+    let there : list_any (λ l. is_end_at c.args.bridge c.args.port l.a || is_end_at c.args.bridge c.args.port l.b)
+    c.args.plan.now.links ≡ true = cc in
     use-end c.args.plan.now c.args.bridge c.args.port none there
 
 pub returns : goal.returns
 returns c =
     let none : list_any (is_customer_at c.args.bridge c.args.port) c.args.plan.now.customers ≡ false = cc in
-    let nobody : list_any (λ l. is_end_at c.args.bridge c.args.port l.a || is_end_at c.args.bridge c.args.port l.b) c.args.plan.now.links ≡ false = cc in
+    let nobody : list_any (λ l. is_end_at c.args.bridge c.args.port l.a || is_end_at c.args.bridge c.args.port l.b)
+    c.args.plan.now.links ≡ false = cc in
     use-nobody c.args.plan.now c.args.bridge c.args.port none nobody

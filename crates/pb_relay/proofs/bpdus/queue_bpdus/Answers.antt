@@ -6,11 +6,13 @@ use Rattle.pb_relay.proofs.CopyLemmas.{named-few}
 use Rattle.pb_relay.proofs.bpdus.queue_bpdus.Goals as goal
 
 pub overflow_sub-place : goal.overflow_sub-place
-overflow_sub-place c = (place_of c.args.address.0 c.args.sends.now c.loop-port.port-index c.loop-port-item.result c.loop-port-test.true c.loop-port-item.is c.requires.separate).0
+overflow_sub-place c = (place_of c.args.address.0 c.args.sends.now c.loop-port.port-index c.loop-port-item.result
+    c.loop-port-test.true c.loop-port-item.is c.requires.separate).0
 
 pub send-answer-requires : goal.send-answer-requires
 send-answer-requires c =
-    let l = place_of c.args.address.0 c.args.sends.now c.loop-port.port-index c.loop-port-item.result c.loop-port-test.true c.loop-port-item.is c.requires.separate in
+    let l = place_of c.args.address.0 c.args.sends.now c.loop-port.port-index c.loop-port-item.result
+    c.loop-port-test.true c.loop-port-item.is c.requires.separate in
     omega (arith, l.0, l.1, c.loop-port.invariant.count)
 
 pub loop-port-preserved : goal.loop-port-preserved
@@ -29,8 +31,21 @@ loop-port-preserved c =
       queued = rw (rooms.dropped, rooms.queued) more.1;
       count = sent_count _ _ _ _ answer c.send-answer.ensures ∙ c.loop-port.invariant.count;
       kept = sent_keeps _ _ _ _ _ answer c.loop-port.invariant.kept c.send-answer.ensures;
-      few = omega (arith, ap length rooms.dropped, length-append c.loop-port.dropped.items (named x.0 (word_of answer)), named-few x.0 (word_of answer), c.loop-port.invariant.few);
-      fewer = omega (arith, ap length rooms.queued, length-append c.loop-port.queued.items (told_queued x.0 answer), told-few x.0 answer, c.loop-port.invariant.fewer);
+      few = omega (
+        arith,
+        ap length rooms.dropped,
+        length-append c.loop-port.dropped.items
+            (named x.0 (word_of answer)),
+        named-few x.0 (word_of answer),
+        c.loop-port.invariant.few,
+      );
+      fewer = omega (
+        arith,
+        ap length rooms.queued,
+        length-append c.loop-port.queued.items (told_queued x.0 answer),
+        told-few x.0 answer,
+        c.loop-port.invariant.fewer,
+      );
       dropped_room = omega (arith, rooms.dropped_room, c.loop-port.invariant.dropped_room);
       queued_room = omega (arith, rooms.queued_room, c.loop-port.invariant.queued_room);
     }

@@ -11,6 +11,7 @@ loop-port-preserved c =
     let x = get_or c.args.changes.now i (0, Discarding) in (
       ap (λ ss. set ss (x.0 - 1) x.1) c.loop-port.invariant.0
           ∙ sym (states_changed-more c.args.states.now (take i c.args.changes.now) x.0 x.1)
-          ∙ ap (states_changed c.args.states.now) (sym (take_more c.args.changes.now i (0, Discarding) c.loop-port-test.true)),
+          ∙ ap (states_changed c.args.states.now)
+          (sym (take_more c.args.changes.now i (0, Discarding) c.loop-port-test.true)),
       length-set _ _ _ ∙ c.loop-port.invariant.1,
     )

@@ -6,4 +6,5 @@ pub returns-in-Fixed : goal.returns-in-Fixed
 returns-in-Fixed c = sym (no_machine c.args.plan.now c.args.number [] c.in-Fixed.is)
 
 pub returns-in_ok-started-in-Rstp : goal.returns-in_ok-started-in-Rstp
-returns-in_ok-started-in-Rstp c = ap Some c.in_ok-started-in-Rstp.ensures ∙ sym (a_machine c.args.plan.now c.args.number [] c.in-Rstp.is)
+returns-in_ok-started-in-Rstp c = ap Some c.in_ok-started-in-Rstp.ensures
+    ∙ sym (a_machine c.args.plan.now c.args.number [] c.in-Rstp.is)

@@ -5,4 +5,5 @@ use Rattle.pb_rstp.specs.Profile.{rstp_port}
 use Rattle.pb_relay.proofs.machine.rstp_ports.Given as goal
 
 abbrev pub invariant-loop-r : goal.invariant-loop-r
-invariant-loop-r l = l.ports.items ≡ flat_map (λ port. rstp_port port (port_at l.plan l.number port)) (take l.r local_ports)
+invariant-loop-r l = l.ports.items ≡ flat_map (λ port. rstp_port port (port_at l.plan l.number port))
+    (take l.r local_ports)

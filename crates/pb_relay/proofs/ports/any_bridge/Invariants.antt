@@ -5,4 +5,5 @@ use Rattle.pb_relay.specs.Roles.{locals}
 use Rattle.pb_relay.proofs.ports.any_bridge.Given as goal
 
 abbrev pub invariant-loop-place : goal.invariant-loop-place
-invariant-loop-place l = list_any is_to_bridge (drop l.place (locals l.services l.starts)) ≡ list_any is_to_bridge (locals l.services l.starts)
+invariant-loop-place l = list_any is_to_bridge (drop l.place (locals l.services l.starts)) ≡ list_any is_to_bridge
+    (locals l.services l.starts)

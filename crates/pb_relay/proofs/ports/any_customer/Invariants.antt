@@ -5,4 +5,5 @@ use Rattle.pb_relay.specs.Roles.{locals}
 use Rattle.pb_relay.proofs.ports.any_customer.Given as goal
 
 abbrev pub invariant-loop-place : goal.invariant-loop-place
-invariant-loop-place l = list_any is_to_customer (drop l.place (locals l.services l.starts)) ≡ list_any is_to_customer (locals l.services l.starts)
+invariant-loop-place l = list_any is_to_customer (drop l.place (locals l.services l.starts)) ≡ list_any is_to_customer
+    (locals l.services l.starts)

@@ -8,5 +8,6 @@ returns-in-None c = told_here c.args.services.now c.args.starts.now c.args.place
 
 pub returns-in-Some : goal.returns-in-Some
 returns-in-Some c =
-    c.told_as.ensures ∙ told_role c.args.services.now (get_or c.args.starts.now c.args.place Discarding) c.in-Some.role.now
+    c.told_as.ensures ∙ told_role c.args.services.now (get_or c.args.starts.now c.args.place Discarding)
+    c.in-Some.role.now
     ∙ told_here c.args.services.now c.args.starts.now c.args.place _ c.requires c.in-Some.ensures

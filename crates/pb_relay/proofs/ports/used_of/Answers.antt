@@ -10,5 +10,6 @@ pub returns-clause-nothing : goal.returns-clause-nothing
 returns-clause-nothing c = λ k h.
     elim (cases_lt k c.loop-place.place) [
       | inl below ↦ c.loop-place.invariant.nothing k h below
-      | inr above ↦ get_or_past (locals c.args.services.now c.args.starts.now) k ToNobody (omega (arith, locals-length c.args.services.now c.args.starts.now))
+      | inr above ↦ get_or_past (locals c.args.services.now c.args.starts.now) k ToNobody
+          (omega (arith, locals-length c.args.services.now c.args.starts.now))
     ]

@@ -12,51 +12,78 @@ use Rattle.pb_relay.proofs.start.attach.Goals as goal
 
 pub join-requires-clause-priority : goal.join-requires-clause-priority
 join-requires-clause-priority c =
-    let found = c.in-Some.ensures ∙ ap (λ (cs : List CustomerPlan). first (is_customer_at c.args.number c.args.port) cs) c.as_slice.ensures in
+    let found = c.in-Some.ensures
+    ∙ ap (λ (cs : List CustomerPlan). first (is_customer_at c.args.number c.args.port) cs) c.as_slice.ensures in
     (customer_there c.args.plan.now c.args.number c.args.port c.in-Some.customer.now c.requires.sound found).0.priority
 
 pub join-requires-clause-known : goal.join-requires-clause-known
 join-requires-clause-known c =
-    let found = c.in-Some.ensures ∙ ap (λ (cs : List CustomerPlan). first (is_customer_at c.args.number c.args.port) cs) c.as_slice.ensures in
-    known c.args.plan.now c.args.services.now c.in-Some.customer.now.service c.requires.services (customer_there c.args.plan.now c.args.number c.args.port c.in-Some.customer.now c.requires.sound found).0.service
+    let found = c.in-Some.ensures
+    ∙ ap (λ (cs : List CustomerPlan). first (is_customer_at c.args.number c.args.port) cs) c.as_slice.ensures in
+    known c.args.plan.now c.args.services.now c.in-Some.customer.now.service c.requires.services
+    (customer_there c.args.plan.now c.args.number c.args.port c.in-Some.customer.now c.requires.sound
+    found).0.service
 
 pub join-requires-clause-free : goal.join-requires-clause-free
 join-requires-clause-free c =
-    let found = c.in-Some.ensures ∙ ap (λ (cs : List CustomerPlan). first (is_customer_at c.args.number c.args.port) cs) c.as_slice.ensures in
-    ap (is_taken c.args.services.now) (customer_there c.args.plan.now c.args.number c.args.port c.in-Some.customer.now c.requires.sound found).1 ∙ c.requires.free
+    let found = c.in-Some.ensures
+    ∙ ap (λ (cs : List CustomerPlan). first (is_customer_at c.args.number c.args.port) cs) c.as_slice.ensures in
+    ap (is_taken c.args.services.now) (customer_there c.args.plan.now c.args.number c.args.port c.in-Some.customer.now
+    c.requires.sound found).1 ∙ c.requires.free
 
 pub returns-in-Some-clause-kept : goal.returns-in-Some-clause-kept
 returns-in-Some-clause-kept c =
-    let found = c.in-Some.ensures ∙ ap (λ (cs : List CustomerPlan). first (is_customer_at c.args.number c.args.port) cs) c.as_slice.ensures in
+    let found = c.in-Some.ensures
+    ∙ ap (λ (cs : List CustomerPlan). first (is_customer_at c.args.number c.args.port) cs) c.as_slice.ensures in
     let joined = c.in_ok-join.ensures in
-    customer_kept c.args.plan.now c.args.number c.args.port c.args.services.now c.join.new.services joined.0 _ c.in-Some.customer.now c.requires.sound c.requires.services found c.requires.free joined.1 joined.2 joined.3
+    customer_kept c.args.plan.now c.args.number c.args.port c.args.services.now c.join.new.services joined.0 _
+    c.in-Some.customer.now c.requires.sound c.requires.services found c.requires.free joined.1 joined.2 joined.3
 
 pub returns-in-Some-clause-others : goal.returns-in-Some-clause-others
 returns-in-Some-clause-others c = λ p other.
-    let found = c.in-Some.ensures ∙ ap (λ (cs : List CustomerPlan). first (is_customer_at c.args.number c.args.port) cs) c.as_slice.ensures in
+    let found = c.in-Some.ensures
+    ∙ ap (λ (cs : List CustomerPlan). first (is_customer_at c.args.number c.args.port) cs) c.as_slice.ensures in
     let joined = c.in_ok-join.ensures in
-    ap (λ (t : ServiceTable). role_at t p) (joined.3 ∙ ap (λ n. attached c.args.services.now n (Customer joined.0)) (customer_there c.args.plan.now c.args.number c.args.port c.in-Some.customer.now c.requires.sound found).1)
+    ap (λ (t : ServiceTable). role_at t p) (joined.3 ∙ ap (λ n. attached c.args.services.now n (Customer joined.0))
+    (customer_there c.args.plan.now c.args.number c.args.port c.in-Some.customer.now c.requires.sound found).1)
     ∙ role-elsewhere c.args.services.now c.args.port p (Customer joined.0) c.requires.free other
 
 pub trunk-requires-clause-known : goal.trunk-requires-clause-known
 trunk-requires-clause-known c =
-    let found = c.in-Some-end_at.ensures ∙ ap (λ (ls : List LinkPlan). first (is_end_at c.args.number c.args.port) (flat_map ends_of ls)) c.as_slice-2.ensures in
-    end_known c.args.plan.now c.args.services.now c.in-Some-end_at.end.now c.requires.services (end_there c.args.plan.now c.args.number c.args.port c.in-Some-end_at.end.now c.requires.sound found).0
+    let found = c.in-Some-end_at.ensures
+    ∙ ap (λ (ls : List LinkPlan). first (is_end_at c.args.number c.args.port) (flat_map ends_of ls))
+    c.as_slice-2.ensures in
+    end_known c.args.plan.now c.args.services.now c.in-Some-end_at.end.now c.requires.services
+    (end_there c.args.plan.now c.args.number c.args.port c.in-Some-end_at.end.now c.requires.sound found).0
 
 pub trunk-requires-clause-free : goal.trunk-requires-clause-free
 trunk-requires-clause-free c =
-    let found = c.in-Some-end_at.ensures ∙ ap (λ (ls : List LinkPlan). first (is_end_at c.args.number c.args.port) (flat_map ends_of ls)) c.as_slice-2.ensures in
-    ap (is_taken c.args.services.now) (end_there c.args.plan.now c.args.number c.args.port c.in-Some-end_at.end.now c.requires.sound found).1 ∙ c.requires.free
+    let found = c.in-Some-end_at.ensures
+    ∙ ap (λ (ls : List LinkPlan). first (is_end_at c.args.number c.args.port) (flat_map ends_of ls))
+    c.as_slice-2.ensures in
+    ap (is_taken c.args.services.now) (end_there c.args.plan.now c.args.number c.args.port c.in-Some-end_at.end.now
+    c.requires.sound found).1 ∙ c.requires.free
 
 pub returns-clause-kept : goal.returns-clause-kept
 returns-clause-kept c =
-    let nobody = c.in_default.ensures ∙ ap (λ (cs : List CustomerPlan). first (is_customer_at c.args.number c.args.port) cs) c.as_slice.ensures in
-    let found = c.in-Some-end_at.ensures ∙ ap (λ (ls : List LinkPlan). first (is_end_at c.args.number c.args.port) (flat_map ends_of ls)) c.as_slice-2.ensures in
-    end_kept c.args.plan.now c.args.number c.args.port c.args.services.now c.trunk.new.services c.in-Some-end_at.end.now c.requires.sound c.requires.services nobody found c.requires.free c.in_ok-trunk.ensures
+    let nobody = c.in_default.ensures
+    ∙ ap (λ (cs : List CustomerPlan). first (is_customer_at c.args.number c.args.port) cs) c.as_slice.ensures in
+    let found = c.in-Some-end_at.ensures
+    ∙ ap (λ (ls : List LinkPlan). first (is_end_at c.args.number c.args.port) (flat_map ends_of ls))
+    c.as_slice-2.ensures in
+    end_kept c.args.plan.now c.args.number c.args.port c.args.services.now c.trunk.new.services
+    c.in-Some-end_at.end.now c.requires.sound c.requires.services nobody found c.requires.free
+    c.in_ok-trunk.ensures
 
 pub returns-clause-others : goal.returns-clause-others
 returns-clause-others c = λ p other.
-    let found = c.in-Some-end_at.ensures ∙ ap (λ (ls : List LinkPlan). first (is_end_at c.args.number c.args.port) (flat_map ends_of ls)) c.as_slice-2.ensures in
+    let found = c.in-Some-end_at.ensures
+    ∙ ap (λ (ls : List LinkPlan). first (is_end_at c.args.number c.args.port) (flat_map ends_of ls))
+    c.as_slice-2.ensures in
     let e = c.in-Some-end_at.end.now in
-    ap (λ (t : ServiceTable). role_at t p) (c.in_ok-trunk.ensures ∙ ap (λ n. attached c.args.services.now n (Trunk (carried c.args.services.now e.services))) (end_there c.args.plan.now c.args.number c.args.port e c.requires.sound found).1)
-    ∙ role-elsewhere c.args.services.now c.args.port p (Trunk (carried c.args.services.now e.services)) c.requires.free other
+    ap (λ (t : ServiceTable). role_at t p)
+    (c.in_ok-trunk.ensures ∙ ap
+    (λ n. attached c.args.services.now n (Trunk (carried c.args.services.now e.services)))
+    (end_there c.args.plan.now c.args.number c.args.port e c.requires.sound found).1)
+    ∙ role-elsewhere c.args.services.now c.args.port p (Trunk (carried c.args.services.now e.services))
+    c.requires.free other

@@ -4,4 +4,5 @@ use Rattle.pb_lan.specs.Ports.{is_customer_at}
 use Rattle.pb_relay.proofs.start.customer_at.Given as goal
 
 abbrev pub invariant-loop-customer : goal.invariant-loop-customer
-invariant-loop-customer l = first (is_customer_at l.bridge l.port) (drop l.customer-index l.customers) ≡ first (is_customer_at l.bridge l.port) l.customers
+invariant-loop-customer l = first (is_customer_at l.bridge l.port) (drop l.customer-index l.customers) ≡ first
+    (is_customer_at l.bridge l.port) l.customers

@@ -7,4 +7,5 @@ use Rattle.pb_relay.proofs.start.start_states.Given as goal
 
 abbrev pub invariant-loop-r : goal.invariant-loop-r
 invariant-loop-r l =
-    (length l.states ≡ 16) × ((k : ℕ) → k < l.r → get_or l.states k Discarding ≡ first_state l.spanning (told (get_or l.ports k ToNobody)))
+    (length l.states ≡ 16) × ((k : ℕ) → k < l.r → get_or l.states k Discarding ≡ first_state l.spanning
+    (told (get_or l.ports k ToNobody)))

@@ -17,21 +17,26 @@ late item = (is_worn item, Worn) ∷ []
 -- the ruling on a frame whose octets are let in
 admitted : (item : Item) (rest : Ruling) (worn : Bool) → refusal item.wire ≡ None → is_worn item ≡ worn
     → first_case (customer_cases item) rest ≡ cond worn (Refuses Worn) rest
-admitted item rest worn h w = first-passes (admission_cases item.wire) (late item) rest h ∙ ap (λ b. cond b (Refuses Worn) rest) w
+admitted item rest worn h w = first-passes (admission_cases item.wire) (late item) rest h
+    ∙ ap (λ b. cond b (Refuses Worn) rest) w
 
 pub returns-in-Some : goal.returns-in-Some
 returns-in-Some c =
     let refused : refusal c.args.item.now.wire ≡ Some c.in-Some.reason =
     sym (c.refusal.ensures ∙ ap refusal c.as_slice.ensures) ∙ c.in-Some.is in
-    sym (first-refuses (admission_cases c.args.item.now.wire) (late c.args.item.now) c.in-Some.reason (Carries c.args.vid) refused)
+    sym (first-refuses (admission_cases c.args.item.now.wire) (late c.args.item.now) c.in-Some.reason
+    (Carries c.args.vid) refused)
 
 pub returns-in-None : goal.returns-in-None
 returns-in-None c =
-    let none : refusal c.args.item.now.wire ≡ None = sym (c.refusal.ensures ∙ ap refusal c.as_slice.ensures) ∙ c.in-None.is in
+    let none : refusal c.args.item.now.wire ≡ None = sym (c.refusal.ensures ∙ ap refusal c.as_slice.ensures)
+    ∙ c.in-None.is in
     sym (admitted c.args.item.now (Carries c.args.vid) _ none (ap (λ n. n == most_hops) c.if-item.true))
 
 pub returns-in-None-2 : goal.returns-in-None-2
 returns-in-None-2 c =
-    let none : refusal c.args.item.now.wire ≡ None = sym (c.refusal.ensures ∙ ap refusal c.as_slice.ensures) ∙ c.in-None.is in
-    let fresh = false-unless (c.args.item.now.hops == most_hops) (λ e. c.if-item.false (eqb-true c.args.item.now.hops most_hops e)) in
+    let none : refusal c.args.item.now.wire ≡ None = sym (c.refusal.ensures ∙ ap refusal c.as_slice.ensures)
+    ∙ c.in-None.is in
+    let fresh = false-unless (c.args.item.now.hops == most_hops)
+    (λ e. c.if-item.false (eqb-true c.args.item.now.hops most_hops e)) in
     sym (admitted c.args.item.now (Carries c.args.vid) _ none fresh)

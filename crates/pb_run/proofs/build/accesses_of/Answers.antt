@@ -12,7 +12,8 @@ loop-customer-init g c =
     let D : Type 0 = Access g.row.W.Denot g.W.Wiring in
     record {
       gifts = no_accesses _ c.args.plan.now c.in_ok-accesses.accesses.items c.in_ok-accesses.ensures.items;
-      fresh = all_none (λ (d : D). (d.place.steps ≡ []) × (d.book.last ≡ More)) c.in_ok-accesses.accesses.items c.in_ok-accesses.ensures.items;
+      fresh = all_none (λ (d : D). (d.place.steps ≡ []) × (d.book.last ≡ More)) c.in_ok-accesses.accesses.items
+          c.in_ok-accesses.ensures.items;
       there = c.requires.there;
       apart = customers_apart c.args.plan.now c.requires.sound;
     }
@@ -20,8 +21,11 @@ loop-customer-init g c =
 pub access_of-requires-clause-outer : goal.access_of-requires-clause-outer
 access_of-requires-clause-outer g c =
     let customers = c.as_slice-customers.result.now in
-    let at = rw c.as_slice-customers.ensures at (here_is customers c.loop-customer.customer-index c.customer-item.result c.loop-customer-test.true c.customer-item.is) in
-    this_customer c.args.plan.now.customers c.loop-customer.customer-index c.customer-item.result at (HasOuter c.loop-customer.ends.outlets.items c.loop-customer.ends.inlets.items)
+    let at = rw c.as_slice-customers.ensures at
+    (here_is customers c.loop-customer.customer-index c.customer-item.result c.loop-customer-test.true
+    c.customer-item.is) in
+    this_customer c.args.plan.now.customers c.loop-customer.customer-index c.customer-item.result at
+    (HasOuter c.loop-customer.ends.outlets.items c.loop-customer.ends.inlets.items)
     c.loop-customer.invariant.there
 
 pub loop-customer-preserved : goal.loop-customer-preserved
@@ -29,15 +33,19 @@ loop-customer-preserved g c =
     let customers = c.as_slice-customers.result.now in
     let customer = c.customer-item.result in
     let i = c.loop-customer.invariant in
-    let at = rw c.as_slice-customers.ensures at (here_is customers c.loop-customer.customer-index customer c.loop-customer-test.true c.customer-item.is) in
+    let at = rw c.as_slice-customers.ensures at
+    (here_is customers c.loop-customer.customer-index customer c.loop-customer-test.true c.customer-item.is) in
     let D : Type 0 = Access g.row.W.Denot g.W.Wiring in
     let made = c.access_of.ensures in
     record {
-      gifts = access_pushed _ c.args.plan.now c.loop-customer.customer-index (c.len.result + 1) customer c.loop-customer.accesses.items c.push_back.new.self.items c.access_of.result at
+      gifts = access_pushed _ c.args.plan.now c.loop-customer.customer-index (c.len.result + 1) customer
+          c.loop-customer.accesses.items c.push_back.new.self.items c.access_of.result at
           (omega (arith, c.len.ensures)) c.in_ok-push_back.ensures.items i.gifts made.gift;
-      fresh = all_more (λ (d : D). (d.place.steps ≡ []) × (d.book.last ≡ More)) c.access_of.result c.loop-customer.accesses.items c.push_back.new.self.items c.in_ok-push_back.ensures.items
+      fresh = all_more (λ (d : D). (d.place.steps ≡ []) × (d.book.last ≡ More)) c.access_of.result
+          c.loop-customer.accesses.items c.push_back.new.self.items c.in_ok-push_back.ensures.items
           i.fresh (made.fresh.0, made.fresh.1);
-      there = after_customer c.args.plan.now.customers c.loop-customer.customer-index customer at (HasOuter c.loop-customer.ends.outlets.items c.loop-customer.ends.inlets.items)
+      there = after_customer c.args.plan.now.customers c.loop-customer.customer-index customer at
+          (HasOuter c.loop-customer.ends.outlets.items c.loop-customer.ends.inlets.items)
           (HasOuter c.access_of.new.ends.outlets.items c.access_of.new.ends.inlets.items) i.apart made.outer i.there;
       apart = apart_after_customer c.args.plan.now.customers c.loop-customer.customer-index customer at i.apart;
     }

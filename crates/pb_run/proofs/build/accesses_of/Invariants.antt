@@ -8,8 +8,10 @@ use Rattle.pb_run.proofs.build.accesses_of.Given as goal
 
 abbrev pub invariant-loop-customer : goal.invariant-loop-customer
 invariant-loop-customer g l = record {
-  gifts : AreAccesses l.plan l.customer-index (map (λ d. (d.place.number, d.feed.number, d.drain.number)) l.accesses.items);
+  gifts : AreAccesses l.plan l.customer-index
+      (map (λ d. (d.place.number, d.feed.number, d.drain.number)) l.accesses.items);
   fresh : All (λ d. (d.place.steps ≡ []) × (d.book.last ≡ More)) l.accesses.items;
-  there : AllByRecursion (HasOuter l.ends.outlets.items l.ends.inlets.items) (ports_in [] (drop l.customer-index l.plan.customers));
+  there : AllByRecursion (HasOuter l.ends.outlets.items l.ends.inlets.items)
+      (ports_in [] (drop l.customer-index l.plan.customers));
   apart : IsDistinct is_same_port (ports_in [] (drop l.customer-index l.plan.customers));
 }

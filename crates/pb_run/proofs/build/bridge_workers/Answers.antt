@@ -10,11 +10,14 @@ loop-place-init g c = record {
 }
 
 pub bridge_worker-requires-clause-there : goal.bridge_worker-requires-clause-there
-bridge_worker-requires-clause-there g c = λ port number. c.loop-place.invariant.there (c.loop-place.place + 1, port) (omega arith) (omega arith) number
+bridge_worker-requires-clause-there g c = λ port number. c.loop-place.invariant.there (c.loop-place.place + 1, port)
+    (omega arith) (omega arith) number
 
 pub loop-place-preserved : goal.loop-place-preserved
 loop-place-preserved g c = record {
-  gifts = bridge_pushed _ c.args.plan.now c.loop-place.place _ _ c.in_ok-bridge_worker.field-0 c.in_ok-push.ensures.items c.loop-place.invariant.gifts c.in_ok-bridge_worker.ensures.gift;
-  there = λ at above within port. c.in_ok-bridge_worker.ensures.inner at (λ same. omega (arith, same, above)) (c.loop-place.invariant.there at (omega arith) within port);
+  gifts = bridge_pushed _ c.args.plan.now c.loop-place.place _ _ c.in_ok-bridge_worker.field-0
+      c.in_ok-push.ensures.items c.loop-place.invariant.gifts c.in_ok-bridge_worker.ensures.gift;
+  there = λ at above within port. c.in_ok-bridge_worker.ensures.inner at (λ same. omega (arith, same, above))
+      (c.loop-place.invariant.there at (omega arith) within port);
   outer = λ at h. c.in_ok-bridge_worker.ensures.outer at (c.loop-place.invariant.outer at h);
 }

@@ -33,15 +33,26 @@ loop-place-preserved g c =
     let counted_in : length c.loop-place.inlets.items ≡ place = omega (arith, i.count.0, c.loop-place.inlets.ok) in
     let counted_out : length c.loop-place.outlets.items ≡ place = omega (arith, i.count.1, c.loop-place.outlets.ok) in
     record {
-      count = (omega (arith, i.count.0, c.in_ok-push.ensures.len), omega (arith, i.count.1, c.in_ok-push-2.ensures.len));
+      count = (
+        omega (arith, i.count.0, c.in_ok-push.ensures.len),
+        omega
+            (arith, i.count.1, c.in_ok-push-2.ensures.len),
+      );
       into = rw c.in_ok-push.ensures.items
-          (numbers_more (λ (end : I). end.number) (λ q. ring_into c.args.bridge (q + 1)) c.loop-place.inlets.items c.inner-inlet.result.0 place counted_in i.into c.inner-inlet.ensures.inlet.0);
+          (numbers_more (λ (end : I). end.number) (λ q. ring_into c.args.bridge (q + 1)) c.loop-place.inlets.items
+          c.inner-inlet.result.0 place counted_in i.into c.inner-inlet.ensures.inlet.0);
       out = rw c.in_ok-push-2.ensures.items
-          (numbers_more (λ (end : O). end.number) (λ q. ring_out c.args.bridge (q + 1)) c.loop-place.outlets.items c.inner-inlet.result.1 place counted_out i.out c.inner-inlet.ensures.outlet.0);
-      received = rw c.in_ok-push.ensures.items (nothing_more (λ (end : I). received end.end) c.loop-place.inlets.items c.inner-inlet.result.0 i.received c.inner-inlet.ensures.inlet.1);
-      sent = rw c.in_ok-push-2.ensures.items (nothing_more (λ (end : O). sent end.end) c.loop-place.outlets.items c.inner-inlet.result.1 i.sent c.inner-inlet.ensures.outlet.1);
+          (numbers_more (λ (end : O). end.number) (λ q. ring_out c.args.bridge (q + 1)) c.loop-place.outlets.items
+          c.inner-inlet.result.1 place counted_out i.out c.inner-inlet.ensures.outlet.0);
+      received = rw c.in_ok-push.ensures.items (nothing_more (λ (end : I). received end.end) c.loop-place.inlets.items
+          c.inner-inlet.result.0 i.received c.inner-inlet.ensures.inlet.1);
+      sent = rw c.in_ok-push-2.ensures.items (nothing_more (λ (end : O). sent end.end) c.loop-place.outlets.items
+          c.inner-inlet.result.1 i.sent c.inner-inlet.ensures.outlet.1);
       there = λ port above within.
-          c.inner-inlet.ensures.inner (c.args.bridge, port) (λ same. let next : port ≡ place + 1 = ap (λ (at : ℕ × ℕ). at.1) same in omega arith) (i.there port (omega arith) within);
-      inner = λ at other h. c.inner-inlet.ensures.inner at (λ same. other (ap (λ (z : ℕ × ℕ). z.0) same)) (i.inner at other h);
+          c.inner-inlet.ensures.inner (c.args.bridge, port)
+          (λ same. let next : port ≡ place + 1 = ap (λ (at : ℕ × ℕ). at.1) same in omega arith)
+          (i.there port (omega arith) within);
+      inner = λ at other h. c.inner-inlet.ensures.inner at (λ same. other (ap (λ (z : ℕ × ℕ). z.0) same))
+          (i.inner at other h);
       outer = λ at h. c.inner-inlet.ensures.outer at (i.outer at h);
     }

@@ -12,6 +12,8 @@ invariant-loop-place g l = record {
   received : (q : ℕ) → shown_at (λ i. received i.end) l.inlets.items q ≡ [];
   sent : (q : ℕ) → shown_at (λ o. sent o.end) l.outlets.items q ≡ [];
   there : (port : ℕ) → l.place < port → port ≤ 16 → HasInner l.ends.outlets.items l.ends.inlets.items (l.bridge, port);
-  inner : (at : ℕ × ℕ) → (at.0 ≡ l.bridge → ⊥) → HasInner l.initial.ends.outlets.items l.initial.ends.inlets.items at → HasInner l.ends.outlets.items l.ends.inlets.items at;
-  outer : (at : ℕ × ℕ) → HasOuter l.initial.ends.outlets.items l.initial.ends.inlets.items at → HasOuter l.ends.outlets.items l.ends.inlets.items at;
+  inner : (at : ℕ × ℕ) → (at.0 ≡ l.bridge → ⊥) → HasInner l.initial.ends.outlets.items l.initial.ends.inlets.items at
+      → HasInner l.ends.outlets.items l.ends.inlets.items at;
+  outer : (at : ℕ × ℕ) → HasOuter l.initial.ends.outlets.items l.initial.ends.inlets.items at
+      → HasOuter l.ends.outlets.items l.ends.inlets.items at;
 }

@@ -12,31 +12,47 @@ use Rattle.pb_run.proofs.meet.meet_access.Goals as goal
 pub meet_customer-requires-clause-port : goal.meet_customer-requires-clause-port
 meet_customer-requires-clause-port g c =
     let customer = c.index-as_slice-place.result in
-    let at = here_is c.args.plan.now.customers c.args.place customer c.requires.place (c.index-as_slice-place.is ∙ ap (λ xs. get_or xs c.args.place customer) c.as_slice.ensures) in
+    let at = here_is c.args.plan.now.customers c.args.place customer c.requires.place
+    (c.index-as_slice-place.is ∙ ap (λ xs. get_or xs c.args.place customer) c.as_slice.ensures) in
     let stands = customer_stands c.args.plan.now c.args.place customer c.requires.sound at in
-    let rings = bridge_rings _ c.args.plan.now c.args.bridges.now.items customer.bridge customer.port c.from.result c.index_mut-bridge.result.now c.requires.bridges stands.bridge stands.port c.from.ensures c.index_mut-bridge.ensures.value in
-    (omega (arith, stands.port.0), omega (arith, stands.port.1, rings.2, length-map c.index_mut-bridge.result.now.ins.ends.items (λ i. i.number)))
+    let rings = bridge_rings _ c.args.plan.now c.args.bridges.now.items customer.bridge customer.port c.from.result
+    c.index_mut-bridge.result.now c.requires.bridges stands.bridge stands.port c.from.ensures
+    c.index_mut-bridge.ensures.value in (
+      omega (arith, stands.port.0),
+      omega
+          (arith, stands.port.1, rings.2, length-map c.index_mut-bridge.result.now.ins.ends.items (λ i. i.number)),
+    )
 
 pub meet_customer-requires-clause-feed : goal.meet_customer-requires-clause-feed
 meet_customer-requires-clause-feed g c =
     let customer = c.index-as_slice-place.result in
-    let at = here_is c.args.plan.now.customers c.args.place customer c.requires.place (c.index-as_slice-place.is ∙ ap (λ xs. get_or xs c.args.place customer) c.as_slice.ensures) in
+    let at = here_is c.args.plan.now.customers c.args.place customer c.requires.place
+    (c.index-as_slice-place.is ∙ ap (λ xs. get_or xs c.args.place customer) c.as_slice.ensures) in
     let stands = customer_stands c.args.plan.now c.args.place customer c.requires.sound at in
-    let rings = bridge_rings _ c.args.plan.now c.args.bridges.now.items customer.bridge customer.port c.from.result c.index_mut-bridge.result.now c.requires.bridges stands.bridge stands.port c.from.ensures c.index_mut-bridge.ensures.value in
+    let rings = bridge_rings _ c.args.plan.now c.args.bridges.now.items customer.bridge customer.port c.from.result
+    c.index_mut-bridge.result.now c.requires.bridges stands.bridge stands.port c.from.ensures
+    c.index_mut-bridge.ensures.value in
     let given = c.requires.accesses.each c.args.place customer c.requires.place at in
-    let gift = gift_here _ c.args.accesses.now.items c.args.place c.index_mut.result.now (access_gift (c.args.place + 1) customer)
-    (thing_is _ c.args.accesses.now.items c.args.place (access_gift (c.args.place + 1) customer) c.index_mut.result.now given c.index_mut.ensures.value) given in
+    let gift = gift_here _ c.args.accesses.now.items c.args.place c.index_mut.result.now
+    (access_gift (c.args.place + 1) customer)
+    (thing_is _ c.args.accesses.now.items c.args.place (access_gift (c.args.place + 1) customer)
+    c.index_mut.result.now given c.index_mut.ensures.value) given in
     rings.0 ∙ sym (ap (λ (z : AccessGift). z.1) gift)
 
 pub meet_customer-requires-clause-drain : goal.meet_customer-requires-clause-drain
 meet_customer-requires-clause-drain g c =
     let customer = c.index-as_slice-place.result in
-    let at = here_is c.args.plan.now.customers c.args.place customer c.requires.place (c.index-as_slice-place.is ∙ ap (λ xs. get_or xs c.args.place customer) c.as_slice.ensures) in
+    let at = here_is c.args.plan.now.customers c.args.place customer c.requires.place
+    (c.index-as_slice-place.is ∙ ap (λ xs. get_or xs c.args.place customer) c.as_slice.ensures) in
     let stands = customer_stands c.args.plan.now c.args.place customer c.requires.sound at in
-    let rings = bridge_rings _ c.args.plan.now c.args.bridges.now.items customer.bridge customer.port c.from.result c.index_mut-bridge.result.now c.requires.bridges stands.bridge stands.port c.from.ensures c.index_mut-bridge.ensures.value in
+    let rings = bridge_rings _ c.args.plan.now c.args.bridges.now.items customer.bridge customer.port c.from.result
+    c.index_mut-bridge.result.now c.requires.bridges stands.bridge stands.port c.from.ensures
+    c.index_mut-bridge.ensures.value in
     let given = c.requires.accesses.each c.args.place customer c.requires.place at in
-    let gift = gift_here _ c.args.accesses.now.items c.args.place c.index_mut.result.now (access_gift (c.args.place + 1) customer)
-    (thing_is _ c.args.accesses.now.items c.args.place (access_gift (c.args.place + 1) customer) c.index_mut.result.now given c.index_mut.ensures.value) given in
+    let gift = gift_here _ c.args.accesses.now.items c.args.place c.index_mut.result.now
+    (access_gift (c.args.place + 1) customer)
+    (thing_is _ c.args.accesses.now.items c.args.place (access_gift (c.args.place + 1) customer)
+    c.index_mut.result.now given c.index_mut.ensures.value) given in
     rings.1 ∙ sym (ap (λ (z : AccessGift). z.2) gift)
 
 pub returns-clause-bridges : goal.returns-clause-bridges
@@ -54,17 +70,23 @@ returns-clause-access_steps g c = kept_at _ _ _ _ c.index_mut.result.now c.index
 pub returns-clause-meets : goal.returns-clause-meets
 returns-clause-meets g c = λ planned there.
     let customer = c.index-as_slice-place.result in
-    let at = here_is c.args.plan.now.customers c.args.place customer c.requires.place (c.index-as_slice-place.is ∙ ap (λ xs. get_or xs c.args.place customer) c.as_slice.ensures) in
+    let at = here_is c.args.plan.now.customers c.args.place customer c.requires.place
+    (c.index-as_slice-place.is ∙ ap (λ xs. get_or xs c.args.place customer) c.as_slice.ensures) in
     let stands = customer_stands c.args.plan.now c.args.place customer c.requires.sound at in
     let given = c.requires.accesses.each c.args.place customer c.requires.place at in
-    let bridge = bridge_here _ c.args.plan.now c.args.bridges.now.items customer.bridge c.from.result c.index_mut-bridge.result.now c.requires.bridges stands.bridge c.from.ensures c.index_mut-bridge.ensures.value in
-    let access = thing_is _ c.args.accesses.now.items c.args.place (access_gift (c.args.place + 1) customer) c.index_mut.result.now given c.index_mut.ensures.value in
+    let bridge = bridge_here _ c.args.plan.now c.args.bridges.now.items customer.bridge c.from.result
+    c.index_mut-bridge.result.now c.requires.bridges stands.bridge c.from.ensures c.index_mut-bridge.ensures.value
+    in
+    let access = thing_is _ c.args.accesses.now.items c.args.place (access_gift (c.args.place + 1) customer)
+    c.index_mut.result.now given c.index_mut.ensures.value in
     let number : customer.bridge ≡ suc (c.from.result - 1) = omega (arith, c.from.ensures, stands.bridge.0) in
     let place : c.args.place + 1 ≡ suc c.args.place = omega arith in
     customer_meets _ _ customer planned (Some-injective (sym at ∙ there))
     (record {
-      into = begins_there (received customer.port) fed _ _ c.args.bridges.now.items c.args.accesses.now.items (c.from.result - 1) c.args.place customer.bridge (c.args.place + 1)
+      into = begins_there (received customer.port) fed _ _ c.args.bridges.now.items c.args.accesses.now.items
+          (c.from.result - 1) c.args.place customer.bridge (c.args.place + 1)
           c.index_mut-bridge.result.now c.index_mut.result.now bridge access number place c.meet_customer.ensures.into;
-      out = begins_there delivered (transmitted customer.port) _ _ c.args.accesses.now.items c.args.bridges.now.items c.args.place (c.from.result - 1) (c.args.place + 1) customer.bridge
+      out = begins_there delivered (transmitted customer.port) _ _ c.args.accesses.now.items c.args.bridges.now.items
+          c.args.place (c.from.result - 1) (c.args.place + 1) customer.bridge
           c.index_mut.result.now c.index_mut-bridge.result.now access bridge place number c.meet_customer.ensures.out;
     })

@@ -10,15 +10,23 @@ use Rattle.pb_run.proofs.meet.meet_here.Goals as goal
 pub meet_lane_here-requires-clause-port : goal.meet_lane_here-requires-clause-port
 meet_lane_here-requires-clause-port g c =
     let end = c.requires.end in
-    let rings = bridge_rings _ c.args.plan.now c.args.bridges.now.items c.args.to.now.bridge c.args.to.now.port c.from.result c.index_mut-bridge.result.now c.requires.bridges end.bridge end.port c.from.ensures c.index_mut-bridge.ensures.value in
-    (omega (arith, end.port.0), omega (arith, end.port.1, rings.2, length-map c.index_mut-bridge.result.now.ins.ends.items (λ i. i.number)))
+    let rings = bridge_rings _ c.args.plan.now c.args.bridges.now.items c.args.to.now.bridge c.args.to.now.port
+    c.from.result c.index_mut-bridge.result.now c.requires.bridges end.bridge end.port c.from.ensures
+    c.index_mut-bridge.ensures.value in (
+      omega (arith, end.port.0),
+      omega
+          (arith, end.port.1, rings.2, length-map c.index_mut-bridge.result.now.ins.ends.items (λ i. i.number)),
+    )
 
 pub meet_lane_here-requires-clause-ring : goal.meet_lane_here-requires-clause-ring
 meet_lane_here-requires-clause-ring g c =
     let end = c.requires.end in
-    let rings = bridge_rings _ c.args.plan.now c.args.bridges.now.items c.args.to.now.bridge c.args.to.now.port c.from.result c.index_mut-bridge.result.now c.requires.bridges end.bridge end.port c.from.ensures c.index_mut-bridge.ensures.value in
+    let rings = bridge_rings _ c.args.plan.now c.args.bridges.now.items c.args.to.now.bridge c.args.to.now.port
+    c.from.result c.index_mut-bridge.result.now c.requires.bridges end.bridge end.port c.from.ensures
+    c.index_mut-bridge.ensures.value in
     let gift = gift_here _ c.args.lanes.now.items c.args.place c.index_mut.result.now _
-    (thing_is _ c.args.lanes.now.items c.args.place _ c.index_mut.result.now c.requires.lane.3 c.index_mut.ensures.value) c.requires.lane.3 in
+    (thing_is _ c.args.lanes.now.items c.args.place _ c.index_mut.result.now c.requires.lane.3
+    c.index_mut.ensures.value) c.requires.lane.3 in
     rings.0 ∙ sym (ap (λ (z : LaneGift). z.2) gift)
 
 pub returns-clause-bridges : goal.returns-clause-bridges
@@ -36,7 +44,11 @@ returns-clause-lane_steps g c = kept_at _ _ _ _ c.index_mut.result.now c.index_m
 pub returns-clause-off : goal.returns-clause-off
 returns-clause-off g c =
     let end = c.requires.end in
-    begins_there (received c.args.to.now.port) put _ _ c.args.bridges.now.items c.args.lanes.now.items (c.from.result - 1) c.args.place c.args.to.now.bridge (c.args.place + 1) c.index_mut-bridge.result.now c.index_mut.result.now
-    (bridge_here _ c.args.plan.now c.args.bridges.now.items c.args.to.now.bridge c.from.result c.index_mut-bridge.result.now c.requires.bridges end.bridge c.from.ensures c.index_mut-bridge.ensures.value)
-    (thing_is _ c.args.lanes.now.items c.args.place _ c.index_mut.result.now c.requires.lane.3 c.index_mut.ensures.value)
+    begins_there (received c.args.to.now.port) put _ _ c.args.bridges.now.items c.args.lanes.now.items
+    (c.from.result - 1) c.args.place c.args.to.now.bridge (c.args.place + 1) c.index_mut-bridge.result.now
+    c.index_mut.result.now
+    (bridge_here _ c.args.plan.now c.args.bridges.now.items c.args.to.now.bridge c.from.result
+    c.index_mut-bridge.result.now c.requires.bridges end.bridge c.from.ensures c.index_mut-bridge.ensures.value)
+    (thing_is _ c.args.lanes.now.items c.args.place _ c.index_mut.result.now c.requires.lane.3
+    c.index_mut.ensures.value)
     (omega (arith, c.from.ensures, end.bridge.0)) (omega arith) c.meet_lane_here.ensures.off

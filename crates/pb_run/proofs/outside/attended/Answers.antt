@@ -18,14 +18,20 @@ loop-port-preserved g c =
     let next = c.in-Some.ensures.steps.0 in
     let taken = c.in-Some-pop_front.ensures.items in
     let made = c.new.ensures in
-    let fresh = all_head (λ (d : D). (d.place.steps ≡ []) × (d.book.last ≡ More)) c.in-Some-pop_front.access _ _ taken i.fresh in
+    let fresh = all_head (λ (d : D). (d.place.steps ≡ []) × (d.book.last ≡ More)) c.in-Some-pop_front.access _ _ taken
+    i.fresh in
     record {
       ports = moved_on _ c.loop-port.workers.items _ c.new.result _ _ _ c.in-Some.port i.ports grown next made.port.1;
-      ports_now = moved_on _ c.loop-port.workers.items _ c.new.result _ _ _ c.in-Some.port i.ports_now grown next made.port.0;
-      gifts = moved_on _ c.loop-port.workers.items _ c.new.result _ _ _ (gift c.in-Some-pop_front.access) i.gifts grown (ap (map gift) taken) (ap gift made.access);
-      fresh = all_rest (λ (d : D). (d.place.steps ≡ []) × (d.book.last ≡ More)) c.in-Some-pop_front.access _ _ taken i.fresh;
-      keeps = all_more (λ (w : C). KeepsPort g.P.Port.script g.P.Port.tally w.was.value w.port w.access.place.steps w.access.book.last) c.new.result c.loop-port.workers.items _ grown i.keeps
-          (keeps_fresh g.P.Port.script g.P.Port.tally c.new.result.was.value c.new.result.port c.new.result.access.place.steps c.new.result.access.book.last (made.port.1 ∙ sym made.port.0)
+      ports_now = moved_on _ c.loop-port.workers.items _ c.new.result _ _ _ c.in-Some.port i.ports_now grown next
+          made.port.0;
+      gifts = moved_on _ c.loop-port.workers.items _ c.new.result _ _ _ (gift c.in-Some-pop_front.access) i.gifts
+          grown (ap (map gift) taken) (ap gift made.access);
+      fresh = all_rest (λ (d : D). (d.place.steps ≡ []) × (d.book.last ≡ More)) c.in-Some-pop_front.access _ _ taken
+          i.fresh;
+      keeps = all_more (λ (w : C). KeepsPort g.P.Port.script g.P.Port.tally w.was.value w.port w.access.place.steps
+          w.access.book.last) c.new.result c.loop-port.workers.items _ grown i.keeps
+          (keeps_fresh g.P.Port.script g.P.Port.tally c.new.result.was.value c.new.result.port
+          c.new.result.access.place.steps c.new.result.access.book.last (made.port.1 ∙ sym made.port.0)
           (ap (λ (d : D). d.place.steps) made.access ∙ fresh.0) (ap (λ (d : D). d.book.last) made.access ∙ fresh.1));
       count = search rules;
       room = search rules;

@@ -8,12 +8,16 @@ use Rattle.pb_run.proofs.outside.attended.Given as goal
 
 abbrev pub invariant-loop-port : goal.invariant-loop-port
 invariant-loop-port g l = record {
-  ports : map (λ w. w.was.value) l.workers.items ++ into_iter_items l.port-iterator ≡ into_iter_items l.initial.port-iterator;
-  ports_now : map (λ w. w.port) l.workers.items ++ into_iter_items l.port-iterator ≡ into_iter_items l.initial.port-iterator;
-  gifts : map {B = AccessGift} (λ w. (w.access.place.number, w.access.feed.number, w.access.drain.number)) l.workers.items ++ map {B = AccessGift} (λ d. (d.place.number, d.feed.number, d.drain.number)) l.accesses.items
+  ports : map (λ w. w.was.value) l.workers.items
+      ++ into_iter_items l.port-iterator ≡ into_iter_items l.initial.port-iterator;
+  ports_now : map (λ w. w.port) l.workers.items
+      ++ into_iter_items l.port-iterator ≡ into_iter_items l.initial.port-iterator;
+  gifts : map {B = AccessGift} (λ w. (w.access.place.number, w.access.feed.number, w.access.drain.number))
+      l.workers.items ++ map {B = AccessGift} (λ d. (d.place.number, d.feed.number, d.drain.number)) l.accesses.items
       ≡ map {B = AccessGift} (λ d. (d.place.number, d.feed.number, d.drain.number)) l.initial.accesses.items;
   fresh : All (λ d. (d.place.steps ≡ []) × (d.book.last ≡ More)) l.accesses.items;
-  keeps : All (λ w. KeepsPort g.P.Port.script g.P.Port.tally w.was.value w.port w.access.place.steps w.access.book.last) l.workers.items;
+  keeps : All (λ w. KeepsPort g.P.Port.script g.P.Port.tally w.was.value w.port w.access.place.steps
+      w.access.book.last) l.workers.items;
   count : deque_len l.accesses ≡ into_iter_len l.port-iterator;
   room : vec_len l.workers + into_iter_len l.port-iterator ≤ vec_capacity l.workers;
 }

@@ -6,7 +6,8 @@ use Rattle.pb_run.proofs.record.access_lists.Given as goal
 abbrev pub invariant-loop-access : goal.invariant-loop-access
 invariant-loop-access g l = record {
   steps : l.room.tallies.items ≡ map (λ d. d.place.steps) l.yielded;
-  lawful : All (λ d. IsLawfulPort d.place.number d.place.steps) (into_iter_items l.access-iterator) → All (λ d. IsLawfulPort d.place.number d.place.steps) (into_iter_items l.initial.access-iterator);
+  lawful : All (λ d. IsLawfulPort d.place.number d.place.steps) (into_iter_items l.access-iterator)
+      → All (λ d. IsLawfulPort d.place.number d.place.steps) (into_iter_items l.initial.access-iterator);
   kept : g.W.Wiring.keeps ≡ true → l.room.lists.items ≡ map (λ d. d.place.steps) l.yielded;
   count : length l.room.lists.items ≡ length l.yielded;
   lists_room : vec_len l.fn.accesses ≤ vec_capacity l.room.lists;

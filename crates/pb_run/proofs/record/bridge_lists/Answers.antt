@@ -14,11 +14,25 @@ loop-worker-preserved g c =
     let i = c.loop-worker.invariant in
     let lists = c.push.ensures.lists in
     record {
-      steps = mapped_more _ c.loop-worker.yielded c.in-Some.worker c.loop-worker.room.tallies.items c.push.new.self.tallies.items c.into_steps.result.steps i.steps c.push.ensures.tallies c.into_steps.ensures.steps;
-      lawful = all_more (λ (x : X). IsLawfulBridge spanning_tree x.bridge.plan x.bridge.number x.bridge.steps) c.in-Some.worker c.loop-worker.yielded _ refl i.lawful c.into_steps.ensures.lawful;
-      unset = λ still. unset_more c.loop-worker.room.tallies.items c.push.new.self.tallies.items c.into_steps.result.steps (i.unset still) c.push.ensures.tallies (ap (λ (steps : List Step). list_any is_setting steps) c.into_steps.ensures.steps ∙ c.in-Some.worker.unset still);
-      kept = λ keeps. mapped_more _ c.loop-worker.yielded c.in-Some.worker c.loop-worker.room.lists.items c.push.new.self.lists.items lists.0 (i.kept keeps) lists.1 (lists.2 (c.into_steps.ensures.kept ∙ c.in-Some.worker.kept keeps) ∙ c.into_steps.ensures.steps);
-      count = omega (arith, i.count, ap length lists.1, length-append c.loop-worker.room.lists.items (lists.0 ∷ []), length-append c.loop-worker.yielded (c.in-Some.worker ∷ []));
+      steps = mapped_more _ c.loop-worker.yielded c.in-Some.worker c.loop-worker.room.tallies.items
+          c.push.new.self.tallies.items c.into_steps.result.steps i.steps c.push.ensures.tallies
+          c.into_steps.ensures.steps;
+      lawful = all_more (λ (x : X). IsLawfulBridge spanning_tree x.bridge.plan x.bridge.number x.bridge.steps)
+          c.in-Some.worker c.loop-worker.yielded _ refl i.lawful c.into_steps.ensures.lawful;
+      unset = λ still. unset_more c.loop-worker.room.tallies.items c.push.new.self.tallies.items
+          c.into_steps.result.steps (i.unset still) c.push.ensures.tallies
+          (ap (λ (steps : List Step). list_any is_setting steps) c.into_steps.ensures.steps ∙ c.in-Some.worker.unset
+          still);
+      kept = λ keeps. mapped_more _ c.loop-worker.yielded c.in-Some.worker c.loop-worker.room.lists.items
+          c.push.new.self.lists.items lists.0 (i.kept keeps) lists.1
+          (lists.2 (c.into_steps.ensures.kept ∙ c.in-Some.worker.kept keeps) ∙ c.into_steps.ensures.steps);
+      count = omega (
+        arith,
+        i.count,
+        ap length lists.1,
+        length-append c.loop-worker.room.lists.items (lists.0 ∷ []),
+        length-append c.loop-worker.yielded (c.in-Some.worker ∷ []),
+      );
       lists_room = search rules;
       room = search rules;
     }

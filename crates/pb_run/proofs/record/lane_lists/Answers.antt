@@ -10,20 +10,39 @@ loop-worker-preserved g c =
     let i = c.loop-worker.invariant in
     let lists = c.push.ensures.lists in
     record {
-      steps = mapped_more _ c.loop-worker.yielded c.in-Some.worker c.loop-worker.room.tallies.items c.push.new.self.tallies.items c.into_steps.result.steps i.steps c.push.ensures.tallies c.into_steps.ensures.steps;
-      lawful = λ rest. i.lawful (all_front (λ (x : X). IsLawfulLane x.lane.losses x.lane.steps) c.in-Some.worker _ _ c.in-Some.ensures.steps.0 c.into_steps.ensures.lawful rest);
-      kept = λ keeps. mapped_more _ c.loop-worker.yielded c.in-Some.worker c.loop-worker.room.lists.items c.push.new.self.lists.items lists.0 (i.kept keeps) lists.1 (lists.2 (c.into_steps.ensures.kept ∙ c.in-Some.worker.kept keeps) ∙ c.into_steps.ensures.steps);
-      count = omega (arith, i.count, ap length lists.1, length-append c.loop-worker.room.lists.items (lists.0 ∷ []), length-append c.loop-worker.yielded (c.in-Some.worker ∷ []));
+      steps = mapped_more _ c.loop-worker.yielded c.in-Some.worker c.loop-worker.room.tallies.items
+          c.push.new.self.tallies.items c.into_steps.result.steps i.steps c.push.ensures.tallies
+          c.into_steps.ensures.steps;
+      lawful = λ rest. i.lawful (all_front (λ (x : X). IsLawfulLane x.lane.losses x.lane.steps) c.in-Some.worker _ _
+          c.in-Some.ensures.steps.0 c.into_steps.ensures.lawful rest);
+      kept = λ keeps. mapped_more _ c.loop-worker.yielded c.in-Some.worker c.loop-worker.room.lists.items
+          c.push.new.self.lists.items lists.0 (i.kept keeps) lists.1
+          (lists.2 (c.into_steps.ensures.kept ∙ c.in-Some.worker.kept keeps) ∙ c.into_steps.ensures.steps);
+      count = omega (
+        arith,
+        i.count,
+        ap length lists.1,
+        length-append c.loop-worker.room.lists.items (lists.0 ∷ []),
+        length-append c.loop-worker.yielded (c.in-Some.worker ∷ []),
+      );
       lists_room = search rules;
       room = search rules;
     }
 
 pub loop-worker-init : goal.loop-worker-init
-loop-worker-init g c = record { steps = search rules; lawful = λ all. all; kept = λ keeps. search rules; count = search rules; lists_room = search rules; room = search rules }
+loop-worker-init g c = record {
+  steps = search rules;
+  lawful = λ all. all;
+  kept = λ keeps. search rules;
+  count = search rules;
+  lists_room = search rules;
+  room = search rules;
+}
 
 pub returns-clause-lawful : goal.returns-clause-lawful
 returns-clause-lawful g c =
     let X : Type 0 = LaneWorker g.row.W.Denot g.W.Wiring in
     let came = c.into_iter-worker-iterator.ensures.into_iter_gives.0 in
     subst (λ (xs : List X). All (λ (x : X). IsLawfulLane x.lane.losses x.lane.steps) xs) came
-    (c.loop-worker.invariant.lawful (λ k d less. absurd (omega (arith, less, c.in-None.ensures.steps.0, c.loop-worker.worker-iterator.rest.ok))))
+    (c.loop-worker.invariant.lawful
+    (λ k d less. absurd (omega (arith, less, c.in-None.ensures.steps.0, c.loop-worker.worker-iterator.rest.ok))))

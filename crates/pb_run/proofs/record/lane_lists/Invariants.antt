@@ -6,7 +6,8 @@ use Rattle.pb_run.proofs.record.lane_lists.Given as goal
 abbrev pub invariant-loop-worker : goal.invariant-loop-worker
 invariant-loop-worker g l = record {
   steps : l.room.tallies.items ≡ map (λ w. w.lane.steps) l.yielded;
-  lawful : All (λ w. IsLawfulLane w.lane.losses w.lane.steps) (into_iter_items l.worker-iterator) → All (λ w. IsLawfulLane w.lane.losses w.lane.steps) (into_iter_items l.initial.worker-iterator);
+  lawful : All (λ w. IsLawfulLane w.lane.losses w.lane.steps) (into_iter_items l.worker-iterator)
+      → All (λ w. IsLawfulLane w.lane.losses w.lane.steps) (into_iter_items l.initial.worker-iterator);
   kept : g.W.Wiring.keeps ≡ true → l.room.lists.items ≡ map (λ w. w.lane.steps) l.yielded;
   count : length l.room.lists.items ≡ length l.yielded;
   lists_room : vec_len l.fn.workers ≤ vec_capacity l.room.lists;

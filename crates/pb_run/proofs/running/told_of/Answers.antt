@@ -19,7 +19,8 @@ pub returns-clause-lawful : goal.returns-clause-lawful
 returns-clause-lawful g c =
     let one = c.meet_accesses.ensures in
     let two = c.meet_links.ensures in
-    let rec = record_of c.bridge_lists-bridges.result.tallies.items c.lane_lists-lanes.result.tallies.items c.access_lists-customers.result.tallies.items in
+    let rec = record_of c.bridge_lists-bridges.result.tallies.items c.lane_lists-lanes.result.tallies.items
+    c.access_lists-customers.result.tallies.items in
     subst (λ (r : Record). IsLawfulRecord spanning_tree c.args.plan.now r) (sym c.new.ensures)
     (lawful_workers _ _ _ _ _ _ c.args.plan.now rec
     c.meet_links.new.bridges.items c.meet_links.new.lanes.items c.meet_accesses.new.accesses.items _ _ _ _ _ _ _
@@ -27,25 +28,30 @@ returns-clause-lawful g c =
     (two.bridges ∙ one.bridges) two.lanes one.accesses
     (two.bridge_steps ∙ one.bridge_steps) one.access_steps two.bridge_steps two.lane_steps
     c.requires.bridges c.requires.lanes c.requires.accesses
-    c.bridge_lists-bridges.ensures.lawful c.lane_lists-lanes.ensures.lawful c.access_lists-customers.ensures.lawful one.meet two.meet)
+    c.bridge_lists-bridges.ensures.lawful c.lane_lists-lanes.ensures.lawful c.access_lists-customers.ensures.lawful
+    one.meet two.meet)
 
 pub returns-clause-headline : goal.returns-clause-headline
-returns-clause-headline g c = faithful spanning_tree c.args.plan.now c.new.result c.requires.sound (returns-clause-lawful g c)
+returns-clause-headline g c = faithful spanning_tree c.args.plan.now c.new.result c.requires.sound
+    (returns-clause-lawful g c)
 
 pub returns-clause-planned : goal.returns-clause-planned
 returns-clause-planned g c fixed unset =
     let plan = c.args.plan.now in
     let lawful = returns-clause-lawful g c in
-    still_frames_are_traced spanning_tree plan c.new.result lawful (planned_states_stay spanning_tree plan c.new.result fixed lawful unset)
+    still_frames_are_traced spanning_tree plan c.new.result lawful
+    (planned_states_stay spanning_tree plan c.new.result fixed lawful unset)
 
 pub returns-clause-unset : goal.returns-clause-unset
 returns-clause-unset g c = λ still.
-    subst (λ (r : Record). AllByRecursion (λ steps. list_any is_setting steps ≡ false) r.bridges) (sym c.new.ensures) (c.bridge_lists-bridges.ensures.unset still)
+    subst (λ (r : Record). AllByRecursion (λ steps. list_any is_setting steps ≡ false) r.bridges) (sym c.new.ensures)
+    (c.bridge_lists-bridges.ensures.unset still)
 
 pub returns-clause-kept : goal.returns-clause-kept
 returns-clause-kept g c = λ keeps.
     let bridges = c.bridge_lists-bridges.ensures in
     let lanes = c.lane_lists-lanes.ensures in
     let customers = c.access_lists-customers.ensures in
-    same_records _ _ _ _ _ _ (c.from_vec.ensures ∙ bridges.kept keeps ∙ sym bridges.steps) (c.from_vec-2.ensures ∙ lanes.kept keeps ∙ sym lanes.steps)
+    same_records _ _ _ _ _ _ (c.from_vec.ensures ∙ bridges.kept keeps ∙ sym bridges.steps)
+    (c.from_vec-2.ensures ∙ lanes.kept keeps ∙ sym lanes.steps)
     (c.from_vec-3.ensures ∙ customers.kept keeps ∙ sym customers.steps) ∙ sym c.new.ensures

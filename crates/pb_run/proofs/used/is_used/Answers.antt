@@ -11,5 +11,6 @@ returns-then-is_customer_there c = λ yes.
 
 pub returns-else-is_customer_there : goal.returns-else-is_customer_there
 returns-else-is_customer_there c = λ yes.
-    let there : list_any (λ l. is_end_at c.args.bridge c.args.port l.a || is_end_at c.args.bridge c.args.port l.b) c.args.plan.now.links ≡ true = cc in
+    let there : list_any (λ l. is_end_at c.args.bridge c.args.port l.a || is_end_at c.args.bridge c.args.port l.b)
+    c.args.plan.now.links ≡ true = cc in
     end_used c.args.plan.now c.args.bridge c.args.port there

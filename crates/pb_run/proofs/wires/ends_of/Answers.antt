@@ -25,14 +25,18 @@ loop-ring-init g c =
 
 pub new-requires : goal.new-requires
 new-requires g c =
-    let named = first_named (length c.loop-ring.outlets.items) g.W.Wiring.rings c.in-Some.ring _ _ c.in-Some.ensures.steps.0 c.loop-ring.invariant.named in
-    let e : c.len-number.result ≡ length c.loop-ring.outlets.items = omega (arith, c.len-number.ensures, c.loop-ring.outlets.ok) in
+    let named = first_named (length c.loop-ring.outlets.items) g.W.Wiring.rings c.in-Some.ring _ _
+    c.in-Some.ensures.steps.0 c.loop-ring.invariant.named in
+    let e : c.len-number.result ≡ length c.loop-ring.outlets.items =
+    omega (arith, c.len-number.ensures, c.loop-ring.outlets.ok) in
     ap (slice_get g.W.Wiring.rings) e ∙ named.0
 
 pub new-requires-in-loop-ring : goal.new-requires-in-loop-ring
 new-requires-in-loop-ring g c =
-    let named = first_named (length c.loop-ring.outlets.items) g.W.Wiring.rings c.in-Some.ring _ _ c.in-Some.ensures.steps.0 c.loop-ring.invariant.named in
-    let e : c.len-number.result ≡ length c.loop-ring.outlets.items = omega (arith, c.len-number.ensures, c.loop-ring.outlets.ok) in
+    let named = first_named (length c.loop-ring.outlets.items) g.W.Wiring.rings c.in-Some.ring _ _
+    c.in-Some.ensures.steps.0 c.loop-ring.invariant.named in
+    let e : c.len-number.result ≡ length c.loop-ring.outlets.items =
+    omega (arith, c.len-number.ensures, c.loop-ring.outlets.ok) in
     ap (slice_get g.W.Wiring.rings) e ∙ named.1
 
 pub loop-ring-preserved : goal.loop-ring-preserved
@@ -41,17 +45,26 @@ loop-ring-preserved g c =
     let i = c.loop-ring.invariant in
     let e = c.in-Some.ensures.steps.0 in
     let number : c.len-number.result ≡ k = omega (arith, c.len-number.ensures, c.loop-ring.outlets.ok) in
-    let outlets = ap length c.in_ok-push.ensures.items ∙ length-append c.loop-ring.outlets.items (Some c.new.result ∷ []) in
-    let inlets = ap length c.in_ok-push-2.ensures.items ∙ length-append c.loop-ring.inlets.items (Some c.new-in-loop-ring.result ∷ []) in
+    let outlets = ap length c.in_ok-push.ensures.items
+    ∙ length-append c.loop-ring.outlets.items (Some c.new.result ∷ []) in
+    let inlets = ap length c.in_ok-push-2.ensures.items
+    ∙ length-append c.loop-ring.inlets.items (Some c.new-in-loop-ring.result ∷ []) in
     let new = first_new c.in-Some.ring _ _ e i.new in
     record {
       counted = inlets ∙ ap (λ n. n + 1) i.counted ∙ sym outlets;
-      sending = there_more _ c.loop-ring.outlets.items c.push.new.self.items c.new.result c.in_ok-push.ensures.items i.sending
+      sending = there_more _ c.loop-ring.outlets.items c.push.new.self.items c.new.result c.in_ok-push.ensures.items
+          i.sending
           (c.new.ensures.number ∙ number, ap sent c.new.ensures.end ∙ new.1);
-      receiving = there_more _ c.loop-ring.inlets.items c.push-in-loop-ring.new.self.items c.new-in-loop-ring.result c.in_ok-push-2.ensures.items i.receiving
-          (c.new-in-loop-ring.ensures.number ∙ number ∙ sym i.counted, ap received c.new-in-loop-ring.ensures.end ∙ new.2);
-      outlets_there = one_more_there c.loop-ring.outlets.items c.push.new.self.items c.new.result c.in_ok-push.ensures.items i.outlets_there;
-      inlets_there = one_more_there c.loop-ring.inlets.items c.push-in-loop-ring.new.self.items c.new-in-loop-ring.result c.in_ok-push-2.ensures.items i.inlets_there;
+      receiving = there_more _ c.loop-ring.inlets.items c.push-in-loop-ring.new.self.items c.new-in-loop-ring.result
+          c.in_ok-push-2.ensures.items i.receiving (
+            c.new-in-loop-ring.ensures.number ∙ number ∙ sym i.counted,
+            ap received c.new-in-loop-ring.ensures.end
+                ∙ new.2,
+          );
+      outlets_there = one_more_there c.loop-ring.outlets.items c.push.new.self.items c.new.result
+          c.in_ok-push.ensures.items i.outlets_there;
+      inlets_there = one_more_there c.loop-ring.inlets.items c.push-in-loop-ring.new.self.items
+          c.new-in-loop-ring.result c.in_ok-push-2.ensures.items i.inlets_there;
       come = omega (arith, outlets, i.come, ap length e);
       new = others_new c.in-Some.ring _ _ e i.new;
       named = λ n ring h.

@@ -12,8 +12,11 @@ invariant-loop-ring g l = record {
   receiving : (n : ℕ) (i : _) → slice_get l.inlets.items n ≡ Some (Some i) → (i.number ≡ n) × (received i.end ≡ []);
   outlets_there : (n : ℕ) → n < length l.outlets.items → IsThere l.outlets.items n;
   inlets_there : (n : ℕ) → n < length l.inlets.items → IsThere l.inlets.items n;
-  come : length l.outlets.items + length (into_iter_items l.ring-iterator) ≡ length (into_iter_items l.initial.ring-iterator);
-  new : (n : ℕ) (ring : _) → slice_get (into_iter_items l.ring-iterator) n ≡ Some ring → IsPair ring.0 ring.1 × (sent ring.0 ≡ []) × (received ring.1 ≡ []);
+  come : length l.outlets.items + length (into_iter_items l.ring-iterator) ≡ length
+      (into_iter_items l.initial.ring-iterator);
+  new : (n : ℕ) (ring : _) → slice_get (into_iter_items l.ring-iterator) n ≡ Some ring → IsPair ring.0 ring.1
+      × (sent ring.0 ≡ []) × (received ring.1 ≡ []);
   named : (n : ℕ) (ring : _) → slice_get (into_iter_items l.ring-iterator) n ≡ Some ring
-      → (slice_get g.W.Wiring.rings (length l.outlets.items + n) ≡ Some (writer_name ring.0)) × (slice_get g.W.Wiring.rings (length l.outlets.items + n) ≡ Some (reader_name ring.1));
+      → (slice_get g.W.Wiring.rings (length l.outlets.items + n) ≡ Some (writer_name ring.0))
+      × (slice_get g.W.Wiring.rings (length l.outlets.items + n) ≡ Some (reader_name ring.1));
 }

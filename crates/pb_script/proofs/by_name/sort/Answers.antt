@@ -1,4 +1,5 @@
-use Rattle.std.proofs.Common.{◌≡◌, ◌+◌, ◌<◌, ℕ, List, false, length, get_or, map, Bor, refl, sym, ap, subst, is_lt, nat_cmp}
+use Rattle.std.proofs.Common.{◌≡◌, ◌+◌, ◌<◌, ℕ, List, false, length, get_or, map, Bor, refl, sym, ap, subst, is_lt}
+use Rattle.std.proofs.Common.{nat_cmp}
 use Rattle.std.proofs.Common.{IsPermutation}
 use Rattle.std.proofs.Math.ListN.{get_or-map}
 use Rattle.std.proofs.lemmas.List.{length-map}
@@ -36,6 +37,7 @@ in_order c = λ k d low high.
 pub returns : goal.returns
 returns c = λ names numbered. record {
   same = subst (λ xs. IsPermutation xs (map seen c.sort_unstable.new.self.items)) numbered
-      (IsPermutation-map seen c.args.things.now.items c.sort_unstable.new.self.items c.sort_unstable.ensures.permutation);
+      (IsPermutation-map seen c.args.things.now.items c.sort_unstable.new.self.items
+      c.sort_unstable.ensures.permutation);
   by_name = in_order c;
 }

@@ -11,14 +11,19 @@ use Rattle.pb_net.proofs.net.Net.finish.Goals as goal
 pub returns-clause-lawful : goal.returns-clause-lawful
 returns-clause-lawful c =
     let s = c.self.inside in
-    let lawful = kept_lawful s.plan (record_of s.bridges.items s.lanes.items s.customers.items) _ _ c.self.invariant.0 c.self.invariant.2 in
+    let lawful = kept_lawful s.plan (record_of s.bridges.items s.lanes.items s.customers.items) _ _ c.self.invariant.0
+    c.self.invariant.2 in
     rw (c.bridge_steps.ensures, c.lane_steps.ensures, c.customer_steps.ensures)
-    (subst (λ (v : NetView). IsLawfulRecord spanning_tree v.plan (record_of s.bridges.items s.lanes.items s.customers.items)) c.self.view_is lawful)
+    (subst (λ (v : NetView). IsLawfulRecord spanning_tree v.plan
+    (record_of s.bridges.items s.lanes.items s.customers.items)) c.self.view_is lawful)
 
 pub returns-clause-headline : goal.returns-clause-headline
 returns-clause-headline c =
     let s = c.self.inside in
-    let lawful = kept_lawful s.plan (record_of s.bridges.items s.lanes.items s.customers.items) _ _ c.self.invariant.0 c.self.invariant.2 in
+    let lawful = kept_lawful s.plan (record_of s.bridges.items s.lanes.items s.customers.items) _ _ c.self.invariant.0
+    c.self.invariant.2 in
     rw (c.bridge_steps.ensures, c.lane_steps.ensures, c.customer_steps.ensures)
-    (subst (λ (v : NetView). IsFaithful v.plan (record_of s.bridges.items s.lanes.items s.customers.items)) c.self.view_is
-    (faithful spanning_tree s.plan (record_of s.bridges.items s.lanes.items s.customers.items) c.self.invariant.0.sound lawful))
+    (subst (λ (v : NetView). IsFaithful v.plan (record_of s.bridges.items s.lanes.items s.customers.items))
+    c.self.view_is
+    (faithful spanning_tree s.plan (record_of s.bridges.items s.lanes.items s.customers.items)
+    c.self.invariant.0.sound lawful))

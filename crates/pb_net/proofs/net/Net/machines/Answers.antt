@@ -14,9 +14,12 @@ unreachable-requires c =
     let r = c.loop-bridge.bridge-index in
     let b = c.bridge-item.result in
     let rstp = subst (λ (v : NetView). v.plan.spanning ≡ Rstp) (sym c.self.view_is) c.requires in
-    let within : r < length s.bridges.items = subst (λ (xs : List BridgeView). r < length xs) c.deref-bridge-items.ensures.value c.loop-bridge-test.true in
-    let at : b ≡ get_or s.bridges.items r b = subst (λ (xs : List BridgeView). b ≡ get_or xs r b) c.deref-bridge-items.ensures.value c.bridge-item.is in
-    let e = c.in_default.ensures ∙ machine_there s.plan s.bridges.items s.lanes.items s.customers.items r b rstp c.self.invariant.1 within at in
+    let within : r < length s.bridges.items = subst (λ (xs : List BridgeView). r < length xs)
+    c.deref-bridge-items.ensures.value c.loop-bridge-test.true in
+    let at : b ≡ get_or s.bridges.items r b = subst (λ (xs : List BridgeView). b ≡ get_or xs r b)
+    c.deref-bridge-items.ensures.value c.bridge-item.is in
+    let e = c.in_default.ensures ∙ machine_there s.plan s.bridges.items s.lanes.items s.customers.items r b rstp
+    c.self.invariant.1 within at in
     cc
 
 pub loop-bridge-preserved : goal.loop-bridge-preserved
@@ -26,21 +29,33 @@ loop-bridge-preserved c =
     let b = c.bridge-item.result in
     let m = c.in-Some.machine in
     let rstp = subst (λ (v : NetView). v.plan.spanning ≡ Rstp) (sym c.self.view_is) c.requires in
-    let within : r < length s.bridges.items = subst (λ (xs : List BridgeView). r < length xs) c.deref-bridge-items.ensures.value c.loop-bridge-test.true in
-    let at : b ≡ get_or s.bridges.items r b = subst (λ (xs : List BridgeView). b ≡ get_or xs r b) c.deref-bridge-items.ensures.value c.bridge-item.is in
+    let within : r < length s.bridges.items = subst (λ (xs : List BridgeView). r < length xs)
+    c.deref-bridge-items.ensures.value c.loop-bridge-test.true in
+    let at : b ≡ get_or s.bridges.items r b = subst (λ (xs : List BridgeView). b ≡ get_or xs r b)
+    c.deref-bridge-items.ensures.value c.bridge-item.is in
     let before = map (λ x. x.now) c.loop-bridge.machines.items in
-    let kept = subst (λ (v : NetView). before ≡ take r (machines_in v.plan v.rec)) (sym c.self.view_is) c.loop-bridge.invariant in
-    subst (λ (v : NetView). map (λ x. x.now) c.push.new.self.items ≡ take (r + 1) (machines_in v.plan v.rec)) c.self.view_is
+    let kept = subst (λ (v : NetView). before ≡ take r (machines_in v.plan v.rec)) (sym c.self.view_is)
+    c.loop-bridge.invariant in
+    subst (λ (v : NetView). map (λ x. x.now) c.push.new.self.items ≡ take (r + 1) (machines_in v.plan v.rec))
+    c.self.view_is
     (ap (map (λ x. x.now)) c.in_ok-push.ensures.items ∙ map-append (λ x. x.now) c.loop-bridge.machines.items (m ∷ [])
-    ∙ machines_more s.plan s.bridges.items s.lanes.items s.customers.items r b before m.now rstp c.self.invariant.1 within at c.in-Some.ensures kept)
+    ∙ machines_more s.plan s.bridges.items s.lanes.items s.customers.items r b before m.now rstp c.self.invariant.1
+    within at c.in-Some.ensures kept)
 
 pub returns : goal.returns
 returns c =
     let s = c.self.inside in
     let before = map (λ x. x.now) c.loop-bridge.machines.items in
-    let kept = subst (λ (v : NetView). before ≡ take c.loop-bridge.bridge-index (machines_in v.plan v.rec)) (sym c.self.view_is) c.loop-bridge.invariant in
+    let kept = subst (λ (v : NetView). before ≡ take c.loop-bridge.bridge-index (machines_in v.plan v.rec))
+    (sym c.self.view_is) c.loop-bridge.invariant in
     let end : c.loop-bridge.bridge-index ≡ length s.bridges.items =
-    omega (arith, c.loop-bridge-test.false, c.loop-bridge.auto.bridge-index-end, ap length c.deref-bridge-items.ensures.value) in
+    omega (
+      arith,
+      c.loop-bridge-test.false,
+      c.loop-bridge.auto.bridge-index-end,
+      ap length
+          c.deref-bridge-items.ensures.value,
+    ) in
     subst (λ (v : NetView). before ≡ machines_in v.plan v.rec) c.self.view_is
     (kept ∙ ap (λ k. take k (machines_in s.plan (record_of s.bridges.items s.lanes.items s.customers.items))) end
     ∙ machines_all s.plan s.bridges.items s.lanes.items s.customers.items c.self.invariant.1)

@@ -17,7 +17,8 @@ invariant_of-result c =
     let os = subst (λ (n : ℕ). AreEmptyBoxes (16 * n) outs) c.len-slots.ensures c.in_ok-empty_boxes-2.ensures in (
       record { sound = c.requires },
       fresh_placed c.args.plan bridges lanes customers c.in_ok-fresh_bridges.ensures c.in_ok-fresh_lanes.ensures cs,
-      fresh_kept c.args.plan bridges lanes customers ins outs c.in_ok-fresh_bridges.ensures c.in_ok-fresh_lanes.ensures cs is os,
+      fresh_kept c.args.plan bridges lanes customers ins outs c.in_ok-fresh_bridges.ensures
+          c.in_ok-fresh_lanes.ensures cs is os,
       c.in_ok-slots_of.ensures,
       record { steps = refl; places = c.from.ensures },
       c.in_ok-empty_lists.ensures,

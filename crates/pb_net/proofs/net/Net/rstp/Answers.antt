@@ -17,4 +17,5 @@ returns c =
     let known = known_number s.plan.bridges n there in
     let within : n - 1 < length s.bridges.items = omega (arith, known.0, known.1, c.self.invariant.1.bridge_count) in
     subst (λ (v : NetView). option_copied c.rstp.result ≡ machine_in v.plan n (steps_of v.rec.bridges n)) c.self.view_is
-    (c.rstp.ensures ∙ machine_of_bridge s.plan s.bridges.items s.lanes.items s.customers.items n c.index.result.now c.self.invariant.1 known.0 within c.index.ensures)
+    (c.rstp.ensures ∙ machine_of_bridge s.plan s.bridges.items s.lanes.items s.customers.items n c.index.result.now
+    c.self.invariant.1 known.0 within c.index.ensures)

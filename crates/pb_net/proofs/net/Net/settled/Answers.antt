@@ -12,7 +12,12 @@ returns-in_ok-machines-in-Rstp c =
     let rec = record_of s.bridges.items s.lanes.items s.customers.items in
     let yes = c.is_settled.result in
     let e : map (λ m. m.now) c.as_slice.result.now ≡ machines_in s.plan rec =
-    ap (map (λ m. m.now)) c.as_slice.ensures.value ∙ c.in_ok-machines-in-Rstp.ensures ∙ ap (λ (v : NetView). machines_in v.plan v.rec) (sym c.self.view_is) in
+    ap (map (λ m. m.now)) c.as_slice.ensures.value ∙ c.in_ok-machines-in-Rstp.ensures
+    ∙ ap (λ (v : NetView). machines_in v.plan v.rec) (sym c.self.view_is) in
     subst (λ (v : NetView). TellsSettled v.plan v.rec (Some yes)) c.self.view_is
-    (subst (λ (z : Spanning). TellsBy z s.plan (machines_in s.plan rec) (Some yes)) (sym c.in-Rstp.is)
-    (yes, refl, tells s.plan rec (map (λ m. m.now) c.as_slice.result.now) yes e c.self.invariant.0.sound c.planned_are_machines.ensures c.is_settled.ensures.settled c.is_settled.ensures.forest))
+    (subst (λ (z : Spanning). TellsBy z s.plan (machines_in s.plan rec) (Some yes)) (sym c.in-Rstp.is) (
+      yes,
+      refl,
+      tells s.plan rec (map (λ m. m.now) c.as_slice.result.now) yes e c.self.invariant.0.sound
+          c.planned_are_machines.ensures c.is_settled.ensures.settled c.is_settled.ensures.forest,
+    ))

@@ -1,4 +1,5 @@
-use Rattle.std.proofs.Common.{◌≡◌, ◌≤◌, ◌∷◌, ◌++◌, [], Some, None, refl, true, cond, List, ℕ, length, length-append, arith, ap, sym, subst, ◌∙◌}
+use Rattle.std.proofs.Common.{◌≡◌, ◌≤◌, ◌∷◌, ◌++◌, [], Some, None, refl, true, cond, List, ℕ, length, length-append}
+use Rattle.std.proofs.Common.{arith, ap, sym, subst, ◌∙◌}
 use Rattle.std.specs.List.{filter}
 use Rattle.pb_frame.specs.Frames.{src_of, dst_of, is_group, shortest_frame}
 use Rattle.pb_lan.specs.Ports.{port_at, local_ports}
@@ -28,7 +29,8 @@ use Rattle.pb_relay.proofs.bridge.Bridge.carry.Goals as goal
 
 -- what is known of the item
 admitted : (old : BridgeView) (plan : BridgeView) → plan ≡ old → (port : ℕ) → (item : _) → (vid : ℕ)
-    → ruling spanning_tree old.plan old.number old.steps port item ≡ Carries vid → IsAdmitted plan.plan (port_at plan.plan plan.number port) item vid
+    → ruling spanning_tree old.plan old.number old.steps port item ≡ Carries vid
+    → IsAdmitted plan.plan (port_at plan.plan plan.number port) item vid
 admitted old view e port item vid r =
     carried view.plan (port_at view.plan view.number port) (state_after view.plan view.number view.steps port) item vid
     (subst (λ (v : BridgeView). ruling spanning_tree v.plan v.number v.steps port item ≡ Carries vid) (sym e) r)
@@ -51,20 +53,34 @@ queue_copies-refused-requires-clause-hops c =
 -- the step fits, and what is kept is kept
 whole : (c : goal.Joined-load-3)
     → Fits spanning_tree c.self.inside.plan c.self.inside.number c.self.inside.steps.steps
-    (Receive c.args.port c.args.item (Some c.learn-learnt.result) (Relayed c.choose-chosen.result c.queue_copies-refused.result) None)
+    (Receive c.args.port c.args.item (Some c.learn-learnt.result)
+    (Relayed c.choose-chosen.result c.queue_copies-refused.result) None)
     × IsStanding c.self.inside.plan c.self.inside.number
-    (c.self.inside.steps.steps ++ Receive c.args.port c.args.item (Some c.learn-learnt.result) (Relayed c.choose-chosen.result c.queue_copies-refused.result) None ∷ [])
+    (c.self.inside.steps.steps ++ Receive c.args.port c.args.item (Some c.learn-learnt.result)
+    (Relayed c.choose-chosen.result c.queue_copies-refused.result) None ∷ [])
     c.self.inside.states c.queue_copies-refused.new.outbox.ports c.self.inside.clock c.learn-learnt.new.self.sightings
 whole c =
-    let mac : c.source_of.result.0 ≡ src_of c.args.item.wire = c.source_of.ensures ∙ ap src_of c.as_slice-frame.ensures in
-    let learns : HasLearnt c.self.inside.plan.ageing c.self.inside.clock c.args.vid c.args.port (src_of c.args.item.wire) c.self.inside.table.sightings c.learn-learnt.result c.learn-learnt.new.self.sightings =
-    subst (λ (m : List ℕ). HasLearnt c.self.inside.plan.ageing c.self.inside.clock c.args.vid c.args.port m c.self.inside.table.sightings c.learn-learnt.result c.learn-learnt.new.self.sightings) mac
-    (has_learnt c.self.inside.plan c.self.inside.clock c.args.vid c.args.port c.source_of.result.0 c.self.inside.table c.learn-learnt.new.self c.learn-learnt.result (omega (arith, c.self.invariant.0.sound.limits.ageing.0)) c.self.invariant.3 c.learn-learnt.ensures.answer c.learn-learnt.ensures.table) in
-    let newer = table_learnt c.self.inside.plan c.self.inside.clock c.self.inside.table c.learn-learnt.new.self (sighting_at c.args.vid c.source_of.result.0 c.args.port c.self.inside.clock) c.learn-learnt.result c.self.invariant.3 refl c.learn-learnt.ensures.table in
+    let mac : c.source_of.result.0 ≡ src_of c.args.item.wire = c.source_of.ensures
+    ∙ ap src_of c.as_slice-frame.ensures in
+    let learns : HasLearnt c.self.inside.plan.ageing c.self.inside.clock c.args.vid c.args.port
+    (src_of c.args.item.wire) c.self.inside.table.sightings c.learn-learnt.result
+    c.learn-learnt.new.self.sightings =
+    subst (λ (m : List ℕ). HasLearnt c.self.inside.plan.ageing c.self.inside.clock c.args.vid c.args.port m
+    c.self.inside.table.sightings c.learn-learnt.result c.learn-learnt.new.self.sightings) mac
+    (has_learnt c.self.inside.plan c.self.inside.clock c.args.vid c.args.port c.source_of.result.0 c.self.inside.table
+    c.learn-learnt.new.self c.learn-learnt.result (omega (arith, c.self.invariant.0.sound.limits.ageing.0))
+    c.self.invariant.3 c.learn-learnt.ensures.answer c.learn-learnt.ensures.table) in
+    let newer = table_learnt c.self.inside.plan c.self.inside.clock c.self.inside.table c.learn-learnt.new.self
+    (sighting_at c.args.vid c.source_of.result.0 c.args.port c.self.inside.clock) c.learn-learnt.result
+    c.self.invariant.3 refl c.learn-learnt.ensures.table in
     let at = c.sought-at.ensures
-    ∙ ap (λ w. cond (is_group (dst_of w)) None (place_in c.learn-learnt.new.self c.self.inside.clock c.args.vid (dst_of w))) c.as_slice-frame.ensures
-    ∙ ap (λ o. cond (is_group (dst_of c.args.item.wire)) None o) (found_in c.self.inside.plan c.self.inside.clock c.args.vid (dst_of c.args.item.wire) c.learn-learnt.new.self newer.ageing) in
-    let chosen : c.choose-chosen.result ≡ filter (is_choice c.self.inside.ports c.self.inside.states c.args.port c.args.vid c.sought-at.result) local_ports =
+    ∙ ap (λ w. cond (is_group (dst_of w)) None (place_in c.learn-learnt.new.self c.self.inside.clock c.args.vid
+    (dst_of w))) c.as_slice-frame.ensures
+    ∙ ap (λ o. cond (is_group (dst_of c.args.item.wire)) None o)
+    (found_in c.self.inside.plan c.self.inside.clock c.args.vid (dst_of c.args.item.wire) c.learn-learnt.new.self
+    newer.ageing) in
+    let chosen : c.choose-chosen.result ≡ filter
+    (is_choice c.self.inside.ports c.self.inside.states c.args.port c.args.vid c.sought-at.result) local_ports =
     c.choose-chosen.ensures.chosen in
     relayed c.self.inside.plan c.self.inside.number c.self.inside.steps.steps c.self.inside.states
     c.self.inside.outbox.ports c.queue_copies-refused.new.outbox.ports
@@ -72,15 +88,21 @@ whole c =
     c.self.inside.outbox.capacity c.self.inside.limit c.args.port c.args.vid c.args.item c.args.load
     c.learn-learnt.result c.sought-at.result c.choose-chosen.result c.queue_copies-refused.result
     c.self.invariant.0 c.self.invariant.1
-    (subst (λ (v : BridgeView). ruling spanning_tree v.plan v.number v.steps c.args.port c.args.item ≡ Carries c.args.vid) (sym c.self.view_is) c.requires.ruling)
-    (subst (λ (v : BridgeView). IsLoadedAt v.plan v.number (port_at v.plan v.number c.args.port) c.args.item.wire c.args.load) (sym c.self.view_is) c.requires.load)
-    learns at chosen (separate_of 0 c.choose-chosen.result c.choose-chosen.ensures.ascending) c.queue_copies-refused.ensures.copied c.queue_copies-refused.ensures.count
+    (subst (λ (v : BridgeView). ruling spanning_tree v.plan v.number v.steps c.args.port c.args.item ≡ Carries
+    c.args.vid) (sym c.self.view_is) c.requires.ruling)
+    (subst (λ (v : BridgeView). IsLoadedAt v.plan v.number (port_at v.plan v.number c.args.port) c.args.item.wire
+    c.args.load) (sym c.self.view_is) c.requires.load)
+    learns at chosen (separate_of 0 c.choose-chosen.result c.choose-chosen.ensures.ascending)
+    c.queue_copies-refused.ensures.copied c.queue_copies-refused.ensures.count
 
 pub invariant_of-self : goal.invariant_of-self
 invariant_of-self c =
-    let reserved = c.self.invariant.2.reserved (subst (λ (v : BridgeView). v.is_reserved ≡ true) (sym c.self.view_is) c.requires.reserved) in
-    let step : Step = Receive c.args.port c.args.item (Some c.learn-learnt.result) (Relayed c.choose-chosen.result c.queue_copies-refused.result) None in
-    let e : c.append_receive.new.steps.steps ≡ c.self.inside.steps.steps ++ step ∷ [] = (ap (λ (v : StepsView). v.steps) c.append_receive.ensures.steps) in (
+    let reserved = c.self.invariant.2.reserved (subst (λ (v : BridgeView). v.is_reserved ≡ true) (sym c.self.view_is)
+    c.requires.reserved) in
+    let step : Step = Receive c.args.port c.args.item (Some c.learn-learnt.result)
+    (Relayed c.choose-chosen.result c.queue_copies-refused.result) None in
+    let e : c.append_receive.new.steps.steps ≡ c.self.inside.steps.steps
+    ++ step ∷ [] = (ap (λ (v : StepsView). v.steps) c.append_receive.ensures.steps) in (
       subst (λ (n : ℕ). IsConfigured c.self.inside.plan c.self.inside.number c.self.inside.ports n
           c.self.inside.limit) (sym c.queue_copies-refused.ensures.kept.capacity) c.self.invariant.0,
       subst (λ (ms : List Step). IsStanding c.self.inside.plan c.self.inside.number ms c.self.inside.states
@@ -90,8 +112,11 @@ invariant_of-self c =
         within = omega (arith, reserved, ap length e, length-append c.self.inside.steps.steps (step ∷ []));
         reserved = λ e. used_up (ap (λ (v : StepsView). v.is_reserved) c.append_receive.ensures.steps) e;
       },
-      table_learnt c.self.inside.plan c.self.inside.clock c.self.inside.table c.learn-learnt.new.self (sighting_at c.args.vid c.source_of.result.0 c.args.port c.self.inside.clock) c.learn-learnt.result c.self.invariant.3 refl c.learn-learnt.ensures.table,
-      subst (λ (ms : List Step). IsSpanning c.self.inside.plan c.self.inside.number ms c.self.inside.rstp c.self.inside.address.0) (sym e)
+      table_learnt c.self.inside.plan c.self.inside.clock c.self.inside.table c.learn-learnt.new.self
+          (sighting_at c.args.vid c.source_of.result.0 c.args.port c.self.inside.clock) c.learn-learnt.result
+          c.self.invariant.3 refl c.learn-learnt.ensures.table,
+      subst (λ (ms : List Step). IsSpanning c.self.inside.plan c.self.inside.number ms c.self.inside.rstp
+          c.self.inside.address.0) (sym e)
           (spanning_stays _ _ _ _ _ step refl c.self.invariant.4),
       c.queue_copies-refused.ensures.kept.is_kept ∙ c.self.invariant.5
           ∙ sym (ap (λ (v : StepsView). v.is_kept) c.append_receive.ensures.steps),

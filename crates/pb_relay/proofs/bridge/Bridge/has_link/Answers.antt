@@ -4,7 +4,8 @@ use Rattle.pb_relay.specs.Kinds.{is_bridge_told}
 use Rattle.pb_relay.specs.Standing.{BridgeView}
 use Rattle.pb_relay.proofs.PortLemmas.{provider_is, no_link_elsewhere}
 use Rattle.pb_relay.proofs.bridge.Bridge.has_link.Goals as goal
-use Rattle.pb_relay.proofs.bridge.Bridge.has_link.Goals.{then-port-eq0-via-then-port-eq0, then-port-eq0-via-else-port-eq0+then-port-gt-PORTS}
+use Rattle.pb_relay.proofs.bridge.Bridge.has_link.Goals.{then-port-eq0-via-then-port-eq0}
+use Rattle.pb_relay.proofs.bridge.Bridge.has_link.Goals.{then-port-eq0-via-else-port-eq0+then-port-gt-PORTS}
 
 pub returns-then-port-eq0 : goal.returns-then-port-eq0
 returns-then-port-eq0 c =
@@ -19,4 +20,5 @@ pub returns : goal.returns
 returns c =
     let told = c.is_bridge.ensures ∙ ap is_bridge_told c.at.ensures in
     subst (λ (v : BridgeView). c.is_bridge.result ≡ is_provider (port_at v.plan v.number c.args.port)) c.self.view_is
-    (told ∙ provider_is c.self.inside.plan c.self.inside.number c.self.inside.ports _ _ c.args.port c.self.invariant.0 c.if-port-eq0.false c.if-port-gt-PORTS.false)
+    (told ∙ provider_is c.self.inside.plan c.self.inside.number c.self.inside.ports _ _ c.args.port c.self.invariant.0
+    c.if-port-eq0.false c.if-port-gt-PORTS.false)

@@ -5,7 +5,8 @@ use Rattle.pb_relay.specs.Standing.{BridgeView}
 use Rattle.pb_relay.specs.declared.ports.Local.{Local}
 use Rattle.pb_relay.proofs.PortLemmas.{used_is, none_elsewhere}
 use Rattle.pb_relay.proofs.bridge.Bridge.has_port.Goals as goal
-use Rattle.pb_relay.proofs.bridge.Bridge.has_port.Goals.{then-port-eq0-via-then-port-eq0, then-port-eq0-via-else-port-eq0+then-port-gt-PORTS}
+use Rattle.pb_relay.proofs.bridge.Bridge.has_port.Goals.{then-port-eq0-via-then-port-eq0}
+use Rattle.pb_relay.proofs.bridge.Bridge.has_port.Goals.{then-port-eq0-via-else-port-eq0+then-port-gt-PORTS}
 
 pub returns-then-port-eq0 : goal.returns-then-port-eq0
 returns-then-port-eq0 c =
@@ -18,7 +19,10 @@ returns-then-port-eq0 c =
 
 pub returns : goal.returns
 returns c =
-    let told = ap (λ b. b || c.is_bridge.result) c.is_customer.ensures ∙ ap (λ b. is_customer_told c.at-local.result || b) c.is_bridge.ensures
+    let told = ap (λ b. b || c.is_bridge.result) c.is_customer.ensures
+    ∙ ap (λ b. is_customer_told c.at-local.result || b) c.is_bridge.ensures
     ∙ ap (λ (l : Local). is_customer_told l || is_bridge_told l) c.at-local.ensures in
-    subst (λ (v : BridgeView). (c.is_customer.result || c.is_bridge.result) ≡ is_used (port_at v.plan v.number c.args.port)) c.self.view_is
-    (told ∙ used_is c.self.inside.plan c.self.inside.number c.self.inside.ports _ _ c.args.port c.self.invariant.0 c.if-port-eq0.false c.if-port-gt-PORTS.false)
+    subst (λ (v : BridgeView). (c.is_customer.result || c.is_bridge.result) ≡ is_used
+    (port_at v.plan v.number c.args.port)) c.self.view_is
+    (told ∙ used_is c.self.inside.plan c.self.inside.number c.self.inside.ports _ _ c.args.port c.self.invariant.0
+    c.if-port-eq0.false c.if-port-gt-PORTS.false)

@@ -1,4 +1,5 @@
-use Rattle.std.proofs.Common.{List, ℕ, ◌-◌, refl, ◌≡◌, ◌<◌, ◌∷◌, true, length, arith, sym, ap, subst, ◌∙◌, [], Some, length-append}
+use Rattle.std.proofs.Common.{List, ℕ, ◌-◌, refl, ◌≡◌, ◌<◌, ◌∷◌, true, length, arith, sym, ap, subst, ◌∙◌, [], Some}
+use Rattle.std.proofs.Common.{length-append}
 use Rattle.pb_lan.specs.declared.step.Step.{Step}
 use Rattle.pb_lan.specs.Ports.{port_at}
 use Rattle.pb_lan.specs.Queues.{waiting, next_out}
@@ -20,19 +21,23 @@ use Rattle.pb_relay.proofs.bridge.Bridge.pop_out.Goals as goal
 pub overflow_sub-port : goal.overflow_sub-port
 overflow_sub-port c =
     (used_port _ _ _ c.self.invariant.0.sound
-    (subst (λ (v : BridgeView). is_used (port_at v.plan v.number c.args.port) ≡ true) (sym c.self.view_is) c.requires.used)).0
+    (subst (λ (v : BridgeView). is_used (port_at v.plan v.number c.args.port) ≡ true) (sym c.self.view_is)
+    c.requires.used)).0
 
 pub pop-requires : goal.pop-requires
 pop-requires c =
     let l = used_port _ _ _ c.self.invariant.0.sound
-    (subst (λ (v : BridgeView). is_used (port_at v.plan v.number c.args.port) ≡ true) (sym c.self.view_is) c.requires.used) in
+    (subst (λ (v : BridgeView). is_used (port_at v.plan v.number c.args.port) ≡ true) (sym c.self.view_is)
+    c.requires.used) in
     omega (arith, l.0, l.1, c.self.invariant.1.count)
 
 pub unreachable-requires : goal.unreachable-requires
 unreachable-requires c =
     let l = used_port _ _ _ c.self.invariant.0.sound
-    (subst (λ (v : BridgeView). is_used (port_at v.plan v.number c.args.port) ≡ true) (sym c.self.view_is) c.requires.used) in
-    let some = subst (λ (v : BridgeView). 0 < length (waiting v.plan v.number c.args.port v.steps)) (sym c.self.view_is) c.requires.some in
+    (subst (λ (v : BridgeView). is_used (port_at v.plan v.number c.args.port) ≡ true) (sym c.self.view_is)
+    c.requires.used) in
+    let some = subst (λ (v : BridgeView). 0 < length (waiting v.plan v.number c.args.port v.steps))
+    (sym c.self.view_is) c.requires.some in
     let next = first_out (at_place c.self.inside.outbox (c.args.port - 1)) in
     omega (
       arith,
@@ -54,7 +59,8 @@ invariant_of-self c =
     let s = c.self.inside in
     let d = c.in-Some.departure in
     let l = used_port _ _ _ c.self.invariant.0.sound
-    (subst (λ (v : BridgeView). is_used (port_at v.plan v.number c.args.port) ≡ true) (sym c.self.view_is) c.requires.used) in
+    (subst (λ (v : BridgeView). is_used (port_at v.plan v.number c.args.port) ≡ true) (sym c.self.view_is)
+    c.requires.used) in
     let reserved = c.self.invariant.2.reserved
     (subst (λ (v : BridgeView). v.is_reserved ≡ true) (sym c.self.view_is) c.requires.reserved) in
     let next = (departs s.outbox.is_kept (first_out (at_place s.outbox (c.args.port - 1))) d
@@ -86,7 +92,8 @@ pub returns-clause-fits : goal.returns-clause-fits
 returns-clause-fits c =
     let o = c.self.inside.outbox in
     let l = used_port _ _ _ c.self.invariant.0.sound
-    (subst (λ (v : BridgeView). is_used (port_at v.plan v.number c.args.port) ≡ true) (sym c.self.view_is) c.requires.used) in
+    (subst (λ (v : BridgeView). is_used (port_at v.plan v.number c.args.port) ≡ true) (sym c.self.view_is)
+    c.requires.used) in
     ap (λ (v : BridgeView). next_out (waiting v.plan v.number c.args.port v.steps)) (sym c.self.view_is)
     ∙ sym (next_at _ _ _ _ _ _ _ c.args.port c.self.invariant.1 l)
     ∙ sym (departs o.is_kept (first_out (at_place o (c.args.port - 1))) c.in-Some.departure c.in-Some.ensures.first).0

@@ -7,7 +7,8 @@ use Rattle.pb_relay.proofs.bridge.Bridge.receive.Goals as goal
 
 pub newest_outcome-outcome-requires : goal.newest_outcome-outcome-requires
 newest_outcome-outcome-requires c =
-    ap is_some (told_outcome c.args.self.now c.admit.new.self _ _ _ _ _ c.in_ok-given.ensures.ok c.self.view_is c.as_slice.ensures.kept)
+    ap is_some (told_outcome c.args.self.now c.admit.new.self _ _ _ _ _ c.in_ok-given.ensures.ok c.self.view_is
+    c.as_slice.ensures.kept)
 
 pub returns-clause-ok : goal.returns-clause-ok
 returns-clause-ok c =

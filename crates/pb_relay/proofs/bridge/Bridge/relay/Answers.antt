@@ -22,35 +22,47 @@ use Rattle.pb_relay.proofs.bridge.Bridge.relay.Goals as goal
 pub overflow_sub-port : goal.overflow_sub-port
 overflow_sub-port c =
     (used_port _ _ _ c.self.invariant.0.sound
-    (subst (λ (v : BridgeView). is_used (port_at v.plan v.number c.args.port) ≡ true) (sym c.self.view_is) c.requires.used)).0
+    (subst (λ (v : BridgeView). is_used (port_at v.plan v.number c.args.port) ≡ true) (sym c.self.view_is)
+    c.requires.used)).0
 
 pub at-local-requires : goal.at-local-requires
 at-local-requires c =
     let l = used_port _ _ _ c.self.invariant.0.sound
-    (subst (λ (v : BridgeView). is_used (port_at v.plan v.number c.args.port) ≡ true) (sym c.self.view_is) c.requires.used) in
+    (subst (λ (v : BridgeView). is_used (port_at v.plan v.number c.args.port) ≡ true) (sym c.self.view_is)
+    c.requires.used) in
     omega (arith, l.0, l.1)
 
 pub new-requires : goal.new-requires
 new-requires c =
     let l = used_port _ _ _ c.self.invariant.0.sound
-    (subst (λ (v : BridgeView). is_used (port_at v.plan v.number c.args.port) ≡ true) (sym c.self.view_is) c.requires.used) in
+    (subst (λ (v : BridgeView). is_used (port_at v.plan v.number c.args.port) ≡ true) (sym c.self.view_is)
+    c.requires.used) in
     subst (λ (z : Local). IsLoadable z c.args.item.wire) (sym c.at-local.ensures)
-    (loadable c.self.inside.plan (port_at c.self.inside.plan c.self.inside.number c.args.port) (get_or c.self.inside.ports (c.args.port - 1) ToNobody) _ c.args.item _ c.self.invariant.0.sound
+    (loadable c.self.inside.plan (port_at c.self.inside.plan c.self.inside.number c.args.port)
+    (get_or c.self.inside.ports (c.args.port - 1) ToNobody) _ c.args.item _ c.self.invariant.0.sound
     (sound_port c.self.inside.plan c.self.inside.number c.args.port c.self.invariant.0.sound)
     (kept_here c.self.inside.plan _ _ _ _ c.args.port c.self.invariant.0 l)
-    (subst (λ (v : BridgeView). ruling spanning_tree v.plan v.number v.steps c.args.port c.args.item ≡ Carries c.args.vid) (sym c.self.view_is) c.requires.ruling))
+    (subst (λ (v : BridgeView). ruling spanning_tree v.plan v.number v.steps c.args.port c.args.item ≡ Carries
+    c.args.vid) (sym c.self.view_is) c.requires.ruling))
 
 pub carry-requires-clause-load : goal.carry-requires-clause-load
 carry-requires-clause-load c =
     let l = used_port _ _ _ c.self.invariant.0.sound
-    (subst (λ (v : BridgeView). is_used (port_at v.plan v.number c.args.port) ≡ true) (sym c.self.view_is) c.requires.used) in
-    subst (λ (v : BridgeView). IsLoadedAt v.plan v.number (port_at v.plan v.number c.args.port) c.args.item.wire c.in-Ok.load) c.self.view_is
-    (loaded c.self.inside.plan c.self.inside.number c.self.inside.ports _ _ _ (get_or c.self.inside.ports (c.args.port - 1) ToNobody) c.args.item.wire c.in-Ok.load c.self.invariant.0
+    (subst (λ (v : BridgeView). is_used (port_at v.plan v.number c.args.port) ≡ true) (sym c.self.view_is)
+    c.requires.used) in
+    subst (λ (v : BridgeView). IsLoadedAt v.plan v.number (port_at v.plan v.number c.args.port) c.args.item.wire
+    c.in-Ok.load) c.self.view_is
+    (loaded c.self.inside.plan c.self.inside.number c.self.inside.ports _ _ _
+    (get_or c.self.inside.ports (c.args.port - 1) ToNobody) c.args.item.wire c.in-Ok.load c.self.invariant.0
     (kept_here c.self.inside.plan _ _ _ _ c.args.port c.self.invariant.0 l)
-    (subst (λ (z : Local). IsLoad (list_any is_to_customer c.self.inside.ports) (list_any is_to_bridge c.self.inside.ports) z c.args.item.wire c.in-Ok.load) c.at-local.ensures c.in-Ok.ensures))
+    (subst (λ (z : Local). IsLoad (list_any is_to_customer c.self.inside.ports)
+    (list_any is_to_bridge c.self.inside.ports) z c.args.item.wire c.in-Ok.load) c.at-local.ensures
+    c.in-Ok.ensures))
 
 pub give_up-requires-clause-fits : goal.give_up-requires-clause-fits
 give_up-requires-clause-fits c =
-    subst (λ (v : BridgeView). Fits spanning_tree v.plan v.number v.steps (Receive c.args.port c.args.item None (Filtered Memory) None)) c.self.view_is
+    subst (λ (v : BridgeView). Fits spanning_tree v.plan v.number v.steps
+    (Receive c.args.port c.args.item None (Filtered Memory) None)) c.self.view_is
     (given_up c.self.inside.plan c.self.inside.number c.self.inside.steps.steps c.args.port c.args.item c.args.vid
-    (subst (λ (v : BridgeView). ruling spanning_tree v.plan v.number v.steps c.args.port c.args.item ≡ Carries c.args.vid) (sym c.self.view_is) c.requires.ruling))
+    (subst (λ (v : BridgeView). ruling spanning_tree v.plan v.number v.steps c.args.port c.args.item ≡ Carries
+    c.args.vid) (sym c.self.view_is) c.requires.ruling))

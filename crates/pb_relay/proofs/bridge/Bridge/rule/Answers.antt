@@ -13,31 +13,37 @@ use Rattle.pb_relay.proofs.bridge.Bridge.rule.Goals as goal
 pub overflow_sub-place : goal.overflow_sub-place
 overflow_sub-place c =
     (used_port _ _ _ c.self.invariant.0.sound
-    (subst (λ (v : BridgeView). is_used (port_at v.plan v.number c.args.port) ≡ true) (sym c.self.view_is) c.requires)).0
+    (subst (λ (v : BridgeView). is_used (port_at v.plan v.number c.args.port) ≡ true) (sym c.self.view_is)
+    c.requires)).0
 
 pub bounds-self-inside-place : goal.bounds-self-inside-place
 bounds-self-inside-place c =
     let l = used_port _ _ _ c.self.invariant.0.sound
-    (subst (λ (v : BridgeView). is_used (port_at v.plan v.number c.args.port) ≡ true) (sym c.self.view_is) c.requires) in
+    (subst (λ (v : BridgeView). is_used (port_at v.plan v.number c.args.port) ≡ true) (sym c.self.view_is) c.requires)
+    in
     omega (arith, l.0, l.1)
 
 pub rule-requires-clause-place : goal.rule-requires-clause-place
 rule-requires-clause-place c =
     let l = used_port _ _ _ c.self.invariant.0.sound
-    (subst (λ (v : BridgeView). is_used (port_at v.plan v.number c.args.port) ≡ true) (sym c.self.view_is) c.requires) in
+    (subst (λ (v : BridgeView). is_used (port_at v.plan v.number c.args.port) ≡ true) (sym c.self.view_is) c.requires)
+    in
     omega (arith, l.0, l.1)
 
 pub rule-requires-clause-somebody : goal.rule-requires-clause-somebody
 rule-requires-clause-somebody c =
-    let u = subst (λ (v : BridgeView). is_used (port_at v.plan v.number c.args.port) ≡ true) (sym c.self.view_is) c.requires in
+    let u = subst (λ (v : BridgeView). is_used (port_at v.plan v.number c.args.port) ≡ true) (sym c.self.view_is)
+    c.requires in
     let l = used_port _ _ _ c.self.invariant.0.sound u in
     used_here c.self.inside.plan _ _ (kept_here c.self.inside.plan _ _ _ _ c.args.port c.self.invariant.0 l) u
 
 pub returns : goal.returns
 returns c =
-    let u = subst (λ (v : BridgeView). is_used (port_at v.plan v.number c.args.port) ≡ true) (sym c.self.view_is) c.requires in
+    let u = subst (λ (v : BridgeView). is_used (port_at v.plan v.number c.args.port) ≡ true) (sym c.self.view_is)
+    c.requires in
     let l = used_port _ _ _ c.self.invariant.0.sound u in
     let k = kept_here c.self.inside.plan _ _ _ _ c.args.port c.self.invariant.0 l in
     c.rule.ensures
-    ∙ rule_is c.self.inside.plan c.self.inside.number c.self.inside.steps.steps c.self.inside.states c.args.port (get_or c.self.inside.ports (c.args.port - 1) ToNobody) c.args.item.now _ c.self.invariant.1.kept_states l k
+    ∙ rule_is c.self.inside.plan c.self.inside.number c.self.inside.steps.steps c.self.inside.states c.args.port
+    (get_or c.self.inside.ports (c.args.port - 1) ToNobody) c.args.item.now _ c.self.invariant.1.kept_states l k
     ∙ ap (λ (v : BridgeView). ruling spanning_tree v.plan v.number v.steps c.args.port c.args.item.now) c.self.view_is

@@ -12,7 +12,8 @@ returns-clause-into g c =
     let worker = c.args.self.now in let access = c.args.access.now in
     let same : c.args.port - 1 + 1 ≡ c.args.port = omega (arith, c.requires.port.0) in
     let here = shown_at (λ i. received_over i.end) worker.ins.ends.items (c.args.port - 1) in
-    let came : here ≡ received c.args.port worker.bridge.steps = worker.took (c.args.port - 1) ∙ ap (λ (r : ℕ). received r worker.bridge.steps) same in
+    let came : here ≡ received c.args.port worker.bridge.steps = worker.took (c.args.port - 1)
+    ∙ ap (λ (r : ℕ). received r worker.bridge.steps) same in
     let Fed : List Item → Type 0 = λ items. IsBeginning here items in
     let Came : List Item → Type 0 = λ items. IsBeginning items (fed access.place.steps) in
     subst Came came (subst Fed access.fed c.meet.ensures.begins)
