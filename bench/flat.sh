@@ -59,8 +59,12 @@ compare() {
         END { printf "%s: %.2f by the best, %.2f by the medians\n", name, $1 / best, $2 / middle }'
 }
 
-# The script builds the program where that is due, and then looks at its sources each time; that isn't timed.
-./pbnet show >/dev/null
+# The script builds the program where that is due, and then looks at its sources each time; that isn't timed. It runs
+# `flat` as a program of its own where that was built, as from a fresh clone, and else as a part of the whole.
+./pbnet help >/dev/null
+program=out/pb_first
+[ -x "$program" ] || program=out/pbnet
+echo "measured: $program"
 export GLIBC_TUNABLES=${GLIBC_TUNABLES-glibc.malloc.hugetlb=1}
 has_yardstick=
 if command -v rustc >/dev/null 2>&1; then
@@ -73,7 +77,7 @@ frames 256
 frames 4096
 for _ in $(seq "$rounds"); do
     for stations in 256 4096; do
-        run pbnet "$stations" out/pbnet flat 3
+        run pbnet "$stations" "$program" flat 3
         [ -z "$has_yardstick" ] || run yardstick "$stations" "$folder/yardstick" 3
     done
 done
