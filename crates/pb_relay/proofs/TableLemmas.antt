@@ -3,7 +3,6 @@ use Rattle.std.proofs.Common.{◌==◌, ◌&&◌, eq-eqb, ◌≡◌, ℕ, ◌+�
 use Rattle.std.proofs.lemmas.Bool.{eqb-true}
 use Rattle.std.proofs.lemmas.Bool.Decides.{nat_tests}
 use Rattle.std.specs.List.{filter}
-use Rattle.std.specs.declared.option.Option.{Option}
 use Rattle.pb_fdb.proofs.LawLemmas.{live-with_room}
 use Rattle.pb_fdb.specs.Tables.{Table, sighting_at, where_in, is_full, with_room, learnt_sightings, learnt_table, expired, flushed}
 use Rattle.pb_frame.proofs.Lists.{filter-append, filter-same}

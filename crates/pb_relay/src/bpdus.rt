@@ -20,9 +20,10 @@ const HIGHEST: u8 = 7;
 /// The number of local ports of a bridge.
 const PORTS: usize = 16;
 
-/// Lists for what a step tells of the BPDUs that were to be sent.
+/// Where the memory of a bridge's own BPDUs comes from, and lists for what a step tells of them.
 #[derive(Drop)]
 pub struct BpduRoom {
+    pub alloc: Global,
     /// The ports where one was queued, with the item.
     pub queued: Vec<(u8, Item)>,
     /// The ports where one got no room, with the reason.
@@ -38,6 +39,7 @@ impl BpduRoom {
         ensures dropped_room { IfOk result (λ room. 16 ≤ vec_capacity room.dropped) }
     {
         Ok(BpduRoom {
+            alloc,
             queued: Vec::with_capacity(alloc, PORTS)?,
             dropped: Vec::with_capacity(alloc, PORTS)?,
         })
@@ -101,28 +103,21 @@ fn note_sent(
 }
 
 /// Queues each BPDU at its port in the highest class, and notes where one was queued and where not.
-pub fn queue_bpdus(
-    alloc: Global,
-    outbox: &mut Outbox,
-    queued: &mut Vec<(u8, Item)>,
-    dropped: &mut Vec<(u8, NoRoom)>,
-    sends: &[(u8, Bpdu)],
-    address: Mac,
-)
+pub fn queue_bpdus(outbox: &mut Outbox, room: &mut BpduRoom, sends: &[(u8, Bpdu)], address: Mac)
     requires outbox { length outbox.old.ports ≡ 16 }
-    requires queued { queued.old.items ≡ [] }
-    requires dropped { dropped.old.items ≡ [] }
-    requires queued_room { length sends.now ≤ vec_capacity queued.old }
-    requires dropped_room { length sends.now ≤ vec_capacity dropped.old }
+    requires queued { room.old.queued.items ≡ [] }
+    requires dropped { room.old.dropped.items ≡ [] }
+    requires queued_room { length sends.now ≤ vec_capacity room.old.queued }
+    requires dropped_room { length sends.now ≤ vec_capacity room.old.dropped }
     requires separate { AreSeparate (places_of (frames_of address.0 sends.now)) }
-    ensures copied { AreCopied outbox.old.capacity 7 (own_at (frames_of address.0 sends.now)) outbox.old.ports (places_of (frames_of address.0 sends.now)) dropped.new.items outbox.new.ports }
+    ensures copied { AreCopied outbox.old.capacity 7 (own_at (frames_of address.0 sends.now)) outbox.old.ports (places_of (frames_of address.0 sends.now)) room.new.dropped.items outbox.new.ports }
     ensures count { length outbox.new.ports ≡ 16 }
     ensures kept { KeepsOutbox outbox.old outbox.new }
-    ensures queued { queued.new.items ≡ own_queued dropped.new.items (frames_of address.0 sends.now) }
+    ensures queued { room.new.queued.items ≡ own_queued room.new.dropped.items (frames_of address.0 sends.now) }
 {
     for (port, bpdu) in sends {
         let place = *port as usize - 1;
-        let answer = send(alloc, outbox, place, address, bpdu);
-        note_sent(queued, dropped, *port, answer);
+        let answer = send(room.alloc, outbox, place, address, bpdu);
+        note_sent(&mut room.queued, &mut room.dropped, *port, answer);
     }
 }

@@ -108,7 +108,7 @@ impl Bridge {
     {
         let ports = &self.ports;
         let place = port as usize - 1;
-        rule(ports, place, self.states[place], item)
+        rule(ports, place, self.forwarding.states[place], item)
     }
 
     /// Appends a step that tells that the item goes nowhere.
@@ -146,7 +146,7 @@ impl Bridge {
         ensures { HasTaken self.old port item result self.new }
     {
         let source = source_of(item.wire.as_slice());
-        let learnt = self.table.learn(vid, source, port, self.clock);
+        let learnt = self.forwarding.table.learn(vid, source, port, self.clock);
         let outcome = Outcome::Filtered(Reason::NotForwarding);
         let told = append_receive(&mut self.steps, port, item, Some(learnt), outcome);
         Reception {
@@ -179,10 +179,12 @@ impl Bridge {
         ensures { HasTaken self.old port item result self.new }
     {
         let frame = item.wire.as_slice();
-        let learnt = self.table.learn(vid, source_of(frame), port, self.clock);
-        let at = sought(&self.table, vid, frame, self.clock);
-        let chosen = choose(&self.ports, &self.states, port, vid, at);
-        let refused = queue_copies(&mut self.outbox, &chosen, &self.ports, &load, &item);
+        let table = &mut self.forwarding.table;
+        let learnt = table.learn(vid, source_of(frame), port, self.clock);
+        let at = sought(table, vid, frame, self.clock);
+        let chosen = choose(&self.ports, &self.forwarding.states, port, vid, at);
+        let outbox = &mut self.forwarding.outbox;
+        let refused = queue_copies(outbox, &chosen, &self.ports, &load, &item);
         let outcome = Outcome::Relayed {
             chosen: chosen.copied(),
             refused: refused.copied(),

@@ -1,6 +1,6 @@
 //! A bridge at its start.
 
-ghost use Rattle.std.specs.Prelude.{◌≡◌, ℕ, ◌+◌, ◌<◌, ◌≤◌, ◌==◌, ◌++◌, ◌∷◌, [], map, length, true, false, Some, IfOk, OnOk};
+ghost use Rattle.std.specs.Prelude.{◌≡◌, ℕ, ◌+◌, ◌<◌, ◌≤◌, ◌==◌, ◌++◌, ◌∷◌, [], map, length, true, false, IfOk, OnOk};
 ghost use Rattle.std.specs.List.{flat_map};
 ghost use Rattle.std.specs.Option.{option_copied};
 ghost use Rattle.pb_frame.specs.Lists.{first};
@@ -8,17 +8,17 @@ ghost use Rattle.pb_lan.specs.Plans.{IsSound, IsNumber};
 ghost use Rattle.pb_lan.specs.Ports.{port_at, is_customer_at, is_end_at, ends_of};
 ghost use Rattle.pb_lan.specs.Queues.{capacity_of};
 ghost use Rattle.pb_lan.specs.Shapes.{start_by};
-ghost use Rattle.pb_svlan.specs.ServiceTables.{vid_of, is_known, are_known, has_name, has_vid, is_taken, role_at, attached, carried};
-ghost use Rattle.pb_svlan.specs.declared.port.Join.{Join};
-ghost use Rattle.pb_svlan.specs.declared.port.Role.TheVariants.{Customer, Trunk};
+ghost use Rattle.pb_svlan.specs.ServiceTables.{is_known, are_known, has_name, has_vid, is_taken, role_at, attached, carried};
+ghost use Rattle.pb_svlan.specs.declared.port.Role.TheVariants.{Trunk};
 ghost use Rattle.pb_relay.specs.LocalPorts.{IsKept};
 ghost use Rattle.pb_relay.specs.Machines.{machine_in};
 ghost use Rattle.pb_relay.specs.Outboxes.{empty_outbox};
 ghost use Rattle.pb_relay.specs.Roles.{local_as, told};
 ghost use Rattle.pb_relay.specs.Standing.{at_start};
-ghost use Rattle.pb_relay.specs.Starts.{first_state, HasServices, KeepsPorts};
+ghost use Rattle.pb_relay.specs.Starts.{first_state, HasJoined, HasServices, KeepsPorts};
 
 use crate::bridge::Bridge;
+use crate::forwarding::Forwarding;
 use crate::machine::{address, machine};
 use crate::outbox::Outbox;
 use crate::ports::{Local, LocalPorts};
@@ -96,8 +96,7 @@ fn join(services: &mut Services, customer: &CustomerPlan) -> Result<(), Memory>
     requires priority { customer.now.pcp ≤ 7 }
     requires known { is_known services.old customer.now.service ≡ true }
     requires free { is_taken services.old customer.now.port ≡ false }
-    ensures { OnOk result ((join : Join) × (vid_of services.old customer.now.service ≡ Some join.vid) × (join.pcp ≡ customer.now.pcp)
-        × (services.new ≡ attached services.old customer.now.port (Customer join))) }
+    ensures { OnOk result (HasJoined customer.now services.old services.new) }
 {
     match services.join(customer.port, customer.service, customer.pcp) {
         Ok(()) => Ok(()),
@@ -243,10 +242,12 @@ fn started(alloc: Global, plan: &Plan, number: u8, steps: Steps) -> Result<Bridg
         plan: kept,
         number,
         ports,
-        states,
-        outbox,
+        forwarding: Forwarding {
+            states,
+            table: Fdb::new(alloc, STATIONS, plan.ageing),
+            outbox,
+        },
         limit: plan.steps,
-        table: Fdb::new(alloc, STATIONS, plan.ageing),
         clock: 0,
         address: address(plan, number),
         rstp,

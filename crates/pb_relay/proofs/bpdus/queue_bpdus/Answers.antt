@@ -19,7 +19,7 @@ loop-port-preserved c =
     let answer = c.send-answer.result in
     let more = one_bpdu c.args.outbox.now c.loop-port.outbox c.send-answer.new.outbox c.args.address.0
     c.args.sends.now c.loop-port.port-index x
-    c.loop-port.dropped.items answer c.loop-port.queued.items c.loop-port-test.true c.loop-port-item.is
+    c.loop-port.room.dropped.items answer c.loop-port.room.queued.items c.loop-port-test.true c.loop-port-item.is
     c.requires.separate
     c.loop-port.invariant.copied c.loop-port.invariant.count c.loop-port.invariant.kept c.loop-port.invariant.queued
     c.send-answer.ensures in
@@ -29,8 +29,22 @@ loop-port-preserved c =
       queued = rw (rooms.dropped, rooms.queued) more.1;
       count = sent_count _ _ _ _ answer c.send-answer.ensures ∙ c.loop-port.invariant.count;
       kept = sent_keeps _ _ _ _ _ answer c.loop-port.invariant.kept c.send-answer.ensures;
-      few = omega (arith, ap length rooms.dropped, length-append c.loop-port.dropped.items (named x.0 (word_of answer)), named-few x.0 (word_of answer), c.loop-port.invariant.few);
-      fewer = omega (arith, ap length rooms.queued, length-append c.loop-port.queued.items (told_queued x.0 answer), told-few x.0 answer, c.loop-port.invariant.fewer);
+      few = omega (
+        arith,
+        ap length rooms.dropped,
+        length-append c.loop-port.room.dropped.items
+            (named x.0 (word_of answer)),
+        named-few x.0 (word_of answer),
+        c.loop-port.invariant.few,
+      );
+      fewer = omega (
+        arith,
+        ap length rooms.queued,
+        length-append c.loop-port.room.queued.items
+            (told_queued x.0 answer),
+        told-few x.0 answer,
+        c.loop-port.invariant.fewer,
+      );
       dropped_room = omega (arith, rooms.dropped_room, c.loop-port.invariant.dropped_room);
       queued_room = omega (arith, rooms.queued_room, c.loop-port.invariant.queued_room);
     }

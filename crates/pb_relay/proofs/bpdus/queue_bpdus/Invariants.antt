@@ -8,12 +8,12 @@ use Rattle.pb_relay.proofs.bpdus.queue_bpdus.Given as goal
 abbrev pub invariant-loop-port : goal.invariant-loop-port
 invariant-loop-port l = record {
   copied : AreCopied l.initial.outbox.capacity 7 (own_at (frames_of l.address.0 l.sends)) l.initial.outbox.ports
-      (take l.port-index (places_of (frames_of l.address.0 l.sends))) l.dropped.items l.outbox.ports;
-  queued : l.queued.items ≡ own_queued l.dropped.items (take l.port-index (frames_of l.address.0 l.sends));
+      (take l.port-index (places_of (frames_of l.address.0 l.sends))) l.room.dropped.items l.outbox.ports;
+  queued : l.room.queued.items ≡ own_queued l.room.dropped.items (take l.port-index (frames_of l.address.0 l.sends));
   count : length l.outbox.ports ≡ 16;
   kept : KeepsOutbox l.initial.outbox l.outbox;
-  few : length l.dropped.items ≤ l.port-index;
-  fewer : length l.queued.items ≤ l.port-index;
-  dropped_room : length l.sends ≤ vec_capacity l.dropped;
-  queued_room : length l.sends ≤ vec_capacity l.queued;
+  few : length l.room.dropped.items ≤ l.port-index;
+  fewer : length l.room.queued.items ≤ l.port-index;
+  dropped_room : length l.sends ≤ vec_capacity l.room.dropped;
+  queued_room : length l.sends ≤ vec_capacity l.room.queued;
 }

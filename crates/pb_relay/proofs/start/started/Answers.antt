@@ -1,8 +1,6 @@
-use Rattle.std.proofs.Common.{List, ap, ◌∙◌, refl, sym, subst, map, arith}
+use Rattle.std.proofs.Common.{ap, ◌∙◌, refl, arith}
 use Rattle.pb_fdb.specs.Tables.{Table}
 use Rattle.pb_relay.specs.Outboxes.{OutboxView}
-use Rattle.pb_relay.specs.Roles.{LocalPort, told}
-use Rattle.pb_relay.specs.Starts.{KeepsPorts, first_state}
 use Rattle.pb_relay.proofs.StartLemmas.{started}
 use Rattle.pb_relay.proofs.start.started.Goals as goal
 

@@ -37,7 +37,8 @@ returns c =
     let p = subst (λ (v : BridgeView). is_provider (port_at v.plan v.number c.args.port) ≡ true) (sym c.self.view_is) c.requires in
     let l = used_port _ _ _ c.self.invariant.0.sound (provider_used _ p) in
     let k = kept_here c.self.inside.plan _ _ _ _ c.args.port c.self.invariant.0 l in
-    let e : moved_to c.args.port c.args.up (get_or c.self.inside.states (c.args.port - 1) Discarding) c.state_set-next.result
+    let e : moved_to c.args.port c.args.up (get_or c.self.inside.forwarding.states (c.args.port - 1) Discarding)
+    c.state_set-next.result
     ≡ moved_by_setting c.args.self.now.plan c.args.self.now.number c.args.self.now.steps c.args.port c.args.up =
     ap (λ (z : PortState). moved_to c.args.port c.args.up z c.state_set-next.result)
     (ap (λ (ss : List PortState). get_or ss (c.args.port - 1) Discarding) c.self.invariant.1.kept_states

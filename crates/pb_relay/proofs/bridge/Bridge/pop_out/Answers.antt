@@ -33,18 +33,18 @@ unreachable-requires c =
     let l = used_port _ _ _ c.self.invariant.0.sound
     (subst (λ (v : BridgeView). is_used (port_at v.plan v.number c.args.port) ≡ true) (sym c.self.view_is) c.requires.used) in
     let some = subst (λ (v : BridgeView). 0 < length (waiting v.plan v.number c.args.port v.steps)) (sym c.self.view_is) c.requires.some in
-    let next = first_out (at_place c.self.inside.outbox (c.args.port - 1)) in
+    let next = first_out (at_place c.self.inside.forwarding.outbox (c.args.port - 1)) in
     omega (
       arith,
       some,
       number_at _ _ _ _ _ _ _ c.args.port c.self.invariant.1 l,
-      none_waits (at_place c.self.inside.outbox (c.args.port - 1))
-          (none_departs c.self.inside.outbox.is_kept next (sym c.pop.ensures.first ∙ c.in_default.is)),
+      none_waits (at_place c.self.inside.forwarding.outbox (c.args.port - 1))
+          (none_departs c.self.inside.forwarding.outbox.is_kept next (sym c.pop.ensures.first ∙ c.in_default.is)),
     )
 
 pub depart-requires-clause-copy : goal.depart-requires-clause-copy
 depart-requires-clause-copy c =
-    let o = c.self.inside.outbox in
+    let o = c.self.inside.forwarding.outbox in
     let d = c.in-Some.departure in
     (departs o.is_kept (first_out (at_place o (c.args.port - 1))) d c.in-Some.ensures.first).1
     ∙ ap (λ kept. copy_of kept d.item) c.self.invariant.5
@@ -57,7 +57,7 @@ invariant_of-self c =
     (subst (λ (v : BridgeView). is_used (port_at v.plan v.number c.args.port) ≡ true) (sym c.self.view_is) c.requires.used) in
     let reserved = c.self.invariant.2.reserved
     (subst (λ (v : BridgeView). v.is_reserved ≡ true) (sym c.self.view_is) c.requires.reserved) in
-    let next = (departs s.outbox.is_kept (first_out (at_place s.outbox (c.args.port - 1))) d
+    let next = (departs s.forwarding.outbox.is_kept (first_out (at_place s.forwarding.outbox (c.args.port - 1))) d
     c.in-Some.ensures.first).0 in
     let rest = c.in-Some.ensures.rest in
     let more = ap (λ (v : StepsView). v.steps) c.depart.ensures.steps in (
@@ -84,7 +84,7 @@ invariant_of-self c =
 
 pub returns-clause-fits : goal.returns-clause-fits
 returns-clause-fits c =
-    let o = c.self.inside.outbox in
+    let o = c.self.inside.forwarding.outbox in
     let l = used_port _ _ _ c.self.invariant.0.sound
     (subst (λ (v : BridgeView). is_used (port_at v.plan v.number c.args.port) ≡ true) (sym c.self.view_is) c.requires.used) in
     ap (λ (v : BridgeView). next_out (waiting v.plan v.number c.args.port v.steps)) (sym c.self.view_is)
