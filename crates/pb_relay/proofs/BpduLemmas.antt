@@ -1,7 +1,7 @@
 -- BPDUs that are queued one by one.
-use Rattle.std.proofs.Common.{◌≡◌, ◌≢◌, ℕ, zero, suc, ◌+◌, ◌-◌, set, ◌<◌, ◌≤◌, Bool, false, cond, not, is_some, None}
-use Rattle.std.proofs.Common.{Ok, Err, List, [], ◌∷◌, ◌++◌, map, length, take, get_or, refl, sym, ap, ◌∙◌, subst}
-use Rattle.std.proofs.Common.{arith, eq-eqb}
+use Rattle.std.proofs.Common.{◌≡◌, ◌≢◌, ℕ, zero, suc, ◌+◌, ◌-◌, ◌<◌, ◌≤◌, Bool, false, cond, not, is_some, None, Ok}
+use Rattle.std.proofs.Common.{Err, List, [], ◌∷◌, ◌++◌, map, length, take, get_or, refl, sym, ap, ◌∙◌, subst, arith}
+use Rattle.std.proofs.Common.{eq-eqb}
 use Rattle.std.proofs.lemmas.List.{map-append, get_or-map, length-map, take_more}
 use Rattle.std.specs.declared.result.Result.{Result}
 use Rattle.std.specs.List.{AllByRecursion, filter, take-map}
@@ -15,7 +15,7 @@ use Rattle.pb_bpdu.specs.declared.bpdu.Bpdu.{Bpdu}
 use Rattle.pb_relay.specs.Bpdus.{HasSent, told_queued, word_of, frames_of}
 use Rattle.pb_relay.specs.Copies.{AreCopied, AreSeparate, named, item_with}
 use Rattle.pb_relay.specs.Moves.{own_at, own_queued, places_of}
-use Rattle.pb_relay.specs.Outboxes.{OutboxView, HasEnqueued, KeepsOutbox}
+use Rattle.pb_relay.specs.Backlogs.{BacklogView, HasEnqueued, KeepsBacklog}
 use Rattle.pb_relay.proofs.CopyLemmas.{IsOther, unequal, refused-other, refused-own, none_refused, separate_at}
 use Rattle.pb_relay.proofs.CopyLemmas.{separate_before, copied_more, answered-keeps, answered-count}
 
@@ -51,7 +51,7 @@ filter-others p g h e (f ∷ fs) a =
     ∙ ap (λ zs. cond (h f.0) (f ∷ zs) zs) (filter-others p g h e fs a.1)
 
 -- one frame more
-queued_more : (p : ℕ) (wire : List ℕ) (old new : OutboxView) (place : ℕ) (answer : Result Item NoRoom)
+queued_more : (p : ℕ) (wire : List ℕ) (old new : BacklogView) (place : ℕ) (answer : Result Item NoRoom)
     (rs : List (ℕ × NoRoom)) (done : List Send)
     → HasSent old place wire answer new → is_refused rs p ≡ false → AllByRecursion (IsOther p) (places_of done)
     → own_queued (rs ++ named p (word_of answer)) (done ++ (p, wire) ∷ []) ≡ own_queued rs done ++ told_queued p answer
@@ -74,7 +74,7 @@ queued_more p wire old new place answer rs done h n a =
     by_answer (Err word) k = refl
 
 -- what was answered, as a word
-has_enqueued : (wire : List ℕ) (old new : OutboxView) (place : ℕ) (answer : Result Item NoRoom)
+has_enqueued : (wire : List ℕ) (old new : BacklogView) (place : ℕ) (answer : Result Item NoRoom)
     → HasSent old place wire answer new
     → HasEnqueued old place 7 (item_with None 0 wire) (word_of answer) new
 has_enqueued wire old new place (Ok item) h = h.1
@@ -119,13 +119,13 @@ bpdu_place address sends i d l a =
     (separate_at (places_of (frames_of address sends)) i (omega arith) a)
 
 -- one BPDU more
-bpdu_more : (first from to : OutboxView) (address : List ℕ) (sends : List Sent) (i : ℕ) (d : Sent)
+bpdu_more : (first from to : BacklogView) (address : List ℕ) (sends : List Sent) (i : ℕ) (d : Sent)
     (rs : List (ℕ × NoRoom))
     (answer : Result Item NoRoom) (queued : List (ℕ × Item))
     → i < length sends → AreSeparate (places_of (frames_of address sends))
     → AreCopied first.capacity 7 (own_at (frames_of address sends)) first.ports
     (take i (places_of (frames_of address sends))) rs from.ports
-    → length from.ports ≡ 16 → KeepsOutbox first from → queued ≡ own_queued rs (take i (frames_of address sends))
+    → length from.ports ≡ 16 → KeepsBacklog first from → queued ≡ own_queued rs (take i (frames_of address sends))
     → HasSent from ((get_or sends i d).0 - 1) (written address (get_or sends i d).1) answer to
     → AreCopied first.capacity 7 (own_at (frames_of address sends)) first.ports
     (take (i + 1) (places_of (frames_of address sends)))
@@ -168,13 +168,13 @@ pub place_of : (address : List ℕ) (sends : List Sent) (i : ℕ) (x : Sent) →
 place_of address sends i x l e a = subst (λ (y : Sent). (1 ≤ y.0) × (y.0 ≤ 16)) (sym e)
     (bpdu_place address sends i x l a)
 
-pub one_bpdu : (first from to : OutboxView) (address : List ℕ) (sends : List Sent) (i : ℕ) (x : Sent)
+pub one_bpdu : (first from to : BacklogView) (address : List ℕ) (sends : List Sent) (i : ℕ) (x : Sent)
     (rs : List (ℕ × NoRoom))
     (answer : Result Item NoRoom) (queued : List (ℕ × Item))
     → i < length sends → x ≡ get_or sends i x → AreSeparate (places_of (frames_of address sends))
     → AreCopied first.capacity 7 (own_at (frames_of address sends)) first.ports
     (take i (places_of (frames_of address sends))) rs from.ports
-    → length from.ports ≡ 16 → KeepsOutbox first from → queued ≡ own_queued rs (take i (frames_of address sends))
+    → length from.ports ≡ 16 → KeepsBacklog first from → queued ≡ own_queued rs (take i (frames_of address sends))
     → HasSent from (x.0 - 1) (written address x.1) answer to
     → AreCopied first.capacity 7 (own_at (frames_of address sends)) first.ports
     (take (i + 1) (places_of (frames_of address sends)))
@@ -190,15 +190,15 @@ one_bpdu first from to address sends i x rs answer queued l e a copied count kee
     (take (i + 1) (frames_of address sends))))
     (sym e) (bpdu_more first from to address sends i x rs answer queued l a copied count keeps told) h
 
--- the outbox is the same but for what waits, and has as many ports
-pub sent_keeps : (first from to : OutboxView) (place : ℕ) (wire : List ℕ) (answer : Result Item NoRoom)
-    → KeepsOutbox first from
-    → HasSent from place wire answer to → KeepsOutbox first to
+-- the backlog is the same but for what waits, and has as many ports
+pub sent_keeps : (first from to : BacklogView) (place : ℕ) (wire : List ℕ) (answer : Result Item NoRoom)
+    → KeepsBacklog first from
+    → HasSent from place wire answer to → KeepsBacklog first to
 sent_keeps first from to place wire answer k h =
     answered-keeps first from to place 7 (item_with None 0 wire) (word_of answer) k
     (has_enqueued wire from to place answer h)
 
-pub sent_count : (from to : OutboxView) (place : ℕ) (wire : List ℕ) (answer : Result Item NoRoom)
+pub sent_count : (from to : BacklogView) (place : ℕ) (wire : List ℕ) (answer : Result Item NoRoom)
     → HasSent from place wire answer to
     → length to.ports ≡ length from.ports
 sent_count from to place wire answer h =

@@ -14,7 +14,7 @@ use Rattle.pb_lan.specs.declared.step.Item.{Item}
 use Rattle.pb_lan.specs.declared.step.NoRoom.{NoRoom}
 use Rattle.pb_lan.specs.declared.step.NoRoom.TheVariants.{Full, Memory}
 use Rattle.pb_relay.specs.Classes.{number_in, put_in}
-use Rattle.pb_relay.specs.Outboxes.{OutboxView, at_place, is_full_at, HasEnqueued, KeepsOutbox}
+use Rattle.pb_relay.specs.Backlogs.{BacklogView, at_place, is_full_at, HasEnqueued, KeepsBacklog}
 use Rattle.pb_relay.specs.Copies.{AreCopied, AreSeparate, with_copy, named}
 
 abbrev pub IsOther : ℕ → ℕ → Type 0
@@ -134,7 +134,7 @@ refusals-more p word full done rs h a f =
           (refusals-others p word full rs done a h.1) (f ∙ sym (full-own p word rs n), tt),
     )
 
-answered-full : (from to : OutboxView) (place class : ℕ) (item : Item) (word : Option NoRoom)
+answered-full : (from to : BacklogView) (place class : ℕ) (item : Item) (word : Option NoRoom)
     → HasEnqueued from place class item word to → is_full_at from place ≡ is_full_answer word
 answered-full from to place class item None h = h.0
 answered-full from to place class item (Some Full) h = h.0
@@ -144,26 +144,26 @@ answered-full from to place class item (Some Memory) h = h.0
 abbrev with_answer : ℕ → Item → Option NoRoom → List (List Item) → List (List Item)
 with_answer class item word qs = if not (is_some word) then put_in class item qs else qs
 
-answered-copy : (from to : OutboxView) (place class : ℕ) (item : Item) (word : Option NoRoom)
+answered-copy : (from to : BacklogView) (place class : ℕ) (item : Item) (word : Option NoRoom)
     → HasEnqueued from place class item word to
     → to.ports ≡ set from.ports place (with_answer class item word (at_place from place))
-answered-copy from to place class item None h = ap (λ (o : OutboxView). o.ports) h.1
+answered-copy from to place class item None h = ap (λ (o : BacklogView). o.ports) h.1
 answered-copy from to place class item (Some Full) h =
-    ap (λ (o : OutboxView). o.ports) h.1 ∙ sym (set-get_or from.ports place [])
+    ap (λ (o : BacklogView). o.ports) h.1 ∙ sym (set-get_or from.ports place [])
 answered-copy from to place class item (Some Memory) h =
-    ap (λ (o : OutboxView). o.ports) h.1 ∙ sym (set-get_or from.ports place [])
+    ap (λ (o : BacklogView). o.ports) h.1 ∙ sym (set-get_or from.ports place [])
 
-pub answered-keeps : (first from to : OutboxView) (place class : ℕ) (item : Item) (word : Option NoRoom)
-    → KeepsOutbox first from → HasEnqueued from place class item word to → KeepsOutbox first to
+pub answered-keeps : (first from to : BacklogView) (place class : ℕ) (item : Item) (word : Option NoRoom)
+    → KeepsBacklog first from → HasEnqueued from place class item word to → KeepsBacklog first to
 answered-keeps first from to place class item None k h = record {
-  capacity = ap (λ (o : OutboxView). o.capacity) h.1 ∙ k.capacity;
-  is_kept = ap (λ (o : OutboxView). o.is_kept) h.1 ∙ k.is_kept;
+  capacity = ap (λ (o : BacklogView). o.capacity) h.1 ∙ k.capacity;
+  is_kept = ap (λ (o : BacklogView). o.is_kept) h.1 ∙ k.is_kept;
 }
-answered-keeps first from to place class item (Some Full) k h = subst (KeepsOutbox first) (sym h.1) k
-answered-keeps first from to place class item (Some Memory) k h = subst (KeepsOutbox first) (sym h.1) k
+answered-keeps first from to place class item (Some Full) k h = subst (KeepsBacklog first) (sym h.1) k
+answered-keeps first from to place class item (Some Memory) k h = subst (KeepsBacklog first) (sym h.1) k
 
 -- there are as many ports
-pub answered-count : (from to : OutboxView) (place class : ℕ) (item : Item) (word : Option NoRoom)
+pub answered-count : (from to : BacklogView) (place class : ℕ) (item : Item) (word : Option NoRoom)
     → HasEnqueued from place class item word to → length to.ports ≡ length from.ports
 answered-count from to place class item word h =
     ap length (answered-copy from to place class item word h) ∙ length-set _ _ _
@@ -242,11 +242,11 @@ copied_at capacity class item_at old done rs new p word h a l n full = record {
           | false ↦ λ t. other r b (λ f. let g = eq-eqb (r + 1) p f in cc)
         ] refl
 
-pub copied_more : (first from to : OutboxView) (class : ℕ) (item_at : ℕ → Item) (done : List ℕ)
+pub copied_more : (first from to : BacklogView) (class : ℕ) (item_at : ℕ → Item) (done : List ℕ)
     (rs : List (ℕ × NoRoom)) (p : ℕ) (word : Option NoRoom)
     → AreCopied first.capacity class item_at first.ports done rs from.ports → AllByRecursion (IsOther p) done
     → (1 ≤ p) × (p ≤ 16)
-    → length from.ports ≡ 16 → KeepsOutbox first from → HasEnqueued from (p - 1) class (item_at p) word to
+    → length from.ports ≡ 16 → KeepsBacklog first from → HasEnqueued from (p - 1) class (item_at p) word to
     → AreCopied first.capacity class item_at first.ports (done ++ p ∷ []) (rs ++ named p word) to.ports
 copied_more first from to class item_at done rs p word h a l n k w =
     subst (AreCopied first.capacity class item_at first.ports (done ++ p ∷ []) (rs ++ named p word))

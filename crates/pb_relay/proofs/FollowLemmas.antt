@@ -25,7 +25,7 @@ use Rattle.pb_relay.specs.Bpdus.{frames_of}
 use Rattle.pb_relay.specs.Following.{IsOfPorts, HasFollowed}
 use Rattle.pb_relay.specs.Machines.{change_next, IsSpanning}
 use Rattle.pb_relay.specs.Moves.{all_flushed, places_of, states_changed, IsBridgePort}
-use Rattle.pb_relay.specs.Outboxes.{OutboxView}
+use Rattle.pb_relay.specs.declared.forwarding.Forwarding.{Forwarding}
 use Rattle.pb_relay.specs.Protocol.{spanning_tree}
 use Rattle.pb_relay.specs.Standing.{IsStanding}
 use Rattle.pb_relay.specs.Tables.{IsTableOf}
@@ -46,45 +46,45 @@ of_ports plan b steps machine address cause change s some =
     record { within = states_within plan b steps cause change running.1; separate = apart.0; few = apart.1 }
 
 -- the step names what the machine changes
-pub followed_names : (plan : Plan) (b : ℕ) (steps : List Step) (states states' : List PortState)
-    (outbox outbox' : OutboxView) (now : ℕ) (table : List Sighting) (old new : Table)
+pub followed_names : (plan : Plan) (b : ℕ) (steps : List Step) (old new : Forwarding) (now : ℕ) (table : List Sighting)
     (machine : Option Machine) (address : List ℕ) (cause : Cause) (change : Change) (moved : Moved)
-    → IsStanding plan b steps states outbox.ports now table → outbox.capacity ≡ capacity_of plan b
+    → IsStanding plan b steps old.states old.backlog.ports now table → old.backlog.capacity ≡ capacity_of plan b
     → IsSpanning plan b steps machine address → change_next machine cause ≡ Some change
-    → HasFollowed address change states old outbox moved states' new outbox'
+    → HasFollowed address change old moved new
     → Names spanning_tree plan b steps cause moved
-followed_names plan b steps states states' outbox outbox' now table old new machine address cause change moved s most
-    tree some f =
+followed_names plan b steps old new now table machine address cause change moved s most tree some f =
     let running = is_running plan b steps machine address cause change tree some in
     let apart = sends_apart plan b steps cause change address running.1 in
     names_change plan b steps cause change moved (frames_of address change.send) running.0 running.1
     (ap (λ a. frames_of a change.send) tree.kept_address) f.told f.flushed f.queued
-    (refusals_are plan b steps states outbox.ports now table outbox.capacity
+    (refusals_are plan b steps old.states old.backlog.ports now table old.backlog.capacity
     (places_of (frames_of address change.send)) moved.dropped s most apart.0 f.copied.refusals)
 
 -- and what is kept is kept
-pub after_followed : (plan : Plan) (b : ℕ) (steps : List Step) (states states' : List PortState)
-    (outbox outbox' : OutboxView) (now later : ℕ) (table : List Sighting) (old new : Table)
+pub after_followed : (plan : Plan) (b : ℕ) (steps : List Step) (old new : Forwarding) (now later : ℕ)
+    (table : List Sighting)
     (machine : Option Machine) (address : List ℕ) (cause : Cause) (change : Change) (moved : Moved) (step : Step)
-    → IsStanding plan b steps states outbox.ports now table → outbox.capacity ≡ capacity_of plan b
+    → IsStanding plan b steps old.states old.backlog.ports now table → old.backlog.capacity ≡ capacity_of plan b
     → IsSpanning plan b steps machine address → change_next machine cause ≡ Some change
-    → HasFollowed address change states old outbox moved states' new outbox'
+    → HasFollowed address change old moved new
     → Fits spanning_tree plan b steps step
     → moved_of step ≡ moved ∷ [] → ((r : ℕ) → relayed_by plan b r step ≡ [])
     → ((r : ℕ) (ws : List Waiting) → after_sending r step ws ≡ ws)
     → sightings plan b (now_after steps) step ≡ [] → later ≡ now + ticked step
-    → filter (is_fresh plan.ageing later) old.sightings ≡ standing plan.ageing later (news_of plan b steps)
-    → IsStanding plan b (steps ++ step ∷ []) states' outbox'.ports later new.sightings
-after_followed plan b steps states states' outbox outbox' now later table old new machine address cause change moved
-    step s most tree some f fits told unrelayed unsent unseen clock stations =
+    → filter (is_fresh plan.ageing later) old.table.sightings ≡ standing plan.ageing later (news_of plan b steps)
+    → IsStanding plan b (steps ++ step ∷ []) new.states new.backlog.ports later new.table.sightings
+after_followed plan b steps old new now later table machine address cause change moved step s most tree some f fits
+    told unrelayed unsent unseen clock stations =
     let running = is_running plan b steps machine address cause change tree some in
     let apart = sends_apart plan b steps cause change address running.1 in
-    let refused = refusals_are plan b steps states outbox.ports now table outbox.capacity
+    let refused = refusals_are plan b steps old.states old.backlog.ports now table old.backlog.capacity
     (places_of (frames_of address change.send)) moved.dropped s most apart.0 f.copied.refusals in
-    subst (λ (ss : List PortState). IsStanding plan b (steps ++ step ∷ []) ss outbox'.ports later new.sightings)
-    (ap (states_changed states) f.told ∙ sym f.set_states)
-    (after_moved plan b steps states outbox.ports outbox'.ports now later table new.sightings step moved
-    (frames_of address change.send) outbox.capacity s fits
+    subst (λ (ss : List PortState). IsStanding plan b (steps ++ step ∷ []) ss new.backlog.ports later
+    new.table.sightings)
+    (ap (states_changed old.states) f.told ∙ sym f.set_states)
+    (after_moved plan b steps old.states old.backlog.ports new.backlog.ports now later table new.table.sightings step
+    moved
+    (frames_of address change.send) old.backlog.capacity s fits
     (record {
       told = told;
       unrelayed = unrelayed;
@@ -98,7 +98,7 @@ after_followed plan b steps states states' outbox outbox' now later table old ne
     })
     clock f.copied f.count
     (ap (λ (t : Table). filter (is_fresh plan.ageing later) t.sightings) f.flushed_table
-    ∙ stations_flushed plan.ageing later (news_of plan b steps) old change.flush stations
+    ∙ stations_flushed plan.ageing later (news_of plan b steps) old.table change.flush stations
     ∙ ap (λ ps. standing plan.ageing later (news_of plan b steps ++ map (λ port. Flushed port) ps)) (sym f.flushed)))
 
 -- a table of which ports were flushed is still the bridge's

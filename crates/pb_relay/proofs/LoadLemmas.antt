@@ -40,9 +40,9 @@ customer_brings : (plan : Plan) (vid pcp : ℕ) (wire : List ℕ) (load : Load) 
     → IsKept plan entry (ToCustomer vid pcp) → IsLoad customers bridges (told (ToCustomer vid pcp)) wire load
     → IsKept plan exit local → (is_to_bridge local ≡ true → bridges ≡ true) → is_used exit ≡ true
     → brought exit wire load ≡ wire_out plan entry exit wire
-customer_brings plan vid pcp wire load customers bridges (Customer c) (Customer d) local k l q b u = l.0
+customer_brings plan vid pcp wire load customers bridges (Customer c) (Customer d) local k l q b u = l.to_customers
 customer_brings plan vid pcp wire load customers bridges (Customer c) (Provider e) (ToBridge start vids) k l q b u =
-    l.1 (b refl) ∙ ap (λ v. tagged (bare wire) (cond (has_priority_tag wire) (priority_of wire) pcp) 0 v) k.0
+    l.to_bridges (b refl) ∙ ap (λ v. tagged (bare wire) (cond (has_priority_tag wire) (priority_of wire) pcp) 0 v) k.0
     ∙ ap (λ p. tagged (bare wire) (cond (has_priority_tag wire) (priority_of wire) p) 0 (vid_at plan c)) k.1
 customer_brings plan vid pcp wire load customers bridges (Customer c) (Provider e) (ToCustomer v p) k l q b u = absurd q
 customer_brings plan vid pcp wire load customers bridges (Customer c) (Provider e) ToNobody k l q b u = absurd q
@@ -57,10 +57,10 @@ bridge_brings : (plan : Plan) (start : PortState) (vids : List ℕ) (wire : List
     → IsKept plan exit local → (is_to_customer local ≡ true → customers ≡ true) → is_used exit ≡ true
     → brought exit wire load ≡ wire_out plan entry exit wire
 bridge_brings plan start vids wire load customers bridges (Provider f) (Customer d) (ToCustomer v p) k l q c u =
-    l.0 (c refl)
+    l.to_customers (c refl)
 bridge_brings plan start vids wire load customers bridges (Provider f) (Customer d) (ToBridge s w) k l q c u = absurd q
 bridge_brings plan start vids wire load customers bridges (Provider f) (Customer d) ToNobody k l q c u = absurd q
-bridge_brings plan start vids wire load customers bridges (Provider f) (Provider e) local k l q c u = l.1
+bridge_brings plan start vids wire load customers bridges (Provider f) (Provider e) local k l q c u = l.to_bridges
 bridge_brings plan start vids wire load customers bridges (Provider f) Unused local k l q c u = cc
 bridge_brings plan start vids wire load customers bridges (Customer d) exit local k l q c u = absurd k
 bridge_brings plan start vids wire load customers bridges Unused exit local k l q c u = absurd k
@@ -83,8 +83,8 @@ class_is : (plan : Plan) (entry : Port) (here : LocalPort) (wire : List ℕ) (lo
     → IsKept plan entry here → IsLoad customers bridges (told here) wire load
     → (load.class ≡ class_of (priority_in entry wire)) × (load.class < 8)
 class_is plan (Customer c) (ToCustomer vid pcp) wire load customers bridges k l =
-    (l.2 ∙ ap (λ p. class_of (cond (has_priority_tag wire) (priority_of wire) p)) k.1, l.3)
-class_is plan (Provider f) (ToBridge start vids) wire load customers bridges k l = (l.2, l.3)
+    (l.class ∙ ap (λ p. class_of (cond (has_priority_tag wire) (priority_of wire) p)) k.1, l.eight)
+class_is plan (Provider f) (ToBridge start vids) wire load customers bridges k l = (l.class, l.eight)
 class_is plan entry ToNobody wire load customers bridges k l = absurd l
 class_is plan (Customer c) (ToBridge start vids) wire load customers bridges k l = absurd k
 class_is plan (Provider f) (ToCustomer vid pcp) wire load customers bridges k l = absurd k

@@ -7,7 +7,7 @@ use Rattle.pb_bpdu.specs.declared.bpdu.Bpdu.{Bpdu}
 use Rattle.pb_lan.specs.declared.step.Item.{Item}
 use Rattle.pb_lan.specs.declared.step.NoRoom.{NoRoom}
 use Rattle.pb_relay.specs.Copies.{item_with}
-use Rattle.pb_relay.specs.Outboxes.{OutboxView, HasEnqueued}
+use Rattle.pb_relay.specs.Backlogs.{BacklogView, HasEnqueued}
 
 -- the frames of BPDUs from a bridge of this address
 abbrev pub frames_of : List ℕ → List (ℕ × Bpdu) → List (ℕ × List ℕ)
@@ -19,7 +19,7 @@ word_of (Ok item) = None
 word_of (Err word) = Some word
 
 -- an item of the bridge's own was queued, and told, where there was room and memory
-abbrev pub HasSent : OutboxView → ℕ → List ℕ → Result Item NoRoom → OutboxView → Type 0
+abbrev pub HasSent : BacklogView → ℕ → List ℕ → Result Item NoRoom → BacklogView → Type 0
 HasSent old place wire (Ok item) new =
     (item ≡ item_with None 0 wire) × HasEnqueued old place 7 (item_with None 0 wire) None new
 HasSent old place wire (Err word) new = HasEnqueued old place 7 (item_with None 0 wire) (Some word) new

@@ -1,13 +1,13 @@
 -- What a bridge does that its spanning tree tells.
 use Rattle.std.specs.Prelude.{◌≡◌, ◌≤◌, ℕ, List, length}
 use Rattle.std.specs.List.{AllByRecursion}
-use Rattle.pb_fdb.specs.Tables.{Table}
 use Rattle.pb_lan.specs.declared.shape.PortState.{PortState}
 use Rattle.pb_lan.specs.declared.step.Moved.{Moved}
 use Rattle.pb_rstp.specs.declared.change.Change.{Change}
 use Rattle.pb_relay.specs.Bpdus.{frames_of}
 use Rattle.pb_relay.specs.Copies.{AreCopied, AreSeparate}
-use Rattle.pb_relay.specs.Outboxes.{OutboxView, KeepsOutbox}
+use Rattle.pb_relay.specs.Backlogs.{KeepsBacklog}
+use Rattle.pb_relay.specs.declared.forwarding.Forwarding.{Forwarding}
 use Rattle.pb_relay.specs.Moves.{all_flushed, own_at, own_queued, places_of, states_changed}
 
 -- the change is of local ports, and each sends one BPDU at most
@@ -17,15 +17,14 @@ pub record IsOfPorts (address : List ℕ) (change : Change) : Type 0 where
   pub few : length change.send ≤ 16
 
 -- the states are set, the ports flushed, the BPDUs queued or dropped, and all that is told
-pub record HasFollowed (address : List ℕ) (change : Change)
-    (states : List PortState) (table : Table) (outbox : OutboxView) (moved : Moved)
-    (states' : List PortState) (table' : Table) (outbox' : OutboxView) : Type 0 where
-  pub set_states : states' ≡ states_changed states change.states
-  pub flushed_table : table' ≡ all_flushed table change.flush
-  pub copied : AreCopied outbox.capacity 7 (own_at (frames_of address change.send)) outbox.ports
-      (places_of (frames_of address change.send)) moved.dropped outbox'.ports
-  pub count : length outbox'.ports ≡ 16
-  pub outbox_kept : KeepsOutbox outbox outbox'
+pub record HasFollowed (address : List ℕ) (change : Change) (old : Forwarding) (moved : Moved)
+    (new : Forwarding) : Type 0 where
+  pub set_states : new.states ≡ states_changed old.states change.states
+  pub flushed_table : new.table ≡ all_flushed old.table change.flush
+  pub copied : AreCopied old.backlog.capacity 7 (own_at (frames_of address change.send)) old.backlog.ports
+      (places_of (frames_of address change.send)) moved.dropped new.backlog.ports
+  pub count : length new.backlog.ports ≡ 16
+  pub backlog_kept : KeepsBacklog old.backlog new.backlog
   pub told : moved.states ≡ change.states
   pub flushed : moved.flushed ≡ change.flush
   pub queued : moved.queued ≡ own_queued moved.dropped (frames_of address change.send)

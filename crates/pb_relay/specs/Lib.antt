@@ -8,7 +8,7 @@ pub mod Standing
 pub mod Receptions
 pub mod Verdicts
 pub mod Tables
-pub mod Outboxes
+pub mod Backlogs
 pub mod Departures
 pub mod Copies
 pub mod Moves

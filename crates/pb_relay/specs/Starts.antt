@@ -1,7 +1,8 @@
 -- The states in which ports start.
-use Rattle.std.specs.Prelude.{◌≡◌, ℕ, ◌+◌, ◌<◌, List, None, map, length, slice_index_or}
+use Rattle.std.specs.Prelude.{◌≡◌, ℕ, ◌+◌, ◌<◌, List, None, Some, map, length, slice_index_or}
 use Rattle.pb_lan.specs.Ports.{port_at}
 use Rattle.pb_lan.specs.Shapes.{start_by}
+use Rattle.pb_lan.specs.declared.plan.CustomerPlan.{CustomerPlan}
 use Rattle.pb_lan.specs.declared.plan.Plan.{Plan}
 use Rattle.pb_lan.specs.declared.plan.Spanning.{Spanning}
 use Rattle.pb_lan.specs.declared.shape.PortState.{PortState}
@@ -11,7 +12,9 @@ use Rattle.pb_relay.specs.Roles.{LocalPort, local_of}
 use Rattle.pb_relay.specs.Roles.LocalPort.{ToNobody}
 use Rattle.pb_relay.specs.declared.ports.Local.{Local}
 use Rattle.pb_relay.specs.declared.ports.Local.TheVariants.{Customer as customer_there, Bridge as bridge_there, Nobody as nobody_there}
-use Rattle.pb_svlan.specs.ServiceTables.{ServiceTable, role_at}
+use Rattle.pb_svlan.specs.ServiceTables.{ServiceTable, role_at, vid_of, attached}
+use Rattle.pb_svlan.specs.declared.port.Join.{Join}
+use Rattle.pb_svlan.specs.declared.port.Role.TheVariants.{Customer}
 
 -- the state in which a port starts
 abbrev pub first_state : Spanning → Local → PortState
@@ -27,6 +30,13 @@ pub record KeepsPorts (plan : Plan) (number : ℕ) (ports : List LocalPort) (n :
 -- the services are the plan's
 abbrev pub HasServices : Plan → ServiceTable → Type 0
 HasServices plan table = table.services ≡ map (λ s. (s.vid, s.name)) plan.services
+
+-- the customer's local port is the customer's
+pub record HasJoined (customer : CustomerPlan) (old new : ServiceTable) : Type 0 where
+  pub join : Join
+  pub vid : vid_of old customer.service ≡ Some join.vid
+  pub pcp : join.pcp ≡ customer.pcp
+  pub table : new ≡ attached old customer.port (Customer join)
 
 -- the first n local ports are something in the services as the plan has them, and the others nothing
 pub record HasAttached (plan : Plan) (number : ℕ) (table : ServiceTable) (starts : List PortState) (n : ℕ) : Type 0 where

@@ -5,10 +5,10 @@ ghost use Rattle.pb_bpdu.specs.Layout.{written};
 ghost use Rattle.pb_relay.specs.Bpdus.{frames_of, HasSent, told_queued, word_of};
 ghost use Rattle.pb_relay.specs.Copies.{AreCopied, AreSeparate, named};
 ghost use Rattle.pb_relay.specs.Moves.{own_at, own_queued, places_of};
-ghost use Rattle.pb_relay.specs.Outboxes.{KeepsOutbox};
+ghost use Rattle.pb_relay.specs.Backlogs.{KeepsBacklog};
 
+use crate::backlog::Backlog;
 use crate::copies::note;
-use crate::outbox::Outbox;
 use pb_bpdu::Bpdu;
 use pb_frame::{Mac, Memory};
 use pb_lan::{Item, NoRoom};
@@ -20,9 +20,10 @@ const HIGHEST: u8 = 7;
 /// The number of local ports of a bridge.
 const PORTS: usize = 16;
 
-/// Lists for what a step tells of the BPDUs that were to be sent.
+/// Where the memory of a bridge's own BPDUs comes from, and lists for what a step tells of them.
 #[derive(Drop)]
 pub struct BpduRoom {
+    pub alloc: Global,
     /// The ports where one was queued, with the item.
     pub queued: Vec<(u8, Item)>,
     /// The ports where one got no room, with the reason.
@@ -38,6 +39,7 @@ impl BpduRoom {
         ensures dropped_room { IfOk result (λ room. 16 ≤ vec_capacity room.dropped) }
     {
         Ok(BpduRoom {
+            alloc,
             queued: Vec::with_capacity(alloc, PORTS)?,
             dropped: Vec::with_capacity(alloc, PORTS)?,
         })
@@ -47,21 +49,21 @@ impl BpduRoom {
 /// Queues a BPDU at a port, if there is room and memory, and gives the item for the step that tells of it.
 fn send(
     alloc: Global,
-    outbox: &mut Outbox,
+    backlog: &mut Backlog,
     place: usize,
     address: Mac,
     bpdu: &Bpdu,
 ) -> Result<Item, NoRoom>
-    requires { place < length outbox.old.ports }
-    ensures { HasSent outbox.old place (written address.0 bpdu.now) result outbox.new }
+    requires { place < length backlog.old.ports }
+    ensures { HasSent backlog.old place (written address.0 bpdu.now) result backlog.new }
 {
-    if outbox.is_full(place) {
+    if backlog.is_full(place) {
         return Err(NoRoom::Full);
     }
     let Ok(wire) = pb_bpdu::write(alloc, address, bpdu) else {
         return Err(NoRoom::Memory);
     };
-    match outbox.enqueue(place, HIGHEST, None, 0, &wire) {
+    match backlog.enqueue(place, HIGHEST, None, 0, &wire) {
         Some(word) => Err(word),
         None => Ok(Item {
             mark: None,
@@ -101,28 +103,21 @@ fn note_sent(
 }
 
 /// Queues each BPDU at its port in the highest class, and notes where one was queued and where not.
-pub fn queue_bpdus(
-    alloc: Global,
-    outbox: &mut Outbox,
-    queued: &mut Vec<(u8, Item)>,
-    dropped: &mut Vec<(u8, NoRoom)>,
-    sends: &[(u8, Bpdu)],
-    address: Mac,
-)
-    requires outbox { length outbox.old.ports ≡ 16 }
-    requires queued { queued.old.items ≡ [] }
-    requires dropped { dropped.old.items ≡ [] }
-    requires queued_room { length sends.now ≤ vec_capacity queued.old }
-    requires dropped_room { length sends.now ≤ vec_capacity dropped.old }
+pub fn queue_bpdus(backlog: &mut Backlog, room: &mut BpduRoom, sends: &[(u8, Bpdu)], address: Mac)
+    requires backlog { length backlog.old.ports ≡ 16 }
+    requires queued { room.old.queued.items ≡ [] }
+    requires dropped { room.old.dropped.items ≡ [] }
+    requires queued_room { length sends.now ≤ vec_capacity room.old.queued }
+    requires dropped_room { length sends.now ≤ vec_capacity room.old.dropped }
     requires separate { AreSeparate (places_of (frames_of address.0 sends.now)) }
-    ensures copied { AreCopied outbox.old.capacity 7 (own_at (frames_of address.0 sends.now)) outbox.old.ports (places_of (frames_of address.0 sends.now)) dropped.new.items outbox.new.ports }
-    ensures count { length outbox.new.ports ≡ 16 }
-    ensures kept { KeepsOutbox outbox.old outbox.new }
-    ensures queued { queued.new.items ≡ own_queued dropped.new.items (frames_of address.0 sends.now) }
+    ensures copied { AreCopied backlog.old.capacity 7 (own_at (frames_of address.0 sends.now)) backlog.old.ports (places_of (frames_of address.0 sends.now)) room.new.dropped.items backlog.new.ports }
+    ensures count { length backlog.new.ports ≡ 16 }
+    ensures kept { KeepsBacklog backlog.old backlog.new }
+    ensures queued { room.new.queued.items ≡ own_queued room.new.dropped.items (frames_of address.0 sends.now) }
 {
     for (port, bpdu) in sends {
         let place = *port as usize - 1;
-        let answer = send(alloc, outbox, place, address, bpdu);
-        note_sent(queued, dropped, *port, answer);
+        let answer = send(room.alloc, backlog, place, address, bpdu);
+        note_sent(&mut room.queued, &mut room.dropped, *port, answer);
     }
 }

@@ -14,9 +14,8 @@ ghost use Rattle.pb_relay.specs.Standing.{with_step};
 
 use crate::departure::depart;
 use crate::fault::BridgeFault;
-use crate::outbox::Outbox;
+use crate::forwarding::Forwarding;
 use crate::ports::{LocalPorts, PORTS, is_bridge, is_customer};
-use pb_fdb::Fdb;
 use pb_frame::Mac;
 use pb_lan::{Item, Plan, PortState, Step};
 use pb_rstp::Rstp;
@@ -39,14 +38,10 @@ pub struct Bridge {
     pub(crate) number: u8,
     /// What the plan has at the local ports 1 to 16.
     pub(crate) ports: LocalPorts,
-    /// The states of the local ports.
-    pub(crate) states: [PortState; 16],
-    /// What waits at the local ports.
-    pub(crate) outbox: Outbox,
+    /// The states of the local ports, where stations were seen, and what waits.
+    pub(crate) forwarding: Forwarding,
     /// The most steps.
     pub(crate) limit: u64,
-    /// Where stations were seen.
-    pub(crate) table: Fdb,
     /// The number of ticks.
     pub(crate) clock: u64,
     /// The bridge's address, from which its BPDUs come.
@@ -67,12 +62,12 @@ impl Model for Bridge {
 
     ghost view = { λ b. record { plan = b.plan; number = b.number; steps = b.steps.steps; is_kept = b.steps.is_kept; is_reserved = b.steps.is_reserved } };
 
-    ghost invariant = { λ b. IsConfigured b.plan b.number b.ports b.outbox.capacity b.limit
-        × IsStanding b.plan b.number b.steps.steps b.states b.outbox.ports b.clock b.table.sightings
+    ghost invariant = { λ b. IsConfigured b.plan b.number b.ports b.forwarding.backlog.capacity b.limit
+        × IsStanding b.plan b.number b.steps.steps b.forwarding.states b.forwarding.backlog.ports b.clock b.forwarding.table.sightings
         × HasRoom b.steps.steps b.limit b.steps.is_reserved
-        × IsTableOf b.plan b.clock b.table
+        × IsTableOf b.plan b.clock b.forwarding.table
         × IsSpanning b.plan b.number b.steps.steps b.rstp b.address.0
-        × (b.outbox.is_kept ≡ b.steps.is_kept) };
+        × (b.forwarding.backlog.is_kept ≡ b.steps.is_kept) };
 }
 
 /// Puts a step behind the others. Where it is only counted, it is let go.
@@ -112,10 +107,8 @@ impl Bridge {
             plan: _,
             number: _,
             ports: _,
-            states: _,
-            outbox: _,
+            forwarding: _,
             limit: _,
-            table: _,
             clock: _,
             address: _,
             rstp: _,
@@ -170,7 +163,7 @@ impl Bridge {
         requires { is_used (port_at self.now.plan self.now.number port) ≡ true }
         ensures { result ≡ length (waiting self.now.plan self.now.number port self.now.steps) }
     {
-        self.outbox.waiting(port as usize - 1) as u16
+        self.forwarding.backlog.waiting(port as usize - 1) as u16
     }
 
     /// The item that leaves a port next: the oldest of the highest class (IEEE 802.1Q clause 8,
@@ -179,7 +172,7 @@ impl Bridge {
         requires { is_used (port_at self.now.plan self.now.number port) ≡ true }
         ensures { option_copied result ≡ next_out (waiting self.now.plan self.now.number port self.now.steps) }
     {
-        self.outbox.first(port as usize - 1)
+        self.forwarding.backlog.first(port as usize - 1)
     }
 
     /// Takes the item that leaves a port next, and appends the Transmit step that tells of it. Takes
@@ -192,7 +185,7 @@ impl Bridge {
         ensures step { self.new ≡ with_step self.old (Transmit port result) }
         ensures fits { Fits spanning_tree self.old.plan self.old.number self.old.steps (Transmit port result) }
     {
-        let Some(departure) = self.outbox.pop(port as usize - 1) else {
+        let Some(departure) = self.forwarding.backlog.pop(port as usize - 1) else {
             unreachable!();
         };
         depart(&mut self.steps, port, departure)
@@ -210,6 +203,6 @@ impl Bridge {
     pub fn shape(&self) -> [PortState; 16]
         ensures { result ≡ states_after self.now.plan self.now.number self.now.steps }
     {
-        self.states
+        self.forwarding.states
     }
 }

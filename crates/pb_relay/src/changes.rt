@@ -52,7 +52,7 @@ impl Bridge {
         ensures { HasTicked self.old self.new }
     {
         self.clock += 1;
-        self.table.expire(self.clock);
+        self.forwarding.table.expire(self.clock);
         append(
             &mut self.steps,
             Step::Tick {
@@ -96,7 +96,7 @@ impl Bridge {
         let ports = &self.ports;
         let place = port as usize - 1;
         let next = state_set(ports.at(place), up);
-        moved_to(self.alloc, port, up, self.states[place], next)
+        moved_to(self.alloc, port, up, self.forwarding.states[place], next)
     }
 
     /// Sets a port up or down, and appends the step that tells of it.
@@ -110,8 +110,8 @@ impl Bridge {
         let ports = &self.ports;
         let place = port as usize - 1;
         let next = state_set(ports.at(place), up);
-        flush_unless(&mut self.table, up, port);
-        self.states[place] = next;
+        flush_unless(&mut self.forwarding.table, up, port);
+        self.forwarding.states[place] = next;
         append(&mut self.steps, Step::Admin { port, up, moved });
     }
 }

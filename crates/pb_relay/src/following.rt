@@ -6,12 +6,11 @@ ghost use Rattle.pb_relay.specs.Following.{IsOfPorts, HasFollowed};
 ghost use Rattle.pb_relay.specs.Moves.{all_flushed, states_changed};
 
 use crate::bpdus::{BpduRoom, queue_bpdus};
-use crate::outbox::Outbox;
+use crate::forwarding::Forwarding;
 use pb_fdb::Fdb;
 use pb_frame::{Mac, Seq};
 use pb_lan::{Moved, PortState};
 use pb_rstp::Change;
-use std::alloc::Global;
 
 /// Sets the states of ports.
 fn set_states(states: &mut [PortState; 16], changes: &[(u8, PortState)])
@@ -35,43 +34,34 @@ fn flush_all(table: &mut Fdb, ports: &[u8])
 /// Sets the states, forgets the stations and queues the BPDUs that a change of the spanning tree tells,
 /// and gives what the bridge's step tells of it.
 pub fn follow(
-    alloc: Global,
-    states: &mut [PortState; 16],
-    table: &mut Fdb,
-    outbox: &mut Outbox,
+    forwarding: &mut Forwarding,
     change: Change,
-    room: BpduRoom,
+    mut room: BpduRoom,
     address: Mac,
 ) -> Moved
-    requires outbox { length outbox.old.ports ≡ 16 }
+    requires backlog { length forwarding.old.backlog.ports ≡ 16 }
     requires queued { room.queued.items ≡ [] }
     requires dropped { room.dropped.items ≡ [] }
     requires queued_room { 16 ≤ vec_capacity room.queued }
     requires dropped_room { 16 ≤ vec_capacity room.dropped }
     requires change { IsOfPorts address.0 change }
-    ensures { HasFollowed address.0 change states.old table.old outbox.old result states.new table.new outbox.new }
+    ensures { HasFollowed address.0 change forwarding.old result forwarding.new }
 {
     let Change {
-        states: changes,
+        states,
         flush,
         send,
     } = change;
+    set_states(&mut forwarding.states, states.as_slice());
+    flush_all(&mut forwarding.table, flush.as_slice());
+    queue_bpdus(&mut forwarding.backlog, &mut room, send.as_slice(), address);
     let BpduRoom {
-        mut queued,
-        mut dropped,
+        alloc: _,
+        queued,
+        dropped,
     } = room;
-    set_states(states, changes.as_slice());
-    flush_all(table, flush.as_slice());
-    queue_bpdus(
-        alloc,
-        outbox,
-        &mut queued,
-        &mut dropped,
-        send.as_slice(),
-        address,
-    );
     Moved {
-        states: changes,
+        states,
         flushed: flush,
         queued: Seq::from_vec(queued),
         dropped: Seq::from_vec(dropped),

@@ -37,15 +37,7 @@ impl Bridge {
         let Some(change) = heard else {
             return self.overhear(port, item, told);
         };
-        let moved = follow(
-            self.alloc,
-            &mut self.states,
-            &mut self.table,
-            &mut self.outbox,
-            change,
-            room,
-            self.address,
-        );
+        let moved = follow(&mut self.forwarding, change, room, self.address);
         self.steps.append(heard_step(port, item, told, moved))
     }
 

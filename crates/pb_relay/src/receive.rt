@@ -109,7 +109,7 @@ impl Bridge {
     {
         let ports = &self.ports;
         let place = port as usize - 1;
-        rule(ports, place, self.states[place], item)
+        rule(ports, place, self.forwarding.states[place], item)
     }
 
     /// Appends a step that tells that the item goes nowhere.
@@ -139,7 +139,7 @@ impl Bridge {
         ensures { HasTaken self.old port item result self.new }
     {
         let source = source_of(item.wire.as_slice());
-        let learnt = self.table.learn(vid, source, port, self.clock);
+        let learnt = self.forwarding.table.learn(vid, source, port, self.clock);
         let outcome = Outcome::Filtered(Reason::NotForwarding);
         append_receive(&mut self.steps, port, item, Some(learnt), outcome)
     }
@@ -168,10 +168,12 @@ impl Bridge {
         ensures { HasTaken self.old port item result self.new }
     {
         let frame = item.wire.as_slice();
-        let learnt = self.table.learn(vid, source_of(frame), port, self.clock);
-        let at = sought(&self.table, vid, frame, self.clock);
-        let chosen = choose(&self.ports, &self.states, port, vid, at);
-        let refused = queue_copies(&mut self.outbox, &chosen, &self.ports, &load, &item);
+        let table = &mut self.forwarding.table;
+        let learnt = table.learn(vid, source_of(frame), port, self.clock);
+        let at = sought(table, vid, frame, self.clock);
+        let chosen = choose(&self.ports, &self.forwarding.states, port, vid, at);
+        let backlog = &mut self.forwarding.backlog;
+        let refused = queue_copies(backlog, &chosen, &self.ports, &load, &item);
         let outcome = Outcome::Relayed { chosen, refused };
         append_receive(&mut self.steps, port, item, Some(learnt), outcome)
     }

@@ -42,16 +42,8 @@ impl Bridge {
             unreachable!();
         };
         self.clock += 1;
-        self.table.expire(self.clock);
-        let moved = follow(
-            self.alloc,
-            &mut self.states,
-            &mut self.table,
-            &mut self.outbox,
-            change,
-            room,
-            self.address,
-        );
+        self.forwarding.table.expire(self.clock);
+        let moved = follow(&mut self.forwarding, change, room, self.address);
         append(
             &mut self.steps,
             Step::Tick {
@@ -91,15 +83,7 @@ impl Bridge {
         let Some(change) = admin(&mut self.rstp, port, up)? else {
             unreachable!();
         };
-        let moved = follow(
-            self.alloc,
-            &mut self.states,
-            &mut self.table,
-            &mut self.outbox,
-            change,
-            room,
-            self.address,
-        );
+        let moved = follow(&mut self.forwarding, change, room, self.address);
         append(&mut self.steps, Step::Admin { port, up, moved });
         Ok(())
     }

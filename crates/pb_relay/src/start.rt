@@ -1,6 +1,6 @@
 //! A bridge at its start.
 
-ghost use Rattle.std.specs.Prelude.{◌≡◌, ℕ, ◌+◌, ◌<◌, ◌≤◌, ◌==◌, ◌++◌, ◌∷◌, [], map, length, true, false, Some, IfOk, OnOk};
+ghost use Rattle.std.specs.Prelude.{◌≡◌, ℕ, ◌+◌, ◌<◌, ◌≤◌, ◌==◌, ◌++◌, ◌∷◌, [], map, length, true, false, IfOk, OnOk};
 ghost use Rattle.std.specs.List.{flat_map};
 ghost use Rattle.std.specs.Option.{option_copied};
 ghost use Rattle.pb_frame.specs.Lists.{first};
@@ -8,19 +8,19 @@ ghost use Rattle.pb_lan.specs.Plans.{IsSound, IsNumber};
 ghost use Rattle.pb_lan.specs.Ports.{port_at, is_customer_at, is_end_at, ends_of};
 ghost use Rattle.pb_lan.specs.Queues.{capacity_of};
 ghost use Rattle.pb_lan.specs.Shapes.{start_by};
-ghost use Rattle.pb_svlan.specs.ServiceTables.{vid_of, is_known, are_known, has_name, has_vid, is_taken, role_at, attached, carried};
-ghost use Rattle.pb_svlan.specs.declared.port.Join.{Join};
-ghost use Rattle.pb_svlan.specs.declared.port.Role.TheVariants.{Customer, Trunk};
+ghost use Rattle.pb_svlan.specs.ServiceTables.{is_known, are_known, has_name, has_vid, is_taken, role_at, attached, carried};
+ghost use Rattle.pb_svlan.specs.declared.port.Role.TheVariants.{Trunk};
 ghost use Rattle.pb_relay.specs.LocalPorts.{IsKept};
 ghost use Rattle.pb_relay.specs.Machines.{machine_in};
-ghost use Rattle.pb_relay.specs.Outboxes.{empty_outbox};
+ghost use Rattle.pb_relay.specs.Backlogs.{empty_backlog};
 ghost use Rattle.pb_relay.specs.Roles.{local_as, told};
 ghost use Rattle.pb_relay.specs.Standing.{at_start};
-ghost use Rattle.pb_relay.specs.Starts.{first_state, HasServices, KeepsPorts};
+ghost use Rattle.pb_relay.specs.Starts.{first_state, HasJoined, HasServices, KeepsPorts};
 
+use crate::backlog::Backlog;
 use crate::bridge::Bridge;
+use crate::forwarding::Forwarding;
 use crate::machine::{address, machine};
-use crate::outbox::Outbox;
 use crate::ports::{Local, LocalPorts};
 use pb_fdb::Fdb;
 use pb_frame::Memory;
@@ -96,8 +96,7 @@ fn join(services: &mut Services, customer: &CustomerPlan) -> Result<(), Memory>
     requires priority { customer.now.pcp ≤ 7 }
     requires known { is_known services.old customer.now.service ≡ true }
     requires free { is_taken services.old customer.now.port ≡ false }
-    ensures { OnOk result ((join : Join) × (vid_of services.old customer.now.service ≡ Some join.vid) × (join.pcp ≡ customer.now.pcp)
-        × (services.new ≡ attached services.old customer.now.port (Customer join))) }
+    ensures { OnOk result (HasJoined customer.now services.old services.new) }
 {
     match services.join(customer.port, customer.service, customer.pcp) {
         Ok(()) => Ok(()),
@@ -217,14 +216,14 @@ fn sending(
     plan: &Plan,
     number: u8,
     is_kept: bool,
-) -> Result<(Outbox, Option<Rstp>), Memory>
+) -> Result<(Backlog, Option<Rstp>), Memory>
     requires sound { IsSound plan.now }
     requires bridge { IsNumber number (length plan.now.bridges) }
-    ensures outbox { IfOk result (λ kept. kept.0 ≡ empty_outbox (capacity_of plan.now number) is_kept) }
+    ensures backlog { IfOk result (λ kept. kept.0 ≡ empty_backlog (capacity_of plan.now number) is_kept) }
     ensures machine { IfOk result (λ kept. kept.1 ≡ machine_in plan.now number []) }
 {
     let rstp = machine(alloc, plan, number)?;
-    Ok((Outbox::new(alloc, capacity(plan, number), is_kept)?, rstp))
+    Ok((Backlog::new(alloc, capacity(plan, number), is_kept)?, rstp))
 }
 
 /// The bridge of this number, at its start, with this list of steps.
@@ -235,7 +234,7 @@ fn started(alloc: Global, plan: &Plan, number: u8, steps: Steps) -> Result<Bridg
     requires unreserved { steps.is_reserved ≡ false }
     ensures { IfOk result (λ bridge. bridge ≡ at_start plan.now number steps.is_kept) }
 {
-    let (outbox, rstp) = sending(alloc, plan, number, steps.are_kept())?;
+    let (backlog, rstp) = sending(alloc, plan, number, steps.are_kept())?;
     let (kept, ports) = placed(alloc, plan, number)?;
     let states = start_states(plan.spanning, &ports);
     Ok(Bridge {
@@ -243,10 +242,12 @@ fn started(alloc: Global, plan: &Plan, number: u8, steps: Steps) -> Result<Bridg
         plan: kept,
         number,
         ports,
-        states,
-        outbox,
+        forwarding: Forwarding {
+            states,
+            table: Fdb::new(alloc, STATIONS, plan.ageing),
+            backlog,
+        },
         limit: plan.steps,
-        table: Fdb::new(alloc, STATIONS, plan.ageing),
         clock: 0,
         address: address(plan, number),
         rstp,

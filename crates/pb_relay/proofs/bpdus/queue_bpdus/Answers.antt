@@ -19,9 +19,9 @@ pub loop-port-preserved : goal.loop-port-preserved
 loop-port-preserved c =
     let x = c.loop-port-item.result in
     let answer = c.send-answer.result in
-    let more = one_bpdu c.args.outbox.now c.loop-port.outbox c.send-answer.new.outbox c.args.address.0
+    let more = one_bpdu c.args.backlog.now c.loop-port.backlog c.send-answer.new.backlog c.args.address.0
     c.args.sends.now c.loop-port.port-index x
-    c.loop-port.dropped.items answer c.loop-port.queued.items c.loop-port-test.true c.loop-port-item.is
+    c.loop-port.room.dropped.items answer c.loop-port.room.queued.items c.loop-port-test.true c.loop-port-item.is
     c.requires.separate
     c.loop-port.invariant.copied c.loop-port.invariant.count c.loop-port.invariant.kept c.loop-port.invariant.queued
     c.send-answer.ensures in
@@ -34,7 +34,7 @@ loop-port-preserved c =
       few = omega (
         arith,
         ap length rooms.dropped,
-        length-append c.loop-port.dropped.items
+        length-append c.loop-port.room.dropped.items
             (named x.0 (word_of answer)),
         named-few x.0 (word_of answer),
         c.loop-port.invariant.few,
@@ -42,7 +42,8 @@ loop-port-preserved c =
       fewer = omega (
         arith,
         ap length rooms.queued,
-        length-append c.loop-port.queued.items (told_queued x.0 answer),
+        length-append c.loop-port.room.queued.items
+            (told_queued x.0 answer),
         told-few x.0 answer,
         c.loop-port.invariant.fewer,
       );

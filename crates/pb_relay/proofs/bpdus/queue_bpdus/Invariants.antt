@@ -2,18 +2,18 @@ use Rattle.std.proofs.Common.{◌≡◌, ◌≤◌, length, take, vec_capacity}
 use Rattle.pb_relay.specs.Bpdus.{frames_of}
 use Rattle.pb_relay.specs.Copies.{AreCopied}
 use Rattle.pb_relay.specs.Moves.{own_at, own_queued, places_of}
-use Rattle.pb_relay.specs.Outboxes.{KeepsOutbox}
+use Rattle.pb_relay.specs.Backlogs.{KeepsBacklog}
 use Rattle.pb_relay.proofs.bpdus.queue_bpdus.Given as goal
 
 abbrev pub invariant-loop-port : goal.invariant-loop-port
 invariant-loop-port l = record {
-  copied : AreCopied l.initial.outbox.capacity 7 (own_at (frames_of l.address.0 l.sends)) l.initial.outbox.ports
-      (take l.port-index (places_of (frames_of l.address.0 l.sends))) l.dropped.items l.outbox.ports;
-  queued : l.queued.items ≡ own_queued l.dropped.items (take l.port-index (frames_of l.address.0 l.sends));
-  count : length l.outbox.ports ≡ 16;
-  kept : KeepsOutbox l.initial.outbox l.outbox;
-  few : length l.dropped.items ≤ l.port-index;
-  fewer : length l.queued.items ≤ l.port-index;
-  dropped_room : length l.sends ≤ vec_capacity l.dropped;
-  queued_room : length l.sends ≤ vec_capacity l.queued;
+  copied : AreCopied l.initial.backlog.capacity 7 (own_at (frames_of l.address.0 l.sends)) l.initial.backlog.ports
+      (take l.port-index (places_of (frames_of l.address.0 l.sends))) l.room.dropped.items l.backlog.ports;
+  queued : l.room.queued.items ≡ own_queued l.room.dropped.items (take l.port-index (frames_of l.address.0 l.sends));
+  count : length l.backlog.ports ≡ 16;
+  kept : KeepsBacklog l.initial.backlog l.backlog;
+  few : length l.room.dropped.items ≤ l.port-index;
+  fewer : length l.room.queued.items ≤ l.port-index;
+  dropped_room : length l.sends ≤ vec_capacity l.room.dropped;
+  queued_room : length l.sends ≤ vec_capacity l.room.queued;
 }

@@ -36,17 +36,19 @@ returns-in-Some-clause-kept c =
     let found = c.in-Some.ensures
     ∙ ap (λ (cs : List CustomerPlan). first (is_customer_at c.args.number c.args.port) cs) c.as_slice.ensures in
     let joined = c.in_ok-join.ensures in
-    customer_kept c.args.plan.now c.args.number c.args.port c.args.services.now c.join.new.services joined.0 _
-    c.in-Some.customer.now c.requires.sound c.requires.services found c.requires.free joined.1 joined.2 joined.3
+    customer_kept c.args.plan.now c.args.number c.args.port c.args.services.now c.join.new.services joined.join _
+    c.in-Some.customer.now c.requires.sound c.requires.services found c.requires.free joined.vid joined.pcp
+    joined.table
 
 pub returns-in-Some-clause-others : goal.returns-in-Some-clause-others
 returns-in-Some-clause-others c = λ p other.
     let found = c.in-Some.ensures
     ∙ ap (λ (cs : List CustomerPlan). first (is_customer_at c.args.number c.args.port) cs) c.as_slice.ensures in
     let joined = c.in_ok-join.ensures in
-    ap (λ (t : ServiceTable). role_at t p) (joined.3 ∙ ap (λ n. attached c.args.services.now n (Customer joined.0))
+    ap (λ (t : ServiceTable). role_at t p)
+    (joined.table ∙ ap (λ n. attached c.args.services.now n (Customer joined.join))
     (customer_there c.args.plan.now c.args.number c.args.port c.in-Some.customer.now c.requires.sound found).1)
-    ∙ role-elsewhere c.args.services.now c.args.port p (Customer joined.0) c.requires.free other
+    ∙ role-elsewhere c.args.services.now c.args.port p (Customer joined.join) c.requires.free other
 
 pub trunk-requires-clause-known : goal.trunk-requires-clause-known
 trunk-requires-clause-known c =

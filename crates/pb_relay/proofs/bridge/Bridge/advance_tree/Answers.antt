@@ -1,5 +1,5 @@
-use Rattle.std.proofs.Common.{◌≡◌, ◌∷◌, ◌++◌, true, false, length, arith, sym, ap, subst, ◌∙◌, [], refl}
-use Rattle.std.proofs.Common.{length-append, List, ◌+◌, ◌<◌, ◌^◌, ℕ, rules}
+use Rattle.std.proofs.Common.{◌≡◌, ◌∷◌, ◌++◌, true, length, arith, sym, ap, subst, ◌∙◌, [], refl, length-append, List}
+use Rattle.std.proofs.Common.{◌+◌, ◌<◌, ◌^◌, ℕ, rules}
 use Rattle.std.specs.List.{filter}
 use Rattle.pb_fdb.specs.Tables.{Table}
 use Rattle.pb_frame.specs.Stations.{is_fresh}
@@ -17,7 +17,7 @@ use Rattle.pb_relay.specs.Tables.{IsTableOf}
 use Rattle.pb_relay.proofs.FollowLemmas.{of_ports, followed_names, after_followed, table_all_flushed, expired_later}
 use Rattle.pb_relay.proofs.FollowLemmas.{ticked_fits}
 use Rattle.pb_relay.proofs.CauseLemmas.{spanning_moves, is_fixed}
-use Rattle.pb_relay.proofs.StandingLemmas.{capacity-small, now_few}
+use Rattle.pb_relay.proofs.StandingLemmas.{now_few}
 use Rattle.pb_relay.proofs.TableLemmas.{table_expired}
 use Rattle.pb_relay.proofs.Grown.{used_up, bridge_of}
 use Rattle.pb_steps.specs.StepLists.{StepsView, with_step as steps_with}
@@ -54,10 +54,10 @@ names : (c : goal.After-append)
 names c =
     let s = c.self.inside in
     let f = c.follow-moved in
-    followed_names s.plan s.number s.steps.steps s.states f.new.states s.outbox f.new.outbox s.clock s.table.sightings
-    c.expire.new.self f.new.table s.rstp s.address.0
-    (Ticks) c.in-Some.change f.result c.self.invariant.1 c.self.invariant.0.most c.self.invariant.4
-    (sym c.in_ok-change.ensures.change ∙ c.in-Some.is) f.ensures
+    followed_names s.plan s.number s.steps.steps (record s.forwarding { table = c.expire.new.self }) f.new.forwarding
+    s.clock
+    s.forwarding.table.sightings s.rstp s.address.0 (Ticks) c.in-Some.change f.result c.self.invariant.1
+    c.self.invariant.0.most c.self.invariant.4 (sym c.in_ok-change.ensures.change ∙ c.in-Some.is) f.ensures
 
 pub follow-moved-requires-clause-change : goal.follow-moved-requires-clause-change
 follow-moved-requires-clause-change c =
@@ -81,17 +81,17 @@ invariant_of-self-2 c =
     let step : Step = Tick (c.self.inside.clock + 1) c.follow-moved.result in
     let e : c.append.new.steps.steps ≡ s.steps.steps
     ++ step ∷ [] = (ap (λ (v : StepsView). v.steps) c.append.ensures.steps) in (
-      subst (λ (n : ℕ). IsConfigured s.plan s.number s.ports n s.limit) (sym f.ensures.outbox_kept.capacity)
+      subst (λ (n : ℕ). IsConfigured s.plan s.number s.ports n s.limit) (sym f.ensures.backlog_kept.capacity)
           c.self.invariant.0,
-      subst (λ (ms : List Step). IsStanding s.plan s.number ms f.new.states f.new.outbox.ports
-          (c.self.inside.clock + 1) f.new.table.sightings) (sym e)
-          (after_followed s.plan s.number s.steps.steps s.states f.new.states s.outbox f.new.outbox s.clock
-          (c.self.inside.clock + 1) s.table.sightings c.expire.new.self f.new.table s.rstp s.address.0
-          (Ticks) c.in-Some.change f.result step c.self.invariant.1 c.self.invariant.0.most c.self.invariant.4
-          (sym c.in_ok-change.ensures.change ∙ c.in-Some.is) f.ensures
+      subst (λ (ms : List Step). IsStanding s.plan s.number ms f.new.forwarding.states f.new.forwarding.backlog.ports
+          (c.self.inside.clock + 1) f.new.forwarding.table.sightings) (sym e)
+          (after_followed s.plan s.number s.steps.steps (record s.forwarding { table = c.expire.new.self })
+          f.new.forwarding s.clock (c.self.inside.clock + 1)
+          s.forwarding.table.sightings s.rstp s.address.0 (Ticks) c.in-Some.change f.result step c.self.invariant.1
+          c.self.invariant.0.most c.self.invariant.4 (sym c.in_ok-change.ensures.change ∙ c.in-Some.is) f.ensures
           (fits c) refl (λ _. refl) (λ _ _. refl) refl refl
           (ap (λ (t : Table). filter (is_fresh s.plan.ageing (s.clock + 1)) t.sightings) c.expire.ensures
-          ∙ expired_later s.plan s.number s.clock s.steps.steps s.table c.self.invariant.3
+          ∙ expired_later s.plan s.number s.clock s.steps.steps s.forwarding.table c.self.invariant.3
           c.self.invariant.1.stations)),
       record {
         within = omega (arith, reserved, ap length e, length-append s.steps.steps (step ∷ []));
@@ -100,11 +100,11 @@ invariant_of-self-2 c =
       subst (IsTableOf s.plan (c.self.inside.clock + 1)) (sym f.ensures.flushed_table)
           (table_all_flushed s.plan (c.self.inside.clock + 1) c.expire.new.self c.in-Some.change.flush
           (subst (IsTableOf s.plan (s.clock + 1)) (sym c.expire.ensures)
-          (table_expired s.plan s.clock s.table c.self.invariant.3))),
+          (table_expired s.plan s.clock s.forwarding.table c.self.invariant.3))),
       subst (λ (ms : List Step). IsSpanning s.plan s.number ms c.tick.new.rstp s.address.0) (sym e)
           (spanning_moves s.plan s.number s.steps.steps s.rstp c.tick.new.rstp s.address.0 step (Ticks) refl
           (c.in_ok-change.ensures.ok) c.self.invariant.4),
-      f.ensures.outbox_kept.is_kept ∙ c.self.invariant.5
+      f.ensures.backlog_kept.is_kept ∙ c.self.invariant.5
           ∙ sym (ap (λ (v : StepsView). v.is_kept) c.append.ensures.steps),
     )
 

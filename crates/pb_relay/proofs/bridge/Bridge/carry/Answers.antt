@@ -19,7 +19,6 @@ use Rattle.pb_relay.proofs.TableLemmas.{has_learnt, table_learnt, found_in}
 use Rattle.pb_relay.specs.Tables.{HasLearnt}
 use Rattle.pb_relay.proofs.EntryLemmas.{IsAdmitted, carried}
 use Rattle.pb_relay.proofs.ReceiveLemmas.{relayed}
-use Rattle.pb_relay.proofs.StandingLemmas.{capacity-small}
 use Rattle.pb_relay.specs.LocalPorts.{IsConfigured}
 use Rattle.pb_relay.specs.Machines.{IsSpanning}
 use Rattle.pb_relay.proofs.CauseLemmas.{spanning_stays}
@@ -58,34 +57,37 @@ whole : (c : goal.Joined-load-3)
     × IsStanding c.self.inside.plan c.self.inside.number
     (c.self.inside.steps.steps ++ Receive c.args.port c.args.item (Some c.learn-learnt.result)
     (Relayed c.choose-chosen.result c.queue_copies-refused.result) None ∷ [])
-    c.self.inside.states c.queue_copies-refused.new.outbox.ports c.self.inside.clock c.learn-learnt.new.self.sightings
+    c.self.inside.forwarding.states c.queue_copies-refused.new.backlog.ports c.self.inside.clock
+    c.learn-learnt.new.self.sightings
 whole c =
     let mac : c.source_of.result.0 ≡ src_of c.args.item.wire = c.source_of.ensures
     ∙ ap src_of c.as_slice-frame.ensures in
     let learns : HasLearnt c.self.inside.plan.ageing c.self.inside.clock c.args.vid c.args.port
-    (src_of c.args.item.wire) c.self.inside.table.sightings c.learn-learnt.result
+    (src_of c.args.item.wire) c.self.inside.forwarding.table.sightings c.learn-learnt.result
     c.learn-learnt.new.self.sightings =
     subst (λ (m : List ℕ). HasLearnt c.self.inside.plan.ageing c.self.inside.clock c.args.vid c.args.port m
-    c.self.inside.table.sightings c.learn-learnt.result c.learn-learnt.new.self.sightings) mac
-    (has_learnt c.self.inside.plan c.self.inside.clock c.args.vid c.args.port c.source_of.result.0 c.self.inside.table
-    c.learn-learnt.new.self c.learn-learnt.result (omega (arith, c.self.invariant.0.sound.limits.ageing.0))
-    c.self.invariant.3 c.learn-learnt.ensures.answer c.learn-learnt.ensures.table) in
-    let newer = table_learnt c.self.inside.plan c.self.inside.clock c.self.inside.table c.learn-learnt.new.self
-    (sighting_at c.args.vid c.source_of.result.0 c.args.port c.self.inside.clock) c.learn-learnt.result
-    c.self.invariant.3 refl c.learn-learnt.ensures.table in
+    c.self.inside.forwarding.table.sightings c.learn-learnt.result c.learn-learnt.new.self.sightings) mac
+    (has_learnt c.self.inside.plan c.self.inside.clock c.args.vid c.args.port c.source_of.result.0
+    c.self.inside.forwarding.table c.learn-learnt.new.self c.learn-learnt.result
+    (omega (arith, c.self.invariant.0.sound.limits.ageing.0)) c.self.invariant.3 c.learn-learnt.ensures.answer
+    c.learn-learnt.ensures.table) in
+    let newer = table_learnt c.self.inside.plan c.self.inside.clock c.self.inside.forwarding.table
+    c.learn-learnt.new.self (sighting_at c.args.vid c.source_of.result.0 c.args.port c.self.inside.clock)
+    c.learn-learnt.result c.self.invariant.3 refl c.learn-learnt.ensures.table in
     let at = c.sought-at.ensures
     ∙ ap (λ w. cond (is_group (dst_of w)) None (place_in c.learn-learnt.new.self c.self.inside.clock c.args.vid
     (dst_of w))) c.as_slice-frame.ensures
     ∙ ap (λ o. cond (is_group (dst_of c.args.item.wire)) None o)
     (found_in c.self.inside.plan c.self.inside.clock c.args.vid (dst_of c.args.item.wire) c.learn-learnt.new.self
     newer.ageing) in
-    let chosen : c.choose-chosen.result ≡ filter
-    (is_choice c.self.inside.ports c.self.inside.states c.args.port c.args.vid c.sought-at.result) local_ports =
+    let chosen : c.choose-chosen.result
+    ≡ filter (is_choice c.self.inside.ports c.self.inside.forwarding.states c.args.port c.args.vid c.sought-at.result)
+    local_ports =
     c.choose-chosen.ensures.chosen in
-    relayed c.self.inside.plan c.self.inside.number c.self.inside.steps.steps c.self.inside.states
-    c.self.inside.outbox.ports c.queue_copies-refused.new.outbox.ports
-    c.self.inside.clock c.self.inside.table.sightings c.learn-learnt.new.self.sightings c.self.inside.ports
-    c.self.inside.outbox.capacity c.self.inside.limit c.args.port c.args.vid c.args.item c.args.load
+    relayed c.self.inside.plan c.self.inside.number c.self.inside.steps.steps c.self.inside.forwarding.states
+    c.self.inside.forwarding.backlog.ports c.queue_copies-refused.new.backlog.ports
+    c.self.inside.clock c.self.inside.forwarding.table.sightings c.learn-learnt.new.self.sightings c.self.inside.ports
+    c.self.inside.forwarding.backlog.capacity c.self.inside.limit c.args.port c.args.vid c.args.item c.args.load
     c.learn-learnt.result c.sought-at.result c.choose-chosen.result c.queue_copies-refused.result
     c.self.invariant.0 c.self.invariant.1
     (subst (λ (v : BridgeView). ruling spanning_tree v.plan v.number v.steps c.args.port c.args.item ≡ Carries
@@ -105,14 +107,14 @@ invariant_of-self c =
     ++ step ∷ [] = (ap (λ (v : StepsView). v.steps) c.append_receive.ensures.steps) in (
       subst (λ (n : ℕ). IsConfigured c.self.inside.plan c.self.inside.number c.self.inside.ports n
           c.self.inside.limit) (sym c.queue_copies-refused.ensures.kept.capacity) c.self.invariant.0,
-      subst (λ (ms : List Step). IsStanding c.self.inside.plan c.self.inside.number ms c.self.inside.states
-          c.queue_copies-refused.new.outbox.ports c.self.inside.clock c.learn-learnt.new.self.sightings)
+      subst (λ (ms : List Step). IsStanding c.self.inside.plan c.self.inside.number ms c.self.inside.forwarding.states
+          c.queue_copies-refused.new.backlog.ports c.self.inside.clock c.learn-learnt.new.self.sightings)
           (sym e) (whole c).1,
       record {
         within = omega (arith, reserved, ap length e, length-append c.self.inside.steps.steps (step ∷ []));
         reserved = λ e. used_up (ap (λ (v : StepsView). v.is_reserved) c.append_receive.ensures.steps) e;
       },
-      table_learnt c.self.inside.plan c.self.inside.clock c.self.inside.table c.learn-learnt.new.self
+      table_learnt c.self.inside.plan c.self.inside.clock c.self.inside.forwarding.table c.learn-learnt.new.self
           (sighting_at c.args.vid c.source_of.result.0 c.args.port c.self.inside.clock) c.learn-learnt.result
           c.self.invariant.3 refl c.learn-learnt.ensures.table,
       subst (λ (ms : List Step). IsSpanning c.self.inside.plan c.self.inside.number ms c.self.inside.rstp

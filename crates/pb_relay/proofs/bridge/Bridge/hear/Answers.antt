@@ -1,4 +1,4 @@
-use Rattle.std.proofs.Common.{◌≡◌, ◌∷◌, ◌++◌, true, false, length, arith, sym, ap, subst, ◌∙◌, [], None, Some, refl}
+use Rattle.std.proofs.Common.{◌≡◌, ◌∷◌, ◌++◌, true, length, arith, sym, ap, subst, ◌∙◌, [], None, Some, refl}
 use Rattle.std.proofs.Common.{length-append, List, ℕ}
 use Rattle.pb_lan.specs.BridgeLists.{ruling, Fits, Names}
 use Rattle.pb_lan.specs.BridgeLists.Ruling.{Listens}
@@ -54,10 +54,10 @@ names : (c : goal.After-append)
 names c =
     let s = c.self.inside in
     let f = c.follow-moved in
-    followed_names s.plan s.number s.steps.steps s.states f.new.states s.outbox f.new.outbox s.clock s.table.sightings
-    c.self.inside.table f.new.table s.rstp s.address.0
-    (Hears c.args.port c.args.item.wire) c.in-Some.change f.result c.self.invariant.1 c.self.invariant.0.most
-    c.self.invariant.4 (ap (λ w. change_next c.self.inside.rstp (Hears c.args.port w)) (sym c.as_slice.ensures)
+    followed_names s.plan s.number s.steps.steps s.forwarding f.new.forwarding s.clock
+    s.forwarding.table.sightings s.rstp s.address.0 (Hears c.args.port c.args.item.wire) c.in-Some.change f.result
+    c.self.invariant.1 c.self.invariant.0.most c.self.invariant.4
+    (ap (λ w. change_next c.self.inside.rstp (Hears c.args.port w)) (sym c.as_slice.ensures)
     ∙ sym c.in-Ok-hear.ensures.change ∙ c.in-Some.is) f.ensures
 
 pub follow-moved-requires-clause-change : goal.follow-moved-requires-clause-change
@@ -86,14 +86,14 @@ invariant_of-self-2 c =
     let e : c.append.new.self.steps ≡ s.steps.steps
     ++ step ∷ [] = (ap (λ (v : StepsView). v.steps) c.append.ensures.steps)
     ∙ ap (λ (z : Step). s.steps.steps ++ z ∷ []) c.heard_step.ensures in (
-      subst (λ (n : ℕ). IsConfigured s.plan s.number s.ports n s.limit) (sym f.ensures.outbox_kept.capacity)
+      subst (λ (n : ℕ). IsConfigured s.plan s.number s.ports n s.limit) (sym f.ensures.backlog_kept.capacity)
           c.self.invariant.0,
-      subst (λ (ms : List Step). IsStanding s.plan s.number ms f.new.states f.new.outbox.ports c.self.inside.clock
-          f.new.table.sightings) (sym e)
-          (after_followed s.plan s.number s.steps.steps s.states f.new.states s.outbox f.new.outbox s.clock
-          c.self.inside.clock s.table.sightings c.self.inside.table f.new.table s.rstp s.address.0
-          (Hears c.args.port c.args.item.wire) c.in-Some.change f.result step c.self.invariant.1
-          c.self.invariant.0.most c.self.invariant.4
+      subst (λ (ms : List Step). IsStanding s.plan s.number ms f.new.forwarding.states f.new.forwarding.backlog.ports
+          c.self.inside.clock
+          f.new.forwarding.table.sightings) (sym e)
+          (after_followed s.plan s.number s.steps.steps s.forwarding f.new.forwarding s.clock c.self.inside.clock
+          s.forwarding.table.sightings s.rstp s.address.0 (Hears c.args.port c.args.item.wire) c.in-Some.change
+          f.result step c.self.invariant.1 c.self.invariant.0.most c.self.invariant.4
           (ap (λ w. change_next c.self.inside.rstp (Hears c.args.port w)) (sym c.as_slice.ensures)
           ∙ sym c.in-Ok-hear.ensures.change ∙ c.in-Some.is) f.ensures
           (fits c) refl (λ _. refl) (λ _ _. refl) refl (omega arith)
@@ -103,14 +103,14 @@ invariant_of-self-2 c =
         reserved = λ e. used_up (ap (λ (v : StepsView). v.is_reserved) c.append.ensures.steps) e;
       },
       subst (IsTableOf s.plan c.self.inside.clock) (sym f.ensures.flushed_table)
-          (table_all_flushed s.plan c.self.inside.clock c.self.inside.table c.in-Some.change.flush
+          (table_all_flushed s.plan c.self.inside.clock c.self.inside.forwarding.table c.in-Some.change.flush
           c.self.invariant.3),
       subst (λ (ms : List Step). IsSpanning s.plan s.number ms c.hear.new.rstp s.address.0) (sym e)
           (spanning_moves s.plan s.number s.steps.steps s.rstp c.hear.new.rstp s.address.0 step
           (Hears c.args.port c.args.item.wire) refl
           (c.in-Ok-hear.ensures.ok ∙ ap (λ w. machine_next s.rstp (Hears c.args.port w)) c.as_slice.ensures)
           c.self.invariant.4),
-      f.ensures.outbox_kept.is_kept ∙ c.self.invariant.5
+      f.ensures.backlog_kept.is_kept ∙ c.self.invariant.5
           ∙ sym (ap (λ (v : StepsView). v.is_kept) c.append.ensures.steps),
     )
 

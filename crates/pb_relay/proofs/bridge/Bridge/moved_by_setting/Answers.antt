@@ -41,7 +41,7 @@ returns c =
     c.requires in
     let l = used_port _ _ _ c.self.invariant.0.sound (provider_used _ p) in
     let k = kept_here c.self.inside.plan _ _ _ _ c.args.port c.self.invariant.0 l in
-    let e : moved_to c.args.port c.args.up (get_or c.self.inside.states (c.args.port - 1) Discarding)
+    let e : moved_to c.args.port c.args.up (get_or c.self.inside.forwarding.states (c.args.port - 1) Discarding)
     c.state_set-next.result
     ≡ moved_by_setting c.args.self.now.plan c.args.self.now.number c.args.self.now.steps c.args.port c.args.up =
     ap (λ (z : PortState). moved_to c.args.port c.args.up z c.state_set-next.result)

@@ -34,8 +34,8 @@ invariant_of-self c =
     (c.heard_step.ensures ∙ ap (λ (m : Moved). Receive c.args.port c.args.item None Heard (Some m))
     c.nothing_moved-moved.ensures) in (
       c.self.invariant.0,
-      subst (λ (ms : List Step). IsStanding c.self.inside.plan c.self.inside.number ms c.self.inside.states
-          c.self.inside.outbox.ports c.self.inside.clock c.self.inside.table.sightings)
+      subst (λ (ms : List Step). IsStanding c.self.inside.plan c.self.inside.number ms c.self.inside.forwarding.states
+          c.self.inside.forwarding.backlog.ports c.self.inside.clock c.self.inside.forwarding.table.sightings)
           (sym e)
           (after_overheard _ _ _ _ _ _ _ c.args.port c.args.item c.self.invariant.1 f),
       record {

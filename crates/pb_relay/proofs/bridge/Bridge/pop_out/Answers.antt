@@ -8,7 +8,7 @@ use Rattle.pb_lan.specs.Ports.{is_used}
 use Rattle.pb_relay.specs.Classes.{first_out}
 use Rattle.pb_relay.specs.Departures.{copy_of}
 use Rattle.pb_relay.specs.LocalPorts.{IsConfigured}
-use Rattle.pb_relay.specs.Outboxes.{OutboxView, at_place}
+use Rattle.pb_relay.specs.Backlogs.{BacklogView, at_place}
 use Rattle.pb_relay.specs.Standing.{BridgeView}
 use Rattle.pb_relay.proofs.DepartureLemmas.{departs, none_departs}
 use Rattle.pb_relay.proofs.StandingLemmas.{used_port, next_at, number_at, none_waits, transmitted}
@@ -38,18 +38,18 @@ unreachable-requires c =
     c.requires.used) in
     let some = subst (λ (v : BridgeView). 0 < length (waiting v.plan v.number c.args.port v.steps))
     (sym c.self.view_is) c.requires.some in
-    let next = first_out (at_place c.self.inside.outbox (c.args.port - 1)) in
+    let next = first_out (at_place c.self.inside.forwarding.backlog (c.args.port - 1)) in
     omega (
       arith,
       some,
       number_at _ _ _ _ _ _ _ c.args.port c.self.invariant.1 l,
-      none_waits (at_place c.self.inside.outbox (c.args.port - 1))
-          (none_departs c.self.inside.outbox.is_kept next (sym c.pop.ensures.first ∙ c.in_default.is)),
+      none_waits (at_place c.self.inside.forwarding.backlog (c.args.port - 1))
+          (none_departs c.self.inside.forwarding.backlog.is_kept next (sym c.pop.ensures.first ∙ c.in_default.is)),
     )
 
 pub depart-requires-clause-copy : goal.depart-requires-clause-copy
 depart-requires-clause-copy c =
-    let o = c.self.inside.outbox in
+    let o = c.self.inside.forwarding.backlog in
     let d = c.in-Some.departure in
     (departs o.is_kept (first_out (at_place o (c.args.port - 1))) d c.in-Some.ensures.first).1
     ∙ ap (λ kept. copy_of kept d.item) c.self.invariant.5
@@ -63,13 +63,13 @@ invariant_of-self c =
     c.requires.used) in
     let reserved = c.self.invariant.2.reserved
     (subst (λ (v : BridgeView). v.is_reserved ≡ true) (sym c.self.view_is) c.requires.reserved) in
-    let next = (departs s.outbox.is_kept (first_out (at_place s.outbox (c.args.port - 1))) d
+    let next = (departs s.forwarding.backlog.is_kept (first_out (at_place s.forwarding.backlog (c.args.port - 1))) d
     c.in-Some.ensures.first).0 in
     let rest = c.in-Some.ensures.rest in
     let more = ap (λ (v : StepsView). v.steps) c.depart.ensures.steps in (
       subst (λ (n : ℕ). IsConfigured s.plan s.number s.ports n s.limit)
-          (sym (ap (λ (o : OutboxView). o.capacity) rest)) c.self.invariant.0,
-      transmitted _ _ _ _ _ _ _ _ c.args.port c.self.invariant.1 l (ap (λ (o : OutboxView). o.ports) rest) d.item next
+          (sym (ap (λ (o : BacklogView). o.capacity) rest)) c.self.invariant.0,
+      transmitted _ _ _ _ _ _ _ _ c.args.port c.self.invariant.1 l (ap (λ (o : BacklogView). o.ports) rest) d.item next
           c.depart.new.steps.steps more,
       record {
         within = omega (
@@ -84,13 +84,13 @@ invariant_of-self c =
       c.self.invariant.3,
       subst (λ (ms : List Step). IsSpanning s.plan s.number ms s.rstp s.address.0) (sym more)
           (spanning_stays _ _ _ _ _ (Transmit c.args.port d.item) refl c.self.invariant.4),
-      ap (λ (o : OutboxView). o.is_kept) rest ∙ c.self.invariant.5
+      ap (λ (o : BacklogView). o.is_kept) rest ∙ c.self.invariant.5
           ∙ sym (ap (λ (v : StepsView). v.is_kept) c.depart.ensures.steps),
     )
 
 pub returns-clause-fits : goal.returns-clause-fits
 returns-clause-fits c =
-    let o = c.self.inside.outbox in
+    let o = c.self.inside.forwarding.backlog in
     let l = used_port _ _ _ c.self.invariant.0.sound
     (subst (λ (v : BridgeView). is_used (port_at v.plan v.number c.args.port) ≡ true) (sym c.self.view_is)
     c.requires.used) in

@@ -26,8 +26,8 @@ invariant_of-self c =
     subst (λ (z : Ruling). Follows spanning_tree c.self.inside.plan c.self.inside.number c.self.inside.steps.steps
     c.args.port c.args.item None (Filtered c.args.reason) None z) (sym r) ((refl, refl, refl)) in (
       c.self.invariant.0,
-      subst (λ (ms : List Step). IsStanding c.self.inside.plan c.self.inside.number ms c.self.inside.states
-          c.self.inside.outbox.ports c.self.inside.clock c.self.inside.table.sightings)
+      subst (λ (ms : List Step). IsStanding c.self.inside.plan c.self.inside.number ms c.self.inside.forwarding.states
+          c.self.inside.forwarding.backlog.ports c.self.inside.clock c.self.inside.forwarding.table.sightings)
           (sym (ap (λ (v : StepsView). v.steps) c.append_receive.ensures.steps))
           (after_quiet _ _ _ _ _ _ _ step c.self.invariant.1 f refl refl refl (λ _. refl) (λ _ _. refl)),
       record {

@@ -44,6 +44,7 @@ returns c =
     let l = used_port _ _ _ c.self.invariant.0.sound u in
     let k = kept_here c.self.inside.plan _ _ _ _ c.args.port c.self.invariant.0 l in
     c.rule.ensures
-    ∙ rule_is c.self.inside.plan c.self.inside.number c.self.inside.steps.steps c.self.inside.states c.args.port
-    (get_or c.self.inside.ports (c.args.port - 1) ToNobody) c.args.item.now _ c.self.invariant.1.kept_states l k
+    ∙ rule_is c.self.inside.plan c.self.inside.number c.self.inside.steps.steps c.self.inside.forwarding.states
+    c.args.port (get_or c.self.inside.ports (c.args.port - 1) ToNobody) c.args.item.now _
+    c.self.invariant.1.kept_states l k
     ∙ ap (λ (v : BridgeView). ruling spanning_tree v.plan v.number v.steps c.args.port c.args.item.now) c.self.view_is

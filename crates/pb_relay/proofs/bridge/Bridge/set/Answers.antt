@@ -1,12 +1,12 @@
-use Rattle.std.proofs.Common.{◌-◌, ◌≡◌, ◌∷◌, ◌++◌, [], true, false, List, get_or, length, length-append, set, arith}
-use Rattle.std.proofs.Common.{ap, sym, subst, ◌∙◌}
+use Rattle.std.proofs.Common.{◌-◌, ◌≡◌, ◌∷◌, ◌++◌, [], true, List, get_or, length, length-append, set, arith, ap, sym}
+use Rattle.std.proofs.Common.{subst, ◌∙◌}
 use Rattle.pb_frame.specs.Stations.{Sighting}
 use Rattle.pb_lan.specs.Ports.{port_at, is_provider}
 use Rattle.pb_lan.specs.declared.step.Moved.{Moved}
 use Rattle.pb_lan.specs.declared.step.Step.{Step}
 use Rattle.pb_lan.specs.declared.step.Step.TheVariants.{Admin}
 use Rattle.pb_relay.specs.Changes.{moved_by_setting}
-use Rattle.pb_relay.specs.Standing.{BridgeView, IsStanding, with_step}
+use Rattle.pb_relay.specs.Standing.{BridgeView, IsStanding}
 use Rattle.pb_lan.specs.BridgeLists.{Fits}
 use Rattle.pb_relay.specs.Protocol.{spanning_tree}
 use Rattle.pb_relay.proofs.SettingLemmas.{provider_used, state_set_is, after_set, set_fits}
@@ -62,17 +62,20 @@ invariant_of-self c =
     (sym c.self.view_is)) in (
       c.self.invariant.0,
       subst (λ (ms : List Step). IsStanding c.self.inside.plan c.self.inside.number ms
-          (set c.self.inside.states (c.args.port - 1) c.state_set-next.result) c.self.inside.outbox.ports
+          (set c.self.inside.forwarding.states (c.args.port - 1) c.state_set-next.result)
+          c.self.inside.forwarding.backlog.ports
           c.self.inside.clock c.flush_unless.new.table.sightings)
           (sym e)
           (subst (λ (t : List Sighting). IsStanding c.self.inside.plan c.self.inside.number
           (c.self.inside.steps.steps ++ step ∷ [])
-          (set c.self.inside.states (c.args.port - 1) c.state_set-next.result) c.self.inside.outbox.ports
+          (set c.self.inside.forwarding.states (c.args.port - 1) c.state_set-next.result)
+          c.self.inside.forwarding.backlog.ports
           c.self.inside.clock t)
-          (sym (ap (λ (t : Table). t.sightings) c.flush_unless.ensures ∙ sightings_flushed_or c.args.port c.args.up
-          c.self.inside.table))
-          (after_set c.self.inside.plan c.self.inside.number c.self.inside.steps.steps c.self.inside.states
-          c.self.inside.outbox.ports c.self.inside.clock c.self.inside.table.sightings c.args.port c.args.up
+          (sym (ap (λ (t : Table). t.sightings) c.flush_unless.ensures
+          ∙ sightings_flushed_or c.args.port c.args.up c.self.inside.forwarding.table))
+          (after_set c.self.inside.plan c.self.inside.number c.self.inside.steps.steps c.self.inside.forwarding.states
+          c.self.inside.forwarding.backlog.ports c.self.inside.clock c.self.inside.forwarding.table.sightings
+          c.args.port c.args.up
           c.state_set-next.result
           c.self.invariant.1 fixed p l
           (c.state_set-next.ensures ∙ ap (λ (z : Local). state_set z c.args.up) c.at.ensures
@@ -83,7 +86,7 @@ invariant_of-self c =
         reserved = λ e. used_up (ap (λ (v : StepsView). v.is_reserved) c.append.ensures.steps) e;
       },
       rw c.flush_unless.ensures (table_flushed_or c.self.inside.plan c.self.inside.clock c.args.port c.args.up
-          c.self.inside.table c.self.invariant.3),
+          c.self.inside.forwarding.table c.self.invariant.3),
       subst (λ (ms : List Step). IsSpanning c.self.inside.plan c.self.inside.number ms c.self.inside.rstp
           c.self.inside.address.0) (sym e)
           (spanning_fixed _ _ _ _ _ step fixed c.self.invariant.4),

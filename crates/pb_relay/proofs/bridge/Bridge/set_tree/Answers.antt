@@ -1,5 +1,5 @@
-use Rattle.std.proofs.Common.{◌≡◌, ◌∷◌, ◌++◌, true, false, length, arith, sym, ap, subst, ◌∙◌, [], refl}
-use Rattle.std.proofs.Common.{length-append, List, ℕ}
+use Rattle.std.proofs.Common.{◌≡◌, ◌∷◌, ◌++◌, true, length, arith, sym, ap, subst, ◌∙◌, [], refl, length-append, List}
+use Rattle.std.proofs.Common.{ℕ}
 use Rattle.pb_lan.specs.BridgeLists.{Fits, Names}
 use Rattle.pb_lan.specs.Ports.{port_at, is_provider}
 use Rattle.pb_lan.specs.Rules.Cause.{Sets}
@@ -9,7 +9,7 @@ use Rattle.pb_lan.specs.declared.step.Step.TheVariants.{Admin}
 use Rattle.pb_relay.specs.LocalPorts.{IsConfigured}
 use Rattle.pb_relay.specs.Machines.{IsSpanning}
 use Rattle.pb_relay.specs.Protocol.{spanning_tree}
-use Rattle.pb_relay.specs.Standing.{BridgeView, IsStanding, with_step}
+use Rattle.pb_relay.specs.Standing.{BridgeView, IsStanding}
 use Rattle.pb_relay.specs.Tables.{IsTableOf}
 use Rattle.pb_relay.proofs.FollowLemmas.{of_ports, followed_names, after_followed, table_all_flushed}
 use Rattle.pb_relay.proofs.CauseLemmas.{spanning_moves, is_fixed}
@@ -33,10 +33,10 @@ names : (c : goal.After-append)
 names c =
     let s = c.self.inside in
     let f = c.follow-moved in
-    followed_names s.plan s.number s.steps.steps s.states f.new.states s.outbox f.new.outbox s.clock s.table.sightings
-    c.self.inside.table f.new.table s.rstp s.address.0
-    (Sets c.args.port c.args.up) c.in-Some.change f.result c.self.invariant.1 c.self.invariant.0.most
-    c.self.invariant.4 (sym c.in_ok-change.ensures.change ∙ c.in-Some.is) f.ensures
+    followed_names s.plan s.number s.steps.steps s.forwarding f.new.forwarding s.clock
+    s.forwarding.table.sightings s.rstp s.address.0 (Sets c.args.port c.args.up) c.in-Some.change f.result
+    c.self.invariant.1 c.self.invariant.0.most c.self.invariant.4 (sym c.in_ok-change.ensures.change ∙ c.in-Some.is)
+    f.ensures
 
 pub follow-moved-requires-clause-change : goal.follow-moved-requires-clause-change
 follow-moved-requires-clause-change c =
@@ -62,14 +62,15 @@ invariant_of-self-2 c =
     let step : Step = Admin c.args.port c.args.up c.follow-moved.result in
     let e : c.append.new.steps.steps ≡ s.steps.steps
     ++ step ∷ [] = (ap (λ (v : StepsView). v.steps) c.append.ensures.steps) in (
-      subst (λ (n : ℕ). IsConfigured s.plan s.number s.ports n s.limit) (sym f.ensures.outbox_kept.capacity)
+      subst (λ (n : ℕ). IsConfigured s.plan s.number s.ports n s.limit) (sym f.ensures.backlog_kept.capacity)
           c.self.invariant.0,
-      subst (λ (ms : List Step). IsStanding s.plan s.number ms f.new.states f.new.outbox.ports c.self.inside.clock
-          f.new.table.sightings) (sym e)
-          (after_followed s.plan s.number s.steps.steps s.states f.new.states s.outbox f.new.outbox s.clock
-          c.self.inside.clock s.table.sightings c.self.inside.table f.new.table s.rstp s.address.0
-          (Sets c.args.port c.args.up) c.in-Some.change f.result step c.self.invariant.1 c.self.invariant.0.most
-          c.self.invariant.4 (sym c.in_ok-change.ensures.change ∙ c.in-Some.is) f.ensures
+      subst (λ (ms : List Step). IsStanding s.plan s.number ms f.new.forwarding.states f.new.forwarding.backlog.ports
+          c.self.inside.clock
+          f.new.forwarding.table.sightings) (sym e)
+          (after_followed s.plan s.number s.steps.steps s.forwarding f.new.forwarding s.clock c.self.inside.clock
+          s.forwarding.table.sightings s.rstp s.address.0 (Sets c.args.port c.args.up) c.in-Some.change f.result step
+          c.self.invariant.1 c.self.invariant.0.most c.self.invariant.4
+          (sym c.in_ok-change.ensures.change ∙ c.in-Some.is) f.ensures
           (fits c) refl (λ _. refl) (λ _ _. refl) refl (omega arith)
           (c.self.invariant.1.stations)),
       record {
@@ -77,12 +78,12 @@ invariant_of-self-2 c =
         reserved = λ e. used_up (ap (λ (v : StepsView). v.is_reserved) c.append.ensures.steps) e;
       },
       subst (IsTableOf s.plan c.self.inside.clock) (sym f.ensures.flushed_table)
-          (table_all_flushed s.plan c.self.inside.clock c.self.inside.table c.in-Some.change.flush
+          (table_all_flushed s.plan c.self.inside.clock c.self.inside.forwarding.table c.in-Some.change.flush
           c.self.invariant.3),
       subst (λ (ms : List Step). IsSpanning s.plan s.number ms c.admin.new.rstp s.address.0) (sym e)
           (spanning_moves s.plan s.number s.steps.steps s.rstp c.admin.new.rstp s.address.0 step
           (Sets c.args.port c.args.up) refl (c.in_ok-change.ensures.ok) c.self.invariant.4),
-      f.ensures.outbox_kept.is_kept ∙ c.self.invariant.5
+      f.ensures.backlog_kept.is_kept ∙ c.self.invariant.5
           ∙ sym (ap (λ (v : StepsView). v.is_kept) c.append.ensures.steps),
     )
 

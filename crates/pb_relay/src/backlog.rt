@@ -5,7 +5,7 @@ ghost use Rattle.std.specs.Prelude.{◌≡◌, ◌<◌, ◌≤◌, length, IfOk,
 ghost use Rattle.pb_relay.specs.Classes.{no_items, number_in, put_in, first_out, after_first};
 ghost use Rattle.pb_relay.specs.Copies.{item_with};
 ghost use Rattle.pb_relay.specs.Departures.{departure};
-ghost use Rattle.pb_relay.specs.Outboxes.{at_place, with_port, is_full_at, HasEnqueued, empty_outbox, word_for};
+ghost use Rattle.pb_relay.specs.Backlogs.{at_place, with_port, is_full_at, HasEnqueued, empty_backlog, word_for};
 
 use crate::departure::Departure;
 use crate::queues::PortQueues;
@@ -20,7 +20,7 @@ use std::marker::Model;
 ///
 /// Contracts see what waits at each port, the most items that wait at one, and whether all is there twice.
 #[derive(Drop)]
-pub struct Outbox {
+pub struct Backlog {
     queues: Vec<PortQueues>,
     /// As many, where steps are kept, and else none.
     copies: Vec<PortQueues>,
@@ -28,22 +28,22 @@ pub struct Outbox {
     is_kept: bool,
 }
 
-impl Model for Outbox {
+impl Model for Backlog {
     ghost use Rattle.std.specs.Prelude.{◌≡◌, ◌≤◌, true};
-    ghost use Rattle.pb_relay.specs.Outboxes.{OutboxView};
+    ghost use Rattle.pb_relay.specs.Backlogs.{BacklogView};
 
-    ghost Value = { OutboxView };
+    ghost Value = { BacklogView };
 
     ghost view = { λ o. record { ports = o.queues.items; capacity = o.capacity; is_kept = o.is_kept } };
 
     ghost invariant = { λ o. (o.capacity ≤ 4096) × (o.is_kept ≡ true → o.copies.items ≡ o.queues.items) };
 }
 
-impl Outbox {
+impl Backlog {
     /// Nothing waits at any of the local ports. `Memory` is answered where there was none for the lists.
-    pub fn new(alloc: Global, capacity: usize, is_kept: bool) -> Result<Outbox, Memory>
+    pub fn new(alloc: Global, capacity: usize, is_kept: bool) -> Result<Backlog, Memory>
         requires { capacity ≤ 4096 }
-        ensures { IfOk result (λ outbox. outbox ≡ empty_outbox capacity is_kept) }
+        ensures { IfOk result (λ backlog. backlog ≡ empty_backlog capacity is_kept) }
     {
         let queues = empty_queues(alloc)?;
         let copies = if is_kept {
@@ -51,7 +51,7 @@ impl Outbox {
         } else {
             Vec::new(alloc)
         };
-        Ok(Outbox {
+        Ok(Backlog {
             queues,
             copies,
             capacity,
@@ -87,6 +87,7 @@ impl Outbox {
     }
 
     /// Queues an item of these parts at a port, if there is room and memory.
+    #[inline(always)]
     pub fn enqueue(
         &mut self,
         place: usize,

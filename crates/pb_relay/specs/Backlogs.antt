@@ -9,29 +9,29 @@ use Rattle.pb_relay.specs.Classes.{no_items, number_in, put_in}
 
 -- what callers see: what waits at each port by class, the most items that wait at one, and whether all is there twice,
 -- for a bridge that keeps its steps
-pub record OutboxView : Type 0 where
+pub record BacklogView : Type 0 where
   pub ports : List (List (List Item))
   pub capacity : ℕ
   pub is_kept : Bool
 
 -- nothing waits
-abbrev pub empty_outbox : ℕ → Bool → OutboxView
-empty_outbox capacity is_kept = record { ports = replicate 16 no_items; capacity = capacity; is_kept = is_kept }
+abbrev pub empty_backlog : ℕ → Bool → BacklogView
+empty_backlog capacity is_kept = record { ports = replicate 16 no_items; capacity = capacity; is_kept = is_kept }
 
 -- what waits at the port of a place
-abbrev pub at_place : OutboxView → ℕ → List (List Item)
-at_place outbox place = slice_index_or outbox.ports place []
+abbrev pub at_place : BacklogView → ℕ → List (List Item)
+at_place backlog place = slice_index_or backlog.ports place []
 
 -- the same, but that this waits at one port
-abbrev pub with_port : OutboxView → ℕ → List (List Item) → OutboxView
-with_port outbox place qs = record outbox { ports = slice_set outbox.ports place qs }
+abbrev pub with_port : BacklogView → ℕ → List (List Item) → BacklogView
+with_port backlog place qs = record backlog { ports = slice_set backlog.ports place qs }
 
 -- as many items wait at a port as may
-abbrev pub is_full_at : OutboxView → ℕ → Bool
-is_full_at outbox place = nat_le outbox.capacity (number_in (at_place outbox place))
+abbrev pub is_full_at : BacklogView → ℕ → Bool
+is_full_at backlog place = nat_le backlog.capacity (number_in (at_place backlog place))
 
 -- an item was queued at a port where there was room and memory
-abbrev pub HasEnqueued : OutboxView → ℕ → ℕ → Item → Option NoRoom → OutboxView → Type 0
+abbrev pub HasEnqueued : BacklogView → ℕ → ℕ → Item → Option NoRoom → BacklogView → Type 0
 HasEnqueued old place class item None new =
     (is_full_at old place ≡ false) × (new ≡ with_port old place (put_in class item (at_place old place)))
 HasEnqueued old place class item (Some Full) new = (is_full_at old place ≡ true) × (new ≡ old)
@@ -43,6 +43,6 @@ word_for (Ok x) = None
 word_for (Err y) = Some Memory
 
 -- nothing has changed but what waits
-pub record KeepsOutbox (old new : OutboxView) : Type 0 where
+pub record KeepsBacklog (old new : BacklogView) : Type 0 where
   pub capacity : new.capacity ≡ old.capacity
   pub is_kept : new.is_kept ≡ old.is_kept

@@ -1,7 +1,7 @@
 use Rattle.std.proofs.Common.{ap, sym, ◌∙◌}
 use Rattle.pb_relay.specs.Classes.{without_last}
 use Rattle.pb_relay.proofs.ClassLemmas.{taken_back}
-use Rattle.pb_relay.proofs.outbox.push_twice.Goals as goal
+use Rattle.pb_relay.proofs.backlog.push_twice.Goals as goal
 
 pub returns-in-Err-clause-err : goal.returns-in-Err-clause-err
 returns-in-Err-clause-err c =

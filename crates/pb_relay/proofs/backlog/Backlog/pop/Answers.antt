@@ -1,7 +1,7 @@
 use Rattle.std.proofs.Common.{set, ap, sym, ◌∙◌}
 use Rattle.std.proofs.lemmas.List.{set-get_or}
 use Rattle.pb_relay.proofs.ClassLemmas.{none_taken}
-use Rattle.pb_relay.proofs.outbox.Outbox.pop.Goals as goal
+use Rattle.pb_relay.proofs.backlog.Backlog.pop.Goals as goal
 
 -- where nothing waits, nothing is taken away
 pub invariant_of-self : goal.invariant_of-self
