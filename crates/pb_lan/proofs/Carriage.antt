@@ -32,8 +32,7 @@ use Rattle.pb_lan.specs.declared.step.NoRoom.{NoRoom}
 use Rattle.pb_lan.specs.declared.step.Outcome.{Outcome}
 use Rattle.pb_lan.specs.declared.step.Outcome.TheVariants.{Relayed, Filtered, Heard}
 use Rattle.pb_lan.specs.declared.step.Step.{Step}
-use Rattle.pb_lan.specs.declared.step.Step.TheVariants.{Poll, Feed, Deliver, Receive, Transmit, Tick, Admin, Take}
-use Rattle.pb_lan.specs.declared.step.Step.TheVariants.{Put}
+use Rattle.pb_lan.specs.declared.step.Step.TheVariants.{Receive, Tick, Admin}
 
 -- K holds of what is received at a bridge's port and Q of what is queued there, where each of these leads on to the next
 pub record Spreads (rules : Rules) (plan : Plan) (rec : Record) (K Q : ℕ → ℕ → Item → Type 0) : Type 0 where
@@ -59,31 +58,6 @@ abbrev pub StepBelow : ℕ → (ℕ → ℕ → Item → Type 0) → ℕ → Ste
 StepBelow n K b (Receive q item learnt outcome moved) = Below n (K b q) item
 StepBelow n K b _ = Unit {0}
 
--- from a received item to its copy
-copies-spread : (rules : Rules) (plan : Plan) (rec : Record) (K Q : ℕ → ℕ → Item → Type 0) → Spreads rules plan rec K Q
-    → (n b r : ℕ) (earlier later : List Step) (q : ℕ) (item : Item) (learnt : Option Learnt) (outcome : Outcome)
-    (moved : Option Moved)
-    → earlier ++ Receive q item learnt outcome moved ∷ later ≡ steps_of rec.bridges b
-    → Follows rules plan b earlier q item learnt outcome moved (ruling rules plan b earlier q item)
-    → Below n (K b q) item → AllWaiting (Below (n + 1) (Q b r)) (copies plan b q item outcome r)
-copies-spread rules plan rec K Q s n b r earlier later q item learnt (Filtered reason) moved at follows known = tt
-copies-spread rules plan rec K Q s n b r earlier later q item learnt Heard moved at follows known = tt
-copies-spread rules plan rec K Q s n b r earlier later q item learnt (Relayed chosen refused) moved at follows known =
-    elim (list_any (λ p. p == r) chosen && not (is_refused refused r))
-    as (λ t. (list_any (λ p. p == r) chosen && not (is_refused refused r)) ≡ t
-    → AllWaiting (Below (n + 1) (Q b r))
-    (cond t (record {
-      class = class_of (priority_in (port_at plan b q) item.wire);
-      item = copy_of plan (port_at plan b q) (port_at plan b r) item;
-    } ∷ []) [])) [
-      | true ↦ λ e. (
-        λ few. s.relays b r earlier later q item learnt chosen refused moved at follows (and-left _ _ e)
-            (known (omega (arith, few))),
-        tt,
-      )
-      | false ↦ λ e. tt
-    ] refl
-
 -- what a bridge queues of its own is for other bridges
 pub step-own : (rules : Rules) (plan : Plan) (b : ℕ) (earlier : List Step) (step : Step)
     → Fits rules plan b earlier step
@@ -105,36 +79,53 @@ own-All P plan b r step h own =
     (λ q k. h q.1 (subst (λ x. IsOwn plan b (x, q.1)) (eqb-true q.0 r k.1) k.0)) (filter (λ q. q.0 == r) all)
     (All-filter (IsOwn plan b) (λ q. q.0 == r) all (All-flat_map (IsOwn plan b) (λ m. m.queued) (moved_of step) own)))
 
--- so does what spreads
-own-spread : (rules : Rules) (plan : Plan) (rec : Record) (K Q : ℕ → ℕ → Item → Type 0) → Spreads rules plan rec K Q
-    → (n b r : ℕ) (step : Step)
-    → AllByRecursion (λ m. AllByRecursion (IsOwn plan b) m.queued) (moved_of step)
-    → AllWaiting (Below n (Q b r)) (own_by r step)
-own-spread rules plan rec K Q s n b r step own = own-All (λ w. Below n (Q b r) w.item) plan b r step
-    (λ item o few. s.own b r item o) own
+-- where K and Q spread, from what a bridge receives to what it queues
+module _ (rules : Rules) (plan : Plan) (rec : Record) (K Q : ℕ → ℕ → Item → Type 0)
+    (s : Spreads rules plan rec K Q) where
+  -- from a received item to its copy
+  copies-spread : (n b r : ℕ) (earlier later : List Step) (q : ℕ) (item : Item) (learnt : Option Learnt)
+      (outcome : Outcome) (moved : Option Moved)
+      → earlier ++ Receive q item learnt outcome moved ∷ later ≡ steps_of rec.bridges b
+      → Follows rules plan b earlier q item learnt outcome moved (ruling rules plan b earlier q item)
+      → Below n (K b q) item → AllWaiting (Below (n + 1) (Q b r)) (copies plan b q item outcome r)
+  copies-spread n b r earlier later q item learnt (Filtered reason) moved at follows known = tt
+  copies-spread n b r earlier later q item learnt Heard moved at follows known = tt
+  copies-spread n b r earlier later q item learnt (Relayed chosen refused) moved at follows known =
+      elim (list_any (λ p. p == r) chosen && not (is_refused refused r))
+      as (λ t. (list_any (λ p. p == r) chosen && not (is_refused refused r)) ≡ t
+      → AllWaiting (Below (n + 1) (Q b r))
+      (cond t (record {
+        class = class_of (priority_in (port_at plan b q) item.wire);
+        item = copy_of plan (port_at plan b q) (port_at plan b r) item;
+      } ∷ []) [])) [
+        | true ↦ λ e. (
+          λ few. s.relays b r earlier later q item learnt chosen refused moved at follows (and-left _ _ e)
+              (known (omega (arith, few))),
+          tt,
+        )
+        | false ↦ λ e. tt
+      ] refl
 
--- from what a step receives to what it relays
-step-spread : (rules : Rules) (plan : Plan) (rec : Record) (K Q : ℕ → ℕ → Item → Type 0) → Spreads rules plan rec K Q
-    → (n b r : ℕ) (earlier later : List Step) (step : Step) → earlier ++ step ∷ later ≡ steps_of rec.bridges b
-    → Fits rules plan b earlier step → StepBelow n K b step
-    → AllWaiting (Below (n + 1) (Q b r)) (relayed_by plan b r step)
-step-spread rules plan rec K Q s n b r earlier later (Receive q item learnt outcome moved) at fits known =
-    copies-spread rules plan rec K Q s n b r earlier later q item learnt outcome moved at fits known
-step-spread rules plan rec K Q s n b r earlier later _ at fits known = tt
+  -- from what a step receives to what it relays
+  step-spread : (n b r : ℕ) (earlier later : List Step) (step : Step) → earlier ++ step ∷ later ≡ steps_of rec.bridges b
+      → Fits rules plan b earlier step → StepBelow n K b step
+      → AllWaiting (Below (n + 1) (Q b r)) (relayed_by plan b r step)
+  step-spread n b r earlier later (Receive q item learnt outcome moved) at fits known =
+      copies-spread n b r earlier later q item learnt outcome moved at fits known
+  step-spread n b r earlier later _ at fits known = tt
 
--- from what the steps receive to what they queue
-steps-spread : (rules : Rules) (plan : Plan) (rec : Record) (K Q : ℕ → ℕ → Item → Type 0) → Spreads rules plan rec K Q
-    → (n b r : ℕ) (earlier steps : List Step) → earlier ++ steps ≡ steps_of rec.bridges b
-    → LawfulAfter rules plan b earlier steps
-    → AllByRecursion (StepBelow n K b) steps → AllQueued (Below (n + 1) (Q b r)) plan b r steps
-steps-spread rules plan rec K Q s n b r earlier [] at lawful known = tt
-steps-spread rules plan rec K Q s n b r earlier (step ∷ steps) at lawful known = (
-  All-append (λ w. Below (n + 1) (Q b r) w.item) (relayed_by plan b r step) (own_by r step)
-      (step-spread rules plan rec K Q s n b r earlier steps step at lawful.0 known.0)
-      (own-spread rules plan rec K Q s (n + 1) b r step (step-own rules plan b earlier step lawful.0)),
-  steps-spread rules plan rec K Q s n b r (earlier ++ step ∷ []) steps (append_assoc earlier (step ∷ []) steps ∙ at)
-      lawful.1 known.1,
-)
+  -- from what the steps receive to what they queue, also of their own
+  steps-spread : (n b r : ℕ) (earlier steps : List Step) → earlier ++ steps ≡ steps_of rec.bridges b
+      → LawfulAfter rules plan b earlier steps
+      → AllByRecursion (StepBelow n K b) steps → AllQueued (Below (n + 1) (Q b r)) plan b r steps
+  steps-spread n b r earlier [] at lawful known = tt
+  steps-spread n b r earlier (step ∷ steps) at lawful known = (
+    All-append (λ w. Below (n + 1) (Q b r) w.item) (relayed_by plan b r step) (own_by r step)
+        (step-spread n b r earlier steps step at lawful.0 known.0)
+        (own-All (λ w. Below (n + 1) (Q b r) w.item) plan b r step (λ item o few. s.own b r item o)
+        (step-own rules plan b earlier step lawful.0)),
+    steps-spread n b r (earlier ++ step ∷ []) steps (append_assoc earlier (step ∷ []) steps ∙ at) lawful.1 known.1,
+  )
 
 -- what is received at any port is received by some step
 received-steps : (n : ℕ) (K : ℕ → ℕ → Item → Type 0) (b : ℕ) (steps : List Step)
@@ -148,14 +139,7 @@ received-steps n K b (step ∷ steps) h = (
     at_step : (step : Step) → ((q : ℕ) → AllByRecursion (Below n (K b q)) (received_by q step)) → StepBelow n K b step
     at_step (Receive q item learnt outcome moved) k =
         (subst (λ t. AllByRecursion (Below n (K b q)) (cond t (item ∷ []) [])) (eqb-refl q) (k q)).0
-    at_step (Transmit q item) k = tt
-    at_step (Tick now moved) k = tt
-    at_step (Admin port up moved) k = tt
-    at_step (Poll item) k = tt
-    at_step (Feed item) k = tt
-    at_step (Deliver item gone) k = tt
-    at_step (Take number item lost) k = tt
-    at_step (Put item) k = tt
+    at_step _ k = tt
 
 -- of what is queued anywhere
 abbrev AllBelow : ℕ → (ℕ → ℕ → Item → Type 0) → Plan → Record → Type 0

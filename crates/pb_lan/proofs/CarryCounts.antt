@@ -22,8 +22,7 @@ use Rattle.pb_lan.specs.declared.step.Moved.{Moved}
 use Rattle.pb_lan.specs.declared.step.Outcome.{Outcome}
 use Rattle.pb_lan.specs.declared.step.Outcome.TheVariants.{Relayed, Filtered, Heard}
 use Rattle.pb_lan.specs.declared.step.Step.{Step}
-use Rattle.pb_lan.specs.declared.step.Step.TheVariants.{Poll, Feed, Deliver, Receive, Transmit, Tick, Admin, Take}
-use Rattle.pb_lan.specs.declared.step.Step.TheVariants.{Put}
+use Rattle.pb_lan.specs.declared.step.Step.TheVariants.{Receive}
 
 -- an item of the mark after so many hops
 abbrev pub is_after : Mark → ℕ → Item → Bool
@@ -131,14 +130,7 @@ carry-received mark n r q (Receive at item learnt (Relayed chosen refused) moved
     ] refl
 carry-received mark n r q (Receive at item learnt (Filtered reason) moved) h = omega arith
 carry-received mark n r q (Receive at item learnt Heard moved) h = omega arith
-carry-received mark n r q (Transmit at item) h = omega arith
-carry-received mark n r q (Tick now moved) h = omega arith
-carry-received mark n r q (Admin port up moved) h = omega arith
-carry-received mark n r q (Poll item) h = omega arith
-carry-received mark n r q (Feed item) h = omega arith
-carry-received mark n r q (Deliver item gone) h = omega arith
-carry-received mark n r q (Take number item lost) h = omega arith
-carry-received mark n r q (Put item) h = omega arith
+carry-received mark n r q _ h = omega arith
 
 -- where all that carry received at one port, they are no more than what was received there
 pub carries-received : (mark : Mark) (n r q : ℕ) (steps : List Step)

@@ -201,10 +201,11 @@ module _ {rules : Rules} {plan : Plan} {rec : Record} {shape : Shape} {entry : C
     ends = come.ends;
   }
 
-  -- an edge from another bridge
+  -- by an edge
   crossed-edge : Edge plan shape (vid_at plan entry) come.number come.near.bridge b
   crossed-edge = (come.near, come.far, crossed, refl, come.bridge)
 
+  -- from another bridge
   came-afar : come.near.bridge ≡ b → ⊥
   came-afar s = edge-apart plan shape (vid_at plan entry) rooted k.shows come.number b
       (subst (λ x. Edge plan shape (vid_at plan entry) come.number x b) s crossed-edge)

@@ -25,7 +25,7 @@ use Rattle.pb_lan.specs.declared.step.Mark.{Mark}
 use Rattle.pb_lan.specs.declared.step.Moved.{Moved}
 use Rattle.pb_lan.specs.declared.step.Outcome.{Outcome}
 use Rattle.pb_lan.specs.declared.step.Step.{Step}
-use Rattle.pb_lan.specs.declared.step.Step.TheVariants.{Poll, Feed, Deliver, Receive, Transmit, Tick, Admin, Take, Put}
+use Rattle.pb_lan.specs.declared.step.Step.TheVariants.{Receive, Tick, Admin}
 use Rattle.pb_frame.specs.declared.learnt.Learnt.{Learnt}
 
 abbrev states_in : Moved → List (ℕ × PortState)
@@ -47,15 +47,8 @@ unchanged plan b earlier e =
 
 handled-still : (plan : Plan) (shape : Shape) (mark : Mark) (b : ℕ) (earlier : List Step) (step : Step)
     → numbered shape.states b ≡ Some (states_after plan b earlier) → IsHandled plan shape mark b earlier step
-handled-still plan shape mark b earlier (Poll item) now = tt
-handled-still plan shape mark b earlier (Feed item) now = tt
-handled-still plan shape mark b earlier (Deliver item gone) now = tt
 handled-still plan shape mark b earlier (Receive port item learnt outcome moved) now = λ of_mark. now
-handled-still plan shape mark b earlier (Transmit port item) now = tt
-handled-still plan shape mark b earlier (Tick at moved) now = tt
-handled-still plan shape mark b earlier (Admin port up moved) now = tt
-handled-still plan shape mark b earlier (Take number item lost) now = tt
-handled-still plan shape mark b earlier (Put item) now = tt
+handled-still plan shape mark b earlier _ now = tt
 
 all-still : (plan : Plan) (shape : Shape) (mark : Mark) (b : ℕ)
     → numbered shape.states b ≡ Some (states_after plan b [])
@@ -160,18 +153,13 @@ follows-nothing rules plan b earlier port item learnt outcome moved fixed Closed
 fits-nothing : (rules : Rules) (plan : Plan) (b : ℕ) (earlier : List Step) (step : Step) → plan.spanning ≡ Fixed
     → Fits rules plan b earlier step → is_setting step ≡ false
     → flat_map states_in (moved_of step) ≡ []
-fits-nothing rules plan b earlier (Poll item) fixed fits unset = refl
-fits-nothing rules plan b earlier (Feed item) fixed fits unset = refl
-fits-nothing rules plan b earlier (Deliver item gone) fixed fits unset = refl
 fits-nothing rules plan b earlier (Receive port item learnt outcome moved) fixed fits unset =
     follows-nothing rules plan b earlier port item learnt outcome moved fixed (ruling rules plan b earlier port item)
     fits
-fits-nothing rules plan b earlier (Transmit port item) fixed fits unset = refl
 fits-nothing rules plan b earlier (Tick now moved) fixed fits unset =
     one-moved moved (named-nothing rules plan b earlier Ticks moved (ticked-nothing rules plan b earlier fixed) fits.1)
 fits-nothing rules plan b earlier (Admin port up moved) fixed fits unset = cc
-fits-nothing rules plan b earlier (Take number item lost) fixed fits unset = refl
-fits-nothing rules plan b earlier (Put item) fixed fits unset = refl
+fits-nothing rules plan b earlier _ fixed fits unset = refl
 
 lawful-nothing : (rules : Rules) (plan : Plan) (b : ℕ) (earlier steps : List Step) → plan.spanning ≡ Fixed
     → LawfulAfter rules plan b earlier steps
