@@ -1,6 +1,7 @@
 //! Lines of scripts, and what is said of steps.
 
 mod answers;
+mod by_name;
 mod plans;
 
 use bytes::Bytes;
