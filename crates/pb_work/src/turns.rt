@@ -18,9 +18,6 @@ use std::time::{Clock, Duration};
 /// The local ports of a place.
 const PORTS: u8 = 16;
 
-/// After how many idle turns in a row a worker gives back its share of what is left to do.
-const PATIENCE: u32 = 8;
-
 /// What a turn did.
 #[derive(Clone, Copy, PartialEq, Eq, Debug)]
 pub enum Did {
@@ -124,15 +121,6 @@ fn rest<R: Clock>(rt: &R, idle: u32) {
     thread::sleep(rt, Duration::from_micros(micros));
 }
 
-/// Rests after so many idle turns in a row and one more, and answers how many they are now.
-fn rest_once_more<R: Clock>(rt: &R, words: &Words, share: &mut Share, idle: u32) -> u32 {
-    if idle >= PATIENCE {
-        share.give_back(words);
-    }
-    rest(rt, idle);
-    idle.saturating_add(1)
-}
-
 /// Whether a worker that may take this turn ends before it.
 fn is_ended<G: Gate>(gate: &G, words: &Words, place: Place, turn: u64) -> bool {
     if !words.go_on() {
@@ -218,7 +206,10 @@ fn take_turns<T: Work, G: Gate, R: Clock>(
             return finish;
         }
         idle = match turned.did {
-            Did::Idle => rest_once_more(rt, words, &mut share, idle),
+            Did::Idle => {
+                rest(rt, idle);
+                idle.saturating_add(1)
+            }
             _ => 0,
         };
     }

@@ -42,19 +42,19 @@ pub meet_here-requires-clause-lane : goal.meet_here-requires-clause-lane
 meet_here-requires-clause-lane g c =
     let link = c.index-as_slice-place.result in
     let at = here_is c.args.plan.now.links c.args.place link c.requires.place (c.index-as_slice-place.is ∙ ap (λ xs. get_or xs c.args.place link) c.as_slice.ensures) in
-    (2 * c.args.place + 1, ring_out link.a.bridge link.a.port, link.lost_ab, ap (λ xs. slice_get xs (2 * c.args.place)) c.meet_away.ensures.lanes ∙ c.requires.lanes.ab c.args.place link c.requires.place at)
+    (2 * c.args.place + 1, ring_out link.a.bridge link.a.port, link.lost_ab, ap (λ xs. slice_get xs (2 * c.args.place)) c.meet_away.ensures.lanes.0 ∙ c.requires.lanes.ab c.args.place link c.requires.place at)
 
 pub meet_away-requires-2-clause-lane : goal.meet_away-requires-2-clause-lane
 meet_away-requires-2-clause-lane g c =
     let link = c.index-as_slice-place.result in
     let at = here_is c.args.plan.now.links c.args.place link c.requires.place (c.index-as_slice-place.is ∙ ap (λ xs. get_or xs c.args.place link) c.as_slice.ensures) in
-    (2 * c.args.place + 2, ring_into link.a.bridge link.a.port, link.lost_ba, ap (λ xs. slice_get xs (2 * c.args.place + 1)) (c.meet_here.ensures.lanes ∙ c.meet_away.ensures.lanes) ∙ c.requires.lanes.ba c.args.place link c.requires.place at)
+    (2 * c.args.place + 2, ring_into link.a.bridge link.a.port, link.lost_ba, ap (λ xs. slice_get xs (2 * c.args.place + 1)) (c.meet_here.ensures.lanes.0 ∙ c.meet_away.ensures.lanes.0) ∙ c.requires.lanes.ba c.args.place link c.requires.place at)
 
 pub meet_here-requires-2-clause-lane : goal.meet_here-requires-2-clause-lane
 meet_here-requires-2-clause-lane g c =
     let link = c.index-as_slice-place.result in
     let at = here_is c.args.plan.now.links c.args.place link c.requires.place (c.index-as_slice-place.is ∙ ap (λ xs. get_or xs c.args.place link) c.as_slice.ensures) in
-    (2 * c.args.place + 2, ring_out link.b.bridge link.b.port, link.lost_ba, ap (λ xs. slice_get xs (2 * c.args.place + 1)) (c.meet_away-2.ensures.lanes ∙ c.meet_here.ensures.lanes ∙ c.meet_away.ensures.lanes) ∙ c.requires.lanes.ba c.args.place link c.requires.place at)
+    (2 * c.args.place + 2, ring_out link.b.bridge link.b.port, link.lost_ba, ap (λ xs. slice_get xs (2 * c.args.place + 1)) (c.meet_away-2.ensures.lanes.0 ∙ c.meet_here.ensures.lanes.0 ∙ c.meet_away.ensures.lanes.0) ∙ c.requires.lanes.ba c.args.place link c.requires.place at)
 
 pub returns-clause-meets : goal.returns-clause-meets
 returns-clause-meets g c = λ planned there.
@@ -66,9 +66,9 @@ returns-clause-meets g c = λ planned there.
     let four = c.meet_here-2.ensures in
     let next : 2 * c.args.place + 1 + 1 ≡ 2 * c.args.place + 2 = omega arith in
     link_meets _ _ _ link planned (Some-injective (sym at ∙ there)) (
-      record { onto = one.onto; off = as_before (received link.b.port) put _ _ _ _ _ _ _ _ one.bridge_steps one.lane_steps refl refl two.off },
+      record { onto = one.onto; off = as_before (received link.b.port) put _ _ _ _ _ _ _ _ one.bridges.1 one.lanes.1 refl refl two.off },
       record {
-        onto = as_before taken (transmitted link.b.port) _ _ _ _ _ _ _ _ (two.lane_steps ∙ one.lane_steps) (two.bridge_steps ∙ one.bridge_steps) next refl three.onto;
-        off = as_before (received link.a.port) put _ _ _ _ _ _ _ _ (three.bridge_steps ∙ two.bridge_steps ∙ one.bridge_steps) (three.lane_steps ∙ two.lane_steps ∙ one.lane_steps) refl next four.off;
+        onto = as_before taken (transmitted link.b.port) _ _ _ _ _ _ _ _ (two.lanes.1 ∙ one.lanes.1) (two.bridges.1 ∙ one.bridges.1) next refl three.onto;
+        off = as_before (received link.a.port) put _ _ _ _ _ _ _ _ (three.bridges.1 ∙ two.bridges.1 ∙ one.bridges.1) (three.lanes.1 ∙ two.lanes.1 ∙ one.lanes.1) refl next four.off;
       },
     )
