@@ -12,7 +12,7 @@ use Rattle.pb_lan.specs.Records.{steps_of}
 use Rattle.pb_run.specs.Runs.{ArePortsKept, frames_of, last_of}
 use Rattle.pb_run.specs.declared.access.Last.{Last}
 use Rattle.pb_run.specs.declared.access.Last.TheVariants.{More}
-use Rattle.pb_run.proofs.Lists.{all_rest, all_head}
+use Rattle.pb_work.proofs.Alls.{all_rest, all_head}
 
 module _ {X P : Type 0} (script tally : P → Option Frames) (was port : X → P) (steps : X → List Step)
     (last : X → Last) where

@@ -1,10 +1,9 @@
 -- Lists that grow, and things at their places.
 use Rattle.std.proofs.Common.{◌≡◌, ◌⊎◌, inl, inr, ℕ, zero, suc, ◌+◌, ◌<◌, false, List, [], ◌∷◌, ◌++◌, Some, None, All}
 use Rattle.std.proofs.Common.{map, length, slice_get, slice_set, slice_index_or, get_or, refl, sym, ap, ◌∙◌, subst}
-use Rattle.std.proofs.Common.{arith, append_assoc}
+use Rattle.std.proofs.Common.{arith}
 use Rattle.std.proofs.Math.Seq.{map-set_same}
 use Rattle.std.proofs.lemmas.List.{map-append}
-use Rattle.std.proofs.lemmas.List.Elements.{All-append}
 use Rattle.std.proofs.lemmas.Option.{slice_get-get_or, slice_get_within, get_or_from_slice_get}
 use Rattle.std.specs.declared.option.Option.{Option}
 use Rattle.std.specs.List.{AllByRecursion, list_any}
@@ -13,27 +12,10 @@ use Rattle.pb_lan.specs.Laws.{is_setting}
 use Rattle.pb_lan.specs.declared.step.Step.{Step}
 use Rattle.pb_ring.specs.Rings.{shown_at}
 
--- the first of those that have a property, and the others
-pub all_rest : {X : Type 0} → (P : X → Type 0) (x : X) (xs ys : List X) → ys ≡ x ∷ xs → All P ys → All P xs
-all_rest {X} P x xs ys e h = let Q : List X → Type 0 = λ zs. All P zs in let h' = subst Q e h in λ k d b. h' (suc k) d
-    (omega arith)
-
-pub all_head : {X : Type 0} → (P : X → Type 0) (x : X) (xs ys : List X) → ys ≡ x ∷ xs → All P ys → P x
-all_head {X} P x xs ys e h = let Q : List X → Type 0 = λ zs. All P zs in let h' = subst Q e h in h' 0 x (omega arith)
-
-one : {X : Type 0} → (P : X → Type 0) (y : X) → P y → All P (y ∷ [])
-one P y p zero d b = p
-one P y p (suc k) d b = absurd (omega arith)
-
 -- none have it
 pub all_none : {X : Type 0} → (P : X → Type 0) (xs : List X) → xs ≡ [] → All P xs
 all_none P [] none k d b = absurd (omega arith)
 all_none P (x ∷ xs) none k d b = cc
-
--- one more that has it
-pub all_more : {X : Type 0} → (P : X → Type 0) (y : X) (xs ys : List X) → ys ≡ xs ++ y ∷ [] → All P xs → P y → All P ys
-all_more {X} P y xs ys e h p = let Q : List X
-    → Type 0 = λ zs. All P zs in subst Q (sym e) (All-append P xs (y ∷ []) h (one P y p))
 
 -- the one at a place has it
 pub all_at : {X : Type 0} → (P : X → Type 0) (xs : List X) (r : ℕ) (x : X) → All P xs → slice_get xs r ≡ Some x → P x
@@ -123,6 +105,16 @@ pub kept_at : {X Y : Type 0} (f : X → Y) (xs : List X) (i : ℕ) (y x : X) →
     → map f (slice_set xs i y) ≡ map f xs
 kept_at f xs i y x value same = map-set_same f xs i y x (same ∙ ap f value)
 
+-- the same of two looks at once
+pub both_kept_at : {X Y Z : Type 0} (f : X → Y) (g : X → Z) (xs : List X) (i : ℕ) (y x : X) → x ≡ get_or xs i x
+    → f y ≡ f x → g y ≡ g x
+    → (map f (slice_set xs i y) ≡ map f xs) × (map g (slice_set xs i y) ≡ map g xs)
+both_kept_at f g xs i y x value one two = (kept_at f xs i y x value one, kept_at g xs i y x value two)
+
+-- and once more
+pub both_kept_still : {A B : Type 0} {a b c : A} {k m n : B} → (c ≡ b) × (n ≡ m) → (b ≡ a) × (m ≡ k) → (c ≡ a) × (n ≡ k)
+both_kept_still later before = (later.0 ∙ before.0, later.1 ∙ before.1)
+
 -- nothing stands in an empty list
 pub none_there : {X : Type 0} (xs : List X) (n : ℕ) (x : X) → xs ≡ [] → slice_get xs n ≡ Some x → ⊥
 none_there [] n x e h = cc
@@ -167,14 +159,6 @@ all_front {X} P x xs ys e p h = let Q : List X → Type 0 = λ zs. All P zs in s
     by : P x → All P xs → All P (x ∷ xs)
     by here rest zero d b = here
     by here rest (suc k) d b = rest k d (omega arith)
-
--- one thing moves from what is to come to what is done
-pub moved_on : {X Y : Type 0} (f : X → Y) (xs ys : List X) (x : X) (rest left all : List Y) (y : Y)
-    → map f xs ++ rest ≡ all → ys ≡ xs ++ x ∷ [] → rest ≡ y ∷ left → f x ≡ y → map f ys ++ left ≡ all
-moved_on f xs ys x rest left all y before e er is =
-    ap (λ zs. map f zs ++ left) e ∙ ap (λ zs. zs ++ left) (map-append f xs (x ∷ []))
-    ∙ append_assoc (map f xs) (f x ∷ []) left
-    ∙ ap (λ z. map f xs ++ z ∷ left) is ∙ ap (λ zs. map f xs ++ zs) (sym er) ∙ before
 
 -- one list more in which no port is set
 abbrev IsUnset : List Step → Type 0

@@ -16,7 +16,7 @@ use Rattle.pb_run.specs.Gifts.{BridgeGift, AreBridges}
 use Rattle.pb_run.specs.Meetings.{of_customers, of_lanes}
 use Rattle.pb_run.specs.Wires.{ring_into, ring_out}
 use Rattle.pb_run.proofs.Gifts.{rings_at}
-use Rattle.pb_run.proofs.Lists.{here_is, part_at, below_next}
+use Rattle.pb_run.proofs.Lists.{here_is, part_at, thing_is, below_next}
 
 -- the steps of a place that is known by its place in the list
 pub steps_there : {X : Type 0} (steps : X → List Step) (ws : List X) (r n : ℕ) (w : X) → slice_get ws r ≡ Some w
@@ -56,10 +56,10 @@ bridge_rings gift plan xs bridge port i x are number there e value =
     let rings = rings_at plan (map gift xs) bridge port (gift x) are here number.0 there.0 there.1 in
     (rings.0, rings.1, (are.each (bridge - 1) (gift x) here).count)
 
--- a place of a list has what the list of gifts says
-pub gift_here : {X Y : Type 0} (gift : X → Y) (xs : List X) (r : ℕ) (x : X) (y : Y) → slice_get xs r ≡ Some x
-    → slice_get (map gift xs) r ≡ Some y → gift x ≡ y
-gift_here gift xs r x y at is = Some-injective (sym (part_at gift xs r x at) ∙ is)
+-- the thing at an index has what the list of gifts says
+pub gift_is : {X Y : Type 0} (gift : X → Y) (xs : List X) (r : ℕ) (x : X) (y : Y) → slice_get (map gift xs) r ≡ Some y
+    → x ≡ get_or xs r x → gift x ≡ y
+gift_is gift xs r x y is value = Some-injective (sym (part_at gift xs r x (thing_is gift xs r y x is value)) ∙ is)
 
 -- what begins something in the lists after a call does so in those before
 pub as_before : (part_of whole_of : List Step → List Item) (xs xs' ys ys' : List (List Step)) (n n' m m' : ℕ)

@@ -1,14 +1,22 @@
 -- What the workers of a plan are given: their numbers, and the numbers of their rings.
-use Rattle.std.specs.Prelude.{◌≡◌, ℕ, ◌+◌, ◌*◌, ◌<◌, List, Some, length, slice_get, slice_index_or}
+use Rattle.std.specs.Prelude.{◌≡◌, ℕ, ◌+◌, ◌*◌, ◌<◌, List, Some, length, map, slice_get, slice_index_or}
 use Rattle.pb_lan.specs.declared.plan.Plan.{Plan}
 use Rattle.pb_lan.specs.declared.plan.End.{End}
 use Rattle.pb_lan.specs.declared.plan.LinkPlan.{LinkPlan}
 use Rattle.pb_lan.specs.declared.plan.CustomerPlan.{CustomerPlan}
+use Rattle.pb_ring.specs.declared.ends.Wiring.{Ghosts}
+use Rattle.pb_run.specs.declared.access.Access.{Access}
+use Rattle.pb_run.specs.declared.bridge.BridgeWorker.{BridgeWorker}
+use Rattle.pb_run.specs.declared.lane.LaneWorker.{LaneWorker}
 use Rattle.pb_run.specs.Wires.{ring_into, ring_out}
 
 -- a bridge: its number as a worker and as a bridge, its plan, and the rings into its ports and out of them
 abbrev pub BridgeGift : Type 0
 BridgeGift = ℕ × ℕ × Plan × List ℕ × List ℕ
+
+abbrev pub given_bridge : {X : Type 0} {W : Ghosts X} → BridgeWorker X W → BridgeGift
+given_bridge w =
+    (w.number, w.bridge.number, w.bridge.plan, map (λ i. i.number) w.ins.ends.items, map (λ o. o.number) w.outs.ends.items)
 
 pub record IsBridgeGift (plan : Plan) (number : ℕ) (gift : BridgeGift) : Type 0 where
   pub worker : gift.0 ≡ number
@@ -27,8 +35,14 @@ pub record AreBridges (plan : Plan) (count : ℕ) (gifts : List BridgeGift) : Ty
 abbrev pub LaneGift : Type 0
 LaneGift = ℕ × ℕ × ℕ × List ℕ
 
+abbrev pub lane_over : ℕ → ℕ → ℕ → List ℕ → LaneGift
+lane_over number from to losses = (number, from, to, losses)
+
+abbrev pub given_lane : {X : Type 0} {W : Ghosts X} → LaneWorker X W → LaneGift
+given_lane w = lane_over w.number w.from.number w.to.number w.lane.losses
+
 abbrev pub lane_gift : ℕ → End → End → List ℕ → LaneGift
-lane_gift number from to losses = (number, ring_out from.bridge from.port, ring_into to.bridge to.port, losses)
+lane_gift number from to losses = lane_over number (ring_out from.bridge from.port) (ring_into to.bridge to.port) losses
 
 -- the lanes of the first so many links
 pub record AreLanes (plan : Plan) (count : ℕ) (gifts : List LaneGift) : Type 0 where
@@ -41,6 +55,9 @@ pub record AreLanes (plan : Plan) (count : ℕ) (gifts : List LaneGift) : Type 0
 -- a customer port: its number, and the rings to its bridge and from it
 abbrev pub AccessGift : Type 0
 AccessGift = ℕ × ℕ × ℕ
+
+abbrev pub given_access : {X : Type 0} {W : Ghosts X} → Access X W → AccessGift
+given_access d = (d.place.number, d.feed.number, d.drain.number)
 
 abbrev pub access_gift : ℕ → CustomerPlan → AccessGift
 access_gift number c = (number, ring_into c.bridge c.port, ring_out c.bridge c.port)

@@ -2,6 +2,7 @@ pub mod Ports
 pub mod Bridges
 pub mod Wires
 pub mod Gifts
+pub mod Workers
 pub mod Meetings
 pub mod Rooms
 pub mod Runs

@@ -1,14 +1,20 @@
 -- What a run tells of its ports and of its end.
-use Rattle.std.specs.Prelude.{◌≡◌, ◌↔◌, ℕ, Bool, IsTrue, Option, None, List, length, unwrap_or, All}
+use Rattle.std.specs.Prelude.{◌≡◌, ◌↔◌, ℕ, Bool, IsTrue, IfOk, Option, Result, None, List, length, unwrap_or, All}
+use Rattle.pb_frame.specs.declared.memory.Memory.{Memory}
 use Rattle.pb_lan.specs.Counts.{entered, left, IsDrained}
+use Rattle.pb_lan.specs.Headline.{IsFaithful}
+use Rattle.pb_lan.specs.Laws.{AreTracedFromStart, NoPortIsSet}
 use Rattle.pb_lan.specs.Numbering.{numbered}
 use Rattle.pb_lan.specs.Plans.{IsSound}
 use Rattle.pb_lan.specs.Records.{steps_of, IsLawfulRecord}
 use Rattle.pb_lan.specs.Rules.{Rules}
 use Rattle.pb_lan.specs.declared.plan.Plan.{Plan}
+use Rattle.pb_lan.specs.declared.plan.Spanning.TheVariants.{Fixed}
 use Rattle.pb_lan.specs.declared.record.Record.{Record}
 use Rattle.pb_lan.specs.declared.step.Mark.{Mark}
 use Rattle.pb_lan.specs.declared.step.Step.{Step}
+use Rattle.pb_relay.specs.Protocol.{spanning_tree}
+use Rattle.pb_relay.specs.Settled.{TellsSettled}
 use Rattle.pb_run.specs.Ports.{Frames, in_front, behind, IsEnded}
 use Rattle.pb_run.specs.declared.access.Last.{Last}
 use Rattle.pb_run.specs.declared.access.Last.TheVariants.{More, End}
@@ -47,3 +53,13 @@ TellsAllDrained rec lasts result =
 -- the run is told to have drained exactly where every port came to its end and every frame has drained
 abbrev pub TellsEnded : Plan → Record → List Last → Ended → Type 0
 TellsEnded plan rec lasts ended = (ended ≡ Drained) ↔ (All (λ last. last ≡ End) lasts × ((mark : Mark) → IsDrained plan rec mark))
+
+-- what is told of a run is true: its record is lawful and faithful to what came in, its frames were handled under the start
+-- where no port was set, and so on of its ports, its end and its spanning trees
+pub record IsRun (plan : Plan) (before after : Lists) (counts : Record) (lasts : List Last) (end : Ended) (answer : Result (Option Bool) Memory) : Type 0 where
+  pub lawful : IsLawfulRecord spanning_tree plan counts
+  pub headline : IsFaithful plan counts
+  pub planned : plan.spanning ≡ Fixed → NoPortIsSet counts → AreTracedFromStart plan counts
+  pub ports : ArePortsKept before after counts.customers lasts
+  pub ended : TellsEnded plan counts lasts end
+  pub settled : IfOk answer (TellsSettled plan counts)

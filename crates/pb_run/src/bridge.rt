@@ -125,6 +125,8 @@ fn stirred(turn: Turn) -> Turn {
 }
 
 impl<W: Wiring> BridgeWorker<W> {
+    ghost use Rattle.pb_run.specs.Workers.{IsSameBridge};
+
     /// The worker of the bridge of this number, which has taken no step, over rings that nothing has
     /// passed. It serves the local ports that the plan uses and that have rings. By its mode it keeps its steps or only
     /// counts them, and fulfils wishes or not.
@@ -167,12 +169,7 @@ impl<W: Wiring> BridgeWorker<W> {
     fn transmit(&mut self, port: u8) -> Taken
         requires port { (0 < port) × (port ≤ vec_len self.old.ins.ends) }
         requires used { is_used (port_at self.old.bridge.plan self.old.bridge.number port) ≡ true }
-        ensures number { self.new.number ≡ self.old.number }
-        ensures bridge { (self.new.bridge.plan ≡ self.old.bridge.plan) × (self.new.bridge.number ≡ self.old.bridge.number) }
-        ensures ports { self.new.ports ≡ self.old.ports }
-        ensures count { vec_len self.new.ins.ends ≡ vec_len self.old.ins.ends }
-        ensures ins { map (λ i. i.number) self.new.ins.ends.items ≡ map (λ i. i.number) self.old.ins.ends.items }
-        ensures outs { map (λ o. o.number) self.new.outs.ends.items ≡ map (λ o. o.number) self.old.outs.ends.items }
+        ensures { IsSameBridge self.old self.new }
     {
         let place = port as usize - 1;
         if self.bridge.waiting(port) == 0 || !self.outs.has_room(place) {
@@ -188,12 +185,7 @@ impl<W: Wiring> BridgeWorker<W> {
     fn receive(&mut self, port: u8) -> Turn
         requires port { (0 < port) × (port ≤ vec_len self.old.ins.ends) }
         requires used { is_used (port_at self.old.bridge.plan self.old.bridge.number port) ≡ true }
-        ensures number { self.new.number ≡ self.old.number }
-        ensures bridge { (self.new.bridge.plan ≡ self.old.bridge.plan) × (self.new.bridge.number ≡ self.old.bridge.number) }
-        ensures ports { self.new.ports ≡ self.old.ports }
-        ensures count { vec_len self.new.ins.ends ≡ vec_len self.old.ins.ends }
-        ensures ins { map (λ i. i.number) self.new.ins.ends.items ≡ map (λ i. i.number) self.old.ins.ends.items }
-        ensures outs { map (λ o. o.number) self.new.outs.ends.items ≡ map (λ o. o.number) self.old.outs.ends.items }
+        ensures { IsSameBridge self.old self.new }
     {
         let place = port as usize - 1;
         if !self.ins.has_item(place) {
@@ -246,12 +238,7 @@ impl<W: Wiring> BridgeWorker<W> {
     fn serve(&mut self, port: u8) -> Turn
         requires port { (0 < port) × (port ≤ vec_len self.old.ins.ends) }
         requires used { is_used (port_at self.old.bridge.plan self.old.bridge.number port) ≡ true }
-        ensures number { self.new.number ≡ self.old.number }
-        ensures bridge { (self.new.bridge.plan ≡ self.old.bridge.plan) × (self.new.bridge.number ≡ self.old.bridge.number) }
-        ensures ports { self.new.ports ≡ self.old.ports }
-        ensures count { vec_len self.new.ins.ends ≡ vec_len self.old.ins.ends }
-        ensures ins { map (λ i. i.number) self.new.ins.ends.items ≡ map (λ i. i.number) self.old.ins.ends.items }
-        ensures outs { map (λ o. o.number) self.new.outs.ends.items ≡ map (λ o. o.number) self.old.outs.ends.items }
+        ensures { IsSameBridge self.old self.new }
     {
         let sent = self.transmit(port);
         if sent != Ok(false) {
@@ -262,10 +249,7 @@ impl<W: Wiring> BridgeWorker<W> {
 
     /// Serves the first port at which there is something to do, in turn from that behind the last.
     fn look(&mut self) -> Turn
-        ensures number { self.new.number ≡ self.old.number }
-        ensures bridge { (self.new.bridge.plan ≡ self.old.bridge.plan) × (self.new.bridge.number ≡ self.old.bridge.number) }
-        ensures ins { map (λ i. i.number) self.new.ins.ends.items ≡ map (λ i. i.number) self.old.ins.ends.items }
-        ensures outs { map (λ o. o.number) self.new.outs.ends.items ≡ map (λ o. o.number) self.old.outs.ends.items }
+        ensures { IsSameBridge self.old self.new }
     {
         let count = self.ports.len();
         for ahead in 0..count {

@@ -1,6 +1,6 @@
 //! The workers of a plan, and the rings between them.
 
-ghost use Rattle.std.specs.Prelude.{◌≡◌, ◌≢◌, ◌<◌, ◌≤◌, ◌+◌, ◌*◌, ℕ, [], true, IfOk, All, length, map, vec_len, slice_index_or};
+ghost use Rattle.std.specs.Prelude.{◌≡◌, ◌≢◌, ◌<◌, ◌+◌, ◌*◌, ℕ, [], true, IfOk, All, length, map, vec_len, slice_index_or};
 ghost use Rattle.std.specs.List.{AllByRecursion};
 ghost use Rattle.rtrb.specs.Ring.{sent, received};
 ghost use Rattle.pb_lan.specs.Plans.{IsSound, IsNumber, ports_in};
@@ -8,8 +8,9 @@ ghost use Rattle.pb_frame.specs.Lists.{Rises};
 ghost use Rattle.pb_link.specs.Hands.{at_start as new_customer};
 ghost use Rattle.pb_link.specs.Lanes.{at_start as new_lane};
 ghost use Rattle.pb_ring.specs.Rings.{shown_at};
-ghost use Rattle.pb_run.specs.Gifts.{IsBridgeGift, AreBridges, AreLanes, access_gift, AreAccesses};
+ghost use Rattle.pb_run.specs.Gifts.{IsBridgeGift, AreBridges, AreLanes, access_gift, AreAccesses, given_bridge, given_lane, given_access, lane_over};
 ghost use Rattle.pb_run.specs.Wires.{ring_into, ring_out, AreNew, AreNamed, HasInner, HasOuter};
+ghost use Rattle.pb_run.specs.Workers.{IsBuilt};
 
 use crate::access::{Access, Last};
 use crate::bridge::BridgeWorker;
@@ -20,16 +21,19 @@ use pb_frame::{Memory, Seq};
 use pb_lan::{CustomerPlan, Plan};
 use pb_link::{CustomerPlace, Lane};
 use pb_ring::{Inlet, Inlets, Outlet, Outlets, Wiring};
-use pb_work::Work;
 use std::alloc::Global;
 use std::collections::VecDeque;
 
-/// The places of a run without their ports outside: customer ports, lanes and bridges.
-pub(crate) type Built<W> = (
-    VecDeque<Access<W>>,
-    Vec<LaneWorker<W>>,
-    Vec<BridgeWorker<W>>,
-);
+/// The places of a run without their ports outside.
+#[derive(Drop)]
+pub(crate) struct Built<W: Wiring> {
+    /// What customer ports have but for the ports outside.
+    pub accesses: VecDeque<Access<W>>,
+    /// The workers of lanes.
+    pub lanes: Vec<LaneWorker<W>>,
+    /// The workers of bridges.
+    pub bridges: Vec<BridgeWorker<W>>,
+}
 
 /// The ends that a bridge has, by local port: those through which it receives, and those through which it sends.
 fn sides_of<W: Wiring>(
@@ -69,7 +73,7 @@ fn bridge_worker<W: Wiring>(
     requires sound { IsSound plan.now }
     requires bridge { IsNumber number (length plan.now.bridges) }
     requires there { (port : ℕ) → IsNumber port 16 → HasInner ends.old.outlets.items ends.old.inlets.items (number, port) }
-    ensures gift { IfOk result (λ worker. IsBridgeGift plan.now number (⟦<BridgeWorker<W> as Work>⟧.given worker)) }
+    ensures gift { IfOk result (λ worker. IsBridgeGift plan.now number (given_bridge worker)) }
     ensures inner { IfOk result (λ worker. (at : ℕ × ℕ) → at.0 ≢ number → HasInner ends.old.outlets.items ends.old.inlets.items at → HasInner ends.new.outlets.items ends.new.inlets.items at) }
     ensures outer { IfOk result (λ worker. (at : ℕ × ℕ) → HasOuter ends.old.outlets.items ends.old.inlets.items at → HasOuter ends.new.outlets.items ends.new.inlets.items at) }
 {
@@ -88,7 +92,7 @@ fn bridge_workers<W: Wiring>(
     requires set { mode.sets ≡ true → W.sets ≡ true }
     requires sound { IsSound plan.now }
     requires there { (at : ℕ × ℕ) → IsNumber at.0 (length plan.now.bridges) → IsNumber at.1 16 → HasInner ends.old.outlets.items ends.old.inlets.items at }
-    ensures gifts { IfOk result (λ workers. AreBridges plan.now (length plan.now.bridges) (map ⟦<BridgeWorker<W> as Work>⟧.given workers.items)) }
+    ensures gifts { IfOk result (λ workers. AreBridges plan.now (length plan.now.bridges) (map given_bridge workers.items)) }
     ensures outer { IfOk result (λ workers. (at : ℕ × ℕ) → HasOuter ends.old.outlets.items ends.old.inlets.items at → HasOuter ends.new.outlets.items ends.new.inlets.items at) }
 {
     let mut workers = Vec::with_capacity(alloc, plan.bridges.len())?;
@@ -123,7 +127,7 @@ fn lane_worker<W: Wiring>(
     requires kept { W.keeps ≡ true → keeps ≡ true }
     requires rings { (received from.end ≡ []) × (sent to.end ≡ []) }
     requires losses { Rises losses.now }
-    ensures { IfOk result (λ worker. ⟦<LaneWorker<W> as Work>⟧.given worker ≡ (number, from.number, to.number, losses.now)) }
+    ensures { IfOk result (λ worker. given_lane worker ≡ lane_over number from.number to.number losses.now) }
 {
     let lane = new_lane(alloc, losses, keeps)?;
     Ok(LaneWorker::new(number, lane, from, to, limit))
@@ -139,7 +143,7 @@ fn lane_workers<W: Wiring>(
     requires kept { W.keeps ≡ true → keeps ≡ true }
     requires sound { IsSound plan.now }
     requires there { AllByRecursion (HasOuter ends.old.outlets.items ends.old.inlets.items) (ports_in plan.now.links plan.now.customers) }
-    ensures gifts { IfOk result (λ workers. AreLanes plan.now (length plan.now.links) (map ⟦<LaneWorker<W> as Work>⟧.given workers.items)) }
+    ensures gifts { IfOk result (λ workers. AreLanes plan.now (length plan.now.links) (map given_lane workers.items)) }
     ensures there { IfOk result (λ workers. AllByRecursion (HasOuter ends.new.outlets.items ends.new.inlets.items) (ports_in [] plan.now.customers)) }
 {
     let links = plan.links.as_slice();
@@ -177,7 +181,7 @@ fn access_of<W: Wiring>(
 ) -> Access<W>
     requires kept { W.keeps ≡ true → keeps ≡ true }
     requires outer { HasOuter ends.old.outlets.items ends.old.inlets.items (customer.now.bridge, customer.now.port) }
-    ensures gift { (result.place.number, result.feed.number, result.drain.number) ≡ access_gift number customer.now }
+    ensures gift { given_access result ≡ access_gift number customer.now }
     ensures fresh { (result.place.steps ≡ []) × (result.book.last ≡ Last.More) × (result.book.number ≡ number) }
     ensures outer { (at : ℕ × ℕ) → at ≢ (customer.now.bridge, customer.now.port) → HasOuter ends.old.outlets.items ends.old.inlets.items at → HasOuter ends.new.outlets.items ends.new.inlets.items at }
 {
@@ -196,7 +200,7 @@ fn accesses_of<W: Wiring>(
     requires kept { W.keeps ≡ true → keeps ≡ true }
     requires sound { IsSound plan.now }
     requires there { AllByRecursion (HasOuter ends.old.outlets.items ends.old.inlets.items) (ports_in [] plan.now.customers) }
-    ensures gifts { IfOk result (λ accesses. AreAccesses plan.now (length plan.now.customers) (map (λ d. (d.place.number, d.feed.number, d.drain.number)) accesses.items)) }
+    ensures gifts { IfOk result (λ accesses. AreAccesses plan.now (length plan.now.customers) (map given_access accesses.items)) }
     ensures fresh { IfOk result (λ accesses. All (λ d. (d.place.steps ≡ []) × (d.book.last ≡ Last.More)) accesses.items) }
 {
     let customers = plan.customers.as_slice();
@@ -224,14 +228,15 @@ pub(crate) fn places_of<W: Wiring>(
     requires new { AreNew rings.items }
     requires named { AreNamed W.rings rings.items }
     requires count { vec_len rings ≡ 32 * length plan.now.bridges }
-    ensures accesses { IfOk result (λ built. AreAccesses plan.now (length plan.now.customers) (map (λ d. (d.place.number, d.feed.number, d.drain.number)) built.0.items)) }
-    ensures fresh { IfOk result (λ built. All (λ d. (d.place.steps ≡ []) × (d.book.last ≡ Last.More)) built.0.items) }
-    ensures lanes { IfOk result (λ built. AreLanes plan.now (length plan.now.links) (map ⟦<LaneWorker<W> as Work>⟧.given built.1.items)) }
-    ensures bridges { IfOk result (λ built. AreBridges plan.now (length plan.now.bridges) (map ⟦<BridgeWorker<W> as Work>⟧.given built.2.items)) }
+    ensures { IfOk result (IsBuilt plan.now) }
 {
     let mut ends = Ends::<W>::of(alloc, rings)?;
     let bridges = bridge_workers(alloc, plan, &mut ends, mode)?;
     let lanes = lane_workers(alloc, plan, &mut ends, mode.keeps)?;
     let accesses = accesses_of(alloc, plan, &mut ends, mode.keeps)?;
-    Ok((accesses, lanes, bridges))
+    Ok(Built {
+        accesses,
+        lanes,
+        bridges,
+    })
 }

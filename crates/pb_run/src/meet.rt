@@ -7,16 +7,16 @@ ghost use Rattle.pb_lan.specs.Plans.{IsSound, IsSoundEnd};
 ghost use Rattle.pb_lan.specs.Records.{MeetsCustomer, MeetsOver, steps_of, received, transmitted};
 ghost use Rattle.pb_lan.specs.declared.plan.CustomerPlan.{CustomerPlan};
 ghost use Rattle.pb_lan.specs.declared.plan.LinkPlan.{LinkPlan};
-ghost use Rattle.pb_run.specs.Gifts.{AreBridges, AreLanes, AreAccesses, AccessGift};
+ghost use Rattle.pb_run.specs.Gifts.{AreBridges, AreLanes, AreAccesses, given_bridge, given_lane, given_access, lane_over};
 ghost use Rattle.pb_run.specs.Meetings.{of_customers, of_lanes};
 ghost use Rattle.pb_run.specs.Wires.{ring_into, ring_out};
+ghost use Rattle.pb_run.specs.Workers.{AreSameBridges, AreSameLanes, AreSameAccesses};
 
 use crate::access::Access;
 use crate::bridge::BridgeWorker;
 use crate::lane::LaneWorker;
 use pb_lan::{End, Plan};
 use pb_ring::Wiring;
-use pb_work::Work;
 
 /// The rings of a customer port meet.
 fn meet_access<W: Wiring>(
@@ -27,12 +27,10 @@ fn meet_access<W: Wiring>(
 )
     requires sound { IsSound plan.now }
     requires place { place < length plan.now.customers }
-    requires bridges { AreBridges plan.now (length plan.now.bridges) (map ⟦<BridgeWorker<W> as Work>⟧.given bridges.old.items) }
-    requires accesses { AreAccesses plan.now (length plan.now.customers) (map {B = AccessGift} (λ d. (d.place.number, d.feed.number, d.drain.number)) accesses.old.items) }
-    ensures bridges { map ⟦<BridgeWorker<W> as Work>⟧.given bridges.new.items ≡ map ⟦<BridgeWorker<W> as Work>⟧.given bridges.old.items }
-    ensures bridge_steps { map (λ b. b.bridge.steps) bridges.new.items ≡ map (λ b. b.bridge.steps) bridges.old.items }
-    ensures accesses { map {B = AccessGift} (λ d. (d.place.number, d.feed.number, d.drain.number)) accesses.new.items ≡ map {B = AccessGift} (λ d. (d.place.number, d.feed.number, d.drain.number)) accesses.old.items }
-    ensures access_steps { map (λ d. d.place.steps) accesses.new.items ≡ map (λ d. d.place.steps) accesses.old.items }
+    requires bridges { AreBridges plan.now (length plan.now.bridges) (map given_bridge bridges.old.items) }
+    requires accesses { AreAccesses plan.now (length plan.now.customers) (map given_access accesses.old.items) }
+    ensures bridges { AreSameBridges bridges.old.items bridges.new.items }
+    ensures accesses { AreSameAccesses accesses.old.items accesses.new.items }
     ensures meets { (c : CustomerPlan) → slice_get plan.now.customers place ≡ Some c
         → MeetsCustomer (of_customers (map (λ b. b.bridge.steps) bridges.old.items) (map (λ d. d.place.steps) accesses.old.items)) (place + 1) c }
 {
@@ -48,12 +46,10 @@ pub(crate) fn meet_accesses<W: Wiring>(
     accesses: &mut Vec<Access<W>>,
 )
     requires sound { IsSound plan.now }
-    requires bridges { AreBridges plan.now (length plan.now.bridges) (map ⟦<BridgeWorker<W> as Work>⟧.given bridges.old.items) }
-    requires accesses { AreAccesses plan.now (length plan.now.customers) (map {B = AccessGift} (λ d. (d.place.number, d.feed.number, d.drain.number)) accesses.old.items) }
-    ensures bridges { map ⟦<BridgeWorker<W> as Work>⟧.given bridges.new.items ≡ map ⟦<BridgeWorker<W> as Work>⟧.given bridges.old.items }
-    ensures bridge_steps { map (λ b. b.bridge.steps) bridges.new.items ≡ map (λ b. b.bridge.steps) bridges.old.items }
-    ensures accesses { map {B = AccessGift} (λ d. (d.place.number, d.feed.number, d.drain.number)) accesses.new.items ≡ map {B = AccessGift} (λ d. (d.place.number, d.feed.number, d.drain.number)) accesses.old.items }
-    ensures access_steps { map (λ d. d.place.steps) accesses.new.items ≡ map (λ d. d.place.steps) accesses.old.items }
+    requires bridges { AreBridges plan.now (length plan.now.bridges) (map given_bridge bridges.old.items) }
+    requires accesses { AreAccesses plan.now (length plan.now.customers) (map given_access accesses.old.items) }
+    ensures bridges { AreSameBridges bridges.old.items bridges.new.items }
+    ensures accesses { AreSameAccesses accesses.old.items accesses.new.items }
     ensures meet { (k : ℕ) (c : CustomerPlan) → k < length plan.now.customers → slice_get plan.now.customers k ≡ Some c
         → MeetsCustomer (of_customers (map (λ b. b.bridge.steps) bridges.old.items) (map (λ d. d.place.steps) accesses.old.items)) (k + 1) c }
 {
@@ -71,12 +67,10 @@ fn meet_away<W: Wiring>(
     from: &End,
 )
     requires end { IsSoundEnd plan.now from.now }
-    requires bridges { AreBridges plan.now (length plan.now.bridges) (map ⟦<BridgeWorker<W> as Work>⟧.given bridges.old.items) }
-    requires lane { (number to : ℕ) × (losses : List ℕ) × (slice_get (map ⟦<LaneWorker<W> as Work>⟧.given lanes.old.items) place ≡ Some (number, ring_out from.now.bridge from.now.port, to, losses)) }
-    ensures bridges { map ⟦<BridgeWorker<W> as Work>⟧.given bridges.new.items ≡ map ⟦<BridgeWorker<W> as Work>⟧.given bridges.old.items }
-    ensures bridge_steps { map (λ b. b.bridge.steps) bridges.new.items ≡ map (λ b. b.bridge.steps) bridges.old.items }
-    ensures lanes { map ⟦<LaneWorker<W> as Work>⟧.given lanes.new.items ≡ map ⟦<LaneWorker<W> as Work>⟧.given lanes.old.items }
-    ensures lane_steps { map (λ l. l.lane.steps) lanes.new.items ≡ map (λ l. l.lane.steps) lanes.old.items }
+    requires bridges { AreBridges plan.now (length plan.now.bridges) (map given_bridge bridges.old.items) }
+    requires lane { (number to : ℕ) × (losses : List ℕ) × (slice_get (map given_lane lanes.old.items) place ≡ Some (lane_over number (ring_out from.now.bridge from.now.port) to losses)) }
+    ensures bridges { AreSameBridges bridges.old.items bridges.new.items }
+    ensures lanes { AreSameLanes lanes.old.items lanes.new.items }
     ensures onto { IsBeginning (taken (steps_of (map (λ l. l.lane.steps) lanes.old.items) (place + 1)))
         (transmitted from.now.port (steps_of (map (λ b. b.bridge.steps) bridges.old.items) from.now.bridge)) }
 {
@@ -93,12 +87,10 @@ fn meet_here<W: Wiring>(
     to: &End,
 )
     requires end { IsSoundEnd plan.now to.now }
-    requires bridges { AreBridges plan.now (length plan.now.bridges) (map ⟦<BridgeWorker<W> as Work>⟧.given bridges.old.items) }
-    requires lane { (number from : ℕ) × (losses : List ℕ) × (slice_get (map ⟦<LaneWorker<W> as Work>⟧.given lanes.old.items) place ≡ Some (number, from, ring_into to.now.bridge to.now.port, losses)) }
-    ensures bridges { map ⟦<BridgeWorker<W> as Work>⟧.given bridges.new.items ≡ map ⟦<BridgeWorker<W> as Work>⟧.given bridges.old.items }
-    ensures bridge_steps { map (λ b. b.bridge.steps) bridges.new.items ≡ map (λ b. b.bridge.steps) bridges.old.items }
-    ensures lanes { map ⟦<LaneWorker<W> as Work>⟧.given lanes.new.items ≡ map ⟦<LaneWorker<W> as Work>⟧.given lanes.old.items }
-    ensures lane_steps { map (λ l. l.lane.steps) lanes.new.items ≡ map (λ l. l.lane.steps) lanes.old.items }
+    requires bridges { AreBridges plan.now (length plan.now.bridges) (map given_bridge bridges.old.items) }
+    requires lane { (number from : ℕ) × (losses : List ℕ) × (slice_get (map given_lane lanes.old.items) place ≡ Some (lane_over number from (ring_into to.now.bridge to.now.port) losses)) }
+    ensures bridges { AreSameBridges bridges.old.items bridges.new.items }
+    ensures lanes { AreSameLanes lanes.old.items lanes.new.items }
     ensures off { IsBeginning (received to.now.port (steps_of (map (λ b. b.bridge.steps) bridges.old.items) to.now.bridge))
         (put (steps_of (map (λ l. l.lane.steps) lanes.old.items) (place + 1))) }
 {
@@ -115,12 +107,10 @@ fn meet_link<W: Wiring>(
 )
     requires sound { IsSound plan.now }
     requires place { place < length plan.now.links }
-    requires bridges { AreBridges plan.now (length plan.now.bridges) (map ⟦<BridgeWorker<W> as Work>⟧.given bridges.old.items) }
-    requires lanes { AreLanes plan.now (length plan.now.links) (map ⟦<LaneWorker<W> as Work>⟧.given lanes.old.items) }
-    ensures bridges { map ⟦<BridgeWorker<W> as Work>⟧.given bridges.new.items ≡ map ⟦<BridgeWorker<W> as Work>⟧.given bridges.old.items }
-    ensures bridge_steps { map (λ b. b.bridge.steps) bridges.new.items ≡ map (λ b. b.bridge.steps) bridges.old.items }
-    ensures lanes { map ⟦<LaneWorker<W> as Work>⟧.given lanes.new.items ≡ map ⟦<LaneWorker<W> as Work>⟧.given lanes.old.items }
-    ensures lane_steps { map (λ l. l.lane.steps) lanes.new.items ≡ map (λ l. l.lane.steps) lanes.old.items }
+    requires bridges { AreBridges plan.now (length plan.now.bridges) (map given_bridge bridges.old.items) }
+    requires lanes { AreLanes plan.now (length plan.now.links) (map given_lane lanes.old.items) }
+    ensures bridges { AreSameBridges bridges.old.items bridges.new.items }
+    ensures lanes { AreSameLanes lanes.old.items lanes.new.items }
     ensures meets { (link : LinkPlan) → slice_get plan.now.links place ≡ Some link
         → MeetsOver (of_lanes (map (λ b. b.bridge.steps) bridges.old.items) (map (λ l. l.lane.steps) lanes.old.items)) (2 * place + 1) link.a link.b
         × MeetsOver (of_lanes (map (λ b. b.bridge.steps) bridges.old.items) (map (λ l. l.lane.steps) lanes.old.items)) (2 * place + 2) link.b link.a }
@@ -139,12 +129,10 @@ pub(crate) fn meet_links<W: Wiring>(
     lanes: &mut Vec<LaneWorker<W>>,
 )
     requires sound { IsSound plan.now }
-    requires bridges { AreBridges plan.now (length plan.now.bridges) (map ⟦<BridgeWorker<W> as Work>⟧.given bridges.old.items) }
-    requires lanes { AreLanes plan.now (length plan.now.links) (map ⟦<LaneWorker<W> as Work>⟧.given lanes.old.items) }
-    ensures bridges { map ⟦<BridgeWorker<W> as Work>⟧.given bridges.new.items ≡ map ⟦<BridgeWorker<W> as Work>⟧.given bridges.old.items }
-    ensures bridge_steps { map (λ b. b.bridge.steps) bridges.new.items ≡ map (λ b. b.bridge.steps) bridges.old.items }
-    ensures lanes { map ⟦<LaneWorker<W> as Work>⟧.given lanes.new.items ≡ map ⟦<LaneWorker<W> as Work>⟧.given lanes.old.items }
-    ensures lane_steps { map (λ l. l.lane.steps) lanes.new.items ≡ map (λ l. l.lane.steps) lanes.old.items }
+    requires bridges { AreBridges plan.now (length plan.now.bridges) (map given_bridge bridges.old.items) }
+    requires lanes { AreLanes plan.now (length plan.now.links) (map given_lane lanes.old.items) }
+    ensures bridges { AreSameBridges bridges.old.items bridges.new.items }
+    ensures lanes { AreSameLanes lanes.old.items lanes.new.items }
     ensures meet { (k : ℕ) (link : LinkPlan) → k < length plan.now.links → slice_get plan.now.links k ≡ Some link
         → MeetsOver (of_lanes (map (λ b. b.bridge.steps) bridges.old.items) (map (λ l. l.lane.steps) lanes.old.items)) (2 * k + 1) link.a link.b
         × MeetsOver (of_lanes (map (λ b. b.bridge.steps) bridges.old.items) (map (λ l. l.lane.steps) lanes.old.items)) (2 * k + 2) link.b link.a }

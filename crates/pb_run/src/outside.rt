@@ -1,9 +1,10 @@
 //! The ports outside, before a run and after it.
 
-ghost use Rattle.std.specs.Prelude.{◌≡◌, ◌≤◌, ◌<◌, ◌++◌, ◌∷◌, [], All, map, vec_len, vec_capacity, length};
+ghost use Rattle.std.specs.Prelude.{◌≡◌, ◌≤◌, ◌<◌, [], All, map, vec_len, vec_capacity};
 ghost use Rattle.std.specs.VecDeque.{deque_len};
-ghost use Rattle.pb_run.specs.Gifts.{AccessGift};
+ghost use Rattle.pb_run.specs.Gifts.{given_access};
 ghost use Rattle.pb_run.specs.Ports.{KeepsPort};
+ghost use Rattle.pb_run.specs.Rooms.{IsPushed};
 
 use crate::access::{Access, Last};
 use crate::customer::CustomerWorker;
@@ -25,8 +26,7 @@ pub(crate) fn attended<W: Wiring, P: Port>(
     requires fresh { All (λ d. (d.place.steps ≡ []) × (d.book.last ≡ Last.More)) accesses.items }
     ensures ports { map (λ w. w.was.value) result.items ≡ ports.items }
     ensures ports_now { map (λ w. w.port) result.items ≡ ports.items }
-    ensures gifts { map {B = AccessGift} (λ w. (w.access.place.number, w.access.feed.number, w.access.drain.number)) result.items
-        ≡ map {B = AccessGift} (λ d. (d.place.number, d.feed.number, d.drain.number)) accesses.items }
+    ensures gifts { map (λ w. given_access w.access) result.items ≡ map given_access accesses.items }
     ensures keeps { All (λ w. KeepsPort P.script P.tally w.was.value w.port w.access.place.steps w.access.book.last) result.items }
 {
     let (mut accesses, mut workers) = (accesses, room);
@@ -39,8 +39,16 @@ pub(crate) fn attended<W: Wiring, P: Port>(
     workers
 }
 
-/// What comes back of customer ports: the ports outside, their accesses, and what the newest polls said.
-pub(crate) type Apart<W, P> = (Vec<P>, Vec<Access<W>>, Vec<Last>);
+/// What comes back of customer ports, in the order of their workers.
+#[derive(Drop)]
+pub(crate) struct Parts<A, P> {
+    /// The ports outside.
+    pub ports: Vec<P>,
+    /// Their accesses.
+    pub accesses: Vec<A>,
+    /// What the newest polls said.
+    pub lasts: Vec<Last>,
+}
 
 /// Puts the parts of a worker behind those of the workers before it. Takes no memory.
 fn part<W: Wiring, P: Drop>(
@@ -52,12 +60,9 @@ fn part<W: Wiring, P: Drop>(
     requires ports { vec_len ports.old < vec_capacity ports.old }
     requires accesses { vec_len accesses.old < vec_capacity accesses.old }
     requires lasts { vec_len lasts.old < vec_capacity lasts.old }
-    ensures ports { ports.new.items ≡ ports.old.items ++ worker.port ∷ [] }
-    ensures accesses { accesses.new.items ≡ accesses.old.items ++ worker.access ∷ [] }
-    ensures lasts { lasts.new.items ≡ lasts.old.items ++ worker.access.book.last ∷ [] }
-    ensures ports_room { vec_capacity ports.new ≡ vec_capacity ports.old }
-    ensures accesses_room { vec_capacity accesses.new ≡ vec_capacity accesses.old }
-    ensures lasts_room { vec_capacity lasts.new ≡ vec_capacity lasts.old }
+    ensures ports { IsPushed ports.old worker.port ports.new }
+    ensures accesses { IsPushed accesses.old worker.access accesses.new }
+    ensures lasts { IsPushed lasts.old worker.access.book.last lasts.new }
 {
     lasts.push_reserved(worker.access.book.last);
     ports.push_reserved(worker.port);
@@ -68,17 +73,25 @@ fn part<W: Wiring, P: Drop>(
 /// memory.
 pub(crate) fn apart<W: Wiring, P: Drop>(
     workers: Vec<CustomerWorker<W, P>>,
-    rooms: Apart<W, P>,
-) -> Apart<W, P>
-    requires empty { (rooms.0.items ≡ []) × (rooms.1.items ≡ []) × (rooms.2.items ≡ []) }
-    requires room { (vec_len workers ≤ vec_capacity rooms.0) × (vec_len workers ≤ vec_capacity rooms.1) × (vec_len workers ≤ vec_capacity rooms.2) }
-    ensures ports { result.0.items ≡ map (λ w. w.port) workers.items }
-    ensures accesses { result.1.items ≡ map (λ w. w.access) workers.items }
-    ensures lasts { result.2.items ≡ map (λ w. w.access.book.last) workers.items }
+    rooms: Parts<Access<W>, P>,
+) -> Parts<Access<W>, P>
+    requires empty { (rooms.ports.items ≡ []) × (rooms.accesses.items ≡ []) × (rooms.lasts.items ≡ []) }
+    requires room { (vec_len workers ≤ vec_capacity rooms.ports) × (vec_len workers ≤ vec_capacity rooms.accesses) × (vec_len workers ≤ vec_capacity rooms.lasts) }
+    ensures ports { result.ports.items ≡ map (λ w. w.port) workers.items }
+    ensures accesses { result.accesses.items ≡ map (λ w. w.access) workers.items }
+    ensures lasts { result.lasts.items ≡ map (λ w. w.access.book.last) workers.items }
 {
-    let (mut ports, mut accesses, mut lasts) = rooms;
+    let Parts {
+        mut ports,
+        mut accesses,
+        mut lasts,
+    } = rooms;
     for worker in workers {
         part(worker, &mut ports, &mut accesses, &mut lasts);
     }
-    (ports, accesses, lasts)
+    Parts {
+        ports,
+        accesses,
+        lasts,
+    }
 }

@@ -7,6 +7,7 @@ ghost use Rattle.pb_lan.specs.LaneLists.{IsLawfulLane};
 ghost use Rattle.pb_lan.specs.Laws.{is_setting};
 ghost use Rattle.pb_lan.specs.PortLists.{IsLawfulPort};
 ghost use Rattle.pb_relay.specs.Protocol.{spanning_tree};
+ghost use Rattle.pb_run.specs.Rooms.{HasRoomFor};
 
 use crate::access::Access;
 use crate::bridge::BridgeWorker;
@@ -29,8 +30,7 @@ pub(crate) struct Gathered {
 impl Gathered {
     /// Nothing, with room for so many places.
     pub(crate) fn with_room(alloc: Global, places: usize) -> Result<Gathered, Memory>
-        ensures empty { IfOk result (λ room. (room.tallies.items ≡ []) × (room.lists.items ≡ [])) }
-        ensures room { IfOk result (λ room. (vec_capacity room.tallies ≡ places) × (vec_capacity room.lists ≡ places)) }
+        ensures { IfOk result (HasRoomFor places) }
     {
         let tallies = Vec::with_capacity(alloc, places)?;
         Ok(Gathered {

@@ -1,17 +1,18 @@
 //! A run of a whole plan.
 
-ghost use Rattle.std.specs.Prelude.{◌≡◌, ◌↔◌, ◌≤◌, ◌*◌, [], true, false, IfOk, IfErr, All, length, map, vec_len, vec_capacity};
+ghost use Rattle.std.specs.Prelude.{◌≡◌, ◌↔◌, ◌*◌, true, false, IfOk, IfErr, length, map, vec_len};
 ghost use Rattle.pb_lan.specs.Laws.{AreTracedFromStart, NoPortIsSet};
 ghost use Rattle.pb_lan.specs.Plans.{IsSound};
 ghost use Rattle.pb_lan.specs.Records.{IsLawfulRecord};
 ghost use Rattle.pb_lan.specs.declared.plan.Spanning.TheVariants.{Fixed};
 ghost use Rattle.pb_relay.specs.Protocol.{spanning_tree};
 ghost use Rattle.pb_relay.specs.Settled.{TellsSettled};
-ghost use Rattle.pb_run.specs.Gifts.{AreBridges, AreLanes, AreAccesses};
+ghost use Rattle.pb_run.specs.Gifts.{AreBridges, AreLanes, AreAccesses, given_bridge, given_lane, given_access};
 ghost use Rattle.pb_lan.specs.Headline.{IsFaithful};
-ghost use Rattle.pb_run.specs.Rooms.{HasPlaceRooms};
-ghost use Rattle.pb_run.specs.Runs.{ArePortsKept, TellsEnded};
+ghost use Rattle.pb_run.specs.Rooms.{HasPartRooms, HasPlaceRooms, HasRooms};
+ghost use Rattle.pb_run.specs.Runs.{ArePortsKept, TellsEnded, IsRun};
 ghost use Rattle.pb_run.specs.Wires.{AreNew, AreNamed};
+ghost use Rattle.pb_run.specs.Workers.{IsBuilt};
 
 use crate::access::{Access, Last};
 use crate::bridge::BridgeWorker;
@@ -22,7 +23,7 @@ use crate::fault::{RunCause, RunFault, cause_of};
 use crate::lane::LaneWorker;
 use crate::meet::{meet_accesses, meet_links};
 use crate::mode::Mode;
-use crate::outside::{Apart, Held, apart, attended};
+use crate::outside::{Held, Parts, apart, attended};
 use crate::record::{Gathered, access_lists, bridge_lists, lane_lists};
 use crate::settled::whether_settled;
 use crate::wires::{Ring, new_rings};
@@ -31,7 +32,7 @@ use pb_lan::{Limits, Plan, Record};
 use pb_port::Port;
 use pb_ring::Wiring;
 use pb_steps::Tallies;
-use pb_work::{Gate, Work, run_all};
+use pb_work::{Gate, Places, Worked, run_all};
 use std::alloc::Global;
 use std::marker::Brand;
 use std::sync::Wait;
@@ -72,35 +73,48 @@ struct Told {
 
 /// What is gathered of customer ports, lanes and bridges.
 #[derive(Drop)]
-struct Places {
+struct GatheredPlaces {
     customers: Gathered,
     lanes: Gathered,
     bridges: Gathered,
 }
 
-/// Room for what comes back: workers of customer ports, their parts, and what is gathered of all places.
-type Rooms<W> = (Vec<CustomerWorker<W, Held>>, Apart<W, Held>, Places);
+/// Room for what comes back.
+#[derive(Drop)]
+struct Rooms<C, A, P> {
+    /// Workers of customer ports.
+    workers: Vec<C>,
+    /// Their parts.
+    parts: Parts<A, P>,
+    /// What is gathered of all places.
+    gathered: GatheredPlaces,
+}
+
+/// Room for what comes back of places over such rings.
+type RoomsOf<W> = Rooms<CustomerWorker<W, Held>, Access<W>, Held>;
 
 /// Room for the parts of so many workers of customer ports.
-fn apart_rooms<W: Wiring>(alloc: Global, customers: usize) -> Result<Apart<W, Held>, Memory>
-    ensures ports { IfOk result (λ rooms. (rooms.0.items ≡ []) × (vec_capacity rooms.0 ≡ customers)) }
-    ensures accesses { IfOk result (λ rooms. (rooms.1.items ≡ []) × (vec_capacity rooms.1 ≡ customers)) }
-    ensures lasts { IfOk result (λ rooms. (rooms.2.items ≡ []) × (vec_capacity rooms.2 ≡ customers)) }
+fn part_rooms<W: Wiring>(alloc: Global, customers: usize) -> Result<Parts<Access<W>, Held>, Memory>
+    ensures { IfOk result (HasPartRooms customers) }
 {
     let lasts = Vec::with_capacity(alloc, customers)?;
     let accesses = Vec::with_capacity(alloc, customers)?;
-    Ok((Vec::with_capacity(alloc, customers)?, accesses, lasts))
+    Ok(Parts {
+        ports: Vec::with_capacity(alloc, customers)?,
+        accesses,
+        lasts,
+    })
 }
 
 /// Room for what is gathered of a plan's places.
-fn place_rooms(alloc: Global, plan: &Plan) -> Result<Places, Memory>
+fn place_rooms(alloc: Global, plan: &Plan) -> Result<GatheredPlaces, Memory>
     requires { IsSound plan.now }
     ensures { IfOk result (HasPlaceRooms plan.now) }
 {
     let bridges = Gathered::with_room(alloc, plan.bridges.len())?;
     let lanes = Gathered::with_room(alloc, 2 * plan.links.len())?;
     let customers = Gathered::with_room(alloc, plan.customers.len())?;
-    Ok(Places {
+    Ok(GatheredPlaces {
         customers,
         lanes,
         bridges,
@@ -108,18 +122,18 @@ fn place_rooms(alloc: Global, plan: &Plan) -> Result<Places, Memory>
 }
 
 /// Room for what comes back of a plan's places, made before a worker is started.
-fn rooms_of<W: Wiring>(alloc: Global, plan: &Plan) -> Result<Rooms<W>, Memory>
+fn rooms_of<W: Wiring>(alloc: Global, plan: &Plan) -> Result<RoomsOf<W>, Memory>
     requires { IsSound plan.now }
-    ensures workers { IfOk result (λ rooms. (rooms.0.items ≡ []) × (vec_capacity rooms.0 ≡ length plan.now.customers)) }
-    ensures ports { IfOk result (λ rooms. (rooms.1.0.items ≡ []) × (vec_capacity rooms.1.0 ≡ length plan.now.customers)) }
-    ensures accesses { IfOk result (λ rooms. (rooms.1.1.items ≡ []) × (vec_capacity rooms.1.1 ≡ length plan.now.customers)) }
-    ensures lasts { IfOk result (λ rooms. (rooms.1.2.items ≡ []) × (vec_capacity rooms.1.2 ≡ length plan.now.customers)) }
-    ensures places { IfOk result (λ rooms. HasPlaceRooms plan.now rooms.2) }
+    ensures { IfOk result (HasRooms plan.now) }
 {
     let customers = plan.customers.len();
-    let places = place_rooms(alloc, plan)?;
-    let apart = apart_rooms(alloc, customers)?;
-    Ok((Vec::with_capacity(alloc, customers)?, apart, places))
+    let gathered = place_rooms(alloc, plan)?;
+    let parts = part_rooms(alloc, customers)?;
+    Ok(Rooms {
+        workers: Vec::with_capacity(alloc, customers)?,
+        parts,
+        gathered,
+    })
 }
 
 /// What ended the workers.
@@ -150,12 +164,12 @@ fn told_of<W: Wiring>(
     accesses: Vec<Access<W>>,
     lanes: Vec<LaneWorker<W>>,
     bridges: Vec<BridgeWorker<W>>,
-    rooms: Places,
+    rooms: GatheredPlaces,
 ) -> Told
     requires sound { IsSound plan.now }
-    requires accesses { AreAccesses plan.now (length plan.now.customers) (map (λ d. (d.place.number, d.feed.number, d.drain.number)) accesses.items) }
-    requires lanes { AreLanes plan.now (length plan.now.links) (map ⟦<LaneWorker<W> as Work>⟧.given lanes.items) }
-    requires bridges { AreBridges plan.now (length plan.now.bridges) (map ⟦<BridgeWorker<W> as Work>⟧.given bridges.items) }
+    requires accesses { AreAccesses plan.now (length plan.now.customers) (map given_access accesses.items) }
+    requires lanes { AreLanes plan.now (length plan.now.links) (map given_lane lanes.items) }
+    requires bridges { AreBridges plan.now (length plan.now.bridges) (map given_bridge bridges.items) }
     requires rooms { HasPlaceRooms plan.now rooms }
     ensures lawful { IsLawfulRecord spanning_tree plan.now result.counts }
     ensures headline { IsFaithful plan.now result.counts }
@@ -188,48 +202,52 @@ fn run_built<W: Wiring + Send, G: Gate, R: Threads + Wait + Clock + Sync>(
     plan: &Plan,
     ports: Vec<Held>,
     built: Built<W>,
-    rooms: Rooms<W>,
+    rooms: RoomsOf<W>,
     gate: &G,
     limits: Limits,
 ) -> Result<KeptRun, RunFault>
     requires sound { IsSound plan.now }
     requires count { vec_len ports ≡ length plan.now.customers }
-    requires accesses { AreAccesses plan.now (length plan.now.customers) (map (λ d. (d.place.number, d.feed.number, d.drain.number)) built.0.items) }
-    requires fresh { All (λ d. (d.place.steps ≡ []) × (d.book.last ≡ Last.More)) built.0.items }
-    requires lanes { AreLanes plan.now (length plan.now.links) (map ⟦<LaneWorker<W> as Work>⟧.given built.1.items) }
-    requires bridges { AreBridges plan.now (length plan.now.bridges) (map ⟦<BridgeWorker<W> as Work>⟧.given built.2.items) }
-    requires workers { (rooms.0.items ≡ []) × (vec_capacity rooms.0 ≡ length plan.now.customers) }
-    requires apart { (rooms.1.0.items ≡ []) × (rooms.1.1.items ≡ []) × (rooms.1.2.items ≡ []) }
-    requires apart_room { (vec_capacity rooms.1.0 ≡ length plan.now.customers) × (vec_capacity rooms.1.1 ≡ length plan.now.customers) × (vec_capacity rooms.1.2 ≡ length plan.now.customers) }
-    requires places { HasPlaceRooms plan.now rooms.2 }
-    ensures lawful { IfOk result (λ kept. IsLawfulRecord spanning_tree plan.now kept.ran.counts) }
-    ensures headline { IfOk result (λ kept. IsFaithful plan.now kept.ran.counts) }
-    ensures planned { IfOk result (λ kept. plan.now.spanning ≡ Fixed → NoPortIsSet kept.ran.counts → AreTracedFromStart plan.now kept.ran.counts) }
+    requires built { IsBuilt plan.now built }
+    requires rooms { HasRooms plan.now rooms }
+    ensures run { IfOk result (λ kept. IsRun plan.now (record { scripts = map (λ b. script b) ports.items; tallies = map (λ b. tally b) ports.items })
+        (record { scripts = map (λ b. script b) kept.ran.ports.items; tallies = map (λ b. tally b) kept.ran.ports.items })
+        kept.ran.counts kept.ran.last.items kept.ran.ended kept.ran.settled) }
     ensures unset { IfOk result (λ kept. W.sets ≡ false → NoPortIsSet kept.ran.counts) }
-    ensures ports { IfOk result (λ kept. ArePortsKept (record { scripts = map (λ b. script b) ports.items; tallies = map (λ b. tally b) ports.items })
-        (record { scripts = map (λ b. script b) kept.ran.ports.items; tallies = map (λ b. tally b) kept.ran.ports.items }) kept.ran.counts.customers kept.ran.last.items) }
-    ensures ended { IfOk result (λ kept. TellsEnded plan.now kept.ran.counts kept.ran.last.items kept.ran.ended) }
-    ensures settled { IfOk result (λ kept. IfOk kept.ran.settled (TellsSettled plan.now kept.ran.counts)) }
     ensures rec { IfOk result (λ kept. W.keeps ≡ true → kept.rec ≡ kept.ran.counts) }
     ensures fault { IfErr result (λ fault. fault.cause ≡ RunCause.PortCount → ⊥) }
     ensures unpolled { IfErr result (λ fault. fault.ports.items ≡ ports.items) }
 {
     let left = ports.len() as u64;
-    let customers = attended(ports, built.0, rooms.0);
-    let places = (customers, built.1, built.2);
-    let (places, verdict) = run_all(rt, alloc, places, gate, limits, left);
+    let customers = attended(ports, built.accesses, rooms.workers);
+    let places = Places {
+        customers,
+        lanes: built.lanes,
+        bridges: built.bridges,
+    };
+    let Worked { places, verdict } = run_all(rt, alloc, places, gate, limits, left);
     let causes = causes_of(
-        places.0.as_slice(),
-        places.1.as_slice(),
-        places.2.as_slice(),
+        places.customers.as_slice(),
+        places.lanes.as_slice(),
+        places.bridges.as_slice(),
     );
-    let (ports, accesses, last) = apart(places.0, rooms.1);
+    let Parts {
+        ports,
+        accesses,
+        lasts: last,
+    } = apart(places.customers, rooms.parts);
     if let Err(fault) = verdict {
         let cause = cause_of(fault);
         return Err(RunFault { cause, ports });
     }
-    let settled = whether_settled(alloc, plan, places.2.as_slice());
-    let Told { counts, rec } = told_of(plan, accesses, places.1, places.2, rooms.2);
+    let settled = whether_settled(alloc, plan, places.bridges.as_slice());
+    let Told { counts, rec } = told_of(
+        plan,
+        accesses,
+        places.lanes,
+        places.bridges,
+        rooms.gathered,
+    );
     let ended = ended_by(has_drained(last.as_slice(), &counts), causes);
     let ran = Ran {
         counts,
@@ -259,14 +277,10 @@ fn run_wired<W: Wiring + Send, G: Gate, R: Threads + Wait + Clock + Sync>(
     requires new { AreNew rings.items }
     requires named { AreNamed W.rings rings.items }
     requires rings { vec_len rings ≡ 32 * length plan.now.bridges }
-    ensures lawful { IfOk result (λ kept. IsLawfulRecord spanning_tree plan.now kept.ran.counts) }
-    ensures headline { IfOk result (λ kept. IsFaithful plan.now kept.ran.counts) }
-    ensures planned { IfOk result (λ kept. plan.now.spanning ≡ Fixed → NoPortIsSet kept.ran.counts → AreTracedFromStart plan.now kept.ran.counts) }
+    ensures run { IfOk result (λ kept. IsRun plan.now (record { scripts = map (λ b. script b) ports.items; tallies = map (λ b. tally b) ports.items })
+        (record { scripts = map (λ b. script b) kept.ran.ports.items; tallies = map (λ b. tally b) kept.ran.ports.items })
+        kept.ran.counts kept.ran.last.items kept.ran.ended kept.ran.settled) }
     ensures unset { IfOk result (λ kept. W.sets ≡ false → NoPortIsSet kept.ran.counts) }
-    ensures ports { IfOk result (λ kept. ArePortsKept (record { scripts = map (λ b. script b) ports.items; tallies = map (λ b. tally b) ports.items })
-        (record { scripts = map (λ b. script b) kept.ran.ports.items; tallies = map (λ b. tally b) kept.ran.ports.items }) kept.ran.counts.customers kept.ran.last.items) }
-    ensures ended { IfOk result (λ kept. TellsEnded plan.now kept.ran.counts kept.ran.last.items kept.ran.ended) }
-    ensures settled { IfOk result (λ kept. IfOk kept.ran.settled (TellsSettled plan.now kept.ran.counts)) }
     ensures rec { IfOk result (λ kept. W.keeps ≡ true → kept.rec ≡ kept.ran.counts) }
     ensures fault { IfErr result (λ fault. fault.cause ≡ RunCause.PortCount → ⊥) }
     ensures unpolled { IfErr result (λ fault. fault.ports.items ≡ ports.items) }
@@ -292,14 +306,10 @@ fn run_places<G: Gate, R: Threads + Wait + Clock + Sync>(
     mode: Mode,
 ) -> Result<KeptRun, RunFault>
     requires { IsSound plan.now }
-    ensures lawful { IfOk result (λ kept. IsLawfulRecord spanning_tree plan.now kept.ran.counts) }
-    ensures headline { IfOk result (λ kept. IsFaithful plan.now kept.ran.counts) }
-    ensures planned { IfOk result (λ kept. plan.now.spanning ≡ Fixed → NoPortIsSet kept.ran.counts → AreTracedFromStart plan.now kept.ran.counts) }
+    ensures run { IfOk result (λ kept. IsRun plan.now (record { scripts = map (λ b. script b) ports.items; tallies = map (λ b. tally b) ports.items })
+        (record { scripts = map (λ b. script b) kept.ran.ports.items; tallies = map (λ b. tally b) kept.ran.ports.items })
+        kept.ran.counts kept.ran.last.items kept.ran.ended kept.ran.settled) }
     ensures unset { IfOk result (λ kept. mode.sets ≡ false → NoPortIsSet kept.ran.counts) }
-    ensures ports { IfOk result (λ kept. ArePortsKept (record { scripts = map (λ b. script b) ports.items; tallies = map (λ b. tally b) ports.items })
-        (record { scripts = map (λ b. script b) kept.ran.ports.items; tallies = map (λ b. tally b) kept.ran.ports.items }) kept.ran.counts.customers kept.ran.last.items) }
-    ensures ended { IfOk result (λ kept. TellsEnded plan.now kept.ran.counts kept.ran.last.items kept.ran.ended) }
-    ensures settled { IfOk result (λ kept. IfOk kept.ran.settled (TellsSettled plan.now kept.ran.counts)) }
     ensures count { IfOk result (λ kept. vec_len ports ≡ length plan.now.customers) }
     ensures fault { IfErr result (λ fault. (fault.cause ≡ RunCause.PortCount) ↔ (vec_len ports ≡ length plan.now.customers → ⊥)) }
     ensures unpolled { IfErr result (λ fault. fault.ports.items ≡ ports.items) }

@@ -5,14 +5,13 @@ ghost use Rattle.pb_lan.specs.declared.plan.Spanning.TheVariants.{Rstp as by_pro
 ghost use Rattle.pb_lan.specs.declared.record.Record.{Record};
 ghost use Rattle.pb_lan.specs.Plans.{IsSound};
 ghost use Rattle.pb_relay.specs.Settled.{TellsSettled, machines_in};
-ghost use Rattle.pb_run.specs.Gifts.{AreBridges};
+ghost use Rattle.pb_run.specs.Gifts.{AreBridges, given_bridge};
 
 use crate::bridge::BridgeWorker;
 use pb_frame::Memory;
 use pb_lan::{Plan, Spanning};
 use pb_ring::Wiring;
 use pb_rstp::{Rstp, is_settled, planned_are_machines};
-use pb_work::Work;
 use std::alloc::Global;
 
 /// The spanning trees of the bridges, in the plan's order.
@@ -22,7 +21,7 @@ fn machines_of<'a, W: Wiring>(
     workers: &'a [BridgeWorker<W>],
 ) -> Result<Vec<&'a Rstp>, Memory>
     requires rstp { plan.now.spanning ≡ by_protocol }
-    requires bridges { AreBridges plan.now (length plan.now.bridges) (map ⟦<BridgeWorker<W> as Work>⟧.given workers.now) }
+    requires bridges { AreBridges plan.now (length plan.now.bridges) (map given_bridge workers.now) }
     ensures { IfOk result (λ machines. (rec : Record) → rec.bridges ≡ map (λ b. b.bridge.steps) workers.now
         → map (λ m. m.now) machines.items ≡ machines_in plan.now rec) }
 {
@@ -44,7 +43,7 @@ pub(crate) fn whether_settled<W: Wiring>(
     workers: &[BridgeWorker<W>],
 ) -> Result<Option<bool>, Memory>
     requires sound { IsSound plan.now }
-    requires bridges { AreBridges plan.now (length plan.now.bridges) (map ⟦<BridgeWorker<W> as Work>⟧.given workers.now) }
+    requires bridges { AreBridges plan.now (length plan.now.bridges) (map given_bridge workers.now) }
     ensures { IfOk result (λ answer. (rec : Record) → rec.bridges ≡ map (λ b. b.bridge.steps) workers.now → TellsSettled plan.now rec answer) }
 {
     match plan.spanning {

@@ -14,7 +14,7 @@ mod view;
 mod words;
 
 pub use gate::{Gate, Go, Wish};
-pub use threads::{Places, WorkFault, run_all};
+pub use threads::{Places, WorkFault, Worked, run_all};
 pub use ticks::Moment;
 pub use turns::{Did, Finish, Turn, Work};
 pub use view::PortView;

@@ -4,6 +4,7 @@ ghost use Rattle.std.specs.Prelude.{◌≡◌, ◌≤◌, [], false, map, vec_le
 ghost use Rattle.std.specs.Vec.{vec_capacity};
 ghost use Rattle.std.specs.VecDeque.{deque_len, deque_capacity};
 ghost use Rattle.pb_work.specs.Started.{IsBack, IsHeld};
+ghost use Rattle.pb_work.specs.Together.{AllFit, AreBack, AreUntouched};
 
 use crate::gate::Gate;
 use crate::turns::{Back, Work, run_place};
@@ -30,7 +31,24 @@ pub enum WorkFault {
 }
 
 /// Places of three kinds.
-pub type Places<C, L, B> = (Vec<C>, Vec<L>, Vec<B>);
+#[derive(Drop)]
+pub struct Places<C, L, B> {
+    /// Those of customer ports.
+    pub customers: Vec<C>,
+    /// Those of lanes.
+    pub lanes: Vec<L>,
+    /// Those of bridges.
+    pub bridges: Vec<B>,
+}
+
+/// What comes of the work of places.
+#[derive(Drop)]
+pub struct Worked<C, L, B> {
+    /// The places, each where it stood.
+    pub places: Places<C, L, B>,
+    /// Why no worker took a turn, where none did.
+    pub verdict: Result<(), WorkFault>,
+}
 
 /// The promise that what comes back keeps what the worker was given.
 #[derive(Drop)]
@@ -155,36 +173,51 @@ fn in_scope<
     gate: &'s G,
     words: &'s Words,
     limits: Limits,
-) -> (Places<C, L, B>, Result<(), WorkFault>)
-    requires { All C.fits places.0.items × All L.fits places.1.items × All B.fits places.2.items }
-    ensures customers { (map C.given result.0.0.items ≡ map C.given places.0.items) × All C.fits result.0.0.items }
-    ensures lanes { (map L.given result.0.1.items ≡ map L.given places.1.items) × All L.fits result.0.1.items }
-    ensures bridges { (map B.given result.0.2.items ≡ map B.given places.2.items) × All B.fits result.0.2.items }
-    ensures untouched { IfErr result.1 (λ fault. (result.0.0.items ≡ places.0.items) × (result.0.1.items ≡ places.1.items) × (result.0.2.items ≡ places.2.items)) }
+) -> Worked<C, L, B>
+    requires { AllFit C.fits L.fits B.fits places }
+    ensures customers { AreBack C.given C.fits places.customers.items result.places.customers.items }
+    ensures lanes { AreBack L.given L.fits places.lanes.items result.places.lanes.items }
+    ensures bridges { AreBack B.given B.fits places.bridges.items result.places.bridges.items }
+    ensures untouched { IfErr result.verdict (λ fault. AreUntouched places result.places) }
 {
-    let customers = VecDeque::<Started<C>>::with_capacity(alloc, places.0.len());
-    let lanes = VecDeque::<Started<L>>::with_capacity(alloc, places.1.len());
-    let bridges = VecDeque::<Started<B>>::with_capacity(alloc, places.2.len());
+    let verdict = Err(WorkFault::Memory);
+    let customers = VecDeque::<Started<C>>::with_capacity(alloc, places.customers.len());
+    let lanes = VecDeque::<Started<L>>::with_capacity(alloc, places.lanes.len());
+    let bridges = VecDeque::<Started<B>>::with_capacity(alloc, places.bridges.len());
     let (Ok(customers), Ok(lanes), Ok(bridges)) = (customers, lanes, bridges) else {
-        return (places, Err(WorkFault::Memory));
+        return Worked { places, verdict };
     };
-    let first = Vec::with_capacity(alloc, places.0.len());
-    let second = Vec::with_capacity(alloc, places.1.len());
-    let third = Vec::with_capacity(alloc, places.2.len());
+    let first = Vec::with_capacity(alloc, places.customers.len());
+    let second = Vec::with_capacity(alloc, places.lanes.len());
+    let third = Vec::with_capacity(alloc, places.bridges.len());
     let (Ok(first), Ok(second), Ok(third)) = (first, second, third) else {
-        return (places, Err(WorkFault::Memory));
+        return Worked { places, verdict };
     };
     let (mut customers, mut lanes, mut bridges) = (customers, lanes, bridges);
     let (mut first, mut second, mut third) = (first, second, third);
-    start_all(scope, rt, places.0, &mut customers, gate, words, limits);
-    start_all(scope, rt, places.1, &mut lanes, gate, words, limits);
-    start_all(scope, rt, places.2, &mut bridges, gate, words, limits);
+    start_all(
+        scope,
+        rt,
+        places.customers,
+        &mut customers,
+        gate,
+        words,
+        limits,
+    );
+    start_all(scope, rt, places.lanes, &mut lanes, gate, words, limits);
+    start_all(scope, rt, places.bridges, &mut bridges, gate, words, limits);
     let is_let = words.begin();
     let have_customers_begun = join_all(rt, &mut customers, &mut first);
     let have_lanes_begun = join_all(rt, &mut lanes, &mut second);
     let have_bridges_begun = join_all(rt, &mut bridges, &mut third);
     let have_begun = is_let | have_customers_begun | have_lanes_begun | have_bridges_begun;
-    ((first, second, third), verdict_of(have_begun))
+    let places = Places {
+        customers: first,
+        lanes: second,
+        bridges: third,
+    };
+    let verdict = verdict_of(have_begun);
+    Worked { places, verdict }
 }
 
 /// Whether workers began: none did where one could not be started.
@@ -217,24 +250,24 @@ pub fn run_all<
     gate: &G,
     limits: Limits,
     left: u64,
-) -> (Places<C, L, B>, Result<(), WorkFault>)
-    requires { All C.fits places.0.items × All L.fits places.1.items × All B.fits places.2.items }
-    ensures customers { (map C.given result.0.0.items ≡ map C.given places.0.items) × All C.fits result.0.0.items }
-    ensures lanes { (map L.given result.0.1.items ≡ map L.given places.1.items) × All L.fits result.0.1.items }
-    ensures bridges { (map B.given result.0.2.items ≡ map B.given places.2.items) × All B.fits result.0.2.items }
-    ensures untouched { IfErr result.1 (λ fault. (result.0.0.items ≡ places.0.items) × (result.0.1.items ≡ places.1.items) × (result.0.2.items ≡ places.2.items)) }
+) -> Worked<C, L, B>
+    requires { AllFit C.fits L.fits B.fits places }
+    ensures customers { AreBack C.given C.fits places.customers.items result.places.customers.items }
+    ensures lanes { AreBack L.given L.fits places.lanes.items result.places.lanes.items }
+    ensures bridges { AreBack B.given B.fits places.bridges.items result.places.bridges.items }
+    ensures untouched { IfErr result.verdict (λ fault. AreUntouched places result.places) }
 {
     let words = Words::new(left);
     let shared = &words;
     thread::scope(
         thread::scope_env(),
         rt,
-        move |scope| -> (Places<C, L, B>, Result<(), WorkFault>)
-            requires { All C.fits places.0.items × All L.fits places.1.items × All B.fits places.2.items }
-            ensures customers { (map C.given result.0.0.items ≡ map C.given places.0.items) × All C.fits result.0.0.items }
-            ensures lanes { (map L.given result.0.1.items ≡ map L.given places.1.items) × All L.fits result.0.1.items }
-            ensures bridges { (map B.given result.0.2.items ≡ map B.given places.2.items) × All B.fits result.0.2.items }
-            ensures untouched { IfErr result.1 (λ fault. (result.0.0.items ≡ places.0.items) × (result.0.1.items ≡ places.1.items) × (result.0.2.items ≡ places.2.items)) }
+        move |scope| -> Worked<C, L, B>
+            requires { AllFit C.fits L.fits B.fits places }
+            ensures customers { AreBack C.given C.fits places.customers.items result.places.customers.items }
+            ensures lanes { AreBack L.given L.fits places.lanes.items result.places.lanes.items }
+            ensures bridges { AreBack B.given B.fits places.bridges.items result.places.bridges.items }
+            ensures untouched { IfErr result.verdict (λ fault. AreUntouched places result.places) }
         { in_scope(scope, rt, alloc, places, gate, shared, limits) },
     )
 }

@@ -3,7 +3,7 @@
 ghost use Rattle.std.specs.Prelude.{◌==◌, Some, None, if◌then◌else◌};
 
 use pb_lan::{Limits, Place, PortState};
-use pb_work::{Did, Finish, Gate, Go, Moment, Places, PortView, Turn, Wish, Work, run_all};
+use pb_work::{Did, Finish, Gate, Go, Moment, Places, PortView, Turn, Wish, Work, Worked, run_all};
 use std::alloc::{AllocError, Global};
 use std::sync::atomic::{AtomicU64, Ordering};
 use std::test::Fail;
@@ -100,16 +100,20 @@ fn desks(alloc: Global, jobs: u64, first: Place, second: Place) -> Result<Vec<De
 
 /// Two places of each kind, with so many jobs each.
 fn office(alloc: Global, jobs: u64) -> Result<Places<Desk, Desk, Desk>, AllocError> {
-    Ok((
-        desks(alloc, jobs, Place::Customer(1), Place::Customer(2))?,
-        desks(alloc, jobs, Place::Lane(1), Place::Lane(2))?,
-        desks(alloc, jobs, Place::Bridge(1), Place::Bridge(2))?,
-    ))
+    Ok(Places {
+        customers: desks(alloc, jobs, Place::Customer(1), Place::Customer(2))?,
+        lanes: desks(alloc, jobs, Place::Lane(1), Place::Lane(2))?,
+        bridges: desks(alloc, jobs, Place::Bridge(1), Place::Bridge(2))?,
+    })
 }
 
 /// All places of a run, in one list.
 fn together(places: Places<Desk, Desk, Desk>) -> Result<Vec<Desk>, AllocError> {
-    let (mut desks, lanes, bridges) = places;
+    let Places {
+        customers: mut desks,
+        lanes,
+        bridges,
+    } = places;
     for desk in lanes {
         desks.push(desk)?;
     }
@@ -162,7 +166,7 @@ fn all_workers_run_at_once_and_end_when_nothing_is_left(rt: HostRuntime) -> Resu
         hold: 0,
     };
     let places = office(rt.alloc(), 20)?;
-    let (places, verdict) = run_all(&rt, rt.alloc(), places, &gate, limits, 120);
+    let Worked { places, verdict } = run_all(&rt, rt.alloc(), places, &gate, limits, 120);
     assert!(rt; verdict.is_ok());
     assert_eq!(rt; gate.here.load(Ordering::SeqCst), 6);
     for desk in together(places)? {
@@ -193,7 +197,7 @@ fn a_worker_takes_so_many_turns_at_most(rt: HostRuntime) -> Result<(), Fail> {
         hold: 0,
     };
     let places = office(rt.alloc(), 20)?;
-    let (places, verdict) = run_all(&rt, rt.alloc(), places, &Open, limits, 121);
+    let Worked { places, verdict } = run_all(&rt, rt.alloc(), places, &Open, limits, 121);
     assert!(rt; verdict.is_ok());
     let mut is_limit = false;
     for desk in together(places)? {
@@ -214,7 +218,7 @@ fn frames_may_enter_after_so_many_ticks(rt: HostRuntime) -> Result<(), Fail> {
         hold: 2,
     };
     let places = office(rt.alloc(), 20)?;
-    let (places, verdict) = run_all(&rt, rt.alloc(), places, &Open, limits, 121);
+    let Worked { places, verdict } = run_all(&rt, rt.alloc(), places, &Open, limits, 121);
     assert!(rt; verdict.is_ok());
     for desk in together(places)? {
         assert_eq!(rt; desk.opened, desk.turns.saturating_sub(6));
@@ -231,7 +235,7 @@ fn a_clock_by_time_ticks_whatever_the_turns(rt: HostRuntime) -> Result<(), Fail>
         hold: 0,
     };
     let places = office(rt.alloc(), 0)?;
-    let (places, verdict) = run_all(&rt, rt.alloc(), places, &Open, limits, 1);
+    let Worked { places, verdict } = run_all(&rt, rt.alloc(), places, &Open, limits, 1);
     assert!(rt; verdict.is_ok());
     let mut has_ticked = false;
     for desk in together(places)? {
@@ -262,7 +266,14 @@ fn a_gate_stops_the_workers(rt: HostRuntime) -> Result<(), Fail> {
     };
     for turns in 0..5u64 {
         let places = office(rt.alloc(), 20)?;
-        let (places, verdict) = run_all(&rt, rt.alloc(), places, &StopAt(turns), limits, 120);
+        let Worked { places, verdict } = run_all(
+            &rt,
+            rt.alloc(),
+            places,
+            &StopAt(turns),
+            limits,
+            120,
+        );
         assert!(rt; verdict.is_ok());
         for desk in together(places)? {
             assert!(rt; desk.turns <= turns && desk.finish == Some(Finish::Told));
@@ -316,7 +327,7 @@ fn wishes_take_the_place_of_turns(rt: HostRuntime) -> Result<(), Fail> {
         shown: AtomicU64::new(0),
     };
     let places = office(rt.alloc(), 20)?;
-    let (places, verdict) = run_all(&rt, rt.alloc(), places, &gate, limits, 121);
+    let Worked { places, verdict } = run_all(&rt, rt.alloc(), places, &gate, limits, 121);
     assert!(rt; verdict.is_ok());
     let (mut wishes, mut turns, mut ticks) = (0u64, 0u64, 0u64);
     for desk in together(places)? {
@@ -358,7 +369,7 @@ fn a_gate_holds_frames_back(rt: HostRuntime) -> Result<(), Fail> {
         hold: 0,
     };
     let places = office(rt.alloc(), 20)?;
-    let (places, verdict) = run_all(&rt, rt.alloc(), places, &Shut, limits, 121);
+    let Worked { places, verdict } = run_all(&rt, rt.alloc(), places, &Shut, limits, 121);
     assert!(rt; verdict.is_ok());
     for desk in together(places)? {
         assert!(rt; desk.opened == 0 && desk.turns <= 12);

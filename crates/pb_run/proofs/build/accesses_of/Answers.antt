@@ -4,7 +4,8 @@ use Rattle.pb_run.specs.declared.access.Access.{Access}
 use Rattle.pb_run.specs.declared.access.Last.TheVariants.{More}
 use Rattle.pb_run.proofs.EndsThere.{customers_apart, this_customer, after_customer, apart_after_customer}
 use Rattle.pb_run.proofs.Gifts.{no_accesses, access_pushed}
-use Rattle.pb_run.proofs.Lists.{here_is, all_none, all_more}
+use Rattle.pb_work.proofs.Alls.{all_more}
+use Rattle.pb_run.proofs.Lists.{here_is, all_none}
 use Rattle.pb_run.proofs.build.accesses_of.Goals as goal
 
 pub loop-customer-init : goal.loop-customer-init

@@ -5,8 +5,8 @@ use Rattle.pb_lan.specs.PortLists.{fed, delivered}
 use Rattle.pb_lan.specs.Records.{received, transmitted}
 use Rattle.pb_run.specs.Gifts.{AccessGift, access_gift}
 use Rattle.pb_run.proofs.Gifts.{customer_stands}
-use Rattle.pb_run.proofs.Lists.{here_is, thing_is, kept_at}
-use Rattle.pb_run.proofs.Meeting.{bridge_here, bridge_rings, gift_here, begins_there, customer_meets}
+use Rattle.pb_run.proofs.Lists.{here_is, thing_is, both_kept_at}
+use Rattle.pb_run.proofs.Meeting.{bridge_here, bridge_rings, gift_is, begins_there, customer_meets}
 use Rattle.pb_run.proofs.meet.meet_access.Goals as goal
 
 pub meet_customer-requires-clause-port : goal.meet_customer-requires-clause-port
@@ -33,10 +33,8 @@ meet_customer-requires-clause-feed g c =
     c.index_mut-bridge.result.now c.requires.bridges stands.bridge stands.port c.from.ensures
     c.index_mut-bridge.ensures.value in
     let given = c.requires.accesses.each c.args.place customer c.requires.place at in
-    let gift = gift_here _ c.args.accesses.now.items c.args.place c.index_mut.result.now
-    (access_gift (c.args.place + 1) customer)
-    (thing_is _ c.args.accesses.now.items c.args.place (access_gift (c.args.place + 1) customer)
-    c.index_mut.result.now given c.index_mut.ensures.value) given in
+    let gift = gift_is _ c.args.accesses.now.items c.args.place c.index_mut.result.now
+    (access_gift (c.args.place + 1) customer) given c.index_mut.ensures.value in
     rings.0 ∙ sym (ap (λ (z : AccessGift). z.1) gift)
 
 pub meet_customer-requires-clause-drain : goal.meet_customer-requires-clause-drain
@@ -49,23 +47,16 @@ meet_customer-requires-clause-drain g c =
     c.index_mut-bridge.result.now c.requires.bridges stands.bridge stands.port c.from.ensures
     c.index_mut-bridge.ensures.value in
     let given = c.requires.accesses.each c.args.place customer c.requires.place at in
-    let gift = gift_here _ c.args.accesses.now.items c.args.place c.index_mut.result.now
-    (access_gift (c.args.place + 1) customer)
-    (thing_is _ c.args.accesses.now.items c.args.place (access_gift (c.args.place + 1) customer)
-    c.index_mut.result.now given c.index_mut.ensures.value) given in
+    let gift = gift_is _ c.args.accesses.now.items c.args.place c.index_mut.result.now
+    (access_gift (c.args.place + 1) customer) given c.index_mut.ensures.value in
     rings.1 ∙ sym (ap (λ (z : AccessGift). z.2) gift)
 
 pub returns-clause-bridges : goal.returns-clause-bridges
-returns-clause-bridges g c = kept_at _ _ _ _ c.index_mut-bridge.result.now c.index_mut-bridge.ensures.value (cc)
-
-pub returns-clause-bridge_steps : goal.returns-clause-bridge_steps
-returns-clause-bridge_steps g c = kept_at _ _ _ _ c.index_mut-bridge.result.now c.index_mut-bridge.ensures.value (cc)
+returns-clause-bridges g c = both_kept_at _ _ _ _ _ c.index_mut-bridge.result.now c.index_mut-bridge.ensures.value
+    (cc) (cc)
 
 pub returns-clause-accesses : goal.returns-clause-accesses
-returns-clause-accesses g c = kept_at _ _ _ _ c.index_mut.result.now c.index_mut.ensures.value (cc)
-
-pub returns-clause-access_steps : goal.returns-clause-access_steps
-returns-clause-access_steps g c = kept_at _ _ _ _ c.index_mut.result.now c.index_mut.ensures.value (cc)
+returns-clause-accesses g c = both_kept_at _ _ _ _ _ c.index_mut.result.now c.index_mut.ensures.value (cc) (cc)
 
 pub returns-clause-meets : goal.returns-clause-meets
 returns-clause-meets g c = λ planned there.

@@ -1,4 +1,4 @@
-use Rattle.std.proofs.Common.{◌∙◌}
+use Rattle.pb_run.proofs.Lists.{both_kept_still}
 use Rattle.pb_run.proofs.Meeting.{accesses_met}
 use Rattle.pb_run.proofs.meet.meet_accesses.Goals as goal
 
@@ -7,9 +7,7 @@ loop-place-preserved g c =
     let i = c.loop-place.invariant in
     let met = c.meet_access.ensures in
     record {
-      bridges = met.bridges ∙ i.bridges;
-      bridge_steps = met.bridge_steps ∙ i.bridge_steps;
-      accesses = met.accesses ∙ i.accesses;
-      access_steps = met.access_steps ∙ i.access_steps;
-      meet = accesses_met c.args.plan.now c.loop-place.place _ _ _ _ i.bridge_steps i.access_steps i.meet met.meets;
+      bridges = both_kept_still met.bridges i.bridges;
+      accesses = both_kept_still met.accesses i.accesses;
+      meet = accesses_met c.args.plan.now c.loop-place.place _ _ _ _ i.bridges.1 i.accesses.1 i.meet met.meets;
     }

@@ -3,15 +3,16 @@ use Rattle.std.proofs.lemmas.List.{length-map}
 use Rattle.pb_lan.specs.LaneLists.{taken}
 use Rattle.pb_lan.specs.Records.{transmitted}
 use Rattle.pb_run.specs.Gifts.{LaneGift}
-use Rattle.pb_run.proofs.Lists.{thing_is, kept_at}
-use Rattle.pb_run.proofs.Meeting.{bridge_here, bridge_rings, gift_here, begins_there}
+use Rattle.pb_run.proofs.Lists.{thing_is, both_kept_at}
+use Rattle.pb_run.proofs.Meeting.{bridge_here, bridge_rings, gift_is, begins_there}
 use Rattle.pb_run.proofs.meet.meet_away.Goals as goal
 
 pub meet_lane_away-requires-clause-port : goal.meet_lane_away-requires-clause-port
 meet_lane_away-requires-clause-port g c =
     let end = c.requires.end in
     let rings = bridge_rings _ c.args.plan.now c.args.bridges.now.items c.args.from.now.bridge c.args.from.now.port
-    c.from.result c.index_mut-bridge.result.now c.requires.bridges end.bridge end.port c.from.ensures
+    c.from.result
+    c.index_mut-bridge.result.now c.requires.bridges end.bridge end.port c.from.ensures
     c.index_mut-bridge.ensures.value in (
       omega (arith, end.port.0),
       omega
@@ -22,33 +23,30 @@ pub meet_lane_away-requires-clause-ring : goal.meet_lane_away-requires-clause-ri
 meet_lane_away-requires-clause-ring g c =
     let end = c.requires.end in
     let rings = bridge_rings _ c.args.plan.now c.args.bridges.now.items c.args.from.now.bridge c.args.from.now.port
-    c.from.result c.index_mut-bridge.result.now c.requires.bridges end.bridge end.port c.from.ensures
+    c.from.result
+    c.index_mut-bridge.result.now c.requires.bridges end.bridge end.port c.from.ensures
     c.index_mut-bridge.ensures.value in
-    let gift = gift_here _ c.args.lanes.now.items c.args.place c.index_mut.result.now _
-    (thing_is _ c.args.lanes.now.items c.args.place _ c.index_mut.result.now c.requires.lane.3
-    c.index_mut.ensures.value) c.requires.lane.3 in
+    let gift = gift_is _ c.args.lanes.now.items c.args.place c.index_mut.result.now _ c.requires.lane.3
+    c.index_mut.ensures.value in
     rings.1 ∙ sym (ap (λ (z : LaneGift). z.1) gift)
 
 pub returns-clause-bridges : goal.returns-clause-bridges
-returns-clause-bridges g c = kept_at _ _ _ _ c.index_mut-bridge.result.now c.index_mut-bridge.ensures.value (cc)
-
-pub returns-clause-bridge_steps : goal.returns-clause-bridge_steps
-returns-clause-bridge_steps g c = kept_at _ _ _ _ c.index_mut-bridge.result.now c.index_mut-bridge.ensures.value (cc)
+returns-clause-bridges g c = both_kept_at _ _ _ _ _ c.index_mut-bridge.result.now c.index_mut-bridge.ensures.value
+    (cc) (cc)
 
 pub returns-clause-lanes : goal.returns-clause-lanes
-returns-clause-lanes g c = kept_at _ _ _ _ c.index_mut.result.now c.index_mut.ensures.value (cc)
-
-pub returns-clause-lane_steps : goal.returns-clause-lane_steps
-returns-clause-lane_steps g c = kept_at _ _ _ _ c.index_mut.result.now c.index_mut.ensures.value (cc)
+returns-clause-lanes g c = both_kept_at _ _ _ _ _ c.index_mut.result.now c.index_mut.ensures.value (cc) (cc)
 
 pub returns-clause-onto : goal.returns-clause-onto
 returns-clause-onto g c =
     let end = c.requires.end in
-    begins_there taken (transmitted c.args.from.now.port) _ _ c.args.lanes.now.items c.args.bridges.now.items
-    c.args.place (c.from.result - 1) (c.args.place + 1) c.args.from.now.bridge c.index_mut.result.now
+    let lane = thing_is _ c.args.lanes.now.items c.args.place _ c.index_mut.result.now c.requires.lane.3
+    c.index_mut.ensures.value in
+    let bridge = bridge_here _ c.args.plan.now c.args.bridges.now.items c.args.from.now.bridge c.from.result
     c.index_mut-bridge.result.now
-    (thing_is _ c.args.lanes.now.items c.args.place _ c.index_mut.result.now c.requires.lane.3
-    c.index_mut.ensures.value)
-    (bridge_here _ c.args.plan.now c.args.bridges.now.items c.args.from.now.bridge c.from.result
-    c.index_mut-bridge.result.now c.requires.bridges end.bridge c.from.ensures c.index_mut-bridge.ensures.value)
-    (omega arith) (omega (arith, c.from.ensures, end.bridge.0)) c.meet_lane_away.ensures.onto
+    c.requires.bridges end.bridge c.from.ensures c.index_mut-bridge.ensures.value in
+    begins_there taken (transmitted c.args.from.now.port) _ _ c.args.lanes.now.items c.args.bridges.now.items
+    c.args.place (c.from.result - 1)
+    (c.args.place + 1) c.args.from.now.bridge c.index_mut.result.now c.index_mut-bridge.result.now lane bridge
+    (omega arith)
+    (omega (arith, c.from.ensures, end.bridge.0)) c.meet_lane_away.ensures.onto

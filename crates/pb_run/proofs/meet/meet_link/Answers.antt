@@ -57,7 +57,7 @@ meet_here-requires-clause-lane g c =
       ring_out link.a.bridge link.a.port,
       link.lost_ab,
       ap
-          (λ xs. slice_get xs (2 * c.args.place)) c.meet_away.ensures.lanes
+          (λ xs. slice_get xs (2 * c.args.place)) c.meet_away.ensures.lanes.0
           ∙ c.requires.lanes.ab c.args.place link c.requires.place at,
     )
 
@@ -70,7 +70,7 @@ meet_away-requires-2-clause-lane g c =
       ring_into link.a.bridge link.a.port,
       link.lost_ba,
       ap
-          (λ xs. slice_get xs (2 * c.args.place + 1)) (c.meet_here.ensures.lanes ∙ c.meet_away.ensures.lanes)
+          (λ xs. slice_get xs (2 * c.args.place + 1)) (c.meet_here.ensures.lanes.0 ∙ c.meet_away.ensures.lanes.0)
           ∙ c.requires.lanes.ba c.args.place link c.requires.place at,
     )
 
@@ -83,9 +83,8 @@ meet_here-requires-2-clause-lane g c =
       ring_out link.b.bridge link.b.port,
       link.lost_ba,
       ap
-          (λ xs. slice_get xs (2 * c.args.place + 1))
-          (c.meet_away-2.ensures.lanes ∙ c.meet_here.ensures.lanes ∙ c.meet_away.ensures.lanes)
-          ∙ c.requires.lanes.ba c.args.place link c.requires.place at,
+          (λ xs. slice_get xs (2 * c.args.place + 1)) (c.meet_away-2.ensures.lanes.0 ∙ c.meet_here.ensures.lanes.0
+          ∙ c.meet_away.ensures.lanes.0) ∙ c.requires.lanes.ba c.args.place link c.requires.place at,
     )
 
 pub returns-clause-meets : goal.returns-clause-meets
@@ -101,14 +100,13 @@ returns-clause-meets g c = λ planned there.
     link_meets _ _ _ link planned (Some-injective (sym at ∙ there)) (
       record {
         onto = one.onto;
-        off = as_before (received link.b.port) put _ _ _ _ _ _ _ _ one.bridge_steps
-            one.lane_steps refl refl two.off;
+        off = as_before (received link.b.port) put _ _ _ _ _ _ _ _ one.bridges.1 one.lanes.1
+            refl refl two.off;
       },
       record {
-        onto = as_before taken (transmitted link.b.port) _ _ _ _ _ _ _ _ (two.lane_steps ∙ one.lane_steps)
-            (two.bridge_steps ∙ one.bridge_steps) next refl three.onto;
-        off = as_before (received link.a.port) put _ _ _ _ _ _ _ _
-            (three.bridge_steps ∙ two.bridge_steps ∙ one.bridge_steps)
-            (three.lane_steps ∙ two.lane_steps ∙ one.lane_steps) refl next four.off;
+        onto = as_before taken (transmitted link.b.port) _ _ _ _ _ _ _ _ (two.lanes.1 ∙ one.lanes.1)
+            (two.bridges.1 ∙ one.bridges.1) next refl three.onto;
+        off = as_before (received link.a.port) put _ _ _ _ _ _ _ _ (three.bridges.1 ∙ two.bridges.1 ∙ one.bridges.1)
+            (three.lanes.1 ∙ two.lanes.1 ∙ one.lanes.1) refl next four.off;
       },
     )

@@ -1,4 +1,4 @@
-use Rattle.std.proofs.Common.{◌∙◌}
+use Rattle.pb_run.proofs.Lists.{both_kept_still}
 use Rattle.pb_run.proofs.Meeting.{links_met}
 use Rattle.pb_run.proofs.meet.meet_links.Goals as goal
 
@@ -7,9 +7,7 @@ loop-place-preserved g c =
     let i = c.loop-place.invariant in
     let met = c.meet_link.ensures in
     record {
-      bridges = met.bridges ∙ i.bridges;
-      bridge_steps = met.bridge_steps ∙ i.bridge_steps;
-      lanes = met.lanes ∙ i.lanes;
-      lane_steps = met.lane_steps ∙ i.lane_steps;
-      meet = links_met c.args.plan.now c.loop-place.place _ _ _ _ i.bridge_steps i.lane_steps i.meet met.meets;
+      bridges = both_kept_still met.bridges i.bridges;
+      lanes = both_kept_still met.lanes i.lanes;
+      meet = links_met c.args.plan.now c.loop-place.place _ _ _ _ i.bridges.1 i.lanes.1 i.meet met.meets;
     }

@@ -1,18 +1,18 @@
 use Rattle.std.proofs.Common.{◌≡◌, [], map, sym, ap, ◌∙◌, rules}
-use Rattle.pb_run.specs.Gifts.{AccessGift}
+use Rattle.pb_run.specs.Gifts.{AccessGift, given_access}
 use Rattle.pb_run.specs.Ports.{KeepsPort}
 use Rattle.pb_run.specs.declared.customer.CustomerWorker.{CustomerWorker}
 use Rattle.pb_run.specs.declared.access.Access.{Access}
 use Rattle.pb_run.specs.declared.access.Last.TheVariants.{More}
 use Rattle.pb_run.proofs.Kept.{keeps_fresh}
-use Rattle.pb_run.proofs.Lists.{all_rest, all_head, all_more, moved_on}
+use Rattle.pb_work.proofs.Alls.{all_rest, all_head, all_more, moved_on}
 use Rattle.pb_run.proofs.outside.attended.Goals as goal
 
 pub loop-port-preserved : goal.loop-port-preserved
 loop-port-preserved g c =
     let D : Type 0 = Access g.row.W.Denot g.W.Wiring in
     let C : Type 0 = CustomerWorker g.row.W.Denot g.row.P.Denot g.W.Wiring in
-    let gift : D → AccessGift = λ d. (d.place.number, d.feed.number, d.drain.number) in
+    let gift : D → AccessGift = given_access in
     let i = c.loop-port.invariant in
     let grown = c.push_reserved.ensures.items in
     let next = c.in-Some.ensures.steps.0 in

@@ -1,7 +1,7 @@
 use Rattle.std.proofs.Common.{◌≡◌, ◌+◌, ◌≤◌, ◌++◌, [], All, map, vec_len, vec_capacity}
 use Rattle.std.specs.VecDeque.{deque_len}
 use Rattle.std.specs.Vec.Iter.{into_iter_items, into_iter_len}
-use Rattle.pb_run.specs.Gifts.{AccessGift}
+use Rattle.pb_run.specs.Gifts.{given_access}
 use Rattle.pb_run.specs.Ports.{KeepsPort}
 use Rattle.pb_run.specs.declared.access.Last.TheVariants.{More}
 use Rattle.pb_run.proofs.outside.attended.Given as goal
@@ -12,9 +12,8 @@ invariant-loop-port g l = record {
       ++ into_iter_items l.port-iterator ≡ into_iter_items l.initial.port-iterator;
   ports_now : map (λ w. w.port) l.workers.items
       ++ into_iter_items l.port-iterator ≡ into_iter_items l.initial.port-iterator;
-  gifts : map {B = AccessGift} (λ w. (w.access.place.number, w.access.feed.number, w.access.drain.number))
-      l.workers.items ++ map {B = AccessGift} (λ d. (d.place.number, d.feed.number, d.drain.number)) l.accesses.items
-      ≡ map {B = AccessGift} (λ d. (d.place.number, d.feed.number, d.drain.number)) l.initial.accesses.items;
+  gifts : map (λ w. given_access w.access) l.workers.items ++ map given_access l.accesses.items ≡ map given_access
+      l.initial.accesses.items;
   fresh : All (λ d. (d.place.steps ≡ []) × (d.book.last ≡ More)) l.accesses.items;
   keeps : All (λ w. KeepsPort g.P.Port.script g.P.Port.tally w.was.value w.port w.access.place.steps
       w.access.book.last) l.workers.items;

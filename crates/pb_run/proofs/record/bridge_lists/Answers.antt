@@ -5,7 +5,8 @@ use Rattle.pb_lan.specs.declared.step.Step.{Step}
 use Rattle.pb_lan.specs.BridgeLists.{IsLawfulBridge}
 use Rattle.pb_relay.specs.Protocol.{spanning_tree}
 use Rattle.pb_run.specs.declared.bridge.BridgeWorker.{BridgeWorker}
-use Rattle.pb_run.proofs.Lists.{all_more, mapped_more, unset_more}
+use Rattle.pb_work.proofs.Alls.{all_more}
+use Rattle.pb_run.proofs.Lists.{mapped_more, unset_more}
 use Rattle.pb_run.proofs.record.bridge_lists.Goals as goal
 
 pub loop-worker-preserved : goal.loop-worker-preserved

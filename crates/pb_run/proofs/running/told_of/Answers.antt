@@ -25,8 +25,8 @@ returns-clause-lawful g c =
     (lawful_workers _ _ _ _ _ _ c.args.plan.now rec
     c.meet_links.new.bridges.items c.meet_links.new.lanes.items c.meet_accesses.new.accesses.items _ _ _ _ _ _ _
     c.bridge_lists-bridges.ensures.steps c.lane_lists-lanes.ensures.steps c.access_lists-customers.ensures.steps
-    (two.bridges ∙ one.bridges) two.lanes one.accesses
-    (two.bridge_steps ∙ one.bridge_steps) one.access_steps two.bridge_steps two.lane_steps
+    (two.bridges.0 ∙ one.bridges.0) two.lanes.0 one.accesses.0
+    (two.bridges.1 ∙ one.bridges.1) one.accesses.1 two.bridges.1 two.lanes.1
     c.requires.bridges c.requires.lanes c.requires.accesses
     c.bridge_lists-bridges.ensures.lawful c.lane_lists-lanes.ensures.lawful c.access_lists-customers.ensures.lawful
     one.meet two.meet)

@@ -4,7 +4,7 @@ use Rattle.pb_work.proofs.threads.in_scope.Goals as goal
 
 pub returns-clause-untouched : goal.returns-clause-untouched
 returns-clause-untouched g c =
-    on_error c.verdict_of.result _ _ c.verdict_of.ensures
+    on_error c.verdict_of-verdict.result _ _ c.verdict_of-verdict.ensures
     (λ none.
     let third = neither _ c.join_all-have_bridges_begun.result none in
     let second = neither _ c.join_all-have_lanes_begun.result third.0 in
