@@ -12,6 +12,9 @@ fn are(names: &[(&str, u8)], wanted: &[(&str, u8)]) -> bool {
 #[test]
 fn names_come_by_their_octets_with_their_numbers(rt: HostRuntime) -> Result<(), Fail> {
     let plan = unordered(rt.alloc())?;
+    assert!(rt; plan.customers.len() <= 128);
+    assert!(rt; plan.links.len() <= 64);
+    assert!(rt; plan.bridges.len() <= 32);
     let ports = ports_by_name(rt.alloc(), &plan)?;
     let links = links_by_name(rt.alloc(), &plan)?;
     let bridges = bridges_by_name(rt.alloc(), &plan)?;
