@@ -34,11 +34,6 @@ is_carry mark n r (Receive q item learnt (Relayed chosen refused) moved) = is_af
     (λ p. p == r) chosen
 is_carry mark n r _ = false
 
--- a test counts at most 1
-one_if-le : (b : Bool) → cond b 1 0 ≤ 1
-one_if-le true = omega arith
-one_if-le false = omega arith
-
 -- one more on both sides
 pub suc-eqb : (m n : ℕ) → (m + 1 == n + 1) ≡ (m == n)
 suc-eqb m n = elim (m == n) as (λ b. (m == n) ≡ b → (m + 1 == n + 1) ≡ b)

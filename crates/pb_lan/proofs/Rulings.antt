@@ -3,7 +3,7 @@ use Rattle.std.proofs.Common.{map, ◌≡◌, inl, inr, ℕ, ◌<◌, ◌≤◌,
 use Rattle.std.proofs.Common.{◌==◌, List, [], ◌∷◌, ◌++◌, refl, sym, subst, unwrap_or, arith, nat_lt, length, suc}
 use Rattle.std.proofs.Common.{zero}
 use Rattle.std.specs.List.{AllByRecursion, filter, list_any}
-use Rattle.std.proofs.lemmas.Bool.{eqb-true}
+use Rattle.std.proofs.lemmas.Bool.{eqb-true, not-true, not-false}
 use Rattle.std.specs.Option.{option_map}
 use Rattle.pb_frame.proofs.Lists.{and-left, and-right, All-imply, All-filter, list_any-found}
 use Rattle.pb_lan.proofs.Cases.{none-holds, neither-left, neither-right, is_malformed, is_not_member}
@@ -104,17 +104,13 @@ carried-open rules plan e state item v h =
     let w = (carried-provider rules plan e state item v h).1 in (
       in_state state a.1,
       subst (λ n. serves plan n e ≡ true) w
-          (un-not (serves plan (vid_of item.wire) e) (neither-left _ _ (a.0 is_not_member))),
+          (not-false (serves plan (vid_of item.wire) e) (neither-left _ _ (a.0 is_not_member))),
     )
   where
     in_state : (s : PortState) → ruling_in s (vid_of item.wire) ≡ Carries v → is_forwarding s ≡ true
     in_state Discarding h = cc
     in_state Learning h = cc
     in_state Forwarding h = refl
-
-    un-not : (b : Bool) → not b ≡ false → b ≡ true
-    un-not true h = refl
-    un-not false h = cc
 
 -- what is relayed changes no state, and its ports were chosen with the step itself in mind
 pub follows-relayed : (rules : Rules) (plan : Plan) (b : ℕ) (earlier : List Step) (q : ℕ) (item : Item)
@@ -219,7 +215,7 @@ chosen-choice plan b steps q v wire =
     let all : AllByRecursion (IsChoice plan b steps q v) ports =
     All-imply (λ p. IsLocal p × (test p ≡ true)) (IsChoice plan b steps q v)
     (λ p h. record {
-      other = un-not (p == q) (and-left _ _ h.1);
+      other = not-true (p == q) (and-left _ _ h.1);
       forwarding = and-left _ _ (and-right _ _ h.1);
       member = and-right _ _ (and-right _ _ h.1);
       local = h.0;
@@ -234,10 +230,6 @@ chosen-choice plan b steps q v wire =
       | false ↦ tt
     ]
   where
-    un-not : (b : Bool) → not b ≡ true → b ≡ false
-    un-not true h = cc
-    un-not false h = refl
-
     narrow : (o : Option ℕ) → AllByRecursion (IsChoice plan b steps q v) (flood plan b steps q v)
         → AllByRecursion (IsChoice plan b steps q v) (narrowed (flood plan b steps q v) o)
     narrow None a = a

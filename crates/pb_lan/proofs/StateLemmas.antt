@@ -8,6 +8,7 @@ use Rattle.std.specs.declared.option.Option.{Option}
 use Rattle.pb_frame.specs.Lists.{first}
 use Rattle.pb_lan.specs.Numbering.{numbers_from}
 use Rattle.pb_lan.specs.Ports.{all_ends, port_at, is_customer_at, is_end_at, customer_or_else, provider_or_unused}
+use Rattle.pb_lan.specs.Ports.{Port}
 use Rattle.pb_lan.specs.Shapes.{moved_of, start_by, state_by, state_after, changes_of, changed}
 use Rattle.pb_lan.specs.LastShapes.{newest_by, newest_state}
 use Rattle.pb_lan.specs.declared.plan.CustomerPlan.{CustomerPlan}
@@ -19,7 +20,6 @@ use Rattle.pb_lan.specs.declared.shape.Shape.{Shape}
 use Rattle.pb_lan.specs.declared.shape.PortState.TheVariants.{Forwarding}
 use Rattle.pb_lan.specs.declared.step.Moved.{Moved}
 use Rattle.pb_lan.specs.declared.step.Step.{Step}
-use Rattle.pb_lan.specs.Ports.{Port}
 use Rattle.pb_lan.specs.Ports.Port.{Customer, Provider, Unused}
 
 -- something passes the test where a first one does
