@@ -310,7 +310,8 @@ choose-on rules plan rec shape entry rooted mark arrived frame b q r here on_tre
         (subst (Told frame b here) e told) in
         let steps = here.earlier ++ step ∷ [] in
         let vid : vid_at plan entry ≡ f.0 = carried-vid rules plan rec entry mark frame.followed.sound
-        frame.followed.planned (port_at plan b q) (state_after plan b here.earlier q) here.item f.0 (here-known frame b here) f.1
+        frame.followed.planned (port_at plan b q) (state_after plan b here.earlier q) here.item f.0
+        (here-known frame b here) f.1
         here.passes in
         let same_state : (p : ℕ) → state_after plan b steps p ≡ state_after plan b here.earlier p =
         unmoved plan b here.earlier step (ap moved_part f.3) in

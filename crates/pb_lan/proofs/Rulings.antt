@@ -25,7 +25,7 @@ use Rattle.pb_lan.specs.declared.plan.End.{End}
 use Rattle.pb_lan.specs.declared.plan.ServicePlan.{ServicePlan}
 use Rattle.pb_lan.specs.declared.plan.CustomerPlan.{CustomerPlan}
 use Rattle.pb_lan.specs.declared.shape.PortState.{PortState}
-use Rattle.pb_lan.specs.declared.shape.PortState.TheVariants.{Discarding, Learning, Forwarding}
+use Rattle.pb_lan.specs.declared.shape.PortState.TheVariants.{Forwarding}
 use Rattle.pb_lan.specs.declared.step.Item.{Item}
 use Rattle.pb_lan.specs.declared.step.Moved.{Moved}
 use Rattle.pb_lan.specs.declared.step.NoRoom.{NoRoom}
@@ -59,9 +59,8 @@ carried-provider rules plan e state item v h =
     (neither-left (is_for_bridges item.wire) _ (neither-right _ _ (a.0 is_malformed)), in_state state a.1)
   where
     in_state : (s : PortState) → ruling_in s (vid_of item.wire) ≡ Carries v → vid_of item.wire ≡ v
-    in_state Discarding h = cc
-    in_state Learning h = cc
     in_state Forwarding h = carries-injective _ v h
+    in_state _ h = cc
 
 -- a step that moves nothing queues nothing of its own
 none-own : (plan : Plan) (b : ℕ) (moved : Option Moved) → moved ≡ None
@@ -108,9 +107,8 @@ carried-open rules plan e state item v h =
     )
   where
     in_state : (s : PortState) → ruling_in s (vid_of item.wire) ≡ Carries v → is_forwarding s ≡ true
-    in_state Discarding h = cc
-    in_state Learning h = cc
     in_state Forwarding h = refl
+    in_state _ h = cc
 
 -- what is relayed changes no state, and its ports were chosen with the step itself in mind
 pub follows-relayed : (rules : Rules) (plan : Plan) (b : ℕ) (earlier : List Step) (q : ℕ) (item : Item)
@@ -172,25 +170,11 @@ all-local = (
 -- the ports from 1 to 16 are the local ports
 pub local-listed : (n : ℕ) → IsNumber n 16 → list_any (λ p. p == n) local_ports ≡ true
 local-listed zero h = absurd (omega (arith, h.0))
-local-listed (suc zero) h = refl
-local-listed (suc (suc zero)) h = refl
-local-listed (suc (suc (suc zero))) h = refl
-local-listed (suc (suc (suc (suc zero)))) h = refl
-local-listed (suc (suc (suc (suc (suc zero))))) h = refl
-local-listed (suc (suc (suc (suc (suc (suc zero)))))) h = refl
-local-listed (suc (suc (suc (suc (suc (suc (suc zero))))))) h = refl
-local-listed (suc (suc (suc (suc (suc (suc (suc (suc zero)))))))) h = refl
-local-listed (suc (suc (suc (suc (suc (suc (suc (suc (suc zero))))))))) h = refl
-local-listed (suc (suc (suc (suc (suc (suc (suc (suc (suc (suc zero)))))))))) h = refl
-local-listed (suc (suc (suc (suc (suc (suc (suc (suc (suc (suc (suc zero))))))))))) h = refl
-local-listed (suc (suc (suc (suc (suc (suc (suc (suc (suc (suc (suc (suc zero)))))))))))) h = refl
-local-listed (suc (suc (suc (suc (suc (suc (suc (suc (suc (suc (suc (suc (suc zero))))))))))))) h = refl
-local-listed (suc (suc (suc (suc (suc (suc (suc (suc (suc (suc (suc (suc (suc (suc zero)))))))))))))) h = refl
-local-listed (suc (suc (suc (suc (suc (suc (suc (suc (suc (suc (suc (suc (suc (suc (suc zero))))))))))))))) h = refl
 local-listed (suc (suc (suc (suc (suc (suc (suc (suc (suc (suc (suc (suc (suc (suc (suc (suc zero)))))))))))))))) h =
     refl
 local-listed (suc (suc (suc (suc (suc (suc (suc (suc (suc (suc (suc (suc (suc (suc (suc (suc (suc n))))))))))))))))) h
     = absurd (omega (arith, h.1))
+local-listed _ h = refl
 
 -- so they are local
 pub number-local : (p : ℕ) → IsNumber p 16 → IsLocal p

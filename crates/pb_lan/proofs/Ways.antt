@@ -149,8 +149,11 @@ walks rules plan rec shape entry mark rooted followed = record {
     λ m. subst (λ p. ComesBy plan shape rec mark v entry p b q item)
         (sym h) tt,
   );
-  own = λ b q item o. (arrivals.own b q item o, λ m.
-      let h : has_mark mark None ≡ true = subst (λ w. has_mark mark w ≡ true) o.0 m in cc);
+  own = λ b q item o. (
+    arrivals.own b q item o,
+    λ m.
+        let h : has_mark mark None ≡ true = subst (λ w. has_mark mark w ≡ true) o.0 m in cc,
+  );
   relays = λ b r earlier later q item learnt chosen refused moved at follows contains known.
       let x = relays-sent rules plan rec shape entry mark rooted followed b r earlier later q item learnt chosen
       refused moved at follows contains known in

@@ -17,10 +17,11 @@ use Rattle.pb_lan.specs.declared.step.Outcome.{Outcome}
 use Rattle.pb_lan.specs.declared.step.Place.TheVariants.{Bridge}
 use Rattle.pb_lan.specs.declared.step.Step.{Step}
 use Rattle.pb_lan.specs.declared.step.Step.TheVariants.{Receive, Transmit}
+use Rattle.pb_link.proofs.HandLemmas.{flat_map-more}
 use Rattle.pb_net.specs.Nets.{IsKept}
 use Rattle.pb_net.specs.Slots.{IsSlot, bridge_of, port_of, items_at}
 use Rattle.pb_net.proofs.Keeping.{after_bridge, one_slot}
-use Rattle.pb_net.proofs.OneMore.{flat_map-more, flat_map-none, same_or_not, items_at-set_other, moved_on, moved_in}
+use Rattle.pb_net.proofs.OneMore.{flat_map-none, same_or_not, items_at-set_other, moved_on, moved_in}
 
 -- at the port, or at another
 at_port : (at port : ℕ) (items : List Item) → at ≡ port → (if at == port then items else []) ≡ items

@@ -1,8 +1,8 @@
 -- Whether an event is due, told from what the network keeps.
-use Rattle.std.proofs.Common.{◌≡◌, ℕ, ◌+◌, ◌<◌, ◌≤◌, inl, inr, Bool, true, false, not, ◌||◌, ◌&&◌, ◌==◌, nat_le, List}
+use Rattle.std.proofs.Common.{◌≡◌, ℕ, ◌+◌, ◌<◌, Bool, true, false, not, ◌||◌, ◌&&◌, ◌==◌, nat_le, List}
 use Rattle.std.proofs.Common.{◌++◌, Some, None, Ok, Err, map, length, get_or, sym, ap, ap₂, subst, ◌∙◌, arith}
 use Rattle.std.proofs.Common.{length-append, Global, is_some, ne_eqb}
-use Rattle.std.proofs.lemmas.Bool.Decides.{leb_tells, nat_tests}
+use Rattle.std.proofs.lemmas.Bool.Decides.{nat_tests}
 use Rattle.std.specs.declared.collections.VecDeque.{VecDeque}
 use Rattle.std.specs.declared.option.Option.{Option}
 use Rattle.std.specs.declared.result.Result.{Result}
@@ -39,21 +39,9 @@ use Rattle.pb_net.proofs.KnownSpots.{inbox_at, outbox_at}
 use Rattle.pb_net.proofs.Meetings.{sent_to-customer, fetched_from-customer, sent_to-lane, fetched_from-lane}
 use Rattle.pb_net.proofs.OneMore.{items_at-here}
 
--- two comparisons that hold together
-same_le : (a b c d : ℕ) → (a ≤ b → c ≤ d) → (c ≤ d → a ≤ b) → nat_le a b ≡ nat_le c d
-same_le a b c d there back =
-    elim (leb_tells a b) [
-      | inl l ↦ elim (leb_tells c d) [
-        | inl r ↦ l.0 ∙ sym r.0
-        | inr r ↦ let k = there l.1 in
-            absurd (omega (arith, k, r.1))
-      ]
-      | inr l ↦ elim (leb_tells c d) [
-        | inl r ↦ let k = back r.1 in absurd (omega (arith, k, l.1))
-        | inr r ↦ l.0
-            ∙ sym r.0
-      ]
-    ]
+-- the same added to both sides
+le_shifted : (a b c : ℕ) → nat_le (a + b) (a + c) ≡ nat_le b c
+le_shifted a b c = grind (arith, nat_tests)
 
 -- nothing is there
 none_there : (n : ℕ) → nat_le n 0 ≡ (n == 0)
@@ -65,14 +53,15 @@ ring_full_is : (plan : Plan) (sent got left box : List Item) (ring : ℕ) → go
     → is_ring_full plan sent got ≡ nat_le ring (length box)
 ring_full_is plan sent got left box ring e here places =
     let n : length sent ≡ length got + length left = sym (ap length e) ∙ length-append got left in
-    same_le (length got + plan.ring) (length sent) plan.ring (length left) (λ h. omega arith) (λ h. omega arith)
+    ap (nat_le (length got + plan.ring)) n ∙ le_shifted (length got) plan.ring (length left)
     ∙ ap₂ nat_le (sym places) (ap length here)
 
 all_fetched_is : (sent got left box : List Item) → got ++ left ≡ sent → left ≡ box
     → is_all_fetched sent got ≡ (length box == 0)
 all_fetched_is sent got left box e here =
     let n : length sent ≡ length got + length left = sym (ap length e) ∙ length-append got left in
-    same_le (length sent) (length got) (length left) 0 (λ h. omega arith) (λ h. omega arith)
+    let all : length got ≡ length got + 0 = omega arith in
+    ap₂ nat_le n all ∙ le_shifted (length got) (length left) 0
     ∙ ap (λ (z : List Item). nat_le (length z) 0) here ∙ none_there (length box)
 
 -- what was sifted is due, where the tests are those of the event
@@ -105,15 +94,18 @@ pub due_here : {net : NetView} {event : Event} (s : Inside) → shown s ≡ net 
 due_here {event = event} s view due = subst (λ (v : NetView). IsDue v event) (sym view) due
 
 -- an event of a place that stands at a spot is due, where the tests are those of the event
-pub due_is : {X : Type 0} {s : Inside} {steps : X → List Step} {places : List X} {number : ℕ} {IsSpot : Spot → Type 0}
+pub due_is : {X : Type 0} {net : NetView} {s : Inside} {steps : X → List Step} {places : List X} {number : ℕ}
+    {IsSpot : Spot → Type 0}
     {spot : Spot} {x : X} {idle : Bool}
     → StandsAt s steps places number IsSpot spot x → (event : Event) (result : Result (Option Spot) NetFault)
-    → names_something s.plan event ≡ true → is_idle s.plan (rec_in s) event ≡ idle
+    → shown s ≡ net → names_something net.plan event ≡ true → is_idle s.plan (rec_in s) event ≡ idle
     → is_at_limit s.plan (rec_in s) event ≡ (length (steps_of (map steps places) number) == s.plan.steps)
-    → IsSifted idle (length (steps x) == s.limit) spot result → IsDueOr (shown s) event result
-due_is {s = s} {steps = steps} {spot = spot} {x = x} {idle = idle} at event result named idle_so limit_so sift =
+    → IsSifted idle (length (steps x) == s.limit) spot result → IsDueOr net event result
+due_is {s = s} {steps = steps} {spot = spot} {x = x} {idle = idle} at event result view named idle_so limit_so sift =
     let limit = ap₂ (λ (ms : List Step) n. length ms == n) at.mine (sym at.keeps.4.steps) in
-    sifted (shown s) event idle (length (steps x) == s.limit) spot result named idle_so (limit_so ∙ limit) sift
+    let here = subst (λ (v : NetView). names_something v.plan event ≡ true) (sym view) named in
+    subst (λ (v : NetView). IsDueOr v event result) view
+    (sifted (shown s) event idle (length (steps x) == s.limit) spot result here idle_so (limit_so ∙ limit) sift)
 
 -- a Poll
 pub idle_poll_is : {s : Inside} {port : ℕ} {spot : Spot} {p : PlaceView} → CustomerAt s port spot p → (frame : List ℕ)

@@ -17,12 +17,13 @@ use Rattle.pb_lan.specs.declared.step.Item.{Item}
 use Rattle.pb_lan.specs.declared.step.Place.TheVariants.{Lane}
 use Rattle.pb_lan.specs.declared.step.Step.{Step}
 use Rattle.pb_lan.specs.declared.step.Step.TheVariants.{Take, Put}
+use Rattle.pb_link.proofs.HandLemmas.{flat_map-more}
 use Rattle.pb_net.specs.Nets.{IsKept}
 use Rattle.pb_net.specs.Slots.{IsSlot, link_of, losses_of}
 use Rattle.pb_net.proofs.Keeping.{after_lane}
 use Rattle.pb_net.proofs.Lanes.{lane_to-back, lane_from-back}
 use Rattle.pb_net.proofs.Meetings.{sent_to-lane, fetched_from-lane, sent_to-same, fetched_from-same}
-use Rattle.pb_net.proofs.OneMore.{flat_map-more, flat_map-none, one_more-kept, steps_of-set_same, steps_of-set_other}
+use Rattle.pb_net.proofs.OneMore.{flat_map-none, one_more-kept, steps_of-set_same, steps_of-set_other}
 use Rattle.pb_net.proofs.PortMoves.{sends-nothing, fetches-nothing, sends-one, fetches-one}
 
 abbrev items_in : List Taken → List Item

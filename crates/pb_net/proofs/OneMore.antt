@@ -7,13 +7,13 @@ use Rattle.std.proofs.lemmas.Bool.{cases_eq}
 use Rattle.std.proofs.lemmas.List.{map-set}
 use Rattle.std.proofs.lemmas.Option.{slice_get-get_or, slice_get_within, get_or_from_slice_get}
 use Rattle.std.proofs.lemmas.Option.{slice_get-map as mapped}
-use Rattle.std.proofs.lemmas.Grind.{flat_map-append}
 use Rattle.std.specs.List.{flat_map}
 use Rattle.std.specs.Option.{option_map}
 use Rattle.pb_lan.specs.Events.{one_more}
 use Rattle.pb_lan.specs.Records.{steps_of}
 use Rattle.pb_lan.specs.declared.step.Item.{Item}
 use Rattle.pb_lan.specs.declared.step.Step.{Step}
+use Rattle.pb_link.proofs.HandLemmas.{flat_map-more}
 use Rattle.pb_net.specs.Slots.{items_at}
 
 -- two numbers are one or not
@@ -99,12 +99,7 @@ pub map-set_kept : {X Y : Type 0} (f : X → Y) (xs : List X) (r : ℕ) (old new
 map-set_kept f xs r old new here same = map-set_same f xs r new old
     (same ∙ ap f (sym (get_or_from_slice_get xs r old old here)))
 
--- what a list of steps gives, with one step more
-pub flat_map-more : {X : Type 0} (f : Step → List X) (steps : List Step) (step : Step)
-    → flat_map f (steps ++ step ∷ []) ≡ flat_map f steps ++ f step
-flat_map-more f steps step = flat_map-append f steps (step ∷ [])
-    ∙ ap (λ z. flat_map f steps ++ z) (append-nil (f step))
-
+-- what a list of steps gives, with a step more that adds nothing
 pub flat_map-none : {X : Type 0} (f : Step → List X) (step : Step) → f step ≡ [] → (steps : List Step)
     → flat_map f (steps ++ step ∷ []) ≡ flat_map f steps
 flat_map-none f step e steps = flat_map-more f steps step ∙ ap (λ z. flat_map f steps ++ z) e

@@ -14,12 +14,13 @@ use Rattle.pb_lan.specs.declared.step.Item.{Item}
 use Rattle.pb_lan.specs.declared.step.Place.TheVariants.{Customer}
 use Rattle.pb_lan.specs.declared.step.Step.{Step}
 use Rattle.pb_lan.specs.declared.step.Step.TheVariants.{Poll, Feed, Deliver}
+use Rattle.pb_link.proofs.HandLemmas.{flat_map-more}
 use Rattle.pb_net.specs.Nets.{IsKept}
 use Rattle.pb_net.specs.Slots.{IsSlot, MeetsSlot, bridge_of, port_of, items_at}
 use Rattle.pb_net.proofs.Keeping.{after_port, one_slot, Sends, Fetches}
 use Rattle.pb_net.proofs.Meetings.{sent_to-customer, fetched_from-customer, sent_to-same, fetched_from-same}
 use Rattle.pb_net.proofs.Meetings.{elsewhere}
-use Rattle.pb_net.proofs.OneMore.{flat_map-more, flat_map-none, same_or_not, items_at-set_other, steps_of-set_same}
+use Rattle.pb_net.proofs.OneMore.{flat_map-none, same_or_not, items_at-set_other, steps_of-set_same}
 use Rattle.pb_net.proofs.OneMore.{one_more-kept, moved_on, moved_in}
 
 -- nothing sent, and nothing fetched
