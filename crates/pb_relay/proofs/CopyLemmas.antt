@@ -154,6 +154,21 @@ pub answered-count : (from to : BacklogView) (place class : ℕ) (item : Item) (
 answered-count from to place class item word h =
     ap length (answered-copy from to place class item word h) ∙ length-set _ _ _
 
+-- a port that has not been tried has what it had
+uncopied : (capacity class : ℕ) (item_at : ℕ → Item) (old : List (List (List Item))) (done : List ℕ)
+    (rs : List (ℕ × NoRoom)) (new : List (List (List Item))) (p : ℕ)
+    → AreCopied capacity class item_at old done rs new → AllByRecursion (IsOther p) done → (1 ≤ p) × (p ≤ 16)
+    → get_or new (p - 1) [] ≡ get_or old (p - 1) []
+uncopied capacity class item_at old done rs new p h a l =
+    let l0 : 1 ≤ p = l.0 in
+    let l1 : p ≤ 16 = l.1 in
+    let s : p - 1 + 1 ≡ p = omega arith in
+    let none : list_any (λ x. x == p - 1 + 1) done ≡ false =
+    subst (λ (k : ℕ). list_any (λ x. x == k) done ≡ false) (sym s) (others-none p done a) in
+    h.copies (p - 1) (omega arith)
+    ∙ ap (λ b. cond (b && not (is_refused rs (p - 1 + 1)))
+    (put_in class (item_at (p - 1 + 1)) (get_or old (p - 1) [])) (get_or old (p - 1) [])) none
+
 -- one port more
 copied_at : (capacity class : ℕ) (item_at : ℕ → Item) (old : List (List (List Item))) (done : List ℕ)
     (rs : List (ℕ × NoRoom)) (new : List (List (List Item))) (p : ℕ) (word : Option NoRoom)
@@ -172,22 +187,13 @@ copied_at capacity class item_at old done rs new p word h a l n full = record {
     after = with_answer class (item_at p) word (get_or new (p - 1) [])
 
     same : get_or new (p - 1) [] ≡ get_or old (p - 1) []
-    same =
-        let l0 : 1 ≤ p = l.0 in
-        let l1 : p ≤ 16 = l.1 in
-        let s : p - 1 + 1 ≡ p = omega arith in
-        let none : list_any (λ x. x == p - 1 + 1) done ≡ false =
-        subst (λ (k : ℕ). list_any (λ x. x == k) done ≡ false) (sym s) (others-none p done a) in
-        h.copies (p - 1) (omega arith)
-        ∙ ap (λ b. cond (b && not (is_refused rs (p - 1 + 1)))
-        (put_in class (item_at (p - 1 + 1)) (get_or old (p - 1) [])) (get_or old (p - 1) [])) none
+    same = uncopied capacity class item_at old done rs new p h a l
 
     here : (r : ℕ) → r < 16 → r + 1 ≡ p
         → get_or (set new (p - 1) after) r [] ≡ with_copy class item_at (done ++ p ∷ []) (rs ++ named p word) p
         (get_or old r [])
     here r b f =
         let d : p - 1 ≡ r = omega arith in
-        let s : r ≡ p - 1 = sym d in
         let own = refused-own p word rs (none_refused p done rs h.refusals.0 a) in
         let any : list_any (λ x. x == p) (done ++ p ∷ []) ≡ true =
         list_any-append (λ x. x == p) done (p ∷ []) ∙ ap (λ b. b || ((p == p) || false)) (others-none p done a)

@@ -1,6 +1,6 @@
 -- A port that is set up or down.
-use Rattle.std.proofs.Common.{if◌then◌else◌, ◌≡◌, ℕ, ◌+◌, ◌-◌, ◌≤◌, Bool, true, false, cond, not, List, [], get_or}
-use Rattle.std.proofs.Common.{◌∷◌, ◌++◌, map, set, refl, sym, ap, ◌∙◌, subst, arith}
+use Rattle.std.proofs.Common.{if◌then◌else◌, ◌≡◌, ℕ, ◌-◌, ◌≤◌, Bool, true, false, cond, not, List, [], get_or, ◌∷◌}
+use Rattle.std.proofs.Common.{◌++◌, map, set, refl, sym, ap, ◌∙◌, subst, arith}
 use Rattle.std.specs.List.{AllByRecursion, filter}
 use Rattle.std.proofs.lemmas.List.{set-get_or}
 use Rattle.pb_frame.specs.Stations.{is_fresh}

@@ -1,4 +1,4 @@
-use Rattle.std.proofs.Common.{◌≤◌, false, arith, ap, ◌∙◌}
+use Rattle.std.proofs.Common.{◌≤◌, arith, ap, ◌∙◌}
 use Rattle.pb_lan.specs.Ports.{port_at, is_provider}
 use Rattle.pb_relay.specs.Kinds.{is_bridge_told}
 use Rattle.pb_relay.specs.Standing.{BridgeView}
