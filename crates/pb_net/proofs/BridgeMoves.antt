@@ -53,8 +53,7 @@ after_receive plan rec ins outs r s port item learnt outcome moved inbox kept wi
           (at_port port (port_of t) (item ∷ []) (sym (ap port_of here ∙ at.of_port)))) w
       | inr ne ↦
           ap (λ z. received (port_of t) (steps ++ step ∷ []) ++ z) (items_at-set_other ins s t inbox ne)
-          ∙ ap (λ z. z ++ items_at ins t)
-          (flat_map-none (received_by (port_of t)) step
+          ∙ ap (λ z. z ++ items_at ins t) (flat_map-none (received_by (port_of t)) step
           (elsewhere port (port_of t) (item ∷ []) (λ p. ne (one_slot plan (suc r) port s t at e (sym p)))) steps) ∙ w
     ])
     (λ t e front w. w ∙ sym (flat_map-none (transmitted_by (port_of t)) step refl steps))

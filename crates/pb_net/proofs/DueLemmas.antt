@@ -95,8 +95,7 @@ due_here {event = event} s view due = subst (λ (v : NetView). IsDue v event) (s
 
 -- an event of a place that stands at a spot is due, where the tests are those of the event
 pub due_is : {X : Type 0} {net : NetView} {s : Inside} {steps : X → List Step} {places : List X} {number : ℕ}
-    {IsSpot : Spot → Type 0}
-    {spot : Spot} {x : X} {idle : Bool}
+    {IsSpot : Spot → Type 0} {spot : Spot} {x : X} {idle : Bool}
     → StandsAt s steps places number IsSpot spot x → (event : Event) (result : Result (Option Spot) NetFault)
     → shown s ≡ net → names_something net.plan event ≡ true → is_idle s.plan (rec_in s) event ≡ idle
     → is_at_limit s.plan (rec_in s) event ≡ (length (steps_of (map steps places) number) == s.plan.steps)

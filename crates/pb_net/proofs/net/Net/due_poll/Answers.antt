@@ -9,5 +9,4 @@ returns-clause-due c =
     let at = customer_at c.self.inside c.self.invariant c.self.view_is c.in-Some.ensures.some
     c.index-customer.ensures in
     due_is at (Poll c.args.port []) c.sift.result c.self.view_is (ap is_some c.in-Some.ensures.some.slot.planned)
-    (idle_poll_is at []) refl
-    (rw (c.step_count.ensures, c.is_hand_empty-is_idle.ensures) at c.sift.ensures)
+    (idle_poll_is at []) refl (rw (c.step_count.ensures, c.is_hand_empty-is_idle.ensures) at c.sift.ensures)

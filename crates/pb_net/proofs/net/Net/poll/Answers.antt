@@ -1,11 +1,12 @@
 use Rattle.std.proofs.Common.{sym, ◌∙◌}
+use Rattle.std.proofs.lemmas.Bool.{not-false}
 use Rattle.std.proofs.lemmas.Result.{err_from_is_err_and}
 use Rattle.pb_lan.specs.declared.event.Event.TheVariants.{Poll}
 use Rattle.pb_link.specs.Hands.{arrival}
 use Rattle.pb_net.specs.Answers.{IsDue}
 use Rattle.pb_net.proofs.KnownSpots.{CustomerAt, customer_at, shown}
 use Rattle.pb_net.proofs.DueLemmas.{due_here, idle_poll_is}
-use Rattle.pb_net.proofs.Done.{not_false, with_frame, customer_failed, poll_done, answers_memory, answers_done}
+use Rattle.pb_net.proofs.Done.{with_frame, customer_failed, poll_done, answers_memory, answers_done}
 use Rattle.pb_net.proofs.net.Net.poll.Goals as goal
 use Rattle.pb_net.proofs.net.Net.poll.Goals.{After-index_mut}
 
@@ -20,7 +21,7 @@ due c = due_here c.self.inside c.self.view_is
 
 pub poll_at-requires : goal.poll_at-requires
 poll_at-requires c = let h = (goal.at.poll_at-requires c).After-index_mut in
-    not_false _ (sym (idle_poll_is (at h) c.args.frame) ∙ (due h).busy)
+    not-false _ (sym (idle_poll_is (at h) c.args.frame) ∙ (due h).busy)
 
 pub invariant_of-self : goal.invariant_of-self
 invariant_of-self c =

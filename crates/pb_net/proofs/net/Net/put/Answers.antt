@@ -46,5 +46,4 @@ returns c =
     let h = (goal.at.returns c).After-index_mut-2 in
     let e = c.in_ok-put_at.ensures in
     answers_done c.self.inside (Put c.args.lane) c.self.view_is (due h)
-    (put_done c.put_at.new.lane c.put_at.new.inbox (at h)
-    c.index_mut-2.ensures.value e.losses e.kept e.lawful e.ok).1
+    (put_done c.put_at.new.lane c.put_at.new.inbox (at h) c.index_mut-2.ensures.value e.losses e.kept e.lawful e.ok).1

@@ -33,8 +33,7 @@ returns-in_err-receive_at c =
     let e = c.in_err-receive_at.ensures in
     answers_fault (Receive c.args.bridge c.args.port) c.in_err-receive_at.field-0.0 (at h) c.self.view_is
     (bridge_failed c.receive_at.new.bridge (at h) e.plan e.number e.kept e.err).1 (due h).named (due h).busy refl
-    e.limit
-    (err_from_is_err_and _ c.from_residual-in_err-receive_at.ensures.1)
+    e.limit (err_from_is_err_and _ c.from_residual-in_err-receive_at.ensures.1)
 
 pub invariant_of-self-2 : goal.invariant_of-self-2
 invariant_of-self-2 c =
