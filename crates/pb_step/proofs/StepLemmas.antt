@@ -141,7 +141,8 @@ steps_end limit n plan (Some octets) (Some rest) before now held net p none =
     )
 
 -- the answers to the first lines are what a fault leaves
-steps_left : (fault : CommandFault) (limit n : ℕ) (plan : Plan) (octets held rest : List ℕ) (before now : Option (List ℕ))
+steps_left : (fault : CommandFault) (limit n : ℕ) (plan : Plan) (octets held rest : List ℕ)
+    (before now : Option (List ℕ))
     (net : NetView)
     → StepsProgress limit n plan (Some octets) held (Some rest) before now net
     → ((back : List (List ℕ)) → cut_lines limit (held ++ rest) ≡ map (λ line. take (limit + 1) line) back
