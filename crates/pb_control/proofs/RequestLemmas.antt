@@ -3,7 +3,7 @@ use Rattle.std.proofs.Common.{◌≡◌, ◌≢◌, ℕ, Bool, List, [], codes, 
 use Rattle.std.proofs.Common.{ap, subst, ◌∙◌}
 use Rattle.pb_lan.specs.declared.plan.Plan.{Plan}
 use Rattle.pb_script.specs.Lines.{IsBridgePort}
-use Rattle.pb_script.specs.Words.{cut}
+use Rattle.pb_said.specs.Words.{cut}
 use Rattle.pb_control.specs.Requests.{way_word, AsksToSet, Asks, Reads}
 use Rattle.pb_control.specs.declared.request.Request.{Request}
 use Rattle.pb_control.specs.declared.request.Request.TheVariants.{Stop, Counts, Tree, Set}

@@ -3,7 +3,7 @@ use Rattle.std.specs.Prelude.{◌≡◌, ℕ, Bool, true, false, List, Some, Res
 use Rattle.pb_lan.specs.Ports.{port_at, is_provider}
 use Rattle.pb_lan.specs.declared.plan.Plan.{Plan}
 use Rattle.pb_script.specs.Lines.{IsBridgePort}
-use Rattle.pb_script.specs.Words.{cut}
+use Rattle.pb_said.specs.Words.{cut}
 use Rattle.pb_control.specs.declared.request.Request.{Request}
 use Rattle.pb_control.specs.declared.request.Request.TheVariants.{Stop, Counts, Tree, Set}
 use Rattle.pb_control.specs.declared.request.Refused.{Refused}

@@ -1,59 +1,12 @@
 //! Octets that come in pieces, and the lines in them.
 
-ghost use Rattle.std.specs.Prelude.{◌≡◌, ◌≢◌, ◌+◌, ◌-◌, ◌<◌, ◌≤◌, ◌^◌, ◌++◌, ◌∷◌, ℕ, List, [], length, take, drop, slice_index, vec_len, IfOk, IfSome, IfNone, OnOk, OnErr};
-ghost use Rattle.pb_lines.specs.Lines.{cut_lines, HasNoLf};
+ghost use Rattle.std.specs.Prelude.{◌≡◌, ◌+◌, ◌<◌, ◌≤◌, ◌^◌, ◌++◌, [], vec_len, IfOk, IfSome, IfNone, OnOk, OnErr};
+ghost use Rattle.pb_lines.specs.Lines.{HasNoLf};
 
-use memchr::memchr;
 use pb_frame::Memory;
+use pb_lines::take_part;
 use std::alloc::Global;
 use std::mem;
-
-/// The index of the first LF.
-fn find_lf(octets: &[u8]) -> Option<usize>
-    ensures found { IfSome result (λ i. (i < length octets.now) × (slice_index octets.now i ≡ 10)) }
-    ensures before { IfSome result (λ i. (k : ℕ) → k < i → slice_index octets.now k ≢ 10) }
-    ensures none { IfNone result (HasNoLf octets.now) }
-{
-    memchr(b'\n', octets)
-}
-
-/// Puts as much of the octets behind the line as one more than the limit lets in.
-fn extend(line: &mut Vec<u8>, octets: &[u8], limit: usize) -> Result<(), Memory>
-    requires room { limit < 2 ^ 32 }
-    requires short { vec_len line.old ≤ limit + 1 }
-    ensures ok { OnOk result (line.new.items ≡ take (limit + 1) (line.old.items ++ octets.now)) }
-    ensures err { OnErr result (line.new.items ≡ line.old.items) }
-{
-    let room = limit + 1 - line.len();
-    line.extend_from_slice(&octets[..room.min(octets.len())])?;
-    Ok(())
-}
-
-/// Takes the front of the octets up to the first LF, or all, into the line, and gives the LF's index.
-fn take_part(line: &mut Vec<u8>, part: &[u8], limit: usize) -> Result<Option<usize>, Memory>
-    requires room { limit < 2 ^ 32 }
-    requires short { vec_len line.old ≤ limit + 1 }
-    requires unended { HasNoLf line.old.items }
-    ensures within { IfOk result (λ found. IfSome found (λ i. i < length part.now)) }
-    ensures found { IfOk result (λ found. IfSome found (λ i. (more : List ℕ) →
-        cut_lines limit (line.old.items ++ part.now ++ more) ≡ line.new.items ∷ cut_lines limit (drop (i + 1) part.now ++ more))) }
-    ensures none { IfOk result (λ found. IfNone found ((more : List ℕ) →
-        cut_lines limit (line.old.items ++ part.now ++ more) ≡ cut_lines limit (line.new.items ++ more))) }
-    ensures unended { IfOk result (λ found. IfNone found (HasNoLf line.new.items)) }
-    ensures short { IfOk result (λ found. vec_len line.new ≤ limit + 1) }
-    ensures err { OnErr result (line.new.items ≡ line.old.items) }
-{
-    match find_lf(part) {
-        Some(place) => {
-            extend(line, &part[..place], limit)?;
-            Ok(Some(place))
-        }
-        None => {
-            extend(line, part, limit)?;
-            Ok(None)
-        }
-    }
-}
 
 /// Octets that came in pieces, cut into lines at each LF.
 ///

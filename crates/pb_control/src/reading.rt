@@ -1,44 +1,15 @@
 //! Reads what a line asks for.
 
 ghost use Rattle.std.specs.Prelude.{◌≡◌, ◌≢◌, ℕ, Bool, IfSome, IfNone, codes};
-ghost use Rattle.std.specs.List.{list_all};
 ghost use Rattle.pb_control.specs.Sizes.{IsFew};
 ghost use Rattle.pb_lan.specs.declared.plan.Plan.{Plan};
 ghost use Rattle.pb_script.specs.Lines.{IsBridgePort};
-ghost use Rattle.pb_script.specs.Words.{is_name_letter, is_name, local_port};
 ghost use Rattle.pb_control.specs.Requests.{way_word, AsksToSet, Reads};
 
 use crate::places::{bridge_named, leads_on};
 use crate::request::{Refused, Request};
-use pb_lan::Plan;
-use pb_script::{cut, read_port};
-
-fn is_name_letter(octet: u8) -> bool
-    ensures { result ≡ is_name_letter octet }
-{
-    matches!(octet, b'a'..=b'z' | b'A'..=b'Z' | b'0'..=b'9' | b'-' | b'_')
-}
-
-fn are_name_letters(word: &[u8]) -> bool
-    ensures { result ≡ list_all is_name_letter word.now }
-{
-    word.iter().all(|octet| is_name_letter(*octet))
-}
-
-/// Whether a word is a name: 1 to 32 letters, digits, hyphens and underscores.
-fn is_name(word: &[u8]) -> bool
-    ensures { result ≡ is_name word.now }
-{
-    let letters = are_name_letters(word);
-    1 <= word.len() && word.len() <= 32 && letters
-}
-
-/// A bridge's local port; a number above its sixteen names none, as 0 does.
-fn local_port(number: u16) -> u8
-    ensures { result ≡ local_port number }
-{
-    if number <= 16 { number as u8 } else { 0 }
-}
+use pb_lan::{Plan, is_name};
+use pb_said::{cut, local_port, read_port};
 
 /// The bridge and its local port, of the words `BRIDGE PORT`. What the plan lacks is 0.
 fn read_bridge_port(plan: &Plan, words: &[u8]) -> Option<(u8, u8)>

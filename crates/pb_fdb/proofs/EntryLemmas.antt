@@ -1,8 +1,8 @@
 -- Lists of entries, and the sightings that they tell.
-use Rattle.std.proofs.Common.{◌==◌, ◌&&◌, eq-eqb, nat_le, ◌≡◌, ℕ, suc, ◌<◌, ◌≤◌, Bool, true, false, cond, not, List}
+use Rattle.std.proofs.Common.{inl, inr, ◌==◌, ◌&&◌, nat_le, ◌≡◌, ℕ, suc, ◌<◌, ◌≤◌, Bool, true, false, cond, not, List}
 use Rattle.std.proofs.Common.{[], ◌∷◌, ◌++◌, length, refl, sym, ap, ◌∙◌, arith}
 use Rattle.std.proofs.lemmas.List.{length-map, map-append}
-use Rattle.std.proofs.lemmas.Bool.{eqb-true}
+use Rattle.std.proofs.lemmas.Bool.{cases_eq, ne_eqb, eq-eqb}
 use Rattle.std.specs.List.{filter}
 use Rattle.pb_frame.specs.Admission.{same}
 use Rattle.pb_frame.specs.Stations.{Sighting, is_fresh, is_sighted, overrides, after}
@@ -33,14 +33,10 @@ filter-map-length p es = ap length (filter-map p es) ∙ length-map (filter (λ 
 
 -- equality of numbers goes both ways
 pub eqb-symm : (a b : ℕ) → (a == b) ≡ (b == a)
-eqb-symm a b =
-    elim (a == b) as (λ t. (a == b) ≡ t → t ≡ (b == a)) [
-      | true ↦ λ e. sym (eq-eqb b a (sym (eqb-true a b e)))
-      | false ↦ λ e. elim (b == a) as (λ u. (b == a) ≡ u → false ≡ u) [
-        | true ↦ λ f. sym e ∙ eq-eqb a b (sym (eqb-true b a f))
-        | false ↦ λ f. refl
-      ] refl
-    ] refl
+eqb-symm a b = elim (cases_eq a b) [
+  | inl e ↦ eq-eqb a b e ∙ sym (eq-eqb b a (sym e))
+  | inr n ↦ ne_eqb a b n ∙ sym (ne_eqb b a (λ e. n (sym e)))
+]
 
 -- and so does that of texts
 pub same-symm : (a b : List ℕ) → same a b ≡ same b a

@@ -1,6 +1,7 @@
 -- What a table keeps and is live is what stands, by all the news.
 use Rattle.std.proofs.Common.{◌≡◌, ℕ, ◌-◌, ◌<◌, ◌≤◌, Bool, true, false, cond, nat_lt, nat_le, not, ◌&&◌, List, []}
 use Rattle.std.proofs.Common.{◌∷◌, ◌++◌, length, refl, sym, ap, ◌∙◌, append_assoc, append-nil, arith}
+use Rattle.std.proofs.Math.Bool.{and_comm}
 use Rattle.std.proofs.lemmas.Bool.Decides.{nat_tests}
 use Rattle.std.specs.List.{filter}
 use Rattle.pb_frame.proofs.Lists.{filter-append, filter-twice}
@@ -12,18 +13,10 @@ use Rattle.pb_fdb.specs.Laws.{Deed, news_of, done, IsInTime, Leads, TellsWhatSta
 use Rattle.pb_fdb.specs.Laws.Deed.{Learns, Flushes, Expires}
 use Rattle.pb_fdb.specs.Tables.{Table, live, with_room}
 
--- two tests, either first
-and-swap : (a b : Bool) → (a && b) ≡ (b && a)
-and-swap true true = refl
-and-swap true false = refl
-and-swap false true = refl
-and-swap false false = refl
-
+-- two tests, one of them twice
 and-twice : (a b : Bool) → (a && (b && a)) ≡ (b && a)
-and-twice true true = refl
-and-twice true false = refl
-and-twice false true = refl
-and-twice false false = refl
+and-twice true b = refl
+and-twice false b = and_comm false b
 
 -- what passes a test after news is told by what passes it before
 passed-after : (p : Sighting → Bool) (table : List Sighting) (n : News)
@@ -68,7 +61,7 @@ fresh_before ageing now later moment h =
     elim (nat_lt (later - moment) ageing) as
     (λ b. nat_lt (later - moment) ageing ≡ b → (nat_lt (now - moment) ageing && b) ≡ b) [
       | true ↦ λ e. let l : now - moment < ageing = less e in grind (arith, nat_tests)
-      | false ↦ λ e. and-swap (nat_lt (now - moment) ageing) false
+      | false ↦ λ e. and_comm (nat_lt (now - moment) ageing) false
     ] refl
   where
     less : nat_lt (later - moment) ageing ≡ true → now - moment < ageing

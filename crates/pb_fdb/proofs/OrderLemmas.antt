@@ -3,6 +3,7 @@ use Rattle.std.proofs.Common.{◌≡◌, ℕ, ◌-◌, ◌<◌, ◌≤◌, ◌&&
 use Rattle.std.proofs.Common.{[], ◌∷◌, ◌++◌, length, drop, slice_get, refl, sym, ap, ◌∙◌, length-append, arith}
 use Rattle.std.proofs.lemmas.Bool.Decides.{nat_tests}
 use Rattle.std.specs.declared.option.Option.{Option}
+use Rattle.std.proofs.Math.Bool.{and_comm}
 use Rattle.std.specs.List.{AllByRecursion, filter}
 use Rattle.std.specs.Option.{option_map, option_to_list}
 use Rattle.pb_frame.proofs.Lists.{All-imply, All-append, Some-injective, filter-append, filter-twice}
@@ -36,11 +37,6 @@ pub InOrder-push : (es : List Entry) (e : Entry) → InOrder es → AllByRecursi
 InOrder-push [] e o a = (tt, tt)
 InOrder-push (f ∷ es) e o a =
     (All-append (λ g. f.learnt ≤ g.learnt) es (e ∷ []) o.0 (a.0, tt), InOrder-push es e o.1 a.1)
-
--- the rest stays in order
-pub InOrder-rest : (es : List Entry) → InOrder es → InOrder (drop 1 es)
-InOrder-rest [] o = tt
-InOrder-rest (e ∷ es) o = o.1
 
 -- a later clock
 pub before-later : (clock now : ℕ) (es : List Entry) → clock ≤ now → AllByRecursion (λ e. e.learnt ≤ clock) es
@@ -98,13 +94,7 @@ oldest-none (e ∷ es) is = cc
 -- two filters, either first
 filter-swap : {X : Type 0} (p q : X → Bool) (xs : List X) → filter p (filter q xs) ≡ filter q (filter p xs)
 filter-swap p q xs = filter-twice p q (λ x. q x && p x) (λ x. refl) xs
-    ∙ sym (filter-twice q p (λ x. q x && p x) (λ x. and-swap (p x) (q x)) xs)
-  where
-    and-swap : (a b : Bool) → (a && b) ≡ (b && a)
-    and-swap true true = refl
-    and-swap true false = refl
-    and-swap false true = refl
-    and-swap false false = refl
+    ∙ sym (filter-twice q p (λ x. q x && p x) (λ x. and_comm (p x) (q x)) xs)
 
 -- old entries may go before or after a new one comes
 pub fresh-replaced : (ageing : ℕ) (es : List Entry) (e : Entry) → 0 < ageing

@@ -14,7 +14,7 @@ use Rattle.pb_flat.specs.Answers.{Answer, blank, frame, bad, Answers}
 use Rattle.pb_flat.specs.Receipts.{Receipt, receipts}
 use Rattle.pb_flat.specs.Switches.{IsFlatPast}
 use Rattle.pb_flat.specs.Words.{IsFrameLine}
-use Rattle.pb_said.proofs.LineLemmas.{whole_line, uncut, Appends-twice, Appends-keeps, Appends-nothing}
+use Rattle.pb_said.proofs.LineLemmas.{whole_line, uncut, parts_of_map, Appends-twice, Appends-keeps, Appends-nothing}
 use Rattle.pb_lines.specs.declared.LineFault.{LineFault}
 use Rattle.pb_lines.specs.declared.LineFault.TheVariants.{Read as line_unread, Memory as line_unheld}
 use Rattle.pb_lan.specs.declared.step.Step.{Step}
@@ -68,22 +68,6 @@ Answers-uncut limit ports n (line ∷ lines) old new text (mid, front, back, fir
       mid new back others,
   e,
 )
-
--- the front of the cut lines is the cut front of the lines
-front_of_map : (n : ℕ) (lines front back : List (List ℕ)) → map (λ line. take n line) lines ≡ front ++ back
-    → (a : List (List ℕ)) × (b : List (List ℕ)) × (lines ≡ a ++ b) × (front ≡ map (λ line. take n line) a)
-front_of_map n lines [] back e = ([], lines, refl, refl)
-front_of_map n [] (f ∷ front) back e = cc
-front_of_map n (l ∷ lines) (f ∷ front) back e =
-    let head : take n l ≡ f = cc in
-    let tail : map (λ line. take n line) lines ≡ front ++ back = cc in
-    let parts = front_of_map n lines front back tail in (
-      l ∷ parts.0,
-      parts.1,
-      ap (λ z. l ∷ z) {y = parts.0 ++ parts.1} parts.2,
-      let same : front ≡ map
-          (λ line. take n line) parts.0 = parts.3 in cc,
-    )
 
 least_taken : (fault : CommandFault) (got : List Receipt) → (fault ≡ Steps → 2 ^ 60 - 1 ≤ length got)
     → least_frames fault ≤ length got
@@ -150,7 +134,7 @@ pub has_begun : (fault : CommandFault) (limit ports n : ℕ) (input left before 
 has_begun fault limit ports n None left before now held steps past p many = tt
 has_begun fault limit ports n (Some octets) None before now held steps past p many = absurd p
 has_begun fault limit ports n (Some octets) (Some rest) before now held steps past p many =
-    let parts = front_of_map (limit + 1) (lines_of octets) p.front (cut_lines limit (held ++ rest)) p.lines in (
+    let parts = parts_of_map (limit + 1) (lines_of octets) p.front (cut_lines limit (held ++ rest)) p.lines in (
       p.text,
       p.written,
       (

@@ -8,7 +8,8 @@ use Rattle.std.proofs.lemmas.Bool.{and_parts}
 use Rattle.std.proofs.lemmas.Slice.Eq.{starts_is}
 use Rattle.std.proofs.lemmas.Bool.Decides.{Decides-eqb}
 use Rattle.pb_frame.specs.Hex.{IsHex, is_digit}
-use Rattle.pb_flat.specs.Words.{is_first, is_decimal, port_of, HasNoSpace, IsFrameLine}
+use Rattle.pb_said.specs.Words.{is_first, is_decimal, port_of, HasNoSpace}
+use Rattle.pb_flat.specs.Words.{IsFrameLine}
 
 first_not_space : (a : ℕ) → is_first a ≡ true → a ≢ 32
 first_not_space a h = λ e. let low : 49 ≤ a = leb-true 49 a (and_parts (leb 49 a) (leb a 57) h).0 in absurd
@@ -63,26 +64,6 @@ split_unique (d ∷ a) (c ∷ b) x y na nb e =
     let tail : a ++ 32 ∷ x ≡ b ++ 32 ∷ y = cc in
     let rest = split_unique a b x y (λ k h. na (suc k) (omega arith)) (λ k h. nb (suc k) (omega arith)) tail in
     (let same : a ≡ b = rest.0 in cc, rest.1)
-
--- the text of octets is digits, and an even number of them
-pub IsHex-digits : (hex frame : List ℕ) → IsHex hex frame → list_all is_digit hex ≡ true
-IsHex-digits [] [] h = refl
-IsHex-digits [] (b ∷ frame) h = absurd h
-IsHex-digits (x ∷ []) [] h = absurd h
-IsHex-digits (x ∷ []) (b ∷ frame) h = absurd h
-IsHex-digits (x ∷ y ∷ hex) [] h = absurd h
-IsHex-digits (x ∷ y ∷ hex) (b ∷ frame) h =
-    let one : is_digit x ≡ true = ap is_some h.0.0 in
-    let two : is_digit y ≡ true = ap is_some h.0.1 in
-    rw (one, two) (IsHex-digits hex frame h.1)
-
-pub IsHex-length : (hex frame : List ℕ) → IsHex hex frame → length hex ≡ 2 * length frame
-IsHex-length [] [] h = refl
-IsHex-length [] (b ∷ frame) h = absurd h
-IsHex-length (x ∷ []) [] h = absurd h
-IsHex-length (x ∷ []) (b ∷ frame) h = absurd h
-IsHex-length (x ∷ y ∷ hex) [] h = absurd h
-IsHex-length (x ∷ y ∷ hex) (b ∷ frame) h = let rest = IsHex-length hex frame h.1 in omega arith
 
 -- the parts that are read are the line's parts
 pub same_parts : (limit ports : ℕ) (line digits hex : List ℕ) (port : ℕ) (frame : List ℕ)

@@ -1,11 +1,12 @@
 //! Lines that hand a frame to a port.
 
-ghost use Rattle.std.specs.Prelude.{◌≡◌, ◌+◌, ◌<◌, ◌≤◌, ◌≢◌, ◌^◌, ◌++◌, ◌∷◌, [], ℕ, List, length, take, drop, slice_index, codes, IfOk, IfSome, IfNone};
+ghost use Rattle.std.specs.Prelude.{◌≡◌, ◌≤◌, [], ℕ, List, IfOk, IfSome, IfNone};
 ghost use Rattle.pb_frame.specs.Hex.{IsHex};
-ghost use Rattle.pb_flat.specs.Words.{port_of, HasNoSpace, IsFrameLine};
+ghost use Rattle.pb_flat.specs.Words.{IsFrameLine};
 
 use bytes::{Bytes, BytesMut};
 use pb_frame::{HexFault, Memory, hex_octets_in};
+use pb_said::{cut, read_port};
 
 /// A frame, the port at which it comes in, and the digits that told it.
 #[derive(Drop)]
@@ -13,29 +14,6 @@ pub(crate) struct Handed<'a> {
     pub port: u8,
     pub frame: Bytes,
     pub digits: &'a [u8],
-}
-
-/// What a port's digits say: one to three, the first not 0.
-fn read_port(digits: &[u8]) -> Option<u16>
-    ensures { result ≡ port_of digits.now }
-{
-    match digits {
-        [a @ b'1'..=b'9'] => Some(u16::from(*a - 48)),
-        [a @ b'1'..=b'9', b @ b'0'..=b'9'] => Some(u16::from(*a - 48) * 10 + u16::from(*b - 48)),
-        [a @ b'1'..=b'9', b @ b'0'..=b'9', c @ b'0'..=b'9'] => {
-            Some(u16::from(*a - 48) * 100 + u16::from(*b - 48) * 10 + u16::from(*c - 48))
-        }
-        _ => None,
-    }
-}
-
-/// The parts in front of the first space and behind it.
-fn split_at_space(text: &[u8]) -> Option<(&[u8], &[u8])>
-    ensures some { IfSome result (λ p. (text.now ≡ p.0.now ++ 32 ∷ p.1.now) × HasNoSpace p.0.now) }
-    ensures none { IfNone result (HasNoSpace text.now) }
-{
-    let i = text.iter().position(|b| *b == b' ')?;
-    Some((&text[..i], &text[i + 1..]))
 }
 
 /// Reads the line `in PORT HEX`: one space each, PORT from 1 to `ports` in decimal without leading
@@ -57,7 +35,7 @@ pub(crate) fn read_frame_line<'a>(
     if line.len() > limit || !line.starts_with(b"in ") {
         return Ok(None);
     }
-    let Some((digits, hex)) = split_at_space(&line[3..]) else {
+    let Some((digits, hex)) = cut(&line[3..]) else {
         return Ok(None);
     };
     let Some(port) = read_port(digits) else {

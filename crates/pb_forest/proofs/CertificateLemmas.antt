@@ -1,10 +1,10 @@
 -- The parts of a certificate make it whole.
 use Rattle.std.proofs.Common.{◌≡◌, ◌≢◌, ◌⊎◌, inl, inr, ℕ, zero, suc, ◌+◌, ◌<◌, ◌≤◌, ◌==◌, Some, None, Option, List}
-use Rattle.std.proofs.Common.{slice_get, length, refl, sym, ◌∙◌, ap, subst, Bool, true, false, not, arith, get_or}
+use Rattle.std.proofs.Common.{slice_get, length, refl, sym, ◌∙◌, ap, subst, Bool, true, false, arith, get_or}
 use Rattle.std.proofs.Common.{slice_index_or, slice_set, get_or-set_other, get_or-set_same, below_more, add-one}
 use Rattle.std.proofs.Common.{nat_lt, replicate}
 use Rattle.std.proofs.Math.ListN.{length-set}
-use Rattle.std.proofs.lemmas.Bool.{eqb-true}
+use Rattle.std.proofs.lemmas.Bool.{eqb-true, not-true, not-false}
 use Rattle.std.proofs.lemmas.List.{length-replicate, get_or-replicate, get_or_past}
 use Rattle.std.proofs.lemmas.Option.{slice_get-get_or, slice_get_within}
 use Rattle.pb_lan.proofs.Numbers.{numbered-place}
@@ -40,9 +40,8 @@ pub record MarkedTo (ups : List (Option ℕ)) (n : ℕ) (marks : List Bool) : Ty
 -- two bridges with one way up are one
 one-child : (ups : List (Option ℕ)) → AreApart ups → (x y number : ℕ) → numbered ups x ≡ Some (Some number)
     → numbered ups y ≡ Some (Some number) → x ≡ y
-one-child ups apart zero y number h k = cc
-one-child ups apart (suc x) zero number h k = cc
 one-child ups apart (suc x) (suc y) number h k = ap (λ n. suc n) (apart x y number h k)
+one-child ups apart _ _ number h k = cc
 
 -- the parts make a certificate
 pub shows-parts : (plan : Plan) (shape : Shape) (vid : ℕ) (rooted : Rooted) → length rooted.up ≡ length plan.bridges
@@ -241,12 +240,8 @@ pub marked_next : (ups : List (Option ℕ)) (n : ℕ) (up : Option ℕ) (marks n
 marked_next ups n None marks new fresh at one t m = subst (MarkedTo ups (n + 1)) (sym one.0)
     (marked_root ups n marks at m)
 marked_next ups n (Some k) marks new fresh at one t m =
-    let free : get_or marks k false ≡ false = not_true (get_or marks k false) (sym one.1 ∙ t) in
+    let free : get_or marks k false ≡ false = not-true (get_or marks k false) (sym one.1 ∙ t) in
     subst (MarkedTo ups (n + 1)) (sym one.0) (marked_up ups n k marks at one.2 free m)
-  where
-    not_true : (b : Bool) → not b ≡ true → b ≡ false
-    not_true true h = cc
-    not_true false h = refl
 
 -- a link that was marked
 pub marked_twice : (ups : List (Option ℕ)) (n : ℕ) (up : Option ℕ) (marks new : List Bool) (fresh : Bool)
@@ -254,15 +249,11 @@ pub marked_twice : (ups : List (Option ℕ)) (n : ℕ) (up : Option ℕ) (marks 
     → MarkedTo ups n marks → AreApart ups → ⊥
 marked_twice ups n None marks new fresh at one t m apart = cc
 marked_twice ups n (Some k) marks new fresh at one t m apart =
-    let was : get_or marks k false ≡ true = not_false (get_or marks k false) (sym one.1 ∙ t) in
+    let was : get_or marks k false ≡ true = not-false (get_or marks k false) (sym one.1 ∙ t) in
     let f = m.found k was in
     let e : f.0 ≡ n = apart f.0 n k f.2 at in
     let l = f.1 in
     omega (arith, e, l)
-  where
-    not_false : (b : Bool) → not b ≡ false → b ≡ true
-    not_false true h = refl
-    not_false false h = cc
 
 -- all of them
 pub marked_all : (ups : List (Option ℕ)) (n : ℕ) (marks : List Bool) → length ups ≤ n → MarkedTo ups n marks

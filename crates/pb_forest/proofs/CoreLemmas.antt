@@ -131,9 +131,8 @@ two-down plan shape vid rooted s es links edges of x (Loop k m) =
 
 -- no depth is above the sum of all
 depth-most : (ds : List ℕ) (x : ℕ) → unwrap_or (numbered ds (suc x)) 0 ≤ total (λ d. d) ds
-depth-most [] x = omega arith
-depth-most (d ∷ ds) zero = omega arith
 depth-most (d ∷ ds) (suc x) = let r = depth-most ds x in omega (arith, r)
+depth-most _ _ = omega arith
 
 -- so it cannot go on
 descends : (plan : Plan) (shape : Shape) (vid : ℕ) (rooted : Rooted) → Shows plan shape vid rooted

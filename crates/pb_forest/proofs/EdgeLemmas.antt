@@ -21,9 +21,8 @@ use Rattle.pb_lan.specs.declared.shape.Rooted.{Rooted}
 pub edges-length : (plan : Plan) (shape : Shape) (vid : ℕ) (ls : List LinkPlan) (es : List (Option Ends))
     → AreEdges plan shape vid ls es → length es ≡ length ls
 edges-length plan shape vid [] [] h = refl
-edges-length plan shape vid [] (e ∷ es) h = absurd h
-edges-length plan shape vid (l ∷ ls) [] h = absurd h
 edges-length plan shape vid (l ∷ ls) (e ∷ es) h = ap (λ n. suc n) (edges-length plan shape vid ls es h.1)
+edges-length plan shape vid _ _ h = absurd h
 
 -- what a link joins
 pub edges-at : (plan : Plan) (shape : Shape) (vid : ℕ) (ls : List LinkPlan) (es : List (Option Ends)) (k : ℕ)
@@ -49,9 +48,8 @@ edges-push : (plan : Plan) (shape : Shape) (vid : ℕ) (ls : List LinkPlan) (es 
     (e : Option Ends) → AreEdges plan shape vid ls es → IsEdge plan shape vid l e
     → AreEdges plan shape vid (ls ++ l ∷ []) (es ++ e ∷ [])
 edges-push plan shape vid [] [] l e h g = (g, tt)
-edges-push plan shape vid [] (d ∷ es) l e h g = absurd h
-edges-push plan shape vid (k ∷ ls) [] l e h g = absurd h
 edges-push plan shape vid (k ∷ ls) (d ∷ es) l e h g = (h.0, edges-push plan shape vid ls es l e h.1 g)
+edges-push plan shape vid _ _ l e h g = absurd h
 
 -- one link more
 pub edges-more : (plan : Plan) (shape : Shape) (vid : ℕ) (items : List LinkPlan) (i : ℕ) (es new : List (Option Ends))

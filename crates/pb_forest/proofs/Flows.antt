@@ -2,6 +2,7 @@
 use Rattle.std.proofs.Common.{◌≡◌, ℕ, suc, ◌+◌, Bool, true, false, cond, not, ◌&&◌, ◌==◌, List, [], ◌∷◌, ◌++◌, map}
 use Rattle.std.proofs.Common.{drop, length, unwrap_or, refl, sym, ◌∙◌, ap, subst, arith}
 use Rattle.std.proofs.lemmas.Bool.{eqb-true}
+use Rattle.std.proofs.Math.Seq.{drop-append_seam}
 use Rattle.std.specs.List.{AllByRecursion, count_by, filter, list_any}
 use Rattle.pb_forest.proofs.Sums.{given, total, total-agree, total-none, total-plus, total-same, sum_by-total}
 use Rattle.pb_forest.proofs.Sums.{total-numbered, total_at-swap, total_at-same, total-at, total_at}
@@ -68,8 +69,6 @@ gives _ r = false
 -- of a received item
 copies-one : (plan : Plan) (b r q : ℕ) (item : Item) (outcome : Outcome)
     → count_waiting is_marked (copies plan b q item outcome r) ≡ cond (is_marked item && gets_copy outcome r) 1 0
-copies-one plan b r q item (Filtered reason) = sym (and-false (is_marked item))
-copies-one plan b r q item Heard = sym (and-false (is_marked item))
 copies-one plan b r q item (Relayed chosen refused) = by (list_any (λ p. p == r) chosen && not (is_refused refused r))
   where
     w : Waiting
@@ -82,6 +81,7 @@ copies-one plan b r q item (Relayed chosen refused) = by (list_any (λ p. p == r
     by true = let c = count_by-cons (λ u. is_marked u.item) w [] in let a = and-true (is_marked item) in omega
         (arith, c, a)
     by false = sym (and-false (is_marked item))
+copies-one plan b r q item _ = sym (and-false (is_marked item))
 
 relayed-is : (plan : Plan) (b r : ℕ) (step : Step)
     → count_waiting is_marked (relayed_by plan b r step) ≡ cond (gives step r) 1 0
@@ -287,12 +287,8 @@ port-loss (_ ∷ steps) k = absurd k.0
 pub meets-count : (sent got : List Item) → IsBeginning got sent
     → count_by is_marked sent ≡ count_by is_marked got + count_by is_marked (pending sent got)
 meets-count sent got (rest, e) =
-    let left_over : pending sent got ≡ rest = ap (drop (length got)) (sym e) ∙ dropped got rest in
+    let left_over : pending sent got ≡ rest = ap (drop (length got)) (sym e) ∙ drop-append_seam got rest in
     let a = count_by-append is_marked got rest in
     let one : count_by is_marked (got ++ rest) ≡ count_by is_marked sent = ap (count_by is_marked) e in
     let two : count_by is_marked (pending sent got) ≡ count_by is_marked rest = ap (count_by is_marked) left_over in
     omega (arith, a, one, two)
-  where
-    dropped : (xs ys : List Item) → drop (length xs) (xs ++ ys) ≡ ys
-    dropped [] ys = refl
-    dropped (x ∷ xs) ys = dropped xs ys

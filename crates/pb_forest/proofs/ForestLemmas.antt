@@ -147,10 +147,9 @@ taken-covers old (b ∷ bs) new k ends t h =
 -- where none is left, it is a branch's
 none-left : (xs : List (Option Ends)) (k : ℕ) (ends : Ends) → list_any is_some xs ≡ false
     → slice_get xs k ≡ Some (Some ends) → ⊥
-none-left [] k ends h g = cc
-none-left (Some e ∷ xs) k ends h g = cc
 none-left (None ∷ xs) zero ends h g = let e : None ≡ Some ends = Some-injective g in cc
 none-left (None ∷ xs) (suc k) ends h g = none-left xs k ends h g
+none-left _ k ends h g = cc
 
 -- what an entry of the ways up says
 pub record HasBranch (bs : List Branch) (x number : ℕ) : Type 0 where

@@ -109,11 +109,9 @@ sum-off n (y ∷ ys) (suc k) e x h =
 -- what stands at another place
 pub get-set_other : {X : Type 0} (xs : List X) (k j : ℕ) (v : X) → j ≢ k
     → slice_get (slice_set xs k v) j ≡ slice_get xs j
-get-set_other [] k j v h = refl
 get-set_other (x ∷ xs) zero zero v h = absurd (h refl)
-get-set_other (x ∷ xs) zero (suc j) v h = refl
-get-set_other (x ∷ xs) (suc k) zero v h = refl
 get-set_other (x ∷ xs) (suc k) (suc j) v h = get-set_other xs k j v (λ e. h (ap (λ n. suc n) e))
+get-set_other _ _ _ v h = refl
 
 -- and at the place itself
 pub get-set_same : {X : Type 0} (xs : List X) (k : ℕ) (v : X) → k < length xs → slice_get (slice_set xs k v) k ≡ Some v
@@ -126,9 +124,8 @@ pub off-there : (xs : List (Option Ends)) (k j : ℕ) (ends : Ends)
     → slice_get (slice_set xs k None) j ≡ Some (Some ends) → slice_get xs j ≡ Some (Some ends)
 off-there [] k j ends h = cc
 off-there (x ∷ xs) zero zero ends h = let e : None ≡ Some ends = Some-injective h in cc
-off-there (x ∷ xs) zero (suc j) ends h = h
-off-there (x ∷ xs) (suc k) zero ends h = h
 off-there (x ∷ xs) (suc k) (suc j) ends h = off-there xs k j ends h
+off-there _ _ _ ends h = h
 
 pub off-meets : (xs : List (Option Ends)) (k j x y : ℕ) → Meets (slice_set xs k None) j x y → Meets xs j x y
 off-meets xs k j x y m = record { ends = m.ends; there = off-there xs k j m.ends m.there; joins = m.joins }

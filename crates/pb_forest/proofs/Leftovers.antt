@@ -4,7 +4,7 @@ use Rattle.std.proofs.Common.{slice_get, refl, sym, ◌∙◌, subst, arith}
 use Rattle.std.proofs.lemmas.Bool.{eqb-true}
 use Rattle.std.specs.Cmp.Derive.{both_true}
 use Rattle.std.specs.List.{AllByRecursion, count_by, list_any}
-use Rattle.pb_forest.proofs.Flows.{queues, queued-total, none-queued}
+use Rattle.pb_forest.proofs.Flows.{queued-total, none-queued}
 use Rattle.pb_forest.proofs.Sums.{given, total, total-agree, total-zero, total-none, sum_by-total, total_at}
 use Rattle.pb_forest.proofs.Sums.{total_at-same, total_at-none, total_at-zero}
 use Rattle.pb_steps.specs.Draining.{is_marked, is_some_mark}

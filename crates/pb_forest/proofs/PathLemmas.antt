@@ -172,34 +172,44 @@ only-child plan shape vid rooted s x k h u g =
     let child = s.children k way.crosses.link way.crosses.numbered_so way.crosses.active in
     child.only u g ∙ sym (child.only x h)
 
+-- a link in the other order
+turned : (link : LinkPlan) (near far : End) → HasEnds link near far → HasEnds link far near
+turned link near far (inl h) = inr (h.1, h.0)
+turned link near far (inr h) = inl (h.1, h.0)
+
+-- one link up from a bridge
+record IsClimb (plan : Plan) (shape : Shape) (vid : ℕ) (rooted : Rooted) (x k p : ℕ) : Type 0 where
+  way : LeadsUp plan shape vid rooted x k
+  to : way.far.bridge ≡ p
+  deeper : depth_of rooted x ≡ depth_of rooted p + 1
+
+climb-one : (plan : Plan) (shape : Shape) (vid : ℕ) (rooted : Rooted) → Shows plan shape vid rooted
+    → (x k p : ℕ) → HasUp rooted x k → p ≡ across x (numbered plan.links k) → IsClimb plan shape vid rooted x k p
+climb-one plan shape vid rooted s x k p h e =
+    let way = s.ways_up x k h in
+    let is_up = lead-up plan shape vid rooted x k h way in
+    let to : way.far.bridge ≡ p = sym is_up.above ∙ sym e in
+    record { way = way; to = to; deeper = subst (λ z. depth_of rooted x ≡ depth_of rooted z + 1) to is_up.deeper }
+
 -- the one side climbs
 climb-a : (plan : Plan) (shape : Shape) (vid : ℕ) (rooted : Rooted) → Shows plan shape vid rooted
     → (a b x : ℕ) (xs : List ℕ) (y : ℕ) (ys : List ℕ) → Goes plan shape vid rooted a b x xs y ys
     → x ≢ y → depth_of rooted y ≤ depth_of rooted x → (k p : ℕ) → HasUp rooted x k
     → p ≡ across x (numbered plan.links k)
     → Goes plan shape vid rooted a b p (xs ++ k ∷ []) y ys × (depth_of rooted x ≡ depth_of rooted p + 1)
-climb-a plan shape vid rooted s a b x xs y ys g ne le k p h e = (made, deeper)
+climb-a plan shape vid rooted s a b x xs y ys g ne le k p h e = (made, up.deeper)
   where
-    way : LeadsUp plan shape vid rooted x k
-    way = s.ways_up x k h
-
-    is_up : IsUp plan rooted x k way.far.bridge
-    is_up = lead-up plan shape vid rooted x k h way
-
-    to : way.far.bridge ≡ p
-    to = sym is_up.above ∙ sym e
-
-    deeper : depth_of rooted x ≡ depth_of rooted p + 1
-    deeper = subst (λ z. depth_of rooted x ≡ depth_of rooted z + 1) to is_up.deeper
+    up : IsClimb plan shape vid rooted x k p
+    up = climb-one plan shape vid rooted s x k p h e
 
     new : IsPassed rooted p y k
     new u q =
         let one : u ≡ x = only-child plan shape vid rooted s x k h u q in
         let d : depth_of rooted u ≡ depth_of rooted x = ap (depth_of rooted) one in
-        (omega (arith, deeper, d), omega (arith, le, d), λ f. ne (sym one ∙ f))
+        (omega (arith, up.deeper, d), omega (arith, le, d), λ f. ne (sym one ∙ f))
 
     step : IsWalk plan shape vid x (k ∷ []) p
-    step = (way.near, way.far, way.crosses, way.from, to)
+    step = (up.way.near, up.way.far, up.way.crosses, up.way.from, up.to)
 
     apart_a : AllByRecursion (λ z. k ≢ z) xs
     apart_a = All-imply (IsPassed rooted x y) (λ z. k ≢ z)
@@ -217,10 +227,10 @@ climb-a plan shape vid rooted s a b x xs y ys g ne le k p h e = (made, deeper)
           (distinct-insert k xs (reverse ys) apart_a apart_b g.distinct);
       passed = All-append (IsPassed rooted p y) xs (k ∷ [])
           (All-imply (IsPassed rooted x y) (IsPassed rooted p y)
-          (λ z q u i. let r = q u i in let l = r.0 in (omega (arith, l, deeper), r.1, r.2)) xs g.passed)
+          (λ z q u i. let r = q u i in let l = r.0 in (omega (arith, l, up.deeper), r.1, r.2)) xs g.passed)
           (new, tt);
       below = All-imply (IsBelow rooted x y) (IsBelow rooted p y)
-          (λ z q v i. let r = q v i in let l = r.0 in (omega (arith, l, deeper), r.1)) (reverse ys) g.below;
+          (λ z q v i. let r = q v i in let l = r.0 in (omega (arith, l, up.deeper), r.1)) (reverse ys) g.below;
     }
 
 -- the other side climbs
@@ -228,36 +238,23 @@ climb-b : (plan : Plan) (shape : Shape) (vid : ℕ) (rooted : Rooted) → Shows 
     → (a b x : ℕ) (xs : List ℕ) (y : ℕ) (ys : List ℕ) → Goes plan shape vid rooted a b x xs y ys
     → depth_of rooted x < depth_of rooted y → (k p : ℕ) → HasUp rooted y k → p ≡ across y (numbered plan.links k)
     → Goes plan shape vid rooted a b x xs p (ys ++ k ∷ []) × (depth_of rooted y ≡ depth_of rooted p + 1)
-climb-b plan shape vid rooted s a b x xs y ys g lt k p h e = (made, deeper)
+climb-b plan shape vid rooted s a b x xs y ys g lt k p h e = (made, up.deeper)
   where
-    way : LeadsUp plan shape vid rooted y k
-    way = s.ways_up y k h
-
-    is_up : IsUp plan rooted y k way.far.bridge
-    is_up = lead-up plan shape vid rooted y k h way
-
-    to : way.far.bridge ≡ p
-    to = sym is_up.above ∙ sym e
-
-    deeper : depth_of rooted y ≡ depth_of rooted p + 1
-    deeper = subst (λ z. depth_of rooted y ≡ depth_of rooted z + 1) to is_up.deeper
+    up : IsClimb plan shape vid rooted y k p
+    up = climb-one plan shape vid rooted s y k p h e
 
     new : IsBelow rooted x p k
     new v q =
         let one : v ≡ y = only-child plan shape vid rooted s y k h v q in
         let d : depth_of rooted v ≡ depth_of rooted y = ap (depth_of rooted) one in
-        (omega (arith, lt, d), omega (arith, deeper, d))
+        (omega (arith, lt, d), omega (arith, up.deeper, d))
 
-    turned : (link : LinkPlan) (near far : End) → HasEnds link near far → HasEnds link far near
-    turned link near far (inl h) = inr (h.1, h.0)
-    turned link near far (inr h) = inl (h.1, h.0)
-
-    back : Crosses plan shape vid k way.far way.near
+    back : Crosses plan shape vid k up.way.far up.way.near
     back = record {
-      link = way.crosses.link;
-      numbered_so = way.crosses.numbered_so;
-      active = way.crosses.active;
-      ends = turned way.crosses.link way.near way.far way.crosses.ends;
+      link = up.way.crosses.link;
+      numbered_so = up.way.crosses.numbered_so;
+      active = up.way.crosses.active;
+      ends = turned up.way.crosses.link up.way.near up.way.far up.way.crosses.ends;
     }
 
     apart_a : AllByRecursion (λ z. k ≢ z) xs
@@ -272,21 +269,28 @@ climb-b plan shape vid rooted s a b x xs y ys g lt k p h e = (made, deeper)
     turn = sym (reverse-append ys (k ∷ []))
 
     lower : (u : ℕ) → depth_of rooted y ≤ depth_of rooted u → u ≢ p
-    lower u l f = let d : depth_of rooted u ≡ depth_of rooted p = ap (depth_of rooted) f in omega (arith, l, deeper, d)
+    lower u l f = let d : depth_of rooted u ≡ depth_of rooted p = ap (depth_of rooted) f in omega
+        (arith, l, up.deeper, d)
 
     made : Goes plan shape vid rooted a b x xs p (ys ++ k ∷ [])
     made = record {
       walk_a = g.walk_a;
-      walk_b = subst (λ ks. IsWalk plan shape vid p ks b) turn
-          (way.far, way.near, back, to, subst (λ q. IsWalk plan shape vid q (reverse ys) b) (sym way.from) g.walk_b);
+      walk_b = subst (λ ks. IsWalk plan shape vid p ks b) turn (
+        up.way.far,
+        up.way.near,
+        back,
+        up.to,
+        subst (λ q. IsWalk plan shape vid q (reverse ys) b) (sym up.way.from)
+            g.walk_b,
+      );
       distinct = subst (λ ks. IsDistinct nat_eq (xs ++ ks)) turn
           (distinct-insert k xs (reverse ys) apart_a apart_b g.distinct);
       passed = All-imply (IsPassed rooted x y) (IsPassed rooted x p)
-          (λ z q u i. let r = q u i in let l = r.1 in (r.0, omega (arith, l, deeper), lower u l)) xs g.passed;
+          (λ z q u i. let r = q u i in let l = r.1 in (r.0, omega (arith, l, up.deeper), lower u l)) xs g.passed;
       below = subst (AllByRecursion (IsBelow rooted x p)) turn (
         new,
         All-imply (IsBelow rooted x y) (IsBelow rooted x p)
-            (λ z q v i. let r = q v i in let l = r.1 in (r.0, omega (arith, l, deeper))) (reverse ys) g.below,
+            (λ z q v i. let r = q v i in let l = r.1 in (r.0, omega (arith, l, up.deeper))) (reverse ys) g.below,
       );
     }
 

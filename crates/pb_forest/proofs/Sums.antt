@@ -110,9 +110,8 @@ total_at-swap f xs (y ∷ ys) =
 pub total-lists : {X Y : Type 0} (f : List X → ℕ) (ls : List (List X)) (bs : List Y) → length ls ≡ length bs
     → total f ls ≡ total_at (λ n b. f (unwrap_or (slice_get ls n) [])) bs
 total-lists f [] [] e = refl
-total-lists f [] (b ∷ bs) e = absurd (omega (arith, e))
-total-lists f (a ∷ ls) [] e = absurd (omega (arith, e))
 total-lists f (a ∷ ls) (b ∷ bs) e = let r = total-lists f ls bs (omega (arith, e)) in omega (arith, r)
+total-lists f _ _ e = absurd (omega (arith, e))
 
 -- and beside a list of half as many
 pub total-pairs : {X Y : Type 0} (f : List X → ℕ) (ls : List (List X)) (bs : List Y) → length ls ≡ 2 * length bs

@@ -6,3 +6,4 @@ pub mod TagLaws
 pub mod StationLaws
 pub mod HexLemmas
 pub mod Rows
+pub mod TextLemmas

@@ -30,7 +30,7 @@ use Rattle.pb_lan.specs.declared.step.Item.{Item}
 use Rattle.pb_lan.specs.declared.step.Moved.{Moved}
 use Rattle.pb_lan.specs.declared.step.NoRoom.{NoRoom}
 use Rattle.pb_lan.specs.declared.step.Outcome.{Outcome}
-use Rattle.pb_lan.specs.declared.step.Outcome.TheVariants.{Relayed, Filtered, Heard}
+use Rattle.pb_lan.specs.declared.step.Outcome.TheVariants.{Relayed}
 use Rattle.pb_lan.specs.declared.step.Step.{Step}
 use Rattle.pb_lan.specs.declared.step.Step.TheVariants.{Receive, Tick, Admin}
 
@@ -88,8 +88,6 @@ module _ (rules : Rules) (plan : Plan) (rec : Record) (K Q : ℕ → ℕ → Ite
       → earlier ++ Receive q item learnt outcome moved ∷ later ≡ steps_of rec.bridges b
       → Follows rules plan b earlier q item learnt outcome moved (ruling rules plan b earlier q item)
       → Below n (K b q) item → AllWaiting (Below (n + 1) (Q b r)) (copies plan b q item outcome r)
-  copies-spread n b r earlier later q item learnt (Filtered reason) moved at follows known = tt
-  copies-spread n b r earlier later q item learnt Heard moved at follows known = tt
   copies-spread n b r earlier later q item learnt (Relayed chosen refused) moved at follows known =
       elim (list_any (λ p. p == r) chosen && not (is_refused refused r))
       as (λ t. (list_any (λ p. p == r) chosen && not (is_refused refused r)) ≡ t
@@ -105,6 +103,7 @@ module _ (rules : Rules) (plan : Plan) (rec : Record) (K Q : ℕ → ℕ → Ite
         )
         | false ↦ λ e. tt
       ] refl
+  copies-spread n b r earlier later q item learnt _ moved at follows known = tt
 
   -- from what a step receives to what it relays
   step-spread : (n b r : ℕ) (earlier later : List Step) (step : Step) → earlier ++ step ∷ later ≡ steps_of rec.bridges b

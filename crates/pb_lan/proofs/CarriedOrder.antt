@@ -26,7 +26,7 @@ use Rattle.pb_lan.specs.declared.shape.Rooted.{Rooted}
 use Rattle.pb_lan.specs.declared.step.Item.{Item}
 use Rattle.pb_lan.specs.declared.step.Mark.{Mark}
 use Rattle.pb_lan.specs.declared.step.Step.{Step}
-use Rattle.pb_lan.specs.declared.step.Outcome.TheVariants.{Relayed, Filtered, Heard}
+use Rattle.pb_lan.specs.declared.step.Outcome.TheVariants.{Relayed}
 use Rattle.pb_lan.specs.declared.step.Step.TheVariants.{Receive}
 
 -- a port polls in the order of its numbers
@@ -74,8 +74,6 @@ queued-carried mark n plan b r step own =
         )
         by true true = tt
         by false u = tt
-    relayed (Receive q item learnt (Filtered reason) moved) = tt
-    relayed (Receive q item learnt Heard moved) = tt
     relayed _ = tt
 
 -- what a step carried, it received
@@ -85,8 +83,6 @@ carry-at mark n r q (Receive at item learnt (Relayed chosen refused) moved) h c 
     let same_port : (at == q) ≡ true = subst (λ x. (at == x) ≡ true) (h c) (eqb-refl at) in
     subst (λ b. list_any (is_after mark n) (cond b (item ∷ []) []) ≡ true) (sym same_port)
     (or-left (is_after mark n item) false (and-left (is_after mark n item) _ c))
-carry-at mark n r q (Receive at item learnt (Filtered reason) moved) h c = cc
-carry-at mark n r q (Receive at item learnt Heard moved) h c = cc
 carry-at mark n r q _ h c = cc
 
 -- where a walk came in, what the steps carried they received there
@@ -119,8 +115,6 @@ pub carries-apart : (one two : Mark) → one.number < two.number → (n r : ℕ)
 carries-apart one two less n r (Receive q item learnt (Relayed chosen refused) moved) a b =
     marks-apart one two less item (and-left (is_of one item) _ (and-left (is_after one n item) _ a))
     (and-left (is_of two item) _ (and-left (is_after two n item) _ b))
-carries-apart one two less n r (Receive q item learnt (Filtered reason) moved) a b = cc
-carries-apart one two less n r (Receive q item learnt Heard moved) a b = cc
 carries-apart one two less n r _ a b = cc
 
 -- what the steps queue of the bridge's own

@@ -20,7 +20,7 @@ use Rattle.pb_lan.specs.declared.step.Item.{Item}
 use Rattle.pb_lan.specs.declared.step.Mark.{Mark}
 use Rattle.pb_lan.specs.declared.step.Moved.{Moved}
 use Rattle.pb_lan.specs.declared.step.Outcome.{Outcome}
-use Rattle.pb_lan.specs.declared.step.Outcome.TheVariants.{Relayed, Filtered, Heard}
+use Rattle.pb_lan.specs.declared.step.Outcome.TheVariants.{Relayed}
 use Rattle.pb_lan.specs.declared.step.Step.{Step}
 use Rattle.pb_lan.specs.declared.step.Step.TheVariants.{Receive}
 
@@ -34,11 +34,6 @@ is_carry mark n r (Receive q item learnt (Relayed chosen refused) moved) = is_af
     (λ p. p == r) chosen
 is_carry mark n r _ = false
 
--- a test counts at most 1
-one_if-le : (b : Bool) → cond b 1 0 ≤ 1
-one_if-le true = omega arith
-one_if-le false = omega arith
-
 -- one more on both sides
 pub suc-eqb : (m n : ℕ) → (m + 1 == n + 1) ≡ (m == n)
 suc-eqb m n = elim (m == n) as (λ b. (m == n) ≡ b → (m + 1 == n + 1) ≡ b)
@@ -49,8 +44,6 @@ copies-count : (mark : Mark) (n : ℕ) (plan : Plan) (b r q : ℕ) (item : Item)
     (outcome : Outcome) (moved : Option Moved)
     → count_waiting (is_after mark (n + 1)) (copies plan b q item outcome r) ≤ cond
     (is_carry mark n r (Receive q item learnt outcome moved)) 1 0
-copies-count mark n plan b r q item learnt (Filtered reason) moved = omega arith
-copies-count mark n plan b r q item learnt Heard moved = omega arith
 copies-count mark n plan b r q item learnt (Relayed chosen refused) moved = by (list_any (λ p. p == r) chosen)
     (is_refused refused r)
   where
@@ -74,8 +67,8 @@ copies-count mark n plan b r q item learnt (Relayed chosen refused) moved = by (
         (is_after mark n item && a) 1 0
     by true false = let h = one (is_of mark item) in let c = count_by-cons (λ u. is_after mark (n + 1) u.item) w []
         in omega (arith, h, c)
-    by true true = omega arith
-    by false c = omega arith
+    by _ _ = omega arith
+copies-count mark n plan b r q item learnt _ moved = omega arith
 
 -- a bridge's own item has no mark
 pub unmarked : (mark : Mark) (n : ℕ) (item : Item) → item.mark ≡ None → is_after mark n item ≡ false
@@ -128,8 +121,6 @@ carry-received mark n r q (Receive at item learnt (Relayed chosen refused) moved
           subst (λ b. 1 ≤ count_by (is_after mark n) (cond b (item ∷ []) [])) (sym same_port) (omega (arith, c, t))
       | false ↦ λ e. omega arith
     ] refl
-carry-received mark n r q (Receive at item learnt (Filtered reason) moved) h = omega arith
-carry-received mark n r q (Receive at item learnt Heard moved) h = omega arith
 carry-received mark n r q _ h = omega arith
 
 -- where all that carry received at one port, they are no more than what was received there

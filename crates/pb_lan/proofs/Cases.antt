@@ -89,12 +89,7 @@ before_listening (c ∷ cs) = cond (is_listening c.1) [] (c ∷ before_listening
 -- where a BPDU is heard a case that listens holds, and none of those before it
 pub heard : (cs : List (Bool × Ruling)) (rest : Ruling) → is_listening rest ≡ false → first_case cs rest ≡ Listens
     → (holds is_listening cs ≡ true) × ((kind : Ruling → Bool) → holds kind (before_listening cs) ≡ false)
-heard [] rest n h = cc
 heard ((true, Listens) ∷ cs) rest n h = (refl, λ kind. refl)
-heard ((true, Refuses reason) ∷ cs) rest n h = cc
-heard ((true, LearnsOnly vid) ∷ cs) rest n h = cc
-heard ((true, Carries vid) ∷ cs) rest n h = cc
-heard ((true, Closed) ∷ cs) rest n h = cc
 heard ((false, Listens) ∷ cs) rest n h = ((heard cs rest n h).0, λ kind. refl)
 heard ((false, Refuses reason) ∷ cs) rest n h =
     let r = heard cs rest n h in (r.0, λ kind. passed (kind (Refuses reason)) _ (r.1 kind))
@@ -103,3 +98,4 @@ heard ((false, LearnsOnly vid) ∷ cs) rest n h =
 heard ((false, Carries vid) ∷ cs) rest n h =
     let r = heard cs rest n h in (r.0, λ kind. passed (kind (Carries vid)) _ (r.1 kind))
 heard ((false, Closed) ∷ cs) rest n h = let r = heard cs rest n h in (r.0, λ kind. passed (kind Closed) _ (r.1 kind))
+heard _ rest n h = cc

@@ -295,20 +295,12 @@ pub choose-on : (rules : Rules) (plan : Plan) (rec : Record) (shape : Shape) (en
 choose-on rules plan rec shape entry rooted mark arrived frame b q r here on_tree number other member forwarding =
     by_outcome here.outcome refl (here-told frame b here)
   where
-    known : MayComeIn plan rec (port_at plan b q) here.item
-    known = here-known frame b here
-
-    group : IsNotHeard (ruling rules plan b here.earlier q here.item)
-        × ((w : ℕ) → ruling rules plan b here.earlier q here.item ≡ Carries w
-        → is_group (dst_of here.item.wire) ≡ true)
-    group = here-group frame b here
-
     by_outcome : (outcome : Outcome) → here.outcome ≡ outcome
         → Told frame b here here.outcome → chose rec mark b r ≡ true
     by_outcome (Filtered reason) e told =
         absurd (not-filtered frame b here on_tree reason e)
     by_outcome Heard e told =
-        absurd (group.0 (follows-heard rules plan b here.earlier q here.item here.learnt here.moved
+        absurd ((here-group frame b here).0 (follows-heard rules plan b here.earlier q here.item here.learnt here.moved
         (ruling rules plan b here.earlier q here.item)
         (subst (Told frame b here) e told)))
     by_outcome (Relayed chosen refused) e told =
@@ -318,7 +310,8 @@ choose-on rules plan rec shape entry rooted mark arrived frame b q r here on_tre
         (subst (Told frame b here) e told) in
         let steps = here.earlier ++ step ∷ [] in
         let vid : vid_at plan entry ≡ f.0 = carried-vid rules plan rec entry mark frame.followed.sound
-        frame.followed.planned (port_at plan b q) (state_after plan b here.earlier q) here.item f.0 known f.1
+        frame.followed.planned (port_at plan b q) (state_after plan b here.earlier q) here.item f.0
+        (here-known frame b here) f.1
         here.passes in
         let same_state : (p : ℕ) → state_after plan b steps p ≡ state_after plan b here.earlier p =
         unmoved plan b here.earlier step (ap moved_part f.3) in
@@ -326,7 +319,7 @@ choose-on rules plan rec shape entry rooted mark arrived frame b q r here on_tre
         subst (λ ports. list_any (λ p. p == r) ports ≡ true) (sym f.2)
         (flooded plan b steps q f.0 r here.item.wire
         (ap is_forwarding (same_state q) ∙ carried-forwarding rules plan b here.earlier q here.item f.0 f.1)
-        (group.1 f.0 f.1) number other
+        ((here-group frame b here).1 f.0 f.1) number other
         (ap is_forwarding (same_state r) ∙ forwarding here.earlier
         (here-handled frame b here))
         (subst (λ w. is_member plan w (port_at plan b r) ≡ true) vid member)) in

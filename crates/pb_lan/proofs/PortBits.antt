@@ -3,7 +3,7 @@ use Rattle.std.proofs.Common.{◌≡◌, zero, suc, ℕ, ◌+◌, ◌-◌, ◌*�
 use Rattle.std.proofs.Common.{cond, List, [], ◌∷◌, ◌++◌, map, get_or, length, refl, sym, ap, ◌∙◌, subst, arith}
 use Rattle.std.proofs.Common.{append_assoc, append-nil}
 use Rattle.std.proofs.Math.Nat.{pow-succ', mul_left_comm}
-use Rattle.std.proofs.lemmas.Bool.{eqb-true}
+use Rattle.std.proofs.lemmas.Bool.{eqb-true, eqb-false}
 use Rattle.std.proofs.lemmas.Nat.{pow_pos}
 use Rattle.std.specs.List.{AllByRecursion}
 use Rattle.pb_frame.proofs.Lists.{All-append}
@@ -42,6 +42,19 @@ port_more (suc k) (suc n) p bits l b =
     ∙ sym (append_assoc (cond (bits % 2 == 1) (p ∷ []) []) (ports_in n (p + 1) (bits / 2)) ((p + 1 + k) ∷ []))
     ∙ ap (λ x. ports_in (suc n) p bits ++ x ∷ []) s
 
+-- what is below a power from the next place on is below it from this place on, where one step keeps that
+lower_power : (pow : ℕ → ℕ) (p b rest all : ℕ) → ((m : ℕ) → rest < pow m → all < pow (suc m))
+    → (b ≤ p → rest < pow 0 → all < pow 0) → rest < pow (b - (p + 1)) → all < pow (b - p)
+lower_power pow p b rest all step none r = by (b - p) refl
+  where
+    by : (m : ℕ) → b - p ≡ m → all < pow (b - p)
+    by zero e =
+        let f : b - (p + 1) ≡ 0 = omega (arith, e) in
+        subst (λ (k : ℕ). all < pow k) (sym e) (none (omega (arith, e)) (subst (λ (k : ℕ). rest < pow k) f r))
+    by (suc m) e =
+        let f : b - (p + 1) ≡ m = omega (arith, e) in
+        subst (λ (k : ℕ). all < pow k) (sym e) (step m (subst (λ (k : ℕ). rest < pow k) f r))
+
 -- where all ports are below one, so are the bits below its own
 pub low_bits : (n p b bits : ℕ) → bits < 2 ^ n → AllByRecursion (λ q. q < b) (ports_in n p bits) → bits < 2 ^ (b - p)
 unfolding ports_in
@@ -50,37 +63,16 @@ low_bits (suc n) p b bits h a =
     let w : 2 ^ suc n ≡ 2 * 2 ^ n = pow-succ' 2 n in
     elim (bits % 2 == 1) as (λ c. (bits % 2 == 1) ≡ c → AllByRecursion (λ q. q < b)
     (cond c (p ∷ []) [] ++ ports_in n (p + 1) (bits / 2)) → bits < 2 ^ (b - p)) [
-      | true ↦ λ e a. here (b - p) refl a.0 (low_bits n (p + 1) b (bits / 2) (omega (arith, h, w)) a.1)
-      | false ↦ λ e a. there (b - p) refl (even (bits % 2) (omega arith) e)
+      | true ↦ λ e a. lower_power (λ m. 2 ^ m) p b (bits / 2) bits step
+          (λ l z. let within : p < b = a.0 in absurd (omega (arith, within, l)))
+          (low_bits n (p + 1) b (bits / 2) (omega (arith, h, w)) a.1)
+      | false ↦ λ e a. lower_power (λ m. 2 ^ m) p b (bits / 2) bits step
+          (λ l z. let odd = eqb-false (bits % 2) 1 e in omega (arith, odd, z))
           (low_bits n (p + 1) b (bits / 2) (omega (arith, h, w)) a)
     ] refl a
   where
-    even : (r : ℕ) → r < 2 → (r == 1) ≡ false → r ≡ 0
-    even zero l e = refl
-    even (suc zero) l e = cc
-    even (suc (suc r)) l e = absurd (omega (arith, l))
-
-    here : (m : ℕ) → b - p ≡ m → p < b → bits / 2 < 2 ^ (b - (p + 1)) → bits < 2 ^ (b - p)
-    here zero e l r = absurd (omega (arith, e, l))
-    here (suc m) e l r =
-        let f : b - (p + 1) ≡ m = omega (arith, e) in
-        let w : 2 ^ suc m ≡ 2 * 2 ^ m = pow-succ' 2 m in
-        let r : bits / 2 < 2 ^ m = subst (λ (k : ℕ). bits / 2 < 2 ^ k) f r in
-        let t : bits < 2 ^ suc m = omega (arith, w, r) in
-        subst (λ (k : ℕ). bits < 2 ^ k) (sym e) t
-
-    there : (m : ℕ) → b - p ≡ m → bits % 2 ≡ 0 → bits / 2 < 2 ^ (b - (p + 1)) → bits < 2 ^ (b - p)
-    there zero e z r =
-        let f : b - (p + 1) ≡ 0 = omega (arith, e) in
-        let r : bits / 2 < 1 = subst (λ (k : ℕ). bits / 2 < 2 ^ k) f r in
-        let t : bits < 1 = omega (arith, z, r) in
-        subst (λ (k : ℕ). bits < 2 ^ k) (sym e) t
-    there (suc m) e z r =
-        let f : b - (p + 1) ≡ m = omega (arith, e) in
-        let w : 2 ^ suc m ≡ 2 * 2 ^ m = pow-succ' 2 m in
-        let r : bits / 2 < 2 ^ m = subst (λ (k : ℕ). bits / 2 < 2 ^ k) f r in
-        let t : bits < 2 ^ suc m = omega (arith, w, r) in
-        subst (λ (k : ℕ). bits < 2 ^ k) (sym e) t
+    step : (m : ℕ) → bits / 2 < 2 ^ m → bits < 2 ^ suc m
+    step m r = let w : 2 ^ suc m ≡ 2 * 2 ^ m = pow-succ' 2 m in omega (arith, w, r)
 
 -- the ports from one on are this one, if its bit is set, and those behind it
 port_first : (p bits : ℕ) → p < 17 → ports_in (17 - p) p bits ≡ cond (bits % 2 == 1) (p ∷ []) []
@@ -160,36 +152,20 @@ low_words (suc n) p b words h a =
     let w : 2 ^ (2 * suc n) ≡ 4 * 2 ^ (2 * n) = quad n in
     by (words % 4) refl (low_words n (p + 1) b (words / 4) (omega (arith, h, w))) a
   where
-    here : (m : ℕ) → b - p ≡ m → p < b → words / 4 < 2 ^ (2 * (b - (p + 1))) → words < 2 ^ (2 * (b - p))
-    here zero e l r = absurd (omega (arith, e, l))
-    here (suc m) e l r =
-        let f : b - (p + 1) ≡ m = omega (arith, e) in
-        let w : 2 ^ (2 * suc m) ≡ 4 * 2 ^ (2 * m) = quad m in
-        let r : words / 4 < 2 ^ (2 * m) = subst (λ (k : ℕ). words / 4 < 2 ^ (2 * k)) f r in
-        let t : words < 2 ^ (2 * suc m) = omega (arith, w, r) in
-        subst (λ (k : ℕ). words < 2 ^ (2 * k)) (sym e) t
+    step : (m : ℕ) → words / 4 < 2 ^ (2 * m) → words < 2 ^ (2 * suc m)
+    step m r = let w : 2 ^ (2 * suc m) ≡ 4 * 2 ^ (2 * m) = quad m in omega (arith, w, r)
 
-    there : (m : ℕ) → b - p ≡ m → words % 4 ≡ 0 → words / 4 < 2 ^ (2 * (b - (p + 1))) → words < 2 ^ (2 * (b - p))
-    there zero e z r =
-        let f : b - (p + 1) ≡ 0 = omega (arith, e) in
-        let r : words / 4 < 1 = subst (λ (k : ℕ). words / 4 < 2 ^ (2 * k)) f r in
-        let t : words < 1 = omega (arith, z, r) in
-        subst (λ (k : ℕ). words < 2 ^ (2 * k)) (sym e) t
-    there (suc m) e z r =
-        let f : b - (p + 1) ≡ m = omega (arith, e) in
-        let w : 2 ^ (2 * suc m) ≡ 4 * 2 ^ (2 * m) = quad m in
-        let r : words / 4 < 2 ^ (2 * m) = subst (λ (k : ℕ). words / 4 < 2 ^ (2 * k)) f r in
-        let t : words < 2 ^ (2 * suc m) = omega (arith, w, r) in
-        subst (λ (k : ℕ). words < 2 ^ (2 * k)) (sym e) t
+    here : p < b → words / 4 < 2 ^ (2 * (b - (p + 1))) → words < 2 ^ (2 * (b - p))
+    here l = lower_power (λ m. 2 ^ (2 * m)) p b (words / 4) words step (λ k z. absurd (omega (arith, k, l)))
 
     by : (d : ℕ) → words % 4 ≡ d
         → (AllByRecursion (λ q. q < b) (map (λ r. r.0) (refusals_in n (p + 1) (words / 4))) → words / 4 < 2 ^
         (2 * (b - (p + 1))))
         → AllByRecursion (λ q. q < b) (map (λ r. r.0) (word_in p d ++ refusals_in n (p + 1) (words / 4)))
         → words < 2 ^ (2 * (b - p))
-    by zero e f a = there (b - p) refl e (f a)
-    by (suc zero) e f a = here (b - p) refl a.0 (f a.1)
-    by (suc (suc d)) e f a = here (b - p) refl a.0 (f a.1)
+    by zero e f a = lower_power (λ m. 2 ^ (2 * m)) p b (words / 4) words step (λ k z. omega (arith, e, z)) (f a)
+    by (suc zero) e f a = here a.0 (f a.1)
+    by (suc (suc d)) e f a = here a.0 (f a.1)
 
 refusal_first : (p words : ℕ) → p < 17 → refusals_in (17 - p) p words ≡ word_in p (words % 4)
     ++ refusals_in (17 - (p + 1)) (p + 1) (words / 4)

@@ -68,6 +68,5 @@ ones_are (suc n) p bits l =
 
     by : (d : ℕ) → d < 2 → count_ones bits ≡ d + count_ones (bits / 2) → length rest ≡ count_ones (bits / 2)
         → length (cond (d == 1) (p ∷ []) [] ++ rest) ≡ count_ones bits
-    by zero l e f = omega (arith, e, f)
-    by (suc zero) l e f = omega (arith, e, f)
     by (suc (suc d)) l e f = absurd (omega (arith, l))
+    by _ l e f = omega (arith, e, f)

@@ -21,10 +21,9 @@ rises_on (n ∷ m ∷ ns) h =
     ((first, below_all n m ns first rest.0), rest)
 
 rises_at : (xs : List ℕ) (k : ℕ) → suc k < length xs → Rises xs → get_or xs k 0 < get_or xs (suc k) 0
-rises_at [] k h r = absurd (omega arith)
-rises_at (n ∷ []) k h r = absurd (omega arith)
 rises_at (n ∷ m ∷ ns) zero h r = r.0.0
 rises_at (n ∷ m ∷ ns) (suc k) h r = rises_at (m ∷ ns) k (omega arith) r.1
+rises_at _ k h r = absurd (omega arith)
 
 -- a number that is not above the one before it
 pub falls_at : (xs : List ℕ) (k : ℕ) → 1 ≤ k → k < length xs → get_or xs k 0 ≤ get_or xs (k - 1) 0 → Rises xs → ⊥

@@ -23,10 +23,9 @@ rec = record {
 }
 
 bridges_lawful : (number : ℕ) → IsLawfulBridge no_bpdus plan number (steps_of rec.bridges number)
-bridges_lawful zero = tt
 bridges_lawful (suc zero) = (inr ((New, refl, (refl, refl, refl)), (refl, (refl, (refl, tt))), refl), (refl, tt))
 bridges_lawful (suc (suc zero)) = (inr ((New, refl, (refl, refl, refl)), (refl, (refl, (refl, tt))), refl), (refl, tt))
-bridges_lawful (suc (suc (suc n))) = tt
+bridges_lawful _ = tt
 
 link_lawful : (number : ℕ) (link : LinkPlan) → numbered plan.links number ≡ Some link → IsLawfulLink rec number link
 link_lawful zero link h = cc
@@ -39,22 +38,20 @@ link_lawful (suc zero) link h = subst (λ l. IsLawfulLink rec 1 l) (Some-injecti
 link_lawful (suc (suc n)) link h = cc
 
 ports_lawful : (number : ℕ) → IsLawfulPort number (steps_of rec.customers number)
-ports_lawful zero = record { kinds = tt; marked = tt; held = (None, refl) }
 ports_lawful (suc zero) = record { kinds = (tt, (tt, tt)); marked = (refl, refl, tt); held = (None, refl) }
 ports_lawful (suc (suc zero)) = record { kinds = (tt, tt); marked = tt; held = (None, refl) }
 ports_lawful (suc (suc (suc zero))) = record { kinds = tt; marked = tt; held = (None, refl) }
-ports_lawful (suc (suc (suc (suc n)))) = record { kinds = tt; marked = tt; held = (None, refl) }
+ports_lawful _ = record { kinds = tt; marked = tt; held = (None, refl) }
 
 customers_lawful : (number : ℕ) (c : CustomerPlan) → numbered plan.customers number ≡ Some c
     → MeetsCustomer rec number c
-customers_lawful zero c h = cc
 customers_lawful (suc zero) c h = subst (λ d. MeetsCustomer rec 1 d) (Some-injective h)
     (record { into = ([], refl); out = ([], refl) })
 customers_lawful (suc (suc zero)) c h = subst (λ d. MeetsCustomer rec 2 d) (Some-injective h)
     (record { into = ([], refl); out = ([], refl) })
 customers_lawful (suc (suc (suc zero))) c h = subst (λ d. MeetsCustomer rec 3 d) (Some-injective h)
     (record { into = ([], refl); out = ([], refl) })
-customers_lawful (suc (suc (suc (suc n)))) c h = cc
+customers_lawful _ c h = cc
 
 pub record_lawful : IsLawfulRecord no_bpdus plan rec
 record_lawful = record {

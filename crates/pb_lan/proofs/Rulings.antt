@@ -3,7 +3,7 @@ use Rattle.std.proofs.Common.{map, ◌≡◌, inl, inr, ℕ, ◌<◌, ◌≤◌,
 use Rattle.std.proofs.Common.{◌==◌, List, [], ◌∷◌, ◌++◌, refl, sym, subst, unwrap_or, arith, nat_lt, length, suc}
 use Rattle.std.proofs.Common.{zero}
 use Rattle.std.specs.List.{AllByRecursion, filter, list_any}
-use Rattle.std.proofs.lemmas.Bool.{eqb-true}
+use Rattle.std.proofs.lemmas.Bool.{eqb-true, not-true, not-false}
 use Rattle.std.specs.Option.{option_map}
 use Rattle.pb_frame.proofs.Lists.{and-left, and-right, All-imply, All-filter, list_any-found}
 use Rattle.pb_lan.proofs.Cases.{none-holds, neither-left, neither-right, is_malformed, is_not_member}
@@ -25,7 +25,7 @@ use Rattle.pb_lan.specs.declared.plan.End.{End}
 use Rattle.pb_lan.specs.declared.plan.ServicePlan.{ServicePlan}
 use Rattle.pb_lan.specs.declared.plan.CustomerPlan.{CustomerPlan}
 use Rattle.pb_lan.specs.declared.shape.PortState.{PortState}
-use Rattle.pb_lan.specs.declared.shape.PortState.TheVariants.{Discarding, Learning, Forwarding}
+use Rattle.pb_lan.specs.declared.shape.PortState.TheVariants.{Forwarding}
 use Rattle.pb_lan.specs.declared.step.Item.{Item}
 use Rattle.pb_lan.specs.declared.step.Moved.{Moved}
 use Rattle.pb_lan.specs.declared.step.NoRoom.{NoRoom}
@@ -59,9 +59,8 @@ carried-provider rules plan e state item v h =
     (neither-left (is_for_bridges item.wire) _ (neither-right _ _ (a.0 is_malformed)), in_state state a.1)
   where
     in_state : (s : PortState) → ruling_in s (vid_of item.wire) ≡ Carries v → vid_of item.wire ≡ v
-    in_state Discarding h = cc
-    in_state Learning h = cc
     in_state Forwarding h = carries-injective _ v h
+    in_state _ h = cc
 
 -- a step that moves nothing queues nothing of its own
 none-own : (plan : Plan) (b : ℕ) (moved : Option Moved) → moved ≡ None
@@ -104,17 +103,12 @@ carried-open rules plan e state item v h =
     let w = (carried-provider rules plan e state item v h).1 in (
       in_state state a.1,
       subst (λ n. serves plan n e ≡ true) w
-          (un-not (serves plan (vid_of item.wire) e) (neither-left _ _ (a.0 is_not_member))),
+          (not-false (serves plan (vid_of item.wire) e) (neither-left _ _ (a.0 is_not_member))),
     )
   where
     in_state : (s : PortState) → ruling_in s (vid_of item.wire) ≡ Carries v → is_forwarding s ≡ true
-    in_state Discarding h = cc
-    in_state Learning h = cc
     in_state Forwarding h = refl
-
-    un-not : (b : Bool) → not b ≡ false → b ≡ true
-    un-not true h = refl
-    un-not false h = cc
+    in_state _ h = cc
 
 -- what is relayed changes no state, and its ports were chosen with the step itself in mind
 pub follows-relayed : (rules : Rules) (plan : Plan) (b : ℕ) (earlier : List Step) (q : ℕ) (item : Item)
@@ -176,25 +170,11 @@ all-local = (
 -- the ports from 1 to 16 are the local ports
 pub local-listed : (n : ℕ) → IsNumber n 16 → list_any (λ p. p == n) local_ports ≡ true
 local-listed zero h = absurd (omega (arith, h.0))
-local-listed (suc zero) h = refl
-local-listed (suc (suc zero)) h = refl
-local-listed (suc (suc (suc zero))) h = refl
-local-listed (suc (suc (suc (suc zero)))) h = refl
-local-listed (suc (suc (suc (suc (suc zero))))) h = refl
-local-listed (suc (suc (suc (suc (suc (suc zero)))))) h = refl
-local-listed (suc (suc (suc (suc (suc (suc (suc zero))))))) h = refl
-local-listed (suc (suc (suc (suc (suc (suc (suc (suc zero)))))))) h = refl
-local-listed (suc (suc (suc (suc (suc (suc (suc (suc (suc zero))))))))) h = refl
-local-listed (suc (suc (suc (suc (suc (suc (suc (suc (suc (suc zero)))))))))) h = refl
-local-listed (suc (suc (suc (suc (suc (suc (suc (suc (suc (suc (suc zero))))))))))) h = refl
-local-listed (suc (suc (suc (suc (suc (suc (suc (suc (suc (suc (suc (suc zero)))))))))))) h = refl
-local-listed (suc (suc (suc (suc (suc (suc (suc (suc (suc (suc (suc (suc (suc zero))))))))))))) h = refl
-local-listed (suc (suc (suc (suc (suc (suc (suc (suc (suc (suc (suc (suc (suc (suc zero)))))))))))))) h = refl
-local-listed (suc (suc (suc (suc (suc (suc (suc (suc (suc (suc (suc (suc (suc (suc (suc zero))))))))))))))) h = refl
 local-listed (suc (suc (suc (suc (suc (suc (suc (suc (suc (suc (suc (suc (suc (suc (suc (suc zero)))))))))))))))) h =
     refl
 local-listed (suc (suc (suc (suc (suc (suc (suc (suc (suc (suc (suc (suc (suc (suc (suc (suc (suc n))))))))))))))))) h
     = absurd (omega (arith, h.1))
+local-listed _ h = refl
 
 -- so they are local
 pub number-local : (p : ℕ) → IsNumber p 16 → IsLocal p
@@ -219,7 +199,7 @@ chosen-choice plan b steps q v wire =
     let all : AllByRecursion (IsChoice plan b steps q v) ports =
     All-imply (λ p. IsLocal p × (test p ≡ true)) (IsChoice plan b steps q v)
     (λ p h. record {
-      other = un-not (p == q) (and-left _ _ h.1);
+      other = not-true (p == q) (and-left _ _ h.1);
       forwarding = and-left _ _ (and-right _ _ h.1);
       member = and-right _ _ (and-right _ _ h.1);
       local = h.0;
@@ -234,10 +214,6 @@ chosen-choice plan b steps q v wire =
       | false ↦ tt
     ]
   where
-    un-not : (b : Bool) → not b ≡ true → b ≡ false
-    un-not true h = cc
-    un-not false h = refl
-
     narrow : (o : Option ℕ) → AllByRecursion (IsChoice plan b steps q v) (flood plan b steps q v)
         → AllByRecursion (IsChoice plan b steps q v) (narrowed (flood plan b steps q v) o)
     narrow None a = a

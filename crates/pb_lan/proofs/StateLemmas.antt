@@ -8,6 +8,7 @@ use Rattle.std.specs.declared.option.Option.{Option}
 use Rattle.pb_frame.specs.Lists.{first}
 use Rattle.pb_lan.specs.Numbering.{numbers_from}
 use Rattle.pb_lan.specs.Ports.{all_ends, port_at, is_customer_at, is_end_at, customer_or_else, provider_or_unused}
+use Rattle.pb_lan.specs.Ports.{Port}
 use Rattle.pb_lan.specs.Shapes.{moved_of, start_by, state_by, state_after, changes_of, changed}
 use Rattle.pb_lan.specs.LastShapes.{newest_by, newest_state}
 use Rattle.pb_lan.specs.declared.plan.CustomerPlan.{CustomerPlan}
@@ -19,8 +20,7 @@ use Rattle.pb_lan.specs.declared.shape.Shape.{Shape}
 use Rattle.pb_lan.specs.declared.shape.PortState.TheVariants.{Forwarding}
 use Rattle.pb_lan.specs.declared.step.Moved.{Moved}
 use Rattle.pb_lan.specs.declared.step.Step.{Step}
-use Rattle.pb_lan.specs.Ports.{Port}
-use Rattle.pb_lan.specs.Ports.Port.{Customer, Provider, Unused}
+use Rattle.pb_lan.specs.Ports.Port.{Provider}
 
 -- something passes the test where a first one does
 pub is_some-first : {X : Type 0} (test : X → Bool) (xs : List X) → is_some (first test xs) ≡ list_any test xs
@@ -66,9 +66,8 @@ newest-other plan b q newest o e found =
 newest-by : (spanning : Spanning) (p : Port) (port : ℕ) (newest : Option PortState) (changes : List (ℕ × PortState))
     → ((start : PortState) → unwrap_or newest start ≡ changed port start changes)
     → newest_by spanning p newest ≡ state_by spanning p port changes
-newest-by spanning (Customer c) port newest changes led = refl
 newest-by spanning (Provider e) port newest changes led = led (start_by spanning e.start)
-newest-by spanning Unused port newest changes led = refl
+newest-by spanning _ port newest changes led = refl
 
 pub newest-after : (plan : Plan) (b q : ℕ) (newest : Option PortState) (steps : List Step)
     → ((start : PortState) → unwrap_or newest start ≡ changed q start (changes_of steps))
@@ -124,10 +123,9 @@ numbers-more f j k xs h =
 -- all of them
 pub numbers-all : {X Y : Type 0} (f : ℕ → Y) (j k : ℕ) (xs : List X) → k ≡ length xs
     → map f (take k (numbers_from j xs)) ≡ map f (numbers_from j xs)
-numbers-all f j zero [] h = refl
-numbers-all f j (suc k) [] h = refl
 numbers-all f j zero (x ∷ xs) h = absurd (omega (arith, h))
 numbers-all f j (suc k) (x ∷ xs) h = ap (λ ys. f j ∷ ys) (numbers-all f (j + 1) k xs (omega (arith, h)))
+numbers-all f j _ _ h = refl
 
 abbrev pub shape_of : List (List PortState) → Shape
 shape_of states = record { states = states }

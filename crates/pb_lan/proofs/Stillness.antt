@@ -1,6 +1,7 @@
 -- Where no step changes the state of a port, each frame is handled under the shape at the start.
-use Rattle.std.proofs.Common.{◌≡◌, inl, inr, ℕ, zero, suc, ◌+◌, Bool, true, false, ◌||◌, Some, None, Option, List, []}
-use Rattle.std.proofs.Common.{◌∷◌, ◌++◌, refl, sym, ◌∙◌, ap, subst, map, slice_get, unwrap_or, arith, append_assoc}
+use Rattle.std.proofs.lemmas.Bool.{or_parts}
+use Rattle.std.proofs.Common.{add-zero, ◌≡◌, inl, inr, ℕ, zero, suc, ◌+◌, false, Some, None, Option, List, [], ◌∷◌}
+use Rattle.std.proofs.Common.{◌++◌, refl, sym, ◌∙◌, ap, subst, map, slice_get, unwrap_or, arith, append_assoc}
 use Rattle.std.proofs.lemmas.Grind.{flat_map-append}
 use Rattle.std.specs.List.{AllByRecursion, list_any, flat_map}
 use Rattle.pb_frame.proofs.Lists.{All-at}
@@ -77,23 +78,16 @@ list-of P lists none all (suc n) = at lists n all
 numbered-from : {X Y : Type 0} (f : ℕ → Y) (k : ℕ) (xs : List X) (i : ℕ) (x : X) → slice_get xs i ≡ Some x
     → slice_get (map f (numbers_from k xs)) i ≡ Some (f (k + i))
 numbered-from f k [] i x h = cc
-numbered-from f k (y ∷ xs) zero x h = ap (λ n. Some (f n)) (plus k)
-  where
-    plus : (k : ℕ) → k ≡ k + 0
-    plus k = omega arith
-numbered-from f k (y ∷ xs) (suc i) x h = numbered-from f (k + 1) xs i x h ∙ ap (λ n. Some (f n)) (plus k i)
-  where
-    plus : (k i : ℕ) → k + 1 + i ≡ k + suc i
-    plus k i = omega arith
+numbered-from f k (y ∷ xs) zero x h = ap (λ n. Some (f n)) (sym (add-zero k))
+numbered-from f k (y ∷ xs) (suc i) x h =
+    let e : k + 1 + i ≡ k + suc i = omega arith in numbered-from f (k + 1) xs i x h ∙ ap (λ n. Some (f n)) e
 
 start-at : (plan : Plan) (b : ℕ) (x : BridgePlan) → numbered plan.bridges b ≡ Some x
     → numbered (start_shape plan).states b ≡ Some (states_after plan b [])
 start-at plan zero x h = cc
-start-at plan (suc i) x h = numbered-from (λ n. states_after plan n []) 1 plan.bridges i x h
-    ∙ ap (λ n. Some (states_after plan n [])) (plus i)
-  where
-    plus : (i : ℕ) → 1 + i ≡ suc i
-    plus i = omega arith
+start-at plan (suc i) x h =
+    let e : 1 + i ≡ suc i = omega arith in
+    numbered-from (λ n. states_after plan n []) 1 plan.bridges i x h ∙ ap (λ n. Some (states_after plan n [])) e
 
 pub still_frames_are_traced : StillFramesAreTraced
 still_frames_are_traced rules plan rec lawful still mark entry planned forest = record {
@@ -167,19 +161,11 @@ lawful-nothing : (rules : Rules) (plan : Plan) (b : ℕ) (earlier steps : List S
 lawful-nothing rules plan b earlier [] fixed lawful unset = refl
 lawful-nothing rules plan b earlier (step ∷ steps) fixed lawful unset =
     let now = fits-nothing rules plan b earlier step fixed lawful.0
-    (left-false (is_setting step) (list_any is_setting steps) unset) in
+    (or_parts (is_setting step) (list_any is_setting steps) unset).0 in
     let later = lawful-nothing rules plan b (earlier ++ step ∷ []) steps fixed lawful.1
-    (right-false (is_setting step) (list_any is_setting steps) unset) in
+    (or_parts (is_setting step) (list_any is_setting steps) unset).1 in
     flat_map-append states_in (moved_of step) (flat_map moved_of steps) ∙ ap (λ front. front ++ changes_of steps) now
     ∙ later
-  where
-    left-false : (a b : Bool) → (a || b) ≡ false → a ≡ false
-    left-false true b e = e
-    left-false false b e = refl
-
-    right-false : (a b : Bool) → (a || b) ≡ false → b ≡ false
-    right-false true b e = cc
-    right-false false b e = e
 
 pub planned_states_stay : PlannedStatesStay
 planned_states_stay rules plan rec fixed lawful unset = each rec.bridges (λ i steps at.

@@ -1,6 +1,6 @@
 -- Local ports in use, link by link.
-use Rattle.std.proofs.Common.{◌≡◌, ◌≤◌, ◌<◌, ℕ, Bool, true, false, List, [], ◌∷◌, map, ◌||◌, ◌↔◌, length, get_or}
-use Rattle.std.proofs.Common.{arith, refl}
+use Rattle.std.proofs.Common.{◌≡◌, ◌≤◌, ◌<◌, ℕ, Bool, false, List, [], ◌∷◌, map, ◌||◌, ◌↔◌, length, get_or, arith}
+use Rattle.std.proofs.Common.{refl}
 use Rattle.std.specs.List.{list_any, IsDistinct}
 use Rattle.pb_lan.proofs.Distinctness.{none_is, none_tested, list_any-map, after_first, after_first-cons}
 use Rattle.pb_lan.specs.Plans.{is_same_port, ports_in}
@@ -18,9 +18,8 @@ list_any-ports_in p (l ∷ links) customers =
     by_first (p (l.a.bridge, l.a.port)) (p (l.b.bridge, l.b.port)) _ _ (list_any-ports_in p links customers)
   where
     by_first : (a b : Bool) {o : Bool} (n c : Bool) → o ≡ (n || c) → (a || (b || o)) ≡ (((a || b) || n) || c)
-    by_first true b n c e = refl
-    by_first false true n c e = refl
     by_first false false n c e = e
+    by_first _ _ n c e = refl
 
 -- one more link, whose ends are free
 pub ports_rest : (links : List LinkPlan) (customers : List CustomerPlan) (link : LinkPlan)

@@ -149,7 +149,11 @@ walks rules plan rec shape entry mark rooted followed = record {
     λ m. subst (λ p. ComesBy plan shape rec mark v entry p b q item)
         (sym h) tt,
   );
-  own = λ b q item o. (arrivals.own b q item o, λ m. absurd (unmarked (subst (λ w. has_mark mark w ≡ true) o.0 m)));
+  own = λ b q item o. (
+    arrivals.own b q item o,
+    λ m.
+        let h : has_mark mark None ≡ true = subst (λ w. has_mark mark w ≡ true) o.0 m in cc,
+  );
   relays = λ b r earlier later q item learnt chosen refused moved at follows contains known.
       let x = relays-sent rules plan rec shape entry mark rooted followed b r earlier later q item learnt chosen
       refused moved at follows contains known in
@@ -162,9 +166,6 @@ walks rules plan rec shape entry mark rooted followed = record {
     arrivals : Spreads rules plan rec (λ b q. MayComeIn plan rec (port_at plan b q))
         (λ b r. MayGoOut plan rec (port_at plan b r))
     arrivals = arrivals-spread rules plan rec followed.sound
-
-    unmarked : has_mark mark None ≡ true → ⊥
-    unmarked h = cc
 
 -- if it is of the mark, the item was sent to the customer port after a walk
 abbrev pub IsSentTo : Plan → Shape → Record → Mark → CustomerPlan → CustomerPlan → Item → Type 0

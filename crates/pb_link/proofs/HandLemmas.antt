@@ -9,14 +9,20 @@ use Rattle.pb_lan.specs.Events.{is_all_fetched}
 use Rattle.pb_steps.specs.StepLists.{StepsView, given_back, with_step}
 use Rattle.pb_lan.specs.declared.step.Item.{Item}
 use Rattle.pb_lan.specs.declared.step.Step.{Step}
-use Rattle.pb_link.specs.Holdings.{brought_by, brought_at, held, is_nothing, this_of, holding_of, HasRoom, IsHand}
+use Rattle.pb_link.specs.Holdings.{brought_by, brought_at, held, this_of, holding_of, HasRoom, IsHand}
 use Rattle.pb_link.specs.declared.holding.Holding.{Holding}
 use Rattle.pb_link.specs.declared.holding.Holding.TheVariants.{Nothing, At, This}
 
 -- what a step more adds to a list that steps give
 pub flat_map-more : {X : Type 0} (f : Step → List X) (steps : List Step) (step : Step)
     → flat_map f (steps ++ step ∷ []) ≡ flat_map f steps ++ f step
-flat_map-more f steps step = flat_map-append f steps (step ∷ []) ∙ ap (λ z. flat_map f steps ++ z) (append-nil (f step))
+flat_map-more f steps step = flat_map-append f steps (step ∷ [])
+    ∙ ap (λ z. flat_map f steps ++ z) (append-nil (f step))
+
+pub flat_map-none : {X : Type 0} (f : Step → List X) (step : Step) → f step ≡ [] → (steps : List Step)
+    → flat_map f (steps ++ step ∷ []) ≡ flat_map f steps
+flat_map-none f step e steps = flat_map-more f steps step ∙ ap (λ z. flat_map f steps ++ z) e
+    ∙ append-nil (flat_map f steps)
 
 -- what follows a list stands behind it
 pub slice_get-next : {X : Type 0} (xs ys : List X) (y : X) → slice_get (xs ++ y ∷ ys) (length xs) ≡ Some y
@@ -30,41 +36,17 @@ brought-front [] more place item e = cc
 brought-front (step ∷ steps) more zero item e = e
 brought-front (step ∷ steps) more (suc place) item e = brought-front steps more place item e
 
--- whether all that came has gone
-pub all-gone : (gone come : List Item) → gone ≡ come → is_all_fetched come gone ≡ true
-all-gone gone come e = grind (arith, ap length e)
-
-pub one-left : (gone come : List Item) (item : Item) → gone ++ item ∷ [] ≡ come → is_all_fetched come gone ≡ false
+-- not all that came has gone
+one-left : (gone come : List Item) (item : Item) → gone ++ item ∷ [] ≡ come → is_all_fetched come gone ≡ false
 one-left gone come item e = grind (arith, ap length e, length-append gone (item ∷ []))
 
 -- nothing is in hand where all that came has gone
-pub nothing-is : (steps : List Step) (is_kept : Bool) (gone come : List Item) (hand : Holding)
-    → IsHand steps is_kept gone come hand → is_nothing hand ≡ is_all_fetched come gone
-nothing-is steps is_kept gone come Nothing h = sym (all-gone gone come h)
-nothing-is steps is_kept gone come (At place) h = sym (one-left gone come h.1 h.3)
-nothing-is steps is_kept gone come (This item) h = sym (one-left gone come item h.1)
-
 pub nothing_in_hand : (steps : List Step) (is_kept : Bool) (gone come : List Item) (hand : Holding)
     → IsHand steps is_kept gone come hand
     → is_all_fetched come gone ≡ true → hand ≡ Nothing
 nothing_in_hand steps is_kept gone come Nothing h e = refl
 nothing_in_hand steps is_kept gone come (At place) h e = let one = one-left gone come h.1 h.3 in cc
 nothing_in_hand steps is_kept gone come (This item) h e = let one = one-left gone come item h.1 in cc
-
--- an item is in hand where not all that came has gone, and by value where steps are only counted
-pub some_in_hand : (steps : List Step) (is_kept : Bool) (gone come : List Item) (hand : Holding)
-    → IsHand steps is_kept gone come hand
-    → is_all_fetched come gone ≡ false → (item : Item) × (held steps hand ≡ Some item)
-some_in_hand steps is_kept gone come Nothing h e = let all = all-gone gone come h in cc
-some_in_hand steps is_kept gone come (At place) h e = (h.1, h.2)
-some_in_hand steps is_kept gone come (This item) h e = (item, refl)
-
-pub this_in_hand : (steps : List Step) (is_kept : Bool) (gone come : List Item) (hand : Holding)
-    → IsHand steps is_kept gone come hand
-    → is_kept ≡ false → is_all_fetched come gone ≡ false → (item : Item) × (hand ≡ This item)
-this_in_hand steps is_kept gone come Nothing h k e = let all = all-gone gone come h in cc
-this_in_hand steps is_kept gone come (At place) h k e = let so = h.0 in cc
-this_in_hand steps is_kept gone come (This item) h k e = (item, refl)
 
 -- the item in hand is the one that came and has not gone
 pub whole_by : (steps : List Step) (is_kept : Bool) (gone come : List Item) (hand : Holding) (item : Item)
@@ -74,14 +56,6 @@ whole_by steps is_kept gone come Nothing item h e = cc
 whole_by steps is_kept gone come (At place) item h e = let same : h.1 ≡ item = Some-injective (sym h.2 ∙ e) in rw
     (← same) h.3
 whole_by steps is_kept gone come (This other) item h e = let same : other ≡ item = Some-injective e in rw (← same) h.1
-
--- it is found in the steps that can be seen
-pub held-seen : (seen steps : List Step) (is_kept : Bool) (gone come : List Item) (hand : Holding)
-    → IsHand steps is_kept gone come hand
-    → (is_kept ≡ true → seen ≡ steps) → held seen hand ≡ held steps hand
-held-seen seen steps is_kept gone come Nothing h same = refl
-held-seen seen steps is_kept gone come (At place) h same = ap (λ (s : List Step). held s (At place)) (same h.0)
-held-seen seen steps is_kept gone come (This item) h same = refl
 
 -- after a step that neither brings an item nor lets one go
 pub hand-kept : (steps : List Step) (step : Step) (is_kept : Bool) (gone come : List Item) (hand : Holding)
@@ -95,7 +69,8 @@ hand-kept steps step is_kept gone come (This item) h = h
 pub hand-new : (steps : List Step) (step : Step) (is_kept : Bool) (gone come : List Item) (item : Item)
     → brought_by step ≡ Some item → gone ++ item ∷ [] ≡ come
     → IsHand (steps ++ step ∷ []) is_kept gone come (holding_of (length steps) (given_back is_kept step))
-hand-new steps step true gone come item e whole = (refl, item, ap brought_at (slice_get-next steps [] step) ∙ e, whole)
+hand-new steps step true gone come item e whole =
+    (refl, item, ap brought_at (slice_get-next steps [] step) ∙ e, whole)
 hand-new steps step false gone come item e whole =
     subst (λ (o : Option Item). IsHand (steps ++ step ∷ []) false gone come (this_of o)) (sym e) (refl, whole)
 

@@ -9,16 +9,18 @@ use Rattle.pb_lan.specs.LaneLists.{Taken, all_taken, taken, taken_by, carried, p
 use Rattle.pb_steps.specs.StepLists.{StepsView, given_back}
 use Rattle.pb_lan.specs.declared.step.Item.{Item}
 use Rattle.pb_lan.specs.declared.step.Step.{Step}
-use Rattle.pb_lan.specs.declared.step.Step.TheVariants.{Poll, Feed, Deliver, Receive, Transmit, Tick, Admin, Take, Put}
+use Rattle.pb_lan.specs.declared.step.Step.TheVariants.{Take, Put}
 use Rattle.pb_link.specs.Holdings.{held, holding_of, IsHand}
 use Rattle.pb_link.specs.Lanes.{is_hand_empty, in_hand, IsLaneKept}
 use Rattle.pb_link.specs.declared.holding.Holding.{Holding}
 use Rattle.pb_link.specs.declared.holding.Holding.TheVariants.{Nothing, At, This}
-use Rattle.pb_link.proofs.HandLemmas.{flat_map-more, slice_get-next, nothing_in_hand, hand-new, whole_by}
+use Rattle.pb_link.proofs.HandLemmas.{flat_map-more, flat_map-none, slice_get-next, nothing_in_hand, hand-new}
+use Rattle.pb_link.proofs.HandLemmas.{whole_by}
 
 -- items that are counted, and one more with the next number
 counted-more : (losses : List ℕ) (n : ℕ) (ts : List Taken) (t : Taken) → AreCounted losses n ts
-    → t.number ≡ n + length ts → t.lost ≡ list_any (λ k. k == n + length ts) losses → AreCounted losses n (ts ++ t ∷ [])
+    → t.number ≡ n + length ts → t.lost ≡ list_any (λ k. k == n + length ts) losses
+    → AreCounted losses n (ts ++ t ∷ [])
 counted-more losses n [] t counted number lost = let e : n + 0 ≡ n = omega arith in (rw e at number, rw e at lost, tt)
 counted-more losses n (x ∷ ts) t counted number lost =
     let e : n + suc (length ts) ≡ (n + 1) + length ts = omega arith in
@@ -27,15 +29,8 @@ counted-more losses n (x ∷ ts) t counted number lost =
 -- each step takes at most one item
 pub length-taken : (steps : List Step) → length (taken steps) ≤ length steps
 length-taken [] = omega arith
-length-taken (Poll item ∷ steps) = omega (arith, length-taken steps)
-length-taken (Feed item ∷ steps) = omega (arith, length-taken steps)
-length-taken (Deliver item gone ∷ steps) = omega (arith, length-taken steps)
-length-taken (Receive port item learnt outcome moved ∷ steps) = omega (arith, length-taken steps)
-length-taken (Transmit port item ∷ steps) = omega (arith, length-taken steps)
-length-taken (Tick now moved ∷ steps) = omega (arith, length-taken steps)
-length-taken (Admin port up moved ∷ steps) = omega (arith, length-taken steps)
 length-taken (Take number item lost ∷ steps) = omega (arith, length-taken steps)
-length-taken (Put item ∷ steps) = omega (arith, length-taken steps)
+length-taken (_ ∷ steps) = omega (arith, length-taken steps)
 
 -- nothing stands behind a list
 none-behind : {X : Type 0} (xs : List X) → slice_get xs (length xs) ≡ None
@@ -47,7 +42,8 @@ pub none_in_hand : (steps : List Step) → put steps ≡ carried steps → in_ha
 none_in_hand steps held = ap (λ (items : List Item). slice_get (carried steps) (length items)) held
     ∙ none-behind (carried steps)
 
-pub one_in_hand : (steps : List Step) (item : Item) → put steps ++ item ∷ [] ≡ carried steps → in_hand steps ≡ Some item
+pub one_in_hand : (steps : List Step) (item : Item) → put steps ++ item ∷ [] ≡ carried steps
+    → in_hand steps ≡ Some item
 one_in_hand steps item whole = ap (λ (items : List Item). slice_get items (length (put steps))) (sym whole)
     ∙ slice_get-next (put steps) [] item
 
@@ -58,34 +54,19 @@ hand-item steps is_kept Nothing h = sym (none_in_hand steps h)
 hand-item steps is_kept (At place) h = h.2 ∙ sym (one_in_hand steps h.1 h.3)
 hand-item steps is_kept (This item) h = sym (one_in_hand steps item h.1)
 
--- what a Take adds to the lists
-all-take : (steps : List Step) (number : ℕ) (item : Item) (lost : Bool)
-    → all_taken (steps ++ Take number item lost ∷ []) ≡ all_taken steps
-    ++ record { number = number; item = item; lost = lost } ∷ []
-all-take steps number item lost = flat_map-more taken_by steps (Take number item lost)
-
 abbrev items_of : List Taken → List Item
 items_of ts = map (λ (t : Taken). t.item) ts
 
 abbrev kept_of : List Taken → List Taken
 kept_of ts = filter (λ (t : Taken). not t.lost) ts
 
-taken-take : (steps : List Step) (number : ℕ) (item : Item) (lost : Bool)
-    → taken (steps ++ Take number item lost ∷ []) ≡ taken steps ++ item ∷ []
-taken-take steps number item lost =
-    ap items_of (all-take steps number item lost) ∙ map-append (λ (t : Taken). t.item) (all_taken steps)
-    (record { number = number; item = item; lost = lost } ∷ [])
-
-put-take : (steps : List Step) (number : ℕ) (item : Item) (lost : Bool)
-    → put (steps ++ Take number item lost ∷ []) ≡ put steps
-put-take steps number item lost = flat_map-more put_by steps (Take number item lost) ∙ append-nil (put steps)
-
+-- what a Take adds to the lists
 carried-take : (steps : List Step) (number : ℕ) (item : Item) (lost : Bool)
     → carried (steps ++ Take number item lost ∷ []) ≡ carried steps
     ++ items_of (kept_of (record { number = number; item = item; lost = lost } ∷ []))
 carried-take steps number item lost =
     let one : List Taken = record { number = number; item = item; lost = lost } ∷ [] in
-    ap (λ (ts : List Taken). items_of (kept_of ts)) (all-take steps number item lost)
+    ap (λ (ts : List Taken). items_of (kept_of ts)) (flat_map-more taken_by steps (Take number item lost))
     ∙ ap items_of (filter-append (λ (t : Taken). not t.lost) (all_taken steps) one)
     ∙ map-append (λ (t : Taken). t.item) (kept_of (all_taken steps)) (kept_of one)
 
@@ -96,14 +77,17 @@ counted-take : (losses : List ℕ) (steps : List Step) (count : ℕ) (item : Ite
 counted-take losses steps count item lost counted e is_lost =
     let many : count ≡ 0 + length (all_taken steps) = e ∙ length-map (all_taken steps) (λ (t : Taken). t.item)
     ∙ omega arith in
-    subst (λ (ts : List Taken). AreCounted losses 0 ts) (sym (all-take steps count item lost))
+    subst (λ (ts : List Taken). AreCounted losses 0 ts) (sym (flat_map-more taken_by steps (Take count item lost)))
     (counted-more losses 0 (all_taken steps) (record { number = count; item = item; lost = lost }) counted many
     (is_lost ∙ ap (λ (n : ℕ). list_any (λ k. k == n) losses) many))
 
 length-take : (steps : List Step) (count : ℕ) (item : Item) (lost : Bool) → count ≡ length (taken steps)
     → count + 1 ≡ length (taken (steps ++ Take count item lost ∷ []))
 length-take steps count item lost e =
-    omega (arith, e, ap length (taken-take steps count item lost), length-append (taken steps) (item ∷ []))
+    let step : Step = Take count item lost in
+    let more : taken (steps ++ step ∷ []) ≡ taken steps ++ item ∷ [] = ap items_of (flat_map-more taken_by steps step)
+    ∙ map-append (λ (t : Taken). t.item) (all_taken steps) (taken_by step) in
+    omega (arith, e, ap length more, length-append (taken steps) (item ∷ []))
 
 -- after a Take
 after_take : (losses : List ℕ) (steps : List Step) (is_kept : Bool) (count : ℕ) (item : Item) (lost : Bool)
@@ -112,30 +96,30 @@ after_take : (losses : List ℕ) (steps : List Step) (is_kept : Bool) (count : �
     → IsLaneKept losses (steps ++ Take count item lost ∷ []) is_kept
     (if lost then Nothing else holding_of (length steps) (given_back is_kept (Take count item lost))) (count + 1)
 after_take losses steps is_kept count item true kept e =
-    let empty : put (steps ++ Take count item true ∷ []) ≡ carried (steps ++ Take count item true ∷ []) =
-    put-take steps count item true ∙ kept.held ∙ sym (carried-take steps count item true ∙ append-nil (carried steps))
-    in
+    let step : Step = Take count item true in
+    let empty : put (steps ++ step ∷ []) ≡ carried (steps ++ step ∷ []) = flat_map-none put_by step refl steps
+    ∙ kept.held ∙ sym (carried-take steps count item true ∙ append-nil (carried steps)) in
     record {
       lawful = record {
-        kinds = All-append IsLaneStep steps (Take count item true ∷ []) kept.lawful.kinds (tt, tt);
+        kinds = All-append IsLaneStep steps (step ∷ []) kept.lawful.kinds (tt, tt);
         counted = counted-take losses steps count item true kept.lawful.counted kept.counted e;
-        held = (None, append-nil (put (steps ++ Take count item true ∷ [])) ∙ empty);
+        held = (None, append-nil (put (steps ++ step ∷ [])) ∙ empty);
       };
       held = empty;
       counted = length-take steps count item true kept.counted;
     }
 after_take losses steps is_kept count item false kept e =
-    let full : put (steps ++ Take count item false ∷ []) ++ item ∷ [] ≡ carried (steps ++ Take count item false ∷ []) =
-    ap (λ (items : List Item). items ++ item ∷ []) (put-take steps count item false ∙ kept.held)
+    let step : Step = Take count item false in
+    let full : put (steps ++ step ∷ []) ++ item ∷ [] ≡ carried (steps ++ step ∷ []) =
+    ap (λ (items : List Item). items ++ item ∷ []) (flat_map-none put_by step refl steps ∙ kept.held)
     ∙ sym (carried-take steps count item false) in
     record {
       lawful = record {
-        kinds = All-append IsLaneStep steps (Take count item false ∷ []) kept.lawful.kinds (tt, tt);
+        kinds = All-append IsLaneStep steps (step ∷ []) kept.lawful.kinds (tt, tt);
         counted = counted-take losses steps count item false kept.lawful.counted kept.counted e;
         held = (Some item, full);
       };
-      held = hand-new steps (Take count item false) is_kept (put (steps ++ Take count item false ∷ []))
-          (carried (steps ++ Take count item false ∷ [])) item refl full;
+      held = hand-new steps step is_kept (put (steps ++ step ∷ [])) (carried (steps ++ step ∷ [])) item refl full;
       counted = length-take steps count item false kept.counted;
     }
 
@@ -163,12 +147,11 @@ pub after_put : (losses : List ℕ) (steps : List Step) (is_kept : Bool) (hand :
     → IsLaneKept losses steps is_kept hand count
     → in_hand steps ≡ Some item → IsLaneKept losses (steps ++ Put item ∷ []) is_kept Nothing count
 after_put losses steps is_kept hand count item kept e =
-    let all_so : all_taken (steps ++ Put item ∷ []) ≡ all_taken steps = flat_map-more taken_by steps (Put item)
-    ∙ append-nil (all_taken steps) in
-    let put_so : put (steps ++ Put item ∷ []) ≡ put steps ++ item ∷ [] = flat_map-more put_by steps (Put item) in
-    let empty : put (steps ++ Put item ∷ []) ≡ carried (steps ++ Put item ∷ []) = put_so
-    ∙ next_put steps is_kept hand item kept.held e ∙ ap (λ (ts : List Taken). items_of (kept_of ts)) (sym all_so)
+    let all_so : all_taken (steps ++ Put item ∷ []) ≡ all_taken steps = flat_map-none taken_by (Put item) refl steps
     in
+    let empty : put (steps ++ Put item ∷ []) ≡ carried (steps ++ Put item ∷ []) =
+    flat_map-more put_by steps (Put item) ∙ next_put steps is_kept hand item kept.held e
+    ∙ ap (λ (ts : List Taken). items_of (kept_of ts)) (sym all_so) in
     record {
       lawful = record {
         kinds = All-append IsLaneStep steps (Put item ∷ []) kept.lawful.kinds (tt, tt);

@@ -1,32 +1,7 @@
--- Texts that are put behind one another.
-use Rattle.std.proofs.Common.{◌≡◌, ◌⊎◌, ℕ, suc, ◌+◌, ◌-◌, ◌<◌, List, [], ◌∷◌, ◌++◌, flat_map, Ok, Err, OnOk, refl}
-use Rattle.std.proofs.Common.{sym, ap, ◌∙◌, arith, ⊎_elim, append_assoc, append-nil}
-use Rattle.std.specs.List.{range_with_len, zip}
-use Rattle.std.specs.declared.result.Result.{Result}
-
--- one text more
-pub with_piece : (old mid new a b : List ℕ) → mid ≡ old ++ a → new ≡ mid ++ b → new ≡ old ++ (a ++ b)
-with_piece old mid new a b e f = f ∙ ap (λ t. t ++ b) e ∙ append_assoc old a b
-
--- the same of a call whose result is returned as it is
-pub last_piece : {T E : Type 0} (r : Result T E) (old mid new a b : List ℕ) → mid ≡ old ++ a → OnOk r (new ≡ mid ++ b)
-    → OnOk r (new ≡ old ++ (a ++ b))
-last_piece (Ok x) old mid new a b e f = with_piece old mid new a b e f
-last_piece (Err d) old mid new a b e f = f
-
--- the first of the numbers that are left
-from_first : (k n : ℕ) → k < n → range_with_len k (n - k) ≡ k ∷ range_with_len (k + 1) (n - (k + 1))
-from_first k n l =
-    let e : n - k ≡ suc (n - (k + 1)) = omega arith in
-    ap (λ m. range_with_len k m) e
-
--- one number's text more, where those of the numbers from there on make the whole
-pub numbers_more : (f : ℕ → List ℕ) (k n : ℕ) (old new whole : List ℕ) → k < n → new ≡ old ++ f k
-    → old ++ flat_map f (range_with_len k (n - k)) ≡ whole
-    → new ++ flat_map f (range_with_len (k + 1) (n - (k + 1))) ≡ whole
-numbers_more f k n old new whole l e w =
-    let rest = flat_map f (range_with_len (k + 1) (n - (k + 1))) in
-    ap (λ t. t ++ rest) e ∙ append_assoc old (f k) rest ∙ sym (ap (λ ks. old ++ flat_map f ks) (from_first k n l)) ∙ w
+-- Texts of pairs, put behind one another.
+use Rattle.std.proofs.Common.{◌≡◌, ◌⊎◌, ℕ, List, [], ◌∷◌, ◌++◌, flat_map, refl, sym, ap, ◌∙◌, ⊎_elim, append_assoc}
+use Rattle.std.proofs.Common.{append-nil}
+use Rattle.std.specs.List.{zip}
 
 -- a list of nothing gives no pairs
 zip_nil : {A B : Type 0} (xs : List A) → zip {K = A} {X = B} xs [] ≡ []

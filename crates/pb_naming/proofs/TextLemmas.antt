@@ -1,6 +1,7 @@
 -- Texts of several things, one behind the other.
 use Rattle.std.proofs.Common.{◌≡◌, ◌<◌, ◌+◌, ℕ, zero, suc, List, [], ◌∷◌, ◌++◌, drop, flat_map, length, refl, sym, ap}
 use Rattle.std.proofs.Common.{subst, ◌∙◌, arith, append_assoc}
+use Rattle.pb_frame.proofs.TextLemmas.{with_piece}
 use Rattle.pb_lan.specs.Numbering.{numbers_from}
 
 -- the numbers from here on
@@ -22,10 +23,6 @@ numbers_more f xs k out more all within grown so_far =
     let rest = flat_map f (numbers_from (k + 1 + 1) (drop (k + 1) xs)) in
     ap (λ z. z ++ rest) grown ∙ append_assoc out (f (k + 1)) rest
     ∙ sym (ap (λ ns. out ++ flat_map f ns) (numbers_step xs k (k + 1) within)) ∙ so_far
-
--- one text more
-pub with_piece : (old mid new a b : List ℕ) → mid ≡ old ++ a → new ≡ mid ++ b → new ≡ old ++ (a ++ b)
-with_piece old mid new a b e f = f ∙ ap (λ z. z ++ b) e ∙ append_assoc old a b
 
 -- three texts, one behind the other
 pub join_three : (old a b c one two new : List ℕ) → one ≡ old ++ a → two ≡ one ++ b → new ≡ two ++ c

@@ -1,14 +1,16 @@
 -- What a network keeps and answers after an event was done, and after one that met want of memory.
-use Rattle.std.proofs.Common.{◌≡◌, ℕ, suc, ◌+◌, ◌<◌, Bool, true, false, not, ◌||◌, ◌==◌, List, [], ◌∷◌, ◌++◌, Some}
-use Rattle.std.proofs.Common.{Ok, Err, map, length, slice_get, get_or, refl, sym, ap, subst, ◌∙◌, arith, Global}
+use Rattle.std.proofs.Common.{◌≡◌, ℕ, suc, ◌+◌, ◌<◌, Bool, true, false, ◌||◌, ◌==◌, ◌↔◌, List, [], ◌∷◌, ◌++◌}
+use Rattle.std.proofs.Common.{Some, Ok, Err, map, length, get_or, refl, sym, ap, subst, ◌∙◌, arith, Global}
+use Rattle.std.proofs.lemmas.Bool.{eq-eqb}
 use Rattle.std.proofs.lemmas.Bool.Decides.{nat_tests}
 use Rattle.std.proofs.lemmas.List.{map-set}
 use Rattle.std.proofs.Math.ListN.{set}
 use Rattle.std.specs.declared.collections.VecDeque.{VecDeque}
 use Rattle.std.specs.declared.result.Result.{Result}
+use Rattle.std.specs.Result.{IsErrOf}
 use Rattle.pb_lan.specs.BridgeLists.{IsLawfulBridge, Fits}
 use Rattle.pb_lan.specs.Choice.{now_after}
-use Rattle.pb_lan.specs.Events.{HasDone, IsStepOf, place_of, with_step}
+use Rattle.pb_lan.specs.Events.{HasDone, IsStepOf, place_of, with_step, names_something, is_idle, is_at_limit}
 use Rattle.pb_lan.specs.LaneLists.{IsLawfulLane}
 use Rattle.pb_lan.specs.PortLists.{IsLawfulPort}
 use Rattle.pb_lan.specs.Records.{steps_of, received_by, transmitted_by}
@@ -40,46 +42,57 @@ use Rattle.pb_net.specs.Slots.{IsSlot, MeetsSlot, IsLaneStart, IsLaneEnd, losses
 use Rattle.pb_net.specs.declared.did.Did.{Did}
 use Rattle.pb_net.specs.declared.did.Did.TheVariants.{Done}
 use Rattle.pb_net.specs.declared.fault.NetFault.{NetFault}
-use Rattle.pb_net.specs.declared.fault.NetFault.TheVariants.{Memory}
+use Rattle.pb_net.specs.declared.fault.NetFault.TheVariants.{StepLimit, Memory}
 use Rattle.pb_net.specs.declared.net.Net.TheInside.{Inside}
 use Rattle.pb_net.specs.declared.slots.Spot.{Spot}
 use Rattle.pb_net.proofs.BridgeMoves.{after_receive, after_transmit, after_quiet}
-use Rattle.pb_net.proofs.KnownSpots.{items_in, ins_of, outs_of, rec_in, shown, KeepsAs, Keeps, StandsAt, BridgeAt}
+use Rattle.pb_net.proofs.DueLemmas.{limit_is, due_within}
+use Rattle.pb_net.proofs.KnownSpots.{items_in, ins_of, outs_of, rec_of, rec_in, shown, KeepsAs, StandsAt, BridgeAt}
 use Rattle.pb_net.proofs.KnownSpots.{CustomerAt, StartAt, EndAt, inbox_at, outbox_at}
 use Rattle.pb_net.proofs.LaneMoves.{after_take, after_put}
-use Rattle.pb_net.proofs.OneMore.{steps_of-map}
-use Rattle.pb_net.proofs.Placing.{placed_bridge, placed_lane, placed_customer, recorded_bridge, recorded_lane}
-use Rattle.pb_net.proofs.Placing.{recorded_customer, unrecorded_bridge, unrecorded_lane, unrecorded_customer}
+use Rattle.pb_net.proofs.OneMore.{steps_of-map, one_more-map, map-set_kept}
+use Rattle.pb_net.proofs.Placing.{placed_bridge, placed_lane, placed_customer}
 use Rattle.pb_net.proofs.PortMoves.{after_poll, after_feed, after_deliver}
 
 abbrev pub net_with : Plan → Record → NetView
 net_with plan rec = record { plan = plan; rec = rec }
 
--- want of memory is answered where the event was due and nothing changed
-pub answers_memory : {net : NetView} (s : Inside) (event : Event) (rec : Record) (result : Result Did NetFault)
-    (fault : NetFault)
-    → shown s ≡ net → IsDue (shown s) event → rec ≡ rec_in s → result ≡ Err fault → fault ≡ Memory
+-- a fault is answered where nothing changed
+answers_err : {net : NetView} {rec : Record} {result : Result Did NetFault} (s : Inside) (event : Event)
+    (told : NetFault)
+    → shown s ≡ net → rec ≡ rec_in s → (fault : NetFault) × (result ≡ Err fault) × (fault ≡ told)
+    → (net_with s.plan rec ≡ shown s → IsAnswer (shown s) event (Err told) (net_with s.plan rec))
     → IsAnswer net event result (net_with s.plan rec)
-answers_memory s event rec result fault view due same e m =
+answers_err {net} {rec} {result} s event told view same met answer =
     subst (λ (v : NetView). IsAnswer v event result (net_with s.plan rec)) view
     (subst (λ (x : Result Did NetFault). IsAnswer (shown s) event x (net_with s.plan rec))
-    (sym (e ∙ ap (λ z. Err z) m)) (due, ap (net_with s.plan) same))
+    (sym (met.1 ∙ ap (λ z. Err z) met.2)) (answer (ap (net_with s.plan) same)))
 
--- and a bridge's fault, where it isn't the limit
-pub answers_fault : {net : NetView} (s : Inside) (event : Event) (rec : Record) (result : Result Did NetFault)
-    (fault : NetFault) (met : BridgeFault)
-    → shown s ≡ net → IsDue (shown s) event → rec ≡ rec_in s → result ≡ Err fault → fault ≡ fault_of met
-    → (met ≡ bridge_limit → ⊥)
-    → IsAnswer net event result (net_with s.plan rec)
-answers_fault s event rec result fault bridge_limit view due same e m never = absurd (never refl)
-answers_fault s event rec result fault bridge_memory view due same e m never =
-    answers_memory s event rec result fault view due same e m
+-- want of memory, where the event was due
+pub answers_memory : {net : NetView} {rec : Record} {result : Result Did NetFault} (s : Inside) (event : Event)
+    → shown s ≡ net → IsDue (shown s) event → rec ≡ rec_in s
+    → (fault : NetFault) × (result ≡ Err fault) × (fault ≡ Memory) → IsAnswer net event result (net_with s.plan rec)
+answers_memory s event view due same met = answers_err s event Memory view same met (λ e. (due, e))
+
+-- and a bridge's fault: the limit where its list is full, else want of memory
+pub answers_fault : {net : NetView} {rec : Record} {result : Result Did NetFault} {s : Inside} {bridge port : ℕ}
+    {spot : Spot} {b : BridgeView} {T : Type 0} (event : Event) (fault : BridgeFault)
+    → BridgeAt s bridge port spot b → shown s ≡ net → rec ≡ rec_in s → names_something s.plan event ≡ true
+    → is_idle s.plan (rec_in s) event ≡ false
+    → is_at_limit s.plan (rec_in s) event ≡ (length (steps_of (rec_in s).bridges bridge) == s.plan.steps)
+    → (IsErrOf {T = T} (Err fault) bridge_limit ↔ (length b.steps ≡ b.plan.steps))
+    → (met : NetFault) × (result ≡ Err met) × (met ≡ fault_of fault) → IsAnswer net event result (net_with s.plan rec)
+answers_fault {s = s} event bridge_limit at view same named busy limit_so limit met =
+    answers_err s event StepLimit view same met
+    (λ e. (named, busy, limit_so ∙ limit_is at ∙ eq-eqb _ _ (limit.0 refl), e))
+answers_fault {s = s} event bridge_memory at view same named busy limit_so limit met =
+    answers_memory s event view (due_within at event named busy limit_so (λ l. let wrong = limit.1 l in cc)) same met
 
 -- and what was done
-pub answers_done : {net : NetView} (s : Inside) (event : Event) (rec : Record)
+pub answers_done : {net : NetView} {rec : Record} (s : Inside) (event : Event)
     → shown s ≡ net → IsDue (shown s) event → HasDone (rec_in s) event rec
     → IsAnswer net event (Ok (Done (place_of event))) (net_with s.plan rec)
-answers_done s event rec view due done =
+answers_done {rec = rec} s event view due done =
     subst (λ (v : NetView). IsAnswer v event (Ok (Done (place_of event))) (net_with s.plan rec)) view
     (due, refl, refl, done)
 
@@ -87,10 +100,6 @@ answers_done s event rec view due done =
 pub or_false : (a b : Bool) → (a || b) ≡ false → (a ≡ false) × (b ≡ false)
 or_false true b e = cc
 or_false false b e = (refl, e)
-
-pub not_false : (a : Bool) → not a ≡ false → a ≡ true
-not_false true e = refl
-not_false false e = cc
 
 -- something is there
 pub some_there : (n : ℕ) → (n == 0) ≡ false → 0 < n
@@ -108,9 +117,9 @@ pub customer_failed : {s : Inside} {port : ℕ} {spot : Spot} {old : PlaceView} 
     × (record_of s.bridges.items s.lanes.items (set s.customers.items spot.place new) ≡ rec_in s)
 customer_failed {s} {port} {spot} {old} new at number is_kept same =
     let k = at.keeps in
-    let placed = placed_customer s spot.place old new k at.here number is_kept in
-    let e = unrecorded_customer s spot.place old new at.here same in
-    ((k.0, placed, rw e k.2, k.3, k.4, k.5), e)
+    let e = ap (rec_of (rec_in s).bridges (rec_in s).lanes)
+    (map-set_kept (λ (p : PlaceView). p.steps) s.customers.items spot.place old new at.here same) in
+    ((k.0, placed_customer s spot.place old new k at.here number is_kept, rw e k.2, k.3, k.4, k.5), e)
 
 pub lane_failed : {s : Inside} {lane : ℕ} {IsSpot : Spot → Type 0} {spot : Spot} {old : LaneView} (new : LaneView)
     → StandsAt s (λ (l : LaneView). l.steps) s.lanes.items lane IsSpot spot old
@@ -119,9 +128,17 @@ pub lane_failed : {s : Inside} {lane : ℕ} {IsSpot : Spot → Type 0} {spot : S
     × (record_of s.bridges.items (set s.lanes.items spot.place new) s.customers.items ≡ rec_in s)
 lane_failed {s} {lane} {IsSpot} {spot} {old} new at losses is_kept same =
     let k = at.keeps in
-    let placed = placed_lane s spot.place old new k at.here losses is_kept in
-    let e = unrecorded_lane s spot.place old new at.here same in
-    ((k.0, placed, rw e k.2, k.3, k.4, k.5), e)
+    let e = ap (λ (lists : List (List Step)). rec_of (rec_in s).bridges lists (rec_in s).customers)
+    (map-set_kept (λ (l : LaneView). l.steps) s.lanes.items spot.place old new at.here same) in
+    ((k.0, placed_lane s spot.place old new k at.here losses is_kept, rw e k.2, k.3, k.4, k.5), e)
+
+-- a bridge's steps are those of the record still
+pub bridge_kept : {s : Inside} {bridge port : ℕ} {spot : Spot} {old : BridgeView} (new : BridgeView)
+    → BridgeAt s bridge port spot old → new.steps ≡ old.steps
+    → record_of (set s.bridges.items spot.place new) s.lanes.items s.customers.items ≡ rec_in s
+bridge_kept {s} {bridge} {port} {spot} {old} new at same =
+    ap (λ (lists : List (List Step)). rec_of lists (rec_in s).lanes (rec_in s).customers)
+    (map-set_kept (λ (b : BridgeView). b.steps) s.bridges.items spot.place old new at.here same)
 
 pub bridge_failed : {s : Inside} {bridge port : ℕ} {spot : Spot} {old : BridgeView} (new : BridgeView)
     → BridgeAt s bridge port spot old
@@ -130,9 +147,8 @@ pub bridge_failed : {s : Inside} {bridge port : ℕ} {spot : Spot} {old : Bridge
     × (record_of (set s.bridges.items spot.place new) s.lanes.items s.customers.items ≡ rec_in s)
 bridge_failed {s} {bridge} {port} {spot} {old} new at of_plan number is_kept same =
     let k = at.keeps in
-    let placed = placed_bridge s spot.place old new k at.here of_plan number is_kept in
-    let e = unrecorded_bridge s spot.place old new at.here same in
-    ((k.0, placed, rw e k.2, k.3, k.4, k.5), e)
+    let e = bridge_kept new at same in
+    ((k.0, placed_bridge s spot.place old new k at.here of_plan number is_kept, rw e k.2, k.3, k.4, k.5), e)
 
 -- an event was done: this is kept now, and its place has taken its step
 abbrev IsDoneAs : Inside → Event → List BridgeView → List LaneView → List PlaceView → List (List Item)
@@ -158,7 +174,8 @@ customer_done {s} {port} {spot} {old} new event step at number is_kept lawful st
     let grown = steps ∙ ap (λ (ms : List Step). ms ++ step ∷ []) (sym mine) in
     let kept = after (subst (λ (ms : List Step). IsLawfulPort (suc spot.place) ms) grown
     (subst (λ n. IsLawfulPort n new.steps) named lawful)) in
-    let recorded = recorded_customer s spot.place old new step at.here steps in
+    let recorded = ap (rec_of (rec_in s).bridges (rec_in s).lanes)
+    (one_more-map (λ (p : PlaceView). p.steps) s.customers.items spot.place old new step at.here steps) in
     let there = ap (λ (p : Place). with_step (rec_in s) p step) (ap (λ n. Customer n) at.numbered ∙ place) in (
       (k.0, placed_customer s spot.place old new k at.here number is_kept, rw recorded kept, k.3, k.4, k.5),
       (step, is_step, recorded ∙ there),
@@ -182,34 +199,39 @@ lane_done {s} {lane} {IsSpot} {spot} {old} new event step at losses is_kept lawf
     let grown = steps ∙ ap (λ (ms : List Step). ms ++ step ∷ []) (sym mine) in
     let kept = after (subst (λ (ms : List Step). IsLawfulLane (losses_of s.plan (suc spot.place)) ms) grown
     (subst (λ (ls : List ℕ). IsLawfulLane ls new.steps) of_plan lawful)) in
-    let recorded = recorded_lane s spot.place old new step at.here steps in
+    let recorded = ap (λ (lists : List (List Step)). rec_of (rec_in s).bridges lists (rec_in s).customers)
+    (one_more-map (λ (l : LaneView). l.steps) s.lanes.items spot.place old new step at.here steps) in
     let there = ap (λ (p : Place). with_step (rec_in s) p step) (ap (λ n. Lane n) at.numbered ∙ place) in (
       (k.0, placed_lane s spot.place old new k at.here losses is_kept, rw recorded kept, k.3, k.4, k.5),
       (step, is_step, recorded ∙ there),
     )
 
-bridge_done : {ins outs : List (List Item)} (s : Inside) (r bridge : ℕ) (old new : BridgeView) (event : Event)
-    (step : Step)
-    → Keeps s → slice_get s.bridges.items r ≡ Some old → suc r ≡ bridge
+bridge_done : {s : Inside} {bridge port : ℕ} {spot : Spot} {old : BridgeView} {ins outs : List (List Item)}
+    (new : BridgeView) (event : Event) (step : Step)
+    → BridgeAt s bridge port spot old
     → new.plan ≡ old.plan → new.number ≡ old.number → new.is_kept ≡ old.is_kept
     → Fits spanning_tree old.plan old.number old.steps step → new.steps ≡ old.steps ++ step ∷ []
     → IsStepOf event step → Bridge bridge ≡ place_of event
-    → (IsLawfulBridge spanning_tree s.plan (suc r) (steps_of (rec_in s).bridges (suc r) ++ step ∷ [])
-    → IsKept s.plan (with_step (rec_in s) (Bridge (suc r)) step) ins outs)
-    → IsDoneAs s event (set s.bridges.items r new) s.lanes.items s.customers.items ins outs
-bridge_done s r bridge old new event step k here numbered of_plan number is_kept fits steps is_step place after =
-    let named : old.number ≡ suc r = k.1.bridge_numbers r old here ∙ omega arith in
-    let mine = steps_of-map (λ (b : BridgeView). b.steps) s.bridges.items r old here in
-    let fits_here = subst (λ (p : Plan). Fits spanning_tree p (suc r) old.steps step) (k.1.planned r old here)
+    → (IsLawfulBridge spanning_tree s.plan (suc spot.place)
+    (steps_of (rec_in s).bridges (suc spot.place) ++ step ∷ [])
+    → IsKept s.plan (with_step (rec_in s) (Bridge (suc spot.place)) step) ins outs)
+    → IsDoneAs s event (set s.bridges.items spot.place new) s.lanes.items s.customers.items ins outs
+bridge_done {s} {bridge} {port} {spot} {old} new event step at of_plan number is_kept fits steps is_step place after =
+    let k = at.keeps in
+    let r = spot.place in
+    let named : old.number ≡ suc r = k.1.bridge_numbers r old at.here ∙ omega arith in
+    let mine = steps_of-map (λ (b : BridgeView). b.steps) s.bridges.items r old at.here in
+    let fits_here = subst (λ (p : Plan). Fits spanning_tree p (suc r) old.steps step) (k.1.planned r old at.here)
     (subst (λ (n : ℕ). Fits spanning_tree old.plan n old.steps step) named fits) in
     let lawful = lawful_more spanning_tree s.plan (suc r) old.steps step
     (subst (λ (ms : List Step). IsLawfulBridge spanning_tree s.plan (suc r) ms) mine (k.2.bridges (suc r)))
     fits_here in
     let kept = after (subst (λ (ms : List Step). IsLawfulBridge spanning_tree s.plan (suc r) (ms ++ step ∷ []))
     (sym mine) lawful) in
-    let recorded = recorded_bridge s r old new step here steps in
-    let there = ap (λ (p : Place). with_step (rec_in s) p step) (ap (λ n. Bridge n) numbered ∙ place) in (
-      (k.0, placed_bridge s r old new k here of_plan number is_kept, rw recorded kept, k.3, k.4, k.5),
+    let recorded = ap (λ (lists : List (List Step)). rec_of lists (rec_in s).lanes (rec_in s).customers)
+    (one_more-map (λ (b : BridgeView). b.steps) s.bridges.items r old new step at.here steps) in
+    let there = ap (λ (p : Place). with_step (rec_in s) p step) (ap (λ n. Bridge n) at.numbered ∙ place) in (
+      (k.0, placed_bridge s r old new k at.here of_plan number is_kept, rw recorded kept, k.3, k.4, k.5),
       (step, is_step, recorded ∙ there),
     )
 
@@ -272,8 +294,7 @@ receive_done {s} {bridge} {port} {spot} {old} {box} new box' at value of_plan nu
     let step : Step = Received port moved.item moved.learnt moved.outcome moved.moved in
     let there = inbox_at at value ∙ ap (λ z. Some z) moved.taken in
     rw (map-set items_in s.inboxes.items spot.slot box')
-    (bridge_done s spot.place bridge old new (Receive bridge port) step at.keeps at.here at.numbered of_plan number
-    is_kept moved.fits moved.steps refl refl
+    (bridge_done new (Receive bridge port) step at of_plan number is_kept moved.fits moved.steps refl refl
     (after_receive s.plan (rec_in s) (ins_of s) (outs_of s) spot.place spot.slot port moved.item moved.learnt
     moved.outcome moved.moved box'.items at.keeps.2 at.known.there (slot_by_index at) there))
 
@@ -286,8 +307,8 @@ pub transmit_done : {s : Inside} {bridge port : ℕ} {spot : Spot} {old : Bridge
     (ins_of s) (map items_in (set s.outboxes.items spot.slot box'))
 transmit_done {s} {bridge} {port} {spot} {old} {box} new box' at value of_plan number is_kept moved =
     rw (map-set items_in s.outboxes.items spot.slot box', moved.queued)
-    (bridge_done s spot.place bridge old new (Transmit bridge port) (Transmitted port moved.item) at.keeps at.here
-    at.numbered of_plan number is_kept moved.fits moved.steps refl refl
+    (bridge_done new (Transmit bridge port) (Transmitted port moved.item) at of_plan number is_kept moved.fits
+    moved.steps refl refl
     (after_transmit s.plan (rec_in s) (ins_of s) (outs_of s) spot.place spot.slot port moved.item box.items at.keeps.2
     at.known.there (slot_by_index at) (outbox_at at value)))
 
@@ -323,34 +344,34 @@ put_done {s} {lane} {spot} {old} {box} new box' at value losses is_kept lawful m
     at.keeps.0.sound at.keeps.2 at.known.there end.planned end.to (inbox_at at value)))
 
 -- the same at no meeting place, of a bridge that appended the step
-quiet_done : (s : Inside) (r bridge : ℕ) (old new : BridgeView) (event : Event) (step : Step) → Keeps s
-    → r < length s.plan.bridges → slice_get s.bridges.items r ≡ Some old → suc r ≡ bridge
+quiet_done : {s : Inside} {bridge port : ℕ} {spot : Spot} {old : BridgeView} (new : BridgeView) (event : Event)
+    (step : Step)
+    → BridgeAt s bridge port spot old
     → new ≡ with_bridge_step old step → Fits spanning_tree old.plan old.number old.steps step
     → ((port : ℕ) → received_by port step ≡ []) → ((port : ℕ) → transmitted_by port step ≡ []) → IsStepOf event step
     → Bridge bridge ≡ place_of event
-    → IsDoneAs s event (set s.bridges.items r new) s.lanes.items s.customers.items (ins_of s) (outs_of s)
-quiet_done s r bridge old new event step keeps within here numbered is_new fits receives transmits is_step place =
+    → IsDoneAs s event (set s.bridges.items spot.place new) s.lanes.items s.customers.items (ins_of s) (outs_of s)
+quiet_done {s} {bridge} {port} {spot} {old} new event step at is_new fits receives transmits is_step place =
     let of_plan = ap (λ (v : BridgeView). v.plan) is_new in
     let number = ap (λ (v : BridgeView). v.number) is_new in
     let is_kept = ap (λ (v : BridgeView). v.is_kept) is_new in
     let steps = ap (λ (v : BridgeView). v.steps) is_new in
-    bridge_done s r bridge old new event step keeps here numbered of_plan number is_kept fits steps is_step place
-    (after_quiet s.plan (rec_in s) (ins_of s) (outs_of s) r step keeps.2 within receives transmits)
+    bridge_done new event step at of_plan number is_kept fits steps is_step place
+    (after_quiet s.plan (rec_in s) (ins_of s) (outs_of s) spot.place step at.keeps.2 at.known.there receives
+    transmits)
 
-pub tick_done : (s : Inside) (bridge r : ℕ) (old new : BridgeView) → Keeps s → r + 1 ≡ bridge
-    → r < length s.plan.bridges → slice_get s.bridges.items r ≡ Some old → HasTicked old new
-    → IsDoneAs s (Tick bridge) (set s.bridges.items r new) s.lanes.items s.customers.items (ins_of s) (outs_of s)
-tick_done s bridge r old new keeps place within here ticked =
-    let numbered : suc r ≡ bridge = omega (arith, place) in
-    let step : Step = Ticked (now_after old.steps + 1) ticked.0 in
-    quiet_done s r bridge old new (Tick bridge) step keeps within here numbered ticked.1 ticked.2 (λ q. refl)
+pub tick_done : {s : Inside} {bridge port : ℕ} {spot : Spot} {old : BridgeView} (new : BridgeView)
+    → BridgeAt s bridge port spot old → HasTicked old new
+    → IsDoneAs s (Tick bridge) (set s.bridges.items spot.place new) s.lanes.items s.customers.items (ins_of s)
+    (outs_of s)
+tick_done {s} {bridge} {port} {spot} {old} new at ticked =
+    quiet_done new (Tick bridge) (Ticked (now_after old.steps + 1) ticked.0) at ticked.1 ticked.2 (λ q. refl)
     (λ q. refl) tt refl
 
 pub admin_done : {s : Inside} {bridge port : ℕ} {spot : Spot} {old : BridgeView} (up : Bool) (new : BridgeView)
     → BridgeAt s bridge port spot old → HasSet old port up new
     → IsDoneAs s (Admin bridge port up) (set s.bridges.items spot.place new) s.lanes.items s.customers.items
     (ins_of s) (outs_of s)
-admin_done {s} {bridge} {port} {spot} {old} up new at has_set =
-    let step : Step = Administered port up has_set.0 in
-    quiet_done s spot.place bridge old new (Admin bridge port up) step at.keeps at.known.there at.here at.numbered
-    has_set.1 has_set.2 (λ q. refl) (λ q. refl) (refl, refl) refl
+admin_done {s} {bridge} {port} up new at has_set =
+    quiet_done new (Admin bridge port up) (Administered port up has_set.0) at has_set.1 has_set.2 (λ q. refl)
+    (λ q. refl) (refl, refl) refl

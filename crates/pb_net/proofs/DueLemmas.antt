@@ -1,17 +1,17 @@
 -- Whether an event is due, told from what the network keeps.
-use Rattle.std.proofs.Common.{◌≡◌, ℕ, ◌+◌, ◌<◌, ◌≤◌, inl, inr, Bool, true, false, not, ◌||◌, ◌&&◌, ◌==◌, nat_le, List}
-use Rattle.std.proofs.Common.{◌++◌, Some, None, Ok, Err, map, length, get_or, sym, ap, ap₂, ◌∙◌, arith, length-append}
-use Rattle.std.proofs.Common.{Global}
-use Rattle.std.proofs.lemmas.Bool.Decides.{leb_tells, nat_tests}
-use Rattle.std.proofs.lemmas.Bool.{eq-eqb}
+use Rattle.std.proofs.Common.{◌≡◌, ℕ, ◌+◌, ◌<◌, Bool, true, false, not, ◌||◌, ◌&&◌, ◌==◌, nat_le, List}
+use Rattle.std.proofs.Common.{◌++◌, Some, None, Ok, Err, map, length, get_or, sym, ap, ap₂, subst, ◌∙◌, arith}
+use Rattle.std.proofs.Common.{length-append, Global, is_some, ne_eqb}
+use Rattle.std.proofs.lemmas.Bool.Decides.{nat_tests}
 use Rattle.std.specs.declared.collections.VecDeque.{VecDeque}
 use Rattle.std.specs.declared.option.Option.{Option}
 use Rattle.std.specs.declared.result.Result.{Result}
-use Rattle.pb_frame.proofs.Lists.{true-false}
+use Rattle.pb_lan.proofs.Numbers.{numbered-exists}
 use Rattle.pb_lan.specs.Events.{names_something, is_idle, is_at_limit, is_hand_empty, is_ring_full, is_all_fetched}
 use Rattle.pb_lan.specs.Events.{is_feed_idle, is_deliver_idle, is_take_idle, is_put_idle, sent_to, fetched_from}
 use Rattle.pb_lan.specs.Events.{begins_at, ends_at}
 use Rattle.pb_lan.specs.LaneLists.{taken, put}
+use Rattle.pb_lan.specs.Numbering.{numbered}
 use Rattle.pb_lan.specs.PortLists.{fed, delivered}
 use Rattle.pb_lan.specs.Queues.{Waiting, waiting}
 use Rattle.pb_lan.specs.Records.{steps_of, received, transmitted}
@@ -26,9 +26,9 @@ use Rattle.pb_lan.specs.declared.step.Step.{Step}
 use Rattle.pb_link.specs.Hands.{PlaceView}
 use Rattle.pb_link.specs.Lanes.{LaneView, is_hand_empty as is_lane_empty}
 use Rattle.pb_relay.specs.Standing.{BridgeView}
-use Rattle.pb_net.specs.Answers.{NetView}
+use Rattle.pb_net.specs.Answers.{NetView, IsDue}
 use Rattle.pb_net.specs.Dues.{IsSifted, IsDueOr}
-use Rattle.pb_net.specs.Nets.{IsKept, record_of}
+use Rattle.pb_net.specs.Nets.{IsKept}
 use Rattle.pb_net.specs.Slots.{IsSlot, items_at}
 use Rattle.pb_net.specs.declared.fault.NetFault.{NetFault}
 use Rattle.pb_net.specs.declared.fault.NetFault.TheVariants.{StepLimit, Memory, NoSuch}
@@ -39,21 +39,9 @@ use Rattle.pb_net.proofs.KnownSpots.{inbox_at, outbox_at}
 use Rattle.pb_net.proofs.Meetings.{sent_to-customer, fetched_from-customer, sent_to-lane, fetched_from-lane}
 use Rattle.pb_net.proofs.OneMore.{items_at-here}
 
--- two comparisons that hold together
-same_le : (a b c d : ℕ) → (a ≤ b → c ≤ d) → (c ≤ d → a ≤ b) → nat_le a b ≡ nat_le c d
-same_le a b c d there back =
-    elim (leb_tells a b) [
-      | inl l ↦ elim (leb_tells c d) [
-        | inl r ↦ l.0 ∙ sym r.0
-        | inr r ↦ let k = there l.1 in
-            absurd (omega (arith, k, r.1))
-      ]
-      | inr l ↦ elim (leb_tells c d) [
-        | inl r ↦ let k = back r.1 in absurd (omega (arith, k, l.1))
-        | inr r ↦ l.0
-            ∙ sym r.0
-      ]
-    ]
+-- the same added to both sides
+le_shifted : (a b c : ℕ) → nat_le (a + b) (a + c) ≡ nat_le b c
+le_shifted a b c = grind (arith, nat_tests)
 
 -- nothing is there
 none_there : (n : ℕ) → nat_le n 0 ≡ (n == 0)
@@ -65,14 +53,15 @@ ring_full_is : (plan : Plan) (sent got left box : List Item) (ring : ℕ) → go
     → is_ring_full plan sent got ≡ nat_le ring (length box)
 ring_full_is plan sent got left box ring e here places =
     let n : length sent ≡ length got + length left = sym (ap length e) ∙ length-append got left in
-    same_le (length got + plan.ring) (length sent) plan.ring (length left) (λ h. omega arith) (λ h. omega arith)
+    ap (nat_le (length got + plan.ring)) n ∙ le_shifted (length got) plan.ring (length left)
     ∙ ap₂ nat_le (sym places) (ap length here)
 
 all_fetched_is : (sent got left box : List Item) → got ++ left ≡ sent → left ≡ box
     → is_all_fetched sent got ≡ (length box == 0)
 all_fetched_is sent got left box e here =
     let n : length sent ≡ length got + length left = sym (ap length e) ∙ length-append got left in
-    same_le (length sent) (length got) (length left) 0 (λ h. omega arith) (λ h. omega arith)
+    let all : length got ≡ length got + 0 = omega arith in
+    ap₂ nat_le n all ∙ le_shifted (length got) (length left) 0
     ∙ ap (λ (z : List Item). nat_le (length z) 0) here ∙ none_there (length box)
 
 -- what was sifted is due, where the tests are those of the event
@@ -88,9 +77,6 @@ sifted net event idle limit place (Err StepLimit) named idle_so limit_so h = (na
 sifted net event idle limit place (Err Memory) named idle_so limit_so h = h
 sifted net event idle limit place (Err NoSuch) named idle_so limit_so h = absurd h
 
-abbrev pub net_of : Plan → List BridgeView → List LaneView → List PlaceView → NetView
-net_of plan bridges lanes customers = record { plan = plan; rec = record_of bridges lanes customers }
-
 -- what stands at a slot is what was sent to its port and not received, and what was transmitted there
 -- and not fetched
 pub into_at : (plan : Plan) (rec : Record) (ins outs : List (List Item)) (b q s : ℕ) → IsKept plan rec ins outs
@@ -103,16 +89,22 @@ pub out_at : (plan : Plan) (rec : Record) (ins outs : List (List Item)) (b q s :
     → fetched_from plan rec b q ++ items_at outs s ≡ transmitted q (steps_of rec.bridges b)
 out_at plan rec ins outs b q s kept at = rw (sym at.of_bridge, sym at.of_port) (kept.out s)
 
+-- an event that is due of what callers see is due of what is kept
+pub due_here : {net : NetView} {event : Event} (s : Inside) → shown s ≡ net → IsDue net event → IsDue (shown s) event
+due_here {event = event} s view due = subst (λ (v : NetView). IsDue v event) (sym view) due
+
 -- an event of a place that stands at a spot is due, where the tests are those of the event
-pub due_is : {X : Type 0} {s : Inside} {steps : X → List Step} {places : List X} {number : ℕ} {IsSpot : Spot → Type 0}
-    {spot : Spot} {x : X} {idle : Bool}
+pub due_is : {X : Type 0} {net : NetView} {s : Inside} {steps : X → List Step} {places : List X} {number : ℕ}
+    {IsSpot : Spot → Type 0} {spot : Spot} {x : X} {idle : Bool}
     → StandsAt s steps places number IsSpot spot x → (event : Event) (result : Result (Option Spot) NetFault)
-    → names_something s.plan event ≡ true → is_idle s.plan (rec_in s) event ≡ idle
+    → shown s ≡ net → names_something net.plan event ≡ true → is_idle s.plan (rec_in s) event ≡ idle
     → is_at_limit s.plan (rec_in s) event ≡ (length (steps_of (map steps places) number) == s.plan.steps)
-    → IsSifted idle (length (steps x) == s.limit) spot result → IsDueOr (shown s) event result
-due_is {s = s} {steps = steps} {spot = spot} {x = x} {idle = idle} at event result named idle_so limit_so sift =
+    → IsSifted idle (length (steps x) == s.limit) spot result → IsDueOr net event result
+due_is {s = s} {steps = steps} {spot = spot} {x = x} {idle = idle} at event result view named idle_so limit_so sift =
     let limit = ap₂ (λ (ms : List Step) n. length ms == n) at.mine (sym at.keeps.4.steps) in
-    sifted (shown s) event idle (length (steps x) == s.limit) spot result named idle_so (limit_so ∙ limit) sift
+    let here = subst (λ (v : NetView). names_something v.plan event ≡ true) (sym view) named in
+    subst (λ (v : NetView). IsDueOr v event result) view
+    (sifted (shown s) event idle (length (steps x) == s.limit) spot result here idle_so (limit_so ∙ limit) sift)
 
 -- a Poll
 pub idle_poll_is : {s : Inside} {port : ℕ} {spot : Spot} {p : PlaceView} → CustomerAt s port spot p → (frame : List ℕ)
@@ -222,10 +214,21 @@ idle_put_is {s} {lane} {spot} {l} {box} at value =
     (items_at (ins_of s) spot.slot) box.items s.ring whole
     (items_at-here (ins_of s) spot.slot box.items (inbox_at at value)) at.keeps.4.places)
 
--- a bridge whose event is due isn't at its limit
-pub never_limit : {s : Inside} {bridge port : ℕ} {spot : Spot} {b : BridgeView} → BridgeAt s bridge port spot b
-    → (length (steps_of (rec_in s).bridges bridge) == s.plan.steps) ≡ false → length b.steps ≡ b.plan.steps → ⊥
-never_limit {s} {bridge} {port} {spot} {b} at within at_limit =
-    let same : length (steps_of (rec_in s).bridges bridge) ≡ s.plan.steps = ap length at.mine ∙ at_limit
-    ∙ ap (λ (p : Plan). p.steps) (bridge_is at).0 in
-    true-false (length (steps_of (rec_in s).bridges bridge) == s.plan.steps) (eq-eqb _ _ same) within
+-- a bridge that stands there has its number in the plan
+pub named_bridge : {s : Inside} {bridge port : ℕ} {spot : Spot} {b : BridgeView} → BridgeAt s bridge port spot b
+    → is_some (numbered s.plan.bridges bridge) ≡ true
+named_bridge {s} {bridge} {port} {spot} at = ap is_some (numbered-exists s.plan.bridges bridge
+    (omega (arith, at.known.place), omega (arith, at.known.place, at.known.there))).1
+
+-- a bridge's limit is the plan's
+pub limit_is : {s : Inside} {bridge port : ℕ} {spot : Spot} {b : BridgeView} → BridgeAt s bridge port spot b
+    → (length (steps_of (rec_in s).bridges bridge) == s.plan.steps) ≡ (length b.steps == b.plan.steps)
+limit_is at = ap₂ (λ (ms : List Step) (p : Plan). length ms == p.steps) at.mine (sym (bridge_is at).0)
+
+-- an event of a bridge that isn't at its limit is due, where nothing else hinders it
+pub due_within : {s : Inside} {bridge port : ℕ} {spot : Spot} {b : BridgeView} → BridgeAt s bridge port spot b
+    → (event : Event) → names_something s.plan event ≡ true → is_idle s.plan (rec_in s) event ≡ false
+    → is_at_limit s.plan (rec_in s) event ≡ (length (steps_of (rec_in s).bridges bridge) == s.plan.steps)
+    → (length b.steps ≡ b.plan.steps → ⊥) → IsDue (shown s) event
+due_within at event named busy limit_so not_yet =
+    record { named = named; busy = busy; within = limit_so ∙ limit_is at ∙ ne_eqb _ _ not_yet }

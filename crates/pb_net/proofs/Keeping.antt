@@ -1,6 +1,6 @@
 -- A network's lists and meeting places, with one step more.
-use Rattle.std.proofs.Common.{◌≡◌, ℕ, suc, ◌*◌, ◌<◌, ◌/◌, ◌%◌, inl, inr, List, [], ◌∷◌, ◌++◌, length, sym, ap, subst}
-use Rattle.std.proofs.Common.{◌∙◌, arith, length-set}
+use Rattle.std.proofs.Common.{◌≡◌, ℕ, suc, ◌*◌, ◌<◌, ◌/◌, ◌%◌, inl, inr, List, [], ◌∷◌, ◌++◌, length, refl, sym, ap}
+use Rattle.std.proofs.Common.{subst, ◌∙◌, arith, length-set}
 use Rattle.std.proofs.Math.ListN.{set}
 use Rattle.pb_lan.specs.BridgeLists.{IsLawfulBridge}
 use Rattle.pb_lan.specs.Events.{with_step, sent_to, fetched_from}
@@ -15,7 +15,7 @@ use Rattle.pb_lan.specs.declared.step.Place.TheVariants.{Bridge, Lane, Customer}
 use Rattle.pb_lan.specs.declared.step.Step.{Step}
 use Rattle.pb_net.specs.Nets.{IsKept}
 use Rattle.pb_net.specs.Slots.{IsSlot, bridge_of, port_of, items_at, losses_of}
-use Rattle.pb_net.proofs.Meetings.{sent_to-bridge, fetched_from-bridge}
+use Rattle.pb_net.proofs.Meetings.{sent_to-same, fetched_from-same}
 use Rattle.pb_net.proofs.OneMore.{same_or_not, steps_of-set_same, steps_of-set_other}
 
 -- a bridge's port has one slot
@@ -37,6 +37,15 @@ Fetches plan rec rec' outs outs' =
     (s : ℕ) (whole : List Item) → fetched_from plan rec (bridge_of s) (port_of s) ++ items_at outs s ≡ whole
     → fetched_from plan rec' (bridge_of s) (port_of s) ++ items_at outs' s ≡ whole
 
+-- what holds of each list of steps by its number holds of each with one changed
+each_set : (P : ℕ → List Step → Type 0) (lists : List (List Step)) (r : ℕ) (grown : List Step) → r < length lists
+    → P (suc r) grown → ((n : ℕ) → P n (steps_of lists n)) → (n : ℕ) → P n (steps_of (set lists r grown) n)
+each_set P lists r grown within changed each n = elim (same_or_not n (suc r)) [
+  | inl e ↦ subst (λ k. P k (steps_of (set lists r grown) k)) (sym e)
+      (subst (P (suc r)) (sym (steps_of-set_same lists r grown within)) changed)
+  | inr ne ↦ subst (P n) (sym (steps_of-set_other lists r n grown ne)) (each n)
+]
+
 -- a customer port has taken a step
 pub after_port : (plan : Plan) (rec : Record) (ins outs ins' outs' : List (List Item)) (r : ℕ) (step : Step)
     → IsKept plan rec ins outs → r < length plan.customers
@@ -48,7 +57,6 @@ pub after_port : (plan : Plan) (rec : Record) (ins outs ins' outs' : List (List 
 after_port plan rec ins outs ins' outs' r step kept within lawful ins_so outs_so sends fetches =
     let grown = steps_of rec.customers (suc r) ++ step ∷ [] in
     let room : r < length rec.customers = omega (arith, kept.customer_count) in
-    let here : steps_of (set rec.customers r grown) (suc r) ≡ grown = steps_of-set_same rec.customers r grown room in
     record {
       bridge_count = kept.bridge_count;
       lane_count = kept.lane_count;
@@ -57,11 +65,7 @@ after_port plan rec ins outs ins' outs' r step kept within lawful ins_so outs_so
       outbox_count = outs_so ∙ kept.outbox_count;
       bridges = kept.bridges;
       lanes = kept.lanes;
-      ports = λ n. elim (same_or_not n (suc r)) [
-        | inl e ↦ subst (λ k. IsLawfulPort k (steps_of (set rec.customers r grown) k)) (sym e)
-            (subst (λ ms. IsLawfulPort (suc r) ms) (sym here) lawful)
-        | inr ne ↦ subst (λ ms. IsLawfulPort n ms) (sym (steps_of-set_other rec.customers r n grown ne)) (kept.ports n)
-      ];
+      ports = each_set IsLawfulPort rec.customers r grown room lawful kept.ports;
       into = λ s. sends s (received (port_of s) (steps_of rec.bridges (bridge_of s))) (kept.into s);
       out = λ s. fetches s (transmitted (port_of s) (steps_of rec.bridges (bridge_of s))) (kept.out s);
     }
@@ -77,7 +81,6 @@ pub after_lane : (plan : Plan) (rec : Record) (ins outs ins' outs' : List (List 
 after_lane plan rec ins outs ins' outs' r step kept within lawful ins_so outs_so sends fetches =
     let grown = steps_of rec.lanes (suc r) ++ step ∷ [] in
     let room : r < length rec.lanes = omega (arith, kept.lane_count) in
-    let here : steps_of (set rec.lanes r grown) (suc r) ≡ grown = steps_of-set_same rec.lanes r grown room in
     record {
       bridge_count = kept.bridge_count;
       lane_count = length-set rec.lanes r grown ∙ kept.lane_count;
@@ -85,12 +88,7 @@ after_lane plan rec ins outs ins' outs' r step kept within lawful ins_so outs_so
       inbox_count = ins_so ∙ kept.inbox_count;
       outbox_count = outs_so ∙ kept.outbox_count;
       bridges = kept.bridges;
-      lanes = λ n. elim (same_or_not n (suc r)) [
-        | inl e ↦ subst (λ k. IsLawfulLane (losses_of plan k) (steps_of (set rec.lanes r grown) k)) (sym e)
-            (subst (λ ms. IsLawfulLane (losses_of plan (suc r)) ms) (sym here) lawful)
-        | inr ne ↦ subst (λ ms. IsLawfulLane (losses_of plan n) ms) (sym (steps_of-set_other rec.lanes r n grown ne))
-            (kept.lanes n)
-      ];
+      lanes = each_set (λ n ms. IsLawfulLane (losses_of plan n) ms) rec.lanes r grown room lawful kept.lanes;
       ports = kept.ports;
       into = λ s. sends s (received (port_of s) (steps_of rec.bridges (bridge_of s))) (kept.into s);
       out = λ s. fetches s (transmitted (port_of s) (steps_of rec.bridges (bridge_of s))) (kept.out s);
@@ -101,7 +99,8 @@ pub after_bridge : (plan : Plan) (rec : Record) (ins outs ins' outs' : List (Lis
     → IsKept plan rec ins outs → r < length plan.bridges
     → IsLawfulBridge spanning_tree plan (suc r) (steps_of rec.bridges (suc r) ++ step ∷ [])
     → length ins' ≡ length ins → length outs' ≡ length outs
-    → ((s : ℕ) → (bridge_of s ≡ suc r → ⊥) → (items_at ins' s ≡ items_at ins s) × (items_at outs' s ≡ items_at outs s))
+    → ((s : ℕ) → (bridge_of s ≡ suc r → ⊥) → (items_at ins' s ≡ items_at ins s)
+    × (items_at outs' s ≡ items_at outs s))
     → ((s : ℕ) → bridge_of s ≡ suc r → (whole : List Item) → received (port_of s) (steps_of rec.bridges (suc r))
     ++ items_at ins s ≡ whole
     → received (port_of s) (steps_of rec.bridges (suc r) ++ step ∷ []) ++ items_at ins' s ≡ whole)
@@ -113,20 +112,16 @@ after_bridge plan rec ins outs ins' outs' r step kept within lawful ins_so outs_
     let grown = steps_of rec.bridges (suc r) ++ step ∷ [] in
     let room : r < length rec.bridges = omega (arith, kept.bridge_count) in
     let here : steps_of (set rec.bridges r grown) (suc r) ≡ grown = steps_of-set_same rec.bridges r grown room in
-    let sent = λ (s : ℕ). sym (sent_to-bridge plan rec r step (bridge_of s) (port_of s)) in
-    let fetched = λ (s : ℕ). fetched_from-bridge plan rec r step (bridge_of s) (port_of s) in
+    let rec' : Record = with_step rec (Bridge (suc r)) step in
+    let sent = λ (s : ℕ). sym (sent_to-same plan rec rec' (bridge_of s) (port_of s) refl (λ _ _. refl)) in
+    let fetched = λ (s : ℕ). fetched_from-same plan rec rec' (bridge_of s) (port_of s) refl (λ _ _. refl) in
     record {
       bridge_count = length-set rec.bridges r grown ∙ kept.bridge_count;
       lane_count = kept.lane_count;
       customer_count = kept.customer_count;
       inbox_count = ins_so ∙ kept.inbox_count;
       outbox_count = outs_so ∙ kept.outbox_count;
-      bridges = λ n. elim (same_or_not n (suc r)) [
-        | inl e ↦ subst (λ k. IsLawfulBridge spanning_tree plan k (steps_of (set rec.bridges r grown) k)) (sym e)
-            (subst (λ ms. IsLawfulBridge spanning_tree plan (suc r) ms) (sym here) lawful)
-        | inr ne ↦ subst (λ ms. IsLawfulBridge spanning_tree plan n ms)
-            (sym (steps_of-set_other rec.bridges r n grown ne)) (kept.bridges n)
-      ];
+      bridges = each_set (IsLawfulBridge spanning_tree plan) rec.bridges r grown room lawful kept.bridges;
       lanes = kept.lanes;
       ports = kept.ports;
       into = λ s. elim (same_or_not (bridge_of s) (suc r)) [

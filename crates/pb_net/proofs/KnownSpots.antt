@@ -30,6 +30,9 @@ ins_of s = map items_in s.inboxes.items
 abbrev pub outs_of : Inside → List (List Item)
 outs_of s = map items_in s.outboxes.items
 
+abbrev pub rec_of : List (List Step) → List (List Step) → List (List Step) → Record
+rec_of bridges lanes customers = record { bridges = bridges; lanes = lanes; customers = customers }
+
 -- the record of its places, and what callers see
 abbrev pub rec_in : Inside → Record
 rec_in s = record_of s.bridges.items s.lanes.items s.customers.items

@@ -1,13 +1,13 @@
 -- The lanes of a sound plan, and the ports where they begin and end.
 use Rattle.std.proofs.Common.{◌≡◌, ℕ, zero, suc, ◌%◌, ◌<◌, inl, inr, Bool, true, false, if◌then◌else◌, nat_lt, ◌==◌}
-use Rattle.std.proofs.Common.{List, [], ◌∷◌, Some, map, slice_get, flat_map, refl, sym, ap, subst, ◌∙◌, arith}
+use Rattle.std.proofs.Common.{List, [], ◌∷◌, Some, map, slice_get, flat_map, refl, sym, ap, ap₂, subst, ◌∙◌, arith}
 use Rattle.std.proofs.Common.{eqb-true}
 use Rattle.std.proofs.lemmas.Bool.Decides.{nat_tests}
 use Rattle.std.specs.Cmp.Derive.{both_true}
 use Rattle.std.specs.List.{IsDistinct}
 use Rattle.pb_frame.proofs.Lists.{and-left, and-right, eqb-refl, first-finds, IsDistinct-front, Some-injective}
 use Rattle.pb_lan.proofs.PortsInPlans.{port_at-end, end_at, end-link, IsEndOf}
-use Rattle.pb_lan.specs.Events.{link_a, link_b, lane_from, lane_to, begins_at, ends_at}
+use Rattle.pb_lan.specs.Events.{number_of, link_a, link_b, lane_from, lane_to, begins_at, ends_at}
 use Rattle.pb_lan.specs.Numbering.{numbered}
 use Rattle.pb_lan.specs.Plans.{IsSound, is_same_port}
 use Rattle.pb_lan.specs.Ports.{port_at, is_end_at, ends_of, all_ends}
@@ -58,34 +58,22 @@ two_ends plan sound (suc k) link at b q =
     there (l ∷ links) zero h d = clash l (Some-injective h) d.0.0
     there (l ∷ links) (suc i) h d = there links i h d.1.1
 
--- the link that has this end is found by it
-link_a-a : (plan : Plan) → IsSound plan → (n : ℕ) (link : LinkPlan) → numbered plan.links n ≡ Some link
-    → link_a plan link.a.bridge link.a.port ≡ n
-link_a-a plan sound zero link at = cc
-link_a-a plan sound (suc k) link at =
-    elim (number_of-cases (λ (l : LinkPlan). is_end_at link.a.bridge link.a.port l.a) 1 plan.links) [
-      | inl none ↦ let some = first-finds (λ (l : LinkPlan). is_end_at link.a.bridge link.a.port l.a) plan.links k
-          link at (is_at link.a) in let wrong = none.1 in let right = some.1 in cc
+-- the link that has an end on this side is found by it
+number_of-end : (plan : Plan) → IsSound plan → (side : LinkPlan → End) → ((l : LinkPlan) → IsEndOf l (side l))
+    → (n : ℕ) (link : LinkPlan) → numbered plan.links n ≡ Some link
+    → number_of (λ l. is_end_at (side link).bridge (side link).port (side l)) 1 plan.links ≡ n
+number_of-end plan sound side is zero link at = cc
+number_of-end plan sound side is (suc k) link at =
+    let test : LinkPlan → Bool = (λ l. is_end_at (side link).bridge (side link).port (side l)) in
+    elim (number_of-cases test 1 plan.links) [
+      | inl none ↦ let some = first-finds test plan.links k link at (is_at (side link)) in let wrong = none.1 in
+          let right = some.1 in cc
       | inr (i, l, n, g, f, t) ↦
-          let one = one_end plan sound (suc i) (suc k) l link l.a link.a g at (inl refl) (inl refl)
-          (eqb-true l.a.bridge link.a.bridge (and-left _ _ t)) (eqb-true l.a.port link.a.port (and-right _ _ t))
-          in
-          let same = end-link plan sound (suc i) (suc k) l link link.a g at (inl one) (inl refl) in
-          n ∙ omega (arith, same)
-    ]
-
-link_b-b : (plan : Plan) → IsSound plan → (n : ℕ) (link : LinkPlan) → numbered plan.links n ≡ Some link
-    → link_b plan link.b.bridge link.b.port ≡ n
-link_b-b plan sound zero link at = cc
-link_b-b plan sound (suc k) link at =
-    elim (number_of-cases (λ (l : LinkPlan). is_end_at link.b.bridge link.b.port l.b) 1 plan.links) [
-      | inl none ↦ let some = first-finds (λ (l : LinkPlan). is_end_at link.b.bridge link.b.port l.b) plan.links k
-          link at (is_at link.b) in let wrong = none.1 in let right = some.1 in cc
-      | inr (i, l, n, g, f, t) ↦
-          let one = one_end plan sound (suc i) (suc k) l link l.b link.b g at (inr refl) (inr refl)
-          (eqb-true l.b.bridge link.b.bridge (and-left _ _ t)) (eqb-true l.b.port link.b.port (and-right _ _ t))
-          in
-          let same = end-link plan sound (suc i) (suc k) l link link.b g at (inr one) (inr refl) in
+          let one = one_end plan sound (suc i) (suc k) l link (side l) (side link) g at (is l) (is link)
+          (eqb-true (side l).bridge (side link).bridge (and-left _ _ t))
+          (eqb-true (side l).port (side link).port (and-right _ _ t)) in
+          let same = end-link plan sound (suc i) (suc k) l link (side link) g at
+          (subst (IsEndOf l) one (is l)) (is link) in
           n ∙ omega (arith, same)
     ]
 
@@ -104,35 +92,27 @@ link_a-b plan sound (suc k) link at =
           let here : Some l ≡ Some link = sym g ∙ ap (λ (j : ℕ). numbered plan.links j) same ∙ at in
           let it : l ≡ link = Some-injective here in
           let both : link.a ≡ link.b = subst (λ (x : LinkPlan). x.a ≡ link.b) it one in
-          absurd (two_ends plan sound (suc k) link at (ap (λ (e : End). e.bridge) both) (ap (λ (e : End). e.port) both))
+          absurd (two_ends plan sound (suc k) link at (ap (λ (e : End). e.bridge) both)
+          (ap (λ (e : End). e.port) both))
     ]
 
--- what leads from a port and to it, where a link with this number begins or ends there
-pub lane_from-a : (plan : Plan) → IsSound plan → (n : ℕ) (link : LinkPlan) → numbered plan.links n ≡ Some link
-    → lane_from plan link.a.bridge link.a.port ≡ lane_ab n
-lane_from-a plan sound zero link at = cc
-lane_from-a plan sound (suc k) link at =
-    ap (λ (m : ℕ). if nat_lt 0 m then lane_ab m else lane_ba (link_b plan link.a.bridge link.a.port))
-    (link_a-a plan sound (suc k) link at) ∙ grind (arith, nat_tests)
+-- what leads from a port or to it: the lane of the link with its first end there, or of the one with its second
+abbrev leads : (ℕ → ℕ) → (ℕ → ℕ) → Plan → ℕ → ℕ → ℕ
+leads f g plan b q = if nat_lt 0 (link_a plan b q) then f (link_a plan b q) else g (link_b plan b q)
 
-pub lane_to-a : (plan : Plan) → IsSound plan → (n : ℕ) (link : LinkPlan) → numbered plan.links n ≡ Some link
-    → lane_to plan link.a.bridge link.a.port ≡ lane_ba n
-lane_to-a plan sound zero link at = cc
-lane_to-a plan sound (suc k) link at =
-    ap (λ (m : ℕ). if nat_lt 0 m then lane_ba m else lane_ab (link_b plan link.a.bridge link.a.port))
-    (link_a-a plan sound (suc k) link at) ∙ grind (arith, nat_tests)
+-- where a link with this number has its first end, and where it has its second
+leads-a : (f g : ℕ → ℕ) (plan : Plan) → IsSound plan → (n : ℕ) (link : LinkPlan) → numbered plan.links n ≡ Some link
+    → leads f g plan link.a.bridge link.a.port ≡ f n
+leads-a f g plan sound zero link at = cc
+leads-a f g plan sound (suc k) link at =
+    ap (λ (m : ℕ). if nat_lt 0 m then f m else g (link_b plan link.a.bridge link.a.port))
+    (number_of-end plan sound (λ l. l.a) (λ l. inl refl) (suc k) link at) ∙ grind (arith, nat_tests)
 
-pub lane_from-b : (plan : Plan) → IsSound plan → (n : ℕ) (link : LinkPlan) → numbered plan.links n ≡ Some link
-    → lane_from plan link.b.bridge link.b.port ≡ lane_ba n
-lane_from-b plan sound n link at =
-    ap (λ (m : ℕ). if nat_lt 0 m then lane_ab m else lane_ba (link_b plan link.b.bridge link.b.port))
-    (link_a-b plan sound n link at) ∙ ap lane_ba (link_b-b plan sound n link at)
-
-pub lane_to-b : (plan : Plan) → IsSound plan → (n : ℕ) (link : LinkPlan) → numbered plan.links n ≡ Some link
-    → lane_to plan link.b.bridge link.b.port ≡ lane_ab n
-lane_to-b plan sound n link at =
-    ap (λ (m : ℕ). if nat_lt 0 m then lane_ba m else lane_ab (link_b plan link.b.bridge link.b.port))
-    (link_a-b plan sound n link at) ∙ ap lane_ab (link_b-b plan sound n link at)
+leads-b : (f g : ℕ → ℕ) (plan : Plan) → IsSound plan → (n : ℕ) (link : LinkPlan) → numbered plan.links n ≡ Some link
+    → leads f g plan link.b.bridge link.b.port ≡ g n
+leads-b f g plan sound n link at =
+    ap (λ (m : ℕ). if nat_lt 0 m then f m else g (link_b plan link.b.bridge link.b.port))
+    (link_a-b plan sound n link at) ∙ ap g (number_of-end plan sound (λ l. l.b) (λ l. inr refl) n link at)
 
 -- a lane is one of its link's two
 odd : (k : ℕ) → (k % 2 == 1) ≡ true → lane_ab (link_of k) ≡ k
@@ -150,8 +130,8 @@ pub lane_to-is : (plan : Plan) → IsSound plan → (k : ℕ) (link : LinkPlan)
 lane_to-is plan sound k link at =
     elim (k % 2 == 1) as (λ b. (k % 2 == 1) ≡ b → lane_to plan (if b then link.b else link.a).bridge
     (if b then link.b else link.a).port ≡ k) [
-      | true ↦ λ e. lane_to-b plan sound (link_of k) link at ∙ odd k e
-      | false ↦ λ e. lane_to-a plan sound (link_of k) link at ∙ even k e
+      | true ↦ λ e. leads-b lane_ba lane_ab plan sound (link_of k) link at ∙ odd k e
+      | false ↦ λ e. leads-a lane_ba lane_ab plan sound (link_of k) link at ∙ even k e
     ] refl
 
 pub lane_from-is : (plan : Plan) → IsSound plan → (k : ℕ) (link : LinkPlan)
@@ -160,8 +140,8 @@ pub lane_from-is : (plan : Plan) → IsSound plan → (k : ℕ) (link : LinkPlan
 lane_from-is plan sound k link at =
     elim (k % 2 == 1) as (λ b. (k % 2 == 1) ≡ b → lane_from plan (if b then link.a else link.b).bridge
     (if b then link.a else link.b).port ≡ k) [
-      | true ↦ λ e. lane_from-a plan sound (link_of k) link at ∙ odd k e
-      | false ↦ λ e. lane_from-b plan sound (link_of k) link at ∙ even k e
+      | true ↦ λ e. leads-a lane_ab lane_ba plan sound (link_of k) link at ∙ odd k e
+      | false ↦ λ e. leads-b lane_ab lane_ba plan sound (link_of k) link at ∙ even k e
     ] refl
 
 -- both are ends of the link
@@ -186,62 +166,45 @@ ab_odd n = let one : lane_ab (suc n) % 2 ≡ 1 = omega arith in ap (λ m. m == 1
 pub ba_even : (n : ℕ) → (lane_ba (suc n) % 2 == 1) ≡ false
 ba_even n = let none : lane_ba (suc n) % 2 ≡ 0 = omega arith in ap (λ m. m == 1) none
 
+-- The lanes that lead one way from a port, f of a link's number at its first end and g at its second, stand there by
+-- `end`.
+lane-back : (f g : ℕ → ℕ) (end : ℕ → LinkPlan → End)
+    → ((n : ℕ) → link_of (f (suc n)) ≡ suc n) → ((n : ℕ) → link_of (g (suc n)) ≡ suc n)
+    → ((n : ℕ) (l : LinkPlan) → end (f (suc n)) l ≡ l.a) → ((n : ℕ) (l : LinkPlan) → end (g (suc n)) l ≡ l.b)
+    → (plan : Plan) → IsSound plan → (b q k : ℕ) (e : End) (link : LinkPlan) → port_at plan b q ≡ Provider e
+    → leads f g plan b q ≡ k → numbered plan.links (link_of k) ≡ Some link
+    → ((end k link).bridge ≡ b) × ((end k link).port ≡ q)
+lane-back f g end of_f of_g end_f end_g plan sound b q k e link here to at =
+    let there = end_at plan b q e here in
+    let it = by there.0.0 there.0.1 there.0.2 there.0.3 (ap₂ (leads f g plan) there.1 there.2 ∙ to) in
+    (ap (λ (d : End). d.bridge) it ∙ there.1, ap (λ (d : End). d.port) it ∙ there.2)
+  where
+    of_lane : (j lane : ℕ) (l : LinkPlan) → numbered plan.links (suc j) ≡ Some l → lane ≡ k → link_of lane ≡ suc j
+        → end lane l ≡ e → end k link ≡ e
+    of_lane j lane l h same n ends =
+        let one : l ≡ link = Some-injective (sym h ∙ ap (λ (i : ℕ). numbered plan.links i)
+        (sym n ∙ ap link_of same) ∙ at) in
+        ap₂ end (sym same) (sym one) ∙ ends
+
+    by : (j : ℕ) (l : LinkPlan) → numbered plan.links (suc j) ≡ Some l → IsEndOf l e
+        → leads f g plan e.bridge e.port ≡ k → end k link ≡ e
+    by j l h (inl a) leads_on = of_lane j (f (suc j)) l h (sym (leads-a f g plan sound (suc j) l h)
+        ∙ ap (λ (d : End). leads f g plan d.bridge d.port) a ∙ leads_on) (of_f j) (end_f j l ∙ a)
+    by j l h (inr a) leads_on = of_lane j (g (suc j)) l h (sym (leads-b f g plan sound (suc j) l h)
+        ∙ ap (λ (d : End). leads f g plan d.bridge d.port) a ∙ leads_on) (of_g j) (end_g j l ∙ a)
+
 -- where a lane leads to a port it ends there
 pub lane_to-back : (plan : Plan) → IsSound plan → (b q k : ℕ) (e : End) (link : LinkPlan)
     → port_at plan b q ≡ Provider e → lane_to plan b q ≡ k → numbered plan.links (link_of k) ≡ Some link
     → ((ends_at k link).bridge ≡ b) × ((ends_at k link).port ≡ q)
-lane_to-back plan sound b q k e link here leads at =
-    let there = end_at plan b q e here in
-    by there.0.0 there.0.1 there.0.2 there.0.3 there.1 there.2
-  where
-    same_link : (j : ℕ) (l : LinkPlan) → slice_get plan.links j ≡ Some l → link_of k ≡ suc j → l ≡ link
-    same_link j l h n = Some-injective (sym h ∙ ap (λ (i : ℕ). numbered plan.links i) (sym n) ∙ at)
-
-    by : (j : ℕ) (l : LinkPlan) → slice_get plan.links j ≡ Some l → IsEndOf l e → e.bridge ≡ b → e.port ≡ q
-        → ((ends_at k link).bridge ≡ b) × ((ends_at k link).port ≡ q)
-    by j l h (inl a) eb eq =
-        let lane : lane_ba (suc j) ≡ k = sym (lane_to-a plan sound (suc j) l h)
-        ∙ ap (λ (d : End). lane_to plan d.bridge d.port) a ∙ ap (λ n. lane_to plan n e.port) eb
-        ∙ ap (λ n. lane_to plan b n) eq ∙ leads in
-        let it = same_link j l h (ap link_of (sym lane) ∙ ba_link j) in
-        let end : ends_at k link ≡ e = ap (λ (t : Bool). if t then link.b else link.a)
-        (ap (λ n. n % 2 == 1) (sym lane) ∙ ba_even j) ∙ ap (λ (x : LinkPlan). x.a) (sym it) ∙ a in
-        (ap (λ (d : End). d.bridge) end ∙ eb, ap (λ (d : End). d.port) end ∙ eq)
-    by j l h (inr a) eb eq =
-        let lane : lane_ab (suc j) ≡ k = sym (lane_to-b plan sound (suc j) l h)
-        ∙ ap (λ (d : End). lane_to plan d.bridge d.port) a ∙ ap (λ n. lane_to plan n e.port) eb
-        ∙ ap (λ n. lane_to plan b n) eq ∙ leads in
-        let it = same_link j l h (ap link_of (sym lane) ∙ ab_link j) in
-        let end : ends_at k link ≡ e = ap (λ (t : Bool). if t then link.b else link.a)
-        (ap (λ n. n % 2 == 1) (sym lane) ∙ ab_odd j) ∙ ap (λ (x : LinkPlan). x.b) (sym it) ∙ a in
-        (ap (λ (d : End). d.bridge) end ∙ eb, ap (λ (d : End). d.port) end ∙ eq)
+lane_to-back = lane-back lane_ba lane_ab ends_at ba_link ab_link
+    (λ n l. ap (λ (t : Bool). if t then l.b else l.a) (ba_even n))
+    (λ n l. ap (λ (t : Bool). if t then l.b else l.a) (ab_odd n))
 
 -- and where it leads from one, it begins there
 pub lane_from-back : (plan : Plan) → IsSound plan → (b q k : ℕ) (e : End) (link : LinkPlan)
     → port_at plan b q ≡ Provider e → lane_from plan b q ≡ k → numbered plan.links (link_of k) ≡ Some link
     → ((begins_at k link).bridge ≡ b) × ((begins_at k link).port ≡ q)
-lane_from-back plan sound b q k e link here leads at =
-    let there = end_at plan b q e here in
-    by there.0.0 there.0.1 there.0.2 there.0.3 there.1 there.2
-  where
-    same_link : (j : ℕ) (l : LinkPlan) → slice_get plan.links j ≡ Some l → link_of k ≡ suc j → l ≡ link
-    same_link j l h n = Some-injective (sym h ∙ ap (λ (i : ℕ). numbered plan.links i) (sym n) ∙ at)
-
-    by : (j : ℕ) (l : LinkPlan) → slice_get plan.links j ≡ Some l → IsEndOf l e → e.bridge ≡ b → e.port ≡ q
-        → ((begins_at k link).bridge ≡ b) × ((begins_at k link).port ≡ q)
-    by j l h (inl a) eb eq =
-        let lane : lane_ab (suc j) ≡ k = sym (lane_from-a plan sound (suc j) l h)
-        ∙ ap (λ (d : End). lane_from plan d.bridge d.port) a ∙ ap (λ n. lane_from plan n e.port) eb
-        ∙ ap (λ n. lane_from plan b n) eq ∙ leads in
-        let it = same_link j l h (ap link_of (sym lane) ∙ ab_link j) in
-        let end : begins_at k link ≡ e = ap (λ (t : Bool). if t then link.a else link.b)
-        (ap (λ n. n % 2 == 1) (sym lane) ∙ ab_odd j) ∙ ap (λ (x : LinkPlan). x.a) (sym it) ∙ a in
-        (ap (λ (d : End). d.bridge) end ∙ eb, ap (λ (d : End). d.port) end ∙ eq)
-    by j l h (inr a) eb eq =
-        let lane : lane_ba (suc j) ≡ k = sym (lane_from-b plan sound (suc j) l h)
-        ∙ ap (λ (d : End). lane_from plan d.bridge d.port) a ∙ ap (λ n. lane_from plan n e.port) eb
-        ∙ ap (λ n. lane_from plan b n) eq ∙ leads in
-        let it = same_link j l h (ap link_of (sym lane) ∙ ba_link j) in
-        let end : begins_at k link ≡ e = ap (λ (t : Bool). if t then link.a else link.b)
-        (ap (λ n. n % 2 == 1) (sym lane) ∙ ba_even j) ∙ ap (λ (x : LinkPlan). x.b) (sym it) ∙ a in
-        (ap (λ (d : End). d.bridge) end ∙ eb, ap (λ (d : End). d.port) end ∙ eq)
+lane_from-back = lane-back lane_ab lane_ba begins_at ab_link ba_link
+    (λ n l. ap (λ (t : Bool). if t then l.a else l.b) (ab_odd n))
+    (λ n l. ap (λ (t : Bool). if t then l.a else l.b) (ba_even n))

@@ -1,6 +1,6 @@
 -- What was sent to a bridge's port, and what was fetched from it, as a customer port or a lane takes
 -- steps.
-use Rattle.std.proofs.Common.{◌≡◌, ℕ, suc, ◌<◌, inl, inr, List, [], ◌∷◌, ◌++◌, Some, length, slice_get, refl, sym, ap}
+use Rattle.std.proofs.Common.{◌≡◌, ℕ, suc, inl, inr, [], ◌∷◌, ◌++◌, Some, slice_get, refl, sym, ap}
 use Rattle.std.proofs.Common.{◌∙◌, arith, eqb-true}
 use Rattle.std.specs.Cmp.Derive.{both_true}
 use Rattle.pb_frame.proofs.Lists.{and-left, and-right, eqb-refl, first-finds, Some-injective}
@@ -17,14 +17,15 @@ use Rattle.pb_lan.specs.Ports.Port.{Customer, Provider, Unused}
 use Rattle.pb_lan.specs.Records.{steps_of}
 use Rattle.pb_lan.specs.declared.plan.Plan.{Plan}
 use Rattle.pb_lan.specs.declared.plan.CustomerPlan.{CustomerPlan}
+use Rattle.pb_lan.specs.declared.plan.End.{End}
 use Rattle.pb_lan.specs.declared.plan.LinkPlan.{LinkPlan}
 use Rattle.pb_lan.specs.declared.record.Record.{Record}
-use Rattle.pb_lan.specs.declared.step.Place.TheVariants.{Bridge, Lane, Customer as CustomerPort}
+use Rattle.pb_lan.specs.declared.step.Place.TheVariants.{Customer as CustomerPort}
 use Rattle.pb_lan.specs.declared.step.Step.{Step}
 use Rattle.pb_net.specs.Slots.{link_of}
 use Rattle.pb_net.proofs.Found.{number_of-cases}
-use Rattle.pb_net.proofs.Lanes.{lane_to-is, lane_from-is, lane_to-back, lane_from-back, ends_at-end, begins_at-end}
-use Rattle.pb_net.proofs.OneMore.{one_more-kept, steps_of-set_other}
+use Rattle.pb_net.proofs.Lanes.{lane_to-is, lane_from-is, ends_at-end, begins_at-end}
+use Rattle.pb_net.proofs.OneMore.{steps_of-set_other}
 
 -- a customer port has its number where it stands
 pub customer_there-is : (plan : Plan) → IsSound plan → (n : ℕ) (c : CustomerPlan) → numbered plan.customers n ≡ Some c
@@ -87,119 +88,36 @@ fetched_from-lane plan sound rec k link at =
     (port_at-end plan sound (link_of k) link (begins_at k link) at (begins_at-end k link))
     ∙ ap (λ m. taken (steps_of rec.lanes m)) (lane_from-is plan sound k link at)
 
--- a bridge's steps send nothing to a port, and fetch nothing from one
-pub sent_to-bridge : (plan : Plan) (rec : Record) (r : ℕ) (step : Step) (b q : ℕ)
-    → sent_to plan (with_step rec (Bridge (suc r)) step) b q ≡ sent_to plan rec b q
-sent_to-bridge plan rec r step b q = by (port_at plan b q)
+-- Two records that have the same at the place that stands at a port have the same sent to it, and fetched from it.
+pub sent_to-same : (plan : Plan) (rec rec' : Record) (b q : ℕ)
+    → fed (steps_of rec'.customers (customer_there plan b q)) ≡ fed (steps_of rec.customers (customer_there plan b q))
+    → ((e : End) → port_at plan b q ≡ Provider e
+    → put (steps_of rec'.lanes (lane_to plan b q)) ≡ put (steps_of rec.lanes (lane_to plan b q)))
+    → sent_to plan rec' b q ≡ sent_to plan rec b q
+sent_to-same plan rec rec' b q customer lane = by (port_at plan b q) refl
   where
-    by : (p : Port) → sent_by plan (with_step rec (Bridge (suc r)) step) b q p ≡ sent_by plan rec b q p
-    by (Customer c) = refl
-    by (Provider e) = refl
-    by Unused = refl
+    by : (p : Port) → port_at plan b q ≡ p → sent_by plan rec' b q p ≡ sent_by plan rec b q p
+    by (Customer c) h = customer
+    by (Provider e) h = lane e h
+    by Unused h = refl
 
-pub fetched_from-bridge : (plan : Plan) (rec : Record) (r : ℕ) (step : Step) (b q : ℕ)
-    → fetched_from plan (with_step rec (Bridge (suc r)) step) b q ≡ fetched_from plan rec b q
-fetched_from-bridge plan rec r step b q = by (port_at plan b q)
+pub fetched_from-same : (plan : Plan) (rec rec' : Record) (b q : ℕ)
+    → delivered (steps_of rec'.customers (customer_there plan b q))
+    ≡ delivered (steps_of rec.customers (customer_there plan b q))
+    → ((e : End) → port_at plan b q ≡ Provider e
+    → taken (steps_of rec'.lanes (lane_from plan b q)) ≡ taken (steps_of rec.lanes (lane_from plan b q)))
+    → fetched_from plan rec' b q ≡ fetched_from plan rec b q
+fetched_from-same plan rec rec' b q customer lane = by (port_at plan b q) refl
   where
-    by : (p : Port) → fetched_by plan (with_step rec (Bridge (suc r)) step) b q p ≡ fetched_by plan rec b q p
-    by (Customer c) = refl
-    by (Provider e) = refl
-    by Unused = refl
-
--- a customer port's step that feeds nothing sends nothing
-pub sent_to-unfed : (plan : Plan) (rec : Record) (r : ℕ) (step : Step) → r < length rec.customers
-    → ((ms : List Step) → fed (ms ++ step ∷ []) ≡ fed ms)
-    → (b q : ℕ) → sent_to plan (with_step rec (CustomerPort (suc r)) step) b q ≡ sent_to plan rec b q
-sent_to-unfed plan rec r step within each b q = by (port_at plan b q)
-  where
-    by : (p : Port) → sent_by plan (with_step rec (CustomerPort (suc r)) step) b q p ≡ sent_by plan rec b q p
-    by (Customer c) = one_more-kept fed step each rec.customers r (customer_there plan b q) within
-    by (Provider e) = refl
-    by Unused = refl
-
--- and one that delivers nothing fetches nothing
-pub fetched_from-undelivered : (plan : Plan) (rec : Record) (r : ℕ) (step : Step) → r < length rec.customers
-    → ((ms : List Step) → delivered (ms ++ step ∷ []) ≡ delivered ms)
-    → (b q : ℕ) → fetched_from plan (with_step rec (CustomerPort (suc r)) step) b q ≡ fetched_from plan rec b q
-fetched_from-undelivered plan rec r step within each b q = by (port_at plan b q)
-  where
-    by : (p : Port) → fetched_by plan (with_step rec (CustomerPort (suc r)) step) b q p ≡ fetched_by plan rec b q p
-    by (Customer c) = one_more-kept delivered step each rec.customers r (customer_there plan b q) within
-    by (Provider e) = refl
-    by Unused = refl
+    by : (p : Port) → port_at plan b q ≡ p → fetched_by plan rec' b q p ≡ fetched_by plan rec b q p
+    by (Customer c) h = customer
+    by (Provider e) h = lane e h
+    by Unused h = refl
 
 -- a step of another customer port
-pub sent_to-elsewhere : (plan : Plan) (rec : Record) (r : ℕ) (c : CustomerPlan) (step : Step)
-    → numbered plan.customers (suc r) ≡ Some c
-    → (b q : ℕ) → ((c.bridge ≡ b) × (c.port ≡ q) → ⊥)
-    → sent_to plan (with_step rec (CustomerPort (suc r)) step) b q ≡ sent_to plan rec b q
-sent_to-elsewhere plan rec r c step at b q ne = by (port_at plan b q)
-  where
-    by : (p : Port) → sent_by plan (with_step rec (CustomerPort (suc r)) step) b q p ≡ sent_by plan rec b q p
-    by (Customer d) = ap fed (steps_of-set_other rec.customers r (customer_there plan b q)
-        (steps_of rec.customers (suc r) ++ step ∷ []) (λ e. ne (customer_there-back plan b q r c e at)))
-    by (Provider e) = refl
-    by Unused = refl
-
-pub fetched_from-elsewhere : (plan : Plan) (rec : Record) (r : ℕ) (c : CustomerPlan) (step : Step)
-    → numbered plan.customers (suc r) ≡ Some c
-    → (b q : ℕ) → ((c.bridge ≡ b) × (c.port ≡ q) → ⊥)
-    → fetched_from plan (with_step rec (CustomerPort (suc r)) step) b q ≡ fetched_from plan rec b q
-fetched_from-elsewhere plan rec r c step at b q ne = by (port_at plan b q)
-  where
-    by : (p : Port) → fetched_by plan (with_step rec (CustomerPort (suc r)) step) b q p ≡ fetched_by plan rec b q p
-    by (Customer d) = ap delivered (steps_of-set_other rec.customers r (customer_there plan b q)
-        (steps_of rec.customers (suc r) ++ step ∷ []) (λ e. ne (customer_there-back plan b q r c e at)))
-    by (Provider e) = refl
-    by Unused = refl
-
--- a lane's step that puts nothing sends nothing
-pub sent_to-unput : (plan : Plan) (rec : Record) (r : ℕ) (step : Step) → r < length rec.lanes
-    → ((ms : List Step) → put (ms ++ step ∷ []) ≡ put ms)
-    → (b q : ℕ) → sent_to plan (with_step rec (Lane (suc r)) step) b q ≡ sent_to plan rec b q
-sent_to-unput plan rec r step within each b q = by (port_at plan b q)
-  where
-    by : (p : Port) → sent_by plan (with_step rec (Lane (suc r)) step) b q p ≡ sent_by plan rec b q p
-    by (Customer c) = refl
-    by (Provider e) = one_more-kept put step each rec.lanes r (lane_to plan b q) within
-    by Unused = refl
-
--- and one that takes nothing fetches nothing
-pub fetched_from-untaken : (plan : Plan) (rec : Record) (r : ℕ) (step : Step) → r < length rec.lanes
-    → ((ms : List Step) → taken (ms ++ step ∷ []) ≡ taken ms)
-    → (b q : ℕ) → fetched_from plan (with_step rec (Lane (suc r)) step) b q ≡ fetched_from plan rec b q
-fetched_from-untaken plan rec r step within each b q = by (port_at plan b q)
-  where
-    by : (p : Port) → fetched_by plan (with_step rec (Lane (suc r)) step) b q p ≡ fetched_by plan rec b q p
-    by (Customer c) = refl
-    by (Provider e) = one_more-kept taken step each rec.lanes r (lane_from plan b q) within
-    by Unused = refl
-
--- a step of another lane
-pub sent_to-other_lane : (plan : Plan) → IsSound plan → (rec : Record) (r : ℕ) (link : LinkPlan) (step : Step)
-    → numbered plan.links (link_of (suc r)) ≡ Some link
-    → (b q : ℕ) → (((ends_at (suc r) link).bridge ≡ b) × ((ends_at (suc r) link).port ≡ q) → ⊥)
-    → sent_to plan (with_step rec (Lane (suc r)) step) b q ≡ sent_to plan rec b q
-sent_to-other_lane plan sound rec r link step at b q ne = by (port_at plan b q) refl
-  where
-    by : (p : Port) → port_at plan b q ≡ p → sent_by plan (with_step rec (Lane (suc r)) step) b q p ≡ sent_by plan rec
-        b q p
-    by (Customer c) h = refl
-    by (Provider e) h = ap put
-        (steps_of-set_other rec.lanes r (lane_to plan b q) (steps_of rec.lanes (suc r) ++ step ∷ [])
-        (λ leads. ne (lane_to-back plan sound b q (suc r) e link h leads at)))
-    by Unused h = refl
-
-pub fetched_from-other_lane : (plan : Plan) → IsSound plan → (rec : Record) (r : ℕ) (link : LinkPlan) (step : Step)
-    → numbered plan.links (link_of (suc r)) ≡ Some link
-    → (b q : ℕ) → (((begins_at (suc r) link).bridge ≡ b) × ((begins_at (suc r) link).port ≡ q) → ⊥)
-    → fetched_from plan (with_step rec (Lane (suc r)) step) b q ≡ fetched_from plan rec b q
-fetched_from-other_lane plan sound rec r link step at b q ne = by (port_at plan b q) refl
-  where
-    by : (p : Port) → port_at plan b q ≡ p
-        → fetched_by plan (with_step rec (Lane (suc r)) step) b q p ≡ fetched_by plan rec b q p
-    by (Customer c) h = refl
-    by (Provider e) h = ap taken
-        (steps_of-set_other rec.lanes r (lane_from plan b q) (steps_of rec.lanes (suc r) ++ step ∷ [])
-        (λ leads. ne (lane_from-back plan sound b q (suc r) e link h leads at)))
-    by Unused h = refl
+pub elsewhere : (plan : Plan) (rec : Record) (r : ℕ) (c : CustomerPlan) (step : Step)
+    → numbered plan.customers (suc r) ≡ Some c → (b q : ℕ) → ((c.bridge ≡ b) × (c.port ≡ q) → ⊥)
+    → steps_of (with_step rec (CustomerPort (suc r)) step).customers (customer_there plan b q)
+    ≡ steps_of rec.customers (customer_there plan b q)
+elsewhere plan rec r c step at b q ne = steps_of-set_other rec.customers r (customer_there plan b q)
+    (steps_of rec.customers (suc r) ++ step ∷ []) (λ e. ne (customer_there-back plan b q r c e at))

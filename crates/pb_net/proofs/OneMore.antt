@@ -1,28 +1,28 @@
 -- Lists by number, with one of them changed.
 use Rattle.std.proofs.Common.{◌≡◌, ℕ, zero, suc, ◌<◌, ◌⊎◌, inl, inr, List, [], ◌∷◌, ◌++◌, Some, map, length}
-use Rattle.std.proofs.Common.{unwrap_or, slice_get, get_or, refl, sym, ap, ◌∙◌, arith, append-nil}
+use Rattle.std.proofs.Common.{unwrap_or, slice_get, get_or, refl, sym, ap, ap₂, ◌∙◌, arith, append-nil, append_assoc}
 use Rattle.std.proofs.Math.ListN.{set}
+use Rattle.std.proofs.Math.Seq.{map-set_same}
+use Rattle.std.proofs.lemmas.Bool.{cases_eq}
 use Rattle.std.proofs.lemmas.List.{map-set}
-use Rattle.std.proofs.lemmas.Option.{slice_get-get_or}
-use Rattle.std.proofs.lemmas.Grind.{flat_map-append}
+use Rattle.std.proofs.lemmas.Option.{slice_get-get_or, slice_get_within, get_or_from_slice_get}
+use Rattle.std.proofs.lemmas.Option.{slice_get-map as mapped}
 use Rattle.std.specs.List.{flat_map}
+use Rattle.std.specs.Option.{option_map}
 use Rattle.pb_lan.specs.Events.{one_more}
-use Rattle.pb_lan.specs.Numbering.{numbered}
 use Rattle.pb_lan.specs.Records.{steps_of}
 use Rattle.pb_lan.specs.declared.step.Item.{Item}
 use Rattle.pb_lan.specs.declared.step.Step.{Step}
+use Rattle.pb_link.proofs.HandLemmas.{flat_map-more}
 use Rattle.pb_net.specs.Slots.{items_at}
 
 -- two numbers are one or not
 pub same_or_not : (m n : ℕ) → (m ≡ n) ⊎ (m ≡ n → ⊥)
-same_or_not zero zero = inl refl
-same_or_not zero (suc n) = inr (λ e. omega arith)
-same_or_not (suc m) zero = inr (λ e. omega arith)
-same_or_not (suc m) (suc n) =
-    elim (same_or_not m n) [ inl e ↦ inl (ap (λ k. suc k) e) | inr ne ↦ inr (λ e. ne (omega arith)) ]
+same_or_not m n = cases_eq m n
 
 -- the thing at a place of a list that was changed there
-pub slice_get-set_same : {X : Type 0} (xs : List X) (r : ℕ) (y : X) → r < length xs → slice_get (set xs r y) r ≡ Some y
+pub slice_get-set_same : {X : Type 0} (xs : List X) (r : ℕ) (y : X) → r < length xs
+    → slice_get (set xs r y) r ≡ Some y
 slice_get-set_same [] r y h = absurd (omega arith)
 slice_get-set_same (x ∷ xs) zero y h = refl
 slice_get-set_same (x ∷ xs) (suc r) y h = slice_get-set_same xs r y (omega arith)
@@ -40,24 +40,16 @@ slice_get-set_other (x ∷ xs) zero (suc s) y ne = refl
 slice_get-set_other (x ∷ xs) (suc r) zero y ne = refl
 slice_get-set_other (x ∷ xs) (suc r) (suc s) y ne = slice_get-set_other xs r s y (λ e. ne (ap (λ n. suc n) e))
 
--- the same by number
-pub numbered-set_same : {X : Type 0} (xs : List X) (r : ℕ) (y : X) → r < length xs
-    → numbered (set xs r y) (suc r) ≡ Some y
-numbered-set_same xs r y h = slice_get-set_same xs r y h
-
-pub numbered-set_other : {X : Type 0} (xs : List X) (r n : ℕ) (y : X) → (n ≡ suc r → ⊥)
-    → numbered (set xs r y) n ≡ numbered xs n
-numbered-set_other xs r zero y ne = refl
-numbered-set_other xs r (suc s) y ne = slice_get-set_other xs r s y (λ e. ne (ap (λ n. suc n) e))
-
 -- the steps of the place that took a step, and of another
 pub steps_of-set_same : (lists : List (List Step)) (r : ℕ) (steps : List Step) → r < length lists
     → steps_of (set lists r steps) (suc r) ≡ steps
-steps_of-set_same lists r steps h = ap (λ o. unwrap_or o []) (numbered-set_same lists r steps h)
+steps_of-set_same lists r steps h = ap (λ o. unwrap_or o []) (slice_get-set_same lists r steps h)
 
 pub steps_of-set_other : (lists : List (List Step)) (r n : ℕ) (steps : List Step) → (n ≡ suc r → ⊥)
     → steps_of (set lists r steps) n ≡ steps_of lists n
-steps_of-set_other lists r n steps ne = ap (λ o. unwrap_or o []) (numbered-set_other lists r n steps ne)
+steps_of-set_other lists r zero steps ne = refl
+steps_of-set_other lists r (suc s) steps ne = ap (λ o. unwrap_or o [])
+    (slice_get-set_other lists r s steps (λ e. ne (ap (λ n. suc n) e)))
 
 -- what is read of a place's steps, where the step adds nothing to it
 pub one_more-kept : {X : Type 0} (f : List Step → X) (step : Step) → ((ms : List Step) → f (ms ++ step ∷ []) ≡ f ms)
@@ -83,9 +75,7 @@ items_at-set_other lists s t items ne = ap (λ o. unwrap_or o []) (slice_get-set
 -- what is looked up in a list of things is looked up in the list of their parts
 pub slice_get-map : {X Y : Type 0} (f : X → Y) (xs : List X) (r : ℕ) (x : X) → slice_get xs r ≡ Some x
     → slice_get (map f xs) r ≡ Some (f x)
-slice_get-map f [] r x e = cc
-slice_get-map f (y ∷ xs) zero x e = let same : y ≡ x = cc in ap (λ z. Some (f z)) same
-slice_get-map f (y ∷ xs) (suc r) x e = slice_get-map f xs r x e
+slice_get-map f xs r x e = mapped f xs r ∙ ap (option_map f) e
 
 pub steps_of-map : {X : Type 0} (f : X → List Step) (xs : List X) (r : ℕ) (x : X) → slice_get xs r ≡ Some x
     → steps_of (map f xs) (suc r) ≡ f x
@@ -106,12 +96,33 @@ one_more-map f xs r old new step here grown =
 -- one thing has changed, and shows what it showed
 pub map-set_kept : {X Y : Type 0} (f : X → Y) (xs : List X) (r : ℕ) (old new : X) → slice_get xs r ≡ Some old
     → f new ≡ f old → map f (set xs r new) ≡ map f xs
-map-set_kept f [] r old new here same = refl
-map-set_kept f (x ∷ xs) zero old new here same = let one : x ≡ old = cc in ap (λ z. z ∷ map f xs)
-    (same ∙ ap f (sym one))
-map-set_kept f (x ∷ xs) (suc r) old new here same = ap (λ z. f x ∷ z) (map-set_kept f xs r old new here same)
+map-set_kept f xs r old new here same = map-set_same f xs r new old
+    (same ∙ ap f (sym (get_or_from_slice_get xs r old old here)))
 
--- what a list of steps gives, with one step more
-pub flat_map-more : {X : Type 0} (f : Step → List X) (steps : List Step) (step : Step)
-    → flat_map f (steps ++ step ∷ []) ≡ flat_map f steps ++ f step
-flat_map-more f steps step = flat_map-append f steps (step ∷ []) ∙ ap (λ z. flat_map f steps ++ z) (append-nil (f step))
+-- what a list of steps gives, with a step more that adds nothing
+pub flat_map-none : {X : Type 0} (f : Step → List X) (step : Step) → f step ≡ [] → (steps : List Step)
+    → flat_map f (steps ++ step ∷ []) ≡ flat_map f steps
+flat_map-none f step e steps = flat_map-more f steps step ∙ ap (λ z. flat_map f steps ++ z) e
+    ∙ append-nil (flat_map f steps)
+
+-- the front of a meeting place went on to what was got there
+pub moved_on : {got' whole : List Item} (got : List Item) (lists : List (List Item)) (s t : ℕ) (item : Item)
+    (rest : List Item)
+    → t ≡ s → slice_get lists s ≡ Some (item ∷ rest) → got' ≡ got ++ item ∷ [] → got ++ items_at lists t ≡ whole
+    → got' ++ items_at (set lists s rest) t ≡ whole
+moved_on got lists s t item rest here box grown e =
+    ap₂ (λ (x y : List Item). x ++ y) grown (ap (items_at (set lists s rest)) here
+    ∙ items_at-set_same lists s rest (slice_get_within lists s (item ∷ rest) box))
+    ∙ append_assoc got (item ∷ []) rest
+    ∙ ap (λ z. got ++ z) (sym (ap (items_at lists) here ∙ items_at-here lists s (item ∷ rest) box)) ∙ e
+
+-- what was sent there came to its back
+pub moved_in : {sent sent' : List Item} (got : List Item) (lists : List (List Item)) (s t : ℕ) (item : Item)
+    (items : List Item)
+    → t ≡ s → slice_get lists s ≡ Some items → sent' ≡ sent ++ item ∷ [] → got ++ items_at lists t ≡ sent
+    → got ++ items_at (set lists s (items ++ item ∷ [])) t ≡ sent'
+moved_in got lists s t item items here box grown e =
+    ap (λ z. got ++ z) (ap (items_at (set lists s (items ++ item ∷ []))) here
+    ∙ items_at-set_same lists s (items ++ item ∷ []) (slice_get_within lists s items box)
+    ∙ ap (λ z. z ++ item ∷ []) (sym (ap (items_at lists) here ∙ items_at-here lists s items box)))
+    ∙ sym (append_assoc got (items_at lists t) (item ∷ [])) ∙ ap (λ z. z ++ item ∷ []) e ∙ sym grown

@@ -1,47 +1,40 @@
 -- What a network keeps makes its record lawful, and what it answers makes a run.
-use Rattle.std.proofs.Common.{◌≡◌, ℕ, zero, suc, ◌+◌, ◌-◌, ◌<◌, ◌≤◌, inl, inr, Bool, true, if◌then◌else◌, nat_le}
-use Rattle.std.proofs.Common.{◌&&◌, List, [], ◌∷◌, ◌++◌, Some, Ok, Err, is_some, unwrap_or, map, length, take}
-use Rattle.std.proofs.Common.{slice_get, get_or, refl, sym, ap, subst, ◌∙◌, arith, ne_eqb}
+use Rattle.std.proofs.Common.{◌≡◌, ℕ, zero, suc, ◌-◌, ◌%◌, ◌≤◌, Bool, true, false, if◌then◌else◌, nat_le, ◌==◌, ◌&&◌}
+use Rattle.std.proofs.Common.{List, [], ◌∷◌, ◌++◌, Some, Ok, Err, is_some, unwrap_or, map, length, take, slice_get}
+use Rattle.std.proofs.Common.{get_or, refl, sym, ap, subst, ◌∙◌, arith}
 use Rattle.std.proofs.Math.Dec.{leb-zero, leb-suc-zero, leb-suc-suc}
-use Rattle.std.proofs.lemmas.Bool.{eq-eqb, leb-true}
+use Rattle.std.proofs.lemmas.Bool.{leb-true}
 use Rattle.std.specs.Option.{option_map}
 use Rattle.std.specs.declared.option.Option.{Option}
-use Rattle.std.specs.declared.result.Result.{Result}
-use Rattle.pb_frame.proofs.Lists.{and-left, and-right}
-use Rattle.pb_lan.proofs.Numbers.{numbered-exists, numbered-All}
+use Rattle.std.specs.List.{AllByRecursion}
+use Rattle.pb_frame.proofs.Lists.{and-left, and-right, All-at}
+use Rattle.pb_lan.proofs.Numbers.{numbered-All}
 use Rattle.pb_lan.proofs.PortsInPlans.{sound-end}
-use Rattle.pb_lan.specs.Events.{sent_to, fetched_from}
+use Rattle.pb_lan.specs.Events.{sent_to, fetched_from, begins_at, ends_at}
 use Rattle.pb_lan.specs.LaneLists.{IsLawfulLane, taken, put}
 use Rattle.pb_lan.specs.Numbering.{numbered}
-use Rattle.pb_lan.specs.Plans.{IsSound, IsNumber, IsSoundEnd, IsSoundCustomer}
+use Rattle.pb_lan.specs.Plans.{IsSound, IsNumber, IsSoundCustomer}
 use Rattle.pb_lan.specs.PortLists.{fed, delivered}
-use Rattle.pb_lan.specs.Ports.{port_at, is_provider}
-use Rattle.pb_lan.specs.Records.{IsLawfulRecord, IsLawfulLink, steps_of, received, transmitted, lane_ab, lane_ba}
+use Rattle.pb_lan.specs.Records.{IsLawfulRecord, IsLawfulLink, MeetsOver, steps_of, received, transmitted, lane_ab}
+use Rattle.pb_lan.specs.Records.{lane_ba}
 use Rattle.pb_relay.specs.Protocol.{spanning_tree}
 use Rattle.pb_lan.specs.declared.event.Event.{Event}
-use Rattle.pb_lan.specs.declared.event.Event.TheVariants.{Tick, Admin}
-use Rattle.pb_lan.specs.declared.plan.End.{End}
 use Rattle.pb_lan.specs.declared.plan.LinkPlan.{LinkPlan}
 use Rattle.pb_lan.specs.declared.plan.Plan.{Plan}
 use Rattle.pb_lan.specs.declared.record.Record.{Record}
 use Rattle.pb_lan.specs.declared.step.Item.{Item}
 use Rattle.pb_lan.specs.declared.step.Step.{Step}
-use Rattle.pb_link.specs.Hands.{PlaceView}
-use Rattle.pb_link.specs.Lanes.{LaneView}
-use Rattle.pb_relay.specs.Standing.{BridgeView}
-use Rattle.pb_relay.specs.declared.fault.BridgeFault.{BridgeFault}
-use Rattle.pb_relay.specs.declared.fault.BridgeFault.TheVariants.{StepLimit as bridge_limit, Memory as bridge_memory}
-use Rattle.pb_net.specs.Answers.{NetView, IsDue, IsAnswer, HaveRun, HasStopped}
-use Rattle.pb_net.specs.Faults.{fault_of}
-use Rattle.pb_net.specs.Nets.{IsSoundPlan, IsKept, ArePlaced}
-use Rattle.pb_net.specs.Slots.{IsBridgeSpot, items_at, link_of, losses_at, losses_of}
+use Rattle.pb_net.specs.Answers.{NetView, IsAnswer, HaveRun, HasStopped}
+use Rattle.pb_net.specs.Nets.{IsSoundPlan, IsKept}
+use Rattle.pb_net.specs.Slots.{items_at, link_of, losses_at}
 use Rattle.pb_net.specs.declared.did.Did.{Did}
 use Rattle.pb_net.specs.declared.fault.NetFault.{NetFault}
 use Rattle.pb_net.specs.declared.fault.NetFault.TheVariants.{StepLimit, Memory, NoSuch}
-use Rattle.pb_net.specs.declared.slots.Spot.{Spot}
-use Rattle.pb_net.proofs.DueLemmas.{net_of, into_at, out_at}
-use Rattle.pb_net.proofs.Lanes.{ab_link, ba_link, ab_odd, ba_even}
+use Rattle.pb_net.specs.declared.net.Net.TheInside.{Inside}
+use Rattle.pb_net.proofs.DueLemmas.{into_at, out_at}
+use Rattle.pb_net.proofs.Lanes.{ab_link, ba_link, ab_odd, ba_even, begins_at-end, ends_at-end}
 use Rattle.pb_net.proofs.Meetings.{sent_to-customer, fetched_from-customer, sent_to-lane, fetched_from-lane}
+use Rattle.pb_net.proofs.KnownSpots.{Keeps, ins_of, outs_of, rec_in, shown}
 use Rattle.pb_net.proofs.OneMore.{here_is, steps_of-map}
 use Rattle.pb_net.proofs.SpotLemmas.{slot_at, slot_of, slot_there}
 
@@ -57,91 +50,46 @@ out_port : (plan : Plan) (rec : Record) (ins outs : List (List Item)) (b q : ℕ
 out_port plan rec ins outs b q got kept of_bridge of_port e = ap (λ (z : List Item). z ++ items_at outs (slot_at b q))
     (sym e) ∙ out_at plan rec ins outs b q (slot_at b q) kept (slot_there plan b q of_bridge of_port)
 
-into_of : (plan : Plan) (rec : Record) (ins outs : List (List Item)) (e : End) (sent : List Item)
-    → IsKept plan rec ins outs → IsSoundEnd plan e → sent_to plan rec e.bridge e.port ≡ sent
-    → received e.port (steps_of rec.bridges e.bridge) ++ items_at ins (slot_of e) ≡ sent
-into_of plan rec ins outs e sent kept is h = into_port plan rec ins outs e.bridge e.port sent kept is.bridge is.port h
+-- Over one lane of a link what was received is a beginning of what was sent, and its list is lawful for the link. The
+-- odd one begins at the link's first end.
+lane_lawful : (plan : Plan) (rec : Record) (ins outs : List (List Item)) (lane : ℕ) (link : LinkPlan) (odd : Bool)
+    → IsSound plan → IsKept plan rec ins outs → numbered plan.links (link_of lane) ≡ Some link
+    → (lane % 2 == 1) ≡ odd
+    → IsLawfulLane (if odd then link.lost_ab else link.lost_ba) (steps_of rec.lanes lane)
+    × MeetsOver rec lane (if odd then link.a else link.b) (if odd then link.b else link.a)
+lane_lawful plan rec ins outs lane link odd sound kept at is =
+    let from = begins_at lane link in
+    let to = ends_at lane link in
+    let a = sound-end plan sound (link_of lane) link from at (begins_at-end lane link) in
+    let b = sound-end plan sound (link_of lane) link to at (ends_at-end lane link) in
+    let losses = ap (λ (o : Option LinkPlan). unwrap_or (option_map (losses_at lane) o) []) at in
+    subst (λ (t : Bool). IsLawfulLane (if t then link.lost_ab else link.lost_ba) (steps_of rec.lanes lane)
+    × MeetsOver rec lane (if t then link.a else link.b) (if t then link.b else link.a)) is (
+      subst (λ (ls : List ℕ). IsLawfulLane ls (steps_of rec.lanes lane)) losses (kept.lanes lane),
+      record {
+        onto = (
+          items_at outs (slot_of from),
+          out_port plan rec ins outs from.bridge from.port (taken (steps_of rec.lanes lane)) kept a.bridge a.port
+              (fetched_from-lane plan sound rec lane link at),
+        );
+        off = (
+          items_at ins (slot_of to),
+          into_port plan rec ins outs to.bridge to.port (put (steps_of rec.lanes lane)) kept b.bridge b.port
+              (sent_to-lane plan sound rec lane link at),
+        );
+      },
+    )
 
-out_of : (plan : Plan) (rec : Record) (ins outs : List (List Item)) (e : End) (got : List Item)
-    → IsKept plan rec ins outs → IsSoundEnd plan e → fetched_from plan rec e.bridge e.port ≡ got
-    → got ++ items_at outs (slot_of e) ≡ transmitted e.port (steps_of rec.bridges e.bridge)
-out_of plan rec ins outs e got kept is h = out_port plan rec ins outs e.bridge e.port got kept is.bridge is.port h
-
--- a lane's list is lawful for its link
-lane_lawful : (plan : Plan) (lane n : ℕ) (link : LinkPlan) (losses : List ℕ) (steps : List Step)
-    → numbered plan.links n ≡ Some link → link_of lane ≡ n → losses_at lane link ≡ losses
-    → IsLawfulLane (losses_of plan lane) steps → IsLawfulLane losses steps
-lane_lawful plan lane n link losses steps at of_link e lawful =
-    let found : losses_of plan lane ≡ losses =
-    ap (λ k. unwrap_or (option_map (losses_at lane) (numbered plan.links k)) []) of_link
-    ∙ ap (λ (o : Option LinkPlan). unwrap_or (option_map (losses_at lane) o) []) at ∙ e in
-    subst (λ (ls : List ℕ). IsLawfulLane ls steps) found lawful
-
--- at each end of a link what was received is a beginning of what was sent, and so over its lanes
+-- and so over both
 link_lawful : (plan : Plan) (rec : Record) (ins outs : List (List Item)) (n : ℕ) (link : LinkPlan) → IsSound plan
     → IsKept plan rec ins outs → numbered plan.links n ≡ Some link → IsLawfulLink rec n link
 link_lawful plan rec ins outs zero link sound kept at = cc
 link_lawful plan rec ins outs (suc k) link sound kept at =
-    let ab : numbered plan.links (link_of (lane_ab (suc k))) ≡ Some link = ap (λ m. numbered plan.links m) (ab_link k)
-    ∙ at in
-    let ba : numbered plan.links (link_of (lane_ba (suc k))) ≡ Some link = ap (λ m. numbered plan.links m) (ba_link k)
-    ∙ at in
-    let a = sound-end plan sound (suc k) link link.a at (inl refl) in
-    let b = sound-end plan sound (suc k) link link.b at (inr refl) in
-    record {
-      ab = lane_lawful plan (lane_ab (suc k)) (suc k) link link.lost_ab (steps_of rec.lanes (lane_ab (suc k))) at
-          (ab_link k) (ap (λ (t : Bool). if t then link.lost_ab else link.lost_ba) (ab_odd k))
-          (kept.lanes (lane_ab (suc k)));
-      ba = lane_lawful plan (lane_ba (suc k)) (suc k) link link.lost_ba (steps_of rec.lanes (lane_ba (suc k))) at
-          (ba_link k) (ap (λ (t : Bool). if t then link.lost_ab else link.lost_ba) (ba_even k))
-          (kept.lanes (lane_ba (suc k)));
-      meets_ab = record {
-        onto = (
-          items_at outs (slot_of link.a),
-          out_of plan rec ins outs link.a
-              (taken (steps_of rec.lanes (lane_ab (suc k)))) kept a (from_a ab),
-        );
-        off = (
-          items_at ins (slot_of link.b),
-          into_of plan rec ins outs link.b
-              (put (steps_of rec.lanes (lane_ab (suc k)))) kept b (to_b ab),
-        );
-      };
-      meets_ba = record {
-        onto = (
-          items_at outs (slot_of link.b),
-          out_of plan rec ins outs link.b
-              (taken (steps_of rec.lanes (lane_ba (suc k)))) kept b (from_b ba),
-        );
-        off = (
-          items_at ins (slot_of link.a),
-          into_of plan rec ins outs link.a
-              (put (steps_of rec.lanes (lane_ba (suc k)))) kept a (to_a ba),
-        );
-      };
-    }
-  where
-    from_a : numbered plan.links (link_of (lane_ab (suc k))) ≡ Some link
-        → fetched_from plan rec link.a.bridge link.a.port ≡ taken (steps_of rec.lanes (lane_ab (suc k)))
-    from_a h = ap (λ (t : Bool). fetched_from plan rec (if t then link.a else link.b).bridge
-        (if t then link.a else link.b).port) (sym (ab_odd k)) ∙ fetched_from-lane plan sound rec (lane_ab (suc k))
-        link h
-
-    to_b : numbered plan.links (link_of (lane_ab (suc k))) ≡ Some link
-        → sent_to plan rec link.b.bridge link.b.port ≡ put (steps_of rec.lanes (lane_ab (suc k)))
-    to_b h = ap (λ (t : Bool). sent_to plan rec (if t then link.b else link.a).bridge
-        (if t then link.b else link.a).port) (sym (ab_odd k)) ∙ sent_to-lane plan sound rec (lane_ab (suc k)) link h
-
-    from_b : numbered plan.links (link_of (lane_ba (suc k))) ≡ Some link
-        → fetched_from plan rec link.b.bridge link.b.port ≡ taken (steps_of rec.lanes (lane_ba (suc k)))
-    from_b h = ap (λ (t : Bool). fetched_from plan rec (if t then link.a else link.b).bridge
-        (if t then link.a else link.b).port) (sym (ba_even k)) ∙ fetched_from-lane plan sound rec (lane_ba (suc k))
-        link h
-
-    to_a : numbered plan.links (link_of (lane_ba (suc k))) ≡ Some link
-        → sent_to plan rec link.a.bridge link.a.port ≡ put (steps_of rec.lanes (lane_ba (suc k)))
-    to_a h = ap (λ (t : Bool). sent_to plan rec (if t then link.b else link.a).bridge
-        (if t then link.b else link.a).port) (sym (ba_even k)) ∙ sent_to-lane plan sound rec (lane_ba (suc k)) link h
+    let ab = lane_lawful plan rec ins outs (lane_ab (suc k)) link true sound kept
+    (ap (λ m. numbered plan.links m) (ab_link k) ∙ at) (ab_odd k) in
+    let ba = lane_lawful plan rec ins outs (lane_ba (suc k)) link false sound kept
+    (ap (λ m. numbered plan.links m) (ba_link k) ∙ at) (ba_even k) in
+    record { ab = ab.0; ba = ba.0; meets_ab = ab.1; meets_ba = ba.1 }
 
 -- the record is lawful
 pub kept_lawful : (plan : Plan) (rec : Record) (ins outs : List (List Item)) → IsSoundPlan plan
@@ -171,6 +119,11 @@ kept_lawful plan rec ins outs sound kept = record {
       };
 }
 
+pub lawful_inside : {net : NetView} (s : Inside) → Keeps s → shown s ≡ net
+    → IsLawfulRecord spanning_tree net.plan net.rec
+lawful_inside s keeps view = subst (λ (v : NetView). IsLawfulRecord spanning_tree v.plan v.rec) view
+    (kept_lawful s.plan (rec_in s) (ins_of s) (outs_of s) keeps.0 keeps.2)
+
 -- one event more was answered
 pub run_more : (old mid new : NetView) (events : List Event) (event : Event) (did : Did) → HaveRun old events mid
     → IsAnswer mid event (Ok did) new → HaveRun old (events ++ event ∷ []) new
@@ -185,15 +138,13 @@ pub steps_at_number : {X : Type 0} (f : X → List Step) (xs : List X) (n : ℕ)
 steps_at_number f xs n x one here = let e : suc (n - 1) ≡ n = omega arith in ap (λ k. steps_of (map f xs) k) (sym e)
     ∙ steps_of-map f xs (n - 1) x here
 
--- a number that a plan knows is one of its things'
-pub known_number : {X : Type 0} (xs : List X) (n : ℕ) → is_some (numbered xs n) ≡ true → (1 ≤ n) × (n ≤ length xs)
-known_number xs zero h = cc
-known_number xs (suc r) h = (omega arith, within xs r h)
-  where
-    within : {X : Type 0} (xs : List X) (r : ℕ) → is_some (slice_get xs r) ≡ true → suc r ≤ length xs
-    within [] r h = cc
-    within (x ∷ xs) zero h = omega arith
-    within (x ∷ xs) (suc r) h = omega (arith, within xs r h)
+-- the place of a number is kept, and its steps are those of the record
+pub known_steps : {X : Type 0} (f : X → List Step) (is_kept : X → Bool) (xs : List X) (n count : ℕ) (x : X)
+    → length xs ≡ count → (1 ≤ n) × (n ≤ count) → x ≡ get_or xs (n - 1) x
+    → AllByRecursion (λ y. is_kept y ≡ true) xs → (is_kept x ≡ true) × (f x ≡ steps_of (map f xs) n)
+known_steps f is_kept xs n count x counted known value all =
+    let here = here_is xs (n - 1) x (omega (arith, known.0, known.1, counted)) value in
+    (All-at (λ y. is_kept y ≡ true) xs (n - 1) x here all, sym (steps_at_number f xs n x known.0 here))
 
 -- the numbers of a list's things are those from 1 to its length
 pub number_is_named : {X : Type 0} (xs : List X) (n : ℕ)
@@ -214,96 +165,9 @@ known_lane n lanes h = (
       (and-right (nat_le 1 n) (nat_le n lanes) h),
 )
 
--- a bridge's steps are the record's
-bridge_steps : (plan : Plan) (bridges : List BridgeView) (lanes : List LaneView) (customers : List PlaceView)
-    (bridge r : ℕ) (b : BridgeView) → ArePlaced plan bridges lanes customers → r + 1 ≡ bridge
-    → r < length plan.bridges → b ≡ get_or bridges r b
-    → (steps_of (map (λ (x : BridgeView). x.steps) bridges) bridge ≡ b.steps) × (b.plan.steps ≡ plan.steps)
-bridge_steps plan bridges lanes customers bridge r b placed place within value =
-    let here = here_is bridges r b (omega (arith, placed.bridge_count)) value in
-    let number : suc r ≡ bridge = omega (arith, place) in
-    let lists = map (λ (x : BridgeView). x.steps) bridges in (
-      ap (λ n. steps_of lists n) (sym number) ∙ steps_of-map (λ (x : BridgeView). x.steps) bridges r b here,
-      ap
-          (λ (p : Plan). p.steps) (placed.planned r b here),
-    )
-
-named_bridge : (plan : Plan) (bridge r : ℕ) → r + 1 ≡ bridge → r < length plan.bridges
-    → is_some (numbered plan.bridges bridge) ≡ true
-named_bridge plan bridge r place within = ap is_some (numbered-exists plan.bridges bridge (omega arith, omega arith)).1
-
--- a Tick is due where the bridge isn't at its limit
-pub tick_due : (plan : Plan) (bridges : List BridgeView) (lanes : List LaneView) (customers : List PlaceView)
-    (bridge r : ℕ) (b : BridgeView) → ArePlaced plan bridges lanes customers → r + 1 ≡ bridge
-    → r < length plan.bridges → b ≡ get_or bridges r b
-    → (length b.steps ≡ b.plan.steps → ⊥) → IsDue (net_of plan bridges lanes customers) (Tick bridge)
-tick_due plan bridges lanes customers bridge r b placed place within value not_yet =
-    let same = bridge_steps plan bridges lanes customers bridge r b placed place within value in
-    record {
-      named = named_bridge plan bridge r place within;
-      busy = refl;
-      within = ne_eqb _ _ (λ e. not_yet (ap length (sym same.0) ∙ e ∙ sym same.1));
-    }
-
--- and a refused one tells why
-pub tick_refused : (plan : Plan) (bridges : List BridgeView) (lanes : List LaneView) (customers : List PlaceView)
-    (bridge r : ℕ) (b : BridgeView) (result : Result Did NetFault) (fault : NetFault) (met : BridgeFault)
-    → ArePlaced plan bridges lanes customers → r + 1 ≡ bridge → r < length plan.bridges → b ≡ get_or bridges r b
-    → result ≡ Err fault → fault ≡ fault_of met
-    → (met ≡ bridge_limit → length b.steps ≡ b.plan.steps) → (length b.steps ≡ b.plan.steps → met ≡ bridge_limit)
-    → IsAnswer (net_of plan bridges lanes customers) (Tick bridge) result (net_of plan bridges lanes customers)
-tick_refused plan bridges lanes customers bridge r b result fault bridge_limit placed place within value e m there
-    back =
-    let net = net_of plan bridges lanes customers in
-    let same = bridge_steps plan bridges lanes customers bridge r b placed place within value in
-    let at_limit : length (steps_of (map (λ (x : BridgeView). x.steps) bridges) bridge) ≡ plan.steps =
-    ap length same.0 ∙ there refl ∙ same.1 in
-    subst (λ (x : Result Did NetFault). IsAnswer net (Tick bridge) x net) (sym (e ∙ ap (λ z. Err z) m))
-    (named_bridge plan bridge r place within, refl, eq-eqb _ _ at_limit, refl)
-tick_refused plan bridges lanes customers bridge r b result fault bridge_memory placed place within value e m there
-    back =
-    let net = net_of plan bridges lanes customers in
-    subst (λ (x : Result Did NetFault). IsAnswer net (Tick bridge) x net) (sym (e ∙ ap (λ z. Err z) m))
-    (tick_due plan bridges lanes customers bridge r b placed place within value (λ l. let wrong = back l in cc), refl)
-
--- the same of an Admin
-pub admin_due : (plan : Plan) (bridges : List BridgeView) (lanes : List LaneView) (customers : List PlaceView)
-    (bridge port : ℕ) (up : Bool) (spot : Spot) (b : BridgeView) → ArePlaced plan bridges lanes customers
-    → IsBridgeSpot plan bridge port spot
-    → is_provider (port_at plan bridge port) ≡ true → b ≡ get_or bridges spot.place b
-    → (length b.steps ≡ b.plan.steps → ⊥) → IsDue (net_of plan bridges lanes customers) (Admin bridge port up)
-admin_due plan bridges lanes customers bridge port up spot b placed known named value not_yet =
-    let same = bridge_steps plan bridges lanes customers bridge spot.place b placed known.place known.there value in
-    record {
-      named = named;
-      busy = refl;
-      within = ne_eqb _ _ (λ e. not_yet (ap length (sym same.0) ∙ e ∙ sym same.1));
-    }
-
-pub admin_refused : (plan : Plan) (bridges : List BridgeView) (lanes : List LaneView) (customers : List PlaceView)
-    (bridge port : ℕ) (up : Bool) (spot : Spot) (b : BridgeView) (result : Result Did NetFault) (fault : NetFault)
-    (met : BridgeFault)
-    → ArePlaced plan bridges lanes customers → IsBridgeSpot plan bridge port spot
-    → is_provider (port_at plan bridge port) ≡ true → b ≡ get_or bridges spot.place b → result ≡ Err fault
-    → fault ≡ fault_of met
-    → (met ≡ bridge_limit → length b.steps ≡ b.plan.steps) → (length b.steps ≡ b.plan.steps → met ≡ bridge_limit)
-    → IsAnswer (net_of plan bridges lanes customers) (Admin bridge port up) result (net_of plan bridges lanes customers)
-admin_refused plan bridges lanes customers bridge port up spot b result fault bridge_limit placed known named value e
-    m there back =
-    let net = net_of plan bridges lanes customers in
-    let same = bridge_steps plan bridges lanes customers bridge spot.place b placed known.place known.there value in
-    let at_limit : length (steps_of (map (λ (x : BridgeView). x.steps) bridges) bridge) ≡ plan.steps =
-    ap length same.0 ∙ there refl ∙ same.1 in
-    subst (λ (x : Result Did NetFault). IsAnswer net (Admin bridge port up) x net) (sym (e ∙ ap (λ z. Err z) m))
-    (named, refl, eq-eqb _ _ at_limit, refl)
-admin_refused plan bridges lanes customers bridge port up spot b result fault bridge_memory placed known named value e
-    m there back =
-    let net = net_of plan bridges lanes customers in
-    subst (λ (x : Result Did NetFault). IsAnswer net (Admin bridge port up) x net) (sym (e ∙ ap (λ z. Err z) m)) (
-      admin_due plan bridges lanes customers bridge port up spot b placed known named value
-          (λ l. let wrong = back l in cc),
-      refl,
-    )
+-- a number that a plan knows is one of its things'
+pub known_number : {X : Type 0} (xs : List X) (n : ℕ) → is_some (numbered xs n) ≡ true → (1 ≤ n) × (n ≤ length xs)
+known_number xs n h = known_lane n (length xs) (number_is_named xs n ∙ h)
 
 -- a fault leaves the network as it was
 pub fault_keeps : (old new : NetView) (event : Event) (fault : NetFault) → IsAnswer old event (Err fault) new

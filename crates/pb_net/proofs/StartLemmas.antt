@@ -1,23 +1,22 @@
 -- A network at its start.
-use Rattle.std.proofs.Common.{◌≡◌, ℕ, zero, suc, ◌+◌, ◌*◌, ◌<◌, inl, inr, Bool, true, false, if◌then◌else◌, ◌||◌}
-use Rattle.std.proofs.Common.{List, [], ◌∷◌, ◌++◌, Some, None, is_some, unwrap_or, map, length, slice_get, flat_map}
-use Rattle.std.proofs.Common.{refl, sym, ap, subst, ◌∙◌, arith, length-append}
+use Rattle.std.proofs.Common.{◌≡◌, ℕ, zero, suc, ◌+◌, ◌*◌, ◌%◌, ◌<◌, inl, inr, Bool, true, false, if◌then◌else◌}
+use Rattle.std.proofs.Common.{◌||◌, ◌==◌, List, [], ◌∷◌, ◌++◌, Some, None, is_some, unwrap_or, map, length, slice_get}
+use Rattle.std.proofs.Common.{flat_map, refl, sym, ap, ap₂, subst, ◌∙◌, arith, length-append}
 use Rattle.std.proofs.lemmas.List.{length-map}
 use Rattle.std.specs.List.{list_any, AllByRecursion}
 use Rattle.std.specs.Option.{option_map}
 use Rattle.std.specs.declared.collections.VecDeque.{VecDeque}
 use Rattle.std.specs.declared.option.Option.{Option}
 use Rattle.std.specs.Global.{Global}
-use Rattle.pb_frame.proofs.Lists.{All-at}
-use Rattle.pb_frame.specs.Lists.{first, Rises}
+use Rattle.pb_frame.specs.Lists.{first}
 use Rattle.pb_lan.proofs.PortsInPlans.{sound-end}
 use Rattle.pb_lan.proofs.StateLemmas.{is_some-first}
 use Rattle.pb_lan.specs.BridgeLists.{IsLawfulBridge}
 use Rattle.pb_lan.specs.Events.{unstepped, empty_record, sent_by, sent_to, fetched_by, fetched_from, customer_there}
-use Rattle.pb_lan.specs.Events.{lane_to, lane_from}
+use Rattle.pb_lan.specs.Events.{lane_to, lane_from, begins_at, ends_at}
 use Rattle.pb_lan.specs.LaneLists.{IsLawfulLane, taken, put}
 use Rattle.pb_lan.specs.Numbering.{numbered}
-use Rattle.pb_lan.specs.Plans.{IsSound, IsSoundCustomer}
+use Rattle.pb_lan.specs.Plans.{IsSound}
 use Rattle.pb_lan.specs.PortLists.{fed, delivered, IsLawfulPort}
 use Rattle.pb_lan.specs.Ports.{Port, port_at, is_customer_at, is_end_at, ends_of, all_ends, customer_or_else}
 use Rattle.pb_lan.specs.Ports.{provider_or_unused}
@@ -35,16 +34,15 @@ use Rattle.pb_link.specs.Hands.{PlaceView}
 use Rattle.pb_link.specs.Lanes.{LaneView}
 use Rattle.pb_relay.specs.Standing.{BridgeView}
 use Rattle.pb_net.specs.Nets.{IsKept, ArePlaced, record_of}
-use Rattle.pb_net.specs.Slots.{IsSlot, JoinsSlots, MeetsSlot, bridge_of, port_of, items_at, use_of, losses_at}
-use Rattle.pb_net.specs.Slots.{losses_of}
+use Rattle.pb_net.specs.Slots.{JoinsSlots, bridge_of, port_of, link_of, items_at, use_of, losses_at, losses_of}
 use Rattle.pb_net.specs.Starts.{AreFreshBridges, AreFreshLanes, AreFreshCustomers, AreEmptyBoxes, AreUses}
-use Rattle.pb_net.specs.Starts.{AreLaneSlots, AreCustomerSlots, fresh_bridge, fresh_lane, fresh_customer}
+use Rattle.pb_net.specs.Starts.{AreLaneSlots, fresh_bridge, fresh_lane, fresh_customer}
 use Rattle.pb_net.specs.declared.slots.LaneSlots.{LaneSlots}
 use Rattle.pb_net.specs.declared.slots.PortUse.{PortUse}
 use Rattle.pb_net.specs.declared.slots.PortUse.TheVariants.{ToCustomer, ToBridge, ToNobody}
-use Rattle.pb_net.proofs.KnownSpots.{items_in}
-use Rattle.pb_net.proofs.Lanes.{ab_link, ba_link, ab_odd, ba_even}
-use Rattle.pb_net.proofs.SpotLemmas.{slot_at, slot_of, slot_there}
+use Rattle.pb_net.proofs.KnownSpots.{items_in, rec_of}
+use Rattle.pb_net.proofs.Lanes.{ab_link, ba_link, ab_odd, ba_even, begins_at-end, ends_at-end}
+use Rattle.pb_net.proofs.SpotLemmas.{slot_of, slot_there}
 
 -- what holds of each thing at its place, and of one more
 each-more : {X : Type 0} (P : ℕ → X → Type 0) (xs : List X) (x : X)
@@ -71,60 +69,37 @@ fresh_customers-more n customers p are e = record {
   fresh = each-more (λ r x. x ≡ fresh_customer (r + 1)) customers p are.fresh (rw are.counted e);
 }
 
-pub empty_boxes-more : (n : ℕ) (boxes : List (VecDeque Item Global)) (q : VecDeque Item Global)
-    → AreEmptyBoxes n boxes → q.items ≡ [] → AreEmptyBoxes (n + 1) (boxes ++ q ∷ [])
-empty_boxes-more n boxes q are e = record {
-  counted = omega (arith, are.counted, length-append boxes (q ∷ []));
-  empty = each-more (λ r x. x.items ≡ []) boxes q are.empty e;
-}
+-- and of two lanes more
+lanes-more : {X : Type 0} (P : ℕ → X → Type 0) (xs : List X) (k : ℕ) (a b : X) → length xs ≡ 2 * k
+    → ((r : ℕ) (x : X) → slice_get xs r ≡ Some x → P (r + 1) x) → P (lane_ab (suc k)) a → P (lane_ba (suc k)) b
+    → (length ((xs ++ a ∷ []) ++ b ∷ []) ≡ 2 * (k + 1))
+    × ((r : ℕ) (x : X) → slice_get ((xs ++ a ∷ []) ++ b ∷ []) r ≡ Some x → P (r + 1) x)
+lanes-more P xs k a b count each is_a is_b =
+    let one : lane_ab (suc k) ≡ length xs + 1 = omega (arith, count) in
+    let two : lane_ba (suc k) ≡ length (xs ++ a ∷ []) + 1 = omega (arith, count, length-append xs (a ∷ [])) in (
+      omega (arith, count, length-append xs (a ∷ []), length-append (xs ++ a ∷ []) (b ∷ [])),
+      each-more (λ r x. P (r + 1) x) (xs ++ a ∷ []) b
+          (each-more (λ r x. P (r + 1) x) xs a each (subst (λ n. P n a) one is_a)) (subst (λ n. P n b) two is_b),
+    )
 
--- a link of the plan, by its place
-link_at : (plan : Plan) (k : ℕ) (link : LinkPlan) → slice_get plan.links k ≡ Some link
-    → numbered plan.links (suc k) ≡ Some link
-link_at plan k link at = at
+-- the losses of a link's lane
+lane_losses : (plan : Plan) (k lane : ℕ) (link : LinkPlan) (odd : Bool) → slice_get plan.links k ≡ Some link
+    → link_of lane ≡ suc k → (lane % 2 == 1) ≡ odd
+    → losses_of plan lane ≡ (if odd then link.lost_ab else link.lost_ba)
+lane_losses plan k lane link odd at of_link is =
+    ap (λ n. unwrap_or (option_map (losses_at lane) (numbered plan.links n)) []) of_link
+    ∙ ap (λ (o : Option LinkPlan). unwrap_or (option_map (losses_at lane) o) []) at
+    ∙ ap (λ (t : Bool). if t then link.lost_ab else link.lost_ba) is
 
--- the losses of its lanes
-losses-ab : (plan : Plan) (k : ℕ) (link : LinkPlan) → slice_get plan.links k ≡ Some link
-    → losses_of plan (2 * k + 1) ≡ link.lost_ab
-losses-ab plan k link at =
-    let e : 2 * k + 1 ≡ lane_ab (suc k) = omega arith in
-    ap (losses_of plan) e ∙ ap (λ n. unwrap_or (option_map (losses_at (lane_ab (suc k))) (numbered plan.links n)) [])
-    (ab_link k)
-    ∙ ap (λ (o : Option LinkPlan). unwrap_or (option_map (losses_at (lane_ab (suc k))) o) []) at
-    ∙ ap (λ (t : Bool). if t then link.lost_ab else link.lost_ba) (ab_odd k)
-
-losses-ba : (plan : Plan) (k : ℕ) (link : LinkPlan) → slice_get plan.links k ≡ Some link
-    → losses_of plan ((2 * k + 1) + 1) ≡ link.lost_ba
-losses-ba plan k link at =
-    let e : (2 * k + 1) + 1 ≡ lane_ba (suc k) = omega arith in
-    ap (losses_of plan) e ∙ ap (λ n. unwrap_or (option_map (losses_at (lane_ba (suc k))) (numbered plan.links n)) [])
-    (ba_link k)
-    ∙ ap (λ (o : Option LinkPlan). unwrap_or (option_map (losses_at (lane_ba (suc k))) o) []) at
-    ∙ ap (λ (t : Bool). if t then link.lost_ab else link.lost_ba) (ba_even k)
-
--- two lanes more
 pub fresh_lanes-more : (plan : Plan) (k : ℕ) (link : LinkPlan) (lanes : List LaneView) (a b : LaneView)
     → slice_get plan.links k ≡ Some link → AreFreshLanes plan (2 * k) lanes
     → a ≡ fresh_lane link.lost_ab → b ≡ fresh_lane link.lost_ba
     → AreFreshLanes plan (2 * (k + 1)) ((lanes ++ a ∷ []) ++ b ∷ [])
 fresh_lanes-more plan k link lanes a b at are is_a is_b =
-    let counted : length (lanes ++ a ∷ []) ≡ 2 * k + 1 = omega (arith, are.counted, length-append lanes (a ∷ [])) in
-    let first_is : a ≡ fresh_lane (losses_of plan (length lanes + 1)) = is_a
-    ∙ ap fresh_lane (sym (losses-ab plan k link at)) ∙ ap (λ n. fresh_lane (losses_of plan (n + 1)))
-    (sym are.counted) in
-    let second_is : b ≡ fresh_lane (losses_of plan (length (lanes ++ a ∷ []) + 1)) = is_b
-    ∙ ap fresh_lane (sym (losses-ba plan k link at)) ∙ ap (λ n. fresh_lane (losses_of plan (n + 1))) (sym counted)
-    in
-    record {
-      counted = omega (arith, counted, length-append (lanes ++ a ∷ []) (b ∷ []));
-      fresh = each-more (λ r l. l ≡ fresh_lane (losses_of plan (r + 1))) (lanes ++ a ∷ []) b
-          (each-more (λ r l. l ≡ fresh_lane (losses_of plan (r + 1))) lanes a are.fresh first_is) second_is;
-    }
-
--- the losses of a sound plan rise
-pub losses_rise : (plan : Plan) (k : ℕ) (link : LinkPlan) → IsSound plan → slice_get plan.links k ≡ Some link
-    → Rises link.lost_ab × Rises link.lost_ba
-losses_rise plan k link sound at = All-at (λ l. Rises l.lost_ab × Rises l.lost_ba) plan.links k link at sound.losses
+    let more = lanes-more (λ n l. l ≡ fresh_lane (losses_of plan n)) lanes k a b are.counted are.fresh
+    (is_a ∙ ap fresh_lane (sym (lane_losses plan k (lane_ab (suc k)) link true at (ab_link k) (ab_odd k))))
+    (is_b ∙ ap fresh_lane (sym (lane_losses plan k (lane_ba (suc k)) link false at (ba_link k) (ba_even k)))) in
+    record { counted = more.0; fresh = more.1 }
 
 -- its ends have numbers
 pub ends_numbered : (plan : Plan) (k : ℕ) (link : LinkPlan) → IsSound plan → slice_get plan.links k ≡ Some link
@@ -134,39 +109,25 @@ ends_numbered plan k link sound at =
     let b = sound-end plan sound (suc k) link link.b at (inr refl) in
     (omega (arith, a.bridge), omega (arith, a.port), omega (arith, b.bridge), omega (arith, b.port))
 
--- the slots of its lanes
-joins-ab : (plan : Plan) (k : ℕ) (link : LinkPlan) → IsSound plan → slice_get plan.links k ≡ Some link
-    → JoinsSlots plan (2 * k + 1) (record { from = slot_of link.a; to = slot_of link.b })
-joins-ab plan k link sound at =
-    let e : lane_ab (suc k) ≡ 2 * k + 1 = omega arith in
-    let a = sound-end plan sound (suc k) link link.a at (inl refl) in
-    let b = sound-end plan sound (suc k) link link.b at (inr refl) in
-    let from = slot_there plan link.a.bridge link.a.port a.bridge a.port in
-    let to = slot_there plan link.b.bridge link.b.port b.bridge b.port in
-    subst (λ n. JoinsSlots plan n (record { from = slot_of link.a; to = slot_of link.b })) e (record {
-      link = link;
-      planned = ap (λ n. numbered plan.links n) (ab_link k) ∙ at;
-      from = subst (λ (t : Bool). IsSlot plan (if t then link.a else link.b).bridge
-          (if t then link.a else link.b).port (slot_of link.a)) (sym (ab_odd k)) from;
-      to = subst (λ (t : Bool). IsSlot plan (if t then link.b else link.a).bridge (if t then link.b else link.a).port
-          (slot_of link.b)) (sym (ab_odd k)) to;
-    })
+-- the slots of a link's lane, of which the odd one begins at its first end
+abbrev slots_by : LinkPlan → Bool → LaneSlots
+slots_by link odd =
+    record { from = slot_of (if odd then link.a else link.b); to = slot_of (if odd then link.b else link.a) }
 
-joins-ba : (plan : Plan) (k : ℕ) (link : LinkPlan) → IsSound plan → slice_get plan.links k ≡ Some link
-    → JoinsSlots plan ((2 * k + 1) + 1) (record { from = slot_of link.b; to = slot_of link.a })
-joins-ba plan k link sound at =
-    let e : lane_ba (suc k) ≡ (2 * k + 1) + 1 = omega arith in
-    let a = sound-end plan sound (suc k) link link.a at (inl refl) in
-    let b = sound-end plan sound (suc k) link link.b at (inr refl) in
-    let from = slot_there plan link.b.bridge link.b.port b.bridge b.port in
-    let to = slot_there plan link.a.bridge link.a.port a.bridge a.port in
-    subst (λ n. JoinsSlots plan n (record { from = slot_of link.b; to = slot_of link.a })) e (record {
+lane_joins : (plan : Plan) (k lane : ℕ) (link : LinkPlan) (odd : Bool) (slots : LaneSlots) → IsSound plan
+    → slice_get plan.links k ≡ Some link → link_of lane ≡ suc k → (lane % 2 == 1) ≡ odd → slots ≡ slots_by link odd
+    → JoinsSlots plan lane slots
+lane_joins plan k lane link odd slots sound at of_link is e =
+    let from = begins_at lane link in
+    let to = ends_at lane link in
+    let here : numbered plan.links (link_of lane) ≡ Some link = ap (λ n. numbered plan.links n) of_link ∙ at in
+    let a = sound-end plan sound (link_of lane) link from here (begins_at-end lane link) in
+    let b = sound-end plan sound (link_of lane) link to here (ends_at-end lane link) in
+    subst (JoinsSlots plan lane) (ap (slots_by link) is ∙ sym e) (record {
       link = link;
-      planned = ap (λ n. numbered plan.links n) (ba_link k) ∙ at;
-      from = subst (λ (t : Bool). IsSlot plan (if t then link.a else link.b).bridge
-          (if t then link.a else link.b).port (slot_of link.b)) (sym (ba_even k)) from;
-      to = subst (λ (t : Bool). IsSlot plan (if t then link.b else link.a).bridge (if t then link.b else link.a).port
-          (slot_of link.a)) (sym (ba_even k)) to;
+      planned = here;
+      from = slot_there plan from.bridge from.port a.bridge a.port;
+      to = slot_there plan to.bridge to.port b.bridge b.port;
     })
 
 pub lane_slots-more : (plan : Plan) (k : ℕ) (link : LinkPlan) (slots : List LaneSlots) (a b : LaneSlots)
@@ -175,39 +136,10 @@ pub lane_slots-more : (plan : Plan) (k : ℕ) (link : LinkPlan) (slots : List La
     → b ≡ record { from = slot_of link.b; to = slot_of link.a }
     → AreLaneSlots plan (2 * (k + 1)) ((slots ++ a ∷ []) ++ b ∷ [])
 lane_slots-more plan k link slots a b sound at are is_a is_b =
-    let counted : length (slots ++ a ∷ []) ≡ 2 * k + 1 = omega (arith, are.counted, length-append slots (a ∷ [])) in
-    let first_joins : JoinsSlots plan (length slots + 1) a = subst (λ n. JoinsSlots plan (n + 1) a) (sym are.counted)
-    (subst (λ (x : LaneSlots). JoinsSlots plan (2 * k + 1) x) (sym is_a) (joins-ab plan k link sound at)) in
-    let second_joins : JoinsSlots plan (length (slots ++ a ∷ []) + 1) b = subst (λ n. JoinsSlots plan (n + 1) b)
-    (sym counted) (subst (λ (x : LaneSlots). JoinsSlots plan ((2 * k + 1) + 1) x) (sym is_b)
-    (joins-ba plan k link sound at)) in
-    record {
-      counted = omega (arith, counted, length-append (slots ++ a ∷ []) (b ∷ []));
-      joined = each-more (λ r x. JoinsSlots plan (r + 1) x) (slots ++ a ∷ []) b
-          (each-more (λ r x. JoinsSlots plan (r + 1) x) slots a are.joined first_joins) second_joins;
-    }
-
--- one customer port more
-pub customer_numbered : (plan : Plan) (k : ℕ) (c : CustomerPlan) → IsSound plan → slice_get plan.customers k ≡ Some c
-    → (0 < c.bridge) × (0 < c.port)
-customer_numbered plan k c sound at =
-    let is = All-at (IsSoundCustomer plan) plan.customers k c at sound.customers in
-    (omega (arith, is.bridge), omega (arith, is.port))
-
-pub customer_slots-more : (plan : Plan) (k : ℕ) (c : CustomerPlan) (slots : List ℕ) (slot : ℕ) → IsSound plan
-    → slice_get plan.customers k ≡ Some c → AreCustomerSlots plan k slots
-    → slot ≡ slot_at c.bridge c.port → AreCustomerSlots plan (k + 1) (slots ++ slot ∷ [])
-customer_slots-more plan k c slots slot sound at are is_slot =
-    let is = All-at (IsSoundCustomer plan) plan.customers k c at sound.customers in
-    let e : suc k ≡ length slots + 1 = omega (arith, are.counted) in
-    let meets : MeetsSlot plan (length slots + 1) slot =
-    subst (λ n. MeetsSlot plan n slot) e
-    (subst (λ s. MeetsSlot plan (suc k) s) (sym is_slot)
-    (record { customer = c; planned = at; at = slot_there plan c.bridge c.port is.bridge is.port })) in
-    record {
-      counted = omega (arith, are.counted, length-append slots (slot ∷ []));
-      met = each-more (λ r s. MeetsSlot plan (r + 1) s) slots slot are.met meets;
-    }
+    let more = lanes-more (JoinsSlots plan) slots k a b are.counted are.joined
+    (lane_joins plan k (lane_ab (suc k)) link true a sound at (ab_link k) (ab_odd k) is_a)
+    (lane_joins plan k (lane_ba (suc k)) link false b sound at (ba_link k) (ba_even k) is_b) in
+    record { counted = more.0; joined = more.1 }
 
 -- one slot more
 pub uses-more : (plan : Plan) (s : ℕ) (uses : List PortUse) (who : PortUse) → AreUses plan s uses
@@ -217,25 +149,6 @@ uses-more plan s uses who are is_use = record {
   told = each-more (λ r x. x ≡ use_of (port_at plan (bridge_of r) (port_of r))) uses who are.told
       (is_use ∙ ap (λ n. use_of (port_at plan (bridge_of n) (port_of n))) (sym are.counted));
 }
-
--- who is at a port
-customer_first : (other : Port) (o : Option CustomerPlan) → is_some o ≡ true
-    → use_of (customer_or_else o other) ≡ ToCustomer
-customer_first other None e = cc
-customer_first other (Some c) e = refl
-
-no_customer : (other : Port) (o : Option CustomerPlan) → is_some o ≡ false
-    → use_of (customer_or_else o other) ≡ use_of other
-no_customer other None e = refl
-no_customer other (Some c) e = cc
-
-end_first : (o : Option End) → is_some o ≡ true → use_of (provider_or_unused o) ≡ ToBridge
-end_first None e = cc
-end_first (Some d) e = refl
-
-no_end : (o : Option End) → is_some o ≡ false → use_of (provider_or_unused o) ≡ ToNobody
-no_end None e = refl
-no_end (Some d) e = cc
 
 -- an end passes the test where one of a link's two does
 is_some-ends : (test : End → Bool) (links : List LinkPlan)
@@ -250,28 +163,22 @@ is_some-ends test (l ∷ links) = by (test l.a) (test l.b) (is_some-ends test li
     by false true e = refl
     by false false e = e
 
-pub use-customer : (plan : Plan) (b q : ℕ) → list_any (is_customer_at b q) plan.customers ≡ true
-    → ToCustomer ≡ use_of (port_at plan b q)
-use-customer plan b q e =
-    sym (customer_first (provider_or_unused (first (is_end_at b q) (all_ends plan)))
-    (first (is_customer_at b q) plan.customers) (is_some-first (is_customer_at b q) plan.customers ∙ e))
+-- who is at a port
+use_by : (c : Option CustomerPlan) (e : Option End)
+    → use_of (customer_or_else c (provider_or_unused e))
+    ≡ (if is_some c then ToCustomer else (if is_some e then ToBridge else ToNobody))
+use_by (Some c) e = refl
+use_by None (Some d) = refl
+use_by None None = refl
 
-pub use-end : (plan : Plan) (b q : ℕ) → list_any (is_customer_at b q) plan.customers ≡ false
-    → list_any (λ l. is_end_at b q l.a || is_end_at b q l.b) plan.links ≡ true → ToBridge ≡ use_of (port_at plan b q)
-use-end plan b q none e =
-    sym (no_customer (provider_or_unused (first (is_end_at b q) (all_ends plan)))
-    (first (is_customer_at b q) plan.customers) (is_some-first (is_customer_at b q) plan.customers ∙ none)
-    ∙ end_first (first (is_end_at b q) (all_ends plan)) (is_some-ends (is_end_at b q) plan.links ∙ e))
-
-pub use-nobody : (plan : Plan) (b q : ℕ) → list_any (is_customer_at b q) plan.customers ≡ false
-    → list_any (λ l. is_end_at b q l.a || is_end_at b q l.b) plan.links ≡ false → ToNobody ≡ use_of (port_at plan b q)
-use-nobody plan b q none e =
-    sym (no_customer (provider_or_unused (first (is_end_at b q) (all_ends plan)))
-    (first (is_customer_at b q) plan.customers) (is_some-first (is_customer_at b q) plan.customers ∙ none)
-    ∙ no_end (first (is_end_at b q) (all_ends plan)) (is_some-ends (is_end_at b q) plan.links ∙ e))
-
-abbrev rec_by : List (List Step) → List (List Step) → List (List Step) → Record
-rec_by bridges lanes customers = record { bridges = bridges; lanes = lanes; customers = customers }
+pub use_told : (plan : Plan) (b q : ℕ) (customer end : Bool) → list_any (is_customer_at b q) plan.customers ≡ customer
+    → list_any (λ l. is_end_at b q l.a || is_end_at b q l.b) plan.links ≡ end
+    → (if customer then ToCustomer else (if end then ToBridge else ToNobody)) ≡ use_of (port_at plan b q)
+use_told plan b q customer end is_customer is_end =
+    sym (use_by (first (is_customer_at b q) plan.customers) (first (is_end_at b q) (all_ends plan))
+    ∙ ap₂ (λ (c e : Bool). if c then ToCustomer else (if e then ToBridge else ToNobody))
+    (is_some-first (is_customer_at b q) plan.customers ∙ is_customer)
+    (is_some-ends (is_end_at b q) plan.links ∙ is_end))
 
 -- lists that are all empty
 unstepped-map : {X Y : Type 0} (f : X → List Step) (xs : List X) (ys : List Y) → length xs ≡ length ys
@@ -285,18 +192,16 @@ unstepped-map f (x ∷ xs) (y ∷ ys) e each =
     let head = each 0 x refl in
     cc
 
+all_empty : {X Y : Type 0} (f : X → List Y) (xs : List X) → ((r : ℕ) (x : X) → slice_get xs r ≡ Some x → f x ≡ [])
+    → (n : ℕ) → unwrap_or (slice_get (map f xs) n) [] ≡ []
+all_empty f [] each n = refl
+all_empty f (x ∷ xs) each zero = each 0 x refl
+all_empty f (x ∷ xs) each (suc n) = all_empty f xs (λ r z h. each (suc r) z h) n
+
 all_unstepped : {X : Type 0} (f : X → List Step) (xs : List X)
     → ((r : ℕ) (x : X) → slice_get xs r ≡ Some x → f x ≡ []) → (n : ℕ) → steps_of (map f xs) n ≡ []
 all_unstepped f xs each zero = refl
-all_unstepped f [] each (suc n) = refl
-all_unstepped f (x ∷ xs) each (suc zero) = each 0 x refl
-all_unstepped f (x ∷ xs) each (suc (suc n)) = all_unstepped f xs (λ r z h. each (suc r) z h) (suc n)
-
-all_boxed : {X : Type 0} (f : X → List Item) (xs : List X) → ((r : ℕ) (x : X) → slice_get xs r ≡ Some x → f x ≡ [])
-    → (n : ℕ) → items_at (map f xs) n ≡ []
-all_boxed f [] each n = refl
-all_boxed f (x ∷ xs) each zero = each 0 x refl
-all_boxed f (x ∷ xs) each (suc n) = all_boxed f xs (λ r z h. each (suc r) z h) n
+all_unstepped f xs each (suc n) = all_empty f xs each n
 
 unstepped-append : {X : Type 0} (xs ys : List X) → unstepped (xs ++ ys) ≡ unstepped xs ++ unstepped ys
 unstepped-append [] ys = refl
@@ -362,8 +267,8 @@ fresh_kept plan bridges lanes customers ins outs bs ls cs is os =
     (λ r l h. ap (λ (x : LaneView). x.steps) (ls.fresh r l h)) in
     let customer : (n : ℕ) → steps_of rec.customers n ≡ [] = all_unstepped (λ (p : PlaceView). p.steps) customers
     (λ r p h. ap (λ (x : PlaceView). x.steps) (cs.fresh r p h)) in
-    let inbox : (n : ℕ) → items_at (map items_in ins) n ≡ [] = all_boxed items_in ins is.empty in
-    let outbox : (n : ℕ) → items_at (map items_in outs) n ≡ [] = all_boxed items_in outs os.empty in
+    let inbox : (n : ℕ) → items_at (map items_in ins) n ≡ [] = all_empty items_in ins is.empty in
+    let outbox : (n : ℕ) → items_at (map items_in outs) n ≡ [] = all_empty items_in outs os.empty in
     record {
       bridge_count = length-map bridges (λ (b : BridgeView). b.steps) ∙ bs.counted;
       lane_count = length-map lanes (λ (l : LaneView). l.steps) ∙ ls.counted;
@@ -395,7 +300,8 @@ fresh_record plan bridges lanes customers bs ls cs =
     omega (arith, ls.counted, length-append plan.links plan.links) in
     let l = unstepped-map (λ (l : LaneView). l.steps) lanes (plan.links ++ plan.links) twice
     (λ r l h. ap (λ (x : LaneView). x.steps) (ls.fresh r l h)) ∙ unstepped-append plan.links plan.links in
-    ap (λ (x : List (List Step)). rec_by x (map (λ (l : LaneView). l.steps) lanes)
+    ap (λ (x : List (List Step)). rec_of x (map (λ (l : LaneView). l.steps) lanes)
     (map (λ (p : PlaceView). p.steps) customers)) b
-    ∙ ap (λ (x : List (List Step)). rec_by (unstepped plan.bridges) x (map (λ (p : PlaceView). p.steps) customers)) l
-    ∙ ap (λ (x : List (List Step)). rec_by (unstepped plan.bridges) (unstepped plan.links ++ unstepped plan.links) x) c
+    ∙ ap (λ (x : List (List Step)). rec_of (unstepped plan.bridges) x (map (λ (p : PlaceView). p.steps) customers)) l
+    ∙ ap (λ (x : List (List Step)). rec_of (unstepped plan.bridges) (unstepped plan.links ++ unstepped plan.links) x)
+    c

@@ -1,18 +1,18 @@
 -- What a local port becomes.
-use Rattle.pb_svlan.specs.ServiceTables.{role_in}
-use Rattle.pb_svlan.specs.declared.port.Attachment.{Attachment}
+use Rattle.pb_svlan.specs.ServiceTables.{ServiceTable, vid_of, are_known, is_taken, role_at, attached, carried}
 use Rattle.std.proofs.Common.{◌≢◌, length-set, get_or-set_same, get_or-set_other, ◌≡◌, ℕ, ◌+◌, ◌-◌, ◌<◌, true, false}
-use Rattle.std.proofs.Common.{cond, ◌==◌, Some, None, is_some, List, [], map, length, get_or, set, unwrap_or, eq-eqb}
+use Rattle.std.proofs.Common.{cond, ◌==◌, Some, None, is_some, List, map, length, get_or, set, unwrap_or, eq-eqb}
 use Rattle.std.proofs.Common.{refl, sym, ap, ◌∙◌, subst, arith}
-use Rattle.std.proofs.lemmas.Bool.{eqb-true}
+use Rattle.std.proofs.lemmas.Bool.{eqb-true, eqb-false, ne_eqb}
+use Rattle.pb_svlan.proofs.ServiceLemmas.{eqb-symm}
+use Rattle.pb_relay.proofs.StandingLemmas.{customer_there, end_there}
 use Rattle.std.specs.List.{AllByRecursion}
 use Rattle.std.specs.Option.{option_map}
 use Rattle.std.specs.declared.option.Option.{Option}
-use Rattle.pb_frame.proofs.Lists.{first-found, and-right}
 use Rattle.pb_frame.specs.Lists.{first}
 use Rattle.pb_lan.proofs.Numbers.{numbered-exists}
 use Rattle.pb_lan.specs.Numbering.{numbered}
-use Rattle.pb_lan.specs.Plans.{IsSound, IsSoundCustomer, IsSoundEnd, IsNumber}
+use Rattle.pb_lan.specs.Plans.{IsSound, IsSoundEnd, IsNumber}
 use Rattle.pb_lan.specs.Ports.{port_at, is_customer_at, is_end_at, all_ends, has_vid, serves, customer_or_else}
 use Rattle.pb_lan.specs.Ports.{provider_or_unused}
 use Rattle.pb_lan.specs.declared.plan.Plan.{Plan}
@@ -20,7 +20,6 @@ use Rattle.pb_lan.specs.declared.plan.CustomerPlan.{CustomerPlan}
 use Rattle.pb_lan.specs.declared.plan.End.{End}
 use Rattle.pb_lan.specs.declared.shape.PortState.{PortState}
 use Rattle.pb_lan.specs.declared.shape.PortState.TheVariants.{Discarding}
-use Rattle.pb_svlan.specs.ServiceTables.{ServiceTable, vid_of, are_known, is_taken, role_at, attached, carried}
 use Rattle.pb_svlan.specs.declared.port.Join.{Join}
 use Rattle.pb_svlan.specs.declared.port.Role.{Role}
 use Rattle.pb_svlan.specs.declared.port.Role.TheVariants.{Customer, Trunk}
@@ -28,46 +27,26 @@ use Rattle.pb_relay.proofs.RoleLemmas.{local_here, locals-length}
 use Rattle.pb_relay.proofs.ServiceLemmas.{vid-known, all-known, carried-serves, role-attached}
 use Rattle.pb_relay.specs.LocalPorts.{IsKept}
 use Rattle.pb_relay.specs.Roles.{local_as, local_of, locals, serves_of, vids_of}
-use Rattle.pb_relay.specs.Roles.LocalPort.{ToCustomer, ToBridge, ToNobody}
+use Rattle.pb_relay.specs.Roles.LocalPort.{ToCustomer, ToBridge}
 use Rattle.pb_relay.specs.Starts.{HasServices, HasAttached, KeepsPorts}
 
 -- nothing is there
-pub none_there : {X : Type 0} (o : Option X) → is_some o ≡ false → o ≡ None
-none_there None h = refl
-none_there (Some x) h = cc
+none_from : {X : Type 0} (o : Option X) → is_some o ≡ false → o ≡ None
+none_from None h = refl
+none_from (Some x) h = cc
 
 -- a port that is attached is what it is attached as, and the others are what they were
 pub role-here : (table : ServiceTable) (port : ℕ) (role : Role) → is_taken table port ≡ false
     → role_at (attached table port role) port ≡ Some role
 role-here table port role free =
-    role-attached table.ports (record { port = port; role = role }) port (none_there (role_at table port) free)
+    role-attached table.ports (record { port = port; role = role }) port (none_from (role_at table port) free)
     ∙ ap (λ b. cond b (Some role) (role_at table port)) (eq-eqb port port refl)
 
 pub role-elsewhere : (table : ServiceTable) (port q : ℕ) (role : Role) → is_taken table port ≡ false
     → (q == port) ≡ false → role_at (attached table port role) q ≡ role_at table q
 role-elsewhere table port q role free other =
-    role-attached table.ports (record { port = port; role = role }) q (none_there (role_at table port) free)
-    ∙ ap (λ b. cond b (Some role) (role_at table q)) turned
-  where
-    turned : (port == q) ≡ false
-    turned = elim (port == q) as (λ t. (port == q) ≡ t → t ≡ false)
-        [ true ↦ λ e. sym (eq-eqb q port (sym (eqb-true port q e))) ∙ other | false ↦ λ e. refl ] refl
-
--- the customer that stands at a port is sound, and has the port
-pub customer_there : (plan : Plan) (number port : ℕ) (c : CustomerPlan) → IsSound plan
-    → Some c ≡ first (is_customer_at number port) plan.customers
-    → IsSoundCustomer plan c × (c.port ≡ port)
-customer_there plan number port c sound found =
-    let there = first-found (IsSoundCustomer plan) (is_customer_at number port) plan.customers c (sym found)
-    sound.customers in
-    (there.0, eqb-true c.port port (and-right _ _ there.1))
-
-pub end_there : (plan : Plan) (number port : ℕ) (e : End) → IsSound plan
-    → Some e ≡ first (is_end_at number port) (all_ends plan)
-    → IsSoundEnd plan e × (e.port ≡ port)
-end_there plan number port e sound found =
-    let there = first-found (IsSoundEnd plan) (is_end_at number port) (all_ends plan) e (sym found) sound.ends in
-    (there.0, eqb-true e.port port (and-right _ _ there.1))
+    role-attached table.ports (record { port = port; role = role }) q (none_from (role_at table port) free)
+    ∙ ap (λ b. cond b (Some role) (role_at table q)) (eqb-symm port q ∙ other)
 
 -- the services of an end are known
 listed-sound : (plan : Plan) (e : End) (services : Option (List ℕ)) → e.services ≡ services → IsSoundEnd plan e
@@ -131,35 +110,11 @@ end_kept plan number port table new e sound h nobody found free a =
     (subst (λ o. IsKept plan (provider_or_unused o) (local_as new e.start (Some (Trunk (carried table e.services)))))
     found (refl, carries)))
 
--- where nobody stands, nothing is kept
-pub nobody_kept : (plan : Plan) (number port : ℕ) (table : ServiceTable) (start : PortState)
-    → None ≡ first (is_customer_at number port) plan.customers → None ≡ first (is_end_at number port) (all_ends plan)
-    → is_taken table port ≡ false
-    → IsKept plan (port_at plan number port) (local_as table start (role_at table port))
-nobody_kept plan number port table start nobody none free =
-    subst (λ (o : Option Role). IsKept plan (port_at plan number port) (local_as table start o))
-    (sym (none_there (role_at table port) free))
-    (subst (λ o. IsKept plan (customer_or_else o (provider_or_unused (first (is_end_at number port) (all_ends plan))))
-    ToNobody) nobody
-    (subst (λ o. IsKept plan (provider_or_unused o) ToNobody) none tt))
-
 -- where the services are the same, so is what a role makes of a port
 as-same : (t u : ServiceTable) (start : PortState) (role : Option Role) → t.services ≡ u.services
     → local_as t start role ≡ local_as u start role
-as-same t u start None e = refl
-as-same t u start (Some (Customer join)) e = refl
 as-same t u start (Some (Trunk None)) e = ap (λ ss. ToBridge start (map (λ s. s.0) ss)) e
-as-same t u start (Some (Trunk (Some vids))) e = refl
-
--- before the first port is asked
-pub attached_none : (plan : Plan) (number : ℕ) (table : ServiceTable) (starts : List PortState)
-    → HasServices plan table → table.ports ≡ [] → length starts ≡ 16 → HasAttached plan number table starts 0
-attached_none plan number table starts h none count = record {
-  services = h;
-  count = count;
-  kept = λ r l. absurd (omega arith);
-  free = λ p l. ap (λ (ps : List Attachment). role_in ps p) none;
-}
+as-same t u start _ e = refl
 
 -- one port more
 pub attached_more : (plan : Plan) (number : ℕ) (old new : ServiceTable) (starts : List PortState) (r : ℕ)
@@ -176,20 +131,12 @@ attached_more plan number old new starts r start few h e others here = record {
             (λ (n : ℕ). IsKept plan (port_at plan number (n + 1)) (local_of new (set starts r start) (n + 1)))
             same_place
             newest
-        | false ↦ λ t. let below : k < r = omega (arith, l, unequal k r t) in subst
+        | false ↦ λ t. let below : k < r = omega (arith, l, eqb-false k r t) in subst
             (IsKept plan (port_at plan number (k + 1))) (sym (older k below)) (h.kept k below)
       ] refl;
-  free = λ p l. others p (apart p (r + 1) (omega (arith, l))) ∙ h.free p (omega (arith, l));
+  free = λ p l. others p (ne_eqb p (r + 1) (λ e. omega (arith, l, e))) ∙ h.free p (omega (arith, l));
 }
   where
-    unequal : (m n : ℕ) → (m == n) ≡ false → m ≢ n
-    unequal m n h e = let t = eq-eqb m n e in cc
-
-    apart : (m n : ℕ) → n < m → (m == n) ≡ false
-    apart m n l = elim (m == n) as (λ b. (m == n) ≡ b → b ≡ false)
-        [ true ↦ λ e. let same_number = eqb-true m n e in absurd (omega (arith, l, same_number)) | false ↦ λ e. refl ]
-        refl
-
     place : (k : ℕ) → k + 1 - 1 ≡ k
     place k = omega arith
 
@@ -201,13 +148,6 @@ attached_more plan number old new starts r start few h e others here = record {
         subst (λ (s : PortState). IsKept plan (port_at plan number (r + 1)) (local_as new s (role_at new (r + 1))))
         (sym at) here
 
-    below : (k r : ℕ) → k < r → (k + 1 == r + 1) ≡ false
-    below k r l = elim (k + 1 == r + 1) as (λ b. (k + 1 == r + 1) ≡ b → b ≡ false) [
-      | true ↦ λ e. let same_number = eqb-true (k + 1) (r + 1) e in absurd (omega (arith, l, same_number))
-      | false ↦
-          λ e. refl
-    ] refl
-
     older : (k : ℕ) → k < r → local_of new (set starts r start) (k + 1) ≡ local_of old starts (k + 1)
     older k l =
         let n : k ≢ r = omega arith in
@@ -215,7 +155,8 @@ attached_more plan number old new starts r start few h e others here = record {
         ap (λ i. get_or (set starts r start) i Discarding) (place k) ∙ get_or-set_other starts r k start Discarding n
         ∙ ap (λ i. get_or starts i Discarding) (sym (place k)) in
         ap (λ (s : PortState). local_as new s (role_at new (k + 1))) at
-        ∙ ap (local_as new (get_or starts (k + 1 - 1) Discarding)) (others (k + 1) (below k r l))
+        ∙ ap (local_as new (get_or starts (k + 1 - 1) Discarding))
+        (others (k + 1) (ne_eqb (k + 1) (r + 1) (λ e. omega (arith, l, e))))
         ∙ as-same new old (get_or starts (k + 1 - 1) Discarding) (role_at old (k + 1)) e
 
 -- all ports were asked

@@ -1,7 +1,7 @@
 -- BPDUs that are queued one by one.
-use Rattle.std.proofs.Common.{◌≡◌, ◌≢◌, ℕ, zero, suc, ◌+◌, ◌-◌, ◌<◌, ◌≤◌, Bool, false, cond, not, is_some, None, Ok}
-use Rattle.std.proofs.Common.{Err, List, [], ◌∷◌, ◌++◌, map, length, take, get_or, refl, sym, ap, ◌∙◌, subst, arith}
-use Rattle.std.proofs.Common.{eq-eqb}
+use Rattle.std.proofs.Common.{ne_eqb, ◌≡◌, ◌≢◌, ℕ, zero, suc, ◌+◌, ◌-◌, ◌<◌, ◌≤◌, Bool, false, cond, not, is_some}
+use Rattle.std.proofs.Common.{None, Ok, Err, List, [], ◌∷◌, ◌++◌, map, length, take, get_or, refl, sym, ap, ◌∙◌}
+use Rattle.std.proofs.Common.{subst, arith, eq-eqb}
 use Rattle.std.proofs.lemmas.List.{map-append, get_or-map, length-map, take_more}
 use Rattle.std.specs.declared.result.Result.{Result}
 use Rattle.std.specs.List.{AllByRecursion, filter, take-map}
@@ -16,7 +16,7 @@ use Rattle.pb_relay.specs.Bpdus.{HasSent, told_queued, word_of, frames_of}
 use Rattle.pb_relay.specs.Copies.{AreCopied, AreSeparate, named, item_with}
 use Rattle.pb_relay.specs.Moves.{own_at, own_queued, places_of}
 use Rattle.pb_relay.specs.Backlogs.{BacklogView, HasEnqueued, KeepsBacklog}
-use Rattle.pb_relay.proofs.CopyLemmas.{IsOther, unequal, refused-other, refused-own, none_refused, separate_at}
+use Rattle.pb_relay.proofs.CopyLemmas.{IsOther, refused-other, refused-own, none_refused, separate_at}
 use Rattle.pb_relay.proofs.CopyLemmas.{separate_before, copied_more, answered-keeps, answered-count}
 
 -- a frame and its port
@@ -25,7 +25,7 @@ Send = ℕ × List ℕ
 
 -- the frame of a port that stands among others is the port's
 own_at-other : (p : ℕ) (fs : List Send) (f : Send) → f.0 ≢ p → own_at (f ∷ fs) p ≡ own_at fs p
-own_at-other p fs f n = ap (λ b. cond b (item_with None 0 f.1) (own_at fs p)) (unequal f.0 p n)
+own_at-other p fs f n = ap (λ b. cond b (item_with None 0 f.1) (own_at fs p)) (ne_eqb f.0 p n)
 
 other-place : (p : ℕ) (fs : List Send) (i : ℕ) (d : Send) → i < length fs → AllByRecursion (λ q. q ≢ p) (places_of fs)
     → (get_or fs i d).0 ≢ p

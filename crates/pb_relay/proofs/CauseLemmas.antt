@@ -21,7 +21,8 @@ use Rattle.pb_lan.specs.declared.step.NoRoom.{NoRoom}
 use Rattle.pb_lan.specs.declared.step.Step.{Step}
 use Rattle.pb_rstp.proofs.FittingLaws.{IsOf, GoesToBridge, plan_changes}
 use Rattle.pb_rstp.specs.Ports.{Machine}
-use Rattle.pb_rstp.specs.Profile.{after, machine_of, machine_after, machine_at_start, causes_of, address_in, lan_change}
+use Rattle.pb_rstp.specs.Profile.{after, machine_of, machine_after, machine_at_start, causes_of, address_in}
+use Rattle.pb_rstp.specs.Profile.{lan_change}
 use Rattle.pb_rstp.specs.Rising.{AreRising}
 use Rattle.pb_rstp.specs.declared.change.Change.{Change}
 use Rattle.pb_relay.specs.Bpdus.{frames_of}
@@ -29,7 +30,7 @@ use Rattle.pb_relay.specs.Copies.{AreSeparate}
 use Rattle.pb_relay.specs.Machines.{machine_by, machine_in, machine_next, change_next, IsSpanning}
 use Rattle.pb_relay.specs.Moves.{own_queued, places_of, IsBridgePort}
 use Rattle.pb_relay.specs.Protocol.{spanning_tree}
-use Rattle.pb_relay.proofs.StepLemmas.{flat_map-append}
+use Rattle.std.proofs.lemmas.Grind.{flat_map-append}
 
 -- The machine.
 

@@ -1,8 +1,10 @@
 -- One more port has got its copy or is refused.
 use Rattle.std.proofs.Common.{◌≡◌, ◌≢◌, ℕ, zero, suc, ◌+◌, ◌-◌, ◌<◌, ◌≤◌, Bool, true, false, cond, not, ◌&&◌, ◌||◌}
 use Rattle.std.proofs.Common.{is_some, Some, None, List, [], ◌∷◌, ◌++◌, map, length, take, get_or, set, nat_le, ◌==◌}
-use Rattle.std.proofs.Common.{if◌then◌else◌, refl, sym, ap, ◌∙◌, subst, arith, eq-eqb}
-use Rattle.std.proofs.lemmas.Bool.{eqb-true}
+use Rattle.std.proofs.Common.{inl, inr, if◌then◌else◌, refl, sym, ap, ◌∙◌, subst, arith, eq-eqb}
+use Rattle.std.proofs.Math.Bool.{or-false}
+use Rattle.std.proofs.lemmas.Bool.{cases_eq, ne_eqb}
+use Rattle.std.proofs.lemmas.List.Folds.{list_any-append}
 use Rattle.std.proofs.lemmas.List.{get_or-set_same, get_or-set_other, length-set, map-append, set-get_or}
 use Rattle.std.specs.declared.option.Option.{Option}
 use Rattle.std.specs.List.{AllByRecursion, filter, list_any}
@@ -20,26 +22,9 @@ use Rattle.pb_relay.specs.Copies.{AreCopied, AreSeparate, with_copy, named}
 abbrev pub IsOther : ℕ → ℕ → Type 0
 IsOther p q = q ≢ p
 
-or-false : (b : Bool) → (b || false) ≡ b
-or-false true = refl
-or-false false = refl
-
-pub unequal : (a b : ℕ) → a ≢ b → (a == b) ≡ false
-unequal a b n = elim (a == b) as (λ t. (a == b) ≡ t → t ≡ false)
-    [ true ↦ λ e. absurd (n (eqb-true a b e)) | false ↦ λ e. refl ] refl
-
-any-append : {X : Type 0} (t : X → Bool) (xs ys : List X) → list_any t (xs ++ ys) ≡ (list_any t xs || list_any t ys)
-any-append t [] ys = refl
-any-append t (x ∷ xs) ys = elim (t x) as (λ b. (b || list_any t (xs ++ ys)) ≡ ((b || list_any t xs) || list_any t ys))
-    [ true ↦ refl | false ↦ any-append t xs ys ]
-
-any-none : (t : ℕ → Bool) (xs : List ℕ) → AllByRecursion (λ x. t x ≡ false) xs → list_any t xs ≡ false
-any-none t [] a = refl
-any-none t (x ∷ xs) a = ap (λ b. b || list_any t xs) a.0 ∙ any-none t xs a.1
-
 pub others-none : (p : ℕ) (xs : List ℕ) → AllByRecursion (IsOther p) xs → list_any (λ q. q == p) xs ≡ false
 others-none p [] a = refl
-others-none p (x ∷ xs) a = ap (λ b. b || list_any (λ q. q == p) xs) (unequal x p a.0) ∙ others-none p xs a.1
+others-none p (x ∷ xs) a = ap (λ b. b || list_any (λ q. q == p) xs) (ne_eqb x p a.0) ∙ others-none p xs a.1
 
 pub filter-others : (P : ℕ → Type 0) (g : ℕ → Bool) (xs : List ℕ) → AllByRecursion P xs → AllByRecursion P (filter g xs)
 filter-others P g [] a = tt
@@ -67,24 +52,24 @@ none_full p (r ∷ rs) h =
 -- what is named of a port says nothing of others
 pub refused-other : (p q : ℕ) (word : Option NoRoom) (rs : List (ℕ × NoRoom)) → q ≢ p
     → is_refused (rs ++ named p word) q ≡ is_refused rs q
-refused-other p q None rs n = any-append (λ r. r.0 == q) rs [] ∙ or-false (is_refused rs q)
+refused-other p q None rs n = list_any-append (λ r. r.0 == q) rs [] ∙ or-false (is_refused rs q)
 refused-other p q (Some word) rs n =
-    any-append (λ r. r.0 == q) rs ((p, word) ∷ [])
-    ∙ ap (λ b. is_refused rs q || (b || false)) (unequal p q (λ e. n (sym e))) ∙ or-false (is_refused rs q)
+    list_any-append (λ r. r.0 == q) rs ((p, word) ∷ [])
+    ∙ ap (λ b. is_refused rs q || (b || false)) (ne_eqb p q (λ e. n (sym e))) ∙ or-false (is_refused rs q)
 
 pub refused-own : (p : ℕ) (word : Option NoRoom) (rs : List (ℕ × NoRoom)) → is_refused rs p ≡ false
     → is_refused (rs ++ named p word) p ≡ is_some word
-refused-own p None rs h = any-append (λ r. r.0 == p) rs [] ∙ ap (λ b. b || false) h
+refused-own p None rs h = list_any-append (λ r. r.0 == p) rs [] ∙ ap (λ b. b || false) h
 refused-own p (Some word) rs h =
-    any-append (λ r. r.0 == p) rs ((p, word) ∷ []) ∙ ap (λ b. b || ((p == p) || false)) h
+    list_any-append (λ r. r.0 == p) rs ((p, word) ∷ []) ∙ ap (λ b. b || ((p == p) || false)) h
     ∙ ap (λ b. b || false) (eq-eqb p p refl)
 
 full-other : (p q : ℕ) (word : Option NoRoom) (rs : List (ℕ × NoRoom)) → q ≢ p
     → is_named_full (rs ++ named p word) q ≡ is_named_full rs q
-full-other p q None rs n = any-append (λ r. r.0 == q && is_full_word r.1) rs [] ∙ or-false (is_named_full rs q)
+full-other p q None rs n = list_any-append (λ r. r.0 == q && is_full_word r.1) rs [] ∙ or-false (is_named_full rs q)
 full-other p q (Some word) rs n =
-    any-append (λ r. r.0 == q && is_full_word r.1) rs ((p, word) ∷ [])
-    ∙ ap (λ b. is_named_full rs q || ((b && is_full_word word) || false)) (unequal p q (λ e. n (sym e)))
+    list_any-append (λ r. r.0 == q && is_full_word r.1) rs ((p, word) ∷ [])
+    ∙ ap (λ b. is_named_full rs q || ((b && is_full_word word) || false)) (ne_eqb p q (λ e. n (sym e)))
     ∙ or-false (is_named_full rs q)
 
 abbrev pub is_full_answer : Option NoRoom → Bool
@@ -93,9 +78,10 @@ is_full_answer (Some word) = is_full_word word
 
 full-own : (p : ℕ) (word : Option NoRoom) (rs : List (ℕ × NoRoom)) → is_refused rs p ≡ false
     → is_named_full (rs ++ named p word) p ≡ is_full_answer word
-full-own p None rs h = any-append (λ r. r.0 == p && is_full_word r.1) rs [] ∙ ap (λ b. b || false) (none_full p rs h)
+full-own p None rs h = list_any-append (λ r. r.0 == p && is_full_word r.1) rs []
+    ∙ ap (λ b. b || false) (none_full p rs h)
 full-own p (Some word) rs h =
-    any-append (λ r. r.0 == p && is_full_word r.1) rs ((p, word) ∷ [])
+    list_any-append (λ r. r.0 == p && is_full_word r.1) rs ((p, word) ∷ [])
     ∙ ap (λ b. b || (((p == p) && is_full_word word) || false)) (none_full p rs h)
     ∙ ap (λ b. (b && is_full_word word) || false) (eq-eqb p p refl) ∙ or-false (is_full_word word)
 
@@ -168,6 +154,21 @@ pub answered-count : (from to : BacklogView) (place class : ℕ) (item : Item) (
 answered-count from to place class item word h =
     ap length (answered-copy from to place class item word h) ∙ length-set _ _ _
 
+-- a port that has not been tried has what it had
+uncopied : (capacity class : ℕ) (item_at : ℕ → Item) (old : List (List (List Item))) (done : List ℕ)
+    (rs : List (ℕ × NoRoom)) (new : List (List (List Item))) (p : ℕ)
+    → AreCopied capacity class item_at old done rs new → AllByRecursion (IsOther p) done → (1 ≤ p) × (p ≤ 16)
+    → get_or new (p - 1) [] ≡ get_or old (p - 1) []
+uncopied capacity class item_at old done rs new p h a l =
+    let l0 : 1 ≤ p = l.0 in
+    let l1 : p ≤ 16 = l.1 in
+    let s : p - 1 + 1 ≡ p = omega arith in
+    let none : list_any (λ x. x == p - 1 + 1) done ≡ false =
+    subst (λ (k : ℕ). list_any (λ x. x == k) done ≡ false) (sym s) (others-none p done a) in
+    h.copies (p - 1) (omega arith)
+    ∙ ap (λ b. cond (b && not (is_refused rs (p - 1 + 1)))
+    (put_in class (item_at (p - 1 + 1)) (get_or old (p - 1) [])) (get_or old (p - 1) [])) none
+
 -- one port more
 copied_at : (capacity class : ℕ) (item_at : ℕ → Item) (old : List (List (List Item))) (done : List ℕ)
     (rs : List (ℕ × NoRoom)) (new : List (List (List Item))) (p : ℕ) (word : Option NoRoom)
@@ -185,29 +186,17 @@ copied_at capacity class item_at old done rs new p word h a l n full = record {
     after : List (List Item)
     after = with_answer class (item_at p) word (get_or new (p - 1) [])
 
-    fresh : (z : Bool) → list_any (λ x. x == p) done ≡ false → (list_any (λ x. x == p) done && z) ≡ false
-    fresh z f = ap (λ b. b && z) f
-
     same : get_or new (p - 1) [] ≡ get_or old (p - 1) []
-    same =
-        let l0 : 1 ≤ p = l.0 in
-        let l1 : p ≤ 16 = l.1 in
-        let s : p - 1 + 1 ≡ p = omega arith in
-        let none : list_any (λ x. x == p - 1 + 1) done ≡ false =
-        subst (λ (k : ℕ). list_any (λ x. x == k) done ≡ false) (sym s) (others-none p done a) in
-        h.copies (p - 1) (omega arith)
-        ∙ ap (λ b. cond (b && not (is_refused rs (p - 1 + 1)))
-        (put_in class (item_at (p - 1 + 1)) (get_or old (p - 1) [])) (get_or old (p - 1) [])) none
+    same = uncopied capacity class item_at old done rs new p h a l
 
     here : (r : ℕ) → r < 16 → r + 1 ≡ p
         → get_or (set new (p - 1) after) r [] ≡ with_copy class item_at (done ++ p ∷ []) (rs ++ named p word) p
         (get_or old r [])
     here r b f =
         let d : p - 1 ≡ r = omega arith in
-        let s : r ≡ p - 1 = sym d in
         let own = refused-own p word rs (none_refused p done rs h.refusals.0 a) in
         let any : list_any (λ x. x == p) (done ++ p ∷ []) ≡ true =
-        any-append (λ x. x == p) done (p ∷ []) ∙ ap (λ b. b || ((p == p) || false)) (others-none p done a)
+        list_any-append (λ x. x == p) done (p ∷ []) ∙ ap (λ b. b || ((p == p) || false)) (others-none p done a)
         ∙ ap (λ b. b || false) (eq-eqb p p refl) in
         ap (λ k. get_or (set new k after) r []) d
         ∙ get_or-set_same new r after [] (omega arith)
@@ -223,8 +212,8 @@ copied_at capacity class item_at old done rs new p word h a l n full = record {
         let l0 : 1 ≤ p = l.0 in
         let d : r ≢ p - 1 = omega arith in
         let any : list_any (λ x. x == r + 1) (done ++ p ∷ []) ≡ list_any (λ x. x == r + 1) done =
-        any-append (λ x. x == r + 1) done (p ∷ []) ∙ ap (λ b. list_any (λ x. x == r + 1) done || (b || false))
-        (unequal p (r + 1) (λ z. f (sym z))) ∙ or-false (list_any (λ x. x == r + 1) done) in
+        list_any-append (λ x. x == r + 1) done (p ∷ []) ∙ ap (λ b. list_any (λ x. x == r + 1) done || (b || false))
+        (ne_eqb p (r + 1) (λ z. f (sym z))) ∙ or-false (list_any (λ x. x == r + 1) done) in
         get_or-set_other new (p - 1) r after [] d ∙ h.copies r b
         ∙ ap (λ b. cond (b && not (is_refused rs (r + 1))) (put_in class (item_at (r + 1)) (get_or old r []))
         (get_or old r [])) (sym any)
@@ -234,13 +223,11 @@ copied_at capacity class item_at old done rs new p word h a l n full = record {
 
     at : (r : ℕ) → r < 16 → get_or (set new (p - 1) after) r [] ≡ with_copy class item_at (done ++ p ∷ [])
         (rs ++ named p word) (r + 1) (get_or old r [])
-    at r b =
-        elim (r + 1 == p) as (λ t. (r + 1 == p) ≡ t → get_or (set new (p - 1) after) r [] ≡ with_copy class item_at
-        (done ++ p ∷ []) (rs ++ named p word) (r + 1) (get_or old r [])) [
-          | true ↦ λ t. let f = eqb-true (r + 1) p t in here r b f
-              ∙ ap (λ k. with_copy class item_at (done ++ p ∷ []) (rs ++ named p word) k (get_or old r [])) (sym f)
-          | false ↦ λ t. other r b (λ f. let g = eq-eqb (r + 1) p f in cc)
-        ] refl
+    at r b = elim (cases_eq (r + 1) p) [
+      | inl f ↦ here r b f
+          ∙ ap (λ k. with_copy class item_at (done ++ p ∷ []) (rs ++ named p word) k (get_or old r [])) (sym f)
+      | inr f ↦ other r b f
+    ]
 
 pub copied_more : (first from to : BacklogView) (class : ℕ) (item_at : ℕ → Item) (done : List ℕ)
     (rs : List (ℕ × NoRoom)) (p : ℕ) (word : Option NoRoom)

@@ -22,13 +22,9 @@ use Rattle.pb_lan.specs.declared.shape.PortState.{PortState}
 use Rattle.pb_lan.specs.declared.shape.PortState.TheVariants.{Discarding, Learning, Forwarding}
 use Rattle.pb_lan.specs.declared.step.Item.{Item}
 use Rattle.pb_relay.specs.Roles.{LocalPort, told}
-use Rattle.pb_relay.specs.Roles.LocalPort.{ToCustomer, ToBridge, ToNobody}
+use Rattle.pb_relay.specs.Roles.LocalPort.{ToCustomer, ToBridge}
 use Rattle.pb_relay.specs.Loads.{IsLoadable}
 use Rattle.pb_relay.specs.LocalPorts.{IsKept}
-
--- a ruling to carry names one service
-carries-vid : (a b : ℕ) → Carries a ≡ Carries b → a ≡ b
-carries-vid a b h = cc
 
 at-least : (m n : ℕ) → nat_lt n m ≡ false → m ≤ n
 at-least m n h = grind (arith, h)
@@ -64,9 +60,8 @@ from_bridge services item rest target on h =
     (at-least shortest_tagged (length item.wire) cut, unworn item.hops (neither-left _ _ (a.0 is_wearing)), a.1)
 
 carries_in : (s : PortState) (w v : ℕ) → ruling_in s w ≡ Carries v → (w ≡ v) × (is_forwarding s ≡ true)
-carries_in Discarding w v h = cc
-carries_in Learning w v h = cc
-carries_in Forwarding w v h = (carries-vid w v h, refl)
+carries_in Forwarding w v h = (cc, refl)
+carries_in _ w v h = cc
 
 learns_in : (s : PortState) (w v : ℕ) → ruling_in s w ≡ LearnsOnly v → w ≡ v
 learns_in Discarding w v h = cc
@@ -78,7 +73,7 @@ pub carried : (plan : Plan) (port : Port) (state : PortState) (item : Item) (v :
     → ruling_by spanning_tree plan port state item ≡ Carries v → IsAdmitted plan port item v
 carried plan (Customer c) state item v h =
     let a = from_customer item (Carries (vid_at plan c)) (Carries v) refl h in
-    record { long = a.0; unworn = a.1; service = carries-vid _ v a.2 }
+    let same = a.2 in record { long = a.0; unworn = a.1; service = cc }
 carried plan (Provider e) state item v h =
     let a = from_bridge (λ w. serves plan w e) item (ruling_in state (vid_of item.wire)) (Carries v) refl h in
     record { long = omega (arith, a.0); unworn = a.1; service = (carries_in state (vid_of item.wire) v a.2).0 }
@@ -140,7 +135,4 @@ loadable plan (Customer c) (ToCustomer vid pcp) state item v s p k h =
 loadable plan (Provider e) (ToBridge start vids) state item v s p k h =
     (from_bridge (λ w. serves plan w e) item (ruling_in state (vid_of item.wire)) (Carries v) refl h).0
 loadable plan Unused local state item v s p k h = cc
-loadable plan (Customer c) (ToBridge start vids) state item v s p k h = absurd k
-loadable plan (Customer c) ToNobody state item v s p k h = absurd k
-loadable plan (Provider e) (ToCustomer vid pcp) state item v s p k h = absurd k
-loadable plan (Provider e) ToNobody state item v s p k h = absurd k
+loadable plan _ _ state item v s p k h = absurd k

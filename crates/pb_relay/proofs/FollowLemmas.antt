@@ -1,14 +1,15 @@
 -- A bridge that has followed its spanning tree.
-use Rattle.std.proofs.Common.{inr, ◌≡◌, ℕ, ◌+◌, Some, None, List, [], ◌∷◌, ◌++◌, map, refl, sym, ap, ◌∙◌, subst}
+use Rattle.std.proofs.Common.{true, arith, inr, ◌≡◌, ℕ, ◌+◌, Some, None, List, [], ◌∷◌, ◌++◌, map, refl, sym, ap, ◌∙◌}
+use Rattle.std.proofs.Common.{subst}
 use Rattle.std.specs.List.{AllByRecursion, filter}
 use Rattle.std.specs.declared.option.Option.{Option}
 use Rattle.pb_fdb.specs.Tables.{Table, flushed, expired}
-use Rattle.pb_frame.specs.Stations.{Sighting, is_fresh, standing}
+use Rattle.pb_frame.specs.Stations.{is_fresh, standing}
 use Rattle.pb_frame.specs.Stations.News.{Flushed}
-use Rattle.pb_lan.specs.BridgeLists.{Ruling, ruling, Follows, Fits, Names}
+use Rattle.pb_lan.specs.BridgeLists.{Ruling, ruling, Follows, Fits, Names, AreRefused}
 use Rattle.pb_lan.specs.BridgeLists.Ruling.{Listens}
 use Rattle.pb_lan.specs.Choice.{now_after, news_of, ticked, sightings}
-use Rattle.pb_lan.specs.Queues.{Waiting, relayed_by, after_sending}
+use Rattle.pb_lan.specs.Queues.{Waiting, relayed_by, after_sending, is_full}
 use Rattle.pb_lan.specs.Rules.{Cause}
 use Rattle.pb_lan.specs.Rules.Cause.{Hears, Ticks}
 use Rattle.pb_lan.specs.Shapes.{moved_of}
@@ -23,99 +24,121 @@ use Rattle.pb_rstp.specs.Ports.{Machine}
 use Rattle.pb_rstp.specs.declared.change.Change.{Change}
 use Rattle.pb_relay.specs.Bpdus.{frames_of}
 use Rattle.pb_relay.specs.Following.{IsOfPorts, HasFollowed}
-use Rattle.pb_relay.specs.Machines.{change_next, IsSpanning}
+use Rattle.pb_relay.specs.Machines.{change_next, machine_next}
 use Rattle.pb_relay.specs.Moves.{all_flushed, places_of, states_changed, IsBridgePort}
 use Rattle.pb_relay.specs.declared.forwarding.Forwarding.{Forwarding}
 use Rattle.pb_relay.specs.Protocol.{spanning_tree}
-use Rattle.pb_relay.specs.Standing.{IsStanding}
+use Rattle.pb_relay.specs.Standing.{IsStanding, BridgeView}
 use Rattle.pb_relay.specs.Tables.{IsTableOf}
-use Rattle.pb_lan.specs.Queues.{capacity_of}
 use Rattle.pb_relay.proofs.CauseLemmas.{is_running, names_change, sends_apart, states_placed, states_within}
+use Rattle.pb_relay.proofs.CauseLemmas.{spanning_moves}
 use Rattle.pb_relay.proofs.MovedLemmas.{after_moved, stations_flushed}
 use Rattle.pb_relay.proofs.RelayLemmas.{refusals_are}
-use Rattle.pb_relay.proofs.StandingLemmas.{live_later, standing_later}
-use Rattle.pb_relay.proofs.TableLemmas.{live_expired}
+use Rattle.pb_fdb.proofs.LawLemmas.{live-dropped}
+use Rattle.pb_relay.proofs.StandingLemmas.{standing_later}
+use Rattle.pb_relay.proofs.Keeping.{shown, Keeps, grown}
+use Rattle.pb_relay.specs.declared.bridge.Bridge.TheInside.{Inside}
+use Rattle.pb_steps.specs.StepLists.{StepsView, with_step as steps_with}
+use Rattle.pb_rstp.specs.Profile.{causes_of}
+use Rattle.pb_relay.proofs.TableLemmas.{live_expired, table_expired}
+
+-- a table of which ports were flushed is still the bridge's
+table_all_flushed : (plan : Plan) (now : ℕ) (old : Table) (ports : List ℕ) → IsTableOf plan now old
+    → IsTableOf plan now (all_flushed old ports)
+table_all_flushed plan now old [] t = t
+table_all_flushed plan now old (p ∷ ps) t = table_all_flushed plan now (flushed old p) ps
+    (record { limit = t.limit; ageing = t.ageing; in_time = t.in_time })
 
 -- a machine's change is of local ports
-pub of_ports : (plan : Plan) (b : ℕ) (steps : List Step) (machine : Option Machine) (address : List ℕ) (cause : Cause)
-    (change : Change)
-    → IsSpanning plan b steps machine address → change_next machine cause ≡ Some change → IsOfPorts address change
-of_ports plan b steps machine address cause change s some =
-    let running = is_running plan b steps machine address cause change s some in
-    let apart = sends_apart plan b steps cause change address running.1 in
-    record { within = states_within plan b steps cause change running.1; separate = apart.0; few = apart.1 }
+pub of_ports : (s : Inside) (cause : Cause) (change : Change) → Keeps s → change_next s.rstp cause ≡ Some change
+    → IsOfPorts s.address.0 change
+of_ports s cause change k some =
+    let running = is_running s.plan s.number s.steps.steps s.rstp s.address.0 cause change k.4 some in
+    let apart = sends_apart s.plan s.number s.steps.steps cause change s.address.0 running.1 in
+    record {
+      within = states_within s.plan s.number s.steps.steps cause change running.1;
+      separate = apart.0;
+      few = apart.1;
+    }
+
+-- the BPDUs that get no room are named, where the ports are full
+unsent_are : (s : Inside) (cause : Cause) (change : Change) (moved : Moved) (table : Table) (new : Forwarding) → Keeps s
+    → change_next s.rstp cause ≡ Some change
+    → HasFollowed s.address.0 change (record s.forwarding { table = table }) moved new
+    → AreRefused (is_full s.plan s.number s.steps.steps) (places_of (frames_of s.address.0 change.send)) moved.dropped
+unsent_are s cause change moved table new k some f =
+    refusals_are s.plan s.number s.steps.steps s.forwarding.states s.forwarding.backlog.ports s.clock
+    s.forwarding.table.sightings s.forwarding.backlog.capacity (places_of (frames_of s.address.0 change.send))
+    moved.dropped k.1 k.0.most (of_ports s cause change k some).separate f.copied.refusals
 
 -- the step names what the machine changes
-pub followed_names : (plan : Plan) (b : ℕ) (steps : List Step) (old new : Forwarding) (now : ℕ) (table : List Sighting)
-    (machine : Option Machine) (address : List ℕ) (cause : Cause) (change : Change) (moved : Moved)
-    → IsStanding plan b steps old.states old.backlog.ports now table → old.backlog.capacity ≡ capacity_of plan b
-    → IsSpanning plan b steps machine address → change_next machine cause ≡ Some change
-    → HasFollowed address change old moved new
-    → Names spanning_tree plan b steps cause moved
-followed_names plan b steps old new now table machine address cause change moved s most tree some f =
-    let running = is_running plan b steps machine address cause change tree some in
-    let apart = sends_apart plan b steps cause change address running.1 in
-    names_change plan b steps cause change moved (frames_of address change.send) running.0 running.1
-    (ap (λ a. frames_of a change.send) tree.kept_address) f.told f.flushed f.queued
-    (refusals_are plan b steps old.states old.backlog.ports now table old.backlog.capacity
-    (places_of (frames_of address change.send)) moved.dropped s most apart.0 f.copied.refusals)
+pub followed_names : (s : Inside) (cause : Cause) (change : Change) (moved : Moved) (table : Table) (new : Forwarding)
+    → Keeps s → change_next s.rstp cause ≡ Some change
+    → HasFollowed s.address.0 change (record s.forwarding { table = table }) moved new
+    → Names spanning_tree s.plan s.number s.steps.steps cause moved
+followed_names s cause change moved table new k some f =
+    let running = is_running s.plan s.number s.steps.steps s.rstp s.address.0 cause change k.4 some in
+    names_change s.plan s.number s.steps.steps cause change moved (frames_of s.address.0 change.send) running.0
+    running.1 (ap (λ a. frames_of a change.send) k.4.kept_address) f.told f.flushed f.queued
+    (unsent_are s cause change moved table new k some f)
 
 -- and what is kept is kept
-pub after_followed : (plan : Plan) (b : ℕ) (steps : List Step) (old new : Forwarding) (now later : ℕ)
-    (table : List Sighting)
-    (machine : Option Machine) (address : List ℕ) (cause : Cause) (change : Change) (moved : Moved) (step : Step)
-    → IsStanding plan b steps old.states old.backlog.ports now table → old.backlog.capacity ≡ capacity_of plan b
-    → IsSpanning plan b steps machine address → change_next machine cause ≡ Some change
-    → HasFollowed address change old moved new
-    → Fits spanning_tree plan b steps step
-    → moved_of step ≡ moved ∷ [] → ((r : ℕ) → relayed_by plan b r step ≡ [])
+pub after_followed : {v : BridgeView} (s : Inside) (cause : Cause) (change : Change) (moved : Moved) (table : Table)
+    (new : Forwarding) (later : ℕ) (rstp : Option Machine) (steps : StepsView) (step : Step)
+    → Keeps s → shown s ≡ v → v.is_reserved ≡ true → change_next s.rstp cause ≡ Some change
+    → HasFollowed s.address.0 change (record s.forwarding { table = table }) moved new
+    → rstp ≡ machine_next s.rstp cause → steps ≡ steps_with s.steps step → causes_of step ≡ cause ∷ []
+    → Fits spanning_tree s.plan s.number s.steps.steps step
+    → moved_of step ≡ moved ∷ [] → ((r : ℕ) → relayed_by s.plan s.number r step ≡ [])
     → ((r : ℕ) (ws : List Waiting) → after_sending r step ws ≡ ws)
-    → sightings plan b (now_after steps) step ≡ [] → later ≡ now + ticked step
-    → filter (is_fresh plan.ageing later) old.table.sightings ≡ standing plan.ageing later (news_of plan b steps)
-    → IsStanding plan b (steps ++ step ∷ []) new.states new.backlog.ports later new.table.sightings
-after_followed plan b steps old new now later table machine address cause change moved step s most tree some f fits
-    told unrelayed unsent unseen clock stations =
-    let running = is_running plan b steps machine address cause change tree some in
-    let apart = sends_apart plan b steps cause change address running.1 in
-    let refused = refusals_are plan b steps old.states old.backlog.ports now table old.backlog.capacity
-    (places_of (frames_of address change.send)) moved.dropped s most apart.0 f.copied.refusals in
-    subst (λ (ss : List PortState). IsStanding plan b (steps ++ step ∷ []) ss new.backlog.ports later
+    → sightings s.plan s.number (now_after s.steps.steps) step ≡ [] → later ≡ s.clock + ticked step
+    → IsTableOf s.plan later table
+    → filter (is_fresh s.plan.ageing later) table.sightings ≡ standing s.plan.ageing later
+    (news_of s.plan s.number s.steps.steps)
+    → Keeps (record s { forwarding = new; clock = later; rstp = rstp; steps = steps })
+after_followed s cause change moved table new later rstp steps step k view room some f machine grows causes fits told
+    unrelayed unsent unseen clock of_plan stations =
+    let running = is_running s.plan s.number s.steps.steps s.rstp s.address.0 cause change k.4 some in
+    grown s new later rstp steps step k view room grows f.backlog_kept.capacity f.backlog_kept.is_kept
+    (subst (λ (ss : List PortState). IsStanding s.plan s.number (s.steps.steps ++ step ∷ []) ss new.backlog.ports later
     new.table.sightings)
-    (ap (states_changed old.states) f.told ∙ sym f.set_states)
-    (after_moved plan b steps old.states old.backlog.ports new.backlog.ports now later table new.table.sightings step
-    moved
-    (frames_of address change.send) old.backlog.capacity s fits
+    (ap (states_changed s.forwarding.states) f.told ∙ sym f.set_states)
+    (after_moved s.plan s.number s.steps.steps s.forwarding.states s.forwarding.backlog.ports new.backlog.ports s.clock
+    later s.forwarding.table.sightings new.table.sightings step moved (frames_of s.address.0 change.send)
+    s.forwarding.backlog.capacity k.1 fits
     (record {
       told = told;
       unrelayed = unrelayed;
       unsent = unsent;
       unseen = unseen;
       queued = f.queued;
-      refused = refused;
-      separate = apart.0;
-      bridges = subst (λ (cs : List (ℕ × PortState)). AllByRecursion (λ (c : ℕ × PortState). IsBridgePort plan b c.0)
-          cs) (sym f.told) (states_placed plan b steps cause change running.1);
+      refused = unsent_are s cause change moved table new k some f;
+      separate = (of_ports s cause change k some).separate;
+      bridges = subst (λ (cs : List (ℕ × PortState)). AllByRecursion
+          (λ (c : ℕ × PortState). IsBridgePort s.plan s.number c.0) cs) (sym f.told)
+          (states_placed s.plan s.number s.steps.steps cause change running.1);
     })
     clock f.copied f.count
-    (ap (λ (t : Table). filter (is_fresh plan.ageing later) t.sightings) f.flushed_table
-    ∙ stations_flushed plan.ageing later (news_of plan b steps) old.table change.flush stations
-    ∙ ap (λ ps. standing plan.ageing later (news_of plan b steps ++ map (λ port. Flushed port) ps)) (sym f.flushed)))
-
--- a table of which ports were flushed is still the bridge's
-pub table_all_flushed : (plan : Plan) (now : ℕ) (old : Table) (ports : List ℕ) → IsTableOf plan now old
-    → IsTableOf plan now (all_flushed old ports)
-table_all_flushed plan now old [] t = t
-table_all_flushed plan now old (p ∷ ps) t = table_all_flushed plan now (flushed old p) ps
-    (record { limit = t.limit; ageing = t.ageing; in_time = t.in_time })
+    (ap (λ (t : Table). filter (is_fresh s.plan.ageing later) t.sightings) f.flushed_table
+    ∙ stations_flushed s.plan.ageing later (news_of s.plan s.number s.steps.steps) table change.flush stations
+    ∙ ap (λ ps. standing s.plan.ageing later (news_of s.plan s.number s.steps.steps ++ map (λ port. Flushed port) ps))
+    (sym f.flushed))))
+    (subst (IsTableOf s.plan later) (sym f.flushed_table) (table_all_flushed s.plan later table change.flush of_plan))
+    (spanning_moves s.plan s.number s.steps.steps s.rstp rstp s.address.0 step cause causes machine k.4)
 
 -- what stands a tick later is fresh in the table a tick later
-pub expired_later : (plan : Plan) (b now : ℕ) (steps : List Step) (old : Table) → IsTableOf plan now old
-    → filter (is_fresh plan.ageing now) old.sightings ≡ standing plan.ageing now (news_of plan b steps)
-    → filter (is_fresh plan.ageing (now + 1)) (expired old (now + 1)).sightings ≡ standing plan.ageing (now + 1)
-    (news_of plan b steps)
-expired_later plan b now steps old t h =
-    live_expired plan now old t ∙ live_later plan.ageing now old.sightings
-    ∙ ap (filter (is_fresh plan.ageing (now + 1))) h ∙ standing_later plan.ageing now (news_of plan b steps)
+pub expired_later : (s : Inside) (new : Table) → Keeps s → new ≡ expired s.forwarding.table (s.clock + 1)
+    → IsTableOf s.plan (s.clock + 1) new
+    × (filter (is_fresh s.plan.ageing (s.clock + 1)) new.sightings ≡ standing s.plan.ageing (s.clock + 1)
+    (news_of s.plan s.number s.steps.steps))
+expired_later s new k e = (
+  subst (IsTableOf s.plan (s.clock + 1)) (sym e) (table_expired s.plan s.clock s.forwarding.table k.3),
+  ap (λ (t : Table). filter (is_fresh s.plan.ageing (s.clock + 1)) t.sightings) e
+      ∙ live_expired s.plan s.clock s.forwarding.table k.3
+      ∙ sym (live-dropped s.plan.ageing s.clock (s.clock + 1) s.forwarding.table.sightings (omega arith))
+      ∙ ap (filter (is_fresh s.plan.ageing (s.clock + 1))) k.1.stations
+      ∙ standing_later s.plan.ageing s.clock (news_of s.plan s.number s.steps.steps),
+)
 
 -- The steps.
 

@@ -44,11 +44,10 @@ customer_brings plan vid pcp wire load customers bridges (Customer c) (Customer 
 customer_brings plan vid pcp wire load customers bridges (Customer c) (Provider e) (ToBridge start vids) k l q b u =
     l.to_bridges (b refl) ∙ ap (λ v. tagged (bare wire) (cond (has_priority_tag wire) (priority_of wire) pcp) 0 v) k.0
     ∙ ap (λ p. tagged (bare wire) (cond (has_priority_tag wire) (priority_of wire) p) 0 (vid_at plan c)) k.1
-customer_brings plan vid pcp wire load customers bridges (Customer c) (Provider e) (ToCustomer v p) k l q b u = absurd q
-customer_brings plan vid pcp wire load customers bridges (Customer c) (Provider e) ToNobody k l q b u = absurd q
 customer_brings plan vid pcp wire load customers bridges (Customer c) Unused local k l q b u = cc
 customer_brings plan vid pcp wire load customers bridges (Provider f) exit local k l q b u = absurd k
 customer_brings plan vid pcp wire load customers bridges Unused exit local k l q b u = absurd k
+customer_brings plan vid pcp wire load customers bridges _ _ _ k l q b u = absurd q
 
 -- a bridge's frame brings this
 bridge_brings : (plan : Plan) (start : PortState) (vids : List ℕ) (wire : List ℕ) (load : Load)
@@ -58,12 +57,11 @@ bridge_brings : (plan : Plan) (start : PortState) (vids : List ℕ) (wire : List
     → brought exit wire load ≡ wire_out plan entry exit wire
 bridge_brings plan start vids wire load customers bridges (Provider f) (Customer d) (ToCustomer v p) k l q c u =
     l.to_customers (c refl)
-bridge_brings plan start vids wire load customers bridges (Provider f) (Customer d) (ToBridge s w) k l q c u = absurd q
-bridge_brings plan start vids wire load customers bridges (Provider f) (Customer d) ToNobody k l q c u = absurd q
 bridge_brings plan start vids wire load customers bridges (Provider f) (Provider e) local k l q c u = l.to_bridges
 bridge_brings plan start vids wire load customers bridges (Provider f) Unused local k l q c u = cc
 bridge_brings plan start vids wire load customers bridges (Customer d) exit local k l q c u = absurd k
 bridge_brings plan start vids wire load customers bridges Unused exit local k l q c u = absurd k
+bridge_brings plan start vids wire load customers bridges _ _ _ k l q c u = absurd q
 
 -- so at every kind of port
 brings : (plan : Plan) (entry : Port) (here : LocalPort) (wire : List ℕ) (load : Load) (customers bridges : Bool)
@@ -86,10 +84,7 @@ class_is plan (Customer c) (ToCustomer vid pcp) wire load customers bridges k l 
     (l.class ∙ ap (λ p. class_of (cond (has_priority_tag wire) (priority_of wire) p)) k.1, l.eight)
 class_is plan (Provider f) (ToBridge start vids) wire load customers bridges k l = (l.class, l.eight)
 class_is plan entry ToNobody wire load customers bridges k l = absurd l
-class_is plan (Customer c) (ToBridge start vids) wire load customers bridges k l = absurd k
-class_is plan (Provider f) (ToCustomer vid pcp) wire load customers bridges k l = absurd k
-class_is plan Unused (ToCustomer vid pcp) wire load customers bridges k l = absurd k
-class_is plan Unused (ToBridge start vids) wire load customers bridges k l = absurd k
+class_is plan _ _ wire load customers bridges k l = absurd k
 
 -- what is made of a frame by the port where it came in and by the kinds of ports is what it brings to each
 pub loaded : (plan : Plan) (b : ℕ) (ports : List LocalPort) (capacity limit : ℕ) (entry : Port) (here : LocalPort)
@@ -111,11 +106,10 @@ loaded plan b ports capacity limit entry here wire load k e l =
 -- a member is used
 pub member_used : (plan : Plan) (port : Port) (local : LocalPort) (service : ℕ) → IsKept plan port local
     → is_member_of local service ≡ true → is_used port ≡ true
-member_used plan (Customer c) local service k m = refl
-member_used plan (Provider e) local service k m = refl
 member_used plan Unused ToNobody service k m = cc
 member_used plan Unused (ToCustomer vid pcp) service k m = absurd k
 member_used plan Unused (ToBridge start vids) service k m = absurd k
+member_used plan _ local service k m = refl
 
 -- and is sent its own of what the frame brings
 pub sent_is : (plan : Plan) (port : Port) (local : LocalPort) (service : ℕ) (wire : List ℕ) (load : Load)
@@ -124,7 +118,4 @@ pub sent_is : (plan : Plan) (port : Port) (local : LocalPort) (service : ℕ) (w
 sent_is plan (Customer c) (ToCustomer vid pcp) service wire load k m = refl
 sent_is plan (Provider e) (ToBridge start vids) service wire load k m = refl
 sent_is plan port ToNobody service wire load k m = cc
-sent_is plan (Customer c) (ToBridge start vids) service wire load k m = absurd k
-sent_is plan (Provider e) (ToCustomer vid pcp) service wire load k m = absurd k
-sent_is plan Unused (ToCustomer vid pcp) service wire load k m = absurd k
-sent_is plan Unused (ToBridge start vids) service wire load k m = absurd k
+sent_is plan _ _ service wire load k m = absurd k

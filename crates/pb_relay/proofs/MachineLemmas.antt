@@ -13,7 +13,7 @@ use Rattle.pb_rstp.specs.Profile.{rstp_port, rstp_ports, address_in, id_in, plan
 use Rattle.pb_rstp.specs.Vectors.{bridge_id}
 use Rattle.pb_relay.specs.Machines.{priority_in}
 use Rattle.pb_rstp.specs.declared.config.RstpPort.{RstpPort}
-use Rattle.pb_relay.proofs.StepLemmas.{flat_map-append}
+use Rattle.std.proofs.lemmas.Grind.{flat_map-append}
 use Rattle.pb_relay.proofs.VerdictLemmas.{get_up}
 
 -- what the next local port adds

@@ -1,19 +1,20 @@
 -- What a bridge keeps, after a step that tells what its spanning tree changed.
-use Rattle.std.proofs.Common.{◌≡◌, ◌≢◌, ℕ, ◌+◌, ◌-◌, ◌<◌, ◌≤◌, Bool, true, false, cond, not, ◌&&◌, ◌||◌, List, []}
-use Rattle.std.proofs.Common.{◌∷◌, ◌++◌, map, length, get_or, set, nat_le, ◌==◌, refl, sym, ap, ◌∙◌, subst, arith}
-use Rattle.std.proofs.Common.{append-nil, append_assoc, eq-eqb}
+use Rattle.std.proofs.Common.{◌≡◌, ◌≢◌, ℕ, ◌+◌, ◌-◌, ◌≤◌, Bool, true, false, cond, not, ◌&&◌, ◌||◌, List, [], ◌∷◌}
+use Rattle.std.proofs.Common.{◌++◌, map, length, set, ◌==◌, refl, sym, ap, ◌∙◌, subst, arith, append-nil}
+use Rattle.std.proofs.Common.{append_assoc, eq-eqb, ne_eqb}
 use Rattle.std.proofs.lemmas.Bool.{eqb-true}
 use Rattle.std.specs.List.{AllByRecursion, filter, flat_map, list_any}
-use Rattle.pb_fdb.specs.Tables.{Table}
-use Rattle.pb_frame.proofs.StationLaws.{table_tells_what_stands}
-use Rattle.pb_frame.specs.Stations.{Sighting, News, is_fresh, standing, after, after_all}
+use Rattle.pb_fdb.proofs.LawLemmas.{stands-more}
+use Rattle.pb_fdb.specs.Tables.{Table, flushed}
+use Rattle.pb_lan.proofs.StateLemmas.{changed-next}
+use Rattle.pb_frame.specs.Stations.{Sighting, News, is_fresh, standing, after}
 use Rattle.pb_frame.specs.Stations.News.{Flushed}
 use Rattle.pb_lan.proofs.SentWasQueued.{waiting_from-append}
 use Rattle.pb_lan.specs.BridgeLists.{Fits, own_item, AreRefused}
 use Rattle.pb_lan.specs.Choice.{now_after, news_of, ticked, sightings, flushes}
 use Rattle.pb_lan.specs.Ports.{Port, port_at, is_provider, local_ports}
-use Rattle.pb_lan.specs.Ports.Port.{Customer, Provider, Unused}
-use Rattle.pb_lan.specs.Queues.{Waiting, waiting, capacity_of, is_full, is_refused, relayed_by, own_by, after_sending}
+use Rattle.pb_lan.specs.Ports.Port.{Provider}
+use Rattle.pb_lan.specs.Queues.{Waiting, waiting, is_full, is_refused, relayed_by, own_by, after_sending}
 use Rattle.pb_lan.specs.Shapes.{moved_of, changes_of, state_by}
 use Rattle.pb_lan.specs.declared.plan.Plan.{Plan}
 use Rattle.pb_lan.specs.declared.shape.PortState.{PortState}
@@ -21,16 +22,13 @@ use Rattle.pb_lan.specs.declared.step.Item.{Item}
 use Rattle.pb_lan.specs.declared.step.Moved.{Moved}
 use Rattle.pb_lan.specs.declared.step.NoRoom.{NoRoom}
 use Rattle.pb_lan.specs.declared.step.Step.{Step}
-use Rattle.pb_relay.specs.Classes.{by_class}
-use Rattle.pb_relay.specs.Copies.{AreCopied, AreSeparate, with_copy}
+use Rattle.pb_relay.specs.Copies.{AreCopied, AreSeparate}
 use Rattle.pb_relay.specs.Moves.{states_changed, all_flushed, own_at, places_of, own_queued, IsBridgePort}
 use Rattle.pb_relay.specs.Protocol.{spanning_tree}
-use Rattle.pb_relay.specs.Standing.{IsStanding, AreClassed}
-use Rattle.pb_relay.proofs.CopyLemmas.{others-none, unequal}
-use Rattle.pb_relay.proofs.RelayLemmas.{queue_relayed, classes_relayed, fewer_relayed, and-true, not_full}
-use Rattle.pb_relay.proofs.SettingLemmas.{changed-append}
-use Rattle.pb_relay.proofs.StepLemmas.{lawful_more, changes_more, now_more, news_more}
-use Rattle.pb_relay.proofs.TableLemmas.{filter-swap}
+use Rattle.pb_relay.specs.Standing.{IsStanding}
+use Rattle.pb_relay.proofs.CopyLemmas.{others-none}
+use Rattle.pb_relay.proofs.StandingLemmas.{copy_for, after_step}
+use Rattle.pb_relay.proofs.StepLemmas.{changes_more, news_more}
 use Rattle.pb_relay.proofs.WaitingLemmas.{at_one}
 
 -- States.
@@ -39,20 +37,18 @@ use Rattle.pb_relay.proofs.WaitingLemmas.{at_one}
 state-changed : (plan : Plan) (port : Port) (p : ℕ) (changes : List (ℕ × PortState)) (new : PortState)
     → is_provider port ≡ true
     → state_by plan.spanning port p (changes ++ (p, new) ∷ []) ≡ new
-state-changed plan (Customer c) p changes new h = cc
-state-changed plan Unused p changes new h = cc
 state-changed plan (Provider e) p changes new h =
-    changed-append p _ changes ((p, new) ∷ []) ∙ ap (λ t. cond t new (state_by plan.spanning (Provider e) p changes))
+    changed-next p _ changes (p, new) ∙ ap (λ t. cond t new (state_by plan.spanning (Provider e) p changes))
     (eq-eqb p p refl)
+state-changed plan _ p changes new h = cc
 
 -- and leaves that of the others
 state-left : (plan : Plan) (port : Port) (p q : ℕ) (changes : List (ℕ × PortState)) (new : PortState) → q ≢ p
     → state_by plan.spanning port q (changes ++ (p, new) ∷ []) ≡ state_by plan.spanning port q changes
-state-left plan (Customer c) p q changes new n = refl
-state-left plan Unused p q changes new n = refl
 state-left plan (Provider e) p q changes new n =
-    changed-append q _ changes ((p, new) ∷ [])
-    ∙ ap (λ t. cond t new (state_by plan.spanning (Provider e) q changes)) (unequal p q (λ s. n (sym s)))
+    changed-next q _ changes (p, new)
+    ∙ ap (λ t. cond t new (state_by plan.spanning (Provider e) q changes)) (ne_eqb p q (λ s. n (sym s)))
+state-left plan _ p q changes new n = refl
 
 -- the states of the local ports after changes
 abbrev states_by : Plan → ℕ → List (ℕ × PortState) → List PortState
@@ -81,37 +77,16 @@ states-changed plan b before (c ∷ cs) h =
 
 -- Tables.
 
-flushed-after : (table : Table) (ports : List ℕ)
-    → (all_flushed table ports).sightings ≡ after_all table.sightings (map (λ port. Flushed port) ports)
-flushed-after table [] = refl
-flushed-after table (p ∷ ps) = flushed-after (record table { sightings = after table.sightings (Flushed p) }) ps
-
-fresh-flushed : (ageing now : ℕ) (table : List Sighting) (ports : List ℕ)
-    → filter (is_fresh ageing now) (after_all table (map (λ port. Flushed port) ports)) ≡ after_all
-    (filter (is_fresh ageing now) table) (map (λ port. Flushed port) ports)
-fresh-flushed ageing now table [] = refl
-fresh-flushed ageing now table (p ∷ ps) =
-    fresh-flushed ageing now (after table (Flushed p)) ps
-    ∙ ap (λ t. after_all t (map (λ port. Flushed port) ps))
-    (filter-swap (is_fresh ageing now) (λ s. not (p == s.port)) table)
-
-after_all-more : (table : List Sighting) (news more : List News)
-    → after_all table (news ++ more) ≡ after_all (after_all table news) more
-after_all-more table [] more = refl
-after_all-more table (n ∷ news) more = after_all-more (after table n) news more
-
 -- what stands, once ports are flushed
 pub stations_flushed : (ageing now : ℕ) (news : List News) (table : Table) (ports : List ℕ)
     → filter (is_fresh ageing now) table.sightings ≡ standing ageing now news
     → filter (is_fresh ageing now) (all_flushed table ports).sightings ≡ standing ageing now
     (news ++ map (λ port. Flushed port) ports)
-stations_flushed ageing now news table ports h =
-    ap (filter (is_fresh ageing now)) (flushed-after table ports)
-    ∙ fresh-flushed ageing now table.sightings ports
-    ∙ ap (λ t. after_all t (map (λ port. Flushed port) ports)) (h ∙ sym (table_tells_what_stands ageing now news))
-    ∙ sym (fresh-flushed ageing now (after_all [] news) ports)
-    ∙ ap (filter (is_fresh ageing now)) (sym (after_all-more [] news (map (λ port. Flushed port) ports)))
-    ∙ table_tells_what_stands ageing now (news ++ map (λ port. Flushed port) ports)
+stations_flushed ageing now news table [] h = h ∙ ap (standing ageing now) (sym (append-nil news))
+stations_flushed ageing now news table (p ∷ ps) h =
+    stations_flushed ageing now (news ++ Flushed p ∷ []) (flushed table p) ps
+    (stands-more ageing now table.sightings news (Flushed p) h)
+    ∙ ap (standing ageing now) (append_assoc news (Flushed p ∷ []) (map (λ port. Flushed port) ps))
 
 -- Queues.
 
@@ -124,8 +99,7 @@ own_waiting dropped sends r = map (λ q. in_highest q.1) (filter (λ q. q.0 == r
 
 -- the one of a port, where it got room
 abbrev own_there : List (ℕ × NoRoom) → List (ℕ × List ℕ) → ℕ → List Waiting
-own_there dropped sends r =
-    cond (list_any (λ p. p == r) (places_of sends) && not (is_refused dropped r)) (in_highest (own_at sends r) ∷ []) []
+own_there dropped sends r = copy_for 7 (own_at sends) (places_of sends) dropped r
 
 -- the frames that got room, where the first one did or not
 abbrev kept_of : List (ℕ × NoRoom) → (ℕ × List ℕ) → List (ℕ × List ℕ) → Bool → List (ℕ × List ℕ)
@@ -187,10 +161,6 @@ pub record IsMove (plan : Plan) (b : ℕ) (steps : List Step) (step : Step) (m :
   pub separate : AreSeparate (places_of sends)
   pub bridges : AllByRecursion (λ (c : ℕ × PortState). IsBridgePort plan b c.0) m.states
 
--- the port got a BPDU
-abbrev is_there : List (ℕ × List ℕ) → List (ℕ × NoRoom) → ℕ → Bool
-is_there sends dropped r = list_any (λ p. p == r) (places_of sends) && not (is_refused dropped r)
-
 -- a bridge's spanning tree has changed something: what is kept is kept
 pub after_moved : (plan : Plan) (b : ℕ) (steps : List Step) (states : List PortState)
     (queues new : List (List (List Item))) (now later : ℕ) (table : List Sighting) (newer : List Sighting)
@@ -203,22 +173,15 @@ pub after_moved : (plan : Plan) (b : ℕ) (steps : List Step) (states : List Por
     (news_of plan b steps ++ map (λ port. Flushed port) m.flushed)
     → IsStanding plan b (steps ++ step ∷ []) (states_changed states m.states) new later newer
 after_moved plan b steps states queues new now later table newer step m sends capacity s fits move clock copied count
-    stations = record {
-      lawful = lawful_more spanning_tree plan b steps step s.lawful fits;
-      kept_states = ap (λ ss. states_changed ss m.states) s.kept_states
-          ∙ states-changed plan b (changes_of steps) m.states move.bridges
-          ∙ ap (states_by plan b) (ap (λ cs. changes_of steps ++ cs) (sym changes) ∙ sym (changes_more steps step));
-      count = count;
-      kept_queues = λ r h. kept r h;
-      classes = λ r. subst AreClassed (sym (waits r)) (classes_relayed (is_there sends m.dropped r) 7 (own_at sends r)
-          (waiting plan b r steps) (omega arith) (s.classes r));
-      within = λ r. subst (λ (ws : List Waiting). length ws ≤ capacity_of plan b) (sym (waits r))
-          (fewer_relayed (is_there sends m.dropped r) (in_highest (own_at sends r)) (waiting plan b r steps)
-          (capacity_of plan b) (s.within r) (room r));
-      clock = clock ∙ ap (λ n. n + ticked step) s.clock ∙ sym (now_more steps step);
-      stations = stations ∙ ap (standing plan.ageing later)
-          (sym (news_more plan b steps step ∙ ap (λ ns. news_of plan b steps ++ ns) news));
-    }
+    stations =
+    after_step plan b steps states (states_changed states m.states) queues new now later table newer step capacity 7
+    (own_at sends) (places_of sends) m.dropped s fits
+    (ap (λ ss. states_changed ss m.states) s.kept_states
+    ∙ states-changed plan b (changes_of steps) m.states move.bridges
+    ∙ ap (states_by plan b) (ap (λ cs. changes_of steps ++ cs) (sym changes) ∙ sym (changes_more steps step)))
+    move.refused copied count (omega arith) waits clock
+    (stations ∙ ap (standing plan.ageing later)
+    (sym (news_more plan b steps step ∙ ap (λ ns. news_of plan b steps ++ ns) news)))
   where
     changes : changes_of (step ∷ []) ≡ m.states
     changes = ap (λ ms. flat_map (λ (x : Moved). x.states) (ms ++ [])) move.told ∙ append-nil m.states
@@ -236,25 +199,40 @@ after_moved plan b steps states queues new now later table newer step m sends ca
         ∙ own-one m.dropped sends r move.separate
 
     waits : (r : ℕ) → waiting plan b r (steps ++ step ∷ []) ≡ waiting plan b r steps
-        ++ cond (is_there sends m.dropped r) (in_highest (own_at sends r) ∷ []) []
+        ++ own_there m.dropped sends r
     waits r =
         waiting_from-append plan b r [] steps step
         ∙ move.unsent r (waiting plan b r steps ++ (relayed_by plan b r step ++ own_by r step))
         ∙ ap (λ ws. waiting plan b r steps ++ (ws ++ own_by r step)) (move.unrelayed r)
         ∙ ap (λ ws. waiting plan b r steps ++ ws) (own r)
 
-    room : (r : ℕ) → is_there sends m.dropped r ≡ true
-        → nat_le (capacity_of plan b) (length (waiting plan b r steps)) ≡ false
-    room r t = let f = and-true (list_any (λ p. p == r) (places_of sends)) (is_refused m.dropped r) t in not_full
-        (is_full plan b steps) (places_of sends) m.dropped r move.refused f.0 f.1
-
-    kept : (r : ℕ) → r < 16 → get_or new r [] ≡ by_class (waiting plan b (r + 1) (steps ++ step ∷ []))
-    kept r h =
-        copied.copies r h
-        ∙ ap (λ q. with_copy 7 (own_at sends) (places_of sends) m.dropped (r + 1) q) (s.kept_queues r h)
-        ∙ sym (queue_relayed (is_there sends m.dropped (r + 1)) 7 (own_at sends (r + 1))
-        (waiting plan b (r + 1) steps) (omega arith))
-        ∙ ap by_class (sym (waits (r + 1)))
+-- the same, where nothing was to be sent
+pub after_unsent : (plan : Plan) (b : ℕ) (steps : List Step) (states : List PortState)
+    (queues : List (List (List Item))) (now later : ℕ) (table newer : List Sighting) (step : Step)
+    (changes : List (ℕ × PortState)) (ports : List ℕ)
+    → IsStanding plan b steps states queues now table → Fits spanning_tree plan b steps step
+    → moved_of step ≡ record { states = changes; flushed = ports; queued = []; dropped = [] } ∷ []
+    → ((r : ℕ) → relayed_by plan b r step ≡ []) → ((r : ℕ) (ws : List Waiting) → after_sending r step ws ≡ ws)
+    → sightings plan b (now_after steps) step ≡ []
+    → AllByRecursion (λ (c : ℕ × PortState). IsBridgePort plan b c.0) changes → later ≡ now + ticked step
+    → filter (is_fresh plan.ageing later) newer ≡ standing plan.ageing later
+    (news_of plan b steps ++ map (λ port. Flushed port) ports)
+    → IsStanding plan b (steps ++ step ∷ []) (states_changed states changes) queues later newer
+after_unsent plan b steps states queues now later table newer step changes ports s fits told unrelayed unsent unseen
+    bridges clock stations =
+    after_moved plan b steps states queues queues now later table newer step
+    (record { states = changes; flushed = ports; queued = []; dropped = [] }) [] 0 s fits
+    (record {
+      told = told;
+      unrelayed = unrelayed;
+      unsent = unsent;
+      unseen = unseen;
+      queued = refl;
+      refused = (refl, tt);
+      separate = tt;
+      bridges = bridges;
+    })
+    clock (record { refusals = (refl, tt); copies = λ r h. refl }) s.count stations
 
 -- one more change of state
 pub states_changed-more : (states : List PortState) (changes : List (ℕ × PortState)) (p : ℕ) (new : PortState)

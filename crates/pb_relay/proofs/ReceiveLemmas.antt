@@ -8,7 +8,7 @@ use Rattle.std.proofs.lemmas.Bool.{eqb-true}
 use Rattle.pb_frame.proofs.Lists.{All-filter, list_any-found, and-left, and-right}
 use Rattle.pb_frame.specs.Frames.{dst_of, src_of, is_group}
 use Rattle.pb_frame.specs.Lists.{first}
-use Rattle.pb_frame.specs.Stations.{Sighting, standing, is_sighted, where_in}
+use Rattle.pb_frame.specs.Stations.{Sighting, standing, is_sighted, where_in, IsLearnt}
 use Rattle.pb_frame.specs.declared.learnt.Learnt.{Learnt}
 use Rattle.pb_lan.specs.Ports.{port_at, local_ports}
 use Rattle.pb_lan.specs.Queues.{is_full, vid_in, copy_of}
@@ -33,12 +33,16 @@ use Rattle.pb_relay.specs.Copies.{AreCopied, AreSeparate, copy_at}
 use Rattle.pb_relay.specs.Loads.{IsLoadedAt, is_choice, is_member_of}
 use Rattle.pb_relay.specs.LocalPorts.{IsConfigured}
 use Rattle.pb_relay.specs.Standing.{IsStanding}
-use Rattle.pb_relay.specs.Tables.{HasLearnt}
+use Rattle.pb_relay.specs.Tables.{HasLearnt, IsTableOf}
 use Rattle.pb_relay.proofs.ChosenLemmas.{chosen_ports_are, all_up}
 use Rattle.pb_relay.proofs.EntryLemmas.{IsAdmitted, carried, forwards, overheard}
 use Rattle.pb_relay.proofs.FoundLemmas.{learns_is}
 use Rattle.pb_relay.proofs.LoadLemmas.{kept_here, member_used, sent_is}
 use Rattle.pb_relay.proofs.RelayLemmas.{after_relayed, newer_stands, refusals_are}
+use Rattle.pb_fdb.specs.Tables.{Table, where_in as place_in, is_full as is_full_table, learnt_table, sighting_at}
+use Rattle.pb_relay.specs.declared.bridge.Bridge.TheInside.{Inside}
+use Rattle.pb_relay.proofs.Keeping.{Keeps}
+use Rattle.pb_relay.proofs.TableLemmas.{has_learnt, table_learnt}
 use Rattle.pb_relay.proofs.StandingLemmas.{after_still}
 use Rattle.pb_relay.proofs.StepLemmas.{states_stay, state_stays, now_more}
 
@@ -70,7 +74,7 @@ found_after plan b steps states queues now table newer port item learnt outcome 
     (s.clock ∙ sym (now_more steps (learnt_step port item learnt outcome) ∙ zero))
 
 -- a step that relays fits
-pub relayed_fits : (plan : Plan) (b : ℕ) (steps : List Step) (states : List PortState)
+relayed_fits : (plan : Plan) (b : ℕ) (steps : List Step) (states : List PortState)
     (queues : List (List (List Item))) (now : ℕ) (table newer : List Sighting)
     (ports : List LocalPort) (capacity limit port vid : ℕ) (item : Item) (learnt : Learnt) (at : Option ℕ)
     (chosen : List ℕ) (refused : List (ℕ × NoRoom))
@@ -137,35 +141,52 @@ copies_are plan b ports states capacity limit port vid at item load p k h c =
     ∙ h.wires p known.0.0 known.0.1 (member_used plan (port_at plan b p) (get_or ports (p - 1) ToNobody) vid
     (kept_here plan b ports capacity limit p k known.0) member))
 
+-- the table was told of a source, and has answered
+pub learnt_there : (s : Inside) (vid port : ℕ) (mac source : List ℕ) (newer : Table) (learnt : Learnt) → Keeps s
+    → mac ≡ source
+    → IsLearnt (is_group mac) (place_in s.forwarding.table s.clock vid mac)
+    (is_full_table s.forwarding.table s.clock) port learnt
+    → newer ≡ learnt_table s.forwarding.table (sighting_at vid mac port s.clock) learnt
+    → HasLearnt s.plan.ageing s.clock vid port source s.forwarding.table.sightings learnt newer.sightings
+    × IsTableOf s.plan s.clock newer
+learnt_there s vid port mac source newer learnt k same answer table = (
+  subst (λ (m : List ℕ). HasLearnt s.plan.ageing s.clock vid port m s.forwarding.table.sightings learnt
+      newer.sightings) same
+      (has_learnt s.plan s.clock vid port mac s.forwarding.table newer learnt
+      (omega (arith, k.0.sound.limits.ageing.0)) k.3 answer table),
+  table_learnt s.plan s.clock s.forwarding.table newer (sighting_at vid mac port s.clock) learnt k.3 refl table,
+)
+
 -- a frame has been relayed: the step fits, and what is kept is kept
-pub relayed : (plan : Plan) (b : ℕ) (steps : List Step) (states : List PortState)
-    (queues new : List (List (List Item))) (now : ℕ) (table newer : List Sighting)
-    (ports : List LocalPort) (capacity limit port vid : ℕ) (item : Item) (load : Load) (learnt : Learnt)
-    (at : Option ℕ) (chosen : List ℕ) (refused : List (ℕ × NoRoom))
-    → IsConfigured plan b ports capacity limit → IsStanding plan b steps states queues now table
-    → ruling spanning_tree plan b steps port item ≡ Carries vid
-    → IsLoadedAt plan b (port_at plan b port) item.wire load
-    → HasLearnt plan.ageing now vid port (src_of item.wire) table learnt newer
-    → at ≡ cond (is_group (dst_of item.wire)) None (where_in plan.ageing now vid (dst_of item.wire) newer)
-    → chosen ≡ filter (is_choice ports states port vid at) local_ports → AreSeparate chosen
-    → AreCopied capacity load.class (copy_at ports load item) queues chosen refused new → length new ≡ 16
-    → Fits spanning_tree plan b steps (learnt_step port item learnt (Relayed chosen refused))
-    × IsStanding plan b (steps ++ learnt_step port item learnt (Relayed chosen refused) ∷ []) states new now newer
-relayed plan b steps states queues new now table newer ports capacity limit port vid item load learnt at chosen
-    refused k s r q h e c z f n =
-    let few = k.sound.limits.ageing.0 in
-    let ageing : 0 < plan.ageing = omega arith in
-    let full = refusals_are plan b steps states queues now table capacity chosen refused s k.most z f.refusals in
-    let fits = relayed_fits plan b steps states queues now table newer ports capacity limit port vid item learnt at
-    chosen refused k s ageing r h e c full in
-    let a = carried plan (port_at plan b port) (state_after plan b steps port) item vid r in (
+pub relayed : (s : Inside) (new : List (List (List Item))) (newer : List Sighting) (port vid : ℕ) (item : Item)
+    (load : Load) (learnt : Learnt) (at : Option ℕ) (chosen : List ℕ) (refused : List (ℕ × NoRoom)) → Keeps s
+    → ruling spanning_tree s.plan s.number s.steps.steps port item ≡ Carries vid
+    → IsLoadedAt s.plan s.number (port_at s.plan s.number port) item.wire load
+    → HasLearnt s.plan.ageing s.clock vid port (src_of item.wire) s.forwarding.table.sightings learnt newer
+    → at ≡ cond (is_group (dst_of item.wire)) None (where_in s.plan.ageing s.clock vid (dst_of item.wire) newer)
+    → chosen ≡ filter (is_choice s.ports s.forwarding.states port vid at) local_ports → AreSeparate chosen
+    → AreCopied s.forwarding.backlog.capacity load.class (copy_at s.ports load item) s.forwarding.backlog.ports chosen
+    refused new → length new ≡ 16
+    → Fits spanning_tree s.plan s.number s.steps.steps (learnt_step port item learnt (Relayed chosen refused))
+    × IsStanding s.plan s.number (s.steps.steps ++ learnt_step port item learnt (Relayed chosen refused) ∷ [])
+    s.forwarding.states new s.clock newer
+relayed s new newer port vid item load learnt at chosen refused k r q h e c z f n =
+    let few = k.0.sound.limits.ageing.0 in
+    let ageing : 0 < s.plan.ageing = omega arith in
+    let old = s.forwarding in
+    let full = refusals_are s.plan s.number s.steps.steps old.states old.backlog.ports s.clock old.table.sightings
+    old.backlog.capacity chosen refused k.1 k.0.most z f.refusals in
+    let fits = relayed_fits s.plan s.number s.steps.steps old.states old.backlog.ports s.clock old.table.sightings newer
+    s.ports old.backlog.capacity s.limit port vid item learnt at chosen refused k.0 k.1 ageing r h e c full in
+    let a = carried s.plan (port_at s.plan s.number port) (state_after s.plan s.number s.steps.steps port) item vid r
+    in (
       fits,
-      after_relayed plan b steps states queues new now table newer port item learnt chosen refused capacity load.class
-          (copy_at ports load item)
-          s fits full f n q.class q.eight
-          (λ p m. copies_are plan b ports states capacity limit port vid at item load p k q
-          (subst (λ (ps : List ℕ). list_any (λ q. q == p) ps ≡ true) c m))
-          ageing (told plan b now port item vid table newer learnt a h),
+      after_relayed s.plan s.number s.steps.steps old.states old.backlog.ports new s.clock old.table.sightings newer
+          port item learnt chosen refused old.backlog.capacity load.class (copy_at s.ports load item) k.1 fits full f n
+          q.class q.eight
+          (λ p m. copies_are s.plan s.number s.ports old.states old.backlog.capacity s.limit port vid at item load p
+          k.0 q (subst (λ (ps : List ℕ). list_any (λ q. q == p) ps ≡ true) c m))
+          ageing (told s.plan s.number s.clock port item vid old.table.sightings newer learnt a h),
     )
 
 -- a frame that was to be relayed is given up: the step fits
@@ -177,26 +198,36 @@ given_up plan b steps port item vid r =
     (inl (refl, refl, refl))
 
 -- a source has been learnt, and its frame goes nowhere: the step fits, and what is kept is kept
-pub learnt_alone : (plan : Plan) (b : ℕ) (steps : List Step) (states : List PortState)
-    (queues : List (List (List Item))) (now : ℕ) (table newer : List Sighting)
-    (ports : List LocalPort) (capacity limit port vid : ℕ) (item : Item) (learnt : Learnt)
-    → IsConfigured plan b ports capacity limit → IsStanding plan b steps states queues now table
-    → ruling spanning_tree plan b steps port item ≡ LearnsOnly vid
-    → HasLearnt plan.ageing now vid port (src_of item.wire) table learnt newer
-    → Fits spanning_tree plan b steps (learnt_step port item learnt (Filtered NotForwarding))
-    × IsStanding plan b (steps ++ learnt_step port item learnt (Filtered NotForwarding) ∷ []) states queues now newer
-learnt_alone plan b steps states queues now table newer ports capacity limit port vid item learnt k s r h =
-    let few = k.sound.limits.ageing.0 in
-    let ageing : 0 < plan.ageing = omega arith in
+pub learnt_alone : (s : Inside) (newer : List Sighting) (port vid : ℕ) (item : Item) (learnt : Learnt) → Keeps s
+    → ruling spanning_tree s.plan s.number s.steps.steps port item ≡ LearnsOnly vid
+    → HasLearnt s.plan.ageing s.clock vid port (src_of item.wire) s.forwarding.table.sightings learnt newer
+    → Fits spanning_tree s.plan s.number s.steps.steps (learnt_step port item learnt (Filtered NotForwarding))
+    × IsStanding s.plan s.number (s.steps.steps ++ learnt_step port item learnt (Filtered NotForwarding) ∷ [])
+    s.forwarding.states s.forwarding.backlog.ports s.clock newer
+learnt_alone s newer port vid item learnt k r h =
+    let few = k.0.sound.limits.ageing.0 in
+    let ageing : 0 < s.plan.ageing = omega arith in
+    let old = s.forwarding in
     let step = learnt_step port item learnt (Filtered NotForwarding) in
-    let a = overheard plan (port_at plan b port) (state_after plan b steps port) item vid r in
-    let t = told plan b now port item vid table newer learnt a h in
-    let fits : Fits spanning_tree plan b steps step =
-    subst (λ (g : Ruling). Follows spanning_tree plan b steps port item (Some learnt) (Filtered NotForwarding) None g)
-    (sym r)
-    ((learnt, refl, learns_is plan b steps states queues now table port item.wire learnt s t.answer), refl, refl) in (
+    let a = overheard s.plan (port_at s.plan s.number port) (state_after s.plan s.number s.steps.steps port) item vid r
+    in
+    let t = told s.plan s.number s.clock port item vid old.table.sightings newer learnt a h in
+    let fits : Fits spanning_tree s.plan s.number s.steps.steps step =
+    subst (λ (g : Ruling). Follows spanning_tree s.plan s.number s.steps.steps port item (Some learnt)
+    (Filtered NotForwarding) None g) (sym r) (
+      (
+        learnt,
+        refl,
+        learns_is s.plan s.number s.steps.steps old.states old.backlog.ports s.clock old.table.sightings
+            port item.wire learnt k.1 t.answer,
+      ),
+      refl,
+      refl,
+    ) in (
       fits,
-      after_still plan b steps states queues now table newer step s fits refl
-          (newer_stands plan b steps states queues now table newer port item learnt (Filtered NotForwarding) ageing s t)
+      after_still s.plan s.number s.steps.steps old.states old.backlog.ports s.clock old.table.sightings newer step k.1
+          fits refl
+          (newer_stands s.plan s.number s.steps.steps old.states old.backlog.ports s.clock old.table.sightings newer
+          port item learnt (Filtered NotForwarding) ageing k.1 t)
           refl (λ _. refl) (λ _ _. refl),
     )

@@ -1,7 +1,6 @@
 -- The outcome of what was received, from the step that was given back or is kept.
 use Rattle.std.proofs.Common.{◌≡◌, ◌<◌, ◌-◌, ℕ, Bool, true, false, List, [], ◌∷◌, ◌++◌, Some, Option, length, arith}
-use Rattle.std.proofs.Common.{ap, refl}
-use Rattle.std.proofs.Common.{◌∙◌, slice_get, length-append}
+use Rattle.std.proofs.Common.{ap, refl, ◌∙◌, slice_get, length-append}
 use Rattle.std.proofs.Math.Seq.{get_or-append_seam}
 use Rattle.std.proofs.lemmas.Option.{slice_get-get_or}
 use Rattle.pb_lan.specs.declared.step.Item.{Item}

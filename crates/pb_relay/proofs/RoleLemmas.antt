@@ -46,10 +46,8 @@ told_role table start (Trunk vids) = refl
 -- its membership
 member_as : (table : ServiceTable) (start : PortState) (vid : ℕ) (role : Option Role)
     → unwrap_or (option_map (is_member_as table vid) role) false ≡ is_member_of (local_as table start role) vid
-member_as table start vid None = refl
-member_as table start vid (Some (Customer join)) = refl
 member_as table start vid (Some (Trunk None)) = sym (list_any-map (λ w. w == vid) (λ s. s.0) table.services)
-member_as table start vid (Some (Trunk (Some vids))) = refl
+member_as table start vid _ = refl
 
 pub member_here : (table : ServiceTable) (starts : List PortState) (place vid : ℕ) → place < 16
     → is_member table (place + 1) vid ≡ is_member_of (get_or (locals table starts) place ToNobody) vid

@@ -1,9 +1,8 @@
 -- The plan's services, one after another.
-use Rattle.std.proofs.Common.{◌≡◌, ℕ, zero, suc, ◌+◌, ◌<◌, Bool, true, false, cond, ◌==◌, ◌||◌, ◌&&◌, nat_eq, nat_lt}
-use Rattle.std.proofs.Common.{Some, None, is_some, List, [], ◌∷◌, ◌++◌, map, insert, take, length, get_or, slice_get}
-use Rattle.std.proofs.Common.{unwrap_or, eq-eqb, refl, sym, ap, ◌∙◌, arith}
+use Rattle.std.proofs.Common.{◌≡◌, ℕ, zero, suc, ◌<◌, Bool, true, false, cond, ◌==◌, ◌||◌, ◌&&◌, nat_eq, nat_lt, Some}
+use Rattle.std.proofs.Common.{None, is_some, List, [], ◌∷◌, map, insert, take, length, get_or, slice_get, unwrap_or}
+use Rattle.std.proofs.Common.{eq-eqb, refl, sym, ap, ◌∙◌, arith}
 use Rattle.std.proofs.lemmas.Bool.{eqb-true}
-use Rattle.std.proofs.lemmas.List.{map-append, take_more}
 use Rattle.std.proofs.lemmas.Option.{slice_get-map}
 use Rattle.std.specs.List.{list_any, list_all, AllByRecursion, IsDistinct}
 use Rattle.std.specs.Option.{option_map}
@@ -35,7 +34,7 @@ all-get P f (x ∷ xs) zero d l a = a.0
 all-get P f (x ∷ xs) (suc i) d l a = all-get P f xs i d (omega arith) a.1
 
 -- none before a place has its key
-pub distinct-before : {X K : Type 0} (e : K → K → Bool) (f : X → K) (xs : List X) (i : ℕ) (d : X) → i < length xs
+distinct-before : {X K : Type 0} (e : K → K → Bool) (f : X → K) (xs : List X) (i : ℕ) (d : X) → i < length xs
     → IsDistinct e (map f xs)
     → list_any (λ y. e (f y) (f (get_or xs i d))) (take i xs) ≡ false
 unfolding IsDistinct
@@ -47,32 +46,24 @@ distinct-before e f (x ∷ xs) (suc i) d l h =
     ∙ distinct-before e f xs i d (omega arith) h.1
 
 -- so none of the services so far has the next one's name, or its VID
-pub new_name : (plan : Plan) (table : ServiceTable) (i : ℕ) (s : ServicePlan) → IsSound plan
-    → i < length plan.services → s ≡ get_or plan.services i s
-    → table.services ≡ map pair_of (take i plan.services) → has_name table s.name ≡ false
-new_name plan table i s sound l e t =
-    ap (list_any (λ z. same z.1 s.name)) t ∙ list_any-map (λ z. same z.1 s.name) pair_of (take i plan.services)
-    ∙ ap (λ (z : ServicePlan). list_any (λ y. same y.name z.name) (take i plan.services)) e
-    ∙ distinct-before same (λ (y : ServicePlan). y.name) plan.services i s l sound.names.services
+pub new_service : (plan : Plan) (table : ServiceTable) (items : List ServicePlan) (i : ℕ) (s : ServicePlan)
+    → IsSound plan → items ≡ plan.services → i < length items → s ≡ get_or items i s
+    → table.services ≡ map pair_of (take i plan.services)
+    → (has_name table s.name ≡ false) × (has_vid table s.vid ≡ false)
+new_service plan table items i s sound all l e t = (
+  ap (list_any (λ z. same z.1 s.name)) t ∙ list_any-map (λ z. same z.1 s.name) pair_of (take i plan.services)
+      ∙ ap (λ (z : ServicePlan). list_any (λ y. same y.name z.name) (take i plan.services)) here
+      ∙ distinct-before same (λ (y : ServicePlan). y.name) plan.services i s within sound.names.services,
+  ap (list_any (λ z. z.0 == s.vid)) t ∙ list_any-map (λ z. z.0 == s.vid) pair_of (take i plan.services)
+      ∙ ap (λ (z : ServicePlan). list_any (λ y. y.vid == z.vid) (take i plan.services)) here
+      ∙ distinct-before nat_eq (λ (y : ServicePlan). y.vid) plan.services i s within sound.distinct_vids,
+)
+  where
+    here : s ≡ get_or plan.services i s
+    here = e ∙ ap (λ (ss : List ServicePlan). get_or ss i s) all
 
-pub new_vid : (plan : Plan) (table : ServiceTable) (i : ℕ) (s : ServicePlan) → IsSound plan → i < length plan.services
-    → s ≡ get_or plan.services i s
-    → table.services ≡ map pair_of (take i plan.services) → has_vid table s.vid ≡ false
-new_vid plan table i s sound l e t =
-    ap (list_any (λ z. z.0 == s.vid)) t ∙ list_any-map (λ z. z.0 == s.vid) pair_of (take i plan.services)
-    ∙ ap (λ (z : ServicePlan). list_any (λ y. y.vid == z.vid) (take i plan.services)) e
-    ∙ distinct-before nat_eq (λ (y : ServicePlan). y.vid) plan.services i s l sound.distinct_vids
-
--- the services so far, and the next one
-pub services-more : (plan : Plan) (i : ℕ) (s : ServicePlan) (old new : List (ℕ × List ℕ)) → i < length plan.services
-    → s ≡ get_or plan.services i s
-    → old ≡ map pair_of (take i plan.services) → new ≡ old ++ (s.vid, s.name) ∷ []
-    → new ≡ map pair_of (take (i + 1) plan.services)
-services-more plan i s old new l e o n =
-    n ∙ ap (λ zs. zs ++ (s.vid, s.name) ∷ []) o
-    ∙ ap (λ (z : ServicePlan). map pair_of (take i plan.services) ++ pair_of z ∷ []) e
-    ∙ sym (map-append pair_of (take i plan.services) (get_or plan.services i s ∷ []))
-    ∙ ap (map pair_of) (sym (take_more plan.services i s l))
+    within : i < length plan.services
+    within = omega (arith, l, ap length all)
 
 -- the VID of a service of the plan
 pub vid-known : (plan : Plan) (table : ServiceTable) (n : ℕ) → HasServices plan table
@@ -153,5 +144,4 @@ role-attached (b ∷ others) a q none =
         let like = eq-eqb b.port a.port same_port in
         let never : true ≡ false = sym like ∙ unlike in cc
     by_ports true false e f rest = rw (e, f) refl
-    by_ports false true e f rest = rw e (rest ∙ rw f refl)
-    by_ports false false e f rest = rw e (rest ∙ rw f refl)
+    by_ports _ _ e f rest = rw e (rest ∙ rw f refl)

@@ -1,28 +1,28 @@
 -- What a bridge keeps, after one more step.
 use Rattle.std.proofs.Common.{not, ◌≡◌, ℕ, zero, suc, slice_get, unwrap_or, ◌+◌, ◌-◌, ◌<◌, ◌≤◌, ◌≢◌, Bool, true}
 use Rattle.std.proofs.Common.{false, cond, ◌&&◌, Some, None, List, [], ◌∷◌, ◌++◌, map, length, get_or, set, ◌==◌}
-use Rattle.std.proofs.Common.{refl, sym, ap, ◌∙◌, subst, arith, append-nil, eq-eqb}
+use Rattle.std.proofs.Common.{refl, sym, ap, ◌∙◌, subst, arith, append-nil, eq-eqb, add-zero, ◌||◌, nat_le}
+use Rattle.std.proofs.Common.{length-append}
 use Rattle.std.proofs.lemmas.Bool.{eqb-true}
 use Rattle.std.proofs.lemmas.Bool.Decides.{nat_tests}
 use Rattle.std.proofs.lemmas.List.{length-set, get_or-set_same, get_or-set_other}
-use Rattle.std.specs.List.{filter}
+use Rattle.std.specs.List.{filter, AllByRecursion, list_any}
 use Rattle.std.specs.Option.{option_map}
 use Rattle.pb_frame.proofs.StationLaws.{table_tells_what_stands}
 use Rattle.pb_frame.specs.Stations.{Sighting, News, is_fresh, standing, after_all}
-use Rattle.pb_frame.specs.Stations.News.{Flushed}
-use Rattle.pb_lan.specs.declared.step.Moved.{Moved}
-use Rattle.pb_frame.proofs.Lists.{first-found, All-at, and-right}
+use Rattle.pb_frame.proofs.Lists.{first-found, All-at, All-append, and-right}
+use Rattle.pb_fdb.proofs.LawLemmas.{live-dropped}
 use Rattle.pb_lan.proofs.SentWasQueued.{waiting_from-append}
 use Rattle.pb_frame.specs.Lists.{first}
 use Rattle.pb_lan.specs.Plans.{IsSound, IsSoundBridge, IsSoundCustomer, IsSoundEnd}
 use Rattle.pb_lan.specs.Ports.{port_at, is_customer_at, is_end_at, all_ends, customer_or_else, provider_or_unused}
+use Rattle.pb_lan.specs.Ports.{is_used}
 use Rattle.pb_lan.specs.Queues.{Waiting, waiting, queued_by, after_sending, next_out, highest, without, is_full}
-use Rattle.pb_lan.specs.Queues.{is_refused}
-use Rattle.pb_lan.specs.Shapes.{moved_of}
+use Rattle.pb_lan.specs.Queues.{is_refused, capacity_of}
+use Rattle.pb_lan.specs.Shapes.{moved_of, states_after}
 use Rattle.pb_lan.specs.Choice.{now_after, news_of, ticked, sightings}
-use Rattle.pb_lan.specs.BridgeLists.{Fits, Names, AreRefused, own_item}
+use Rattle.pb_lan.specs.BridgeLists.{Fits, Names, AreRefused, own_item, is_named_full}
 use Rattle.pb_lan.specs.Rules.{Cause, Change, nothing, planned_change, change_by, change_of}
-use Rattle.pb_lan.specs.Rules.Cause.{Ticks}
 use Rattle.pb_lan.specs.declared.plan.Spanning.{Spanning}
 use Rattle.pb_lan.specs.declared.plan.Spanning.TheVariants.{Fixed}
 use Rattle.pb_lan.specs.declared.plan.Plan.{Plan}
@@ -30,16 +30,34 @@ use Rattle.pb_lan.specs.declared.plan.End.{End}
 use Rattle.pb_lan.specs.declared.plan.CustomerPlan.{CustomerPlan}
 use Rattle.pb_lan.specs.declared.shape.PortState.{PortState}
 use Rattle.pb_lan.specs.declared.step.Item.{Item}
+use Rattle.pb_lan.specs.declared.step.NoRoom.{NoRoom}
 use Rattle.pb_lan.specs.declared.step.Step.{Step}
 use Rattle.pb_lan.specs.declared.step.Step.TheVariants.{Transmit, Tick}
-use Rattle.pb_lan.specs.Queues.{capacity_of}
-use Rattle.pb_relay.specs.Classes.{by_class, after_first, first_out, number_in, or_else}
-use Rattle.pb_lan.specs.Ports.{is_used}
+use Rattle.pb_relay.specs.Classes.{by_class, after_first, first_out, number_in, or_else, put_in}
+use Rattle.pb_relay.specs.Copies.{AreCopied, with_copy}
+use Rattle.pb_relay.specs.Moves.{own_at}
 use Rattle.pb_relay.specs.Standing.{IsStanding, AreClassed}
 use Rattle.pb_relay.specs.Changes.{unmoved}
 use Rattle.pb_relay.specs.Protocol.{spanning_tree}
-use Rattle.pb_relay.proofs.WaitingLemmas.{next_by_class, rest_by_class, number_by_class, without-below}
-use Rattle.pb_relay.proofs.StepLemmas.{lawful_more, states_stay, states_unmoved, now_more, news_stay, news_more}
+use Rattle.pb_relay.proofs.CopyLemmas.{none_full}
+use Rattle.pb_relay.proofs.WaitingLemmas.{next_by_class, rest_by_class, number_by_class, without-below, by_class-push}
+use Rattle.pb_relay.proofs.StepLemmas.{lawful_more, states_stay, now_more, news_stay}
+
+-- the customer that stands at a port is sound, and has the port
+pub customer_there : (plan : Plan) (number port : ℕ) (c : CustomerPlan) → IsSound plan
+    → Some c ≡ first (is_customer_at number port) plan.customers
+    → IsSoundCustomer plan c × (c.port ≡ port)
+customer_there plan number port c sound found =
+    let there = first-found (IsSoundCustomer plan) (is_customer_at number port) plan.customers c (sym found)
+    sound.customers in
+    (there.0, eqb-true c.port port (and-right _ _ there.1))
+
+pub end_there : (plan : Plan) (number port : ℕ) (e : End) → IsSound plan
+    → Some e ≡ first (is_end_at number port) (all_ends plan)
+    → IsSoundEnd plan e × (e.port ≡ port)
+end_there plan number port e sound found =
+    let there = first-found (IsSoundEnd plan) (is_end_at number port) (all_ends plan) e (sym found) sound.ends in
+    (there.0, eqb-true e.port port (and-right _ _ there.1))
 
 -- a port that the plan uses is one of 16
 pub used_port : (plan : Plan) (b p : ℕ) → IsSound plan → is_used (port_at plan b p) ≡ true → (1 ≤ p) × (p ≤ 16)
@@ -47,24 +65,16 @@ used_port plan b p s u =
     elim (first (is_customer_at b p) plan.customers)
     as (λ o. first (is_customer_at b p) plan.customers ≡ o → is_used
     (customer_or_else o (provider_or_unused (first (is_end_at b p) (all_ends plan)))) ≡ true → (1 ≤ p) × (p ≤ 16)) [
-      | Some c ↦ λ e v. let f = first-found (IsSoundCustomer plan) (is_customer_at b p) plan.customers c e s.customers
-          in at-customer c f.0 f.1
+      | Some c ↦ λ e v. let there = customer_there plan b p c s (sym e) in subst (λ (n : ℕ). (1 ≤ n) × (n ≤ 16))
+          there.1 there.0.port
       | None ↦ λ e v. elim (first (is_end_at b p) (all_ends plan))
           as (λ o. first (is_end_at b p) (all_ends plan) ≡ o → is_used (provider_or_unused o) ≡ true → (1 ≤ p)
           × (p ≤ 16)) [
-            | Some x ↦ λ e v. let f = first-found (IsSoundEnd plan) (is_end_at b p) (all_ends plan) x e s.ends
-                in at-end x f.0 f.1
+            | Some x ↦ λ e v. let there = end_there plan b p x s (sym e) in subst (λ (n : ℕ). (1 ≤ n) × (n ≤ 16))
+                there.1 there.0.port
             | None ↦ λ e v. cc
           ] refl v
     ] refl u
-  where
-    at-customer : (c : CustomerPlan) → IsSoundCustomer plan c → is_customer_at b p c ≡ true → (1 ≤ p) × (p ≤ 16)
-    at-customer c i t = let e = eqb-true c.port p (and-right (c.bridge == b) (c.port == p) t) in subst
-        (λ (n : ℕ). (1 ≤ n) × (n ≤ 16)) e i.port
-
-    at-end : (x : End) → IsSoundEnd plan x → is_end_at b p x ≡ true → (1 ≤ p) × (p ≤ 16)
-    at-end x i t = let e = eqb-true x.port p (and-right (x.bridge == b) (x.port == p) t) in subst
-        (λ (n : ℕ). (1 ≤ n) × (n ≤ 16)) e i.port
 
 -- what waits at a port is what is kept there
 pub kept_at : (plan : Plan) (b : ℕ) (steps : List Step) (states : List PortState) (queues : List (List (List Item)))
@@ -103,14 +113,11 @@ after_transmit plan b steps states queues now table p item s l n = record {
   kept_queues = λ r h. at r h;
   within = λ r. fewer r;
   classes = λ r. subst AreClassed (sym (waiting-sent plan b r p steps item)) (keep r (p == r));
-  clock = s.clock ∙ sym (now_more steps (Transmit p item) ∙ plus-zero (now_after steps));
+  clock = s.clock ∙ sym (now_more steps (Transmit p item) ∙ add-zero (now_after steps));
   stations = s.stations ∙ ap (λ ns. standing plan.ageing now ns)
       (sym (news_stay plan b steps (Transmit p item) refl refl));
 }
   where
-    plus-zero : (n : ℕ) → n + 0 ≡ n
-    plus-zero n = omega arith
-
     keep : (r : ℕ) (t : Bool)
         → AreClassed (cond t (without (highest (waiting plan b r steps)) (waiting plan b r steps))
         (waiting plan b r steps))
@@ -197,15 +204,95 @@ pub transmitted : (plan : Plan) (b : ℕ) (steps : List Step) (states : List Por
     (queues new : List (List (List Item))) (now : ℕ) (table : List Sighting) (p : ℕ)
     → IsStanding plan b steps states queues now table → (1 ≤ p) × (p ≤ 16) → new
     ≡ set queues (p - 1) (after_first (get_or queues (p - 1) []))
-    → (item : Item) → Some item ≡ first_out (get_or queues (p - 1) []) → (more : List Step) → more
-    ≡ steps ++ Transmit p item ∷ []
-    → IsStanding plan b more states new now table
-transmitted plan b steps states queues new now table p s l e item n more m =
-    subst (λ (ms : List Step). IsStanding plan b ms states new now table) (sym m)
-    (subst (λ (qs : List (List (List Item))). IsStanding plan b (steps ++ Transmit p item ∷ []) states qs now table)
+    → (item : Item) → Some item ≡ first_out (get_or queues (p - 1) [])
+    → IsStanding plan b (steps ++ Transmit p item ∷ []) states new now table
+transmitted plan b steps states queues new now table p s l e item n =
+    subst (λ (qs : List (List (List Item))). IsStanding plan b (steps ++ Transmit p item ∷ []) states qs now table)
     (sym e)
     (after_transmit plan b steps states queues now table p item s l
-    (sym (n ∙ next_at plan b steps states queues now table p s l))))
+    (sym (n ∙ next_at plan b steps states queues now table p s l)))
+
+-- what all have that are among the ports
+among : (P : ℕ → Type 0) (ports : List ℕ) (r : ℕ) → list_any (λ p. p == r) ports ≡ true → AllByRecursion P ports → P r
+among P [] r h a = cc
+among P (p ∷ ports) r h a =
+    elim (p == r) as (λ b. (p == r) ≡ b → (b || list_any (λ p. p == r) ports) ≡ true → P r)
+    [ true ↦ λ e g. subst P (eqb-true p r e) a.0 | false ↦ λ e g. among P ports r g a.1 ] refl h
+
+-- a port that gets a copy isn't full
+not_full : (full : ℕ → Bool) (chosen : List ℕ) (refused : List (ℕ × NoRoom)) (r : ℕ)
+    → AreRefused full chosen refused
+    → list_any (λ p. p == r) chosen ≡ true → is_refused refused r ≡ false → full r ≡ false
+not_full full chosen refused r h c n = among (λ p. full p ≡ is_named_full refused p) chosen r c h.1
+    ∙ none_full r refused n
+
+-- the queues of a port with one item more, or not
+queue_relayed : (b : Bool) (class : ℕ) (item : Item) (ws : List Waiting) → class < 8
+    → by_class (ws ++ cond b (record { class = class; item = item } ∷ []) []) ≡ cond b
+    (put_in class item (by_class ws)) (by_class ws)
+queue_relayed true class item ws l = by_class-push ws (record { class = class; item = item }) l
+queue_relayed false class item ws l = ap by_class (append-nil ws)
+
+classes_relayed : (b : Bool) (class : ℕ) (item : Item) (ws : List Waiting) → class < 8 → AreClassed ws
+    → AreClassed (ws ++ cond b (record { class = class; item = item } ∷ []) [])
+classes_relayed true class item ws l a = All-append (λ w. w.class < 8) ws (record { class = class; item = item } ∷ [])
+    a (l, tt)
+classes_relayed false class item ws l a = All-append (λ w. w.class < 8) ws [] a tt
+
+fewer_relayed : (b : Bool) (w : Waiting) (ws : List Waiting) (most : ℕ) → length ws ≤ most
+    → (b ≡ true → nat_le most (length ws) ≡ false) → length (ws ++ cond b (w ∷ []) []) ≤ most
+fewer_relayed true w ws most l n = let f = n refl in let s : length ws < most = grind (arith, nat_tests) in omega
+    (arith, length-append ws (w ∷ []))
+fewer_relayed false w ws most l n = omega (arith, length-append ws [])
+
+and-true : (a c : Bool) → (a && not c) ≡ true → (a ≡ true) × (c ≡ false)
+and-true true false h = (refl, refl)
+and-true _ _ h = cc
+
+-- a port of some is named, and gets its item, as it isn't refused
+abbrev pub gets_copy : List ℕ → List (ℕ × NoRoom) → ℕ → Bool
+gets_copy chosen refused r = list_any (λ p. p == r) chosen && not (is_refused refused r)
+
+abbrev pub copy_for : ℕ → (ℕ → Item) → List ℕ → List (ℕ × NoRoom) → ℕ → List Waiting
+copy_for class item_at chosen refused r =
+    cond (gets_copy chosen refused r) (record { class = class; item = item_at r } ∷ []) []
+
+-- one step more, by which each of some ports gets an item more or is refused
+pub after_step : (plan : Plan) (b : ℕ) (steps : List Step) (states new_states : List PortState)
+    (queues new : List (List (List Item))) (now later : ℕ) (table newer : List Sighting) (step : Step)
+    (capacity class : ℕ) (item_at : ℕ → Item) (chosen : List ℕ) (refused : List (ℕ × NoRoom))
+    → IsStanding plan b steps states queues now table → Fits spanning_tree plan b steps step
+    → new_states ≡ states_after plan b (steps ++ step ∷ [])
+    → AreRefused (is_full plan b steps) chosen refused
+    → AreCopied capacity class item_at queues chosen refused new → length new ≡ 16 → class < 8
+    → ((r : ℕ) → waiting plan b r (steps ++ step ∷ []) ≡ waiting plan b r steps
+    ++ copy_for class item_at chosen refused r)
+    → later ≡ now + ticked step
+    → filter (is_fresh plan.ageing later) newer ≡ standing plan.ageing later (news_of plan b (steps ++ step ∷ []))
+    → IsStanding plan b (steps ++ step ∷ []) new_states new later newer
+after_step plan b steps states new_states queues new now later table newer step capacity class item_at chosen refused s
+    fits states_are full copied count small waits clock stations = record {
+      lawful = lawful_more spanning_tree plan b steps step s.lawful fits;
+      kept_states = states_are;
+      count = count;
+      kept_queues = λ r h. copied.copies r h
+          ∙ ap (λ q. with_copy class item_at chosen refused (r + 1) q) (s.kept_queues r h)
+          ∙ sym (queue_relayed (gets_copy chosen refused (r + 1)) class (item_at (r + 1)) (waiting plan b (r + 1) steps)
+          small)
+          ∙ ap by_class (sym (waits (r + 1)));
+      classes = λ r. subst AreClassed (sym (waits r))
+          (classes_relayed (gets_copy chosen refused r) class (item_at r) (waiting plan b r steps) small (s.classes r));
+      within = λ r. subst (λ (ws : List Waiting). length ws ≤ capacity_of plan b) (sym (waits r))
+          (fewer_relayed (gets_copy chosen refused r) (record { class = class; item = item_at r })
+          (waiting plan b r steps) (capacity_of plan b) (s.within r) (room r));
+      clock = clock ∙ ap (λ n. n + ticked step) s.clock ∙ sym (now_more steps step);
+      stations = stations;
+    }
+  where
+    room : (r : ℕ) → gets_copy chosen refused r ≡ true
+        → nat_le (capacity_of plan b) (length (waiting plan b r steps)) ≡ false
+    room r t = let f = and-true (list_any (λ p. p == r) chosen) (is_refused refused r) t in not_full
+        (is_full plan b steps) chosen refused r full f.0 f.1
 
 -- a step that queues nothing and moves nothing leaves all that is kept but the table
 pub after_still : (plan : Plan) (b : ℕ) (steps : List Step) (states : List PortState)
@@ -216,23 +303,13 @@ pub after_still : (plan : Plan) (b : ℕ) (steps : List Step) (states : List Por
     → ticked step ≡ 0 → ((r : ℕ) → queued_by plan b r step ≡ [])
     → ((r : ℕ) (ws : List Waiting) → after_sending r step ws ≡ ws)
     → IsStanding plan b (steps ++ step ∷ []) states queues now newer
-after_still plan b steps states queues now table newer step s f m n t q a = record {
-  lawful = lawful_more spanning_tree plan b steps step s.lawful f;
-  kept_states = s.kept_states ∙ sym (states_stay plan b steps step m);
-  count = s.count;
-  kept_queues = λ r h. s.kept_queues r h ∙ ap by_class (sym (still (r + 1)));
-  classes = λ r. subst AreClassed (sym (still r)) (s.classes r);
-  within = λ r. subst (λ (ws : List Waiting). length ws ≤ capacity_of plan b) (sym (still r)) (s.within r);
-  clock = s.clock ∙ sym (now_more steps step ∙ ap (λ k. now_after steps + k) t ∙ plus-zero (now_after steps));
-  stations = n;
-}
-  where
-    plus-zero : (n : ℕ) → n + 0 ≡ n
-    plus-zero n = omega arith
-
-    still : (r : ℕ) → waiting plan b r (steps ++ step ∷ []) ≡ waiting plan b r steps
-    still r = waiting_from-append plan b r [] steps step ∙ a r (waiting plan b r steps ++ queued_by plan b r step)
-        ∙ ap (λ ws. waiting plan b r steps ++ ws) (q r) ∙ append-nil (waiting plan b r steps)
+after_still plan b steps states queues now table newer step s f m n t q a =
+    after_step plan b steps states states queues queues now now table newer step 0 0 (own_at []) [] [] s f
+    (s.kept_states ∙ sym (states_stay plan b steps step m)) (refl, tt)
+    (record { refusals = (refl, tt); copies = λ r h. refl }) s.count (omega arith)
+    (λ r. waiting_from-append plan b r [] steps step ∙ a r (waiting plan b r steps ++ queued_by plan b r step)
+    ∙ ap (λ ws. waiting plan b r steps ++ ws) (q r))
+    (omega (arith, t)) n
 
 -- and the table too, where it tells nothing of stations
 pub after_quiet : (plan : Plan) (b : ℕ) (steps : List Step) (states : List PortState)
@@ -245,64 +322,13 @@ after_quiet plan b steps states queues now table step s f m n t q a =
     after_still plan b steps states queues now table table step s f m
     (s.stations ∙ ap (λ ns. standing plan.ageing now ns) (sym (news_stay plan b steps step n m))) t q a
 
-abbrev waits_at : (ℕ × Item) → Waiting
-waits_at z = record { class = 7; item = z.1 }
-
-still_fresh : (ageing now : ℕ) (s : Sighting)
-    → (is_fresh ageing now s && is_fresh ageing (now + 1) s) ≡ is_fresh ageing (now + 1) s
-still_fresh ageing now s = grind (arith, nat_tests)
-
-filter-both : {X : Type 0} (p q : X → Bool) → ((x : X) → (q x && p x) ≡ p x) → (xs : List X)
-    → filter p (filter q xs) ≡ filter p xs
-filter-both p q h [] = refl
-filter-both p q h (x ∷ xs) =
-    elim (q x) as (λ b. (b && p x) ≡ p x → filter p (cond b (x ∷ filter q xs) (filter q xs)) ≡ cond (p x)
-    (x ∷ filter p xs) (filter p xs)) [
-      | true ↦ λ e. ap (λ zs. cond (p x) (x ∷ zs) zs) (filter-both p q h xs)
-      | false ↦ λ e. filter-both p q h xs ∙ ap (λ b. cond b (x ∷ filter p xs) (filter p xs)) e
-    ] (h x)
-
-pub live_later : (ageing now : ℕ) (table : List Sighting)
-    → filter (is_fresh ageing (now + 1)) table ≡ filter (is_fresh ageing (now + 1))
-    (filter (is_fresh ageing now) table)
-live_later ageing now table =
-    sym (filter-both (is_fresh ageing (now + 1)) (is_fresh ageing now) (still_fresh ageing now) table)
-
+-- what stands a second later
 pub standing_later : (ageing now : ℕ) (news : List News)
     → filter (is_fresh ageing (now + 1)) (standing ageing now news) ≡ standing ageing (now + 1) news
 standing_later ageing now news =
     ap (filter (is_fresh ageing (now + 1))) (sym (table_tells_what_stands ageing now news))
-    ∙ sym (live_later ageing now (after_all [] news)) ∙ table_tells_what_stands ageing (now + 1) news
-
--- where the clock ticks, and nothing moves
-pub after_tick : (plan : Plan) (b : ℕ) (steps : List Step) (states : List PortState)
-    (queues : List (List (List Item))) (now : ℕ) (table newer : List Sighting) (moved : Moved)
-    → IsStanding plan b steps states queues now table → Fits spanning_tree plan b steps (Tick (now + 1) moved)
-    → moved.states ≡ [] → moved.flushed ≡ [] → moved.queued ≡ []
-    → filter (is_fresh plan.ageing (now + 1)) newer ≡ filter (is_fresh plan.ageing (now + 1)) table
-    → IsStanding plan b (steps ++ Tick (now + 1) moved ∷ []) states queues (now + 1) newer
-after_tick plan b steps states queues now table newer moved s f m l q d = record {
-  lawful = lawful_more spanning_tree plan b steps (Tick (now + 1) moved) s.lawful f;
-  kept_states = s.kept_states ∙ sym (states_unmoved plan b steps (Tick (now + 1) moved) (ap (λ cs. cs ++ []) m));
-  count = s.count;
-  kept_queues = λ r h. s.kept_queues r h ∙ ap by_class (sym (still (r + 1)));
-  classes = λ r. subst AreClassed (sym (still r)) (s.classes r);
-  within = λ r. subst (λ (ws : List Waiting). length ws ≤ capacity_of plan b) (sym (still r)) (s.within r);
-  clock = ap (λ n. n + 1) s.clock ∙ sym (now_more steps (Tick (now + 1) moved));
-  stations = d ∙ live_later plan.ageing now table
-      ∙ ap (filter (is_fresh plan.ageing (now + 1))) s.stations
-      ∙ standing_later plan.ageing now (news_of plan b steps)
-      ∙ ap (λ ns. standing plan.ageing (now + 1) ns) (sym (news_more plan b steps (Tick (now + 1) moved)
-      ∙ ap (λ fs. news_of plan b steps ++ ([] ++ map (λ port. Flushed port) (fs ++ []))) l
-      ∙ append-nil (news_of plan b steps)));
-}
-  where
-    own-none : (r : ℕ) (qs : List (ℕ × Item)) → qs ≡ [] → map (λ z. waits_at z) (filter (λ z. z.0 == r) (qs ++ [])) ≡ []
-    own-none r qs e = ap (λ xs. map (λ z. waits_at z) (filter (λ z. z.0 == r) (xs ++ []))) e
-
-    still : (r : ℕ) → waiting plan b r (steps ++ Tick (now + 1) moved ∷ []) ≡ waiting plan b r steps
-    still r = waiting_from-append plan b r [] steps (Tick (now + 1) moved)
-        ∙ ap (λ ws. waiting plan b r steps ++ ws) (own-none r moved.queued q) ∙ append-nil (waiting plan b r steps)
+    ∙ live-dropped ageing now (now + 1) (after_all [] news) (omega arith)
+    ∙ table_tells_what_stands ageing (now + 1) news
 
 -- where the plan gives the states, a cause that changes nothing is told by no move
 pub fixed_names : (plan : Plan) (b : ℕ) (steps : List Step) (cause : Cause) → plan.spanning ≡ Fixed
@@ -322,11 +348,6 @@ fixed_names plan b steps cause fixed none = record {
 
     unsent : [] ≡ (change_of spanning_tree plan b steps cause).sent
     unsent = ap (λ (ch : Change). ch.sent) same
-
--- a tick that moves nothing fits
-pub tick_fits : (plan : Plan) (b now : ℕ) (steps : List Step) → plan.spanning ≡ Fixed → now ≡ now_after steps
-    → Fits spanning_tree plan b steps (Tick (now + 1) unmoved)
-tick_fits plan b now steps fixed e = (ap (λ n. n + 1) e, fixed_names plan b steps Ticks fixed refl)
 
 ticked-few : (step : Step) → ticked step ≤ 1
 ticked-few (Tick now moved) = omega arith

@@ -50,14 +50,9 @@ states_all spanning states ports a b each =
 start_kept : (plan : Plan) (there : Port) (local : LocalPort) (p : ℕ) → IsKept plan there local
     → first_state plan.spanning (told local) ≡ state_by plan.spanning there p []
 start_kept plan (Customer c) (ToCustomer vid pcp) p k = refl
-start_kept plan (Customer c) (ToBridge start vids) p k = absurd k
-start_kept plan (Customer c) ToNobody p k = absurd k
-start_kept plan (Provider e) (ToCustomer vid pcp) p k = absurd k
 start_kept plan (Provider e) (ToBridge start vids) p k = ap (start_by plan.spanning) k.0
-start_kept plan (Provider e) ToNobody p k = absurd k
-start_kept plan Unused (ToCustomer vid pcp) p k = absurd k
-start_kept plan Unused (ToBridge start vids) p k = absurd k
 start_kept plan Unused ToNobody p k = refl
+start_kept plan _ _ p k = absurd k
 
 -- at its start a bridge keeps what its empty list of steps says
 pub started : (plan : Plan) (number : ℕ) (ports : List LocalPort) (states : List PortState)

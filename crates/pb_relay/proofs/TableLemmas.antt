@@ -1,53 +1,28 @@
 -- The learning table.
-use Rattle.std.proofs.Common.{◌==◌, ◌&&◌, eq-eqb, ◌≡◌, ℕ, ◌+◌, ◌-◌, ◌<◌, Bool, true, false, cond, not, nat_le, Some}
-use Rattle.std.proofs.Common.{List, [], ◌∷◌, ◌++◌, length, refl, sym, ap, ◌∙◌, subst, arith}
-use Rattle.std.proofs.lemmas.Bool.{eqb-true}
+use Rattle.std.proofs.Common.{◌&&◌, ◌≡◌, ℕ, ◌+◌, ◌-◌, ◌<◌, Bool, true, false, cond, not, nat_le, Some, List, [], ◌∷◌}
+use Rattle.std.proofs.Common.{◌++◌, length, refl, sym, ap, ◌∙◌, subst, arith}
+use Rattle.std.proofs.Math.Bool.{and_comm}
 use Rattle.std.proofs.lemmas.Bool.Decides.{nat_tests}
 use Rattle.std.specs.List.{filter}
-use Rattle.pb_fdb.proofs.LawLemmas.{live-with_room}
+use Rattle.pb_fdb.proofs.EntryLemmas.{overrides-is_sighted}
+use Rattle.pb_fdb.proofs.LawLemmas.{live-with_room, live-dropped}
 use Rattle.pb_fdb.specs.Tables.{Table, sighting_at, where_in, is_full, with_room, learnt_sightings, learnt_table}
 use Rattle.pb_fdb.specs.Tables.{expired, flushed}
-use Rattle.pb_frame.proofs.Lists.{filter-append, filter-same}
-use Rattle.pb_frame.specs.Admission.{same}
+use Rattle.pb_frame.proofs.Lists.{filter-append, filter-same, filter-twice}
 use Rattle.pb_frame.specs.Frames.{is_group}
-use Rattle.pb_frame.specs.Stations.News.{Seen, Flushed}
-use Rattle.pb_frame.specs.Stations.{after, Sighting, is_sighted, is_fresh, IsLearnt, live, where_in as list_where}
+use Rattle.pb_frame.specs.Stations.News.{Seen}
+use Rattle.pb_frame.specs.Stations.{after, overrides, Sighting, is_sighted, is_fresh, IsLearnt, live}
+use Rattle.pb_frame.specs.Stations.{where_in as list_where}
 use Rattle.pb_frame.specs.declared.learnt.Learnt.{Learnt}
-use Rattle.pb_frame.specs.declared.learnt.Learnt.TheVariants.{New, Kept, Moved, Full, Group, Memory}
+use Rattle.pb_frame.specs.declared.learnt.Learnt.TheVariants.{New, Kept, Moved}
 use Rattle.pb_lan.specs.Choice.{is_noted}
 use Rattle.pb_lan.specs.declared.plan.Plan.{Plan}
 use Rattle.pb_relay.specs.Tables.{seen_anew, HasLearnt, IsTableOf}
 
--- a test twice is the test once
-pub filter-twice : {X : Type 0} (p : X → Bool) (xs : List X) → filter p (filter p xs) ≡ filter p xs
-filter-twice p [] = refl
-filter-twice p (x ∷ xs) =
-    elim (p x) as (λ b. p x ≡ b → filter p (cond b (x ∷ filter p xs) (filter p xs)) ≡ cond b (x ∷ filter p xs)
-    (filter p xs)) [
-      | true ↦ λ e. ap (λ b. cond b (x ∷ filter p (filter p xs)) (filter p (filter p xs))) e ∙ ap (λ zs. x ∷ zs)
-          (filter-twice p xs)
-      | false ↦ λ e. filter-twice p xs
-    ] refl
-
 -- two tests may change places
-pub filter-swap : {X : Type 0} (p q : X → Bool) (xs : List X) → filter p (filter q xs) ≡ filter q (filter p xs)
-filter-swap p q [] = refl
-filter-swap p q (x ∷ xs) =
-    elim (q x) as (λ b. q x ≡ b → filter p (cond b (x ∷ filter q xs) (filter q xs)) ≡ filter q
-    (cond (p x) (x ∷ filter p xs) (filter p xs))) [
-      | true ↦ λ e. elim (p x) as (λ a. cond a (x ∷ filter p (filter q xs)) (filter p (filter q xs)) ≡ filter q
-          (cond a (x ∷ filter p xs) (filter p xs))) [
-            | true ↦ ap (λ zs. x ∷ zs) (filter-swap p q xs) ∙ ap
-                (λ b. cond b (x ∷ filter q (filter p xs)) (filter q (filter p xs))) (sym e)
-            | false ↦ filter-swap p q
-                xs
-          ]
-      | false ↦ λ e. elim (p x) as (λ a. filter p (filter q xs) ≡ filter q (cond a (x ∷ filter p xs) (filter p xs))) [
-        | true ↦ filter-swap p q xs ∙ ap (λ b. cond b (x ∷ filter q (filter p xs)) (filter q (filter p xs)))
-            (sym e)
-        | false ↦ filter-swap p q xs
-      ]
-    ] refl
+filter-swap : {X : Type 0} (p q : X → Bool) (xs : List X) → filter p (filter q xs) ≡ filter q (filter p xs)
+filter-swap p q xs = filter-twice p q (λ x. q x && p x) (λ x. refl) xs
+    ∙ sym (filter-twice q p (λ x. q x && p x) (λ x. and_comm (p x) (q x)) xs)
 
 -- what is seen now is fresh
 pub fresh_now : (ageing now vid port : ℕ) (mac : List ℕ) → 0 < ageing
@@ -57,7 +32,7 @@ fresh_now ageing now vid port mac h =
     rw z (grind (arith, nat_tests))
 
 -- the live ones, once a station is seen anew
-pub live_after : (ageing now : ℕ) (s : Sighting) (table : List Sighting) → is_fresh ageing now s ≡ true
+live_after : (ageing now : ℕ) (s : Sighting) (table : List Sighting) → is_fresh ageing now s ≡ true
     → live ageing now (filter (λ t. not (is_sighted s.vid s.mac t)) table ++ s ∷ []) ≡ seen_anew s
     (live ageing now table)
 live_after ageing now s table f =
@@ -65,32 +40,15 @@ live_after ageing now s table f =
     ∙ ap (λ b. live ageing now (filter (λ t. not (is_sighted s.vid s.mac t)) table) ++ cond b (s ∷ []) []) f
     ∙ ap (λ zs. zs ++ s ∷ []) (filter-swap (is_fresh ageing now) (λ t. not (is_sighted s.vid s.mac t)) table)
 
-eqb-symm : (a b : ℕ) → (a == b) ≡ (b == a)
-eqb-symm a b =
-    elim (a == b) as (λ t. (a == b) ≡ t → t ≡ (b == a)) [
-      | true ↦ λ e. sym (eq-eqb b a (sym (eqb-true a b e)))
-      | false ↦ λ e. elim (b == a) as (λ u. (b == a) ≡ u → false ≡ u) [
-        | true ↦ λ f. sym e ∙ eq-eqb a b (sym (eqb-true b a f))
-        | false ↦ λ f. refl
-      ] refl
-    ] refl
-
-same-symm : (a b : List ℕ) → same a b ≡ same b a
-same-symm [] [] = refl
-same-symm [] (y ∷ ys) = refl
-same-symm (x ∷ xs) [] = refl
-same-symm (x ∷ xs) (y ∷ ys) = ap (λ t. t && same xs ys) (eqb-symm x y) ∙ ap (λ t. (y == x) && t) (same-symm xs ys)
-
 -- a table once a station is seen, as the news tell it
-pub after_seen : (s : Sighting) (table : List Sighting) → after table (Seen s) ≡ seen_anew s table
+after_seen : (s : Sighting) (table : List Sighting) → after table (Seen s) ≡ seen_anew s table
 after_seen s table =
     ap (λ zs. zs ++ s ∷ [])
-    (filter-same (λ t. not (is_sighted t.vid t.mac s)) (λ t. not (is_sighted s.vid s.mac t))
-    (λ t. ap (λ b. not (b && same s.mac t.mac)) (eqb-symm s.vid t.vid) ∙ ap (λ b. not ((t.vid == s.vid) && b))
-    (same-symm s.mac t.mac)) table)
+    (filter-same (λ t. not (overrides t (Seen s))) (λ t. not (is_sighted s.vid s.mac t))
+    (λ t. ap not (overrides-is_sighted s t)) table)
 
 -- the live ones once a station is seen, as the news tell it
-seen_live : (ageing now : ℕ) (s : Sighting) (table : List Sighting) → is_fresh ageing now s ≡ true
+pub seen_live : (ageing now : ℕ) (s : Sighting) (table : List Sighting) → is_fresh ageing now s ≡ true
     → live ageing now (after table (Seen s)) ≡ seen_anew s (live ageing now table)
 seen_live ageing now s table f = ap (live ageing now) (after_seen s table) ∙ live_after ageing now s table f
 
@@ -103,9 +61,7 @@ live_learnt old s New f =
     ∙ ap (seen_anew s) (live-with_room old s.moment s.moment (omega arith))
 live_learnt old s Kept f = seen_live old.ageing s.moment s old.sightings f
 live_learnt old s Moved f = seen_live old.ageing s.moment s old.sightings f
-live_learnt old s Full f = refl
-live_learnt old s Group f = refl
-live_learnt old s Memory f = refl
+live_learnt old s _ f = refl
 
 -- a table that was told of a station and has answered
 pub has_learnt : (plan : Plan) (now vid port : ℕ) (mac : List ℕ) (old new : Table) (learnt : Learnt) → 0 < plan.ageing
@@ -140,15 +96,11 @@ table_expired plan now old t = record { limit = t.limit; ageing = t.ageing; in_t
 
 pub live_expired : (plan : Plan) (now : ℕ) (old : Table) → IsTableOf plan now old
     → live plan.ageing (now + 1) (expired old (now + 1)).sightings ≡ live plan.ageing (now + 1) old.sightings
-live_expired plan now old t = rw (sym t.ageing) (filter-twice (is_fresh old.ageing (now + 1)) old.sightings)
+live_expired plan now old t =
+    rw (sym t.ageing) (live-dropped old.ageing (now + 1) (now + 1) old.sightings (omega arith))
 
 -- a table of which a port was flushed
 pub table_flushed_or : (plan : Plan) (now port : ℕ) (up : Bool) (old : Table) → IsTableOf plan now old
     → IsTableOf plan now (cond up old (flushed old port))
 table_flushed_or plan now port true old t = t
 table_flushed_or plan now port false old t = record { limit = t.limit; ageing = t.ageing; in_time = t.in_time }
-
-pub sightings_flushed_or : (port : ℕ) (up : Bool) (old : Table)
-    → (cond up old (flushed old port)).sightings ≡ cond up old.sightings (after old.sightings (Flushed port))
-sightings_flushed_or port true old = refl
-sightings_flushed_or port false old = refl

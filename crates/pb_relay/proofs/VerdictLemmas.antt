@@ -1,13 +1,12 @@
 -- The ruling by what a bridge keeps of a port is the ruling.
 use Rattle.std.proofs.Common.{◌≡◌, ℕ, zero, suc, ◌+◌, ◌-◌, ◌<◌, ◌≤◌, Bool, true, false, Some, None, List, [], ◌∷◌}
-use Rattle.std.proofs.Common.{◌++◌, map, get_or, refl, sym, ap, ◌∙◌, subst, arith}
-use Rattle.std.proofs.lemmas.List.{get_or_read}
-use Rattle.pb_lan.specs.Ports.{Port, port_at, local_ports, serves}
+use Rattle.std.proofs.Common.{◌++◌, map, get_or, refl, ap, ◌∙◌, arith}
+use Rattle.pb_lan.specs.Ports.{Port, port_at, local_ports, serves, is_used}
 use Rattle.pb_lan.specs.Ports.Port.{Customer, Provider, Unused}
 use Rattle.pb_lan.specs.Shapes.{state_after, states_after}
-use Rattle.pb_lan.specs.BridgeLists.{ruling, bridge_cases}
+use Rattle.pb_lan.specs.BridgeLists.{ruling, bridge_cases, Ruling, ruling_by, first_case, customer_cases, refusing}
+use Rattle.pb_lan.specs.BridgeLists.{ruling_in}
 use Rattle.pb_lan.specs.declared.step.Step.{Step}
-use Rattle.pb_lan.specs.BridgeLists.{Ruling, ruling_by, first_case, customer_cases, refusing, ruling_in}
 use Rattle.pb_lan.specs.BridgeLists.Ruling.{Carries, Refuses}
 use Rattle.pb_frame.specs.Admission.{first_reason}
 use Rattle.pb_frame.specs.declared.reason.Reason.{Reason}
@@ -17,8 +16,7 @@ use Rattle.pb_lan.specs.declared.shape.PortState.{PortState}
 use Rattle.pb_lan.specs.declared.step.Item.{Item}
 use Rattle.pb_relay.specs.Roles.{LocalPort, serves_of}
 use Rattle.pb_relay.specs.Roles.LocalPort.{ToCustomer, ToBridge, ToNobody}
-use Rattle.pb_relay.specs.LocalPorts.{IsKept, IsConfigured}
-use Rattle.pb_lan.specs.Ports.{is_used}
+use Rattle.pb_relay.specs.LocalPorts.{IsKept}
 use Rattle.pb_relay.specs.Protocol.{spanning_tree}
 use Rattle.pb_relay.specs.Verdicts.{local_ruling, is_to_somebody}
 use Rattle.pb_relay.proofs.WaitingLemmas.{count_up}
@@ -36,23 +34,15 @@ ruled plan (Provider e) (ToBridge start vids) state item k = served (serves_of v
     served a b h = ap (λ z. first_case (bridge_cases spanning_tree.is_readable (λ _. z) item)
         (ruling_in state (vid_of item.wire))) h
 ruled plan Unused ToNobody state item k = refl
-ruled plan (Customer c) (ToBridge start vids) state item k = absurd k
-ruled plan (Customer c) ToNobody state item k = absurd k
-ruled plan (Provider e) (ToCustomer vid pcp) state item k = absurd k
-ruled plan (Provider e) ToNobody state item k = absurd k
-ruled plan Unused (ToCustomer vid pcp) state item k = absurd k
-ruled plan Unused (ToBridge start vids) state item k = absurd k
+ruled plan _ _ state item k = absurd k
 
 -- somebody is at a port that is used
 pub used_here : (plan : Plan) (port : Port) (local : LocalPort) → IsKept plan port local → is_used port ≡ true
     → is_to_somebody local ≡ true
-used_here plan (Customer c) (ToCustomer vid pcp) k u = refl
-used_here plan (Provider e) (ToBridge start vids) k u = refl
 used_here plan Unused local k u = cc
-used_here plan (Customer c) (ToBridge start vids) k u = refl
 used_here plan (Customer c) ToNobody k u = absurd k
-used_here plan (Provider e) (ToCustomer vid pcp) k u = refl
 used_here plan (Provider e) ToNobody k u = absurd k
+used_here plan _ _ k u = refl
 
 -- what a list by ascending numbers has at a place
 pub get_up : {X : Type 0} (f : ℕ → X) (n k i : ℕ) (d : X) → i < n → get_or (map f (count_up k n)) i d ≡ f (k + i)
@@ -67,19 +57,6 @@ at_port f p d a b =
     let s : 1 + (p - 1) ≡ p = omega arith in
     get_up f 16 1 (p - 1) d (omega arith) ∙ ap f s
 
--- what is read of the ports
-pub kept_port : (plan : Plan) (b : ℕ) (ports : List LocalPort) (capacity limit p : ℕ) (local : LocalPort)
-    → IsConfigured plan b ports capacity limit → (1 ≤ p) × (p ≤ 16)
-    → local ≡ get_or ports (p - 1) local → IsKept plan (port_at plan b p) local
-kept_port plan b ports capacity limit p local s l e =
-    let c = s.count in
-    let l0 : 1 ≤ p = l.0 in
-    let l1 : p ≤ 16 = l.1 in
-    let h : p - 1 + 1 ≡ p = omega arith in
-    subst (IsKept plan (port_at plan b p)) (sym (get_or_read ports (p - 1) local (omega arith) e ToNobody))
-    (subst (λ (r : ℕ). IsKept plan (port_at plan b r) (get_or ports (p - 1) ToNobody)) h
-    (s.kept_ports (p - 1) (omega arith)))
-
 -- the ruling by what is kept
 pub rule_is : (plan : Plan) (b : ℕ) (steps : List Step) (states : List PortState) (p : ℕ) (local : LocalPort)
     (item : Item) (d : PortState)
@@ -93,9 +70,8 @@ rule_is plan b steps states p local item d e l k =
 -- a frame that is refused for the first of some reasons is so ruled, whatever cases stand behind them
 pub first-refuses : (cs more : List (Bool × Reason)) (reason : Reason) (rest : Ruling) → first_reason cs ≡ Some reason
     → first_case (map refusing (cs ++ more)) rest ≡ Refuses reason
-first-refuses [] more reason rest h = cc
-first-refuses ((true, r) ∷ cs) more reason rest h = cc
 first-refuses ((false, r) ∷ cs) more reason rest h = first-refuses cs more reason rest h
+first-refuses _ more reason rest h = cc
 
 -- and where there is none, the cases behind tell
 pub first-passes : (cs more : List (Bool × Reason)) (rest : Ruling) → first_reason cs ≡ None

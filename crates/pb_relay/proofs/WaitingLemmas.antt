@@ -1,7 +1,7 @@
 -- What waits, by class, is what waits.
 use Rattle.std.proofs.Common.{◌≡◌, ◌≢◌, ℕ, zero, suc, ◌+◌, ◌<◌, ◌≤◌, Bool, true, false, cond, Some, None, List, []}
 use Rattle.std.proofs.Common.{◌∷◌, ◌++◌, map, length, get_or, set, drop, slice_get, ◌==◌, refl, sym, ap, ◌∙◌, subst}
-use Rattle.std.proofs.Common.{arith, eq-eqb}
+use Rattle.std.proofs.Common.{arith, eq-eqb, append-nil}
 use Rattle.std.proofs.lemmas.Bool.{eqb-true}
 use Rattle.std.specs.List.{AllByRecursion, filter}
 use Rattle.std.specs.Option.{option_map}
@@ -40,11 +40,6 @@ get_class F (suc n) k zero l = let s : k ≡ k + 0 = omega arith in ap F s
 get_class F (suc n) k (suc i) l = let s : (k + 1) + i ≡ k + suc i = omega arith in get_class F n (k + 1) i
     (omega arith) ∙ ap F s
 
--- there are as many lists as classes
-pub length_classes : (F : ℕ → List Item) (n k : ℕ) → length (map F (count_up k n)) ≡ n
-length_classes F zero k = refl
-length_classes F (suc n) k = ap suc (length_classes F n (k + 1))
-
 -- empty lists have nothing to send
 pub none_above : (F : ℕ → List Item) (n k m : ℕ) → ((j : ℕ) → k + m ≤ j → F j ≡ [])
     → first_out (drop m (map F (count_up k n))) ≡ None
@@ -77,16 +72,12 @@ of_class-other j w ws n =
     (cond b (w ∷ filter (λ w. w.class == j) ws) (filter (λ w. w.class == j) ws)) ≡ of_class j ws)
     [ true ↦ λ e. absurd (n (sym (eqb-true w.class j e))) | false ↦ λ e. refl ] refl
 
-append_none : (xs : List Item) → xs ++ [] ≡ xs
-append_none [] = refl
-append_none (x ∷ xs) = ap (λ zs. x ∷ zs) (append_none xs)
-
 -- one more that waits goes into the list of its class
 pub by_class-push : (ws : List Waiting) (w : Waiting) → w.class < 8
     → by_class (ws ++ w ∷ []) ≡ put_in w.class w.item (by_class ws)
 by_class-push ws w l =
     at_one (λ j. of_class j ws) (λ j. of_class j (ws ++ w ∷ [])) w.class
-    (λ j n. of_class-push j ws w ∙ ap (λ zs. of_class j ws ++ zs) (of_class-other j w [] n) ∙ append_none
+    (λ j n. of_class-push j ws w ∙ ap (λ zs. of_class j ws ++ zs) (of_class-other j w [] n) ∙ append-nil
     (of_class j ws))
     8 0 w.class (omega arith) l
     ∙ ap (set (by_class ws) w.class)

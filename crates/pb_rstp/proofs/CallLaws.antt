@@ -1,9 +1,18 @@
 -- The steps of a call, put together, are the call.
-use Rattle.std.proofs.Common.{◌≡◌, ℕ, Bool, true, false, List, Some, None, ap, sym, ◌∙◌, if◌then◌else◌}
+use Rattle.std.proofs.Common.{◌≡◌, ℕ, Bool, true, false, List, Some, None, Ok, Err, ap, sym, ◌∙◌, if◌then◌else◌}
+use Rattle.std.specs.declared.option.Option.{Option}
+use Rattle.std.specs.declared.result.Result.{Result}
+use Rattle.pb_bpdu.specs.Reading.{reading}
+use Rattle.pb_bpdu.specs.declared.fault.BpduFault.{BpduFault}
+use Rattle.pb_lan.specs.Rules.{Cause}
+use Rattle.pb_lan.specs.Rules.Cause.{Hears, Ticks, Sets}
+use Rattle.pb_rstp.specs.Changes.{IsSamePort}
+use Rattle.pb_rstp.specs.Profile.{after, hear_read}
+use Rattle.pb_rstp.proofs.MovingLaws.{same_hearing, same_ticking, same_setting}
 use Rattle.pb_bpdu.specs.declared.bpdu.Bpdu.{Bpdu}
 use Rattle.pb_rstp.specs.Machine.{settle, unchanged, heard_at, hearing, hear_at, hear_by, after_hear, moved_by}
 use Rattle.pb_rstp.specs.Machine.{ticking, is_hello_time, hello_after, after_tick, setting, is_same_setting, admin_at}
-use Rattle.pb_rstp.specs.Machine.{admin_by, after_admin}
+use Rattle.pb_rstp.specs.Machine.{admin_by, after_admin, After}
 use Rattle.pb_rstp.specs.Ports.{Machine, port_of, delay_of}
 use Rattle.pb_rstp.specs.Roles.{root_vector}
 use Rattle.pb_rstp.specs.declared.moving.Heard.{Heard}
@@ -49,3 +58,36 @@ sets old now port up p ports same found other e =
     ∙ ap (λ (x : Machine). settle now.id x.hello_left None (moved_by (setting port up) x.ports)) same
     ∙ ap (λ b. if b then unchanged now else admin_at now port up) (sym other)
     ∙ ap (λ o. admin_by now port up o) (sym (ap (λ (x : Machine). port_of x.ports port) (sym same) ∙ found))
+
+-- what holds of a machine as it is, and of each call that changes its ports, holds after every cause
+pub after-each : (P : After → Type 0) (machine : Machine) → P (unchanged machine)
+    → ((hello : ℕ) (heard : Option Heard) (change : Port → Port) → ((p : Port) → IsSamePort p (change p))
+    → P (settle machine.id hello heard (moved_by change machine.ports)))
+    → (cause : Cause) → P (after machine cause)
+after-each P machine same each Ticks =
+    each (hello_after machine) None (ticking (delay_of machine.ports) (is_hello_time machine))
+    (same_ticking (delay_of machine.ports) (is_hello_time machine))
+after-each P machine same each (Hears port wire) = by_read (reading wire)
+  where
+    by_up : (m : Bpdu) (p : Port) (b : Bool) → P (if b then hear_at machine m p else unchanged machine)
+    by_up m p true =
+        each machine.hello_left (Some (heard_at m p)) (hearing (root_vector machine.id machine.ports) p.number m)
+        (same_hearing (root_vector machine.id machine.ports) p.number m)
+    by_up m p false = same
+
+    by_port : (m : Bpdu) (o : Option Port) → P (hear_by machine m o)
+    by_port m None = same
+    by_port m (Some p) = by_up m p p.up
+
+    by_read : (x : Result Bpdu BpduFault) → P (hear_read machine port x)
+    by_read (Ok m) = by_port m (port_of machine.ports port)
+    by_read (Err fault) = same
+after-each P machine same each (Sets port up) = by_port (port_of machine.ports port)
+  where
+    by_same : (b : Bool) → P (if b then unchanged machine else admin_at machine port up)
+    by_same true = same
+    by_same false = each machine.hello_left None (setting port up) (same_setting port up)
+
+    by_port : (o : Option Port) → P (admin_by machine port up o)
+    by_port None = same
+    by_port (Some p) = by_same (is_same_setting p.up up)

@@ -29,8 +29,6 @@ rising-states : (n m : ℕ) → m ≤ n → (ps : List Port) (ms : List Moving) 
     → AreRising n (map (λ p. p.number) ps)
     → AreRising m (map (λ s. s.0) (state_changes ms))
 rising-states n m below [] [] h r = (tt, tt)
-rising-states n m below [] (x ∷ xs) h r = absurd h
-rising-states n m below (p ∷ ps) [] h r = absurd h
 rising-states n m below (p ∷ ps) (x ∷ xs) h r =
     by_test (is_same x.was.state x.now.state)
     (rising-states p.number m (omega (arith, r.0.0)) ps xs h.1 r.1)
@@ -42,13 +40,12 @@ rising-states n m below (p ∷ ps) (x ∷ xs) h r =
     by_test true skip take = skip
     by_test false skip take = rises-above m x.now.number (omega (arith, r.0.0, h.0.1.number))
         (map (λ s. s.0) (state_changes xs)) take
+rising-states n m below _ _ h r = absurd h
 
 rising-filter : (test : Moving → Bool) (n m : ℕ) → m ≤ n → (ps : List Port) (ms : List Moving) → AreMoving ps ms
     → AreRising n (map (λ p. p.number) ps)
     → AreRising m (map (λ x. x.now.number) (filter test ms))
 rising-filter test n m below [] [] h r = (tt, tt)
-rising-filter test n m below [] (x ∷ xs) h r = absurd h
-rising-filter test n m below (p ∷ ps) [] h r = absurd h
 rising-filter test n m below (p ∷ ps) (x ∷ xs) h r =
     by_test (test x)
     (rising-filter test p.number m (omega (arith, r.0.0)) ps xs h.1 r.1)
@@ -60,6 +57,7 @@ rising-filter test n m below (p ∷ ps) (x ∷ xs) h r =
     by_test true skip take = rises-above m x.now.number (omega (arith, r.0.0, h.0.1.number))
         (map (λ y. y.now.number) (filter test xs)) take
     by_test false skip take = skip
+rising-filter test n m below _ _ h r = absurd h
 
 -- the ports that send
 abbrev sent_numbers : ℕ → List Port → List Port → List ℕ
@@ -69,8 +67,6 @@ rising-sent : (id : ℕ) (all : List Port) (n m : ℕ) → m ≤ n → (ps : Lis
     → AreRising n (map (λ p. p.number) ps)
     → AreRising m (sent_numbers id all (filter is_sending (nows ms)))
 rising-sent id all n m below [] [] h r = (tt, tt)
-rising-sent id all n m below [] (x ∷ xs) h r = absurd h
-rising-sent id all n m below (p ∷ ps) [] h r = absurd h
 rising-sent id all n m below (p ∷ ps) (x ∷ xs) h r =
     by_test (is_sending x.now)
     (rising-sent id all p.number m (omega (arith, r.0.0)) ps xs h.1 r.1)
@@ -84,6 +80,7 @@ rising-sent id all n m below (p ∷ ps) (x ∷ xs) h r =
         rises-above m x.now.number (omega (arith, r.0.0, h.0.1.number))
         (sent_numbers id all (filter is_sending (nows xs))) take
     by_test false skip take = skip
+rising-sent id all n m below _ _ h r = absurd h
 
 -- What is told of a port.
 
@@ -109,8 +106,6 @@ new-some a b s e = ap (λ u. if u then None else Some b) e
 told : (k n : ℕ) (ps : List Port) (ms : List Moving) → AreMoving ps ms → AreRising n (map (λ p. p.number) ps)
     → told_state (state_changes ms) k ≡ new_state (state_of ps k) (state_of (nows ms) k)
 told k n [] [] h r = refl
-told k n [] (x ∷ xs) h r = absurd h
-told k n (p ∷ ps) [] h r = absurd h
 told k n (p ∷ ps) (x ∷ xs) h r =
     by_tests (x.now.number == k) (is_same x.was.state x.now.state) refl refl (told k p.number ps xs h.1 r.1)
   where
@@ -146,6 +141,7 @@ told k n (p ∷ ps) (x ∷ xs) h r =
         told-cons k x.now.number x.was.state x.now.state (state_changes xs) false false es et
         ∙ rest
         ∙ sym (ap₂ new_state (state_of-cons k p ps false (number ∙ et)) (state_of-cons k x.now (nows xs) false et))
+told k n _ _ h r = absurd h
 
 -- a BPDU that is sent changes no state
 state_sent : (k : ℕ) (ms : List Moving) → state_of (nows (with_sent ms)) k ≡ state_of (nows ms) k
@@ -242,12 +238,7 @@ same_is : (a b : PortState) → is_same a b ≡ true → a ≡ b
 same_is Discarding Discarding e = refl
 same_is Learning Learning e = refl
 same_is Forwarding Forwarding e = refl
-same_is Discarding Learning e = cc
-same_is Discarding Forwarding e = cc
-same_is Learning Discarding e = cc
-same_is Learning Forwarding e = cc
-same_is Forwarding Discarding e = cc
-same_is Forwarding Learning e = cc
+same_is _ _ e = cc
 
 pub changes_lead_on : ChangesLeadOn
 changes_lead_on before after change names number was is stood stands = by_test (is_same was.state is.state) refl

@@ -1,28 +1,22 @@
 -- What a bridge of a plan changes are its own ports to other bridges.
-use Rattle.std.proofs.Common.{◌≡◌, ℕ, ◌≤◌, List, [], ◌∷◌, ◌++◌, Some, None, Ok, Err, refl, sym, ap, subst, Bool, true}
-use Rattle.std.proofs.Common.{false, if◌then◌else◌, map, arith, lit≤}
+use Rattle.std.proofs.Common.{◌≡◌, ℕ, ◌≤◌, List, [], ◌∷◌, ◌++◌, refl, sym, ap, subst, Bool, true, false}
+use Rattle.std.proofs.Common.{if◌then◌else◌, map, arith}
 use Rattle.std.specs.declared.option.Option.{Option}
-use Rattle.std.specs.declared.result.Result.{Result}
 use Rattle.std.specs.List.{flat_map, filter, AllByRecursion}
-use Rattle.pb_bpdu.specs.Reading.{reading}
 use Rattle.pb_bpdu.specs.declared.bpdu.Bpdu.{Bpdu}
-use Rattle.pb_bpdu.specs.declared.fault.BpduFault.{BpduFault}
 use Rattle.pb_lan.specs.Ports.{Port as LocalPort, port_at, is_provider, local_ports}
-use Rattle.pb_lan.specs.Ports.Port.{Customer, Provider, Unused}
+use Rattle.pb_lan.specs.Ports.Port.{Provider}
 use Rattle.pb_lan.specs.Rules.{Cause, is_same}
-use Rattle.pb_lan.specs.Rules.Cause.{Hears, Ticks, Sets}
 use Rattle.pb_lan.specs.declared.plan.Plan.{Plan}
 use Rattle.pb_lan.specs.declared.shape.PortState.{PortState}
 use Rattle.pb_lan.specs.declared.step.Step.{Step}
 use Rattle.pb_rstp.specs.Changes.{AreSamePorts, AreMoving}
-use Rattle.pb_rstp.specs.Machine.{settle, moved_by, ticking, is_hello_time, hello_after, heard_at, hearing, setting}
-use Rattle.pb_rstp.specs.Machine.{hear_by, hear_at, admin_at, admin_by, is_same_setting, unchanged}
+use Rattle.pb_rstp.specs.Machine.{settle, moved_by}
 use Rattle.pb_rstp.specs.Messages.{message_of}
-use Rattle.pb_rstp.specs.Ports.{Machine, fresh, delay_of, port_of}
-use Rattle.pb_rstp.specs.Profile.{after, hear_read, causes_of, rstp_port, rstp_ports, machine_at_start, machine_of}
+use Rattle.pb_rstp.specs.Ports.{Machine, fresh}
+use Rattle.pb_rstp.specs.Profile.{after, causes_of, rstp_port, rstp_ports, machine_at_start, machine_of}
 use Rattle.pb_rstp.specs.Readings.{AreAbove}
 use Rattle.pb_rstp.specs.Rising.{AreRising}
-use Rattle.pb_rstp.specs.Roles.{root_vector}
 use Rattle.pb_rstp.specs.Settling.{nows, is_sending, settled, state_changes}
 use Rattle.pb_rstp.specs.declared.change.Change.{Change}
 use Rattle.pb_rstp.specs.declared.config.RstpPort.{RstpPort}
@@ -30,8 +24,9 @@ use Rattle.pb_rstp.specs.declared.moving.Heard.{Heard}
 use Rattle.pb_rstp.specs.declared.moving.Moving.{Moving}
 use Rattle.pb_rstp.specs.declared.port.Port.{Port}
 use Rattle.pb_rstp.proofs.ChangeLaws.{settle_named}
-use Rattle.pb_rstp.proofs.MovingLaws.{moving_settled, moving_by, same_hearing, same_ticking, same_setting, rising-same}
-use Rattle.pb_rstp.proofs.PlanLaws.{same_after, rising-ports, local_rise}
+use Rattle.pb_rstp.proofs.MovingLaws.{moving_settled, moving_by, rising-same}
+use Rattle.pb_rstp.proofs.PlanLaws.{same_after, rising-ports, local_rise, local_few}
+use Rattle.pb_rstp.proofs.CallLaws.{after-each}
 
 -- the changes are of ports with a property, and BPDUs go out by rising number
 pub record IsOf (P : ℕ → Type 0) (change : Change) : Type 0 where
@@ -43,8 +38,6 @@ states-of : (P : ℕ → Type 0) (ps : List Port) (ms : List Moving) → AreMovi
     → AllByRecursion (λ (p : Port). P p.number) ps
     → AllByRecursion (λ (s : ℕ × PortState). P s.0) (state_changes ms)
 states-of P [] [] h a = tt
-states-of P [] (x ∷ xs) h a = absurd h
-states-of P (p ∷ ps) [] h a = absurd h
 states-of P (p ∷ ps) (x ∷ xs) h a = by_test (is_same x.was.state x.now.state) (states-of P ps xs h.1 a.1)
   where
     by_test : (t : Bool) → AllByRecursion (λ (s : ℕ × PortState). P s.0) (state_changes xs)
@@ -52,14 +45,13 @@ states-of P (p ∷ ps) (x ∷ xs) h a = by_test (is_same x.was.state x.now.state
         ((if t then [] else ((x.now.number, x.now.state) ∷ [])) ++ state_changes xs)
     by_test true rest = rest
     by_test false rest = (subst P (sym h.0.1.number) a.0, rest)
+states-of _ _ _ h a = absurd h
 
 sent-of : (P : ℕ → Type 0) (id : ℕ) (all : List Port) (ps : List Port) (ms : List Moving) → AreMoving ps ms
     → AllByRecursion (λ (p : Port). P p.number) ps
     → AllByRecursion (λ (s : ℕ × Bpdu). P s.0)
     (map (λ (p : Port). (p.number, message_of id all p)) (filter is_sending (nows ms)))
 sent-of P id all [] [] h a = tt
-sent-of P id all [] (x ∷ xs) h a = absurd h
-sent-of P id all (p ∷ ps) [] h a = absurd h
 sent-of P id all (p ∷ ps) (x ∷ xs) h a = by_test (is_sending x.now) (sent-of P id all ps xs h.1 a.1)
   where
     by_test : (t : Bool) → AllByRecursion (λ (s : ℕ × Bpdu). P s.0)
@@ -69,6 +61,7 @@ sent-of P id all (p ∷ ps) (x ∷ xs) h a = by_test (is_sending x.now) (sent-of
         (if t then x.now ∷ filter is_sending (nows xs) else filter is_sending (nows xs)))
     by_test true rest = (subst P (sym h.0.1.number) a.0, rest)
     by_test false rest = rest
+sent-of _ id all _ _ h a = absurd h
 
 settle_of : (P : ℕ → Type 0) (id hello_left : ℕ) (heard : Option Heard) (ps : List Port) (ms : List Moving)
     → AreMoving ps ms
@@ -83,53 +76,20 @@ settle_of P id hello_left heard ps ms h a r =
       rises = (settle_named id hello_left hello_left heard ps ms h r).send_rises;
     }
 
-unchanged_of : (P : ℕ → Type 0) (machine : Machine) → IsOf P (unchanged machine).change
-unchanged_of P machine = record { states = tt; send = tt; rises = (tt, tt) }
-
 -- so it is of every cause
 after_of : (P : ℕ → Type 0) (machine : Machine) (cause : Cause)
     → AllByRecursion (λ (p : Port). P p.number) machine.ports → AreRising 0 (map (λ p. p.number) machine.ports)
     → IsOf P (after machine cause).change
-after_of P machine Ticks a r =
-    settle_of P machine.id (hello_after machine) None machine.ports
-    (moved_by (ticking (delay_of machine.ports) (is_hello_time machine)) machine.ports)
-    (moving_by (ticking (delay_of machine.ports) (is_hello_time machine))
-    (same_ticking (delay_of machine.ports) (is_hello_time machine)) machine.ports) a r
-after_of P machine (Hears port wire) a r = by_read (reading wire)
-  where
-    by_up : (m : Bpdu) (p : Port) (b : Bool) → IsOf P (if b then hear_at machine m p else unchanged machine).change
-    by_up m p true =
-        settle_of P machine.id machine.hello_left (Some (heard_at m p)) machine.ports
-        (moved_by (hearing (root_vector machine.id machine.ports) p.number m) machine.ports)
-        (moving_by (hearing (root_vector machine.id machine.ports) p.number m)
-        (same_hearing (root_vector machine.id machine.ports) p.number m) machine.ports) a r
-    by_up m p false = unchanged_of P machine
-
-    by_port : (m : Bpdu) (o : Option Port) → IsOf P (hear_by machine m o).change
-    by_port m None = unchanged_of P machine
-    by_port m (Some p) = by_up m p p.up
-
-    by_read : (x : Result Bpdu BpduFault) → IsOf P (hear_read machine port x).change
-    by_read (Ok m) = by_port m (port_of machine.ports port)
-    by_read (Err fault) = unchanged_of P machine
-after_of P machine (Sets port up) a r = by_port (port_of machine.ports port)
-  where
-    by_same : (b : Bool) → IsOf P (if b then unchanged machine else admin_at machine port up).change
-    by_same true = unchanged_of P machine
-    by_same false =
-        settle_of P machine.id machine.hello_left None machine.ports (moved_by (setting port up) machine.ports)
-        (moving_by (setting port up) (same_setting port up) machine.ports) a r
-
-    by_port : (o : Option Port) → IsOf P (admin_by machine port up o).change
-    by_port None = unchanged_of P machine
-    by_port (Some p) = by_same (is_same_setting p.up up)
+after_of P machine cause a r =
+    after-each (λ z. IsOf P z.change) machine (record { states = tt; send = tt; rises = (tt, tt) })
+    (λ hello heard change same. settle_of P machine.id hello heard machine.ports (moved_by change machine.ports)
+    (moving_by change same machine.ports) a r) cause
 
 same-of : (P : ℕ → Type 0) (ps qs : List Port) → AreSamePorts ps qs → AllByRecursion (λ (p : Port). P p.number) ps
     → AllByRecursion (λ (p : Port). P p.number) qs
 same-of P [] [] h a = tt
-same-of P [] (q ∷ qs) h a = absurd h
-same-of P (p ∷ ps) [] h a = absurd h
 same-of P (p ∷ ps) (q ∷ qs) h a = (subst P (sym h.0.number) a.0, same-of P ps qs h.1 a.1)
+same-of _ _ _ h a = absurd h
 
 -- a local port that goes to another bridge
 abbrev pub GoesToBridge : (ℕ → LocalPort) → ℕ → Type 0
@@ -144,51 +104,8 @@ ports-of at (k ∷ ks) h = by_port (at k) refl (ports-of at ks h.1)
         → AllByRecursion (λ (p : Port). GoesToBridge at p.number) (map fresh (flat_map (λ i. rstp_port i (at i)) ks))
         → AllByRecursion (λ (p : Port). GoesToBridge at p.number)
         (map fresh (rstp_port k o ++ flat_map (λ i. rstp_port i (at i)) ks))
-    by_port (Customer c) e rest = rest
     by_port (Provider end) e rest = ((ap is_provider e, h.0.0, h.0.1), rest)
-    by_port Unused e rest = rest
-
-local_few : AllByRecursion (λ n. (1 ≤ n) × (n ≤ 16)) local_ports
-local_few = (
-  (lit≤ tt, lit≤ tt),
-  (
-    (lit≤ tt, lit≤ tt),
-    (
-      (lit≤ tt, lit≤ tt),
-      (
-        (lit≤ tt, lit≤ tt),
-        (
-          (lit≤ tt, lit≤ tt),
-          (
-            (lit≤ tt, lit≤ tt),
-            (
-              (lit≤ tt, lit≤ tt),
-              (
-                (lit≤ tt, lit≤ tt),
-                (
-                  (lit≤ tt, lit≤ tt),
-                  (
-                    (lit≤ tt, lit≤ tt),
-                    (
-                      (lit≤ tt, lit≤ tt),
-                      (
-                        (lit≤ tt, lit≤ tt),
-                        (
-                          (lit≤ tt, lit≤ tt),
-                          ((lit≤ tt, lit≤ tt), ((lit≤ tt, lit≤ tt), ((lit≤ tt, lit≤ tt), tt))),
-                        ),
-                      ),
-                    ),
-                  ),
-                ),
-              ),
-            ),
-          ),
-        ),
-      ),
-    ),
-  ),
-)
+    by_port _ e rest = rest
 
 -- what a bridge of a plan changes are its ports to other bridges
 pub plan_changes : (plan : Plan) (bridge : ℕ) (steps : List Step) (cause : Cause)

@@ -1,18 +1,12 @@
 -- Each call leaves the machine in line.
-use Rattle.std.proofs.Common.{◌≡◌, ℕ, zero, suc, ◌≤◌, ◌+◌, List, [], ◌∷◌, Some, None, Ok, Err, refl, sym, ap, ◌∙◌}
-use Rattle.std.proofs.Common.{subst, Bool, true, false, ◌==◌, ◌&&◌, not, if◌then◌else◌, map, arith}
+use Rattle.std.proofs.Common.{◌≡◌, ℕ, zero, suc, ◌≤◌, ◌+◌, List, [], ◌∷◌, Some, None, refl, sym, ap, ◌∙◌, subst, Bool}
+use Rattle.std.proofs.Common.{true, false, ◌==◌, ◌&&◌, not, if◌then◌else◌, map, arith}
 use Rattle.std.specs.declared.option.Option.{Option}
-use Rattle.std.specs.declared.result.Result.{Result}
 use Rattle.std.specs.List.{flat_map, list_any, AllByRecursion}
 use Rattle.std.proofs.lemmas.Bool.{eqb-true}
-use Rattle.pb_bpdu.specs.Reading.{reading}
-use Rattle.pb_bpdu.specs.declared.bpdu.Bpdu.{Bpdu}
-use Rattle.pb_bpdu.specs.declared.fault.BpduFault.{BpduFault}
 use Rattle.pb_lan.specs.Rules.{Cause}
-use Rattle.pb_lan.specs.Rules.Cause.{Hears, Ticks, Sets}
 use Rattle.pb_rstp.specs.Vectors.{own_vector, port_id}
 use Rattle.pb_rstp.specs.Ports.{Machine, start, fresh, is_designated, is_root_or_designated, is_discarding, delay_of}
-use Rattle.pb_rstp.specs.Ports.{port_of}
 use Rattle.pb_rstp.specs.declared.port.Port.{Port}
 use Rattle.pb_rstp.specs.Roles.{offers, best, root_vector}
 use Rattle.pb_rstp.specs.Settling.{nows, each, with_roles, with_agreements, with_infos, held_back, state_by}
@@ -21,16 +15,16 @@ use Rattle.pb_rstp.specs.Settling.{is_root_agreeing, is_agreeing, with_changing,
 use Rattle.pb_rstp.specs.Settling.{after_sending, with_sent, in_line, settled}
 use Rattle.pb_rstp.specs.declared.moving.Moving.{Moving}
 use Rattle.pb_rstp.specs.declared.moving.Heard.{Heard}
-use Rattle.pb_rstp.specs.Machine.{settle, moved_by, ticking, is_hello_time, hello_after, heard_at, hearing, setting}
-use Rattle.pb_rstp.specs.Machine.{hear_by, hear_at, admin_at, admin_by, is_same_setting, unchanged}
-use Rattle.pb_rstp.specs.Profile.{after, hear_read}
+use Rattle.pb_rstp.specs.Machine.{settle, moved_by}
+use Rattle.pb_rstp.specs.Profile.{after}
 use Rattle.pb_rstp.specs.Laws.{IsQuiet, IsInLine}
 use Rattle.pb_rstp.specs.Readings.{AreAbove}
 use Rattle.pb_rstp.specs.Rising.{AreRising}
 use Rattle.pb_rstp.proofs.RisingLaws.{rises-above}
 use Rattle.pb_rstp.specs.declared.config.RstpPort.{RstpPort}
 use Rattle.pb_rstp.specs.declared.role.Role.{Role}
-use Rattle.pb_rstp.specs.declared.role.Role.TheVariants.{Disabled, Root, Designated, Alternate, Backup}
+use Rattle.pb_rstp.specs.declared.role.Role.TheVariants.{Root, Designated}
+use Rattle.pb_rstp.proofs.CallLaws.{after-each}
 use Rattle.pb_rstp.proofs.RoleLaws.{HasRoleBy, each-all, keeps-state, roles_settled, roles_related}
 
 -- States.
@@ -49,9 +43,7 @@ quiet_state delay was now = by_role now.role refl
         → Type 0 = λ r. (state_by delay r was now).role ≡ now.role in subst P e (keeps-state delay was now).role
         ∙ e in
         let yes = ap is_root_or_designated same in cc
-    by_role Disabled e = λ none. refl
-    by_role Alternate e = λ none. refl
-    by_role Backup e = λ none. refl
+    by_role _ e = λ none. refl
 
 quiet-each : (f : Port → Port → Port) → ((was now : Port) → IsQuiet now → IsQuiet (f was now)) → (ports : List Moving)
     → AllByRecursion IsQuiet (nows ports) → AllByRecursion IsQuiet (nows (each f ports))
@@ -114,32 +106,9 @@ settled_in_line id hello_left heard ports =
     }
 
 pub calls_keep_line : (machine : Machine) (cause : Cause) → IsInLine machine → IsInLine (after machine cause).machine
-calls_keep_line machine Ticks h =
-    settled_in_line machine.id (hello_after machine) None
-    (moved_by (ticking (delay_of machine.ports) (is_hello_time machine)) machine.ports)
-calls_keep_line machine (Hears port wire) h = by_read (reading wire)
-  where
-    by_up : (m : Bpdu) (p : Port) (b : Bool) → IsInLine (if b then hear_at machine m p else unchanged machine).machine
-    by_up m p true = settled_in_line machine.id machine.hello_left (Some (heard_at m p))
-        (moved_by (hearing (root_vector machine.id machine.ports) p.number m) machine.ports)
-    by_up m p false = h
-
-    by_port : (m : Bpdu) (o : Option Port) → IsInLine (hear_by machine m o).machine
-    by_port m None = h
-    by_port m (Some p) = by_up m p p.up
-
-    by_read : (r : Result Bpdu BpduFault) → IsInLine (hear_read machine port r).machine
-    by_read (Ok m) = by_port m (port_of machine.ports port)
-    by_read (Err fault) = h
-calls_keep_line machine (Sets port up) h = by_port (port_of machine.ports port)
-  where
-    by_same : (b : Bool) → IsInLine (if b then unchanged machine else admin_at machine port up).machine
-    by_same true = h
-    by_same false = settled_in_line machine.id machine.hello_left None (moved_by (setting port up) machine.ports)
-
-    by_port : (o : Option Port) → IsInLine (admin_by machine port up o).machine
-    by_port None = h
-    by_port (Some p) = by_same (is_same_setting p.up up)
+calls_keep_line machine cause h =
+    after-each (λ a. IsInLine a.machine) machine h
+    (λ hello heard change same. settled_in_line machine.id hello heard (moved_by change machine.ports)) cause
 
 -- The start.
 

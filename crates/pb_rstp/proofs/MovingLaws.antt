@@ -7,7 +7,7 @@ use Rattle.std.proofs.lemmas.Bool.{eqb-true}
 use Rattle.pb_bpdu.specs.declared.bpdu.Bpdu.{Bpdu}
 use Rattle.pb_frame.proofs.Lists.{Some-injective}
 use Rattle.pb_lan.specs.declared.shape.PortState.{PortState}
-use Rattle.pb_lan.specs.declared.shape.PortState.TheVariants.{Discarding, Learning, Forwarding}
+use Rattle.pb_lan.specs.declared.shape.PortState.TheVariants.{Forwarding}
 use Rattle.pb_frame.specs.Lists.{first}
 use Rattle.pb_rstp.specs.Changes.{IsSamePort, AreSamePorts, AreMoving, IsSameBridge}
 use Rattle.pb_rstp.specs.Machine.{moved_by, settle, takes_place, with_news, has_agreed, with_answer, hearing}
@@ -58,10 +58,9 @@ pub moving-each : (f : Port → Port → Port) → ((was now : Port) → IsSameP
     → (ps : List Port) (ms : List Moving)
     → AreMoving ps ms → AreMoving ps (each f ms)
 moving-each f same [] [] h = tt
-moving-each f same [] (m ∷ ms) h = absurd h
-moving-each f same (p ∷ ps) [] h = absurd h
 moving-each f same (p ∷ ps) (m ∷ ms) h =
     ((h.0.0, same_port-trans p m.now (f m.was m.now) h.0.1 (same m.was m.now)), moving-each f same ps ms h.1)
+moving-each f same _ _ h = absurd h
 
 moving-if : (b : Bool) (ps : List Port) (ms ns : List Moving) → AreMoving ps ms → AreMoving ps ns
     → AreMoving ps (if b then ms else ns)
@@ -75,15 +74,13 @@ moving_by change same (p ∷ ps) = ((refl, same p), moving_by change same ps)
 
 pub moving_now : (ps : List Port) (ms : List Moving) → AreMoving ps ms → AreSamePorts ps (nows ms)
 moving_now [] [] h = tt
-moving_now [] (m ∷ ms) h = absurd h
-moving_now (p ∷ ps) [] h = absurd h
 moving_now (p ∷ ps) (m ∷ ms) h = (h.0.1, moving_now ps ms h.1)
+moving_now _ _ h = absurd h
 
 pub moving_before : (ps : List Port) (ms : List Moving) → AreMoving ps ms → befores ms ≡ ps
 moving_before [] [] h = refl
-moving_before [] (m ∷ ms) h = absurd h
-moving_before (p ∷ ps) [] h = absurd h
 moving_before (p ∷ ps) (m ∷ ms) h = let tail = moving_before ps ms h.1 in let head = h.0.0 in cc
+moving_before _ _ h = absurd h
 
 -- Each step.
 
@@ -144,11 +141,10 @@ moving_sent ps ms h = moving-each after_sending (λ was now. of_keeps now _ (kee
 pub rising-same : (n m : ℕ) → m ≡ n → (ps qs : List Port) → AreSamePorts ps qs → AreRising n (map (λ p. p.number) ps)
     → AreRising m (map (λ p. p.number) qs)
 rising-same n m e [] [] h r = (tt, tt)
-rising-same n m e [] (q ∷ qs) h r = absurd h
-rising-same n m e (p ∷ ps) [] h r = absurd h
 rising-same n m e (p ∷ ps) (q ∷ qs) h r =
     rises-above m q.number (omega (arith, e, h.0.number, r.0.0)) (map (λ x. x.number) qs)
     (rising-same p.number q.number h.0.number ps qs h.1 r.1)
+rising-same n m e _ _ h r = absurd h
 
 -- what has a number that is no greater than n isn't among those that rise above n
 pub first-none : {X : Type 0} (key : X → ℕ) (k n : ℕ) → k ≤ n → (xs : List X) → AreRising n (map key xs)
@@ -170,8 +166,6 @@ pub found_pair : (P : Port → Port → Type 0) (k : ℕ) (ps : List Port) (ms :
     → AllByRecursion (λ m. P m.was m.now) ms → (p q : Port) → port_of ps k ≡ Some p → port_of (nows ms) k ≡ Some q
     → P p q
 found_pair P k [] [] h all p q ep eq = cc
-found_pair P k [] (m ∷ ms) h all p q ep eq = absurd h
-found_pair P k (x ∷ xs) [] h all p q ep eq = absurd h
 found_pair P k (x ∷ xs) (m ∷ ms) h all p q ep eq =
     by_test (m.now.number == k) refl (λ fp fq. found_pair P k xs ms h.1 all.1 p q fp fq)
   where
@@ -188,6 +182,7 @@ found_pair P k (x ∷ xs) (m ∷ ms) h all p q ep eq =
         subst R was (subst Q is all.0)
     by_test false e rest =
         rest (sym (port_of-cons k x xs false (same ∙ e)) ∙ ep) (sym (port_of-cons k m.now (nows ms) false e) ∙ eq)
+found_pair _ k _ _ h all p q ep eq = absurd h
 
 -- The machine after a call.
 
@@ -227,9 +222,8 @@ same_hearing root port m p =
     (same_answer root m (with_news m p))) (is_same_port p)
 
 same_opened_by : (delay : ℕ) (state : PortState) (p : Port) → IsSamePort p (opened_by delay state p)
-same_opened_by delay Discarding p = record { number = refl; cost = refl; priority = refl }
-same_opened_by delay Learning p = record { number = refl; cost = refl; priority = refl }
 same_opened_by delay Forwarding p = is_same_port p
+same_opened_by delay _ p = record { number = refl; cost = refl; priority = refl }
 
 same_opening : (delay : ℕ) (p : Port) → IsSamePort p (with_opening delay p)
 same_opening delay p =

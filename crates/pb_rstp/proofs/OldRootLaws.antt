@@ -3,7 +3,7 @@ use Rattle.std.proofs.Common.{◌≡◌, ◌⊎◌, ℕ, ◌+◌, List, [], ◌�
 use Rattle.std.proofs.Common.{false, is_some, ◌==◌, ◌&&◌, not, if◌then◌else◌, inl, inr}
 use Rattle.std.specs.declared.option.Option.{Option}
 use Rattle.std.specs.List.{list_any, AllByRecursion}
-use Rattle.std.proofs.lemmas.Bool.{eqb-true}
+use Rattle.std.proofs.lemmas.Bool.{eqb-true, and_parts}
 use Rattle.pb_lan.specs.declared.shape.PortState.TheVariants.{Forwarding}
 use Rattle.pb_rstp.specs.Changes.{IsSamePort, AreMoving, HoldsOldRoots}
 use Rattle.pb_rstp.specs.Laws.{IsInLine}
@@ -20,10 +20,9 @@ use Rattle.pb_rstp.specs.declared.moving.Heard.{Heard}
 use Rattle.pb_rstp.specs.declared.moving.Moving.{Moving}
 use Rattle.pb_rstp.specs.declared.port.Port.{Port}
 use Rattle.pb_rstp.specs.declared.role.Role.{Role}
-use Rattle.pb_rstp.specs.declared.role.Role.TheVariants.{Disabled, Root, Designated, Alternate, Backup}
+use Rattle.pb_rstp.specs.declared.role.Role.TheVariants.{Disabled, Root, Designated}
 use Rattle.pb_rstp.specs.declared.vector.Vector.{Vector}
 use Rattle.pb_rstp.proofs.MovingLaws.{found_pair, moving_first, moving_before, moving_settled, moving_sent}
-use Rattle.pb_rstp.proofs.OrderLaws.{and-true}
 use Rattle.pb_rstp.proofs.RoleLaws.{roles-first}
 use Rattle.pb_rstp.proofs.RootLaws.{root_vector-is}
 use Rattle.pb_rstp.proofs.SettledLaws.{root_is}
@@ -49,14 +48,13 @@ came : (id : ℕ) (root : Vector) (all ps : List Port) (ms : List Moving) → Ar
     → AllByRecursion (λ p. (v : Vector) → IsRootVector id all v → HasRole id v p p.role) ps
     → AllByRecursion (λ m. Came root.receiving m.was m.now) ms
 came id root all [] [] h is roles = tt
-came id root all [] (m ∷ ms) h is roles = absurd h
-came id root all (p ∷ ps) [] h is roles = absurd h
 came id root all (p ∷ ps) (m ∷ ms) h is roles =
     let P : Port → Type 0 = λ q. Came root.receiving q m.now in (
       subst P (sym h.0.0) (came_from_root id root p m.now h.0.1 (roles.0 root is)),
       came id root all ps ms h.1 is
           roles.1,
     )
+came id root all _ _ h is roles = absurd h
 
 -- a port that was the Root port has no agreement, or isn't Designated
 abbrev IsFree : Port → Port → Type 0
@@ -75,7 +73,7 @@ free_role id root was now came is = inr (by_up now.up)
 same_receiving : (v w : Vector) → is_same_vector v w ≡ true → v.receiving ≡ w.receiving
 same_receiving v w e =
     eqb-true v.receiving w.receiving
-    (and-true (v.root == w.root && v.cost == w.cost && v.bridge == w.bridge && v.port == w.port)
+    (and_parts (v.root == w.root && v.cost == w.cost && v.bridge == w.bridge && v.port == w.port)
     (v.receiving == w.receiving) e).1
 
 all_free : (ms : List Moving) → AllByRecursion (λ m. IsFree m.was m.now) (each without_agreement ms)
@@ -132,10 +130,7 @@ held-state delay was now free is = by_role now.role refl
   where
     not_designated : (r : Role) → is_root r ≡ true → is_designated r ≡ false
     not_designated Root e = refl
-    not_designated Designated e = cc
-    not_designated Disabled e = cc
-    not_designated Alternate e = cc
-    not_designated Backup e = cc
+    not_designated _ e = cc
 
     held : now.agreed ≡ false → is_discarding (designated_state delay was now).state ≡ true
     held agreed =
@@ -147,13 +142,11 @@ held-state delay was now free is = by_role now.role refl
     by_role : (r : Role) → now.role ≡ r → is_root (state_by delay r was now).role ≡ false
         → is_discarding (state_by delay r was now).state ≡ true
     by_role Root e other = let yes = ap is_root e in cc
-    by_role Disabled e other = refl
-    by_role Alternate e other = refl
-    by_role Backup e other = refl
     by_role Designated e other = elim (free is) [
       | inl agreed ↦ held agreed
       | inr none ↦ let yes = ap is_designated e in cc
     ]
+    by_role _ e other = refl
 
 held-if : (b : Bool) (was q r : Port) → IsHeld was q → IsHeld was r → IsHeld was (if b then q else r)
 held-if true was q r hq hr = hq

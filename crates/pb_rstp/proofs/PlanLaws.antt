@@ -1,86 +1,46 @@
 -- The machines of a plan's bridges have the plan's ports, whatever they were told.
-use Rattle.std.proofs.Common.{◌≡◌, ℕ, suc, ◌+◌, ◌≤◌, ◌<◌, List, [], ◌∷◌, ◌++◌, Some, None, Ok, Err, refl, sym, ap}
-use Rattle.std.proofs.Common.{◌∙◌, Bool, true, false, ◌==◌, ◌||◌, if◌then◌else◌, map, length, inl, inr, slice_get}
-use Rattle.std.proofs.Common.{arith, lit<, lit≤}
-use Rattle.std.specs.declared.option.Option.{Option}
-use Rattle.std.specs.declared.result.Result.{Result}
+use Rattle.std.proofs.Common.{◌≡◌, ℕ, zero, suc, ◌+◌, ◌≤◌, ◌<◌, List, [], ◌∷◌, ◌++◌, Some, refl, sym, ap, ◌∙◌, Bool}
+use Rattle.std.proofs.Common.{true, false, ◌==◌, ◌||◌, map, length, inl, inr, slice_get, arith}
 use Rattle.std.specs.List.{flat_map, list_any, AllByRecursion}
 use Rattle.std.proofs.lemmas.Bool.{eqb-true}
-use Rattle.pb_bpdu.specs.Reading.{reading}
-use Rattle.pb_bpdu.specs.declared.bpdu.Bpdu.{Bpdu}
-use Rattle.pb_bpdu.specs.declared.fault.BpduFault.{BpduFault}
 use Rattle.pb_frame.proofs.Lists.{All-every, All-imply, All-map, All-placed, eqb-refl, false-unless}
 use Rattle.pb_lan.proofs.PortsInPlans.{IsEndOf, port_at-end, sound-end}
 use Rattle.pb_lan.proofs.Rulings.{local-listed}
 use Rattle.pb_lan.specs.Numbering.{numbered, numbers_from}
 use Rattle.pb_lan.specs.Plans.{IsSound}
 use Rattle.pb_lan.specs.Ports.{Port as LocalPort, port_at, local_ports}
-use Rattle.pb_lan.specs.Ports.Port.{Customer, Provider, Unused}
+use Rattle.pb_lan.specs.Ports.Port.{Provider}
 use Rattle.pb_lan.specs.Rules.{Cause}
-use Rattle.pb_lan.specs.Rules.Cause.{Hears, Ticks, Sets}
 use Rattle.pb_lan.specs.declared.plan.Plan.{Plan}
 use Rattle.pb_lan.specs.declared.plan.End.{End}
 use Rattle.pb_lan.specs.declared.plan.LinkPlan.{LinkPlan}
 use Rattle.pb_lan.specs.declared.step.Step.{Step}
 use Rattle.pb_rstp.specs.Changes.{AreSamePorts, IsSameBridge}
-use Rattle.pb_rstp.specs.Machine.{moved_by, ticking, is_hello_time, hello_after, heard_at, hearing, setting, hear_by}
-use Rattle.pb_rstp.specs.Machine.{hear_at, admin_at, admin_by, is_same_setting, unchanged}
-use Rattle.pb_rstp.specs.Ports.{Machine, fresh, delay_of, port_of}
-use Rattle.pb_rstp.specs.Profile.{after, hear_read, causes_of, machine_after, rstp_port, machine_at_start, machine_of}
+use Rattle.pb_rstp.specs.Machine.{moved_by}
+use Rattle.pb_rstp.specs.Ports.{Machine, fresh, port_of}
+use Rattle.pb_rstp.specs.Profile.{after, causes_of, machine_after, rstp_port, machine_at_start, machine_of}
 use Rattle.pb_rstp.specs.Rising.{AreRising}
 use Rattle.pb_rstp.proofs.RisingLaws.{rises-above}
-use Rattle.pb_rstp.specs.Roles.{root_vector}
 use Rattle.pb_rstp.specs.Tree.{HasPorts, HasPortAt, CallsKeepBridges, machines_of, PlannedAreMachines}
 use Rattle.pb_rstp.specs.declared.port.Port.{Port}
+use Rattle.pb_rstp.proofs.CallLaws.{after-each}
 use Rattle.pb_rstp.proofs.ForestLaws.{numbered-at}
-use Rattle.pb_rstp.proofs.MovingLaws.{same_port-trans, same_ports, is_same_bridge, moving_by, same_hearing}
-use Rattle.pb_rstp.proofs.MovingLaws.{same_ticking, same_setting, settle_same, rising-same, port_of-cons}
+use Rattle.pb_rstp.proofs.MovingLaws.{same_port-trans, same_ports, is_same_bridge, moving_by, settle_same}
+use Rattle.pb_rstp.proofs.MovingLaws.{rising-same, port_of-cons}
 
 -- Calls keep the bridge.
 
 pub calls_keep_bridges : CallsKeepBridges
-calls_keep_bridges machine Ticks =
-    settle_same machine.id machine.hello_left (hello_after machine) None machine.ports
-    (moved_by (ticking (delay_of machine.ports) (is_hello_time machine)) machine.ports)
-    (moving_by (ticking (delay_of machine.ports) (is_hello_time machine))
-    (same_ticking (delay_of machine.ports) (is_hello_time machine)) machine.ports)
-calls_keep_bridges machine (Hears port wire) = by_read (reading wire)
-  where
-    by_up : (m : Bpdu) (p : Port) (b : Bool)
-        → IsSameBridge machine (if b then hear_at machine m p else unchanged machine).machine
-    by_up m p true =
-        settle_same machine.id machine.hello_left machine.hello_left (Some (heard_at m p)) machine.ports
-        (moved_by (hearing (root_vector machine.id machine.ports) p.number m) machine.ports)
-        (moving_by (hearing (root_vector machine.id machine.ports) p.number m)
-        (same_hearing (root_vector machine.id machine.ports) p.number m) machine.ports)
-    by_up m p false = is_same_bridge machine
-
-    by_port : (m : Bpdu) (o : Option Port) → IsSameBridge machine (hear_by machine m o).machine
-    by_port m None = is_same_bridge machine
-    by_port m (Some p) = by_up m p p.up
-
-    by_read : (r : Result Bpdu BpduFault) → IsSameBridge machine (hear_read machine port r).machine
-    by_read (Ok m) = by_port m (port_of machine.ports port)
-    by_read (Err fault) = is_same_bridge machine
-calls_keep_bridges machine (Sets port up) = by_port (port_of machine.ports port)
-  where
-    by_same : (b : Bool) → IsSameBridge machine (if b then unchanged machine else admin_at machine port up).machine
-    by_same true = is_same_bridge machine
-    by_same false =
-        settle_same machine.id machine.hello_left machine.hello_left None machine.ports
-        (moved_by (setting port up) machine.ports)
-        (moving_by (setting port up) (same_setting port up) machine.ports)
-
-    by_port : (o : Option Port) → IsSameBridge machine (admin_by machine port up o).machine
-    by_port None = is_same_bridge machine
-    by_port (Some p) = by_same (is_same_setting p.up up)
+calls_keep_bridges machine cause =
+    after-each (λ a. IsSameBridge machine a.machine) machine (is_same_bridge machine)
+    (λ hello heard change same. settle_same machine.id machine.hello_left hello heard machine.ports
+    (moved_by change machine.ports) (moving_by change same machine.ports)) cause
 
 same_ports-trans : (ps qs rs : List Port) → AreSamePorts ps qs → AreSamePorts qs rs → AreSamePorts ps rs
 same_ports-trans [] [] rs h k = k
-same_ports-trans [] (q ∷ qs) rs h k = absurd h
-same_ports-trans (p ∷ ps) [] rs h k = absurd h
 same_ports-trans (p ∷ ps) (q ∷ qs) [] h k = absurd k
 same_ports-trans (p ∷ ps) (q ∷ qs) (r ∷ rs) h k = (same_port-trans p q r h.0 k.0, same_ports-trans ps qs rs h.1 k.1)
+same_ports-trans _ _ rs h k = absurd h
 
 -- whatever the causes were
 pub same_after : (machine : Machine) (causes : List Cause)
@@ -120,17 +80,14 @@ rising-distinct n (p ∷ ps) r = (
 small-same : (ps qs : List Port) → AreSamePorts ps qs → AllByRecursion (λ p. (1 ≤ p.number) × (p.number < 256)) ps
     → AllByRecursion (λ p. (1 ≤ p.number) × (p.number < 256)) qs
 small-same [] [] h s = tt
-small-same [] (q ∷ qs) h s = absurd h
-small-same (p ∷ ps) [] h s = absurd h
 small-same (p ∷ ps) (q ∷ qs) h s =
     ((omega (arith, s.0.0, h.0.number), omega (arith, s.0.1, h.0.number)), small-same ps qs h.1 s.1)
+small-same _ _ h s = absurd h
 
 -- a port that is found is found again, with its cost
 found-same : (k : ℕ) (ps qs : List Port) → AreSamePorts ps qs → (p : Port) → port_of ps k ≡ Some p
     → (q : Port) × (port_of qs k ≡ Some q) × (q.cost ≡ p.cost)
 found-same k [] [] h p e = cc
-found-same k [] (y ∷ ys) h p e = absurd h
-found-same k (x ∷ xs) [] h p e = absurd h
 found-same k (x ∷ xs) (y ∷ ys) h p e = by_test (x.number == k) refl (λ f. found-same k xs ys h.1 p f)
   where
     by_test : (t : Bool) → (x.number == k) ≡ t
@@ -142,6 +99,7 @@ found-same k (x ∷ xs) (y ∷ ys) h p e = by_test (x.number == k) refl (λ f. f
     by_test false t rest =
         let found = rest (sym (port_of-cons k x xs false t) ∙ e) in
         (found.0, port_of-cons k y ys false (ap (λ n. n == k) h.0.number ∙ t) ∙ found.1, found.2)
+found-same k _ _ h p e = absurd h
 
 -- The ports of a plan.
 
@@ -154,10 +112,9 @@ rising-ports at n m below (k ∷ ks) r =
     by_port : (o : LocalPort) → AreRising m (map (λ p. p.number) (map fresh (flat_map (λ i. rstp_port i (at i)) ks)))
         → AreRising k (map (λ p. p.number) (map fresh (flat_map (λ i. rstp_port i (at i)) ks)))
         → AreRising m (map (λ p. p.number) (map fresh (rstp_port k o ++ flat_map (λ i. rstp_port i (at i)) ks)))
-    by_port (Customer c) skip take = skip
     by_port (Provider e) skip take = rises-above m k (omega (arith, r.0.0))
         (map (λ p. p.number) (map fresh (flat_map (λ i. rstp_port i (at i)) ks))) take
-    by_port Unused skip take = skip
+    by_port _ skip take = skip
 
 small-ports : (at : ℕ → LocalPort) (ns : List ℕ) → AllByRecursion (λ n. (1 ≤ n) × (n < 256)) ns
     → AllByRecursion (λ p. (1 ≤ p.number) × (p.number < 256)) (map fresh (flat_map (λ k. rstp_port k (at k)) ns))
@@ -168,9 +125,8 @@ small-ports at (k ∷ ks) h = by_port (at k) (small-ports at ks h.1)
         → AllByRecursion (λ p. (1 ≤ p.number) × (p.number < 256)) (map fresh (flat_map (λ i. rstp_port i (at i)) ks))
         → AllByRecursion (λ p. (1 ≤ p.number) × (p.number < 256))
         (map fresh (rstp_port k o ++ flat_map (λ i. rstp_port i (at i)) ks))
-    by_port (Customer c) rest = rest
     by_port (Provider e) rest = (h.0, rest)
-    by_port Unused rest = rest
+    by_port _ rest = rest
 
 -- the port of an end
 abbrev port_for : ℕ → End → Port
@@ -185,10 +141,9 @@ found-port at k e is (n ∷ ns) listed = by_test (n == k) refl (found-port at k 
     by_port : (o : LocalPort) → (n == k) ≡ false
         → port_of (map fresh (flat_map (λ i. rstp_port i (at i)) ns)) k ≡ Some (port_for k e)
         → port_of (map fresh (rstp_port n o ++ flat_map (λ i. rstp_port i (at i)) ns)) k ≡ Some (port_for k e)
-    by_port (Customer c) t rest = rest
     by_port (Provider f) t rest = port_of-cons k (port_for n f) (map fresh (flat_map (λ i. rstp_port i (at i)) ns))
         false t ∙ rest
-    by_port Unused t rest = rest
+    by_port _ t rest = rest
 
     by_test : (t : Bool) → (n == k) ≡ t
         → (list_any (λ i. i == k) ns ≡ true → port_of (map fresh (flat_map (λ i. rstp_port i (at i)) ns)) k ≡ Some
@@ -202,64 +157,24 @@ found-port at k e is (n ∷ ns) listed = by_test (n == k) refl (found-port at k 
         ∙ ap (λ i. Some (port_for i e)) same
     by_test false t rest = by_port (at n) t (rest (sym (ap (λ b. b || list_any (λ i. i == k) ns) t) ∙ listed))
 
-pub local_rise : AreRising 0 local_ports
-local_rise = rises-above 0 1 (lit< tt) (2 ∷ 3 ∷ 4 ∷ 5 ∷ 6 ∷ 7 ∷ 8 ∷ 9 ∷ 10 ∷ 11 ∷ 12 ∷ 13 ∷ 14 ∷ 15 ∷ 16 ∷ [])
-    (rises-above 1 2 (lit< tt) (3 ∷ 4 ∷ 5 ∷ 6 ∷ 7 ∷ 8 ∷ 9 ∷ 10 ∷ 11 ∷ 12 ∷ 13 ∷ 14 ∷ 15 ∷ 16 ∷ [])
-    (rises-above 2 3 (lit< tt) (4 ∷ 5 ∷ 6 ∷ 7 ∷ 8 ∷ 9 ∷ 10 ∷ 11 ∷ 12 ∷ 13 ∷ 14 ∷ 15 ∷ 16 ∷ [])
-    (rises-above 3 4 (lit< tt) (5 ∷ 6 ∷ 7 ∷ 8 ∷ 9 ∷ 10 ∷ 11 ∷ 12 ∷ 13 ∷ 14 ∷ 15 ∷ 16 ∷ [])
-    (rises-above 4 5 (lit< tt) (6 ∷ 7 ∷ 8 ∷ 9 ∷ 10 ∷ 11 ∷ 12 ∷ 13 ∷ 14 ∷ 15 ∷ 16 ∷ [])
-    (rises-above 5 6 (lit< tt) (7 ∷ 8 ∷ 9 ∷ 10 ∷ 11 ∷ 12 ∷ 13 ∷ 14 ∷ 15 ∷ 16 ∷ [])
-    (rises-above 6 7 (lit< tt) (8 ∷ 9 ∷ 10 ∷ 11 ∷ 12 ∷ 13 ∷ 14 ∷ 15 ∷ 16 ∷ [])
-    (rises-above 7 8 (lit< tt) (9 ∷ 10 ∷ 11 ∷ 12 ∷ 13 ∷ 14 ∷ 15 ∷ 16 ∷ [])
-    (rises-above 8 9 (lit< tt) (10 ∷ 11 ∷ 12 ∷ 13 ∷ 14 ∷ 15 ∷ 16 ∷ [])
-    (rises-above 9 10 (lit< tt) (11 ∷ 12 ∷ 13 ∷ 14 ∷ 15 ∷ 16 ∷ [])
-    (rises-above 10 11 (lit< tt) (12 ∷ 13 ∷ 14 ∷ 15 ∷ 16 ∷ [])
-    (rises-above 11 12 (lit< tt) (13 ∷ 14 ∷ 15 ∷ 16 ∷ [])
-    (rises-above 12 13 (lit< tt) (14 ∷ 15 ∷ 16 ∷ [])
-    (rises-above 13 14 (lit< tt) (15 ∷ 16 ∷ [])
-    (rises-above 14 15 (lit< tt) (16 ∷ []) (rises-above 15 16 (lit< tt) [] (tt, tt))))))))))))))))
+-- so many numbers from k on
+abbrev up_from : ℕ → ℕ → List ℕ
+up_from k zero = []
+up_from k (suc n) = k ∷ up_from (k + 1) n
 
-local_small : AllByRecursion (λ n. (1 ≤ n) × (n < 256)) local_ports
-local_small = (
-  (lit≤ tt, lit< tt),
-  (
-    (lit≤ tt, lit< tt),
-    (
-      (lit≤ tt, lit< tt),
-      (
-        (lit≤ tt, lit< tt),
-        (
-          (lit≤ tt, lit< tt),
-          (
-            (lit≤ tt, lit< tt),
-            (
-              (lit≤ tt, lit< tt),
-              (
-                (lit≤ tt, lit< tt),
-                (
-                  (lit≤ tt, lit< tt),
-                  (
-                    (lit≤ tt, lit< tt),
-                    (
-                      (lit≤ tt, lit< tt),
-                      (
-                        (lit≤ tt, lit< tt),
-                        (
-                          (lit≤ tt, lit< tt),
-                          ((lit≤ tt, lit< tt), ((lit≤ tt, lit< tt), ((lit≤ tt, lit< tt), tt))),
-                        ),
-                      ),
-                    ),
-                  ),
-                ),
-              ),
-            ),
-          ),
-        ),
-      ),
-    ),
-  ),
-)
+rising-up : (k n : ℕ) → AreRising k (up_from (k + 1) n)
+rising-up k zero = (tt, tt)
+rising-up k (suc n) = rises-above k (k + 1) (omega arith) (up_from (k + 1 + 1) n) (rising-up (k + 1) n)
+
+pub local_rise : AreRising 0 local_ports
+local_rise = rising-up 0 16
+
+few-up : (k n : ℕ) → 1 ≤ k → k + n ≤ 17 → AllByRecursion (λ m. (1 ≤ m) × (m ≤ 16)) (up_from k n)
+few-up k zero least most = tt
+few-up k (suc n) least most = ((least, omega (arith, most)), few-up (k + 1) n (omega arith) (omega (arith, most)))
+
+pub local_few : AllByRecursion (λ n. (1 ≤ n) × (n ≤ 16)) local_ports
+local_few = few-up 1 16 (omega arith) (omega arith)
 
 -- The machines.
 
@@ -271,7 +186,9 @@ has_ports plan bridge steps =
       distinct = rising-distinct 0 (machine_of plan bridge steps).ports
           (rising-same 0 0 refl (machine_at_start plan bridge).ports (machine_of plan bridge steps).ports same rises);
       small = small-same (machine_at_start plan bridge).ports (machine_of plan bridge steps).ports same
-          (small-ports (λ port. port_at plan bridge port) local_ports local_small);
+          (small-ports (λ port. port_at plan bridge port) local_ports
+          (All-imply (λ n. (1 ≤ n) × (n ≤ 16)) (λ n. (1 ≤ n) × (n < 256)) (λ n h. (h.0, omega (arith, h.1)))
+          local_ports local_few));
     }
 
 has_port_at : (plan : Plan) (past : ℕ → List Step) → IsSound plan → (k : ℕ) (link : LinkPlan) (e : End)

@@ -171,10 +171,7 @@ roles-second id root ports h =
 -- third
 designated_is : (r : Role) → is_designated r ≡ true → r ≡ Designated
 designated_is Designated e = refl
-designated_is Disabled e = cc
-designated_is Root e = cc
-designated_is Alternate e = cc
-designated_is Backup e = cc
+designated_is _ e = cc
 
 -- the port that the root vector came from has the role Root
 root_role : (id : ℕ) (root : Vector) (p : Port) → IsWay id p root → role_by id root p ≡ Root
@@ -220,9 +217,8 @@ without_info_root id root ports h =
 designated_still : (up came : Bool) (r other : Role) → r ≡ Designated
     → r ≡ (if up then (if came then Root else other) else Disabled)
     → r ≡ (if up then (if came then Root else Designated) else Disabled)
-designated_still true true r other d e = e
 designated_still true false r other d e = d
-designated_still false came r other d e = e
+designated_still _ _ r other d e = e
 
 role_without_info : (id : ℕ) (root : Vector) (was now : Port) → HasRoleBy id root now
     → HasRoleBy id root (without_info was now)
@@ -232,8 +228,7 @@ role_without_info id root was now e = by_test (is_designated now.role) (is_some 
         → HasRoleBy id root (if d && s then record now { info = None; due = true } else now)
     by_test true true d = designated_still now.up (came_from root now) now.role (other_role id root now now.info)
         (designated_is now.role d) e
-    by_test true false d = e
-    by_test false s d = e
+    by_test _ _ d = e
 
 pub roles-third : (id : ℕ) (root : Vector) (ports : List Moving) → HaveRoles id root ports
     → HaveRoles id root (with_infos ports)

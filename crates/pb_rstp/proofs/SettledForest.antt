@@ -14,9 +14,9 @@ use Rattle.pb_lan.specs.declared.plan.Plan.{Plan}
 use Rattle.pb_lan.specs.declared.plan.End.{End}
 use Rattle.pb_lan.specs.declared.plan.LinkPlan.{LinkPlan}
 use Rattle.pb_lan.specs.declared.shape.PortState.{PortState}
-use Rattle.pb_lan.specs.declared.shape.PortState.TheVariants.{Discarding, Learning, Forwarding}
-use Rattle.pb_frame.proofs.Lists.{Some-injective, and-left, and-right}
-use Rattle.pb_frame.proofs.Lists.{same_place, IsDistinct-front}
+use Rattle.pb_lan.specs.declared.shape.PortState.TheVariants.{Discarding, Forwarding}
+use Rattle.pb_frame.proofs.Lists.{Some-injective, and-left, and-right, same_place, IsDistinct-front}
+use Rattle.pb_lan.proofs.Numbers.{numbered-All}
 use Rattle.pb_lan.proofs.PortsInPlans.{IsEndOf, port_at-end, sound-end}
 use Rattle.pb_rstp.specs.Ports.{Machine, id_of, port_of, is_root, is_designated}
 use Rattle.pb_rstp.specs.declared.port.Port.{Port}
@@ -24,10 +24,10 @@ use Rattle.pb_rstp.specs.Roles.{root_vector}
 use Rattle.pb_rstp.specs.Tree.{root_cost, StandsAt, HasPortAt, Rises, AreBothForwarding, SettledIsForest}
 use Rattle.pb_rstp.specs.Tree.{LeadsBehindRoots, IsForestBehindRoots, state_at, states_of, shape_of}
 use Rattle.pb_rstp.specs.declared.role.Role.{Role}
-use Rattle.pb_rstp.specs.declared.role.Role.TheVariants.{Disabled, Root, Designated, Alternate, Backup}
+use Rattle.pb_rstp.specs.declared.role.Role.TheVariants.{Designated}
 use Rattle.pb_rstp.proofs.ForestLaws.{lower, upper, Falls, numbered-at, numbered-only, is_up, up_of, rooted_by}
 use Rattle.pb_rstp.proofs.ForestLaws.{falling-shows}
-use Rattle.pb_rstp.proofs.SettledLaws.{Network, stands, rises, root_way, root_is, same_number, at_number, cost_rises}
+use Rattle.pb_rstp.proofs.SettledLaws.{Network, stands, rises, root_way, root_is, same_number, cost_rises}
 
 -- The state of a port in the shape.
 
@@ -62,8 +62,7 @@ shape_state plan machines net k link e at which m p s =
 
 same_test : (s : PortState) → is_open_state s ≡ true → is_forwarding s ≡ true
 same_test Forwarding e = refl
-same_test Learning e = cc
-same_test Discarding e = cc
+same_test _ e = cc
 
 -- a link passes only where its ends are both Forwarding
 abbrev Forwards : Plan → List Machine → (LinkPlan → Bool) → Type 0
@@ -84,7 +83,7 @@ both_forwarding : (plan : Plan) (machines : List Machine) → Network plan machi
     → numbered plan.links k ≡ Some link
     → are_ends_forwarding (shape_of plan machines) link ≡ true → AreBothForwarding machines link
 both_forwarding plan machines net k link at both =
-    let ends = at_number (λ l. HasPortAt machines l.a × HasPortAt machines l.b) plan.links k link at net.are.ends in
+    let ends = numbered-All (λ l. HasPortAt machines l.a × HasPortAt machines l.b) plan.links k link at net.are.ends in
     let open_a = and-left (is_end_forwarding (shape_of plan machines) link.a)
     (is_end_forwarding (shape_of plan machines) link.b) both in
     let open_b = and-right (is_end_forwarding (shape_of plan machines) link.a)
@@ -123,10 +122,7 @@ cost_of machines b = option_map_or root_cost (numbered machines b) 0
 
 not_root : (r : Role) → is_designated r ≡ true → is_root r ≡ false
 not_root Designated e = refl
-not_root Root e = cc
-not_root Disabled e = cc
-not_root Alternate e = cc
-not_root Backup e = cc
+not_root _ e = cc
 
 -- the lower end of an active link is the Root port's
 record Oriented (machines : List Machine) (link : LinkPlan) (t : Bool) : Type 0 where
@@ -260,8 +256,6 @@ settled_falls plan machines passes net forwards = record {
     one : (n n' : ℕ) (l l' : LinkPlan) → numbered plan.links n ≡ Some l → numbered plan.links n' ≡ Some l'
         → Oriented machines l (low_of machines l) → Oriented machines l' (low_of machines l')
         → (lower (low_of machines l) l).bridge ≡ (lower (low_of machines l') l').bridge → n ≡ n'
-    one zero n' l l' at at' o o' bridge = cc
-    one (suc i) zero l l' at at' o o' bridge = cc
     one (suc i) (suc j) l l' at at' o o' bridge =
         let t = low_of machines l in
         let t' = low_of machines l' in
@@ -269,6 +263,7 @@ settled_falls plan machines passes net forwards = record {
         bridge in
         ap suc (one_link plan net.sound i j (lower t l) (lower t' l') (placed plan i l t at) (placed plan j l' t' at')
         bridge port)
+    one _ _ l l' at at' o o' bridge = cc
 
 ends_of_link : (t : Bool) (l : LinkPlan) → HasEnds l (lower t l) (upper t l)
 ends_of_link true l = inl (refl, refl)

@@ -1,14 +1,15 @@
 -- Where bridges are settled, cost rises along every link whose ends are both Forwarding.
-use Rattle.std.proofs.Common.{◌≡◌, ◌⊎◌, ℕ, zero, suc, ◌+◌, ◌*◌, ◌≤◌, ◌<◌, List, [], ◌∷◌, Some, refl, sym, ap, ◌∙◌}
-use Rattle.std.proofs.Common.{subst, true, false, ◌==◌, inl, inr, arith}
+use Rattle.std.proofs.Common.{◌≡◌, ◌⊎◌, ℕ, ◌+◌, ◌*◌, ◌≤◌, ◌<◌, List, [], ◌∷◌, Some, refl, sym, ap, ◌∙◌, subst, true}
+use Rattle.std.proofs.Common.{false, ◌==◌, inl, inr, arith}
 use Rattle.std.specs.List.{AllByRecursion}
 use Rattle.std.proofs.lemmas.Bool.{eqb-true}
 use Rattle.pb_lan.specs.Numbering.{numbered}
 use Rattle.pb_lan.specs.Plans.{IsSound}
+use Rattle.pb_lan.proofs.Numbers.{numbered-All}
 use Rattle.pb_lan.specs.declared.plan.Plan.{Plan}
 use Rattle.pb_lan.specs.declared.plan.End.{End}
 use Rattle.pb_lan.specs.declared.plan.LinkPlan.{LinkPlan}
-use Rattle.pb_frame.proofs.Lists.{first-found, All-at, Some-injective}
+use Rattle.pb_frame.proofs.Lists.{first-found, Some-injective}
 use Rattle.pb_lan.proofs.PortsInPlans.{IsEndOf, sound-end}
 use Rattle.pb_rstp.specs.Vectors.{own_vector, raised, greatest_cost}
 use Rattle.pb_rstp.specs.Ports.{Machine, id_of, port_of, is_root, is_designated, is_root_or_designated, is_discarding}
@@ -21,7 +22,7 @@ use Rattle.pb_rstp.specs.Tree.{root_cost, StandsAt, StoresOffer, LeadsTo, IsSett
 use Rattle.pb_rstp.specs.Tree.{HasPortAt, AreMachines, IsNotHeld, NoneHeld, Rises, AreBothForwarding, CostRises}
 use Rattle.pb_rstp.specs.declared.vector.Vector.{Vector}
 use Rattle.pb_rstp.specs.declared.role.Role.{Role}
-use Rattle.pb_rstp.specs.declared.role.Role.TheVariants.{Disabled, Root, Designated, Alternate, Backup}
+use Rattle.pb_rstp.specs.declared.role.Role.TheVariants.{Root, Designated}
 use Rattle.pb_lan.specs.declared.shape.PortState.{PortState}
 use Rattle.pb_lan.specs.declared.shape.PortState.TheVariants.{Discarding, Learning, Forwarding}
 use Rattle.pb_rstp.proofs.RootLaws.{root_vector-is}
@@ -36,10 +37,7 @@ way_port P id (p ∷ ps) v all (inr h) = way_port P id ps v all.1 h
 
 pub root_is : (r : Role) → is_root r ≡ true → r ≡ Root
 root_is Root e = refl
-root_is Disabled e = cc
-root_is Designated e = cc
-root_is Alternate e = cc
-root_is Backup e = cc
+root_is _ e = cc
 
 -- ids of small numbers tell the numbers
 pub same_number : (p p' n n' : ℕ) → n < 256 → n' < 256 → p * 256 + n ≡ p' * 256 + n' → n ≡ n'
@@ -128,11 +126,6 @@ cost_falls m n p q line has port role not_held above (info, stored, offer) =
     second_of : (a b c d a' b' c' d' : ℕ) → a ∷ b ∷ c ∷ d ∷ [] ≡ a' ∷ b' ∷ c' ∷ d' ∷ [] → b ≡ b'
     second_of a b c d a' b' c' d' e = cc
 
-pub at_number : {X : Type 0} (P : X → Type 0) (xs : List X) (b : ℕ) (x : X) → numbered xs b ≡ Some x
-    → AllByRecursion P xs → P x
-at_number P xs zero x e all = cc
-at_number P xs (suc i) x e all = All-at P xs i x e all
-
 not_both : (s : PortState) → is_discarding s ≡ true → is_forwarding s ≡ true → ⊥
 not_both Discarding d f = cc
 not_both Learning d f = cc
@@ -143,24 +136,17 @@ active_role : (r : Role) (s : PortState) → (is_root_or_designated r ≡ false 
     → is_forwarding s ≡ true → is_root_or_designated r ≡ true
 active_role Root s quiet e = refl
 active_role Designated s quiet e = refl
-active_role Disabled s quiet e = absurd (not_both s (quiet refl) e)
-active_role Alternate s quiet e = absurd (not_both s (quiet refl) e)
-active_role Backup s quiet e = absurd (not_both s (quiet refl) e)
+active_role _ s quiet e = absurd (not_both s (quiet refl) e)
 
 role_up : (id : ℕ) (root : Vector) (p : Port) (r : Role) → HasRole id root p r → is_root_or_designated r ≡ true
     → p.up ≡ true
 role_up id root p Root h e = h.0
 role_up id root p Designated h e = h.0
-role_up id root p Disabled h e = cc
-role_up id root p Alternate h e = cc
-role_up id root p Backup h e = cc
+role_up id root p _ h e = cc
 
 other_is_root : (r : Role) → is_root_or_designated r ≡ true → is_designated r ≡ false → is_root r ≡ true
 other_is_root Root e d = refl
-other_is_root Designated e d = cc
-other_is_root Disabled e d = cc
-other_is_root Alternate e d = cc
-other_is_root Backup e d = cc
+other_is_root _ e d = cc
 
 -- what holds of a network of machines
 pub record Network (plan : Plan) (machines : List Machine) : Type 0 where
@@ -181,10 +167,10 @@ pub record Stands (plan : Plan) (machines : List Machine) (e : End) (m : Machine
 pub stands : (plan : Plan) (machines : List Machine) → Network plan machines → (e : End) (m : Machine) (p : Port)
     → StandsAt machines e m p → Stands plan machines e m p
 stands plan machines net e m p at =
-    let line = at_number IsInLine machines e.bridge m at.machine net.settled.in_line in
-    let has = at_number HasPorts machines e.bridge m at.machine net.are.ports in
+    let line = numbered-All IsInLine machines e.bridge m at.machine net.settled.in_line in
+    let has = numbered-All HasPorts machines e.bridge m at.machine net.are.ports in
     let known = known_port m line has e.port p at.port in
-    let free = at_number (λ n. AllByRecursion IsNotHeld n.ports) machines e.bridge m at.machine net.none_held in
+    let free = numbered-All (λ n. AllByRecursion IsNotHeld n.ports) machines e.bridge m at.machine net.none_held in
     record {
       at = at;
       line = line;
@@ -199,7 +185,7 @@ cost_above : (plan : Plan) (machines : List Machine) → Network plan machines �
     → numbered plan.links k ≡ Some link
     → IsEndOf link e → (m : Machine) (p : Port) → StandsAt machines e m p → 1 ≤ p.cost
 cost_above plan machines net k link e at which m p stands_at =
-    let ends = at_number (λ l. HasPortAt machines l.a × HasPortAt machines l.b) plan.links k link at net.are.ends in
+    let ends = numbered-All (λ l. HasPortAt machines l.a × HasPortAt machines l.b) plan.links k link at net.are.ends in
     let here : HasPortAt machines e = of_end ends which in
     let machine : here.0 ≡ m = Some-injective (sym here.2.machine ∙ stands_at.machine) in
     let port : here.1 ≡ p = Some-injective (sym here.2.port ∙ ap (λ (n : Machine). port_of n.ports e.port) machine
@@ -244,7 +230,7 @@ rises plan machines net k link at (m, n, p, q, here, there, p_forwarding, q_forw
     (active_role p.role p.state sp.port.quiet p_forwarding) in
     let q_up = role_up n.id (root_vector n.id n.ports) q q.role sq.port.role
     (active_role q.role q.state sq.port.quiet q_forwarding) in
-    elim (at_number (IsSettledLink machines) plan.links k link at net.settled.links m n p q here there p_up q_up) [
+    elim (numbered-All (IsSettledLink machines) plan.links k link at net.settled.links m n p q here there p_up q_up) [
       | inl leads ↦ inl (rise plan machines net k link at link.a link.b (inr refl) m n p q here there leads
           q_forwarding)
       | inr leads ↦ inr (rise plan machines net k link at link.b link.a (inl refl) n m q p there here leads

@@ -1,13 +1,13 @@
 -- The test of settled links means what it says.
-use Rattle.std.proofs.Common.{◌≡◌, ◌⊎◌, ℕ, List, [], ◌∷◌, Some, None, refl, sym, ap, ap₂, ◌∙◌, Bool, true, false}
-use Rattle.std.proofs.Common.{nat_eq, ◌&&◌, ◌||◌, not, inl, inr, subst}
+use Rattle.std.proofs.Common.{◌≡◌, ◌⊎◌, List, [], ◌∷◌, Some, None, refl, sym, ap, ap₂, ◌∙◌, Bool, true, false, ◌&&◌}
+use Rattle.std.proofs.Common.{◌||◌, not, inl, inr, subst}
 use Rattle.std.specs.declared.option.Option.{Option}
 use Rattle.std.specs.Option.{option_map, option_and_then}
 use Rattle.std.specs.List.{list_all, AllByRecursion}
-use Rattle.std.specs.Cmp.Lexicographic.{pointwise}
-use Rattle.std.proofs.lemmas.Bool.{eqb-true}
+use Rattle.std.proofs.lemmas.Bool.{or_right, not-true, and_parts}
+use Rattle.pb_frame.proofs.Lists.{same-one, same-self}
+use Rattle.pb_frame.specs.Admission.{same}
 use Rattle.pb_lan.specs.declared.plan.Plan.{Plan}
-use Rattle.std.proofs.lemmas.Bool.{eq-eqb}
 use Rattle.pb_lan.specs.Numbering.{numbered}
 use Rattle.pb_lan.specs.declared.plan.End.{End}
 use Rattle.pb_lan.specs.declared.plan.LinkPlan.{LinkPlan}
@@ -17,30 +17,17 @@ use Rattle.pb_rstp.specs.declared.port.Port.{Port}
 use Rattle.pb_rstp.specs.Messages.{known}
 use Rattle.pb_rstp.specs.Tree.{offered, StandsAt, LeadsTo, IsSettledLink, Place, place_in, place_at, stores_test}
 use Rattle.pb_rstp.specs.Tree.{leads_test, is_settled_between, is_settled, TestTells}
-use Rattle.pb_rstp.proofs.OrderLaws.{and-true}
-
-same_lists : (xs ys : List ℕ) → pointwise nat_eq xs ys ≡ true → xs ≡ ys
-same_lists [] [] e = refl
-same_lists [] (y ∷ ys) e = cc
-same_lists (x ∷ xs) [] e = cc
-same_lists (x ∷ xs) (y ∷ ys) e =
-    let h = and-true (nat_eq x y) (pointwise nat_eq xs ys) e in
-    ap₂ (λ a b. a ∷ b) (eqb-true x y h.0) (same_lists xs ys h.1)
-
-not-true : (b : Bool) → not b ≡ true → b ≡ false
-not-true true e = cc
-not-true false e = refl
 
 leads : (m : Machine) (p q : Port) → leads_test m p q ≡ true → LeadsTo m p q
 leads m p q e =
-    let outer = and-true (is_designated p.role && not (is_designated q.role)) (stores_test q.info (offered m p)) e in
-    let inner = and-true (is_designated p.role) (not (is_designated q.role)) outer.0 in
+    let outer = and_parts (is_designated p.role && not (is_designated q.role)) (stores_test q.info (offered m p)) e in
+    let inner = and_parts (is_designated p.role) (not (is_designated q.role)) outer.0 in
     record { here = inner.0; there = not-true (is_designated q.role) inner.1; stores = by_info q.info refl outer.1 }
   where
     by_info : (o : Option Info) → q.info ≡ o → stores_test o (offered m p) ≡ true
         → (info : Info) × (q.info ≡ Some info) × (known info ≡ offered m p)
     by_info None stored t = cc
-    by_info (Some info) stored t = (info, stored, same_lists (known info) (offered m p) t)
+    by_info (Some info) stored t = (info, stored, same-one (known info) (offered m p) t)
 
 one_leads : (m n : Machine) (p q : Port) → p.up ≡ true → q.up ≡ true
     → (not (p.up && q.up) || leads_test m p q || leads_test n q p) ≡ true → LeadsTo m p q ⊎ LeadsTo n q p
@@ -76,24 +63,17 @@ settled_links plan machines e = go plan.links e
         → AllByRecursion (IsSettledLink machines) links
     go [] e = tt
     go (l ∷ ls) e =
-        let h = and-true (is_settled_between (place_at machines l.a) (place_at machines l.b))
+        let h = and_parts (is_settled_between (place_at machines l.a) (place_at machines l.b))
         (list_all (λ link. is_settled_between (place_at machines link.a) (place_at machines link.b)) ls) e in
         (settled_link machines l h.0, go ls h.1)
 
 -- And what it means, it says.
 
-lists_same : (xs ys : List ℕ) → xs ≡ ys → pointwise nat_eq xs ys ≡ true
-lists_same xs ys e = let P : List ℕ → Type 0 = λ zs. pointwise nat_eq xs zs ≡ true in subst P e (itself xs)
-  where
-    itself : (zs : List ℕ) → pointwise nat_eq zs zs ≡ true
-    itself [] = refl
-    itself (z ∷ zs) = ap₂ (λ a b. a && b) (eq-eqb z z refl) (itself zs)
-
 leads_passes : (m : Machine) (p q : Port) → LeadsTo m p q → leads_test m p q ≡ true
 leads_passes m p q leads =
     let stores : stores_test q.info (offered m p) ≡ true =
     ap (λ o. stores_test o (offered m p)) leads.stores.1
-    ∙ lists_same (known leads.stores.0) (offered m p) leads.stores.2 in
+    ∙ ap (same (known leads.stores.0)) (sym leads.stores.2) ∙ same-self (known leads.stores.0) in
     ap₂ (λ a b. a && b) (ap₂ (λ a b. a && not b) leads.here leads.there) stores
 
 -- what stands at an end is its place
@@ -124,26 +104,20 @@ link_passes machines link settled = by_places (place_at machines link.a) (place_
         → (u || leads_test m p q || leads_test n q p) ≡ true
     by_leads m n p q true h = refl
     by_leads m n p q false (inl h) = ap (λ t. t || leads_test n q p) (leads_passes m p q h)
-    by_leads m n p q false (inr h) = either (leads_test m p q) (leads_test n q p) (leads_passes n q p h)
-      where
-        either : (s t : Bool) → t ≡ true → (s || t) ≡ true
-        either true t e = refl
-        either false t e = e
+    by_leads m n p q false (inr h) = or_right (leads_test m p q) (leads_test n q p) (leads_passes n q p h)
 
     by_up : (m n : Machine) (p q : Port) (u v : Bool) → p.up ≡ u → q.up ≡ v → StandsAt machines link.a m p
         → StandsAt machines link.b n q
         → (not (u && v) || leads_test m p q || leads_test n q p) ≡ true
     by_up m n p q true true eu ev here there = by_leads m n p q false (settled m n p q here there eu ev)
-    by_up m n p q true false eu ev here there = refl
-    by_up m n p q false v eu ev here there = refl
+    by_up m n p q _ _ eu ev here there = refl
 
     by_places : (a b : Option Place) → place_at machines link.a ≡ a → place_at machines link.b ≡ b
         → is_settled_between a b ≡ true
-    by_places None b ea eb = refl
-    by_places (Some a) None ea eb = refl
     by_places (Some a) (Some b) ea eb =
         by_up a.machine b.machine a.port b.port a.port.up b.port.up refl refl (place_stands machines link.a a ea)
         (place_stands machines link.b b eb)
+    by_places _ _ ea eb = refl
 
 pub links_pass : (plan : Plan) (machines : List Machine) → AllByRecursion (IsSettledLink machines) plan.links
     → is_settled plan machines ≡ true

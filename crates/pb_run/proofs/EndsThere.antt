@@ -26,17 +26,7 @@ still_there (end ∷ ends) (suc i) (suc n) other h = still_there ends i n (λ sa
 
 stays : {X : Type 0} (ends left : List (Option X)) (given i n : ℕ) → left ≡ slice_set ends given None → given ≡ i
     → (n ≡ i → ⊥) → IsThere ends n → IsThere left n
-stays {X} ends left given i n e is other h =
-    subst (λ (zs : List (Option X)). IsThere zs n) (sym (e ∙ ap (λ m. slice_set ends m None) is))
-    (still_there ends i n other h)
-
--- the end of the ring of a number that was worked out
-pub there_as : {X : Type 0} (ends : List (Option X)) (n m : ℕ) → n ≡ m → IsThere ends m → IsThere ends n
-there_as ends n m e h = subst (IsThere ends) (sym e) h
-
-pub there_still : {X : Type 0} (ends left : List (Option X)) (n m : ℕ) → left ≡ ends → n ≡ m → IsThere ends m
-    → IsThere left n
-there_still {X} ends left n m e is h = subst (λ (zs : List (Option X)). IsThere zs n) (sym e) (there_as ends n m is h)
+stays ends left given i n e is other h = rw (e, is) (still_there ends i n other h)
 
 -- two local ports have no ring in common
 into_apart : (one two : ℕ × ℕ) → 1 ≤ one.0 → IsNumber one.1 16 → 1 ≤ two.0 → IsNumber two.1 16 → (two ≡ one → ⊥)
@@ -105,9 +95,7 @@ outer_rest outlets outlets_left inlets inlets_left one into out has is_into is_o
 -- where all are there, and one more is
 pub one_more_there : {X : Type 0} (ends more : List (Option X)) (x : X) → more ≡ ends ++ Some x ∷ []
     → ((n : ℕ) → n < length ends → IsThere ends n) → (n : ℕ) → n < length more → IsThere more n
-one_more_there {X} ends more x e all n within =
-    subst (λ (zs : List (Option X)). IsThere zs n) (sym e)
-    (by ends all n (subst (λ (zs : List (Option X)). n < length zs) e within))
+one_more_there {X} ends more x e all n within = rw e (by ends all n (rw e at within))
   where
     by : (xs : List (Option X)) → ((n : ℕ) → n < length xs → IsThere xs n) → (n : ℕ) → n < length (xs ++ Some x ∷ [])
         → IsThere (xs ++ Some x ∷ []) n
@@ -174,78 +162,52 @@ from_here xs k x at =
     rw add-one (drop-cons xs k x (slice_get_within xs k x at) ∙ ap (λ z. z ∷ drop (suc k) xs)
     (get_or_from_slice_get xs k x x at))
 
--- the local ports of one link, and of those after it
+-- the first of some local ports, and the others
+module _ (one : ℕ × ℕ) (others ports : List (ℕ × ℕ)) (is : ports ≡ one ∷ others) where
+  all_there : (P : (ℕ × ℕ) → Type 0) → AllByRecursion P ports → P one × AllByRecursion P others
+  all_there P all = subst (AllByRecursion P) is all
+
+  all_distinct : IsDistinct is_same_port ports → IsDistinct is_same_port (one ∷ others)
+  all_distinct distinct = subst (IsDistinct is_same_port) is distinct
+
+  pub first_there : (P : (ℕ × ℕ) → Type 0) → AllByRecursion P ports → P one
+  first_there P all = (all_there P all).0
+
+  pub others_distinct : IsDistinct is_same_port ports → IsDistinct is_same_port others
+  unfolding IsDistinct
+  others_distinct distinct = (all_distinct distinct).1
+
+  pub others_there : (P Q : (ℕ × ℕ) → Type 0) → IsDistinct is_same_port ports
+      → ((there : ℕ × ℕ) → (there ≡ one → ⊥) → P there → Q there) → AllByRecursion P ports → AllByRecursion Q others
+  unfolding IsDistinct
+  others_there P Q distinct keeps all = all_kept P Q one others keeps (all_distinct distinct).0 (all_there P all).1
+
+-- the local port of one customer port, and those after it
+pub customer_ports : (customers : List CustomerPlan) (k : ℕ) (c : CustomerPlan) → slice_get customers k ≡ Some c
+    → ports_in [] (drop k customers) ≡ (c.bridge, c.port) ∷ ports_in [] (drop (k + 1) customers)
+customer_ports customers k c at = ap (λ (cs : List CustomerPlan). ports_in [] cs) (from_here customers k c at)
+
+-- those of one link, and those after it
 module _ (links : List LinkPlan) (customers : List CustomerPlan) (k : ℕ) (link : LinkPlan)
     (at : slice_get links k ≡ Some link) where
-  link_ports : ports_in (drop k links) customers ≡ (link.a.bridge, link.a.port) ∷ (link.b.bridge, link.b.port)
-      ∷ ports_in (drop (k + 1) links) customers
+  abbrev later : List (ℕ × ℕ)
+  later = (link.b.bridge, link.b.port) ∷ ports_in (drop (k + 1) links) customers
+
+  pub link_ports : ports_in (drop k links) customers ≡ (link.a.bridge, link.a.port) ∷ later
   link_ports = ap (λ (ls : List LinkPlan). ports_in ls customers) (from_here links k link at)
 
-  link_all : (P : (ℕ × ℕ) → Type 0) → AllByRecursion P (ports_in (drop k links) customers)
-      → P (link.a.bridge, link.a.port)
-      × (P (link.b.bridge, link.b.port) × AllByRecursion P (ports_in (drop (k + 1) links) customers))
-  link_all P all = subst (AllByRecursion P) link_ports all
-
-  pub first_end : (P : (ℕ × ℕ) → Type 0) → AllByRecursion P (ports_in (drop k links) customers)
-      → P (link.a.bridge, link.a.port)
-  first_end P all = (link_all P all).0
-
-  link_distinct : IsDistinct is_same_port (ports_in (drop k links) customers)
-      → IsDistinct is_same_port ((link.a.bridge, link.a.port) ∷ (link.b.bridge, link.b.port) ∷ ports_in
-      (drop (k + 1) links) customers)
-  link_distinct distinct = subst (IsDistinct is_same_port) link_ports distinct
-
-  pub second_end : (P Q : (ℕ × ℕ) → Type 0) → IsDistinct is_same_port (ports_in (drop k links) customers)
-      → ((there : ℕ × ℕ) → (there ≡ (link.a.bridge, link.a.port) → ⊥) → P there → Q there)
-      → AllByRecursion P (ports_in (drop k links) customers) → Q (link.b.bridge, link.b.port)
-  unfolding IsDistinct
-  second_end P Q distinct keeps all =
-      keeps (link.b.bridge, link.b.port) (tested_apart (link.a.bridge, link.a.port) (link.b.bridge, link.b.port)
-      (link_distinct distinct).0.0) (link_all P all).1.0
-
-  pub after_link : (P Q R : (ℕ × ℕ) → Type 0) → IsDistinct is_same_port (ports_in (drop k links) customers)
-      → ((there : ℕ × ℕ) → (there ≡ (link.a.bridge, link.a.port) → ⊥) → P there → Q there)
-      → ((there : ℕ × ℕ) → (there ≡ (link.b.bridge, link.b.port) → ⊥) → Q there → R there)
-      → AllByRecursion P (ports_in (drop k links) customers)
-      → AllByRecursion R (ports_in (drop (k + 1) links) customers)
-  unfolding IsDistinct
-  after_link P Q R distinct one two all =
-      let apart = link_distinct distinct in
-      all_kept Q R (link.b.bridge, link.b.port) _ two apart.1.0
-      (all_kept P Q (link.a.bridge, link.a.port) _ one apart.0.1 (link_all P all).1.1)
+  later_distinct : IsDistinct is_same_port (ports_in (drop k links) customers) → IsDistinct is_same_port later
+  later_distinct distinct =
+      others_distinct (link.a.bridge, link.a.port) later (ports_in (drop k links) customers) link_ports distinct
 
   pub apart_after_link : IsDistinct is_same_port (ports_in (drop k links) customers)
       → IsDistinct is_same_port (ports_in (drop (k + 1) links) customers)
-  unfolding IsDistinct
-  apart_after_link distinct = (link_distinct distinct).1.1
+  apart_after_link distinct = others_distinct (link.b.bridge, link.b.port) (ports_in (drop (k + 1) links) customers)
+      later refl (later_distinct distinct)
 
--- and those of one customer port, and of those after it
-module _ (customers : List CustomerPlan) (k : ℕ) (customer : CustomerPlan)
-    (at : slice_get customers k ≡ Some customer) where
-  customer_ports : ports_in [] (drop k customers) ≡ (customer.bridge, customer.port) ∷ ports_in []
-      (drop (k + 1) customers)
-  customer_ports = ap (λ (cs : List CustomerPlan). ports_in [] cs) (from_here customers k customer at)
-
-  customer_all : (P : (ℕ × ℕ) → Type 0) → AllByRecursion P (ports_in [] (drop k customers))
-      → P (customer.bridge, customer.port) × AllByRecursion P (ports_in [] (drop (k + 1) customers))
-  customer_all P all = subst (AllByRecursion P) customer_ports all
-
-  pub this_customer : (P : (ℕ × ℕ) → Type 0) → AllByRecursion P (ports_in [] (drop k customers))
-      → P (customer.bridge, customer.port)
-  this_customer P all = (customer_all P all).0
-
-  customer_distinct : IsDistinct is_same_port (ports_in [] (drop k customers))
-      → IsDistinct is_same_port ((customer.bridge, customer.port) ∷ ports_in [] (drop (k + 1) customers))
-  customer_distinct distinct = subst (IsDistinct is_same_port) customer_ports distinct
-
-  pub after_customer : (P Q : (ℕ × ℕ) → Type 0) → IsDistinct is_same_port (ports_in [] (drop k customers))
-      → ((there : ℕ × ℕ) → (there ≡ (customer.bridge, customer.port) → ⊥) → P there → Q there)
-      → AllByRecursion P (ports_in [] (drop k customers)) → AllByRecursion Q (ports_in [] (drop (k + 1) customers))
-  unfolding IsDistinct
-  after_customer P Q distinct keeps all = all_kept P Q (customer.bridge, customer.port) _ keeps
-      (customer_distinct distinct).0 (customer_all P all).1
-
-  pub apart_after_customer : IsDistinct is_same_port (ports_in [] (drop k customers))
-      → IsDistinct is_same_port (ports_in [] (drop (k + 1) customers))
-  unfolding IsDistinct
-  apart_after_customer distinct = (customer_distinct distinct).1
+  pub after_link : (Q R : (ℕ × ℕ) → Type 0) → IsDistinct is_same_port (ports_in (drop k links) customers)
+      → ((there : ℕ × ℕ) → (there ≡ (link.b.bridge, link.b.port) → ⊥) → Q there → R there)
+      → AllByRecursion Q later → AllByRecursion R (ports_in (drop (k + 1) links) customers)
+  after_link Q R distinct two all =
+      others_there (link.b.bridge, link.b.port) (ports_in (drop (k + 1) links) customers) later refl Q R
+      (later_distinct distinct) two all

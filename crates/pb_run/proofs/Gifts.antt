@@ -1,11 +1,11 @@
 -- What workers are given, one more at a time, and which rings join them.
-use Rattle.std.proofs.Common.{◌≡◌, ℕ, suc, ◌+◌, ◌-◌, ◌*◌, ◌<◌, ◌≤◌, ◌⊎◌, inl, inr, List, [], ◌∷◌, ◌++◌, Some, length}
+use Rattle.std.proofs.Common.{◌≡◌, ℕ, suc, ◌+◌, ◌-◌, ◌*◌, ◌<◌, ◌≤◌, inl, inr, List, [], ◌∷◌, ◌++◌, Some, length}
 use Rattle.std.proofs.Common.{slice_get, slice_index_or, map, refl, sym, ap, ◌∙◌, subst, arith, length-append}
+use Rattle.std.proofs.Common.{below_more}
 use Rattle.std.proofs.lemmas.List.{map-append, length-map}
 use Rattle.pb_frame.proofs.Lists.{Some-injective, All-at}
 use Rattle.pb_lan.proofs.PortsInPlans.{sound-end}
 use Rattle.pb_lan.specs.Plans.{IsSound, IsSoundEnd, IsSoundCustomer}
-use Rattle.pb_frame.specs.Lists.{Rises}
 use Rattle.pb_lan.specs.declared.plan.CustomerPlan.{CustomerPlan}
 use Rattle.pb_lan.specs.declared.plan.End.{End}
 use Rattle.pb_lan.specs.declared.plan.LinkPlan.{LinkPlan}
@@ -14,7 +14,7 @@ use Rattle.pb_link.proofs.HandLemmas.{slice_get-next}
 use Rattle.pb_run.specs.Gifts.{BridgeGift, IsBridgeGift, AreBridges, LaneGift, lane_gift, AreLanes, AccessGift}
 use Rattle.pb_run.specs.Gifts.{access_gift, AreAccesses}
 use Rattle.pb_run.specs.Wires.{ring_into, ring_out}
-use Rattle.pb_run.proofs.Lists.{each_more, below_next, slice_get-front}
+use Rattle.pb_run.proofs.Lists.{each_more, slice_get-front}
 
 -- one bridge more
 pub bridges_more : (plan : Plan) (k : ℕ) (gifts : List BridgeGift) (gift : BridgeGift) → AreBridges plan k gifts
@@ -25,86 +25,57 @@ bridges_more plan k gifts gift are is = record {
       (subst (λ n. IsBridgeGift plan (n + 1) gift) (sym are.counted) is);
 }
 
+-- what stands at the end of a list
+at_end : {X : Type 0} (xs : List X) (x : X) (n : ℕ) → length xs ≡ n → slice_get (xs ++ x ∷ []) n ≡ Some x
+at_end xs x n counted = ap (slice_get (xs ++ x ∷ [])) (sym counted) ∙ slice_get-next xs [] x
+
+-- what stands for each of so many parts of a plan, and for one more, in a list in which all of it stands still
+one_more_stands : {P G : Type 0} (gift : ℕ → P → G) (place : ℕ → ℕ) (ps : List P) (k : ℕ) (p : P) (gifts more : List G)
+    → slice_get ps k ≡ Some p → ((n : ℕ) (g : G) → slice_get gifts n ≡ Some g → slice_get more n ≡ Some g)
+    → ((j : ℕ) (q : P) → j < k → slice_get ps j ≡ Some q → slice_get gifts (place j) ≡ Some (gift j q))
+    → slice_get more (place k) ≡ Some (gift k p)
+    → (j : ℕ) (q : P) → j < k + 1 → slice_get ps j ≡ Some q → slice_get more (place j) ≡ Some (gift j q)
+one_more_stands {P} gift place ps k p gifts more at stays are here j q less there =
+    below_more (λ n. (r : P) → slice_get ps n ≡ Some r → slice_get more (place n) ≡ Some (gift n r)) k
+    (λ n below r h. stays (place n) (gift n r) (are n r below h))
+    (λ r h. here ∙ ap (λ z. Some (gift k z)) (Some-injective (sym at ∙ h))) j less q there
+
 -- one customer port more
 pub accesses_more : (plan : Plan) (k : ℕ) (c : CustomerPlan) (gifts : List AccessGift) (gift : AccessGift)
     → slice_get plan.customers k ≡ Some c → AreAccesses plan k gifts → gift ≡ access_gift (k + 1) c
     → AreAccesses plan (k + 1) (gifts ++ gift ∷ [])
 accesses_more plan k c gifts gift at are is = record {
   counted = omega (arith, are.counted, length-append gifts (gift ∷ []));
-  each = λ j d less there. by j d there (below_next j k less);
+  each = one_more_stands (λ j d. access_gift (j + 1) d) (λ j. j) plan.customers k c gifts (gifts ++ gift ∷ []) at
+      (slice_get-front gifts (gift ∷ [])) are.each (at_end gifts gift k are.counted ∙ ap (λ g. Some g) is);
 }
-  where
-    last : (d : CustomerPlan) → slice_get plan.customers k ≡ Some d
-        → slice_get (gifts ++ gift ∷ []) k ≡ Some (access_gift (k + 1) d)
-    last d there =
-        let same : c ≡ d = Some-injective (sym at ∙ there) in
-        ap (slice_get (gifts ++ gift ∷ [])) (sym are.counted) ∙ slice_get-next gifts [] gift
-        ∙ ap (λ g. Some g) (is ∙ ap (access_gift (k + 1)) same)
-
-    by : (j : ℕ) (d : CustomerPlan) → slice_get plan.customers j ≡ Some d → (j < k) ⊎ (j ≡ k)
-        → slice_get (gifts ++ gift ∷ []) j ≡ Some (access_gift (j + 1) d)
-    by j d there (inl less) = slice_get-front gifts (gift ∷ []) j (access_gift (j + 1) d) (are.each j d less there)
-    by j d there (inr same) =
-        subst (λ n. slice_get (gifts ++ gift ∷ []) n ≡ Some (access_gift (n + 1) d)) (sym same)
-        (last d (subst (λ n. slice_get plan.customers n ≡ Some d) same there))
 
 -- two lanes more
 pub lanes_more : (plan : Plan) (k : ℕ) (link : LinkPlan) (gifts : List LaneGift) (one two : LaneGift)
     → slice_get plan.links k ≡ Some link → AreLanes plan k gifts
     → one ≡ lane_gift (2 * k + 1) link.a link.b link.lost_ab → two ≡ lane_gift (2 * k + 2) link.b link.a link.lost_ba
     → AreLanes plan (k + 1) ((gifts ++ one ∷ []) ++ two ∷ [])
-lanes_more plan k link gifts one two at are is_one is_two = record {
-  counted = omega (arith, are.counted, length-append gifts (one ∷ []), length-append (gifts ++ one ∷ []) (two ∷ []));
-  ab = λ j l less there. by_ab j l there (below_next j k less);
-  ba = λ j l less there. by_ba j l there (below_next j k less);
-}
+lanes_more plan k link gifts one two at are is_one is_two =
+    let counted : length (gifts ++ one ∷ []) ≡ 2 * k + 1 = omega (arith, are.counted, length-append gifts (one ∷ [])) in
+    record {
+      counted = omega (arith, counted, length-append (gifts ++ one ∷ []) (two ∷ []));
+      ab = one_more_stands (λ j l. lane_gift (2 * j + 1) l.a l.b l.lost_ab) (λ j. 2 * j) plan.links k link gifts
+          ((gifts ++ one ∷ []) ++ two ∷ []) at kept are.ab
+          (slice_get-front (gifts ++ one ∷ []) (two ∷ []) (2 * k) one (at_end gifts one (2 * k) are.counted)
+          ∙ ap (λ g. Some g) is_one);
+      ba = one_more_stands (λ j l. lane_gift (2 * j + 2) l.b l.a l.lost_ba) (λ j. 2 * j + 1) plan.links k link gifts
+          ((gifts ++ one ∷ []) ++ two ∷ []) at kept are.ba
+          (at_end (gifts ++ one ∷ []) two (2 * k + 1) counted ∙ ap (λ g. Some g) is_two);
+    }
   where
     kept : (n : ℕ) (g : LaneGift) → slice_get gifts n ≡ Some g → slice_get ((gifts ++ one ∷ []) ++ two ∷ []) n ≡ Some g
     kept n g h = slice_get-front (gifts ++ one ∷ []) (two ∷ []) n g (slice_get-front gifts (one ∷ []) n g h)
 
-    last_ab : (l : LinkPlan) → slice_get plan.links k ≡ Some l
-        → slice_get ((gifts ++ one ∷ []) ++ two ∷ []) (2 * k) ≡ Some (lane_gift (2 * k + 1) l.a l.b l.lost_ab)
-    last_ab l there =
-        let same : link ≡ l = Some-injective (sym at ∙ there) in
-        let here : slice_get (gifts ++ one ∷ []) (2 * k) ≡ Some one = ap (slice_get (gifts ++ one ∷ []))
-        (sym are.counted) ∙ slice_get-next gifts [] one in
-        slice_get-front (gifts ++ one ∷ []) (two ∷ []) (2 * k) one here
-        ∙ ap (λ g. Some g) (is_one ∙ ap (λ (x : LinkPlan). lane_gift (2 * k + 1) x.a x.b x.lost_ab) same)
-
-    last_ba : (l : LinkPlan) → slice_get plan.links k ≡ Some l
-        → slice_get ((gifts ++ one ∷ []) ++ two ∷ []) (2 * k + 1) ≡ Some (lane_gift (2 * k + 2) l.b l.a l.lost_ba)
-    last_ba l there =
-        let same : link ≡ l = Some-injective (sym at ∙ there) in
-        let counted : 2 * k + 1 ≡ length (gifts ++ one ∷ []) =
-        omega (arith, are.counted, length-append gifts (one ∷ [])) in
-        ap (slice_get ((gifts ++ one ∷ []) ++ two ∷ [])) counted ∙ slice_get-next (gifts ++ one ∷ []) [] two
-        ∙ ap (λ g. Some g) (is_two ∙ ap (λ (x : LinkPlan). lane_gift (2 * k + 2) x.b x.a x.lost_ba) same)
-
-    by_ab : (j : ℕ) (l : LinkPlan) → slice_get plan.links j ≡ Some l → (j < k) ⊎ (j ≡ k)
-        → slice_get ((gifts ++ one ∷ []) ++ two ∷ []) (2 * j) ≡ Some (lane_gift (2 * j + 1) l.a l.b l.lost_ab)
-    by_ab j l there (inl less) = kept (2 * j) (lane_gift (2 * j + 1) l.a l.b l.lost_ab) (are.ab j l less there)
-    by_ab j l there (inr same) =
-        subst (λ n. slice_get ((gifts ++ one ∷ []) ++ two ∷ []) (2 * n) ≡ Some
-        (lane_gift (2 * n + 1) l.a l.b l.lost_ab)) (sym same)
-        (last_ab l (subst (λ n. slice_get plan.links n ≡ Some l) same there))
-
-    by_ba : (j : ℕ) (l : LinkPlan) → slice_get plan.links j ≡ Some l → (j < k) ⊎ (j ≡ k)
-        → slice_get ((gifts ++ one ∷ []) ++ two ∷ []) (2 * j + 1) ≡ Some (lane_gift (2 * j + 2) l.b l.a l.lost_ba)
-    by_ba j l there (inl less) = kept (2 * j + 1) (lane_gift (2 * j + 2) l.b l.a l.lost_ba) (are.ba j l less there)
-    by_ba j l there (inr same) =
-        subst (λ n. slice_get ((gifts ++ one ∷ []) ++ two ∷ []) (2 * n + 1) ≡ Some
-        (lane_gift (2 * n + 2) l.b l.a l.lost_ba)) (sym same)
-        (last_ba l (subst (λ n. slice_get plan.links n ≡ Some l) same there))
-
--- the ends of a link, and what its lanes lose
+-- the ends of a link
 pub link_ends : (plan : Plan) (k : ℕ) (link : LinkPlan) → IsSound plan → slice_get plan.links k ≡ Some link
     → IsSoundEnd plan link.a × IsSoundEnd plan link.b
 link_ends plan k link sound at =
     (sound-end plan sound (suc k) link link.a at (inl refl), sound-end plan sound (suc k) link link.b at (inr refl))
-
-pub link_losses : (plan : Plan) (k : ℕ) (link : LinkPlan) → IsSound plan → slice_get plan.links k ≡ Some link
-    → Rises link.lost_ab × Rises link.lost_ba
-link_losses plan k link sound at = All-at (λ l. Rises l.lost_ab × Rises l.lost_ba) plan.links k link at sound.losses
 
 -- where a customer port stands
 pub customer_stands : (plan : Plan) (k : ℕ) (c : CustomerPlan) → IsSound plan → slice_get plan.customers k ≡ Some c

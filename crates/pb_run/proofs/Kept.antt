@@ -1,7 +1,9 @@
 -- What each port gave and took, in lists of ports.
-use Rattle.std.proofs.Common.{◌≡◌, ℕ, zero, suc, List, [], ◌∷◌, All, Some, None, map, length, unwrap_or, slice_get}
+use Rattle.std.proofs.Common.{◌≡◌, ℕ, zero, suc, List, [], ◌∷◌, All, Some, None, map, length}
 use Rattle.std.proofs.Common.{refl, sym, ap, subst, ◌∙◌, append-nil}
 use Rattle.std.proofs.lemmas.List.{length-map}
+use Rattle.std.proofs.lemmas.List.Elements.{All-head, All-tail}
+use Rattle.std.proofs.lemmas.Simd.{map-map}
 use Rattle.std.specs.declared.option.Option.{Option}
 use Rattle.pb_lan.specs.Counts.{entered, left}
 use Rattle.pb_lan.specs.declared.step.Step.{Step}
@@ -12,50 +14,25 @@ use Rattle.pb_lan.specs.Records.{steps_of}
 use Rattle.pb_run.specs.Runs.{ArePortsKept, frames_of, last_of}
 use Rattle.pb_run.specs.declared.access.Last.{Last}
 use Rattle.pb_run.specs.declared.access.Last.TheVariants.{More}
-use Rattle.pb_work.proofs.Alls.{all_rest, all_head}
 
 module _ {X P : Type 0} (script tally : P → Option Frames) (was port : X → P) (steps : X → List Step)
     (last : X → Last) where
   abbrev Keeps : X → Type 0
   Keeps w = KeepsPort script tally (was w) (port w) (steps w) (last w)
 
-  script_at : (ws : List X) (r : ℕ) → All Keeps ws
-      → unwrap_or (slice_get (map script (map was ws)) r) None ≡ in_front
-      (entered (unwrap_or (slice_get (map steps ws) r) []))
-      (unwrap_or (slice_get (map script (map port ws)) r) None)
-  script_at [] r all = refl
-  script_at (w ∷ ws) zero all = (all_head Keeps w ws (w ∷ ws) refl all).0
-  script_at (w ∷ ws) (suc r) all = script_at ws r (all_rest Keeps w ws (w ∷ ws) refl all)
+  abbrev AreKept : List X → ℕ → Type 0
+  AreKept ws number =
+      (frames_of (map script (map was ws)) number ≡ in_front (entered (steps_of (map steps ws) number))
+      (frames_of (map script (map port ws)) number))
+      × (frames_of (map tally (map port ws)) number ≡ behind (frames_of (map tally (map was ws)) number)
+      (left (steps_of (map steps ws) number)))
+      × IsEnded (last_of (map last ws) number) (frames_of (map script (map port ws)) number)
 
-  tally_at : (ws : List X) (r : ℕ) → All Keeps ws
-      → unwrap_or (slice_get (map tally (map port ws)) r) None ≡ behind
-      (unwrap_or (slice_get (map tally (map was ws)) r) None) (left (unwrap_or (slice_get (map steps ws) r) []))
-  tally_at [] r all = refl
-  tally_at (w ∷ ws) zero all = (all_head Keeps w ws (w ∷ ws) refl all).1
-  tally_at (w ∷ ws) (suc r) all = tally_at ws r (all_rest Keeps w ws (w ∷ ws) refl all)
-
-  ended_at : (ws : List X) (r : ℕ) → All Keeps ws
-      → IsEnded (unwrap_or (slice_get (map last ws) r) More) (unwrap_or (slice_get (map script (map port ws)) r) None)
-  ended_at [] r all = tt
-  ended_at (w ∷ ws) zero all = (all_head Keeps w ws (w ∷ ws) refl all).2
-  ended_at (w ∷ ws) (suc r) all = ended_at ws r (all_rest Keeps w ws (w ∷ ws) refl all)
-
-  script_by : (ws : List X) → All Keeps ws → (number : ℕ)
-      → frames_of (map script (map was ws)) number ≡ in_front (entered (steps_of (map steps ws) number))
-      (frames_of (map script (map port ws)) number)
-  script_by ws all zero = refl
-  script_by ws all (suc r) = script_at ws r all
-
-  tally_by : (ws : List X) → All Keeps ws → (number : ℕ)
-      → frames_of (map tally (map port ws)) number ≡ behind (frames_of (map tally (map was ws)) number)
-      (left (steps_of (map steps ws) number))
-  tally_by ws all zero = refl
-  tally_by ws all (suc r) = tally_at ws r all
-
-  ended_by : (ws : List X) → All Keeps ws → (number : ℕ)
-      → IsEnded (last_of (map last ws) number) (frames_of (map script (map port ws)) number)
-  ended_by ws all zero = tt
-  ended_by ws all (suc r) = ended_at ws r all
+  kept_by : (ws : List X) → All Keeps ws → (number : ℕ) → AreKept ws number
+  kept_by ws all zero = (refl, refl, tt)
+  kept_by [] all (suc r) = (refl, refl, tt)
+  kept_by (w ∷ ws) all (suc zero) = All-head Keeps w ws all
+  kept_by (w ∷ ws) all (suc (suc r)) = kept_by ws (All-tail Keeps w ws all) (suc r)
 
   pub kept_ports : (ws : List X) → All Keeps ws
       → ArePortsKept (record { scripts = map script (map was ws); tallies = map tally (map was ws) })
@@ -65,9 +42,9 @@ module _ {X P : Type 0} (script tally : P → Option Frames) (was port : X → P
     port_count = length-map (map port ws) script ∙ length-map ws port
         ∙ sym (length-map (map was ws) script ∙ length-map ws was);
     last_count = length-map ws last ∙ sym (length-map (map was ws) script ∙ length-map ws was);
-    script = script_by ws all;
-    tally = tally_by ws all;
-    used_up = ended_by ws all;
+    script = λ number. (kept_by ws all number).0;
+    tally = λ number. (kept_by ws all number).1;
+    used_up = λ number. (kept_by ws all number).2;
   }
 
   -- the same of ports, lists and answers that come back
@@ -75,18 +52,7 @@ module _ {X P : Type 0} (script tally : P → Option Frames) (was port : X → P
       → map was ws ≡ before → after ≡ map port ws → customers ≡ map steps ws → lasts ≡ map last ws → All Keeps ws
       → ArePortsKept (record { scripts = map script before; tallies = map tally before })
       (record { scripts = map script after; tallies = map tally after }) customers lasts
-  kept_back ws before after customers lasts eb ea ec el all =
-      subst (λ (zs : List Last). ArePortsKept (record { scripts = map script before; tallies = map tally before })
-      (record { scripts = map script after; tallies = map tally after }) customers zs) (sym el)
-      (subst (λ (zs : List (List Step)). ArePortsKept
-      (record { scripts = map script before; tallies = map tally before })
-      (record { scripts = map script after; tallies = map tally after }) zs (map last ws)) (sym ec)
-      (subst (λ (zs : List P). ArePortsKept (record { scripts = map script before; tallies = map tally before })
-      (record { scripts = map script zs; tallies = map tally zs }) (map steps ws) (map last ws)) (sym ea)
-      (subst (λ (zs : List P). ArePortsKept (record { scripts = map script zs; tallies = map tally zs })
-      (record { scripts = map script (map port ws); tallies = map tally (map port ws) }) (map steps ws)
-      (map last ws)) eb
-      (kept_ports ws all))))
+  kept_back ws before after customers lasts eb ea ec el all = rw (el, ec, ea, ← eb) (kept_ports ws all)
 
 -- what is seen of things through what is seen of them
 through : {X G Y : Type 0} (given : X → G) (seen : G → Y) (shown : X → Y) (ws : List X)
@@ -100,14 +66,9 @@ pub seen_through : {X G Y : Type 0} (given : X → G) (seen : G → Y) (shown : 
 seen_through given seen shown ws olds same e = through given seen shown ws same ∙ ap (map seen) e
     ∙ sym (through given seen shown olds same)
 
-part_by_part : {X Y Z : Type 0} (part : X → Y) (shown : Y → Z) (ws : List X)
-    → map shown (map part ws) ≡ map (λ w. shown (part w)) ws
-part_by_part part shown [] = refl
-part_by_part part shown (w ∷ ws) = ap (λ us. shown (part w) ∷ us) (part_by_part part shown ws)
-
 pub of_parts : {X Y Z : Type 0} (part : X → Y) (shown : Y → Z) (ws : List X) (ys : List Y) → ys ≡ map part ws
     → map shown ys ≡ map (λ w. shown (part w)) ws
-of_parts part shown ws ys e = ap (map shown) e ∙ part_by_part part shown ws
+of_parts part shown ws ys e = ap (map shown) e ∙ map-map shown part ws
 
 -- a port that has given and taken nothing
 nothing_given : (o : Option Frames) → o ≡ in_front [] o
@@ -120,11 +81,8 @@ nothing_taken (Some frames) = ap (λ fs. Some fs) (sym (append-nil frames))
 
 pub keeps_fresh : {P : Type 0} (script tally : P → Option Frames) (was port : P) (steps : List Step) (last : Last)
     → was ≡ port → steps ≡ [] → last ≡ More → KeepsPort script tally was port steps last
-keeps_fresh {P} script tally was port steps last same none more =
-    subst (λ (p : P). KeepsPort script tally p port steps last) (sym same)
-    (subst (λ (ss : List Step). KeepsPort script tally port port ss last) (sym none)
-    (subst (λ (l : Last). KeepsPort script tally port port [] l) (sym more)
-    (nothing_given (script port), nothing_taken (tally port), tt)))
+keeps_fresh script tally was port steps last same none more =
+    rw (same, none, more) (nothing_given (script port), nothing_taken (tally port), tt)
 
 -- as many come back as were given, one for each port
 pub as_many : {X G P : Type 0} (given : X → G) (port : X → P) (ws olds : List X) (ports : List P)

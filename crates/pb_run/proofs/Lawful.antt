@@ -1,6 +1,6 @@
 -- The record of workers that have met is lawful.
 use Rattle.std.proofs.Common.{◌≡◌, ◌↔◌, Bool, IsTrue, ℕ, zero, suc, ◌+◌, ◌*◌, ◌<◌, List, [], ◌∷◌, Some, None, All}
-use Rattle.std.proofs.Common.{map, length, unwrap_or, slice_get, refl, sym, ap, ◌∙◌, subst, arith}
+use Rattle.std.proofs.Common.{map, length, unwrap_or, slice_get, refl, sym, ap, ◌∙◌, subst, arith, add-one}
 use Rattle.std.proofs.lemmas.List.{length-map}
 use Rattle.std.proofs.lemmas.Option.{slice_get_within}
 use Rattle.pb_frame.proofs.Lists.{Some-injective}
@@ -50,13 +50,10 @@ lawful_bridges gift steps plan ws are all n =
     by_number (λ m ms. IsLawfulBridge spanning_tree plan m ms) steps ws n (λ m. tt)
     (λ j w h.
     let is = are.each j (gift w) (part_at gift ws j w h) in
-    let same : (gift w).1 ≡ suc j = is.bridge ∙ next j in
+    let same : (gift w).1 ≡ suc j = is.bridge ∙ add-one j in
     let lawful = all_at (λ x. IsLawfulBridge spanning_tree (gift x).2 (gift x).1 (steps x)) ws j w all h in
     subst (λ (p : Plan). IsLawfulBridge spanning_tree p (suc j) (steps w)) is.plans
     (subst (λ m. IsLawfulBridge spanning_tree (gift w).2 m (steps w)) same lawful))
-  where
-    next : (j : ℕ) → j + 1 ≡ suc j
-    next j = omega arith
 
 lawful_lane : {X : Type 0} (gift : X → LaneGift) (steps : X → List Step) (ws : List X) (r n : ℕ) (g : LaneGift)
     → slice_get (map gift ws) r ≡ Some g → n ≡ suc r
@@ -91,11 +88,8 @@ lawful_ports gift steps plan ws are all n =
     (arith, are.counted) in
     let c = numbered-exists plan.customers (suc j) (omega arith, omega arith) in
     let same : gift w ≡ access_gift (j + 1) c.0 = Some-injective (sym at ∙ are.each j c.0 within c.1) in
-    let number : (gift w).0 ≡ suc j = ap (λ (z : AccessGift). z.0) same ∙ next j in
+    let number : (gift w).0 ≡ suc j = ap (λ (z : AccessGift). z.0) same ∙ add-one j in
     subst (λ m. IsLawfulPort m (steps w)) number (all_at (λ x. IsLawfulPort (gift x).0 (steps x)) ws j w all h))
-  where
-    next : (j : ℕ) → j + 1 ≡ suc j
-    next j = omega arith
 
 -- what each part of a record says makes it lawful
 pub lawful_record : (plan : Plan) (rec : Record)
@@ -173,22 +167,11 @@ lawful_workers bridge bridge_steps lane lane_steps access access_steps plan rec 
     (ap length rec_bs ∙ length-map bs bridge_steps ∙ sym (length-map bs bridge) ∙ fits_bs.counted)
     (ap length rec_ls ∙ length-map ls lane_steps ∙ sym (length-map ls lane) ∙ fits_ls.counted)
     (ap length rec_ds ∙ length-map ds access_steps ∙ sym (length-map ds access) ∙ fits_ds.counted)
-    (λ n. subst (λ (zs : List (List Step)). IsLawfulBridge spanning_tree plan n (steps_of zs n)) (sym rec_bs)
-    (lawful_bridges bridge bridge_steps plan bs fits_bs law_bs n))
-    (λ k link at. subst (λ (zs : List (List Step)). IsLawfulLane link.lost_ab (steps_of zs (2 * k + 1)) × IsLawfulLane
-    link.lost_ba (steps_of zs (2 * k + 2))) (sym rec_ls)
-    (lawful_lanes lane lane_steps plan ls k link fits_ls law_ls at))
-    (λ n. subst (λ (zs : List (List Step)). IsLawfulPort n (steps_of zs n)) (sym rec_ds)
-    (lawful_ports access access_steps plan ds fits_ds law_ds n))
-    (λ k c less at. subst (λ (zs : List (List Step)). MeetsCustomer (of_customers rec.bridges zs) (k + 1) c)
-    (sym (rec_ds ∙ ed1))
-    (subst (λ (zs : List (List Step)). MeetsCustomer (of_customers zs d1) (k + 1) c) (sym (rec_bs ∙ eb1))
-    (met_ds k c less at)))
-    (λ k link less at.
-    subst (λ (zs : List (List Step)). MeetsOver (of_lanes rec.bridges zs) (2 * k + 1) link.a link.b × MeetsOver
-    (of_lanes rec.bridges zs) (2 * k + 2) link.b link.a) (sym (rec_ls ∙ el1))
-    (subst (λ (zs : List (List Step)). MeetsOver (of_lanes zs l1) (2 * k + 1) link.a link.b × MeetsOver
-    (of_lanes zs l1) (2 * k + 2) link.b link.a) (sym (rec_bs ∙ eb2)) (met_ls k link less at)))
+    (λ n. rw rec_bs (lawful_bridges bridge bridge_steps plan bs fits_bs law_bs n))
+    (λ k link at. rw rec_ls (lawful_lanes lane lane_steps plan ls k link fits_ls law_ls at))
+    (λ n. rw rec_ds (lawful_ports access access_steps plan ds fits_ds law_ds n))
+    (λ k c less at. rw (rec_ds ∙ ed1, rec_bs ∙ eb1) (met_ds k c less at))
+    (λ k link less at. rw (rec_ls ∙ el1, rec_bs ∙ eb2) (met_ls k link less at))
 
 -- how a run ended, by a record that is lawful
 pub tells_ended : (plan : Plan) (rec : Record) (lasts looked : List Last) (drained : Bool) (ended : Ended)

@@ -1,21 +1,18 @@
 -- Lists that grow, and things at their places.
-use Rattle.std.proofs.Common.{◌≡◌, ◌⊎◌, inl, inr, ℕ, zero, suc, ◌+◌, ◌<◌, false, List, [], ◌∷◌, ◌++◌, Some, None, All}
+use Rattle.std.proofs.Common.{◌≡◌, ℕ, zero, suc, ◌+◌, ◌<◌, false, List, [], ◌∷◌, ◌++◌, Some, None, All}
 use Rattle.std.proofs.Common.{map, length, slice_get, slice_set, slice_index_or, get_or, refl, sym, ap, ◌∙◌, subst}
-use Rattle.std.proofs.Common.{arith}
+use Rattle.std.proofs.Common.{arith, length-append}
 use Rattle.std.proofs.Math.Seq.{map-set_same}
 use Rattle.std.proofs.lemmas.List.{map-append}
-use Rattle.std.proofs.lemmas.Option.{slice_get-get_or, slice_get_within, get_or_from_slice_get}
+use Rattle.std.proofs.lemmas.List.Elements.{All-same, All-cons}
+use Rattle.std.proofs.lemmas.Option.{slice_get-get_or, slice_get-map, slice_get_within, get_or_from_slice_get}
+use Rattle.std.specs.Option.{option_map}
 use Rattle.std.specs.declared.option.Option.{Option}
 use Rattle.std.specs.List.{AllByRecursion, list_any}
 use Rattle.pb_frame.proofs.Lists.{Some-injective, All-append as each-append}
 use Rattle.pb_lan.specs.Laws.{is_setting}
 use Rattle.pb_lan.specs.declared.step.Step.{Step}
 use Rattle.pb_ring.specs.Rings.{shown_at}
-
--- none have it
-pub all_none : {X : Type 0} → (P : X → Type 0) (xs : List X) → xs ≡ [] → All P xs
-all_none P [] none k d b = absurd (omega arith)
-all_none P (x ∷ xs) none k d b = cc
 
 -- the one at a place has it
 pub all_at : {X : Type 0} → (P : X → Type 0) (xs : List X) (r : ℕ) (x : X) → All P xs → slice_get xs r ≡ Some x → P x
@@ -66,9 +63,7 @@ here_is xs r x within e = slice_get-get_or xs r x within ∙ ap (λ z. Some z) (
 -- what is looked up in a list of things is looked up in the list of their parts
 pub part_at : {X Y : Type 0} (f : X → Y) (xs : List X) (r : ℕ) (x : X) → slice_get xs r ≡ Some x
     → slice_get (map f xs) r ≡ Some (f x)
-part_at f [] r x e = cc
-part_at f (y ∷ xs) zero x e = let same : y ≡ x = cc in ap (λ z. Some (f z)) same
-part_at f (y ∷ xs) (suc r) x e = part_at f xs r x e
+part_at f xs r x e = slice_get-map f xs r ∙ ap (option_map f) e
 
 -- and the other way round
 pub thing_at : {X Y : Type 0} (f : X → Y) (xs : List X) (r : ℕ) (y : Y) → slice_get (map f xs) r ≡ Some y
@@ -144,21 +139,14 @@ there_more {X} Q xs ys x e each here n o h =
     (λ p is. subst (λ u. Q (length xs) u) (Some-injective is) here)
     n (Some o) (ap (λ zs. slice_get zs n) (sym e) ∙ h) o refl
 
--- a number below the next one is below or the same
-pub below_next : (j k : ℕ) → j < k + 1 → (j < k) ⊎ (j ≡ k)
-below_next zero zero h = inr refl
-below_next zero (suc k) h = inl (omega arith)
-below_next (suc j) zero h = absurd (omega arith)
-below_next (suc j) (suc k) h = elim (below_next j k (omega arith))
-    [ inl less ↦ inl (omega arith) | inr same ↦ inr (ap suc same) ]
-
 -- one thing in front of those that have a property
 pub all_front : {X : Type 0} → (P : X → Type 0) (x : X) (xs ys : List X) → ys ≡ x ∷ xs → P x → All P xs → All P ys
-all_front {X} P x xs ys e p h = let Q : List X → Type 0 = λ zs. All P zs in subst Q (sym e) (by p h)
-  where
-    by : P x → All P xs → All P (x ∷ xs)
-    by here rest zero d b = here
-    by here rest (suc k) d b = rest k d (omega arith)
+all_front P x xs ys e p h = All-same P ys (x ∷ xs) e (All-cons P x xs p h)
+
+-- as many, and one more of each
+pub counted_more : {X Y : Type 0} (xs : List X) (x : X) (ys zs : List Y) (y : Y) → zs ≡ ys ++ y ∷ []
+    → length ys ≡ length xs → length zs ≡ length (xs ++ x ∷ [])
+counted_more xs x ys zs y e same = omega (arith, ap length e, length-append ys (y ∷ []), length-append xs (x ∷ []))
 
 -- one list more in which no port is set
 abbrev IsUnset : List Step → Type 0

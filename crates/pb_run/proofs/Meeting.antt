@@ -1,6 +1,6 @@
 -- The places whose rings meet.
-use Rattle.std.proofs.Common.{◌≡◌, ◌⊎◌, inl, inr, ◌*◌, ℕ, suc, ◌+◌, ◌-◌, ◌<◌, List, [], Some, map, length, get_or}
-use Rattle.std.proofs.Common.{slice_get, slice_index_or, unwrap_or, sym, ap, ◌∙◌, subst, arith}
+use Rattle.std.proofs.Common.{◌≡◌, ℕ, suc, ◌+◌, ◌-◌, ◌<◌, List, [], Some, map, length, get_or}
+use Rattle.std.proofs.Common.{slice_get, slice_index_or, unwrap_or, sym, ap, ◌∙◌, subst, arith, below_more}
 use Rattle.std.proofs.lemmas.List.{length-map}
 use Rattle.pb_frame.proofs.Lists.{Some-injective}
 use Rattle.pb_frame.specs.Lists.{IsBeginning}
@@ -13,10 +13,9 @@ use Rattle.pb_lan.specs.declared.record.Record.{Record}
 use Rattle.pb_lan.specs.declared.step.Item.{Item}
 use Rattle.pb_lan.specs.declared.step.Step.{Step}
 use Rattle.pb_run.specs.Gifts.{BridgeGift, AreBridges}
-use Rattle.pb_run.specs.Meetings.{of_customers, of_lanes}
 use Rattle.pb_run.specs.Wires.{ring_into, ring_out}
 use Rattle.pb_run.proofs.Gifts.{rings_at}
-use Rattle.pb_run.proofs.Lists.{here_is, part_at, thing_is, below_next}
+use Rattle.pb_run.proofs.Lists.{here_is, part_at, thing_is}
 
 -- the steps of a place that is known by its place in the list
 pub steps_there : {X : Type 0} (steps : X → List Step) (ws : List X) (r n : ℕ) (w : X) → slice_get ws r ≡ Some w
@@ -80,42 +79,13 @@ pub link_meets : (rec : Record) (n m : ℕ) (k l : LinkPlan) → k ≡ l → Mee
     → MeetsOver rec n l.a l.b × MeetsOver rec m l.b l.a
 link_meets rec n m k l e meet = subst (λ (x : LinkPlan). MeetsOver rec n x.a x.b × MeetsOver rec m x.b x.a) e meet
 
--- one customer port more has met, and one link more
-pub accesses_met : (plan : Plan) (place : ℕ) (bs bs' ds ds' : List (List Step)) → bs' ≡ bs → ds' ≡ ds
-    → ((k : ℕ) (c : CustomerPlan) → k < place → slice_get plan.customers k ≡ Some c → MeetsCustomer
-    (of_customers bs ds) (k + 1) c)
-    → ((c : CustomerPlan) → slice_get plan.customers place ≡ Some c → MeetsCustomer (of_customers bs' ds') (place + 1)
-    c)
-    → (k : ℕ) (c : CustomerPlan) → k < place + 1 → slice_get plan.customers k ≡ Some c
-    → MeetsCustomer (of_customers bs ds) (k + 1) c
-accesses_met plan place bs bs' ds ds' eb ed before here k c less at = by (below_next k place less)
-  where
-    by : (k < place) ⊎ (k ≡ place) → MeetsCustomer (of_customers bs ds) (k + 1) c
-    by (inl earlier) = before k c earlier at
-    by (inr same) =
-        let meets = here c (ap (slice_get plan.customers) (sym same) ∙ at) in
-        subst (λ (zs : List (List Step)). MeetsCustomer (of_customers bs zs) (k + 1) c) ed
-        (subst (λ (zs : List (List Step)). MeetsCustomer (of_customers zs ds') (k + 1) c) eb
-        (subst (λ n. MeetsCustomer (of_customers bs' ds') (n + 1) c) (sym same) meets))
-
-pub links_met : (plan : Plan) (place : ℕ) (bs bs' ls ls' : List (List Step)) → bs' ≡ bs → ls' ≡ ls
-    → ((k : ℕ) (link : LinkPlan) → k < place → slice_get plan.links k ≡ Some link
-    → MeetsOver (of_lanes bs ls) (2 * k + 1) link.a link.b × MeetsOver (of_lanes bs ls) (2 * k + 2) link.b link.a)
-    → ((link : LinkPlan) → slice_get plan.links place ≡ Some link
-    → MeetsOver (of_lanes bs' ls') (2 * place + 1) link.a link.b
-    × MeetsOver (of_lanes bs' ls') (2 * place + 2) link.b link.a)
-    → (k : ℕ) (link : LinkPlan) → k < place + 1 → slice_get plan.links k ≡ Some link
-    → MeetsOver (of_lanes bs ls) (2 * k + 1) link.a link.b × MeetsOver (of_lanes bs ls) (2 * k + 2) link.b link.a
-links_met plan place bs bs' ls ls' eb el before here k link less at = by (below_next k place less)
-  where
-    by : (k < place) ⊎ (k ≡ place) → MeetsOver (of_lanes bs ls) (2 * k + 1) link.a link.b
-        × MeetsOver (of_lanes bs ls) (2 * k + 2) link.b link.a
-    by (inl earlier) = before k link earlier at
-    by (inr same) =
-        let meet = here link (ap (slice_get plan.links) (sym same) ∙ at) in
-        subst (λ (zs : List (List Step)). MeetsOver (of_lanes bs zs) (2 * k + 1) link.a link.b × MeetsOver
-        (of_lanes bs zs) (2 * k + 2) link.b link.a) el
-        (subst (λ (zs : List (List Step)). MeetsOver (of_lanes zs ls') (2 * k + 1) link.a link.b × MeetsOver
-        (of_lanes zs ls') (2 * k + 2) link.b link.a) eb
-        (subst (λ n. MeetsOver (of_lanes bs' ls') (2 * n + 1) link.a link.b × MeetsOver (of_lanes bs' ls') (2 * n + 2)
-        link.b link.a) (sym same) meet))
+-- what has met, and one more, in lists that stayed the same
+pub one_more_met : {X : Type 0} (Met : List (List Step) → List (List Step) → ℕ → X → Type 0) (xs : List X) (place : ℕ)
+    (bs bs' ds ds' : List (List Step)) → bs' ≡ bs → ds' ≡ ds
+    → ((k : ℕ) (x : X) → k < place → slice_get xs k ≡ Some x → Met bs ds k x)
+    → ((x : X) → slice_get xs place ≡ Some x → Met bs' ds' place x)
+    → (k : ℕ) (x : X) → k < place + 1 → slice_get xs k ≡ Some x → Met bs ds k x
+one_more_met {X} Met xs place bs bs' ds ds' eb ed before here k x less at =
+    below_more (λ j. (y : X) → slice_get xs j ≡ Some y → Met bs ds j y) place
+    (λ j below y there. before j y below there)
+    (λ y there. subst (λ zs. Met bs zs place y) ed (subst (λ zs. Met zs ds' place y) eb (here y there))) k less x at

@@ -20,24 +20,23 @@ all_named rings new n ring at =
 
 -- the rings that are still to come, by their numbers: the first of them, and the others
 module _ {T A P : Type 0} where
-  abbrev pub AreNamedFrom : ℕ → List (RingName A) → List (Producer T A P × Consumer T A P) → Type 0
+  abbrev IsNamedAt : List (RingName A) → ℕ → Producer T A P × Consumer T A P → Type 0
+  IsNamedAt names n ring =
+      (slice_get names n ≡ Some (writer_name ring.0)) × (slice_get names n ≡ Some (reader_name ring.1))
+
+  abbrev AreNamedFrom : ℕ → List (RingName A) → List (Producer T A P × Consumer T A P) → Type 0
   AreNamedFrom k names rings =
-      (n : ℕ) (ring : Producer T A P × Consumer T A P) → slice_get rings n ≡ Some ring
-      → (slice_get names (k + n) ≡ Some (writer_name ring.0)) × (slice_get names (k + n) ≡ Some (reader_name ring.1))
+      (n : ℕ) (ring : Producer T A P × Consumer T A P) → slice_get rings n ≡ Some ring → IsNamedAt names (k + n) ring
 
   pub first_named : (k : ℕ) (names : List (RingName A)) (ring : Producer T A P × Consumer T A P)
       (xs ys : List (Producer T A P × Consumer T A P)) → ys ≡ ring ∷ xs → AreNamedFrom k names ys
-      → (slice_get names k ≡ Some (writer_name ring.0)) × (slice_get names k ≡ Some (reader_name ring.1))
-  first_named k names ring xs ys e each =
-      first_to_come (λ n r. (slice_get names n ≡ Some (writer_name r.0))
-      × (slice_get names n ≡ Some (reader_name r.1))) k ring xs ys e each
+      → IsNamedAt names k ring
+  first_named k names ring xs ys e each = first_to_come (IsNamedAt names) k ring xs ys e each
 
   pub others_named : (k : ℕ) (names : List (RingName A)) (ring : Producer T A P × Consumer T A P)
       (xs ys : List (Producer T A P × Consumer T A P)) → ys ≡ ring ∷ xs → AreNamedFrom k names ys
       → AreNamedFrom (k + 1) names xs
-  others_named k names ring xs ys e each =
-      still_to_come (λ n r. (slice_get names n ≡ Some (writer_name r.0))
-      × (slice_get names n ≡ Some (reader_name r.1))) k ring xs ys e each
+  others_named k names ring xs ys e each = still_to_come (IsNamedAt names) k ring xs ys e each
 
   pub first_new : (ring : Producer T A P × Consumer T A P) (xs ys : List (Producer T A P × Consumer T A P))
       → ys ≡ ring ∷ xs → AreNew ys

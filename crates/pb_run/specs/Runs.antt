@@ -54,6 +54,13 @@ TellsAllDrained rec lasts result =
 abbrev pub TellsEnded : Plan → Record → List Last → Ended → Type 0
 TellsEnded plan rec lasts ended = (ended ≡ Drained) ↔ (All (λ last. last ≡ End) lasts × ((mark : Mark) → IsDrained plan rec mark))
 
+-- the steps of a run are a lawful record, which is faithful to what came in, and its frames were handled under the start where
+-- the plan gives the states and no port was set
+pub record IsTrueRecord (plan : Plan) (counts : Record) : Type 0 where
+  pub lawful : IsLawfulRecord spanning_tree plan counts
+  pub headline : IsFaithful plan counts
+  pub planned : plan.spanning ≡ Fixed → NoPortIsSet counts → AreTracedFromStart plan counts
+
 -- what is told of a run is true: its record is lawful and faithful to what came in, its frames were handled under the start
 -- where no port was set, and so on of its ports, its end and its spanning trees
 pub record IsRun (plan : Plan) (before after : Lists) (counts : Record) (lasts : List Last) (end : Ended) (answer : Result (Option Bool) Memory) : Type 0 where

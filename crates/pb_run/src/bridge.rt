@@ -125,7 +125,7 @@ fn stirred(turn: Turn) -> Turn {
 }
 
 impl<W: Wiring> BridgeWorker<W> {
-    ghost use Rattle.pb_run.specs.Workers.{IsSameBridge};
+    ghost use Rattle.pb_run.specs.Workers.{AreNewSides, IsSameBridge, HasRings};
 
     /// The worker of the bridge of this number, which has taken no step, over rings that nothing has
     /// passed. It serves the local ports that the plan uses and that have rings. By its mode it keeps its steps or only
@@ -144,9 +144,7 @@ impl<W: Wiring> BridgeWorker<W> {
         requires set { mode.sets ≡ true → W.sets ≡ true }
         requires sound { IsSound plan.now }
         requires bridge { IsNumber number (length plan.now.bridges) }
-        requires sides { vec_len outs.ends ≡ vec_len ins.ends }
-        requires received { (q : ℕ) → shown_at (λ i. received_over i.end) ins.ends.items q ≡ [] }
-        requires sent { (q : ℕ) → shown_at (λ o. sent o.end) outs.ends.items q ≡ [] }
+        requires sides { AreNewSides ins outs }
         ensures number { IfOk result (λ worker. worker.number ≡ number) }
         ensures bridge { IfOk result (λ worker. worker.bridge ≡ at_start plan.now number mode.keeps) }
         ensures rings { IfOk result (λ worker. (worker.ins ≡ ins) × (worker.outs ≡ outs)) }
@@ -267,9 +265,7 @@ impl<W: Wiring> BridgeWorker<W> {
     /// The rings of a customer port and of this bridge's local port, once both workers are back: what the
     /// bridge received begins what the port fed, and what the port took begins what the bridge sent.
     pub fn meet_customer(&mut self, port: u8, access: &mut Access<W>)
-        requires port { (0 < port) × (port ≤ vec_len self.old.ins.ends) }
-        requires feed { slice_index_or (map (λ i. i.number) self.old.ins.ends.items) (port - 1) 0 ≡ access.old.feed.number }
-        requires drain { slice_index_or (map (λ o. o.number) self.old.outs.ends.items) (port - 1) 0 ≡ access.old.drain.number }
+        requires { HasRings self.old port access.old.feed.number access.old.drain.number }
         ensures into { IsBeginning (received port self.old.bridge.steps) (fed access.old.place.steps) }
         ensures out { IsBeginning (delivered access.old.place.steps) (transmitted port self.old.bridge.steps) }
         ensures bridge { (self.new.bridge ≡ self.old.bridge) × (self.new.number ≡ self.old.number) }

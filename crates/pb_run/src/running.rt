@@ -7,12 +7,11 @@ ghost use Rattle.pb_lan.specs.Records.{IsLawfulRecord};
 ghost use Rattle.pb_lan.specs.declared.plan.Spanning.TheVariants.{Fixed};
 ghost use Rattle.pb_relay.specs.Protocol.{spanning_tree};
 ghost use Rattle.pb_relay.specs.Settled.{TellsSettled};
-ghost use Rattle.pb_run.specs.Gifts.{AreBridges, AreLanes, AreAccesses, given_bridge, given_lane, given_access};
 ghost use Rattle.pb_lan.specs.Headline.{IsFaithful};
 ghost use Rattle.pb_run.specs.Rooms.{HasPartRooms, HasPlaceRooms, HasRooms};
-ghost use Rattle.pb_run.specs.Runs.{ArePortsKept, TellsEnded, IsRun};
+ghost use Rattle.pb_run.specs.Runs.{ArePortsKept, TellsEnded, IsTrueRecord, IsRun};
 ghost use Rattle.pb_run.specs.Wires.{AreNew, AreNamed};
-ghost use Rattle.pb_run.specs.Workers.{IsBuilt};
+ghost use Rattle.pb_run.specs.Workers.{IsBuilt, AreBack};
 
 use crate::access::{Access, Last};
 use crate::bridge::BridgeWorker;
@@ -167,13 +166,9 @@ fn told_of<W: Wiring>(
     rooms: GatheredPlaces,
 ) -> Told
     requires sound { IsSound plan.now }
-    requires accesses { AreAccesses plan.now (length plan.now.customers) (map given_access accesses.items) }
-    requires lanes { AreLanes plan.now (length plan.now.links) (map given_lane lanes.items) }
-    requires bridges { AreBridges plan.now (length plan.now.bridges) (map given_bridge bridges.items) }
+    requires back { AreBack plan.now accesses.items lanes.items bridges.items }
     requires rooms { HasPlaceRooms plan.now rooms }
-    ensures lawful { IsLawfulRecord spanning_tree plan.now result.counts }
-    ensures headline { IsFaithful plan.now result.counts }
-    ensures planned { plan.now.spanning ≡ Fixed → NoPortIsSet result.counts → AreTracedFromStart plan.now result.counts }
+    ensures steps { IsTrueRecord plan.now result.counts }
     ensures unset { W.sets ≡ false → NoPortIsSet result.counts }
     ensures customers { result.counts.customers ≡ map (λ d. d.place.steps) accesses.items }
     ensures bridges { result.counts.bridges ≡ map (λ b. b.bridge.steps) bridges.items }

@@ -1,5 +1,5 @@
 -- Lines that are read, and texts that are written.
-use Rattle.std.proofs.Common.{true, false, ◌≢◌, ◌≡◌, ℕ, suc, ◌+◌, ◌≤◌, List, [], ◌∷◌, ◌++◌, length, take, Option}
+use Rattle.std.proofs.Common.{true, false, ◌≢◌, ◌≡◌, ℕ, suc, ◌+◌, ◌≤◌, List, [], ◌∷◌, ◌++◌, length, take, map, Option}
 use Rattle.std.proofs.Common.{Some, None, refl, sym, ap, ◌∙◌, arith, append_assoc, append-nil, length-take}
 use Rattle.std.proofs.lemmas.List.{take_all}
 use Rattle.std.specs.Io.KnownBytes.{Appends, Keeps}
@@ -20,6 +20,24 @@ whole_line limit line h = take_all (limit + 1) line (omega (arith, length-take (
 
 pub uncut : (limit : ℕ) (line : List ℕ) → length line ≤ limit → take (limit + 1) line ≡ line
 uncut limit line h = take_all (limit + 1) line (omega arith)
+
+-- the parts of the cut lines are the cut parts of the lines
+pub parts_of_map : (n : ℕ) (lines front back : List (List ℕ)) → map (λ line. take n line) lines ≡ front ++ back
+    → (a : List (List ℕ)) × (b : List (List ℕ)) × (lines ≡ a ++ b) × (front ≡ map (λ line. take n line) a)
+    × (back ≡ map (λ line. take n line) b)
+parts_of_map n lines [] back e = ([], lines, refl, refl, sym e)
+parts_of_map n [] (f ∷ front) back e = cc
+parts_of_map n (l ∷ lines) (f ∷ front) back e =
+    let head : take n l ≡ f = cc in
+    let tail : map (λ line. take n line) lines ≡ front ++ back = cc in
+    let parts = parts_of_map n lines front back tail in (
+      l ∷ parts.0,
+      parts.1,
+      ap (λ z. l ∷ z) {y = parts.0 ++ parts.1} parts.2,
+      let same : front ≡ map
+          (λ line. take n line) parts.0 = parts.3 in cc,
+      parts.4,
+    )
 
 pub Appends-twice : (a b c : Option (List ℕ)) (xs ys : List ℕ) → Appends a b xs → Appends b c ys
     → Appends a c (xs ++ ys)

@@ -1,3 +1,4 @@
 pub mod Faults
 pub mod BadLines
 pub mod Reasons
+pub mod Words

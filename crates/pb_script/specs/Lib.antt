@@ -1,4 +1,3 @@
-pub mod Words
 pub mod Verbs
 pub mod Named
 pub mod Lines

@@ -1,13 +1,14 @@
 -- What a line asks for.
 use Rattle.std.specs.Prelude.{◌≡◌, ◌⊎◌, ℕ, ◌<◌, ◌≤◌, Bool, true, false, List, Some, length, codes}
 use Rattle.pb_frame.specs.Hex.{IsHex}
+use Rattle.pb_lan.specs.Names.{is_name}
 use Rattle.pb_lan.specs.Records.{lane_ab, lane_ba}
 use Rattle.pb_lan.specs.declared.event.Event.{Event}
 use Rattle.pb_lan.specs.declared.event.Event.TheVariants.{Poll, Feed, Deliver, Receive, Transmit, Tick, Admin, Take, Put}
 use Rattle.pb_lan.specs.declared.plan.Plan.{Plan}
 use Rattle.pb_script.specs.Named.{bridge_named, link_named, customer_named}
 use Rattle.pb_script.specs.Verbs.{verb_word}
-use Rattle.pb_script.specs.Words.{cut, port_of, local_port, is_name}
+use Rattle.pb_said.specs.Words.{cut, port_of, local_port}
 use Rattle.pb_script.specs.declared.verb.Verb.{Verb}
 use Rattle.pb_script.specs.declared.verb.Verb.TheVariants.{Poll as poll, Feed as feed, Deliver as deliver, Receive as receive, Transmit as transmit, Tick as tick, Admin as admin, Take as take, Put as put}
 

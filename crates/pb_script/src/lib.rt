@@ -11,12 +11,10 @@ mod line;
 mod names;
 mod report;
 mod verb;
-mod words;
 
 pub use answer::{put_done, put_idle, put_no_such};
 pub use by_name::{bridges_by_name, links_by_name, ports_by_name};
-pub use line::read_line;
+pub use line::{read_frame, read_line};
 pub use names::Names;
 pub use report::put_counts;
 pub use verb::Verb;
-pub use words::{cut, read_port};

@@ -4,18 +4,21 @@ ghost use Rattle.std.specs.Prelude.{◌≡◌, ℕ, List, Bool, codes, true, fal
 ghost use Rattle.pb_frame.specs.Hex.{IsHex};
 ghost use Rattle.pb_lan.specs.declared.event.Event.{Event};
 ghost use Rattle.pb_script.specs.Lines.{IsFrameAt, IsBridgePort, IsBridgeWay, IsWay, IsLinkLane, AsksFor, Asks};
-ghost use Rattle.pb_script.specs.Words.{is_name};
+ghost use Rattle.pb_lan.specs.Names.{is_name};
 
 use crate::names::Names;
 use crate::verb::{Verb, verb_of};
-use crate::words::{cut, is_name, local_port, read_port};
 use bytes::Bytes;
 use pb_frame::{HexFault, Memory, hex_octets};
-use pb_lan::Event;
+use pb_lan::{Event, is_name};
+use pb_said::{cut, local_port, read_port};
 use std::alloc::Global;
 
-/// A frame of one octet at least, from pairs of hexadecimal digits.
-fn read_frame(alloc: Global, hex: &[u8]) -> Result<Option<Bytes>, Memory>
+/// A frame of one octet at least, from pairs of hexadecimal digits in either case.
+///
+/// None is answered of no digits, an odd number of them, and another octet among them; `Memory` where memory ran out for
+/// the frame.
+pub fn read_frame(alloc: Global, hex: &[u8]) -> Result<Option<Bytes>, Memory>
     ensures some { IfOk result (λ o. IfSome o (λ frame. IsHex hex.now frame)) }
     ensures filled { IfOk result (λ o. IfSome o (λ frame. 0 < length frame)) }
     ensures none { IfOk result (λ o. IfNone o ((frame : List ℕ) → IsHex hex.now frame → 0 < length frame → ⊥)) }

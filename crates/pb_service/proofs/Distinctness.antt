@@ -1,10 +1,11 @@
 -- Lists in which nothing stands twice, and one thing more.
-use Rattle.std.proofs.Common.{◌≡◌, ℕ, ◌+◌, ◌≤◌, Bool, true, false, List, [], ◌∷◌, ◌++◌, zero, suc, length, map, take}
+use Rattle.std.proofs.Common.{◌≡◌, ℕ, ◌+◌, ◌≤◌, Bool, true, false, List, [], ◌∷◌, ◌++◌, length, map, take}
 use Rattle.std.proofs.Common.{Some, Bor, refl, sym, ap, subst, ◌∙◌, arith}
 use Rattle.std.specs.Prelude.{slice_get, codes}
 use Rattle.std.proofs.lemmas.Bool.{or_parts, or_from}
 use Rattle.std.proofs.lemmas.List.{map-append, length-map, take_more, take_all, take-map}
-use Rattle.std.proofs.lemmas.Option.{slice_get_within, get_or_from_slice_get}
+use Rattle.std.proofs.lemmas.Option.{slice_get_within, get_or_from_slice_get, slice_get-map}
+use Rattle.std.specs.Option.{option_map}
 use Rattle.std.specs.List.{IsDistinct, list_any, flat_map}
 use Rattle.pb_frame.specs.Admission.{same}
 use Rattle.pb_frame.proofs.Lists.{All-append, false-unless, true-false, same-one, same-self}
@@ -54,12 +55,6 @@ any-flip k (x ∷ ks) h =
     let parts = or_parts (same k x) (list_any (same k) ks) h in
     or_from (same x k) (list_any (λ y. same y k) ks) (same-flip k x parts.0) (any-flip k ks parts.1)
 
-get_mapped : {X Y : Type 0} (f : X → Y) (xs : List X) (i : ℕ) (x : X) → slice_get xs i ≡ Some x
-    → slice_get (map f xs) i ≡ Some (f x)
-get_mapped f [] i x h = absurd cc
-get_mapped f (y ∷ xs) zero x h = let e : y ≡ x = cc in ap (λ z. Some (f z)) e
-get_mapped f (y ∷ xs) (suc i) x h = get_mapped f xs i x h
-
 take_next : {X : Type 0} (xs : List X) (i : ℕ) (x : X) → slice_get xs i ≡ Some x → take (i + 1) xs ≡ take i xs ++ x ∷ []
 take_next xs i x h = take_more xs i x (slice_get_within xs i x h)
     ∙ ap (λ z. take i xs ++ z ∷ []) (get_or_from_slice_get xs i x x h)
@@ -72,7 +67,8 @@ pub name_next : (document : Members) (section : Section) (names : List (Bor (Lis
     → IsDistinct same (take i (names_of document section)) → IsDistinct same (take (i + 1) (names_of document section))
 name_next document section names i row e at new d =
     let name = text_at row (codes "name") in
-    let here = get_mapped (λ r. text_at r (codes "name")) (rows_of document section) i row at in
+    let here = slice_get-map (λ r. text_at r (codes "name")) (rows_of document section) i
+    ∙ ap (option_map (λ r. text_at r (codes "name"))) at in
     let first : take i (names_of document section) ≡ map (λ n. n.now) (take i names) = ap (take i) (sym e)
     ∙ take-map (λ n. n.now) i names in
     let others : list_any (same name) (take i (names_of document section)) ≡ false = rw first new in
@@ -110,13 +106,4 @@ pub ports_all : (document : Members) (rows : List (Bor Table)) (n : ℕ) (bridge
     → used ≡ first ++ flat_map (customer_ports bridges) (map (λ t. table_view t.now) (take n rows)) → AreUsedOnce used
     → AreUsedOnce (ports_told document)
 ports_all document rows n bridges first used h er eb ef eu once =
-    let rest : flat_map (customer_ports bridges) (map (λ t. table_view t.now) (take n rows)) ≡ flat_map
-    (customer_ports (names_of document Bridge)) (rows_of document Port) =
-    ap (λ (b : List (List ℕ)). flat_map (customer_ports b) (map (λ t. table_view t.now) (take n rows))) eb
-    ∙ ap (λ (z : List (Bor Table)). flat_map (customer_ports (names_of document Bridge))
-    (map (λ t. table_view t.now) z)) (take_all n rows h)
-    ∙ ap (flat_map (customer_ports (names_of document Bridge))) er in
-    let told : used ≡ ports_told document = eu
-    ∙ ap (λ z. z ++ flat_map (customer_ports bridges) (map (λ t. table_view t.now) (take n rows))) ef
-    ∙ ap (λ z. flat_map (link_ports (names_of document Bridge)) (rows_of document Link) ++ z) rest in
-    subst AreUsedOnce told once
+    let told : used ≡ ports_told document = rw (take_all n rows h, er, eb, ef) at eu in subst AreUsedOnce told once

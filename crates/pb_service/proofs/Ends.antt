@@ -5,7 +5,7 @@ use Rattle.std.proofs.Common.{inl, inr}
 use Rattle.std.specs.Prelude.{◌⊎◌, slice_get, codes}
 use Rattle.std.specs.List.{AllZip, flat_map}
 use Rattle.std.proofs.lemmas.Grind.{flat_map-append}
-use Rattle.std.proofs.lemmas.List.{take_more, take_all, map-append, length-map, take-map}
+use Rattle.std.proofs.lemmas.List.{append-nil, take_more, take_all, map-append, length-map, take-map}
 use Rattle.pb_lan.specs.declared.limits.Limits.{Limits}
 use Rattle.pb_lan.specs.declared.plan.LinkPlan.{LinkPlan}
 use Rattle.pb_lan.specs.declared.plan.CustomerPlan.{CustomerPlan}
@@ -56,10 +56,6 @@ split_last : {X : Type 0} (f g : X → List LocalPort) (xs ys : List X) (i : ℕ
     → flat_map f xs ++ flat_map g ys ≡ used ++ (ports ++ flat_map g (drop (suc i) ys))
 split_last f g xs ys i y used ports at before here = rw (flat_split g ys i y at, before, here) (simp append_assoc)
 
-append-end : (xs : List LocalPort) → xs ++ [] ≡ xs
-append-end [] = refl
-append-end (x ∷ xs) = ap (λ z. x ∷ z) (append-end xs)
-
 -- the ports of one more table
 pub flat_next : (f : Members → List LocalPort) (rows : List (Bor Table)) (i : ℕ) (d x : Bor Table)
     (first used new ports : List LocalPort) → i < length rows → x ≡ get_or rows i d
@@ -68,7 +64,7 @@ pub flat_next : (f : Members → List LocalPort) (rows : List (Bor Table)) (i : 
     → new ≡ first ++ flat_map f (map (λ t. table_view t.now) (take (i + 1) rows))
 flat_next f rows i d x first used new ports h is before here e =
     let last : flat_map f (table_view (get_or rows i d).now ∷ []) ≡ ports =
-    rw (← is) (append-end (f (table_view x.now)) ∙ here) in
+    rw (← is) (append-nil (f (table_view x.now)) ∙ here) in
     rw (take_more rows i d h, map-append, flat_map-append, last) (e ∙ ap (λ z. z ++ ports) before ∙ simp append_assoc)
 
 -- the ports of all tables
@@ -76,9 +72,7 @@ pub flat_all : (f : Members → List LocalPort) (document : Members) (section : 
     (n : ℕ) (used : List LocalPort) → length rows ≤ n
     → map (λ t. table_view t.now) rows ≡ rows_of document section
     → used ≡ flat_map f (map (λ t. table_view t.now) (take n rows)) → used ≡ flat_map f (rows_of document section)
-flat_all f document section rows n used h e before =
-    before ∙ ap (λ (z : List (Bor Table)). flat_map f (map (λ t. table_view t.now) z)) (take_all n rows h)
-    ∙ ap (flat_map f) e
+flat_all f document section rows n used h e before = rw (take_all n rows h, e) at before
 
 pub ends_of_link : (bridges services : List (List ℕ)) (row : Members) (l : LinkPlan) → IsLinkOf bridges services row l
     → link_ports bridges row ≡ port_of l.a ∷ port_of l.b ∷ []
@@ -172,11 +166,7 @@ pub link_passed : {X : Type 0} (document row : Members) (bridges services : List
     → slice_get (rows_of document Link) i ≡ Some row
     → ((y : PlanFault) × (r ≡ Err y) × (y ≡ e)) → LinkLacks bridges services row e → IfErr r (Refuses document)
 link_passed document row bridges services i r e eb es at p h =
-    let own : LinkLacks (names_of document Bridge) services row e =
-    subst (λ (b : List (List ℕ)). LinkLacks b services row e) eb h in
-    passed_on (Refuses document) r e p
-    (link_refused document row i e at (subst (λ (s : List (List ℕ)). LinkLacks (names_of document Bridge) s row e)
-    es own))
+    passed_on (Refuses document) r e p (link_refused document row i e at (rw (← eb, ← es) h))
 
 pub customer_passed : {X : Type 0} (document row : Members) (bridges services : List (List ℕ)) (i : ℕ)
     (r : Result X PlanFault) (e : PlanFault)
@@ -184,11 +174,7 @@ pub customer_passed : {X : Type 0} (document row : Members) (bridges services : 
     → slice_get (rows_of document Port) i ≡ Some row
     → ((y : PlanFault) × (r ≡ Err y) × (y ≡ e)) → CustomerLacks bridges services row e → IfErr r (Refuses document)
 customer_passed document row bridges services i r e eb es at p h =
-    let own : CustomerLacks (names_of document Bridge) services row e =
-    subst (λ (b : List (List ℕ)). CustomerLacks b services row e) eb h in
-    passed_on (Refuses document) r e p
-    (customer_refused document row i e at
-    (subst (λ (s : List (List ℕ)). CustomerLacks (names_of document Bridge) s row e) es own))
+    passed_on (Refuses document) r e p (customer_refused document row i e at (rw (← eb, ← es) h))
 
 pub ends_passed : {X : Type 0} (document row : Members) (bridges services : List (List ℕ)) (i : ℕ) (l : LinkPlan)
     (used : List LocalPort) (r : Result X PlanFault) (e : PlanFault)
@@ -199,11 +185,8 @@ pub ends_passed : {X : Type 0} (document row : Members) (bridges services : List
     × ((is_used used (port_of l.a) ≡ true) ⊎ (is_used (used ++ port_of l.a ∷ []) (port_of l.b) ≡ true))) → IfErr r
     (Refuses document)
 ends_passed document row bridges services i l used r e eb at told before p h =
-    let told_here : IsLinkOf (names_of document Bridge) services row l =
-    subst (λ (b : List (List ℕ)). IsLinkOf b services row l) eb told in
-    let used_here : used ≡ flat_map (link_ports (names_of document Bridge)) (take i (rows_of document Link)) = before
-    ∙ ap (λ (b : List (List ℕ)). flat_map (link_ports b) (take i (rows_of document Link))) eb in
-    passed_on (Refuses document) r e p (ends_refused document row i services l used e at told_here used_here h)
+    passed_on (Refuses document) r e p
+    (ends_refused document row i services l used e at (rw (← eb) told) (rw (← eb) before) h)
 
 pub port_passed : {X : Type 0} (document row : Members) (bridges services : List (List ℕ)) (i : ℕ) (c : CustomerPlan)
     (links used : List LocalPort) (r : Result X PlanFault) (e : PlanFault)
@@ -215,14 +198,8 @@ pub port_passed : {X : Type 0} (document row : Members) (bridges services : List
     → (e ≡ Memory) ⊎ ((e ≡ LinkEnd) × (is_used used (record { bridge = c.bridge; port = c.port }) ≡ true))
     → IfErr r (Refuses document)
 port_passed document row bridges services i c links used r e eb at told el before p h =
-    let told_here : IsCustomerOf (names_of document Bridge) services row c =
-    subst (λ (b : List (List ℕ)). IsCustomerOf b services row c) eb told in
-    let used_here : used ≡ flat_map (link_ports (names_of document Bridge)) (rows_of document Link)
-    ++ flat_map (customer_ports (names_of document Bridge)) (take i (rows_of document Port)) =
-    before ∙ ap (λ z. z ++ flat_map (customer_ports bridges) (take i (rows_of document Port))) el
-    ∙ ap (λ (b : List (List ℕ)). flat_map (link_ports (names_of document Bridge)) (rows_of document Link) ++ flat_map
-    (customer_ports b) (take i (rows_of document Port))) eb in
-    passed_on (Refuses document) r e p (port_refused document row i services c used e at told_here used_here h)
+    passed_on (Refuses document) r e p
+    (port_refused document row i services c used e at (rw (← eb) told) (rw (← el, ← eb) before) h)
 
 -- a customer port tells the time of day by no clock
 stamp_refused : (document row : Members) (i : ℕ) (e : PlanFault) → slice_get (rows_of document Port) i ≡ Some row
@@ -251,17 +228,11 @@ pub links_whole : (document : Members) (bridges services : List (List ℕ)) (ls 
     → AllZip (IsRead (IsLinkOf bridges services) link_keys) (rows_of document Link) ls
     → AllZip (IsRead (IsLinkOf (names_of document Bridge) (names_of document Service)) link_keys)
     (rows_of document Link) ls
-links_whole document bridges services ls eb es z =
-    subst (λ (s : List (List ℕ)). AllZip (IsRead (IsLinkOf (names_of document Bridge) s) link_keys)
-    (rows_of document Link) ls) es
-    (subst (λ (b : List (List ℕ)). AllZip (IsRead (IsLinkOf b services) link_keys) (rows_of document Link) ls) eb z)
+links_whole document bridges services ls eb es z = rw (← eb, ← es) z
 
 pub customers_whole : (document : Members) (bridges services : List (List ℕ)) (cs : List CustomerPlan)
     → bridges ≡ names_of document Bridge → services ≡ names_of document Service
     → AllZip (IsReadPort (IsCustomerOf bridges services)) (rows_of document Port) cs
     → AllZip (IsReadPort (IsCustomerOf (names_of document Bridge) (names_of document Service)))
     (rows_of document Port) cs
-customers_whole document bridges services cs eb es z =
-    subst (λ (s : List (List ℕ)). AllZip (IsReadPort (IsCustomerOf (names_of document Bridge) s))
-    (rows_of document Port) cs) es
-    (subst (λ (b : List (List ℕ)). AllZip (IsReadPort (IsCustomerOf b services)) (rows_of document Port) cs) eb z)
+customers_whole document bridges services cs eb es z = rw (← eb, ← es) z

@@ -1,8 +1,10 @@
 -- Refusals of documents.
-use Rattle.std.proofs.Common.{◌≡◌, ℕ, ◌<◌, true, List, [], ◌∷◌, zero, suc, length, get_or, map, take, Some, Result}
-use Rattle.std.proofs.Common.{Ok, Err, IfErr, Bor, BTreeMap, Global, String, refl, sym, ap, ◌∙◌, arith, inl, inr}
+use Rattle.std.proofs.Common.{◌≡◌, ℕ, ◌<◌, true, List, length, get_or, map, take, Some, Result}
+use Rattle.std.proofs.Common.{Ok, Err, IfErr, Bor, BTreeMap, Global, String, sym, ap, ◌∙◌, inl, inr}
 use Rattle.std.specs.Prelude.{◌⊎◌, slice_get, codes}
 use Rattle.std.proofs.lemmas.List.{length-map, take-map}
+use Rattle.std.proofs.lemmas.Option.{slice_get-map, slice_get-get_or}
+use Rattle.std.specs.Option.{option_map}
 use Rattle.toml.specs.Data.{Members, get_member}
 use Rattle.toml.specs.View.{table_view}
 use Rattle.toml.specs.declared.value.Value.{Value}
@@ -30,17 +32,12 @@ network_refused document row (Err f) e h = in_network document f (rw (← e) h)
 abbrev pub Table : Type 0
 Table = BTreeMap (String Global) Value
 
-pub get_map : {A B : Type 0} (f : A → B) (xs : List A) (i : ℕ) (d : A) → i < length xs
-    → slice_get (map f xs) i ≡ Some (f (get_or xs i d))
-get_map f [] i d h = absurd (omega arith)
-get_map f (x ∷ xs) zero d h = refl
-get_map f (x ∷ xs) (suc i) d h = get_map f xs i d (omega arith)
-
 pub row_at : (document : Members) (section : Section) (rows : List (Bor Table)) (i : ℕ) (d x : Bor Table)
     → map (λ t. table_view t.now) rows ≡ rows_of document section → i < length rows
     → x ≡ get_or rows i d → slice_get (rows_of document section) i ≡ Some (table_view x.now)
 row_at document section rows i d x e h is = ap (λ xs. slice_get xs i) (sym e)
-    ∙ get_map (λ t. table_view t.now) rows i d h ∙ ap (λ t. Some (table_view t.now)) (sym is)
+    ∙ slice_get-map (λ t. table_view t.now) rows i
+    ∙ ap (option_map (λ t. table_view t.now)) (slice_get-get_or rows i d h ∙ ap (λ t. Some t) (sym is))
 
 table_refused : (document : Members) (section : Section) (names : List (List ℕ)) (i : ℕ) (row : Members) (e : PlanFault)
     → names ≡ names_of document section → slice_get (rows_of document section) i ≡ Some row

@@ -1,8 +1,9 @@
 -- The plan of a document that repeats nothing is sound.
-use Rattle.std.proofs.Common.{◌≡◌, ℕ, ◌≤◌, ◌%◌, List, [], ◌∷◌, ◌++◌, suc, length, map, take, Option, Some, None}
+use Rattle.std.proofs.Common.{◌≡◌, ℕ, ◌≤◌, ◌%◌, List, [], ◌∷◌, ◌++◌, length, map, take, Option, Some, None}
 use Rattle.std.proofs.Common.{IfSome, refl, sym, ap, subst, ◌∙◌, arith, length-take}
 use Rattle.std.specs.Prelude.{codes, nat_eq}
 use Rattle.std.proofs.lemmas.List.{map-append, length-map}
+use Rattle.std.proofs.lemmas.Slice.Zip.{AllZip-long}
 use Rattle.std.specs.List.{AllByRecursion, AllZip, IsDistinct, flat_map}
 use Rattle.pb_frame.specs.Admission.{same}
 use Rattle.pb_frame.proofs.Lists.{All-flat_map}
@@ -46,12 +47,6 @@ pub record RepeatsNothing (document : Members) (plan : Plan) : Type 0 where
   pub vids : IsDistinct nat_eq (map (λ s. s.vid) plan.services)
   pub ports : AreUsedOnce (ports_told document)
 
-zip_length : {A B : Type 0} (R : A → B → Type 0) (xs : List A) (ys : List B) → AllZip R xs ys → length xs ≡ length ys
-zip_length R [] [] z = refl
-zip_length R [] (y ∷ ys) z = absurd z
-zip_length R (x ∷ xs) [] z = absurd z
-zip_length R (x ∷ xs) (y ∷ ys) z = ap suc (zip_length R xs ys z.1)
-
 zip_each : {A B : Type 0} (R : A → B → Type 0) (P : B → Type 0) (xs : List A) (ys : List B)
     → ((x : A) (y : B) → R x y → P y) → AllZip R xs ys → AllByRecursion P ys
 zip_each R P [] [] f z = tt
@@ -79,7 +74,7 @@ zip_names R name document section xs h z d = subst (IsDistinct same)
 zip_count : {X : Type 0} (R : Members → X → Type 0) (document : Members) (section : Section) (xs : List X)
     → AllZip R (rows_of document section) xs → length (names_of document section) ≡ length xs
 zip_count R document section xs z = length-map (rows_of document section) (λ r. text_at r (codes "name"))
-    ∙ zip_length R (rows_of document section) xs z
+    ∙ sym (AllZip-long R (rows_of document section) xs z)
 
 bridge_sound : (row : Members) (b : BridgePlan) → IsRead IsBridgeOf bridge_keys row b → IsSoundBridge b
 bridge_sound row b r =
@@ -165,10 +160,10 @@ limits_sound : (document : Members) (plan : Plan) (specs : List PortSpec) → Is
 limits_sound document plan specs p =
     let keys = p.network.keys.taken in
     record {
-      bridges = omega (arith, p.bridge_tables.few, zip_length _ _ _ p.bridges);
-      links = omega (arith, p.link_tables.few, zip_length _ _ _ p.links);
-      services = omega (arith, p.service_tables.few, zip_length _ _ _ p.services);
-      customers = omega (arith, p.port_tables.few, zip_length _ _ _ p.customers);
+      bridges = omega (arith, p.bridge_tables.few, AllZip-long _ _ _ p.bridges);
+      links = omega (arith, p.link_tables.few, AllZip-long _ _ _ p.links);
+      services = omega (arith, p.service_tables.few, AllZip-long _ _ _ p.services);
+      customers = omega (arith, p.port_tables.few, AllZip-long _ _ _ p.customers);
       ring = subst (λ n. IsNumber n 4096) (sym p.network.ring)
           (defaulted (codes "ring") 1 4096 64 4096 _ (omega arith) (omega arith) (omega arith) keys.1.1.0);
       steps = subst (λ n. IsNumber n 18446744073709551615) (sym p.network.steps)

@@ -3,6 +3,7 @@ use Rattle.std.proofs.Common.{◌≡◌, ℕ, ◌+◌, ◌<◌, ◌≤◌, Bool,
 use Rattle.std.proofs.Common.{inl, inr}
 use Rattle.std.proofs.lemmas.Bool.{cases_Bool, false≢true}
 use Rattle.std.proofs.lemmas.List.{take_more, take_all, take-map}
+use Rattle.std.proofs.lemmas.Slice.Zip.{all_zipped_more}
 use Rattle.std.specs.List.{AllZip, list_any}
 use Rattle.toml.specs.Data.{Members}
 use Rattle.toml.specs.View.{table_view}
@@ -11,19 +12,12 @@ use Rattle.pb_service.specs.Keys.{SomeOf}
 use Rattle.pb_service.specs.Told.{rows_of}
 use Rattle.pb_service.proofs.Refusing.{Table}
 
-zip_last : {A B : Type 0} (R : A → B → Type 0) (xs : List A) (ys : List B) (x : A) (y : B) → AllZip R xs ys → R x y
-    → AllZip R (xs ++ x ∷ []) (ys ++ y ∷ [])
-zip_last R [] [] x y z r = (r, tt)
-zip_last R [] (b ∷ ys) x y z r = absurd z
-zip_last R (a ∷ xs) [] x y z r = absurd z
-zip_last R (a ∷ xs) (b ∷ ys) x y z r = (z.0, zip_last R xs ys x y z.1 r)
-
 -- one more table
 pub zip_next : {A B : Type 0} (R : A → B → Type 0) (xs : List A) (i : ℕ) (d x : A) (ys new : List B) (y : B)
     → i < length xs → x ≡ get_or xs i d → AllZip R (take i xs) ys → R x y
     → new ≡ ys ++ y ∷ [] → AllZip R (take (i + 1) xs) new
 zip_next R xs i d x ys new y h is z r e = rw (take_more xs i d h, e)
-    (zip_last R (take i xs) ys (get_or xs i d) y z (rw is at r))
+    (all_zipped_more R (take i xs) ys (get_or xs i d) y z (rw is at r))
 
 zip_map : {A B C : Type 0} (R : C → B → Type 0) (f : A → C) (xs : List A) (ys : List B)
     → AllZip (λ x y. R (f x) y) xs ys → AllZip R (map f xs) ys

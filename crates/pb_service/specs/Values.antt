@@ -6,6 +6,7 @@ use Rattle.std.specs.List.{list_all}
 use Rattle.pb_frame.specs.Admission.{same}
 use Rattle.pb_frame.specs.Frames.{is_group}
 use Rattle.pb_frame.specs.Hex.{is_digit, IsMacText}
+use Rattle.pb_lan.specs.Names.{is_name}
 use Rattle.toml.specs.Data.{Data, Items, no_items, item, as_str, as_integer, as_array, as_bool}
 use Rattle.pb_service.specs.declared.rule.Rule.{Rule}
 use Rattle.pb_service.specs.declared.rule.Rule.TheVariants.{Number, BridgePriority, PortPriority, Name, Address, Spanning, State, PortKind, Stamp, Path, Losses, Names, Frames, Flag}
@@ -36,14 +37,6 @@ any_item test (item d ds) = test d || any_item test ds
 
 abbrev pub is_list : (Items → Bool) → Data → Bool
 is_list test d = option_map_or test (as_array d) false
-
--- a letter, a digit, a hyphen or an underscore
-abbrev pub is_name_letter : ℕ → Bool
-is_name_letter c = ((nat_le 97 c && nat_le c 122) || (nat_le 65 c && nat_le c 90)) || ((nat_le 48 c && nat_le c 57) || (c == 45 || c == 95))
-
--- a name: 1 to 32 of these
-abbrev pub is_name : List ℕ → Bool
-is_name text = (nat_le 1 (length text) && nat_le (length text) 32) && list_all is_name_letter text
 
 -- pairs of hexadecimal digits
 abbrev pub is_hex : List ℕ → Bool

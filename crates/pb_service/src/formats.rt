@@ -10,402 +10,106 @@ use crate::section::Section;
 use crate::told::{has_key, text_at};
 use toml::Table;
 
+/// A key that a table has to have, and what its value may be: by a rule, or a number of this range.
+macro_rules! needed {
+    ($name:literal, $low:literal..=$high:literal) => {
+        needed!($name, Rule::Number { low: $low, high: $high })
+    };
+    ($name:literal, $rule:expr) => {
+        Key { name: $name, needed: true, rule: $rule }
+    };
+}
+
+/// The same of a key that a table may have.
+macro_rules! optional {
+    ($name:literal, $low:literal..=$high:literal) => {
+        optional!($name, Rule::Number { low: $low, high: $high })
+    };
+    ($name:literal, $rule:expr) => {
+        Key { name: $name, needed: false, rule: $rule }
+    };
+}
+
+/// The keys of a customer port: those of every one, and behind them these of its kind.
+macro_rules! port_keys {
+    ($($own:expr),+ $(,)?) => {
+        [
+            needed!("name", Rule::Name),
+            needed!("bridge", Rule::Name),
+            needed!("port", 1..=16),
+            needed!("service", Rule::Name),
+            optional!("pcp", 0..=7),
+            optional!("queue", 1..=4096),
+            optional!("kind", Rule::PortKind),
+            $($own),+
+        ]
+    };
+}
+
 /// The keys of the network.
 static NETWORK: [Key; 8] = [
-    Key {
-        name: "spanning",
-        needed: false,
-        rule: Rule::Spanning,
-    },
-    Key {
-        name: "ageing",
-        needed: false,
-        rule: Rule::Number {
-            low: 10,
-            high: 1_000_000,
-        },
-    },
-    Key {
-        name: "ring",
-        needed: false,
-        rule: Rule::Number { low: 1, high: 4096 },
-    },
-    Key {
-        name: "steps",
-        needed: false,
-        rule: Rule::Number {
-            low: 1,
-            high: 1_000_000,
-        },
-    },
-    Key {
-        name: "turns",
-        needed: false,
-        rule: Rule::Number {
-            low: 1,
-            high: 1_000_000_000,
-        },
-    },
-    Key {
-        name: "tick_every",
-        needed: false,
-        rule: Rule::Number {
-            low: 0,
-            high: 1_000_000,
-        },
-    },
-    Key {
-        name: "tick_ms",
-        needed: false,
-        rule: Rule::Number {
-            low: 0,
-            high: 60_000,
-        },
-    },
-    Key {
-        name: "hold",
-        needed: false,
-        rule: Rule::Number {
-            low: 0,
-            high: 1_000_000,
-        },
-    },
+    optional!("spanning", Rule::Spanning),
+    optional!("ageing", 10..=1_000_000),
+    optional!("ring", 1..=4096),
+    optional!("steps", 1..=1_000_000),
+    optional!("turns", 1..=1_000_000_000),
+    optional!("tick_every", 0..=1_000_000),
+    optional!("tick_ms", 0..=60_000),
+    optional!("hold", 0..=1_000_000),
 ];
 
 /// The keys of a bridge.
 static BRIDGE: [Key; 4] = [
-    Key {
-        name: "name",
-        needed: true,
-        rule: Rule::Name,
-    },
-    Key {
-        name: "address",
-        needed: true,
-        rule: Rule::Address,
-    },
-    Key {
-        name: "priority",
-        needed: false,
-        rule: Rule::BridgePriority,
-    },
-    Key {
-        name: "queue",
-        needed: false,
-        rule: Rule::Number { low: 1, high: 4096 },
-    },
+    needed!("name", Rule::Name),
+    needed!("address", Rule::Address),
+    optional!("priority", Rule::BridgePriority),
+    optional!("queue", 1..=4096),
 ];
 
 /// The keys of a link.
 static LINK: [Key; 15] = [
-    Key {
-        name: "name",
-        needed: true,
-        rule: Rule::Name,
-    },
-    Key {
-        name: "a",
-        needed: true,
-        rule: Rule::Name,
-    },
-    Key {
-        name: "a_port",
-        needed: true,
-        rule: Rule::Number { low: 1, high: 16 },
-    },
-    Key {
-        name: "b",
-        needed: true,
-        rule: Rule::Name,
-    },
-    Key {
-        name: "b_port",
-        needed: true,
-        rule: Rule::Number { low: 1, high: 16 },
-    },
-    Key {
-        name: "a_cost",
-        needed: false,
-        rule: Rule::Number {
-            low: 1,
-            high: 200_000_000,
-        },
-    },
-    Key {
-        name: "b_cost",
-        needed: false,
-        rule: Rule::Number {
-            low: 1,
-            high: 200_000_000,
-        },
-    },
-    Key {
-        name: "a_priority",
-        needed: false,
-        rule: Rule::PortPriority,
-    },
-    Key {
-        name: "b_priority",
-        needed: false,
-        rule: Rule::PortPriority,
-    },
-    Key {
-        name: "a_state",
-        needed: false,
-        rule: Rule::State,
-    },
-    Key {
-        name: "b_state",
-        needed: false,
-        rule: Rule::State,
-    },
-    Key {
-        name: "a_services",
-        needed: false,
-        rule: Rule::Names,
-    },
-    Key {
-        name: "b_services",
-        needed: false,
-        rule: Rule::Names,
-    },
-    Key {
-        name: "lost_ab",
-        needed: false,
-        rule: Rule::Losses,
-    },
-    Key {
-        name: "lost_ba",
-        needed: false,
-        rule: Rule::Losses,
-    },
+    needed!("name", Rule::Name),
+    needed!("a", Rule::Name),
+    needed!("a_port", 1..=16),
+    needed!("b", Rule::Name),
+    needed!("b_port", 1..=16),
+    optional!("a_cost", 1..=200_000_000),
+    optional!("b_cost", 1..=200_000_000),
+    optional!("a_priority", Rule::PortPriority),
+    optional!("b_priority", Rule::PortPriority),
+    optional!("a_state", Rule::State),
+    optional!("b_state", Rule::State),
+    optional!("a_services", Rule::Names),
+    optional!("b_services", Rule::Names),
+    optional!("lost_ab", Rule::Losses),
+    optional!("lost_ba", Rule::Losses),
 ];
 
 /// The keys of a service.
-static SERVICE: [Key; 2] = [
-    Key {
-        name: "name",
-        needed: true,
-        rule: Rule::Name,
-    },
-    Key {
-        name: "vid",
-        needed: true,
-        rule: Rule::Number { low: 1, high: 4094 },
-    },
-];
+static SERVICE: [Key; 2] = [needed!("name", Rule::Name), needed!("vid", 1..=4094)];
 
 /// The keys of a customer port that is a script in memory.
-static MEMORY: [Key; 8] = [
-    Key {
-        name: "name",
-        needed: true,
-        rule: Rule::Name,
-    },
-    Key {
-        name: "bridge",
-        needed: true,
-        rule: Rule::Name,
-    },
-    Key {
-        name: "port",
-        needed: true,
-        rule: Rule::Number { low: 1, high: 16 },
-    },
-    Key {
-        name: "service",
-        needed: true,
-        rule: Rule::Name,
-    },
-    Key {
-        name: "pcp",
-        needed: false,
-        rule: Rule::Number { low: 0, high: 7 },
-    },
-    Key {
-        name: "queue",
-        needed: false,
-        rule: Rule::Number { low: 1, high: 4096 },
-    },
-    Key {
-        name: "kind",
-        needed: false,
-        rule: Rule::PortKind,
-    },
-    Key {
-        name: "in",
-        needed: false,
-        rule: Rule::Frames,
-    },
-];
+static MEMORY: [Key; 8] = port_keys![optional!("in", Rule::Frames)];
 
 /// The keys of a customer port over capture files.
-static CAPTURE: [Key; 10] = [
-    Key {
-        name: "name",
-        needed: true,
-        rule: Rule::Name,
-    },
-    Key {
-        name: "bridge",
-        needed: true,
-        rule: Rule::Name,
-    },
-    Key {
-        name: "port",
-        needed: true,
-        rule: Rule::Number { low: 1, high: 16 },
-    },
-    Key {
-        name: "service",
-        needed: true,
-        rule: Rule::Name,
-    },
-    Key {
-        name: "pcp",
-        needed: false,
-        rule: Rule::Number { low: 0, high: 7 },
-    },
-    Key {
-        name: "queue",
-        needed: false,
-        rule: Rule::Number { low: 1, high: 4096 },
-    },
-    Key {
-        name: "kind",
-        needed: false,
-        rule: Rule::PortKind,
-    },
-    Key {
-        name: "read",
-        needed: true,
-        rule: Rule::Path,
-    },
-    Key {
-        name: "write",
-        needed: true,
-        rule: Rule::Path,
-    },
-    Key {
-        name: "stamp",
-        needed: false,
-        rule: Rule::Stamp,
-    },
+static CAPTURE: [Key; 10] = port_keys![
+    needed!("read", Rule::Path),
+    needed!("write", Rule::Path),
+    optional!("stamp", Rule::Stamp),
 ];
 
 /// The keys of a customer port that connects to a socket.
-static SOCKET: [Key; 8] = [
-    Key {
-        name: "name",
-        needed: true,
-        rule: Rule::Name,
-    },
-    Key {
-        name: "bridge",
-        needed: true,
-        rule: Rule::Name,
-    },
-    Key {
-        name: "port",
-        needed: true,
-        rule: Rule::Number { low: 1, high: 16 },
-    },
-    Key {
-        name: "service",
-        needed: true,
-        rule: Rule::Name,
-    },
-    Key {
-        name: "pcp",
-        needed: false,
-        rule: Rule::Number { low: 0, high: 7 },
-    },
-    Key {
-        name: "queue",
-        needed: false,
-        rule: Rule::Number { low: 1, high: 4096 },
-    },
-    Key {
-        name: "kind",
-        needed: false,
-        rule: Rule::PortKind,
-    },
-    Key {
-        name: "path",
-        needed: true,
-        rule: Rule::Path,
-    },
-];
+static SOCKET: [Key; 8] = port_keys![needed!("path", Rule::Path)];
 
 /// The keys of a customer port that listens at a socket.
-static LISTENER: [Key; 8] = [
-    Key {
-        name: "name",
-        needed: true,
-        rule: Rule::Name,
-    },
-    Key {
-        name: "bridge",
-        needed: true,
-        rule: Rule::Name,
-    },
-    Key {
-        name: "port",
-        needed: true,
-        rule: Rule::Number { low: 1, high: 16 },
-    },
-    Key {
-        name: "service",
-        needed: true,
-        rule: Rule::Name,
-    },
-    Key {
-        name: "pcp",
-        needed: false,
-        rule: Rule::Number { low: 0, high: 7 },
-    },
-    Key {
-        name: "queue",
-        needed: false,
-        rule: Rule::Number { low: 1, high: 4096 },
-    },
-    Key {
-        name: "kind",
-        needed: false,
-        rule: Rule::PortKind,
-    },
-    Key {
-        name: "listen",
-        needed: true,
-        rule: Rule::Path,
-    },
-];
+static LISTENER: [Key; 8] = port_keys![needed!("listen", Rule::Path)];
 
 /// The keys of an event.
 static EVENT: [Key; 4] = [
-    Key {
-        name: "at",
-        needed: true,
-        rule: Rule::Number {
-            low: 0,
-            high: 4_294_967_295,
-        },
-    },
-    Key {
-        name: "bridge",
-        needed: true,
-        rule: Rule::Name,
-    },
-    Key {
-        name: "port",
-        needed: true,
-        rule: Rule::Number { low: 1, high: 16 },
-    },
-    Key {
-        name: "up",
-        needed: true,
-        rule: Rule::Flag,
-    },
+    needed!("at", 0..=4_294_967_295),
+    needed!("bridge", Rule::Name),
+    needed!("port", 1..=16),
+    needed!("up", Rule::Flag),
 ];
 
 /// The keys of the network.

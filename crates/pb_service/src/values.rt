@@ -7,7 +7,8 @@ ghost use Rattle.toml.specs.View.{view, items_view};
 ghost use Rattle.pb_frame.specs.Admission.{same};
 ghost use Rattle.pb_frame.specs.Frames.{is_group};
 ghost use Rattle.pb_frame.specs.Hex.{is_digit, IsMacText};
-ghost use Rattle.pb_service.specs.Values.{natural_of, is_text, is_natural, all_items, any_item, is_list, is_name, is_name_letter, is_hex, text_in, IsAddress, rise_from, are_distinct, is_of_kind, IsAllowed};
+ghost use Rattle.pb_lan.specs.Names.{is_name};
+ghost use Rattle.pb_service.specs.Values.{natural_of, is_text, is_natural, all_items, any_item, is_list, is_hex, text_in, IsAddress, rise_from, are_distinct, is_of_kind, IsAllowed};
 
 use crate::rule::Rule;
 use pb_frame::Mac;
@@ -59,30 +60,11 @@ fn is_port_priority(value: &Value) -> bool
     }
 }
 
-fn is_name_letter(c: u8) -> bool
-    ensures { result ≡ is_name_letter c }
-{
-    matches!(c, b'a'..=b'z' | b'A'..=b'Z' | b'0'..=b'9' | b'-' | b'_')
-}
-
-fn are_name_letters(text: &[u8]) -> bool
-    ensures { result ≡ list_all is_name_letter text.now }
-{
-    text.iter().all(|c| is_name_letter(*c))
-}
-
-fn is_name_text(text: &str) -> bool
-    ensures { result ≡ is_name text.now }
-{
-    let letters = are_name_letters(text.as_bytes());
-    1 <= text.len() && text.len() <= 32 && letters
-}
-
 fn is_name(value: &Value) -> bool
     ensures { result ≡ is_text is_name (view value.now) }
 {
     match value.as_str() {
-        Some(text) => is_name_text(text),
+        Some(text) => pb_lan::is_name(text.as_bytes()),
         None => false,
     }
 }

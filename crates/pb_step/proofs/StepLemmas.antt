@@ -28,7 +28,7 @@ use Rattle.pb_said.specs.BadLines.{bad_line}
 use Rattle.pb_said.specs.declared.fault.CommandFault.{CommandFault}
 use Rattle.pb_print.specs.RecordTexts.{IsRecordText}
 use Rattle.pb_said.specs.declared.fault.CommandFault.TheVariants.{Steps, Memory}
-use Rattle.pb_said.proofs.LineLemmas.{whole_line, uncut, Appends-twice, Appends-keeps, Appends-nothing}
+use Rattle.pb_said.proofs.LineLemmas.{whole_line, uncut, parts_of_map, Appends-twice, Appends-keeps, Appends-nothing}
 
 -- one line more
 StepAnswers-snoc : (limit n : ℕ) (front : List (List ℕ)) (line : List ℕ) (old mid new : NetView) (text more : List ℕ)
@@ -80,24 +80,6 @@ StepAnswers-uncut limit n (line ∷ lines) old new text (mid, front, back, first
       new back others,
   e,
 )
-
--- the parts of the cut lines are the cut parts of the lines
-parts_of_map : (n : ℕ) (lines front back : List (List ℕ)) → map (λ line. take n line) lines ≡ front ++ back
-    → (a : List (List ℕ)) × (b : List (List ℕ)) × (lines ≡ a ++ b) × (front ≡ map (λ line. take n line) a)
-    × (back ≡ map (λ line. take n line) b)
-parts_of_map n lines [] back e = ([], lines, refl, refl, sym e)
-parts_of_map n [] (f ∷ front) back e = cc
-parts_of_map n (l ∷ lines) (f ∷ front) back e =
-    let head : take n l ≡ f = cc in
-    let tail : map (λ line. take n line) lines ≡ front ++ back = cc in
-    let parts = parts_of_map n lines front back tail in (
-      l ∷ parts.0,
-      parts.1,
-      ap (λ z. l ∷ z) {y = parts.0 ++ parts.1} parts.2,
-      let same : front ≡ map
-          (λ line. take n line) parts.0 = parts.3 in cc,
-      parts.4,
-    )
 
 -- the limit that the next cut line meets, the next line meets
 IsAtLimit-uncut : (limit : ℕ) (net : NetView) (lines : List (List ℕ)) (line : List ℕ) (rest : List (List ℕ))
@@ -158,14 +140,15 @@ steps_end limit n plan (Some octets) (Some rest) before now held net p none =
       StepAnswers-uncut limit 1 (lines_of octets) (start_of plan) net p.text (rw all p.answers),
     )
 
--- at any line what is written are the answers to the first lines
-pub steps_begun : (fault : CommandFault) (limit n : ℕ) (plan : Plan) (input left before now : Option (List ℕ))
-    (held : List ℕ) (net : NetView)
-    → StepsProgress limit n plan input held left before now net → fault ≢ Steps
-    → PrintsStepsBeginning fault limit plan input before now
-steps_begun fault limit n plan None left before now held net p ne = tt
-steps_begun fault limit n plan (Some octets) None before now held net p ne = absurd p
-steps_begun fault limit n plan (Some octets) (Some rest) before now held net p ne =
+-- the answers to the first lines are what a fault leaves
+steps_left : (fault : CommandFault) (limit n : ℕ) (plan : Plan) (octets held rest : List ℕ)
+    (before now : Option (List ℕ))
+    (net : NetView)
+    → StepsProgress limit n plan (Some octets) held (Some rest) before now net
+    → ((back : List (List ℕ)) → cut_lines limit (held ++ rest) ≡ map (λ line. take (limit + 1) line) back
+    → fault ≡ Steps → IsAtLimit limit net back)
+    → PrintsStepsBeginning fault limit plan (Some octets) before now
+steps_left fault limit n plan octets held rest before now net p at =
     let parts = parts_of_map (limit + 1) (lines_of octets) p.front (cut_lines limit (held ++ rest)) p.lines in (
       p.text,
       p.written,
@@ -176,12 +159,22 @@ steps_begun fault limit n plan (Some octets) (Some rest) before now held net p n
         last = net;
         answers = p.text;
         are_answers = StepAnswers-uncut limit 1 parts.0 (start_of plan) net p.text (rw parts.3 at p.answers);
-        steps = λ e. absurd (ne e);
+        steps = at parts.1 parts.4;
         more = [];
         follows = no_report refl;
         text_is = sym (append-nil p.text);
       },
     )
+
+-- at any line what is written are the answers to the first lines
+pub steps_begun : (fault : CommandFault) (limit n : ℕ) (plan : Plan) (input left before now : Option (List ℕ))
+    (held : List ℕ) (net : NetView)
+    → StepsProgress limit n plan input held left before now net → fault ≢ Steps
+    → PrintsStepsBeginning fault limit plan input before now
+steps_begun fault limit n plan None left before now held net p ne = tt
+steps_begun fault limit n plan (Some octets) None before now held net p ne = absurd p
+steps_begun fault limit n plan (Some octets) (Some rest) before now held net p ne =
+    steps_left fault limit n plan octets held rest before now net p (λ back same e. absurd (ne e))
 
 -- the same where the next line is known
 pub steps_stopped : (fault : CommandFault) (limit n : ℕ) (plan : Plan) (input mid left before now : Option (List ℕ))
@@ -193,23 +186,8 @@ steps_stopped fault limit n plan None mid left before now held held' line net p 
 steps_stopped fault limit n plan (Some octets) None left before now held held' line net p gives at = absurd p
 steps_stopped fault limit n plan (Some octets) (Some rest) None before now held held' line net p gives at = absurd gives
 steps_stopped fault limit n plan (Some octets) (Some rest) (Some rest') before now held held' line net p gives at =
-    let parts = parts_of_map (limit + 1) (lines_of octets) p.front (cut_lines limit (held ++ rest)) p.lines in (
-      p.text,
-      p.written,
-      record {
-        front = parts.0;
-        back = parts.1;
-        lines = parts.2;
-        last = net;
-        answers = p.text;
-        are_answers = StepAnswers-uncut limit 1 parts.0 (start_of plan) net p.text (rw parts.3 at p.answers);
-        steps = λ e. IsAtLimit-uncut limit net parts.1 line (cut_lines limit (held' ++ rest')) (sym gives ∙ parts.4)
-            (at e);
-        more = [];
-        follows = no_report refl;
-        text_is = sym (append-nil p.text);
-      },
-    )
+    steps_left fault limit n plan octets held rest before now net p
+    (λ back same e. IsAtLimit-uncut limit net back line (cut_lines limit (held' ++ rest')) (sym gives ∙ same) (at e))
 
 -- before anything is read
 pub steps_unread : (fault : CommandFault) (limit : ℕ) (plan : Plan) (input before : Option (List ℕ)) → fault ≢ Steps

@@ -1,5 +1,5 @@
 -- Services and ports as lists.
-use Rattle.std.proofs.lemmas.Bool.{eqb-true}
+use Rattle.std.proofs.lemmas.Bool.{cases_eq, ne_eqb, or_parts}
 use Rattle.std.proofs.lemmas.Bool.Decides.{nat_tests}
 use Rattle.std.specs.declared.option.Option.{Option}
 use Rattle.std.specs.Option.{option_map}
@@ -8,20 +8,11 @@ use Rattle.pb_frame.proofs.Lists.{All-imply}
 use Rattle.pb_frame.specs.Lists.{first, Rises}
 use Rattle.pb_svlan.specs.ServiceTables.{place_of, role_in}
 use Rattle.pb_svlan.specs.declared.port.Attachment.{Attachment}
-use Rattle.std.proofs.Common.{eq-eqb, length, is_some, get_or, subst, ◌≡◌, ℕ, zero, suc, ◌<◌, ◌≤◌, Bool, true, false}
-use Rattle.std.proofs.Common.{cond, nat_lt, ◌||◌, ◌==◌, List, [], ◌∷◌, ◌++◌, map, insert, Some, None, refl, sym, ap}
-use Rattle.std.proofs.Common.{◌∙◌, arith}
+use Rattle.std.proofs.Common.{inl, inr, eq-eqb, length, is_some, get_or, subst, ◌≡◌, ℕ, zero, suc, ◌<◌, ◌≤◌, Bool}
+use Rattle.std.proofs.Common.{true, false, cond, nat_lt, ◌||◌, ◌==◌, List, [], ◌∷◌, ◌++◌, map, insert, Some, None}
+use Rattle.std.proofs.Common.{refl, sym, ap, ◌∙◌, arith}
 use Rattle.std.specs.List.{list_any, filter, AllByRecursion}
 use Rattle.std.specs.Map.{keys_of, values_of}
-
--- neither of two
-or-false_left : (a b : Bool) → (a || b) ≡ false → a ≡ false
-or-false_left true b h = h
-or-false_left false b h = refl
-
-or-false_right : (a b : Bool) → (a || b) ≡ false → b ≡ false
-or-false_right true b h = cc
-or-false_right false b h = h
 
 -- a test of keys is a test of pairs
 pub list_any-keys : {K X : Type 0} (p : K → Bool) (es : List (K × X))
@@ -36,14 +27,10 @@ list_any-values p (e ∷ es) = ap (λ b. p e.1 || b) (list_any-values p es)
 
 -- equality of numbers goes both ways
 pub eqb-symm : (a b : ℕ) → (a == b) ≡ (b == a)
-eqb-symm a b =
-    elim (a == b) as (λ t. (a == b) ≡ t → t ≡ (b == a)) [
-      | true ↦ λ e. sym (eq-eqb b a (sym (eqb-true a b e)))
-      | false ↦ λ e. elim (b == a) as (λ u. (b == a) ≡ u → false ≡ u) [
-        | true ↦ λ f. sym e ∙ eq-eqb a b (sym (eqb-true b a f))
-        | false ↦ λ f. refl
-      ] refl
-    ] refl
+eqb-symm a b = elim (cases_eq a b) [
+  | inl e ↦ eq-eqb a b e ∙ sym (eq-eqb b a (sym e))
+  | inr n ↦ ne_eqb a b n ∙ sym (ne_eqb b a (λ e. n (sym e)))
+]
 
 -- a service with a new VID goes last
 pub insert_entry-last : {X : Type 0} (eq : ℕ → ℕ → Bool) → ((a b : ℕ) → eq a b ≡ (b == a))
@@ -51,8 +38,8 @@ pub insert_entry-last : {X : Type 0} (eq : ℕ → ℕ → Bool) → ((a b : ℕ
     → list_any (λ e. e.0 == k) es ≡ false → insert_entry eq es k v ≡ es ++ (k, v) ∷ []
 insert_entry-last eq same [] k v h = refl
 insert_entry-last eq same (e ∷ es) k v h =
-    ap (λ b. cond b ((e.0, v) ∷ es) (e ∷ insert_entry eq es k v)) (same k e.0 ∙ or-false_left (e.0 == k) _ h)
-    ∙ ap (λ zs. e ∷ zs) (insert_entry-last eq same es k v (or-false_right (e.0 == k) _ h))
+    ap (λ b. cond b ((e.0, v) ∷ es) (e ∷ insert_entry eq es k v)) (same k e.0 ∙ (or_parts (e.0 == k) _ h).0)
+    ∙ ap (λ zs. e ∷ zs) (insert_entry-last eq same es k v (or_parts (e.0 == k) _ h).1)
 
 -- a port's place is one of its list's
 pub place_of-within : (port : ℕ) (ports : List Attachment) → place_of port ports ≤ length ports
@@ -149,13 +136,10 @@ found-there (b ∷ others) zero port a rise within there is =
     ∙ ap (λ (z : Attachment). Some z.role) (sym there)
 found-there (b ∷ others) (suc i) port a rise within there is =
     let below : b.port < a.port = among others i rise.0 (omega arith) there in
-    let differs : (b.port == port) ≡ false = unequal b.port port (omega (arith, below, is)) in
+    let differs : (b.port == port) ≡ false = ne_eqb b.port port (λ e. omega (arith, below, is, e)) in
     ap (λ t. option_map (λ c. c.role) (cond t (Some b) (first (λ c. c.port == port) others))) differs
     ∙ found-there others i port a rise.1 (omega arith) there is
   where
-    unequal : (m n : ℕ) → m < n → (m == n) ≡ false
-    unequal m n h = grind (arith, nat_tests)
-
     among : (others : List Attachment) (i : ℕ) → AllByRecursion (λ m. b.port < m) (map (λ a. a.port) others)
         → i < length others → a ≡ get_or others i a → b.port < a.port
     among [] i all within there = absurd (omega arith)

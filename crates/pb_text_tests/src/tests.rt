@@ -2,6 +2,7 @@
 
 mod draw_words;
 mod format_words;
+mod line_words;
 mod lines;
 mod losses;
 mod survive_words;

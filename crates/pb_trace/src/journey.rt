@@ -4,13 +4,14 @@ ghost use Rattle.std.specs.Prelude.{◌≡◌, ◌++◌, List, ℕ, string_bytes
 ghost use Rattle.pb_lan.specs.Plans.{IsSound};
 ghost use Rattle.pb_trace.specs.Stories.{AnswersEntry, HasJourneyed};
 
-use crate::entry::{Entry, read_frame};
+use crate::entry::Entry;
 use crate::frame::{Fate, trace_frame};
 use crate::round::FrameId;
 use pb_lan::Plan;
 use pb_naming::port_named;
 use pb_net::Net;
 use pb_said::CommandFault;
+use pb_script::read_frame;
 use std::alloc::Global;
 
 /// What became of several frames.
@@ -38,7 +39,7 @@ fn trace_entry(
     ensures ok { IfOk result (λ fate. (text : List ℕ) × (string_bytes out.new ≡ string_bytes out.old ++ text) × AnswersEntry plan.now entry.now fate net.old net.new text) }
 {
     let port = port_named(plan, entry.port.as_str());
-    match read_frame(alloc, entry.hex.as_str())? {
+    match read_frame(alloc, entry.hex.as_bytes())? {
         Some(frame) => trace_frame(alloc, out, plan, net, port, frame),
         None => Ok(Fate::NoFrame),
     }

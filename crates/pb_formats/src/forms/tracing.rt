@@ -57,142 +57,108 @@ const PASSAGES: &[Choice] = choices![
 /// It left the network.
 const DELIVERED: &[Choice] = choices![("delivered ", Said::Word("delivered")),];
 
+/// A frame that a bridge received, with this said of its tag, and relayed.
+macro_rules! relayed {
+    ($($tag:tt),+) => {
+        slots![
+            ("depth", Kind::Depth, ""),
+            ("bridge", Kind::Text, " "),
+            ("port", Kind::Number, " "),
+            ("event", Kind::OneOf(FROM), ""),
+            ("from", Kind::Text, ", "),
+            $($tag),+,
+            ("source", Kind::OneOf(SOURCES), ""),
+            ("way", Kind::OneOf(WAYS), ": "),
+            ("outcome", Kind::OneOf(RELAYED), ""),
+            ("relayed_to", Kind::Numbers, ""),
+            ("no_room", Kind::Words, ""),
+        ]
+    };
+}
+
+/// A frame that a bridge received, with this said of its tag, and filtered.
+macro_rules! filtered {
+    ($($tag:tt),+) => {
+        slots![
+            ("depth", Kind::Depth, ""),
+            ("bridge", Kind::Text, " "),
+            ("port", Kind::Number, " "),
+            ("event", Kind::OneOf(FROM), ""),
+            ("from", Kind::Text, ", "),
+            $($tag),+,
+            ("source", Kind::OneOf(SOURCES), ""),
+            ("way", Kind::OneOf(WAYS), ": "),
+            ("outcome", Kind::OneOf(FILTERED), ""),
+            ("reason", Kind::Text, ""),
+        ]
+    };
+}
+
+/// A frame that a bridge sent, with the text behind where it went, and this said of its tag.
+macro_rules! sent {
+    ($until:literal $(, $tag:tt)*) => {
+        slots![
+            ("depth", Kind::Depth, ""),
+            ("bridge", Kind::Text, " "),
+            ("port", Kind::Number, " "),
+            ("event", Kind::OneOf(TO), ""),
+            ("to", Kind::Text, $until),
+            $($tag),*
+        ]
+    };
+}
+
 /// A frame of a service that was relayed.
-const SERVICE_RELAYED: &[Slot] = slots![
-    ("depth", Kind::Depth, ""),
-    ("bridge", Kind::Text, " "),
-    ("port", Kind::Number, " "),
-    ("event", Kind::OneOf(FROM), ""),
-    ("from", Kind::Text, ", "),
+const SERVICE_RELAYED: &[Slot] = relayed![
     ("service", Kind::Text, " vid "),
     ("vid", Kind::Number, " priority "),
-    ("priority", Kind::Number, ""),
-    ("source", Kind::OneOf(SOURCES), ""),
-    ("way", Kind::OneOf(WAYS), ": "),
-    ("outcome", Kind::OneOf(RELAYED), ""),
-    ("relayed_to", Kind::Numbers, ""),
-    ("no_room", Kind::Words, ""),
+    ("priority", Kind::Number, "")
 ];
 
 /// A frame of a service that was filtered.
-const SERVICE_FILTERED: &[Slot] = slots![
-    ("depth", Kind::Depth, ""),
-    ("bridge", Kind::Text, " "),
-    ("port", Kind::Number, " "),
-    ("event", Kind::OneOf(FROM), ""),
-    ("from", Kind::Text, ", "),
+const SERVICE_FILTERED: &[Slot] = filtered![
     ("service", Kind::Text, " vid "),
     ("vid", Kind::Number, " priority "),
-    ("priority", Kind::Number, ""),
-    ("source", Kind::OneOf(SOURCES), ""),
-    ("way", Kind::OneOf(WAYS), ": "),
-    ("outcome", Kind::OneOf(FILTERED), ""),
-    ("reason", Kind::Text, ""),
+    ("priority", Kind::Number, "")
 ];
 
 /// A frame whose priority tag came off that was relayed.
-const TAGGED_RELAYED: &[Slot] = slots![
-    ("depth", Kind::Depth, ""),
-    ("bridge", Kind::Text, " "),
-    ("port", Kind::Number, " "),
-    ("event", Kind::OneOf(FROM), ""),
-    ("from", Kind::Text, ", "),
+const TAGGED_RELAYED: &[Slot] = relayed![
     ("service", Kind::Text, " vid "),
     ("vid", Kind::Number, " priority "),
     ("priority", Kind::Number, ", tag "),
-    ("tag_taken_off", Kind::Text, " taken off"),
-    ("source", Kind::OneOf(SOURCES), ""),
-    ("way", Kind::OneOf(WAYS), ": "),
-    ("outcome", Kind::OneOf(RELAYED), ""),
-    ("relayed_to", Kind::Numbers, ""),
-    ("no_room", Kind::Words, ""),
+    ("tag_taken_off", Kind::Text, " taken off")
 ];
 
 /// A frame whose priority tag came off that was filtered.
-const TAGGED_FILTERED: &[Slot] = slots![
-    ("depth", Kind::Depth, ""),
-    ("bridge", Kind::Text, " "),
-    ("port", Kind::Number, " "),
-    ("event", Kind::OneOf(FROM), ""),
-    ("from", Kind::Text, ", "),
+const TAGGED_FILTERED: &[Slot] = filtered![
     ("service", Kind::Text, " vid "),
     ("vid", Kind::Number, " priority "),
     ("priority", Kind::Number, ", tag "),
-    ("tag_taken_off", Kind::Text, " taken off"),
-    ("source", Kind::OneOf(SOURCES), ""),
-    ("way", Kind::OneOf(WAYS), ": "),
-    ("outcome", Kind::OneOf(FILTERED), ""),
-    ("reason", Kind::Text, ""),
+    ("tag_taken_off", Kind::Text, " taken off")
 ];
 
 /// A frame over a link without a tag that was relayed.
-const UNTAGGED_RELAYED: &[Slot] = slots![
-    ("depth", Kind::Depth, ""),
-    ("bridge", Kind::Text, " "),
-    ("port", Kind::Number, " "),
-    ("event", Kind::OneOf(FROM), ""),
-    ("from", Kind::Text, ", "),
-    ("untagged", Kind::OneOf(BARE), ""),
-    ("source", Kind::OneOf(SOURCES), ""),
-    ("way", Kind::OneOf(WAYS), ": "),
-    ("outcome", Kind::OneOf(RELAYED), ""),
-    ("relayed_to", Kind::Numbers, ""),
-    ("no_room", Kind::Words, ""),
-];
+const UNTAGGED_RELAYED: &[Slot] = relayed![("untagged", Kind::OneOf(BARE), "")];
 
 /// A frame over a link without a tag that was filtered.
-const UNTAGGED_FILTERED: &[Slot] = slots![
-    ("depth", Kind::Depth, ""),
-    ("bridge", Kind::Text, " "),
-    ("port", Kind::Number, " "),
-    ("event", Kind::OneOf(FROM), ""),
-    ("from", Kind::Text, ", "),
-    ("untagged", Kind::OneOf(BARE), ""),
-    ("source", Kind::OneOf(SOURCES), ""),
-    ("way", Kind::OneOf(WAYS), ": "),
-    ("outcome", Kind::OneOf(FILTERED), ""),
-    ("reason", Kind::Text, ""),
-];
+const UNTAGGED_FILTERED: &[Slot] = filtered![("untagged", Kind::OneOf(BARE), "")];
 
 /// A bridge sent a frame, whose tag came off.
-const SENT_BARE: &[Slot] = slots![
-    ("depth", Kind::Depth, ""),
-    ("bridge", Kind::Text, " "),
-    ("port", Kind::Number, " "),
-    ("event", Kind::OneOf(TO), ""),
-    ("to", Kind::Text, ", tag "),
-    ("tag", Kind::OneOf(TAKEN_OFF), ""),
-];
+const SENT_BARE: &[Slot] = sent![", tag ", ("tag", Kind::OneOf(TAKEN_OFF), "")];
 
 /// A bridge sent a frame, whose tag was put on.
-const SENT_FIRST: &[Slot] = slots![
-    ("depth", Kind::Depth, ""),
-    ("bridge", Kind::Text, " "),
-    ("port", Kind::Number, " "),
-    ("event", Kind::OneOf(TO), ""),
-    ("to", Kind::Text, ", tag "),
+const SENT_FIRST: &[Slot] = sent![
+    ", tag ",
     ("tag", Kind::Text, " "),
-    ("put_on", Kind::OneOf(PUT_ON), ""),
+    ("put_on", Kind::OneOf(PUT_ON), "")
 ];
 
 /// A bridge sent a frame with its tag.
-const SENT_ON: &[Slot] = slots![
-    ("depth", Kind::Depth, ""),
-    ("bridge", Kind::Text, " "),
-    ("port", Kind::Number, " "),
-    ("event", Kind::OneOf(TO), ""),
-    ("to", Kind::Text, ", tag "),
-    ("tag", Kind::Text, ""),
-];
+const SENT_ON: &[Slot] = sent![", tag ", ("tag", Kind::Text, "")];
 
 /// A bridge sent a frame.
-const SENT: &[Slot] = slots![
-    ("depth", Kind::Depth, ""),
-    ("bridge", Kind::Text, " "),
-    ("port", Kind::Number, " "),
-    ("event", Kind::OneOf(TO), ""),
-    ("to", Kind::Text, ""),
-];
+const SENT: &[Slot] = sent![""];
 
 /// A link took a frame.
 const TOOK: &[Slot] = slots![

@@ -1,6 +1,6 @@
 use Rattle.std.proofs.Common.{◌++◌, codes, string_bytes}
 use Rattle.pb_draw.specs.Dot.{parts_text}
-use Rattle.pb_naming.proofs.TextLemmas.{with_piece}
+use Rattle.pb_frame.proofs.TextLemmas.{with_piece}
 use Rattle.pb_draw.proofs.dot.put_dot.Goals as goal
 
 pub returns : goal.returns

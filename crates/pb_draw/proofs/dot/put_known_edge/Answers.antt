@@ -1,8 +1,7 @@
 use Rattle.std.proofs.Common.{◌++◌, string_bytes}
 use Rattle.pb_draw.specs.Dot.{edge_head, tone_style}
 use Rattle.pb_draw.specs.Titles.{link_words}
-use Rattle.pb_naming.proofs.TextLemmas.{with_piece}
-use Rattle.pb_draw.proofs.TextLemmas.{last_piece}
+use Rattle.pb_frame.proofs.TextLemmas.{with_piece, last_piece}
 use Rattle.pb_draw.proofs.dot.put_known_edge.Goals as goal
 
 pub returns : goal.returns

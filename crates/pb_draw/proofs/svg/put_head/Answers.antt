@@ -1,8 +1,7 @@
 use Rattle.std.proofs.Common.{◌++◌, string_bytes}
 use Rattle.pb_draw.specs.Svg.{opening_text, counts_text, ground_text, group_text}
 use Rattle.pb_draw.specs.declared.style.TheConstants.{STYLE}
-use Rattle.pb_naming.proofs.TextLemmas.{with_piece}
-use Rattle.pb_draw.proofs.TextLemmas.{last_piece}
+use Rattle.pb_frame.proofs.TextLemmas.{with_piece, last_piece}
 use Rattle.pb_draw.proofs.svg.put_head.Goals as goal
 
 pub returns : goal.returns

@@ -1,6 +1,6 @@
 use Rattle.std.proofs.Common.{codes, string_bytes}
 use Rattle.pb_draw.specs.SvgBoxes.{stand_text}
-use Rattle.pb_draw.proofs.TextLemmas.{last_piece}
+use Rattle.pb_frame.proofs.TextLemmas.{last_piece}
 use Rattle.pb_draw.proofs.svg_boxes.put_box_group.Goals as goal
 
 pub returns : goal.returns

@@ -1,7 +1,6 @@
 use Rattle.std.proofs.Common.{◌≡◌, ◌++◌, OnOk, codes, string_bytes, subst}
 use Rattle.pb_draw.specs.SvgBoxes.{bar_group, bar_text, port_title}
-use Rattle.pb_naming.proofs.TextLemmas.{with_piece}
-use Rattle.pb_draw.proofs.TextLemmas.{last_piece}
+use Rattle.pb_frame.proofs.TextLemmas.{with_piece, last_piece}
 use Rattle.pb_draw.proofs.svg_boxes.put_port_of.Goals as goal
 
 pub returns : goal.returns

@@ -3,7 +3,7 @@ use Rattle.std.specs.List.{range_with_len}
 use Rattle.pb_init.specs.PlanTexts.{head_text, keys_text, places_text, bridge_text, link_text, service_text}
 use Rattle.pb_init.specs.PlanTexts.{port_text, kinds_text}
 use Rattle.pb_init.specs.Shapes.{bridge_count, link_count, port_count}
-use Rattle.pb_init.proofs.LineLemmas.{with_piece, last_piece}
+use Rattle.pb_frame.proofs.TextLemmas.{with_piece, last_piece}
 use Rattle.pb_init.proofs.plan_file.put_plan.Goals as goal
 
 pub returns : goal.returns

@@ -1,6 +1,6 @@
 use Rattle.std.proofs.Common.{◌∙◌, ◌++◌, ap, string_bytes}
 use Rattle.pb_init.specs.PlanTexts.{head_text, keys_text, places_text}
-use Rattle.pb_init.proofs.LineLemmas.{with_piece}
+use Rattle.pb_frame.proofs.TextLemmas.{with_piece}
 use Rattle.pb_init.proofs.texts.put_head.Goals as goal
 
 pub returns : goal.returns

@@ -1,6 +1,6 @@
 use Rattle.std.proofs.Common.{string_bytes}
 use Rattle.pb_init.specs.PlanTexts.{needs_text, capture_text, socket_text}
-use Rattle.pb_init.proofs.LineLemmas.{with_piece, last_piece}
+use Rattle.pb_frame.proofs.TextLemmas.{with_piece, last_piece}
 use Rattle.pb_init.proofs.texts.put_kinds.Goals as goal
 
 pub returns : goal.returns

@@ -1,5 +1,5 @@
 use Rattle.std.proofs.Common.{◌≡◌, ◌++◌, flat_map, string_bytes, subst, OnOk}
-use Rattle.pb_losses.proofs.LineLemmas.{last_piece}
+use Rattle.pb_frame.proofs.TextLemmas.{last_piece}
 use Rattle.pb_losses.specs.Losses.{source_lines}
 use Rattle.pb_losses.proofs.losses.put_bridge.Goals as goal
 

@@ -1,4 +1,4 @@
-use Rattle.pb_losses.proofs.LineLemmas.{with_piece, last_piece}
+use Rattle.pb_frame.proofs.TextLemmas.{with_piece, last_piece}
 use Rattle.pb_losses.proofs.losses.put_port.Goals as goal
 
 pub returns : goal.returns

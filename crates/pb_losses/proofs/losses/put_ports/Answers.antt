@@ -1,6 +1,6 @@
 use Rattle.std.proofs.Common.{◌∙◌, ◌++◌, ap, flat_map, string_bytes}
 use Rattle.pb_losses.specs.Losses.{port_lines}
-use Rattle.pb_losses.proofs.LineLemmas.{numbers_more}
+use Rattle.pb_frame.proofs.TextLemmas.{numbers_more}
 use Rattle.pb_steps.specs.Losses.{refused_by, dropped_by, counts_at}
 use Rattle.pb_losses.proofs.losses.put_ports.Goals as goal
 
@@ -14,4 +14,4 @@ loop-port-preserved c =
     c.copies_not_queued-copies.ensures
     ∙ ap (λ x. old ++ port_lines name port (counts_at port (flat_map refused_by steps)) x) c.bpdus_not_queued.ensures in
     numbers_more (λ p. port_lines name p (counts_at p (flat_map refused_by steps))
-    (counts_at p (flat_map dropped_by steps))) port 17 old _ _ c.loop-port-test.true put c.loop-port.invariant
+    (counts_at p (flat_map dropped_by steps))) port port 17 old _ _ c.loop-port-test.true put c.loop-port.invariant

@@ -1,4 +1,4 @@
-use Rattle.pb_losses.proofs.LineLemmas.{last_piece}
+use Rattle.pb_frame.proofs.TextLemmas.{last_piece}
 use Rattle.pb_losses.proofs.losses.put_sources.Goals as goal
 
 pub returns : goal.returns

@@ -6,7 +6,8 @@ use Rattle.pb_lan.specs.declared.plan.CustomerPlan.{CustomerPlan}
 use Rattle.pb_lan.specs.declared.plan.LinkPlan.{LinkPlan}
 use Rattle.pb_svlan.specs.ServiceTables.{ServiceTable, is_taken, attached, carried, role_at}
 use Rattle.pb_svlan.specs.declared.port.Role.TheVariants.{Customer, Trunk}
-use Rattle.pb_relay.proofs.AttachLemmas.{customer_there, end_there, end_known, customer_kept, end_kept, role-elsewhere}
+use Rattle.pb_relay.proofs.AttachLemmas.{end_known, customer_kept, end_kept, role-elsewhere}
+use Rattle.pb_relay.proofs.StandingLemmas.{customer_there, end_there}
 use Rattle.pb_relay.proofs.ServiceLemmas.{known}
 use Rattle.pb_relay.proofs.start.attach.Goals as goal
 

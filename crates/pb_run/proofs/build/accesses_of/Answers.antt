@@ -1,11 +1,12 @@
 use Rattle.std.proofs.Common.{◌≡◌, ◌+◌, [], arith}
+use Rattle.std.proofs.lemmas.List.Elements.{All-nil, All-same}
 use Rattle.pb_run.specs.Wires.{HasOuter}
 use Rattle.pb_run.specs.declared.access.Access.{Access}
 use Rattle.pb_run.specs.declared.access.Last.TheVariants.{More}
-use Rattle.pb_run.proofs.EndsThere.{customers_apart, this_customer, after_customer, apart_after_customer}
+use Rattle.pb_run.proofs.EndsThere.{customers_apart, customer_ports, first_there, others_there, others_distinct}
 use Rattle.pb_run.proofs.Gifts.{no_accesses, access_pushed}
 use Rattle.pb_work.proofs.Alls.{all_more}
-use Rattle.pb_run.proofs.Lists.{here_is, all_none}
+use Rattle.pb_run.proofs.Lists.{here_is}
 use Rattle.pb_run.proofs.build.accesses_of.Goals as goal
 
 pub loop-customer-init : goal.loop-customer-init
@@ -13,8 +14,8 @@ loop-customer-init g c =
     let D : Type 0 = Access g.row.W.Denot g.W.Wiring in
     record {
       gifts = no_accesses _ c.args.plan.now c.in_ok-accesses.accesses.items c.in_ok-accesses.ensures.items;
-      fresh = all_none (λ (d : D). (d.place.steps ≡ []) × (d.book.last ≡ More)) c.in_ok-accesses.accesses.items
-          c.in_ok-accesses.ensures.items;
+      fresh = All-same (λ (d : D). (d.place.steps ≡ []) × (d.book.last ≡ More)) _ [] c.in_ok-accesses.ensures.items
+          (All-nil _);
       there = c.requires.there;
       apart = customers_apart c.args.plan.now c.requires.sound;
     }
@@ -25,7 +26,8 @@ access_of-requires-clause-outer g c =
     let at = rw c.as_slice-customers.ensures at
     (here_is customers c.loop-customer.customer-index c.customer-item.result c.loop-customer-test.true
     c.customer-item.is) in
-    this_customer c.args.plan.now.customers c.loop-customer.customer-index c.customer-item.result at
+    first_there _ _ _ (customer_ports c.args.plan.now.customers c.loop-customer.customer-index c.customer-item.result
+    at)
     (HasOuter c.loop-customer.ends.outlets.items c.loop-customer.ends.inlets.items)
     c.loop-customer.invariant.there
 
@@ -38,6 +40,7 @@ loop-customer-preserved g c =
     (here_is customers c.loop-customer.customer-index customer c.loop-customer-test.true c.customer-item.is) in
     let D : Type 0 = Access g.row.W.Denot g.W.Wiring in
     let made = c.access_of.ensures in
+    let ports = customer_ports c.args.plan.now.customers c.loop-customer.customer-index customer at in
     record {
       gifts = access_pushed _ c.args.plan.now c.loop-customer.customer-index (c.len.result + 1) customer
           c.loop-customer.accesses.items c.push_back.new.self.items c.access_of.result at
@@ -45,8 +48,8 @@ loop-customer-preserved g c =
       fresh = all_more (λ (d : D). (d.place.steps ≡ []) × (d.book.last ≡ More)) c.access_of.result
           c.loop-customer.accesses.items c.push_back.new.self.items c.in_ok-push_back.ensures.items
           i.fresh (made.fresh.0, made.fresh.1);
-      there = after_customer c.args.plan.now.customers c.loop-customer.customer-index customer at
+      there = others_there _ _ _ ports
           (HasOuter c.loop-customer.ends.outlets.items c.loop-customer.ends.inlets.items)
           (HasOuter c.access_of.new.ends.outlets.items c.access_of.new.ends.inlets.items) i.apart made.outer i.there;
-      apart = apart_after_customer c.args.plan.now.customers c.loop-customer.customer-index customer at i.apart;
+      apart = others_distinct _ _ _ ports i.apart;
     }

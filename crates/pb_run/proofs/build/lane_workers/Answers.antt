@@ -1,6 +1,6 @@
 use Rattle.std.proofs.Common.{◌+◌, ◌∙◌, arith}
 use Rattle.pb_run.specs.Wires.{HasOuter}
-use Rattle.pb_run.proofs.EndsThere.{first_end, second_end, after_link, apart_after_link}
+use Rattle.pb_run.proofs.EndsThere.{link_ports, first_there, others_there, after_link, apart_after_link}
 use Rattle.pb_run.proofs.Gifts.{is_lane_gift, lanes_pushed}
 use Rattle.pb_run.proofs.Lists.{here_is}
 use Rattle.pb_run.proofs.build.lane_workers.Goals as goal
@@ -10,8 +10,8 @@ outer-to_a-requires g c =
     let links = c.as_slice-links.result.now in
     let at = rw c.as_slice-links.ensures at
     (here_is links c.loop-link.link-index c.link-item.result c.loop-link-test.true c.link-item.is) in
-    first_end c.args.plan.now.links c.args.plan.now.customers c.loop-link.link-index c.link-item.result at
-    (HasOuter c.loop-link.ends.outlets.items c.loop-link.ends.inlets.items)
+    first_there _ _ _ (link_ports c.args.plan.now.links c.args.plan.now.customers c.loop-link.link-index
+    c.link-item.result at) (HasOuter c.loop-link.ends.outlets.items c.loop-link.ends.inlets.items)
     c.loop-link.invariant.there
 
 pub outer-to_b-requires : goal.outer-to_b-requires
@@ -19,10 +19,10 @@ outer-to_b-requires g c =
     let links = c.as_slice-links.result.now in
     let at = rw c.as_slice-links.ensures at
     (here_is links c.loop-link.link-index c.link-item.result c.loop-link-test.true c.link-item.is) in
-    second_end c.args.plan.now.links c.args.plan.now.customers c.loop-link.link-index c.link-item.result at
-    (HasOuter c.loop-link.ends.outlets.items c.loop-link.ends.inlets.items)
+    (others_there _ _ _ (link_ports c.args.plan.now.links c.args.plan.now.customers c.loop-link.link-index
+    c.link-item.result at) (HasOuter c.loop-link.ends.outlets.items c.loop-link.ends.inlets.items)
     (HasOuter c.outer-to_a.new.self.outlets.items c.outer-to_a.new.self.inlets.items) c.loop-link.invariant.apart
-    c.outer-to_a.ensures.outer c.loop-link.invariant.there
+    c.outer-to_a.ensures.outer c.loop-link.invariant.there).0
 
 pub loop-link-preserved : goal.loop-link-preserved
 loop-link-preserved g c =
@@ -44,9 +44,11 @@ loop-link-preserved g c =
           (c.in_ok-lane_worker-2.ensures ∙ is_lane_gift (c.len.result + 1 + 1) c.outer-to_b.result.1.number
           c.outer-to_a.result.0.number link.b link.a link.lost_ba two.inlet.0 one.outlet.0);
       there = after_link c.args.plan.now.links c.args.plan.now.customers c.loop-link.link-index link at
-          (HasOuter c.loop-link.ends.outlets.items c.loop-link.ends.inlets.items)
           (HasOuter c.outer-to_a.new.self.outlets.items c.outer-to_a.new.self.inlets.items)
-          (HasOuter c.outer-to_b.new.self.outlets.items c.outer-to_b.new.self.inlets.items)
-          i.apart one.outer two.outer i.there;
+          (HasOuter c.outer-to_b.new.self.outlets.items c.outer-to_b.new.self.inlets.items) i.apart two.outer
+          (others_there _ _ _ (link_ports c.args.plan.now.links c.args.plan.now.customers c.loop-link.link-index link
+          at)
+          (HasOuter c.loop-link.ends.outlets.items c.loop-link.ends.inlets.items)
+          (HasOuter c.outer-to_a.new.self.outlets.items c.outer-to_a.new.self.inlets.items) i.apart one.outer i.there);
       apart = apart_after_link c.args.plan.now.links c.args.plan.now.customers c.loop-link.link-index link at i.apart;
     }

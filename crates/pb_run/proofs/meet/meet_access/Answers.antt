@@ -9,47 +9,23 @@ use Rattle.pb_run.proofs.Lists.{here_is, thing_is, both_kept_at}
 use Rattle.pb_run.proofs.Meeting.{bridge_here, bridge_rings, gift_is, begins_there, customer_meets}
 use Rattle.pb_run.proofs.meet.meet_access.Goals as goal
 
-pub meet_customer-requires-clause-port : goal.meet_customer-requires-clause-port
-meet_customer-requires-clause-port g c =
+pub meet_customer-requires : goal.meet_customer-requires
+meet_customer-requires g c =
     let customer = c.index-as_slice-place.result in
     let at = here_is c.args.plan.now.customers c.args.place customer c.requires.place
     (c.index-as_slice-place.is ∙ ap (λ xs. get_or xs c.args.place customer) c.as_slice.ensures) in
     let stands = customer_stands c.args.plan.now c.args.place customer c.requires.sound at in
-    let rings = bridge_rings _ c.args.plan.now c.args.bridges.now.items customer.bridge customer.port c.from.result
-    c.index_mut-bridge.result.now c.requires.bridges stands.bridge stands.port c.from.ensures
-    c.index_mut-bridge.ensures.value in (
-      omega (arith, stands.port.0),
-      omega
-          (arith, stands.port.1, rings.2, length-map c.index_mut-bridge.result.now.ins.ends.items (λ i. i.number)),
-    )
-
-pub meet_customer-requires-clause-feed : goal.meet_customer-requires-clause-feed
-meet_customer-requires-clause-feed g c =
-    let customer = c.index-as_slice-place.result in
-    let at = here_is c.args.plan.now.customers c.args.place customer c.requires.place
-    (c.index-as_slice-place.is ∙ ap (λ xs. get_or xs c.args.place customer) c.as_slice.ensures) in
-    let stands = customer_stands c.args.plan.now c.args.place customer c.requires.sound at in
-    let rings = bridge_rings _ c.args.plan.now c.args.bridges.now.items customer.bridge customer.port c.from.result
-    c.index_mut-bridge.result.now c.requires.bridges stands.bridge stands.port c.from.ensures
-    c.index_mut-bridge.ensures.value in
-    let given = c.requires.accesses.each c.args.place customer c.requires.place at in
+    let rings = bridge_rings _ _ c.args.bridges.now.items customer.bridge customer.port _ _ c.requires.bridges
+    stands.bridge stands.port c.from.ensures c.index_mut-bridge.ensures.value in
+    let count = length-map c.index_mut-bridge.result.now.ins.ends.items (λ i. i.number) in
     let gift = gift_is _ c.args.accesses.now.items c.args.place c.index_mut.result.now
-    (access_gift (c.args.place + 1) customer) given c.index_mut.ensures.value in
-    rings.0 ∙ sym (ap (λ (z : AccessGift). z.1) gift)
-
-pub meet_customer-requires-clause-drain : goal.meet_customer-requires-clause-drain
-meet_customer-requires-clause-drain g c =
-    let customer = c.index-as_slice-place.result in
-    let at = here_is c.args.plan.now.customers c.args.place customer c.requires.place
-    (c.index-as_slice-place.is ∙ ap (λ xs. get_or xs c.args.place customer) c.as_slice.ensures) in
-    let stands = customer_stands c.args.plan.now c.args.place customer c.requires.sound at in
-    let rings = bridge_rings _ c.args.plan.now c.args.bridges.now.items customer.bridge customer.port c.from.result
-    c.index_mut-bridge.result.now c.requires.bridges stands.bridge stands.port c.from.ensures
-    c.index_mut-bridge.ensures.value in
-    let given = c.requires.accesses.each c.args.place customer c.requires.place at in
-    let gift = gift_is _ c.args.accesses.now.items c.args.place c.index_mut.result.now
-    (access_gift (c.args.place + 1) customer) given c.index_mut.ensures.value in
-    rings.1 ∙ sym (ap (λ (z : AccessGift). z.2) gift)
+    (access_gift (c.args.place + 1) customer) (c.requires.accesses.each c.args.place customer c.requires.place at)
+    c.index_mut.ensures.value in
+    record {
+      port = (omega (arith, stands.port.0), omega (arith, stands.port.1, rings.2, count));
+      into = rings.0 ∙ sym (ap (λ (z : AccessGift). z.1) gift);
+      out = rings.1 ∙ sym (ap (λ (z : AccessGift). z.2) gift);
+    }
 
 pub returns-clause-bridges : goal.returns-clause-bridges
 returns-clause-bridges g c = both_kept_at _ _ _ _ _ c.index_mut-bridge.result.now c.index_mut-bridge.ensures.value
@@ -65,9 +41,8 @@ returns-clause-meets g c = λ planned there.
     (c.index-as_slice-place.is ∙ ap (λ xs. get_or xs c.args.place customer) c.as_slice.ensures) in
     let stands = customer_stands c.args.plan.now c.args.place customer c.requires.sound at in
     let given = c.requires.accesses.each c.args.place customer c.requires.place at in
-    let bridge = bridge_here _ c.args.plan.now c.args.bridges.now.items customer.bridge c.from.result
-    c.index_mut-bridge.result.now c.requires.bridges stands.bridge c.from.ensures c.index_mut-bridge.ensures.value
-    in
+    let bridge = bridge_here _ _ c.args.bridges.now.items customer.bridge _ _ c.requires.bridges stands.bridge
+    c.from.ensures c.index_mut-bridge.ensures.value in
     let access = thing_is _ c.args.accesses.now.items c.args.place (access_gift (c.args.place + 1) customer)
     c.index_mut.result.now given c.index_mut.ensures.value in
     let number : customer.bridge ≡ suc (c.from.result - 1) = omega (arith, c.from.ensures, stands.bridge.0) in

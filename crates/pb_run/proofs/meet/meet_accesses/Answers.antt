@@ -1,5 +1,8 @@
+use Rattle.std.proofs.Common.{◌+◌}
+use Rattle.pb_lan.specs.Records.{MeetsCustomer}
+use Rattle.pb_run.specs.Meetings.{of_customers}
 use Rattle.pb_run.proofs.Lists.{both_kept_still}
-use Rattle.pb_run.proofs.Meeting.{accesses_met}
+use Rattle.pb_run.proofs.Meeting.{one_more_met}
 use Rattle.pb_run.proofs.meet.meet_accesses.Goals as goal
 
 pub loop-place-preserved : goal.loop-place-preserved
@@ -9,5 +12,6 @@ loop-place-preserved g c =
     record {
       bridges = both_kept_still met.bridges i.bridges;
       accesses = both_kept_still met.accesses i.accesses;
-      meet = accesses_met c.args.plan.now c.loop-place.place _ _ _ _ i.bridges.1 i.accesses.1 i.meet met.meets;
+      meet = one_more_met (λ bs ds k customer. MeetsCustomer (of_customers bs ds) (k + 1) customer)
+          c.args.plan.now.customers c.loop-place.place _ _ _ _ i.bridges.1 i.accesses.1 i.meet met.meets;
     }

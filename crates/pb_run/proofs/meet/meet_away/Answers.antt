@@ -10,10 +10,8 @@ use Rattle.pb_run.proofs.meet.meet_away.Goals as goal
 pub meet_lane_away-requires-clause-port : goal.meet_lane_away-requires-clause-port
 meet_lane_away-requires-clause-port g c =
     let end = c.requires.end in
-    let rings = bridge_rings _ c.args.plan.now c.args.bridges.now.items c.args.from.now.bridge c.args.from.now.port
-    c.from.result
-    c.index_mut-bridge.result.now c.requires.bridges end.bridge end.port c.from.ensures
-    c.index_mut-bridge.ensures.value in (
+    let rings = bridge_rings _ _ c.args.bridges.now.items c.args.from.now.bridge c.args.from.now.port _ _
+    c.requires.bridges end.bridge end.port c.from.ensures c.index_mut-bridge.ensures.value in (
       omega (arith, end.port.0),
       omega
           (arith, end.port.1, rings.2, length-map c.index_mut-bridge.result.now.ins.ends.items (λ i. i.number)),
@@ -22,10 +20,8 @@ meet_lane_away-requires-clause-port g c =
 pub meet_lane_away-requires-clause-ring : goal.meet_lane_away-requires-clause-ring
 meet_lane_away-requires-clause-ring g c =
     let end = c.requires.end in
-    let rings = bridge_rings _ c.args.plan.now c.args.bridges.now.items c.args.from.now.bridge c.args.from.now.port
-    c.from.result
-    c.index_mut-bridge.result.now c.requires.bridges end.bridge end.port c.from.ensures
-    c.index_mut-bridge.ensures.value in
+    let rings = bridge_rings _ _ c.args.bridges.now.items c.args.from.now.bridge c.args.from.now.port _ _
+    c.requires.bridges end.bridge end.port c.from.ensures c.index_mut-bridge.ensures.value in
     let gift = gift_is _ c.args.lanes.now.items c.args.place c.index_mut.result.now _ c.requires.lane.3
     c.index_mut.ensures.value in
     rings.1 ∙ sym (ap (λ (z : LaneGift). z.1) gift)
@@ -42,9 +38,8 @@ returns-clause-onto g c =
     let end = c.requires.end in
     let lane = thing_is _ c.args.lanes.now.items c.args.place _ c.index_mut.result.now c.requires.lane.3
     c.index_mut.ensures.value in
-    let bridge = bridge_here _ c.args.plan.now c.args.bridges.now.items c.args.from.now.bridge c.from.result
-    c.index_mut-bridge.result.now
-    c.requires.bridges end.bridge c.from.ensures c.index_mut-bridge.ensures.value in
+    let bridge = bridge_here _ _ c.args.bridges.now.items c.args.from.now.bridge _ _ c.requires.bridges end.bridge
+    c.from.ensures c.index_mut-bridge.ensures.value in
     begins_there taken (transmitted c.args.from.now.port) _ _ c.args.lanes.now.items c.args.bridges.now.items
     c.args.place (c.from.result - 1)
     (c.args.place + 1) c.args.from.now.bridge c.index_mut.result.now c.index_mut-bridge.result.now lane bridge

@@ -10,10 +10,8 @@ use Rattle.pb_run.proofs.meet.meet_here.Goals as goal
 pub meet_lane_here-requires-clause-port : goal.meet_lane_here-requires-clause-port
 meet_lane_here-requires-clause-port g c =
     let end = c.requires.end in
-    let rings = bridge_rings _ c.args.plan.now c.args.bridges.now.items c.args.to.now.bridge c.args.to.now.port
-    c.from.result
-    c.index_mut-bridge.result.now c.requires.bridges end.bridge end.port c.from.ensures
-    c.index_mut-bridge.ensures.value in (
+    let rings = bridge_rings _ _ c.args.bridges.now.items c.args.to.now.bridge c.args.to.now.port _ _
+    c.requires.bridges end.bridge end.port c.from.ensures c.index_mut-bridge.ensures.value in (
       omega (arith, end.port.0),
       omega
           (arith, end.port.1, rings.2, length-map c.index_mut-bridge.result.now.ins.ends.items (λ i. i.number)),
@@ -22,10 +20,8 @@ meet_lane_here-requires-clause-port g c =
 pub meet_lane_here-requires-clause-ring : goal.meet_lane_here-requires-clause-ring
 meet_lane_here-requires-clause-ring g c =
     let end = c.requires.end in
-    let rings = bridge_rings _ c.args.plan.now c.args.bridges.now.items c.args.to.now.bridge c.args.to.now.port
-    c.from.result
-    c.index_mut-bridge.result.now c.requires.bridges end.bridge end.port c.from.ensures
-    c.index_mut-bridge.ensures.value in
+    let rings = bridge_rings _ _ c.args.bridges.now.items c.args.to.now.bridge c.args.to.now.port _ _
+    c.requires.bridges end.bridge end.port c.from.ensures c.index_mut-bridge.ensures.value in
     let gift = gift_is _ c.args.lanes.now.items c.args.place c.index_mut.result.now _ c.requires.lane.3
     c.index_mut.ensures.value in
     rings.0 ∙ sym (ap (λ (z : LaneGift). z.2) gift)
@@ -42,9 +38,8 @@ returns-clause-off g c =
     let end = c.requires.end in
     let lane = thing_is _ c.args.lanes.now.items c.args.place _ c.index_mut.result.now c.requires.lane.3
     c.index_mut.ensures.value in
-    let bridge = bridge_here _ c.args.plan.now c.args.bridges.now.items c.args.to.now.bridge c.from.result
-    c.index_mut-bridge.result.now
-    c.requires.bridges end.bridge c.from.ensures c.index_mut-bridge.ensures.value in
+    let bridge = bridge_here _ _ c.args.bridges.now.items c.args.to.now.bridge _ _ c.requires.bridges end.bridge
+    c.from.ensures c.index_mut-bridge.ensures.value in
     begins_there (received c.args.to.now.port) put _ _ c.args.bridges.now.items c.args.lanes.now.items
     (c.from.result - 1) c.args.place
     c.args.to.now.bridge (c.args.place + 1) c.index_mut-bridge.result.now c.index_mut.result.now bridge lane

@@ -1,5 +1,8 @@
+use Rattle.std.proofs.Common.{◌+◌, ◌*◌}
+use Rattle.pb_lan.specs.Records.{MeetsOver}
+use Rattle.pb_run.specs.Meetings.{of_lanes}
 use Rattle.pb_run.proofs.Lists.{both_kept_still}
-use Rattle.pb_run.proofs.Meeting.{links_met}
+use Rattle.pb_run.proofs.Meeting.{one_more_met}
 use Rattle.pb_run.proofs.meet.meet_links.Goals as goal
 
 pub loop-place-preserved : goal.loop-place-preserved
@@ -9,5 +12,7 @@ loop-place-preserved g c =
     record {
       bridges = both_kept_still met.bridges i.bridges;
       lanes = both_kept_still met.lanes i.lanes;
-      meet = links_met c.args.plan.now c.loop-place.place _ _ _ _ i.bridges.1 i.lanes.1 i.meet met.meets;
+      meet = one_more_met (λ bs ls k link. MeetsOver (of_lanes bs ls) (2 * k + 1) link.a link.b
+          × MeetsOver (of_lanes bs ls) (2 * k + 2) link.b link.a)
+          c.args.plan.now.links c.loop-place.place _ _ _ _ i.bridges.1 i.lanes.1 i.meet met.meets;
     }

@@ -1,11 +1,12 @@
 use Rattle.std.proofs.Common.{◌≡◌, [], map, sym, ap, ◌∙◌, rules}
+use Rattle.std.proofs.lemmas.List.Elements.{All-head, All-rest, All-same}
 use Rattle.pb_run.specs.Gifts.{AccessGift, given_access}
 use Rattle.pb_run.specs.Ports.{KeepsPort}
 use Rattle.pb_run.specs.declared.customer.CustomerWorker.{CustomerWorker}
 use Rattle.pb_run.specs.declared.access.Access.{Access}
 use Rattle.pb_run.specs.declared.access.Last.TheVariants.{More}
 use Rattle.pb_run.proofs.Kept.{keeps_fresh}
-use Rattle.pb_work.proofs.Alls.{all_rest, all_head, all_more, moved_on}
+use Rattle.pb_work.proofs.Alls.{all_more, moved_on}
 use Rattle.pb_run.proofs.outside.attended.Goals as goal
 
 pub loop-port-preserved : goal.loop-port-preserved
@@ -18,16 +19,15 @@ loop-port-preserved g c =
     let next = c.in-Some.ensures.steps.0 in
     let taken = c.in-Some-pop_front.ensures.items in
     let made = c.new.ensures in
-    let fresh = all_head (λ (d : D). (d.place.steps ≡ []) × (d.book.last ≡ More)) c.in-Some-pop_front.access _ _ taken
-    i.fresh in
+    let Fresh : D → Type 0 = λ d. (d.place.steps ≡ []) × (d.book.last ≡ More) in
+    let fresh = All-head Fresh c.in-Some-pop_front.access _ (All-same Fresh _ _ (sym taken) i.fresh) in
     record {
       ports = moved_on _ c.loop-port.workers.items _ c.new.result _ _ _ c.in-Some.port i.ports grown next made.port.1;
       ports_now = moved_on _ c.loop-port.workers.items _ c.new.result _ _ _ c.in-Some.port i.ports_now grown next
           made.port.0;
       gifts = moved_on _ c.loop-port.workers.items _ c.new.result _ _ _ (gift c.in-Some-pop_front.access) i.gifts
           grown (ap (map gift) taken) (ap gift made.access);
-      fresh = all_rest (λ (d : D). (d.place.steps ≡ []) × (d.book.last ≡ More)) c.in-Some-pop_front.access _ _ taken
-          i.fresh;
+      fresh = All-rest Fresh c.in-Some-pop_front.access _ _ taken i.fresh;
       keeps = all_more (λ (w : C). KeepsPort g.P.Port.script g.P.Port.tally w.was.value w.port w.access.place.steps
           w.access.book.last) c.new.result c.loop-port.workers.items _ grown i.keeps
           (keeps_fresh g.P.Port.script g.P.Port.tally c.new.result.was.value c.new.result.port

@@ -1,7 +1,7 @@
-use Rattle.std.proofs.Common.{◌∙◌, [], ◌∷◌, List, All, length, ap, subst, rules, arith, length-append}
+use Rattle.std.proofs.Common.{◌∙◌, List, All, subst, rules, arith}
 use Rattle.pb_lan.specs.PortLists.{IsLawfulPort}
 use Rattle.pb_run.specs.declared.access.Access.{Access}
-use Rattle.pb_run.proofs.Lists.{all_front, mapped_more}
+use Rattle.pb_run.proofs.Lists.{all_front, counted_more, mapped_more}
 use Rattle.pb_run.proofs.record.access_lists.Goals as goal
 
 pub loop-access-preserved : goal.loop-access-preserved
@@ -18,13 +18,8 @@ loop-access-preserved g c =
       kept = λ keeps. mapped_more _ c.loop-access.yielded c.in-Some.access c.loop-access.room.lists.items
           c.push.new.self.lists.items lists.0 (i.kept keeps) lists.1
           (lists.2 (c.access_steps.ensures.kept keeps) ∙ c.access_steps.ensures.steps);
-      count = omega (
-        arith,
-        i.count,
-        ap length lists.1,
-        length-append c.loop-access.room.lists.items (lists.0 ∷ []),
-        length-append c.loop-access.yielded (c.in-Some.access ∷ []),
-      );
+      count = counted_more c.loop-access.yielded c.in-Some.access c.loop-access.room.lists.items _ lists.0 lists.1
+          i.count;
       lists_room = search rules;
       room = search rules;
     }

@@ -1,12 +1,12 @@
-use Rattle.std.proofs.Common.{◌∙◌, [], ◌∷◌, List, length, ap, refl, rules, arith, length-append}
+use Rattle.std.proofs.Common.{◌∙◌, List, ap, rules}
 use Rattle.std.specs.List.{list_any}
 use Rattle.pb_lan.specs.Laws.{is_setting}
 use Rattle.pb_lan.specs.declared.step.Step.{Step}
 use Rattle.pb_lan.specs.BridgeLists.{IsLawfulBridge}
 use Rattle.pb_relay.specs.Protocol.{spanning_tree}
 use Rattle.pb_run.specs.declared.bridge.BridgeWorker.{BridgeWorker}
-use Rattle.pb_work.proofs.Alls.{all_more}
-use Rattle.pb_run.proofs.Lists.{mapped_more, unset_more}
+use Rattle.std.proofs.lemmas.List.Elements.{All-push}
+use Rattle.pb_run.proofs.Lists.{mapped_more, counted_more, unset_more}
 use Rattle.pb_run.proofs.record.bridge_lists.Goals as goal
 
 pub loop-worker-preserved : goal.loop-worker-preserved
@@ -18,8 +18,9 @@ loop-worker-preserved g c =
       steps = mapped_more _ c.loop-worker.yielded c.in-Some.worker c.loop-worker.room.tallies.items
           c.push.new.self.tallies.items c.into_steps.result.steps i.steps c.push.ensures.tallies
           c.into_steps.ensures.steps;
-      lawful = all_more (λ (x : X). IsLawfulBridge spanning_tree x.bridge.plan x.bridge.number x.bridge.steps)
-          c.in-Some.worker c.loop-worker.yielded _ refl i.lawful c.into_steps.ensures.lawful;
+      lawful = All-push (λ (x : X). IsLawfulBridge spanning_tree x.bridge.plan x.bridge.number x.bridge.steps)
+          c.loop-worker.yielded c.in-Some.worker i.lawful
+          c.into_steps.ensures.lawful;
       unset = λ still. unset_more c.loop-worker.room.tallies.items c.push.new.self.tallies.items
           c.into_steps.result.steps (i.unset still) c.push.ensures.tallies
           (ap (λ (steps : List Step). list_any is_setting steps) c.into_steps.ensures.steps ∙ c.in-Some.worker.unset
@@ -27,13 +28,8 @@ loop-worker-preserved g c =
       kept = λ keeps. mapped_more _ c.loop-worker.yielded c.in-Some.worker c.loop-worker.room.lists.items
           c.push.new.self.lists.items lists.0 (i.kept keeps) lists.1
           (lists.2 (c.into_steps.ensures.kept ∙ c.in-Some.worker.kept keeps) ∙ c.into_steps.ensures.steps);
-      count = omega (
-        arith,
-        i.count,
-        ap length lists.1,
-        length-append c.loop-worker.room.lists.items (lists.0 ∷ []),
-        length-append c.loop-worker.yielded (c.in-Some.worker ∷ []),
-      );
+      count = counted_more c.loop-worker.yielded c.in-Some.worker c.loop-worker.room.lists.items _ lists.0 lists.1
+          i.count;
       lists_room = search rules;
       room = search rules;
     }

@@ -1,7 +1,7 @@
-use Rattle.std.proofs.Common.{◌∙◌, [], ◌∷◌, List, All, length, ap, subst, rules, arith, length-append}
+use Rattle.std.proofs.Common.{◌∙◌, List, All, subst, rules, arith}
 use Rattle.pb_lan.specs.LaneLists.{IsLawfulLane}
 use Rattle.pb_run.specs.declared.lane.LaneWorker.{LaneWorker}
-use Rattle.pb_run.proofs.Lists.{all_front, mapped_more}
+use Rattle.pb_run.proofs.Lists.{all_front, counted_more, mapped_more}
 use Rattle.pb_run.proofs.record.lane_lists.Goals as goal
 
 pub loop-worker-preserved : goal.loop-worker-preserved
@@ -18,13 +18,8 @@ loop-worker-preserved g c =
       kept = λ keeps. mapped_more _ c.loop-worker.yielded c.in-Some.worker c.loop-worker.room.lists.items
           c.push.new.self.lists.items lists.0 (i.kept keeps) lists.1
           (lists.2 (c.into_steps.ensures.kept ∙ c.in-Some.worker.kept keeps) ∙ c.into_steps.ensures.steps);
-      count = omega (
-        arith,
-        i.count,
-        ap length lists.1,
-        length-append c.loop-worker.room.lists.items (lists.0 ∷ []),
-        length-append c.loop-worker.yielded (c.in-Some.worker ∷ []),
-      );
+      count = counted_more c.loop-worker.yielded c.in-Some.worker c.loop-worker.room.lists.items _ lists.0 lists.1
+          i.count;
       lists_room = search rules;
       room = search rules;
     }

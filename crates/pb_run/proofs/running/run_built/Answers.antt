@@ -16,18 +16,21 @@ pub whether_settled-settled-requires-clause-bridges : goal.whether_settled-settl
 whether_settled-settled-requires-clause-bridges g c =
     rw (c.as_slice-4.ensures.value, c.run_all-places.ensures.bridges.0) c.requires.built.bridges
 
-pub told_of-counts-requires-clause-accesses : goal.told_of-counts-requires-clause-accesses
-told_of-counts-requires-clause-accesses g c =
-    accesses_back _ _ _ _ _ _ _ c.args.plan.now (length c.args.plan.now.customers)
-    c.run_all-places.ensures.customers.0 c.apart-ports.ensures.accesses c.attended-customers.ensures.gifts
-    (λ t. (t.1, t.3, t.4)) (λ w. refl) c.requires.built.accesses
+pub told_of-counts-requires-clause-back : goal.told_of-counts-requires-clause-back
+told_of-counts-requires-clause-back g c = record {
+  accesses = accesses_back _ _ _ _ _ _ _ c.args.plan.now (length c.args.plan.now.customers)
+      c.run_all-places.ensures.customers.0 c.apart-ports.ensures.accesses c.attended-customers.ensures.gifts
+      (λ t. (t.1, t.3, t.4)) (λ w. refl) c.requires.built.accesses;
+  lanes = rw c.run_all-places.ensures.lanes.0 c.requires.built.lanes;
+  bridges = rw c.run_all-places.ensures.bridges.0 c.requires.built.bridges;
+}
 
 pub returns-clause-run : goal.returns-clause-run
 returns-clause-run g c =
     let told = c.told_of-counts.ensures in record {
-      lawful = told.lawful;
-      headline = told.headline;
-      planned = told.planned;
+      lawful = told.steps.lawful;
+      headline = told.steps.headline;
+      planned = told.steps.planned;
       ports = run_kept _ _ _ _ _ _ _ _ _ _ _ _ _ _ _ c.run_all-places.ensures.customers.0
           c.attended-customers.ensures.ports c.apart-ports.ensures.ports
           c.apart-ports.ensures.accesses told.customers c.apart-ports.ensures.lasts (λ t. t.0.value) (λ w. refl)
@@ -35,6 +38,6 @@ returns-clause-run g c =
       ended = tells_ended c.args.plan.now c.told_of-counts.result.counts c.apart-ports.result.lasts.items
           c.as_slice-5.result.now c.has_drained.result
           c.ended_by-ended.result c.ended_by-ended.ensures c.has_drained.ensures c.as_slice-5.ensures.value
-          c.requires.sound told.lawful;
+          c.requires.sound told.steps.lawful;
       settled = search rules;
     }

@@ -15,32 +15,28 @@ use Rattle.pb_run.proofs.running.told_of.Goals as goal
 same_records : (a b c d e f : List (List Step)) → a ≡ b → c ≡ d → e ≡ f → record_of a c e ≡ record_of b d f
 same_records a b c d e f p q r = cc
 
-pub returns-clause-lawful : goal.returns-clause-lawful
-returns-clause-lawful g c =
+pub returns-clause-steps : goal.returns-clause-steps
+returns-clause-steps g c =
     let one = c.meet_accesses.ensures in
     let two = c.meet_links.ensures in
+    let plan = c.args.plan.now in
     let rec = record_of c.bridge_lists-bridges.result.tallies.items c.lane_lists-lanes.result.tallies.items
     c.access_lists-customers.result.tallies.items in
-    subst (λ (r : Record). IsLawfulRecord spanning_tree c.args.plan.now r) (sym c.new.ensures)
-    (lawful_workers _ _ _ _ _ _ c.args.plan.now rec
+    let lawful = subst (λ (r : Record). IsLawfulRecord spanning_tree plan r) (sym c.new.ensures)
+    (lawful_workers _ _ _ _ _ _ plan rec
     c.meet_links.new.bridges.items c.meet_links.new.lanes.items c.meet_accesses.new.accesses.items _ _ _ _ _ _ _
     c.bridge_lists-bridges.ensures.steps c.lane_lists-lanes.ensures.steps c.access_lists-customers.ensures.steps
     (two.bridges.0 ∙ one.bridges.0) two.lanes.0 one.accesses.0
     (two.bridges.1 ∙ one.bridges.1) one.accesses.1 two.bridges.1 two.lanes.1
-    c.requires.bridges c.requires.lanes c.requires.accesses
+    c.requires.back.bridges c.requires.back.lanes c.requires.back.accesses
     c.bridge_lists-bridges.ensures.lawful c.lane_lists-lanes.ensures.lawful c.access_lists-customers.ensures.lawful
-    one.meet two.meet)
-
-pub returns-clause-headline : goal.returns-clause-headline
-returns-clause-headline g c = faithful spanning_tree c.args.plan.now c.new.result c.requires.sound
-    (returns-clause-lawful g c)
-
-pub returns-clause-planned : goal.returns-clause-planned
-returns-clause-planned g c fixed unset =
-    let plan = c.args.plan.now in
-    let lawful = returns-clause-lawful g c in
-    still_frames_are_traced spanning_tree plan c.new.result lawful
-    (planned_states_stay spanning_tree plan c.new.result fixed lawful unset)
+    one.meet two.meet) in
+    record {
+      lawful = lawful;
+      headline = faithful spanning_tree plan c.new.result c.requires.sound lawful;
+      planned = λ fixed unset. still_frames_are_traced spanning_tree plan c.new.result lawful
+          (planned_states_stay spanning_tree plan c.new.result fixed lawful unset);
+    }
 
 pub returns-clause-unset : goal.returns-clause-unset
 returns-clause-unset g c = λ still.

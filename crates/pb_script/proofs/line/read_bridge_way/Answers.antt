@@ -1,6 +1,6 @@
 use Rattle.std.proofs.Common.{◌≡◌, ℕ, List, [], Option, Some, unwrap_or, sym, ap, subst, ◌∙◌}
 use Rattle.pb_script.specs.Lines.{IsWay}
-use Rattle.pb_script.specs.Words.{cut}
+use Rattle.pb_said.specs.Words.{cut}
 use Rattle.pb_script.proofs.line.read_bridge_way.Goals as goal
 
 -- the same two parts

@@ -26,16 +26,14 @@ pub loop-index-preserved : goal.loop-index-preserved
 loop-index-preserved c =
     let rows = ap (map (λ t. table_view t.now)) c.as_slice-rows.ensures.value ∙ c.in_ok-rows.ensures.ok in
     let names = ap (map (λ n. n.now)) c.as_slice-names.ensures.value ∙ c.in_ok-rows.ensures.names in
-    let at = row_at (table_view c.args.document.now) Bridge c.as_slice-rows.result.now c.loop-index.index _ _ rows
-    c.loop-index-test.true c.index-rows-index.is in
+    let at = row_at (table_view c.args.document.now) Bridge _ _ _ _ rows c.loop-index-test.true c.index-rows-index.is in
     let other = sym (ap (list_any (λ b. same b.address.0 c.in_ok-bridge.bridge.address.0))
     c.as_slice-earlier.ensures.value) ∙ sym c.has_address.ensures ∙ c.if-has_address.false in
     record {
-      read = zip_next (λ r x. IsRead IsBridgeOf bridge_keys (table_view r.now) x) c.as_slice-rows.result.now
-          c.loop-index.index _ _ _ _ _ c.loop-index-test.true c.index-rows-index.is c.loop-index.invariant.read
+      read = zip_next _ _ _ _ _ _ _ _ c.loop-index-test.true c.index-rows-index.is c.loop-index.invariant.read
           c.in_ok-bridge.ensures.ok c.in_ok-put.ensures.ok;
-      names = name_next (table_view c.args.document.now) Bridge c.as_slice-names.result.now c.loop-index.index _ names
-          at c.in_ok-bridge.ensures.new c.loop-index.invariant.names;
+      names = name_next (table_view c.args.document.now) Bridge _ _ _ names at c.in_ok-bridge.ensures.new
+          c.loop-index.invariant.names;
       addresses = distinct_next same (λ b. b.address.0) c.loop-index.bridges.items _ c.in_ok-bridge.bridge
           c.loop-index.invariant.addresses other c.in_ok-put.ensures.ok;
     }
@@ -44,8 +42,7 @@ pub returns-in_err-bridge-clause-err : goal.returns-in_err-bridge-clause-err
 returns-in_err-bridge-clause-err c =
     let rows = ap (map (λ t. table_view t.now)) c.as_slice-rows.ensures.value ∙ c.in_ok-rows.ensures.ok in
     let names = ap (map (λ n. n.now)) c.as_slice-names.ensures.value ∙ c.in_ok-rows.ensures.names in
-    let at = row_at (table_view c.args.document.now) Bridge c.as_slice-rows.result.now c.loop-index.index _ _ rows
-    c.loop-index-test.true c.index-rows-index.is in
+    let at = row_at (table_view c.args.document.now) Bridge _ _ _ _ rows c.loop-index-test.true c.index-rows-index.is in
     table_passed _ Bridge _ _ _ _ _ names at (err_from_is_err_and _ c.from_residual-in_err-bridge.ensures.1)
     c.in_err-bridge.ensures.err
 
@@ -68,8 +65,7 @@ returns-clause-names c =
 pub returns-then-has_address-clause-err : goal.returns-then-has_address-clause-err
 returns-then-has_address-clause-err c =
     let rows = ap (map (λ t. table_view t.now)) c.as_slice-rows.ensures.value ∙ c.in_ok-rows.ensures.ok in
-    let at = row_at (table_view c.args.document.now) Bridge c.as_slice-rows.result.now c.loop-index.index _ _ rows
-    c.loop-index-test.true c.index-rows-index.is in
+    let at = row_at (table_view c.args.document.now) Bridge _ _ _ _ rows c.loop-index-test.true c.index-rows-index.is in
     let here = sym (ap (list_any (λ b. same b.address.0 c.in_ok-bridge.bridge.address.0))
     c.as_slice-earlier.ensures.value) ∙ sym c.has_address.ensures ∙ c.if-has_address.true in
     either _ _ _ c.twice.ensures

@@ -1,4 +1,4 @@
-use Rattle.std.proofs.Common.{map, ◌∙◌, sym, ap, arith}
+use Rattle.std.proofs.Common.{map, ◌∙◌, ap, arith}
 use Rattle.std.proofs.lemmas.Result.{err_from_is_err_and}
 use Rattle.toml.specs.View.{table_view}
 use Rattle.pb_service.specs.declared.section.Section.TheVariants.{Bridge, Event}
@@ -16,20 +16,14 @@ loop-index-init c = record { read = rw c.new-events.ensures.items tt }
 
 pub loop-index-preserved : goal.loop-index-preserved
 loop-index-preserved c = record {
-  read = zip_next (λ r x. IsRead (IsEventOf (map (λ n. n.now) c.as_slice-bridges.result.now) c.args.ends.now)
-      event_keys (table_view r.now) x)
-      c.as_slice-rows.result.now c.loop-index.index _ _ _ _ _ c.loop-index-test.true c.index-rows-index.is
-      c.loop-index.invariant.read c.in_ok-event.ensures.ok c.in_ok-put.ensures.ok;
+  read = zip_next _ _ _ _ _ _ _ _ c.loop-index-test.true c.index-rows-index.is c.loop-index.invariant.read
+      c.in_ok-event.ensures.ok c.in_ok-put.ensures.ok;
 }
 
 pub read_event-requires : goal.read_event-requires
 read_event-requires c =
     let names = ap (map (λ n. n.now)) c.as_slice-bridges.ensures.value ∙ c.in_ok-bridge_names.ensures.ok in
-    omega (
-      arith,
-      few_names (table_view c.args.document.now) Bridge c.as_slice-bridges.result.now c.requires.bridges
-          names,
-    )
+    omega (arith, few_names _ Bridge _ c.requires.bridges names)
 
 pub returns-in_err-bridge_names-clause-err : goal.returns-in_err-bridge_names-clause-err
 returns-in_err-bridge_names-clause-err c =
@@ -44,8 +38,7 @@ pub returns-in_err-event-clause-err : goal.returns-in_err-event-clause-err
 returns-in_err-event-clause-err c =
     let rows = ap (map (λ t. table_view t.now)) c.as_slice-rows.ensures.value ∙ c.in_ok-tables.ensures.ok in
     let names = ap (map (λ n. n.now)) c.as_slice-bridges.ensures.value ∙ c.in_ok-bridge_names.ensures.ok in
-    let at = row_at (table_view c.args.document.now) Event c.as_slice-rows.result.now c.loop-index.index _ _ rows
-    c.loop-index-test.true c.index-rows-index.is in
+    let at = row_at (table_view c.args.document.now) Event _ _ _ _ rows c.loop-index-test.true c.index-rows-index.is in
     event_passed _ _ _ _ _ _ _ names c.requires.ends at (err_from_is_err_and _ c.from_residual-in_err-event.ensures.1)
     c.in_err-event.ensures.err
 
@@ -55,5 +48,5 @@ returns-clause-ok c =
     let names = ap (map (λ n. n.now)) c.as_slice-bridges.ensures.value ∙ c.in_ok-bridge_names.ensures.ok in
     events_whole (table_view c.args.document.now) _ _ _ names c.requires.ends
     (zip_all (IsRead (IsEventOf (map (λ n. n.now) c.as_slice-bridges.result.now) c.args.ends.now) event_keys)
-    (table_view c.args.document.now) Event c.as_slice-rows.result.now c.loop-index.index _ (omega arith) rows
-    c.loop-index.invariant.read)
+    (table_view c.args.document.now) Event c.as_slice-rows.result.now
+    c.loop-index.index _ (omega arith) rows c.loop-index.invariant.read)

@@ -33,23 +33,21 @@ pub returns-in_err-check_row-clause-err : goal.returns-in_err-check_row-clause-e
 returns-in_err-check_row-clause-err c =
     let rows = ap (map (λ t. table_view t.now)) c.as_slice-rows.ensures.value ∙ c.in_ok-rows.ensures.ok in
     let names = ap (map (λ n. n.now)) c.as_slice-names.ensures.value ∙ c.in_ok-rows.ensures.names in
-    let at = row_at (table_view c.args.document.now) Link c.as_slice-rows.result.now c.loop-index.index _ _ rows
-    c.loop-index-test.true c.index-rows-index.is in
+    let at = row_at (table_view c.args.document.now) Link _ _ _ _ rows c.loop-index-test.true c.index-rows-index.is in
     table_passed _ Link _ _ _ _ _ names at (err_from_is_err_and _ c.from_residual-in_err-check_row.ensures.1)
     c.in_err-check_row.ensures.err
 
 pub link_of-requires : goal.link_of-requires
 link_of-requires c =
     let names = ap (map (λ n. n.now)) c.as_slice-bridges.ensures.value ∙ c.in_ok-bridge_names.ensures.ok in
-    omega (arith, few_names (table_view c.args.document.now) Bridge c.as_slice-bridges.result.now c.requires names)
+    omega (arith, few_names _ Bridge _ c.requires names)
 
 pub returns-in_err-link-clause-err : goal.returns-in_err-link-clause-err
 returns-in_err-link-clause-err c =
     let rows = ap (map (λ t. table_view t.now)) c.as_slice-rows.ensures.value ∙ c.in_ok-rows.ensures.ok in
     let bridges = ap (map (λ n. n.now)) c.as_slice-bridges.ensures.value ∙ c.in_ok-bridge_names.ensures.ok in
     let services = ap (map (λ n. n.now)) c.as_slice-services.ensures.value ∙ c.in_ok-service_names.ensures.ok in
-    let at = row_at (table_view c.args.document.now) Link c.as_slice-rows.result.now c.loop-index.index _ _ rows
-    c.loop-index-test.true c.index-rows-index.is in
+    let at = row_at (table_view c.args.document.now) Link _ _ _ _ rows c.loop-index-test.true c.index-rows-index.is in
     link_passed (table_view c.args.document.now) _ _ _ c.loop-index.index _ _ bridges services at
     (err_from_is_err_and _ c.from_residual-in_err-link.ensures.1) c.in_err-link.ensures.err
 
@@ -57,8 +55,7 @@ pub returns-in_err-use_ends-clause-err : goal.returns-in_err-use_ends-clause-err
 returns-in_err-use_ends-clause-err c =
     let rows = ap (map (λ t. table_view t.now)) c.as_slice-rows.ensures.value ∙ c.in_ok-rows.ensures.ok in
     let bridges = ap (map (λ n. n.now)) c.as_slice-bridges.ensures.value ∙ c.in_ok-bridge_names.ensures.ok in
-    let at = row_at (table_view c.args.document.now) Link c.as_slice-rows.result.now c.loop-index.index _ _ rows
-    c.loop-index-test.true c.index-rows-index.is in
+    let at = row_at (table_view c.args.document.now) Link _ _ _ _ rows c.loop-index-test.true c.index-rows-index.is in
     let before = c.loop-index.invariant.used
     ∙ ap (λ z. flat_map (link_ports (map (λ n. n.now) c.as_slice-bridges.result.now)) z)
     (first_rows (table_view c.args.document.now) Link c.as_slice-rows.result.now c.loop-index.index rows) in
@@ -78,21 +75,15 @@ pub loop-index-preserved : goal.loop-index-preserved
 loop-index-preserved c =
     let rows = ap (map (λ t. table_view t.now)) c.as_slice-rows.ensures.value ∙ c.in_ok-rows.ensures.ok in
     let names = ap (map (λ n. n.now)) c.as_slice-names.ensures.value ∙ c.in_ok-rows.ensures.names in
-    let at = row_at (table_view c.args.document.now) Link c.as_slice-rows.result.now c.loop-index.index _ _ rows
-    c.loop-index-test.true c.index-rows-index.is in
+    let at = row_at (table_view c.args.document.now) Link _ _ _ _ rows c.loop-index-test.true c.index-rows-index.is in
     record {
-      read = zip_next (λ r x. IsRead
-          (IsLinkOf (map (λ n. n.now) c.as_slice-bridges.result.now)
-          (map (λ n. n.now) c.as_slice-services.result.now)) link_keys (table_view r.now) x)
-          c.as_slice-rows.result.now c.loop-index.index _ _ _ _ _ c.loop-index-test.true c.index-rows-index.is
-          c.loop-index.invariant.read
+      read = zip_next _ _ _ _ _ _ _ _ c.loop-index-test.true c.index-rows-index.is c.loop-index.invariant.read
           (record { accepted = c.in_ok-check_row.ensures.ok; told = c.in_ok-link.ensures.ok }) c.in_ok-put.ensures.ok;
-      used = flat_next (link_ports (map (λ n. n.now) c.as_slice-bridges.result.now)) c.as_slice-rows.result.now
-          c.loop-index.index _ _ [] c.loop-index.used.items _ _ c.loop-index-test.true c.index-rows-index.is
-          c.loop-index.invariant.used (ends_of_link _ _ _ c.in_ok-link.link c.in_ok-link.ensures.ok)
-          c.in_ok-use_ends.ensures.ok;
-      names = name_next (table_view c.args.document.now) Link c.as_slice-names.result.now c.loop-index.index _ names
-          at c.in_ok-check_row.ensures.new c.loop-index.invariant.names;
+      used = flat_next (link_ports (map (λ n. n.now) c.as_slice-bridges.result.now)) _ _ _ _ [] c.loop-index.used.items
+          _ _ c.loop-index-test.true c.index-rows-index.is c.loop-index.invariant.used
+          (ends_of_link _ _ _ c.in_ok-link.link c.in_ok-link.ensures.ok) c.in_ok-use_ends.ensures.ok;
+      names = name_next (table_view c.args.document.now) Link _ _ _ names at c.in_ok-check_row.ensures.new
+          c.loop-index.invariant.names;
       once = c.in_ok-use_ends.ensures.once c.loop-index.invariant.once;
     }
 
@@ -104,8 +95,8 @@ returns-clause-ok c =
     links_whole (table_view c.args.document.now) _ _ c.loop-index.links.items bridges services
     (zip_all (IsRead (IsLinkOf (map (λ n. n.now) c.as_slice-bridges.result.now)
     (map (λ n. n.now) c.as_slice-services.result.now)) link_keys)
-    (table_view c.args.document.now) Link c.as_slice-rows.result.now c.loop-index.index _ (omega arith) rows
-    c.loop-index.invariant.read)
+    (table_view c.args.document.now) Link c.as_slice-rows.result.now
+    c.loop-index.index _ (omega arith) rows c.loop-index.invariant.read)
 
 pub returns-clause-used : goal.returns-clause-used
 returns-clause-used c =

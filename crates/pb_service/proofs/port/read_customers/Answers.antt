@@ -35,8 +35,7 @@ returns-in_err-put-2-clause-err c = memory_passed _ _ _ (err_from_is_err_and _ c
 pub returns-in_err-spec-clause-err : goal.returns-in_err-spec-clause-err
 returns-in_err-spec-clause-err c =
     let rows = ap (map (λ t. table_view t.now)) c.as_slice-rows.ensures.value ∙ c.in_ok-rows.ensures.ok in
-    let at = row_at (table_view c.args.document.now) Port c.as_slice-rows.result.now c.loop-index.index _ _ rows
-    c.loop-index-test.true c.index-rows-index.is in
+    let at = row_at (table_view c.args.document.now) Port _ _ _ _ rows c.loop-index-test.true c.index-rows-index.is in
     stamp_passed (table_view c.args.document.now) _ c.args.limits c.loop-index.index _ _ c.requires.limits at
     (err_from_is_err_and _ c.from_residual-in_err-spec.ensures.1) c.in_err-spec.ensures.err
 
@@ -44,19 +43,14 @@ pub returns-in_err-check_row-clause-err : goal.returns-in_err-check_row-clause-e
 returns-in_err-check_row-clause-err c =
     let rows = ap (map (λ t. table_view t.now)) c.as_slice-rows.ensures.value ∙ c.in_ok-rows.ensures.ok in
     let names = ap (map (λ n. n.now)) c.as_slice-names.ensures.value ∙ c.in_ok-rows.ensures.names in
-    let at = row_at (table_view c.args.document.now) Port c.as_slice-rows.result.now c.loop-index.index _ _ rows
-    c.loop-index-test.true c.index-rows-index.is in
+    let at = row_at (table_view c.args.document.now) Port _ _ _ _ rows c.loop-index-test.true c.index-rows-index.is in
     table_passed _ Port _ _ _ _ _ names at (err_from_is_err_and _ c.from_residual-in_err-check_row.ensures.1)
     c.in_err-check_row.ensures.err
 
 pub customer_of-requires-clause-bridges : goal.customer_of-requires-clause-bridges
 customer_of-requires-clause-bridges c =
     let names = ap (map (λ n. n.now)) c.as_slice-bridges.ensures.value ∙ c.in_ok-bridge_names.ensures.ok in
-    omega (
-      arith,
-      few_names (table_view c.args.document.now) Bridge c.as_slice-bridges.result.now c.requires.bridges
-          names,
-    )
+    omega (arith, few_names _ Bridge _ c.requires.bridges names)
 
 pub customer_of-requires-clause-services : goal.customer_of-requires-clause-services
 customer_of-requires-clause-services c =
@@ -72,8 +66,7 @@ returns-in_err-customer-clause-err c =
     let rows = ap (map (λ t. table_view t.now)) c.as_slice-rows.ensures.value ∙ c.in_ok-rows.ensures.ok in
     let bridges = ap (map (λ n. n.now)) c.as_slice-bridges.ensures.value ∙ c.in_ok-bridge_names.ensures.ok in
     let services = ap (map (λ n. n.now)) c.as_slice-services.ensures.value ∙ c.in_ok-service_names.ensures.ok in
-    let at = row_at (table_view c.args.document.now) Port c.as_slice-rows.result.now c.loop-index.index _ _ rows
-    c.loop-index-test.true c.index-rows-index.is in
+    let at = row_at (table_view c.args.document.now) Port _ _ _ _ rows c.loop-index-test.true c.index-rows-index.is in
     customer_passed (table_view c.args.document.now) _ _ _ c.loop-index.index _ _ bridges services at
     (err_from_is_err_and _ c.from_residual-in_err-customer.ensures.1) c.in_err-customer.ensures.err
 
@@ -81,8 +74,7 @@ pub returns-in_err-use_port-clause-err : goal.returns-in_err-use_port-clause-err
 returns-in_err-use_port-clause-err c =
     let rows = ap (map (λ t. table_view t.now)) c.as_slice-rows.ensures.value ∙ c.in_ok-rows.ensures.ok in
     let bridges = ap (map (λ n. n.now)) c.as_slice-bridges.ensures.value ∙ c.in_ok-bridge_names.ensures.ok in
-    let at = row_at (table_view c.args.document.now) Port c.as_slice-rows.result.now c.loop-index.index _ _ rows
-    c.loop-index-test.true c.index-rows-index.is in
+    let at = row_at (table_view c.args.document.now) Port _ _ _ _ rows c.loop-index-test.true c.index-rows-index.is in
     let before = c.loop-index.invariant.used
     ∙ ap (λ z. c.args.used.items ++ flat_map (customer_ports (map (λ n. n.now) c.as_slice-bridges.result.now)) z)
     (first_rows (table_view c.args.document.now) Port c.as_slice-rows.result.now c.loop-index.index rows) in
@@ -103,25 +95,18 @@ pub loop-index-preserved : goal.loop-index-preserved
 loop-index-preserved c =
     let rows = ap (map (λ t. table_view t.now)) c.as_slice-rows.ensures.value ∙ c.in_ok-rows.ensures.ok in
     let names = ap (map (λ n. n.now)) c.as_slice-names.ensures.value ∙ c.in_ok-rows.ensures.names in
-    let at = row_at (table_view c.args.document.now) Port c.as_slice-rows.result.now c.loop-index.index _ _ rows
-    c.loop-index-test.true c.index-rows-index.is in
+    let at = row_at (table_view c.args.document.now) Port _ _ _ _ rows c.loop-index-test.true c.index-rows-index.is in
     record {
-      read = zip_next (λ r x. IsReadPort (IsCustomerOf (map (λ n. n.now) c.as_slice-bridges.result.now)
-          (map (λ n. n.now) c.as_slice-services.result.now)) (table_view r.now) x)
-          c.as_slice-rows.result.now c.loop-index.index _ _ _ _ _ c.loop-index-test.true c.index-rows-index.is
-          c.loop-index.invariant.read
+      read = zip_next _ _ _ _ _ _ _ _ c.loop-index-test.true c.index-rows-index.is c.loop-index.invariant.read
           (record { accepted = c.in_ok-check_row.ensures.ok; told = c.in_ok-customer.ensures.ok })
           c.in_ok-put.ensures.ok;
-      specs = zip_next (λ r x. IsPortSpecOf c.args.limits (table_view r.now) x)
-          c.as_slice-rows.result.now c.loop-index.index _ _ _ _ _ c.loop-index-test.true c.index-rows-index.is
-          c.loop-index.invariant.specs c.in_ok-spec.ensures.ok c.in_ok-put-2.ensures.ok;
-      used = flat_next (customer_ports (map (λ n. n.now) c.as_slice-bridges.result.now)) c.as_slice-rows.result.now
-          c.loop-index.index _ _ c.args.used.items c.loop-index.used.items _ _ c.loop-index-test.true
-          c.index-rows-index.is
-          c.loop-index.invariant.used (port_of_customer _ _ _ c.in_ok-customer.customer c.in_ok-customer.ensures.ok)
-          c.in_ok-use_port.ensures.ok;
-      names = name_next (table_view c.args.document.now) Port c.as_slice-names.result.now c.loop-index.index _ names
-          at c.in_ok-check_row.ensures.new c.loop-index.invariant.names;
+      specs = zip_next _ _ _ _ _ _ _ _ c.loop-index-test.true c.index-rows-index.is c.loop-index.invariant.specs
+          c.in_ok-spec.ensures.ok c.in_ok-put-2.ensures.ok;
+      used = flat_next (customer_ports (map (λ n. n.now) c.as_slice-bridges.result.now)) _ _ _ _ c.args.used.items
+          c.loop-index.used.items _ _ c.loop-index-test.true c.index-rows-index.is c.loop-index.invariant.used
+          (port_of_customer _ _ _ c.in_ok-customer.customer c.in_ok-customer.ensures.ok) c.in_ok-use_port.ensures.ok;
+      names = name_next (table_view c.args.document.now) Port _ _ _ names at c.in_ok-check_row.ensures.new
+          c.loop-index.invariant.names;
       once = used_next c.loop-index.used.items _
           (record { bridge = c.in_ok-customer.customer.bridge; port = c.in_ok-customer.customer.port })
           c.loop-index.invariant.once c.in_ok-use_port.ensures.free c.in_ok-use_port.ensures.ok;

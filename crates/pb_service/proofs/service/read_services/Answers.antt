@@ -25,16 +25,15 @@ pub loop-index-preserved : goal.loop-index-preserved
 loop-index-preserved c =
     let rows = ap (map (λ t. table_view t.now)) c.as_slice-rows.ensures.value ∙ c.in_ok-rows.ensures.ok in
     let names = ap (map (λ n. n.now)) c.as_slice-names.ensures.value ∙ c.in_ok-rows.ensures.names in
-    let at = row_at (table_view c.args.document.now) Service c.as_slice-rows.result.now c.loop-index.index _ _ rows
-    c.loop-index-test.true c.index-rows-index.is in
+    let at = row_at (table_view c.args.document.now) Service _ _ _ _ rows c.loop-index-test.true c.index-rows-index.is
+    in
     let other = sym (ap (list_any (λ s. s.vid == c.in_ok-service.service.vid)) c.as_slice-earlier.ensures.value)
     ∙ sym c.has_vid.ensures ∙ c.if-has_vid.false in
     record {
-      read = zip_next (λ r x. IsRead IsServiceOf service_keys (table_view r.now) x) c.as_slice-rows.result.now
-          c.loop-index.index _ _ _ _ _ c.loop-index-test.true c.index-rows-index.is c.loop-index.invariant.read
+      read = zip_next _ _ _ _ _ _ _ _ c.loop-index-test.true c.index-rows-index.is c.loop-index.invariant.read
           c.in_ok-service.ensures.ok c.in_ok-put.ensures.ok;
-      names = name_next (table_view c.args.document.now) Service c.as_slice-names.result.now c.loop-index.index _
-          names at c.in_ok-service.ensures.new c.loop-index.invariant.names;
+      names = name_next (table_view c.args.document.now) Service _ _ _ names at c.in_ok-service.ensures.new
+          c.loop-index.invariant.names;
       vids = distinct_next nat_eq (λ s. s.vid) c.loop-index.services.items _ c.in_ok-service.service
           c.loop-index.invariant.vids other c.in_ok-put.ensures.ok;
     }
@@ -43,8 +42,8 @@ pub returns-in_err-service-clause-err : goal.returns-in_err-service-clause-err
 returns-in_err-service-clause-err c =
     let rows = ap (map (λ t. table_view t.now)) c.as_slice-rows.ensures.value ∙ c.in_ok-rows.ensures.ok in
     let names = ap (map (λ n. n.now)) c.as_slice-names.ensures.value ∙ c.in_ok-rows.ensures.names in
-    let at = row_at (table_view c.args.document.now) Service c.as_slice-rows.result.now c.loop-index.index _ _ rows
-    c.loop-index-test.true c.index-rows-index.is in
+    let at = row_at (table_view c.args.document.now) Service _ _ _ _ rows c.loop-index-test.true c.index-rows-index.is
+    in
     table_passed _ Service _ _ _ _ _ names at (err_from_is_err_and _ c.from_residual-in_err-service.ensures.1)
     c.in_err-service.ensures.err
 
@@ -61,14 +60,14 @@ returns-clause-ok c =
 pub returns-clause-names : goal.returns-clause-names
 returns-clause-names c =
     let rows = ap (map (λ t. table_view t.now)) c.as_slice-rows.ensures.value ∙ c.in_ok-rows.ensures.ok in
-    names_all (table_view c.args.document.now) Service c.as_slice-rows.result.now c.loop-index.index (omega arith)
-    rows c.loop-index.invariant.names
+    names_all (table_view c.args.document.now) Service c.as_slice-rows.result.now c.loop-index.index (omega arith) rows
+    c.loop-index.invariant.names
 
 pub returns-then-has_vid-clause-err : goal.returns-then-has_vid-clause-err
 returns-then-has_vid-clause-err c =
     let rows = ap (map (λ t. table_view t.now)) c.as_slice-rows.ensures.value ∙ c.in_ok-rows.ensures.ok in
-    let at = row_at (table_view c.args.document.now) Service c.as_slice-rows.result.now c.loop-index.index _ _ rows
-    c.loop-index-test.true c.index-rows-index.is in
+    let at = row_at (table_view c.args.document.now) Service _ _ _ _ rows c.loop-index-test.true c.index-rows-index.is
+    in
     let here = sym (ap (list_any (λ s. s.vid == c.in_ok-service.service.vid)) c.as_slice-earlier.ensures.value)
     ∙ sym c.has_vid.ensures ∙ c.if-has_vid.true in
     either _ _ _ c.twice.ensures

@@ -12,7 +12,7 @@ returns-in-Some-clause-ok c =
     let frame = c.in-Some.frame in
     let digits = rw c.in-Some.is at c.in_ok-frame.ensures.some in
     let filled = rw c.in-Some.is at c.in_ok-frame.ensures.filled in
-    let hex : IsHex (string_bytes entry.hex) frame = subst (λ t. IsHex t frame) c.as_str-2.ensures.value digits in
+    let hex : IsHex (string_bytes entry.hex) frame = subst (λ t. IsHex t frame) c.as_bytes.ensures.value digits in
     let port : c.port_named-port.result ≡ port_named plan (string_bytes entry.port) = c.port_named-port.ensures
     ∙ ap (λ t. port_named plan t) c.as_str.ensures.value in
     IfOk-weaker c.trace_frame.result _ _

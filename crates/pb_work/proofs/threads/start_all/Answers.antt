@@ -1,7 +1,8 @@
 use Rattle.std.proofs.Common.{rules, arith}
 use Rattle.pb_work.specs.Started.{IsBack, IsHeld}
-use Rattle.pb_work.proofs.Alls.{all_rest, all_more}
+use Rattle.pb_work.proofs.Alls.{all_more}
 use Rattle.std.proofs.lemmas.Grind.{common_steps}
+use Rattle.std.proofs.lemmas.List.Elements.{All-rest}
 use Rattle.pb_work.proofs.threads.start_all.Goals as goal
 
 pub loop-place-preserved : goal.loop-place-preserved
@@ -14,7 +15,7 @@ loop-place-preserved g c = record {
     c.in-Ok.ensures.items,
     c.start.ensures.was,
   );
-  waiting = all_rest g.T.Work.fits _ _ _ c.in-Some.ensures.steps.0 c.loop-place.invariant.waiting;
+  waiting = All-rest g.T.Work.fits _ _ _ c.in-Some.ensures.steps.0 c.loop-place.invariant.waiting;
   held = all_more (λ x. IsHeld (λ h. h.promise.0.value) (IsBack g.T.Work.given g.T.Work.fits) x.was.value x.child) _ _
       _ c.in-Ok.ensures.items c.loop-place.invariant.held c.start.ensures.held;
   room = search rules;

@@ -4,7 +4,7 @@ use Rattle.pb_control.proofs.lines.LineBuffer.next_line.Goals as goal
 
 pub invariant_of-self-in-None : goal.invariant_of-self-in-None
 invariant_of-self-in-None c =
-    let unended = rw c.in-None.is at c.in_ok-place.ensures.unended in
+    let unended = rw c.in-None.is at c.in_ok-place.ensures.no_lf in
     record {
       has_room = c.args.self.now.has_room;
       short = c.in_ok-place.ensures.short;
@@ -27,7 +27,7 @@ pub returns-in-None-clause-none : goal.returns-in-None-clause-none
 returns-in-None-clause-none c =
     let b = c.args.self.now in
     let found = rw c.in-None.is at c.in_ok-place.ensures.none in
-    let unended = rw c.in-None.is at c.in_ok-place.ensures.unended in
+    let unended = rw c.in-None.is at c.in_ok-place.ensures.no_lf in
     let part = rest_is c.deref.result.now b.waiting.items b.start c.deref.ensures.value in
     keeps b.limit b.line.items b.waiting.items c.take_part.new.line.items _ c.clear.new.self.items b.start part
     c.clear.ensures.items unended (omega (arith, c.in_ok-place.ensures.short)) found

@@ -1,13 +1,12 @@
-use Rattle.std.proofs.Common.{◌≡◌, true, Err, sym, ap, subst}
+use Rattle.std.proofs.Common.{◌≡◌, true, refl, sym, ap, subst}
 use Rattle.std.proofs.lemmas.Result.{err_from_is_err_and}
 use Rattle.pb_lan.specs.Ports.{is_provider, port_at}
 use Rattle.pb_lan.specs.declared.event.Event.TheVariants.{Admin}
 use Rattle.pb_relay.specs.Standing.{BridgeView}
-use Rattle.pb_net.specs.Answers.{NetView, IsAnswer}
-use Rattle.pb_net.proofs.KnownSpots.{BridgeAt, bridge_at, shown}
-use Rattle.pb_net.proofs.Done.{admin_done, answers_done}
-use Rattle.pb_net.proofs.Placing.{unrecorded_bridge}
-use Rattle.pb_net.proofs.Records.{admin_due, admin_refused}
+use Rattle.pb_net.specs.Answers.{NetView}
+use Rattle.pb_net.proofs.DueLemmas.{due_within}
+use Rattle.pb_net.proofs.KnownSpots.{BridgeAt, bridge_at}
+use Rattle.pb_net.proofs.Done.{bridge_kept, admin_done, answers_fault, answers_done}
 use Rattle.pb_net.proofs.net.Net.admin.Goals as goal
 use Rattle.pb_net.proofs.net.Net.admin.Goals.{After-index_mut}
 
@@ -22,17 +21,10 @@ named c = subst (λ (v : NetView). is_provider (port_at v.plan c.args.bridge c.a
 pub returns-in_err-admin : goal.returns-in_err-admin
 returns-in_err-admin c =
     let h = (goal.at.returns-in_err-admin c).After-index_mut in
-    let s = c.self.inside in
-    let event = Admin c.args.bridge c.args.port c.args.up in
     let e = c.in_err-admin.ensures in
-    let p = err_from_is_err_and c.from_residual.result c.from_residual.ensures.1 in
-    let same = unrecorded_bridge s c.in-Some.spot.place c.index_mut.result.now c.admin.new.self (at h).here
-    (ap (λ (v : BridgeView). v.steps) e.err) in
-    let refused = admin_refused s.plan s.bridges.items s.lanes.items s.customers.items c.args.bridge c.args.port
-    c.args.up c.in-Some.spot c.index_mut.result.now c.from_residual.result p.0 c.in_err-admin.field-0.0
-    (at h).keeps.1 (at h).known (named h) c.index_mut.ensures.value p.1 p.2 (λ m. e.limit.0 (ap (λ z. Err z) m))
-    (λ m. let z = e.limit.1 m in cc) in
-    rw same (subst (λ (v : NetView). IsAnswer v event c.from_residual.result (shown s)) c.self.view_is refused)
+    answers_fault (Admin c.args.bridge c.args.port c.args.up) c.in_err-admin.field-0.0 (at h) c.self.view_is
+    (bridge_kept c.admin.new.self (at h) (ap (λ (v : BridgeView). v.steps) e.err)) (named h) refl refl e.limit
+    (err_from_is_err_and _ c.from_residual.ensures.1)
 
 pub invariant_of-self-2 : goal.invariant_of-self-2
 invariant_of-self-2 c =
@@ -42,9 +34,7 @@ invariant_of-self-2 c =
 pub returns : goal.returns
 returns c =
     let h = (goal.at.returns c).After-index_mut in
-    let s = c.self.inside in
-    let done = admin_done c.args.up c.admin.new.self (at h) c.in_ok-admin.ensures.ok in
-    let due = admin_due s.plan s.bridges.items s.lanes.items s.customers.items c.args.bridge c.args.port c.args.up
-    c.in-Some.spot c.index_mut.result.now (at h).keeps.1 (at h).known (named h) c.index_mut.ensures.value
+    let due = due_within (at h) (Admin c.args.bridge c.args.port c.args.up) (named h) refl refl
     (λ m. let z = c.in_ok-admin.ensures.limit.1 m in cc) in
-    answers_done s (Admin c.args.bridge c.args.port c.args.up) _ c.self.view_is due done.1
+    answers_done c.self.inside (Admin c.args.bridge c.args.port c.args.up) c.self.view_is due
+    (admin_done c.args.up c.admin.new.self (at h) c.in_ok-admin.ensures.ok).1

@@ -1,7 +1,5 @@
-use Rattle.std.proofs.Common.{◌≡◌, length, is_some, ap, subst, arith, refl}
-use Rattle.pb_net.specs.Answers.{NetView}
+use Rattle.std.proofs.Common.{◌≡◌, length, is_some, ap, arith, refl}
 use Rattle.pb_lan.specs.declared.event.Event.TheVariants.{Feed}
-use Rattle.pb_net.specs.Dues.{IsDueOr}
 use Rattle.pb_net.proofs.KnownSpots.{customer_at}
 use Rattle.pb_net.proofs.DueLemmas.{due_is, idle_feed_is}
 use Rattle.pb_net.proofs.net.Net.due_feed.Goals as goal
@@ -11,7 +9,6 @@ returns-clause-due c =
     let at = customer_at c.self.inside c.self.invariant c.self.view_is c.in-Some.ensures.some
     c.index-customer.ensures in
     let many : c.len.result ≡ length c.index-inbox.result.now.items = omega arith in
-    subst (λ (v : NetView). IsDueOr v (Feed c.args.port) c.sift.result) c.self.view_is
-    (due_is at (Feed c.args.port) c.sift.result (ap is_some at.known.slot.planned)
+    due_is at (Feed c.args.port) c.sift.result c.self.view_is (ap is_some c.in-Some.ensures.some.slot.planned)
     (idle_feed_is at c.index-inbox.ensures) refl
-    (rw (c.step_count.ensures, c.is_hand_empty.ensures, many) at c.sift.ensures))
+    (rw (c.step_count.ensures, c.is_hand_empty.ensures, many) at c.sift.ensures)

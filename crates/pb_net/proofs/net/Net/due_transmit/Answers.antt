@@ -1,8 +1,5 @@
-use Rattle.std.proofs.Common.{◌≡◌, true, length, sym, subst, arith, refl}
-use Rattle.pb_net.specs.Answers.{NetView}
+use Rattle.std.proofs.Common.{◌≡◌, length, arith, refl}
 use Rattle.pb_lan.specs.declared.event.Event.TheVariants.{Transmit}
-use Rattle.pb_net.specs.Dues.{IsDueOr}
-use Rattle.pb_lan.specs.Ports.{is_used, port_at}
 use Rattle.pb_net.proofs.KnownSpots.{bridge_at}
 use Rattle.pb_net.proofs.DueLemmas.{due_is, idle_transmit_is}
 use Rattle.pb_net.proofs.net.Net.due_transmit.Goals as goal
@@ -11,8 +8,6 @@ pub returns-clause-due : goal.returns-clause-due
 returns-clause-due c =
     let at = bridge_at c.self.inside c.self.invariant c.self.view_is c.in-Some.ensures.some c.index-at.ensures in
     let many : c.len.result ≡ length c.index-outbox.result.now.items = omega arith in
-    let used = subst (λ (v : NetView). is_used (port_at v.plan c.args.bridge c.args.port) ≡ true)
-    (sym c.self.view_is) c.in-Some.ensures.used in
-    subst (λ (v : NetView). IsDueOr v (Transmit c.args.bridge c.args.port) c.sift.result) c.self.view_is
-    (due_is at (Transmit c.args.bridge c.args.port) c.sift.result used (idle_transmit_is at c.index-outbox.ensures)
-    refl (rw (c.step_count.ensures, c.waiting.ensures, many) at c.sift.ensures))
+    due_is at (Transmit c.args.bridge c.args.port) c.sift.result c.self.view_is c.in-Some.ensures.used
+    (idle_transmit_is at c.index-outbox.ensures)
+    refl (rw (c.step_count.ensures, c.waiting.ensures, many) at c.sift.ensures)

@@ -2,28 +2,23 @@ use Rattle.std.proofs.Common.{subst}
 use Rattle.pb_net.specs.Answers.{NetView}
 use Rattle.pb_lan.specs.Records.{IsLawfulRecord}
 use Rattle.pb_relay.specs.Protocol.{spanning_tree}
-use Rattle.pb_net.specs.Nets.{record_of}
 use Rattle.pb_lan.specs.Headline.{IsFaithful}
 use Rattle.pb_lan.proofs.Headline.{faithful}
+use Rattle.pb_net.proofs.KnownSpots.{rec_in}
 use Rattle.pb_net.proofs.Records.{kept_lawful}
 use Rattle.pb_net.proofs.net.Net.finish.Goals as goal
 
 pub returns-clause-lawful : goal.returns-clause-lawful
 returns-clause-lawful c =
     let s = c.self.inside in
-    let lawful = kept_lawful s.plan (record_of s.bridges.items s.lanes.items s.customers.items) _ _ c.self.invariant.0
-    c.self.invariant.2 in
     rw (c.bridge_steps.ensures, c.lane_steps.ensures, c.customer_steps.ensures)
-    (subst (λ (v : NetView). IsLawfulRecord spanning_tree v.plan
-    (record_of s.bridges.items s.lanes.items s.customers.items)) c.self.view_is lawful)
+    (subst (λ (v : NetView). IsLawfulRecord spanning_tree v.plan (rec_in s)) c.self.view_is
+    (kept_lawful s.plan (rec_in s) _ _ c.self.invariant.0 c.self.invariant.2))
 
 pub returns-clause-headline : goal.returns-clause-headline
 returns-clause-headline c =
     let s = c.self.inside in
-    let lawful = kept_lawful s.plan (record_of s.bridges.items s.lanes.items s.customers.items) _ _ c.self.invariant.0
-    c.self.invariant.2 in
     rw (c.bridge_steps.ensures, c.lane_steps.ensures, c.customer_steps.ensures)
-    (subst (λ (v : NetView). IsFaithful v.plan (record_of s.bridges.items s.lanes.items s.customers.items))
-    c.self.view_is
-    (faithful spanning_tree s.plan (record_of s.bridges.items s.lanes.items s.customers.items)
-    c.self.invariant.0.sound lawful))
+    (subst (λ (v : NetView). IsFaithful v.plan (rec_in s)) c.self.view_is
+    (faithful spanning_tree s.plan (rec_in s) c.self.invariant.0.sound
+    (kept_lawful s.plan (rec_in s) _ _ c.self.invariant.0 c.self.invariant.2)))

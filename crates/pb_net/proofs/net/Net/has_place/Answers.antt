@@ -25,7 +25,8 @@ pub returns-in-Customer : goal.returns-in-Customer
 returns-in-Customer c =
     let s = c.self.inside in
     let n = c.in-Customer.number in
-    let count : c.len-in-Customer.result ≡ length s.plan.customers = omega (arith, c.self.invariant.1.customer_count) in
+    let count : c.len-in-Customer.result ≡ length s.plan.customers = omega (arith, c.self.invariant.1.customer_count)
+    in
     rw c.in-Customer.is (subst (λ (v : NetView). c.is_number-in-Customer.result ≡ has_place v.plan (Customer n))
     c.self.view_is
     (c.is_number-in-Customer.ensures ∙ ap (λ k. nat_le 1 n && nat_le n k) count ∙ number_is_named s.plan.customers n))

@@ -1,15 +1,10 @@
-use Rattle.std.proofs.Common.{◌<◌, length, subst, arith}
-use Rattle.pb_net.specs.Answers.{NetView}
-use Rattle.pb_net.specs.Slots.{IsLaneEnd}
-use Rattle.pb_net.proofs.SpotLemmas.{lane_end_is}
+use Rattle.std.proofs.Common.{arith}
+use Rattle.pb_net.proofs.SpotLemmas.{lane_there}
 use Rattle.pb_net.proofs.net.Net.lane_end.Goals as goal
 
 pub returns-clause-some : goal.returns-clause-some
 returns-clause-some c =
-    let s = c.self.inside in
     let place = c.in_ok-place.ensures.some in
-    let within : c.in_ok-place.place < length s.lanes.items = omega (arith, place.1) in
-    subst (λ (v : NetView). IsLaneEnd v.plan c.args.lane
-    (record { place = c.in_ok-place.place; slot = c.index-at.result.now.to })) c.self.view_is
-    (lane_end_is s.plan s.bridges.items s.lanes.items s.customers.items s.slots c.args.lane c.in_ok-place.place
-    c.index-at.result.now c.self.invariant.1 c.self.invariant.3 place.0 within c.index-at.ensures)
+    let there = lane_there c.self.inside c.args.lane c.in_ok-place.place c.index-at.result.now c.self.invariant
+    c.self.view_is place.0 (omega (arith, place.1)) c.index-at.ensures in
+    record { place = place.0; there = there.0; link = there.1.link; planned = there.1.planned; to = there.1.to }

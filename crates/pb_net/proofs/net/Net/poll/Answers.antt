@@ -1,11 +1,12 @@
-use Rattle.std.proofs.Common.{sym, subst, ◌∙◌}
+use Rattle.std.proofs.Common.{sym, ◌∙◌}
+use Rattle.std.proofs.lemmas.Bool.{not-false}
 use Rattle.std.proofs.lemmas.Result.{err_from_is_err_and}
 use Rattle.pb_lan.specs.declared.event.Event.TheVariants.{Poll}
 use Rattle.pb_link.specs.Hands.{arrival}
-use Rattle.pb_net.specs.Answers.{NetView, IsDue}
+use Rattle.pb_net.specs.Answers.{IsDue}
 use Rattle.pb_net.proofs.KnownSpots.{CustomerAt, customer_at, shown}
-use Rattle.pb_net.proofs.DueLemmas.{idle_poll_is}
-use Rattle.pb_net.proofs.Done.{not_false, with_frame, customer_failed, poll_done, answers_memory, answers_done}
+use Rattle.pb_net.proofs.DueLemmas.{due_here, idle_poll_is}
+use Rattle.pb_net.proofs.Done.{with_frame, customer_failed, poll_done, answers_memory, answers_done}
 use Rattle.pb_net.proofs.net.Net.poll.Goals as goal
 use Rattle.pb_net.proofs.net.Net.poll.Goals.{After-index_mut}
 
@@ -15,12 +16,12 @@ at c = customer_at c.self.inside c.self.invariant c.self.view_is (rw c.in-Some.i
     c.index_mut.ensures.value
 
 due : (c : After-index_mut) → IsDue (shown c.self.inside) (Poll c.args.port c.args.frame)
-due c = subst (λ (v : NetView). IsDue v (Poll c.args.port c.args.frame)) (sym c.self.view_is)
+due c = due_here c.self.inside c.self.view_is
     (with_frame c.args.self.now c.args.port c.args.frame (rw c.in-Some.is at c.in_ok-spot.ensures.due))
 
 pub poll_at-requires : goal.poll_at-requires
 poll_at-requires c = let h = (goal.at.poll_at-requires c).After-index_mut in
-    not_false _ (sym (idle_poll_is (at h) c.args.frame) ∙ (due h).busy)
+    not-false _ (sym (idle_poll_is (at h) c.args.frame) ∙ (due h).busy)
 
 pub invariant_of-self : goal.invariant_of-self
 invariant_of-self c =
@@ -32,10 +33,9 @@ pub returns-in_err-poll_at : goal.returns-in_err-poll_at
 returns-in_err-poll_at c =
     let h = (goal.at.returns-in_err-poll_at c).After-index_mut in
     let e = c.in_err-poll_at.ensures in
-    let p = err_from_is_err_and c.from_residual-in_err-poll_at.result c.from_residual-in_err-poll_at.ensures.1 in
-    let same = (customer_failed c.poll_at.new.place (at h) e.number e.kept e.err).1 in
-    answers_memory c.self.inside (Poll c.args.port c.args.frame) _ c.from_residual-in_err-poll_at.result p.0
-    c.self.view_is (due h) same p.1 p.2
+    answers_memory c.self.inside (Poll c.args.port c.args.frame) c.self.view_is (due h)
+    (customer_failed c.poll_at.new.place (at h) e.number e.kept e.err).1
+    (err_from_is_err_and _ c.from_residual-in_err-poll_at.ensures.1)
 
 pub invariant_of-self-2 : goal.invariant_of-self-2
 invariant_of-self-2 c =
@@ -48,6 +48,6 @@ pub returns : goal.returns
 returns c =
     let h = (goal.at.returns c).After-index_mut in
     let e = c.in_ok-poll_at.ensures in
-    answers_done c.self.inside (Poll c.args.port c.args.frame) _ c.self.view_is (due h)
+    answers_done c.self.inside (Poll c.args.port c.args.frame) c.self.view_is (due h)
     (poll_done c.poll_at.new.place (arrival c.index_mut.result.now c.args.frame)
     (at h) e.number e.kept e.lawful e.ok).1

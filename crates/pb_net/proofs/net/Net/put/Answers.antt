@@ -1,9 +1,9 @@
-use Rattle.std.proofs.Common.{sym, subst, ◌∙◌}
+use Rattle.std.proofs.Common.{sym, ◌∙◌}
 use Rattle.std.proofs.lemmas.Result.{err_from_is_err_and}
 use Rattle.pb_lan.specs.declared.event.Event.TheVariants.{Put}
-use Rattle.pb_net.specs.Answers.{NetView, IsDue}
+use Rattle.pb_net.specs.Answers.{IsDue}
 use Rattle.pb_net.proofs.KnownSpots.{EndAt, end_at, inbox_kept, shown}
-use Rattle.pb_net.proofs.DueLemmas.{idle_put_is}
+use Rattle.pb_net.proofs.DueLemmas.{due_here, idle_put_is}
 use Rattle.pb_net.proofs.Done.{or_false, lane_failed, put_done, answers_memory, answers_done}
 use Rattle.pb_net.proofs.net.Net.put.Goals as goal
 use Rattle.pb_net.proofs.net.Net.put.Goals.{After-index_mut-2}
@@ -14,8 +14,7 @@ at c = end_at c.self.inside c.self.invariant c.self.view_is (rw c.in-Some.is at 
     c.index_mut.ensures.value
 
 due : (c : After-index_mut-2) → IsDue (shown c.self.inside) (Put c.args.lane)
-due c = subst (λ (v : NetView). IsDue v (Put c.args.lane)) (sym c.self.view_is)
-    (rw c.in-Some.is at c.in_ok-spot.ensures.due)
+due c = due_here c.self.inside c.self.view_is (rw c.in-Some.is at c.in_ok-spot.ensures.due)
 
 pub put_at-requires : goal.put_at-requires
 put_at-requires c = let h = (goal.at.put_at-requires c).After-index_mut-2 in
@@ -32,10 +31,9 @@ pub returns-in_err-put_at : goal.returns-in_err-put_at
 returns-in_err-put_at c =
     let h = (goal.at.returns-in_err-put_at c).After-index_mut-2 in
     let e = c.in_err-put_at.ensures in
-    let p = err_from_is_err_and c.from_residual-in_err-put_at.result c.from_residual-in_err-put_at.ensures.1 in
-    let same = (lane_failed c.put_at.new.lane (at h) e.losses e.kept e.err).1 in
-    answers_memory c.self.inside (Put c.args.lane) _ c.from_residual-in_err-put_at.result p.0 c.self.view_is
-    (due h) same p.1 p.2
+    answers_memory c.self.inside (Put c.args.lane) c.self.view_is (due h)
+    (lane_failed c.put_at.new.lane (at h) e.losses e.kept e.err).1
+    (err_from_is_err_and _ c.from_residual-in_err-put_at.ensures.1)
 
 pub invariant_of-self-2 : goal.invariant_of-self-2
 invariant_of-self-2 c =
@@ -47,5 +45,5 @@ pub returns : goal.returns
 returns c =
     let h = (goal.at.returns c).After-index_mut-2 in
     let e = c.in_ok-put_at.ensures in
-    answers_done c.self.inside (Put c.args.lane) _ c.self.view_is (due h)
+    answers_done c.self.inside (Put c.args.lane) c.self.view_is (due h)
     (put_done c.put_at.new.lane c.put_at.new.inbox (at h) c.index_mut-2.ensures.value e.losses e.kept e.lawful e.ok).1

@@ -1,9 +1,9 @@
-use Rattle.std.proofs.Common.{Err, sym, ap, subst, ◌∙◌}
+use Rattle.std.proofs.Common.{refl, sym, ◌∙◌}
 use Rattle.std.proofs.lemmas.Result.{err_from_is_err_and}
 use Rattle.pb_lan.specs.declared.event.Event.TheVariants.{Receive}
-use Rattle.pb_net.specs.Answers.{NetView, IsDue}
+use Rattle.pb_net.specs.Answers.{IsDue}
 use Rattle.pb_net.proofs.KnownSpots.{BridgeAt, bridge_at, inbox_kept, shown}
-use Rattle.pb_net.proofs.DueLemmas.{idle_receive_is, never_limit}
+use Rattle.pb_net.proofs.DueLemmas.{due_here, idle_receive_is}
 use Rattle.pb_net.proofs.Done.{some_there, bridge_failed, receive_done, answers_fault, answers_done}
 use Rattle.pb_net.proofs.net.Net.receive.Goals as goal
 use Rattle.pb_net.proofs.net.Net.receive.Goals.{After-index_mut}
@@ -14,8 +14,7 @@ at c = bridge_at c.self.inside c.self.invariant c.self.view_is (rw c.in-Some.is 
     c.index_mut-at.ensures.value
 
 due : (c : After-index_mut) → IsDue (shown c.self.inside) (Receive c.args.bridge c.args.port)
-due c = subst (λ (v : NetView). IsDue v (Receive c.args.bridge c.args.port)) (sym c.self.view_is)
-    (rw c.in-Some.is at c.in_ok-spot.ensures.due)
+due c = due_here c.self.inside c.self.view_is (rw c.in-Some.is at c.in_ok-spot.ensures.due)
 
 pub receive_at-requires-clause-some : goal.receive_at-requires-clause-some
 receive_at-requires-clause-some c = let h = (goal.at.receive_at-requires-clause-some c).After-index_mut in
@@ -32,12 +31,9 @@ pub returns-in_err-receive_at : goal.returns-in_err-receive_at
 returns-in_err-receive_at c =
     let h = (goal.at.returns-in_err-receive_at c).After-index_mut in
     let e = c.in_err-receive_at.ensures in
-    let p = err_from_is_err_and c.from_residual-in_err-receive_at.result
-    c.from_residual-in_err-receive_at.ensures.1 in
-    let same = (bridge_failed c.receive_at.new.bridge (at h) e.plan e.number e.kept e.err).1 in
-    answers_fault c.self.inside (Receive c.args.bridge c.args.port) _ c.from_residual-in_err-receive_at.result p.0
-    c.in_err-receive_at.field-0.0 c.self.view_is (due h) same p.1 p.2
-    (λ m. never_limit (at h) (due h).within (e.limit.0 (ap (λ z. Err z) m)))
+    answers_fault (Receive c.args.bridge c.args.port) c.in_err-receive_at.field-0.0 (at h) c.self.view_is
+    (bridge_failed c.receive_at.new.bridge (at h) e.plan e.number e.kept e.err).1 (due h).named (due h).busy refl
+    e.limit (err_from_is_err_and _ c.from_residual-in_err-receive_at.ensures.1)
 
 pub invariant_of-self-2 : goal.invariant_of-self-2
 invariant_of-self-2 c =
@@ -50,6 +46,6 @@ pub returns : goal.returns
 returns c =
     let h = (goal.at.returns c).After-index_mut in
     let e = c.in_ok-receive_at.ensures in
-    answers_done c.self.inside (Receive c.args.bridge c.args.port) _ c.self.view_is (due h)
+    answers_done c.self.inside (Receive c.args.bridge c.args.port) c.self.view_is (due h)
     (receive_done c.receive_at.new.bridge c.receive_at.new.inbox (at h) c.index_mut.ensures.value e.plan e.number
     e.kept e.ok).1

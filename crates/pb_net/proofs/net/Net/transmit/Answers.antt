@@ -1,11 +1,11 @@
-use Rattle.std.proofs.Common.{Err, sym, ap, ap₂, subst, ◌∙◌}
+use Rattle.std.proofs.Common.{refl, sym, ap₂, ◌∙◌}
 use Rattle.std.proofs.lemmas.Result.{err_from_is_err_and}
 use Rattle.pb_lan.specs.Ports.{is_used, port_at}
 use Rattle.pb_lan.specs.declared.event.Event.TheVariants.{Transmit}
 use Rattle.pb_lan.specs.declared.plan.Plan.{Plan}
-use Rattle.pb_net.specs.Answers.{NetView, IsDue}
+use Rattle.pb_net.specs.Answers.{IsDue}
 use Rattle.pb_net.proofs.KnownSpots.{BridgeAt, bridge_at, outbox_kept, shown}
-use Rattle.pb_net.proofs.DueLemmas.{idle_transmit_is, bridge_is, never_limit}
+use Rattle.pb_net.proofs.DueLemmas.{due_here, idle_transmit_is, bridge_is}
 use Rattle.pb_net.proofs.Done.{or_false, some_there, bridge_failed, transmit_done, answers_fault, answers_done}
 use Rattle.pb_net.proofs.net.Net.transmit.Goals as goal
 use Rattle.pb_net.proofs.net.Net.transmit.Goals.{After-index_mut}
@@ -16,8 +16,7 @@ at c = bridge_at c.self.inside c.self.invariant c.self.view_is (rw c.in-Some.is 
     c.index_mut-at.ensures.value
 
 due : (c : After-index_mut) → IsDue (shown c.self.inside) (Transmit c.args.bridge c.args.port)
-due c = subst (λ (v : NetView). IsDue v (Transmit c.args.bridge c.args.port)) (sym c.self.view_is)
-    (rw c.in-Some.is at c.in_ok-spot.ensures.due)
+due c = due_here c.self.inside c.self.view_is (rw c.in-Some.is at c.in_ok-spot.ensures.due)
 
 pub transmit_at-requires-clause-used : goal.transmit_at-requires-clause-used
 transmit_at-requires-clause-used c = let h = (goal.at.transmit_at-requires-clause-used c).After-index_mut in
@@ -38,12 +37,9 @@ pub returns-in_err-transmit_at : goal.returns-in_err-transmit_at
 returns-in_err-transmit_at c =
     let h = (goal.at.returns-in_err-transmit_at c).After-index_mut in
     let e = c.in_err-transmit_at.ensures in
-    let p = err_from_is_err_and c.from_residual-in_err-transmit_at.result
-    c.from_residual-in_err-transmit_at.ensures.1 in
-    let same = (bridge_failed c.transmit_at.new.bridge (at h) e.plan e.number e.kept e.err).1 in
-    answers_fault c.self.inside (Transmit c.args.bridge c.args.port) _ c.from_residual-in_err-transmit_at.result p.0
-    c.in_err-transmit_at.field-0.0 c.self.view_is (due h) same p.1 p.2
-    (λ m. never_limit (at h) (due h).within (e.limit.0 (ap (λ z. Err z) m)))
+    answers_fault (Transmit c.args.bridge c.args.port) c.in_err-transmit_at.field-0.0 (at h) c.self.view_is
+    (bridge_failed c.transmit_at.new.bridge (at h) e.plan e.number e.kept e.err).1 (due h).named (due h).busy refl
+    e.limit (err_from_is_err_and _ c.from_residual-in_err-transmit_at.ensures.1)
 
 pub invariant_of-self-2 : goal.invariant_of-self-2
 invariant_of-self-2 c =
@@ -56,6 +52,6 @@ pub returns : goal.returns
 returns c =
     let h = (goal.at.returns c).After-index_mut in
     let e = c.in_ok-transmit_at.ensures in
-    answers_done c.self.inside (Transmit c.args.bridge c.args.port) _ c.self.view_is (due h)
+    answers_done c.self.inside (Transmit c.args.bridge c.args.port) c.self.view_is (due h)
     (transmit_done c.transmit_at.new.bridge c.transmit_at.new.outbox (at h) c.index_mut.ensures.value e.plan e.number
     e.kept e.ok).1

@@ -1,9 +1,9 @@
-use Rattle.std.proofs.Common.{◌≡◌, ◌≤◌, ◌||◌, false, arith, ap, subst, ◌∙◌}
+use Rattle.std.proofs.Common.{◌≤◌, ◌||◌, arith, ap, ◌∙◌}
 use Rattle.pb_lan.specs.Ports.{port_at, is_used}
 use Rattle.pb_relay.specs.Kinds.{is_bridge_told, is_customer_told}
 use Rattle.pb_relay.specs.Standing.{BridgeView}
 use Rattle.pb_relay.specs.declared.ports.Local.{Local}
-use Rattle.pb_relay.proofs.PortLemmas.{used_is, none_elsewhere}
+use Rattle.pb_relay.proofs.PortLemmas.{told_at, none_elsewhere}
 use Rattle.pb_relay.proofs.bridge.Bridge.has_port.Goals as goal
 use Rattle.pb_relay.proofs.bridge.Bridge.has_port.Goals.{then-port-eq0-via-then-port-eq0}
 use Rattle.pb_relay.proofs.bridge.Bridge.has_port.Goals.{then-port-eq0-via-else-port-eq0+then-port-gt-PORTS}
@@ -14,15 +14,13 @@ returns-then-port-eq0 c =
       | then-port-eq0-via-then-port-eq0 w ↦ λ l. omega (arith, l.0, w.if-port-eq0.true)
       | then-port-eq0-via-else-port-eq0+then-port-gt-PORTS w ↦ λ l. omega (arith, l.1, w.if-port-gt-PORTS.true)
     ] in
-    subst (λ (v : BridgeView). false ≡ is_used (port_at v.plan v.number c.args.port)) c.self.view_is
-    (none_elsewhere c.self.inside.plan c.self.inside.number c.args.port c.self.invariant.0.sound outside)
+    (none_elsewhere c.self.inside c.args.port c.self.invariant outside).1
+    ∙ ap (λ (v : BridgeView). is_used (port_at v.plan v.number c.args.port)) c.self.view_is
 
 pub returns : goal.returns
 returns c =
-    let told = ap (λ b. b || c.is_bridge.result) c.is_customer.ensures
+    ap (λ b. b || c.is_bridge.result) c.is_customer.ensures
     ∙ ap (λ b. is_customer_told c.at-local.result || b) c.is_bridge.ensures
-    ∙ ap (λ (l : Local). is_customer_told l || is_bridge_told l) c.at-local.ensures in
-    subst (λ (v : BridgeView). (c.is_customer.result || c.is_bridge.result) ≡ is_used
-    (port_at v.plan v.number c.args.port)) c.self.view_is
-    (told ∙ used_is c.self.inside.plan c.self.inside.number c.self.inside.ports _ _ c.args.port c.self.invariant.0
-    c.if-port-eq0.false c.if-port-gt-PORTS.false)
+    ∙ ap (λ (l : Local). is_customer_told l || is_bridge_told l) c.at-local.ensures
+    ∙ (told_at c.self.inside c.args.port c.self.invariant c.if-port-eq0.false c.if-port-gt-PORTS.false).1
+    ∙ ap (λ (v : BridgeView). is_used (port_at v.plan v.number c.args.port)) c.self.view_is

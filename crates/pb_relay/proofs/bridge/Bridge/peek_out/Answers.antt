@@ -1,28 +1,20 @@
-use Rattle.std.proofs.Common.{◌≡◌, true, arith, sym, ap, subst, ◌∙◌}
-use Rattle.pb_lan.specs.Ports.{port_at}
+use Rattle.std.proofs.Common.{arith, ap, ◌∙◌}
 use Rattle.pb_lan.specs.Queues.{waiting, next_out}
-use Rattle.pb_lan.specs.Ports.{is_used}
 use Rattle.pb_relay.specs.Standing.{BridgeView}
-use Rattle.pb_relay.proofs.StandingLemmas.{used_port, next_at}
+use Rattle.pb_relay.proofs.Keeping.{used_there}
+use Rattle.pb_relay.proofs.StandingLemmas.{next_at}
 use Rattle.pb_relay.proofs.bridge.Bridge.peek_out.Goals as goal
 
 pub overflow_sub-port : goal.overflow_sub-port
-overflow_sub-port c =
-    (used_port _ _ _ c.self.invariant.0.sound
-    (subst (λ (v : BridgeView). is_used (port_at v.plan v.number c.args.port) ≡ true) (sym c.self.view_is)
-    c.requires)).0
+overflow_sub-port c = (used_there c.self.inside c.args.port c.self.invariant c.self.view_is c.requires).0
 
 pub first-requires : goal.first-requires
 first-requires c =
-    let l = used_port _ _ _ c.self.invariant.0.sound
-    (subst (λ (v : BridgeView). is_used (port_at v.plan v.number c.args.port) ≡ true) (sym c.self.view_is) c.requires)
-    in
+    let l = used_there c.self.inside c.args.port c.self.invariant c.self.view_is c.requires in
     omega (arith, l.0, l.1, c.self.invariant.1.count)
 
 pub returns : goal.returns
 returns c =
-    let l = used_port _ _ _ c.self.invariant.0.sound
-    (subst (λ (v : BridgeView). is_used (port_at v.plan v.number c.args.port) ≡ true) (sym c.self.view_is) c.requires)
-    in
+    let l = used_there c.self.inside c.args.port c.self.invariant c.self.view_is c.requires in
     c.first.ensures ∙ next_at _ _ _ _ _ _ _ c.args.port c.self.invariant.1 l
     ∙ ap (λ (v : BridgeView). next_out (waiting v.plan v.number c.args.port v.steps)) c.self.view_is

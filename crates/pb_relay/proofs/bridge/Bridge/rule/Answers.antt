@@ -1,47 +1,36 @@
-use Rattle.std.proofs.Common.{◌≡◌, ◌-◌, get_or, true, arith, sym, ap, subst, ◌∙◌}
+use Rattle.std.proofs.Common.{◌-◌, get_or, arith, ap, ◌∙◌}
 use Rattle.pb_relay.specs.Roles.LocalPort.{ToNobody}
 use Rattle.pb_relay.proofs.LoadLemmas.{kept_here}
-use Rattle.pb_lan.specs.Ports.{port_at}
+use Rattle.pb_lan.specs.Ports.{port_at, is_used}
 use Rattle.pb_lan.specs.BridgeLists.{ruling}
-use Rattle.pb_lan.specs.Ports.{is_used}
 use Rattle.pb_relay.specs.Standing.{BridgeView}
 use Rattle.pb_relay.specs.Protocol.{spanning_tree}
-use Rattle.pb_relay.proofs.StandingLemmas.{used_port}
+use Rattle.pb_relay.proofs.Keeping.{used_there}
 use Rattle.pb_relay.proofs.VerdictLemmas.{used_here, rule_is}
 use Rattle.pb_relay.proofs.bridge.Bridge.rule.Goals as goal
 
 pub overflow_sub-place : goal.overflow_sub-place
-overflow_sub-place c =
-    (used_port _ _ _ c.self.invariant.0.sound
-    (subst (λ (v : BridgeView). is_used (port_at v.plan v.number c.args.port) ≡ true) (sym c.self.view_is)
-    c.requires)).0
+overflow_sub-place c = (used_there c.self.inside c.args.port c.self.invariant c.self.view_is c.requires).0
 
 pub bounds-self-inside-place : goal.bounds-self-inside-place
 bounds-self-inside-place c =
-    let l = used_port _ _ _ c.self.invariant.0.sound
-    (subst (λ (v : BridgeView). is_used (port_at v.plan v.number c.args.port) ≡ true) (sym c.self.view_is) c.requires)
-    in
+    let l = used_there c.self.inside c.args.port c.self.invariant c.self.view_is c.requires in
     omega (arith, l.0, l.1)
 
 pub rule-requires-clause-place : goal.rule-requires-clause-place
 rule-requires-clause-place c =
-    let l = used_port _ _ _ c.self.invariant.0.sound
-    (subst (λ (v : BridgeView). is_used (port_at v.plan v.number c.args.port) ≡ true) (sym c.self.view_is) c.requires)
-    in
+    let l = used_there c.self.inside c.args.port c.self.invariant c.self.view_is c.requires in
     omega (arith, l.0, l.1)
 
 pub rule-requires-clause-somebody : goal.rule-requires-clause-somebody
 rule-requires-clause-somebody c =
-    let u = subst (λ (v : BridgeView). is_used (port_at v.plan v.number c.args.port) ≡ true) (sym c.self.view_is)
-    c.requires in
-    let l = used_port _ _ _ c.self.invariant.0.sound u in
-    used_here c.self.inside.plan _ _ (kept_here c.self.inside.plan _ _ _ _ c.args.port c.self.invariant.0 l) u
+    let l = used_there c.self.inside c.args.port c.self.invariant c.self.view_is c.requires in
+    used_here c.self.inside.plan _ _ (kept_here c.self.inside.plan _ _ _ _ c.args.port c.self.invariant.0 l)
+    (ap (λ (v : BridgeView). is_used (port_at v.plan v.number c.args.port)) c.self.view_is ∙ c.requires)
 
 pub returns : goal.returns
 returns c =
-    let u = subst (λ (v : BridgeView). is_used (port_at v.plan v.number c.args.port) ≡ true) (sym c.self.view_is)
-    c.requires in
-    let l = used_port _ _ _ c.self.invariant.0.sound u in
+    let l = used_there c.self.inside c.args.port c.self.invariant c.self.view_is c.requires in
     let k = kept_here c.self.inside.plan _ _ _ _ c.args.port c.self.invariant.0 l in
     c.rule.ensures
     ∙ rule_is c.self.inside.plan c.self.inside.number c.self.inside.steps.steps c.self.inside.forwarding.states

@@ -6,11 +6,7 @@ use Rattle.pb_rstp.proofs.rstp.Rstp.root.Goals as goal
 
 pub returns-clause-least : goal.returns-clause-least
 returns-clause-least c =
-    let old : Machine = record {
-      id = c.self.inside.id;
-      ports = c.self.inside.ports.items;
-      hello_left = c.self.inside.hello_left;
-    } in
     rw (c.root_vector.ensures, c.deref.ensures.value)
-    (subst (λ (m : Machine). IsRootVector m.id m.ports (root_vector old.id old.ports)) c.self.view_is
-    (root_vector-is old.id old.ports))
+    (subst (λ (m : Machine). IsRootVector m.id m.ports (root_vector c.self.inside.id c.self.inside.ports.items))
+    c.self.view_is
+    (root_vector-is c.self.inside.id c.self.inside.ports.items))

@@ -1,19 +1,14 @@
 use Rattle.std.proofs.Common.{ap, ◌∙◌}
 use Rattle.pb_rstp.specs.Machine.{ticking, moved_by}
-use Rattle.pb_rstp.specs.Ports.{Machine, delay_of}
+use Rattle.pb_rstp.specs.Ports.{delay_of}
 use Rattle.pb_rstp.proofs.MovingLaws.{moving_of, same_ticking}
 use Rattle.pb_rstp.proofs.CallLaws.{ticks}
 use Rattle.pb_rstp.proofs.rstp.Rstp.tick.Goals as goal
 
 pub returns-clause-ok : goal.returns-clause-ok
 returns-clause-ok c =
-    let old : Machine = record {
-      id = c.self.inside.id;
-      ports = c.self.inside.ports.items;
-      hello_left = c.self.inside.hello_left;
-    } in
     c.in_ok-change.ensures.ok
-    ∙ ap (λ a. a.machine) (ticks old c.args.self.now c.delay_of-delay.result c.is_hello_time-hello.result
+    ∙ ap (λ a. a.machine) (ticks _ _ c.delay_of-delay.result c.is_hello_time-hello.result
     c.hello_after-hello_left.result c.deref-3.result.now
     c.self.view_is (c.delay_of-delay.ensures ∙ ap delay_of c.deref.ensures.value) c.is_hello_time-hello.ensures
     c.hello_after-hello_left.ensures
@@ -22,13 +17,8 @@ returns-clause-ok c =
 
 pub returns-clause-change : goal.returns-clause-change
 returns-clause-change c =
-    let old : Machine = record {
-      id = c.self.inside.id;
-      ports = c.self.inside.ports.items;
-      hello_left = c.self.inside.hello_left;
-    } in
     c.in_ok-change.ensures.change
-    ∙ ap (λ a. a.change) (ticks old c.args.self.now c.delay_of-delay.result c.is_hello_time-hello.result
+    ∙ ap (λ a. a.change) (ticks _ _ c.delay_of-delay.result c.is_hello_time-hello.result
     c.hello_after-hello_left.result c.deref-3.result.now
     c.self.view_is (c.delay_of-delay.ensures ∙ ap delay_of c.deref.ensures.value) c.is_hello_time-hello.ensures
     c.hello_after-hello_left.ensures
@@ -37,12 +27,7 @@ returns-clause-change c =
 
 pub conclude-requires : goal.conclude-requires
 conclude-requires c =
-    let old : Machine = record {
-      id = c.self.inside.id;
-      ports = c.self.inside.ports.items;
-      hello_left = c.self.inside.hello_left;
-    } in
-    moving_of old c.args.self.now (ticking c.delay_of-delay.result c.is_hello_time-hello.result)
+    moving_of _ _ (ticking c.delay_of-delay.result c.is_hello_time-hello.result)
     (same_ticking c.delay_of-delay.result c.is_hello_time-hello.result) c.self.view_is c.deref-3.result.now
     (c.deref-3.ensures.value ∙ c.in_ok-ports.ensures ∙ ap
     (λ ps. moved_by (ticking c.delay_of-delay.result c.is_hello_time-hello.result) ps) c.deref-2.ensures.value)

@@ -1,12 +1,14 @@
-//! Words, numbers and names in lines.
+//! Words and numbers in lines.
 
-ghost use Rattle.std.specs.Prelude.{◌≡◌, ◌≤◌, ◌==◌, Some, None, IfSome, IfNone};
-ghost use Rattle.std.specs.List.{list_all, position};
-ghost use Rattle.pb_script.specs.Words.{cut as cut_at, port_of, local_port, is_name_letter, is_name};
+ghost use Rattle.std.specs.Prelude.{◌≡◌, ◌≤◌, ◌<◌, ◌+◌, ◌==◌, ◌++◌, ◌∷◌, Some, None, IfSome, IfNone, length, take, drop};
+ghost use Rattle.std.specs.List.{position};
+ghost use Rattle.pb_said.specs.Words.{cut as cut_at, HasNoSpace, port_of, local_port};
 
 /// Where the first space stands.
 fn space_in(text: &[u8]) -> Option<usize>
-    ensures { result ≡ position (λ c. c == 32) text.now }
+    ensures place { result ≡ position (λ c. c == 32) text.now }
+    ensures some { IfSome result (λ i. (i < length text.now) × (text.now ≡ take i text.now ++ 32 ∷ drop (i + 1) text.now) × HasNoSpace (take i text.now)) }
+    ensures none { IfNone result (HasNoSpace text.now) }
 {
     text.iter().position(|c| *c == b' ')
 }
@@ -15,6 +17,8 @@ fn space_in(text: &[u8]) -> Option<usize>
 pub fn cut(text: &[u8]) -> Option<(&[u8], &[u8])>
     ensures some { IfSome result (λ parts. cut_at text.now ≡ Some (parts.0.now, parts.1.now)) }
     ensures none { IfNone result (cut_at text.now ≡ None) }
+    ensures parts { IfSome result (λ parts. (text.now ≡ parts.0.now ++ 32 ∷ parts.1.now) × HasNoSpace parts.0.now) }
+    ensures whole { IfNone result (HasNoSpace text.now) }
 {
     match space_in(text) {
         Some(i) => Some((&text[..i], &text[i + 1..])),
@@ -37,28 +41,8 @@ pub fn read_port(digits: &[u8]) -> Option<u16>
 }
 
 /// A bridge's local port; a number above its sixteen names none, as 0 does.
-pub(crate) fn local_port(number: u16) -> u8
+pub fn local_port(number: u16) -> u8
     ensures { result ≡ local_port number }
 {
     if number <= 16 { number as u8 } else { 0 }
-}
-
-fn is_name_letter(c: u8) -> bool
-    ensures { result ≡ is_name_letter c }
-{
-    matches!(c, b'a'..=b'z' | b'A'..=b'Z' | b'0'..=b'9' | b'-' | b'_')
-}
-
-fn are_name_letters(text: &[u8]) -> bool
-    ensures { result ≡ list_all is_name_letter text.now }
-{
-    text.iter().all(|c| is_name_letter(*c))
-}
-
-/// Whether a word is a name: 1 to 32 letters, digits, hyphens and underscores.
-pub(crate) fn is_name(text: &[u8]) -> bool
-    ensures { result ≡ is_name text.now }
-{
-    let letters = are_name_letters(text);
-    1 <= text.len() && text.len() <= 32 && letters
 }

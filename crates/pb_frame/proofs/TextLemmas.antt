@@ -15,16 +15,16 @@ last_piece (Ok x) old mid new a b e f = with_piece old mid new a b e f
 last_piece (Err d) old mid new a b e f = f
 
 -- the first of the numbers that are left
-from_first : (k n : ℕ) → k < n → range_with_len (k + 1) (n - k) ≡ (k + 1) ∷ range_with_len (k + 1 + 1) (n - (k + 1))
-from_first k n l =
+from_first : (first k n : ℕ) → k < n → range_with_len first (n - k) ≡ first ∷ range_with_len (first + 1) (n - (k + 1))
+from_first first k n l =
     let e : n - k ≡ suc (n - (k + 1)) = omega arith in
-    ap (λ m. range_with_len (k + 1) m) e
+    ap (λ m. range_with_len first m) e
 
 -- one number's text more, where those of the numbers from there on make the whole
-pub numbers_more : (f : ℕ → List ℕ) (k n : ℕ) (old new whole : List ℕ) → k < n → new ≡ old ++ f (k + 1)
-    → old ++ flat_map f (range_with_len (k + 1) (n - k)) ≡ whole
-    → new ++ flat_map f (range_with_len (k + 1 + 1) (n - (k + 1))) ≡ whole
-numbers_more f k n old new whole l e w =
-    let rest = flat_map f (range_with_len (k + 1 + 1) (n - (k + 1))) in
-    ap (λ t. t ++ rest) e ∙ append_assoc old (f (k + 1)) rest
-    ∙ sym (ap (λ ks. old ++ flat_map f ks) (from_first k n l)) ∙ w
+pub numbers_more : (f : ℕ → List ℕ) (first k n : ℕ) (old new whole : List ℕ) → k < n → new ≡ old ++ f first
+    → old ++ flat_map f (range_with_len first (n - k)) ≡ whole
+    → new ++ flat_map f (range_with_len (first + 1) (n - (k + 1))) ≡ whole
+numbers_more f first k n old new whole l e w =
+    let rest = flat_map f (range_with_len (first + 1) (n - (k + 1))) in
+    ap (λ t. t ++ rest) e ∙ append_assoc old (f first) rest
+    ∙ sym (ap (λ ks. old ++ flat_map f ks) (from_first first k n l)) ∙ w

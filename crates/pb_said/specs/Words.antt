@@ -1,11 +1,15 @@
 -- The words of a line.
-use Rattle.std.specs.Prelude.{ℕ, ◌+◌, ◌-◌, ◌*◌, nat_le, ◌==◌, Bool, ◌&&◌, ◌||◌, if◌then◌else◌, List, [], ◌∷◌, Option, Some, None, length, take, drop}
-use Rattle.std.specs.List.{list_all, position}
+use Rattle.std.specs.Prelude.{ℕ, ◌+◌, ◌-◌, ◌*◌, ◌≢◌, ◌<◌, nat_le, ◌==◌, Bool, ◌&&◌, if◌then◌else◌, List, [], ◌∷◌, Option, Some, None, length, slice_index, take, drop}
+use Rattle.std.specs.List.{position}
 use Rattle.std.specs.Option.{option_map}
 
 -- what stands in front of the first space, and what stands behind it
 abbrev pub cut : List ℕ → Option (List ℕ × List ℕ)
 cut text = option_map (λ i. (take i text, drop (i + 1) text)) (position (λ c. c == 32) text)
+
+-- no octet is a space
+abbrev pub HasNoSpace : List ℕ → Type 0
+HasNoSpace text = (k : ℕ) → k < length text → slice_index text k ≢ 32
 
 abbrev pub is_decimal : ℕ → Bool
 is_decimal c = nat_le 48 c && nat_le c 57
@@ -24,11 +28,3 @@ port_of text = None
 -- a bridge's local port; a number above its sixteen names none, as 0 does
 abbrev pub local_port : ℕ → ℕ
 local_port n = if nat_le n 16 then n else 0
-
--- a letter, a digit, a hyphen or an underscore
-abbrev pub is_name_letter : ℕ → Bool
-is_name_letter c = ((nat_le 97 c && nat_le c 122) || (nat_le 65 c && nat_le c 90)) || ((nat_le 48 c && nat_le c 57) || (c == 45 || c == 95))
-
--- a name: 1 to 32 of these
-abbrev pub is_name : List ℕ → Bool
-is_name text = (nat_le 1 (length text) && nat_le (length text) 32) && list_all is_name_letter text
