@@ -5,7 +5,7 @@ use Rattle.std.proofs.Common.{not, append_assoc, Ok, Err, length-drop, ap₂, su
 use Rattle.std.specs.declared.result.Result.{Result}
 use Rattle.std.specs.declared.option.Option.{Option}
 use Rattle.pb_frame.specs.Admission.{provider_address}
-use Rattle.std.proofs.lemmas.Bool.{eqb-true, ltb-false, le-ltb, eq-eqb}
+use Rattle.std.proofs.lemmas.Bool.{eqb-true, ltb-false, le-ltb, eq-eqb, or_parts, and_parts, not-false}
 use Rattle.std.proofs.lemmas.List.{take-append-drop}
 use Rattle.byteorder.specs.Endian.{big_bytes}
 use Rattle.byteorder.specs.Numbers.{big_number-reads_back}
@@ -47,18 +47,6 @@ none_holds : (a b c d e f : Bool) → NoneOf a b c d e f
     → first_of_cases ((a, Llc) ∷ (b, Short) ∷ (c, Protocol) ∷ (d, Kind) ∷ (e, Old) ∷ (f, Short) ∷ []) ≡ None
 none_holds a b c d e f n = rw (n.first, n.second, n.third, n.fourth, n.fifth, n.sixth) refl
 
-or-false : (a b : Bool) → (a || b) ≡ false → (a ≡ false) × (b ≡ false)
-or-false true b e = cc
-or-false false b e = (refl, e)
-
-not-false : (a : Bool) → not a ≡ false → a ≡ true
-not-false true e = refl
-not-false false e = cc
-
-and-true : (a b : Bool) → (a && b) ≡ true → (a ≡ true) × (b ≡ true)
-and-true true b e = (refl, e)
-and-true false b e = cc
-
 -- what a frame has in which no fault is found
 record Sound (x : List ℕ) : Type 0 where
   within : 14 + kind_of x ≤ length x
@@ -86,19 +74,19 @@ record HasLlc (x : List ℕ) : Type 0 where
 
 llc_parts : (x : List ℕ) → has_no_llc x ≡ false → HasLlc x
 llc_parts x e =
-    let o1 = or-false (nat_lt (length x) 17 || nat_lt (kind_of x) 3 || nat_lt (length x) (14 + kind_of x))
+    let o1 = or_parts (nat_lt (length x) 17 || nat_lt (kind_of x) 3 || nat_lt (length x) (14 + kind_of x))
     (not (has_llc x)) e in
-    let o2 = or-false (nat_lt (length x) 17 || nat_lt (kind_of x) 3) (nat_lt (length x) (14 + kind_of x)) o1.0 in
-    let o3 = or-false (nat_lt (length x) 17) (nat_lt (kind_of x) 3) o2.0 in
+    let o2 = or_parts (nat_lt (length x) 17 || nat_lt (kind_of x) 3) (nat_lt (length x) (14 + kind_of x)) o1.0 in
+    let o3 = or_parts (nat_lt (length x) 17) (nat_lt (kind_of x) 3) o2.0 in
     record { enough = o3.0; counts = o3.1; within = o2.1; llc = not-false (has_llc x) o1.1 }
 
 sound : (x : List ℕ) → first_fault x ≡ None → Sound x
 sound x none =
     let t = tests x none in
     let h = llc_parts x t.first in
-    let l1 = and-true (slice_index x 14 == 66 && slice_index x 15 == 66) (slice_index x 16 == 3) h.llc in
-    let l2 = and-true (slice_index x 14 == 66) (slice_index x 15 == 66) l1.0 in
-    let p1 = and-true (slice_index x 17 == 0) (slice_index x 18 == 0)
+    let l1 = and_parts (slice_index x 14 == 66 && slice_index x 15 == 66) (slice_index x 16 == 3) h.llc in
+    let l2 = and_parts (slice_index x 14 == 66) (slice_index x 15 == 66) l1.0 in
+    let p1 = and_parts (slice_index x 17 == 0) (slice_index x 18 == 0)
     (not-false (slice_index x 17 == 0 && slice_index x 18 == 0) t.third) in
     record {
       within = ltb-false (length x) (14 + kind_of x) h.within;
@@ -348,9 +336,6 @@ written_frame src m l fits = record {
   where
     none : (n : ℕ) → n ≡ n + 128 * 0
     none n = omega arith
-
-pub written_length : (src : List ℕ) (m : Bpdu) → length src ≡ 6 → length (written src m) ≡ 53
-written_length src m l = let s = six src l in ap (λ z. length (written z m)) s.is
 
 -- what is written is read again
 pub read_again : (src : List ℕ) (m : Bpdu) → length src ≡ 6 → Fits m → reading (written src m) ≡ Ok m

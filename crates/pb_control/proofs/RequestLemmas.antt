@@ -1,6 +1,7 @@
 -- Lines that ask for nothing.
-use Rattle.std.proofs.Common.{◌≡◌, ◌≢◌, ℕ, Bool, List, [], codes, Option, Some, unwrap_or, Result, Ok, Err, refl, sym}
-use Rattle.std.proofs.Common.{ap, subst, ◌∙◌}
+use Rattle.std.proofs.Common.{◌≡◌, ◌≢◌, ℕ, Bool, List, codes, Some, Result, Ok, Err, refl, sym}
+use Rattle.std.proofs.Common.{subst, ◌∙◌}
+use Rattle.pb_frame.proofs.Things.{same_parts}
 use Rattle.pb_lan.specs.declared.plan.Plan.{Plan}
 use Rattle.pb_script.specs.Lines.{IsBridgePort}
 use Rattle.pb_said.specs.Words.{cut}
@@ -9,10 +10,6 @@ use Rattle.pb_control.specs.declared.request.Request.{Request}
 use Rattle.pb_control.specs.declared.request.Request.TheVariants.{Stop, Counts, Tree, Set}
 use Rattle.pb_control.specs.declared.request.Refused.{Refused}
 use Rattle.pb_control.specs.declared.request.Refused.TheVariants.{NoSuch, Bad}
-
--- the same two parts
-same_parts : (a b x y : List ℕ) → ◌≡◌ {A = Option (List ℕ × List ℕ)} (Some (a, b)) (Some (x, y)) → (a ≡ x) × (b ≡ y)
-same_parts a b x y e = let f = ap (λ o. unwrap_or o ([], [])) e in (ap (λ p. p.0) f, ap (λ p. p.1) f)
 
 -- the first word is neither `up` nor `down`
 pub no_way : (plan : Plan) (line word words : List ℕ) → cut line ≡ Some (word, words)

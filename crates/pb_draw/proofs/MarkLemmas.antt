@@ -1,14 +1,9 @@
 -- The facts of marks, one behind the other.
-use Rattle.std.proofs.Common.{◌≡◌, ◌<◌, ◌+◌, ℕ, zero, suc, List, [], ◌∷◌, ◌++◌, map, drop, length, refl, sym, ap}
-use Rattle.std.proofs.Common.{subst, ◌∙◌, arith, append_assoc}
+use Rattle.std.proofs.Common.{◌≡◌, ◌<◌, ◌+◌, ℕ, List, [], ◌∷◌, ◌++◌, map, drop, length, sym, ap}
+use Rattle.std.proofs.Common.{◌∙◌, append_assoc}
+use Rattle.std.proofs.lemmas.List.{map_push}
 use Rattle.pb_lan.specs.Numbering.{numbers_from}
 use Rattle.pb_naming.proofs.TextLemmas.{numbers_step}
-
--- one more behind the others
-map_more : {M F : Type 0} (facts : M → F) (marks : List M) (m : M) → map facts (marks ++ m ∷ []) ≡ map facts marks
-    ++ facts m ∷ []
-map_more facts [] m = refl
-map_more facts (x ∷ marks) m = ap (λ z. facts x ∷ z) (map_more facts marks m)
 
 -- the facts so far, and those of the numbers from here on, are the facts of all
 pub marks_more : {X M F : Type 0} (facts : M → F) (f : ℕ → F) (xs : List X) (k : ℕ) (marks more : List M) (m : M)
@@ -18,6 +13,6 @@ pub marks_more : {X M F : Type 0} (facts : M → F) (f : ℕ → F) (xs : List X
     → map facts more ++ map f (numbers_from (k + 1 + 1) (drop (k + 1) xs)) ≡ all
 marks_more facts f xs k marks more m all within grown is so_far =
     let rest = map f (numbers_from (k + 1 + 1) (drop (k + 1) xs)) in
-    ap (λ z. z ++ rest) (ap (map facts) grown ∙ map_more facts marks m ∙ ap (λ y. map facts marks ++ y ∷ []) is)
+    ap (λ z. z ++ rest) (ap (map facts) grown ∙ map_push facts marks m ∙ ap (λ y. map facts marks ++ y ∷ []) is)
     ∙ append_assoc (map facts marks) (f (k + 1) ∷ []) rest
     ∙ sym (ap (λ ns. map facts marks ++ map f ns) (numbers_step xs k (k + 1) within)) ∙ so_far

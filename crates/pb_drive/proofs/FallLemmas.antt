@@ -5,6 +5,7 @@ use Rattle.std.proofs.lemmas.List.{take_more}
 use Rattle.std.specs.Cmp.Lexicographic.{pointwise, same_text, other_text}
 use Rattle.std.specs.Global.{Global}
 use Rattle.std.specs.declared.string.String.{String}
+use Rattle.pb_frame.proofs.Things.{here_is}
 use Rattle.pb_lan.proofs.PortsInPlans.{port_at-end}
 use Rattle.pb_lan.specs.Plans.{IsSound}
 use Rattle.pb_lan.specs.Ports.{port_at, is_provider}
@@ -13,7 +14,6 @@ use Rattle.pb_lan.specs.declared.event.Event.TheVariants.{Admin}
 use Rattle.pb_lan.specs.declared.plan.Plan.{Plan}
 use Rattle.pb_lan.specs.declared.plan.End.{End}
 use Rattle.pb_lan.specs.declared.plan.LinkPlan.{LinkPlan}
-use Rattle.pb_net.proofs.OneMore.{here_is}
 use Rattle.pb_net.specs.Answers.{NetView}
 use Rattle.pb_settle.proofs.DriveLemmas.{done-append, done-plan}
 use Rattle.pb_settle.specs.Drives.{HaveDone}

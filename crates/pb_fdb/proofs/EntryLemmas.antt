@@ -1,12 +1,12 @@
 -- Lists of entries, and the sightings that they tell.
-use Rattle.std.proofs.Common.{inl, inr, ◌==◌, ◌&&◌, nat_le, ◌≡◌, ℕ, suc, ◌<◌, ◌≤◌, Bool, true, false, cond, not, List}
+use Rattle.std.proofs.Common.{◌==◌, ◌&&◌, nat_le, ◌≡◌, ℕ, suc, ◌<◌, ◌≤◌, Bool, true, false, cond, not, List}
 use Rattle.std.proofs.Common.{[], ◌∷◌, ◌++◌, length, refl, sym, ap, ◌∙◌, arith}
 use Rattle.std.proofs.lemmas.List.{length-map, map-append}
-use Rattle.std.proofs.lemmas.Bool.{cases_eq, ne_eqb, eq-eqb}
 use Rattle.std.specs.List.{filter}
 use Rattle.pb_frame.specs.Admission.{same}
 use Rattle.pb_frame.specs.Stations.{Sighting, is_fresh, is_sighted, overrides, after}
 use Rattle.pb_frame.specs.Stations.News.{Seen}
+use Rattle.pb_frame.proofs.Things.{eqb-symm}
 use Rattle.pb_fdb.specs.declared.entry.Entry.{Entry}
 use Rattle.pb_fdb.specs.Entries.{sighting_of, sightings, table_of}
 use Rattle.pb_fdb.specs.Tables.{with_room}
@@ -30,13 +30,6 @@ filter-map p (e ∷ es) = elim (p (sighting_of e)) as
 pub filter-map-length : (p : Sighting → Bool) (es : List Entry)
     → length (filter p (sightings es)) ≡ length (filter (λ e. p (sighting_of e)) es)
 filter-map-length p es = ap length (filter-map p es) ∙ length-map (filter (λ e. p (sighting_of e)) es) sighting_of
-
--- equality of numbers goes both ways
-pub eqb-symm : (a b : ℕ) → (a == b) ≡ (b == a)
-eqb-symm a b = elim (cases_eq a b) [
-  | inl e ↦ eq-eqb a b e ∙ sym (eq-eqb b a (sym e))
-  | inr n ↦ ne_eqb a b n ∙ sym (ne_eqb b a (λ e. n (sym e)))
-]
 
 -- and so does that of texts
 pub same-symm : (a b : List ℕ) → same a b ≡ same b a

@@ -1,12 +1,11 @@
 -- Entries in the order of learning.
-use Rattle.std.proofs.Common.{◌≡◌, ℕ, ◌-◌, ◌<◌, ◌≤◌, ◌&&◌, Bool, true, false, cond, nat_le, nat_lt, Some, None, List}
+use Rattle.std.proofs.Common.{◌≡◌, ℕ, ◌-◌, ◌<◌, ◌≤◌, Bool, true, false, cond, nat_le, nat_lt, Some, None, List}
 use Rattle.std.proofs.Common.{[], ◌∷◌, ◌++◌, length, drop, slice_get, refl, sym, ap, ◌∙◌, length-append, arith}
 use Rattle.std.proofs.lemmas.Bool.Decides.{nat_tests}
 use Rattle.std.specs.declared.option.Option.{Option}
-use Rattle.std.proofs.Math.Bool.{and_comm}
 use Rattle.std.specs.List.{AllByRecursion, filter}
 use Rattle.std.specs.Option.{option_map, option_to_list}
-use Rattle.pb_frame.proofs.Lists.{All-imply, All-append, Some-injective, filter-append, filter-twice}
+use Rattle.pb_frame.proofs.Lists.{All-imply, All-append, Some-injective, filter-append, filter-swap, All-passed}
 use Rattle.pb_frame.specs.Lists.{first}
 use Rattle.pb_frame.specs.Stations.{is_fresh, is_sighted}
 use Rattle.pb_fdb.proofs.EntryLemmas.{filter-map, filter-shorter}
@@ -14,13 +13,6 @@ use Rattle.pb_fdb.specs.declared.entry.Entry.{Entry}
 use Rattle.pb_fdb.specs.Entries.{sighting_of, sightings, fresh_entries, entries_with_room, without_station, InOrder}
 use Rattle.pb_fdb.specs.Entries.{IsKept, table_of}
 use Rattle.pb_fdb.specs.Tables.{where_in}
-
--- what all have, those have that pass a test
-pub All-passed : {X : Type 0} (P : X → Type 0) (p : X → Bool) (xs : List X) → AllByRecursion P xs
-    → AllByRecursion P (filter p xs)
-All-passed P p [] a = tt
-All-passed P p (x ∷ xs) a = elim (p x) as (λ b. AllByRecursion P (cond b (x ∷ filter p xs) (filter p xs)))
-    [ true ↦ (a.0, All-passed P p xs a.1) | false ↦ All-passed P p xs a.1 ]
 
 -- what passes a test stays in order
 pub InOrder-filter : (p : Entry → Bool) (es : List Entry) → InOrder es → InOrder (filter p es)
@@ -90,11 +82,6 @@ oldest-old-fewer ageing now (f ∷ es) e is h =
 pub oldest-none : (es : List Entry) → None ≡ slice_get es 0 → es ≡ []
 oldest-none [] is = refl
 oldest-none (e ∷ es) is = cc
-
--- two filters, either first
-filter-swap : {X : Type 0} (p q : X → Bool) (xs : List X) → filter p (filter q xs) ≡ filter q (filter p xs)
-filter-swap p q xs = filter-twice p q (λ x. q x && p x) (λ x. refl) xs
-    ∙ sym (filter-twice q p (λ x. q x && p x) (λ x. and_comm (p x) (q x)) xs)
 
 -- old entries may go before or after a new one comes
 pub fresh-replaced : (ageing : ℕ) (es : List Entry) (e : Entry) → 0 < ageing

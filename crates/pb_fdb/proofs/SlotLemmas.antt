@@ -1,5 +1,5 @@
 -- Stations at the slots of an index, and at the places of a log.
-use Rattle.std.proofs.Common.{◌≡◌, ℕ, ◌==◌, ◌&&◌, false, is_some, true, Some, None, List, [], ◌∷◌, ◌++◌, position}
+use Rattle.std.proofs.Common.{◌≡◌, ℕ, ◌==◌, ◌&&◌, is_some, true, Some, None, List, [], ◌∷◌, ◌++◌, position}
 use Rattle.std.proofs.Common.{slice_get, get_or, refl, sym, ap, ◌∙◌, subst, IfSome}
 use Rattle.std.proofs.lemmas.List.Quantifiers.{position-Some}
 use Rattle.std.proofs.lemmas.Option.{slice_get-map, slice_get-get_or}
@@ -10,7 +10,8 @@ use Rattle.indexmap.proofs.CallerLemmas.{updates-with_value_at}
 use Rattle.indexmap.specs.IndexMap.{IndexMap, keys, values, get, with_value_at, IsUnique, Updates}
 use Rattle.pb_frame.proofs.Lists.{Some-injective}
 use Rattle.pb_frame.specs.Admission.{same}
-use Rattle.pb_fdb.proofs.EntryLemmas.{eqb-symm, same-symm}
+use Rattle.pb_frame.proofs.Things.{eqb-symm}
+use Rattle.pb_fdb.proofs.EntryLemmas.{same-symm}
 use Rattle.pb_fdb.proofs.StationLemmas.{same_station, itself}
 use Rattle.pb_fdb.specs.declared.station.LastSeen.{LastSeen}
 use Rattle.pb_fdb.specs.declared.station.Place.{Place}
@@ -32,11 +33,6 @@ found-station ss s None h = tt
 found-station ss s (Some i) h =
     let p = position-Some (is_same s) ss i s (sym h) in slice_get-get_or ss i s p.0
     ∙ ap Some (sym (same_station s (get_or ss i s) p.1))
-
--- where it finds none, nothing was seen
-pub none-seen : (o : Option LastSeen) → is_some o ≡ false → o ≡ None
-none-seen None h = refl
-none-seen (Some seen) h = cc
 
 module _ {S : Type 0} (m : IndexMap Station LastSeen S) (i : ℕ) where
   -- what stands at a slot

@@ -8,7 +8,8 @@ use Rattle.pb_frame.proofs.Lists.{and-left, and-right, same-one, same-self, eqb-
 use Rattle.pb_frame.proofs.Lists.{filter-same}
 use Rattle.pb_frame.specs.Admission.{same}
 use Rattle.pb_frame.specs.Stations.{is_sighted}
-use Rattle.pb_fdb.proofs.EntryLemmas.{eqb-symm, same-symm}
+use Rattle.pb_frame.proofs.Things.{eqb-symm}
+use Rattle.pb_fdb.proofs.EntryLemmas.{same-symm}
 use Rattle.pb_fdb.specs.declared.entry.Entry.{Entry}
 use Rattle.pb_fdb.specs.declared.station.Station.{Station}
 use Rattle.pb_fdb.specs.Entries.{sighting_of}

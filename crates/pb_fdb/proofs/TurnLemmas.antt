@@ -8,17 +8,13 @@ use Rattle.std.specs.declared.option.Option.{Option}
 use Rattle.std.specs.List.{filter}
 use Rattle.std.specs.Option.{option_eq}
 use Rattle.pb_frame.proofs.Lists.{filter-append}
+use Rattle.pb_frame.proofs.Things.{front-empty}
 use Rattle.pb_fdb.specs.declared.entry.Entry.{Entry}
 use Rattle.pb_fdb.specs.declared.station.LastSeen.{LastSeen}
 use Rattle.pb_fdb.specs.declared.station.Station.{Station}
 use Rattle.pb_fdb.specs.Journals.{is_of, entry_of, Index, IsIndexWith, place_after, entry_at, entries_from, HasEach}
 use Rattle.pb_fdb.specs.Journals.{HasTurned, stays}
 use Rattle.pb_fdb.proofs.StationLemmas.{itself, none-pass}
-
--- where two lists joined are empty, so is the first
-append-empty : {X : Type 0} (xs ys : List X) → xs ++ ys ≡ [] → xs ≡ []
-append-empty [] ys h = refl
-append-empty (x ∷ xs) ys h = let n : suc (length (xs ++ ys)) ≡ 0 = ap length h in cc
 
 -- once a station's entry stands at the first place, none of its stands in any beginning of the rest
 rest-none : (f : Index) (at : ℕ) (s : Station) (seen : LastSeen) (rest : List Station)
@@ -35,7 +31,7 @@ rest-none f at s seen rest each is place =
 front-none : (f : Index) (at : ℕ) (s : Station) (front back : List Station) → at < 2 ^ 64
     → filter (is_of s) (entries_from f at (front ++ back)) ≡ [] → filter (is_of s) (entries_from f at front) ≡ []
 front-none f at s front back below h =
-    append-empty (filter (is_of s) (entries_from f at front))
+    front-empty (filter (is_of s) (entries_from f at front))
     (filter (is_of s) (entries_from f (place_after at (length front)) back)) (
     sym (filter-append (is_of s) (entries_from f at front) (entries_from f (place_after at (length front)) back))
     ∙ ap (filter (is_of s)) (sym (entries-append f at front back below)) ∙ h)

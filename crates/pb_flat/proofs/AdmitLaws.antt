@@ -3,6 +3,7 @@ use Rattle.std.proofs.Common.{◌≡◌, ℕ, ◌+◌, ◌≤◌, ◌==◌, ◌&
 use Rattle.std.proofs.Common.{◌∷◌, ◌++◌, None, length, refl, sym, ap, subst, ◌∙◌, arith, append-nil, length-append}
 use Rattle.std.specs.List.{list_any}
 use Rattle.std.specs.declared.option.Option.{Option}
+use Rattle.std.proofs.lemmas.List.{length_push}
 use Rattle.pb_frame.specs.declared.learnt.Learnt.{Learnt}
 use Rattle.pb_frame.proofs.Lists.{true-false, false-unless, eqb-refl}
 use Rattle.pb_lan.specs.BridgeLists.{Ruling, Fits, Follows, ruling, ruling_by, customer_reasons}
@@ -29,7 +30,7 @@ use Rattle.pb_flat.specs.FlatPlans.{flat_plan, flat_customer}
 use Rattle.pb_flat.specs.Quiet.{IsAlone, IsQuiet, IsWaiting, HasAdmitted, arriving, waits}
 use Rattle.pb_flat.specs.Receipts.{receipts, receipt_by}
 use Rattle.pb_flat.proofs.FlatPlanLaws.{flat_port-at}
-use Rattle.pb_flat.proofs.StepLengths.{length-more, grown-length}
+use Rattle.pb_flat.proofs.StepLengths.{length-more}
 
 -- what the bridge may rule at a customer port
 abbrev IsPlainRuling : Ruling → Type 0
@@ -153,5 +154,5 @@ admitted_waiting ports port frame old new quiet from to (outcome, (learnt, moved
         no_copy_back plan old.steps port item learnt outcome
             moved fits,
       );
-      few = omega (arith, ap length steps, grown-length old.steps step, told, quiet.few);
+      few = omega (arith, ap length steps, length_push old.steps step, told, quiet.few);
     }

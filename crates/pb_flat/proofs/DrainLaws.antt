@@ -1,11 +1,13 @@
 -- The bridge's ports send what waits there.
-use Rattle.std.proofs.Common.{◌≡◌, ℕ, suc, ◌+◌, ◌^◌, ◌<◌, ◌≤◌, ◌==◌, ◌⊎◌, inl, inr, max, cond, true, false, nat_le}
+use Rattle.std.proofs.Common.{◌≡◌, ℕ, suc, ◌+◌, ◌<◌, ◌≤◌, ◌==◌, inl, inr, max, cond, true, false, nat_le}
 use Rattle.std.proofs.Common.{nat_lt, List, [], ◌∷◌, ◌++◌, length, refl, sym, ap, subst, ◌∙◌, arith, append-nil}
 use Rattle.std.proofs.Common.{ne_eqb}
-use Rattle.std.proofs.lemmas.Bool.{le-leb, eq-eqb}
+use Rattle.std.proofs.lemmas.Bool.{le-leb, eq-eqb, cases_eq}
 use Rattle.std.proofs.lemmas.Bool.Decides.{leb_tells}
 use Rattle.std.specs.List.{AllByRecursion}
+use Rattle.std.proofs.lemmas.List.{length_push}
 use Rattle.pb_frame.proofs.Lists.{All-append, eqb-refl}
+use Rattle.pb_frame.proofs.Things.{flat_map-more, one_less}
 use Rattle.pb_lan.specs.Queues.{Waiting, waiting, highest, without}
 use Rattle.pb_lan.specs.declared.plan.Plan.{Plan}
 use Rattle.pb_lan.specs.declared.step.Item.{Item}
@@ -14,11 +16,10 @@ use Rattle.pb_lan.specs.declared.step.Step.TheVariants.{Transmit as Transmitted}
 use Rattle.pb_lan.proofs.SentWasQueued.{waiting_from-append}
 use Rattle.pb_relay.specs.Standing.{BridgeView}
 use Rattle.pb_flat.specs.FlatPlans.{flat_plan}
-use Rattle.pb_flat.specs.Quiet.{IsAlone, IsQuiet, IsWaiting, IsDraining, HasDrained, waits}
+use Rattle.pb_flat.specs.Quiet.{IsAlone, IsQuiet, IsDraining, HasDrained, waits}
 use Rattle.pb_flat.specs.Quiet.HasDrained.{nothing, one}
 use Rattle.pb_flat.specs.Receipts.{receipts, receipt_by, IsClear}
 use Rattle.pb_flat.proofs.AdmitLaws.{waits-alone}
-use Rattle.pb_flat.proofs.StepLengths.{same_or_not, flat_map-more, grown-length}
 
 -- a comparison that fails
 gtb : (a b : ℕ) → b < a → nat_le a b ≡ false
@@ -89,30 +90,16 @@ drained ports q old new alone_there (one item some appended) =
           (λ b. length (cond b (without (highest (waiting plan 1 n earlier)) (waiting plan 1 n earlier))
           (waiting plan 1 n earlier))) (ne_eqb q n (λ e. ne (sym e)))
           ∙ sym (waits-alone ports old alone_there n);
-      few = omega (arith, ap length steps, grown-length earlier (Transmitted q item));
+      few = omega (arith, ap length steps, length_push earlier (Transmitted q item));
       none = λ e. absurd (omega (arith, e, some));
     }
-
--- before the first port
-pub draining_start : (ports port : ℕ) (bridge : BridgeView) → 1 ≤ port → IsWaiting ports port bridge
-    → IsDraining ports port 1 bridge bridge
-draining_start ports port bridge from waiting = record {
-  alone = waiting.alone;
-  same = refl;
-  clear = λ all. all;
-  done = λ n low high top. absurd (omega (arith, low, high));
-  left = waiting.near;
-  own = waiting.own;
-  few = let flag : nat_lt port 1 ≡ false = gtb (suc port) 1 (omega (arith, from)) in rw flag
-      (omega (arith, waiting.few));
-}
 
 -- past a port
 flag_past : (port q : ℕ) → (q ≡ port → ⊥) → nat_lt port (q + 1) ≡ nat_lt port q
 flag_past port q ne =
     elim (leb_tells (suc port) q) [
       | inl l ↦ le-leb (suc port) (q + 1) (omega (arith, l.1)) ∙ sym l.0
-      | inr l ↦ elim (same_or_not q port) [
+      | inr l ↦ elim (cases_eq q port) [
         | inl e ↦ absurd (ne e)
         | inr other ↦ gtb (suc port) (q + 1) (by_cases l.1 other) ∙ sym l.0
       ]
@@ -128,9 +115,6 @@ flag_at port = le-leb (suc port) (port + 1) (omega arith)
 flag_not_yet : (port : ℕ) → nat_lt port port ≡ false
 flag_not_yet port = gtb (suc port) port (omega arith)
 
-low_or : (n q : ℕ) → n < q + 1 → (n < q) ⊎ (n ≡ q)
-low_or n q h = elim (leb_tells (suc n) q) [ inl l ↦ inl (omega (arith, l.1)) | inr l ↦ inr (omega (arith, h, l.1)) ]
-
 -- past each port
 pub draining_next : (ports port q : ℕ) (old mid new : BridgeView) → IsDraining ports port q old mid → 1 ≤ q
     → q ≤ ports → HasDrained q mid new → IsDraining ports port (q + 1) old new
@@ -142,19 +126,19 @@ draining_next ports port q old mid new so_far low high sent =
       alone = drain.alone;
       same = drain.same ∙ so_far.same;
       clear = λ all. drain.clear (so_far.clear all);
-      done = λ n from below top. elim (low_or n q below) [
+      done = λ n from below top. elim (one_less n q below) [
         | inl l ↦ drain.others n (λ e. absurd (omega (arith, l, e))) ∙ so_far.done n from l top
         | inr e ↦ subst (λ k. waits new k ≡ 0) (sym e) here
       ];
-      left = λ n from top. elim (same_or_not n q) [
+      left = λ n from top. elim (cases_eq n q) [
         | inl e ↦ subst (λ k. waits new k ≤ 1) (sym e) (omega (arith, here))
         | inr ne ↦ omega (arith, drain.others n ne, so_far.left n from top)
       ];
-      own = elim (same_or_not port q) [
+      own = elim (cases_eq port q) [
         | inl e ↦ subst (λ k. waits new k ≡ 0) (sym e) here
         | inr ne ↦ drain.others port ne ∙ so_far.own
       ];
-      few = elim (same_or_not q port) [
+      few = elim (cases_eq q port) [
         | inl e ↦
             let kept = drain.none (subst (λ k. waits mid k ≡ 0) (sym e) so_far.own) in
             let before = rw (ap (λ k. nat_lt port k) e ∙ flag_not_yet port) at so_far.few in
@@ -162,25 +146,6 @@ draining_next ports port q old mid new so_far low high sent =
         | inr ne ↦ rw (flag_past port q ne) (omega (arith, so_far.few, drain.few, told))
       ];
     }
-
--- where the list of steps is full, many frames were received
-pub full_then_many : (ports port q : ℕ) (old bridge : BridgeView) → ports ≤ 16 → 1 ≤ port → port ≤ ports
-    → IsDraining ports port q old bridge → q ≤ ports → 0 < waits bridge q
-    → length bridge.steps ≡ bridge.plan.steps → 2 ^ 60 ≤ length (receipts old.steps)
-full_then_many ports port q old bridge most from to so_far high some full =
-    let told : length (receipts bridge.steps) ≡ length (receipts old.steps) = ap length so_far.same in
-    let limit : bridge.plan.steps ≡ 18446744073709551615 = ap (λ (p : Plan). p.steps) so_far.alone.plan in
-    elim (leb_tells (suc port) q) [
-      | inl l ↦ let at = rw l.0 at so_far.few in omega (arith, at, full, limit, told, high, most)
-      | inr l ↦ let at = rw l.0 at so_far.few in elim (same_or_not q port) [
-        | inl e ↦ absurd (omega (arith, some, subst (λ k. waits bridge k ≡ 0) (sym e) so_far.own))
-        | inr other ↦ elim (leb_tells (q + 1) port) [
-          | inl below ↦ omega (arith, at, full, limit, told, below.1, to, most)
-          | inr above ↦ absurd
-              (other (omega (arith, l.1, above.1)))
-        ]
-      ]
-    ]
 
 -- at the end the bridge is quiet again
 pub quiet_again : (ports port : ℕ) (old bridge : BridgeView) → ports ≤ 16 → port ≤ ports

@@ -3,14 +3,16 @@ use Rattle.std.proofs.Common.{◌≡◌, ℕ, zero, suc, ◌+◌, ◌<◌, ◌�
 use Rattle.std.proofs.Common.{Some, slice_get, length, map, refl, sym, ap, subst, ◌∙◌, arith, ◌==◌, ◌&&◌, nat_eq}
 use Rattle.std.proofs.lemmas.List.{map-append, length_push}
 use Rattle.std.specs.List.{AllByRecursion, IsDistinct}
+use Rattle.std.proofs.lemmas.Option.{slice_get_within}
 use Rattle.pb_frame.specs.Admission.{same}
 use Rattle.pb_frame.specs.Lists.{first}
 use Rattle.pb_frame.proofs.Lists.{All-append, All-map, Some-injective}
+use Rattle.pb_frame.proofs.Things.{slice_get-next}
 use Rattle.pb_lan.specs.Numbering.{numbered}
 use Rattle.pb_lan.specs.Plans.{IsSound, IsSoundCustomer, is_same_port}
 use Rattle.pb_lan.specs.Ports.{port_at, is_customer_at, customer_or_else}
 use Rattle.pb_lan.specs.Ports.Port.{Customer, Unused}
-use Rattle.pb_lan.specs.Events.{customer_there, number_of}
+use Rattle.pb_lan.specs.Events.{number_of}
 use Rattle.pb_lan.specs.declared.plan.CustomerPlan.{CustomerPlan}
 use Rattle.pb_flat.specs.FlatPlans.{flat_customer, flat_customers, flat_plan}
 
@@ -28,11 +30,6 @@ front_stays [] y k h = absurd (omega (arith, h))
 front_stays (x ∷ xs) y zero h = refl
 front_stays (x ∷ xs) y (suc k) h = front_stays xs y k (omega (arith, h))
 
--- what is put at the end of a list is found there
-end_is : {X : Type 0} (xs : List X) (y : X) → slice_get (xs ++ y ∷ []) (length xs) ≡ Some y
-end_is [] y = refl
-end_is (x ∷ xs) y = end_is xs y
-
 -- the customer ports stand in order
 stands_at : (n k : ℕ) → k < n → slice_get (flat_customers n) k ≡ Some (flat_customer (suc k))
 stands_at zero k h = absurd (omega (arith, h))
@@ -47,13 +44,7 @@ stands_at (suc n) k h = by_place (stands_at n k) (split k n h)
         front_stays (flat_customers n) (flat_customer (suc n)) k (rw (length-flat_customers n) below) ∙ earlier below
     by_place earlier (inr e) =
         ap (slice_get (flat_customers n ++ flat_customer (suc n) ∷ [])) (e ∙ sym (length-flat_customers n))
-        ∙ end_is (flat_customers n) (flat_customer (suc n)) ∙ ap (λ m. Some (flat_customer (suc m))) (sym e)
-
--- beyond its length a list has nothing
-within : {X : Type 0} (xs : List X) (k : ℕ) (x : X) → slice_get xs k ≡ Some x → k < length xs
-within [] k x h = cc
-within (y ∷ xs) zero x h = omega arith
-within (y ∷ xs) (suc k) x h = let i = within xs k x h in omega (arith, i)
+        ∙ slice_get-next (flat_customers n) [] (flat_customer (suc n)) ∙ ap (λ m. Some (flat_customer (suc m))) (sym e)
 
 -- the customer port of each number
 pub flat_customer-at : (ports n : ℕ) → 1 ≤ n → n ≤ ports → numbered (flat_customers ports) n ≡ Some (flat_customer n)
@@ -65,7 +56,7 @@ pub flat_customer-only : (ports n : ℕ) (c : CustomerPlan) → numbered (flat_c
     → (1 ≤ n) × (n ≤ ports) × (c ≡ flat_customer n)
 flat_customer-only ports zero c h = cc
 flat_customer-only ports (suc k) c h =
-    let i : k < ports = rw (length-flat_customers ports) at (within (flat_customers ports) k c h) in
+    let i : k < ports = rw (length-flat_customers ports) at (slice_get_within (flat_customers ports) k c h) in
     (omega arith, omega (arith, i), Some-injective (sym h ∙ stands_at ports k i))
 
 -- what each of the customer ports has, all have
@@ -178,7 +169,3 @@ first_there ports (suc k) l h = (found.0, found.1 ∙ omega arith)
 -- a customer port stands at the local port of its number
 pub flat_port-at : (ports n : ℕ) → 1 ≤ n → n ≤ ports → port_at (flat_plan ports) 1 n ≡ Customer (flat_customer n)
 flat_port-at ports n l h = ap (λ o. customer_or_else o Unused) (first_there ports n l h).0
-
--- and it is told by that number
-pub flat_customer-there : (ports n : ℕ) → 1 ≤ n → n ≤ ports → customer_there (flat_plan ports) 1 n ≡ n
-flat_customer-there ports n l h = (first_there ports n l h).1

@@ -1,9 +1,10 @@
 -- The bridge at its start, and once it has handled a frame.
-use Rattle.std.proofs.Common.{◌≡◌, ℕ, ◌+◌, ◌-◌, ◌≤◌, Bool, true, false, List, [], ◌∷◌, ◌++◌, Some, length, slice_get}
-use Rattle.std.proofs.Common.{refl, sym, ap, subst, ◌∙◌, arith, length-append}
+use Rattle.std.proofs.Common.{◌≡◌, ℕ, ◌+◌, ◌-◌, ◌≤◌, Bool, true, false, List, [], ◌∷◌, ◌++◌}
+use Rattle.std.proofs.Common.{refl, sym, ap, subst, ◌∙◌, arith}
 use Rattle.std.specs.List.{AllByRecursion}
 use Rattle.pb_frame.proofs.Lists.{All-append}
 use Rattle.pb_frame.specs.Hex.{IsHex}
+use Rattle.pb_frame.proofs.Things.{flat_map-more}
 use Rattle.pb_lan.specs.BridgeLists.{IsLawfulBridge, Fits}
 use Rattle.pb_relay.specs.Protocol.{spanning_tree}
 use Rattle.pb_lan.specs.declared.plan.Plan.{Plan}
@@ -16,7 +17,6 @@ use Rattle.pb_flat.specs.Quiet.{IsQuiet, IsDraining, IsToldBy, HasAdmitted, Tell
 use Rattle.pb_flat.specs.Receipts.{Receipt, receipts, receipt_by, IsClear}
 use Rattle.pb_flat.specs.Switches.{SwitchView, HasHandled}
 use Rattle.pb_flat.proofs.DrainLaws.{quiet_again}
-use Rattle.pb_flat.proofs.StepLengths.{flat_map-more}
 
 -- at its start the bridge is quiet
 pub quiet_start : (ports : ℕ) → IsQuiet ports (at_start (flat_plan ports) 1 false)

@@ -1,22 +1,15 @@
 -- A run over lines, line by line.
-use Rattle.std.proofs.Common.{true, false, ◌≢◌, ◌≡◌, ℕ, suc, ◌+◌, ◌-◌, ◌^◌, ◌≤◌, List, [], ◌∷◌, ◌++◌, length, take}
+use Rattle.std.proofs.Common.{◌≢◌, ◌≡◌, ℕ, suc, ◌+◌, ◌-◌, ◌^◌, ◌≤◌, List, [], ◌∷◌, ◌++◌, length, take}
 use Rattle.std.proofs.Common.{map, Option, Some, None, refl, sym, ap, subst, ◌∙◌, arith, append_assoc, append-nil}
-use Rattle.std.proofs.Common.{add-one, length-take, length-append}
-use Rattle.std.proofs.lemmas.List.{take_all}
+use Rattle.std.proofs.Common.{add-one, length-append}
 use Rattle.std.specs.Io.KnownBytes.{Appends, Keeps}
+use Rattle.std.proofs.KnownBytes.{Appends-trans, Appends-kept, Appends-nil}
 use Rattle.pb_lines.specs.Lines.{lines_of, cut_lines, GivesLine, HasNoLine}
-use Rattle.pb_lines.specs.Found.{Finds}
-use Rattle.pb_lines.specs.contracts.Found.{the_type}
-use Rattle.pb_lines.specs.declared.Found.{Found}
-use Rattle.pb_lines.specs.declared.Found.TheVariants.{Line, Last, End}
-use denote.Enum.Bare.{sameb}
 use Rattle.pb_flat.specs.Answers.{Answer, blank, frame, bad, Answers}
 use Rattle.pb_flat.specs.Receipts.{Receipt, receipts}
 use Rattle.pb_flat.specs.Switches.{IsFlatPast}
 use Rattle.pb_flat.specs.Words.{IsFrameLine}
-use Rattle.pb_said.proofs.LineLemmas.{whole_line, uncut, parts_of_map, Appends-twice, Appends-keeps, Appends-nothing}
-use Rattle.pb_lines.specs.declared.LineFault.{LineFault}
-use Rattle.pb_lines.specs.declared.LineFault.TheVariants.{Read as line_unread, Memory as line_unheld}
+use Rattle.pb_said.proofs.LineLemmas.{whole_line, uncut, parts_of_map}
 use Rattle.pb_lan.specs.declared.step.Step.{Step}
 use Rattle.pb_flat.specs.Progress.{Prints, PrintsBeginning, Progress, least_frames}
 use Rattle.pb_said.specs.declared.fault.CommandFault.{CommandFault}
@@ -85,7 +78,7 @@ starts limit ports (Some octets) held before e = record {
   lines = ap (λ z. cut_lines limit (z ++ octets)) (sym e);
   number = refl;
   text = [];
-  written = Appends-nothing before;
+  written = Appends-nil before;
   answers = (refl, refl);
 }
 
@@ -107,7 +100,7 @@ goes_on limit ports n (Some octets) (Some rest) (Some rest') before now after he
           ∙ sym (append_assoc p.front (line ∷ []) (cut_lines limit (held' ++ rest')));
       number = omega (arith, p.number, length-append p.front (line ∷ []));
       text = p.text ++ text;
-      written = Appends-twice before now after p.text text p.written w;
+      written = Appends-trans before now after p.text text p.written w;
       answers = Answers-snoc limit ports 1 p.front line [] old new p.text text p.answers (rw at_n a);
     }
 
@@ -121,7 +114,7 @@ finishes limit ports n (Some octets) None before now after held steps past p non
 finishes limit ports n (Some octets) (Some rest) before now after held steps past p none k =
     let all : cut_lines limit octets ≡ p.front = p.lines ∙ ap (λ z. p.front ++ z) none ∙ append-nil p.front in (
       p.text,
-      Appends-keeps before now after p.text p.written k,
+      Appends-kept before now after p.text p.written k,
       (steps, past, Answers-uncut limit ports 1 (lines_of octets) [] (receipts steps) p.text (rw all p.answers)),
     )
 
@@ -158,7 +151,7 @@ pub begins : (fault : CommandFault) (limit ports : ℕ) (input before : Option (
 begins fault limit ports None before ne = tt
 begins fault limit ports (Some octets) before ne = (
   [],
-  Appends-nothing before,
+  Appends-nil before,
   (
     [],
     lines_of octets,

@@ -1,13 +1,11 @@
 -- A line has one reading.
 use Rattle.std.proofs.Common.{◌≡◌, ◌≢◌, ℕ, zero, suc, ◌+◌, ◌-◌, ◌*◌, ◌<◌, ◌≤◌, Bool, true, false, ◌&&◌, List, [], ◌∷◌}
-use Rattle.std.proofs.Common.{◌++◌, length, take, drop, get_or, Some, None, is_some, refl, sym, ap, ◌∙◌, arith, codes}
-use Rattle.std.proofs.Common.{cond, leb, leb-true, length-drop, nat_eq}
-use Rattle.std.specs.List.{list_all, starts_with}
-use Rattle.std.proofs.lemmas.List.{take_all}
+use Rattle.std.proofs.Common.{◌++◌, length, drop, get_or, Some, None, refl, sym, ap, ◌∙◌, arith, codes}
+use Rattle.std.proofs.Common.{cond, leb, leb-true, nat_eq}
+use Rattle.std.specs.List.{starts_with}
 use Rattle.std.proofs.lemmas.Bool.{and_parts}
 use Rattle.std.proofs.lemmas.Slice.Eq.{starts_is}
 use Rattle.std.proofs.lemmas.Bool.Decides.{Decides-eqb}
-use Rattle.pb_frame.specs.Hex.{IsHex, is_digit}
 use Rattle.pb_said.specs.Words.{is_first, is_decimal, port_of, HasNoSpace}
 use Rattle.pb_flat.specs.Words.{IsFrameLine}
 
@@ -72,10 +70,6 @@ pub same_parts : (limit ports : ℕ) (line digits hex : List ℕ) (port : ℕ) (
 same_parts limit ports line digits hex port frame l none e =
     split_unique l.digits digits l.hex hex (port_has_no_space l.digits port l.number) none
     (sym (ap (λ z. drop 3 z) l.spelled) ∙ e)
-
--- a slice from an index on
-pub slice_from : (xs : List ℕ) (i : ℕ) → take (length xs - i) (drop i xs) ≡ drop i xs
-slice_from xs i = take_all (length xs - i) (drop i xs) (omega (arith, length-drop i xs))
 
 pub three : (line : List ℕ) → starts_with nat_eq line (codes "in ") ≡ true → line ≡ codes "in " ++ drop 3 line
 three line h = (starts_is Decides-eqb line (codes "in ") (starts_with nat_eq line (codes "in ")) refl).0 h

@@ -9,6 +9,7 @@ use Rattle.std.proofs.lemmas.List.{length-replicate, get_or-replicate, get_or_pa
 use Rattle.std.proofs.lemmas.Option.{slice_get-get_or, slice_get_within}
 use Rattle.pb_lan.proofs.Numbers.{numbered-place}
 use Rattle.pb_frame.proofs.Lists.{Some-injective}
+use Rattle.pb_frame.proofs.Things.{one_less}
 use Rattle.pb_lan.specs.Forests.{Shows}
 use Rattle.pb_lan.specs.Numbering.{numbered}
 use Rattle.pb_lan.specs.Shapes.{is_active}
@@ -189,14 +190,11 @@ marked_up : (ups : List (Option ℕ)) (n k : ℕ) (marks : List Bool) → slice_
     → MarkedTo ups n marks → MarkedTo ups (n + 1) (slice_set marks k true)
 marked_up ups n k marks at room new m = record {
   room = length-set marks k true ∙ m.room;
-  apart = λ i j number l q h g. apart i j number (split i l) (split j q) h g;
-  marked = λ i number l h. marked i number (split i l) h;
+  apart = λ i j number l q h g. apart i j number (one_less i n l) (one_less j n q) h g;
+  marked = λ i number l h. marked i number (one_less i n l) h;
   found = λ number h. found number h;
 }
   where
-    split : (i : ℕ) → i < n + 1 → (i < n) ⊎ (i ≡ n)
-    split i l = grind (arith, l)
-
     here : (i number : ℕ) → i ≡ n → slice_get ups i ≡ Some (Some number) → k ≡ number
     here i number e h = Some-injective (Some-injective (sym at ∙ ap (slice_get ups) (sym e) ∙ h))
 

@@ -7,9 +7,10 @@ use Rattle.std.proofs.lemmas.Option.{slice_get_within}
 use Rattle.std.specs.List.{AllByRecursion, list_any}
 use Rattle.std.specs.Option.{is_some}
 use Rattle.pb_frame.proofs.Lists.{Some-injective, All-at, All-imply, eqb-refl}
+use Rattle.pb_frame.proofs.Things.{put_there, put_elsewhere}
 use Rattle.pb_lan.proofs.Numbers.{numbered-place}
 use Rattle.pb_forest.proofs.EdgeLemmas.{CrossesAt, crosses-at, edges-at}
-use Rattle.pb_forest.proofs.GraphLemmas.{get-set_same, get-set_other, at-same, joins-share, degree-off, off-meets}
+use Rattle.pb_forest.proofs.GraphLemmas.{at-same, joins-share, degree-off, off-meets}
 use Rattle.pb_forest.proofs.GraphLemmas.{meets-back, meets-degree, loop-degree}
 use Rattle.pb_forest.proofs.PeelingLemmas.{left-most, taken-count}
 use Rattle.pb_forest.specs.Graphs.{at, degree, Meets, AreTakenOff, AreWithin}
@@ -61,7 +62,7 @@ unlinked : (old : List (Option Ends)) (bs : List Branch) (new : List (Option End
 unlinked old [] new k h t = tt
 unlinked old (b ∷ bs) new k h t = (
   other,
-  unlinked (slice_set old b.link None) bs new k (get-set_other old b.link k None (λ e. other (sym e)) ∙ h)
+  unlinked (slice_set old b.link None) bs new k (put_elsewhere old b.link k None (λ e. other (sym e)) ∙ h)
       t.1,
 )
   where
@@ -94,7 +95,7 @@ taken-unwinds old (b ∷ bs) new t = (apart, apart_above, taken-unwinds (slice_s
         omega (arith, o, s, a, l)
 
     gone : slice_get (slice_set old b.link None) b.link ≡ Some None
-    gone = get-set_same old b.link None (slice_get_within old b.link (Some t.0.link.ends) t.0.link.there)
+    gone = put_there old b.link None (slice_get_within old b.link (Some t.0.link.ends) t.0.link.there)
 
     apart : AllByRecursion (IsApart b) bs
     apart =
@@ -136,7 +137,7 @@ taken-covers old (b ∷ bs) new k ends t h =
       | true ↦ λ e. inr (b, record { place = 0; there = refl }, eqb-true b.link k e)
       | false ↦ λ e.
           let ne : k ≢ b.link = grind (arith, e) in
-          by (taken-covers (slice_set old b.link None) bs new k ends t.1 (get-set_other old b.link k None ne ∙ h))
+          by (taken-covers (slice_set old b.link None) bs new k ends t.1 (put_elsewhere old b.link k None ne ∙ h))
     ] refl
   where
     by : (slice_get new k ≡ Some (Some ends)) ⊎ ((c : Branch) × IsBranch bs c × (c.link ≡ k))

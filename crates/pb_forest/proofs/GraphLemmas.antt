@@ -1,7 +1,8 @@
 -- What is at the bridges of a graph, as links are added and taken off.
-use Rattle.std.proofs.Common.{◌≡◌, ◌≢◌, inl, inr, ℕ, zero, suc, ◌+◌, ◌*◌, ◌<◌, ◌≤◌, ◌==◌, Some, None, Option, true}
+use Rattle.std.proofs.Common.{◌≡◌, ◌≢◌, inl, inr, ℕ, zero, suc, ◌+◌, ◌*◌, ◌≤◌, ◌==◌, Some, None, Option, true}
 use Rattle.std.proofs.Common.{false, cond, List, [], ◌∷◌, ◌++◌, slice_get, slice_set, length, refl, ap, arith}
 use Rattle.pb_frame.proofs.Lists.{Some-injective, eqb-refl}
+use Rattle.pb_frame.proofs.Things.{others_stay}
 use Rattle.std.proofs.lemmas.Bool.{eqb-true}
 use Rattle.pb_forest.specs.Graphs.{at, share, degree, index_sum, Joins, Meets}
 use Rattle.pb_forest.specs.declared.graph.Ends.{Ends}
@@ -106,29 +107,8 @@ sum-off n (y ∷ ys) (suc k) e x h =
     let t : share e x ((n + 1) + k) ≡ share e x (n + suc k) = ap (share e x) z in
     omega (arith, r, t)
 
--- what stands at another place
-pub get-set_other : {X : Type 0} (xs : List X) (k j : ℕ) (v : X) → j ≢ k
-    → slice_get (slice_set xs k v) j ≡ slice_get xs j
-get-set_other (x ∷ xs) zero zero v h = absurd (h refl)
-get-set_other (x ∷ xs) (suc k) (suc j) v h = get-set_other xs k j v (λ e. h (ap (λ n. suc n) e))
-get-set_other _ _ _ v h = refl
-
--- and at the place itself
-pub get-set_same : {X : Type 0} (xs : List X) (k : ℕ) (v : X) → k < length xs → slice_get (slice_set xs k v) k ≡ Some v
-get-set_same [] k v h = absurd (omega (arith, h))
-get-set_same (x ∷ xs) zero v h = refl
-get-set_same (x ∷ xs) (suc k) v h = get-set_same xs k v (omega (arith, h))
-
--- what is left after a link was taken off was there
-pub off-there : (xs : List (Option Ends)) (k j : ℕ) (ends : Ends)
-    → slice_get (slice_set xs k None) j ≡ Some (Some ends) → slice_get xs j ≡ Some (Some ends)
-off-there [] k j ends h = cc
-off-there (x ∷ xs) zero zero ends h = let e : None ≡ Some ends = Some-injective h in cc
-off-there (x ∷ xs) (suc k) (suc j) ends h = off-there xs k j ends h
-off-there _ _ _ ends h = h
-
 pub off-meets : (xs : List (Option Ends)) (k j x y : ℕ) → Meets (slice_set xs k None) j x y → Meets xs j x y
-off-meets xs k j x y m = record { ends = m.ends; there = off-there xs k j m.ends m.there; joins = m.joins }
+off-meets xs k j x y m = record { ends = m.ends; there = others_stay xs k j m.ends m.there; joins = m.joins }
 
 -- the other way round
 pub meets-back : (xs : List (Option Ends)) (k x y : ℕ) → Meets xs k x y → Meets xs k y x

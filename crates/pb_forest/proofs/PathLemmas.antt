@@ -7,14 +7,13 @@ use Rattle.std.specs.List.{AllByRecursion, IsDistinct}
 use Rattle.pb_forest.specs.Paths.{depth_of, across, HasUp}
 use Rattle.pb_forest.specs.Sides.{ClimbsDeeper}
 use Rattle.pb_forest.specs.declared.ways.Side.{Side}
-use Rattle.pb_frame.proofs.Lists.{Some-injective, All-imply, All-append}
-use Rattle.pb_lan.proofs.ForestEdges.{other-far}
+use Rattle.pb_frame.proofs.Lists.{All-imply, All-append}
+use Rattle.pb_lan.proofs.ForestEdges.{other-far, crosses_back, IsWayUp, way-up}
 use Rattle.pb_lan.proofs.Numbers.{lacks}
-use Rattle.pb_lan.specs.Forests.{Shows, LeadsUp, HasOneChild, Crosses, HasEnds, IsWalk, IsPath, AreJoined}
+use Rattle.pb_lan.specs.Forests.{Shows, LeadsUp, Crosses, IsWalk, IsPath, AreJoined}
 use Rattle.pb_lan.specs.Numbering.{numbered}
 use Rattle.pb_lan.specs.declared.plan.Plan.{Plan}
 use Rattle.pb_lan.specs.declared.plan.End.{End}
-use Rattle.pb_lan.specs.declared.plan.LinkPlan.{LinkPlan}
 use Rattle.pb_lan.specs.declared.shape.Shape.{Shape}
 use Rattle.pb_lan.specs.declared.shape.Rooted.{Rooted}
 
@@ -35,41 +34,25 @@ lead-up plan shape vid rooted x k h way = record {
       (arith, a, b);
 }
 
--- the two ends of a link, in one of two orders
-same-ends : (link : LinkPlan) (near far e f : End) → HasEnds link near far → HasEnds link e f
-    → ((near ≡ e) × (far ≡ f)) ⊎ ((near ≡ f) × (far ≡ e))
-same-ends link near far e f (inl h) (inl g) = inl (sym h.0 ∙ g.0, sym h.1 ∙ g.1)
-same-ends link near far e f (inl h) (inr g) = inr (sym h.0 ∙ g.1, sym h.1 ∙ g.0)
-same-ends link near far e f (inr h) (inl g) = inr (sym h.0 ∙ g.1, sym h.1 ∙ g.0)
-same-ends link near far e f (inr h) (inr g) = inl (sym h.0 ∙ g.0, sym h.1 ∙ g.1)
-
 -- each active link leads up, from one end or the other
 pub cross-up : (plan : Plan) (shape : Shape) (vid : ℕ) (rooted : Rooted) → Shows plan shape vid rooted
     → (k : ℕ) (near far : End) → Crosses plan shape vid k near far
     → IsUp plan rooted near.bridge k far.bridge ⊎ IsUp plan rooted far.bridge k near.bridge
-cross-up plan shape vid rooted s k near far c =
-    by (same-ends c.link near far way.near way.far c.ends
-    (subst (λ l. HasEnds l way.near way.far) one way.crosses.ends))
+cross-up plan shape vid rooted s k near far c = by way.ends
   where
-    child : HasOneChild rooted k
-    child = s.children k c.link c.numbered_so c.active
+    way : IsWayUp plan shape vid rooted k near far
+    way = way-up plan shape vid rooted s k near far c
 
-    way : LeadsUp plan shape vid rooted child.child k
-    way = s.ways_up child.child k child.up
+    is_up : IsUp plan rooted way.child k way.leads.far.bridge
+    is_up = lead-up plan shape vid rooted way.child k way.up way.leads
 
-    one : way.crosses.link ≡ c.link
-    one = Some-injective (sym way.crosses.numbered_so ∙ c.numbered_so)
-
-    is_up : IsUp plan rooted child.child k way.far.bridge
-    is_up = lead-up plan shape vid rooted child.child k child.up way
-
-    turn : (e f : End) → e ≡ way.near → f ≡ way.far → IsUp plan rooted e.bridge k f.bridge
+    turn : (e f : End) → e ≡ way.leads.near → f ≡ way.leads.far → IsUp plan rooted e.bridge k f.bridge
     turn e f h g =
-        let i : child.child ≡ e.bridge = sym way.from ∙ ap (λ x. x.bridge) (sym h) in
-        let j : way.far.bridge ≡ f.bridge = ap (λ x. x.bridge) (sym g) in
-        subst (λ x. IsUp plan rooted x k f.bridge) i (subst (λ y. IsUp plan rooted child.child k y) j is_up)
+        let i : way.child ≡ e.bridge = sym way.leads.from ∙ ap (λ x. x.bridge) (sym h) in
+        let j : way.leads.far.bridge ≡ f.bridge = ap (λ x. x.bridge) (sym g) in
+        subst (λ x. IsUp plan rooted x k f.bridge) i (subst (λ y. IsUp plan rooted way.child k y) j is_up)
 
-    by : ((near ≡ way.near) × (far ≡ way.far)) ⊎ ((near ≡ way.far) × (far ≡ way.near))
+    by : ((near ≡ way.leads.near) × (far ≡ way.leads.far)) ⊎ ((near ≡ way.leads.far) × (far ≡ way.leads.near))
         → IsUp plan rooted near.bridge k far.bridge ⊎ IsUp plan rooted far.bridge k near.bridge
     by (inl h) = inl (turn near far h.0 h.1)
     by (inr h) = inr (turn far near h.1 h.0)
@@ -157,7 +140,7 @@ distinct-insert k (x ∷ xs) ys a b d = (insert xs d.0, distinct-insert k xs ys 
     insert (z ∷ zs) h = (h.0, insert zs h.1)
 
 -- a walk goes on
-walk-append : (plan : Plan) (shape : Shape) (vid here : ℕ) (ks : List ℕ) (there : ℕ) (ls : List ℕ) (last : ℕ)
+pub walk-append : (plan : Plan) (shape : Shape) (vid here : ℕ) (ks : List ℕ) (there : ℕ) (ls : List ℕ) (last : ℕ)
     → IsWalk plan shape vid here ks there → IsWalk plan shape vid there ls last
     → IsWalk plan shape vid here (ks ++ ls) last
 walk-append plan shape vid here [] there ls last w v = subst (λ z. IsWalk plan shape vid z ls last) (sym w) v
@@ -171,11 +154,6 @@ only-child plan shape vid rooted s x k h u g =
     let way = s.ways_up x k h in
     let child = s.children k way.crosses.link way.crosses.numbered_so way.crosses.active in
     child.only u g ∙ sym (child.only x h)
-
--- a link in the other order
-turned : (link : LinkPlan) (near far : End) → HasEnds link near far → HasEnds link far near
-turned link near far (inl h) = inr (h.1, h.0)
-turned link near far (inr h) = inl (h.1, h.0)
 
 -- one link up from a bridge
 record IsClimb (plan : Plan) (shape : Shape) (vid : ℕ) (rooted : Rooted) (x k p : ℕ) : Type 0 where
@@ -250,12 +228,7 @@ climb-b plan shape vid rooted s a b x xs y ys g lt k p h e = (made, up.deeper)
         (omega (arith, lt, d), omega (arith, up.deeper, d))
 
     back : Crosses plan shape vid k up.way.far up.way.near
-    back = record {
-      link = up.way.crosses.link;
-      numbered_so = up.way.crosses.numbered_so;
-      active = up.way.crosses.active;
-      ends = turned up.way.crosses.link up.way.near up.way.far up.way.crosses.ends;
-    }
+    back = crosses_back plan shape vid k up.way.near up.way.far up.way.crosses
 
     apart_a : AllByRecursion (λ z. k ≢ z) xs
     apart_a = All-imply (IsPassed rooted x y) (λ z. k ≢ z) (λ z q f. (q y (subst (λ n. HasUp rooted y n) f h)).2 refl)

@@ -8,7 +8,7 @@ use Rattle.std.proofs.lemmas.List.{length-replicate, get_or-replicate}
 use Rattle.std.proofs.lemmas.Option.{slice_get-get_or}
 use Rattle.std.specs.List.{AllByRecursion}
 use Rattle.pb_frame.proofs.Lists.{Some-injective, All-midst}
-use Rattle.pb_forest.proofs.GraphLemmas.{get-set_same, get-set_other}
+use Rattle.pb_frame.proofs.Things.{put_there, put_elsewhere}
 use Rattle.pb_forest.specs.Rooting.{way_up, depth_below, IsNear, IsRootedBy}
 use Rattle.pb_forest.specs.declared.graph.Branch.{Branch}
 use Rattle.pb_lan.specs.declared.shape.Rooted.{Rooted}
@@ -94,8 +94,8 @@ roots-more n all rest new up depth b d r e near is = record {
           | true ↦ λ t.
               let i = eqb-true b.bridge x t in
               let k = near.bridge in
-              ap (slice_get (slice_set xs b.bridge v)) (sym i) ∙ get-set_same xs b.bridge v (omega (arith, l, k))
-          | false ↦ λ t. let ne : x ≢ b.bridge = grind (arith, t) in get-set_other xs b.bridge x v ne ∙ h
+              ap (slice_get (slice_set xs b.bridge v)) (sym i) ∙ put_there xs b.bridge v (omega (arith, l, k))
+          | false ↦ λ t. let ne : x ≢ b.bridge = grind (arith, t) in put_elsewhere xs b.bridge x v ne ∙ h
         ] refl
 
 -- all of them

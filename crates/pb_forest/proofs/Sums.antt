@@ -5,6 +5,7 @@ use Rattle.std.proofs.lemmas.Bool.{eqb-true}
 use Rattle.std.proofs.lemmas.List.Sums.{sum_by-append}
 use Rattle.std.specs.List.{AllByRecursion, IsDistinct, sum_by, list_any}
 use Rattle.pb_frame.proofs.Lists.{All-imply}
+use Rattle.pb_frame.proofs.Things.{suc-test}
 use Rattle.pb_lan.specs.Numbering.{numbered}
 
 -- a number where a test holds
@@ -132,11 +133,6 @@ total-pairs {Y = Y} f (a ∷ c ∷ ls) (b ∷ bs) e =
     let d : suc (suc (2 * n)) ≡ 2 * suc n = omega arith in
     ap (λ k. f (unwrap_or (slice_get (a ∷ c ∷ ls) k) []) + f (unwrap_or (slice_get (a ∷ c ∷ ls) (suc k)) [])) d) in
     omega (arith, r, s)
-
--- two numbers, each one more
-suc-test : (m n : ℕ) → (suc m == suc n) ≡ (m == n)
-suc-test m n = elim (m == n) as (λ b. (m == n) ≡ b → (suc m == suc n) ≡ b)
-    [ true ↦ λ h. let e = eqb-true m n h in grind (arith, e) | false ↦ λ h. grind (arith, h) ] refl
 
 -- of the thing of a number, as a sum over all
 pub total-numbered : {X : Type 0} (h : X → ℕ) (d : X) → h d ≡ 0 → (k : ℕ) (xs : List X)

@@ -1,4 +1,5 @@
 pub mod Lists
+pub mod Things
 pub mod Counting
 pub mod Parts
 pub mod Orders

@@ -6,7 +6,7 @@ use Rattle.std.specs.Cmp.Derive.{both_true}
 use Rattle.pb_frame.proofs.Lists.{Some-injective, true-false}
 use Rattle.pb_lan.proofs.ForestEdges.{Edge, trees_of}
 use Rattle.pb_lan.proofs.Handled.{state-of}
-use Rattle.pb_lan.proofs.PortsInPlans.{end-of-near, end-of-far, both-ends, port_at-end, sound-end, IsEndOf}
+use Rattle.pb_lan.proofs.PortsInPlans.{end-of-near, end-of-far, both-ends, port_at-end, sound-end, IsEndOf, end-is-at}
 use Rattle.pb_lan.proofs.Rulings.{IsLocal, IsChoice, carried-open, number-local}
 use Rattle.pb_lan.proofs.UniqueWalks.{Walk, NotFirst}
 use Rattle.pb_lan.specs.BridgeLists.{ruling, ruling_by}
@@ -76,10 +76,6 @@ abbrev pub ComesBy : Plan → Shape → Record → Mark → ℕ → CustomerPlan
 ComesBy plan shape rec mark vid entry (Customer c) b q item = (b ≡ entry.bridge) × (q ≡ entry.port) × (item.hops ≡ 0)
 ComesBy plan shape rec mark vid entry (Provider e) b q item = IsCome plan shape rec mark vid entry b q item
 ComesBy plan shape rec mark vid entry Unused b q item = Unit {0}
-
--- an end is where it is
-pub end-is-at : (e : End) → is_end_at e.bridge e.port e ≡ true
-end-is-at e = grind arith
 
 -- a port other than an end's is not at that end
 not-at : (b q r : ℕ) (e : End) → e.port ≡ q → (r == q) ≡ false → is_end_at b r e ≡ false

@@ -1,16 +1,11 @@
 -- Numbers that rise strictly, tested one against the next.
 use Rattle.std.proofs.Common.{◌≡◌, ℕ, ◌<◌, ◌≤◌, List, [], ◌∷◌, length, get_or, arith, suc, zero, ◌-◌}
-use Rattle.std.specs.List.{AllByRecursion}
 use Rattle.pb_frame.specs.Lists.{Rises}
+use Rattle.pb_frame.proofs.Lists.{All-imply}
 
 -- the numbers before the place n rise
 abbrev pub RisesBelow : List ℕ → ℕ → Type 0
 RisesBelow xs n = (k : ℕ) → suc k < n → get_or xs k 0 < get_or xs (suc k) 0
-
--- a smaller number is below all that its follower is below
-below_all : (n m : ℕ) (ns : List ℕ) → n < m → AllByRecursion (λ k. m < k) ns → AllByRecursion (λ k. n < k) ns
-below_all n m [] h all = tt
-below_all n m (k ∷ ns) h (first, rest) = (omega arith, below_all n m ns h rest)
 
 pub rises_on : (xs : List ℕ) → RisesBelow xs (length xs) → Rises xs
 rises_on [] h = tt
@@ -18,7 +13,7 @@ rises_on (n ∷ []) h = (tt, tt)
 rises_on (n ∷ m ∷ ns) h =
     let rest : Rises (m ∷ ns) = rises_on (m ∷ ns) (λ k l. h (suc k) (omega arith)) in
     let first : n < m = h 0 (omega arith) in
-    ((first, below_all n m ns first rest.0), rest)
+    ((first, All-imply (λ k. m < k) (λ k. n < k) (λ k h. omega (arith, first, h)) ns rest.0), rest)
 
 rises_at : (xs : List ℕ) (k : ℕ) → suc k < length xs → Rises xs → get_or xs k 0 < get_or xs (suc k) 0
 rises_at (n ∷ m ∷ ns) zero h r = r.0.0

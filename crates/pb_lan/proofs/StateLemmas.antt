@@ -5,10 +5,12 @@ use Rattle.std.proofs.Common.{add-one, append-nil, unwrap_or}
 use Rattle.std.proofs.lemmas.Grind.{flat_map-append}
 use Rattle.std.specs.List.{list_any}
 use Rattle.std.specs.declared.option.Option.{Option}
+use Rattle.pb_lan.specs.declared.plan.LinkPlan.{LinkPlan}
+use Rattle.pb_lan.specs.Rules.{is_same}
 use Rattle.pb_frame.specs.Lists.{first}
 use Rattle.pb_lan.specs.Numbering.{numbers_from}
 use Rattle.pb_lan.specs.Ports.{all_ends, port_at, is_customer_at, is_end_at, customer_or_else, provider_or_unused}
-use Rattle.pb_lan.specs.Ports.{Port}
+use Rattle.pb_lan.specs.Ports.{Port, ends_of}
 use Rattle.pb_lan.specs.Shapes.{moved_of, start_by, state_by, state_after, changes_of, changed}
 use Rattle.pb_lan.specs.LastShapes.{newest_by, newest_state}
 use Rattle.pb_lan.specs.declared.plan.CustomerPlan.{CustomerPlan}
@@ -17,7 +19,7 @@ use Rattle.pb_lan.specs.declared.plan.Plan.{Plan}
 use Rattle.pb_lan.specs.declared.plan.Spanning.{Spanning}
 use Rattle.pb_lan.specs.declared.shape.PortState.{PortState}
 use Rattle.pb_lan.specs.declared.shape.Shape.{Shape}
-use Rattle.pb_lan.specs.declared.shape.PortState.TheVariants.{Forwarding}
+use Rattle.pb_lan.specs.declared.shape.PortState.TheVariants.{Forwarding, Discarding, Learning}
 use Rattle.pb_lan.specs.declared.step.Moved.{Moved}
 use Rattle.pb_lan.specs.declared.step.Step.{Step}
 use Rattle.pb_lan.specs.Ports.Port.{Provider}
@@ -31,6 +33,26 @@ is_some-first {X} test (x ∷ xs) = by (test x) (is_some-first test xs)
         → is_some (if b then Some x else first test xs) ≡ (b || list_any test xs)
     by true rest = refl
     by false rest = rest
+
+-- an end passes the test where one of a link's two does
+pub is_some-ends : (test : End → Bool) (links : List LinkPlan)
+    → is_some (first test (flat_map ends_of links)) ≡ list_any (λ l. test l.a || test l.b) links
+is_some-ends test [] = refl
+is_some-ends test (l ∷ links) = by (test l.a) (test l.b) (is_some-ends test links)
+  where
+    by : (x y : Bool) → is_some (first test (flat_map ends_of links)) ≡ list_any (λ k. test k.a || test k.b) links
+        → is_some (if x then Some l.a else (if y then Some l.b else first test (flat_map ends_of links)))
+        ≡ ((x || y) || list_any (λ k. test k.a || test k.b) links)
+    by true y e = refl
+    by false true e = refl
+    by false false e = e
+
+-- states that the test holds for one are one
+pub same_state : (a b : PortState) → is_same a b ≡ true → a ≡ b
+same_state Discarding Discarding h = refl
+same_state Learning Learning h = refl
+same_state Forwarding Forwarding h = refl
+same_state _ _ h = cc
 
 customer_first : (spanning : Spanning) (other : Port) (newest : Option PortState) (o : Option CustomerPlan)
     → is_some o ≡ true

@@ -28,6 +28,7 @@ use Rattle.pb_lan.specs.declared.step.Outcome.{Outcome}
 use Rattle.pb_lan.specs.declared.step.Step.{Step}
 use Rattle.pb_lan.specs.declared.step.Step.TheVariants.{Receive, Tick, Admin}
 use Rattle.pb_frame.specs.declared.learnt.Learnt.{Learnt}
+use Rattle.pb_frame.proofs.Things.{front-empty}
 
 abbrev states_in : Moved → List (ℕ × PortState)
 states_in moved = moved.states
@@ -35,10 +36,6 @@ states_in moved = moved.states
 changes-append : (a b : List Step) → changes_of (a ++ b) ≡ changes_of a ++ changes_of b
 changes-append a b = ap (flat_map states_in) (flat_map-append moved_of a b)
     ∙ flat_map-append states_in (flat_map moved_of a) (flat_map moved_of b)
-
-front-empty : {X : Type 0} (a b : List X) → a ++ b ≡ [] → a ≡ []
-front-empty [] b e = refl
-front-empty (x ∷ a) b e = cc
 
 -- no change, and the states are those at the start
 unchanged : (plan : Plan) (b : ℕ) (earlier : List Step) → changes_of earlier ≡ []
@@ -75,7 +72,7 @@ list-of P lists none all (suc n) = at lists n all
     at (steps ∷ lists) zero all = all.0
     at (steps ∷ lists) (suc n) all = at lists n all.1
 
-numbered-from : {X Y : Type 0} (f : ℕ → Y) (k : ℕ) (xs : List X) (i : ℕ) (x : X) → slice_get xs i ≡ Some x
+pub numbered-from : {X Y : Type 0} (f : ℕ → Y) (k : ℕ) (xs : List X) (i : ℕ) (x : X) → slice_get xs i ≡ Some x
     → slice_get (map f (numbers_from k xs)) i ≡ Some (f (k + i))
 numbered-from f k [] i x h = cc
 numbered-from f k (y ∷ xs) zero x h = ap (λ n. Some (f n)) (sym (add-zero k))

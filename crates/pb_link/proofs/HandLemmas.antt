@@ -1,10 +1,9 @@
 -- What a place has in hand.
 use Rattle.std.proofs.Common.{◌≡◌, ℕ, zero, suc, Bool, true, false, List, [], ◌∷◌, ◌++◌, Some, length, slice_get}
-use Rattle.std.proofs.Common.{refl, sym, ap, subst, ◌∙◌, arith, append-nil, length-append}
-use Rattle.std.proofs.lemmas.Grind.{flat_map-append}
-use Rattle.std.specs.List.{flat_map}
+use Rattle.std.proofs.Common.{refl, sym, ap, subst, ◌∙◌, arith, length-append}
 use Rattle.std.specs.declared.option.Option.{Option}
 use Rattle.pb_frame.proofs.Lists.{Some-injective}
+use Rattle.pb_frame.proofs.Things.{slice_get-next}
 use Rattle.pb_lan.specs.Events.{is_all_fetched}
 use Rattle.pb_steps.specs.StepLists.{StepsView, given_back, with_step}
 use Rattle.pb_lan.specs.declared.step.Item.{Item}
@@ -12,22 +11,6 @@ use Rattle.pb_lan.specs.declared.step.Step.{Step}
 use Rattle.pb_link.specs.Holdings.{brought_by, brought_at, held, this_of, holding_of, HasRoom, IsHand}
 use Rattle.pb_link.specs.declared.holding.Holding.{Holding}
 use Rattle.pb_link.specs.declared.holding.Holding.TheVariants.{Nothing, At, This}
-
--- what a step more adds to a list that steps give
-pub flat_map-more : {X : Type 0} (f : Step → List X) (steps : List Step) (step : Step)
-    → flat_map f (steps ++ step ∷ []) ≡ flat_map f steps ++ f step
-flat_map-more f steps step = flat_map-append f steps (step ∷ [])
-    ∙ ap (λ z. flat_map f steps ++ z) (append-nil (f step))
-
-pub flat_map-none : {X : Type 0} (f : Step → List X) (step : Step) → f step ≡ [] → (steps : List Step)
-    → flat_map f (steps ++ step ∷ []) ≡ flat_map f steps
-flat_map-none f step e steps = flat_map-more f steps step ∙ ap (λ z. flat_map f steps ++ z) e
-    ∙ append-nil (flat_map f steps)
-
--- what follows a list stands behind it
-pub slice_get-next : {X : Type 0} (xs ys : List X) (y : X) → slice_get (xs ++ y ∷ ys) (length xs) ≡ Some y
-slice_get-next [] ys y = refl
-slice_get-next (x ∷ xs) ys y = slice_get-next xs ys y
 
 -- what a step brought stands there still when more follows
 brought-front : (steps more : List Step) (place : ℕ) (item : Item) → brought_at (slice_get steps place) ≡ Some item

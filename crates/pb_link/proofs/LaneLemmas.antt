@@ -5,6 +5,7 @@ use Rattle.std.proofs.Common.{length-append}
 use Rattle.std.proofs.lemmas.List.{map-append, length-map}
 use Rattle.std.specs.List.{list_any, filter}
 use Rattle.pb_frame.proofs.Lists.{All-append, filter-append}
+use Rattle.pb_frame.proofs.Things.{flat_map-none, flat_map-more, slice_get-next}
 use Rattle.pb_lan.specs.LaneLists.{Taken, all_taken, taken, taken_by, carried, put, put_by, IsLaneStep, AreCounted}
 use Rattle.pb_steps.specs.StepLists.{StepsView, given_back}
 use Rattle.pb_lan.specs.declared.step.Item.{Item}
@@ -14,7 +15,7 @@ use Rattle.pb_link.specs.Holdings.{held, holding_of, IsHand}
 use Rattle.pb_link.specs.Lanes.{is_hand_empty, in_hand, IsLaneKept}
 use Rattle.pb_link.specs.declared.holding.Holding.{Holding}
 use Rattle.pb_link.specs.declared.holding.Holding.TheVariants.{Nothing, At, This}
-use Rattle.pb_link.proofs.HandLemmas.{flat_map-more, flat_map-none, slice_get-next, nothing_in_hand, hand-new}
+use Rattle.pb_link.proofs.HandLemmas.{nothing_in_hand, hand-new}
 use Rattle.pb_link.proofs.HandLemmas.{whole_by}
 
 -- items that are counted, and one more with the next number

@@ -2,6 +2,7 @@
 use Rattle.std.proofs.Common.{◌≡◌, ℕ, zero, suc, ◌+◌, ◌<◌, ◌≤◌, Bool, true, false, if◌then◌else◌, ◌==◌, ◌||◌, List}
 use Rattle.std.proofs.Common.{[], ◌∷◌, drop, refl, sym, ap, subst, ◌∙◌, arith, ne_eqb, eqb-true, add-one}
 use Rattle.std.specs.List.{list_any, AllByRecursion}
+use Rattle.std.proofs.Math.Bool.{or-false}
 use Rattle.pb_frame.proofs.Lists.{All-imply}
 use Rattle.pb_frame.specs.Lists.{Rises}
 use Rattle.pb_link.specs.Losses.{is_first, IsNext}
@@ -11,10 +12,6 @@ none-above : (n : ℕ) (ks : List ℕ) → AllByRecursion (λ m. n < m) ks → l
 none-above n [] a = refl
 none-above n (k ∷ ks) (a, rest) = let ne : (k == n) ≡ false = ne_eqb k n (λ e. absurd (omega arith)) in rw ne
     (none-above n ks rest)
-
-or-false : (b : Bool) → (b || false) ≡ b
-or-false true = refl
-or-false false = refl
 
 -- of rising numbers the first alone can be the next
 first-any : (ks : List ℕ) (n : ℕ) → Rises ks → AllByRecursion (λ k. n ≤ k) ks

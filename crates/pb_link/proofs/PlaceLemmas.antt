@@ -3,6 +3,7 @@ use Rattle.std.proofs.Common.{◌≡◌, ℕ, suc, ◌+◌, ◌≤◌, Bool, tru
 use Rattle.std.proofs.Common.{subst}
 use Rattle.std.proofs.Common.{◌∙◌, arith, length-append}
 use Rattle.pb_frame.proofs.Lists.{All-append}
+use Rattle.pb_frame.proofs.Things.{flat_map-none, flat_map-more}
 use Rattle.pb_lan.specs.Events.{is_hand_empty}
 use Rattle.pb_lan.specs.PortLists.{polled, fed, polled_by, fed_by, IsPortStep, AreMarked}
 use Rattle.pb_steps.specs.StepLists.{StepsView, given_back}
@@ -14,7 +15,7 @@ use Rattle.pb_link.specs.Hands.{IsPortKept}
 use Rattle.pb_link.specs.Holdings.{holding_of}
 use Rattle.pb_link.specs.declared.holding.Holding.{Holding}
 use Rattle.pb_link.specs.declared.holding.Holding.TheVariants.{Nothing}
-use Rattle.pb_link.proofs.HandLemmas.{flat_map-more, flat_map-none, nothing_in_hand, hand-kept, hand-new}
+use Rattle.pb_link.proofs.HandLemmas.{nothing_in_hand, hand-kept, hand-new}
 
 -- items that are marked, and one more with the next mark
 marked-more : (port n : ℕ) (items : List Item) (item : Item) → AreMarked port n items

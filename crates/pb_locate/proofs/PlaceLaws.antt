@@ -7,7 +7,7 @@ use Rattle.std.specs.Fmt.{decimal, digits}
 use Rattle.std.specs.List.{list_all, position_or_len, starts_with}
 use Rattle.std.specs.Option.{option_map, option_and_then, option_map_or}
 use Rattle.std.proofs.Math.Seq.{take-append_seam, drop-append-add}
-use Rattle.std.proofs.lemmas.Bool.{lt-ltb, true≢false, eqb-true}
+use Rattle.std.proofs.lemmas.Bool.{lt-ltb, true≢false, eqb-true, and_parts}
 use Rattle.std.proofs.lemmas.Bool.Decides.{eqb_tells}
 use Rattle.pb_locate.specs.Places.{number_in, parted, row_in, place_in}
 
@@ -41,10 +41,6 @@ parted_at mark self a rest h =
     ∙ ap (λ t. Some (t, drop (length a + 1) text)) (take-append_seam a (mark ∷ rest))
     ∙ ap (λ t. Some (a, t)) (drop-append-add a (mark ∷ rest) 1)
 
-both : (a b : Bool) → (a && b) ≡ true → (a ≡ true) × (b ≡ true)
-both true b h = (refl, h)
-both false b h = absurd (true≢false (sym h))
-
 -- a number that is printed is read back, and has no bracket
 reads_back : ℕ → Bool
 reads_back n = lacks 93 (decimal n) && option_map_or (λ m. m == n) (number_in (decimal n)) false
@@ -62,7 +58,7 @@ one_of : (n bound : ℕ) → all_read_back bound ≡ true → n < bound → read
 unfolding all_read_back
 one_of n zero h l = absurd (omega arith)
 one_of n (suc bound) h l =
-    let parts = both (reads_back bound) (all_read_back bound) h in
+    let parts = and_parts (reads_back bound) (all_read_back bound) h in
     elim (eqb_tells n bound) [
       | inl p ↦ subst (λ m. reads_back m ≡ true) (sym p.1) parts.0
       | inr p ↦ let ne = p.1 in one_of n bound parts.1 (omega arith)
@@ -76,7 +72,7 @@ read_one n (Some m) h = ap (λ x. Some x) (eqb-true m n h)
 number_place : (n : ℕ) → n < 128 → (lacks 93 (decimal n) ≡ true) × (number_in (decimal n) ≡ Some n)
 unfolding reads_back
 number_place n l =
-    let parts = both (lacks 93 (decimal n)) (option_map_or (λ m. m == n) (number_in (decimal n)) false)
+    let parts = and_parts (lacks 93 (decimal n)) (option_map_or (λ m. m == n) (number_in (decimal n)) false)
     (one_of n 128 table_numbers l) in
     (parts.0, read_one n (number_in (decimal n)) parts.1)
 

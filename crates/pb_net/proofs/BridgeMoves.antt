@@ -2,8 +2,9 @@
 use Rattle.std.proofs.Common.{◌≡◌, ℕ, suc, ◌<◌, inl, inr, Bool, List, [], ◌∷◌, ◌++◌, Some, length, slice_get, ◌==◌}
 use Rattle.std.proofs.Common.{if◌then◌else◌, refl, sym, ap, ◌∙◌, length-set, ne_eqb}
 use Rattle.std.proofs.Math.ListN.{set}
-use Rattle.std.proofs.lemmas.Bool.{eq-eqb}
+use Rattle.std.proofs.lemmas.Bool.{eq-eqb, cases_eq}
 use Rattle.pb_frame.specs.declared.learnt.Learnt.{Learnt}
+use Rattle.pb_frame.proofs.Things.{flat_map-none, flat_map-more}
 use Rattle.std.specs.declared.option.Option.{Option}
 use Rattle.pb_lan.specs.BridgeLists.{IsLawfulBridge}
 use Rattle.pb_lan.specs.Events.{with_step}
@@ -17,11 +18,10 @@ use Rattle.pb_lan.specs.declared.step.Outcome.{Outcome}
 use Rattle.pb_lan.specs.declared.step.Place.TheVariants.{Bridge}
 use Rattle.pb_lan.specs.declared.step.Step.{Step}
 use Rattle.pb_lan.specs.declared.step.Step.TheVariants.{Receive, Transmit}
-use Rattle.pb_link.proofs.HandLemmas.{flat_map-more}
 use Rattle.pb_net.specs.Nets.{IsKept}
 use Rattle.pb_net.specs.Slots.{IsSlot, bridge_of, port_of, items_at}
 use Rattle.pb_net.proofs.Keeping.{after_bridge, one_slot}
-use Rattle.pb_net.proofs.OneMore.{flat_map-none, same_or_not, items_at-set_other, moved_on, moved_in}
+use Rattle.pb_net.proofs.OneMore.{items_at-set_other, moved_on, moved_in}
 
 -- at the port, or at another
 at_port : (at port : ℕ) (items : List Item) → at ≡ port → (if at == port then items else []) ≡ items
@@ -47,7 +47,7 @@ after_receive plan rec ins outs r s port item learnt outcome moved inbox kept wi
     let steps : List Step = steps_of rec.bridges (suc r) in
     after_bridge plan rec ins outs (set ins s inbox) outs r step kept within lawful (length-set ins s inbox) refl
     (λ t ne. (items_at-set_other ins s t inbox (other_slot plan r port s t at ne), refl))
-    (λ t e whole w. elim (same_or_not t s) [
+    (λ t e whole w. elim (cases_eq t s) [
       | inl here ↦ moved_on (received (port_of t) steps) ins s t item inbox here box
           (flat_map-more (received_by (port_of t)) steps step ∙ ap (λ z. received (port_of t) steps ++ z)
           (at_port port (port_of t) (item ∷ []) (sym (ap port_of here ∙ at.of_port)))) w
@@ -71,7 +71,7 @@ after_transmit plan rec ins outs r s port item outbox kept within at box lawful 
     after_bridge plan rec ins outs ins (set outs s grown) r step kept within lawful refl (length-set outs s grown)
     (λ t ne. (refl, items_at-set_other outs s t grown (other_slot plan r port s t at ne)))
     (λ t e whole w. ap (λ z. z ++ items_at ins t) (flat_map-none (received_by (port_of t)) step refl steps) ∙ w)
-    (λ t e front w. elim (same_or_not t s) [
+    (λ t e front w. elim (cases_eq t s) [
       | inl here ↦ moved_in front outs s t item outbox here box
           (flat_map-more (transmitted_by (port_of t)) steps step ∙ ap (λ z. transmitted (port_of t) steps ++ z)
           (at_port port (port_of t) (item ∷ []) (sym (ap port_of here ∙ at.of_port)))) w

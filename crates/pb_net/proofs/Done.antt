@@ -1,5 +1,5 @@
 -- What a network keeps and answers after an event was done, and after one that met want of memory.
-use Rattle.std.proofs.Common.{◌≡◌, ℕ, suc, ◌+◌, ◌<◌, Bool, true, false, ◌||◌, ◌==◌, ◌↔◌, List, [], ◌∷◌, ◌++◌}
+use Rattle.std.proofs.Common.{◌≡◌, ℕ, suc, ◌+◌, ◌<◌, Bool, true, false, ◌==◌, ◌↔◌, List, [], ◌∷◌, ◌++◌}
 use Rattle.std.proofs.Common.{Some, Ok, Err, map, length, get_or, refl, sym, ap, subst, ◌∙◌, arith, Global}
 use Rattle.std.proofs.lemmas.Bool.{eq-eqb}
 use Rattle.std.proofs.lemmas.Bool.Decides.{nat_tests}
@@ -95,11 +95,6 @@ pub answers_done : {net : NetView} {rec : Record} (s : Inside) (event : Event)
 answers_done {rec = rec} s event view due done =
     subst (λ (v : NetView). IsAnswer v event (Ok (Done (place_of event))) (net_with s.plan rec)) view
     (due, refl, refl, done)
-
--- a flag of two that is false has two that are
-pub or_false : (a b : Bool) → (a || b) ≡ false → (a ≡ false) × (b ≡ false)
-or_false true b e = cc
-or_false false b e = (refl, e)
 
 -- something is there
 pub some_there : (n : ℕ) → (n == 0) ≡ false → 0 < n

@@ -2,6 +2,7 @@
 use Rattle.std.proofs.Common.{◌≡◌, ℕ, suc, ◌*◌, ◌<◌, ◌/◌, ◌%◌, inl, inr, List, [], ◌∷◌, ◌++◌, length, refl, sym, ap}
 use Rattle.std.proofs.Common.{subst, ◌∙◌, arith, length-set}
 use Rattle.std.proofs.Math.ListN.{set}
+use Rattle.std.proofs.lemmas.Bool.{cases_eq}
 use Rattle.pb_lan.specs.BridgeLists.{IsLawfulBridge}
 use Rattle.pb_lan.specs.Events.{with_step, sent_to, fetched_from}
 use Rattle.pb_lan.specs.LaneLists.{IsLawfulLane}
@@ -16,7 +17,7 @@ use Rattle.pb_lan.specs.declared.step.Step.{Step}
 use Rattle.pb_net.specs.Nets.{IsKept}
 use Rattle.pb_net.specs.Slots.{IsSlot, bridge_of, port_of, items_at, losses_of}
 use Rattle.pb_net.proofs.Meetings.{sent_to-same, fetched_from-same}
-use Rattle.pb_net.proofs.OneMore.{same_or_not, steps_of-set_same, steps_of-set_other}
+use Rattle.pb_net.proofs.OneMore.{steps_of-set_same, steps_of-set_other}
 
 -- a bridge's port has one slot
 pub one_slot : (plan : Plan) (bridge port s t : ℕ) → IsSlot plan bridge port s → bridge_of t ≡ bridge
@@ -40,7 +41,7 @@ Fetches plan rec rec' outs outs' =
 -- what holds of each list of steps by its number holds of each with one changed
 each_set : (P : ℕ → List Step → Type 0) (lists : List (List Step)) (r : ℕ) (grown : List Step) → r < length lists
     → P (suc r) grown → ((n : ℕ) → P n (steps_of lists n)) → (n : ℕ) → P n (steps_of (set lists r grown) n)
-each_set P lists r grown within changed each n = elim (same_or_not n (suc r)) [
+each_set P lists r grown within changed each n = elim (cases_eq n (suc r)) [
   | inl e ↦ subst (λ k. P k (steps_of (set lists r grown) k)) (sym e)
       (subst (P (suc r)) (sym (steps_of-set_same lists r grown within)) changed)
   | inr ne ↦ subst (P n) (sym (steps_of-set_other lists r n grown ne)) (each n)
@@ -124,7 +125,7 @@ after_bridge plan rec ins outs ins' outs' r step kept within lawful ins_so outs_
       bridges = each_set (IsLawfulBridge spanning_tree plan) rec.bridges r grown room lawful kept.bridges;
       lanes = kept.lanes;
       ports = kept.ports;
-      into = λ s. elim (same_or_not (bridge_of s) (suc r)) [
+      into = λ s. elim (cases_eq (bridge_of s) (suc r)) [
         | inl e ↦ ap (λ ms. received (port_of s) ms ++ items_at ins' s)
             (ap (λ k. steps_of (set rec.bridges r grown) k) e ∙ here)
             ∙ into s e (sent_to plan rec (bridge_of s) (port_of s))
@@ -135,7 +136,7 @@ after_bridge plan rec ins outs ins' outs' r step kept within lawful ins_so outs_
             ∙ ap (λ z. received (port_of s) (steps_of rec.bridges (bridge_of s)) ++ z) (else_so s ne).0 ∙ kept.into s
             ∙ sent s
       ];
-      out = λ s. elim (same_or_not (bridge_of s) (suc r)) [
+      out = λ s. elim (cases_eq (bridge_of s) (suc r)) [
         | inl e ↦ ap (λ z. z ++ items_at outs' s) (fetched s)
             ∙ out s e (fetched_from plan rec (bridge_of s) (port_of s))
             (kept.out s ∙ ap (λ k. transmitted (port_of s) (steps_of rec.bridges k)) e)

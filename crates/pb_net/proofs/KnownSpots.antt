@@ -4,6 +4,7 @@ use Rattle.std.proofs.Common.{◌∙◌, arith, Global}
 use Rattle.std.proofs.lemmas.List.{length-map}
 use Rattle.std.proofs.Math.ListN.{set}
 use Rattle.std.specs.declared.collections.VecDeque.{VecDeque}
+use Rattle.pb_frame.proofs.Things.{here_is, part_at}
 use Rattle.pb_lan.specs.Records.{steps_of}
 use Rattle.pb_lan.specs.declared.record.Record.{Record}
 use Rattle.pb_lan.specs.declared.step.Item.{Item}
@@ -17,7 +18,7 @@ use Rattle.pb_net.specs.Nets.{IsSoundPlan, ArePlaced, IsKept, HasNumbers, record
 use Rattle.pb_net.specs.Slots.{AreTables, IsBridgeSpot, IsCustomerSpot, IsLaneStart, IsLaneEnd}
 use Rattle.pb_net.specs.declared.net.Net.TheInside.{Inside}
 use Rattle.pb_net.specs.declared.slots.Spot.{Spot}
-use Rattle.pb_net.proofs.OneMore.{here_is, slice_get-map, steps_of-map, map-set_kept}
+use Rattle.pb_net.proofs.OneMore.{steps_of-map, map-set_kept}
 
 -- what stands in a queue
 abbrev pub items_in : VecDeque Item Global → List Item
@@ -132,12 +133,12 @@ module _ {X : Type 0} {s : Inside} {steps : X → List Step} {places : List X} {
     (at : StandsAt s steps places number IsSpot spot x) where
   pub inbox_at : {box : VecDeque Item Global} → box ≡ get_or s.inboxes.items spot.slot box
       → slice_get (ins_of s) spot.slot ≡ Some box.items
-  inbox_at {box} value = slice_get-map items_in s.inboxes.items spot.slot box
+  inbox_at {box} value = part_at items_in s.inboxes.items spot.slot box
       (box_at s.inboxes.items spot.slot _ box at.keeps.2.inbox_count at.within value)
 
   pub outbox_at : {box : VecDeque Item Global} → box ≡ get_or s.outboxes.items spot.slot box
       → slice_get (outs_of s) spot.slot ≡ Some box.items
-  outbox_at {box} value = slice_get-map items_in s.outboxes.items spot.slot box
+  outbox_at {box} value = part_at items_in s.outboxes.items spot.slot box
       (box_at s.outboxes.items spot.slot _ box at.keeps.2.outbox_count at.within value)
 
   -- one that holds what it held

@@ -4,6 +4,7 @@ use Rattle.std.proofs.Common.{sym}
 use Rattle.std.proofs.Common.{ap, ◌∙◌, arith, length-set}
 use Rattle.std.proofs.Math.ListN.{set}
 use Rattle.std.proofs.lemmas.List.{map-append}
+use Rattle.pb_frame.proofs.Things.{flat_map-none, flat_map-more}
 use Rattle.pb_lan.specs.Events.{with_step, sent_to, fetched_from, begins_at, ends_at, lane_to, lane_from}
 use Rattle.pb_lan.specs.LaneLists.{taken, put, taken_by, put_by, all_taken, Taken, IsLawfulLane}
 use Rattle.pb_lan.specs.Numbering.{numbered}
@@ -17,13 +18,12 @@ use Rattle.pb_lan.specs.declared.step.Item.{Item}
 use Rattle.pb_lan.specs.declared.step.Place.TheVariants.{Lane}
 use Rattle.pb_lan.specs.declared.step.Step.{Step}
 use Rattle.pb_lan.specs.declared.step.Step.TheVariants.{Take, Put}
-use Rattle.pb_link.proofs.HandLemmas.{flat_map-more}
 use Rattle.pb_net.specs.Nets.{IsKept}
 use Rattle.pb_net.specs.Slots.{IsSlot, link_of, losses_of}
 use Rattle.pb_net.proofs.Keeping.{after_lane}
 use Rattle.pb_net.proofs.Lanes.{lane_to-back, lane_from-back}
 use Rattle.pb_net.proofs.Meetings.{sent_to-lane, fetched_from-lane, sent_to-same, fetched_from-same}
-use Rattle.pb_net.proofs.OneMore.{flat_map-none, one_more-kept, steps_of-set_same, steps_of-set_other}
+use Rattle.pb_net.proofs.OneMore.{one_more-kept, steps_of-set_same, steps_of-set_other}
 use Rattle.pb_net.proofs.PortMoves.{sends-nothing, fetches-nothing, sends-one, fetches-one}
 
 abbrev items_in : List Taken → List Item

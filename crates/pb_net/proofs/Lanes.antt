@@ -6,7 +6,7 @@ use Rattle.std.proofs.lemmas.Bool.Decides.{nat_tests}
 use Rattle.std.specs.Cmp.Derive.{both_true}
 use Rattle.std.specs.List.{IsDistinct}
 use Rattle.pb_frame.proofs.Lists.{and-left, and-right, eqb-refl, first-finds, IsDistinct-front, Some-injective}
-use Rattle.pb_lan.proofs.PortsInPlans.{port_at-end, end_at, end-link, IsEndOf}
+use Rattle.pb_lan.proofs.PortsInPlans.{port_at-end, end_at, end-link, IsEndOf, end-is-at}
 use Rattle.pb_lan.specs.Events.{number_of, link_a, link_b, lane_from, lane_to, begins_at, ends_at}
 use Rattle.pb_lan.specs.Numbering.{numbered}
 use Rattle.pb_lan.specs.Plans.{IsSound, is_same_port}
@@ -18,10 +18,6 @@ use Rattle.pb_lan.specs.declared.plan.End.{End}
 use Rattle.pb_lan.specs.declared.plan.LinkPlan.{LinkPlan}
 use Rattle.pb_net.specs.Slots.{link_of}
 use Rattle.pb_net.proofs.Found.{number_of-cases}
-
--- an end stands at its own port
-is_at : (e : End) → is_end_at e.bridge e.port e ≡ true
-is_at e = both_true (eqb-refl e.bridge) (eqb-refl e.port)
 
 -- two ends of links at one port are one
 one_end : (plan : Plan) → IsSound plan → (k l : ℕ) (one other : LinkPlan) (d e : End)
@@ -66,7 +62,7 @@ number_of-end plan sound side is zero link at = cc
 number_of-end plan sound side is (suc k) link at =
     let test : LinkPlan → Bool = (λ l. is_end_at (side link).bridge (side link).port (side l)) in
     elim (number_of-cases test 1 plan.links) [
-      | inl none ↦ let some = first-finds test plan.links k link at (is_at (side link)) in let wrong = none.1 in
+      | inl none ↦ let some = first-finds test plan.links k link at (end-is-at (side link)) in let wrong = none.1 in
           let right = some.1 in cc
       | inr (i, l, n, g, f, t) ↦
           let one = one_end plan sound (suc i) (suc k) l link (side l) (side link) g at (is l) (is link)

@@ -1,55 +1,28 @@
 -- Lists by number, with one of them changed.
-use Rattle.std.proofs.Common.{◌≡◌, ℕ, zero, suc, ◌<◌, ◌⊎◌, inl, inr, List, [], ◌∷◌, ◌++◌, Some, map, length}
-use Rattle.std.proofs.Common.{unwrap_or, slice_get, get_or, refl, sym, ap, ap₂, ◌∙◌, arith, append-nil, append_assoc}
+use Rattle.std.proofs.Common.{◌≡◌, ℕ, zero, suc, ◌<◌, inl, inr, List, [], ◌∷◌, ◌++◌, Some, map, length}
+use Rattle.std.proofs.Common.{unwrap_or, slice_get, refl, sym, ap, ap₂, ◌∙◌, append_assoc}
 use Rattle.std.proofs.Math.ListN.{set}
 use Rattle.std.proofs.Math.Seq.{map-set_same}
 use Rattle.std.proofs.lemmas.Bool.{cases_eq}
 use Rattle.std.proofs.lemmas.List.{map-set}
-use Rattle.std.proofs.lemmas.Option.{slice_get-get_or, slice_get_within, get_or_from_slice_get}
-use Rattle.std.proofs.lemmas.Option.{slice_get-map as mapped}
-use Rattle.std.specs.List.{flat_map}
-use Rattle.std.specs.Option.{option_map}
+use Rattle.std.proofs.lemmas.Option.{slice_get_within, get_or_from_slice_get}
+use Rattle.pb_frame.proofs.Things.{part_at, put_there, put_elsewhere}
 use Rattle.pb_lan.specs.Events.{one_more}
 use Rattle.pb_lan.specs.Records.{steps_of}
 use Rattle.pb_lan.specs.declared.step.Item.{Item}
 use Rattle.pb_lan.specs.declared.step.Step.{Step}
-use Rattle.pb_link.proofs.HandLemmas.{flat_map-more}
 use Rattle.pb_net.specs.Slots.{items_at}
-
--- two numbers are one or not
-pub same_or_not : (m n : ℕ) → (m ≡ n) ⊎ (m ≡ n → ⊥)
-same_or_not m n = cases_eq m n
-
--- the thing at a place of a list that was changed there
-pub slice_get-set_same : {X : Type 0} (xs : List X) (r : ℕ) (y : X) → r < length xs
-    → slice_get (set xs r y) r ≡ Some y
-slice_get-set_same [] r y h = absurd (omega arith)
-slice_get-set_same (x ∷ xs) zero y h = refl
-slice_get-set_same (x ∷ xs) (suc r) y h = slice_get-set_same xs r y (omega arith)
-
--- the thing that an index gives
-pub here_is : {X : Type 0} (xs : List X) (r : ℕ) (x : X) → r < length xs → x ≡ get_or xs r x → slice_get xs r ≡ Some x
-here_is xs r x within e = slice_get-get_or xs r x within ∙ ap (λ z. Some z) (sym e)
-
--- and elsewhere
-pub slice_get-set_other : {X : Type 0} (xs : List X) (r s : ℕ) (y : X) → (s ≡ r → ⊥)
-    → slice_get (set xs r y) s ≡ slice_get xs s
-slice_get-set_other [] r s y ne = refl
-slice_get-set_other (x ∷ xs) zero zero y ne = absurd (ne refl)
-slice_get-set_other (x ∷ xs) zero (suc s) y ne = refl
-slice_get-set_other (x ∷ xs) (suc r) zero y ne = refl
-slice_get-set_other (x ∷ xs) (suc r) (suc s) y ne = slice_get-set_other xs r s y (λ e. ne (ap (λ n. suc n) e))
 
 -- the steps of the place that took a step, and of another
 pub steps_of-set_same : (lists : List (List Step)) (r : ℕ) (steps : List Step) → r < length lists
     → steps_of (set lists r steps) (suc r) ≡ steps
-steps_of-set_same lists r steps h = ap (λ o. unwrap_or o []) (slice_get-set_same lists r steps h)
+steps_of-set_same lists r steps h = ap (λ o. unwrap_or o []) (put_there lists r steps h)
 
 pub steps_of-set_other : (lists : List (List Step)) (r n : ℕ) (steps : List Step) → (n ≡ suc r → ⊥)
     → steps_of (set lists r steps) n ≡ steps_of lists n
 steps_of-set_other lists r zero steps ne = refl
 steps_of-set_other lists r (suc s) steps ne = ap (λ o. unwrap_or o [])
-    (slice_get-set_other lists r s steps (λ e. ne (ap (λ n. suc n) e)))
+    (put_elsewhere lists r s steps (λ e. ne (ap (λ n. suc n) e)))
 
 -- what is read of a place's steps, where the step adds nothing to it
 pub one_more-kept : {X : Type 0} (f : List Step → X) (step : Step) → ((ms : List Step) → f (ms ++ step ∷ []) ≡ f ms)
@@ -57,7 +30,7 @@ pub one_more-kept : {X : Type 0} (f : List Step → X) (step : Step) → ((ms : 
     → f (steps_of (set lists r (steps_of lists (suc r) ++ step ∷ [])) m) ≡ f (steps_of lists m)
 one_more-kept f step each lists r m within =
     let grown = steps_of lists (suc r) ++ step ∷ [] in
-    elim (same_or_not m (suc r)) [
+    elim (cases_eq m (suc r)) [
       | inl e ↦ ap (λ k. f (steps_of (set lists r grown) k)) e ∙ ap f (steps_of-set_same lists r grown within)
           ∙ each (steps_of lists (suc r)) ∙ ap (λ k. f (steps_of lists k)) (sym e)
       | inr ne ↦ ap f (steps_of-set_other lists r m grown ne)
@@ -66,20 +39,15 @@ one_more-kept f step each lists r m within =
 -- the items of the meeting place that changed, and of another
 pub items_at-set_same : (lists : List (List Item)) (s : ℕ) (items : List Item) → s < length lists
     → items_at (set lists s items) s ≡ items
-items_at-set_same lists s items h = ap (λ o. unwrap_or o []) (slice_get-set_same lists s items h)
+items_at-set_same lists s items h = ap (λ o. unwrap_or o []) (put_there lists s items h)
 
 pub items_at-set_other : (lists : List (List Item)) (s t : ℕ) (items : List Item) → (t ≡ s → ⊥)
     → items_at (set lists s items) t ≡ items_at lists t
-items_at-set_other lists s t items ne = ap (λ o. unwrap_or o []) (slice_get-set_other lists s t items ne)
-
--- what is looked up in a list of things is looked up in the list of their parts
-pub slice_get-map : {X Y : Type 0} (f : X → Y) (xs : List X) (r : ℕ) (x : X) → slice_get xs r ≡ Some x
-    → slice_get (map f xs) r ≡ Some (f x)
-slice_get-map f xs r x e = mapped f xs r ∙ ap (option_map f) e
+items_at-set_other lists s t items ne = ap (λ o. unwrap_or o []) (put_elsewhere lists s t items ne)
 
 pub steps_of-map : {X : Type 0} (f : X → List Step) (xs : List X) (r : ℕ) (x : X) → slice_get xs r ≡ Some x
     → steps_of (map f xs) (suc r) ≡ f x
-steps_of-map f xs r x e = ap (λ o. unwrap_or o []) (slice_get-map f xs r x e)
+steps_of-map f xs r x e = ap (λ o. unwrap_or o []) (part_at f xs r x e)
 
 pub items_at-here : (lists : List (List Item)) (s : ℕ) (items : List Item) → slice_get lists s ≡ Some items
     → items_at lists s ≡ items
@@ -98,12 +66,6 @@ pub map-set_kept : {X Y : Type 0} (f : X → Y) (xs : List X) (r : ℕ) (old new
     → f new ≡ f old → map f (set xs r new) ≡ map f xs
 map-set_kept f xs r old new here same = map-set_same f xs r new old
     (same ∙ ap f (sym (get_or_from_slice_get xs r old old here)))
-
--- what a list of steps gives, with a step more that adds nothing
-pub flat_map-none : {X : Type 0} (f : Step → List X) (step : Step) → f step ≡ [] → (steps : List Step)
-    → flat_map f (steps ++ step ∷ []) ≡ flat_map f steps
-flat_map-none f step e steps = flat_map-more f steps step ∙ ap (λ z. flat_map f steps ++ z) e
-    ∙ append-nil (flat_map f steps)
 
 -- the front of a meeting place went on to what was got there
 pub moved_on : {got' whole : List Item} (got : List Item) (lists : List (List Item)) (s t : ℕ) (item : Item)

@@ -4,7 +4,9 @@ use Rattle.std.proofs.Common.{◌∙◌, length-set}
 use Rattle.std.specs.List.{AllByRecursion}
 use Rattle.std.proofs.Math.ListN.{set}
 use Rattle.std.proofs.lemmas.Option.{slice_get_within}
+use Rattle.std.proofs.lemmas.Bool.{cases_eq}
 use Rattle.pb_frame.proofs.Lists.{Some-injective}
+use Rattle.pb_frame.proofs.Things.{put_there, put_elsewhere}
 use Rattle.pb_link.specs.Hands.{PlaceView}
 use Rattle.pb_link.specs.Lanes.{LaneView}
 use Rattle.pb_relay.specs.Standing.{BridgeView}
@@ -12,18 +14,17 @@ use Rattle.pb_net.specs.Nets.{ArePlaced}
 use Rattle.pb_net.specs.Slots.{losses_of}
 use Rattle.pb_net.specs.declared.net.Net.TheInside.{Inside}
 use Rattle.pb_net.proofs.KnownSpots.{Keeps}
-use Rattle.pb_net.proofs.OneMore.{same_or_not, slice_get-set_same, slice_get-set_other}
 
 -- what holds of each place at its index holds of each where one has changed
 each_set : {X : Type 0} (P : ℕ → X → Type 0) (xs : List X) (r : ℕ) (old new : X) → slice_get xs r ≡ Some old
     → ((s : ℕ) (x : X) → slice_get xs s ≡ Some x → P s x)
     → (P r old → P r new) → (s : ℕ) (x : X) → slice_get (set xs r new) s ≡ Some x → P s x
-each_set P xs r old new here each changed s x h = elim (same_or_not s r) [
+each_set P xs r old new here each changed s x h = elim (cases_eq s r) [
   | inl e ↦
-      let one : new ≡ x = Some-injective (sym (slice_get-set_same xs r new (slice_get_within xs r old here))
+      let one : new ≡ x = Some-injective (sym (put_there xs r new (slice_get_within xs r old here))
       ∙ ap (λ k. slice_get (set xs r new) k) (sym e) ∙ h) in
       rw (e, ← one) (changed (each r old here))
-  | inr ne ↦ each s x (sym (slice_get-set_other xs r s new ne) ∙ h)
+  | inr ne ↦ each s x (sym (put_elsewhere xs r s new ne) ∙ h)
 ]
 
 -- and what holds of all still does

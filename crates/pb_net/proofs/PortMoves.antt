@@ -3,6 +3,8 @@ use Rattle.std.proofs.Common.{◌≡◌, ℕ, suc, ◌<◌, inl, inr, false, Lis
 use Rattle.std.proofs.Common.{refl, sym, ap, ap₂, ◌∙◌, arith, length-set}
 use Rattle.std.proofs.Math.ListN.{set}
 use Rattle.std.proofs.lemmas.List.{map-append}
+use Rattle.std.proofs.lemmas.Bool.{cases_eq}
+use Rattle.pb_frame.proofs.Things.{flat_map-none, flat_map-more}
 use Rattle.pb_lan.specs.Events.{with_step, sent_to, fetched_from, customer_there, lane_to, lane_from}
 use Rattle.pb_lan.specs.LaneLists.{taken, put}
 use Rattle.pb_lan.specs.PortLists.{fed, delivered, fed_by, delivered_by, all_delivered, Delivered, IsLawfulPort}
@@ -14,13 +16,12 @@ use Rattle.pb_lan.specs.declared.step.Item.{Item}
 use Rattle.pb_lan.specs.declared.step.Place.TheVariants.{Customer}
 use Rattle.pb_lan.specs.declared.step.Step.{Step}
 use Rattle.pb_lan.specs.declared.step.Step.TheVariants.{Poll, Feed, Deliver}
-use Rattle.pb_link.proofs.HandLemmas.{flat_map-more}
 use Rattle.pb_net.specs.Nets.{IsKept}
 use Rattle.pb_net.specs.Slots.{IsSlot, MeetsSlot, bridge_of, port_of, items_at}
 use Rattle.pb_net.proofs.Keeping.{after_port, one_slot, Sends, Fetches}
 use Rattle.pb_net.proofs.Meetings.{sent_to-customer, fetched_from-customer, sent_to-same, fetched_from-same}
 use Rattle.pb_net.proofs.Meetings.{elsewhere}
-use Rattle.pb_net.proofs.OneMore.{flat_map-none, same_or_not, items_at-set_other, steps_of-set_same}
+use Rattle.pb_net.proofs.OneMore.{items_at-set_other, steps_of-set_same}
 use Rattle.pb_net.proofs.OneMore.{one_more-kept, moved_on, moved_in}
 
 -- nothing sent, and nothing fetched
@@ -45,7 +46,7 @@ pub sends-one : (plan : Plan) (rec rec' : Record) (ins : List (List Item)) (s b 
     → IsSlot plan b q s → slice_get ins s ≡ Some inbox → sent_to plan rec' b q ≡ sent_to plan rec b q ++ item ∷ []
     → ((c p : ℕ) → ((b ≡ c) × (q ≡ p) → ⊥) → sent_to plan rec' c p ≡ sent_to plan rec c p)
     → Sends plan rec rec' ins (set ins s (inbox ++ item ∷ []))
-sends-one plan rec rec' ins s b q item inbox at box grown others = λ t front e. elim (same_or_not t s) [
+sends-one plan rec rec' ins s b q item inbox at box grown others = λ t front e. elim (cases_eq t s) [
   | inl here ↦
       let to = λ (r : Record). ap₂ (sent_to plan r) (ap bridge_of here ∙ at.of_bridge) (ap port_of here ∙ at.of_port)
       in
@@ -60,7 +61,7 @@ pub fetches-one : (plan : Plan) (rec rec' : Record) (outs : List (List Item)) (s
     → fetched_from plan rec' b q ≡ fetched_from plan rec b q ++ item ∷ []
     → ((c p : ℕ) → ((b ≡ c) × (q ≡ p) → ⊥) → fetched_from plan rec' c p ≡ fetched_from plan rec c p)
     → Fetches plan rec rec' outs (set outs s outbox)
-fetches-one plan rec rec' outs s b q item outbox at box grown others = λ t whole e. elim (same_or_not t s) [
+fetches-one plan rec rec' outs s b q item outbox at box grown others = λ t whole e. elim (cases_eq t s) [
   | inl here ↦
       let got = λ (r : Record). ap₂ (fetched_from plan r) (ap bridge_of here ∙ at.of_bridge)
       (ap port_of here ∙ at.of_port) in

@@ -8,6 +8,7 @@ use Rattle.std.specs.Option.{option_map}
 use Rattle.std.specs.declared.option.Option.{Option}
 use Rattle.std.specs.List.{AllByRecursion}
 use Rattle.pb_frame.proofs.Lists.{and-left, and-right, All-at}
+use Rattle.pb_frame.proofs.Things.{here_is}
 use Rattle.pb_lan.proofs.Numbers.{numbered-All}
 use Rattle.pb_lan.proofs.PortsInPlans.{sound-end}
 use Rattle.pb_lan.specs.Events.{sent_to, fetched_from, begins_at, ends_at}
@@ -35,7 +36,7 @@ use Rattle.pb_net.proofs.DueLemmas.{into_at, out_at}
 use Rattle.pb_net.proofs.Lanes.{ab_link, ba_link, ab_odd, ba_even, begins_at-end, ends_at-end}
 use Rattle.pb_net.proofs.Meetings.{sent_to-customer, fetched_from-customer, sent_to-lane, fetched_from-lane}
 use Rattle.pb_net.proofs.KnownSpots.{Keeps, ins_of, outs_of, rec_in, shown}
-use Rattle.pb_net.proofs.OneMore.{here_is, steps_of-map}
+use Rattle.pb_net.proofs.OneMore.{steps_of-map}
 use Rattle.pb_net.proofs.SpotLemmas.{slot_at, slot_of, slot_there}
 
 into_port : (plan : Plan) (rec : Record) (ins outs : List (List Item)) (b q : ℕ) (sent : List Item)

@@ -2,6 +2,7 @@
 use Rattle.std.proofs.Common.{◌↔◌, IsTrue, Bool, ◌≡◌, ℕ, zero, suc, ◌+◌, ◌<◌, List, [], ◌∷◌, ◌++◌, Some, map, length}
 use Rattle.std.proofs.Common.{take, get_or, refl, sym, ap, ◌∙◌, subst, arith}
 use Rattle.std.proofs.lemmas.List.{take_more, take_all, get_or-map, length-map}
+use Rattle.pb_frame.proofs.Things.{here_is}
 use Rattle.pb_lan.specs.Numbering.{numbers_from}
 use Rattle.pb_lan.specs.Records.{steps_of}
 use Rattle.pb_lan.specs.declared.plan.Plan.{Plan}
@@ -15,10 +16,11 @@ use Rattle.pb_lan.specs.Plans.{IsSound}
 use Rattle.pb_lan.specs.declared.record.Record.{Record}
 use Rattle.pb_rstp.specs.Tree.{IsSettled, NoneHeld, AreMachines, AreForests, PlannedAreMachines}
 use Rattle.pb_relay.specs.Settled.{machines_in, TellsOf}
+use Rattle.pb_relay.proofs.MachineLemmas.{are_machines}
 use Rattle.pb_net.specs.declared.net.Net.TheInside.{Inside}
 use Rattle.pb_net.specs.Answers.{NetView}
 use Rattle.pb_net.proofs.KnownSpots.{Keeps, rec_in, shown}
-use Rattle.pb_net.proofs.OneMore.{here_is, steps_of-map}
+use Rattle.pb_net.proofs.OneMore.{steps_of-map}
 
 length-numbers : {X : Type 0} (k : ℕ) (xs : List X) → length (numbers_from k xs) ≡ length xs
 length-numbers k [] = refl
@@ -84,12 +86,6 @@ machines_all s keeps =
     let n = length-numbers 1 s.plan.bridges in
     let k = length-map (numbers_from 1 s.plan.bridges) f in
     take_all (length s.bridges.items) (map f (numbers_from 1 s.plan.bridges)) (omega (arith, keeps.1.bridge_count))
-
--- a network's own machines are the plan's
-are_machines : (plan : Plan) (rec : Record) → IsSound plan → PlannedAreMachines
-    → AreMachines plan (machines_in plan rec)
-unfolding machines_in
-are_machines plan rec sound planned = planned plan (steps_of rec.bridges) sound
 
 -- what the answer tells of a network's own machines
 pub tells : (plan : Plan) (rec : Record) (machines : List Machine) (answer : Bool) → machines ≡ machines_in plan rec

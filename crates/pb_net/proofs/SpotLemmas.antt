@@ -1,9 +1,11 @@
 -- Where the tables of a network have its places.
-use Rattle.std.proofs.Common.{◌≡◌, ℕ, suc, ◌+◌, ◌-◌, ◌*◌, ◌<◌, ◌⊎◌, inl, inr, length, get_or, refl, subst, arith}
+use Rattle.std.proofs.Common.{◌≡◌, ℕ, suc, ◌+◌, ◌-◌, ◌*◌, ◌<◌, ◌⊎◌, inl, inr, length, get_or, refl, subst, arith, sym}
+use Rattle.std.proofs.Common.{zero, true, false, ap, ◌∙◌}
+use Rattle.pb_frame.proofs.Things.{here_is}
 use Rattle.pb_lan.proofs.Numbers.{numbered-All}
 use Rattle.pb_lan.proofs.PortsInPlans.{customer_at, end_at, sound-end}
 use Rattle.pb_lan.specs.Plans.{IsSound, IsSoundCustomer, IsNumber}
-use Rattle.pb_lan.specs.Ports.{Port, port_at}
+use Rattle.pb_lan.specs.Ports.{Port, port_at, is_used}
 use Rattle.pb_lan.specs.Ports.Port.{Customer, Provider, Unused}
 use Rattle.pb_lan.specs.declared.plan.End.{End}
 use Rattle.pb_lan.specs.declared.plan.Plan.{Plan}
@@ -12,7 +14,6 @@ use Rattle.pb_net.specs.Slots.{IsSlot, JoinsSlots, IsBridgeSpot}
 use Rattle.pb_net.specs.declared.net.Net.TheInside.{Inside}
 use Rattle.pb_net.specs.declared.slots.LaneSlots.{LaneSlots}
 use Rattle.pb_net.proofs.KnownSpots.{Keeps, shown}
-use Rattle.pb_net.proofs.OneMore.{here_is}
 
 -- the slots of a lane
 pub lane_there : {net : NetView} (s : Inside) (lane r : ℕ) (at : LaneSlots) → Keeps s → shown s ≡ net → r + 1 ≡ lane
@@ -71,3 +72,29 @@ out_of_range plan sound b q (inr past) = used_in_range plan sound b q (λ n _. o
 pub port_out_of_range : (plan : Plan) → IsSound plan → (b q : ℕ) → (q ≡ 0) ⊎ (16 < q) → port_at plan b q ≡ Unused
 port_out_of_range plan sound b q (inl z) = used_in_range plan sound b q (λ _ n. omega (arith, z, n.0))
 port_out_of_range plan sound b q (inr past) = used_in_range plan sound b q (λ _ n. omega (arith, past, n.1))
+
+-- a number from 1 to a highest one, or not
+in_range : (n highest : ℕ) → ((n ≡ 0) ⊎ (highest < n)) ⊎ IsNumber n highest
+in_range zero highest = inl (inl refl)
+in_range (suc n) zero = inl (inr (omega arith))
+in_range (suc n) (suc highest) = elim (in_range n highest) [
+  | inl out ↦ elim out [ inl e ↦ inr (omega arith, omega (arith, e)) | inr h ↦ inl (inr (omega arith)) ]
+  | inr h ↦ inr (omega arith, omega (arith, h.1))
+]
+
+unused_is_not : (p : Port) → p ≡ Unused → is_used p ≡ true → ⊥
+unused_is_not p e u = let f : false ≡ true = sym (ap is_used e) ∙ u in cc
+
+-- a port that a sound plan uses stands at one of its bridges, and is one of 16 there
+pub bridge_there : (plan : Plan) → IsSound plan → (b q : ℕ) → is_used (port_at plan b q) ≡ true
+    → IsNumber b (length plan.bridges)
+bridge_there plan sound b q u = elim (in_range b (length plan.bridges)) [
+  | inl out ↦ absurd (unused_is_not (port_at plan b q) (out_of_range plan sound b q out) u)
+  | inr h ↦ h
+]
+
+pub port_there : (plan : Plan) → IsSound plan → (b q : ℕ) → is_used (port_at plan b q) ≡ true → IsNumber q 16
+port_there plan sound b q u = elim (in_range q 16) [
+  | inl out ↦ absurd (unused_is_not (port_at plan b q) (port_out_of_range plan sound b q out) u)
+  | inr h ↦ h
+]

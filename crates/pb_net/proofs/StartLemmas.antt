@@ -1,7 +1,7 @@
 -- A network at its start.
 use Rattle.std.proofs.Common.{◌≡◌, ℕ, zero, suc, ◌+◌, ◌*◌, ◌%◌, ◌<◌, inl, inr, Bool, true, false, if◌then◌else◌}
 use Rattle.std.proofs.Common.{◌||◌, ◌==◌, List, [], ◌∷◌, ◌++◌, Some, None, is_some, unwrap_or, map, length, slice_get}
-use Rattle.std.proofs.Common.{flat_map, refl, sym, ap, ap₂, subst, ◌∙◌, arith, length-append}
+use Rattle.std.proofs.Common.{refl, sym, ap, ap₂, subst, ◌∙◌, arith, length-append}
 use Rattle.std.proofs.lemmas.List.{length-map}
 use Rattle.std.specs.List.{list_any, AllByRecursion}
 use Rattle.std.specs.Option.{option_map}
@@ -9,8 +9,9 @@ use Rattle.std.specs.declared.collections.VecDeque.{VecDeque}
 use Rattle.std.specs.declared.option.Option.{Option}
 use Rattle.std.specs.Global.{Global}
 use Rattle.pb_frame.specs.Lists.{first}
+use Rattle.pb_frame.proofs.Things.{each_more}
 use Rattle.pb_lan.proofs.PortsInPlans.{sound-end}
-use Rattle.pb_lan.proofs.StateLemmas.{is_some-first}
+use Rattle.pb_lan.proofs.StateLemmas.{is_some-first, is_some-ends}
 use Rattle.pb_lan.specs.BridgeLists.{IsLawfulBridge}
 use Rattle.pb_lan.specs.Events.{unstepped, empty_record, sent_by, sent_to, fetched_by, fetched_from, customer_there}
 use Rattle.pb_lan.specs.Events.{lane_to, lane_from, begins_at, ends_at}
@@ -18,7 +19,7 @@ use Rattle.pb_lan.specs.LaneLists.{IsLawfulLane, taken, put}
 use Rattle.pb_lan.specs.Numbering.{numbered}
 use Rattle.pb_lan.specs.Plans.{IsSound}
 use Rattle.pb_lan.specs.PortLists.{fed, delivered, IsLawfulPort}
-use Rattle.pb_lan.specs.Ports.{Port, port_at, is_customer_at, is_end_at, ends_of, all_ends, customer_or_else}
+use Rattle.pb_lan.specs.Ports.{Port, port_at, is_customer_at, is_end_at, all_ends, customer_or_else}
 use Rattle.pb_lan.specs.Ports.{provider_or_unused}
 use Rattle.pb_lan.specs.Ports.Port.{Customer, Provider, Unused}
 use Rattle.pb_lan.specs.Records.{steps_of, received, transmitted, lane_ab, lane_ba}
@@ -44,29 +45,19 @@ use Rattle.pb_net.proofs.KnownSpots.{items_in, rec_of}
 use Rattle.pb_net.proofs.Lanes.{ab_link, ba_link, ab_odd, ba_even, begins_at-end, ends_at-end}
 use Rattle.pb_net.proofs.SpotLemmas.{slot_of, slot_there}
 
--- what holds of each thing at its place, and of one more
-each-more : {X : Type 0} (P : ℕ → X → Type 0) (xs : List X) (x : X)
-    → ((r : ℕ) (y : X) → slice_get xs r ≡ Some y → P r y) → P (length xs) x
-    → (r : ℕ) (y : X) → slice_get (xs ++ x ∷ []) r ≡ Some y → P r y
-each-more P [] x each here zero y e = let same : x ≡ y = cc in subst (λ z. P 0 z) same here
-each-more P [] x each here (suc r) y e = cc
-each-more P (z ∷ xs) x each here zero y e = each zero y e
-each-more P (z ∷ xs) x each here (suc r) y e = each-more (λ n w. P (suc n) w) xs x (λ n w h. each (suc n) w h) here r
-    y e
-
 pub fresh_bridges-more : (plan : Plan) (n : ℕ) (bridges : List BridgeView) (b : BridgeView)
     → AreFreshBridges plan n bridges → b ≡ fresh_bridge plan (n + 1)
     → AreFreshBridges plan (n + 1) (bridges ++ b ∷ [])
 fresh_bridges-more plan n bridges b are e = record {
   counted = omega (arith, are.counted, length-append bridges (b ∷ []));
-  fresh = each-more (λ r x. x ≡ fresh_bridge plan (r + 1)) bridges b are.fresh (rw are.counted e);
+  fresh = each_more (λ r x. x ≡ fresh_bridge plan (r + 1)) bridges b are.fresh (rw are.counted e);
 }
 
 pub fresh_customers-more : (n : ℕ) (customers : List PlaceView) (p : PlaceView) → AreFreshCustomers n customers
     → p ≡ fresh_customer (n + 1) → AreFreshCustomers (n + 1) (customers ++ p ∷ [])
 fresh_customers-more n customers p are e = record {
   counted = omega (arith, are.counted, length-append customers (p ∷ []));
-  fresh = each-more (λ r x. x ≡ fresh_customer (r + 1)) customers p are.fresh (rw are.counted e);
+  fresh = each_more (λ r x. x ≡ fresh_customer (r + 1)) customers p are.fresh (rw are.counted e);
 }
 
 -- and of two lanes more
@@ -78,8 +69,8 @@ lanes-more P xs k a b count each is_a is_b =
     let one : lane_ab (suc k) ≡ length xs + 1 = omega (arith, count) in
     let two : lane_ba (suc k) ≡ length (xs ++ a ∷ []) + 1 = omega (arith, count, length-append xs (a ∷ [])) in (
       omega (arith, count, length-append xs (a ∷ []), length-append (xs ++ a ∷ []) (b ∷ [])),
-      each-more (λ r x. P (r + 1) x) (xs ++ a ∷ []) b
-          (each-more (λ r x. P (r + 1) x) xs a each (subst (λ n. P n a) one is_a)) (subst (λ n. P n b) two is_b),
+      each_more (λ r x. P (r + 1) x) (xs ++ a ∷ []) b
+          (each_more (λ r x. P (r + 1) x) xs a each (subst (λ n. P n a) one is_a)) (subst (λ n. P n b) two is_b),
     )
 
 -- the losses of a link's lane
@@ -146,22 +137,9 @@ pub uses-more : (plan : Plan) (s : ℕ) (uses : List PortUse) (who : PortUse) �
     → who ≡ use_of (port_at plan (bridge_of s) (port_of s)) → AreUses plan (s + 1) (uses ++ who ∷ [])
 uses-more plan s uses who are is_use = record {
   counted = omega (arith, are.counted, length-append uses (who ∷ []));
-  told = each-more (λ r x. x ≡ use_of (port_at plan (bridge_of r) (port_of r))) uses who are.told
+  told = each_more (λ r x. x ≡ use_of (port_at plan (bridge_of r) (port_of r))) uses who are.told
       (is_use ∙ ap (λ n. use_of (port_at plan (bridge_of n) (port_of n))) (sym are.counted));
 }
-
--- an end passes the test where one of a link's two does
-is_some-ends : (test : End → Bool) (links : List LinkPlan)
-    → is_some (first test (flat_map ends_of links)) ≡ list_any (λ l. test l.a || test l.b) links
-is_some-ends test [] = refl
-is_some-ends test (l ∷ links) = by (test l.a) (test l.b) (is_some-ends test links)
-  where
-    by : (x y : Bool) → is_some (first test (flat_map ends_of links)) ≡ list_any (λ k. test k.a || test k.b) links
-        → is_some (if x then Some l.a else (if y then Some l.b else first test (flat_map ends_of links)))
-        ≡ ((x || y) || list_any (λ k. test k.a || test k.b) links)
-    by true y e = refl
-    by false true e = refl
-    by false false e = e
 
 -- who is at a port
 use_by : (c : Option CustomerPlan) (e : Option End)

@@ -1,6 +1,6 @@
 -- The services for which a shape is no forest.
-use Rattle.std.proofs.Common.{◌≡◌, ℕ, zero, suc, true, false, Option, is_some, None, ◌+◌, ◌<◌, inl, inr, List, []}
-use Rattle.std.proofs.Common.{◌∷◌, Some, length, drop, get_or, unwrap_or, refl, sym, ap, subst, ◌∙◌, arith, add-one}
+use Rattle.std.proofs.Common.{◌≡◌, ℕ, suc, true, false, Option, is_some, None, ◌+◌, ◌<◌, inl, inr, List}
+use Rattle.std.proofs.Common.{◌∷◌, Some, length, drop, get_or, unwrap_or, refl, sym, ap, subst, ◌∙◌, add-one}
 use Rattle.std.proofs.lemmas.Option.{slice_get-get_or}
 use Rattle.std.specs.Option.{option_map}
 use Rattle.pb_forest.specs.Searching.{AnswersForest}
@@ -12,15 +12,6 @@ use Rattle.pb_lan.specs.declared.plan.ServicePlan.{ServicePlan}
 use Rattle.pb_lan.specs.declared.shape.Shape.{Shape}
 use Rattle.pb_lan.specs.declared.shape.Rooted.{Rooted}
 use Rattle.pb_print.specs.ForestTexts.{AreLooping}
-
--- the services from one on
-pub from_one : {X : Type 0} (xs : List X) (i : ℕ) (x : X) → i < length xs → x ≡ get_or xs i x
-    → drop i xs ≡ x ∷ drop (i + 1) xs
-from_one [] i x h e = absurd (omega (arith, h))
-from_one (y ∷ ys) zero x h e = ap (λ z. z ∷ ys) (sym e)
-from_one (y ∷ ys) (suc i) x h e =
-    let next : suc (i + 1) ≡ suc i + 1 = omega arith in
-    from_one ys i x (omega (arith, h)) e ∙ ap (λ n. x ∷ drop n (y ∷ ys)) next
 
 -- the VID of a service, by its number
 pub vid_there : (plan : Plan) (i : ℕ) (service : ServicePlan) → i < length plan.services

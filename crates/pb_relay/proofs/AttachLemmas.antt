@@ -1,15 +1,15 @@
 -- What a local port becomes.
 use Rattle.pb_svlan.specs.ServiceTables.{ServiceTable, vid_of, are_known, is_taken, role_at, attached, carried}
 use Rattle.std.proofs.Common.{◌≢◌, length-set, get_or-set_same, get_or-set_other, ◌≡◌, ℕ, ◌+◌, ◌-◌, ◌<◌, true, false}
-use Rattle.std.proofs.Common.{cond, ◌==◌, Some, None, is_some, List, map, length, get_or, set, unwrap_or, eq-eqb}
+use Rattle.std.proofs.Common.{cond, ◌==◌, Some, None, List, map, length, get_or, set, unwrap_or, eq-eqb}
 use Rattle.std.proofs.Common.{refl, sym, ap, ◌∙◌, subst, arith}
 use Rattle.std.proofs.lemmas.Bool.{eqb-true, eqb-false, ne_eqb}
-use Rattle.pb_svlan.proofs.ServiceLemmas.{eqb-symm}
 use Rattle.pb_relay.proofs.StandingLemmas.{customer_there, end_there}
 use Rattle.std.specs.List.{AllByRecursion}
 use Rattle.std.specs.Option.{option_map}
 use Rattle.std.specs.declared.option.Option.{Option}
 use Rattle.pb_frame.specs.Lists.{first}
+use Rattle.pb_frame.proofs.Things.{eqb-symm, none_from}
 use Rattle.pb_lan.proofs.Numbers.{numbered-exists}
 use Rattle.pb_lan.specs.Numbering.{numbered}
 use Rattle.pb_lan.specs.Plans.{IsSound, IsSoundEnd, IsNumber}
@@ -29,11 +29,6 @@ use Rattle.pb_relay.specs.LocalPorts.{IsKept}
 use Rattle.pb_relay.specs.Roles.{local_as, local_of, locals, serves_of, vids_of}
 use Rattle.pb_relay.specs.Roles.LocalPort.{ToCustomer, ToBridge}
 use Rattle.pb_relay.specs.Starts.{HasServices, HasAttached, KeepsPorts}
-
--- nothing is there
-none_from : {X : Type 0} (o : Option X) → is_some o ≡ false → o ≡ None
-none_from None h = refl
-none_from (Some x) h = cc
 
 -- a port that is attached is what it is attached as, and the others are what they were
 pub role-here : (table : ServiceTable) (port : ℕ) (role : Role) → is_taken table port ≡ false

@@ -8,7 +8,7 @@ use Rattle.std.proofs.lemmas.List.Folds.{list_any-append}
 use Rattle.std.proofs.lemmas.List.{get_or-set_same, get_or-set_other, length-set, map-append, set-get_or}
 use Rattle.std.specs.declared.option.Option.{Option}
 use Rattle.std.specs.List.{AllByRecursion, filter, list_any}
-use Rattle.pb_frame.proofs.Lists.{All-append, filter-append}
+use Rattle.pb_frame.proofs.Lists.{All-append, filter-append, All-passed}
 use Rattle.pb_lan.specs.PortSets.{AreAscending}
 use Rattle.pb_lan.specs.Queues.{is_refused}
 use Rattle.pb_lan.specs.BridgeLists.{AreRefused, is_named_full, is_full_word}
@@ -26,11 +26,6 @@ pub others-none : (p : ℕ) (xs : List ℕ) → AllByRecursion (IsOther p) xs �
 others-none p [] a = refl
 others-none p (x ∷ xs) a = ap (λ b. b || list_any (λ q. q == p) xs) (ne_eqb x p a.0) ∙ others-none p xs a.1
 
-pub filter-others : (P : ℕ → Type 0) (g : ℕ → Bool) (xs : List ℕ) → AllByRecursion P xs → AllByRecursion P (filter g xs)
-filter-others P g [] a = tt
-filter-others P g (x ∷ xs) a = elim (g x) as (λ b. AllByRecursion P (cond b (x ∷ filter g xs) (filter g xs)))
-    [ true ↦ (a.0, filter-others P g xs a.1) | false ↦ filter-others P g xs a.1 ]
-
 any-names : (p : ℕ) (rs : List (ℕ × NoRoom)) → is_refused rs p ≡ list_any (λ q. q == p) (map (λ r. r.0) rs)
 any-names p [] = refl
 any-names p (r ∷ rs) = ap (λ b. (r.0 == p) || b) (any-names p rs)
@@ -40,7 +35,7 @@ pub none_refused : (p : ℕ) (done : List ℕ) (rs : List (ℕ × NoRoom)) → m
     → AllByRecursion (IsOther p) done → is_refused rs p ≡ false
 none_refused p done rs e a =
     any-names p rs ∙ ap (list_any (λ q. q == p)) e
-    ∙ others-none p (filter (is_refused rs) done) (filter-others (IsOther p) (is_refused rs) done a)
+    ∙ others-none p (filter (is_refused rs) done) (All-passed (IsOther p) (is_refused rs) done a)
 
 -- a port that is not named is not named full
 pub none_full : (p : ℕ) (rs : List (ℕ × NoRoom)) → is_refused rs p ≡ false → is_named_full rs p ≡ false

@@ -14,7 +14,18 @@ use Rattle.pb_rstp.specs.Vectors.{bridge_id}
 use Rattle.pb_relay.specs.Machines.{priority_in}
 use Rattle.pb_rstp.specs.declared.config.RstpPort.{RstpPort}
 use Rattle.std.proofs.lemmas.Grind.{flat_map-append}
+use Rattle.pb_relay.specs.Settled.{machines_in}
+use Rattle.pb_rstp.specs.Tree.{AreMachines, PlannedAreMachines}
+use Rattle.pb_lan.specs.declared.record.Record.{Record}
+use Rattle.pb_lan.specs.Records.{steps_of}
+use Rattle.pb_lan.specs.Plans.{IsSound}
 use Rattle.pb_relay.proofs.VerdictLemmas.{get_up}
+
+-- whatever their steps were, the machines of a record are the plan's own
+pub are_machines : (plan : Plan) (rec : Record) → IsSound plan → PlannedAreMachines
+    → AreMachines plan (machines_in plan rec)
+unfolding machines_in
+are_machines plan rec sound planned = planned plan (steps_of rec.bridges) sound
 
 -- what the next local port adds
 pub rstp_ports_more : (plan : Plan) (b r : ℕ) (ports port new : List RstpPort) → r < 16

@@ -1,22 +1,13 @@
 -- The outcome of what was received, from the step that was given back or is kept.
-use Rattle.std.proofs.Common.{◌≡◌, ◌<◌, ◌-◌, ℕ, Bool, true, false, List, [], ◌∷◌, ◌++◌, Some, Option, length, arith}
-use Rattle.std.proofs.Common.{ap, refl, ◌∙◌, slice_get, length-append}
-use Rattle.std.proofs.Math.Seq.{get_or-append_seam}
-use Rattle.std.proofs.lemmas.Option.{slice_get-get_or}
+use Rattle.std.proofs.Common.{◌≡◌, ◌-◌, ℕ, Bool, true, false, List, [], ◌∷◌, ◌++◌, Some, Option, length}
+use Rattle.std.proofs.Common.{ap, refl, ◌∙◌, slice_get}
+use Rattle.pb_frame.proofs.Things.{last_is}
 use Rattle.pb_lan.specs.declared.step.Item.{Item}
 use Rattle.pb_lan.specs.declared.step.Step.{Step}
 use Rattle.pb_lan.specs.declared.step.Step.TheVariants.{Receive}
 use Rattle.pb_relay.specs.Receptions.{HasTaken, newest_outcome, outcome_at}
 use Rattle.pb_relay.specs.Standing.{BridgeView, with_step}
 use Rattle.pb_steps.specs.StepLists.{given_back}
-
--- the last of a list
-last_of : (xs : List Step) (s : Step) → slice_get (xs ++ s ∷ []) (length (xs ++ s ∷ []) - 1) ≡ Some s
-last_of xs s =
-    let place : length (xs ++ s ∷ []) - 1 ≡ length xs = omega (arith, length-append xs (s ∷ [])) in
-    let within : length xs < length (xs ++ s ∷ []) = omega (arith, length-append xs (s ∷ [])) in
-    ap (λ k. slice_get (xs ++ s ∷ []) k) place ∙ slice_get-get_or (xs ++ s ∷ []) (length xs) s within
-    ∙ ap Some (get_or-append_seam xs s [] s)
 
 -- the newest outcome is that of the step that was appended
 pub told_outcome : (old new inside : BridgeView) (port : ℕ) (item : Item) (given : Option Step) (kept : List Step)
@@ -36,4 +27,4 @@ told_outcome old new inside port item given kept taken seen held = by_flag old.i
         let is_kept : inside.is_kept ≡ true = ap (λ (b : BridgeView). b.is_kept) is_new ∙ eb in
         let steps : kept ≡ old.steps ++ step ∷ [] = held is_kept ∙ ap (λ (b : BridgeView). b.steps) is_new in
         ap (λ o. newest_outcome o kept) (taken.5 ∙ ap (λ b. given_back b step) eb)
-        ∙ ap (λ xs. outcome_at (slice_get xs (length xs - 1))) steps ∙ ap outcome_at (last_of old.steps step)
+        ∙ ap (λ xs. outcome_at (slice_get xs (length xs - 1))) steps ∙ ap outcome_at (last_is old.steps step)

@@ -17,11 +17,12 @@ use Rattle.pb_lan.specs.declared.plan.Plan.{Plan}
 use Rattle.pb_lan.specs.declared.plan.Spanning.{Spanning}
 use Rattle.pb_lan.specs.declared.plan.Spanning.TheVariants.{Fixed}
 use Rattle.pb_lan.specs.declared.shape.PortState.{PortState}
-use Rattle.pb_lan.specs.declared.shape.PortState.TheVariants.{Discarding, Learning, Forwarding}
+use Rattle.pb_lan.specs.declared.shape.PortState.TheVariants.{Discarding}
 use Rattle.pb_lan.specs.declared.step.Item.{Item}
 use Rattle.pb_lan.specs.declared.step.Moved.{Moved}
 use Rattle.pb_lan.specs.declared.step.Step.{Step}
 use Rattle.pb_lan.specs.declared.step.Step.TheVariants.{Admin}
+use Rattle.pb_lan.proofs.StateLemmas.{same_state}
 use Rattle.pb_relay.specs.Roles.{LocalPort, told}
 use Rattle.pb_relay.specs.Roles.LocalPort.{ToBridge}
 use Rattle.pb_relay.specs.Changes.{moved_by_setting, moved_to, state_set, ports_flushed}
@@ -89,12 +90,6 @@ set_fits plan b steps p up fixed provider = (provider, names)
       own = tt;
     }
 
-same-state : (a b : PortState) → is_same a b ≡ true → a ≡ b
-same-state Discarding Discarding h = refl
-same-state Learning Learning h = refl
-same-state Forwarding Forwarding h = refl
-same-state _ _ h = cc
-
 -- a port has been set: what is kept is kept
 pub after_set : (plan : Plan) (b : ℕ) (steps : List Step) (states : List PortState) (queues : List (List (List Item)))
     (now : ℕ) (old new : Table) (p : ℕ) (up : Bool) (goal : PortState)
@@ -139,6 +134,6 @@ after_set plan b steps states queues now old new p up goal s fixed provider l e 
         (λ t. is_same (state_after plan b steps p) (goal_of plan b p up) ≡ t
         → states_changed states (cond t [] ((p, goal_of plan b p up) ∷ [])) ≡ set states (p - 1) goal) [
           | true ↦ λ h. sym (set-get_or states (p - 1) Discarding)
-              ∙ ap (set states (p - 1)) (there ∙ same-state _ _ h ∙ sym e)
+              ∙ ap (set states (p - 1)) (there ∙ same_state _ _ h ∙ sym e)
           | false ↦ λ h. ap (set states (p - 1)) (sym e)
         ] refl

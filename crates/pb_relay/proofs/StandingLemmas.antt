@@ -42,6 +42,7 @@ use Rattle.pb_relay.specs.Protocol.{spanning_tree}
 use Rattle.pb_relay.proofs.CopyLemmas.{none_full}
 use Rattle.pb_relay.proofs.WaitingLemmas.{next_by_class, rest_by_class, number_by_class, without-below, by_class-push}
 use Rattle.pb_relay.proofs.StepLemmas.{lawful_more, states_stay, now_more, news_stay}
+use Rattle.pb_relay.proofs.ClassLemmas.{no_first}
 
 -- the customer that stands at a port is sound, and has the port
 pub customer_there : (plan : Plan) (number port : ℕ) (c : CustomerPlan) → IsSound plan
@@ -146,8 +147,7 @@ after_transmit plan b steps states queues now table p item s l n = record {
     other : (r : ℕ) → r < 16 → p ≢ r + 1 → get_or (set queues (p - 1) (after_first (get_or queues (p - 1) []))) r []
         ≡ by_class (waiting plan b (r + 1) steps)
     other r h e =
-        let l1 : 1 ≤ p = l.0 in
-        let d : r ≢ p - 1 = omega arith in
+        let d : r ≢ p - 1 = omega (arith, l.0) in
         get_or-set_other queues (p - 1) r (after_first (get_or queues (p - 1) [])) [] d ∙ s.kept_queues r h
 
     at : (r : ℕ) → r < 16 → get_or (set queues (p - 1) (after_first (get_or queues (p - 1) []))) r [] ≡ by_class
@@ -193,11 +193,7 @@ pub none_waits : (qs : List (List Item)) → first_out qs ≡ None → number_in
 none_waits [] e = refl
 none_waits (q ∷ qs) e =
     elim (first_out qs) as (λ o. first_out qs ≡ o → or_else o (slice_get q 0) ≡ None → number_in (q ∷ qs) ≡ 0)
-    [ None ↦ λ n h. let r = none_waits qs n in omega (arith, empty q h) | Some x ↦ λ n h. cc ] refl e
-  where
-    empty : (q : List Item) → slice_get q 0 ≡ None → length q ≡ 0
-    empty [] h = refl
-    empty (y ∷ ys) h = cc
+    [ None ↦ λ n h. let r = none_waits qs n in omega (arith, no_first q h) | Some x ↦ λ n h. cc ] refl e
 
 -- a frame has left
 pub transmitted : (plan : Plan) (b : ℕ) (steps : List Step) (states : List PortState)

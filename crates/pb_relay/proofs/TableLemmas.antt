@@ -1,14 +1,13 @@
 -- The learning table.
-use Rattle.std.proofs.Common.{◌&&◌, ◌≡◌, ℕ, ◌+◌, ◌-◌, ◌<◌, Bool, true, false, cond, not, nat_le, Some, List, [], ◌∷◌}
+use Rattle.std.proofs.Common.{◌≡◌, ℕ, ◌+◌, ◌-◌, ◌<◌, Bool, true, false, cond, not, nat_le, Some, List, [], ◌∷◌}
 use Rattle.std.proofs.Common.{◌++◌, length, refl, sym, ap, ◌∙◌, subst, arith}
-use Rattle.std.proofs.Math.Bool.{and_comm}
 use Rattle.std.proofs.lemmas.Bool.Decides.{nat_tests}
 use Rattle.std.specs.List.{filter}
 use Rattle.pb_fdb.proofs.EntryLemmas.{overrides-is_sighted}
 use Rattle.pb_fdb.proofs.LawLemmas.{live-with_room, live-dropped}
 use Rattle.pb_fdb.specs.Tables.{Table, sighting_at, where_in, is_full, with_room, learnt_sightings, learnt_table}
 use Rattle.pb_fdb.specs.Tables.{expired, flushed}
-use Rattle.pb_frame.proofs.Lists.{filter-append, filter-same, filter-twice}
+use Rattle.pb_frame.proofs.Lists.{filter-append, filter-same, filter-swap}
 use Rattle.pb_frame.specs.Frames.{is_group}
 use Rattle.pb_frame.specs.Stations.News.{Seen}
 use Rattle.pb_frame.specs.Stations.{after, overrides, Sighting, is_sighted, is_fresh, IsLearnt, live}
@@ -18,11 +17,6 @@ use Rattle.pb_frame.specs.declared.learnt.Learnt.TheVariants.{New, Kept, Moved}
 use Rattle.pb_lan.specs.Choice.{is_noted}
 use Rattle.pb_lan.specs.declared.plan.Plan.{Plan}
 use Rattle.pb_relay.specs.Tables.{seen_anew, HasLearnt, IsTableOf}
-
--- two tests may change places
-filter-swap : {X : Type 0} (p q : X → Bool) (xs : List X) → filter p (filter q xs) ≡ filter q (filter p xs)
-filter-swap p q xs = filter-twice p q (λ x. q x && p x) (λ x. refl) xs
-    ∙ sym (filter-twice q p (λ x. q x && p x) (λ x. and_comm (p x) (q x)) xs)
 
 -- what is seen now is fresh
 pub fresh_now : (ageing now vid port : ℕ) (mac : List ℕ) → 0 < ageing

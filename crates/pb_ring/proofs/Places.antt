@@ -2,6 +2,7 @@
 use Rattle.std.proofs.Common.{◌≡◌, ◌==◌, ◌<◌, ℕ, zero, suc, List, [], ◌∷◌, ◌++◌, slice_index_or, slice_set}
 use Rattle.std.proofs.Common.{if◌then◌else◌, length, false, map, append-nil, refl, sym, arith, ap, ◌∙◌}
 use Rattle.std.proofs.lemmas.Bool.Decides.{nat_tests}
+use Rattle.pb_frame.proofs.Things.{suc-test}
 use Rattle.pb_ring.specs.Rings.{shown_at}
 
 zero_suc : (p : ℕ) → (0 == suc p) ≡ false
@@ -9,9 +10,6 @@ zero_suc p = grind (arith, nat_tests)
 
 suc_zero : (p : ℕ) → (suc p == 0) ≡ false
 suc_zero p = grind (arith, nat_tests)
-
-suc_suc : (q p : ℕ) → (suc q == suc p) ≡ (q == p)
-suc_suc q p = grind (arith, nat_tests)
 
 -- one thing shows more than before: its place shows that, and every other what it did
 pub grows_at : {X A : Type 0} → (f : X → List A) (xs : List X) (q : ℕ) (x y : X) (ys : List A) (p : ℕ) → q < length xs
@@ -21,7 +19,7 @@ grows_at f [] q x y ys p b at is = absurd (grind (arith))
 grows_at f (z ∷ zs) zero x y ys zero b at is = is ∙ ap (λ v. f v ++ ys) at
 grows_at f (z ∷ zs) zero x y ys (suc p) b at is = rw (zero_suc p) (sym (append-nil _))
 grows_at f (z ∷ zs) (suc q) x y ys zero b at is = rw (suc_zero q) (sym (append-nil _))
-grows_at f (z ∷ zs) (suc q) x y ys (suc p) b at is = rw (suc_suc q p) (grows_at f zs q x y ys p (grind (arith)) at is)
+grows_at f (z ∷ zs) (suc q) x y ys (suc p) b at is = rw (suc-test q p) (grows_at f zs q x y ys p (grind (arith)) at is)
 
 -- what one thing shows, by its place
 pub at_place : {X Y : Type 0} → (f : X → Y) (xs : List X) (q : ℕ) (x : X) (d : Y) → q < length xs

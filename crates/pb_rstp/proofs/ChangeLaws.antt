@@ -11,7 +11,7 @@ use Rattle.pb_frame.proofs.Lists.{Some-injective}
 use Rattle.pb_lan.specs.Rules.{from_to, is_same}
 use Rattle.pb_lan.specs.Shapes.{changed}
 use Rattle.pb_lan.specs.declared.shape.PortState.{PortState}
-use Rattle.pb_lan.specs.declared.shape.PortState.TheVariants.{Discarding, Learning, Forwarding}
+use Rattle.pb_lan.proofs.StateLemmas.{same_state}
 use Rattle.pb_rstp.specs.Changes.{AreMoving, state_of, told_state, new_state, NamesChanges, ChangesLeadOn}
 use Rattle.pb_rstp.specs.Machine.{settle}
 use Rattle.pb_rstp.specs.Messages.{message_of}
@@ -234,12 +234,6 @@ changed-some k n s new (c ∷ cs) r some = by_test (c.0 == k) refl (changed-some
         ∙ rest (ap (λ b. option_map (λ (d : ℕ × PortState). d.1) (if b then Some c else first (λ d. d.0 == k) cs))
         (sym t) ∙ some)
 
-same_is : (a b : PortState) → is_same a b ≡ true → a ≡ b
-same_is Discarding Discarding e = refl
-same_is Learning Learning e = refl
-same_is Forwarding Forwarding e = refl
-same_is _ _ e = cc
-
 pub changes_lead_on : ChangesLeadOn
 changes_lead_on before after change names number was is stood stands = by_test (is_same was.state is.state) refl
   where
@@ -251,6 +245,6 @@ changes_lead_on before after change names number was is stood stands = by_test (
 
     by_test : (t : Bool) → is_same was.state is.state ≡ t → changed number was.state change.states ≡ is.state
     by_test true t = changed-none number was.state change.states (told_is ∙ new-some was.state is.state true t)
-        ∙ same_is was.state is.state t
+        ∙ same_state was.state is.state t
     by_test false t = changed-some number 0 was.state is.state change.states names.states_rise
         (told_is ∙ new-some was.state is.state false t)

@@ -3,7 +3,8 @@ use Rattle.std.proofs.Common.{◌≡◌, ℕ, zero, suc, ◌+◌, ◌≤◌, ◌
 use Rattle.std.proofs.Common.{true, false, ◌==◌, ◌||◌, map, length, inl, inr, slice_get, arith}
 use Rattle.std.specs.List.{flat_map, list_any, AllByRecursion}
 use Rattle.std.proofs.lemmas.Bool.{eqb-true}
-use Rattle.pb_frame.proofs.Lists.{All-every, All-imply, All-map, All-placed, eqb-refl, false-unless}
+use Rattle.pb_frame.proofs.Lists.{All-every, All-imply, All-map, All-placed, eqb-refl}
+use Rattle.pb_frame.proofs.Things.{lt-not_same}
 use Rattle.pb_lan.proofs.PortsInPlans.{IsEndOf, port_at-end, sound-end}
 use Rattle.pb_lan.proofs.Rulings.{local-listed}
 use Rattle.pb_lan.specs.Numbering.{numbered, numbers_from}
@@ -59,15 +60,12 @@ all-above : (n m : ℕ) → m ≤ n → (ps : List Port) → AreRising n (map (�
 all-above n m below [] r = tt
 all-above n m below (p ∷ ps) r = (omega (arith, r.0.0), all-above p.number m (omega (arith, r.0.0)) ps r.1)
 
-not_same : (m n : ℕ) → m < n → (m == n) ≡ false
-not_same m n h = false-unless (m == n) (λ e. omega (arith, eqb-true m n e))
-
 found-behind : (p : Port) (ps qs : List Port) → AllByRecursion (λ q. p.number < q.number) qs
     → AllByRecursion (λ q. port_of ps q.number ≡ Some q) qs
     → AllByRecursion (λ q. port_of (p ∷ ps) q.number ≡ Some q) qs
 found-behind p ps [] h k = tt
 found-behind p ps (q ∷ qs) h k =
-    (port_of-cons q.number p ps false (not_same p.number q.number h.0) ∙ k.0, found-behind p ps qs h.1 k.1)
+    (port_of-cons q.number p ps false (lt-not_same p.number q.number h.0) ∙ k.0, found-behind p ps qs h.1 k.1)
 
 rising-distinct : (n : ℕ) (ps : List Port) → AreRising n (map (λ p. p.number) ps)
     → AllByRecursion (λ p. port_of ps p.number ≡ Some p) ps

@@ -9,7 +9,6 @@ use Rattle.pb_lan.specs.Plans.{IsSound, is_same_port}
 use Rattle.pb_lan.specs.Ports.{all_ends, ends_of, local_ports, port_at, serves}
 use Rattle.pb_lan.specs.Shapes.{state_in, is_open, is_active, is_end_forwarding, are_ends_forwarding}
 use Rattle.pb_lan.specs.Shapes.{is_forwarding as is_open_state, is_forwarding}
-use Rattle.pb_lan.specs.Forests.{HasEnds}
 use Rattle.pb_lan.specs.declared.plan.Plan.{Plan}
 use Rattle.pb_lan.specs.declared.plan.End.{End}
 use Rattle.pb_lan.specs.declared.plan.LinkPlan.{LinkPlan}
@@ -26,7 +25,7 @@ use Rattle.pb_rstp.specs.Tree.{LeadsBehindRoots, IsForestBehindRoots, state_at, 
 use Rattle.pb_rstp.specs.declared.role.Role.{Role}
 use Rattle.pb_rstp.specs.declared.role.Role.TheVariants.{Designated}
 use Rattle.pb_rstp.proofs.ForestLaws.{lower, upper, Falls, numbered-at, numbered-only, is_up, up_of, rooted_by}
-use Rattle.pb_rstp.proofs.ForestLaws.{falling-shows}
+use Rattle.pb_rstp.proofs.ForestLaws.{falling-shows, ends_either}
 use Rattle.pb_rstp.proofs.SettledLaws.{Network, stands, rises, root_way, root_is, same_number, cost_rises}
 
 -- The state of a port in the shape.
@@ -265,10 +264,6 @@ settled_falls plan machines passes net forwards = record {
         bridge port)
     one _ _ l l' at at' o o' bridge = cc
 
-ends_of_link : (t : Bool) (l : LinkPlan) → HasEnds l (lower t l) (upper t l)
-ends_of_link true l = inl (refl, refl)
-ends_of_link false l = inr (refl, refl)
-
 behind_roots : (plan : Plan) (machines : List Machine) (passes : LinkPlan → Bool) → Network plan machines
     → Forwards plan machines passes
     → LeadsBehindRoots plan machines (rooted_by plan passes (low_of machines) (cost_of machines))
@@ -279,7 +274,7 @@ behind_roots plan machines passes net forwards bridge number e =
       lower (low_of machines u.link) u.link,
       upper (low_of machines u.link) u.link,
       u.numbered_so,
-      ends_of_link (low_of machines u.link) u.link,
+      ends_either (low_of machines u.link) u.link,
       u.from,
       (oriented plan machines net number u.link u.numbered_so (forwards u.link u.active)).rises,
     )

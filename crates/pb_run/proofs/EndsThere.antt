@@ -1,13 +1,12 @@
 -- The ends of rings that have not been given away.
 use Rattle.std.proofs.Common.{◌≡◌, ℕ, zero, suc, ◌+◌, ◌*◌, ◌<◌, ◌≤◌, List, [], ◌∷◌, ◌++◌, Some, None, false, true}
-use Rattle.std.proofs.Common.{length, map, drop, slice_get, slice_set, refl, sym, ap, ◌∙◌, subst, arith, add-one}
-use Rattle.std.proofs.Math.Seq.{drop-cons}
+use Rattle.std.proofs.Common.{length, map, drop, slice_get, slice_set, refl, sym, ap, ◌∙◌, subst, arith}
 use Rattle.std.proofs.lemmas.Bool.{eq-eqb}
-use Rattle.std.proofs.lemmas.Option.{slice_get_within, get_or_from_slice_get}
 use Rattle.std.specs.Cmp.Derive.{both_true}
 use Rattle.std.specs.List.{AllByRecursion, IsDistinct}
 use Rattle.std.specs.declared.option.Option.{Option}
 use Rattle.pb_frame.proofs.Lists.{All-imply, All-append, All-map, IsDistinct-back}
+use Rattle.pb_frame.proofs.Things.{from_here}
 use Rattle.pb_lan.specs.Plans.{IsNumber, IsSound, IsSoundEnd, IsSoundCustomer, is_same_port, ports_in}
 use Rattle.pb_lan.specs.Ports.{all_ends}
 use Rattle.pb_lan.specs.declared.plan.CustomerPlan.{CustomerPlan}
@@ -155,12 +154,6 @@ all_kept : (P Q : (ℕ × ℕ) → Type 0) (one : ℕ × ℕ) (others : List (�
 all_kept P Q one [] keeps apart all = tt
 all_kept P Q one (at ∷ others) keeps apart all =
     (keeps at (tested_apart one at apart.0) all.0, all_kept P Q one others keeps apart.1 all.1)
-
--- a list from one of its places on
-from_here : {X : Type 0} (xs : List X) (k : ℕ) (x : X) → slice_get xs k ≡ Some x → drop k xs ≡ x ∷ drop (k + 1) xs
-from_here xs k x at =
-    rw add-one (drop-cons xs k x (slice_get_within xs k x at) ∙ ap (λ z. z ∷ drop (suc k) xs)
-    (get_or_from_slice_get xs k x x at))
 
 -- the first of some local ports, and the others
 module _ (one : ℕ × ℕ) (others ports : List (ℕ × ℕ)) (is : ports ≡ one ∷ others) where

@@ -4,17 +4,19 @@ use Rattle.std.proofs.Common.{slice_get, slice_index_or, map, refl, sym, ap, ◌
 use Rattle.std.proofs.Common.{below_more}
 use Rattle.std.proofs.lemmas.List.{map-append, length-map}
 use Rattle.pb_frame.proofs.Lists.{Some-injective, All-at}
+use Rattle.pb_frame.proofs.Things.{each_more, slice_get-next}
 use Rattle.pb_lan.proofs.PortsInPlans.{sound-end}
 use Rattle.pb_lan.specs.Plans.{IsSound, IsSoundEnd, IsSoundCustomer}
 use Rattle.pb_lan.specs.declared.plan.CustomerPlan.{CustomerPlan}
 use Rattle.pb_lan.specs.declared.plan.End.{End}
 use Rattle.pb_lan.specs.declared.plan.LinkPlan.{LinkPlan}
 use Rattle.pb_lan.specs.declared.plan.Plan.{Plan}
-use Rattle.pb_link.proofs.HandLemmas.{slice_get-next}
-use Rattle.pb_run.specs.Gifts.{BridgeGift, IsBridgeGift, AreBridges, LaneGift, lane_gift, AreLanes, AccessGift}
-use Rattle.pb_run.specs.Gifts.{access_gift, AreAccesses}
+use Rattle.pb_run.specs.Gifts.{IsBridgeGift, AreBridges, lane_over, lane_gift, AreLanes, access_gift, AreAccesses}
+use Rattle.pb_run.specs.declared.gift.AccessGift.{AccessGift}
+use Rattle.pb_run.specs.declared.gift.BridgeGift.{BridgeGift}
+use Rattle.pb_run.specs.declared.gift.LaneGift.{LaneGift}
 use Rattle.pb_run.specs.Wires.{ring_into, ring_out}
-use Rattle.pb_run.proofs.Lists.{each_more, slice_get-front}
+use Rattle.pb_run.proofs.Lists.{slice_get-front}
 
 -- one bridge more
 pub bridges_more : (plan : Plan) (k : ℕ) (gifts : List BridgeGift) (gift : BridgeGift) → AreBridges plan k gifts
@@ -86,8 +88,8 @@ customer_stands plan k c sound at = All-at (IsSoundCustomer plan) plan.customers
 pub rings_at : (plan : Plan) (gifts : List BridgeGift) (bridge port : ℕ) (gift : BridgeGift)
     → AreBridges plan (length plan.bridges) gifts → slice_get gifts (bridge - 1) ≡ Some gift → 1 ≤ bridge → 1 ≤ port
     → port ≤ 16
-    → (slice_index_or gift.3 (port - 1) 0 ≡ ring_into bridge port)
-    × (slice_index_or gift.4 (port - 1) 0 ≡ ring_out bridge port)
+    → (slice_index_or gift.ins (port - 1) 0 ≡ ring_into bridge port)
+    × (slice_index_or gift.outs (port - 1) 0 ≡ ring_out bridge port)
 rings_at plan gifts bridge port gift are at some from to =
     let is = are.each (bridge - 1) gift at in
     let b : bridge - 1 + 1 ≡ bridge = omega arith in
@@ -109,14 +111,10 @@ no_accesses gift plan (x ∷ xs) none = cc
 
 -- a lane by the numbers of its rings
 pub is_lane_gift : (number from to : ℕ) (a b : End) (losses : List ℕ) → from ≡ ring_out a.bridge a.port
-    → to ≡ ring_into b.bridge b.port
-    → ◌≡◌ {A = LaneGift} (number, from, to, losses) (lane_gift number a b losses)
+    → to ≡ ring_into b.bridge b.port → lane_over number from to losses ≡ lane_gift number a b losses
 is_lane_gift number from to a b losses is_from is_to =
-    let first : ◌≡◌ {A = LaneGift} (number, from, to, losses) (number, ring_out a.bridge a.port, to, losses) =
-    ap (λ n. (number, n, to, losses)) is_from in
-    let second : ◌≡◌ {A = LaneGift} (number, ring_out a.bridge a.port, to, losses) (lane_gift number a b losses) =
-    ap (λ n. (number, ring_out a.bridge a.port, n, losses)) is_to in
-    first ∙ second
+    ap (λ n. lane_over number n to losses) is_from ∙ ap (λ n. lane_over number (ring_out a.bridge a.port) n losses)
+    is_to
 
 -- the worker of one more bridge
 pub bridge_pushed : {X : Type 0} (gift : X → BridgeGift) (plan : Plan) (k : ℕ) (xs ys : List X) (x : X)

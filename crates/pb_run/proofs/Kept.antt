@@ -8,7 +8,8 @@ use Rattle.std.specs.declared.option.Option.{Option}
 use Rattle.pb_lan.specs.Counts.{entered, left}
 use Rattle.pb_lan.specs.declared.step.Step.{Step}
 use Rattle.pb_lan.specs.declared.plan.Plan.{Plan}
-use Rattle.pb_run.specs.Gifts.{AccessGift, AreAccesses}
+use Rattle.pb_run.specs.Gifts.{AreAccesses}
+use Rattle.pb_run.specs.declared.gift.AccessGift.{AccessGift}
 use Rattle.pb_run.specs.Ports.{Frames, in_front, behind, IsEnded, KeepsPort}
 use Rattle.pb_lan.specs.Records.{steps_of}
 use Rattle.pb_run.specs.Runs.{ArePortsKept, frames_of, last_of}

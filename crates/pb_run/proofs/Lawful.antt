@@ -4,6 +4,7 @@ use Rattle.std.proofs.Common.{map, length, unwrap_or, slice_get, refl, sym, ap, 
 use Rattle.std.proofs.lemmas.List.{length-map}
 use Rattle.std.proofs.lemmas.Option.{slice_get_within}
 use Rattle.pb_frame.proofs.Lists.{Some-injective}
+use Rattle.pb_frame.proofs.Things.{part_at}
 use Rattle.pb_lan.proofs.Numbers.{numbered-exists}
 use Rattle.pb_lan.specs.BridgeLists.{IsLawfulBridge}
 use Rattle.pb_lan.specs.LaneLists.{IsLawfulLane}
@@ -17,14 +18,16 @@ use Rattle.pb_lan.specs.declared.plan.Plan.{Plan}
 use Rattle.pb_lan.specs.declared.record.Record.{Record}
 use Rattle.pb_lan.specs.declared.step.Step.{Step}
 use Rattle.pb_relay.specs.Protocol.{spanning_tree}
-use Rattle.pb_run.specs.Gifts.{BridgeGift, AreBridges, LaneGift, lane_gift, AreLanes, AccessGift, access_gift}
-use Rattle.pb_run.specs.Gifts.{AreAccesses}
+use Rattle.pb_run.specs.Gifts.{AreBridges, lane_gift, AreLanes, access_gift, AreAccesses}
+use Rattle.pb_run.specs.declared.gift.AccessGift.{AccessGift}
+use Rattle.pb_run.specs.declared.gift.BridgeGift.{BridgeGift}
+use Rattle.pb_run.specs.declared.gift.LaneGift.{LaneGift}
 use Rattle.pb_run.specs.Meetings.{of_customers, of_lanes}
 use Rattle.pb_run.specs.Runs.{TellsAllDrained, TellsEnded}
 use Rattle.pb_run.specs.declared.access.Last.{Last}
 use Rattle.pb_run.specs.declared.ended.Ended.{Ended}
 use Rattle.pb_run.specs.declared.ended.Ended.TheVariants.{Drained}
-use Rattle.pb_run.proofs.Lists.{all_at, part_at, thing_at}
+use Rattle.pb_run.proofs.Lists.{all_at, thing_at}
 use Rattle.pb_run.proofs.Meeting.{steps_there}
 
 -- what holds of each place's steps, and of none, holds at every number
@@ -44,29 +47,29 @@ by_number L steps ws (suc r) none each = by_place (λ m ms. L (suc m) ms) steps 
 
 pub lawful_bridges : {X : Type 0} (gift : X → BridgeGift) (steps : X → List Step) (plan : Plan) (ws : List X)
     → AreBridges plan (length plan.bridges) (map gift ws)
-    → All (λ w. IsLawfulBridge spanning_tree (gift w).2 (gift w).1 (steps w)) ws → (n : ℕ)
+    → All (λ w. IsLawfulBridge spanning_tree (gift w).plan (gift w).bridge (steps w)) ws → (n : ℕ)
     → IsLawfulBridge spanning_tree plan n (steps_of (map steps ws) n)
 lawful_bridges gift steps plan ws are all n =
     by_number (λ m ms. IsLawfulBridge spanning_tree plan m ms) steps ws n (λ m. tt)
     (λ j w h.
     let is = are.each j (gift w) (part_at gift ws j w h) in
-    let same : (gift w).1 ≡ suc j = is.bridge ∙ add-one j in
-    let lawful = all_at (λ x. IsLawfulBridge spanning_tree (gift x).2 (gift x).1 (steps x)) ws j w all h in
+    let same : (gift w).bridge ≡ suc j = is.bridge ∙ add-one j in
+    let lawful = all_at (λ x. IsLawfulBridge spanning_tree (gift x).plan (gift x).bridge (steps x)) ws j w all h in
     subst (λ (p : Plan). IsLawfulBridge spanning_tree p (suc j) (steps w)) is.plans
-    (subst (λ m. IsLawfulBridge spanning_tree (gift w).2 m (steps w)) same lawful))
+    (subst (λ m. IsLawfulBridge spanning_tree (gift w).plan m (steps w)) same lawful))
 
 lawful_lane : {X : Type 0} (gift : X → LaneGift) (steps : X → List Step) (ws : List X) (r n : ℕ) (g : LaneGift)
     → slice_get (map gift ws) r ≡ Some g → n ≡ suc r
-    → All (λ w. IsLawfulLane (gift w).3 (steps w)) ws → IsLawfulLane g.3 (steps_of (map steps ws) n)
+    → All (λ w. IsLawfulLane (gift w).losses (steps w)) ws → IsLawfulLane g.losses (steps_of (map steps ws) n)
 lawful_lane gift steps ws r n g at e all =
     let there = thing_at gift ws r g at in
-    let lawful = all_at (λ w. IsLawfulLane (gift w).3 (steps w)) ws r there.0 all there.1 in
-    subst (λ ms. IsLawfulLane g.3 ms) (sym (steps_there steps ws r n there.0 there.1 e))
-    (subst (λ (z : LaneGift). IsLawfulLane z.3 (steps there.0)) there.2 lawful)
+    let lawful = all_at (λ w. IsLawfulLane (gift w).losses (steps w)) ws r there.0 all there.1 in
+    subst (λ ms. IsLawfulLane g.losses ms) (sym (steps_there steps ws r n there.0 there.1 e))
+    (subst (λ (z : LaneGift). IsLawfulLane z.losses (steps there.0)) there.2 lawful)
 
 pub lawful_lanes : {X : Type 0} (gift : X → LaneGift) (steps : X → List Step) (plan : Plan) (ws : List X) (k : ℕ)
     (link : LinkPlan) → AreLanes plan (length plan.links) (map gift ws)
-    → All (λ w. IsLawfulLane (gift w).3 (steps w)) ws → slice_get plan.links k ≡ Some link
+    → All (λ w. IsLawfulLane (gift w).losses (steps w)) ws → slice_get plan.links k ≡ Some link
     → IsLawfulLane link.lost_ab (steps_of (map steps ws) (2 * k + 1))
     × IsLawfulLane link.lost_ba (steps_of (map steps ws) (2 * k + 2))
 lawful_lanes gift steps plan ws k link are all at =
@@ -79,7 +82,7 @@ lawful_lanes gift steps plan ws k link are all at =
 
 pub lawful_ports : {X : Type 0} (gift : X → AccessGift) (steps : X → List Step) (plan : Plan) (ws : List X)
     → AreAccesses plan (length plan.customers) (map gift ws)
-    → All (λ w. IsLawfulPort (gift w).0 (steps w)) ws → (n : ℕ) → IsLawfulPort n (steps_of (map steps ws) n)
+    → All (λ w. IsLawfulPort (gift w).place (steps w)) ws → (n : ℕ) → IsLawfulPort n (steps_of (map steps ws) n)
 lawful_ports gift steps plan ws are all n =
     by_number (λ m ms. IsLawfulPort m ms) steps ws n (λ m. record { kinds = tt; marked = tt; held = (None, refl) })
     (λ j w h.
@@ -88,8 +91,8 @@ lawful_ports gift steps plan ws are all n =
     (arith, are.counted) in
     let c = numbered-exists plan.customers (suc j) (omega arith, omega arith) in
     let same : gift w ≡ access_gift (j + 1) c.0 = Some-injective (sym at ∙ are.each j c.0 within c.1) in
-    let number : (gift w).0 ≡ suc j = ap (λ (z : AccessGift). z.0) same ∙ add-one j in
-    subst (λ m. IsLawfulPort m (steps w)) number (all_at (λ x. IsLawfulPort (gift x).0 (steps x)) ws j w all h))
+    let number : (gift w).place ≡ suc j = ap (λ (z : AccessGift). z.place) same ∙ add-one j in
+    subst (λ m. IsLawfulPort m (steps w)) number (all_at (λ x. IsLawfulPort (gift x).place (steps x)) ws j w all h))
 
 -- what each part of a record says makes it lawful
 pub lawful_record : (plan : Plan) (rec : Record)
@@ -149,9 +152,9 @@ pub lawful_workers : {X Y Z : Type 0} (bridge : X → BridgeGift) (bridge_steps 
     → map bridge_steps bs ≡ b1 → map access_steps ds ≡ d1 → map bridge_steps bs ≡ b2 → map lane_steps ls ≡ l1
     → AreBridges plan (length plan.bridges) bridges → AreLanes plan (length plan.links) lanes
     → AreAccesses plan (length plan.customers) accesses
-    → All (λ w. IsLawfulBridge spanning_tree (bridge w).2 (bridge w).1 (bridge_steps w)) bs
-    → All (λ w. IsLawfulLane (lane w).3 (lane_steps w)) ls
-    → All (λ w. IsLawfulPort (access w).0 (access_steps w)) ds
+    → All (λ w. IsLawfulBridge spanning_tree (bridge w).plan (bridge w).bridge (bridge_steps w)) bs
+    → All (λ w. IsLawfulLane (lane w).losses (lane_steps w)) ls
+    → All (λ w. IsLawfulPort (access w).place (access_steps w)) ds
     → ((k : ℕ) (c : CustomerPlan) → k < length plan.customers → slice_get plan.customers k ≡ Some c → MeetsCustomer
     (of_customers b1 d1) (k + 1) c)
     → ((k : ℕ) (link : LinkPlan) → k < length plan.links → slice_get plan.links k ≡ Some link

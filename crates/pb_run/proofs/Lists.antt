@@ -1,15 +1,15 @@
 -- Lists that grow, and things at their places.
-use Rattle.std.proofs.Common.{◌≡◌, ℕ, zero, suc, ◌+◌, ◌<◌, false, List, [], ◌∷◌, ◌++◌, Some, None, All}
+use Rattle.std.proofs.Common.{◌≡◌, ℕ, zero, suc, ◌+◌, ◌<◌, false, List, [], ◌∷◌, ◌++◌, Some, All}
 use Rattle.std.proofs.Common.{map, length, slice_get, slice_set, slice_index_or, get_or, refl, sym, ap, ◌∙◌, subst}
 use Rattle.std.proofs.Common.{arith, length-append}
 use Rattle.std.proofs.Math.Seq.{map-set_same}
 use Rattle.std.proofs.lemmas.List.{map-append}
 use Rattle.std.proofs.lemmas.List.Elements.{All-same, All-cons}
-use Rattle.std.proofs.lemmas.Option.{slice_get-get_or, slice_get-map, slice_get_within, get_or_from_slice_get}
-use Rattle.std.specs.Option.{option_map}
+use Rattle.std.proofs.lemmas.Option.{slice_get_within, get_or_from_slice_get}
 use Rattle.std.specs.declared.option.Option.{Option}
 use Rattle.std.specs.List.{AllByRecursion, list_any}
 use Rattle.pb_frame.proofs.Lists.{Some-injective, All-append as each-append}
+use Rattle.pb_frame.proofs.Things.{here_is, each_more}
 use Rattle.pb_lan.specs.Laws.{is_setting}
 use Rattle.pb_lan.specs.declared.step.Step.{Step}
 use Rattle.pb_ring.specs.Rings.{shown_at}
@@ -17,16 +17,6 @@ use Rattle.pb_ring.specs.Rings.{shown_at}
 -- the one at a place has it
 pub all_at : {X : Type 0} → (P : X → Type 0) (xs : List X) (r : ℕ) (x : X) → All P xs → slice_get xs r ≡ Some x → P x
 all_at P xs r x h e = subst P (get_or_from_slice_get xs r x x e) (h r x (slice_get_within xs r x e))
-
--- what holds of each thing at its place, and of one more
-pub each_more : {X : Type 0} (P : ℕ → X → Type 0) (xs : List X) (x : X)
-    → ((r : ℕ) (y : X) → slice_get xs r ≡ Some y → P r y) → P (length xs) x
-    → (r : ℕ) (y : X) → slice_get (xs ++ x ∷ []) r ≡ Some y → P r y
-each_more P [] x each here zero y e = let same : x ≡ y = cc in subst (λ z. P 0 z) same here
-each_more P [] x each here (suc r) y e = cc
-each_more P (z ∷ xs) x each here zero y e = each zero y e
-each_more P (z ∷ xs) x each here (suc r) y e = each_more (λ n w. P (suc n) w) xs x (λ n w h. each (suc n) w h) here r
-    y e
 
 -- what holds of the things to come, by their numbers, and what after the first
 pub first_to_come : {X : Type 0} (P : ℕ → X → Type 0) (k : ℕ) (x : X) (xs ys : List X) → ys ≡ x ∷ xs
@@ -46,24 +36,6 @@ pub slice_get-front : {X : Type 0} (xs ys : List X) (k : ℕ) (x : X) → slice_
 slice_get-front [] ys k x e = cc
 slice_get-front (y ∷ xs) ys zero x e = e
 slice_get-front (y ∷ xs) ys (suc k) x e = slice_get-front xs ys k x e
-
--- what is taken out of a place leaves the others
-pub others_stay : {X : Type 0} (xs : List (Option X)) (i n : ℕ) (x : X)
-    → slice_get (slice_set xs i None) n ≡ Some (Some x) → slice_get xs n ≡ Some (Some x)
-others_stay [] i n x e = e
-others_stay (y ∷ xs) zero zero x e = cc
-others_stay (y ∷ xs) zero (suc n) x e = e
-others_stay (y ∷ xs) (suc i) zero x e = e
-others_stay (y ∷ xs) (suc i) (suc n) x e = others_stay xs i n x e
-
--- the thing that an index gives
-pub here_is : {X : Type 0} (xs : List X) (r : ℕ) (x : X) → r < length xs → x ≡ get_or xs r x → slice_get xs r ≡ Some x
-here_is xs r x within e = slice_get-get_or xs r x within ∙ ap (λ z. Some z) (sym e)
-
--- what is looked up in a list of things is looked up in the list of their parts
-pub part_at : {X Y : Type 0} (f : X → Y) (xs : List X) (r : ℕ) (x : X) → slice_get xs r ≡ Some x
-    → slice_get (map f xs) r ≡ Some (f x)
-part_at f xs r x e = slice_get-map f xs r ∙ ap (option_map f) e
 
 -- and the other way round
 pub thing_at : {X Y : Type 0} (f : X → Y) (xs : List X) (r : ℕ) (y : Y) → slice_get (map f xs) r ≡ Some y

@@ -4,6 +4,7 @@ use Rattle.std.proofs.Common.{slice_get, slice_index_or, unwrap_or, sym, ap, ◌
 use Rattle.std.proofs.lemmas.List.{length-map}
 use Rattle.pb_frame.proofs.Lists.{Some-injective}
 use Rattle.pb_frame.specs.Lists.{IsBeginning}
+use Rattle.pb_frame.proofs.Things.{here_is, part_at}
 use Rattle.pb_lan.specs.Plans.{IsNumber}
 use Rattle.pb_lan.specs.Records.{steps_of, MeetsCustomer, MeetsOver}
 use Rattle.pb_lan.specs.declared.plan.CustomerPlan.{CustomerPlan}
@@ -12,10 +13,11 @@ use Rattle.pb_lan.specs.declared.plan.Plan.{Plan}
 use Rattle.pb_lan.specs.declared.record.Record.{Record}
 use Rattle.pb_lan.specs.declared.step.Item.{Item}
 use Rattle.pb_lan.specs.declared.step.Step.{Step}
-use Rattle.pb_run.specs.Gifts.{BridgeGift, AreBridges}
+use Rattle.pb_run.specs.Gifts.{AreBridges}
+use Rattle.pb_run.specs.declared.gift.BridgeGift.{BridgeGift}
 use Rattle.pb_run.specs.Wires.{ring_into, ring_out}
 use Rattle.pb_run.proofs.Gifts.{rings_at}
-use Rattle.pb_run.proofs.Lists.{here_is, part_at, thing_is}
+use Rattle.pb_run.proofs.Lists.{thing_is}
 
 -- the steps of a place that is known by its place in the list
 pub steps_there : {X : Type 0} (steps : X → List Step) (ws : List X) (r n : ℕ) (w : X) → slice_get ws r ≡ Some w
@@ -46,8 +48,8 @@ bridge_here gift plan xs bridge i x are number e value =
 pub bridge_rings : {X : Type 0} (gift : X → BridgeGift) (plan : Plan) (xs : List X) (bridge port i : ℕ) (x : X)
     → AreBridges plan (length plan.bridges) (map gift xs) → IsNumber bridge (length plan.bridges)
     → IsNumber port 16 → i ≡ bridge → x ≡ get_or xs (i - 1) x
-    → (slice_index_or (gift x).3 (port - 1) 0 ≡ ring_into bridge port)
-    × (slice_index_or (gift x).4 (port - 1) 0 ≡ ring_out bridge port) × (length (gift x).3 ≡ 16)
+    → (slice_index_or (gift x).ins (port - 1) 0 ≡ ring_into bridge port)
+    × (slice_index_or (gift x).outs (port - 1) 0 ≡ ring_out bridge port) × (length (gift x).ins ≡ 16)
 bridge_rings gift plan xs bridge port i x are number there e value =
     let at = part_at gift xs (i - 1) x (bridge_here gift plan xs bridge i x are number e value) in
     let same : i - 1 ≡ bridge - 1 = ap (λ n. n - 1) e in

@@ -2,6 +2,7 @@
 use Rattle.std.proofs.Common.{◌≡◌, ◌↔◌, IsTrue, Bool, ℕ, suc, ◌+◌, ◌<◌, List, [], ◌∷◌, ◌++◌, Some, map, length}
 use Rattle.std.proofs.Common.{get_or, slice_get, refl, sym, ap, ◌∙◌, subst, arith}
 use Rattle.std.proofs.lemmas.List.{length-map, map-append}
+use Rattle.pb_frame.proofs.Things.{here_is, part_at, each_more}
 use Rattle.pb_lan.specs.Numbering.{numbers_from}
 use Rattle.pb_lan.specs.Plans.{IsSound}
 use Rattle.pb_lan.specs.Records.{steps_of}
@@ -13,23 +14,25 @@ use Rattle.pb_lan.specs.declared.step.Step.{Step}
 use Rattle.pb_relay.specs.Machines.{machine_in}
 use Rattle.pb_relay.specs.Settled.{machines_in, TellsOf, TellsBy, TellsSettled}
 use Rattle.pb_relay.proofs.CauseLemmas.{a_machine}
+use Rattle.pb_relay.proofs.MachineLemmas.{are_machines}
 use Rattle.pb_rstp.specs.Ports.{Machine}
 use Rattle.pb_rstp.specs.Profile.{machine_of}
 use Rattle.pb_rstp.specs.Tree.{IsSettled, NoneHeld, AreMachines, AreForests, PlannedAreMachines}
-use Rattle.pb_run.specs.Gifts.{BridgeGift, AreBridges}
-use Rattle.pb_run.proofs.Lists.{here_is, part_at, each_more}
+use Rattle.pb_run.specs.Gifts.{AreBridges}
+use Rattle.pb_run.specs.declared.gift.BridgeGift.{BridgeGift}
 use Rattle.pb_run.proofs.Meeting.{steps_there}
 
 -- the machine of the worker at a place of the list
 pub machine_there : {X : Type 0} (gift : X → BridgeGift) (steps : X → List Step) (plan : Plan) (ws : List X) (r : ℕ)
     (w : X) → plan.spanning ≡ Rstp
     → AreBridges plan (length plan.bridges) (map gift ws) → r < length ws → w ≡ get_or ws r w
-    → machine_in (gift w).2 (gift w).1 (steps w) ≡ Some (machine_of plan (r + 1) (steps_of (map steps ws) (r + 1)))
+    → machine_in (gift w).plan (gift w).bridge (steps w) ≡ Some
+    (machine_of plan (r + 1) (steps_of (map steps ws) (r + 1)))
 machine_there gift steps plan ws r w rstp are within value =
     let at = here_is ws r w within value in
     let is = are.each r (gift w) (part_at gift ws r w at) in
     let next : r + 1 ≡ suc r = omega arith in
-    ap (λ (p : Plan). machine_in p (gift w).1 (steps w)) is.plans
+    ap (λ (p : Plan). machine_in p (gift w).bridge (steps w)) is.plans
     ∙ ap (λ n. machine_in plan n (steps w)) is.bridge
     ∙ ap (machine_in plan (r + 1)) (sym (steps_there steps ws r (r + 1) w at next))
     ∙ a_machine plan (r + 1) (steps_of (map steps ws) (r + 1)) rstp
@@ -72,12 +75,6 @@ machines_all gift steps plan rec ws machines are lists counted each =
     (λ n. machine_of plan n (steps_of (map steps ws) n)) s) in
     there ∙ ap (λ (zs : List (List Step)). map (λ bridge. machine_of plan bridge (steps_of zs bridge))
     (numbers_from 1 plan.bridges)) (sym lists)
-
--- a plan's own machines, whatever the steps were
-are_machines : (plan : Plan) (rec : Record) → IsSound plan → PlannedAreMachines
-    → AreMachines plan (machines_in plan rec)
-unfolding machines_in
-are_machines plan rec sound planned = planned plan (steps_of rec.bridges) sound
 
 -- what the answer tells of the machines of a record
 pub tells : (plan : Plan) (rec : Record) (machines : List Machine) (answer : Bool) → plan.spanning ≡ Rstp

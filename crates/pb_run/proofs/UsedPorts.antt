@@ -1,15 +1,14 @@
 -- Which local ports a plan uses.
-use Rattle.std.proofs.Common.{◌≡◌, ℕ, Bool, true, false, if◌then◌else◌, ◌||◌, List, [], ◌∷◌, Some, None, is_some}
-use Rattle.std.proofs.Common.{flat_map, refl, ◌∙◌}
+use Rattle.std.proofs.Common.{◌≡◌, ℕ, true, ◌||◌, Some, None, is_some}
+use Rattle.std.proofs.Common.{refl, ◌∙◌}
 use Rattle.std.specs.List.{list_any}
 use Rattle.std.specs.declared.option.Option.{Option}
 use Rattle.pb_frame.specs.Lists.{first}
-use Rattle.pb_lan.proofs.StateLemmas.{is_some-first}
-use Rattle.pb_lan.specs.Ports.{Port, port_at, is_used, is_customer_at, is_end_at, ends_of, all_ends, customer_or_else}
+use Rattle.pb_lan.proofs.StateLemmas.{is_some-first, is_some-ends}
+use Rattle.pb_lan.specs.Ports.{Port, port_at, is_used, is_customer_at, is_end_at, all_ends, customer_or_else}
 use Rattle.pb_lan.specs.Ports.{provider_or_unused}
 use Rattle.pb_lan.specs.declared.plan.CustomerPlan.{CustomerPlan}
 use Rattle.pb_lan.specs.declared.plan.End.{End}
-use Rattle.pb_lan.specs.declared.plan.LinkPlan.{LinkPlan}
 use Rattle.pb_lan.specs.declared.plan.Plan.{Plan}
 
 some_customer : (o : Option CustomerPlan) (other : Port) → is_some o ≡ true → is_used (customer_or_else o other) ≡ true
@@ -23,19 +22,6 @@ customer_used plan b q e =
     (provider_or_unused (first (is_end_at b q) (all_ends plan)))
     (is_some-first (is_customer_at b q) plan.customers ∙ e)
 
--- an end passes the test where one of a link's two does
-some_end : (test : End → Bool) (links : List LinkPlan)
-    → is_some (first test (flat_map ends_of links)) ≡ list_any (λ l. test l.a || test l.b) links
-some_end test [] = refl
-some_end test (l ∷ links) = by (test l.a) (test l.b) (some_end test links)
-  where
-    by : (x y : Bool) → is_some (first test (flat_map ends_of links)) ≡ list_any (λ k. test k.a || test k.b) links
-        → is_some (if x then Some l.a else (if y then Some l.b else first test (flat_map ends_of links)))
-        ≡ ((x || y) || list_any (λ k. test k.a || test k.b) links)
-    by true y e = refl
-    by false true e = refl
-    by false false e = e
-
 some_port : (o : Option CustomerPlan) (p : Option End) → is_some p ≡ true
     → is_used (customer_or_else o (provider_or_unused p)) ≡ true
 some_port None None e = cc
@@ -46,4 +32,4 @@ pub end_used : (plan : Plan) (b q : ℕ) → list_any (λ l. is_end_at b q l.a |
     → is_used (port_at plan b q) ≡ true
 end_used plan b q e =
     some_port (first (is_customer_at b q) plan.customers) (first (is_end_at b q) (all_ends plan))
-    (some_end (is_end_at b q) plan.links ∙ e)
+    (is_some-ends (is_end_at b q) plan.links ∙ e)

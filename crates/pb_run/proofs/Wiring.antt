@@ -1,11 +1,12 @@
 -- The names of rings.
 use Rattle.std.proofs.Common.{◌≡◌, ℕ, suc, ◌+◌, List, [], ◌∷◌, Some, map, slice_get, sym, ap, ◌∙◌}
+use Rattle.pb_frame.proofs.Things.{part_at}
 use Rattle.rtrb.specs.Ring.{sent, received, IsPair}
 use Rattle.rtrb.specs.declared.producer.Producer.{Producer}
 use Rattle.rtrb.specs.declared.consumer.Consumer.{Consumer}
 use Rattle.pb_ring.specs.Rings.{RingName, writer_name, reader_name}
 use Rattle.pb_run.specs.Wires.{AreNew, AreNamed}
-use Rattle.pb_run.proofs.Lists.{part_at, first_to_come, still_to_come}
+use Rattle.pb_run.proofs.Lists.{first_to_come, still_to_come}
 
 -- both ends of a ring go by one name
 one_name : {T A P : Type 0} → (p : Producer T A P) (c : Consumer T A P) → IsPair p c → reader_name c ≡ writer_name p

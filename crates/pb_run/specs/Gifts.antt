@@ -7,36 +7,38 @@ use Rattle.pb_lan.specs.declared.plan.CustomerPlan.{CustomerPlan}
 use Rattle.pb_ring.specs.declared.ends.Wiring.{Ghosts}
 use Rattle.pb_run.specs.declared.access.Access.{Access}
 use Rattle.pb_run.specs.declared.bridge.BridgeWorker.{BridgeWorker}
+use Rattle.pb_run.specs.declared.gift.AccessGift.{AccessGift}
+use Rattle.pb_run.specs.declared.gift.BridgeGift.{BridgeGift}
+use Rattle.pb_run.specs.declared.gift.LaneGift.{LaneGift}
 use Rattle.pb_run.specs.declared.lane.LaneWorker.{LaneWorker}
 use Rattle.pb_run.specs.Wires.{ring_into, ring_out}
 
--- a bridge: its number as a worker and as a bridge, its plan, and the rings into its ports and out of them
-abbrev pub BridgeGift : Type 0
-BridgeGift = ℕ × ℕ × Plan × List ℕ × List ℕ
-
+-- a bridge
 abbrev pub given_bridge : {X : Type 0} {W : Ghosts X} → BridgeWorker X W → BridgeGift
-given_bridge w =
-    (w.number, w.bridge.number, w.bridge.plan, map (λ i. i.number) w.ins.ends.items, map (λ o. o.number) w.outs.ends.items)
+given_bridge w = record {
+  worker = w.number;
+  bridge = w.bridge.number;
+  plan = w.bridge.plan;
+  ins = map (λ i. i.number) w.ins.ends.items;
+  outs = map (λ o. o.number) w.outs.ends.items;
+}
 
 pub record IsBridgeGift (plan : Plan) (number : ℕ) (gift : BridgeGift) : Type 0 where
-  pub worker : gift.0 ≡ number
-  pub bridge : gift.1 ≡ number
-  pub plans : gift.2 ≡ plan
-  pub count : length gift.3 ≡ 16
-  pub into : (q : ℕ) → q < 16 → slice_index_or gift.3 q 0 ≡ ring_into number (q + 1)
-  pub out : (q : ℕ) → q < 16 → slice_index_or gift.4 q 0 ≡ ring_out number (q + 1)
+  pub worker : gift.worker ≡ number
+  pub bridge : gift.bridge ≡ number
+  pub plans : gift.plan ≡ plan
+  pub count : length gift.ins ≡ 16
+  pub into : (q : ℕ) → q < 16 → slice_index_or gift.ins q 0 ≡ ring_into number (q + 1)
+  pub out : (q : ℕ) → q < 16 → slice_index_or gift.outs q 0 ≡ ring_out number (q + 1)
 
 -- the first so many bridges of the plan
 pub record AreBridges (plan : Plan) (count : ℕ) (gifts : List BridgeGift) : Type 0 where
   pub counted : length gifts ≡ count
   pub each : (r : ℕ) (gift : BridgeGift) → slice_get gifts r ≡ Some gift → IsBridgeGift plan (r + 1) gift
 
--- a lane: its number, the rings from which it takes and onto which it puts, and what it loses
-abbrev pub LaneGift : Type 0
-LaneGift = ℕ × ℕ × ℕ × List ℕ
-
+-- a lane
 abbrev pub lane_over : ℕ → ℕ → ℕ → List ℕ → LaneGift
-lane_over number from to losses = (number, from, to, losses)
+lane_over number from to losses = record { number = number; from = from; to = to; losses = losses }
 
 abbrev pub given_lane : {X : Type 0} {W : Ghosts X} → LaneWorker X W → LaneGift
 given_lane w = lane_over w.number w.from.number w.to.number w.lane.losses
@@ -52,15 +54,12 @@ pub record AreLanes (plan : Plan) (count : ℕ) (gifts : List LaneGift) : Type 0
   pub ba : (k : ℕ) (link : LinkPlan) → k < count → slice_get plan.links k ≡ Some link
       → slice_get gifts (2 * k + 1) ≡ Some (lane_gift (2 * k + 2) link.b link.a link.lost_ba)
 
--- a customer port: its number, and the rings to its bridge and from it
-abbrev pub AccessGift : Type 0
-AccessGift = ℕ × ℕ × ℕ
-
+-- a customer port
 abbrev pub given_access : {X : Type 0} {W : Ghosts X} → Access X W → AccessGift
-given_access d = (d.place.number, d.feed.number, d.drain.number)
+given_access d = record { place = d.place.number; feed = d.feed.number; drain = d.drain.number }
 
 abbrev pub access_gift : ℕ → CustomerPlan → AccessGift
-access_gift number c = (number, ring_into c.bridge c.port, ring_out c.bridge c.port)
+access_gift number c = record { place = number; feed = ring_into c.bridge c.port; drain = ring_out c.bridge c.port }
 
 -- the first so many customer ports
 pub record AreAccesses (plan : Plan) (count : ℕ) (gifts : List AccessGift) : Type 0 where

@@ -2,11 +2,9 @@
 use Rattle.std.specs.Prelude.{◌≡◌, ℕ, ⊤, Option, Some, None, List, ◌++◌, []}
 use Rattle.pb_lan.specs.Counts.{entered, left}
 use Rattle.pb_lan.specs.declared.step.Step.{Step}
+pub use Rattle.pb_port.specs.Ports.{Frames}
 use Rattle.pb_run.specs.declared.access.Last.{Last}
 use Rattle.pb_run.specs.declared.access.Last.TheVariants.{More, End, Fault}
-
-abbrev pub Frames : Type 0
-Frames = List (List ℕ)
 
 -- a list that is kept, with more in front, or with more behind
 abbrev pub in_front : Frames → Option Frames → Option Frames

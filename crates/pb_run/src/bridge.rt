@@ -16,6 +16,7 @@ ghost use Rattle.pb_ring.specs.Rings.{shown_at};
 ghost use Rattle.pb_run.specs.Bridges.{AreUsed, view_of};
 
 use crate::access::Access;
+use crate::gift::BridgeGift;
 use crate::lane::LaneWorker;
 use crate::mode::Mode;
 use crate::refusal::{Refusal, Taken, turn};
@@ -27,7 +28,6 @@ use pb_relay::{Bridge, BridgeFault};
 use pb_ring::{Inlets, Outlets, Wiring};
 use pb_work::{Did, Finish, Moment, PortView, Turn, Wish, Work};
 use std::alloc::Global;
-use std::collections::LinkedList;
 
 /// A bridge of a plan with the rings at its local ports: by one it receives, and by the other it sends.
 /// The rings of local port p stand at place p-1.
@@ -310,9 +310,9 @@ impl<W: Wiring> BridgeWorker<W> {
 }
 
 impl<W: Wiring> Work for BridgeWorker<W> {
-    type Given = (u8, u8, Plan, LinkedList<usize>, LinkedList<usize>);
+    type Given = BridgeGift;
 
-    ghost given = { λ w. (w.number, w.bridge.number, w.bridge.plan, map (λ i. i.number) w.ins.ends.items, map (λ o. o.number) w.outs.ends.items) };
+    ghost given = { λ w. record { worker = w.number; bridge = w.bridge.number; plan = w.bridge.plan; ins = map (λ i. i.number) w.ins.ends.items; outs = map (λ o. o.number) w.outs.ends.items } };
 
     ghost fits = { λ w. Unit {0} };
 

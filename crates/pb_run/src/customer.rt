@@ -4,6 +4,7 @@ ghost use Rattle.std.specs.Prelude.{◌≡◌, ◌++◌, [], true, Ok};
 ghost use Rattle.pb_run.specs.Ports.{KeepsPort};
 
 use crate::access::{Access, Last};
+use crate::gift::CustomerGift;
 use crate::refusal::{Refusal, Taken, turn};
 use pb_lan::Place;
 use pb_port::{Offered, Polled, Port, Pumped};
@@ -171,9 +172,9 @@ impl<W: Wiring, P: Port> CustomerWorker<W, P> {
 }
 
 impl<W: Wiring, P: Port> Work for CustomerWorker<W, P> {
-    type Given = (Snapshot<P>, u8, u8, usize, usize);
+    type Given = CustomerGift<P>;
 
-    ghost given = { λ w. (w.was, w.access.place.number, w.access.book.number, w.access.feed.number, w.access.drain.number) };
+    ghost given = { λ w. record { was = w.was; book = w.access.book.number; access = record { place = w.access.place.number; feed = w.access.feed.number; drain = w.access.drain.number } } };
 
     ghost fits = { λ w. KeepsPort P.script P.tally w.was.value w.port w.access.place.steps w.access.book.last };
 

@@ -4,12 +4,12 @@ ghost use Rattle.std.specs.Prelude.{◌≡◌, [], true, map};
 ghost use Rattle.rtrb.specs.Ring.{sent, received};
 ghost use Rattle.pb_lan.specs.LaneLists.{taken, put};
 
+use crate::gift::LaneGift;
 use crate::refusal::{Refusal, Taken, turn};
 use pb_lan::Place;
 use pb_link::Lane;
 use pb_ring::{Inlet, Outlet, Wiring};
 use pb_work::{Finish, Moment, PortView, Turn, Work};
-use std::collections::LinkedList;
 
 /// A lane of a plan with the two rings that it joins: from one it takes, and onto the other it puts.
 #[derive(Drop)]
@@ -87,9 +87,9 @@ impl<W: Wiring> LaneWorker<W> {
 }
 
 impl<W: Wiring> Work for LaneWorker<W> {
-    type Given = (u8, usize, usize, LinkedList<u64>);
+    type Given = LaneGift;
 
-    ghost given = { λ w. (w.number, w.from.number, w.to.number, w.lane.losses) };
+    ghost given = { λ w. record { number = w.number; from = w.from.number; to = w.to.number; losses = w.lane.losses } };
 
     ghost fits = { λ w. Unit {0} };
 

@@ -1,5 +1,5 @@
 -- Deeds in order.
-use Rattle.std.proofs.Common.{◌≡◌, List, [], ◌∷◌, ◌++◌, Option, Some, None, refl, sym, ap, ◌∙◌, subst, append_assoc}
+use Rattle.std.proofs.Common.{◌≡◌, List, [], ◌++◌, Option, Some, None, refl, sym, ap, ◌∙◌, subst, append_assoc}
 use Rattle.std.proofs.Common.{append-nil}
 use Rattle.pb_running.specs.Deeds.{Adds, Begun, HasBegun}
 use Rattle.pb_running.specs.declared.deed.Deed.{Deed}
@@ -27,14 +27,6 @@ begun_more a b c all rest ds left begun next done = record {
   first = begun.first ++ ds;
   done = Adds-trans a b c begun.first ds begun.done done;
   whole = append_assoc begun.first ds left ∙ ap (λ l. begun.first ++ l) (sym next) ∙ begun.whole;
-}
-
--- nothing more was done
-pub begun_same : (a b c : Option (List Deed)) (all rest : List Deed) → Begun a b all rest → c ≡ b → Begun a c all rest
-begun_same a b c all rest begun same = record {
-  first = begun.first;
-  done = subst (λ known. Adds a known begun.first) (sym same) begun.done;
-  whole = begun.whole;
 }
 
 -- nothing is left

@@ -1,26 +1,7 @@
 -- The lines of a run's report.
-use Rattle.std.proofs.Common.{◌≡◌, ◌≢◌, ℕ, ◌+◌, List, [], ◌∷◌, ◌++◌, length, drop, refl, sym, ap, subst, ◌∙◌, arith}
+use Rattle.std.proofs.Common.{◌≡◌, ◌≢◌, ℕ, ◌+◌, List, [], ◌∷◌, ◌++◌, length, refl, sym, ap, ◌∙◌, arith}
 use Rattle.std.proofs.Common.{append_assoc, length-append}
-use Rattle.pb_lan.specs.declared.plan.CustomerPlan.{CustomerPlan}
-use Rattle.pb_run.specs.declared.access.Last.{Last}
-use Rattle.pb_running.specs.Reports.{fault_at, fault_lines, status_of}
-
--- the fault of one more customer port is told
-pub faults_go_on : (cs : List CustomerPlan) (ls : List Last) (i : ℕ) (c : CustomerPlan) (l : Last)
-    (out out' whole : List ℕ)
-    → drop i cs ≡ c ∷ drop (i + 1) cs → drop i ls ≡ l ∷ drop (i + 1) ls → out' ≡ out ++ fault_at c.name l
-    → out ++ fault_lines (drop i cs) (drop i ls) ≡ whole
-    → out' ++ fault_lines (drop (i + 1) cs) (drop (i + 1) ls) ≡ whole
-faults_go_on cs ls i c l out out' whole dc dl e inv =
-    let rest = fault_lines (drop (i + 1) cs) (drop (i + 1) ls) in
-    let inv' = subst (λ z. out ++ fault_lines z (drop i ls) ≡ whole) dc inv in
-    let inv'' = subst (λ z. out ++ fault_lines (c ∷ drop (i + 1) cs) z ≡ whole) dl inv' in
-    ap (λ z. z ++ rest) e ∙ append_assoc out (fault_at c.name l) rest ∙ inv''
-
--- nothing was told, or something
-pub none_told : (old text : List ℕ) → length (old ++ text) ≡ length old → status_of text ≡ 0
-none_told old [] e = refl
-none_told old (x ∷ xs) e = absurd (omega (arith, e, length-append old (x ∷ xs)))
+use Rattle.pb_running.specs.Reports.{status_of}
 
 pub some_told : (old text : List ℕ) → length (old ++ text) ≢ length old → status_of text ≡ 3
 some_told old [] ne = absurd (ne (omega (arith, length-append old [])))
@@ -33,13 +14,6 @@ pub told_status : (old mid new faults more : List ℕ) (before after : ℕ) → 
 told_status old mid new faults more before after e f b a ne =
     let all : new ≡ old ++ (faults ++ more) = f ∙ ap (λ z. z ++ more) e ∙ append_assoc old faults more in
     sym (some_told old (faults ++ more) (λ same. ne (a ∙ ap length all ∙ same ∙ sym b)))
-
-pub told_no_status : (old mid new faults more : List ℕ) (before after : ℕ) → mid ≡ old ++ faults → new ≡ mid ++ more
-    → before ≡ length old → after ≡ length new
-    → after ≡ before → 0 ≡ status_of (faults ++ more)
-told_no_status old mid new faults more before after e f b a same =
-    let all : new ≡ old ++ (faults ++ more) = f ∙ ap (λ z. z ++ more) e ∙ append_assoc old faults more in
-    sym (none_told old (faults ++ more) (sym (ap length all) ∙ sym a ∙ same ∙ b))
 
 -- a text of four parts, one behind the other
 pub four_parts : (old a b c d o1 o2 o3 o4 : List ℕ) → o1 ≡ old ++ a → o2 ≡ o1 ++ b → o3 ≡ o2 ++ c → o4 ≡ o3 ++ d

@@ -1,5 +1,5 @@
 -- How far the opening of ports came.
-use Rattle.std.proofs.Common.{◌≡◌, ℕ, Option, List, ◌++◌, map, ap, ◌∙◌, subst}
+use Rattle.std.proofs.Common.{◌≡◌, Option, List, map, ◌∙◌, subst}
 use Rattle.std.specs.List.{flat_map}
 use Rattle.pb_running.specs.Deeds.{Adds, HasBegun}
 use Rattle.pb_running.specs.OpenFaults.{IsUnopened, IsUnemptied}

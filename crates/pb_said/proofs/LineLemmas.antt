@@ -1,8 +1,7 @@
 -- Lines that are read, and texts that are written.
-use Rattle.std.proofs.Common.{true, false, ◌≢◌, ◌≡◌, ℕ, suc, ◌+◌, ◌≤◌, List, [], ◌∷◌, ◌++◌, length, take, map, Option}
-use Rattle.std.proofs.Common.{Some, None, refl, sym, ap, ◌∙◌, arith, append_assoc, append-nil, length-take}
+use Rattle.std.proofs.Common.{true, false, ◌≢◌, ◌≡◌, ℕ, ◌+◌, ◌≤◌, List, [], ◌∷◌, ◌++◌, length, take, map, Option}
+use Rattle.std.proofs.Common.{refl, sym, ap, arith, length-take}
 use Rattle.std.proofs.lemmas.List.{take_all}
-use Rattle.std.specs.Io.KnownBytes.{Appends, Keeps}
 use Rattle.pb_lines.specs.Lines.{GivesLine, HasNoLine}
 use Rattle.pb_lines.specs.Found.{Finds}
 use Rattle.pb_lines.specs.contracts.Found.{the_type}
@@ -38,23 +37,6 @@ parts_of_map n (l ∷ lines) (f ∷ front) back e =
           (λ line. take n line) parts.0 = parts.3 in cc,
       parts.4,
     )
-
-pub Appends-twice : (a b c : Option (List ℕ)) (xs ys : List ℕ) → Appends a b xs → Appends b c ys
-    → Appends a c (xs ++ ys)
-Appends-twice None b c xs ys p q = tt
-Appends-twice (Some u) None c xs ys p q = absurd p
-Appends-twice (Some u) (Some v) None xs ys p q = absurd q
-Appends-twice (Some u) (Some v) (Some w) xs ys p q = q ∙ ap (λ z. z ++ ys) p ∙ append_assoc u xs ys
-
-pub Appends-keeps : (a b c : Option (List ℕ)) (xs : List ℕ) → Appends a b xs → Keeps b c → Appends a c xs
-Appends-keeps None b c xs p q = tt
-Appends-keeps (Some u) None c xs p q = absurd p
-Appends-keeps (Some u) (Some v) None xs p q = absurd q
-Appends-keeps (Some u) (Some v) (Some w) xs p q = q ∙ p
-
-pub Appends-nothing : (a : Option (List ℕ)) → Appends a a []
-Appends-nothing None = tt
-Appends-nothing (Some xs) = sym (append-nil xs)
 
 -- no line's fault is a want of steps
 pub of_line-not-steps : (e : LineFault) → of_line e ≢ Steps

@@ -1,6 +1,7 @@
 -- The numbers of names.
-use Rattle.std.proofs.Common.{◌≡◌, ℕ, zero, suc, ◌+◌, ◌<◌, ◌≤◌, Bool, true, false, cond, List, [], ◌∷◌, length, drop}
-use Rattle.std.proofs.Common.{get_or, map, refl, ap, ◌∙◌, arith, Option, Some, unwrap_or}
+use Rattle.std.proofs.Common.{◌≡◌, ℕ, suc, ◌+◌, ◌<◌, ◌≤◌, Bool, true, false, cond, List, [], ◌∷◌, length, drop}
+use Rattle.std.proofs.Common.{get_or, map, refl, ap, arith, Option, Some, unwrap_or}
+use Rattle.std.proofs.lemmas.List.{drop_more}
 use Rattle.pb_lan.specs.Events.{number_of}
 
 cond-within : (b : Bool) (m n most : ℕ) → m ≤ most → n ≤ most → cond b m n ≤ most
@@ -22,19 +23,11 @@ pub number_of-map : {X Y : Type 0} (f : X → Y) (test : Y → Bool) (k : ℕ) (
 number_of-map f test k [] = refl
 number_of-map f test k (x ∷ xs) = ap (λ n. cond (test (f x)) k n) (number_of-map f test (k + 1) xs)
 
--- the things from one on
-from_one : {X : Type 0} (xs : List X) (i : ℕ) (d : X) → i < length xs → drop i xs ≡ get_or xs i d ∷ drop (i + 1) xs
-from_one [] i d h = absurd (omega (arith, h))
-from_one (y ∷ ys) zero d h = refl
-from_one (y ∷ ys) (suc i) d h =
-    let next : suc (i + 1) ≡ suc i + 1 = omega arith in
-    from_one ys i d (omega (arith, h)) ∙ ap (λ n. get_or ys i d ∷ drop n (y ∷ ys)) next
-
 -- the number among the things from one on
 pub number_of-from : {X : Type 0} (test : X → Bool) (xs : List X) (i : ℕ) (d : X) → i < length xs
     → number_of test (i + 1) (drop i xs) ≡ cond (test (get_or xs i d)) (i + 1)
     (number_of test (i + 1 + 1) (drop (i + 1) xs))
-number_of-from test xs i d h = ap (λ z. number_of test (i + 1) z) (from_one xs i d h)
+number_of-from test xs i d h = ap (λ z. number_of test (i + 1) z) (drop_more xs i d h)
 
 pub unwrap_or-cond : (b : Bool) (n : ℕ) (o : Option ℕ) → unwrap_or (cond b (Some n) o) 0 ≡ cond b n (unwrap_or o 0)
 unwrap_or-cond true n o = refl

@@ -1,28 +1,16 @@
 -- Lists of values, and the data that they stand for.
 use Rattle.std.proofs.Common.{◌≡◌, ℕ, ◌+◌, ◌<◌, ◌≤◌, Bool, true, false, zero, suc, List, [], ◌∷◌, ◌++◌, inl, inr}
-use Rattle.std.proofs.Common.{length, get_or, drop, Option, Some, None, unwrap_or, refl, ap, arith}
+use Rattle.std.proofs.Common.{length, get_or, drop, Option, Some, None, unwrap_or, arith}
 use Rattle.std.proofs.lemmas.Bool.{cases_Bool, false≢true}
 use Rattle.std.proofs.lemmas.List.{drop_more, drop_all, append-nil}
-use Rattle.std.specs.Prelude.{◌&&◌, ◌||◌}
 use Rattle.std.specs.Option.{option_map_or}
 use Rattle.pb_frame.specs.Admission.{same}
 use Rattle.pb_frame.proofs.Lists.{and-left, and-right}
-use Rattle.std.specs.List.{list_all, list_any}
 use Rattle.toml.specs.Data.{Data, as_str}
 use Rattle.toml.specs.View.{view, items_view}
 use Rattle.toml.specs.declared.value.Value.{Value}
 use Rattle.pb_service.specs.Tables.{AreFrames}
 use Rattle.pb_service.specs.Values.{all_items, any_item, are_distinct, is_hex, is_text, text_in}
-
-pub all_items-view : (test : Data → Bool) (vs : List Value)
-    → all_items test (items_view vs) ≡ list_all (λ v. test (view v)) vs
-all_items-view test [] = refl
-all_items-view test (v ∷ vs) = ap (λ b. test (view v) && b) (all_items-view test vs)
-
-pub any_item-view : (test : Data → Bool) (vs : List Value)
-    → any_item test (items_view vs) ≡ list_any (λ v. test (view v)) vs
-any_item-view test [] = refl
-any_item-view test (v ∷ vs) = ap (λ b. test (view v) || b) (any_item-view test vs)
 
 pub distinct_stop : (vs : List Value) (i : ℕ) (d x : Value) (t : List ℕ) (later : List Value) → i < length vs
     → x ≡ get_or vs i d → t ≡ text_in (view x) → later ≡ drop (i + 1) vs

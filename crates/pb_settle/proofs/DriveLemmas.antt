@@ -2,12 +2,11 @@
 use Rattle.std.proofs.Common.{◌≡◌, ◌≤◌, ◌+◌, ◌-◌, ℕ, Bool, true, List, [], ◌∷◌, ◌++◌, length, Ok, Err, refl, ap}
 use Rattle.std.proofs.Common.{subst, ◌∙◌, arith, length-append}
 use Rattle.pb_frame.proofs.Lists.{All-append, All-imply}
-use Rattle.pb_lan.specs.Events.{place_of}
 use Rattle.pb_lan.specs.declared.event.Event.{Event}
 use Rattle.pb_lan.specs.declared.event.Event.TheVariants.{Poll, Feed, Deliver, Receive, Transmit, Tick, Admin, Take}
 use Rattle.pb_lan.specs.declared.event.Event.TheVariants.{Put}
 use Rattle.pb_lan.specs.declared.step.Place.{Place}
-use Rattle.pb_net.specs.Answers.{NetView, IsAnswer, HaveRun}
+use Rattle.pb_net.specs.Answers.{NetView, IsAnswer}
 use Rattle.std.specs.declared.result.Result.{Result}
 use Rattle.pb_net.specs.declared.did.Did.{Did}
 use Rattle.pb_net.specs.declared.did.Did.TheVariants.{Idle, Done}
@@ -16,12 +15,6 @@ use Rattle.pb_net.specs.declared.fault.NetFault.TheVariants.{StepLimit, Memory, 
 use Rattle.pb_settle.specs.Drives.{is_onward, is_onward_or_tick, HaveDone, HaveGone, HasStopped, HasBeenDriven}
 use Rattle.pb_settle.specs.declared.fault.DriveFault.{DriveFault}
 use Rattle.pb_settle.specs.declared.fault.DriveFault.TheVariants.{Events}
-
--- events that were done were answered, none with a fault
-pub have_run : (old new : NetView) (events : List Event) → HaveDone old events new → HaveRun old events new
-have_run old new [] e = e
-have_run old new (event ∷ events) (between, answer, rest) =
-    (between, Done (place_of event), answer, have_run between new events rest)
 
 -- some, and then others
 pub done-append : (old mid new : NetView) (front back : List Event) → HaveDone old front mid → HaveDone mid back new
@@ -73,18 +66,6 @@ gone-append kind a b old mid new f s = record {
   done = done-append old mid new f.events s.events f.done s.done;
   number = omega (arith, length-append f.events s.events, f.number, s.number);
 }
-
--- driving ended behind some events
-pub stopped-here : (most : ℕ) (fault : DriveFault) (old new : NetView) → (fault ≡ Events → ⊥) → new ≡ old
-    → HasStopped most fault old new
-stopped-here most fault old new other e =
-    record {
-      count = 0;
-      gone = gone-none is_onward old new e;
-      too_many = λ is. absurd (other is);
-      within = λ _. omega
-          arith;
-    }
 
 pub stopped-over : (most : ℕ) (old new : NetView) (event : Event) (place : Place) → most ≡ 0 → is_onward event ≡ true
     → IsAnswer old event (Ok (Done place)) new → HasStopped most Events old new

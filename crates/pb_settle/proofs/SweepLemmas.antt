@@ -1,21 +1,18 @@
 -- What sweeps have tried.
-use Rattle.std.proofs.Common.{◌≡◌, ◌<◌, ◌+◌, ◌*◌, ◌⊎◌, inl, inr, ℕ, zero, suc, true, false, length, Ok, Err, refl}
-use Rattle.std.proofs.Common.{sym, ap, subst, ◌∙◌, arith}
+use Rattle.std.proofs.Common.{◌≡◌, ◌+◌, ◌*◌, ◌⊎◌, inl, inr, ℕ, true, length, Ok, refl}
+use Rattle.std.proofs.Common.{sym, subst, arith}
+use Rattle.std.proofs.lemmas.Bool.{cases_eq}
 use Rattle.pb_lan.specs.Events.{names_something}
-use Rattle.pb_lan.specs.Plans.{IsSound, IsNumber}
-use Rattle.pb_lan.specs.Ports.{Port, port_at, is_used}
-use Rattle.pb_lan.specs.Ports.Port.{Unused}
+use Rattle.pb_lan.specs.Plans.{IsSound}
 use Rattle.pb_lan.specs.declared.event.Event.{Event}
 use Rattle.pb_lan.specs.declared.event.Event.TheVariants.{Poll, Feed, Deliver, Receive, Transmit, Tick, Admin, Take}
 use Rattle.pb_lan.specs.declared.event.Event.TheVariants.{Put}
 use Rattle.pb_lan.specs.declared.plan.Plan.{Plan}
 use Rattle.pb_lan.specs.declared.step.Place.{Place}
-use Rattle.pb_net.proofs.OneMore.{same_or_not}
 use Rattle.pb_net.proofs.Records.{known_number, known_lane}
-use Rattle.pb_net.proofs.SpotLemmas.{out_of_range, port_out_of_range}
+use Rattle.pb_net.proofs.SpotLemmas.{bridge_there, port_there}
 use Rattle.pb_net.specs.Answers.{NetView, IsAnswer}
-use Rattle.pb_net.specs.declared.did.Did.TheVariants.{Idle, Done}
-use Rattle.pb_net.specs.declared.fault.NetFault.TheVariants.{NoSuch}
+use Rattle.pb_net.specs.declared.did.Did.TheVariants.{Done}
 use Rattle.pb_settle.proofs.DriveLemmas.{gone-none, gone-nothing, gone-one, gone-append}
 use Rattle.pb_settle.specs.Drives.{is_onward, HaveGone, IsNotDue, HasDrained}
 use Rattle.pb_settle.specs.Sweeps.{HaveTried, IsThis, IsAtOneOf, IsAnywhere}
@@ -27,24 +24,10 @@ still event old new e not = record {
   none_due = λ z other is. subst (λ x. IsNotDue new x) (sym is) (subst (λ v. IsNotDue v event) (sym e) not);
 }
 
-pub tried-idle : (event : Event) (old new : NetView) → IsAnswer old event (Ok Idle) new
-    → HaveTried (IsThis event) 0 old new
-tried-idle event old new h = still event old new h.2 (λ named. h.1)
-
-pub tried-absent : (event : Event) (old new : NetView) → IsAnswer old event (Err NoSuch) new
-    → HaveTried (IsThis event) 0 old new
-tried-absent event old new h = still event old new h.1 (λ named. let f : false ≡ true = sym h.0 ∙ named in cc)
-
 pub tried-done : (event : Event) (place : Place) (old new : NetView) → is_onward event ≡ true
     → IsAnswer old event (Ok (Done place)) new → HaveTried (IsThis event) 1 old new
 tried-done event place old new is h =
     record { gone = gone-one is_onward old new event place is h; none_due = λ z. absurd (omega (arith, z)) }
-
--- nothing was tried
-pub tried-none : (tried : Event → Type 0) (net : NetView) → ((event : Event) → tried event → ⊥)
-    → HaveTried tried 0 net net
-tried-none tried net never =
-    record { gone = gone-none is_onward net net refl; none_due = λ z event is. absurd (never event is) }
 
 -- some were tried, and then others
 pub tried-join : (some others all : Event → Type 0) (a b : ℕ) (old mid new : NetView)
@@ -67,7 +50,7 @@ none_of at event (n, range, is) = omega (arith, range.0, range.1)
 
 one_of_more : (at : ℕ → Event → Type 0) (k : ℕ) (event : Event) → IsAtOneOf at (k + 1) event → IsAtOneOf at k event
     ⊎ at (k + 1) event
-one_of_more at k event (n, range, is) = elim (same_or_not n (k + 1)) [
+one_of_more at k event (n, range, is) = elim (cases_eq n (k + 1)) [
   | inl e ↦ inr (subst (λ m. at m event) e is)
   | inr ne ↦ inl (n, (range.0, omega (arith, range.1, ne)), is)
 ]
@@ -76,31 +59,6 @@ pub tried-more : (at : ℕ → Event → Type 0) (k a b : ℕ) (old mid new : Ne
     → HaveTried (at (k + 1)) b mid new → HaveTried (IsAtOneOf at (k + 1)) (a + b) old new
 tried-more at k a b old mid new f s = tried-join (IsAtOneOf at k) (at (k + 1)) (IsAtOneOf at (k + 1)) a b old mid new
     (one_of_more at k) f s
-
--- a number from 1 to a highest one, or not
-in_range : (n highest : ℕ) → ((n ≡ 0) ⊎ (highest < n)) ⊎ IsNumber n highest
-in_range zero highest = inl (inl refl)
-in_range (suc n) zero = inl (inr (omega arith))
-in_range (suc n) (suc highest) = elim (in_range n highest) [
-  | inl out ↦ elim out [ inl e ↦ inr (omega arith, omega (arith, e)) | inr h ↦ inl (inr (omega arith)) ]
-  | inr h ↦ inr (omega arith, omega (arith, h.1))
-]
-
-unused_is_not : (p : Port) → p ≡ Unused → is_used p ≡ true → ⊥
-unused_is_not p e u = let f : false ≡ true = sym (ap is_used e) ∙ u in cc
-
-bridge_there : (plan : Plan) → IsSound plan → (b q : ℕ) → is_used (port_at plan b q) ≡ true
-    → IsNumber b (length plan.bridges)
-bridge_there plan sound b q u = elim (in_range b (length plan.bridges)) [
-  | inl out ↦ absurd (unused_is_not (port_at plan b q) (out_of_range plan sound b q out) u)
-  | inr h ↦ h
-]
-
-port_there : (plan : Plan) → IsSound plan → (b q : ℕ) → is_used (port_at plan b q) ≡ true → IsNumber q 16
-port_there plan sound b q u = elim (in_range q 16) [
-  | inl out ↦ absurd (unused_is_not (port_at plan b q) (port_out_of_range plan sound b q out) u)
-  | inr h ↦ h
-]
 
 -- a sweep tries every event by which what is under way goes on
 pub anywhere : (plan : Plan) → IsSound plan → (event : Event) → is_onward event ≡ true

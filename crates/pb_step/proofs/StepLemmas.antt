@@ -4,6 +4,7 @@ use Rattle.std.proofs.Common.{Ok, Err, IfErr, refl, sym, ap, subst, ◌∙◌, a
 use Rattle.std.proofs.Common.{length-append}
 use Rattle.std.specs.Io.KnownBytes.{Appends, Keeps}
 use Rattle.std.specs.declared.result.Result.{Result}
+use Rattle.std.proofs.KnownBytes.{Appends-trans, Appends-kept, Appends-nil}
 use Rattle.pb_lines.specs.Lines.{lines_of, cut_lines, GivesLine, HasNoLine}
 use Rattle.pb_lan.specs.Records.{IsLawfulRecord}
 use Rattle.pb_relay.specs.Protocol.{spanning_tree}
@@ -11,24 +12,24 @@ use Rattle.pb_lan.specs.declared.event.Event.{Event}
 use Rattle.pb_lan.specs.declared.plan.Plan.{Plan}
 use Rattle.pb_lan.specs.declared.plan.Spanning.TheVariants.{Rstp}
 use Rattle.pb_lan.specs.declared.record.Record.{Record}
-use Rattle.pb_lan.specs.Events.{has_place, with_step}
+use Rattle.pb_lan.specs.Events.{has_place}
 use Rattle.pb_lan.specs.Plans.{IsSound}
 use Rattle.pb_lan.specs.declared.step.Place.{Place}
 use Rattle.pb_lan.specs.declared.step.Step.{Step}
 use Rattle.pb_net.specs.Answers.{NetView, IsAnswer}
 use Rattle.pb_net.specs.declared.did.Did.TheVariants.{Idle, Done}
-use Rattle.pb_net.specs.declared.fault.NetFault.TheVariants.{StepLimit, NoSuch}
+use Rattle.pb_net.specs.declared.fault.NetFault.TheVariants.{NoSuch}
 use Rattle.pb_script.specs.Answers.{step_line, idle_line, no_such_line}
 use Rattle.pb_step.proofs.PlaceLemmas.{named_place}
 use Rattle.pb_script.specs.Lines.{Asks}
-use Rattle.pb_step.specs.Steps.{newest_at, HasGrown, StepAnswer, bad, absent, idle, done, StepAnswers, start_of}
+use Rattle.pb_step.specs.Steps.{newest_at, StepAnswer, bad, absent, idle, done, StepAnswers, start_of}
 use Rattle.pb_step.specs.Steps.{IsReport, IsAtLimit, no_report, part_report, PrintsSteps, HaveAnswered}
 use Rattle.pb_step.specs.Steps.{PrintsStepsBeginning, StepsProgress}
 use Rattle.pb_said.specs.BadLines.{bad_line}
 use Rattle.pb_said.specs.declared.fault.CommandFault.{CommandFault}
 use Rattle.pb_print.specs.RecordTexts.{IsRecordText}
 use Rattle.pb_said.specs.declared.fault.CommandFault.TheVariants.{Steps, Memory}
-use Rattle.pb_said.proofs.LineLemmas.{whole_line, uncut, parts_of_map, Appends-twice, Appends-keeps, Appends-nothing}
+use Rattle.pb_said.proofs.LineLemmas.{whole_line, uncut, parts_of_map}
 
 -- one line more
 StepAnswers-snoc : (limit n : ℕ) (front : List (List ℕ)) (line : List ℕ) (old mid new : NetView) (text more : List ℕ)
@@ -100,7 +101,7 @@ steps_start limit plan (Some octets) held before net e f = record {
   lines = ap (λ z. cut_lines limit (z ++ octets)) (sym e);
   number = refl;
   text = [];
-  written = Appends-nothing before;
+  written = Appends-nil before;
   answers = (f, refl);
 }
 
@@ -123,7 +124,7 @@ steps_go_on limit n plan (Some octets) (Some rest) (Some rest') before now after
           ∙ sym (append_assoc p.front (line ∷ []) (cut_lines limit (held' ++ rest')));
       number = omega (arith, p.number, length-append p.front (line ∷ []));
       text = p.text ++ text;
-      written = Appends-twice before now after p.text text p.written w;
+      written = Appends-trans before now after p.text text p.written w;
       answers = StepAnswers-snoc limit 1 p.front line (start_of plan) old new p.text text p.answers (rw at_n a);
     }
 
@@ -195,7 +196,7 @@ pub steps_unread : (fault : CommandFault) (limit : ℕ) (plan : Plan) (input bef
 steps_unread fault limit plan None before ne = tt
 steps_unread fault limit plan (Some octets) before ne = (
   [],
-  Appends-nothing before,
+  Appends-nil before,
   record {
     front = [];
     back = lines_of octets;
@@ -220,7 +221,7 @@ pub reported : (limit : ℕ) (plan : Plan) (input before now after : Option (Lis
 reported limit plan None before now after net rec report a e lawful w r = tt
 reported limit plan (Some octets) before now after net rec report (text, written, answers) e lawful w r = (
   text ++ report,
-  Appends-twice before now after text report written w,
+  Appends-trans before now after text report written w,
   record {
     last = net;
     answers = text;
@@ -240,7 +241,7 @@ pub unreported : (fault : CommandFault) (limit : ℕ) (plan : Plan) (input befor
 unreported fault limit plan None before now after net a k ne = tt
 unreported fault limit plan (Some octets) before now after net (text, written, answers) k ne = (
   text,
-  Appends-keeps before now after text written k,
+  Appends-kept before now after text written k,
   record {
     front = lines_of octets;
     back = [];
@@ -266,7 +267,7 @@ part_reported fault limit plan None before now after net rec more a e lawful m r
 part_reported fault limit plan (Some octets) before now after net rec more (text, written, answers) e lawful m rstp w
     told = (
       text ++ more,
-      Appends-twice before now after text more written w,
+      Appends-trans before now after text more written w,
       record {
         front = lines_of octets;
         back = [];
@@ -296,12 +297,6 @@ place_there plan sound old new event place e h =
     subst (λ p. has_place p place ≡ true) (sym h.2)
     (subst (λ q. has_place old.plan q ≡ true) (sym h.1)
     (named_place old.plan (subst (λ p. IsSound p) (sym e) sound) event h.0.named))
-
-pub place_grew : (old new : NetView) (event : Event) (place : Place) → IsAnswer old event (Ok (Done place)) new
-    → HasGrown new.rec place
-place_grew old new event place h =
-    let step : Step = h.3.0 in
-    (old.rec, step, subst (λ q. new.rec ≡ with_step old.rec q step) (sym h.1) h.3.2)
 
 -- the answer to a line, where the network has the plan that the line was read by
 pub answered_done : (limit n : ℕ) (line : List ℕ) (plan : Plan) (old new : NetView) (event : Event) (place : Place)
@@ -335,10 +330,3 @@ pub answered_bad : (limit n : ℕ) (line : List ℕ) (plan : Plan) (net : NetVie
     → (text : List ℕ) × (out' ≡ out ++ text) × StepAnswer limit n line net net text
 answered_bad limit n line plan net out out' e none t =
     (bad_line n, t, bad (λ event asks. none event (subst (λ p. Asks limit p line event) e asks)) refl refl)
-
--- the event of a line meets the limit
-pub met_limit : (limit : ℕ) (line : List ℕ) (plan : Plan) (old new : NetView) (event : Event) → old.plan ≡ plan
-    → Asks limit plan line event → IsAnswer old event (Err StepLimit) new
-    → IsAtLimit limit old (line ∷ [])
-met_limit limit line plan old new event e asks h =
-    (event, subst (λ p. Asks limit p line event) (sym e) asks, (h.0, h.1, h.2, refl))

@@ -7,6 +7,7 @@ use Rattle.std.proofs.lemmas.List.{get_or-set_same, get_or-set_other, take_more}
 use Rattle.std.proofs.lemmas.List.Sums.{sum_by_push, sum_by-cons}
 use Rattle.std.specs.List.{count_by, list_any}
 use Rattle.std.specs.declared.option.Option.{Option}
+use Rattle.std.proofs.Math.Bool.{and-true}
 use Rattle.pb_lan.proofs.PortBits.{unequal}
 use Rattle.pb_lan.proofs.StateLemmas.{changed-push, changed-next}
 use Rattle.pb_lan.specs.Queues.{is_refused}
@@ -32,17 +33,13 @@ count_alike f g same (x ∷ xs) =
     ∙ ap (λ n. cond (g x) 1 0 + n) (count_alike f g same xs)
     ∙ sym (sum_by-cons (λ y. cond (g y) 1 0) x xs)
 
-and_true : (b : Bool) → (b && true) ≡ b
-and_true true = refl
-and_true false = refl
-
 -- where no port was refused, each that was chosen got a copy
 pub none_refused : (chosen : List ℕ) (refused : List (ℕ × NoRoom)) (ports : List ℕ) → (length refused == 0) ≡ true
     → count_by (λ port. list_any (λ p. p == port) chosen && not (is_refused refused port)) ports ≡ count_by
     (λ port. list_any (λ p. p == port) chosen) ports
 none_refused chosen [] ports e =
     count_alike (λ port. list_any (λ p. p == port) chosen && true) (λ port. list_any (λ p. p == port) chosen)
-    (λ port. and_true (list_any (λ p. p == port) chosen)) ports
+    (λ port. and-true (list_any (λ p. p == port) chosen)) ports
 none_refused chosen (r ∷ rs) ports e = let same : suc (length rs) ≡ 0 = eqb-true (suc (length rs)) 0 e in absurd
     (omega (arith, same))
 

@@ -1,49 +1,31 @@
 -- Walks over active links, and marks that tell of them.
-use Rattle.std.proofs.Common.{◌≡◌, ◌⊎◌, inl, inr, ℕ, zero, suc, ◌+◌, ◌-◌, ◌<◌, ◌≤◌, Bool, true, false, cond, Some}
+use Rattle.std.proofs.Common.{◌≡◌, ◌⊎◌, inl, inr, ℕ, suc, ◌+◌, ◌-◌, ◌<◌, ◌≤◌, Bool, true, false, cond, Some}
 use Rattle.std.proofs.Common.{List, [], ◌∷◌, ◌++◌, length, map, get_or, refl, sym, ◌∙◌, ap, subst, arith, nat_eq}
 use Rattle.std.proofs.Common.{slice_get, zero-add}
 use Rattle.std.proofs.lemmas.Bool.Decides.{nat_tests}
 use Rattle.std.proofs.lemmas.List.{get_or-map, get_or_past, length-map}
-use Rattle.std.proofs.lemmas.Option.{slice_get-get_or}
+use Rattle.std.proofs.lemmas.Option.{slice_get-get_or, slice_get_within}
 use Rattle.std.proofs.lemmas.List.FromFn.{get_or-range_with_len, length-range_with_len}
 use Rattle.std.specs.List.{range_with_len}
+use Rattle.std.proofs.lemmas.Bool.{cases_lt}
+use Rattle.pb_forest.proofs.PathLemmas.{walk-append}
 use Rattle.pb_frame.proofs.Lists.{Some-injective}
+use Rattle.pb_frame.proofs.Things.{one_less}
 use Rattle.pb_lan.proofs.Numbers.{numbered-place}
 use Rattle.pb_lan.proofs.PortsInPlans.{sound-end}
-use Rattle.pb_lan.specs.Forests.{Crosses, HasEnds, IsWalk, AreJoined}
+use Rattle.pb_lan.specs.Forests.{HasEnds, IsWalk, AreJoined}
 use Rattle.pb_lan.specs.Plans.{IsSound, IsNumber, IsSoundEnd}
 use Rattle.pb_lan.specs.Shapes.{is_active}
 use Rattle.pb_lan.specs.declared.plan.Plan.{Plan}
 use Rattle.pb_lan.specs.declared.plan.End.{End}
 use Rattle.pb_lan.specs.declared.plan.LinkPlan.{LinkPlan}
 use Rattle.pb_lan.specs.declared.shape.Shape.{Shape}
+use Rattle.pb_lan.proofs.ForestEdges.{crosses_back}
 use Rattle.pb_survive.specs.Reach.{mark_at, TellsJoined}
-
--- a walk goes on
-walk-append : (plan : Plan) (shape : Shape) (vid here : ℕ) (ks : List ℕ) (there : ℕ) (ls : List ℕ) (last : ℕ)
-    → IsWalk plan shape vid here ks there → IsWalk plan shape vid there ls last
-    → IsWalk plan shape vid here (ks ++ ls) last
-walk-append plan shape vid here [] there ls last w v = subst (λ z. IsWalk plan shape vid z ls last) (sym w) v
-walk-append plan shape vid here (k ∷ ks) there ls last (near, far, c, n, w) v =
-    (near, far, c, n, walk-append plan shape vid far.bridge ks there ls last w v)
 
 pub joined_through : (plan : Plan) (shape : Shape) (vid a b c : ℕ) → AreJoined plan shape vid a b
     → AreJoined plan shape vid b c → AreJoined plan shape vid a c
 joined_through plan shape vid a b c (ks, w) (ls, v) = (ks ++ ls, walk-append plan shape vid a ks b ls c w v)
-
--- a link is crossed both ways
-crosses_back : (plan : Plan) (shape : Shape) (vid k : ℕ) (near far : End) → Crosses plan shape vid k near far
-    → Crosses plan shape vid k far near
-crosses_back plan shape vid k near far c = record {
-  link = c.link;
-  numbered_so = c.numbered_so;
-  active = c.active;
-  ends = turned c.ends;
-}
-  where
-    turned : HasEnds c.link near far → HasEnds c.link far near
-    turned (inl h) = inr (h.1, h.0)
-    turned (inr h) = inl (h.1, h.0)
 
 walk_back : (plan : Plan) (shape : Shape) (vid a : ℕ) (ks : List ℕ) (b : ℕ) → IsWalk plan shape vid a ks b
     → AreJoined plan shape vid b a
@@ -93,12 +75,7 @@ marked_walk plan shape vid marks all a (k ∷ ks) b (near, far, c, n, w) =
     place = numbered-place plan.links k c.link c.numbered_so
 
     both : mark_at marks c.link.a.bridge ≡ mark_at marks c.link.b.bridge
-    both = all.close place.0 c.link (within plan.links place.0 c.link place.2) place.2 c.active
-      where
-        within : {X : Type 0} (xs : List X) (j : ℕ) (x : X) → slice_get xs j ≡ Some x → j < length xs
-        within [] j x e = cc
-        within (y ∷ xs) zero x e = omega arith
-        within (y ∷ xs) (suc j) x e = let h = within xs j x e in omega (arith, h)
+    both = all.close place.0 c.link (slice_get_within plan.links place.0 c.link place.2) place.2 c.active
 
     across : HasEnds c.link near far → mark_at marks near.bridge ≡ mark_at marks far.bridge
     across (inl h) = ap (λ e. mark_at marks e.bridge) (sym h.0) ∙ both ∙ ap (λ e. mark_at marks e.bridge) h.1
@@ -181,11 +158,8 @@ pub closes_after : (plan : Plan) (shape : Shape) (vid i : ℕ) (marks : List ℕ
     → CloseFirst plan shape vid (i + 1)
     (replaced_in marks (mark_at marks link.b.bridge) (mark_at marks link.a.bridge))
 closes_after plan shape vid i marks link sound e here old =
-    record { close = λ k l h at active. by k l at active (before k h) }
+    record { close = λ k l h at active. by k l at active (one_less k i h) }
   where
-    before : (k : ℕ) → k < i + 1 → (k < i) ⊎ (k ≡ i)
-    before k h = grind arith
-
     by : (k : ℕ) (l : LinkPlan) → slice_get plan.links k ≡ Some l → is_active plan shape vid l ≡ true
         → (k < i) ⊎ (k ≡ i)
         → mark_at (replaced_in marks (mark_at marks link.b.bridge) (mark_at marks link.a.bridge)) l.a.bridge ≡ mark_at
@@ -210,11 +184,8 @@ pub closes_past : (plan : Plan) (shape : Shape) (vid i : ℕ) (marks : List ℕ)
     → slice_get plan.links i ≡ Some link → is_active plan shape vid link ≡ false
     → CloseFirst plan shape vid i marks → CloseFirst plan shape vid (i + 1) marks
 closes_past plan shape vid i marks link here passive old =
-    record { close = λ k l h at active. by k l at active (before k h) }
+    record { close = λ k l h at active. by k l at active (one_less k i h) }
   where
-    before : (k : ℕ) → k < i + 1 → (k < i) ⊎ (k ≡ i)
-    before k h = grind arith
-
     by : (k : ℕ) (l : LinkPlan) → slice_get plan.links k ≡ Some l → is_active plan shape vid l ≡ true
         → (k < i) ⊎ (k ≡ i) → mark_at marks l.a.bridge ≡ mark_at marks l.b.bridge
     by k l at active (inl h) = old.close k l h at active
@@ -237,11 +208,8 @@ own_marks_join plan shape vid =
 
 -- all marks are few
 pub own_marks_below : (a : ℕ) → mark_at (range_with_len 0 32) a < 32
-own_marks_below a = by (le_or_lt 32 (a - 1))
+own_marks_below a = by (cases_lt (a - 1) 32)
   where
-    le_or_lt : (n k : ℕ) → (k < n) ⊎ (n ≤ k)
-    le_or_lt n k = grind arith
-
     by : (a - 1 < 32) ⊎ (32 ≤ a - 1) → mark_at (range_with_len 0 32) a < 32
     by (inl h) = let e = get_or-range_with_len 0 32 (a - 1) 0 h in omega (arith, e, h)
     by (inr h) = let e = get_or_past (range_with_len 0 32) (a - 1) 0 (omega (arith, h, length-range_with_len 0 32))
@@ -250,11 +218,8 @@ own_marks_below a = by (le_or_lt 32 (a - 1))
 -- and they stay so
 pub below_after : (marks : List ℕ) (gone x : ℕ) → ((a : ℕ) → mark_at marks a < 32) → (a : ℕ)
     → mark_at (replaced_in marks gone (mark_at marks x)) a < 32
-below_after marks gone x few a = by (le_or_lt (length marks) (a - 1))
+below_after marks gone x few a = by (cases_lt (a - 1) (length marks))
   where
-    le_or_lt : (n k : ℕ) → (k < n) ⊎ (n ≤ k)
-    le_or_lt n k = grind arith
-
     choice : (b : Bool) (m n : ℕ) → m < 32 → n < 32 → cond b m n < 32
     choice true m n h g = h
     choice false m n h g = g

@@ -1,14 +1,14 @@
 -- Services and ports as lists.
-use Rattle.std.proofs.lemmas.Bool.{cases_eq, ne_eqb, or_parts}
+use Rattle.std.proofs.lemmas.Bool.{ne_eqb, or_parts}
 use Rattle.std.proofs.lemmas.Bool.Decides.{nat_tests}
-use Rattle.std.specs.declared.option.Option.{Option}
 use Rattle.std.specs.Option.{option_map}
 use Rattle.indexmap.specs.IndexMap.{insert_entry}
 use Rattle.pb_frame.proofs.Lists.{All-imply}
 use Rattle.pb_frame.specs.Lists.{first, Rises}
+use Rattle.pb_frame.proofs.Things.{none_from}
 use Rattle.pb_svlan.specs.ServiceTables.{place_of, role_in}
 use Rattle.pb_svlan.specs.declared.port.Attachment.{Attachment}
-use Rattle.std.proofs.Common.{inl, inr, eq-eqb, length, is_some, get_or, subst, ◌≡◌, ℕ, zero, suc, ◌<◌, ◌≤◌, Bool}
+use Rattle.std.proofs.Common.{eq-eqb, length, is_some, get_or, subst, ◌≡◌, ℕ, zero, suc, ◌<◌, ◌≤◌, Bool}
 use Rattle.std.proofs.Common.{true, false, cond, nat_lt, ◌||◌, ◌==◌, List, [], ◌∷◌, ◌++◌, map, insert, Some, None}
 use Rattle.std.proofs.Common.{refl, sym, ap, ◌∙◌, arith}
 use Rattle.std.specs.List.{list_any, filter, AllByRecursion}
@@ -24,13 +24,6 @@ pub list_any-values : {K X : Type 0} (p : X → Bool) (es : List (K × X))
     → list_any p (values_of es) ≡ list_any (λ e. p e.1) es
 list_any-values p [] = refl
 list_any-values p (e ∷ es) = ap (λ b. p e.1 || b) (list_any-values p es)
-
--- equality of numbers goes both ways
-pub eqb-symm : (a b : ℕ) → (a == b) ≡ (b == a)
-eqb-symm a b = elim (cases_eq a b) [
-  | inl e ↦ eq-eqb a b e ∙ sym (eq-eqb b a (sym e))
-  | inr n ↦ ne_eqb a b n ∙ sym (ne_eqb b a (λ e. n (sym e)))
-]
 
 -- a service with a new VID goes last
 pub insert_entry-last : {X : Type 0} (eq : ℕ → ℕ → Bool) → ((a b : ℕ) → eq a b ≡ (b == a))
@@ -112,11 +105,6 @@ ascending-some p (a ∷ others) rise =
       | false ↦ ascending-some p
           others rise.1
     ]
-
--- nothing is there
-none_from : {X : Type 0} (o : Option X) → is_some o ≡ false → o ≡ None
-none_from None h = refl
-none_from (Some x) h = cc
 
 -- ports with one more in its place
 pub ascending-attached : (ports others : List Attachment) (a : Attachment) → Rises (map (λ a. a.port) ports)

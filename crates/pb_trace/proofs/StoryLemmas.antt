@@ -2,12 +2,12 @@
 use Rattle.std.proofs.Common.{◌≡◌, ◌<◌, ◌+◌, ℕ, Bool, true, false, List, [], ◌∷◌, ◌++◌, take, length, get_or}
 use Rattle.std.proofs.Common.{string_bytes, Option, Ok, refl, sym, ap, subst, ◌∙◌, append_assoc, append-nil}
 use Rattle.std.proofs.lemmas.List.{take_more}
+use Rattle.pb_frame.proofs.Things.{here_is}
 use Rattle.pb_lan.specs.Events.{has_place}
 use Rattle.pb_lan.specs.declared.event.Event.TheVariants.{Poll}
 use Rattle.pb_lan.specs.declared.plan.Plan.{Plan}
 use Rattle.pb_lan.specs.declared.step.Place.{Place}
 use Rattle.pb_lan.specs.declared.step.Place.TheVariants.{Customer}
-use Rattle.pb_net.proofs.OneMore.{here_is}
 use Rattle.pb_net.specs.Answers.{NetView, IsAnswer}
 use Rattle.pb_net.specs.declared.did.Did.TheVariants.{Done}
 use Rattle.pb_step.specs.Steps.{HasGrown}

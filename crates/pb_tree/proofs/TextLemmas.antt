@@ -1,12 +1,12 @@
 -- Texts of several things, one behind the other.
 use Rattle.std.proofs.Common.{◌≡◌, ◌≤◌, ◌<◌, ◌+◌, ◌==◌, ℕ, zero, suc, List, [], ◌∷◌, ◌++◌, drop, flat_map, length}
-use Rattle.std.proofs.Common.{slice_get, get_or, codes, Some, IsSome, refl, sym, ap, subst, ◌∙◌, arith, rules}
+use Rattle.std.proofs.Common.{slice_get, get_or, codes, Some, IsSome, refl, sym, ap, subst, ◌∙◌, rules}
 use Rattle.std.proofs.Common.{append_assoc, append-nil}
 use Rattle.std.proofs.lemmas.List.{drop_all, length-map}
 use Rattle.std.specs.Fmt.{decimal}
 use Rattle.pb_frame.proofs.Lists.{Some-injective, first-finds, eqb-refl}
+use Rattle.pb_frame.proofs.Things.{thing_within, from_here}
 use Rattle.pb_drive.specs.Rests.{IsRestIn}
-use Rattle.pb_lan.specs.LastShapes.{last_shape}
 use Rattle.pb_lan.specs.declared.plan.Plan.{Plan}
 use Rattle.pb_lan.specs.declared.plan.Spanning.{Spanning}
 use Rattle.pb_lan.specs.declared.plan.Spanning.TheVariants.{Fixed, Rstp}
@@ -14,39 +14,22 @@ use Rattle.pb_lan.specs.declared.record.Record.{Record}
 use Rattle.pb_lan.specs.declared.shape.PortState.{PortState}
 use Rattle.pb_lan.specs.declared.shape.Shape.{Shape}
 use Rattle.pb_lan.specs.declared.step.Step.{Step}
-use Rattle.pb_relay.specs.Machines.{machine_in, machine_by}
+use Rattle.pb_relay.specs.Machines.{machine_in}
+use Rattle.pb_relay.proofs.CauseLemmas.{a_machine}
 use Rattle.pb_rstp.specs.Ports.{Machine, port_of}
 use Rattle.pb_rstp.specs.Profile.{machine_of}
 use Rattle.pb_rstp.specs.Readings.{roles_of, states_of}
 use Rattle.pb_rstp.specs.declared.port.Port.{Port}
 use Rattle.pb_rstp.specs.declared.role.Role.{Role}
 use Rattle.pb_tree.specs.TreeTexts.{designated_at, port_words, port_line, IsServiceTextAt, AreServiceTexts}
-use Rattle.pb_tree.specs.TreeTexts.{IsGivenText, IsProtocolText, IsTreeText}
+use Rattle.pb_tree.specs.TreeTexts.{IsProtocolText, IsTreeText}
 use Rattle.pb_settle.specs.declared.rest.Rest.{Rest}
 use Rattle.pb_settle.specs.declared.rest.Rest.TheVariants.{Given, Settled, Unsettled}
-
--- the bridges have machines where they decide the states
-pub machine_there : (plan : Plan) (n : ℕ) (steps : List Step) → plan.spanning ≡ Rstp
-    → machine_in plan n steps ≡ Some (machine_of plan n steps)
-unfolding machine_in
-machine_there plan n steps e = ap (λ s. machine_by s (machine_of plan n steps)) e
 
 -- a bridge's own machine
 pub machine_is : (plan : Plan) (n : ℕ) (steps : List Step) (machine : Machine) → plan.spanning ≡ Rstp
     → Some machine ≡ machine_in plan n steps → machine ≡ machine_of plan n steps
-machine_is plan n steps machine e h = Some-injective (h ∙ machine_there plan n steps e)
-
--- the ports from here on
-drop_step : {X : Type 0} (xs : List X) (k : ℕ) (x : X) → slice_get xs k ≡ Some x → drop k xs ≡ x ∷ drop (k + 1) xs
-drop_step [] k x h = cc
-drop_step (y ∷ xs) zero x h = let e : y ≡ x = Some-injective h in ap (λ z. z ∷ xs) e
-drop_step (y ∷ xs) (suc k) x h = let e : suc (k + 1) ≡ suc k + 1 =
-    omega arith in subst (λ m. drop k xs ≡ x ∷ drop m (y ∷ xs)) e (drop_step xs k x h)
-
-pub item_there : {X : Type 0} (xs : List X) (k : ℕ) → k < length xs → (x : X) × (slice_get xs k ≡ Some x)
-item_there [] k h = absurd (omega (arith, h))
-item_there (x ∷ xs) zero h = (x, refl)
-item_there (x ∷ xs) (suc k) h = item_there xs k (omega (arith, h))
+machine_is plan n steps machine e h = Some-injective (h ∙ a_machine plan n steps e)
 
 role_at : (ports : List Port) (k : ℕ) (p : Port) (other : ℕ × Role) → slice_get ports k ≡ Some p
     → get_or (roles_of ports) k other ≡ (p.number, p.role)
@@ -75,7 +58,7 @@ pub ports_more : (plan : Plan) (bridge : ℕ) (machine : Machine) (roles : List 
     → out ++ flat_map (port_line plan bridge machine) (drop k machine.ports) ≡ all
     → more ++ flat_map (port_line plan bridge machine) (drop (k + 1) machine.ports) ≡ all
 ports_more plan bridge machine roles states k from d s out more all are_roles are_states within from_is grown so_far =
-    let at = item_there machine.ports k (role_count machine.ports roles k are_roles within) in
+    let at = thing_within machine.ports k (role_count machine.ports roles k are_roles within) in
     let p = at.0 in
     let r_is : get_or roles k d ≡ (p.number, p.role) = ap (λ xs. get_or xs k d) are_roles
     ∙ role_at machine.ports k p d at.1 in
@@ -89,13 +72,13 @@ ports_more plan bridge machine roles states k from d s out more all are_roles ar
     ∙ ap (port_words plan bridge p.number p.role p.state) f_is in
     let rest = flat_map (port_line plan bridge machine) (drop (k + 1) machine.ports) in
     ap (λ z. z ++ rest) (grown ∙ ap (λ w. out ++ w) line) ∙ append_assoc out (port_line plan bridge machine p) rest
-    ∙ sym (ap (λ ps. out ++ flat_map (port_line plan bridge machine) ps) (drop_step machine.ports k p at.1)) ∙ so_far
+    ∙ sym (ap (λ ps. out ++ flat_map (port_line plan bridge machine) ps) (from_here machine.ports k p at.1)) ∙ so_far
 
 -- each of the roles is a port's
 pub port_is_there : (ports : List Port) (roles : List (ℕ × Role)) (k : ℕ) (d : ℕ × Role) → roles ≡ roles_of ports
     → k < length roles → IsSome (port_of ports (get_or roles k d).0)
 port_is_there ports roles k d are_roles within =
-    let at = item_there ports k (role_count ports roles k are_roles within) in
+    let at = thing_within ports k (role_count ports roles k are_roles within) in
     let p = at.0 in
     let r_is : get_or roles k d ≡ (p.number, p.role) = ap (λ xs. get_or xs k d) are_roles ∙ role_at ports k p d at.1 in
     let found = first-finds (λ (q : Port). q.number == p.number) ports k p at.1 (eqb-refl p.number) in
@@ -109,7 +92,7 @@ pub services_more : (plan : Plan) (shape : Shape) (k : ℕ) (done text rest : Li
     → AreServiceTexts plan shape plan.services ((done ++ text) ++ rest)
 services_more plan shape k done text rest (service, there, is) complete are =
     let here : AreServiceTexts plan shape (drop k plan.services) (text ++ rest) =
-    subst (λ ss. AreServiceTexts plan shape ss (text ++ rest)) (sym (drop_step plan.services k service there))
+    subst (λ ss. AreServiceTexts plan shape ss (text ++ rest)) (sym (from_here plan.services k service there))
     (text, rest, refl, is, are) in
     subst (λ t. AreServiceTexts plan shape plan.services t) (sym (append_assoc done text rest))
     (complete (text ++ rest) here)
@@ -141,15 +124,6 @@ pub item_is : {X : Type 0} (xs : List X) (k : ℕ) (x : X) → slice_get xs k �
 item_is [] k x h = cc
 item_is (y ∷ xs) zero x h = sym (Some-injective h)
 item_is (y ∷ xs) (suc k) x h = item_is xs k x h
-
--- the trees, by who decides the states
-pub given_tree : (plan : Plan) (rec : Record) (spanning : Spanning) (rest : Rest) (text : List ℕ)
-    → IsRestIn spanning rest → spanning ≡ Fixed → IsGivenText plan (last_shape plan rec) text
-    → IsTreeText plan rec rest text
-given_tree plan rec Fixed Given text fits e t = t
-given_tree plan rec Fixed (Settled ticks) text fits e t = absurd fits
-given_tree plan rec Fixed (Unsettled ticks) text fits e t = absurd fits
-given_tree plan rec Rstp rest text fits e t = cc
 
 pub protocol_tree : (plan : Plan) (rec : Record) (spanning : Spanning) (rest : Rest) (text : List ℕ)
     → IsRestIn spanning rest → spanning ≡ Rstp → IsProtocolText plan rec rest text → IsTreeText plan rec rest text

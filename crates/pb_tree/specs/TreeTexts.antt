@@ -3,6 +3,7 @@ use Rattle.std.specs.Prelude.{◌≡◌, ◌⊎◌, ℕ, Bool, true, false, List
 use Rattle.std.specs.Fmt.{decimal}
 use Rattle.std.specs.Option.{option_map}
 use Rattle.std.specs.declared.option.Option.{Option}
+use Rattle.pb_forest.specs.Paths.{depth_of}
 use Rattle.pb_frame.specs.Lists.{first}
 use Rattle.pb_lan.specs.Forests.{IsForest, Shows}
 use Rattle.pb_lan.specs.LastShapes.{last_shape}
@@ -90,18 +91,15 @@ given_bridge_lines plan shape bridge =
 abbrev pub given_lines : Plan → Shape → List ℕ
 given_lines plan shape = flat_map (given_bridge_lines plan shape) (numbers_from 1 plan.bridges)
 
--- the link from a bridge to its parent, if it has one, and how many links lead up to its root
+-- the link from a bridge to its parent, if it has one
 abbrev pub up_at : Rooted → ℕ → Option ℕ
 up_at rooted bridge = unwrap_or (numbered rooted.up bridge) None
-
-abbrev pub depth_at : Rooted → ℕ → ℕ
-depth_at rooted bridge = unwrap_or (numbered rooted.depth bridge) 0
 
 -- the line of a bridge below a root of a service's tree
 abbrev pub up_words : Plan → List ℕ → Rooted → ℕ → Option ℕ → List ℕ
 up_words plan service rooted bridge None = []
 up_words plan service rooted bridge (Some link) =
-    codes "service " ++ service ++ codes " bridge " ++ bridge_name plan bridge ++ codes " up " ++ link_name plan link ++ codes " depth " ++ decimal (depth_at rooted bridge) ++ 10 ∷ []
+    codes "service " ++ service ++ codes " bridge " ++ bridge_name plan bridge ++ codes " up " ++ link_name plan link ++ codes " depth " ++ decimal (depth_of rooted bridge) ++ 10 ∷ []
 
 abbrev pub up_line : Plan → List ℕ → Rooted → ℕ → List ℕ
 up_line plan service rooted bridge = up_words plan service rooted bridge (up_at rooted bridge)

@@ -1,8 +1,9 @@
 //! The trees of services.
 
 ghost use Rattle.std.specs.Prelude.{◌≡◌, ◌<◌, ◌++◌, List, ℕ, length, string_bytes, OnOk};
+ghost use Rattle.pb_forest.specs.Paths.{depth_of};
 ghost use Rattle.pb_lan.specs.Plans.{IsSound};
-ghost use Rattle.pb_tree.specs.TreeTexts.{up_at, depth_at, up_line, up_lines, AreServiceTexts, IsServiceTextAt};
+ghost use Rattle.pb_tree.specs.TreeTexts.{up_at, up_line, up_lines, AreServiceTexts, IsServiceTextAt};
 
 use pb_forest::forest;
 use pb_frame::Memory;
@@ -25,7 +26,7 @@ fn up_at(rooted: &Rooted, bridge: u8) -> Option<u8>
 
 /// How many links lead up from a bridge to its root.
 fn depth_at(rooted: &Rooted, bridge: u8) -> u8
-    ensures { result ≡ depth_at rooted.now bridge }
+    ensures { result ≡ depth_of rooted.now bridge }
 {
     if bridge == 0 {
         return 0;

@@ -1,14 +1,8 @@
 -- Steps of `All`.
-use Rattle.std.proofs.Common.{◌≡◌, Ok, Err, IfErr, List, [], ◌∷◌, ◌++◌, All, map, refl, sym, append_assoc}
+use Rattle.std.proofs.Common.{◌≡◌, Ok, Err, IfErr, List, [], ◌∷◌, ◌++◌, All, map, refl, append_assoc}
 use Rattle.std.proofs.lemmas.List.{map-append}
 use Rattle.std.specs.declared.result.Result.{Result}
-use Rattle.std.proofs.lemmas.List.Elements.{All-head, All-rest, All-same, All-push}
-
-pub all_rest : {X : Type 0} → (P : X → Type 0) (x : X) (xs ys : List X) → ys ≡ x ∷ xs → All P ys → All P xs
-all_rest P x xs ys e h = All-rest P x xs ys e h
-
-pub all_head : {X : Type 0} → (P : X → Type 0) (x : X) (xs ys : List X) → ys ≡ x ∷ xs → All P ys → P x
-all_head P x xs ys e h = All-head P x xs (All-same P (x ∷ xs) ys (sym e) h)
+use Rattle.std.proofs.lemmas.List.Elements.{All-same, All-push}
 
 pub all_more : {X : Type 0} → (P : X → Type 0) (y : X) (xs ys : List X) → ys ≡ xs ++ y ∷ [] → All P xs → P y → All P ys
 all_more P y xs ys e h p = All-same P ys (xs ++ y ∷ []) e (All-push P xs y h p)

@@ -1,7 +1,8 @@
 use Rattle.std.proofs.Common.{◌≤◌, nat_le, ap, subst, sym, ◌∙◌}
+use Rattle.pb_frame.proofs.Lists.{All-passed}
 use Rattle.pb_fdb.specs.Entries.{InOrder, without_station}
 use Rattle.pb_fdb.proofs.LearnLemmas.{swept-renewed}
-use Rattle.pb_fdb.proofs.OrderLemmas.{All-passed, InOrder-filter, InOrder-push}
+use Rattle.pb_fdb.proofs.OrderLemmas.{InOrder-filter, InOrder-push}
 use Rattle.pb_fdb.proofs.table.add.Goals as goal
 
 pub sweep-requires : goal.sweep-requires

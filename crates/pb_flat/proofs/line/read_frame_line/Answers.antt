@@ -2,21 +2,22 @@ use Rattle.std.proofs.Common.{◌≡◌, ◌*◌, ◌∷◌, ◌++◌, length, t
 use Rattle.std.proofs.Common.{nat_eq, codes, eqb}
 use Rattle.std.proofs.lemmas.Bool.{eqb-false}
 use Rattle.std.specs.List.{list_all, starts_with}
+use Rattle.std.proofs.lemmas.List.{take_rest}
 use Rattle.pb_frame.specs.Hex.{is_digit, IsHex}
 use Rattle.pb_frame.proofs.HexLemmas.{IsHex_digits, IsHex_length}
 use Rattle.pb_said.specs.Words.{port_of}
-use Rattle.pb_flat.proofs.WordLemmas.{space_in, same_parts, slice_from, three}
+use Rattle.pb_flat.proofs.WordLemmas.{space_in, same_parts, three}
 use Rattle.pb_flat.proofs.line.read_frame_line.Goals as goal
 
 pub returns-in_default-clause-none : goal.returns-in_default-clause-none
 returns-in_default-clause-none c = λ port frame l.
-    let none = rw slice_from at c.in_default.ensures.whole in
+    let none = rw take_rest at c.in_default.ensures.whole in
     let rest : drop 3 c.args.line.now ≡ l.digits ++ 32 ∷ l.hex = ap (λ z. drop 3 z) l.spelled in
     space_in l.digits l.hex (rw rest at none)
 
 pub returns-in_default-read_port-clause-none : goal.returns-in_default-read_port-clause-none
 returns-in_default-read_port-clause-none c = λ port frame l.
-    let parts = rw slice_from at c.in-Some.ensures.parts in
+    let parts = rw take_rest at c.in-Some.ensures.parts in
     let same = same_parts c.args.limit c.args.ports c.args.line.now c.in-Some.digits.now c.in-Some.hex.now port frame
     l parts.1 parts.0 in
     let number : port_of c.in-Some.digits.now ≡ Some port = rw same.0 at l.number in
@@ -25,7 +26,7 @@ returns-in_default-read_port-clause-none c = λ port frame l.
 
 pub returns-in-Ok-clause-some : goal.returns-in-Ok-clause-some
 returns-in-Ok-clause-some c =
-    let parts = rw slice_from at c.in-Some.ensures.parts in
+    let parts = rw take_rest at c.in-Some.ensures.parts in
     let begins : starts_with nat_eq c.args.line.now (codes "in ") ≡ true = search rules in
     let hex : IsHex c.in-Some.hex.now c.in-Ok.frame = search rules in
     record {
@@ -44,7 +45,7 @@ returns-in-Ok-clause-some c =
 
 pub returns-in-Err-Digit-clause-none : goal.returns-in-Err-Digit-clause-none
 returns-in-Err-Digit-clause-none c = λ port frame l.
-    let parts = rw slice_from at c.in-Some.ensures.parts in
+    let parts = rw take_rest at c.in-Some.ensures.parts in
     let same = same_parts c.args.limit c.args.ports c.args.line.now c.in-Some.digits.now c.in-Some.hex.now port frame
     l parts.1 parts.0 in
     let digits : list_all is_digit c.in-Some.hex.now ≡ true = rw same.1 at (IsHex_digits l.hex frame l.octets) in
@@ -53,7 +54,7 @@ returns-in-Err-Digit-clause-none c = λ port frame l.
 
 pub returns-in-Err-Odd-clause-none : goal.returns-in-Err-Odd-clause-none
 returns-in-Err-Odd-clause-none c = λ port frame l.
-    let parts = rw slice_from at c.in-Some.ensures.parts in
+    let parts = rw take_rest at c.in-Some.ensures.parts in
     let same = same_parts c.args.limit c.args.ports c.args.line.now c.in-Some.digits.now c.in-Some.hex.now port frame
     l parts.1 parts.0 in
     let even : length c.in-Some.hex.now ≡ 2 * length frame = rw same.1 at (IsHex_length l.hex frame l.octets) in

@@ -1,4 +1,4 @@
-use Rattle.std.proofs.Common.{◌≡◌, ◌≢◌, sym, subst, ◌∙◌}
+use Rattle.std.proofs.Common.{◌≢◌, sym, subst, ◌∙◌}
 use Rattle.std.specs.Prelude.{IfErr}
 use Rattle.pb_said.specs.declared.fault.CommandFault.TheVariants.{Write}
 use Rattle.pb_flat.specs.Progress.{PrintsBeginning}

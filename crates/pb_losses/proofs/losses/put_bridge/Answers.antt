@@ -1,4 +1,4 @@
-use Rattle.std.proofs.Common.{◌≡◌, ◌++◌, flat_map, string_bytes, subst, OnOk}
+use Rattle.std.proofs.Common.{◌≡◌, ◌++◌, string_bytes, subst, OnOk}
 use Rattle.pb_frame.proofs.TextLemmas.{last_piece}
 use Rattle.pb_losses.specs.Losses.{source_lines}
 use Rattle.pb_losses.proofs.losses.put_bridge.Goals as goal

@@ -1,6 +1,6 @@
-use Rattle.pb_net.proofs.OneMore.{here_is}
 use Rattle.pb_net.proofs.StartLemmas.{fresh_lanes-more}
 use Rattle.pb_net.proofs.start.fresh_lanes.Goals as goal
+use Rattle.pb_frame.proofs.Things.{here_is}
 
 pub loop-link-preserved : goal.loop-link-preserved
 loop-link-preserved c =

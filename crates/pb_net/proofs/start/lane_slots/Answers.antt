@@ -1,5 +1,5 @@
 use Rattle.std.proofs.Common.{◌≡◌, ◌<◌, Some, slice_get}
-use Rattle.pb_net.proofs.OneMore.{here_is}
+use Rattle.pb_frame.proofs.Things.{here_is}
 use Rattle.pb_net.proofs.StartLemmas.{lane_slots-more, ends_numbered}
 use Rattle.pb_net.proofs.start.lane_slots.Goals.{After-link-item}
 use Rattle.pb_net.proofs.start.lane_slots.Goals as goal

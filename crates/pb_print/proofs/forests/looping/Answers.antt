@@ -1,9 +1,10 @@
 use Rattle.std.proofs.Common.{◌≡◌, ◌++◌, ◌∷◌, ◌<◌, [], not, map, drop, get_or, length, refl, sym, ap, subst, ◌∙◌}
 use Rattle.std.proofs.Common.{arith, append-nil, append_assoc}
 use Rattle.std.proofs.lemmas.List.{drop_all, map-append}
+use Rattle.pb_frame.proofs.Things.{from_here, here_is}
 use Rattle.pb_forest.specs.Searching.{AnswersForest}
 use Rattle.pb_print.specs.ForestTexts.{AreLooping}
-use Rattle.pb_print.proofs.CheckLemmas.{from_one, vid_there, with_ring, without_ring, ring_told, forest_told}
+use Rattle.pb_print.proofs.CheckLemmas.{vid_there, with_ring, without_ring, ring_told, forest_told}
 use Rattle.pb_print.proofs.forests.looping.Goals as goal
 use Rattle.pb_print.proofs.forests.looping.Goals.{then-is_none+in_ok-push, else-is_none}
 
@@ -16,7 +17,7 @@ loop-index-preserved c = λ rest are.
     let all : c.as_slice-service-items.result.now ≡ plan.services = c.as_slice-service-items.ensures in
     let within : i < length plan.services = omega (arith, c.loop-index-test.true, ap length all) in
     let is : service ≡ get_or plan.services i service = c.service-item.is ∙ ap (λ xs. get_or xs i service) all in
-    let e = from_one plan.services i service within is in
+    let e = from_here plan.services i service (here_is plan.services i service within is) in
     let answers : AnswersForest plan shape service.vid c.in_ok-forest.field-0 =
     subst (λ vid. AnswersForest plan shape vid c.in_ok-forest.field-0) (vid_there plan i service within is)
     c.in_ok-forest.ensures in

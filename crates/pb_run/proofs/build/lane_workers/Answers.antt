@@ -1,8 +1,8 @@
 use Rattle.std.proofs.Common.{◌+◌, ◌∙◌, arith}
+use Rattle.pb_frame.proofs.Things.{here_is}
 use Rattle.pb_run.specs.Wires.{HasOuter}
 use Rattle.pb_run.proofs.EndsThere.{link_ports, first_there, others_there, after_link, apart_after_link}
 use Rattle.pb_run.proofs.Gifts.{is_lane_gift, lanes_pushed}
-use Rattle.pb_run.proofs.Lists.{here_is}
 use Rattle.pb_run.proofs.build.lane_workers.Goals as goal
 
 pub outer-to_a-requires : goal.outer-to_a-requires

@@ -1,11 +1,13 @@
 use Rattle.std.proofs.Common.{◌≡◌, ◌+◌, ◌-◌, suc, get_or, sym, ap, ◌∙◌, arith}
 use Rattle.std.proofs.lemmas.List.{length-map}
 use Rattle.pb_frame.proofs.Lists.{Some-injective}
+use Rattle.pb_frame.proofs.Things.{here_is}
 use Rattle.pb_lan.specs.PortLists.{fed, delivered}
 use Rattle.pb_lan.specs.Records.{received, transmitted}
-use Rattle.pb_run.specs.Gifts.{AccessGift, access_gift}
+use Rattle.pb_run.specs.Gifts.{access_gift}
+use Rattle.pb_run.specs.declared.gift.AccessGift.{AccessGift}
 use Rattle.pb_run.proofs.Gifts.{customer_stands}
-use Rattle.pb_run.proofs.Lists.{here_is, thing_is, both_kept_at}
+use Rattle.pb_run.proofs.Lists.{thing_is, both_kept_at}
 use Rattle.pb_run.proofs.Meeting.{bridge_here, bridge_rings, gift_is, begins_there, customer_meets}
 use Rattle.pb_run.proofs.meet.meet_access.Goals as goal
 
@@ -23,8 +25,8 @@ meet_customer-requires g c =
     c.index_mut.ensures.value in
     record {
       port = (omega (arith, stands.port.0), omega (arith, stands.port.1, rings.2, count));
-      into = rings.0 ∙ sym (ap (λ (z : AccessGift). z.1) gift);
-      out = rings.1 ∙ sym (ap (λ (z : AccessGift). z.2) gift);
+      into = rings.0 ∙ sym (ap (λ (z : AccessGift). z.feed) gift);
+      out = rings.1 ∙ sym (ap (λ (z : AccessGift). z.drain) gift);
     }
 
 pub returns-clause-bridges : goal.returns-clause-bridges

@@ -2,7 +2,7 @@ use Rattle.std.proofs.Common.{◌+◌, ◌-◌, sym, ap, ◌∙◌, arith}
 use Rattle.std.proofs.lemmas.List.{length-map}
 use Rattle.pb_lan.specs.LaneLists.{taken}
 use Rattle.pb_lan.specs.Records.{transmitted}
-use Rattle.pb_run.specs.Gifts.{LaneGift}
+use Rattle.pb_run.specs.declared.gift.LaneGift.{LaneGift}
 use Rattle.pb_run.proofs.Lists.{thing_is, both_kept_at}
 use Rattle.pb_run.proofs.Meeting.{bridge_here, bridge_rings, gift_is, begins_there}
 use Rattle.pb_run.proofs.meet.meet_away.Goals as goal
@@ -24,7 +24,7 @@ meet_lane_away-requires-clause-ring g c =
     c.requires.bridges end.bridge end.port c.from.ensures c.index_mut-bridge.ensures.value in
     let gift = gift_is _ c.args.lanes.now.items c.args.place c.index_mut.result.now _ c.requires.lane.3
     c.index_mut.ensures.value in
-    rings.1 ∙ sym (ap (λ (z : LaneGift). z.1) gift)
+    rings.1 ∙ sym (ap (λ (z : LaneGift). z.from) gift)
 
 pub returns-clause-bridges : goal.returns-clause-bridges
 returns-clause-bridges g c = both_kept_at _ _ _ _ _ c.index_mut-bridge.result.now c.index_mut-bridge.ensures.value

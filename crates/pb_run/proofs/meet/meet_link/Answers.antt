@@ -1,10 +1,10 @@
 use Rattle.std.proofs.Common.{◌≡◌, ◌+◌, ◌*◌, Some, get_or, slice_get, refl, sym, ap, ◌∙◌, arith}
 use Rattle.pb_frame.proofs.Lists.{Some-injective}
+use Rattle.pb_frame.proofs.Things.{here_is}
 use Rattle.pb_lan.specs.LaneLists.{taken, put}
 use Rattle.pb_lan.specs.Plans.{IsSoundEnd}
 use Rattle.pb_lan.specs.Records.{received, transmitted}
 use Rattle.pb_run.proofs.Gifts.{link_ends}
-use Rattle.pb_run.proofs.Lists.{here_is}
 use Rattle.pb_run.proofs.Meeting.{as_before, link_meets}
 use Rattle.pb_run.proofs.meet.meet_link.Given.{Over}
 use Rattle.pb_run.proofs.meet.meet_link.Goals.{After-index-as_slice-place}

@@ -1,6 +1,7 @@
 use Rattle.std.proofs.Common.{◌≡◌, [], map, sym, ap, ◌∙◌, rules}
 use Rattle.std.proofs.lemmas.List.Elements.{All-head, All-rest, All-same}
-use Rattle.pb_run.specs.Gifts.{AccessGift, given_access}
+use Rattle.pb_run.specs.Gifts.{given_access}
+use Rattle.pb_run.specs.declared.gift.AccessGift.{AccessGift}
 use Rattle.pb_run.specs.Ports.{KeepsPort}
 use Rattle.pb_run.specs.declared.customer.CustomerWorker.{CustomerWorker}
 use Rattle.pb_run.specs.declared.access.Access.{Access}

@@ -20,7 +20,7 @@ pub told_of-counts-requires-clause-back : goal.told_of-counts-requires-clause-ba
 told_of-counts-requires-clause-back g c = record {
   accesses = accesses_back _ _ _ _ _ _ _ c.args.plan.now (length c.args.plan.now.customers)
       c.run_all-places.ensures.customers.0 c.apart-ports.ensures.accesses c.attended-customers.ensures.gifts
-      (λ t. (t.1, t.3, t.4)) (λ w. refl) c.requires.built.accesses;
+      (λ t. t.access) (λ w. refl) c.requires.built.accesses;
   lanes = rw c.run_all-places.ensures.lanes.0 c.requires.built.lanes;
   bridges = rw c.run_all-places.ensures.bridges.0 c.requires.built.bridges;
 }
@@ -33,7 +33,7 @@ returns-clause-run g c =
       planned = told.steps.planned;
       ports = run_kept _ _ _ _ _ _ _ _ _ _ _ _ _ _ _ c.run_all-places.ensures.customers.0
           c.attended-customers.ensures.ports c.apart-ports.ensures.ports
-          c.apart-ports.ensures.accesses told.customers c.apart-ports.ensures.lasts (λ t. t.0.value) (λ w. refl)
+          c.apart-ports.ensures.accesses told.customers c.apart-ports.ensures.lasts (λ t. t.was.value) (λ w. refl)
           c.run_all-places.ensures.customers.1;
       ended = tells_ended c.args.plan.now c.told_of-counts.result.counts c.apart-ports.result.lasts.items
           c.as_slice-5.result.now c.has_drained.result

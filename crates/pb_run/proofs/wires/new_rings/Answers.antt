@@ -1,6 +1,6 @@
 use Rattle.std.proofs.Common.{◌≡◌, [], arith}
+use Rattle.pb_frame.proofs.Things.{each_more}
 use Rattle.rtrb.specs.Ring.{sent, received, IsPair}
-use Rattle.pb_run.proofs.Lists.{each_more}
 use Rattle.pb_run.proofs.wires.new_rings.Goals as goal
 
 pub loop-number-preserved : goal.loop-number-preserved

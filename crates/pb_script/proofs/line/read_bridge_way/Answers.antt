@@ -1,11 +1,8 @@
-use Rattle.std.proofs.Common.{◌≡◌, ℕ, List, [], Option, Some, unwrap_or, sym, ap, subst, ◌∙◌}
+use Rattle.std.proofs.Common.{◌≡◌, Some, sym, subst, ◌∙◌}
+use Rattle.pb_frame.proofs.Things.{same_parts}
 use Rattle.pb_script.specs.Lines.{IsWay}
 use Rattle.pb_said.specs.Words.{cut}
 use Rattle.pb_script.proofs.line.read_bridge_way.Goals as goal
-
--- the same two parts
-same_parts : (a b x y : List ℕ) → ◌≡◌ {A = Option (List ℕ × List ℕ)} (Some (a, b)) (Some (x, y)) → (a ≡ x) × (b ≡ y)
-same_parts a b x y e = let f = ap (λ o. unwrap_or o ([], [])) e in (ap (λ p. p.0) f, ap (λ p. p.1) f)
 
 pub returns-in-None-clause-none : goal.returns-in-None-clause-none
 returns-in-None-clause-none c = λ bridge port up w.

@@ -1,6 +1,6 @@
 use Rattle.std.proofs.Common.{◌≡◌, ◌<◌, ◌+◌, ◌-◌, ◌++◌, drop, length, get_or, sym, ap, ◌∙◌, arith, append_assoc}
+use Rattle.std.proofs.lemmas.List.{drop_more}
 use Rattle.pb_trace.specs.Onwards.{copies_of, sendings}
-use Rattle.pb_trace.proofs.TextLemmas.{from_one}
 use Rattle.pb_trace.proofs.following.push_sendings.Goals as goal
 
 pub loop-place-preserved : goal.loop-place-preserved
@@ -17,4 +17,4 @@ loop-place-preserved c =
     let here = copies_of bridge refused (get_or chosen p 0) in
     c.in_ok-push_sending.ensures ∙ ap (λ z. z ++ here) before
     ∙ append_assoc old (sendings bridge refused (drop (p + 1) chosen)) here
-    ∙ sym (ap (λ xs. old ++ sendings bridge refused xs) (from_one chosen p 0 inside))
+    ∙ sym (ap (λ xs. old ++ sendings bridge refused xs) (drop_more chosen p 0 inside))

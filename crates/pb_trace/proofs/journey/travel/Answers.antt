@@ -1,5 +1,5 @@
 use Rattle.std.proofs.Common.{◌++◌, string_bytes, ap, ◌∙◌, append_assoc}
-use Rattle.pb_net.proofs.OneMore.{here_is}
+use Rattle.pb_frame.proofs.Things.{here_is}
 use Rattle.pb_naming.specs.Numbers.{port_named}
 use Rattle.pb_trace.proofs.StoryLemmas.{stories-more, round_told, entry_lacks_port, entry_is_none}
 use Rattle.pb_trace.proofs.journey.travel.Goals as goal

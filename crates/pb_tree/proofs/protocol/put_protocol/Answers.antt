@@ -1,9 +1,10 @@
 use Rattle.std.proofs.Common.{◌≡◌, ◌<◌, ◌+◌, ◌++◌, string_bytes, ap, subst, ◌∙◌}
+use Rattle.pb_relay.proofs.CauseLemmas.{a_machine}
 use Rattle.pb_lan.specs.Records.{steps_of}
 use Rattle.pb_rstp.specs.Profile.{machine_of}
 use Rattle.pb_tree.specs.TreeTexts.{bridge_lines, own_lines}
 use Rattle.pb_naming.proofs.TextLemmas.{numbers_more}
-use Rattle.pb_tree.proofs.TextLemmas.{machine_there, machine_is}
+use Rattle.pb_tree.proofs.TextLemmas.{machine_is}
 use Rattle.pb_tree.proofs.protocol.put_protocol.Goals as goal
 
 pub unreachable-requires : goal.unreachable-requires
@@ -11,7 +12,7 @@ unreachable-requires c =
     let net = c.args.net.now in
     let n = c.loop-place.place + 1 in
     let rstp = ap (λ p. p.spanning) c.requires.plan ∙ c.requires.protocol in
-    let e = c.in_default.ensures ∙ machine_there net.plan n (steps_of net.rec.bridges n) rstp in
+    let e = c.in_default.ensures ∙ a_machine net.plan n (steps_of net.rec.bridges n) rstp in
     cc
 
 pub loop-place-preserved : goal.loop-place-preserved

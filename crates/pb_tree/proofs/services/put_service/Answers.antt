@@ -1,18 +1,18 @@
 use Rattle.std.proofs.Common.{◌≡◌, ◌++◌, [], get_or, string_bytes, inl, inr, refl, sym, ap, subst, ◌∙◌, append-nil}
 use Rattle.std.proofs.lemmas.Result.{on_ok_weaker}
+use Rattle.pb_frame.proofs.Things.{thing_within, here_is}
 use Rattle.pb_lan.specs.Forests.{IsForest, Shows}
 use Rattle.pb_lan.specs.declared.plan.ServicePlan.{ServicePlan}
-use Rattle.pb_net.proofs.OneMore.{here_is}
 use Rattle.pb_print.proofs.CheckLemmas.{vid_there}
 use Rattle.pb_tree.specs.TreeTexts.{up_lines}
-use Rattle.pb_tree.proofs.TextLemmas.{item_there, item_is}
+use Rattle.pb_tree.proofs.TextLemmas.{item_is}
 use Rattle.pb_tree.proofs.services.put_service.Goals as goal
 
 pub returns-in_default : goal.returns-in_default
 returns-in_default c =
     let plan = c.args.plan.now in
     let shape = c.args.shape.now in
-    let at = item_there plan.services c.args.place c.requires.there in
+    let at = thing_within plan.services c.args.place c.requires.there in
     let none = rw c.in_default.is at c.in_ok-rooted.ensures in
     let vid = vid_there plan c.args.place at.0 c.requires.there (item_is plan.services c.args.place at.0 at.1) in (
       [],

@@ -5,12 +5,13 @@ use Rattle.std.specs.List.{filter}
 use Rattle.std.specs.Option.{option_map, option_to_list}
 use Rattle.indexmap.specs.IndexMap.{get, keys}
 use Rattle.pb_frame.specs.Stations.{is_sighted}
+use Rattle.pb_frame.proofs.Things.{none_from}
 use Rattle.pb_fdb.specs.declared.station.LastSeen.{LastSeen}
 use Rattle.pb_fdb.specs.declared.station.Station.{Station}
 use Rattle.pb_fdb.specs.Entries.{sighting_of}
 use Rattle.pb_fdb.specs.Journals.{is_same, is_of, entry_of, entries_from, place_after, stations, HasEach, IsIndexWith}
 use Rattle.pb_fdb.proofs.LogLemmas.{found-sighted, entries-put, each-with, one-more}
-use Rattle.pb_fdb.proofs.SlotLemmas.{found-station, none-seen, stations-put}
+use Rattle.pb_fdb.proofs.SlotLemmas.{found-station, stations-put}
 use Rattle.pb_fdb.proofs.journal.Journal.renew.Goals.{After-push_back_reserved}
 use Rattle.pb_fdb.proofs.journal.Journal.renew.Goals as goal
 
@@ -18,7 +19,7 @@ pub returns-in_err-slot-clause-old : goal.returns-in_err-slot-clause-old
 returns-in_err-slot-clause-old c =
     let f = get is_same c.free_place.new.index in
     let key : Station = record { vid = c.args.new.vid; mac = c.args.new.mac } in
-    let none : f key ≡ None = none-seen (f key) (sym c.get_index_of.ensures.found ∙ ap is_some c.in_err-slot.was) in
+    let none : f key ≡ None = none_from (f key) (sym c.get_index_of.ensures.found ∙ ap is_some c.in_err-slot.was) in
     ap (filter (λ e. is_sighted c.args.new.vid c.args.new.mac.0 (sighting_of e)))
     (sym (c.free_place.ensures.entries ∙ c.self.view_is))
     ∙ found-sighted f c.free_place.new.first (stations c.free_place.new.log.items) c.free_place.ensures.each

@@ -1,10 +1,11 @@
 use Rattle.std.proofs.Common.{sym, ◌∙◌}
 use Rattle.std.proofs.lemmas.Result.{err_from_is_err_and}
+use Rattle.std.proofs.lemmas.Bool.{or_parts}
 use Rattle.pb_lan.specs.declared.event.Event.TheVariants.{Put}
 use Rattle.pb_net.specs.Answers.{IsDue}
 use Rattle.pb_net.proofs.KnownSpots.{EndAt, end_at, inbox_kept, shown}
 use Rattle.pb_net.proofs.DueLemmas.{due_here, idle_put_is}
-use Rattle.pb_net.proofs.Done.{or_false, lane_failed, put_done, answers_memory, answers_done}
+use Rattle.pb_net.proofs.Done.{lane_failed, put_done, answers_memory, answers_done}
 use Rattle.pb_net.proofs.net.Net.put.Goals as goal
 use Rattle.pb_net.proofs.net.Net.put.Goals.{After-index_mut-2}
 
@@ -18,7 +19,7 @@ due c = due_here c.self.inside c.self.view_is (rw c.in-Some.is at c.in_ok-spot.e
 
 pub put_at-requires : goal.put_at-requires
 put_at-requires c = let h = (goal.at.put_at-requires c).After-index_mut-2 in
-    (or_false _ _ (sym (idle_put_is (at h) c.index_mut-2.ensures.value) ∙ (due h).busy)).0
+    (or_parts _ _ (sym (idle_put_is (at h) c.index_mut-2.ensures.value) ∙ (due h).busy)).0
 
 pub invariant_of-self : goal.invariant_of-self
 invariant_of-self c =

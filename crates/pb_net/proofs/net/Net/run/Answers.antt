@@ -1,8 +1,8 @@
 use Rattle.std.proofs.Common.{◌<◌, List, [], ◌∷◌, ◌++◌, length, take, subst, sym, ◌∙◌, ap, arith}
 use Rattle.std.proofs.lemmas.List.{take_more}
+use Rattle.pb_frame.proofs.Things.{here_is}
 use Rattle.pb_lan.specs.declared.event.Event.{Event}
 use Rattle.pb_net.specs.Answers.{HaveRun}
-use Rattle.pb_net.proofs.OneMore.{here_is}
 use Rattle.pb_net.proofs.Records.{run_stopped, run_more}
 use Rattle.pb_net.proofs.net.Net.run.Goals as goal
 

@@ -1,11 +1,11 @@
 use Rattle.std.proofs.Common.{sym, ◌∙◌}
-use Rattle.std.proofs.lemmas.Bool.{not-false}
+use Rattle.std.proofs.lemmas.Bool.{not-false, or_parts}
 use Rattle.std.proofs.lemmas.Result.{err_from_is_err_and}
 use Rattle.pb_lan.specs.declared.event.Event.TheVariants.{Take}
 use Rattle.pb_net.specs.Answers.{IsDue}
 use Rattle.pb_net.proofs.KnownSpots.{StartAt, start_at, outbox_kept, shown}
 use Rattle.pb_net.proofs.DueLemmas.{due_here, idle_take_is}
-use Rattle.pb_net.proofs.Done.{or_false, some_there, lane_failed, take_done, answers_memory, answers_done}
+use Rattle.pb_net.proofs.Done.{some_there, lane_failed, take_done, answers_memory, answers_done}
 use Rattle.pb_net.proofs.net.Net.take.Goals as goal
 use Rattle.pb_net.proofs.net.Net.take.Goals.{After-index_mut-2}
 
@@ -19,11 +19,11 @@ due c = due_here c.self.inside c.self.view_is (rw c.in-Some.is at c.in_ok-spot.e
 
 pub take_at-requires-clause-empty : goal.take_at-requires-clause-empty
 take_at-requires-clause-empty c = let h = (goal.at.take_at-requires-clause-empty c).After-index_mut-2 in
-    not-false _ (or_false _ _ (sym (idle_take_is (at h) c.index_mut-2.ensures.value) ∙ (due h).busy)).0
+    not-false _ (or_parts _ _ (sym (idle_take_is (at h) c.index_mut-2.ensures.value) ∙ (due h).busy)).0
 
 pub take_at-requires-clause-some : goal.take_at-requires-clause-some
 take_at-requires-clause-some c = let h = (goal.at.take_at-requires-clause-some c).After-index_mut-2 in
-    some_there _ (or_false _ _ (sym (idle_take_is (at h) c.index_mut-2.ensures.value) ∙ (due h).busy)).1
+    some_there _ (or_parts _ _ (sym (idle_take_is (at h) c.index_mut-2.ensures.value) ∙ (due h).busy)).1
 
 pub invariant_of-self : goal.invariant_of-self
 invariant_of-self c =

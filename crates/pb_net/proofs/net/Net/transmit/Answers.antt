@@ -1,12 +1,13 @@
 use Rattle.std.proofs.Common.{refl, sym, ap₂, ◌∙◌}
 use Rattle.std.proofs.lemmas.Result.{err_from_is_err_and}
+use Rattle.std.proofs.lemmas.Bool.{or_parts}
 use Rattle.pb_lan.specs.Ports.{is_used, port_at}
 use Rattle.pb_lan.specs.declared.event.Event.TheVariants.{Transmit}
 use Rattle.pb_lan.specs.declared.plan.Plan.{Plan}
 use Rattle.pb_net.specs.Answers.{IsDue}
 use Rattle.pb_net.proofs.KnownSpots.{BridgeAt, bridge_at, outbox_kept, shown}
 use Rattle.pb_net.proofs.DueLemmas.{due_here, idle_transmit_is, bridge_is}
-use Rattle.pb_net.proofs.Done.{or_false, some_there, bridge_failed, transmit_done, answers_fault, answers_done}
+use Rattle.pb_net.proofs.Done.{some_there, bridge_failed, transmit_done, answers_fault, answers_done}
 use Rattle.pb_net.proofs.net.Net.transmit.Goals as goal
 use Rattle.pb_net.proofs.net.Net.transmit.Goals.{After-index_mut}
 
@@ -24,7 +25,7 @@ transmit_at-requires-clause-used c = let h = (goal.at.transmit_at-requires-claus
 
 pub transmit_at-requires-clause-some : goal.transmit_at-requires-clause-some
 transmit_at-requires-clause-some c = let h = (goal.at.transmit_at-requires-clause-some c).After-index_mut in
-    some_there _ (or_false _ _ (sym (idle_transmit_is (at h) c.index_mut.ensures.value) ∙ (due h).busy)).0
+    some_there _ (or_parts _ _ (sym (idle_transmit_is (at h) c.index_mut.ensures.value) ∙ (due h).busy)).0
 
 pub invariant_of-self : goal.invariant_of-self
 invariant_of-self c =

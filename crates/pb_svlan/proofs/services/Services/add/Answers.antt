@@ -1,7 +1,8 @@
 use Rattle.std.proofs.Common.{◌≡◌, false, ◌==◌, ◌++◌, ◌∷◌, [], ap, sym, ◌∙◌}
 use Rattle.std.specs.List.{list_any}
+use Rattle.pb_frame.proofs.Things.{eqb-symm}
 use Rattle.pb_svlan.specs.ServiceTables.{ServiceTable, has_vid}
-use Rattle.pb_svlan.proofs.ServiceLemmas.{insert_entry-last, eqb-symm}
+use Rattle.pb_svlan.proofs.ServiceLemmas.{insert_entry-last}
 use Rattle.pb_svlan.proofs.services.Services.add.Goals as goal
 
 pub returns-clause-ok : goal.returns-clause-ok
