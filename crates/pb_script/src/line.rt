@@ -80,9 +80,20 @@ fn read_way(word: &[u8]) -> Option<bool>
     }
 }
 
-/// The bridge, its local port and whether that is set up, of the words `BRIDGE PORT WAY`.
-fn read_bridge_way(names: &Names<'_>, words: &[u8]) -> Option<(u8, u8, bool)>
-    ensures some { IfSome result (λ at. IsBridgeWay names.now.plan.now words.now at.0 at.1 at.2) }
+/// A local port of a bridge that is to be set up or down.
+#[derive(Clone, Copy)]
+struct PortSetting {
+    /// The bridge's number.
+    bridge: u8,
+    /// The local port.
+    port: u8,
+    /// Whether it is to be up.
+    up: bool,
+}
+
+/// The port that is to be set, and whether up, of the words `BRIDGE PORT WAY`.
+fn read_bridge_way(names: &Names<'_>, words: &[u8]) -> Option<PortSetting>
+    ensures some { IfSome result (λ at. IsBridgeWay names.now.plan.now words.now at.bridge at.port at.up) }
     ensures none { IfNone result ((bridge port : ℕ) (up : Bool) → IsBridgeWay names.now.plan.now words.now bridge port up → ⊥) }
 {
     let (name, rest) = cut(words)?;
@@ -92,7 +103,11 @@ fn read_bridge_way(names: &Names<'_>, words: &[u8]) -> Option<(u8, u8, bool)>
     }
     let number = read_port(digits)?;
     match read_way(way) {
-        Some(up) => Some((names.bridge(name), local_port(number), up)),
+        Some(up) => Some(PortSetting {
+            bridge: names.bridge(name),
+            port: local_port(number),
+            up,
+        }),
         None => None,
     }
 }
@@ -138,7 +153,7 @@ fn read_words(
             None => return Ok(None),
         },
         Verb::Admin => match read_bridge_way(names, words) {
-            Some((bridge, port, up)) => Event::Admin { bridge, port, up },
+            Some(PortSetting { bridge, port, up }) => Event::Admin { bridge, port, up },
             None => return Ok(None),
         },
         Verb::Take => match read_link_lane(names, words) {
