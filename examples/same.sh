@@ -30,7 +30,7 @@ is_copied() {
 for script in *.steps; do
     name=${script%.steps}
     for part in PLAN:toml STEPS:steps EXPECTED:expected; do
-        is_copied "${part%:*}" "${name//-/_}" pb_step_tests "$name.${part#*:}"
+        is_copied "${part%:*}" "step/${name//-/_}" pb_commands_tests "$name.${part#*:}"
     done
 done
 
@@ -47,20 +47,21 @@ is_copied REASONS examples pb_flat_tests reasons.txt
 is_copied REASONS_ANSWERS examples pb_flat_tests reasons.expected
 
 # check and show.
-is_copied PLAN_FILE examples pb_check_tests plan-file.toml
-is_copied PLAN_FILE_ANSWER examples pb_check_tests plan-file.expected
-is_copied SHOWN examples pb_check_tests show.expected
+is_copied PLAN_FILE check/examples pb_commands_tests plan-file.toml
+is_copied PLAN_FILE_ANSWER check/examples pb_commands_tests plan-file.expected
+is_copied SHOWN check/examples pb_commands_tests show.expected
 
 # init.
-is_copied INIT examples pb_init_tests init.toml
+is_copied INIT init/examples pb_commands_tests init.toml
 
 # run: the metro ring between captures.
 is_copied PLAN captures pb_running_tests captures.toml
 is_copied REPORT captures pb_running_tests captures.report
-for name in none provider camera; do
-    digits=$(od -An -v -tx1 "captures/$name.pcap" | tr -d ' \n')
-    if ! grep -q "\"$digits\"" ../crates/pb_running_tests/src/tests/captures.rt; then
-        echo "examples: captures/$name.pcap is not what crates/pb_running_tests/src/tests/captures.rt has" >&2
+for name in none:plans provider:captures camera:captures; do
+    octets=$(od -An -v -tx1 "captures/${name%:*}.pcap" | tr -d '\n' | sed 's/ 00/\\0/g; s/ \([0-9a-f][0-9a-f]\)/\\x\1/g')
+    test=../crates/pb_running_tests/src/tests/${name#*:}.rt
+    if ! grep -qF "b\"$octets\"" "$test"; then
+        echo "examples: captures/${name%:*}.pcap is not what ${test#../} has" >&2
         status=1
     fi
 done

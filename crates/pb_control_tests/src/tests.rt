@@ -7,4 +7,5 @@ mod folder;
 mod lines;
 mod peers;
 mod plans;
+mod stage;
 mod talk;

@@ -12,14 +12,14 @@ use Rattle.pb_lan.specs.declared.shape.PortState.TheVariants.{Discarding, Learni
 use Rattle.pb_naming.specs.Names.{service_name}
 use Rattle.pb_draw.specs.Titles.{bridge_words, link_words, port_words}
 use Rattle.pb_draw.specs.Words.{losing_word, colour_of}
-use Rattle.pb_draw.specs.declared.facts.Tone.{Tone}
-use Rattle.pb_draw.specs.declared.facts.Tone.TheVariants.{Plain, Lit, Faint}
-use Rattle.pb_draw.specs.declared.facts.LinkFacts.{LinkFacts}
-use Rattle.pb_draw.specs.declared.facts.PortFacts.{PortFacts}
-use Rattle.pb_draw.specs.declared.scene.BridgeMark.{BridgeMark}
-use Rattle.pb_draw.specs.declared.scene.LinkMark.{LinkMark}
-use Rattle.pb_draw.specs.declared.scene.PortMark.{PortMark}
-use Rattle.pb_draw.specs.declared.scene.Scene.{Scene}
+use Rattle.pb_scene.specs.declared.facts.Tone.{Tone}
+use Rattle.pb_scene.specs.declared.facts.Tone.TheVariants.{Plain, Lit, Faint}
+use Rattle.pb_scene.specs.declared.facts.LinkFacts.{LinkFacts}
+use Rattle.pb_scene.specs.declared.facts.PortFacts.{PortFacts}
+use Rattle.pb_scene.specs.declared.scene.BridgeMark.{BridgeMark}
+use Rattle.pb_scene.specs.declared.scene.LinkMark.{LinkMark}
+use Rattle.pb_scene.specs.declared.scene.PortMark.{PortMark}
+use Rattle.pb_scene.specs.declared.scene.Scene.{Scene}
 
 -- the end of a list of attributes: how a part stands out
 abbrev pub tone_style : Tone → List ℕ

@@ -14,14 +14,14 @@ use Rattle.pb_print.specs.Refusals.{PrintsRefusal}
 use Rattle.pb_settle.specs.Drives.{HasRested}
 use Rattle.pb_settle.specs.declared.rest.Rest.{Rest}
 use Rattle.pb_draw.specs.Dot.{dot_text}
-use Rattle.pb_draw.specs.Scenes.{IsSceneOf}
+use Rattle.pb_scene.specs.Scenes.{IsSceneOf}
 use Rattle.pb_draw.specs.Svg.{svg_text}
 use Rattle.pb_draw.specs.declared.asked.Asked.{Asked}
 use Rattle.pb_draw.specs.declared.end.Format.{Format}
 use Rattle.pb_draw.specs.declared.end.Format.TheVariants.{Svg, Dot}
 use Rattle.pb_draw.specs.declared.end.DrawEnd.{DrawEnd}
 use Rattle.pb_draw.specs.declared.end.DrawEnd.TheVariants.{Drawn, Refused, NoPort, NoService}
-use Rattle.pb_draw.specs.declared.scene.Scene.{Scene}
+use Rattle.pb_scene.specs.declared.scene.Scene.{Scene}
 
 -- the plan has the service that is to stand out, if one is; and its number
 abbrev pub is_found : Plan → Option (Bor (List ℕ)) → Bool

@@ -1,5 +1,3 @@
-pub mod Facts
-pub mod Scenes
 pub mod Words
 pub mod Titles
 pub mod SvgLinks

@@ -6,8 +6,8 @@ use Rattle.pb_lan.specs.declared.plan.Plan.{Plan}
 use Rattle.pb_draw.specs.SvgBoxes.{bridge_element, port_element, service_element}
 use Rattle.pb_draw.specs.SvgLinks.{link_element, ends_element}
 use Rattle.pb_draw.specs.Words.{colour_of}
-use Rattle.pb_draw.specs.declared.scene.Point.{Point}
-use Rattle.pb_draw.specs.declared.scene.Scene.{Scene}
+use Rattle.pb_scene.specs.declared.scene.Point.{Point}
+use Rattle.pb_scene.specs.declared.scene.Scene.{Scene}
 use Rattle.pb_draw.specs.declared.style.TheConstants.{STYLE}
 
 -- the colour of what is lit: that of the service that is chosen

@@ -10,11 +10,11 @@ use Rattle.pb_lan.specs.declared.plan.ServicePlan.{ServicePlan}
 use Rattle.pb_naming.specs.Names.{service_name}
 use Rattle.pb_draw.specs.Titles.{bridge_words, port_words}
 use Rattle.pb_draw.specs.Words.{tone_word, colour_of, dashes_of}
-use Rattle.pb_draw.specs.declared.facts.Tone.{Tone}
-use Rattle.pb_draw.specs.declared.scene.BridgeMark.{BridgeMark}
-use Rattle.pb_draw.specs.declared.scene.Point.{Point}
-use Rattle.pb_draw.specs.declared.scene.PortMark.{PortMark}
-use Rattle.pb_draw.specs.declared.scene.ServiceMark.{ServiceMark}
+use Rattle.pb_scene.specs.declared.facts.Tone.{Tone}
+use Rattle.pb_scene.specs.declared.scene.BridgeMark.{BridgeMark}
+use Rattle.pb_scene.specs.declared.scene.Point.{Point}
+use Rattle.pb_scene.specs.declared.scene.PortMark.{PortMark}
+use Rattle.pb_scene.specs.declared.scene.ServiceMark.{ServiceMark}
 
 -- a box with a name
 abbrev pub box_text : Point → List ℕ → List ℕ

@@ -11,11 +11,11 @@ use Rattle.pb_lan.specs.declared.shape.PortState.TheVariants.{Discarding, Learni
 use Rattle.pb_naming.specs.Names.{state_word}
 use Rattle.pb_draw.specs.Titles.{link_words}
 use Rattle.pb_draw.specs.Words.{tone_word, active_word, losing_word}
-use Rattle.pb_draw.specs.declared.facts.LinkFacts.{LinkFacts}
-use Rattle.pb_draw.specs.declared.scene.Lane.{Lane}
-use Rattle.pb_draw.specs.declared.scene.LinkMark.{LinkMark}
-use Rattle.pb_draw.specs.declared.scene.Point.{Point}
-use Rattle.pb_draw.specs.declared.scene.Route.{Route}
+use Rattle.pb_scene.specs.declared.facts.LinkFacts.{LinkFacts}
+use Rattle.pb_scene.specs.declared.scene.Lane.{Lane}
+use Rattle.pb_scene.specs.declared.scene.LinkMark.{LinkMark}
+use Rattle.pb_scene.specs.declared.scene.Point.{Point}
+use Rattle.pb_scene.specs.declared.scene.Route.{Route}
 
 -- a curve from so far left, which bends so far down, to a point
 abbrev pub curve_text : ℕ → ℕ → Point → List ℕ

@@ -11,7 +11,7 @@ use Rattle.pb_lan.specs.declared.plan.LinkPlan.{LinkPlan}
 use Rattle.pb_lan.specs.declared.shape.PortState.{PortState}
 use Rattle.pb_naming.specs.Names.{bridge_name, state_word}
 use Rattle.pb_draw.specs.Words.{is_lossless}
-use Rattle.pb_draw.specs.declared.facts.LinkFacts.{LinkFacts}
+use Rattle.pb_scene.specs.declared.facts.LinkFacts.{LinkFacts}
 
 -- a bridge: its name, its address and its priority
 abbrev pub bridge_words : BridgePlan → List ℕ

@@ -1,8 +1,8 @@
 -- What is named in a picture.
 use Rattle.std.specs.Prelude.{ℕ, Bool, true, false, List, [], length, codes, ◌==◌, ◌&&◌, ◌+◌, ◌/◌, ◌%◌, if◌then◌else◌}
 use Rattle.pb_lan.specs.declared.plan.LinkPlan.{LinkPlan}
-use Rattle.pb_draw.specs.declared.facts.Tone.{Tone}
-use Rattle.pb_draw.specs.declared.facts.Tone.TheVariants.{Plain, Lit, Faint}
+use Rattle.pb_scene.specs.declared.facts.Tone.{Tone}
+use Rattle.pb_scene.specs.declared.facts.Tone.TheVariants.{Plain, Lit, Faint}
 
 abbrev pub tone_word : Tone → List ℕ
 tone_word Plain = codes "plain"

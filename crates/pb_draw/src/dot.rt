@@ -4,14 +4,13 @@ ghost use Rattle.std.specs.Prelude.{◌≡◌, ◌++◌, flat_map, string_bytes,
 ghost use Rattle.pb_draw.specs.Dot.{tone_style, active_style, arrow_word, colour_code, node_head, known_node, bridge_node, edge_ends, arrows_text, edge_label, edge_head, known_edge, link_edge, leaf_edge, leaf_head, leaf_node, known_leaf, port_node, parts_text, dot_text};
 ghost use Rattle.pb_draw.specs.Words.{colour_of};
 
-use crate::facts::{LinkFacts, PortFacts, Tone};
-use crate::scene::{BridgeMark, LinkMark, PortMark, Scene};
 use crate::titles::{put_bridge_words, put_link_words, put_port_words};
 use crate::words::{colour_of, losing_word};
 use pb_forest::numbered;
 use pb_frame::Memory;
 use pb_lan::{BridgePlan, CustomerPlan, LinkPlan, Plan, PortState};
 use pb_naming::service_name;
+use pb_scene::{BridgeMark, LinkFacts, LinkMark, PortFacts, PortMark, Scene, Tone};
 use std::alloc::Global;
 
 /// The end of a list of attributes: how a part stands out.

@@ -9,7 +9,6 @@ ghost use Rattle.pb_draw.specs.Draws.{is_found, chosen_of, IsPictureOf, IsDrawin
 use crate::asked::Asked;
 use crate::dot::put_dot;
 use crate::end::{DrawEnd, Format};
-use crate::marks::scene_of;
 use crate::svg::put_svg;
 use pb_drive::{falls, fresh, rests, shape_of};
 use pb_frame::Memory;
@@ -18,6 +17,7 @@ use pb_naming::service_named;
 use pb_net::Net;
 use pb_print::write_refusal;
 use pb_said::CommandFault;
+use pb_scene::scene_of;
 use pb_service::read_plan;
 use pb_settle::Rest;
 use std::alloc::Global;

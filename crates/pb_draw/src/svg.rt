@@ -5,13 +5,13 @@ ghost use Rattle.pb_draw.specs.Svg.{opening_text, counts_text, ground_text, grou
 ghost use Rattle.pb_draw.specs.SvgBoxes.{bridge_element, port_element, service_element};
 ghost use Rattle.pb_draw.specs.SvgLinks.{link_element, ends_element};
 
-use crate::scene::{BridgeMark, LinkMark, Point, PortMark, Scene, ServiceMark};
 use crate::style::STYLE;
 use crate::svg_boxes::{put_bridge, put_port, put_service};
 use crate::svg_links::{put_ends, put_link};
 use crate::words::colour_of;
 use pb_frame::Memory;
 use pb_lan::Plan;
+use pb_scene::{BridgeMark, LinkMark, Point, PortMark, Scene, ServiceMark};
 use std::alloc::Global;
 
 /// The lines of the links.

@@ -4,14 +4,13 @@ ghost use Rattle.std.specs.Prelude.{◌≡◌, ◌++◌, string_bytes, OnOk};
 ghost use Rattle.std.specs.Fmt.{decimal};
 ghost use Rattle.pb_draw.specs.SvgBoxes.{box_text, stand_text, box_group, bridge_title, known_bridge, bridge_element, bar_class, bar_group, bar_text, port_title, port_of, known_port, port_element, service_title, known_service, service_element};
 
-use crate::facts::Tone;
-use crate::scene::{BridgeMark, Point, PortMark, ServiceMark};
 use crate::titles::{put_bridge_words, put_port_words};
 use crate::words::{colour_of, dashes_of, tone_word};
 use pb_forest::numbered;
 use pb_frame::Memory;
 use pb_lan::{BridgePlan, CustomerPlan, Plan, ServicePlan};
 use pb_naming::service_name;
+use pb_scene::{BridgeMark, Point, PortMark, ServiceMark, Tone};
 use std::alloc::Global;
 
 /// A box with a name.

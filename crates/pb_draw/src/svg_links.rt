@@ -3,14 +3,13 @@
 ghost use Rattle.std.specs.Prelude.{◌≡◌, ◌++◌, string_bytes, OnOk};
 ghost use Rattle.pb_draw.specs.SvgLinks.{curve_text, route_text, link_class, known_link, link_element, mark_of, number_text, mark_text, end_text, both_ends, plate_text, name_text, label_text, known_ends, ends_element};
 
-use crate::facts::LinkFacts;
-use crate::scene::{LinkMark, Point, Route};
 use crate::titles::put_link_words;
 use crate::words::{active_word, losing_word, tone_word};
 use pb_forest::numbered;
 use pb_frame::Memory;
 use pb_lan::{LinkPlan, Plan, PortState};
 use pb_naming::state_word;
+use pb_scene::{LinkFacts, LinkMark, Point, Route};
 
 /// A curve that begins `x` from the left.
 fn put_curve(out: &mut String, x: u32, bend: u32, to: Point) -> Result<(), Memory>

@@ -3,12 +3,12 @@
 ghost use Rattle.std.specs.Prelude.{◌≡◌, ◌++◌, string_bytes, OnOk};
 ghost use Rattle.pb_draw.specs.Titles.{bridge_words, end_words, losses_text, link_words, port_words};
 
-use crate::facts::LinkFacts;
 use crate::words::is_lossless;
 use pb_forest::vid_numbered;
 use pb_frame::Memory;
 use pb_lan::{BridgePlan, CustomerPlan, End, LinkPlan, Plan, PortState};
 use pb_naming::{bridge_name, state_word};
+use pb_scene::LinkFacts;
 use std::alloc::Global;
 
 /// What is told of a bridge: its name, its address and its priority.

@@ -3,8 +3,8 @@
 ghost use Rattle.std.specs.Prelude.{◌≡◌};
 ghost use Rattle.pb_draw.specs.Words.{tone_word, active_word, losing_word, is_lossless, colour_of, dashes_of};
 
-use crate::facts::Tone;
 use pb_lan::LinkPlan;
+use pb_scene::Tone;
 
 /// The word for how a part stands out.
 pub(crate) fn tone_word(tone: Tone) -> &'static str

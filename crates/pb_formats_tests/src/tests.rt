@@ -1,5 +1,13 @@
 //! Reports as JSON and as CSV.
 
+ghost use Rattle.std.specs.Prelude.{◌≡◌, ◌++◌, List, Some, map, string_bytes, IfOk};
+ghost use Rattle.csv.specs.Writing.{row_text as csv_line};
+ghost use Rattle.serde_json.specs.Read.{read};
+ghost use Rattle.pb_formats.specs.Documents.{document_of};
+ghost use Rattle.pb_formats.specs.Rows.{report_text};
+ghost use Rattle.pb_formats.specs.Tables.{rows_text, writer};
+ghost use Rattle.pb_formats.specs.declared.rows.Row.{Row};
+
 mod reports;
 
 use pb_formats::{
@@ -20,10 +28,25 @@ pub(crate) struct Said {
     pub(crate) json: &'static str,
 }
 
+/// What a caller may take from `json_of`: the JSON is read back as the document of some rows, and these give back the report.
+fn documented(alloc: Global, form: &Form, text: &str) -> Result<String, FormatFault>
+    ensures { IfOk result (λ json. (rows : List Row) × (text.now ≡ report_text rows) × (read (string_bytes json) ≡ Some (document_of form.now rows))) }
+{
+    json_of(alloc, form, text)
+}
+
+/// What a caller may take from `csv_of`: a line of titles and the lines of some rows, and these give back the report.
+fn tabulated(alloc: Global, form: &Form, table: &Table, text: &str) -> Result<Vec<u8>, FormatFault>
+    ensures { IfOk result (λ csv. (rows : List Row) × (text.now ≡ report_text rows)
+        × (csv.items ≡ csv_line writer (map (λ t. t.now) table.now.titles.now) ++ rows_text table.now.lines.now rows)) }
+{
+    csv_of(alloc, form, table, text)
+}
+
 /// Whether a document of each report says what it is to say, as the library reads it back.
 fn say(rt: &impl Abort, alloc: Global, form: &Form, rows: &[Said]) -> Result<(), Fail> {
     for row in rows {
-        let json = json_of(alloc, form, row.text)?;
+        let json = documented(alloc, form, row.text)?;
         let given = Value::from_str(alloc, json.as_str())?;
         let wanted = Value::from_str(alloc, row.json)?;
         assert!(rt; given == wanted, "{json}");
@@ -110,7 +133,7 @@ fn tabled(
     text: &str,
     wanted: &str,
 ) -> Result<(), Fail> {
-    let csv = csv_of(alloc, form, table, text)?;
+    let csv = tabulated(alloc, form, table, text)?;
     assert_eq!(rt; csv.as_slice(), wanted.as_bytes());
     Ok(())
 }

@@ -10,6 +10,7 @@ mod drawn;
 mod expected;
 mod failures;
 mod figures;
+mod forest_networks;
 mod forests;
 mod idle;
 mod lengths;

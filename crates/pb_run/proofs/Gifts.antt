@@ -12,9 +12,9 @@ use Rattle.pb_lan.specs.declared.plan.End.{End}
 use Rattle.pb_lan.specs.declared.plan.LinkPlan.{LinkPlan}
 use Rattle.pb_lan.specs.declared.plan.Plan.{Plan}
 use Rattle.pb_run.specs.Gifts.{IsBridgeGift, AreBridges, lane_over, lane_gift, AreLanes, access_gift, AreAccesses}
-use Rattle.pb_run.specs.declared.gift.AccessGift.{AccessGift}
-use Rattle.pb_run.specs.declared.gift.BridgeGift.{BridgeGift}
-use Rattle.pb_run.specs.declared.gift.LaneGift.{LaneGift}
+use Rattle.pb_workers.specs.declared.gift.AccessGift.{AccessGift}
+use Rattle.pb_workers.specs.declared.gift.BridgeGift.{BridgeGift}
+use Rattle.pb_workers.specs.declared.gift.LaneGift.{LaneGift}
 use Rattle.pb_run.specs.Wires.{ring_into, ring_out}
 use Rattle.pb_run.proofs.Lists.{slice_get-front}
 

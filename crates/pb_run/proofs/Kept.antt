@@ -9,12 +9,12 @@ use Rattle.pb_lan.specs.Counts.{entered, left}
 use Rattle.pb_lan.specs.declared.step.Step.{Step}
 use Rattle.pb_lan.specs.declared.plan.Plan.{Plan}
 use Rattle.pb_run.specs.Gifts.{AreAccesses}
-use Rattle.pb_run.specs.declared.gift.AccessGift.{AccessGift}
-use Rattle.pb_run.specs.Ports.{Frames, in_front, behind, IsEnded, KeepsPort}
+use Rattle.pb_workers.specs.declared.gift.AccessGift.{AccessGift}
+use Rattle.pb_workers.specs.Ports.{Frames, in_front, behind, IsEnded, KeepsPort}
 use Rattle.pb_lan.specs.Records.{steps_of}
 use Rattle.pb_run.specs.Runs.{ArePortsKept, frames_of, last_of}
-use Rattle.pb_run.specs.declared.access.Last.{Last}
-use Rattle.pb_run.specs.declared.access.Last.TheVariants.{More}
+use Rattle.pb_workers.specs.declared.access.Last.{Last}
+use Rattle.pb_workers.specs.declared.access.Last.TheVariants.{More}
 
 module _ {X P : Type 0} (script tally : P → Option Frames) (was port : X → P) (steps : X → List Step)
     (last : X → Last) where

@@ -19,12 +19,13 @@ use Rattle.pb_lan.specs.declared.record.Record.{Record}
 use Rattle.pb_lan.specs.declared.step.Step.{Step}
 use Rattle.pb_relay.specs.Protocol.{spanning_tree}
 use Rattle.pb_run.specs.Gifts.{AreBridges, lane_gift, AreLanes, access_gift, AreAccesses}
-use Rattle.pb_run.specs.declared.gift.AccessGift.{AccessGift}
-use Rattle.pb_run.specs.declared.gift.BridgeGift.{BridgeGift}
-use Rattle.pb_run.specs.declared.gift.LaneGift.{LaneGift}
+use Rattle.pb_workers.specs.declared.gift.AccessGift.{AccessGift}
+use Rattle.pb_workers.specs.declared.gift.BridgeGift.{BridgeGift}
+use Rattle.pb_workers.specs.declared.gift.LaneGift.{LaneGift}
 use Rattle.pb_run.specs.Meetings.{of_customers, of_lanes}
-use Rattle.pb_run.specs.Runs.{TellsAllDrained, TellsEnded}
-use Rattle.pb_run.specs.declared.access.Last.{Last}
+use Rattle.pb_run.specs.Runs.{TellsEnded}
+use Rattle.pb_workers.specs.Drained.{TellsAllDrained}
+use Rattle.pb_workers.specs.declared.access.Last.{Last}
 use Rattle.pb_run.specs.declared.ended.Ended.{Ended}
 use Rattle.pb_run.specs.declared.ended.Ended.TheVariants.{Drained}
 use Rattle.pb_run.proofs.Lists.{all_at, thing_at}

@@ -1,4 +1,3 @@
-pub mod UsedPorts
 mod Lists
 mod Wiring
 mod EndsThere

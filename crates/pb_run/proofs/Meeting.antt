@@ -14,7 +14,7 @@ use Rattle.pb_lan.specs.declared.record.Record.{Record}
 use Rattle.pb_lan.specs.declared.step.Item.{Item}
 use Rattle.pb_lan.specs.declared.step.Step.{Step}
 use Rattle.pb_run.specs.Gifts.{AreBridges}
-use Rattle.pb_run.specs.declared.gift.BridgeGift.{BridgeGift}
+use Rattle.pb_workers.specs.declared.gift.BridgeGift.{BridgeGift}
 use Rattle.pb_run.specs.Wires.{ring_into, ring_out}
 use Rattle.pb_run.proofs.Gifts.{rings_at}
 use Rattle.pb_run.proofs.Lists.{thing_is}

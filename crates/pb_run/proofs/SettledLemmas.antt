@@ -19,7 +19,7 @@ use Rattle.pb_rstp.specs.Ports.{Machine}
 use Rattle.pb_rstp.specs.Profile.{machine_of}
 use Rattle.pb_rstp.specs.Tree.{IsSettled, NoneHeld, AreMachines, AreForests, PlannedAreMachines}
 use Rattle.pb_run.specs.Gifts.{AreBridges}
-use Rattle.pb_run.specs.declared.gift.BridgeGift.{BridgeGift}
+use Rattle.pb_workers.specs.declared.gift.BridgeGift.{BridgeGift}
 use Rattle.pb_run.proofs.Meeting.{steps_there}
 
 -- the machine of the worker at a place of the list

@@ -5,12 +5,12 @@ use Rattle.pb_lan.specs.declared.plan.End.{End}
 use Rattle.pb_lan.specs.declared.plan.LinkPlan.{LinkPlan}
 use Rattle.pb_lan.specs.declared.plan.CustomerPlan.{CustomerPlan}
 use Rattle.pb_ring.specs.declared.ends.Wiring.{Ghosts}
-use Rattle.pb_run.specs.declared.access.Access.{Access}
-use Rattle.pb_run.specs.declared.bridge.BridgeWorker.{BridgeWorker}
-use Rattle.pb_run.specs.declared.gift.AccessGift.{AccessGift}
-use Rattle.pb_run.specs.declared.gift.BridgeGift.{BridgeGift}
-use Rattle.pb_run.specs.declared.gift.LaneGift.{LaneGift}
-use Rattle.pb_run.specs.declared.lane.LaneWorker.{LaneWorker}
+use Rattle.pb_workers.specs.declared.access.Access.{Access}
+use Rattle.pb_workers.specs.declared.bridge.BridgeWorker.{BridgeWorker}
+use Rattle.pb_workers.specs.declared.gift.AccessGift.{AccessGift}
+use Rattle.pb_workers.specs.declared.gift.BridgeGift.{BridgeGift}
+use Rattle.pb_workers.specs.declared.gift.LaneGift.{LaneGift}
+use Rattle.pb_workers.specs.declared.lane.LaneWorker.{LaneWorker}
 use Rattle.pb_run.specs.Wires.{ring_into, ring_out}
 
 -- a bridge

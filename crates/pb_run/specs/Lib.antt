@@ -1,5 +1,3 @@
-pub mod Ports
-pub mod Bridges
 pub mod Wires
 pub mod Gifts
 pub mod Workers

@@ -1,13 +1,11 @@
 -- What a run tells of its ports and of its end.
-use Rattle.std.specs.Prelude.{◌≡◌, ◌↔◌, ℕ, Bool, IsTrue, IfOk, Option, Result, None, List, length, unwrap_or, All}
+use Rattle.std.specs.Prelude.{◌≡◌, ◌↔◌, ℕ, Bool, IfOk, Option, Result, None, List, length, unwrap_or, All}
 use Rattle.pb_frame.specs.declared.memory.Memory.{Memory}
 use Rattle.pb_lan.specs.Counts.{entered, left, IsDrained}
 use Rattle.pb_lan.specs.Headline.{IsFaithful}
 use Rattle.pb_lan.specs.Laws.{AreTracedFromStart, NoPortIsSet}
 use Rattle.pb_lan.specs.Numbering.{numbered}
-use Rattle.pb_lan.specs.Plans.{IsSound}
 use Rattle.pb_lan.specs.Records.{steps_of, IsLawfulRecord}
-use Rattle.pb_lan.specs.Rules.{Rules}
 use Rattle.pb_lan.specs.declared.plan.Plan.{Plan}
 use Rattle.pb_lan.specs.declared.plan.Spanning.TheVariants.{Fixed}
 use Rattle.pb_lan.specs.declared.record.Record.{Record}
@@ -15,9 +13,9 @@ use Rattle.pb_lan.specs.declared.step.Mark.{Mark}
 use Rattle.pb_lan.specs.declared.step.Step.{Step}
 use Rattle.pb_relay.specs.Protocol.{spanning_tree}
 use Rattle.pb_relay.specs.Settled.{TellsSettled}
-use Rattle.pb_run.specs.Ports.{Frames, in_front, behind, IsEnded}
-use Rattle.pb_run.specs.declared.access.Last.{Last}
-use Rattle.pb_run.specs.declared.access.Last.TheVariants.{More, End}
+use Rattle.pb_workers.specs.Ports.{Frames, in_front, behind, IsEnded}
+use Rattle.pb_workers.specs.declared.access.Last.{Last}
+use Rattle.pb_workers.specs.declared.access.Last.TheVariants.{More, End}
 use Rattle.pb_run.specs.declared.ended.Ended.{Ended}
 use Rattle.pb_run.specs.declared.ended.Ended.TheVariants.{Drained}
 
@@ -42,13 +40,6 @@ pub record ArePortsKept (before after : Lists) (customers : List (List Step)) (l
   pub script : (number : ℕ) → frames_of before.scripts number ≡ in_front (entered (steps_of customers number)) (frames_of after.scripts number)
   pub tally : (number : ℕ) → frames_of after.tallies number ≡ behind (frames_of before.tallies number) (left (steps_of customers number))
   pub used_up : (number : ℕ) → IsEnded (last_of lasts number) (frames_of after.scripts number)
-
--- of a lawful record of a sound plan the answer is true just where every port came to its end and every
--- frame has drained
-abbrev pub TellsAllDrained : Record → List Last → Bool → Type 0
-TellsAllDrained rec lasts result =
-    (rules : Rules) (plan : Plan) → IsSound plan → IsLawfulRecord rules plan rec
-    → IsTrue result ↔ (All (λ last. last ≡ End) lasts × ((mark : Mark) → IsDrained plan rec mark))
 
 -- the run is told to have drained exactly where every port came to its end and every frame has drained
 abbrev pub TellsEnded : Plan → Record → List Last → Ended → Type 0

@@ -12,15 +12,12 @@ ghost use Rattle.pb_run.specs.Gifts.{IsBridgeGift, AreBridges, AreLanes, access_
 ghost use Rattle.pb_run.specs.Wires.{ring_into, ring_out, AreNew, AreNamed, HasInner, HasOuter};
 ghost use Rattle.pb_run.specs.Workers.{IsBuilt};
 
-use crate::access::{Access, Last};
-use crate::bridge::BridgeWorker;
-use crate::lane::LaneWorker;
-use crate::mode::Mode;
 use crate::wires::{Ends, Ring};
 use pb_frame::{Memory, Seq};
 use pb_lan::{CustomerPlan, Plan};
 use pb_link::{CustomerPlace, Lane};
 use pb_ring::{Inlet, Inlets, Outlet, Outlets, Wiring};
+use pb_workers::{Access, BridgeWorker, LaneWorker, Last, Mode};
 use std::alloc::Global;
 use std::collections::VecDeque;
 

@@ -1,11 +1,7 @@
 //! How a run ended.
 
-ghost use Rattle.std.specs.Prelude.{◌≡◌, ◌↔◌, All, IsTrue};
-ghost use Rattle.pb_run.specs.Runs.{TellsAllDrained};
+ghost use Rattle.std.specs.Prelude.{◌≡◌, ◌↔◌, IsTrue};
 
-use crate::access::Last;
-use pb_forest::is_drained;
-use pb_steps::Tallies;
 use pb_work::Finish;
 
 /// How a run ended.
@@ -38,23 +34,6 @@ impl Causes {
             limit: self.limit || finish == Some(Finish::Limit),
         }
     }
-}
-
-/// Whether every port came to its end.
-pub(crate) fn are_all_ended(lasts: &[Last]) -> bool
-    ensures { IsTrue result ↔ All (λ last. last ≡ Last.End) lasts.now }
-{
-    lasts.iter().all(|last| *last == Last::End)
-}
-
-/// Whether every port came to its end, and no frame is on its way.
-pub(crate) fn has_drained(lasts: &[Last], counts: &Tallies) -> bool
-    ensures { TellsAllDrained counts.now lasts.now result }
-{
-    if are_all_ended(lasts) {
-        return is_drained(counts);
-    }
-    false
 }
 
 /// How a run ended, by whether it has drained and by what ended its workers.

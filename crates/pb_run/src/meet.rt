@@ -12,11 +12,9 @@ ghost use Rattle.pb_run.specs.Meetings.{of_customers, of_lanes};
 ghost use Rattle.pb_run.specs.Wires.{ring_into, ring_out};
 ghost use Rattle.pb_run.specs.Workers.{AreSameBridges, AreSameLanes, AreSameAccesses};
 
-use crate::access::Access;
-use crate::bridge::BridgeWorker;
-use crate::lane::LaneWorker;
 use pb_lan::{End, Plan};
 use pb_ring::Wiring;
+use pb_workers::{Access, BridgeWorker, LaneWorker};
 
 /// The rings of a customer port meet.
 fn meet_access<W: Wiring>(

@@ -3,13 +3,12 @@
 ghost use Rattle.std.specs.Prelude.{◌≡◌, ◌≤◌, ◌<◌, [], All, map, vec_len, vec_capacity};
 ghost use Rattle.std.specs.VecDeque.{deque_len};
 ghost use Rattle.pb_run.specs.Gifts.{given_access};
-ghost use Rattle.pb_run.specs.Ports.{KeepsPort};
+ghost use Rattle.pb_workers.specs.Ports.{KeepsPort};
 ghost use Rattle.pb_run.specs.Rooms.{IsPushed};
 
-use crate::access::{Access, Last};
-use crate::customer::CustomerWorker;
 use pb_port::Port;
 use pb_ring::Wiring;
+use pb_workers::{Access, CustomerWorker, Last};
 use std::collections::VecDeque;
 
 /// A port that the caller made.

@@ -9,13 +9,11 @@ ghost use Rattle.pb_lan.specs.PortLists.{IsLawfulPort};
 ghost use Rattle.pb_relay.specs.Protocol.{spanning_tree};
 ghost use Rattle.pb_run.specs.Rooms.{HasRoomFor};
 
-use crate::access::Access;
-use crate::bridge::BridgeWorker;
-use crate::lane::LaneWorker;
 use pb_frame::{Memory, Seq};
 use pb_lan::Step;
 use pb_ring::Wiring;
 use pb_steps::{Steps, Tally};
+use pb_workers::{Access, BridgeWorker, LaneWorker};
 use std::alloc::Global;
 
 /// What is counted at each place, and the steps of those places that keep them.
@@ -64,17 +62,7 @@ pub(crate) fn bridge_lists<W: Wiring>(workers: Vec<BridgeWorker<W>>, mut room: G
     ensures unset { W.sets ≡ false → AllByRecursion (λ steps. list_any is_setting steps ≡ false) result.tallies.items }
 {
     for worker in workers {
-        let BridgeWorker {
-            number: _,
-            bridge,
-            ins: _,
-            outs: _,
-            ports: _,
-            finish: _,
-            next: _,
-            sets: _,
-        } = worker;
-        room.push(bridge.into_steps());
+        room.push(worker.bridge.into_steps());
     }
     room
 }

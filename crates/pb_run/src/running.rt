@@ -13,15 +13,10 @@ ghost use Rattle.pb_run.specs.Runs.{ArePortsKept, TellsEnded, IsTrueRecord, IsRu
 ghost use Rattle.pb_run.specs.Wires.{AreNew, AreNamed};
 ghost use Rattle.pb_run.specs.Workers.{IsBuilt, AreBack};
 
-use crate::access::{Access, Last};
-use crate::bridge::BridgeWorker;
 use crate::build::{Built, places_of};
-use crate::customer::CustomerWorker;
-use crate::ended::{Causes, Ended, ended_by, has_drained};
+use crate::ended::{Causes, Ended, ended_by};
 use crate::fault::{RunCause, RunFault, cause_of};
-use crate::lane::LaneWorker;
 use crate::meet::{meet_accesses, meet_links};
-use crate::mode::Mode;
 use crate::outside::{Held, Parts, apart, attended};
 use crate::record::{Gathered, access_lists, bridge_lists, lane_lists};
 use crate::settled::whether_settled;
@@ -32,6 +27,7 @@ use pb_port::Port;
 use pb_ring::Wiring;
 use pb_steps::Tallies;
 use pb_work::{Gate, Places, Worked, run_all};
+use pb_workers::{Access, BridgeWorker, CustomerWorker, LaneWorker, Last, Mode, has_drained};
 use std::alloc::Global;
 use std::marker::Brand;
 use std::sync::Wait;

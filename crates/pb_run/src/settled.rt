@@ -7,11 +7,11 @@ ghost use Rattle.pb_lan.specs.Plans.{IsSound};
 ghost use Rattle.pb_relay.specs.Settled.{TellsSettled, machines_in};
 ghost use Rattle.pb_run.specs.Gifts.{AreBridges, given_bridge};
 
-use crate::bridge::BridgeWorker;
 use pb_frame::Memory;
 use pb_lan::{Plan, Spanning};
 use pb_ring::Wiring;
 use pb_rstp::{Rstp, is_settled, planned_are_machines};
+use pb_workers::BridgeWorker;
 use std::alloc::Global;
 
 /// The spanning trees of the bridges, in the plan's order.

@@ -5,10 +5,10 @@ ghost use Rattle.rtrb.specs.Ring.{sent, received};
 ghost use Rattle.pb_lan.specs.Plans.{IsSound};
 ghost use Rattle.pb_run.specs.Wires.{ring_into, ring_out, AreNew, AreNamed, IsThere, HasInner, HasOuter};
 
-use crate::used::is_used;
 use pb_frame::Memory;
 use pb_lan::{Item, Plan};
 use pb_ring::{Inlet, Outlet, Wiring};
+use pb_workers::is_used;
 use rtrb::{Consumer, Producer, RingBuffer};
 use std::alloc::Global;
 

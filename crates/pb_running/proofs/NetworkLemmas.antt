@@ -1,20 +1,20 @@
 -- Plans of files and their ports.
-use Rattle.std.proofs.Common.{◌≡◌, ℕ, Bool, refl, List, [], ◌∷◌, ◌++◌, length, map, ap, sym, ◌∙◌, append_assoc}
+use Rattle.std.proofs.Common.{◌≡◌, ℕ, Bool, refl, List, [], ◌∷◌, ◌++◌, length, map, ap, sym, ◌∙◌}
 use Rattle.std.proofs.Common.{append-nil, arith, Ok, Err, IfOk}
-use Rattle.std.proofs.lemmas.List.{map-append}
 use Rattle.std.proofs.lemmas.Slice.Zip.{AllZip-long}
 use Rattle.std.specs.declared.result.Result.{Result}
 use Rattle.pb_lan.specs.declared.plan.Plan.{Plan}
 use Rattle.pb_lan.specs.declared.step.Step.{Step}
 use Rattle.pb_run.specs.Runs.{Lists, ArePortsKept, frames_of}
-use Rattle.pb_run.specs.declared.access.Last.{Last}
+use Rattle.pb_workers.specs.declared.access.Last.{Last}
 use Rattle.pb_service.specs.PlanFiles.{Tells, IsPlanOf}
 use Rattle.pb_service.specs.declared.port_spec.PortSpec.{PortSpec}
 use Rattle.pb_run.specs.declared.ended.Ended.{Ended}
-use Rattle.pb_running.specs.Scripted.{script_in, AreScripted}
-use Rattle.pb_running.specs.Strict.{exit_status, is_whole}
-use Rattle.pb_running.specs.declared.strictness.Strictness.{Strictness}
-use Rattle.pb_running.specs.declared.strictness.Strictness.TheVariants.{Strict, Lenient}
+use Rattle.pb_running.specs.Scripted.{AreScripted}
+use Rattle.pb_opening.specs.Opened.{script_in}
+use Rattle.pb_strict.specs.Strict.{exit_status, is_whole}
+use Rattle.pb_strict.specs.declared.strictness.Strictness.{Strictness}
+use Rattle.pb_strict.specs.declared.strictness.Strictness.TheVariants.{Strict, Lenient}
 
 -- a file has as many ports as its plan
 pub ports_per_plan : (file : List ℕ) (plan : Plan) (specs : List PortSpec)
@@ -50,12 +50,3 @@ pub all_moved : {X Y Z : Type 0} (f : X → Z) (xs : List X) (g : Y → Z) (left
     → map f xs ++ map g left ≡ map g all → length left ≡ 0 → all ≡ ys → map f xs ≡ map g ys
 all_moved f xs g [] all ys before none same = sym (append-nil (map f xs)) ∙ before ∙ ap (map g) same
 all_moved f xs g (y ∷ left) all ys before none same = absurd (omega arith)
-
--- one thing more goes from the things to come to those that were made of them, and shows the same
-pub moved_over : {X Y Z : Type 0} (f : X → Z) (xs ys : List X) (x : X) (g : Y → Z) (rest left : List Y) (y : Y)
-    (all : List Z)
-    → map f xs ++ map g rest ≡ all → ys ≡ xs ++ x ∷ [] → rest ≡ y ∷ left → f x ≡ g y → map f ys ++ map g left ≡ all
-moved_over f xs ys x g rest left y all before grown next same =
-    ap (λ zs. map f zs ++ map g left) grown ∙ ap (λ zs. zs ++ map g left) (map-append f xs (x ∷ []))
-    ∙ append_assoc (map f xs) (f x ∷ []) (map g left)
-    ∙ ap (λ z. map f xs ++ z ∷ map g left) same ∙ ap (λ zs. map f xs ++ map g zs) (sym next) ∙ before

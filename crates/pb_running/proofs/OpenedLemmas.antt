@@ -1,9 +1,9 @@
 -- Ports that show what was asked.
 use Rattle.std.proofs.Common.{◌≡◌, List, [], ◌∷◌, length, map, refl, ap, sym, ◌∙◌}
 use Rattle.std.proofs.lemmas.List.{length-map}
-use Rattle.pb_running.specs.Opened.{asked, shown}
-use Rattle.pb_running.specs.Scripted.{script_in}
-use Rattle.pb_running.specs.declared.opened.Opened.{Opened}
+use Rattle.pb_opening.specs.Opened.{asked, shown}
+use Rattle.pb_opening.specs.Opened.{script_in}
+use Rattle.pb_opening.specs.declared.opened.Opened.{Opened}
 use Rattle.pb_service.specs.declared.port_spec.PortSpec.{PortSpec}
 
 map_twice : {X Y Z : Type 0} (f : Y → Z) (g : X → Y) (xs : List X) → map f (map g xs) ≡ map (λ x. f (g x)) xs

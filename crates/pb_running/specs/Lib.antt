@@ -2,11 +2,5 @@ pub mod Reports
 pub mod AnyPorts
 pub mod Scripted
 pub mod Faults
-pub mod Unwritten
-pub mod Strict
 pub mod Networks
-pub mod Deeds
-pub mod OpenFaults
-pub mod Opened
-pub mod Uses
 pub mod Telling

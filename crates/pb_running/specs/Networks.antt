@@ -1,25 +1,27 @@
 -- What is printed of the network of a plan file.
-use Rattle.std.specs.Prelude.{◌≡◌, ◌⊎◌, ℕ, Bool, List, length}
+use Rattle.std.specs.Prelude.{◌≡◌, ◌⊎◌, ℕ, Bool, List, [], length}
 use Rattle.std.specs.Io.KnownBytes.{Appends}
 use Rattle.std.specs.declared.option.Option.{Option}
 use Rattle.std.specs.declared.result.Result.{Result}
 use Rattle.pb_frame.specs.declared.memory.Memory.{Memory}
+use Rattle.pb_lan.specs.Counts.{IsDrained}
 use Rattle.pb_lan.specs.Headline.{IsFaithful}
 use Rattle.pb_lan.specs.Records.{IsLawfulRecord}
 use Rattle.pb_lan.specs.declared.plan.Plan.{Plan}
 use Rattle.pb_lan.specs.declared.record.Record.{Record}
+use Rattle.pb_lan.specs.declared.step.Mark.{Mark}
 use Rattle.pb_relay.specs.Protocol.{spanning_tree}
 use Rattle.pb_print.specs.Refusals.{PrintsRefusal}
-use Rattle.pb_run.specs.Ports.{Frames}
+use Rattle.pb_workers.specs.Ports.{Frames}
 use Rattle.pb_run.specs.Runs.{TellsEnded}
-use Rattle.pb_run.specs.declared.access.Last.{Last}
+use Rattle.pb_workers.specs.declared.access.Last.{Last}
 use Rattle.pb_run.specs.declared.ended.Ended.{Ended}
 use Rattle.pb_service.specs.PlanFiles.{Tells, IsPlanOf}
 use Rattle.pb_service.specs.declared.port_spec.PortSpec.{PortSpec}
 use Rattle.pb_running.specs.Reports.{IsRunReport}
 use Rattle.pb_running.specs.Scripted.{AreScripted}
-use Rattle.pb_running.specs.Strict.{exit_status, is_whole, lost_text}
-use Rattle.pb_running.specs.declared.strictness.Strictness.{Strictness}
+use Rattle.pb_strict.specs.Strict.{exit_status, is_whole, lost_text}
+use Rattle.pb_strict.specs.declared.strictness.Strictness.{Strictness}
 
 -- a run is reported, and the exit status is that of the report, or 4 where the run is strict and wasn't whole. Of each
 -- customer port there is what its newest poll said, and what waits in it
@@ -56,3 +58,17 @@ pub record PrintsRunOf (strictness : Strictness) (file : List ℕ) (status : ℕ
 -- what is written for a file, with the program's exit status
 abbrev pub PrintsNetwork : Strictness → List ℕ → ℕ → Option (List ℕ) → Option (List ℕ) → Type 0
 PrintsNetwork strictness file status before after = ((status ≡ 1) × PrintsRefusal file before after) ⊎ PrintsRunOf strictness file status before after
+
+-- the file tells a plan, and its network has carried all that entered: each frame has left or was dropped for a reason that is
+-- no want of room, what left is faithful to what entered, and nothing is to be told of losses
+pub record HasCarriedAll (file : List ℕ) : Type 0 where
+  pub plan : Plan
+  pub specs : List PortSpec
+  pub told : Tells file (λ document. IsPlanOf document plan specs)
+  pub rec : Record
+  pub lawful : IsLawfulRecord spanning_tree plan rec
+  pub headline : IsFaithful plan rec
+  pub drained : (mark : Mark) → IsDrained plan rec mark
+  pub settled : Result (Option Bool) Memory
+  pub unsent : List Frames
+  pub lost : lost_text plan rec settled unsent ≡ []

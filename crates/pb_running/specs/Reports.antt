@@ -8,8 +8,8 @@ use Rattle.pb_lan.specs.declared.plan.CustomerPlan.{CustomerPlan}
 use Rattle.pb_lan.specs.declared.plan.Plan.{Plan}
 use Rattle.pb_lan.specs.declared.record.Record.{Record}
 use Rattle.pb_relay.specs.Settled.{TellsSettled}
-use Rattle.pb_run.specs.declared.access.Last.{Last}
-use Rattle.pb_run.specs.declared.access.Last.TheVariants.{More, End, Fault}
+use Rattle.pb_workers.specs.declared.access.Last.{Last}
+use Rattle.pb_workers.specs.declared.access.Last.TheVariants.{More, End, Fault}
 use Rattle.pb_run.specs.declared.ended.Ended.{Ended}
 use Rattle.pb_run.specs.declared.ended.Ended.TheVariants.{Drained, NoMemory, Limit, Stopped}
 use Rattle.pb_print.specs.RecordTexts.{settled_line, IsRecordText}

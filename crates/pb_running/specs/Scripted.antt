@@ -5,18 +5,12 @@ use Rattle.pb_running.specs.declared.any_port.AnyPort.{AnyPort}
 use Rattle.pb_lan.specs.Counts.{entered}
 use Rattle.pb_lan.specs.Records.{steps_of}
 use Rattle.pb_lan.specs.declared.step.Step.{Step}
-use Rattle.pb_run.specs.Ports.{in_front, IsEnded}
+use Rattle.pb_workers.specs.Ports.{in_front, IsEnded}
 use Rattle.pb_run.specs.Runs.{frames_of, last_of}
-use Rattle.pb_run.specs.declared.access.Last.{Last}
+use Rattle.pb_workers.specs.declared.access.Last.{Last}
 use Rattle.pb_port.specs.declared.memory.MemoryPort.{MemoryPort}
 use Rattle.pb_service.specs.declared.port_spec.PortSpec.{PortSpec}
-use Rattle.pb_service.specs.declared.port_spec.PortSpec.TheVariants.{Memory, Capture, Socket}
-
--- the frames that come in at a port, where the file lists them
-abbrev pub script_in : PortSpec → Option (List (List ℕ))
-script_in (Memory frames) = Some frames
-script_in (Capture read write stamp) = None
-script_in (Socket path listens) = None
+use Rattle.pb_opening.specs.Opened.{script_in}
 
 -- the frames that a port has still to give, where it keeps them in memory
 abbrev pub script_at : {C S : Type 0} → AnyPort MemoryPort C S → Option (List (List ℕ))

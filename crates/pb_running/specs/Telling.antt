@@ -2,13 +2,13 @@
 use Rattle.std.specs.Prelude.{ℕ, zero, suc, Option, List, [], ◌∷◌, ◌++◌, codes}
 use Rattle.std.specs.Io.KnownBytes.{Appends, Keeps}
 use Rattle.pb_lan.specs.declared.plan.CustomerPlan.{CustomerPlan}
-use Rattle.pb_running.specs.declared.open_fault.FileUser.{FileUser}
-use Rattle.pb_running.specs.declared.open_fault.FileUser.TheVariants.{Plan, Reader, Writer}
-use Rattle.pb_running.specs.declared.open_fault.OpenFault.{OpenFault}
-use Rattle.pb_running.specs.declared.open_fault.OpenFault.TheVariants.{Unopened, Unemptied, Shared, Memory}
-use Rattle.pb_running.specs.declared.open_fault.PathFault.{PathFault}
-use Rattle.pb_running.specs.declared.open_fault.Verb.{Verb}
-use Rattle.pb_running.specs.declared.open_fault.Verb.TheVariants.{Read, Write, Connect, Listen}
+use Rattle.pb_opening.specs.declared.open_fault.FileUser.{FileUser}
+use Rattle.pb_opening.specs.declared.open_fault.FileUser.TheVariants.{Plan, Reader, Writer}
+use Rattle.pb_opening.specs.declared.open_fault.OpenFault.{OpenFault}
+use Rattle.pb_opening.specs.declared.open_fault.OpenFault.TheVariants.{Unopened, Unemptied, Shared, Memory}
+use Rattle.pb_opening.specs.declared.open_fault.PathFault.{PathFault}
+use Rattle.pb_opening.specs.declared.open_fault.Verb.{Verb}
+use Rattle.pb_opening.specs.declared.open_fault.Verb.TheVariants.{Read, Write, Connect, Listen}
 
 -- the name of the customer port at a place, from 0, or nothing
 abbrev pub name_at : List CustomerPlan → ℕ → List ℕ

@@ -4,10 +4,10 @@ ghost use Rattle.std.specs.Prelude.{◌≡◌, OnOk};
 ghost use Rattle.std.specs.Io.KnownBytes.{Appends};
 ghost use Rattle.pb_port.specs.Spelling.{file_header};
 
-use crate::open_fault::Verb;
 use crate::telling::{name_at, write_path_fault};
 use pb_frame::Text;
 use pb_lan::CustomerPlan;
+use pb_opening::Verb;
 use std::alloc::Global;
 use std::fs::File;
 use std::io;

@@ -4,8 +4,8 @@ ghost use Rattle.std.specs.Prelude.{◌≡◌, ◌⊎◌};
 ghost use Rattle.pb_running.specs.Faults.{of_cause, of_command};
 ghost use Rattle.pb_running.specs.declared.network_fault.NetworkFault.TheVariants.{Memory as memory_fault, Path as path_fault};
 
-use crate::open_fault::OpenFault;
 use pb_frame::Memory;
+use pb_opening::OpenFault;
 use pb_run::RunCause;
 use pb_said::CommandFault;
 use std::alloc::{AllocError, AllocFailed};

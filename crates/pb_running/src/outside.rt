@@ -2,14 +2,13 @@
 
 ghost use Rattle.std.specs.Prelude.{◌≡◌, ◌⊎◌, ◌<◌, ◌≤◌, length, map, vec_len, IfOk, IfErr};
 ghost use Rattle.pb_lan.specs.Plans.{IsSound};
-ghost use Rattle.pb_running.specs.Opened.{shown};
-ghost use Rattle.pb_running.specs.Scripted.{script_at, script_in};
+ghost use Rattle.pb_opening.specs.Opened.{script_in, shown};
+ghost use Rattle.pb_running.specs.Scripted.{script_at};
 
 use crate::any_port::AnyPort;
 use crate::completing::CaptureFiles;
 use crate::input::Input;
 use crate::network_fault::NetworkFault;
-use crate::opened::{Opened, open_all};
 use crate::peer::{Peer, SocketFile, remove_sockets};
 use crate::system::{Output, System};
 use crate::telling::write_open_fault;
@@ -17,6 +16,7 @@ use crate::watched::Watched;
 use bytes::Bytes;
 use pb_frame::Seq;
 use pb_lan::{Limits, Plan};
+use pb_opening::{Opened, open_all};
 use pb_port::{CapturePort, MemoryPort, Over, SocketPort, Timescale};
 use pb_service::{PortSpec, Stamp};
 use pb_steering::Traffic;

@@ -1,11 +1,11 @@
 //! The files and sockets of the system.
 
 use crate::input::{Input, input_path, open_input};
-use crate::openings::Openings;
 use crate::peer::{Peer, SocketFile};
 use mio::net::UnixStream;
 use pb_control::{listen, node_at};
 use pb_frame::{Memory, Text};
+use pb_opening::Openings;
 use std::alloc::{AllocError, Global};
 use std::fs::{File, Files, Metadata, OpenOptions};
 use std::io::ErrorKind;

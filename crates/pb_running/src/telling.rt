@@ -4,9 +4,9 @@ ghost use Rattle.std.specs.Prelude.{◌≡◌, ◌++◌, List, ℕ, string_bytes
 ghost use Rattle.std.specs.Io.KnownBytes.{Appends};
 ghost use Rattle.pb_running.specs.Telling.{name_at, word_of, path_line, sharing, TellsFault};
 
-use crate::open_fault::{FileUser, OpenFault, Verb};
 use pb_frame::Memory;
 use pb_lan::CustomerPlan;
+use pb_opening::{FileUser, OpenFault, Verb};
 use pb_said::CommandFault;
 use std::alloc::{AllocError, Global};
 use std::io::{Error, Write};

@@ -3,6 +3,10 @@
 //! Each test is a table of rows, each a run and what has to come of it. Each run ends by itself, and tells the
 //! same whatever the schedule.
 
+ghost use Rattle.std.specs.Prelude.{◌≡◌, IfOk};
+ghost use Rattle.pb_running.specs.Networks.{HasCarriedAll};
+ghost use Rattle.pb_strict.specs.declared.strictness.Strictness.TheVariants.{Strict as strict};
+
 mod captures;
 mod files;
 mod folder;
@@ -14,8 +18,10 @@ mod peers;
 mod pipes;
 mod plans;
 mod reports;
+mod sheet;
 mod times;
 
+use self::sheet::Sheet;
 use pb_lan::Place;
 use pb_run::{Gate, Go};
 use pb_running::{NetworkFault, Opening, RunOptions, Strictness, Traffic, Watch, run_network};
@@ -47,14 +53,33 @@ const PLAIN: Manner = Manner {
     linger: 100,
 };
 
-/// Every worker may go on. It counts how often it is told that its run is over.
+/// Every worker may go on. It counts how often it is told that its run is over, and the turns of all workers.
 #[derive(Drop)]
 struct Door {
     closed: AtomicU64,
+    turns: AtomicU64,
+}
+
+impl Door {
+    fn new() -> Door {
+        Door {
+            closed: AtomicU64::new(0),
+            turns: AtomicU64::new(0),
+        }
+    }
+
+    fn closed(&self) -> u64 {
+        self.closed.load(Ordering::SeqCst)
+    }
+
+    fn turns(&self) -> u64 {
+        self.turns.load(Ordering::SeqCst)
+    }
 }
 
 impl Gate for Door {
     fn pass(&self, _place: Place, _turn: u64) -> Go {
+        self.turns.fetch_add(1, Ordering::SeqCst);
         Go::Go
     }
 }
@@ -78,36 +103,26 @@ struct Told {
     closed: u64,
 }
 
-/// A plan file of two parts.
-fn joined(alloc: Global, parts: [&str; 2]) -> Result<String, AllocError> {
-    let mut file = String::from_str(alloc, parts[0])?;
-    file.push_str(parts[1])?;
-    Ok(file)
+/// No frames yet.
+fn no_traffic(alloc: Global) -> Result<Arc<Traffic, Global>, AllocError> {
+    Ok(Arc::new(alloc, Traffic::new(alloc)?)?)
 }
 
-/// What a run told, with what was counted.
-fn counted(outcome: Result<u8, NetworkFault>, traffic: &Traffic, door: &Door) -> Told {
-    Told {
-        result: outcome,
-        traffic: (traffic.entered(), traffic.left()),
-        closed: door.closed.load(Ordering::SeqCst),
-    }
-}
-
-/// Runs the network of a plan file. It says nothing of what is written: the tests look at that.
-fn carry<R, G: Watch, W: Write, E: Write>(
+/// Runs the network of a plan file. What a caller may take from a strict run with the exit status 0: the network has carried all.
+fn carry<R, W: Write, E: Write>(
     rt: &R,
     alloc: Global,
     file: &str,
     manner: Manner,
-    traffic: &Arc<Traffic, Global>,
-    door: &G,
+    door: &Door,
     writer: &mut W,
     errors: &mut E,
-) -> Result<u8, NetworkFault>
+) -> Result<Told, AllocError>
 where
     R: Files<File = File> + Net + Threads + Wait + Clock + Sync,
+    ensures { IfOk result (λ told. manner.strictness ≡ strict → IfOk told.result (λ status. status ≡ 0 → HasCarriedAll file.now)) }
 {
+    let traffic = no_traffic(alloc)?;
     let file = file.as_bytes();
     let options = RunOptions {
         plan: manner.path,
@@ -116,13 +131,42 @@ where
         linger: manner.linger,
     };
     let strictness = manner.strictness;
-    run_network(
-        rt, alloc, file, strictness, &options, traffic, door, writer, errors,
-    )
+    let result = run_network(
+        rt, alloc, file, strictness, &options, &traffic, door, writer, errors,
+    );
+    Ok(Told {
+        result,
+        traffic: (traffic.entered(), traffic.left()),
+        closed: door.closed(),
+    })
+}
+
+/// A plan file of two parts.
+fn joined(alloc: Global, parts: [&str; 2]) -> Result<String, AllocError> {
+    let mut file = String::from_str(alloc, parts[0])?;
+    file.push_str(parts[1])?;
+    Ok(file)
 }
 
 /// Runs the network of a plan file of two parts.
-fn run_under<R, W: Write, E: Write>(
+fn run_past<R, W: Write, E: Write>(
+    rt: &R,
+    alloc: Global,
+    parts: [&str; 2],
+    manner: Manner,
+    door: &Door,
+    writer: &mut W,
+    errors: &mut E,
+) -> Result<Told, AllocError>
+where
+    R: Files<File = File> + Net + Threads + Wait + Clock + Sync,
+{
+    let file = joined(alloc, parts)?;
+    carry(rt, alloc, file.as_str(), manner, door, writer, errors)
+}
+
+/// The same, where nobody looks at the door.
+fn run<R, W: Write, E: Write>(
     rt: &R,
     alloc: Global,
     parts: [&str; 2],
@@ -133,28 +177,8 @@ fn run_under<R, W: Write, E: Write>(
 where
     R: Files<File = File> + Net + Threads + Wait + Clock + Sync,
 {
-    let file = joined(alloc, parts)?;
-    let traffic = Arc::new(alloc, Traffic::new(alloc)?)?;
-    let door = Door {
-        closed: AtomicU64::new(0),
-    };
-    let file = file.as_str();
-    let result = carry(rt, alloc, file, manner, &traffic, &door, writer, errors);
-    Ok(counted(result, &traffic, &door))
-}
-
-/// The same of a run in the plain manner.
-fn run<R, W: Write, E: Write>(
-    rt: &R,
-    alloc: Global,
-    parts: [&str; 2],
-    writer: &mut W,
-    errors: &mut E,
-) -> Result<Told, AllocError>
-where
-    R: Files<File = File> + Net + Threads + Wait + Clock + Sync,
-{
-    run_under(rt, alloc, parts, PLAIN, writer, errors)
+    let door = Door::new();
+    run_past(rt, alloc, parts, manner, &door, writer, errors)
 }
 
 /// A plan file, and what its network tells and writes.
@@ -171,24 +195,20 @@ fn check_under<R>(
     alloc: Global,
     row: &Row,
     strictness: Strictness,
-    remarks: &str,
+    remarks: &'static str,
 ) -> Result<(), Fail>
 where
     R: Files<File = File> + Net + Threads + Wait + Clock + Sync + Abort,
 {
-    let (mut output, mut errors) = (Vec::new(alloc), Vec::new(alloc));
     let manner = Manner {
         strictness,
         ..PLAIN
     };
-    let told = run_under(rt, alloc, row.parts, manner, &mut output, &mut errors)?;
-    assert_eq!(rt; told, row.told, "{}", row.report);
-    assert!(rt;
-        output.as_slice() == row.report.as_bytes(),
-        "{}",
-        row.report
-    );
-    assert!(rt; errors.as_slice() == remarks.as_bytes(), "{}", row.report);
+    let mut output = Sheet::whole(row.report.as_bytes());
+    let mut errors = Sheet::whole(remarks.as_bytes());
+    let told = run(rt, alloc, row.parts, manner, &mut output, &mut errors)?;
+    let came = (told, output.is_right(), errors.is_right());
+    assert_eq!(rt; came, (row.told, true, true), "{}", row.report);
     Ok(())
 }
 

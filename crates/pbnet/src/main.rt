@@ -142,18 +142,27 @@ fn step_on<R: Files + Input + Eprint + AllocGlobal, W: Write>(
         Ok(file) => file,
         Err(status) => return status,
     };
-    let Ok(mut writer) = BufWriter::with_capacity(rt.alloc(), BUFFER, &mut *out) else {
-        return tell_on(out, CommandFault::Memory);
-    };
-    let mut reader = rt.reader();
-    let ran = run_script(rt.alloc(), file.as_slice(), &mut reader, &mut writer);
-    let flushed = writer.flush();
-    drop(writer);
-    match ran {
+    match step_over(rt, file.as_slice(), out) {
         Err(fault) => tell_on(out, fault),
-        Ok(_) if flushed.is_err() => tell_on(out, CommandFault::Write),
         Ok(status) => ended(rt, path, file.as_slice(), status),
     }
+}
+
+/// Drives the network of a plan file, by its octets, over standard input. The exit status is answered. Output is gathered
+/// before it is written.
+fn step_over<R: Input + AllocGlobal, W: Write>(
+    rt: &R,
+    file: &[u8],
+    out: &mut W,
+) -> Result<u8, CommandFault> {
+    let Ok(mut writer) = BufWriter::with_capacity(rt.alloc(), BUFFER, out) else {
+        return Err(CommandFault::Memory);
+    };
+    let status = run_script(rt.alloc(), file, &mut rt.reader(), &mut writer);
+    if writer.flush().is_err() && status.is_ok() {
+        return Err(CommandFault::Write);
+    }
+    status
 }
 
 /// How it is told how far a run is: on a terminal by one line, elsewhere by lines where that is asked for.

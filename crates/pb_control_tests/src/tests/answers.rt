@@ -5,10 +5,14 @@ ghost use Rattle.pb_lan.specs.Plans.{IsSound};
 use super::board::Fake;
 use super::plans::{COUNTS, TREE, plan};
 use pb_control::{Refused, Request, answer, read_request};
+use pb_frame::Memory;
 use pb_lan::Plan;
 use std::alloc::Global;
 use std::process::Abort;
 use std::test::Fail;
+
+/// A line is read, answered and done as wanted.
+const AS_WANTED: (bool, bool, bool) = (true, true, true);
 
 /// A line, and what it asks for, or why it asks for nothing.
 type Row = (&'static str, Result<Request, Refused>);
@@ -103,49 +107,45 @@ fn reply(read: Result<Request, Refused>) -> &'static str {
 }
 
 /// Whether the board was asked for this, and for nothing else.
-fn has_done(asked: &[Request], read: Result<Request, Refused>) -> bool {
+fn has_done(board: &Fake, read: Result<Request, Refused>) -> bool {
     match read {
-        Ok(Request::Counts | Request::Tree) | Err(_) => asked.is_empty(),
-        Ok(request) => asked == [request].as_slice(),
+        Ok(Request::Counts | Request::Tree) | Err(_) => board.has_done(&[]),
+        Ok(request) => board.has_done(&[request]),
     }
 }
 
-/// A line is read, done and answered as the row tells.
-fn answers(
-    rt: &impl Abort,
+/// Whether a line is read, answered behind what stood there, and done as wanted.
+fn comes_of(
     alloc: Global,
     plan: &Plan,
     line: &str,
     want: Result<Request, Refused>,
-) -> Result<(), Fail>
+) -> Result<(bool, bool, bool), Memory>
     requires { IsSound plan.now }
 {
-    assert_eq!(rt; read_request(plan, line.as_bytes()), want, "{line}");
+    let is_read = read_request(plan, line.as_bytes()) == want;
     let board = Fake::new(alloc);
     let mut out = String::from_str(alloc, "before ")?;
-    assert_eq!(rt;
-        answer(alloc, plan, &board, line.as_bytes(), &mut out),
-        Ok(())
-    );
-    assert_eq!(rt;
-        out.as_str().strip_prefix("before "),
-        Some(reply(want)),
-        "{line}"
-    );
-    let asked = board.asked(alloc)?;
-    assert!(rt; has_done(asked.as_slice(), want), "{line}");
+    answer(alloc, plan, &board, line.as_bytes(), &mut out)?;
+    let is_answered = out.as_str().strip_prefix("before ") == Some(reply(want));
+    Ok((is_read, is_answered, has_done(&board, want)))
+}
+
+/// The lines of both tables are read, answered and done as they tell.
+fn are_answered(rt: &impl Abort, alloc: Global, plan: &Plan) -> Result<(), Fail>
+    requires { IsSound plan.now }
+{
+    for (line, want) in ASKING {
+        assert_eq!(rt; comes_of(alloc, plan, line, *want)?, AS_WANTED, "{line}");
+    }
+    for line in WRONG {
+        assert_eq!(rt; comes_of(alloc, plan, line, BAD)?, AS_WANTED, "{line}");
+    }
     Ok(())
 }
 
 #[test]
 fn lines_are_answered(rt: HostRuntime) -> Result<(), Fail> {
-    let alloc = rt.alloc();
-    let plan = plan(alloc)?;
-    for (line, want) in ASKING {
-        answers(&rt, alloc, &plan, line, *want)?;
-    }
-    for line in WRONG {
-        answers(&rt, alloc, &plan, line, BAD)?;
-    }
-    Ok(())
+    let plan = plan(rt.alloc())?;
+    are_answered(&rt, rt.alloc(), &plan)
 }

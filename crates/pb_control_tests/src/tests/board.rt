@@ -4,7 +4,7 @@ use pb_control::{Board, Request};
 use pb_lan::PortState;
 use pb_rstp::Role;
 use pb_work::PortView;
-use std::alloc::{AllocError, Global};
+use std::alloc::Global;
 use std::cell::RefCell;
 
 /// Notes what it is asked for, and tells counts by which a port or a bridge is known.
@@ -21,11 +21,11 @@ impl Fake {
         }
     }
 
-    /// What it was asked for.
-    pub(super) fn asked(&self, alloc: Global) -> Result<Vec<Request>, AllocError> {
+    /// Whether it was asked for these, in this order, and for nothing else.
+    pub(super) fn has_done(&self, wanted: &[Request]) -> bool {
         match self.asked.try_borrow() {
-            Ok(asked) => Vec::from_slice(alloc, asked.as_slice()),
-            Err(_) => Ok(Vec::new(alloc)),
+            Ok(asked) => asked.as_slice() == wanted,
+            Err(_) => false,
         }
     }
 

@@ -8,16 +8,15 @@ use std::fs::Files;
 use std::io::ErrorKind;
 use std::net::Net;
 use std::os::unix::fs::{FileTypeExt, MetadataExt, symlink};
-use std::process::Abort;
 use std::test::Fail;
 use std::{fs, io};
 
 /// The socket's path.
 const PATH: &str = "control.sock";
 
-/// Why no socket could be made.
-fn refusal(opened: io::Result<Control>) -> Option<ErrorKind> {
-    match opened {
+/// Why no socket can be made at a path.
+fn refusal<R: Files + Net>(rt: &R, alloc: Global, path: &str) -> Option<ErrorKind> {
+    match Control::open(rt, alloc, path) {
         Ok(_) => None,
         Err(e) => Some(e.kind()),
     }
@@ -28,80 +27,96 @@ fn is_free(rt: &impl Files) -> bool {
     fs::symlink_metadata(rt, PATH).is_err()
 }
 
+/// Somebody listens at the path.
+fn is_heard(rt: &impl Net) -> bool {
+    UnixStream::connect(rt, PATH).is_ok()
+}
+
 /// What any thread may have: a run attends to its socket in whichever thread comes by.
 fn for_any_thread<T: Send>(it: T) -> T {
     it
 }
 
-/// A socket is made, only its owner may connect, and its file is removed at the end.
-fn is_made_and_removed<R: Abort + Files + Net>(rt: &R, alloc: Global) -> Result<(), Fail> {
-    let control = for_any_thread(Control::open(rt, alloc, PATH)?);
+/// Whether a socket stands at the path, and its mode.
+fn node(rt: &impl Files) -> io::Result<(bool, u32)> {
     let metadata = fs::symlink_metadata(rt, PATH)?;
-    assert!(rt; metadata.file_type().is_socket());
-    assert_eq!(rt; metadata.mode() & 0o7777, 0o600);
+    Ok((metadata.file_type().is_socket(), metadata.mode() & 0o7777))
+}
+
+/// A socket is made and closed. Answers what stood at the path meanwhile, and whether it is free then.
+fn made_and_closed<R: Files + Net>(rt: &R, alloc: Global) -> io::Result<((bool, u32), bool)> {
+    let control = for_any_thread(Control::open(rt, alloc, PATH)?);
+    let node = node(rt);
     control.close(rt);
-    assert!(rt; is_free(rt));
-    Ok(())
+    Ok((node?, is_free(rt)))
 }
 
-/// Where somebody listens, no socket is made, and his goes on.
-fn leaves_a_live_one<R: Abort + Files + Net>(rt: &R, alloc: Global) -> Result<(), Fail> {
-    let listener = UnixListener::bind(rt, PATH)?;
-    assert_eq!(rt;
-        refusal(Control::open(rt, alloc, PATH)),
-        Some(ErrorKind::AddrInUse)
-    );
-    let _ = UnixStream::connect(rt, PATH)?;
-    assert!(rt; listener.accept().is_ok());
-    Ok(())
-}
-
-/// A socket whose listener is gone is replaced.
-fn replaces_a_stale_one<R: Abort + Files + Net>(rt: &R, alloc: Global) -> Result<(), Fail> {
-    assert!(rt; !is_free(rt));
-    let control = Control::open(rt, alloc, PATH)?;
-    assert!(rt; UnixStream::connect(rt, PATH).is_ok());
-    control.close(rt);
-    assert!(rt; is_free(rt));
-    Ok(())
-}
-
-/// A file that is no socket is left as it is, and so is what stands there once ours is gone.
-fn leaves_other_files<R: Abort + Files + Net + AllocGlobal>(
+/// Somebody listens at the path. Answers why no socket can be made there, and whether he still is connected to.
+fn beside_a_live_one<R: Files + Net>(
     rt: &R,
     alloc: Global,
-) -> Result<(), Fail> {
+) -> io::Result<(Option<ErrorKind>, bool)> {
+    let listener = UnixListener::bind(rt, PATH)?;
+    let refusal = refusal(rt, alloc, PATH);
+    Ok((refusal, is_heard(rt) && listener.accept().is_ok()))
+}
+
+/// A socket is made where one stands whose listener is gone. Answers whether the path was free before, whether it is
+/// connected to, and whether the path is free once it is closed.
+fn in_place_of_a_stale_one<R: Files + Net>(
+    rt: &R,
+    alloc: Global,
+) -> io::Result<(bool, bool, bool)> {
+    let was_free = is_free(rt);
     let control = Control::open(rt, alloc, PATH)?;
-    fs::remove_file(rt, PATH)?;
-    fs::write(rt, PATH, "words")?;
+    let is_heard = is_heard(rt);
     control.close(rt);
-    assert_eq!(rt;
-        refusal(Control::open(rt, alloc, PATH)),
-        Some(ErrorKind::AlreadyExists)
-    );
-    assert_eq!(rt; fs::read_to_string(rt, PATH)?.as_str(), "words");
+    Ok((was_free, is_heard, is_free(rt)))
+}
+
+/// A socket is closed once a text file stands in its place.
+fn closed_too_late<R: Files + Net>(rt: &R, alloc: Global) -> io::Result<()> {
+    let control = Control::open(rt, alloc, PATH)?;
+    let is_written = fs::remove_file(rt, PATH).and(fs::write(rt, PATH, "words"));
+    control.close(rt);
+    is_written
+}
+
+/// A text file stands at the path. Answers why no socket can be made there, and whether its text is left. The file is
+/// removed then.
+fn beside_a_file<R: Files + Net + AllocGlobal>(
+    rt: &R,
+    alloc: Global,
+) -> io::Result<(Option<ErrorKind>, bool)> {
+    let refusal = refusal(rt, alloc, PATH);
+    let is_left = fs::read_to_string(rt, PATH)?.as_str() == "words";
     fs::remove_file(rt, PATH)?;
+    Ok((refusal, is_left))
+}
+
+/// A symbolic link stands at the path. Answers why no socket can be made there, and whether the path is free. The link
+/// is removed then.
+fn beside_a_link<R: Files + Net>(rt: &R, alloc: Global) -> io::Result<(Option<ErrorKind>, bool)> {
     symlink(rt, "nowhere.sock", PATH)?;
-    assert_eq!(rt;
-        refusal(Control::open(rt, alloc, PATH)),
-        Some(ErrorKind::AlreadyExists)
-    );
-    assert!(rt; !is_free(rt));
+    let seen = (refusal(rt, alloc, PATH), is_free(rt));
     fs::remove_file(rt, PATH)?;
-    assert_eq!(rt;
-        refusal(Control::open(rt, alloc, "none/control.sock")),
-        Some(ErrorKind::NotFound)
-    );
-    Ok(())
+    Ok(seen)
 }
 
 #[test]
 fn the_file_is_ours_alone(rt: HostRuntime) -> Result<(), Fail> {
-    let folder = enter(&rt, rt.process())?;
-    is_made_and_removed(&rt, rt.alloc())?;
-    leaves_a_live_one(&rt, rt.alloc())?;
-    replaces_a_stale_one(&rt, rt.alloc())?;
-    leaves_other_files(&rt, rt.alloc())?;
-    leave(&rt, folder)?;
-    Ok(())
+    const IN_USE: (Option<ErrorKind>, bool) = (Some(ErrorKind::AddrInUse), true);
+    const EXISTS: Option<ErrorKind> = Some(ErrorKind::AlreadyExists);
+    let alloc = rt.alloc();
+    enter(&rt, rt.process())?;
+    // (a socket is made, only its owner may connect, and its file is removed at the end)
+    assert!(rt; made_and_closed(&rt, alloc)? == ((true, 0o600), true));
+    assert!(rt; beside_a_live_one(&rt, alloc)? == IN_USE);
+    assert!(rt; in_place_of_a_stale_one(&rt, alloc)? == (false, true, true));
+    // (a file that is no socket is left as it is, and so is what stands there once ours is gone)
+    closed_too_late(&rt, alloc)?;
+    assert!(rt; beside_a_file(&rt, alloc)? == (EXISTS, true));
+    assert!(rt; beside_a_link(&rt, alloc)? == (EXISTS, false));
+    assert!(rt; refusal(&rt, alloc, "none/control.sock") == Some(ErrorKind::NotFound));
+    Ok(leave(&rt, rt.process())?)
 }

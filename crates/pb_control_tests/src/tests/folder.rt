@@ -6,18 +6,21 @@ use std::process::Process;
 use std::rt::Env;
 use std::{env, fs, io, process};
 
-/// Makes a folder of the process's own where the system keeps temporary files, and goes there. Each test runs in
-/// a process of its own.
-pub(super) fn enter<R: Env + Files + AllocGlobal>(rt: &R, process: Process) -> io::Result<PathBuf> {
+/// The folder of the process: its own, where the system keeps temporary files. Each test runs in a process of its own.
+fn folder_of<R: Env + AllocGlobal>(rt: &R, process: Process) -> io::Result<PathBuf> {
     let name = format!(in rt.alloc(); "pb_control_tests-{}", process::id(process))?;
-    let folder = env::temp_dir(rt)?.join(rt.alloc(), name.as_str())?;
-    let _ = fs::remove_dir_all(rt, folder.as_path());
-    fs::create_dir(rt, folder.as_path())?;
-    env::set_current_dir(rt, folder.as_path())?;
-    Ok(folder)
+    Ok(env::temp_dir(rt)?.join(rt.alloc(), name.as_str())?)
 }
 
-/// Removes a folder with all its files.
-pub(super) fn leave<R: Files + AllocGlobal>(rt: &R, folder: PathBuf) -> io::Result<()> {
-    fs::remove_dir_all(rt, folder.as_path())
+/// Makes the folder of the process, and goes there.
+pub(super) fn enter<R: Env + Files + AllocGlobal>(rt: &R, process: Process) -> io::Result<()> {
+    let folder = folder_of(rt, process)?;
+    let _ = fs::remove_dir_all(rt, folder.as_path());
+    fs::create_dir(rt, folder.as_path())?;
+    env::set_current_dir(rt, folder.as_path())
+}
+
+/// Removes the folder of the process with all its files.
+pub(super) fn leave<R: Env + Files + AllocGlobal>(rt: &R, process: Process) -> io::Result<()> {
+    fs::remove_dir_all(rt, folder_of(rt, process)?.as_path())
 }

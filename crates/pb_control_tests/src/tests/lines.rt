@@ -1,8 +1,8 @@
 //! Octets that come in pieces, and the lines in them.
 
 use pb_control::LineBuffer;
+use pb_frame::Memory;
 use std::alloc::Global;
-use std::process::Abort;
 use std::test::Fail;
 
 /// The limit of the buffers here.
@@ -28,36 +28,39 @@ const ROWS: &[(&[&str], &str)] = &[
     (&["abcdefghij\nabcdefghij\n"], "abcde|abcde|,"),
 ];
 
-/// Puts the lines that are whole behind a text.
-fn take(rt: &impl Abort, lines: &mut LineBuffer, out: &mut String) -> Result<(), Fail> {
+/// Puts the lines that are whole behind a text, and says whether they came to an end and each was short enough.
+fn take(lines: &mut LineBuffer, out: &mut Vec<u8>) -> Result<bool, Memory> {
     for _ in 0..100u32 {
         let Some(line) = lines.next_line()? else {
-            out.push(',')?;
-            return Ok(());
+            out.push(b',')?;
+            return Ok(true);
         };
-        assert!(rt; line.len() <= LIMIT + 1);
-        out.push_str(std::str::from_utf8(line.as_slice()).unwrap_or("?"))?;
-        out.push('|')?;
+        if line.len() > LIMIT + 1 {
+            return Ok(false);
+        }
+        out.extend_from_slice(line.as_slice())?;
+        out.push(b'|')?;
     }
-    Err(Fail::from("no end"))
+    Ok(false)
 }
 
-/// The lines in pieces.
-fn cut(rt: &impl Abort, alloc: Global, pieces: &[&str]) -> Result<String, Fail> {
+/// Whether these lines come of pieces.
+fn are_cut(alloc: Global, pieces: &[&str], want: &str) -> Result<bool, Memory> {
     let mut lines = LineBuffer::new(alloc, LIMIT);
-    let mut out = String::new(alloc);
+    let mut out = Vec::new(alloc);
     for piece in pieces {
         lines.put(piece.as_bytes())?;
-        take(rt, &mut lines, &mut out)?;
+        if !take(&mut lines, &mut out)? {
+            return Ok(false);
+        }
     }
-    Ok(out)
+    Ok(out.as_slice() == want.as_bytes())
 }
 
 #[test]
 fn lines_come_whole(rt: HostRuntime) -> Result<(), Fail> {
     for (number, (pieces, want)) in ROWS.iter().enumerate() {
-        let lines = cut(&rt, rt.alloc(), pieces)?;
-        assert_eq!(rt; lines.as_str(), *want, "row {number}");
+        assert!(rt; are_cut(rt.alloc(), pieces, want)?, "row {number}: {want}");
     }
     Ok(())
 }

@@ -1,8 +1,9 @@
 //! BPDUs in frames, as two bridges on one link send them.
 
 use pb_bpdu::{Bpdu, BpduFault, read, what_is_written_is_read, write};
-use pb_frame::{Mac, hex_read};
+use pb_frame::{Mac, Memory};
 use std::alloc::{AllocError, Global};
+use std::process::Abort;
 use std::test::Fail;
 
 /// What bridge 32768/02-00-00-00-00-01 sends on its port 1 at first.
@@ -14,9 +15,12 @@ const PROPOSAL: [u8; 53] = [
 ];
 
 /// What bridge 32768/02-00-00-00-00-02 at the other end answers.
-const ANSWER: &str = "0180c20000080200000000020027424203000002027980000200000000010000\
-4e2080000200000000028001010014000200\
-0f0000";
+const ANSWER: [u8; 53] = [
+    0x01, 0x80, 0xc2, 0x00, 0x00, 0x08, 0x02, 0x00, 0x00, 0x00, 0x00, 0x02, 0x00, 0x27, 0x42, 0x42,
+    0x03, 0x00, 0x00, 0x02, 0x02, 0x79, 0x80, 0x00, 0x02, 0x00, 0x00, 0x00, 0x00, 0x01, 0x00, 0x00,
+    0x4e, 0x20, 0x80, 0x00, 0x02, 0x00, 0x00, 0x00, 0x00, 0x02, 0x80, 0x01, 0x01, 0x00, 0x14, 0x00,
+    0x02, 0x00, 0x0f, 0x00, 0x00,
+];
 
 fn proposal() -> Bpdu {
     Bpdu {
@@ -57,16 +61,15 @@ fn answer() -> Bpdu {
 }
 
 /// Whether a BPDU is written so by the bridge with an address that ends in this octet.
-fn is_written(alloc: Global, last: u8, bpdu: &Bpdu, wanted: &[u8]) -> Result<bool, Fail> {
+fn is_written(alloc: Global, last: u8, bpdu: &Bpdu, wanted: &[u8]) -> Result<bool, Memory> {
     let frame = write(alloc, Mac([2, 0, 0, 0, 0, last]), bpdu)?;
     Ok(frame.as_slice() == wanted)
 }
 
 #[test]
 fn writes_what_is_sent(rt: HostRuntime) -> Result<(), Fail> {
-    let answered = hex_read(rt.alloc(), ANSWER)?;
     assert!(rt; is_written(rt.alloc(), 1, &proposal(), &PROPOSAL)?);
-    assert!(rt; is_written(rt.alloc(), 2, &answer(), &answered)?);
+    assert!(rt; is_written(rt.alloc(), 2, &answer(), &ANSWER)?);
     Ok(())
 }
 
@@ -78,16 +81,18 @@ fn is_read(frame: &[u8], wanted: &Bpdu) -> bool {
     }
 }
 
-/// Whether a frame is refused for this.
-fn is_refused(frame: &[u8], wanted: BpduFault) -> bool {
-    read(frame).err() == Some(wanted)
+/// Whether a frame is refused for this, or else read as the proposal.
+fn is_told(frame: &[u8], wanted: Option<BpduFault>) -> bool {
+    match read(frame) {
+        Ok(bpdu) => wanted.is_none() && bpdu == proposal(),
+        Err(fault) => wanted == Some(fault),
+    }
 }
 
 #[test]
-fn reads_what_is_sent(rt: HostRuntime) -> Result<(), Fail> {
-    let answered = hex_read(rt.alloc(), ANSWER)?;
-    assert!(rt; is_read(&PROPOSAL, &proposal()) && is_read(&answered, &answer()));
-    Ok(())
+fn reads_what_is_sent(rt: HostRuntime) {
+    assert!(rt; is_read(&PROPOSAL, &proposal()));
+    assert!(rt; is_read(&ANSWER, &answer()));
 }
 
 /// The proposal with another octet at a place, and with octets behind it.
@@ -100,88 +105,80 @@ fn changed(alloc: Global, place: usize, octet: u8, behind: &[u8]) -> Result<Vec<
     Ok(frame)
 }
 
-/// Places and octets there that mean nothing, and what stands behind the frame.
-const IGNORED: &[(usize, u8, &[u8])] = &[
-    (19, 3, &[]),
-    (19, 255, &[]),
-    (21, 0x8e, &[]),
-    (52, 7, &[]),
-    (0, 2, &[]),
-    (5, 0, &[]),
-    (0, 1, &[7; 7]),
-];
+/// A place, an octet there, what stands behind the frame, and what is told.
+type Row = (usize, u8, &'static [u8], Option<BpduFault>);
 
-/// Whether the proposal is read with another octet at a place, and with octets behind it.
-fn is_ignored(alloc: Global, place: usize, octet: u8, behind: &[u8]) -> Result<bool, AllocError> {
+/// Whether that is told of the proposal with another octet at a place, and with octets behind it.
+fn holds(alloc: Global, row: &Row) -> Result<bool, AllocError> {
+    let (place, octet, behind, wanted) = *row;
     let frame = changed(alloc, place, octet, behind)?;
-    Ok(is_read(&frame, &proposal()))
+    Ok(is_told(&frame, wanted))
+}
+
+/// Each row holds.
+fn all_hold(rt: &impl Abort, alloc: Global, rows: &[Row]) -> Result<(), Fail> {
+    for (number, row) in rows.iter().enumerate() {
+        assert!(rt; holds(alloc, row)?, "row {number}");
+    }
+    Ok(())
 }
 
 #[test]
 fn ignores_what_means_nothing(rt: HostRuntime) -> Result<(), Fail> {
-    for (place, octet, behind) in IGNORED {
-        assert!(rt;
-            is_ignored(rt.alloc(), *place, *octet, behind)?,
-            "{place} {octet}"
-        );
-    }
-    Ok(())
-}
-
-/// Places, octets there that are wrong, and the fault of each.
-const FAULTS: &[(usize, u8, BpduFault)] = &[
-    (13, 0x26, BpduFault::Short),
-    (13, 0x28, BpduFault::Llc),
-    (14, 0x43, BpduFault::Llc),
-    (15, 0x43, BpduFault::Llc),
-    (16, 0x13, BpduFault::Llc),
-    (17, 1, BpduFault::Protocol),
-    (18, 1, BpduFault::Protocol),
-    (20, 0, BpduFault::Kind),
-    (20, 0x80, BpduFault::Kind),
-    (19, 1, BpduFault::Old),
-    (19, 0, BpduFault::Old),
-];
-
-/// Whether the proposal with another octet at a place has this fault.
-fn has_fault(alloc: Global, place: usize, octet: u8, fault: BpduFault) -> Result<bool, AllocError> {
-    let frame = changed(alloc, place, octet, &[])?;
-    Ok(is_refused(&frame, fault))
+    const ROWS: &[Row] = &[
+        (19, 3, &[], None),
+        (19, 255, &[], None),
+        (21, 0x8e, &[], None),
+        (52, 7, &[], None),
+        (0, 2, &[], None),
+        (5, 0, &[], None),
+        (0, 1, &[7; 7], None),
+    ];
+    all_hold(&rt, rt.alloc(), ROWS)
 }
 
 #[test]
 fn names_the_first_fault(rt: HostRuntime) -> Result<(), Fail> {
-    for (place, octet, fault) in FAULTS {
-        assert!(rt;
-            has_fault(rt.alloc(), *place, *octet, *fault)?,
-            "{place} {octet}"
-        );
-    }
-    assert!(rt; is_refused(&[], BpduFault::Llc));
-    assert!(rt; is_refused(&PROPOSAL[..16], BpduFault::Llc));
-    Ok(())
+    const ROWS: &[Row] = &[
+        (13, 0x26, &[], Some(BpduFault::Short)),
+        (13, 0x28, &[], Some(BpduFault::Llc)),
+        (14, 0x43, &[], Some(BpduFault::Llc)),
+        (15, 0x43, &[], Some(BpduFault::Llc)),
+        (16, 0x13, &[], Some(BpduFault::Llc)),
+        (17, 1, &[], Some(BpduFault::Protocol)),
+        (18, 1, &[], Some(BpduFault::Protocol)),
+        (20, 0, &[], Some(BpduFault::Kind)),
+        (20, 0x80, &[], Some(BpduFault::Kind)),
+        (19, 1, &[], Some(BpduFault::Old)),
+        (19, 0, &[], Some(BpduFault::Old)),
+    ];
+    all_hold(&rt, rt.alloc(), ROWS)
 }
 
-/// Whether a frame with this length is read, or refused, as the length says.
-fn is_told(frame: &[u8], length: u8) -> bool {
-    if length < 3 {
-        is_refused(frame, BpduFault::Llc)
-    } else if length < 39 {
-        is_refused(frame, BpduFault::Short)
-    } else {
-        is_read(frame, &proposal())
+#[test]
+fn a_frame_without_link_control_is_told(rt: HostRuntime) {
+    assert!(rt; is_told(&[], Some(BpduFault::Llc)));
+    assert!(rt; is_told(&PROPOSAL[..16], Some(BpduFault::Llc)));
+}
+
+/// What is told of the proposal with this length, where all octets are there.
+fn told_by(length: u8) -> Option<BpduFault> {
+    match length {
+        0..=2 => Some(BpduFault::Llc),
+        3..=38 => Some(BpduFault::Short),
+        _ => None,
     }
 }
 
-/// Whether the proposal is read by this length, and where an octet is missing it is not.
+/// Whether the proposal is told of by this length, and where an octet is missing as cut.
 fn is_read_by(alloc: Global, length: u8) -> Result<bool, AllocError> {
     let frame = changed(alloc, 13, length, &[0; 21])?;
     let end = 14 + length as usize;
     if frame.len() < end {
         return Ok(false);
     }
-    let is_cut_told = length == 0 || is_refused(&frame[..end - 1], BpduFault::Llc);
-    Ok(is_cut_told && is_told(&frame[..end], length))
+    let is_cut_told = length == 0 || is_told(&frame[..end - 1], Some(BpduFault::Llc));
+    Ok(is_cut_told && is_told(&frame[..end], told_by(length)))
 }
 
 #[test]

@@ -102,9 +102,8 @@ fn ten_thousand_commands_leave_what_a_plain_list_has(rt: HostRuntime) {
     let mut both = Both::new(rt.alloc(), 12, 40);
     let mut dice = Dice(1);
     let mut answers = Answers::none();
-    for _ in 0..10000 {
-        both.step(&rt, &mut dice, &mut answers);
+    for number in 0..10000u32 {
+        assert!(rt; both.step(&mut dice, &mut answers), "command {number}");
     }
-    assert!(rt; answers.new > 100 && answers.kept > 100 && answers.moved > 100);
-    assert!(rt; answers.full > 100 && answers.group > 100 && both.plain.sweeps > 100);
+    assert!(rt; answers.are_many() && both.plain.sweeps > 100);
 }

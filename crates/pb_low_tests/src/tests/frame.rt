@@ -4,30 +4,25 @@ mod digits;
 mod tags;
 mod values;
 
-use bytes::Bytes;
-use pb_frame::{FrameFault, Mac, Tci, hex_text, view};
+use pb_frame::{FrameFault, Mac, Memory, Tci, view};
 use std::alloc::{AllocError, Global};
-use std::process::Abort;
 use std::test::Fail;
 
-/// The frame's octets are these.
-fn is(rt: &impl Abort, alloc: Global, frame: &Bytes, digits: &str) -> Result<(), Fail> {
-    assert_eq!(rt; hex_text(alloc, frame.as_slice())?.as_str(), digits);
-    Ok(())
-}
-
-/// The addresses, the type and the rest of a frame.
-fn parts(frame: &[u8]) -> Result<(Mac, Mac, u16, &[u8]), FrameFault> {
-    let parts = view(frame)?;
-    Ok((parts.dst, parts.src, parts.kind, parts.rest))
+/// Whether a frame has these addresses, this type and this rest.
+fn has_parts(frame: &[u8], dst: Mac, src: Mac, kind: u16, rest: &[u8]) -> bool {
+    match view(frame) {
+        Ok(parts) => {
+            parts.dst == dst && parts.src == src && parts.kind == kind && parts.rest == rest
+        }
+        Err(_) => false,
+    }
 }
 
 #[test]
 fn frames_are_taken_apart(rt: HostRuntime) {
-    let frame = b"\xff\xff\xff\xff\xff\xff\x02\0\0\0\x01\x01\x08\0AB";
-    let (dst, src) = (Mac([255; 6]), Mac([2, 0, 0, 0, 1, 1]));
-    let wanted = Ok((dst, src, 0x0800, b"AB".as_slice()));
-    assert_eq!(rt; parts(frame), wanted);
+    const FRAME: &[u8] = b"\xff\xff\xff\xff\xff\xff\x02\0\0\0\x01\x01\x08\0AB";
+    const SRC: Mac = Mac([2, 0, 0, 0, 1, 1]);
+    assert!(rt; has_parts(FRAME, Mac([255; 6]), SRC, 0x0800, b"AB"));
 }
 
 /// What is wrong with a frame of so many octets, all 7.
@@ -88,9 +83,15 @@ fn addresses_are_read(rt: HostRuntime) {
     }
 }
 
+/// Whether an address is written so.
+fn is_written(alloc: Global, address: Mac, wanted: &str) -> Result<bool, Memory> {
+    let text = address.text(alloc)?;
+    Ok(text.as_str() == wanted)
+}
+
 #[test]
 fn addresses_are_written(rt: HostRuntime) -> Result<(), Fail> {
-    let text = Mac([1, 0x80, 0xc2, 0, 0, 0x0e]).text(rt.alloc())?;
-    assert_eq!(rt; text.as_str(), "01-80-C2-00-00-0E");
+    const ADDRESS: Mac = Mac([1, 0x80, 0xc2, 0, 0, 0x0e]);
+    assert!(rt; is_written(rt.alloc(), ADDRESS, "01-80-C2-00-00-0E")?);
     Ok(())
 }

@@ -9,12 +9,12 @@ ghost use Rattle.pb_net_tests.specs.Benches.{TellsAllDelivered};
 use super::draft::{Draft, Joint};
 use super::networks::JOINED;
 use super::plans::plan_of;
-use super::records::{Did, Done, Piece, record_of};
+use super::records::{Did, Done, Piece, record_of, tallies_of};
 use pb_forest::{forest, is_drained};
 use pb_frame::Memory;
 use pb_lan::{
-    Plan, frames_arrive_exactly_once, left, plan_is_sound, planned_states_stay, start_shape,
-    still_frames_are_traced,
+    Plan, Record, frames_arrive_exactly_once, left, plan_is_sound, planned_states_stay,
+    start_shape, still_frames_are_traced,
 };
 use pb_steps::{Tallies, last_shape};
 use std::alloc::Global;
@@ -106,33 +106,45 @@ const ROWS: &[(Draft, Done, bool)] = &[
     (RINGED, FINISHED, false),
 ];
 
-/// What both benches say, where the plan is sound.
-fn told(alloc: Global, draft: &Draft, done: &Done) -> Result<Option<(bool, bool)>, Memory> {
+/// What both benches say of red.
+fn said(alloc: Global, plan: &Plan, counts: &Tallies) -> Result<(bool, bool), Memory>
+    requires { IsSound plan.now }
+{
+    let first = arrives(alloc, plan, counts, 1)?;
+    Ok((first, all_arrive(alloc, plan, counts, 1)?))
+}
+
+/// Whether both benches say so, and the plan is sound.
+fn is_told(alloc: Global, draft: &Draft, done: &Done, wanted: bool) -> Result<bool, Memory> {
     let plan = plan_of(alloc, draft)?;
-    let counts = Tallies::of(alloc, &record_of(alloc, done)?)?;
     if !plan_is_sound(&plan) {
-        return Ok(None);
+        return Ok(false);
     }
-    Ok(Some((
-        arrives(alloc, &plan, &counts, 1)?,
-        all_arrive(alloc, &plan, &counts, 1)?,
-    )))
+    let counts = tallies_of(alloc, done)?;
+    Ok(said(alloc, &plan, &counts)? == (wanted, wanted))
 }
 
 #[test]
 fn a_bench_tells_what_arrived(rt: HostRuntime) -> Result<(), Fail> {
     broadcasts_can_arrive();
     for (number, (draft, done, wanted)) in ROWS.iter().enumerate() {
-        let told = told(rt.alloc(), draft, done)?;
-        assert_eq!(rt; told, Some((*wanted, *wanted)), "row {number}");
+        assert!(rt; is_told(rt.alloc(), draft, done, *wanted)?, "row {number}");
     }
     Ok(())
+}
+
+/// Whether just the broadcast left at customer port 2.
+fn has_left(alloc: Global, rec: &Record) -> Result<bool, Memory> {
+    let frames = left(alloc, rec, 2)?;
+    match frames.first() {
+        Some(frame) => Ok(frames.len() == 1 && frame.as_slice() == BROADCAST),
+        None => Ok(false),
+    }
 }
 
 #[test]
 fn the_broadcast_left_as_it_came(rt: HostRuntime) -> Result<(), Fail> {
     let rec = record_of(rt.alloc(), &FINISHED)?;
-    let frames = left(rt.alloc(), &rec, 2)?;
-    assert!(rt; frames.len() == 1 && frames.iter().all(|it| &**it == BROADCAST));
+    assert!(rt; has_left(rt.alloc(), &rec)?);
     Ok(())
 }

@@ -42,19 +42,31 @@ fn higher_classes_go_first(rt: HostRuntime) -> Result<(), Fail> {
         Row::Enters(3, SHORT),
         Row::Does(Act::Transmit(1, 1)),
         Row::Does(Act::Take(1)),
-        Row::Moved(Place::Lane(1), "ffffffffffff02000000010188a8a0640800"),
+        Row::Moved(
+            Place::Lane(1),
+            b"\xff\xff\xff\xff\xff\xff\x02\0\0\0\x01\x01\x88\xa8\xa0\x64\x08\0",
+        ),
         Row::Does(Act::Put(1)),
         Row::Does(Act::Transmit(1, 1)),
         Row::Does(Act::Take(1)),
-        Row::Moved(Place::Lane(1), "ffffffffffff02000000010188a800640800"),
+        Row::Moved(
+            Place::Lane(1),
+            b"\xff\xff\xff\xff\xff\xff\x02\0\0\0\x01\x01\x88\xa8\0\x64\x08\0",
+        ),
         Row::Does(Act::Put(1)),
         Row::Does(Act::Transmit(1, 1)),
         Row::Does(Act::Take(1)),
-        Row::Moved(Place::Lane(1), "ffffffffffff02000000010188a820640800"),
+        Row::Moved(
+            Place::Lane(1),
+            b"\xff\xff\xff\xff\xff\xff\x02\0\0\0\x01\x01\x88\xa8\x20\x64\x08\0",
+        ),
         Row::Does(Act::Put(1)),
     ];
     walks(&rt, rt.alloc(), &MIXED, ROWS)
 }
+
+/// The same, but two items wait at a port.
+const NARROW: Draft = Draft { queue: 2, ..MIXED };
 
 #[test]
 fn a_queue_holds_all_classes_together(rt: HostRuntime) -> Result<(), Fail> {
@@ -67,5 +79,5 @@ fn a_queue_holds_all_classes_together(rt: HostRuntime) -> Result<(), Fail> {
             fate: Fate::RelayedBut(&[1, 2, 3], &[(1, NoRoom::Full)]),
         },
     ];
-    walks(&rt, rt.alloc(), &Draft { queue: 2, ..MIXED }, ROWS)
+    walks(&rt, rt.alloc(), &NARROW, ROWS)
 }

@@ -9,13 +9,13 @@ use std::test::Fail;
 
 #[test]
 fn a_customers_notice_of_change_is_carried(rt: HostRuntime) -> Result<(), Fail> {
-    const NOTICE: &str = "0180c2000000020000000101000742420300000080";
+    const NOTICE: &[u8] = b"\x01\x80\xc2\0\0\0\x02\0\0\0\x01\x01\0\x07BB\x03\0\0\0\x80";
     const ROWS: &[Row] = &[
         Row::Enters(1, NOTICE),
         Row::Crosses(1),
         Row::Moved(
             Place::Lane(1),
-            "0180c200000002000000010188a80064000742420300000080",
+            b"\x01\x80\xc2\0\0\0\x02\0\0\0\x01\x01\x88\xa8\0\x64\0\x07BB\x03\0\0\0\x80",
         ),
         Row::Leaves(2),
         Row::Moved(Place::Customer(2), NOTICE),
@@ -28,13 +28,13 @@ fn a_customers_notice_of_change_is_carried(rt: HostRuntime) -> Result<(), Fail> 
 
 #[test]
 fn a_customers_tag_is_carried(rt: HostRuntime) -> Result<(), Fail> {
-    const FRAME: &str = "ffffffffffff0200000001018100200508004142";
+    const FRAME: &[u8] = b"\xff\xff\xff\xff\xff\xff\x02\0\0\0\x01\x01\x81\0\x20\x05\x08\0AB";
     const ROWS: &[Row] = &[
         Row::Enters(1, FRAME),
         Row::Crosses(1),
         Row::Moved(
             Place::Lane(1),
-            "ffffffffffff02000000010188a800648100200508004142",
+            b"\xff\xff\xff\xff\xff\xff\x02\0\0\0\x01\x01\x88\xa8\0\x64\x81\0\x20\x05\x08\0AB",
         ),
         Row::Leaves(2),
         Row::Moved(Place::Customer(2), FRAME),
@@ -45,25 +45,43 @@ fn a_customers_tag_is_carried(rt: HostRuntime) -> Result<(), Fail> {
 #[test]
 fn a_priority_tag_gives_its_priority(rt: HostRuntime) -> Result<(), Fail> {
     const ROWS: &[Row] = &[
-        Row::Enters(1, "ffffffffffff02000000010188a8a00008004142"),
+        Row::Enters(
+            1,
+            b"\xff\xff\xff\xff\xff\xff\x02\0\0\0\x01\x01\x88\xa8\xa0\0\x08\0AB",
+        ),
         Row::Crosses(1),
-        Row::Moved(Place::Lane(1), "ffffffffffff02000000010188a8a06408004142"),
+        Row::Moved(
+            Place::Lane(1),
+            b"\xff\xff\xff\xff\xff\xff\x02\0\0\0\x01\x01\x88\xa8\xa0\x64\x08\0AB",
+        ),
         Row::Leaves(2),
-        Row::Moved(Place::Customer(2), "ffffffffffff02000000010108004142"),
+        Row::Moved(
+            Place::Customer(2),
+            b"\xff\xff\xff\xff\xff\xff\x02\0\0\0\x01\x01\x08\0AB",
+        ),
         // Whether it may be dropped first is not kept.
-        Row::Enters(1, "ffffffffffff02000000010188a8b00008004142"),
+        Row::Enters(
+            1,
+            b"\xff\xff\xff\xff\xff\xff\x02\0\0\0\x01\x01\x88\xa8\xb0\0\x08\0AB",
+        ),
         Row::Crosses(1),
-        Row::Moved(Place::Lane(1), "ffffffffffff02000000010188a8a06408004142"),
+        Row::Moved(
+            Place::Lane(1),
+            b"\xff\xff\xff\xff\xff\xff\x02\0\0\0\x01\x01\x88\xa8\xa0\x64\x08\0AB",
+        ),
         Row::Leaves(2),
-        Row::Moved(Place::Customer(2), "ffffffffffff02000000010108004142"),
+        Row::Moved(
+            Place::Customer(2),
+            b"\xff\xff\xff\xff\xff\xff\x02\0\0\0\x01\x01\x08\0AB",
+        ),
     ];
     walks(&rt, rt.alloc(), &JOINED, ROWS)
 }
 
 #[test]
 fn what_enters_twice_leaves_twice(rt: HostRuntime) -> Result<(), Fail> {
-    const FRAME: &str = "ffffffffffff02000000010108004142";
-    const TAGGED: &str = "ffffffffffff02000000010188a8006408004142";
+    const FRAME: &[u8] = b"\xff\xff\xff\xff\xff\xff\x02\0\0\0\x01\x01\x08\0AB";
+    const TAGGED: &[u8] = b"\xff\xff\xff\xff\xff\xff\x02\0\0\0\x01\x01\x88\xa8\0\x64\x08\0AB";
     const ROWS: &[Row] = &[
         Row::Enters(1, FRAME),
         Row::Crosses(1),
@@ -129,7 +147,7 @@ fn both_bridges_learn(rt: HostRuntime) -> Result<(), Fail> {
             fate: Fate::Relayed(&[2, 3]),
         },
         // The answer of 02-00-00-00-02-02 goes to one port alone at each bridge.
-        Row::Enters(3, "02000000010102000000020208004142"),
+        Row::Enters(3, b"\x02\0\0\0\x01\x01\x02\0\0\0\x02\x02\x08\0AB"),
         Row::Ruled {
             bridge: 2,
             fate: Fate::Relayed(&[1]),
@@ -140,7 +158,7 @@ fn both_bridges_learn(rt: HostRuntime) -> Result<(), Fail> {
             fate: Fate::Relayed(&[2]),
         },
         // So does the answer to it.
-        Row::Enters(1, "02000000020202000000010108004142"),
+        Row::Enters(1, b"\x02\0\0\0\x02\x02\x02\0\0\0\x01\x01\x08\0AB"),
         Row::Ruled {
             bridge: 1,
             fate: Fate::Relayed(&[1]),

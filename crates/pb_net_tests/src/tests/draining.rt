@@ -1,9 +1,10 @@
 //! Whether a frame is on its way, from one customer port of a bridge to another.
 
-use super::records::{Did, Done, Piece, record_of};
+use super::records::{Did, Done, Piece, tallies_of};
 use pb_forest::is_drained;
+use pb_frame::Memory;
 use pb_lan::NoRoom;
-use pb_steps::Tallies;
+use std::alloc::Global;
 use std::test::Fail;
 
 const FRAME: Piece = (0, &[7]);
@@ -59,12 +60,15 @@ const ROWS: &[(Done, bool)] = &[
     ),
 ];
 
+fn is_told(alloc: Global, done: &Done, wanted: bool) -> Result<bool, Memory> {
+    let counts = tallies_of(alloc, done)?;
+    Ok(is_drained(&counts) == wanted)
+}
+
 #[test]
 fn a_record_tells_whether_a_frame_is_on_its_way(rt: HostRuntime) -> Result<(), Fail> {
     for (number, (done, wanted)) in ROWS.iter().enumerate() {
-        let counts = Tallies::of(rt.alloc(), &record_of(rt.alloc(), done)?)?;
-        let told = is_drained(&counts);
-        assert_eq!(rt; told, *wanted, "row {number}");
+        assert!(rt; is_told(rt.alloc(), done, *wanted)?, "row {number}");
     }
     Ok(())
 }

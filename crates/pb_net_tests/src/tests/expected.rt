@@ -1,19 +1,16 @@
-//! Events, outcomes and steps of rows.
+//! Events of rows, and whether steps are as rows tell them.
 
 use super::rows::{Act, Deed, Fate, Sent};
 use bytes::Bytes;
-use pb_frame::{HexFault, hex_read};
-use pb_lan::{
-    Event, FrameNumber, Item, Mark, Moved, NoRoom, Outcome, PortSet, PortState, Refusals, Seq, Step,
-};
+use pb_lan::{Event, Item, Learnt, Mark, Moved, NoRoom, Outcome, PortState, Step};
 use std::alloc::{AllocError, Global};
 
 /// The event that asks for an act.
-pub(super) fn event_of(alloc: Global, act: Act) -> Result<Event, HexFault> {
-    Ok(match act {
-        Act::Poll(port, digits) => Event::Poll {
+pub(super) fn event_of(act: Act) -> Event {
+    match act {
+        Act::Poll(port, octets) => Event::Poll {
             port,
-            frame: hex_read(alloc, digits)?,
+            frame: Bytes::from_static(octets),
         },
         Act::Feed(port) => Event::Feed { port },
         Act::Deliver(port) => Event::Deliver { port },
@@ -23,99 +20,137 @@ pub(super) fn event_of(alloc: Global, act: Act) -> Result<Event, HexFault> {
         Act::Admin(bridge, port, up) => Event::Admin { bridge, port, up },
         Act::Take(lane) => Event::Take { lane },
         Act::Put(lane) => Event::Put { lane },
-    })
+    }
 }
 
 /// The events that ask for acts.
-pub(super) fn events_of(alloc: Global, acts: &[Act]) -> Result<Vec<Event>, HexFault> {
+pub(super) fn events_of(alloc: Global, acts: &[Act]) -> Result<Vec<Event>, AllocError> {
     let mut events = Vec::new(alloc);
     for act in acts {
-        events.push(event_of(alloc, *act)?)?;
+        events.push(event_of(*act))?;
     }
     Ok(events)
 }
 
-/// A frame that begins so, of this many octets.
-pub(super) fn long(alloc: Global, head: &str, octets: usize) -> Result<Bytes, HexFault> {
-    let head = hex_read(alloc, head)?;
-    let mut frame = Vec::from_slice(alloc, head.as_slice())?;
-    for _ in head.len()..octets {
-        frame.push(0)?;
+/// A frame that begins so, with zeros up to this many octets.
+pub(super) fn long(alloc: Global, head: &[u8], octets: usize) -> Result<Bytes, AllocError> {
+    let mut frame = Vec::from_slice(alloc, head)?;
+    frame.resize(octets, 0)?;
+    Ok(Bytes::from_vec(frame)?)
+}
+
+/// Whether a frame was relayed to ports, but for those that refused.
+fn is_relayed(outcome: &Outcome, ports: &[u8], refusals: &[(u8, NoRoom)]) -> bool {
+    match outcome {
+        Outcome::Relayed { chosen, refused } => {
+            chosen.list().as_slice() == ports && refused.list().as_slice() == refusals
+        }
+        _ => false,
     }
-    Ok(Bytes::copy_from_slice(alloc, frame.as_slice())?)
 }
 
-/// Relayed to ports, but for those that refuse.
-fn relayed(chosen: &[u8], refused: &[(u8, NoRoom)]) -> Result<Outcome, AllocError> {
-    Ok(Outcome::Relayed {
-        chosen: PortSet::from_slice(chosen).ok_or(AllocError)?,
-        refused: Refusals::from_slice(refused).ok_or(AllocError)?,
-    })
-}
-
-/// The outcome of a fate.
-pub(super) fn outcome_of(fate: Fate) -> Result<Outcome, AllocError> {
+/// Whether an outcome is this fate.
+pub(super) fn is_fate(outcome: &Outcome, fate: Fate) -> bool {
     match fate {
-        Fate::Relayed(chosen) => relayed(chosen, &[]),
-        Fate::RelayedBut(chosen, refused) => relayed(chosen, refused),
-        Fate::Filtered(reason) => Ok(Outcome::Filtered(reason)),
+        Fate::Relayed(ports) => is_relayed(outcome, ports, &[]),
+        Fate::RelayedBut(ports, refusals) => is_relayed(outcome, ports, refusals),
+        Fate::Filtered(wanted) => match outcome {
+            Outcome::Filtered(reason) => *reason == wanted,
+            _ => false,
+        },
     }
 }
 
-/// The item of a frame of customer port 1.
-fn item_of(alloc: Global, sent: Sent) -> Result<Item, HexFault> {
-    Ok(Item {
-        mark: Some(Mark {
-            port: 1,
-            number: FrameNumber::new(sent.number),
-        }),
-        hops: sent.hops,
-        wire: hex_read(alloc, sent.frame)?,
-    })
+/// Whether a frame came in at customer port 1 as the one of this number.
+fn is_mark(mark: Option<Mark>, number: u64) -> bool {
+    match mark {
+        Some(mark) => mark.port == 1 && mark.number.get() == number,
+        None => false,
+    }
 }
 
-/// Changes of states and flushed ports, with no BPDU.
-fn moved_of(
-    alloc: Global,
+/// Whether an item is this frame of customer port 1.
+fn is_sent(item: &Item, sent: Sent) -> bool {
+    is_mark(item.mark, sent.number) && item.hops == sent.hops && item.wire.as_slice() == sent.frame
+}
+
+/// Whether these states changed and these ports were flushed, and no BPDU came of it.
+fn has_moved(moved: &Moved, states: &[(u8, PortState)], flushed: &[u8]) -> bool {
+    moved.states.as_slice() == states
+        && moved.flushed.as_slice() == flushed
+        && moved.queued.len() == 0
+        && moved.dropped.len() == 0
+}
+
+/// Whether a bridge received this frame at a port, learnt this, and nothing else changed.
+fn is_receipt(step: &Step, at: u8, sent: Sent, wanted: (Learnt, Fate)) -> bool {
+    match step {
+        Step::Receive {
+            port,
+            item,
+            learnt,
+            outcome,
+            moved,
+        } => {
+            *port == at
+                && is_sent(item, sent)
+                && *learnt == Some(wanted.0)
+                && is_fate(outcome, wanted.1)
+                && moved.is_none()
+        }
+        _ => false,
+    }
+}
+
+/// Whether a customer port delivered this frame, which was taken.
+fn is_delivery(step: &Step, sent: Sent) -> bool {
+    match step {
+        Step::Deliver { item, gone } => !*gone && is_sent(item, sent),
+        _ => false,
+    }
+}
+
+/// Whether a bridge's port was set up or down with these changes.
+fn is_admin(
+    step: &Step,
+    (at, is_up): (u8, bool),
     states: &[(u8, PortState)],
     flushed: &[u8],
-) -> Result<Moved, AllocError> {
-    Ok(Moved {
-        states: Seq::from_vec(Vec::from_slice(alloc, states)?),
-        flushed: Seq::from_vec(Vec::from_slice(alloc, flushed)?),
-        queued: Seq::from_vec(Vec::new(alloc)),
-        dropped: Seq::from_vec(Vec::new(alloc)),
-    })
+) -> bool {
+    match step {
+        Step::Admin { port, up, moved } => {
+            *port == at && *up == is_up && has_moved(moved, states, flushed)
+        }
+        _ => false,
+    }
 }
 
-/// The step of a deed.
-pub(super) fn step_of(alloc: Global, deed: Deed) -> Result<Step, HexFault> {
-    Ok(match deed {
+/// Whether a step is this deed.
+pub(super) fn is_deed(step: &Step, deed: Deed) -> bool {
+    match deed {
         Deed::Receive {
             port,
             item,
             learnt,
             fate,
-        } => Step::Receive {
-            port,
-            item: item_of(alloc, item)?,
-            learnt: Some(learnt),
-            outcome: outcome_of(fate)?,
-            moved: None,
-        },
-        Deed::Deliver(item) => Step::Deliver {
-            item: item_of(alloc, item)?,
-            gone: false,
-        },
+        } => is_receipt(step, port, item, (learnt, fate)),
+        Deed::Deliver(item) => is_delivery(step, item),
         Deed::Admin {
             port,
             up,
             states,
             flushed,
-        } => Step::Admin {
-            port,
-            up,
-            moved: moved_of(alloc, states, flushed)?,
-        },
-    })
+        } => is_admin(step, (port, up), states, flushed),
+    }
+}
+
+/// Whether steps are these deeds, one by one.
+pub(super) fn are_deeds(steps: &[Step], deeds: &[Deed]) -> bool {
+    for (place, deed) in deeds.iter().enumerate() {
+        match steps.get(place) {
+            Some(step) if is_deed(step, *deed) => (),
+            _ => return false,
+        }
+    }
+    steps.len() == deeds.len()
 }

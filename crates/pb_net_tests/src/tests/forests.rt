@@ -1,81 +1,13 @@
 //! What is asked about forests: searches, certificates and paths.
 
-use super::draft::{Draft, Joint};
+use super::forest_networks::{Network, draft_of};
 use super::plans::plan_of;
 use pb_forest::{check_rooted, forest, path};
 use pb_frame::Memory;
-use pb_lan::{Plan, PortState, Rooted, Seq, Shape, Spanning};
+use pb_lan::{Plan, PortState, Rooted, Seq, Shape};
 use std::alloc::Global;
+use std::process::Abort;
 use std::test::Fail;
-
-/// Two bridges without links.
-const APART: Draft = Draft {
-    bridges: 2,
-    links: &[],
-    customers: &[],
-    spanning: Spanning::Fixed,
-    queue: 64,
-    ring: 64,
-    steps: 1_000_000,
-};
-
-const LINE: Draft = Draft {
-    bridges: 4,
-    links: &[
-        Joint::Plain((1, 1), (2, 1)),
-        Joint::Plain((2, 2), (3, 1)),
-        Joint::Plain((3, 2), (4, 1)),
-    ],
-    ..APART
-};
-
-const DOUBLED: Draft = Draft {
-    links: &[Joint::Plain((1, 1), (2, 1)), Joint::Plain((1, 3), (2, 4))],
-    ..APART
-};
-
-/// The first link is for red alone, and the second for blue alone.
-const PARTED: Draft = Draft {
-    links: &[
-        Joint::Listed((1, 1), Some(&[1]), (2, 1), Some(&[1])),
-        Joint::Listed((1, 3), Some(&[2]), (2, 4), Some(&[2])),
-    ],
-    ..APART
-};
-
-const RING: Draft = Draft {
-    bridges: 3,
-    links: &[
-        Joint::Plain((1, 1), (2, 1)),
-        Joint::Plain((2, 2), (3, 1)),
-        Joint::Plain((3, 2), (1, 2)),
-    ],
-    ..APART
-};
-
-/// B4 is joined to a ring of the others.
-const RING_WITH_TAIL: Draft = Draft {
-    bridges: 4,
-    links: &[
-        Joint::Plain((4, 1), (1, 3)),
-        Joint::Plain((1, 1), (2, 1)),
-        Joint::Plain((2, 2), (3, 1)),
-        Joint::Plain((3, 2), (1, 2)),
-    ],
-    ..APART
-};
-
-/// The second link goes from B1 to itself.
-const LOOPED: Draft = Draft {
-    links: &[Joint::Plain((1, 1), (2, 1)), Joint::Plain((1, 2), (1, 3))],
-    ..APART
-};
-
-/// The link goes to a bridge that the plan lacks.
-const ASTRAY: Draft = Draft {
-    links: &[Joint::Plain((1, 1), (4, 1))],
-    ..APART
-};
 
 /// Which of the ports of four bridges don't forward.
 #[derive(Clone, Copy)]
@@ -89,16 +21,15 @@ enum Closed {
 
 /// The states of the sixteen ports of the bridge of this index.
 fn states_of(alloc: Global, bridge: usize, closed: Closed) -> Result<Seq<PortState>, Memory> {
-    let mut states = Vec::new(alloc);
-    for port in 0..16usize {
-        let state = match closed {
-            Closed::Port(at, it) if at == bridge && it == port => PortState::Discarding,
-            Closed::Bridge(at) if at == bridge => continue,
-            _ => PortState::Forwarding,
-        };
-        states.push(state)?;
+    let mut states = [PortState::Forwarding; 16];
+    match closed {
+        Closed::Port(at, port) if at == bridge && port < 16 => {
+            states[port] = PortState::Discarding;
+        }
+        Closed::Bridge(at) if at == bridge => return Ok(Seq::from_vec(Vec::new(alloc))),
+        _ => (),
     }
-    Ok(Seq::from_vec(states))
+    Ok(Seq::from_vec(Vec::from_slice(alloc, &states)?))
 }
 
 fn shape_of(alloc: Global, closed: Closed) -> Result<Shape, Memory> {
@@ -111,15 +42,16 @@ fn shape_of(alloc: Global, closed: Closed) -> Result<Shape, Memory> {
     })
 }
 
-/// A list with an entry for each bridge: the link to its parent, and its depth.
-type Tree = &'static [(Option<u8>, u8)];
+/// Lists with an entry for each bridge: the links to their parents, and their depths.
+#[derive(Clone, Copy)]
+struct Tree {
+    up: &'static [Option<u8>],
+    depth: &'static [u8],
+}
 
 fn rooted_of(alloc: Global, tree: Tree) -> Result<Rooted, Memory> {
-    let (mut up, mut depth) = (Vec::new(alloc), Vec::new(alloc));
-    for (link, deep) in tree {
-        up.push(*link)?;
-        depth.push(*deep)?;
-    }
+    let up = Vec::from_slice(alloc, tree.up)?;
+    let depth = Vec::from_slice(alloc, tree.depth)?;
     Ok(Rooted {
         up: Seq::from_vec(up),
         depth: Seq::from_vec(depth),
@@ -127,67 +59,43 @@ fn rooted_of(alloc: Global, tree: Tree) -> Result<Rooted, Memory> {
 }
 
 /// Four bridges below the first.
-const ROW_OF_FOUR: Tree = &[(None, 0), (Some(1), 1), (Some(2), 2), (Some(3), 3)];
+const ROW_OF_FOUR: Tree = Tree {
+    up: &[None, Some(1), Some(2), Some(3)],
+    depth: &[0, 1, 2, 3],
+};
+
+/// The same links, but all of the others stand right below the first.
+const FLAT: Tree = Tree {
+    depth: &[0, 1, 1, 1],
+    ..ROW_OF_FOUR
+};
 
 /// Three bridges below the first, and one alone.
-const THREE_AND_ONE: Tree = &[(None, 0), (Some(1), 1), (Some(2), 2), (None, 0)];
+const THREE_AND_ONE: Tree = Tree {
+    up: &[None, Some(1), Some(2), None],
+    depth: &[0, 1, 2, 0],
+};
 
-/// A network, what is closed, a service, parents and depths, and whether they show a forest.
-const CERTIFICATES: &[(Draft, Closed, u8, Tree, bool)] = &[
-    (LINE, Closed::Nothing, 1, ROW_OF_FOUR, true),
-    (
-        LINE,
-        Closed::Nothing,
-        1,
-        &[(None, 0), (Some(1), 1), (Some(2), 1), (Some(3), 1)],
-        false,
-    ),
-    (LINE, Closed::Bridge(3), 1, ROW_OF_FOUR, false),
-    (LINE, Closed::Bridge(3), 1, THREE_AND_ONE, true),
-    (
-        DOUBLED,
-        Closed::Nothing,
-        1,
-        &[(None, 0), (Some(1), 1)],
-        false,
-    ),
-    (PARTED, Closed::Nothing, 1, &[(None, 0), (Some(1), 1)], true),
-    (PARTED, Closed::Nothing, 2, &[(None, 0), (Some(2), 1)], true),
-    (
-        PARTED,
-        Closed::Nothing,
-        2,
-        &[(None, 0), (Some(1), 1)],
-        false,
-    ),
-    (DOUBLED, Closed::Nothing, 3, &[(None, 0), (None, 0)], true),
-    (DOUBLED, Closed::Nothing, 1, &[(None, 0), (None, 0)], false),
-];
+/// Two bridges, each alone.
+const TWO_ALONE: Tree = Tree {
+    up: &[None, None],
+    depth: &[0, 0],
+};
 
-fn shows(
-    alloc: Global,
-    draft: &Draft,
-    closed: Closed,
-    service: u8,
-    tree: Tree,
-) -> Result<bool, Memory> {
-    let plan = plan_of(alloc, draft)?;
-    let shape = shape_of(alloc, closed)?;
-    let rooted = rooted_of(alloc, tree)?;
-    Ok(check_rooted(&shape, &plan, service, &rooted))
-}
+/// The second below the first, by the first link.
+const BY_THE_FIRST: Tree = Tree {
+    up: &[None, Some(1)],
+    depth: &[0, 1],
+};
 
-#[test]
-fn parents_and_depths_show_a_forest_or_none(rt: HostRuntime) -> Result<(), Fail> {
-    for (number, (draft, closed, service, tree, wanted)) in CERTIFICATES.iter().enumerate() {
-        let told = shows(rt.alloc(), draft, *closed, *service, tree)?;
-        assert_eq!(rt; told, *wanted, "row {number}");
-    }
-    Ok(())
-}
+/// The second below the first, by the second link.
+const BY_THE_SECOND: Tree = Tree {
+    up: &[None, Some(2)],
+    depth: &[0, 1],
+};
 
 /// What comes of a search.
-#[derive(Clone, Copy, PartialEq, Eq, Debug)]
+#[derive(Clone, Copy, PartialEq, Eq)]
 enum Found {
     /// Parents and depths that show a forest.
     Forest,
@@ -197,26 +105,18 @@ enum Found {
     Wrong,
 }
 
-/// A network, what is closed, a service, and what is found.
-const SEARCHES: &[(Draft, Closed, u8, Found)] = &[
-    (APART, Closed::Nothing, 1, Found::Forest),
-    (LINE, Closed::Nothing, 1, Found::Forest),
-    (LINE, Closed::Port(1, 1), 1, Found::Forest),
-    (LINE, Closed::Nothing, 9, Found::Forest),
-    (DOUBLED, Closed::Nothing, 1, Found::Nothing),
-    (DOUBLED, Closed::Port(1, 3), 1, Found::Forest),
-    (DOUBLED, Closed::Nothing, 3, Found::Forest),
-    (PARTED, Closed::Nothing, 1, Found::Forest),
-    (PARTED, Closed::Nothing, 2, Found::Forest),
-    (RING, Closed::Nothing, 1, Found::Nothing),
-    (RING, Closed::Port(2, 1), 1, Found::Forest),
-    (RING_WITH_TAIL, Closed::Nothing, 1, Found::Nothing),
-    (RING_WITH_TAIL, Closed::Port(2, 1), 1, Found::Forest),
-    (LOOPED, Closed::Nothing, 1, Found::Nothing),
-    (LOOPED, Closed::Port(0, 2), 1, Found::Forest),
-    (ASTRAY, Closed::Nothing, 1, Found::Nothing),
-    (ASTRAY, Closed::Port(3, 0), 1, Found::Forest),
-];
+/// What is asked of a network.
+#[derive(Clone, Copy)]
+enum Asked {
+    /// Whether parents and depths show a forest for a service.
+    Shows(u8, Tree, bool),
+    /// What is found for a service.
+    Finds(u8, Found),
+    /// By parents and depths that show a forest for the first service, the links from one bridge to another.
+    Goes(Tree, (u8, u8), Option<&'static [u8]>),
+    /// By parents that the search finds, the links from one bridge to another.
+    FindsWay((u8, u8), &'static [u8]),
+}
 
 fn found_in(alloc: Global, shape: &Shape, plan: &Plan, service: u8) -> Result<Found, Memory> {
     if plan.links.len() > 255 {
@@ -231,31 +131,19 @@ fn found_in(alloc: Global, shape: &Shape, plan: &Plan, service: u8) -> Result<Fo
     Ok(Found::Wrong)
 }
 
-fn search(alloc: Global, draft: &Draft, closed: Closed, service: u8) -> Result<Found, Memory> {
-    let plan = plan_of(alloc, draft)?;
-    let shape = shape_of(alloc, closed)?;
-    found_in(alloc, &shape, &plan, service)
+fn shows(
+    alloc: Global,
+    shape: &Shape,
+    plan: &Plan,
+    service: u8,
+    tree: Tree,
+) -> Result<bool, Memory> {
+    let rooted = rooted_of(alloc, tree)?;
+    Ok(check_rooted(shape, plan, service, &rooted))
 }
 
-#[test]
-fn a_forest_is_found_where_there_is_one(rt: HostRuntime) -> Result<(), Fail> {
-    for (number, (draft, closed, service, wanted)) in SEARCHES.iter().enumerate() {
-        let told = search(rt.alloc(), draft, *closed, *service)?;
-        assert_eq!(rt; told, *wanted, "row {number}");
-    }
-    Ok(())
-}
-
-/// What is closed in the line of four, parents and depths, two bridges, and the links from one to the other.
-type Way = (Closed, Tree, (u8, u8), Option<&'static [u8]>);
-
-const WAYS: &[Way] = &[
-    (Closed::Nothing, ROW_OF_FOUR, (1, 4), Some(&[1, 2, 3])),
-    (Closed::Nothing, ROW_OF_FOUR, (4, 2), Some(&[3, 2])),
-    (Closed::Nothing, ROW_OF_FOUR, (3, 3), Some(&[])),
-    (Closed::Bridge(3), THREE_AND_ONE, (1, 3), Some(&[1, 2])),
-    (Closed::Bridge(3), THREE_AND_ONE, (1, 4), None),
-];
+/// Two bridges, and the links from one to the other.
+type Way<'a> = ((u8, u8), Option<&'a [u8]>);
 
 /// Whether the path is the one that is wanted, where parents and depths show a forest for the first service.
 fn goes_so(
@@ -263,47 +151,202 @@ fn goes_so(
     shape: &Shape,
     plan: &Plan,
     rooted: &Rooted,
-    way: &Way,
+    (ends, wanted): Way<'_>,
 ) -> Result<bool, Memory> {
     if !check_rooted(shape, plan, 1, rooted) {
         return Ok(false);
     }
-    let found = path(alloc, rooted, plan, way.2.0, way.2.1)?;
-    Ok(found.as_deref() == way.3)
+    let found = path(alloc, rooted, plan, ends.0, ends.1)?;
+    Ok(found.as_deref() == wanted)
 }
 
-fn goes(alloc: Global, way: &Way) -> Result<bool, Memory> {
-    let plan = plan_of(alloc, &LINE)?;
-    let shape = shape_of(alloc, way.0)?;
-    let rooted = rooted_of(alloc, way.1)?;
-    goes_so(alloc, &shape, &plan, &rooted, way)
+fn goes(
+    alloc: Global,
+    shape: &Shape,
+    plan: &Plan,
+    tree: Tree,
+    way: Way<'_>,
+) -> Result<bool, Memory> {
+    let rooted = rooted_of(alloc, tree)?;
+    goes_so(alloc, shape, plan, &rooted, way)
 }
 
-#[test]
-fn a_path_goes_along_the_line(rt: HostRuntime) -> Result<(), Fail> {
-    for (number, way) in WAYS.iter().enumerate() {
-        assert!(rt; goes(rt.alloc(), way)?, "row {number}");
-    }
-    Ok(())
-}
-
-/// The path in the line by the parents that the search found.
-fn found_path(alloc: Global, plan: &Plan, shape: &Shape) -> Result<Option<Vec<u8>>, Memory> {
+/// The path by the parents that the search finds.
+fn found_path(
+    alloc: Global,
+    shape: &Shape,
+    plan: &Plan,
+    ends: (u8, u8),
+) -> Result<Option<Vec<u8>>, Memory> {
     if plan.links.len() > 255 {
         return Ok(None);
     }
     let Some(rooted) = forest(alloc, shape, plan, 1)? else {
         return Ok(None);
     };
-    path(alloc, &rooted, plan, 1, 4)
+    path(alloc, &rooted, plan, ends.0, ends.1)
+}
+
+fn finds_way(
+    alloc: Global,
+    shape: &Shape,
+    plan: &Plan,
+    (ends, wanted): Way<'_>,
+) -> Result<bool, Memory> {
+    let found = found_path(alloc, shape, plan, ends)?;
+    Ok(found.as_deref() == wanted)
+}
+
+/// Whether the answer is the one that is wanted.
+fn answers(alloc: Global, shape: &Shape, plan: &Plan, asked: Asked) -> Result<bool, Memory> {
+    match asked {
+        Asked::Shows(service, tree, wanted) => {
+            Ok(shows(alloc, shape, plan, service, tree)? == wanted)
+        }
+        Asked::Finds(service, wanted) => Ok(found_in(alloc, shape, plan, service)? == wanted),
+        Asked::Goes(tree, ends, wanted) => goes(alloc, shape, plan, tree, (ends, wanted)),
+        Asked::FindsWay(ends, wanted) => finds_way(alloc, shape, plan, (ends, Some(wanted))),
+    }
+}
+
+/// A network, what is closed in it, and what is asked.
+type Row = (Network, Closed, Asked);
+
+fn holds(alloc: Global, row: &Row) -> Result<bool, Memory> {
+    let (network, closed, asked) = *row;
+    let plan = plan_of(alloc, &draft_of(network))?;
+    let shape = shape_of(alloc, closed)?;
+    answers(alloc, &shape, &plan, asked)
+}
+
+fn all_hold(rt: &impl Abort, alloc: Global, rows: &[Row]) -> Result<(), Fail> {
+    for (number, row) in rows.iter().enumerate() {
+        assert!(rt; holds(alloc, row)?, "row {number}");
+    }
+    Ok(())
+}
+
+/// No port is closed.
+const NOTHING: Closed = Closed::Nothing;
+
+/// The last bridge of four has no ports.
+const CUT: Closed = Closed::Bridge(3);
+
+#[test]
+fn parents_and_depths_show_a_forest_or_none(rt: HostRuntime) -> Result<(), Fail> {
+    const ROWS: &[Row] = &[
+        (Network::Line, NOTHING, Asked::Shows(1, ROW_OF_FOUR, true)),
+        (Network::Line, NOTHING, Asked::Shows(1, FLAT, false)),
+        (Network::Line, CUT, Asked::Shows(1, ROW_OF_FOUR, false)),
+        (Network::Line, CUT, Asked::Shows(1, THREE_AND_ONE, true)),
+        (
+            Network::Doubled,
+            NOTHING,
+            Asked::Shows(1, BY_THE_FIRST, false),
+        ),
+        (
+            Network::Parted,
+            NOTHING,
+            Asked::Shows(1, BY_THE_FIRST, true),
+        ),
+        (
+            Network::Parted,
+            NOTHING,
+            Asked::Shows(2, BY_THE_SECOND, true),
+        ),
+        (
+            Network::Parted,
+            NOTHING,
+            Asked::Shows(2, BY_THE_FIRST, false),
+        ),
+        (Network::Doubled, NOTHING, Asked::Shows(3, TWO_ALONE, true)),
+        (Network::Doubled, NOTHING, Asked::Shows(1, TWO_ALONE, false)),
+    ];
+    all_hold(&rt, rt.alloc(), ROWS)
+}
+
+#[test]
+fn a_forest_is_found_where_there_is_one(rt: HostRuntime) -> Result<(), Fail> {
+    const ROWS: &[Row] = &[
+        (Network::Apart, NOTHING, Asked::Finds(1, Found::Forest)),
+        (Network::Line, NOTHING, Asked::Finds(1, Found::Forest)),
+        (
+            Network::Line,
+            Closed::Port(1, 1),
+            Asked::Finds(1, Found::Forest),
+        ),
+        (Network::Line, NOTHING, Asked::Finds(9, Found::Forest)),
+        (Network::Doubled, NOTHING, Asked::Finds(1, Found::Nothing)),
+        (
+            Network::Doubled,
+            Closed::Port(1, 3),
+            Asked::Finds(1, Found::Forest),
+        ),
+        (Network::Doubled, NOTHING, Asked::Finds(3, Found::Forest)),
+        (Network::Parted, NOTHING, Asked::Finds(1, Found::Forest)),
+        (Network::Parted, NOTHING, Asked::Finds(2, Found::Forest)),
+        (Network::Ring, NOTHING, Asked::Finds(1, Found::Nothing)),
+        (
+            Network::Ring,
+            Closed::Port(2, 1),
+            Asked::Finds(1, Found::Forest),
+        ),
+        (
+            Network::RingWithTail,
+            NOTHING,
+            Asked::Finds(1, Found::Nothing),
+        ),
+        (
+            Network::RingWithTail,
+            Closed::Port(2, 1),
+            Asked::Finds(1, Found::Forest),
+        ),
+        (Network::Looped, NOTHING, Asked::Finds(1, Found::Nothing)),
+        (
+            Network::Looped,
+            Closed::Port(0, 2),
+            Asked::Finds(1, Found::Forest),
+        ),
+        (Network::Astray, NOTHING, Asked::Finds(1, Found::Nothing)),
+        (
+            Network::Astray,
+            Closed::Port(3, 0),
+            Asked::Finds(1, Found::Forest),
+        ),
+    ];
+    all_hold(&rt, rt.alloc(), ROWS)
+}
+
+#[test]
+fn a_path_goes_along_the_line(rt: HostRuntime) -> Result<(), Fail> {
+    const ROWS: &[Row] = &[
+        (
+            Network::Line,
+            NOTHING,
+            Asked::Goes(ROW_OF_FOUR, (1, 4), Some(&[1, 2, 3])),
+        ),
+        (
+            Network::Line,
+            NOTHING,
+            Asked::Goes(ROW_OF_FOUR, (4, 2), Some(&[3, 2])),
+        ),
+        (
+            Network::Line,
+            NOTHING,
+            Asked::Goes(ROW_OF_FOUR, (3, 3), Some(&[])),
+        ),
+        (
+            Network::Line,
+            CUT,
+            Asked::Goes(THREE_AND_ONE, (1, 3), Some(&[1, 2])),
+        ),
+        (Network::Line, CUT, Asked::Goes(THREE_AND_ONE, (1, 4), None)),
+    ];
+    all_hold(&rt, rt.alloc(), ROWS)
 }
 
 #[test]
 fn a_found_forest_shows_the_path(rt: HostRuntime) -> Result<(), Fail> {
-    let plan = plan_of(rt.alloc(), &LINE)?;
-    let shape = shape_of(rt.alloc(), Closed::Nothing)?;
-    let path = found_path(rt.alloc(), &plan, &shape)?;
-    let wanted: &[u8] = &[1, 2, 3];
-    assert!(rt; path.as_deref() == Some(wanted));
-    Ok(())
+    const ROWS: &[Row] = &[(Network::Line, NOTHING, Asked::FindsWay((1, 4), &[1, 2, 3]))];
+    all_hold(&rt, rt.alloc(), ROWS)
 }

@@ -24,6 +24,12 @@ fn a_hand_is_empty_or_full(rt: HostRuntime) -> Result<(), Fail> {
     walks(&rt, rt.alloc(), &TWO_CUSTOMERS, ROWS)
 }
 
+/// One item waits between two places.
+const NARROW: Draft = Draft {
+    ring: 1,
+    ..TWO_CUSTOMERS
+};
+
 #[test]
 fn a_full_meeting_place_takes_nothing(rt: HostRuntime) -> Result<(), Fail> {
     const TWO_SENT: &[Act] = &[Act::Transmit(1, 2), Act::Transmit(1, 2)];
@@ -46,11 +52,7 @@ fn a_full_meeting_place_takes_nothing(rt: HostRuntime) -> Result<(), Fail> {
             count: 4,
         },
     ];
-    let draft = Draft {
-        ring: 1,
-        ..TWO_CUSTOMERS
-    };
-    walks(&rt, rt.alloc(), &draft, ROWS)
+    walks(&rt, rt.alloc(), &NARROW, ROWS)
 }
 
 #[test]

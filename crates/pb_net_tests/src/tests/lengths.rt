@@ -7,10 +7,10 @@ use pb_lan::{Place, Reason};
 use std::test::Fail;
 
 /// A broadcast's first octets, up to its type.
-const PLAIN: &str = "ffffffffffff0200000001010800";
+const PLAIN: &[u8] = b"\xff\xff\xff\xff\xff\xff\x02\0\0\0\x01\x01\x08\0";
 
 /// The same with a service tag of VID 0, priority 5.
-const PRIORITY: &str = "ffffffffffff02000000010188a8a0000800";
+const PRIORITY: &[u8] = b"\xff\xff\xff\xff\xff\xff\x02\0\0\0\x01\x01\x88\xa8\xa0\0\x08\0";
 
 #[test]
 fn the_longest_frame_is_carried(rt: HostRuntime) -> Result<(), Fail> {

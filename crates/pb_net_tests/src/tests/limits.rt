@@ -8,6 +8,12 @@ use pb_lan::{Learnt, NoRoom, Place};
 use pb_net::NetFault;
 use std::test::Fail;
 
+/// Each place takes two steps.
+const FEW_STEPS: Draft = Draft {
+    steps: 2,
+    ..THREE_CUSTOMERS
+};
+
 #[test]
 fn each_place_has_its_own_steps(rt: HostRuntime) -> Result<(), Fail> {
     const ROWS: &[Row] = &[
@@ -25,11 +31,7 @@ fn each_place_has_its_own_steps(rt: HostRuntime) -> Result<(), Fail> {
             count: 2,
         },
     ];
-    let draft = Draft {
-        steps: 2,
-        ..THREE_CUSTOMERS
-    };
-    walks(&rt, rt.alloc(), &draft, ROWS)
+    walks(&rt, rt.alloc(), &FEW_STEPS, ROWS)
 }
 
 /// The first broadcast, as it comes to the bridge.
@@ -44,6 +46,12 @@ const SECOND: Sent = Sent {
     number: 1,
     hops: 0,
     frame: SHORT,
+};
+
+/// One item waits at each port.
+const SHORT_QUEUES: Draft = Draft {
+    queue: 1,
+    ..THREE_CUSTOMERS
 };
 
 #[test]
@@ -73,9 +81,5 @@ fn a_full_queue_gets_no_copy(rt: HostRuntime) -> Result<(), Fail> {
             },
         ),
     ];
-    let draft = Draft {
-        queue: 1,
-        ..THREE_CUSTOMERS
-    };
-    walks(&rt, rt.alloc(), &draft, ROWS)
+    walks(&rt, rt.alloc(), &SHORT_QUEUES, ROWS)
 }

@@ -6,7 +6,7 @@ use super::networks::{BROADCAST, JOINED};
 use super::plans::plan_of;
 use super::rows::Act;
 use super::seen::{has_moved, taken_at, tells_short};
-use pb_frame::{Memory, hex_read};
+use pb_frame::Memory;
 use pb_lan::{Place, plan_is_sound};
 use pb_net::{Did, Net, NetFault};
 use std::alloc::Global;
@@ -26,7 +26,7 @@ const EVENTS: &[Act] = &[
 ];
 
 /// The places that take part.
-const PLACES: [Place; 5] = [
+const PLACES: &[Place] = &[
     Place::Customer(1),
     Place::Customer(2),
     Place::Lane(1),
@@ -38,7 +38,7 @@ const PLACES: [Place; 5] = [
 fn taken(net: &Net) -> usize {
     let mut taken = 0usize;
     for place in PLACES {
-        taken = taken.saturating_add(taken_at(net, place).unwrap_or(0));
+        taken = taken.saturating_add(taken_at(net, *place).unwrap_or(0));
     }
     taken
 }
@@ -65,42 +65,39 @@ fn told_by(answer: Result<Did, NetFault>) -> Came {
 }
 
 /// Gives an event, and once more where it wanted memory.
-fn gives(alloc: Global, net: &mut Net, act: Act) -> Result<Came, Fail> {
-    let event = event_of(alloc, act)?;
+fn gives(net: &mut Net, act: Act) -> Came {
     let before = taken(net);
-    let first = told_by(net.step(event));
+    let first = told_by(net.step(event_of(act)));
     if first != Came::Memory {
-        return Ok(first);
+        return first;
     }
     if taken(net) != before {
-        return Ok(Came::Wrong);
+        return Came::Wrong;
     }
-    let again = event_of(alloc, act)?;
-    Ok(told_by(net.step(again)))
+    told_by(net.step(event_of(act)))
 }
 
 /// What came of the events, up to the first that was not done.
-fn all_come(alloc: Global, net: &mut Net) -> Result<Came, Fail> {
+fn all_come(net: &mut Net) -> Came {
     for act in EVENTS {
-        let came = gives(alloc, net, *act)?;
+        let came = gives(net, *act);
         if came != Came::Done {
-            return Ok(came);
+            return came;
         }
     }
-    Ok(Came::Done)
+    Came::Done
 }
 
 /// What came of the events in a network, and whether the frame left as it came, or else a bridge's step tells of want of
 /// memory.
-fn seen(alloc: Global) -> Result<(Came, bool, bool), Fail> {
-    let wanted = hex_read(alloc, BROADCAST)?;
+fn seen(alloc: Global) -> Result<(Came, bool, bool), Memory> {
     let plan = plan_of(alloc, &JOINED)?;
     if !plan_is_sound(&plan) {
         return Ok((Came::Wrong, false, false));
     }
     let mut net = Net::new(alloc, plan)?;
-    let came = all_come(alloc, &mut net)?;
-    let has_left = has_moved(&net, Place::Customer(2), &wanted);
+    let came = all_come(&mut net);
+    let has_left = has_moved(&net, Place::Customer(2), BROADCAST);
     Ok((came, has_left, tells_short(&net, 1) || tells_short(&net, 2)))
 }
 

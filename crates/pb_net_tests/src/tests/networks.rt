@@ -4,10 +4,10 @@ use super::draft::{Draft, Joint, Site};
 use pb_lan::Spanning;
 
 /// A broadcast from 02-00-00-00-01-01, of the least length.
-pub(super) const SHORT: &str = "ffffffffffff0200000001010800";
+pub(super) const SHORT: &[u8] = b"\xff\xff\xff\xff\xff\xff\x02\0\0\0\x01\x01\x08\0";
 
 /// A broadcast from 02-00-00-00-01-01 with two octets behind its type.
-pub(super) const BROADCAST: &str = "ffffffffffff02000000010108004142";
+pub(super) const BROADCAST: &[u8] = b"\xff\xff\xff\xff\xff\xff\x02\0\0\0\x01\x01\x08\0AB";
 
 /// One bridge with the customer ports 1 and 2 of red, at its ports 1 and 2.
 pub(super) const TWO_CUSTOMERS: Draft = Draft {

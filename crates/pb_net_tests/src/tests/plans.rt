@@ -12,54 +12,71 @@ fn name(alloc: Global, word: &str, number: usize) -> Result<Text, Memory> {
     Ok(Text::from_string(format!(in alloc; "{word}{number}")?))
 }
 
-/// A copy of a list.
-fn seq<T: Copy>(alloc: Global, items: &[T]) -> Result<Seq<T>, Memory> {
-    Ok(Seq::from_vec(Vec::from_slice(alloc, items)?))
-}
-
 /// The bridge of a number.
 fn bridge(alloc: Global, number: u8, queue: u16) -> Result<BridgePlan, Memory> {
+    let name = name(alloc, "B", usize::from(number))?;
     Ok(BridgePlan {
-        name: name(alloc, "B", usize::from(number))?,
+        name,
         address: Mac([2, 0, 0, 0, 0, number]),
         priority: 32768,
         queue,
     })
 }
 
-/// An end, which is Forwarding where the plan gives the states.
-fn end(alloc: Global, at: Port, cost: u32, listed: Option<&[u8]>) -> Result<End, Memory> {
-    let services = match listed {
-        Some(services) => Some(seq(alloc, services)?),
-        None => None,
-    };
-    Ok(End {
+/// An end for all services, which is Forwarding where the plan gives the states.
+fn end(at: Port, cost: u32) -> End {
+    End {
         bridge: at.0,
         port: at.1,
         cost,
         priority: 128,
         start: PortState::Forwarding,
-        services,
-    })
+        services: None,
+    }
+}
+
+/// The services that an end lists, if it does.
+fn listed(alloc: Global, services: Option<&[u8]>) -> Result<Option<Seq<u8>>, Memory> {
+    match services {
+        Some(services) => Ok(Some(Seq::from_vec(Vec::from_slice(alloc, services)?))),
+        None => Ok(None),
+    }
+}
+
+/// A link as yet without lists.
+fn bare_link(alloc: Global, name: Text, joint: Joint) -> LinkPlan {
+    let (a, b) = joint.ends();
+    LinkPlan {
+        name,
+        a: end(a, joint.cost()),
+        b: end(b, joint.cost()),
+        lost_ab: Seq::from_vec(Vec::new(alloc)),
+        lost_ba: Seq::from_vec(Vec::new(alloc)),
+    }
+}
+
+/// Gives a link its lists.
+fn fill_link(alloc: Global, joint: Joint, link: &mut LinkPlan) -> Result<(), Memory> {
+    let (a, b) = joint.listed();
+    link.a.services = listed(alloc, a)?;
+    link.b.services = listed(alloc, b)?;
+    link.lost_ab = Seq::from_vec(Vec::from_slice(alloc, joint.losses())?);
+    Ok(())
 }
 
 /// The link behind so many others.
 fn link(alloc: Global, place: usize, joint: Joint) -> Result<LinkPlan, Memory> {
-    let (a, b) = joint.ends();
-    let (listed_a, listed_b) = joint.listed();
-    Ok(LinkPlan {
-        name: name(alloc, "L", place)?,
-        a: end(alloc, a, joint.cost(), listed_a)?,
-        b: end(alloc, b, joint.cost(), listed_b)?,
-        lost_ab: seq(alloc, joint.losses())?,
-        lost_ba: Seq::from_vec(Vec::new(alloc)),
-    })
+    let name = name(alloc, "L", place)?;
+    let mut link = bare_link(alloc, name, joint);
+    fill_link(alloc, joint, &mut link)?;
+    Ok(link)
 }
 
 /// The customer port behind so many others.
 fn customer(alloc: Global, place: usize, site: Site) -> Result<CustomerPlan, Memory> {
+    let name = name(alloc, "C", place)?;
     Ok(CustomerPlan {
-        name: name(alloc, "C", place)?,
+        name,
         bridge: site.at.0,
         port: site.at.1,
         service: site.service,
@@ -70,10 +87,8 @@ fn customer(alloc: Global, place: usize, site: Site) -> Result<CustomerPlan, Mem
 
 /// The service behind so many others.
 fn service(alloc: Global, place: usize, vid: u16) -> Result<ServicePlan, Memory> {
-    Ok(ServicePlan {
-        name: name(alloc, "S", place)?,
-        vid,
-    })
+    let name = name(alloc, "S", place)?;
+    Ok(ServicePlan { name, vid })
 }
 
 fn bridges(alloc: Global, draft: &Draft) -> Result<Seq<BridgePlan>, Memory> {
@@ -100,24 +115,44 @@ fn customers(alloc: Global, draft: &Draft) -> Result<Seq<CustomerPlan>, Memory> 
     Ok(Seq::from_vec(customers))
 }
 
+/// The VIDs of red and blue.
+const VIDS: &[u16] = &[100, 200];
+
 /// Red and blue.
 fn services(alloc: Global) -> Result<Seq<ServicePlan>, Memory> {
     let mut services = Vec::new(alloc);
-    services.push(service(alloc, 1, 100)?)?;
-    services.push(service(alloc, 2, 200)?)?;
+    for (place, vid) in VIDS.iter().enumerate() {
+        services.push(service(alloc, place, *vid)?)?;
+    }
     Ok(Seq::from_vec(services))
 }
 
-/// The plan of a draft.
-pub(super) fn plan_of(alloc: Global, draft: &Draft) -> Result<Plan, Memory> {
-    Ok(Plan {
-        bridges: bridges(alloc, draft)?,
-        links: links(alloc, draft)?,
-        services: services(alloc)?,
-        customers: customers(alloc, draft)?,
+/// The plan of a draft, as yet without lists.
+fn bare(alloc: Global, draft: &Draft) -> Plan {
+    Plan {
+        bridges: Seq::from_vec(Vec::new(alloc)),
+        links: Seq::from_vec(Vec::new(alloc)),
+        services: Seq::from_vec(Vec::new(alloc)),
+        customers: Seq::from_vec(Vec::new(alloc)),
         spanning: draft.spanning,
         ageing: 300,
         ring: draft.ring,
         steps: draft.steps,
-    })
+    }
+}
+
+/// Gives a plan the lists of a draft.
+fn fill(alloc: Global, draft: &Draft, plan: &mut Plan) -> Result<(), Memory> {
+    plan.bridges = bridges(alloc, draft)?;
+    plan.links = links(alloc, draft)?;
+    plan.services = services(alloc)?;
+    plan.customers = customers(alloc, draft)?;
+    Ok(())
+}
+
+/// The plan of a draft.
+pub(super) fn plan_of(alloc: Global, draft: &Draft) -> Result<Plan, Memory> {
+    let mut plan = bare(alloc, draft);
+    fill(alloc, draft, &mut plan)?;
+    Ok(plan)
 }

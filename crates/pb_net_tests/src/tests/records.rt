@@ -1,9 +1,11 @@
 //! Records in short.
 
 use bytes::Bytes;
+use pb_frame::Memory;
 use pb_lan::{
     FrameNumber, Item, Learnt, Mark, NoRoom, Outcome, PortSet, Record, Refusals, Seq, Step,
 };
+use pb_steps::Tallies;
 use std::alloc::{AllocError, Global};
 
 /// The first frame of customer port 1: its hops, and its octets.
@@ -44,16 +46,15 @@ impl Did {
     }
 }
 
-fn item_of(alloc: Global, piece: Piece) -> Result<Item, AllocError> {
-    let wire = Bytes::copy_from_slice(alloc, piece.1)?;
-    Ok(Item {
+fn item_of(piece: Piece) -> Item {
+    Item {
         mark: Some(Mark {
             port: 1,
             number: FrameNumber::new(0),
         }),
         hops: piece.0,
-        wire,
-    })
+        wire: Bytes::from_static(piece.1),
+    }
 }
 
 fn relayed(to: u8, refused: &[(u8, NoRoom)]) -> Outcome {
@@ -63,9 +64,9 @@ fn relayed(to: u8, refused: &[(u8, NoRoom)]) -> Outcome {
     }
 }
 
-fn step_of(alloc: Global, did: Did) -> Result<Step, AllocError> {
-    let item = item_of(alloc, did.piece())?;
-    Ok(match did {
+fn step_of(did: Did) -> Step {
+    let item = item_of(did.piece());
+    match did {
         Did::Poll(_) => Step::Poll { item },
         Did::Feed(_) => Step::Feed { item },
         Did::Receive(port, _, to, refused) => Step::Receive {
@@ -83,13 +84,13 @@ fn step_of(alloc: Global, did: Did) -> Result<Step, AllocError> {
         },
         Did::Put(_) => Step::Put { item },
         Did::Deliver(_) => Step::Deliver { item, gone: false },
-    })
+    }
 }
 
 fn steps_of(alloc: Global, all: &[Did]) -> Result<Seq<Step>, AllocError> {
     let mut steps = Vec::new(alloc);
     for did in all {
-        steps.push(step_of(alloc, *did)?)?;
+        steps.push(step_of(*did))?;
     }
     Ok(Seq::from_vec(steps))
 }
@@ -102,11 +103,27 @@ fn lists_of(alloc: Global, all: &[&[Did]]) -> Result<Seq<Seq<Step>>, AllocError>
     Ok(Seq::from_vec(lists))
 }
 
+/// Gives a record the lists of what was done.
+fn fill(alloc: Global, done: &Done, record: &mut Record) -> Result<(), AllocError> {
+    record.bridges = lists_of(alloc, done.bridges)?;
+    record.lanes = lists_of(alloc, done.lanes)?;
+    record.customers = lists_of(alloc, done.customers)?;
+    Ok(())
+}
+
 /// The record of what was done.
 pub(super) fn record_of(alloc: Global, done: &Done) -> Result<Record, AllocError> {
-    Ok(Record {
-        bridges: lists_of(alloc, done.bridges)?,
-        lanes: lists_of(alloc, done.lanes)?,
-        customers: lists_of(alloc, done.customers)?,
-    })
+    let mut record = Record {
+        bridges: Seq::from_vec(Vec::new(alloc)),
+        lanes: Seq::from_vec(Vec::new(alloc)),
+        customers: Seq::from_vec(Vec::new(alloc)),
+    };
+    fill(alloc, done, &mut record)?;
+    Ok(record)
+}
+
+/// The tallies of what was done.
+pub(super) fn tallies_of(alloc: Global, done: &Done) -> Result<Tallies, Memory> {
+    let record = record_of(alloc, done)?;
+    Tallies::of(alloc, &record)
 }

@@ -5,11 +5,11 @@ use pb_lan::{Learnt, NoRoom, Place, PortState, Reason};
 use pb_net::NetFault;
 use pb_rstp::Role;
 
-/// What is asked of a network. A frame is hexadecimal digits.
+/// What is asked of a network.
 #[derive(Clone, Copy)]
 pub(super) enum Act {
     /// A frame comes in at a customer port.
-    Poll(u8, &'static str),
+    Poll(u8, &'static [u8]),
     /// A customer port hands on the frame that it holds.
     Feed(u8),
     /// A customer port takes the oldest frame that was sent to it.
@@ -46,8 +46,7 @@ pub(super) struct Sent {
     pub(super) number: u64,
     /// How many bridges have relayed it.
     pub(super) hops: u32,
-    /// Its octets, as hexadecimal digits.
-    pub(super) frame: &'static str,
+    pub(super) frame: &'static [u8],
 }
 
 /// A whole step.
@@ -89,11 +88,11 @@ pub(super) enum Row {
         fault: NetFault,
     },
     /// A frame comes in at a customer port, and its bridge receives it.
-    Enters(u8, &'static str),
+    Enters(u8, &'static [u8]),
     /// The same, of a frame that begins so and has so many octets, the others 0.
     EntersLong {
         customer: u8,
-        head: &'static str,
+        head: &'static [u8],
         octets: usize,
     },
     /// The bridge where a lane begins sends an item, and the bridge where it ends receives it.
@@ -119,8 +118,8 @@ pub(super) enum Row {
         number: u64,
         lost: bool,
     },
-    /// The last step of a place moved a frame of these digits.
-    Moved(Place, &'static str),
+    /// The last step of a place moved a frame of these octets.
+    Moved(Place, &'static [u8]),
     /// The last step of a place moved a frame of so many octets.
     Octets(Place, usize),
     /// The last step of a place moved a frame that passed so many bridges.

@@ -1,6 +1,8 @@
 //! What rows see of a network.
 
 use super::draft::Draft;
+use super::expected::{is_deed, is_fate};
+use super::rows::{Deed, Fate};
 use pb_lan::{Item, Learnt, NoRoom, Outcome, Place, Reason, Step};
 use pb_net::Net;
 use pb_rstp::Role;
@@ -20,17 +22,26 @@ pub(super) fn taken_at(net: &Net, place: Place) -> Option<usize> {
     Some(steps.len())
 }
 
-/// Whether a place took this step, by its number from 0.
-pub(super) fn took(net: &Net, place: Place, number: usize, step: &Step) -> bool {
-    match steps(net, place) {
-        Some(steps) => steps.get(number) == Some(step),
+/// Whether a place did this, by the number of its step from 0.
+pub(super) fn took(net: &Net, place: Place, number: usize, deed: Deed) -> bool {
+    match step_at(net, place, number) {
+        Some(step) => is_deed(step, deed),
         None => false,
     }
 }
 
+fn step_at(net: &Net, place: Place, number: usize) -> Option<&Step> {
+    steps(net, place)?.get(number)
+}
+
+/// The last step of a place.
+fn last(net: &Net, place: Place) -> Option<&Step> {
+    steps(net, place)?.last()
+}
+
 /// The item that the last step of a place moved.
-pub(super) fn moved(net: &Net, place: Place) -> Option<&Item> {
-    match steps(net, place)?.last()? {
+fn moved(net: &Net, place: Place) -> Option<&Item> {
+    match last(net, place)? {
         Step::Take { item, .. }
         | Step::Put { item }
         | Step::Receive { item, .. }
@@ -47,25 +58,41 @@ pub(super) fn has_moved(net: &Net, place: Place, wire: &[u8]) -> bool {
     }
 }
 
+/// Whether the last step of a place moved a frame of so many octets.
+pub(super) fn has_moved_octets(net: &Net, place: Place, octets: usize) -> bool {
+    match moved(net, place) {
+        Some(item) => item.wire.len() == octets,
+        None => false,
+    }
+}
+
+/// Whether the last step of a place moved a frame that passed so many bridges.
+pub(super) fn has_moved_hops(net: &Net, place: Place, hops: u32) -> bool {
+    match moved(net, place) {
+        Some(item) => item.hops == hops,
+        None => false,
+    }
+}
+
 /// Whether the last step of a lane takes the item of a number, and loses it or not.
 pub(super) fn has_taken(net: &Net, lane: u8, wanted: u64, is_lost: bool) -> bool {
-    match steps(net, Place::Lane(lane)).and_then(|steps| steps.last()) {
+    match last(net, Place::Lane(lane)) {
         Some(Step::Take { number, lost, .. }) => *number == wanted && *lost == is_lost,
         _ => false,
     }
 }
 
-/// Whether the last step of a bridge is a Receive with this outcome.
-pub(super) fn ruled(net: &Net, bridge: u8, wanted: &Outcome) -> bool {
-    match steps(net, Place::Bridge(bridge)).and_then(|steps| steps.last()) {
-        Some(Step::Receive { outcome, .. }) => outcome == wanted,
+/// Whether the last step of a bridge received a frame of this fate.
+pub(super) fn has_ruled(net: &Net, bridge: u8, fate: Fate) -> bool {
+    match last(net, Place::Bridge(bridge)) {
+        Some(Step::Receive { outcome, .. }) => is_fate(outcome, fate),
         _ => false,
     }
 }
 
 /// Whether the last step of a bridge is a Receive by which this was learnt.
 pub(super) fn has_learnt(net: &Net, bridge: u8, wanted: Option<Learnt>) -> bool {
-    match steps(net, Place::Bridge(bridge)).and_then(|steps| steps.last()) {
+    match last(net, Place::Bridge(bridge)) {
         Some(Step::Receive { learnt, .. }) => *learnt == wanted,
         _ => false,
     }
@@ -73,18 +100,25 @@ pub(super) fn has_learnt(net: &Net, bridge: u8, wanted: Option<Learnt>) -> bool 
 
 /// How many of the steps deliver a frame that is taken.
 fn delivered(steps: &[Step]) -> usize {
-    steps
-        .iter()
-        .filter(|step| matches!(step, Step::Deliver { gone: false, .. }))
-        .count()
+    let mut count = 0usize;
+    for step in steps {
+        if let Step::Deliver { gone: false, .. } = step {
+            count = count.saturating_add(1);
+        }
+    }
+    count
+}
+
+/// How many frames a customer port has delivered, if the plan has it.
+fn delivered_at(net: &Net, customer: u8) -> Option<usize> {
+    Some(delivered(steps(net, Place::Customer(customer))?))
 }
 
 /// Whether each customer port has delivered so many frames.
 pub(super) fn left(net: &Net, draft: &Draft, counts: &[usize]) -> bool {
     for number in 1..=128u8 {
         let wanted = counts.get(usize::from(number) - 1).copied();
-        let seen = steps(net, Place::Customer(number)).map(|steps| delivered(steps));
-        if seen != wanted {
+        if delivered_at(net, number) != wanted {
             return false;
         }
     }
@@ -103,27 +137,29 @@ pub(super) fn has_roles(net: &Net, bridge: u8, wanted: Option<&[(u8, Role)]>) ->
     }
 }
 
-/// Whether a step tells that a frame, or a copy of it, went nowhere for want of memory.
-fn is_short(step: &Step) -> bool {
-    match step {
-        Step::Receive { outcome, .. } => match outcome {
-            Outcome::Filtered(reason) => *reason == Reason::Memory,
-            Outcome::Relayed { refused, .. } => {
-                refused
-                    .list()
-                    .as_slice()
-                    .iter()
-                    .any(|copy| copy.1 == NoRoom::Memory)
-            }
-            Outcome::Heard => false,
-        },
-        _ => false,
+/// Whether one of these found no memory.
+fn wants_memory(refused: &[(u8, NoRoom)]) -> bool {
+    for (_port, cause) in refused {
+        if *cause == NoRoom::Memory {
+            return true;
+        }
+    }
+    false
+}
+
+/// Whether an outcome tells that a frame, or a copy of it, went nowhere for want of memory.
+fn is_short(outcome: &Outcome) -> bool {
+    match outcome {
+        Outcome::Filtered(reason) => *reason == Reason::Memory,
+        Outcome::Relayed { refused, .. } => wants_memory(refused.list().as_slice()),
+        Outcome::Heard => false,
     }
 }
 
 /// Whether the last step of a bridge tells so.
 pub(super) fn tells_short(net: &Net, bridge: u8) -> bool {
-    steps(net, Place::Bridge(bridge))
-        .and_then(|steps| steps.last())
-        .is_some_and(is_short)
+    match last(net, Place::Bridge(bridge)) {
+        Some(Step::Receive { outcome, .. }) => is_short(outcome),
+        _ => false,
+    }
 }

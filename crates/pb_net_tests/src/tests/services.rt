@@ -69,7 +69,10 @@ fn a_port_takes_the_services_that_it_lists(rt: HostRuntime) -> Result<(), Fail> 
             fate: Fate::Relayed(&[1]),
         },
         Row::Crosses(1),
-        Row::Moved(Place::Lane(1), "ffffffffffff02000000010188a800c808004142"),
+        Row::Moved(
+            Place::Lane(1),
+            b"\xff\xff\xff\xff\xff\xff\x02\0\0\0\x01\x01\x88\xa8\0\xc8\x08\0AB",
+        ),
         Row::Ruled {
             bridge: 2,
             fate: Fate::Filtered(Reason::NotMember),
@@ -121,10 +124,10 @@ fn a_broadcast_stays_in_its_service(rt: HostRuntime) -> Result<(), Fail> {
 fn a_station_is_known_in_its_service_alone(rt: HostRuntime) -> Result<(), Fail> {
     const ROWS: &[Row] = &[
         // A station of blue sends a broadcast at customer port 3.
-        Row::Enters(3, "ffffffffffff0200000003030800"),
+        Row::Enters(3, b"\xff\xff\xff\xff\xff\xff\x02\0\0\0\x03\x03\x08\0"),
         Row::Crosses(2),
         // A frame to it enters customer port 1, of red.
-        Row::Enters(1, "0200000003030200000001010800"),
+        Row::Enters(1, b"\x02\0\0\0\x03\x03\x02\0\0\0\x01\x01\x08\0"),
         Row::Ruled {
             bridge: 1,
             fate: Fate::Relayed(&[1]),

@@ -1,17 +1,22 @@
 //! The harness: a network is walked through a table.
 
-use super::asked::{crosses, empties, leaves, rounds};
+ghost use Rattle.pb_lan.specs.Plans.{IsSound};
+
+use super::asked::{crosses, empties, enters, leaves, rounds};
 use super::draft::Draft;
 use super::drawn::stand_as;
-use super::expected::step_of;
-use super::made::{
-    acts, answers, enters_long, enters_octets, moved_octets, ruled_so, runs, took_deed,
-};
+use super::expected::are_deeds;
+use super::made::{acts, answers, enters_long, runs};
 use super::plans::plan_of;
 use super::rows::{Deed, Row};
-use super::seen::{has_learnt, has_roles, has_taken, left, moved, taken_at};
+use super::seen::{
+    has_learnt, has_moved, has_moved_hops, has_moved_octets, has_roles, has_ruled, has_taken, left,
+    taken_at, took,
+};
+use bytes::Bytes;
 use pb_forest::forest;
-use pb_lan::{PortState, Record, Seq, Shape, Step, plan_is_sound};
+use pb_frame::Memory;
+use pb_lan::{Plan, PortState, Record, Shape, plan_is_sound};
 use pb_net::{Did, Net};
 use pb_steps::{Tallies, last_shape};
 use std::alloc::Global;
@@ -21,37 +26,44 @@ use std::test::Fail;
 /// Whether a row is as it is told. What a row owns belongs to the functions of `made`.
 fn holds(alloc: Global, net: &mut Net, draft: &Draft, row: Row) -> Result<bool, Fail> {
     match row {
-        Row::Does(act) => acts(alloc, net, act),
-        Row::Idle(act) => answers(alloc, net, act, Ok(Did::Idle)),
-        Row::Refused(act, fault) => answers(alloc, net, act, Err(fault)),
         Row::Runs(acts) => runs(alloc, net, acts, Ok(())),
         Row::Stops { acts, done, fault } => runs(alloc, net, acts, Err((done, fault))),
-        Row::Enters(customer, digits) => enters_octets(alloc, net, draft, customer, digits),
         Row::EntersLong {
             customer,
             head,
             octets,
         } => enters_long(alloc, net, draft, customer, (head, octets)),
-        Row::Took(place, number, deed) => took_deed(alloc, net, place, number, deed),
-        Row::Moved(place, digits) => moved_octets(alloc, net, place, digits),
-        Row::Ruled { bridge, fate } => ruled_so(net, bridge, fate),
         Row::Settled(wanted) => Ok(net.settled(alloc)? == wanted),
-        _ => Ok(is_so(net, draft, row)),
+        _ => Ok(is_done(net, draft, row)),
     }
 }
 
 /// The same, of a row that needs no memory.
-fn is_so(net: &mut Net, draft: &Draft, row: Row) -> bool {
+fn is_done(net: &mut Net, draft: &Draft, row: Row) -> bool {
     match row {
+        Row::Does(act) => acts(net, act),
+        Row::Idle(act) => answers(net, act, Ok(Did::Idle)),
+        Row::Refused(act, fault) => answers(net, act, Err(fault)),
+        Row::Enters(customer, octets) => enters(net, draft, customer, Bytes::from_static(octets)),
         Row::Crosses(lane) => crosses(net, draft, lane),
         Row::Leaves(customer) => leaves(net, draft, customer),
         Row::Rounds(count) => rounds(net, draft, count),
         Row::Empties => empties(net, draft),
+        _ => is_seen(net, draft, row),
+    }
+}
+
+/// The same, of a row that only looks.
+fn is_seen(net: &Net, draft: &Draft, row: Row) -> bool {
+    match row {
         Row::Knows(place, known) => net.has_place(place) == known,
         Row::Steps { place, count } => taken_at(net, place) == Some(count),
+        Row::Took(place, number, deed) => took(net, place, number, deed),
         Row::Taken { lane, number, lost } => has_taken(net, lane, number, lost),
-        Row::Octets(place, wanted) => moved(net, place).map(|item| item.wire.len()) == Some(wanted),
-        Row::Hops(place, wanted) => moved(net, place).map(|item| item.hops) == Some(wanted),
+        Row::Moved(place, octets) => has_moved(net, place, octets),
+        Row::Octets(place, wanted) => has_moved_octets(net, place, wanted),
+        Row::Hops(place, wanted) => has_moved_hops(net, place, wanted),
+        Row::Ruled { bridge, fate } => has_ruled(net, bridge, fate),
         Row::Learnt(bridge, learnt) => has_learnt(net, bridge, learnt),
         Row::Left(counts) => left(net, draft, counts),
         Row::Roles(bridge, roles) => has_roles(net, bridge, roles),
@@ -108,13 +120,31 @@ pub(super) struct Recorded {
     pub(super) customers: &'static [Option<&'static [Deed]>],
 }
 
-/// The steps of deeds.
-fn steps_of(alloc: Global, deeds: &[Deed]) -> Result<Seq<Step>, Fail> {
-    let mut steps = Vec::new(alloc);
-    for deed in deeds {
-        steps.push(step_of(alloc, *deed)?)?;
+/// Whether the record has so many places.
+fn has_places(record: &Record, wanted: &Recorded) -> bool {
+    record.bridges.len() == wanted.bridges
+        && record.lanes.len() == wanted.lanes
+        && record.customers.len() == wanted.customers.len()
+}
+
+/// Whether the steps of a customer port are those of the deeds.
+fn has_taken_all(record: &Record, place: usize, deeds: &[Deed]) -> bool {
+    match record.customers.as_slice().get(place) {
+        Some(steps) => are_deeds(steps.as_slice(), deeds),
+        None => false,
     }
-    Ok(Seq::from_vec(steps))
+}
+
+/// Whether the steps of customer ports are as they are told.
+fn has_steps(record: &Record, customers: &[Option<&[Deed]>]) -> bool {
+    for (place, deeds) in customers.iter().enumerate() {
+        if let Some(deeds) = deeds {
+            if !has_taken_all(record, place, deeds) {
+                return false;
+            }
+        }
+    }
+    true
 }
 
 /// A network of the draft goes through the rows, and this is its record.
@@ -126,26 +156,12 @@ pub(super) fn records(
     wanted: &Recorded,
 ) -> Result<(), Fail> {
     let record = record_of(rt, alloc, draft, rows)?;
-    assert_eq!(rt; record.bridges.len(), wanted.bridges);
-    assert_eq!(rt; record.lanes.len(), wanted.lanes);
-    assert_eq!(rt; record.customers.len(), wanted.customers.len());
-    for (place, deeds) in wanted.customers.iter().enumerate() {
-        if let Some(deeds) = deeds {
-            assert!(rt; has_taken_all(alloc, &record, place, deeds)?, "{place}");
-        }
-    }
+    assert!(rt; has_places(&record, wanted), "the numbers of places");
+    assert!(rt;
+        has_steps(&record, wanted.customers),
+        "the steps of customer ports"
+    );
     Ok(())
-}
-
-/// Whether the steps of a customer port are those of the deeds.
-fn has_taken_all(
-    alloc: Global,
-    record: &Record,
-    place: usize,
-    deeds: &[Deed],
-) -> Result<bool, Fail> {
-    let steps = steps_of(alloc, deeds)?;
-    Ok(record.customers.as_slice().get(place) == Some(&steps))
 }
 
 /// The state of a bridge's port in a shape.
@@ -177,11 +193,26 @@ fn shape_after(rt: &impl Abort, alloc: Global, draft: &Draft, rows: &[Row]) -> R
     shape_of(rt, alloc, draft, &record)
 }
 
+/// The states of all ports of a plan behind a record.
+fn shape_in(alloc: Global, plan: &Plan, record: &Record) -> Result<Shape, Memory>
+    requires { IsSound plan.now }
+{
+    let counts = Tallies::of(alloc, record)?;
+    last_shape(alloc, plan, &counts)
+}
+
 /// The states of all ports behind a record.
 fn shape_of(rt: &impl Abort, alloc: Global, draft: &Draft, record: &Record) -> Result<Shape, Fail> {
     let plan = plan_of(alloc, draft)?;
     assert!(rt; plan_is_sound(&plan));
-    Ok(last_shape(alloc, &plan, &Tallies::of(alloc, record)?)?)
+    Ok(shape_in(alloc, &plan, record)?)
+}
+
+/// Whether the active links of a service are a forest.
+fn is_forest(alloc: Global, plan: &Plan, shape: &Shape, service: u8) -> Result<bool, Memory>
+    requires { IsSound plan.now }
+{
+    Ok(forest(alloc, shape, plan, service)?.is_some())
 }
 
 /// The active links of each service are a forest.
@@ -190,7 +221,7 @@ fn are_forests(rt: &impl Abort, alloc: Global, draft: &Draft, shape: &Shape) -> 
     assert!(rt; plan_is_sound(&plan));
     for service in 1..=2u8 {
         assert!(rt;
-            forest(alloc, shape, &plan, service)?.is_some(),
+            is_forest(alloc, &plan, shape, service)?,
             "service {service}"
         );
     }
@@ -200,10 +231,7 @@ fn are_forests(rt: &impl Abort, alloc: Global, draft: &Draft, shape: &Shape) -> 
 /// The ports of bridges have these states.
 fn have_states(rt: &impl Abort, shape: &Shape, states: &[(u8, u8, PortState)]) {
     for (bridge, port, state) in states {
-        assert_eq!(rt;
-            state_in(shape, *bridge, *port),
-            Some(*state),
-            "B{bridge} port {port}"
-        );
+        let told = state_in(shape, *bridge, *port);
+        assert!(rt; told == Some(*state), "B{bridge} port {port}");
     }
 }

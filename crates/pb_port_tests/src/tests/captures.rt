@@ -1,337 +1,355 @@
 //! Ports over captures.
 
-use super::rows::{Row, walk};
-use super::seen::{Seen, Watched};
-use super::stub::Stub;
-use super::told::{frame_of, sink, source_of, told_by};
+use super::cases::{Case, Devices, NOTHING, check, check_all};
+use super::device::{Fake, Hollow, Manner, Parts, SINK, Seen};
+use super::rows::{Row, held, walk};
 use pb_port::*;
 use std::alloc::Global;
-use std::fs::{self, File, Files};
+use std::fs::{self, File};
 use std::process::Abort;
 use std::test::Fail;
 
 /// A capture with a record that captured 14 octets of 60, one that captured 14 of 14, and seven octets.
-const CAPTURE: [u8; 91] = [
+const CAPTURE: &[u8] = &[
     0xa1, 0xb2, 0xc3, 0xd4, 0, 2, 0, 4, 0, 0, 0, 0, 0, 0, 0, 0, 0, 0, 0xff, 0xff, 0, 0, 0, 1, 0, 0,
     0, 0, 0, 0, 0, 0, 0, 0, 0, 14, 0, 0, 0, 60, 1, 2, 3, 4, 5, 6, 7, 8, 9, 10, 11, 12, 13, 14, 0,
     0, 0, 0, 0, 0, 0, 0, 0, 0, 0, 14, 0, 0, 0, 14, 21, 22, 23, 24, 25, 26, 27, 28, 29, 30, 31, 32,
     33, 34, 0, 0, 0, 0, 0, 0, 0,
 ];
 
-/// What is told of the capture: its one frame, and that it ends within a record.
-const TOLD: [u16; 16] = [
-    21, 22, 23, 24, 25, 26, 27, 28, 29, 30, 31, 32, 33, 34, 300, 260,
-];
-
 /// The frame of the capture.
-const FRAME: &str = "15161718191a1b1c1d1e1f202122";
+const FRAME: &[u8] = &[21, 22, 23, 24, 25, 26, 27, 28, 29, 30, 31, 32, 33, 34];
 
-#[test]
-fn reads_a_capture(rt: HostRuntime) -> Result<(), Fail> {
-    const ROWS: &[Row] = &[
+/// Devices that give the capture, all or an octet a call.
+const WHOLE: Manner = Manner {
+    gives: CAPTURE,
+    ..SINK
+};
+
+const BY_ONE: Manner = Manner { step: 1, ..WHOLE };
+
+const READ: &[Case] = &[Case {
+    devices: Devices::Reader(WHOLE),
+    rows: &[
         Row::Gives(FRAME),
         Row::Faults(4),
         Row::Faults(4),
         Row::Faults(4),
-    ];
-    let alloc = rt.alloc();
-    let input = Vec::from_slice(alloc, &CAPTURE)?;
-    let reader = Stub::new(alloc, input, 1000, false, 0);
-    let mut port = CapturePort::new(alloc, 4, reader, sink(alloc));
-    walk(&rt, alloc, &mut port, ROWS)?;
-    assert_eq!(rt; (port.skipped(), port.failures()), (1, 0));
-    Ok(())
+    ],
+    skipped: 1,
+    ..NOTHING
+}];
+
+#[test]
+fn reads_a_capture(rt: HostRuntime) {
+    check_all(&rt, rt.alloc(), READ);
 }
 
-/// What is told last of the first octets of the capture.
-fn told_last(n: usize) -> u16 {
-    if n == 24 || n == 54 || n == 84 {
-        256
-    } else {
-        260
+/// What is told of the first octets of the capture: its one frame, and that it ends, or ends within a record.
+fn told_of(n: usize) -> &'static [Row] {
+    match n {
+        24 | 54 => &[Row::Tells(&[256])],
+        84 => &[Row::Tells(&[
+            21, 22, 23, 24, 25, 26, 27, 28, 29, 30, 31, 32, 33, 34, 300, 256,
+        ])],
+        85.. => &[Row::Tells(&[
+            21, 22, 23, 24, 25, 26, 27, 28, 29, 30, 31, 32, 33, 34, 300, 260,
+        ])],
+        _ => &[Row::Tells(&[260])],
     }
 }
 
 #[test]
-fn reads_each_cut(rt: HostRuntime) -> Result<(), Fail> {
-    let alloc = rt.alloc();
+fn reads_each_cut(rt: HostRuntime) {
     for n in 0..92usize {
         for step in [1usize, 7, 1000] {
-            let input = Vec::from_slice(alloc, &CAPTURE[..n])?;
-            let reader = Stub::new(alloc, input, step, step == 1, 0);
-            let mut port = CapturePort::new(alloc, 4, reader, sink(alloc));
-            let mut said = Vec::new(alloc);
-            told_by(&mut port, &mut said)?;
-            assert_eq!(rt; said.len(), if 84 <= n { 16 } else { 1 });
-            assert_eq!(rt; said.last().copied(), Some(told_last(n)));
-            assert_eq!(rt; port.skipped(), if 54 <= n { 1 } else { 0 });
+            let reader = Manner {
+                gives: &CAPTURE[..n],
+                step,
+                waits: step == 1,
+                fails_at: 0,
+            };
+            let case = Case {
+                devices: Devices::Reader(reader),
+                rows: told_of(n),
+                skipped: if 54 <= n { 1 } else { 0 },
+                ..NOTHING
+            };
+            check(&rt, rt.alloc(), n, &case);
         }
     }
-    Ok(())
 }
 
-#[test]
-fn reads_64_times_a_call(rt: HostRuntime) -> Result<(), Fail> {
-    let alloc = rt.alloc();
-    let seen = Seen::new(alloc);
-    let input = Vec::from_slice(alloc, &CAPTURE)?;
-    let reader = Watched::new(Stub::new(alloc, input, 1, false, 0), &seen);
-    let mut port = CapturePort::new(alloc, 4, reader, sink(alloc));
-    walk(&rt, alloc, &mut port, &[Row::Waits])?;
-    assert_eq!(rt; seen.calls(), 64);
-    walk(&rt, alloc, &mut port, &[Row::Gives(FRAME)])?;
-    assert_eq!(rt; seen.calls(), 84);
-    Ok(())
-}
+const READ_BY_ONE: &[Case] = &[Case {
+    devices: Devices::Reader(BY_ONE),
+    rows: &[
+        Row::Waits,
+        Row::Calls(64),
+        Row::Gives(FRAME),
+        Row::Calls(84),
+    ],
+    skipped: 1,
+    ..NOTHING
+}];
 
 #[test]
-fn writes_64_times_a_call(rt: HostRuntime) -> Result<(), Fail> {
-    const FIRST: &[Row] = &[
-        Row::Takes(2, "0102030405060708090a0b0c0d0e"),
+fn reads_64_times_a_call(rt: HostRuntime) {
+    check_all(&rt, rt.alloc(), READ_BY_ONE);
+}
+
+/// A frame of 14 octets, and the header of a capture that is written.
+const LONG: &[u8] = &[1, 2, 3, 4, 5, 6, 7, 8, 9, 10, 11, 12, 13, 14];
+
+const HEADER: &[u8] = &[
+    0xd4, 0xc3, 0xb2, 0xa1, 2, 0, 4, 0, 0, 0, 0, 0, 0, 0, 0, 0, 0xff, 0xff, 0, 0, 1, 0, 0, 0,
+];
+
+/// Takes an octet a call.
+const SLOW: Manner = Manner { step: 1, ..SINK };
+
+const WRITTEN_BY_ONE: &[Case] = &[Case {
+    devices: Devices::Writer(SLOW),
+    rows: &[
+        Row::Takes(2, LONG),
         Row::Pumps(7, Pumped::Wrote(1)),
         Row::Unsent(1),
-    ];
-    const SECOND: &[Row] = &[Row::Pumps(8, Pumped::Wrote(1))];
-    let alloc = rt.alloc();
-    let seen = Seen::new(alloc);
-    let writer = Watched::new(Stub::new(alloc, Vec::new(alloc), 1, false, 0), &seen);
-    let mut port = CapturePort::new(alloc, 4, sink(alloc), writer);
-    walk(&rt, alloc, &mut port, FIRST)?;
-    assert_eq!(rt; seen.calls(), 64);
-    walk(&rt, alloc, &mut port, SECOND)?;
-    assert_eq!(rt; seen.calls(), 84);
-    walk(&rt, alloc, &mut port, &[Row::Pumps(9, Pumped::Nothing)])
-}
+        Row::Calls(64),
+        Row::Pumps(8, Pumped::Wrote(1)),
+        Row::Calls(84),
+        Row::Pumps(9, Pumped::Nothing),
+    ],
+    wrote: &[
+        (1, HEADER),
+        (1, &[7, 0, 0, 0, 0, 0, 0, 0, 14, 0, 0, 0, 14, 0, 0, 0]),
+        (1, LONG),
+        (1, &[7, 0, 0, 0, 0, 0, 0, 0, 14, 0, 0, 0, 14, 0, 0, 0]),
+        (1, LONG),
+    ],
+    ..NOTHING
+}];
 
 #[test]
-fn writes_many_frames_a_call(rt: HostRuntime) -> Result<(), Fail> {
-    const ROWS: &[Row] = &[Row::Takes(1000, "0708"), Row::Pumps(1, Pumped::Wrote(1000))];
-    let alloc = rt.alloc();
-    let seen = Seen::new(alloc);
-    let writer = Watched::new(Stub::new(alloc, Vec::new(alloc), 100_000, false, 0), &seen);
-    let mut port = CapturePort::new(alloc, 1000, sink(alloc), writer);
-    walk(&rt, alloc, &mut port, ROWS)?;
-    let output = seen.output(alloc)?;
-    assert_eq!(rt; (seen.calls(), output.len()), (2, 18_024));
-    let end = frame_of(&rt, alloc, "010000000000000002000000020000000708")?;
-    assert!(rt; output.as_slice().ends_with(end.as_slice()));
-    Ok(())
+fn writes_64_times_a_call(rt: HostRuntime) {
+    check_all(&rt, rt.alloc(), WRITTEN_BY_ONE);
 }
 
-/// What is told of a capture in hexadecimal digits that has nothing but its header and one frame or fault.
-fn is_told(rt: HostRuntime, digits: &str, wanted: &[u16]) -> Result<bool, Fail> {
-    let alloc = rt.alloc();
-    let mut port = CapturePort::new(alloc, 4, source_of(alloc, digits)?, sink(alloc));
-    let mut said = Vec::new(alloc);
-    told_by(&mut port, &mut said)?;
-    Ok(said.as_slice() == wanted)
-}
+/// Takes all.
+const WIDE: Manner = Manner {
+    step: 100_000,
+    ..SINK
+};
 
-#[test]
-fn reads_both_orders_and_both_magic_numbers(rt: HostRuntime) -> Result<(), Fail> {
-    let wanted = [7u16, 8, 300, 256];
-    assert!(rt; is_told(rt, "a1b2c3d4", &[260])?);
-    assert!(rt;
-        is_told(
-            rt,
-            "a1b2c3d40002000400000000000000000000ffff0000000100000001000000020000000200000002\
-0708",
-            &wanted
-        )?
-    );
-    assert!(rt;
-        is_told(
-            rt,
-            "a1b23c4d0002000400000000000000000000ffff0000000100000001000000020000000200000002\
-0708",
-            &wanted
-        )?
-    );
-    assert!(rt;
-        is_told(
-            rt,
-            "d4c3b2a1020004000000000000000000ffff00000100000001000000020000000200000002000000\
-0708",
-            &wanted
-        )?
-    );
-    assert!(rt;
-        is_told(
-            rt,
-            "4d3cb2a1020004000000000000000000ffff00000100000001000000020000000200000002000000\
-0708",
-            &wanted
-        )?
-    );
-    Ok(())
-}
+const MANY: &[Case] = &[Case {
+    devices: Devices::Writer(WIDE),
+    capacity: 1000,
+    rows: &[
+        Row::Takes(1000, &[7, 8]),
+        Row::Pumps(1, Pumped::Wrote(1000)),
+        Row::Calls(2),
+    ],
+    wrote: &[
+        (1, HEADER),
+        (
+            1000,
+            &[1, 0, 0, 0, 0, 0, 0, 0, 2, 0, 0, 0, 2, 0, 0, 0, 7, 8],
+        ),
+    ],
+    ..NOTHING
+}];
 
 #[test]
-fn tells_what_is_wrong(rt: HostRuntime) -> Result<(), Fail> {
-    assert!(rt;
-        is_told(
-            rt,
-            "a1b2c3d50002000400000000000000000000ffff00000001",
-            &[257]
-        )?
-    );
-    assert!(rt;
-        is_told(
-            rt,
-            "a1b2c3d40002000300000000000000000000ffff00000001",
-            &[258]
-        )?
-    );
-    assert!(rt;
-        is_told(
-            rt,
-            "a1b2c3d40002000400000000000000000000ffff00000002",
-            &[259]
-        )?
-    );
-    assert!(rt;
-        is_told(
-            rt,
-            "a1b2c3d40002000400000000000000000000ffff00000001\
-00000000000000000004000100040001",
-            &[261]
-        )?
-    );
-    assert!(rt;
-        is_told(
-            rt,
-            "a1b2c3d40002000400000000000000000000ffff00000001\
-00000000000000000004000000040001",
-            &[260]
-        )?
-    );
-    Ok(())
+fn writes_many_frames_a_call(rt: HostRuntime) {
+    check_all(&rt, rt.alloc(), MANY);
 }
 
-#[test]
-fn writes_a_capture(rt: HostRuntime) -> Result<(), Fail> {
-    const ROWS: &[Row] = &[
-        Row::Offers("0102030405060708090a0b0c0d0e", Offered::Taken),
-        Row::PumpsUntil(7, 1),
-    ];
-    let alloc = rt.alloc();
-    let seen = Seen::new(alloc);
-    let writer = Watched::new(Stub::new(alloc, Vec::new(alloc), 3, true, 0), &seen);
-    let mut port = CapturePort::new(alloc, 4, sink(alloc), writer);
-    walk(&rt, alloc, &mut port, ROWS)?;
-    let wanted = frame_of(
-        &rt,
-        alloc,
-        "d4c3b2a1020004000000000000000000ffff000001000000\
-07000000000000000e0000000e0000000102030405060708090a0b0c0d0e",
-    )?;
-    assert!(rt; seen.output(alloc)?.as_slice() == wanted.as_slice());
-    Ok(())
+/// A capture that has nothing but its header and one frame or fault, and what is told of it.
+type Told = (&'static [u8], &'static [Row]);
+
+/// Reads each of these captures.
+fn check_told(rt: &impl Abort, alloc: Global, captures: &[Told]) {
+    for (number, (gives, rows)) in captures.iter().enumerate() {
+        let reader = Manner { gives, ..SINK };
+        let case = Case {
+            devices: Devices::Reader(reader),
+            rows,
+            ..NOTHING
+        };
+        check(rt, alloc, number, &case);
+    }
 }
 
+const ORDERS: &[Told] = &[
+    (b"\xa1\xb2\xc3\xd4", &[Row::Tells(&[260])]),
+    (
+        b"\xa1\xb2\xc3\xd4\0\x02\0\x04\0\0\0\0\0\0\0\0\0\0\xff\xff\0\0\0\x01\0\0\0\x01\0\0\0\x02\0\0\0\x02\0\0\0\x02\x07\x08",
+        &[Row::Tells(&[7, 8, 300, 256])],
+    ),
+    (
+        b"\xa1\xb2\x3c\x4d\0\x02\0\x04\0\0\0\0\0\0\0\0\0\0\xff\xff\0\0\0\x01\0\0\0\x01\0\0\0\x02\0\0\0\x02\0\0\0\x02\x07\x08",
+        &[Row::Tells(&[7, 8, 300, 256])],
+    ),
+    (
+        b"\xd4\xc3\xb2\xa1\x02\0\x04\0\0\0\0\0\0\0\0\0\xff\xff\0\0\x01\0\0\0\x01\0\0\0\x02\0\0\0\x02\0\0\0\x02\0\0\0\x07\x08",
+        &[Row::Tells(&[7, 8, 300, 256])],
+    ),
+    (
+        b"\x4d\x3c\xb2\xa1\x02\0\x04\0\0\0\0\0\0\0\0\0\xff\xff\0\0\x01\0\0\0\x01\0\0\0\x02\0\0\0\x02\0\0\0\x02\0\0\0\x07\x08",
+        &[Row::Tells(&[7, 8, 300, 256])],
+    ),
+];
+
 #[test]
-fn tells_times_on_its_scale(rt: HostRuntime) -> Result<(), Fail> {
-    const ROWS: &[Row] = &[
-        Row::Offers("0102", Offered::Taken),
-        Row::PumpsUntil(0, 1),
-        Row::Offers("03", Offered::Taken),
-        Row::PumpsUntil(150, 1),
-    ];
-    let alloc = rt.alloc();
-    let seen = Seen::new(alloc);
-    let writer = Watched::new(Stub::new(alloc, Vec::new(alloc), 64, false, 0), &seen);
+fn reads_both_orders_and_both_magic_numbers(rt: HostRuntime) {
+    check_told(&rt, rt.alloc(), ORDERS);
+}
+
+const WRONG: &[Told] = &[
+    (
+        b"\xa1\xb2\xc3\xd5\0\x02\0\x04\0\0\0\0\0\0\0\0\0\0\xff\xff\0\0\0\x01",
+        &[Row::Tells(&[257])],
+    ),
+    (
+        b"\xa1\xb2\xc3\xd4\0\x02\0\x03\0\0\0\0\0\0\0\0\0\0\xff\xff\0\0\0\x01",
+        &[Row::Tells(&[258])],
+    ),
+    (
+        b"\xa1\xb2\xc3\xd4\0\x02\0\x04\0\0\0\0\0\0\0\0\0\0\xff\xff\0\0\0\x02",
+        &[Row::Tells(&[259])],
+    ),
+    (
+        b"\xa1\xb2\xc3\xd4\0\x02\0\x04\0\0\0\0\0\0\0\0\0\0\xff\xff\0\0\0\x01\0\0\0\0\0\0\0\0\0\x04\0\x01\0\x04\0\x01",
+        &[Row::Tells(&[261])],
+    ),
+    (
+        b"\xa1\xb2\xc3\xd4\0\x02\0\x04\0\0\0\0\0\0\0\0\0\0\xff\xff\0\0\0\x01\0\0\0\0\0\0\0\0\0\x04\0\0\0\x04\0\x01",
+        &[Row::Tells(&[260])],
+    ),
+];
+
+#[test]
+fn tells_what_is_wrong(rt: HostRuntime) {
+    check_told(&rt, rt.alloc(), WRONG);
+}
+
+/// Takes three octets every other call.
+const SLOWER: Manner = Manner {
+    step: 3,
+    waits: true,
+    ..SINK
+};
+
+const WRITTEN: &[Case] = &[Case {
+    devices: Devices::Writer(SLOWER),
+    rows: &[Row::Offers(LONG, Offered::Taken), Row::PumpsUntil(7, 1)],
+    wrote: &[
+        (1, HEADER),
+        (1, &[7, 0, 0, 0, 0, 0, 0, 0, 14, 0, 0, 0, 14, 0, 0, 0]),
+        (1, LONG),
+    ],
+    ..NOTHING
+}];
+
+#[test]
+fn writes_a_capture(rt: HostRuntime) {
+    check_all(&rt, rt.alloc(), WRITTEN);
+}
+
+/// Two frames on a scale of milliseconds, and what is written of them.
+const ON_SCALE: &[Row] = &[
+    Row::Offers(&[1, 2], Offered::Taken),
+    Row::PumpsUntil(0, 1),
+    Row::Offers(&[3], Offered::Taken),
+    Row::PumpsUntil(150, 1),
+];
+
+const SCALED: Parts = &[
+    (1, HEADER),
+    (
+        1,
+        b"\x00\xf1\x53\x65\xa1\xbb\x0d\0\x02\0\0\0\x02\0\0\0\x01\x02",
+    ),
+    (1, b"\x01\xf1\x53\x65\x51\xc3\0\0\x01\0\0\0\x01\0\0\0\x03"),
+];
+
+#[test]
+fn tells_times_on_its_scale(rt: HostRuntime) {
     let scale = Timescale {
         start: 1_700_000_000_900_001,
         tick: 1_000,
     };
-    let mut port = CapturePort::on_scale(alloc, 4, scale, sink(alloc), writer);
-    walk(&rt, alloc, &mut port, ROWS)?;
-    let wanted = frame_of(
-        &rt,
-        alloc,
-        "d4c3b2a1020004000000000000000000ffff000001000000\
-00f15365a1bb0d0002000000020000000102\
-01f1536551c30000010000000100000003",
-    )?;
-    assert!(rt; seen.output(alloc)?.as_slice() == wanted.as_slice());
-    Ok(())
+    let seen = Seen::new(SCALED);
+    let writer = Fake::new(Manner { step: 64, ..SINK }, &seen);
+    let mut port = CapturePort::on_scale(rt.alloc(), 4, scale, Hollow, writer);
+    let held = walk(rt.alloc(), &mut port, &seen, ON_SCALE);
+    assert_eq!(rt; (held, seen.has_all()), (ON_SCALE.len(), true));
 }
 
 #[test]
-fn fails_at_each_read(rt: HostRuntime) -> Result<(), Fail> {
-    const ROWS: &[Row] = &[Row::Tells(&[262]), Row::Faults(6)];
-    let alloc = rt.alloc();
-    for k in 1..85u64 {
-        let input = Vec::from_slice(alloc, &CAPTURE)?;
-        let reader = Stub::new(alloc, input, 1, false, k);
-        let mut port = CapturePort::new(alloc, 4, reader, sink(alloc));
-        walk(&rt, alloc, &mut port, ROWS)?;
-        assert_eq!(rt; port.failures(), 1);
+fn fails_at_each_read(rt: HostRuntime) {
+    for call in 1..85u64 {
+        let reader = Manner {
+            fails_at: call,
+            ..BY_ONE
+        };
+        let case = Case {
+            devices: Devices::Reader(reader),
+            rows: &[Row::Tells(&[262]), Row::Faults(6)],
+            failures: 1,
+            skipped: if 54 < call { 1 } else { 0 },
+            ..NOTHING
+        };
+        check(&rt, rt.alloc(), call as usize, &case);
     }
-    Ok(())
 }
+
+/// A capture of a frame, of which nothing is written but what stands before a write that fails.
+const BROKEN: &[Row] = &[
+    Row::Offers(&[1, 2, 3], Offered::Taken),
+    Row::Pumps(0, Pumped::Fault(7)),
+    Row::Offers(&[1, 2, 3], Offered::Gone),
+    Row::Pumps(0, Pumped::Fault(7)),
+    Row::Unsent(1),
+];
+
+const UNBROKEN: &[u8] =
+    b"\xd4\xc3\xb2\xa1\x02\0\x04\0\0\0\0\0\0\0\0\0\xff\xff\0\0\x01\0\0\0\0\0\0\0\0\0\0\0\x03\0\0\0\x03\0\0\0\x01\x02\x03";
 
 #[test]
-fn fails_at_each_write(rt: HostRuntime) -> Result<(), Fail> {
-    const ROWS: &[Row] = &[
-        Row::Offers("010203", Offered::Taken),
-        Row::Pumps(0, Pumped::Fault(7)),
-        Row::Offers("010203", Offered::Gone),
-        Row::Pumps(0, Pumped::Fault(7)),
-        Row::Unsent(1),
-    ];
-    let alloc = rt.alloc();
-    for k in 1..44u64 {
-        let writer = Stub::new(alloc, Vec::new(alloc), 1, false, k);
-        let mut port = CapturePort::new(alloc, 4, sink(alloc), writer);
-        walk(&rt, alloc, &mut port, ROWS)?;
-        assert_eq!(rt; port.failures(), 1);
+fn fails_at_each_write(rt: HostRuntime) {
+    for call in 1..44usize {
+        let writer = Manner {
+            fails_at: call as u64,
+            ..SLOW
+        };
+        let case = Case {
+            devices: Devices::Writer(writer),
+            rows: BROKEN,
+            wrote: &[(1, &UNBROKEN[..call - 1])],
+            failures: 1,
+            ..NOTHING
+        };
+        check(&rt, rt.alloc(), call, &case);
     }
-    Ok(())
 }
 
-/// Writes a capture of two frames to a file.
-fn write_file(
-    rt: &(impl Files<File = File> + Abort),
-    alloc: Global,
-    path: &str,
-) -> Result<(), Fail> {
-    const ROWS: &[Row] = &[
-        Row::Offers("0708", Offered::Taken),
-        Row::Offers("", Offered::Taken),
-        Row::Pumps(1, Pumped::Wrote(2)),
-    ];
-    let writer = Over::new(File::create(rt, path)?);
-    walk(
-        rt,
-        alloc,
-        &mut CapturePort::new(alloc, 4, sink(alloc), writer),
-        ROWS,
-    )
-}
+/// A capture of two frames is written to a file, and read.
+const TO_FILE: &[Row] = &[
+    Row::Offers(&[7, 8], Offered::Taken),
+    Row::Offers(&[], Offered::Taken),
+    Row::Pumps(1, Pumped::Wrote(2)),
+];
 
-/// Reads it.
-fn read_file(
-    rt: &(impl Files<File = File> + Abort),
-    alloc: Global,
-    path: &str,
-) -> Result<(), Fail> {
-    const ROWS: &[Row] = &[Row::Tells(&[7, 8, 300, 300, 256])];
-    let reader = Over::new(File::open(rt, path)?);
-    walk(
-        rt,
-        alloc,
-        &mut CapturePort::new(alloc, 4, reader, sink(alloc)),
-        ROWS,
-    )
-}
+const FROM_FILE: &[Row] = &[Row::Tells(&[7, 8, 300, 300, 256])];
 
 #[test]
 fn reads_back_a_file(rt: HostRuntime) -> Result<(), Fail> {
-    let path = "ports.pcap";
-    write_file(&rt, rt.alloc(), path)?;
-    read_file(&rt, rt.alloc(), path)?;
+    let (alloc, path) = (rt.alloc(), "ports.pcap");
+    let file = Over::new(File::create(&rt, path)?);
+    let written = held(alloc, CapturePort::new(alloc, 4, Hollow, file), TO_FILE);
+    let file = Over::new(File::open(&rt, path)?);
+    let read = held(alloc, CapturePort::new(alloc, 4, file, Hollow), FROM_FILE);
     fs::remove_file(&rt, path)?;
+    assert_eq!(rt; (written, read), (TO_FILE.len(), FROM_FILE.len()));
     Ok(())
 }
 

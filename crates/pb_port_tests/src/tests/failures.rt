@@ -1,168 +1,194 @@
 //! Ports whose devices fail, or take no more, in the middle of things.
 
-ghost use Rattle.std.specs.Prelude.{◌<◌};
-
-use super::rows::{Row, walk};
-use super::seen::{Seen, Watched};
-use super::stub::Stub;
-use super::told::{sink, source_of};
-use pb_frame::hex_read;
-use pb_port::{CapturePort, Offered, Pumped, SocketPort};
+use super::cases::{Case, Devices, NOTHING, check, check_all};
+use super::device::{Manner, Parts, SINK};
+use super::rows::Row;
+use pb_port::{Offered, Pumped};
 use std::alloc::Global;
-use std::test::Fail;
+use std::process::Abort;
 
 /// Two frames as a socket has them, 0708 and 0910.
-const TWO: &str = "0002070800020910";
+const TWO: &[u8] = &[0, 2, 7, 8, 0, 2, 9, 0x10];
+
+/// The call of a socket that fails, what then is said, and what is written.
+type Failing = (u64, &'static [Row], Parts<'static>);
+
+/// Sockets that give these octets and move so many a call come out as these rows say.
+fn check_sockets(
+    rt: &impl Abort,
+    alloc: Global,
+    gives: &'static [u8],
+    step: usize,
+    table: &[Failing],
+) {
+    for (call, rows, wrote) in table {
+        let stream = Manner {
+            gives,
+            step,
+            waits: false,
+            fails_at: *call,
+        };
+        let case = Case {
+            devices: Devices::Socket(stream),
+            rows,
+            wrote,
+            failures: 1,
+            ..NOTHING
+        };
+        check(rt, alloc, *call as usize, &case);
+    }
+}
 
 /// What is told of the two frames where the read of this number fails, of those that move an octet each.
-const READS: [(u64, &[u16]); 9] = [
-    (1, &[262]),
-    (2, &[262]),
-    (3, &[262]),
-    (4, &[262]),
-    (5, &[7, 8, 300, 262]),
-    (6, &[7, 8, 300, 262]),
-    (7, &[7, 8, 300, 262]),
-    (8, &[7, 8, 300, 262]),
-    (9, &[7, 8, 300, 9, 16, 300, 262]),
+const READS: &[Failing] = &[
+    (1, NO_FRAME, &[]),
+    (2, NO_FRAME, &[]),
+    (3, NO_FRAME, &[]),
+    (4, NO_FRAME, &[]),
+    (5, ONE_FRAME, &[]),
+    (6, ONE_FRAME, &[]),
+    (7, ONE_FRAME, &[]),
+    (8, ONE_FRAME, &[]),
+    (9, BOTH_FRAMES, &[]),
+];
+
+const NO_FRAME: &[Row] = &[Row::Tells(&[262]), Row::Faults(6), Row::Faults(6)];
+
+const ONE_FRAME: &[Row] = &[
+    Row::Tells(&[7, 8, 300, 262]),
+    Row::Faults(6),
+    Row::Faults(6),
+];
+
+const BOTH_FRAMES: &[Row] = &[
+    Row::Tells(&[7, 8, 300, 9, 16, 300, 262]),
+    Row::Faults(6),
+    Row::Faults(6),
 ];
 
 #[test]
-fn a_socket_fails_at_each_read(rt: HostRuntime) -> Result<(), Fail> {
-    let alloc = rt.alloc();
-    for (call, told) in READS {
-        let input = Vec::from_slice(alloc, hex_read(alloc, TWO)?.as_slice())?;
-        let mut port = SocketPort::new(alloc, 4, Stub::new(alloc, input, 1, false, call));
-        let rows = [Row::Tells(told), Row::Faults(6), Row::Faults(6)];
-        walk(&rt, alloc, &mut port, &rows)?;
-        assert_eq!(rt; port.failures(), 1, "read {call}");
-    }
-    Ok(())
+fn a_socket_fails_at_each_read(rt: HostRuntime) {
+    check_sockets(&rt, rt.alloc(), TWO, 1, READS);
 }
 
-/// How many of the two frames are left, and what was written, where the write of this number fails, of those that
-/// move an octet each.
-const WRITES: [(u64, usize, &str); 8] = [
-    (1, 2, ""),
-    (2, 2, "00"),
-    (3, 2, "0002"),
-    (4, 2, "000207"),
-    (5, 1, "00020708"),
-    (6, 1, "0002070800"),
-    (7, 1, "000207080002"),
-    (8, 1, "00020708000209"),
+/// What is said of the two frames, and what was written, where the write of this number fails, of those that move
+/// an octet each.
+const WRITES: &[Failing] = &[
+    (1, TWO_LEFT, &[]),
+    (2, TWO_LEFT, &[(1, &[0])]),
+    (3, TWO_LEFT, &[(1, &[0, 2])]),
+    (4, TWO_LEFT, &[(1, &[0, 2, 7])]),
+    (5, ONE_LEFT, &[(1, &[0, 2, 7, 8])]),
+    (6, ONE_LEFT, &[(1, &[0, 2, 7, 8, 0])]),
+    (7, ONE_LEFT, &[(1, &[0, 2, 7, 8, 0, 2])]),
+    (8, ONE_LEFT, &[(1, &[0, 2, 7, 8, 0, 2, 9])]),
+];
+
+const TWO_LEFT: &[Row] = &[
+    Row::Offers(&[7, 8], Offered::Taken),
+    Row::Offers(&[9, 0x10], Offered::Taken),
+    Row::Pumps(0, Pumped::Fault(7)),
+    Row::Unsent(2),
+    Row::Offers(&[0x11], Offered::Gone),
+    Row::Pumps(0, Pumped::Fault(7)),
+    Row::Unsent(2),
+    Row::Ends,
+];
+
+const ONE_LEFT: &[Row] = &[
+    Row::Offers(&[7, 8], Offered::Taken),
+    Row::Offers(&[9, 0x10], Offered::Taken),
+    Row::Pumps(0, Pumped::Fault(7)),
+    Row::Unsent(1),
+    Row::Offers(&[0x11], Offered::Gone),
+    Row::Pumps(0, Pumped::Fault(7)),
+    Row::Unsent(1),
+    Row::Ends,
 ];
 
 #[test]
-fn a_socket_fails_at_each_write(rt: HostRuntime) -> Result<(), Fail> {
-    let alloc = rt.alloc();
-    for (call, left, written) in WRITES {
-        let rows = [
-            Row::Offers("0708", Offered::Taken),
-            Row::Offers("0910", Offered::Taken),
-            Row::Pumps(0, Pumped::Fault(7)),
-            Row::Unsent(left),
-            Row::Offers("11", Offered::Gone),
-            Row::Pumps(0, Pumped::Fault(7)),
-            Row::Unsent(left),
-            Row::Ends,
-        ];
-        let seen = Seen::new(alloc);
-        let stream = Watched::new(Stub::new(alloc, Vec::new(alloc), 1, false, call), &seen);
-        let mut port = SocketPort::new(alloc, 4, stream);
-        walk(&rt, alloc, &mut port, &rows)?;
-        assert_eq!(rt; port.failures(), 1, "write {call}");
-        let output = seen.output(alloc)?;
-        assert!(rt;
-            output.as_slice() == hex_read(alloc, written)?.as_slice(),
-            "write {call}"
-        );
-    }
-    Ok(())
+fn a_socket_fails_at_each_write(rt: HostRuntime) {
+    check_sockets(&rt, rt.alloc(), &[], 1, WRITES);
 }
 
-/// What a port says that gives a frame and takes one, where the call of this number fails: the first two are
-/// reads and the third is a write. Neither way stops the other.
-const EACH_WAY: [(u64, &[Row]); 4] = [
+/// What a port says that gives a frame and takes one, and what it writes, where the call of this number fails: the
+/// first two are reads and the third is a write. Neither way stops the other.
+const EACH_WAY: &[Failing] = &[
     (
         1,
         &[
             Row::Faults(6),
-            Row::Offers("09", Offered::Taken),
+            Row::Offers(&[9], Offered::Taken),
             Row::Pumps(0, Pumped::Wrote(1)),
             Row::Unsent(0),
             Row::Faults(6),
         ],
+        &[(1, &[0, 1, 9])],
     ),
     (
         2,
         &[
-            Row::Gives("0708"),
+            Row::Gives(&[7, 8]),
             Row::Faults(6),
-            Row::Offers("09", Offered::Taken),
+            Row::Offers(&[9], Offered::Taken),
             Row::Pumps(0, Pumped::Wrote(1)),
             Row::Unsent(0),
             Row::Faults(6),
         ],
+        &[(1, &[0, 1, 9])],
     ),
     (
         3,
         &[
-            Row::Gives("0708"),
+            Row::Gives(&[7, 8]),
             Row::Ends,
-            Row::Offers("09", Offered::Taken),
+            Row::Offers(&[9], Offered::Taken),
             Row::Pumps(0, Pumped::Fault(7)),
             Row::Unsent(1),
-            Row::Offers("09", Offered::Gone),
+            Row::Offers(&[9], Offered::Gone),
             Row::Ends,
         ],
+        &[],
     ),
     (
         4,
         &[
-            Row::Gives("0708"),
+            Row::Gives(&[7, 8]),
             Row::Ends,
-            Row::Offers("09", Offered::Taken),
+            Row::Offers(&[9], Offered::Taken),
             Row::Pumps(0, Pumped::Wrote(1)),
             Row::Unsent(0),
-            Row::Offers("09", Offered::Taken),
+            Row::Offers(&[9], Offered::Taken),
             Row::Pumps(0, Pumped::Fault(7)),
             Row::Unsent(1),
             Row::Ends,
         ],
+        &[(1, &[0, 1, 9])],
     ),
 ];
 
 #[test]
-fn one_way_of_a_socket_does_not_stop_the_other(rt: HostRuntime) -> Result<(), Fail> {
-    let alloc = rt.alloc();
-    for (call, rows) in EACH_WAY {
-        let input = Vec::from_slice(alloc, hex_read(alloc, "00020708")?.as_slice())?;
-        let stream = Stub::new(alloc, input, 1000, false, call);
-        let mut port = SocketPort::new(alloc, 4, stream);
-        walk(&rt, alloc, &mut port, rows)?;
-        assert_eq!(rt; port.failures(), 1, "call {call}");
-    }
-    Ok(())
+fn one_way_of_a_socket_does_not_stop_the_other(rt: HostRuntime) {
+    check_sockets(&rt, rt.alloc(), &[0, 2, 7, 8], 1000, EACH_WAY);
 }
 
 /// The first of three frames has left when a write fails: it is not among those that wait, and no later pump
 /// writes anything.
 const FAILS_LATER: &[Row] = &[
-    Row::Takes(3, "0708"),
+    Row::Takes(3, &[7, 8]),
     Row::Pumps(0, Pumped::Fault(7)),
     Row::Unsent(2),
     Row::Pumps(0, Pumped::Fault(7)),
     Row::Unsent(2),
     Row::Shelves {
         sent: &[],
-        unsent: &["0708", "0708"],
+        unsent: &[&[7, 8], &[7, 8]],
     },
 ];
 
 /// The first of two frames has left when a write takes nothing: the next pump goes on with the second.
 const BLOCKS_LATER: &[Row] = &[
-    Row::Takes(2, "0708"),
+    Row::Takes(2, &[7, 8]),
     Row::Pumps(0, Pumped::Wrote(1)),
     Row::Unsent(1),
     Row::Pumps(0, Pumped::Wrote(1)),
@@ -170,61 +196,105 @@ const BLOCKS_LATER: &[Row] = &[
     Row::Pumps(0, Pumped::Nothing),
 ];
 
-/// A device that takes so many octets a call, those of the first frame. Its second call fails, or each second one
-/// takes nothing.
-fn taker(alloc: Global, step: usize, blocks: bool) -> Stub
-    requires { 0 < step }
-{
-    Stub::new(
-        alloc,
-        Vec::new(alloc),
-        step,
-        blocks,
-        if blocks { 0 } else { 2 },
-    )
-}
+/// Devices that take the octets of the first frame, and fail at their second call.
+const FAILS: Manner = Manner {
+    step: 4,
+    fails_at: 2,
+    ..SINK
+};
+
+const FAILS_CAPTURE: Manner = Manner { step: 42, ..FAILS };
+
+/// The same, but each second call takes nothing.
+const BLOCKS: Manner = Manner {
+    step: 4,
+    waits: true,
+    ..SINK
+};
+
+const BLOCKS_CAPTURE: Manner = Manner { step: 42, ..BLOCKS };
+
+/// The frame as a socket has it, and as a record of a capture at second 0, with the capture's header.
+const LENGTH: &[u8] = &[0, 2, 7, 8];
+
+const HEADER: &[u8] = &[
+    0xd4, 0xc3, 0xb2, 0xa1, 2, 0, 4, 0, 0, 0, 0, 0, 0, 0, 0, 0, 0xff, 0xff, 0, 0, 1, 0, 0, 0,
+];
+
+const RECORD: &[u8] = &[0, 0, 0, 0, 0, 0, 0, 0, 2, 0, 0, 0, 2, 0, 0, 0, 7, 8];
+
+const LATER: &[Case] = &[
+    Case {
+        devices: Devices::Socket(FAILS),
+        rows: FAILS_LATER,
+        wrote: &[(1, LENGTH)],
+        failures: 1,
+        ..NOTHING
+    },
+    Case {
+        devices: Devices::Writer(FAILS_CAPTURE),
+        rows: FAILS_LATER,
+        wrote: &[(1, HEADER), (1, RECORD)],
+        failures: 1,
+        ..NOTHING
+    },
+    Case {
+        devices: Devices::Socket(BLOCKS),
+        rows: BLOCKS_LATER,
+        wrote: &[(2, LENGTH)],
+        ..NOTHING
+    },
+    Case {
+        devices: Devices::Writer(BLOCKS_CAPTURE),
+        rows: BLOCKS_LATER,
+        wrote: &[(1, HEADER), (2, RECORD)],
+        ..NOTHING
+    },
+];
 
 #[test]
-fn frames_that_left_are_gone_though_a_later_write_does_not_pass(
-    rt: HostRuntime,
-) -> Result<(), Fail> {
-    let alloc = rt.alloc();
-    for (blocks, rows) in [(false, FAILS_LATER), (true, BLOCKS_LATER)] {
-        let mut socket = SocketPort::new(alloc, 4, taker(alloc, 4, blocks));
-        walk(&rt, alloc, &mut socket, rows)?;
-        assert_eq!(rt; socket.failures(), if blocks { 0 } else { 1 });
-        let mut capture = CapturePort::new(alloc, 4, sink(alloc), taker(alloc, 42, blocks));
-        walk(&rt, alloc, &mut capture, rows)?;
-        assert_eq!(rt; capture.failures(), if blocks { 0 } else { 1 });
-    }
-    Ok(())
+fn frames_that_left_are_gone_though_a_later_write_does_not_pass(rt: HostRuntime) {
+    check_all(&rt, rt.alloc(), LATER);
 }
 
 /// A port that failed is put on its shelf, and each later pump still says that a write failed.
 const SHELVED: &[Row] = &[
-    Row::Offers("0708", Offered::Taken),
+    Row::Offers(&[7, 8], Offered::Taken),
     Row::Pumps(0, Pumped::Fault(7)),
     Row::Shelves {
         sent: &[],
-        unsent: &["0708"],
+        unsent: &[&[7, 8]],
     },
     Row::Unsent(0),
     Row::Pumps(0, Pumped::Fault(7)),
-    Row::Offers("0708", Offered::Gone),
+    Row::Offers(&[7, 8], Offered::Gone),
     Row::Pumps(0, Pumped::Fault(7)),
     Row::Unsent(0),
 ];
 
+/// A device that fails at once.
+const BROKEN: Manner = Manner {
+    step: 1,
+    fails_at: 1,
+    ..SINK
+};
+
+const BOTH_SHELVED: &[Case] = &[
+    Case {
+        devices: Devices::Socket(BROKEN),
+        rows: SHELVED,
+        failures: 1,
+        ..NOTHING
+    },
+    Case {
+        devices: Devices::Writer(BROKEN),
+        rows: SHELVED,
+        failures: 1,
+        ..NOTHING
+    },
+];
+
 #[test]
-fn a_shelved_port_still_says_that_a_write_failed(rt: HostRuntime) -> Result<(), Fail> {
-    let alloc = rt.alloc();
-    let failing = Stub::new(alloc, Vec::new(alloc), 1, false, 1);
-    let mut socket = SocketPort::new(alloc, 4, failing);
-    walk(&rt, alloc, &mut socket, SHELVED)?;
-    assert_eq!(rt; socket.failures(), 1);
-    let writer = Stub::new(alloc, Vec::new(alloc), 1, false, 1);
-    let mut capture = CapturePort::new(alloc, 4, sink(alloc), writer);
-    walk(&rt, alloc, &mut capture, SHELVED)?;
-    assert_eq!(rt; capture.failures(), 1);
-    Ok(())
+fn a_shelved_port_still_says_that_a_write_failed(rt: HostRuntime) {
+    check_all(&rt, rt.alloc(), BOTH_SHELVED);
 }

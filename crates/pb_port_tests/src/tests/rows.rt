@@ -1,23 +1,22 @@
-//! A port is walked through the rows of a table. Frames are hexadecimal digits.
+//! A port is walked through the rows of a table.
 
 ghost use Rattle.std.specs.Prelude.{◌≡◌, []};
 
-use super::told::{frame_of, told_by};
+use super::device::Seen;
 use bytes::Bytes;
-use pb_frame::hex_read;
 use pb_port::{Offered, Polled, Port, Pumped, Shelf};
 use std::alloc::Global;
 use std::collections::VecDeque;
-use std::process::Abort;
-use std::test::Fail;
 
 /// What is done with a port, or seen of it.
 #[derive(Clone, Copy)]
 pub(super) enum Row {
     /// A frame is offered, and this said.
-    Offers(&'static str, Offered),
+    Offers(&'static [u8], Offered),
     /// A frame is offered so often, and taken each time.
-    Takes(u16, &'static str),
+    Takes(u16, &'static [u8]),
+    /// A frame of so many octets 7 is offered, and taken.
+    TakesLong(u16),
     /// A pump at a time says this.
     Pumps(u32, Pumped),
     /// So many pumps at time 0, whatever they say.
@@ -25,76 +24,82 @@ pub(super) enum Row {
     /// Of a hundred pumps at a time, the first after which a frame has left says that so many have.
     PumpsUntil(u32, u32),
     /// The next poll gives a frame.
-    Gives(&'static str),
+    Gives(&'static [u8]),
     /// It gives none yet.
     Waits,
     /// It comes to the end.
     Ends,
     /// It tells a fault.
     Faults(u8),
-    /// What is said of the stream from now on.
+    /// What is said of the stream from now on: the octets of its frames, each frame followed by 300, then 256 for
+    /// the end, or 256 and the fault.
     Tells(&'static [u16]),
     /// So many frames wait.
     Unsent(usize),
     /// Taken out of use it keeps these frames.
     Shelves {
-        sent: &'static [&'static str],
-        unsent: &'static [&'static str],
+        sent: &'static [&'static [u8]],
+        unsent: &'static [&'static [u8]],
     },
+    /// Its devices have been called so often.
+    Calls(u64),
 }
 
-/// Each row holds, one after the other. A row that does not is named by its number from 0.
-pub(super) fn walk<P: Port>(
-    rt: &impl Abort,
-    alloc: Global,
-    port: &mut P,
-    rows: &[Row],
-) -> Result<(), Fail> {
+/// How many rows hold, one after the other, before the first that does not.
+pub(super) fn walk<P: Port>(alloc: Global, port: &mut P, seen: &Seen, rows: &[Row]) -> usize {
     for (place, row) in rows.iter().enumerate() {
-        assert!(rt; holds(rt, alloc, port, *row)?, "row {place}");
+        if !holds(alloc, port, seen, *row) {
+            return place;
+        }
     }
-    Ok(())
+    rows.len()
+}
+
+/// How many rows hold of a port whose devices nobody looks at.
+pub(super) fn held<P: Port>(alloc: Global, port: P, rows: &[Row]) -> usize {
+    let (seen, mut port) = (Seen::new(&[]), port);
+    walk(alloc, &mut port, &seen, rows)
 }
 
 /// Whether a row holds.
-fn holds<P: Port>(rt: &impl Abort, alloc: Global, port: &mut P, row: Row) -> Result<bool, Fail> {
+fn holds<P: Port>(alloc: Global, port: &mut P, seen: &Seen, row: Row) -> bool {
     match row {
-        Row::Offers(digits, wanted) => offers(rt, alloc, port, digits, wanted),
-        Row::Takes(times, digits) => takes(rt, alloc, port, times, digits),
-        Row::Tells(wanted) => tells(alloc, port, wanted),
-        Row::Unsent(count) => Ok(port.unsent().len() == count),
+        Row::Offers(octets, wanted) => offers(port, octets, wanted),
+        Row::Takes(times, octets) => takes(port, times, octets),
+        Row::TakesLong(octets) => takes_long(alloc, port, octets),
+        Row::Tells(wanted) => tells(port, wanted),
+        Row::Unsent(count) => port.unsent().len() == count,
         Row::Shelves { sent, unsent } => shelves(alloc, port, sent, unsent),
-        Row::Pumps(now, wanted) => Ok(port.pump(now) == wanted),
-        Row::PumpsOn(times) => Ok(pumps_on(port, times)),
-        Row::PumpsUntil(now, wanted) => Ok(pumps_until(port, now) == wanted),
-        _ => polls(alloc, port, row),
+        Row::Pumps(now, wanted) => port.pump(now) == wanted,
+        Row::PumpsOn(times) => pumps_on(port, times),
+        Row::PumpsUntil(now, wanted) => pumps_until(port, now) == wanted,
+        Row::Calls(count) => seen.calls() == count,
+        _ => polls(port, row),
     }
 }
 
-fn offers<P: Port>(
-    rt: &impl Abort,
-    alloc: Global,
-    port: &mut P,
-    digits: &str,
-    wanted: Offered,
-) -> Result<bool, Fail> {
-    let frame = frame_of(rt, alloc, digits)?;
-    Ok(port.offer(&frame) == wanted)
+fn offers<P: Port>(port: &mut P, octets: &'static [u8], wanted: Offered) -> bool {
+    let frame = Bytes::from_static(octets);
+    frame.len() < 65_536 && port.offer(&frame) == wanted
 }
 
-fn takes<P: Port>(
-    rt: &impl Abort,
-    alloc: Global,
-    port: &mut P,
-    times: u16,
-    digits: &str,
-) -> Result<bool, Fail> {
+fn takes<P: Port>(port: &mut P, times: u16, octets: &'static [u8]) -> bool {
     for _ in 0..times {
-        if !offers(rt, alloc, port, digits, Offered::Taken)? {
-            return Ok(false);
+        if !offers(port, octets, Offered::Taken) {
+            return false;
         }
     }
-    Ok(true)
+    true
+}
+
+fn takes_long<P: Port>(alloc: Global, port: &mut P, octets: u16) -> bool {
+    let Ok(octets) = vec![in alloc; 7u8; usize::from(octets)] else {
+        return false;
+    };
+    match Bytes::from_vec(octets) {
+        Ok(frame) => port.offer(&frame) == Offered::Taken,
+        Err(_) => false,
+    }
 }
 
 fn pumps_on<P: Port>(port: &mut P, times: u8) -> bool {
@@ -115,26 +120,48 @@ fn pumps_until<P: Port>(port: &mut P, now: u32) -> u32 {
 }
 
 /// Whether the next poll says what a row tells.
-fn polls<P: Port>(alloc: Global, port: &mut P, row: Row) -> Result<bool, Fail> {
+fn polls<P: Port>(port: &mut P, row: Row) -> bool {
     match (port.poll(), row) {
-        (Polled::Frame(frame), Row::Gives(digits)) => is(alloc, &frame, digits),
-        (Polled::Nothing, Row::Waits) => Ok(true),
-        (Polled::End, Row::Ends) => Ok(true),
-        (Polled::Fault(told), Row::Faults(wanted)) => Ok(told == wanted),
-        _ => Ok(false),
+        (Polled::Frame(frame), Row::Gives(octets)) => frame.as_slice() == octets,
+        (Polled::Nothing, Row::Waits) => true,
+        (Polled::End, Row::Ends) => true,
+        (Polled::Fault(told), Row::Faults(wanted)) => told == wanted,
+        _ => false,
     }
 }
 
-/// Whether a frame has these octets.
-fn is(alloc: Global, frame: &Bytes, digits: &str) -> Result<bool, Fail> {
-    let wanted = hex_read(alloc, digits)?;
-    Ok(frame.as_slice() == wanted.as_slice())
+/// Whether this is told of a port's stream. Want of memory is passed over, since no octet is lost by it.
+fn tells<P: Port>(port: &mut P, told: &[u16]) -> bool {
+    let mut at = 0usize;
+    for _ in 0..2000u16 {
+        match port.poll() {
+            Polled::Frame(frame) => {
+                if !is_told(told, at, frame.as_slice()) {
+                    return false;
+                }
+                at = at.saturating_add(frame.len()).saturating_add(1);
+            }
+            Polled::Nothing | Polled::Fault(8) => {}
+            Polled::End => return is_last(told, at, 256),
+            Polled::Fault(k) => return is_last(told, at, 256 + u16::from(k)),
+        }
+    }
+    false
 }
 
-fn tells<P: Port>(alloc: Global, port: &mut P, wanted: &[u16]) -> Result<bool, Fail> {
-    let mut said = Vec::new(alloc);
-    told_by(port, &mut said)?;
-    Ok(said.as_slice() == wanted)
+/// Whether a frame is told at a place.
+fn is_told(told: &[u16], at: usize, octets: &[u8]) -> bool {
+    for (place, octet) in octets.iter().enumerate() {
+        if told.get(at.saturating_add(place)).copied() != Some(u16::from(*octet)) {
+            return false;
+        }
+    }
+    told.get(at.saturating_add(octets.len())).copied() == Some(300)
+}
+
+/// Whether an ending is told at a place, and nothing behind it.
+fn is_last(told: &[u16], at: usize, ending: u16) -> bool {
+    told.get(at).copied() == Some(ending) && told.len() == at.saturating_add(1)
 }
 
 fn empty_shelf(alloc: Global) -> Shelf
@@ -146,35 +173,30 @@ fn empty_shelf(alloc: Global) -> Shelf
     }
 }
 
-fn shelves<P: Port>(
-    alloc: Global,
-    port: &mut P,
-    sent: &[&str],
-    unsent: &[&str],
-) -> Result<bool, Fail> {
+fn shelves<P: Port>(alloc: Global, port: &mut P, sent: &[&[u8]], unsent: &[&[u8]]) -> bool {
     let mut home = empty_shelf(alloc);
     port.shelve(&mut home);
-    Ok(were_sent(alloc, &home.sent, sent)? && are_unsent(alloc, &home.unsent, unsent)?)
+    were_sent(&home.sent, sent) && are_unsent(&home.unsent, unsent)
 }
 
 /// Whether these frames were sent.
-fn were_sent(alloc: Global, frames: &[Bytes], wanted: &[&str]) -> Result<bool, Fail> {
-    for (place, digits) in wanted.iter().enumerate() {
+fn were_sent(frames: &[Bytes], wanted: &[&[u8]]) -> bool {
+    for (place, octets) in wanted.iter().enumerate() {
         match frames.get(place) {
-            Some(frame) if is(alloc, frame, digits)? => {}
-            _ => return Ok(false),
+            Some(frame) if frame.as_slice() == *octets => {}
+            _ => return false,
         }
     }
-    Ok(frames.len() == wanted.len())
+    frames.len() == wanted.len()
 }
 
 /// Whether these frames wait.
-fn are_unsent(alloc: Global, frames: &VecDeque<Bytes>, wanted: &[&str]) -> Result<bool, Fail> {
-    for (place, digits) in wanted.iter().enumerate() {
+fn are_unsent(frames: &VecDeque<Bytes>, wanted: &[&[u8]]) -> bool {
+    for (place, octets) in wanted.iter().enumerate() {
         match frames.get(place) {
-            Some(frame) if is(alloc, frame, digits)? => {}
-            _ => return Ok(false),
+            Some(frame) if frame.as_slice() == *octets => {}
+            _ => return false,
         }
     }
-    Ok(frames.len() == wanted.len())
+    frames.len() == wanted.len()
 }

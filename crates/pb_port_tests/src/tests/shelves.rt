@@ -1,68 +1,87 @@
 //! What ports keep when they are taken out of use.
 
-use super::rows::{Row, walk};
-use super::told::sink;
+use super::device::Hollow;
+use super::memory_ports::check;
+use super::rows::{Row, held};
 use pb_port::{CapturePort, MemoryPort, Offered, Port, Pumped, SocketPort};
 use std::alloc::{AllocError, Global};
 use std::collections::VecDeque;
-use std::test::Fail;
+
+const BOTH_WAIT: &[Row] = &[
+    Row::Offers(&[0xa], Offered::Taken),
+    Row::Offers(&[0xb], Offered::Taken),
+    Row::Shelves {
+        sent: &[],
+        unsent: &[&[0xa], &[0xb]],
+    },
+    Row::Offers(&[0xa], Offered::Gone),
+];
 
 #[test]
-fn shelves_frames_in_order(rt: HostRuntime) -> Result<(), Fail> {
-    const ROWS: &[Row] = &[
-        Row::Offers("0a", Offered::Taken),
-        Row::Offers("0b", Offered::Taken),
-        Row::Shelves {
-            sent: &[],
-            unsent: &["0a", "0b"],
-        },
-        Row::Offers("0a", Offered::Gone),
-    ];
-    let mut port = MemoryPort::new(rt.alloc(), 2, VecDeque::new(rt.alloc()));
-    walk(&rt, rt.alloc(), &mut port, ROWS)
+fn shelves_frames_in_order(rt: HostRuntime) {
+    check(&rt, rt.alloc(), 2, BOTH_WAIT);
 }
 
+const ONE_WAITS: &[Row] = &[
+    Row::Offers(&[0xa], Offered::Taken),
+    Row::Pumps(0, Pumped::Wrote(1)),
+    Row::Offers(&[0xb], Offered::Taken),
+    Row::Shelves {
+        sent: &[&[0xa]],
+        unsent: &[&[0xb]],
+    },
+];
+
 #[test]
-fn shelves_what_was_sent(rt: HostRuntime) -> Result<(), Fail> {
-    const ROWS: &[Row] = &[
-        Row::Offers("0a", Offered::Taken),
-        Row::Pumps(0, Pumped::Wrote(1)),
-        Row::Offers("0b", Offered::Taken),
-        Row::Shelves {
-            sent: &["0a"],
-            unsent: &["0b"],
-        },
-    ];
-    let mut port = MemoryPort::new(rt.alloc(), 2, VecDeque::new(rt.alloc()));
-    walk(&rt, rt.alloc(), &mut port, ROWS)
+fn shelves_what_was_sent(rt: HostRuntime) {
+    check(&rt, rt.alloc(), 2, ONE_WAITS);
 }
+
+const BOXED: &[Row] = &[
+    Row::Offers(&[1, 2, 3], Offered::Taken),
+    Row::Shelves {
+        sent: &[],
+        unsent: &[&[1, 2, 3]],
+    },
+    Row::Offers(&[1, 2, 3], Offered::Gone),
+    Row::Pumps(0, Pumped::Nothing),
+    Row::Unsent(0),
+];
 
 /// Any port.
 type Any = Box<dyn Port + Send>;
 
-/// A port of each kind, with room for two frames.
-fn kinds(alloc: Global) -> Result<Vec<Any>, AllocError> {
-    let memory: Any = Box::new(alloc, MemoryPort::new(alloc, 2, VecDeque::new(alloc)))?;
-    let capture: Any = Box::new(alloc, CapturePort::new(alloc, 2, sink(alloc), sink(alloc)))?;
-    let socket: Any = Box::new(alloc, SocketPort::new(alloc, 2, sink(alloc)))?;
-    Ok(vec![in alloc; memory, capture, socket]?)
+// A port of each kind, with room for two frames.
+
+fn memory(alloc: Global) -> Result<Any, AllocError> {
+    let port: Any = Box::new(alloc, MemoryPort::new(alloc, 2, VecDeque::new(alloc)))?;
+    Ok(port)
+}
+
+fn capture(alloc: Global) -> Result<Any, AllocError> {
+    let port: Any = Box::new(alloc, CapturePort::new(alloc, 2, Hollow, Hollow))?;
+    Ok(port)
+}
+
+fn socket(alloc: Global) -> Result<Any, AllocError> {
+    let port: Any = Box::new(alloc, SocketPort::new(alloc, 2, Hollow))?;
+    Ok(port)
+}
+
+/// How many rows hold of a port.
+fn held_boxed(alloc: Global, port: Result<Any, AllocError>) -> usize {
+    match port {
+        Ok(port) => held(alloc, port, BOXED),
+        Err(_) => 0,
+    }
 }
 
 #[test]
-fn shelves_boxed_ports(rt: HostRuntime) -> Result<(), Fail> {
-    const ROWS: &[Row] = &[
-        Row::Offers("010203", Offered::Taken),
-        Row::Shelves {
-            sent: &[],
-            unsent: &["010203"],
-        },
-        Row::Offers("010203", Offered::Gone),
-        Row::Pumps(0, Pumped::Nothing),
-        Row::Unsent(0),
-    ];
-    let mut ports = kinds(rt.alloc())?;
-    for port in ports.iter_mut() {
-        walk(&rt, rt.alloc(), port, ROWS)?;
-    }
-    Ok(())
+fn shelves_boxed_ports(rt: HostRuntime) {
+    let alloc = rt.alloc();
+    let memory = held_boxed(alloc, memory(alloc));
+    let capture = held_boxed(alloc, capture(alloc));
+    let socket = held_boxed(alloc, socket(alloc));
+    let all = BOXED.len();
+    assert_eq!(rt; (memory, capture, socket), (all, all, all));
 }

@@ -4,7 +4,7 @@ use super::draft::Draft;
 use super::gates::Open;
 use super::guests::Habit;
 use super::networks::{PAIR, STAR};
-use super::runs::{LONG, Outer, Setup, ran};
+use super::runs::{LONG, Outer, Setup, Way, ran};
 use super::told::Told;
 use pb_frame::Memory;
 use pb_run::{Ended, RunCause};
@@ -36,7 +36,7 @@ fn seen<R: Threads + Wait + Clock + Sync>(
         limits: LONG,
         left: &[],
     };
-    let told = ran(rt, alloc, &setup, &Open)?;
+    let told = ran(rt, alloc, &setup, &Open, Way::Kept)?;
     let is_whole = are_whole(&told, ports);
     Ok((told.cause, told.ended, told.ports, told.polls, is_whole))
 }

@@ -3,7 +3,7 @@
 use super::frames::Frames;
 use super::gates::Open;
 use super::networks::STAR;
-use super::runs::{LONG, Outer, Setup, ran};
+use super::runs::{LONG, Outer, Setup, Way, ran};
 use super::streams::Broken;
 use pb_frame::Memory;
 use pb_run::{Ended, Last};
@@ -33,7 +33,7 @@ fn written<R: Threads + Wait + Clock + Sync>(
         limits: LONG,
         left: &[Frames::First(0), Frames::Least(least), Frames::First(3)],
     };
-    let told = ran(rt, alloc, &setup, &Open)?;
+    let told = ran(rt, alloc, &setup, &Open, Way::Kept)?;
     let port = told.outside[1];
     let unwritten = port.gone.saturating_add(port.kept);
     Ok((told.ended, told.is_left, unwritten, told.writes))
@@ -75,7 +75,7 @@ fn read<R: Threads + Wait + Clock + Sync>(
             Frames::First(entered),
         ],
     };
-    let told = ran(rt, alloc, &setup, &Open)?;
+    let told = ran(rt, alloc, &setup, &Open, Way::Kept)?;
     let port = told.outside[0];
     Ok((told.ended, told.is_left, port.last, port.script, told.reads))
 }

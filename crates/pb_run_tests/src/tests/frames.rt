@@ -9,7 +9,7 @@ use std::collections::VecDeque;
 const BROADCAST: [u8; 14] = [255, 255, 255, 255, 255, 255, 2, 0, 0, 0, 1, 1, 8, 0];
 
 /// Lists of broadcasts, each of which carries its number in four octets.
-#[derive(Clone, Copy, PartialEq, Eq, Debug)]
+#[derive(Clone, Copy)]
 pub(super) enum Frames {
     /// So many, numbered from 0 on.
     First(u32),

@@ -13,7 +13,7 @@ use std::sync::atomic::Ordering;
 
 /// A call of a port, by its number among those of its kind. The first has number 1, and pumps are counted where
 /// something waits.
-#[derive(Clone, Copy, PartialEq, Eq, Debug)]
+#[derive(Clone, Copy, PartialEq)]
 pub(super) enum Call {
     Poll(u64),
     Offer(u64),
@@ -21,7 +21,7 @@ pub(super) enum Call {
 }
 
 /// What a guest does beside giving its script and taking frames.
-#[derive(Clone, Copy, PartialEq, Eq, Debug)]
+#[derive(Clone, Copy, PartialEq)]
 pub(super) enum Habit {
     /// None.
     Plain,

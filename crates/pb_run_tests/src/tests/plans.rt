@@ -92,8 +92,9 @@ fn customers(alloc: Global, draft: &Draft) -> Result<Seq<CustomerPlan>, Memory> 
 /// Red and blue.
 fn services(alloc: Global) -> Result<Seq<ServicePlan>, Memory> {
     let mut services = Vec::new(alloc);
-    services.push(service(alloc, 1, 100)?)?;
-    services.push(service(alloc, 2, 200)?)?;
+    for (place, vid) in [(1, 100), (2, 200)] {
+        services.push(service(alloc, place, vid)?)?;
+    }
     Ok(Seq::from_vec(services))
 }
 

@@ -4,7 +4,7 @@ use super::frames::Frames;
 use super::gates::Open;
 use super::guests::{Call, Habit};
 use super::networks::{LINE, STAR};
-use super::runs::{LONG, Outer, Setup, ran};
+use super::runs::{LONG, Outer, Setup, Way, ran};
 use super::told::Told;
 use pb_frame::Memory;
 use pb_run::{Ended, RunCause};
@@ -32,16 +32,9 @@ fn seen<R: Threads + Wait + Clock + Sync>(
         limits: LONG,
         left,
     };
-    let told = ran(rt, alloc, &setup, &Open)?;
+    let told = ran(rt, alloc, &setup, &Open, Way::Kept)?;
     let script = told.outside[0].script;
-    Ok((told.ended, told.ports, told.is_left, script, is_kept(&told)))
-}
-
-/// Whether each port keeps what left.
-fn is_kept(told: &Told) -> bool {
-    told.outside
-        .iter()
-        .all(|outside| outside.kept == outside.left)
+    Ok((told.ended, told.ports, told.is_left, script, told.is_kept()))
 }
 
 /// Runs with a port that is refused memory at a call end for want of memory. Nothing is lost of so many frames of the first
@@ -133,7 +126,7 @@ fn a_port_that_is_refused_memory_as_it_writes_ends_the_run(rt: HostRuntime) -> R
 /// Whether a run of four bridges in a line, with one broadcast to carry, was refused memory as it may be.
 fn is_named(told: &Told) -> bool {
     let is_whole = told.ports == 4 && told.outside[0].script == Some(1);
-    let is_carried = told.is_left && is_kept(told);
+    let is_carried = told.is_left && told.is_kept();
     match (told.cause, told.ended) {
         (Some(RunCause::Memory | RunCause::Spawn), None) => is_whole,
         (None, Some(Ended::NoMemory)) => is_whole,
@@ -160,7 +153,7 @@ fn a_run_names_what_it_was_refused(rt: HostRuntime) -> Result<(), Fail> {
             Frames::First(1),
         ],
     };
-    let told = ran(&rt, rt.alloc(), &SETUP, &Open)?;
+    let told = ran(&rt, rt.alloc(), &SETUP, &Open, Way::Kept)?;
     assert!(rt; is_named(&told));
     Ok(())
 }

@@ -10,9 +10,8 @@ use super::watch::Watch;
 use pb_frame::Memory;
 use pb_lan::{Limits, Plan, plan_is_sound};
 use pb_port::{MemoryPort, SocketPort};
-use pb_run::{Gate, Held, run, run_kept, run_set};
+use pb_run::{Gate, Held, KeptRun, Ran, RunFault, run, run_kept, run_set};
 use std::alloc::Global;
-use std::sync::atomic::Ordering;
 use std::sync::{Arc, Wait};
 use std::thread::Threads;
 use std::time::Clock;
@@ -64,7 +63,7 @@ fn memory(alloc: Global, count: u32) -> Result<Held, Memory> {
 }
 
 /// A port of the tests' own.
-fn guest(
+fn guest_of(
     alloc: Global,
     count: u32,
     habit: Habit,
@@ -75,14 +74,13 @@ fn guest(
 }
 
 /// The same, in a box.
-fn boxed_guest(
+fn guest(
     alloc: Global,
     count: u32,
     habit: Habit,
     watch: &Arc<Watch, Global>,
 ) -> Result<Held, Memory> {
-    let guest = guest(alloc, count, habit, watch)?;
-    Ok(Box::new(alloc, guest)?)
+    Ok(Box::new(alloc, guest_of(alloc, count, habit, watch)?)?)
 }
 
 /// A socket port over a device that fails, in a box.
@@ -100,7 +98,7 @@ fn socket(
 fn port_of(alloc: Global, outer: Outer, watch: &Arc<Watch, Global>) -> Result<Held, Memory> {
     match outer {
         Outer::Memory(count) => memory(alloc, count),
-        Outer::Guest(count, habit) => boxed_guest(alloc, count, habit, watch),
+        Outer::Guest(count, habit) => guest(alloc, count, habit, watch),
         Outer::Stream(count, broken) => socket(alloc, count, broken, watch),
     }
 }
@@ -118,8 +116,42 @@ fn ports_of(
     Ok(ports)
 }
 
-/// What came of a run of a plan.
-fn told_of<G: Gate, R: Threads + Wait + Clock + Sync>(
+/// How a run takes note of its steps.
+#[derive(Clone, Copy)]
+pub(super) enum Way {
+    /// It keeps them all.
+    Kept,
+    /// It only counts them.
+    Counted,
+    /// It only counts them, and sets ports as its gate wishes.
+    Set,
+}
+
+/// What came of a run that kept its steps. A port that is still to give frames is polled on for that.
+fn told_of_kept(
+    alloc: Global,
+    outcome: Result<KeptRun, RunFault>,
+    left: &[Frames],
+    polls: u64,
+) -> Result<Told, Memory> {
+    let mut told = match outcome {
+        Ok(mut kept) => tell(alloc, &mut kept, left),
+        Err(mut fault) => tell_fault(alloc, &mut fault),
+    }?;
+    told.polls = polls;
+    Ok(told)
+}
+
+/// What came of a run that only counted its steps.
+fn told_of(alloc: Global, outcome: Result<Ran, RunFault>) -> Result<Told, Memory> {
+    match outcome {
+        Ok(ran) => tell_counted(&ran),
+        Err(mut fault) => tell_fault(alloc, &mut fault),
+    }
+}
+
+/// Runs a plan with these ports, and tells what came of it.
+fn ran_with<G: Gate, R: Threads + Wait + Clock + Sync>(
     rt: &R,
     alloc: Global,
     plan: &Plan,
@@ -127,17 +159,20 @@ fn told_of<G: Gate, R: Threads + Wait + Clock + Sync>(
     setup: &Setup,
     gate: &G,
     watch: &Watch,
+    way: Way,
 ) -> Result<Told, Memory> {
     if !plan_is_sound(plan) {
         return Ok(NOTHING);
     }
-    let outcome = run_kept(rt, alloc, plan, ports, gate, setup.limits);
-    let polls = watch.polls.load(Ordering::SeqCst);
-    let told = match outcome {
-        Ok(kept) => tell(alloc, kept, setup.left),
-        Err(mut fault) => tell_fault(alloc, &mut fault),
-    }?;
-    Ok(Told { polls, ..told })
+    let limits = setup.limits;
+    match way {
+        Way::Kept => {
+            let outcome = run_kept(rt, alloc, plan, ports, gate, limits);
+            told_of_kept(alloc, outcome, setup.left, watch.polls())
+        }
+        Way::Counted => told_of(alloc, run(rt, alloc, plan, ports, gate, limits)),
+        Way::Set => told_of(alloc, run_set(rt, alloc, plan, ports, gate, limits)),
+    }
 }
 
 /// Runs what a setup tells while a watch sees it, and tells what came of it. What it tells owns nothing, so that
@@ -148,17 +183,13 @@ pub(super) fn ran_under<G: Gate, R: Threads + Wait + Clock + Sync>(
     setup: &Setup,
     gate: &G,
     watch: &Arc<Watch, Global>,
+    way: Way,
 ) -> Result<Told, Memory> {
     let plan = plan_of(alloc, &setup.draft)?;
     let ports = ports_of(alloc, setup.ports, watch)?;
-    let told = told_of(rt, alloc, &plan, ports, setup, gate, watch)?;
-    Ok(Told {
-        taken: watch.taken.load(Ordering::SeqCst),
-        met: watch.met.load(Ordering::SeqCst),
-        reads: watch.reads.load(Ordering::SeqCst),
-        writes: watch.writes.load(Ordering::SeqCst),
-        ..told
-    })
+    let mut told = ran_with(rt, alloc, &plan, ports, setup, gate, watch, way)?;
+    watch.tell(&mut told);
+    Ok(told)
 }
 
 /// Runs what a setup tells, and tells what came of it.
@@ -167,45 +198,8 @@ pub(super) fn ran<G: Gate, R: Threads + Wait + Clock + Sync>(
     alloc: Global,
     setup: &Setup,
     gate: &G,
+    way: Way,
 ) -> Result<Told, Memory> {
     let watch = Arc::new(alloc, Watch::new())?;
-    ran_under(rt, alloc, setup, gate, &watch)
-}
-
-/// Runs what a setup tells with steps that are only counted, and tells what came of it.
-pub(super) fn ran_counted<G: Gate, R: Threads + Wait + Clock + Sync>(
-    rt: &R,
-    alloc: Global,
-    setup: &Setup,
-    gate: &G,
-) -> Result<Told, Memory> {
-    let watch = Arc::new(alloc, Watch::new())?;
-    let plan = plan_of(alloc, &setup.draft)?;
-    let ports = ports_of(alloc, setup.ports, &watch)?;
-    if !plan_is_sound(&plan) {
-        return Ok(NOTHING);
-    }
-    match run(rt, alloc, &plan, ports, gate, setup.limits) {
-        Ok(ran) => tell_counted(&ran),
-        Err(mut fault) => tell_fault(alloc, &mut fault),
-    }
-}
-
-/// The same, with ports set as the gate wishes.
-pub(super) fn ran_set<G: Gate, R: Threads + Wait + Clock + Sync>(
-    rt: &R,
-    alloc: Global,
-    setup: &Setup,
-    gate: &G,
-) -> Result<Told, Memory> {
-    let watch = Arc::new(alloc, Watch::new())?;
-    let plan = plan_of(alloc, &setup.draft)?;
-    let ports = ports_of(alloc, setup.ports, &watch)?;
-    if !plan_is_sound(&plan) {
-        return Ok(NOTHING);
-    }
-    match run_set(rt, alloc, &plan, ports, gate, setup.limits) {
-        Ok(ran) => tell_counted(&ran),
-        Err(mut fault) => tell_fault(alloc, &mut fault),
-    }
+    ran_under(rt, alloc, setup, gate, &watch, way)
 }

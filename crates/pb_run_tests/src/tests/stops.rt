@@ -4,16 +4,11 @@ use super::draft::Draft;
 use super::frames::Frames;
 use super::gates::{Open, StopAt};
 use super::networks::{LINE, PAIR, STAR};
-use super::runs::{LONG, Outer, Setup, ran};
+use super::runs::{LONG, Outer, Setup, Way, ran};
 use super::told::Told;
 use pb_lan::Limits;
 use pb_run::Ended;
-use std::alloc::Global;
-use std::process::Abort;
-use std::sync::Wait;
 use std::test::Fail;
-use std::thread::Threads;
-use std::time::Clock;
 
 /// Whether no place took more steps than so many.
 fn are_within(told: &Told, most: u64) -> bool {
@@ -23,6 +18,17 @@ fn are_within(told: &Told, most: u64) -> bool {
 /// Whether at most one frame left each port but the first, and none that one.
 fn is_one_at_most(told: &Told) -> bool {
     told.outside[0].left == 0 && told.outside.iter().all(|outside| outside.left <= 1)
+}
+
+/// Whether a run of four bridges in a line ended as one does that is stopped at a turn, and the frame that it had is
+/// not lost.
+fn is_stopped(told: &Told, turns: u64) -> bool {
+    matches!(told.ended, Some(Ended::Drained | Ended::Stopped))
+        && told.ports == 4
+        && are_within(told, turns)
+        && told.outside[0].script == Some(1)
+        && is_one_at_most(told)
+        && told.is_kept()
 }
 
 #[test]
@@ -39,46 +45,23 @@ fn a_gate_stops_a_run_at_any_turn(rt: HostRuntime) -> Result<(), Fail> {
         left: &[Frames::First(0)],
     };
     for turns in 0..201u64 {
-        let told = ran(&rt, rt.alloc(), &SETUP, &StopAt(turns))?;
-        let is_drained = told.ended == Some(Ended::Drained);
-        assert!(rt; is_drained || told.ended == Some(Ended::Stopped), "{turns}");
-        assert!(rt; told.ports == 4 && are_within(&told, turns), "{turns}");
-        assert!(rt;
-            told.outside[0].script == Some(1) && is_one_at_most(&told),
-            "{turns}"
-        );
-        assert!(rt;
-            told.outside
-                .iter()
-                .all(|outside| outside.kept == outside.left),
-            "{turns}"
-        );
+        let told = ran(&rt, rt.alloc(), &SETUP, &StopAt(turns), Way::Kept)?;
+        assert!(rt; is_stopped(&told, turns), "{turns}");
     }
     Ok(())
-}
-
-/// The run comes to its limit, and the frame that it has is not lost. Answers whether its record is drained.
-fn comes_to_its_limit<R: Abort + Threads + Wait + Clock + Sync>(
-    rt: &R,
-    alloc: Global,
-    setup: &Setup,
-    most: u64,
-) -> Result<bool, Fail> {
-    let told = ran(rt, alloc, setup, &Open)?;
-    assert_eq!(rt;
-        (told.ended, told.ports),
-        (Some(Ended::Limit), setup.ports.len())
-    );
-    assert!(rt; told.is_left && are_within(&told, most));
-    assert_eq!(rt; told.outside[0].script, Some(1));
-    Ok(told.is_drained)
 }
 
 /// Three memory ports, of which the first has one broadcast to give.
 const THREE: &[Outer] = &[Outer::Memory(1), Outer::Memory(0), Outer::Memory(0)];
 
-/// Nothing leaves by any of three ports.
-const NOTHING_LEFT: &[Frames] = &[Frames::First(0), Frames::First(0), Frames::First(0)];
+/// Whether a run with three ports came to its limit of steps or turns, and the frame that it had is not lost.
+fn is_limited(told: &Told, most: u64) -> bool {
+    told.ended == Some(Ended::Limit)
+        && told.ports == 3
+        && told.is_left
+        && are_within(told, most)
+        && told.outside[0].script == Some(1)
+}
 
 #[test]
 fn two_steps_a_place_are_too_few(rt: HostRuntime) -> Result<(), Fail> {
@@ -88,7 +71,8 @@ fn two_steps_a_place_are_too_few(rt: HostRuntime) -> Result<(), Fail> {
         limits: LONG,
         left: &[Frames::First(0)],
     };
-    assert!(rt; !comes_to_its_limit(&rt, rt.alloc(), &SETUP, 2)?);
+    let told = ran(&rt, rt.alloc(), &SETUP, &Open, Way::Kept)?;
+    assert!(rt; is_limited(&told, 2) && !told.is_drained);
     Ok(())
 }
 
@@ -103,9 +87,11 @@ fn one_turn_a_worker_is_too_few(rt: HostRuntime) -> Result<(), Fail> {
             tick_ms: 0,
             hold: 0,
         },
-        left: NOTHING_LEFT,
+        left: &[Frames::First(0), Frames::First(0), Frames::First(0)],
     };
-    // (whether the first port came to its turn before another worker ended the run is open)
-    let _is_drained = comes_to_its_limit(&rt, rt.alloc(), &SETUP, 1)?;
+    // (whether the first port came to its turn before another worker ended the run is open, and so whether the record
+    // is drained)
+    let told = ran(&rt, rt.alloc(), &SETUP, &Open, Way::Kept)?;
+    assert!(rt; is_limited(&told, 1));
     Ok(())
 }

@@ -14,7 +14,7 @@ use std::sync::atomic::Ordering;
 const STEP: usize = 5;
 
 /// A call of a device, by its number among those of its kind. The first has number 1.
-#[derive(Clone, Copy, PartialEq, Eq, Debug)]
+#[derive(Clone, Copy, PartialEq)]
 pub(super) enum Broken {
     Read(u64),
     Write(u64),

@@ -89,6 +89,15 @@ pub(super) const NOTHING: Told = Told {
     passed: [(0, 0); 4],
 };
 
+impl Told {
+    /// Whether each port keeps what left.
+    pub(super) fn is_kept(&self) -> bool {
+        self.outside
+            .iter()
+            .all(|outside| outside.kept == outside.left)
+    }
+}
+
 /// Where a place stands among those of four bridges in a line: customer ports, then lanes, then bridges.
 pub(super) fn slot_of(place: Place) -> usize {
     match place {
@@ -262,21 +271,6 @@ fn passed(counts: &Tallies) -> [(u64, u64); 4] {
     passed
 }
 
-/// What came of a run that kept its steps. The wanted frames are given by customer port.
-pub(super) fn tell(alloc: Global, kept: KeptRun, wanted: &[Frames]) -> Result<Told, Memory> {
-    let KeptRun { mut ran, rec } = kept;
-    let mut told = NOTHING;
-    told.ended = Some(ran.ended);
-    told.is_drained = is_drained(&Tallies::of(alloc, &rec)?);
-    told.ports = ran.ports.len();
-    told.settled = ran.settled?;
-    told.passed = passed(&ran.counts);
-    told.is_left = is_left(alloc, &rec, wanted)?;
-    tell_steps(&rec, &mut told);
-    tell_outside(alloc, &mut ran, &rec, &mut told.outside)?;
-    Ok(told)
-}
-
 /// What came of a run that only counted its steps.
 pub(super) fn tell_counted(ran: &Ran) -> Result<Told, Memory> {
     let mut told = NOTHING;
@@ -285,6 +279,21 @@ pub(super) fn tell_counted(ran: &Ran) -> Result<Told, Memory> {
     told.ports = ran.ports.len();
     told.settled = ran.settled?;
     told.passed = passed(&ran.counts);
+    Ok(told)
+}
+
+/// Whether a record is drained.
+fn is_drained_by(alloc: Global, rec: &Record) -> Result<bool, Memory> {
+    Ok(is_drained(&Tallies::of(alloc, rec)?))
+}
+
+/// What came of a run that kept its steps. The wanted frames are given by customer port.
+pub(super) fn tell(alloc: Global, kept: &mut KeptRun, wanted: &[Frames]) -> Result<Told, Memory> {
+    let mut told = tell_counted(&kept.ran)?;
+    told.is_drained = is_drained_by(alloc, &kept.rec)?;
+    told.is_left = is_left(alloc, &kept.rec, wanted)?;
+    tell_steps(&kept.rec, &mut told);
+    tell_outside(alloc, &mut kept.ran, &kept.rec, &mut told.outside)?;
     Ok(told)
 }
 

@@ -1,6 +1,7 @@
 //! What ports of the tests' own are seen to do.
 
 use super::gates::comes_to;
+use super::told::Told;
 use std::sync::atomic::{AtomicU64, Ordering};
 
 /// What the ports of a run are seen to do, all together.
@@ -29,6 +30,19 @@ impl Watch {
             reads: AtomicU64::new(0),
             writes: AtomicU64::new(0),
         }
+    }
+
+    /// How often they were polled.
+    pub(super) fn polls(&self) -> u64 {
+        self.polls.load(Ordering::SeqCst)
+    }
+
+    /// Notes all else that was seen.
+    pub(super) fn tell(&self, told: &mut Told) {
+        told.taken = self.taken.load(Ordering::SeqCst);
+        told.met = self.met.load(Ordering::SeqCst);
+        told.reads = self.reads.load(Ordering::SeqCst);
+        told.writes = self.writes.load(Ordering::SeqCst);
     }
 
     /// Waits for the other one of two, and notes whether it came.

@@ -2,7 +2,7 @@
 
 use super::gates::Parting;
 use super::networks::LINE;
-use super::runs::{LONG, Outer, Setup, ran_counted, ran_set};
+use super::runs::{LONG, Outer, Setup, Way, ran};
 use super::told::Told;
 use pb_run::Ended;
 use std::test::Fail;
@@ -20,27 +20,30 @@ const SETUP: Setup<'static> = Setup {
     left: &[],
 };
 
-/// How a run ended, whether its record has drained, and what entered and left at each port.
-fn short(told: &Told) -> (Option<Ended>, bool, [(u64, u64); 4]) {
-    (told.ended, told.is_drained, told.passed)
+/// How a run ended, whether its record has drained, what entered and left at each port, and how often port 2 of B1 was
+/// shown Forwarding, and how often Discarding behind it.
+type Seen = (Option<Ended>, bool, [(u64, u64); 4], (u64, u64));
+
+fn seen(told: &Told, gate: &Parting) -> Seen {
+    (told.ended, told.is_drained, told.passed, gate.shown())
 }
 
 #[test]
 fn a_port_that_is_set_down_sends_no_frame(rt: HostRuntime) -> Result<(), Fail> {
+    const PARTED: [(u64, u64); 4] = [(3, 0), (0, 0), (0, 0), (0, 0)];
     let gate = Parting::new();
-    let told = ran_set(&rt, rt.alloc(), &SETUP, &gate)?;
-    let parted = [(3, 0), (0, 0), (0, 0), (0, 0)];
-    assert_eq!(rt; short(&told), (Some(Ended::Drained), true, parted));
-    assert_eq!(rt; gate.shown(), (1, 1));
+    let told = ran(&rt, rt.alloc(), &SETUP, &gate, Way::Set)?;
+    let wanted = (Some(Ended::Drained), true, PARTED, (1, 1));
+    assert_eq!(rt; seen(&told, &gate), wanted);
     Ok(())
 }
 
 #[test]
 fn a_run_that_leaves_ports_alone_fulfils_no_wish(rt: HostRuntime) -> Result<(), Fail> {
+    const WHOLE: [(u64, u64); 4] = [(3, 0), (0, 3), (0, 3), (0, 3)];
     let gate = Parting::new();
-    let told = ran_counted(&rt, rt.alloc(), &SETUP, &gate)?;
-    let whole = [(3, 0), (0, 3), (0, 3), (0, 3)];
-    assert_eq!(rt; short(&told), (Some(Ended::Drained), true, whole));
-    assert_eq!(rt; gate.shown(), (2, 0));
+    let told = ran(&rt, rt.alloc(), &SETUP, &gate, Way::Counted)?;
+    let wanted = (Some(Ended::Drained), true, WHOLE, (2, 0));
+    assert_eq!(rt; seen(&told, &gate), wanted);
     Ok(())
 }

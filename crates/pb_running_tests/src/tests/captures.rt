@@ -1,13 +1,11 @@
 //! The example `captures`, as its files have it.
 
-use super::folder::{enter, leave};
+use super::folder::{Contents, enter, leave, make, wrong};
+use super::plans::NO_FRAMES;
 use super::{Row, Told, check};
-use pb_frame::hex_octets;
-use std::alloc::Global;
-use std::fs;
 use std::fs::Files;
-use std::process::Abort;
 use std::test::Fail;
+use std::{fs, io};
 
 /// The plan file.
 const PLAN: &str =
@@ -177,16 +175,13 @@ link ring6 ab taken 0 lost 0 ba taken 5 lost 0
 forest yes
 "#;
 
-/// A capture with no frame, in hexadecimal digits.
-const NONE: &str = "d4c3b2a1020004000000000000000000ffff000001000000";
-
 /// What the provider sent.
-const PROVIDER: &str =
-    "d4c3b2a1020004000000000000000000ffff00000100000000000000000000002a0000002a000000ffffffffffff0200000001010806000108000604000102000000010100000000000000000000c000020100000000000000002b0000002b00000001005e00000102000000010108004500002000000000400200000000000000e00000010000000000000000000000000000000022000000220000000200000003010200000001010800450000140000000040000000c0000201c0000203";
+const PROVIDER: &[u8] =
+    b"\xd4\xc3\xb2\xa1\x02\0\x04\0\0\0\0\0\0\0\0\0\xff\xff\0\0\x01\0\0\0\0\0\0\0\0\0\0\0\x2a\0\0\0\x2a\0\0\0\xff\xff\xff\xff\xff\xff\x02\0\0\0\x01\x01\x08\x06\0\x01\x08\0\x06\x04\0\x01\x02\0\0\0\x01\x01\0\0\0\0\0\0\0\0\0\0\xc0\0\x02\x01\0\0\0\0\0\0\0\0\x2b\0\0\0\x2b\0\0\0\x01\0\x5e\0\0\x01\x02\0\0\0\x01\x01\x08\0\x45\0\0\x20\0\0\0\0\x40\x02\0\0\0\0\0\0\0\xe0\0\0\x01\0\0\0\0\0\0\0\0\0\0\0\0\0\0\0\0\x22\0\0\0\x22\0\0\0\x02\0\0\0\x03\x01\x02\0\0\0\x01\x01\x08\0\x45\0\0\x14\0\0\0\0\x40\0\0\0\xc0\0\x02\x01\xc0\0\x02\x03";
 
 /// What the camera sent.
-const CAMERA: &str =
-    "d4c3b2a1020004000000000000000000ffff0000010000000000000000000000230000002300000002000000050202000000050108004500001500000000401100000a0300010a03000258000000000000000027000000270000000200000005020200000005018100000708004500001500000000401100000a0300010a03000259";
+const CAMERA: &[u8] =
+    b"\xd4\xc3\xb2\xa1\x02\0\x04\0\0\0\0\0\0\0\0\0\xff\xff\0\0\x01\0\0\0\0\0\0\0\0\0\0\0\x23\0\0\0\x23\0\0\0\x02\0\0\0\x05\x02\x02\0\0\0\x05\x01\x08\0\x45\0\0\x15\0\0\0\0\x40\x11\0\0\x0a\x03\0\x01\x0a\x03\0\x02\x58\0\0\0\0\0\0\0\0\x27\0\0\0\x27\0\0\0\x02\0\0\0\x05\x02\x02\0\0\0\x05\x01\x81\0\0\x07\x08\0\x45\0\0\x15\0\0\0\0\x40\x11\0\0\x0a\x03\0\x01\x0a\x03\0\x02\x59";
 
 /// What comes of the run.
 const ROW: Row = Row {
@@ -199,42 +194,36 @@ const ROW: Row = Row {
     report: REPORT,
 };
 
-/// Makes the folders of the example and the captures that go in.
-fn prepare<R: Files>(rt: &R, alloc: Global) -> Result<(), Fail> {
+/// The captures that go in.
+const READ: Contents = &[
+    ("examples/captures/none.pcap", NO_FRAMES),
+    ("examples/captures/provider.pcap", PROVIDER),
+    ("examples/captures/camera.pcap", CAMERA),
+];
+
+/// Captures that are written.
+const WRITTEN: Contents = &[
+    ("out/shop.pcap", PROVIDER),
+    ("out/hotel.pcap", PROVIDER),
+    ("out/desk.pcap", CAMERA),
+    ("out/office.pcap", NO_FRAMES),
+];
+
+/// Makes the folders of the example.
+fn make_folders<R: Files>(rt: &R) -> io::Result<()> {
     for folder in ["examples", "examples/captures", "out"] {
         fs::create_dir(rt, folder)?;
-    }
-    for (file, digits) in [
-        ("examples/captures/none.pcap", NONE),
-        ("examples/captures/provider.pcap", PROVIDER),
-        ("examples/captures/camera.pcap", CAMERA),
-    ] {
-        fs::write(rt, file, hex_octets(alloc, digits.as_bytes())?.as_slice())?;
-    }
-    Ok(())
-}
-
-/// The captures that were written have these octets.
-fn wrote<R: Files + AllocGlobal + Abort>(rt: &R, alloc: Global) -> Result<(), Fail> {
-    for (file, digits) in [
-        ("out/shop.pcap", PROVIDER),
-        ("out/hotel.pcap", PROVIDER),
-        ("out/desk.pcap", CAMERA),
-        ("out/office.pcap", NONE),
-    ] {
-        let octets = fs::read(rt, file)?;
-        let want = hex_octets(alloc, digits.as_bytes())?;
-        assert!(rt; octets.as_slice() == want.as_slice(), "{file}");
     }
     Ok(())
 }
 
 #[test]
 fn the_captures_of_the_example_are_carried(rt: HostRuntime) -> Result<(), Fail> {
-    let folder = enter(&rt, rt.process())?;
-    prepare(&rt, rt.alloc())?;
+    enter(&rt, rt.process())?;
+    make_folders(&rt)?;
+    make(&rt, READ)?;
     check(&rt, rt.alloc(), &ROW)?;
-    wrote(&rt, rt.alloc())?;
-    leave(&rt, folder)?;
+    assert_eq!(rt; wrong(&rt, WRITTEN), "");
+    leave(&rt, rt.process())?;
     Ok(())
 }

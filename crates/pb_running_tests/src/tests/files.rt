@@ -1,18 +1,16 @@
 //! Ports over capture files.
 
-use super::folder::{enter, leave};
+use super::folder::{Contents, enter, has, is_missing, leave, make, wrong};
 use super::plans::{
     CAPTURES, FULL, LINKED, NO_FRAMES, ONE_FRAME, OVER, PATHS, SAME, TICKS, TWICE, UNLISTENED,
     UNMADE,
 };
-use super::{Manner, PLAIN, Row, Told, carry, check, check_under, joined, run, run_under};
-use pb_lan::Place;
-use pb_run::{Gate, Go};
-use pb_running::{NetworkFault, Opening, Strictness, Traffic, Watch};
+use super::sheet::Sheet;
+use super::{Door, Manner, NetworkFault, PLAIN, Row, Told, check, check_under, run, run_past};
+use pb_running::Strictness;
 use std::fs;
+use std::fs::Files;
 use std::os::unix::fs::symlink;
-use std::sync::Arc;
-use std::sync::atomic::{AtomicU64, Ordering};
 use std::test::Fail;
 
 /// What the ports P2 and P1 read, what is told, and what is written at P1.
@@ -22,7 +20,7 @@ struct Captures {
     wrote: &'static [u8],
 }
 
-const CAPTURE_ROWS: [Captures; 3] = [
+const CAPTURE_ROWS: &[Captures] = &[
     Captures {
         read: [ONE_FRAME, NO_FRAMES],
         row: Row {
@@ -66,19 +64,18 @@ const CAPTURE_ROWS: [Captures; 3] = [
 
 #[test]
 fn captures_are_carried_and_their_faults_told(rt: HostRuntime) -> Result<(), Fail> {
-    let folder = enter(&rt, rt.process())?;
-    for captures in &CAPTURE_ROWS {
-        fs::write(&rt, "p2.in", captures.read[0])?;
-        fs::write(&rt, "p1.in", captures.read[1])?;
+    enter(&rt, rt.process())?;
+    for captures in CAPTURE_ROWS {
+        let [first, second] = captures.read;
+        make(&rt, &[("p2.in", first), ("p1.in", second)])?;
         check(&rt, rt.alloc(), &captures.row)?;
-        let wrote = fs::read(&rt, "p1.out")?;
         assert!(rt;
-            wrote.as_slice() == captures.wrote,
+            has(&rt, "p1.out", captures.wrote),
             "{}",
             captures.row.report
         );
     }
-    leave(&rt, folder)?;
+    leave(&rt, rt.process())?;
     Ok(())
 }
 
@@ -93,55 +90,38 @@ const PCAPNG: Row = Row {
     report: "ended stopped\nport P1 entered 0 left 0 filtered 0\nport P2 entered 0 left 0 filtered 0\nport P3 entered 0 left 0 filtered 0\nforest yes\nfault: port P2 1\nfault: port P1 1\n",
 };
 
-#[test]
-fn pcapng_is_told(rt: HostRuntime) -> Result<(), Fail> {
-    let folder = enter(&rt, rt.process())?;
-    fs::write(
-        &rt,
+const PCAPNG_FILES: Contents = &[
+    (
         "p2.in",
         b"\n\r\r\n\x1c\0\0\0\x4d\x3c\x2b\x1a\x01\0\0\0\xff\xff\xff\xff\xff\xff\xff\xff",
-    )?;
-    fs::write(
-        &rt,
+    ),
+    (
         "p1.in",
         b"\r\r\n\n\x1c\0\0\0\x4d\x3c\x2b\x1a\x01\0\0\0\xff\xff\xff\xff\xff\xff\xff\xff",
-    )?;
+    ),
+];
+
+#[test]
+fn pcapng_is_told(rt: HostRuntime) -> Result<(), Fail> {
+    enter(&rt, rt.process())?;
+    make(&rt, PCAPNG_FILES)?;
     let remarks = "port P2: p2.in is pcapng: editcap -F pcap writes what is read here\n";
     check_under(&rt, rt.alloc(), &PCAPNG, Strictness::Lenient, remarks)?;
-    leave(&rt, folder)?;
+    leave(&rt, rt.process())?;
     Ok(())
 }
 
 #[test]
 fn frames_that_are_not_written_are_told(rt: HostRuntime) -> Result<(), Fail> {
-    let alloc = rt.alloc();
-    let folder = enter(&rt, rt.process())?;
-    fs::write(&rt, "full.in", NO_FRAMES)?;
-    let (mut output, mut errors) = (Vec::new(alloc), Vec::new(alloc));
-    let told = run(&rt, alloc, ["", FULL], &mut output, &mut errors)?;
-    assert_eq!(rt; told.result, Ok(0));
-    assert!(rt; errors.as_slice() == b"port C2: 3 frames not written\n".as_slice());
-    let front = b"ended drained\nport C1 entered 3 left 0 filtered 0\n".as_slice();
-    assert!(rt; output.as_slice().starts_with(front));
-    leave(&rt, folder)?;
+    enter(&rt, rt.process())?;
+    make(&rt, &[("full.in", NO_FRAMES)])?;
+    let mut output = Sheet::front(b"ended drained\nport C1 entered 3 left 0 filtered 0\n");
+    let mut errors = Sheet::whole(b"port C2: 3 frames not written\n");
+    let told = run(&rt, rt.alloc(), ["", FULL], PLAIN, &mut output, &mut errors)?;
+    let came = (told.result, output.is_right(), errors.is_right());
+    assert_eq!(rt; came, (Ok(0), true, true));
+    leave(&rt, rt.process())?;
     Ok(())
-}
-
-/// Every worker may go on. It counts the turns of all.
-#[derive(Drop)]
-struct Turns(AtomicU64);
-
-impl Gate for Turns {
-    fn pass(&self, _place: Place, _turn: u64) -> Go {
-        self.0.fetch_add(1, Ordering::SeqCst);
-        Go::Go
-    }
-}
-
-impl Watch for Turns {
-    fn open(&self, _opening: Opening) {}
-
-    fn close(&self) {}
 }
 
 /// The seconds of a capture's first record.
@@ -150,32 +130,34 @@ fn seconds_of(capture: &[u8]) -> u64 {
     u64::from(u32::from_le_bytes([octet(24), octet(25), octet(26), octet(27)]))
 }
 
+/// How many octets a capture has, and the seconds of its first record.
+fn measured<R: Files + AllocGlobal>(rt: &R, name: &str) -> (usize, u64) {
+    match fs::read(rt, name) {
+        Ok(found) => (found.len(), seconds_of(found.as_slice())),
+        Err(_) => (0, 0),
+    }
+}
+
 #[test]
 fn seconds_of_captures_are_those_of_the_workers_turns(rt: HostRuntime) -> Result<(), Fail> {
-    let alloc = rt.alloc();
-    let folder = enter(&rt, rt.process())?;
-    fs::write(&rt, "p2.in", ONE_FRAME)?;
-    fs::write(&rt, "p1.in", NO_FRAMES)?;
-    let file = joined(alloc, [TICKS, CAPTURES])?;
-    let traffic = Arc::new(alloc, Traffic::new(alloc)?)?;
-    let turns = Turns(AtomicU64::new(0));
-    let (mut output, mut errors) = (Vec::new(alloc), Vec::new(alloc));
-    let ran = carry(
+    enter(&rt, rt.process())?;
+    make(&rt, &[("p2.in", ONE_FRAME), ("p1.in", NO_FRAMES)])?;
+    let door = Door::new();
+    let (mut output, mut errors) = (Sheet::front(b""), Sheet::front(b""));
+    let parts = [TICKS, CAPTURES];
+    let told = run_past(
         &rt,
-        alloc,
-        file.as_str(),
+        rt.alloc(),
+        parts,
         PLAIN,
-        &traffic,
-        &turns,
+        &door,
         &mut output,
         &mut errors,
-    );
-    assert_eq!(rt; ran, Ok(0));
-    let wrote = fs::read(&rt, "p1.out")?;
-    let most = turns.0.load(Ordering::SeqCst) / 1_000;
-    assert_eq!(rt; wrote.len(), ONE_FRAME.len());
-    assert!(rt; seconds_of(wrote.as_slice()) <= most);
-    leave(&rt, folder)?;
+    )?;
+    let (length, seconds) = measured(&rt, "p1.out");
+    assert_eq!(rt; (told.result, length), (Ok(0), ONE_FRAME.len()));
+    assert!(rt; seconds <= door.turns() / 1_000);
+    leave(&rt, rt.process())?;
     Ok(())
 }
 
@@ -190,7 +172,7 @@ struct Refused {
 
 /// Where the first of these is run, `paths.in` and `paths.out` hold one frame, `again.in` is another name of `paths.in`, and
 /// `paths.again` leads to `paths.out`.
-const REFUSED: [Refused; 8] = [
+const REFUSED: &[Refused] = &[
     // A socket behind a capture is missing: the capture was emptied before.
     Refused {
         path: "plan.toml",
@@ -249,44 +231,57 @@ const REFUSED: [Refused; 8] = [
     },
 ];
 
+/// The files that stay as they were.
+const KEPT: Contents = &[("paths.in", ONE_FRAME), ("paths.out", ONE_FRAME)];
+
 #[test]
 fn a_run_that_cannot_open_its_files_leaves_them(rt: HostRuntime) -> Result<(), Fail> {
-    let alloc = rt.alloc();
-    let folder = enter(&rt, rt.process())?;
-    fs::write(&rt, "paths.in", ONE_FRAME)?;
-    fs::write(&rt, "paths.out", ONE_FRAME)?;
+    enter(&rt, rt.process())?;
+    make(&rt, KEPT)?;
     fs::hard_link(&rt, "paths.in", "again.in")?;
     symlink(&rt, "paths.out", "paths.again")?;
-    for row in &REFUSED {
-        let (mut output, mut errors) = (Vec::new(alloc), Vec::new(alloc));
+    for row in REFUSED {
+        let (mut output, mut errors) = (Sheet::whole(b""), Sheet::whole(row.told));
         let manner = Manner {
             path: row.path,
             ..PLAIN
         };
-        let told = run_under(&rt, alloc, ["", row.plan], manner, &mut output, &mut errors)?;
-        assert_eq!(rt; told.result, Err(NetworkFault::Path));
-        assert!(rt; output.is_empty());
-        assert!(rt; errors.as_slice() == row.told, "{}", row.plan);
-        for file in ["paths.in", "paths.out"] {
-            let octets = fs::read(&rt, file)?;
-            assert!(rt; octets.as_slice() == ONE_FRAME, "{file} {}", row.plan);
-        }
-        assert!(rt; !fs::exists(&rt, row.missing)?, "{}", row.plan);
+        let told = run(
+            &rt,
+            rt.alloc(),
+            ["", row.plan],
+            manner,
+            &mut output,
+            &mut errors,
+        )?;
+        let came = (told.result, output.is_right(), errors.is_right());
+        assert_eq!(rt; came, (Err(NetworkFault::Path), true, true), "{}", row.plan);
+        let kept = (wrong(&rt, KEPT), is_missing(&rt, row.missing));
+        assert_eq!(rt; kept, ("", true), "{}", row.plan);
     }
-    leave(&rt, folder)?;
+    leave(&rt, rt.process())?;
     Ok(())
 }
 
 #[test]
 fn files_to_read_are_opened_before_any_is_made(rt: HostRuntime) -> Result<(), Fail> {
-    let alloc = rt.alloc();
-    let folder = enter(&rt, rt.process())?;
-    let (mut output, mut errors) = (Vec::new(alloc), Vec::new(alloc));
-    let told = run(&rt, alloc, ["", PATHS], &mut output, &mut errors)?;
-    assert_eq!(rt; told.result, Err(NetworkFault::Path));
-    let want = b"port P3: read paths.in: No such file or directory (os error 2)\n".as_slice();
-    assert!(rt; output.is_empty() && errors.as_slice() == want);
-    assert!(rt; !fs::exists(&rt, "paths.out")? && !fs::exists(&rt, "paths.last")?);
-    leave(&rt, folder)?;
+    enter(&rt, rt.process())?;
+    let mut output = Sheet::whole(b"");
+    let mut errors = Sheet::whole(
+        b"port P3: read paths.in: No such file or directory (os error 2)\n",
+    );
+    let told = run(
+        &rt,
+        rt.alloc(),
+        ["", PATHS],
+        PLAIN,
+        &mut output,
+        &mut errors,
+    )?;
+    let came = (told.result, output.is_right(), errors.is_right());
+    assert_eq!(rt; came, (Err(NetworkFault::Path), true, true));
+    let are_missing = (is_missing(&rt, "paths.out"), is_missing(&rt, "paths.last"));
+    assert_eq!(rt; are_missing, (true, true));
+    leave(&rt, rt.process())?;
     Ok(())
 }

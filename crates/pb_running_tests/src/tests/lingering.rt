@@ -2,26 +2,27 @@
 
 use super::folder::{enter, leave};
 use super::plans::BUSY;
-use super::{Door, Manner, PLAIN, carry};
-use pb_running::{NetworkFault, Traffic};
+use super::sheet::Sheet;
+use super::{Door, Manner, NetworkFault, PLAIN, Told, carry};
 use std::alloc::{AllocError, Global};
 use std::fs::{File, Files};
-use std::io::{Read, Write};
+use std::io::{ErrorKind, Read};
 use std::net::{Net, Shutdown};
 use std::os::unix::net::{UnixListener, UnixStream};
-use std::process::Abort;
-use std::sync::atomic::{AtomicU64, Ordering};
-use std::sync::{Arc, Wait};
+use std::sync::Wait;
 use std::test::Fail;
 use std::thread::Threads;
 use std::time::{Clock, Duration};
-use std::{io, thread};
+use std::{fs, io, thread};
 
 /// How many frames go to the port, more than a socket holds.
 const FRAMES: usize = 200;
 
 /// How many octets each of them has.
 const LENGTH: usize = 1_900;
+
+/// How many octets are to come.
+const ALL: usize = FRAMES * (LENGTH + 2);
 
 /// A plan with a port that sends so many frames.
 fn busy_plan(alloc: Global) -> Result<String, AllocError> {
@@ -38,114 +39,108 @@ fn busy_plan(alloc: Global) -> Result<String, AllocError> {
     Ok(file)
 }
 
-/// Lets the port in and says that no frame comes. Takes nothing until the run is over, and then all that comes; answers how
-/// many octets came.
-fn take_late<R: Clock>(
-    rt: &R,
-    alloc: Global,
-    listener: &UnixListener,
-    door: &Door,
-) -> io::Result<usize> {
-    let (mut stream, _) = listener.accept()?;
-    stream.shutdown(Shutdown::Write)?;
+/// Waits until the run is over, for a minute at most.
+fn wait<R: Clock>(rt: &R, door: &Door) {
     for _ in 0..60_000u32 {
-        if door.closed.load(Ordering::SeqCst) > 0 {
-            break;
+        if door.closed() > 0 {
+            return;
         }
         thread::sleep(rt, Duration::from_millis(1));
     }
+}
+
+/// How many octets come.
+fn count(alloc: Global, stream: &mut UnixStream) -> io::Result<usize> {
     let mut heard = Vec::new(alloc);
     stream.read_to_end(&mut heard)?;
     Ok(heard.len())
 }
 
-/// What came of a run with such a peer: what it told, how many octets came, and what stands on the error writer.
+/// Lets the port in and says that no frame comes. Takes nothing until the run is over, and then all that comes; answers how
+/// many octets came.
+fn take_late<R: Clock>(
+    rt: &R,
+    alloc: Global,
+    listener: UnixListener,
+    door: &Door,
+) -> io::Result<usize> {
+    let (stream, _) = listener.accept()?;
+    let mut stream = stream;
+    stream.shutdown(Shutdown::Write)?;
+    wait(rt, door);
+    count(alloc, &mut stream)
+}
+
+/// The same, with the kind of an error.
+fn taken<R: Clock>(
+    rt: &R,
+    alloc: Global,
+    listener: UnixListener,
+    door: &Door,
+) -> Result<usize, ErrorKind> {
+    match take_late(rt, alloc, listener, door) {
+        Ok(count) => Ok(count),
+        Err(error) => Err(error.kind()),
+    }
+}
+
+/// What came of a run with such a peer: what it told, how many octets came, and whether nothing stands on the error
+/// writer, or that frames were not written.
+#[derive(Clone, Copy)]
 struct Came {
-    result: Result<u8, NetworkFault>,
-    heard: io::Result<usize>,
-    errors: Vec<u8>,
+    told: Result<Told, AllocError>,
+    heard: Result<usize, ErrorKind>,
+    is_quiet: bool,
+    is_remark: bool,
+}
+
+/// Whether this is a line that tells of frames that were not written.
+fn is_remark(errors: &[u8]) -> bool {
+    errors.starts_with(b"port P2: ") && errors.ends_with(b" frames not written\n")
 }
 
 /// Runs the busy plan, whose ports may write for so many milliseconds once it is over.
-fn come_of<R>(rt: &R, alloc: Global, file: &str, linger: u32) -> Result<Came, Fail>
+fn come_of<R>(rt: &R, alloc: Global, file: &str, linger: u32, listener: UnixListener) -> Came
 where
     R: Files<File = File> + Net + Threads + Wait + Clock + Sync,
 {
-    let _ = std::fs::remove_file(rt, "peer.sock");
-    let listener = UnixListener::bind(rt, "peer.sock")?;
-    let traffic = Arc::new(alloc, Traffic::new(alloc)?)?;
-    let door = Door {
-        closed: AtomicU64::new(0),
-    };
+    let door = Door::new();
     let manner = Manner { linger, ..PLAIN };
-    let (mut output, mut errors) = (Vec::new(alloc), Vec::new(alloc));
+    let (mut output, mut errors) = (Sheet::front(b""), Vec::new(alloc));
     let network = || {
-        let told = carry(
-            rt,
-            alloc,
-            file,
-            manner,
-            &traffic,
-            &door,
-            &mut output,
-            &mut errors,
-        );
+        let told = carry(rt, alloc, file, manner, &door, &mut output, &mut errors);
         // The peer waits no longer, where the network has not connected.
         let _ = UnixStream::connect(rt, "peer.sock");
         told
     };
-    let (heard, result) = thread::join(rt, || take_late(rt, alloc, &listener, &door), network);
-    Ok(Came {
-        result,
+    let (heard, told) = thread::join(rt, || taken(rt, alloc, listener, &door), network);
+    Came {
+        told,
         heard,
-        errors,
-    })
-}
-
-/// A peer that is slower than the network gets all frames in the time that it has.
-fn all_come<R>(rt: &R, alloc: Global, file: &str) -> Result<(), Fail>
-where
-    R: Files<File = File> + Net + Threads + Wait + Clock + Sync + Abort,
-{
-    let Came {
-        result,
-        heard,
-        errors,
-    } = come_of(rt, alloc, file, 60_000)?;
-    assert_eq!(rt; result, Ok(0));
-    assert!(rt; errors.is_empty());
-    assert_eq!(rt; heard?, FRAMES * (LENGTH + 2));
-    Ok(())
-}
-
-/// Without time it doesn't, and what is missing is told.
-fn some_are_told<R>(rt: &R, alloc: Global, file: &str) -> Result<(), Fail>
-where
-    R: Files<File = File> + Net + Threads + Wait + Clock + Sync + Abort,
-{
-    let Came {
-        result,
-        heard,
-        errors,
-    } = come_of(rt, alloc, file, 0)?;
-    assert_eq!(rt; result, Ok(0));
-    assert!(rt; errors.as_slice().starts_with(b"port P2: ".as_slice()));
-    assert!(rt;
-        errors
-            .as_slice()
-            .ends_with(b" frames not written\n".as_slice())
-    );
-    assert!(rt; heard? < FRAMES * (LENGTH + 2));
-    Ok(())
+        is_quiet: errors.is_empty(),
+        is_remark: is_remark(errors.as_slice()),
+    }
 }
 
 #[test]
 fn ports_have_a_while_to_write(rt: HostRuntime) -> Result<(), Fail> {
     let alloc = rt.alloc();
-    let folder = enter(&rt, rt.process())?;
+    enter(&rt, rt.process())?;
+    let slow = UnixListener::bind(&rt, "peer.sock")?;
     let file = busy_plan(alloc)?;
-    all_come(&rt, alloc, file.as_str())?;
-    some_are_told(&rt, alloc, file.as_str())?;
-    leave(&rt, folder)?;
+    // A peer that is slower than the network gets all frames in the time that it has.
+    let all = come_of(&rt, alloc, file.as_str(), 60_000, slow);
+    fs::remove_file(&rt, "peer.sock")?;
+    let late = UnixListener::bind(&rt, "peer.sock")?;
+    // Without time it doesn't, and what is missing is told.
+    let some = come_of(&rt, alloc, file.as_str(), 0, late);
+    drop(file);
+    assert_eq!(rt;
+        (all.told?.result, all.is_quiet, all.heard),
+        (Ok(0), true, Ok(ALL))
+    );
+    assert_eq!(rt; (some.told?.result, some.is_remark), (Ok(0), true));
+    assert!(rt; matches!(some.heard, Ok(count) if count < ALL));
+    leave(&rt, rt.process())?;
     Ok(())
 }

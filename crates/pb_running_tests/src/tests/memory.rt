@@ -2,6 +2,7 @@
 
 ghost use Rattle.std.specs.Prelude.{◌≡◌, []};
 
+use super::sheet::Sheet;
 use pb_frame::{Memory, Seq};
 use pb_lan::{Plan, Spanning, plan_is_sound};
 use pb_run::{Ended, Ran};
@@ -42,7 +43,7 @@ fn want_of_memory_is_told_last(rt: HostRuntime) {
         ended: Ended::NoMemory,
         settled: Err(Memory),
     };
-    let mut output = Vec::new(alloc);
-    assert_eq!(rt; write_report(alloc, &plan, &ran, &mut output), Ok(3));
-    assert!(rt; output.as_slice() == b"ended memory\nforest yes\nfault: memory\n".as_slice());
+    let mut output = Sheet::whole(b"ended memory\nforest yes\nfault: memory\n");
+    let status = write_report(alloc, &plan, &ran, &mut output);
+    assert_eq!(rt; (status, output.is_right()), (Ok(3), true));
 }

@@ -9,7 +9,6 @@ use pb_service::{PortSpec, Stamp};
 use std::alloc::{AllocError, Global};
 use std::io;
 use std::io::{Error, ErrorKind};
-use std::process::Abort;
 use std::test::Fail;
 
 /// Remembers what is done. One path can't be opened, and one can't be emptied.
@@ -97,74 +96,114 @@ enum Kind {
     Listener(&'static str),
 }
 
+/// A text of the plan.
+fn text(alloc: Global, text: &str) -> Result<Text, AllocError> {
+    Ok(Text::from_string(String::from_str(alloc, text)?))
+}
+
+fn capture(alloc: Global, read: &str, write: &str) -> Result<PortSpec, AllocError> {
+    let read = text(alloc, read)?;
+    Ok(PortSpec::Capture {
+        read,
+        write: text(alloc, write)?,
+        stamp: Stamp::Ticks,
+    })
+}
+
+fn socket(alloc: Global, path: &str, listens: bool) -> Result<PortSpec, AllocError> {
+    let path = text(alloc, path)?;
+    Ok(PortSpec::Socket { path, listens })
+}
+
+/// A port of a row.
+fn spec_of(alloc: Global, kind: Kind) -> Result<PortSpec, AllocError> {
+    match kind {
+        Kind::Memory => Ok(PortSpec::Memory(Seq::from_vec(Vec::<Bytes>::new(alloc)))),
+        Kind::Capture(read, write) => capture(alloc, read, write),
+        Kind::Socket(path) => socket(alloc, path, false),
+        Kind::Listener(path) => socket(alloc, path, true),
+    }
+}
+
 /// The ports of a row.
 fn specs_of(alloc: Global, kinds: &[Kind]) -> Result<Vec<PortSpec>, AllocError> {
-    let text = |path: &str| String::from_str(alloc, path);
     let mut specs = Vec::new(alloc);
     for kind in kinds {
-        specs.push(match *kind {
-            Kind::Memory => PortSpec::Memory(Seq::from_vec(Vec::<Bytes>::new(alloc))),
-            Kind::Capture(read, write) => PortSpec::Capture {
-                read: Text::from_string(text(read)?),
-                write: Text::from_string(text(write)?),
-                stamp: Stamp::Ticks,
-            },
-            Kind::Socket(path) => PortSpec::Socket {
-                path: Text::from_string(text(path)?),
-                listens: false,
-            },
-            Kind::Listener(path) => PortSpec::Socket {
-                path: Text::from_string(text(path)?),
-                listens: true,
-            },
-        })?;
+        specs.push(spec_of(alloc, *kind)?)?;
     }
     Ok(specs)
 }
 
-/// A line for each thing that was done, and one for what came of it.
-fn told(
-    alloc: Global,
-    desk: &Desk,
-    outcome: &Result<Vec<Opened<(), (), ()>>, OpenFault>,
-) -> Result<String, AllocError> {
-    let mut out = String::new(alloc);
-    for deed in &desk.deeds {
-        match deed {
-            Deed::Read(path) => writeln!(out, "read {}", path.as_str())?,
-            Deed::Connect(path) => writeln!(out, "connect {}", path.as_str())?,
-            Deed::Listen(path) => writeln!(out, "listen {}", path.as_str())?,
-            Deed::Write(path) => writeln!(out, "write {}", path.as_str())?,
-            Deed::Empty(path) => writeln!(out, "empty {}", path.as_str())?,
-        }
-    }
-    match outcome {
-        Ok(ports) => writeln!(out, "ok {}", ports.len())?,
-        Err(OpenFault::Unopened(f)) => {
-            writeln!(out, "unopened {} {}", f.place, f.path.as_str())?;
-        }
-        Err(OpenFault::Unemptied(f)) => {
-            writeln!(out, "unemptied {} {}", f.place, f.path.as_str())?;
-        }
-        Err(OpenFault::Shared(f)) => {
-            write!(out, "{} by {}, also ", f.path.as_str(), f.place)?;
-            match f.other {
-                FileUser::Plan => writeln!(out, "the plan")?,
-                FileUser::Reader(place) => writeln!(out, "read by {place}")?,
-                FileUser::Writer(place) => writeln!(out, "written by {place}")?,
-            }
-        }
-        Err(OpenFault::Memory) => writeln!(out, "memory")?,
-    }
-    Ok(out)
+/// Something that is done, by its path.
+#[derive(Clone, Copy)]
+enum Done {
+    Read(&'static str),
+    Connect(&'static str),
+    Listen(&'static str),
+    Write(&'static str),
+    Empty(&'static str),
 }
 
-/// Ports of a plan that was read at `plan`, what can't be opened and what can't be emptied, what is done, and how many outputs are given up.
+/// What comes of it in the end. A port goes by its place in the plan, from 0.
+#[derive(Clone, Copy)]
+enum End {
+    /// So many ports are open.
+    Open(usize),
+    /// A port's path can't be opened.
+    Unopened(usize, &'static str),
+    /// A port's output can't be emptied.
+    Unemptied(usize, &'static str),
+    /// A path that a port would write has another user.
+    Shared(&'static str, usize, FileUser),
+}
+
+/// Whether this was done.
+fn is_done(deed: &Deed, done: Done) -> bool {
+    match (deed, done) {
+        (Deed::Read(path), Done::Read(wanted)) => path.as_str() == wanted,
+        (Deed::Connect(path), Done::Connect(wanted)) => path.as_str() == wanted,
+        (Deed::Listen(path), Done::Listen(wanted)) => path.as_str() == wanted,
+        (Deed::Write(path), Done::Write(wanted)) => path.as_str() == wanted,
+        (Deed::Empty(path), Done::Empty(wanted)) => path.as_str() == wanted,
+        _ => false,
+    }
+}
+
+/// How many deeds are those that were to be done, before the first that is not.
+fn deeds_done(deeds: &[Deed], done: &[Done]) -> usize {
+    for (place, deed) in deeds.iter().enumerate() {
+        match done.get(place) {
+            Some(done) if is_done(deed, *done) => {}
+            _ => return place,
+        }
+    }
+    deeds.len()
+}
+
+/// Whether this came of it.
+fn is_end(outcome: &Result<Vec<Opened<(), (), ()>>, OpenFault>, end: End) -> bool {
+    match (outcome, end) {
+        (Ok(ports), End::Open(count)) => ports.len() == count,
+        (Err(OpenFault::Unopened(fault)), End::Unopened(place, path)) => {
+            fault.place == place && fault.path.as_str() == path
+        }
+        (Err(OpenFault::Unemptied(fault)), End::Unemptied(place, path)) => {
+            fault.place == place && fault.path.as_str() == path
+        }
+        (Err(OpenFault::Shared(file)), End::Shared(path, place, other)) => {
+            file.place == place && file.path.as_str() == path && file.other == other
+        }
+        _ => false,
+    }
+}
+
+/// Ports of a plan that was read at `plan`, what can't be opened and what can't be emptied, what is done, what comes of it, and how many outputs are given up.
 struct Row {
     kinds: &'static [Kind],
     missing: &'static str,
     stuck: &'static str,
-    told: &'static str,
+    done: &'static [Done],
+    end: End,
     forgotten: usize,
 }
 
@@ -175,12 +214,21 @@ const TWO: &[Kind] = &[
     Kind::Capture("b.in", "b.out"),
 ];
 
-const ROWS: [Row; 13] = [
+const ROWS: &[Row] = &[
     Row {
         kinds: TWO,
         missing: "",
         stuck: "",
-        told: "read a.in\nconnect s\nread b.in\nwrite a.out\nwrite b.out\nempty a.out\nempty b.out\nok 4\n",
+        done: &[
+            Done::Read("a.in"),
+            Done::Connect("s"),
+            Done::Read("b.in"),
+            Done::Write("a.out"),
+            Done::Write("b.out"),
+            Done::Empty("a.out"),
+            Done::Empty("b.out"),
+        ],
+        end: End::Open(4),
         forgotten: 0,
     },
     // The socket behind a capture is missing: its output was emptied before.
@@ -188,14 +236,16 @@ const ROWS: [Row; 13] = [
         kinds: TWO,
         missing: "s",
         stuck: "",
-        told: "read a.in\nunopened 2 s\n",
+        done: &[Done::Read("a.in")],
+        end: End::Unopened(2, "s"),
         forgotten: 0,
     },
     Row {
         kinds: TWO,
         missing: "b.in",
         stuck: "",
-        told: "read a.in\nconnect s\nunopened 3 b.in\n",
+        done: &[Done::Read("a.in"), Done::Connect("s")],
+        end: End::Unopened(3, "b.in"),
         forgotten: 0,
     },
     // The last output can't be made: the first was emptied before.
@@ -203,14 +253,28 @@ const ROWS: [Row; 13] = [
         kinds: TWO,
         missing: "b.out",
         stuck: "",
-        told: "read a.in\nconnect s\nread b.in\nwrite a.out\nunopened 3 b.out\n",
+        done: &[
+            Done::Read("a.in"),
+            Done::Connect("s"),
+            Done::Read("b.in"),
+            Done::Write("a.out"),
+        ],
+        end: End::Unopened(3, "b.out"),
         forgotten: 1,
     },
     Row {
         kinds: TWO,
         missing: "",
         stuck: "b.out",
-        told: "read a.in\nconnect s\nread b.in\nwrite a.out\nwrite b.out\nempty a.out\nunemptied 3 b.out\n",
+        done: &[
+            Done::Read("a.in"),
+            Done::Connect("s"),
+            Done::Read("b.in"),
+            Done::Write("a.out"),
+            Done::Write("b.out"),
+            Done::Empty("a.out"),
+        ],
+        end: End::Unemptied(3, "b.out"),
         forgotten: 0,
     },
     // One path is read and written: the input was emptied before.
@@ -218,7 +282,8 @@ const ROWS: [Row; 13] = [
         kinds: &[Kind::Memory, Kind::Capture("a", "a")],
         missing: "",
         stuck: "",
-        told: "a by 1, also read by 1\n",
+        done: &[],
+        end: End::Shared("a", 1, FileUser::Reader(1)),
         forgotten: 0,
     },
     // Two ports write one path: each took half of the file before.
@@ -226,7 +291,8 @@ const ROWS: [Row; 13] = [
         kinds: &[Kind::Capture("a", "c"), Kind::Capture("b", "c")],
         missing: "",
         stuck: "",
-        told: "c by 1, also written by 0\n",
+        done: &[],
+        end: End::Shared("c", 1, FileUser::Writer(0)),
         forgotten: 0,
     },
     // The later port reads what the earlier one writes.
@@ -234,7 +300,8 @@ const ROWS: [Row; 13] = [
         kinds: &[Kind::Capture("a", "c"), Kind::Capture("c", "d")],
         missing: "",
         stuck: "",
-        told: "c by 0, also read by 1\n",
+        done: &[],
+        end: End::Shared("c", 0, FileUser::Reader(1)),
         forgotten: 0,
     },
     // A file may be read twice.
@@ -242,7 +309,15 @@ const ROWS: [Row; 13] = [
         kinds: &[Kind::Capture("a", "c"), Kind::Capture("a", "d")],
         missing: "",
         stuck: "",
-        told: "read a\nread a\nwrite c\nwrite d\nempty c\nempty d\nok 2\n",
+        done: &[
+            Done::Read("a"),
+            Done::Read("a"),
+            Done::Write("c"),
+            Done::Write("d"),
+            Done::Empty("c"),
+            Done::Empty("d"),
+        ],
+        end: End::Open(2),
         forgotten: 0,
     },
     // A port writes the plan: it was emptied before.
@@ -250,7 +325,8 @@ const ROWS: [Row; 13] = [
         kinds: &[Kind::Memory, Kind::Capture("a", "plan")],
         missing: "",
         stuck: "",
-        told: "plan by 1, also the plan\n",
+        done: &[],
+        end: End::Shared("plan", 1, FileUser::Plan),
         forgotten: 0,
     },
     // The plan may be read.
@@ -258,7 +334,8 @@ const ROWS: [Row; 13] = [
         kinds: &[Kind::Capture("plan", "c")],
         missing: "",
         stuck: "",
-        told: "read plan\nwrite c\nempty c\nok 1\n",
+        done: &[Done::Read("plan"), Done::Write("c"), Done::Empty("c")],
+        end: End::Open(1),
         forgotten: 0,
     },
     // A socket is made where others are connected to.
@@ -270,7 +347,14 @@ const ROWS: [Row; 13] = [
         ],
         missing: "",
         stuck: "",
-        told: "connect s\nlisten l\nread a\nwrite c\nempty c\nok 3\n",
+        done: &[
+            Done::Connect("s"),
+            Done::Listen("l"),
+            Done::Read("a"),
+            Done::Write("c"),
+            Done::Empty("c"),
+        ],
+        end: End::Open(3),
         forgotten: 0,
     },
     Row {
@@ -281,13 +365,16 @@ const ROWS: [Row; 13] = [
         ],
         missing: "l",
         stuck: "",
-        told: "connect s\nunopened 1 l\n",
+        done: &[Done::Connect("s")],
+        end: End::Unopened(1, "l"),
         forgotten: 0,
     },
 ];
 
-/// What is done for a row is what it says.
-fn check(rt: &impl Abort, alloc: Global, row: &Row) -> Result<(), Fail> {
+/// What is seen of a row: how many of its deeds were done, how many were done at all, whether the end is the row's, and how many
+/// outputs were given up.
+fn seen(alloc: Global, row: &Row) -> Result<(usize, usize, bool, usize), AllocError> {
+    let specs = specs_of(alloc, row.kinds)?;
     let mut desk = Desk {
         alloc,
         deeds: Vec::new(alloc),
@@ -295,18 +382,21 @@ fn check(rt: &impl Abort, alloc: Global, row: &Row) -> Result<(), Fail> {
         stuck: row.stuck,
         forgotten: 0,
     };
-    let specs = specs_of(alloc, row.kinds)?;
     let outcome = open_all(alloc, &mut desk, "plan", specs);
-    let told = told(alloc, &desk, &outcome)?;
-    assert_eq!(rt; told.as_str(), row.told);
-    assert_eq!(rt; desk.forgotten, row.forgotten, "{}", row.told);
-    Ok(())
+    let done = deeds_done(&desk.deeds, row.done);
+    Ok((
+        done,
+        desk.deeds.len(),
+        is_end(&outcome, row.end),
+        desk.forgotten,
+    ))
 }
 
 #[test]
 fn inputs_are_opened_first_and_outputs_emptied_last(rt: HostRuntime) -> Result<(), Fail> {
-    for row in &ROWS {
-        check(&rt, rt.alloc(), row)?;
+    for (place, row) in ROWS.iter().enumerate() {
+        let wanted = (row.done.len(), row.done.len(), true, row.forgotten);
+        assert_eq!(rt; seen(rt.alloc(), row)?, wanted, "row {place}");
     }
     Ok(())
 }

@@ -1,8 +1,9 @@
 //! A port over a socket, with a peer behind it.
 
-use super::folder::{enter, leave};
+use super::folder::{enter, has, is_missing, leave, make};
 use super::plans::{LISTENER, SOCKET};
-use super::{NetworkFault, Told, run};
+use super::sheet::Sheet;
+use super::{NetworkFault, PLAIN, Told, run};
 use std::alloc::Global;
 use std::fs::Files;
 use std::io::{ErrorKind, Read, Write};
@@ -22,38 +23,80 @@ const WANTED: &[u8] = b"\0\x10\xff\xff\xff\xff\xff\xff\x02\0\0\0\x01\x01\x08\0AB
 const REPORT: &[u8] =
     b"ended drained\nport C1 entered 1 left 1 filtered 0\nport P2 entered 1 left 1 filtered 0\nforest yes\n";
 
-/// Sends a frame to the first that connects, and that no more come. Answers all that comes back.
-fn converse(alloc: Global, listener: &UnixListener) -> io::Result<Vec<u8>> {
-    let (mut stream, _) = listener.accept()?;
+/// What the network tells.
+const TOLD: Told = Told {
+    result: Ok(0),
+    traffic: (2, 2),
+    closed: 1,
+};
+
+/// What a peer heard.
+#[derive(Clone, Copy, PartialEq, Eq, Debug)]
+enum Heard {
+    /// Nothing.
+    Nothing,
+    /// The frame, and nothing else.
+    Wanted,
+    /// Something else.
+    Other,
+}
+
+/// Sends a frame, and that no more come.
+fn send(stream: &mut UnixStream) -> io::Result<()> {
     stream.write_all(SENT)?;
-    stream.shutdown(Shutdown::Write)?;
+    stream.shutdown(Shutdown::Write)
+}
+
+/// All that comes back.
+fn hear(alloc: Global, stream: &mut UnixStream) -> io::Result<Heard> {
     let mut heard = Vec::new(alloc);
     stream.read_to_end(&mut heard)?;
-    Ok(heard)
+    Ok(if heard.is_empty() {
+        Heard::Nothing
+    } else if heard.as_slice() == WANTED {
+        Heard::Wanted
+    } else {
+        Heard::Other
+    })
+}
+
+/// Sends a frame, and that no more come. Answers all that comes back.
+fn talk(alloc: Global, stream: &mut UnixStream) -> io::Result<Heard> {
+    send(stream)?;
+    hear(alloc, stream)
+}
+
+/// Talks with the first that connects.
+fn converse(alloc: Global, listener: UnixListener) -> io::Result<Heard> {
+    let (stream, _) = listener.accept()?;
+    let mut stream = stream;
+    talk(alloc, &mut stream)
+}
+
+/// The kind of an error.
+fn kind_of(heard: io::Result<Heard>) -> Result<Heard, ErrorKind> {
+    match heard {
+        Ok(heard) => Ok(heard),
+        Err(error) => Err(error.kind()),
+    }
 }
 
 #[test]
 fn frames_pass_a_socket_both_ways(rt: HostRuntime) -> Result<(), Fail> {
     let alloc = rt.alloc();
-    let folder = enter(&rt, rt.process())?;
+    enter(&rt, rt.process())?;
     let listener = UnixListener::bind(&rt, "peer.sock")?;
-    let (mut output, mut errors) = (Vec::new(alloc), Vec::new(alloc));
+    let (mut output, mut errors) = (Sheet::whole(REPORT), Sheet::whole(b""));
     let network = || {
-        let told = run(&rt, alloc, ["", SOCKET], &mut output, &mut errors);
+        let told = run(&rt, alloc, ["", SOCKET], PLAIN, &mut output, &mut errors);
         // The peer waits no longer, where the network has not connected.
         let _ = UnixStream::connect(&rt, "peer.sock");
         told
     };
-    let (heard, told) = thread::join(&rt, || converse(alloc, &listener), network);
-    let want = Told {
-        result: Ok(0),
-        traffic: (2, 2),
-        closed: 1,
-    };
-    assert_eq!(rt; told?, want);
-    assert!(rt; heard?.as_slice() == WANTED);
-    assert!(rt; output.as_slice() == REPORT && errors.is_empty());
-    leave(&rt, folder)?;
+    let (heard, told) = thread::join(&rt, || kind_of(converse(alloc, listener)), network);
+    assert_eq!(rt; (told?, heard), (TOLD, Ok(Heard::Wanted)));
+    assert_eq!(rt; (output.is_right(), errors.is_right()), (true, true));
+    leave(&rt, rt.process())?;
     Ok(())
 }
 
@@ -65,63 +108,62 @@ fn is_made(rt: &impl Files, path: &str) -> bool {
     }
 }
 
-/// Connects to the port, sends a frame, and that no more come. Answers all that comes back.
-fn call_on<R: Files + Net>(rt: &R, alloc: Global) -> io::Result<Vec<u8>> {
+/// Connects to the port, and talks with it.
+fn call_on<R: Files + Net>(rt: &R, alloc: Global) -> io::Result<Heard> {
     if !is_made(rt, "peer.sock") {
         return Err(io::Error::from(ErrorKind::NotFound));
     }
     let mut stream = UnixStream::connect(rt, "peer.sock")?;
-    stream.write_all(SENT)?;
-    stream.shutdown(Shutdown::Write)?;
-    let mut heard = Vec::new(alloc);
-    stream.read_to_end(&mut heard)?;
-    Ok(heard)
+    talk(alloc, &mut stream)
 }
 
 /// The same, again and again until the port is there and hangs up no more.
-fn call<R: Files + Net + Clock>(rt: &R, alloc: Global) -> io::Result<Vec<u8>> {
+fn call<R: Files + Net + Clock>(rt: &R, alloc: Global) -> Result<Heard, ErrorKind> {
     for _ in 0..5_000u32 {
-        match call_on(rt, alloc) {
-            Ok(heard) if !heard.is_empty() => return Ok(heard),
-            _ => thread::sleep(rt, Duration::from_millis(1)),
+        match kind_of(call_on(rt, alloc)) {
+            Ok(Heard::Nothing) | Err(_) => thread::sleep(rt, Duration::from_millis(1)),
+            heard => return heard,
         }
     }
-    Err(io::Error::from(ErrorKind::TimedOut))
+    Err(ErrorKind::TimedOut)
 }
 
 #[test]
 fn a_port_waits_for_its_peer(rt: HostRuntime) -> Result<(), Fail> {
     let alloc = rt.alloc();
-    let folder = enter(&rt, rt.process())?;
+    enter(&rt, rt.process())?;
     // Nobody listens on this one any more.
     drop(UnixListener::bind(&rt, "peer.sock")?);
-    let (mut output, mut errors) = (Vec::new(alloc), Vec::new(alloc));
-    let network = || run(&rt, alloc, ["", LISTENER], &mut output, &mut errors);
+    let (mut output, mut errors) = (Sheet::whole(REPORT), Sheet::whole(b""));
+    let parts = ["", LISTENER];
+    let network = || run(&rt, alloc, parts, PLAIN, &mut output, &mut errors);
     let (heard, told) = thread::join(&rt, || call(&rt, alloc), network);
-    let want = Told {
-        result: Ok(0),
-        traffic: (2, 2),
-        closed: 1,
-    };
-    assert_eq!(rt; told?, want);
-    assert!(rt; heard?.as_slice() == WANTED);
-    assert!(rt; output.as_slice() == REPORT && errors.is_empty());
-    assert!(rt; !fs::exists(&rt, "peer.sock")?);
-    leave(&rt, folder)?;
+    assert_eq!(rt; (told?, heard), (TOLD, Ok(Heard::Wanted)));
+    let is_gone = is_missing(&rt, "peer.sock");
+    assert_eq!(rt;
+        (output.is_right(), errors.is_right(), is_gone),
+        (true, true, true)
+    );
+    leave(&rt, rt.process())?;
     Ok(())
 }
 
 #[test]
 fn another_file_is_no_socket_of_ours(rt: HostRuntime) -> Result<(), Fail> {
-    let alloc = rt.alloc();
-    let folder = enter(&rt, rt.process())?;
-    fs::write(&rt, "peer.sock", b"kept")?;
-    let (mut output, mut errors) = (Vec::new(alloc), Vec::new(alloc));
-    let told = run(&rt, alloc, ["", LISTENER], &mut output, &mut errors)?;
+    enter(&rt, rt.process())?;
+    make(&rt, &[("peer.sock", b"kept")])?;
+    let (mut output, mut errors) = (
+        Sheet::whole(b""),
+        Sheet::front(b"port P2: listen peer.sock: "),
+    );
+    let parts = ["", LISTENER];
+    let told = run(&rt, rt.alloc(), parts, PLAIN, &mut output, &mut errors)?;
     assert_eq!(rt; told.result, Err(NetworkFault::Path));
-    let line = b"port P2: listen peer.sock: ".as_slice();
-    assert!(rt; output.is_empty() && errors.as_slice().starts_with(line));
-    assert!(rt; fs::read(&rt, "peer.sock")?.as_slice() == b"kept".as_slice());
-    leave(&rt, folder)?;
+    let is_kept = has(&rt, "peer.sock", b"kept");
+    assert_eq!(rt;
+        (output.is_right(), errors.is_right(), is_kept),
+        (true, true, true)
+    );
+    leave(&rt, rt.process())?;
     Ok(())
 }

@@ -1,17 +1,25 @@
 //! Captures that come through pipes.
 
-use super::folder::{enter, leave};
+use super::folder::{enter, has, leave, make};
 use super::plans::{CAPTURES, NO_FRAMES, ONE_FRAME};
-use super::{Told, run};
+use super::sheet::Sheet;
+use super::{PLAIN, Told, run};
 use std::alloc::{AllocError, Global};
-use std::io::{PipeWriter, Write};
+use std::io::{ErrorKind, PipeWriter, Write};
 use std::os::fd::AsRawFd;
 use std::test::Fail;
 use std::time::{Clock, Duration};
-use std::{fs, io, thread};
+use std::{io, thread};
 
 const REPORT: &[u8] =
     b"ended drained\nport P1 entered 0 left 1 filtered 0\nport P2 entered 1 left 0 filtered 0\nport P3 entered 0 left 1 filtered 0\nforest yes\n";
+
+/// What the network tells.
+const TOLD: Told = Told {
+    result: Ok(0),
+    traffic: (1, 2),
+    closed: 1,
+};
 
 /// A plan whose first port reads what is open under a number.
 fn plan_of(alloc: Global, number: i32) -> Result<String, AllocError> {
@@ -19,9 +27,8 @@ fn plan_of(alloc: Global, number: i32) -> Result<String, AllocError> {
     format!(in alloc; "{front}/proc/self/fd/{number}{back}")
 }
 
-/// Writes a capture after a while, in two parts, and hangs up.
-fn write_late(rt: &impl Clock, writer: PipeWriter) -> io::Result<()> {
-    let mut writer = writer;
+/// Writes a capture after a while, in two parts.
+fn write_late(rt: &impl Clock, writer: &mut PipeWriter) -> io::Result<()> {
     for part in [&ONE_FRAME[..30], &ONE_FRAME[30..]] {
         thread::sleep(rt, Duration::from_millis(20));
         writer.write_all(part)?;
@@ -29,25 +36,34 @@ fn write_late(rt: &impl Clock, writer: PipeWriter) -> io::Result<()> {
     Ok(())
 }
 
+/// The same, and hangs up. Answers the kind of an error.
+fn feed(rt: &impl Clock, writer: PipeWriter) -> Result<(), ErrorKind> {
+    let mut writer = writer;
+    match write_late(rt, &mut writer) {
+        Ok(()) => Ok(()),
+        Err(error) => Err(error.kind()),
+    }
+}
+
 #[test]
 fn a_pipe_is_read_as_it_comes(rt: HostRuntime) -> Result<(), Fail> {
     let alloc = rt.alloc();
-    let folder = enter(&rt, rt.process())?;
-    fs::write(&rt, "p1.in", NO_FRAMES)?;
+    enter(&rt, rt.process())?;
+    make(&rt, &[("p1.in", NO_FRAMES)])?;
     let (reader, writer) = io::pipe(&rt)?;
     let plan = plan_of(alloc, reader.as_raw_fd())?;
-    let (mut output, mut errors) = (Vec::new(alloc), Vec::new(alloc));
-    let network = || run(&rt, alloc, ["", plan.as_str()], &mut output, &mut errors);
-    let (wrote, told) = thread::join(&rt, || write_late(&rt, writer), network);
-    wrote?;
-    let want = Told {
-        result: Ok(0),
-        traffic: (1, 2),
-        closed: 1,
-    };
-    assert_eq!(rt; told?, want);
-    assert!(rt; output.as_slice() == REPORT && errors.is_empty());
-    assert!(rt; fs::read(&rt, "p1.out")?.as_slice() == ONE_FRAME);
-    leave(&rt, folder)?;
+    let (mut output, mut errors) = (Sheet::whole(REPORT), Sheet::whole(b""));
+    let parts = ["", plan.as_str()];
+    let network = || run(&rt, alloc, parts, PLAIN, &mut output, &mut errors);
+    let (fed, told) = thread::join(&rt, || feed(&rt, writer), network);
+    drop(plan);
+    drop(reader);
+    assert_eq!(rt; (fed, told?), (Ok(()), TOLD));
+    let wrote = has(&rt, "p1.out", ONE_FRAME);
+    assert_eq!(rt;
+        (output.is_right(), errors.is_right(), wrote),
+        (true, true, true)
+    );
+    leave(&rt, rt.process())?;
     Ok(())
 }

@@ -1,10 +1,12 @@
 //! The time of day in captures.
 
-use super::folder::{enter, leave};
+use super::folder::{enter, leave, make};
 use super::plans::{CAPTURES, NO_FRAMES, ONE_FRAME};
-use super::run;
+use super::sheet::Sheet;
+use super::{PLAIN, run};
 use std::alloc::{AllocError, Global};
 use std::fs;
+use std::fs::Files;
 use std::test::Fail;
 use std::time::Clock;
 
@@ -27,23 +29,33 @@ fn number_at(octets: &[u8], place: usize) -> u64 {
     ]))
 }
 
+/// What a capture of one frame tells: the seconds and the millionths of its record, and whether the rest is the frame.
+fn stamp_of<R: Files + AllocGlobal>(rt: &R, name: &str) -> (u64, u64, bool) {
+    match fs::read(rt, name) {
+        Ok(wrote) => (
+            number_at(&wrote, 24),
+            number_at(&wrote, 28),
+            wrote.len() == ONE_FRAME.len() && wrote.as_slice().ends_with(&ONE_FRAME[32..]),
+        ),
+        Err(_) => (0, 0, false),
+    }
+}
+
 #[test]
 fn records_tell_the_time_of_day(rt: HostRuntime) -> Result<(), Fail> {
-    let alloc = rt.alloc();
-    let folder = enter(&rt, rt.process())?;
-    fs::write(&rt, "p2.in", ONE_FRAME)?;
-    fs::write(&rt, "p1.in", NO_FRAMES)?;
-    let plan = timed_plan(alloc)?;
-    let (mut output, mut errors) = (Vec::new(alloc), Vec::new(alloc));
+    enter(&rt, rt.process())?;
+    make(&rt, &[("p2.in", ONE_FRAME), ("p1.in", NO_FRAMES)])?;
     let before = rt.since_1970()?.as_secs();
-    let told = run(&rt, alloc, [CLOCK, plan.as_str()], &mut output, &mut errors)?;
+    let plan = timed_plan(rt.alloc())?;
+    let (mut output, mut errors) = (Sheet::front(b""), Sheet::front(b""));
+    let parts = [CLOCK, plan.as_str()];
+    let told = run(&rt, rt.alloc(), parts, PLAIN, &mut output, &mut errors);
+    drop(plan);
     let after = rt.since_1970()?.as_secs();
-    assert_eq!(rt; told.result, Ok(0));
-    let wrote = fs::read(&rt, "p1.out")?;
-    let (seconds, micros) = (number_at(&wrote, 24), number_at(&wrote, 28));
-    assert!(rt; before <= seconds && seconds <= after);
-    assert!(rt; micros < 1_000_000);
-    assert!(rt; wrote.len() == ONE_FRAME.len() && wrote.as_slice().ends_with(&ONE_FRAME[32..]));
-    leave(&rt, folder)?;
+    let (seconds, micros, is_frame) = stamp_of(&rt, "p1.out");
+    assert_eq!(rt; (told?.result, is_frame), (Ok(0), true));
+    let are_right = (before <= seconds, seconds <= after, micros < 1_000_000);
+    assert_eq!(rt; are_right, (true, true, true), "{seconds} {micros}");
+    leave(&rt, rt.process())?;
     Ok(())
 }

@@ -1,154 +1,110 @@
 //! What the words behind `draw` ask for.
 
-use pb_words::{DrawOrder, Order, PictureFormat, order_of};
-use std::alloc::{AllocError, Global};
-use std::process::Abort;
+use super::asked::all_ask;
+use super::wanted::{Picture, Row, WRONG, Wanted};
+use pb_words::PictureFormat;
 use std::test::Fail;
 
-/// A picture of a plan file: which service stands out, which ports go down, the form, and the most ticks.
-#[derive(Clone, Copy)]
-struct Picture(
-    &'static str,
-    Option<&'static str>,
-    &'static [&'static str],
-    PictureFormat,
-    u32,
-);
-
-/// The words behind `draw`, and what they ask for. None: they are wrong.
-type Row = (&'static [&'static str], Option<Picture>);
-
-const SVG: PictureFormat = PictureFormat::Svg;
-
-const DOT: PictureFormat = PictureFormat::Dot;
-
-/// Words as they stand on a command line.
-fn words_of(alloc: Global, texts: &[&str]) -> Result<Vec<String>, AllocError> {
-    let mut words = Vec::new(alloc);
-    for text in texts {
-        words.push(String::from_str(alloc, text)?)?;
-    }
-    Ok(words)
-}
-
-/// The service that is wanted.
-fn service_wanted(alloc: Global, service: Option<&str>) -> Result<Option<String>, AllocError> {
-    match service {
-        Some(name) => Ok(Some(String::from_str(alloc, name)?)),
-        None => Ok(None),
-    }
-}
-
-/// The order that is wanted.
-fn order_wanted(alloc: Global, picture: Picture) -> Result<Order, AllocError> {
-    let Picture(path, service, downs, format, ticks) = picture;
-    let service = service_wanted(alloc, service)?;
-    let downs = words_of(alloc, downs)?;
-    Ok(Order::Draw(DrawOrder {
-        path: String::from_str(alloc, path)?,
-        service,
-        downs,
-        format,
-        ticks,
-        output: None,
-    }))
-}
-
-/// All words of the command line.
-fn line_of(alloc: Global, words: &[&str]) -> Result<Vec<String>, AllocError> {
-    let mut line = words_of(alloc, &["pbnet", "draw"])?;
-    for word in words {
-        line.push(String::from_str(alloc, word)?)?;
-    }
-    Ok(line)
-}
-
-/// Words ask for what stands beside them.
-fn asks(
-    rt: &impl Abort,
-    alloc: Global,
-    words: &[&str],
-    picture: Option<Picture>,
-) -> Result<(), Fail> {
-    let line = line_of(alloc, words)?;
-    match (order_of(alloc, line.as_slice()), picture) {
-        (Ok(told), Some(picture)) => {
-            let wanted = order_wanted(alloc, picture)?;
-            assert_eq!(rt; told, Some(wanted), "{words:?}");
-        }
-        (Err(e), None) => assert!(rt; e.use_stderr(), "{words:?}"),
-        _ => panic!(rt; "{words:?}"),
-    }
-    Ok(())
-}
+/// A picture of the file `a`, on standard output.
+const PICTURE: Picture = Picture {
+    path: "a",
+    service: None,
+    downs: &[],
+    format: PictureFormat::Svg,
+    ticks: 200,
+    output: None,
+};
 
 #[test]
 fn draws_one_file(rt: HostRuntime) -> Result<(), Fail> {
     const ROWS: &[Row] = &[
-        (&["a"], Some(Picture("a", None, &[], SVG, 200))),
+        (&["draw", "a"], Wanted::Draw(PICTURE)),
         (
-            &["a", "--service", "red"],
-            Some(Picture("a", Some("red"), &[], SVG, 200)),
+            &["draw", "a", "--service", "red"],
+            Wanted::Draw(Picture {
+                service: Some("red"),
+                ..PICTURE
+            }),
         ),
         (
-            &["--format", "dot", "a"],
-            Some(Picture("a", None, &[], DOT, 200)),
+            &["draw", "--format", "dot", "a"],
+            Wanted::Draw(Picture {
+                format: PictureFormat::Dot,
+                ..PICTURE
+            }),
+        ),
+        (&["draw", "a", "--format=svg"], Wanted::Draw(PICTURE)),
+        (
+            &["draw", "--down", "B1:1", "a", "--down", "B2:16"],
+            Wanted::Draw(Picture {
+                downs: &["B1:1", "B2:16"],
+                ..PICTURE
+            }),
         ),
         (
-            &["a", "--format=svg"],
-            Some(Picture("a", None, &[], SVG, 200)),
+            &["draw", "a", "--ticks", "0"],
+            Wanted::Draw(Picture {
+                ticks: 0,
+                ..PICTURE
+            }),
         ),
         (
-            &["--down", "B1:1", "a", "--down", "B2:16"],
-            Some(Picture("a", None, &["B1:1", "B2:16"], SVG, 200)),
+            &["draw", "a", "--ticks=100000"],
+            Wanted::Draw(Picture {
+                ticks: 100_000,
+                ..PICTURE
+            }),
         ),
         (
-            &["a", "--ticks", "0"],
-            Some(Picture("a", None, &[], SVG, 0)),
+            &["draw", "--", "--format"],
+            Wanted::Draw(Picture {
+                path: "--format",
+                ..PICTURE
+            }),
         ),
-        (
-            &["a", "--ticks=100000"],
-            Some(Picture("a", None, &[], SVG, 100_000)),
-        ),
-        (
-            &["--", "--format"],
-            Some(Picture("--format", None, &[], SVG, 200)),
-        ),
-        (&[], None),
-        (&["a", "b"], None),
-        (&["a", "--format", "png"], None),
-        (&["a", "--format"], None),
-        (&["a", "--service"], None),
-        (&["a", "--ticks", "100001"], None),
-        (&["a", "--pairs"], None),
+        (&["draw"], WRONG),
+        (&["draw", "a", "b"], WRONG),
+        (&["draw", "a", "--format", "png"], WRONG),
+        (&["draw", "a", "--format"], WRONG),
+        (&["draw", "a", "--service"], WRONG),
+        (&["draw", "a", "--ticks", "100001"], WRONG),
+        (&["draw", "a", "--pairs"], WRONG),
     ];
-    for (words, picture) in ROWS {
-        asks(&rt, rt.alloc(), words, *picture)?;
-    }
-    Ok(())
+    all_ask(&rt, rt.alloc(), ROWS)
 }
-
-/// The words behind `draw`, and where the picture is to be written. None: on standard output.
-type OutputRow = (&'static [&'static str], Option<&'static str>);
 
 #[test]
 fn draws_to_a_file(rt: HostRuntime) -> Result<(), Fail> {
-    const ROWS: &[OutputRow] = &[
-        (&["a"], None),
-        (&["a", "-o", "b.svg"], Some("b.svg")),
-        (&["-ob.svg", "a"], Some("b.svg")),
-        (&["a", "--output", "b.svg"], Some("b.svg")),
-        (&["a", "--output=-"], Some("-")),
+    const ROWS: &[Row] = &[
+        (&["draw", "a"], Wanted::Draw(PICTURE)),
+        (
+            &["draw", "a", "-o", "b.svg"],
+            Wanted::Draw(Picture {
+                output: Some("b.svg"),
+                ..PICTURE
+            }),
+        ),
+        (
+            &["draw", "-ob.svg", "a"],
+            Wanted::Draw(Picture {
+                output: Some("b.svg"),
+                ..PICTURE
+            }),
+        ),
+        (
+            &["draw", "a", "--output", "b.svg"],
+            Wanted::Draw(Picture {
+                output: Some("b.svg"),
+                ..PICTURE
+            }),
+        ),
+        (
+            &["draw", "a", "--output=-"],
+            Wanted::Draw(Picture {
+                output: Some("-"),
+                ..PICTURE
+            }),
+        ),
     ];
-    for (words, wanted) in ROWS {
-        let line = line_of(rt.alloc(), words)?;
-        match order_of(rt.alloc(), line.as_slice()) {
-            Ok(Some(Order::Draw(order))) => {
-                let output = service_wanted(rt.alloc(), *wanted)?;
-                assert!(&rt; order.output == output, "{words:?}");
-            }
-            _ => panic!(&rt; "{words:?}"),
-        }
-    }
-    Ok(())
+    all_ask(&rt, rt.alloc(), ROWS)
 }

@@ -1,47 +1,15 @@
 //! In which form reports are asked for, and what else was added to the words behind `run`.
 
-use pb_words::{Order, ReportFormat, order_of};
-use std::alloc::{AllocError, Global};
-use std::process::Abort;
+use super::asked::all_ask;
+use super::wanted::{RUN, Row, Run, WRONG, Wanted};
+use pb_words::ReportFormat;
 use std::test::Fail;
 
-/// The words behind the program's name, and the form that they ask for. None: they are wrong.
-type Row = (&'static [&'static str], Option<ReportFormat>);
+const TEXT: Wanted = Wanted::Form(ReportFormat::Text);
 
-/// The words behind `run`, and whether bridges settle first, and for how many milliseconds is lingered. None: they are wrong.
-type RunRow = (&'static [&'static str], Option<(bool, u32)>);
+const JSON: Wanted = Wanted::Form(ReportFormat::Json);
 
-const TEXT: Option<ReportFormat> = Some(ReportFormat::Text);
-
-const JSON: Option<ReportFormat> = Some(ReportFormat::Json);
-
-const CSV: Option<ReportFormat> = Some(ReportFormat::Csv);
-
-/// The order that words ask for. None: they are wrong.
-fn read(alloc: Global, words: &[&str]) -> Result<Option<Order>, AllocError> {
-    let mut line = Vec::new(alloc);
-    line.push(String::from_str(alloc, "pbnet")?)?;
-    for word in words {
-        line.push(String::from_str(alloc, word)?)?;
-    }
-    match order_of(alloc, line.as_slice()) {
-        Ok(order) => Ok(order),
-        Err(_) => Ok(None),
-    }
-}
-
-/// The form of the report that is asked for, where there is one.
-fn format_of(order: &Order) -> Option<ReportFormat> {
-    match order {
-        Order::Check(order) => Some(order.format),
-        Order::Step(order) => Some(order.format),
-        Order::Run(order) => Some(order.format),
-        Order::Tree(order) => Some(order.format),
-        Order::Trace(order) => Some(order.format),
-        Order::Survive(order) => Some(order.format),
-        Order::Flat(_) | Order::Show | Order::Init(_) | Order::Draw(_) => None,
-    }
-}
+const CSV: Wanted = Wanted::Form(ReportFormat::Csv);
 
 #[test]
 fn reports_have_forms(rt: HostRuntime) -> Result<(), Fail> {
@@ -49,64 +17,55 @@ fn reports_have_forms(rt: HostRuntime) -> Result<(), Fail> {
         (&["check", "a"], TEXT),
         (&["check", "--format", "text", "a"], TEXT),
         (&["check", "a", "--format=json"], JSON),
-        (&["check", "a", "--format=csv"], None),
-        (&["check", "a", "--format=JSON"], None),
-        (&["check", "a", "--format"], None),
+        (&["check", "a", "--format=csv"], WRONG),
+        (&["check", "a", "--format=JSON"], WRONG),
+        (&["check", "a", "--format"], WRONG),
         (&["step", "a", "--format=json"], JSON),
         (&["step", "a", "--format=csv"], CSV),
         (&["run", "a"], TEXT),
         (&["run", "a", "--format=json"], JSON),
         (&["run", "--format", "csv", "a"], CSV),
         (&["tree", "a", "--format=json"], JSON),
-        (&["tree", "a", "--format=csv"], None),
+        (&["tree", "a", "--format=csv"], WRONG),
         (&["trace", "a", "C1", "ff", "--format=json"], JSON),
-        (&["trace", "a", "C1", "ff", "--format=csv"], None),
+        (&["trace", "a", "C1", "ff", "--format=csv"], WRONG),
         (&["survive", "a", "--format=json"], JSON),
         (&["survive", "a", "--format=csv"], CSV),
-        (&["survive", "a", "--format=svg"], None),
-        (&["flat", "3", "--format=json"], None),
-        (&["show", "--format=json"], None),
+        (&["survive", "a", "--format=svg"], WRONG),
+        (&["flat", "3", "--format=json"], WRONG),
+        (&["show", "--format=json"], WRONG),
     ];
-    for (words, wanted) in ROWS {
-        let format = match read(rt.alloc(), words)? {
-            Some(order) => format_of(&order),
-            None => None,
-        };
-        assert_eq!(&rt; format, *wanted, "{words:?}");
-    }
-    Ok(())
-}
-
-/// What is told here of a run.
-fn beside(order: &Order) -> Option<(bool, u32)> {
-    match order {
-        Order::Run(order) => Some((order.settles, order.linger)),
-        _ => None,
-    }
+    all_ask(&rt, rt.alloc(), ROWS)
 }
 
 #[test]
 fn runs_settle_and_linger(rt: HostRuntime) -> Result<(), Fail> {
-    const ROWS: &[RunRow] = &[
-        (&["run", "a"], Some((false, 100))),
-        (&["run", "--settle", "a"], Some((true, 100))),
-        (&["run", "a", "--linger", "0"], Some((false, 0))),
+    const ROWS: &[Row] = &[
+        (&["run", "a"], Wanted::Run(RUN)),
+        (
+            &["run", "--settle", "a"],
+            Wanted::Run(Run {
+                settles: true,
+                ..RUN
+            }),
+        ),
+        (
+            &["run", "a", "--linger", "0"],
+            Wanted::Run(Run { linger: 0, ..RUN }),
+        ),
         (
             &["run", "a", "--linger=60000", "--settle"],
-            Some((true, 60_000)),
+            Wanted::Run(Run {
+                settles: true,
+                linger: 60_000,
+                ..RUN
+            }),
         ),
-        (&["run", "a", "--linger=60001"], None),
-        (&["run", "a", "--linger=-1"], None),
-        (&["run", "a", "--linger"], None),
-        (&["run", "a", "--settle=1"], None),
-        (&["tree", "a", "--linger=1"], None),
+        (&["run", "a", "--linger=60001"], WRONG),
+        (&["run", "a", "--linger=-1"], WRONG),
+        (&["run", "a", "--linger"], WRONG),
+        (&["run", "a", "--settle=1"], WRONG),
+        (&["tree", "a", "--linger=1"], WRONG),
     ];
-    for (words, wanted) in ROWS {
-        let told = match read(rt.alloc(), words)? {
-            Some(order) => beside(&order),
-            None => None,
-        };
-        assert_eq!(&rt; told, *wanted, "{words:?}");
-    }
-    Ok(())
+    all_ask(&rt, rt.alloc(), ROWS)
 }

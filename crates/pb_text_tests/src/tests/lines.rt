@@ -4,7 +4,6 @@ use pb_lines::{Found, LineFault, LineReader};
 use std::alloc::Global;
 use std::io;
 use std::io::{Error, ErrorKind, Read};
-use std::process::Abort;
 use std::test::Fail;
 
 /// Gives a few octets a call, and an error at one of its calls.
@@ -31,86 +30,110 @@ impl Read for Slow<'_> {
     }
 }
 
+/// A line, and how it was found.
+type Line = (&'static [u8], Found);
+
+/// Whether these lines are read one by one, of which so many octets and one more are kept.
+fn reads(
+    alloc: Global,
+    reader: &mut Slow<'_>,
+    limit: u8,
+    wanted: &[Line],
+) -> Result<bool, LineFault> {
+    let mut lines = LineReader::new(alloc, usize::from(limit))?;
+    for line in wanted {
+        if !gives(&mut lines, reader, *line)? {
+            return Ok(false);
+        }
+    }
+    Ok(true)
+}
+
+fn gives(
+    lines: &mut LineReader,
+    reader: &mut Slow<'_>,
+    (line, found): Line,
+) -> Result<bool, LineFault> {
+    Ok(lines.next(reader)? == found && lines.line() == line)
+}
+
 const TEXT: &[u8] = b"one\n\nlonger\r\nlast";
 
-const LINES: [(&[u8], Found); 4] = [
+const LINES: &[Line] = &[
     (b"one", Found::Line),
     (b"", Found::Line),
     (b"longer\r", Found::Line),
     (b"last", Found::Last),
 ];
 
-/// Reads all lines of `TEXT`, compares each, and tells how the reading ended.
-fn reads_text(rt: &impl Abort, alloc: Global, reader: &mut Slow<'_>) -> Result<(), LineFault> {
-    let mut lines = LineReader::new(alloc, 7)?;
-    for (want, found) in LINES {
-        assert_eq!(rt; lines.next(reader)?, found);
-        assert!(rt; lines.line() == want);
-    }
-    Ok(())
+/// Whether all lines of `TEXT` are read in pieces of so many octets, where one call fails so.
+fn reads_text(
+    alloc: Global,
+    most: usize,
+    fails_at: u64,
+    kind: ErrorKind,
+) -> Result<bool, LineFault> {
+    let mut reader = Slow {
+        rest: TEXT,
+        most,
+        calls: 0,
+        fails_at,
+        kind,
+    };
+    reads(alloc, &mut reader, 7, LINES)
 }
 
 #[test]
-fn gives_each_line_in_any_pieces(rt: HostRuntime) -> Result<(), Fail> {
+fn gives_each_line_in_any_pieces(rt: HostRuntime) {
     for most in 1..20usize {
         for fails_at in 0..25u64 {
-            let mut reader = Slow {
-                rest: TEXT,
-                most,
-                calls: 0,
-                fails_at,
-                kind: ErrorKind::Interrupted,
-            };
-            assert_eq!(rt; reads_text(&rt, rt.alloc(), &mut reader), Ok(()));
+            let told = reads_text(rt.alloc(), most, fails_at, ErrorKind::Interrupted);
+            assert!(rt; told == Ok(true), "{most} {fails_at}");
         }
     }
-    Ok(())
+}
+
+/// What comes of reading `TEXT` in pieces of so many octets, where one call fails.
+fn told_of(most: u64, fails_at: u64) -> Result<bool, LineFault> {
+    // The end shows in one more call.
+    let calls = (TEXT.len() as u64).div_ceil(most.max(1)) + 1;
+    if fails_at < calls {
+        Err(LineFault::Read)
+    } else {
+        Ok(true)
+    }
 }
 
 #[test]
-fn tells_a_failed_read_at_each_call(rt: HostRuntime) -> Result<(), Fail> {
+fn tells_a_failed_read_at_each_call(rt: HostRuntime) {
     for most in 1..20usize {
-        // The end shows in one more call.
-        let calls = (TEXT.len() as u64).div_ceil(most as u64) + 1;
         for fails_at in 0..30u64 {
-            let mut reader = Slow {
-                rest: TEXT,
-                most,
-                calls: 0,
-                fails_at,
-                kind: ErrorKind::BrokenPipe,
-            };
-            let want = if fails_at < calls {
-                Err(LineFault::Read)
-            } else {
-                Ok(())
-            };
-            assert_eq!(rt;
-                reads_text(&rt, rt.alloc(), &mut reader),
-                want,
-                "{most} {fails_at}"
-            );
+            let told = reads_text(rt.alloc(), most, fails_at, ErrorKind::BrokenPipe);
+            assert!(rt; told == told_of(most as u64, fails_at), "{most} {fails_at}");
         }
     }
-    Ok(())
+}
+
+/// Limits, and what is kept of the line abcd.
+const CUT: &[(u8, &[u8])] = &[(0, b"a"), (1, b"ab"), (3, b"abcd"), (4, b"abcd")];
+
+/// Whether this is kept of the line abcd, and the next line and the end are found behind it.
+fn cuts(alloc: Global, limit: u8, kept: &'static [u8]) -> Result<bool, LineFault> {
+    let mut reader = Slow {
+        rest: b"abcd\nx\n",
+        most: 100,
+        calls: 0,
+        fails_at: 100,
+        kind: ErrorKind::Interrupted,
+    };
+    let wanted = [(kept, Found::Line), (b"x", Found::Line), (b"", Found::End)];
+    reads(alloc, &mut reader, limit, &wanted)
 }
 
 #[test]
 fn cuts_one_octet_past_the_limit(rt: HostRuntime) -> Result<(), Fail> {
-    for (limit, want) in [
-        (0usize, b"a".as_slice()),
-        (1, b"ab"),
-        (3, b"abcd"),
-        (4, b"abcd"),
-    ] {
-        let mut reader = b"abcd\nx\n".as_slice();
-        assert!(rt; limit < 10);
-        let mut lines = LineReader::new(rt.alloc(), limit)?;
-        assert_eq!(rt; lines.next(&mut reader), Ok(Found::Line));
-        assert!(rt; lines.line() == want);
-        assert_eq!(rt; lines.next(&mut reader), Ok(Found::Line));
-        assert!(rt; lines.line() == b"x".as_slice());
-        assert_eq!(rt; lines.next(&mut reader), Ok(Found::End));
+    for (limit, kept) in CUT {
+        assert!(rt; cuts(rt.alloc(), *limit, kept)?, "{limit}");
     }
     Ok(())
 }

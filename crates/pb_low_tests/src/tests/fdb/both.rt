@@ -6,7 +6,6 @@ use super::plain::Plain;
 use pb_fdb::{Fdb, Learnt};
 use pb_frame::Mac;
 use std::alloc::Global;
-use std::process::Abort;
 
 /// Numbers in a fixed order that looks random: the generator of Park and Miller.
 #[derive(Clone, Copy)]
@@ -33,13 +32,13 @@ pub struct Both {
 }
 
 /// How often each answer came.
-#[derive(Clone, Copy, Debug, PartialEq, Eq)]
+#[derive(Clone, Copy)]
 pub struct Answers {
-    pub new: u32,
-    pub kept: u32,
-    pub moved: u32,
-    pub full: u32,
-    pub group: u32,
+    new: u32,
+    kept: u32,
+    moved: u32,
+    full: u32,
+    group: u32,
 }
 
 impl Answers {
@@ -64,6 +63,11 @@ impl Answers {
         };
         *place = place.saturating_add(1);
     }
+
+    /// Whether each answer came more than a hundred times.
+    pub fn are_many(&self) -> bool {
+        self.new > 100 && self.kept > 100 && self.moved > 100 && self.full > 100 && self.group > 100
+    }
 }
 
 impl Both {
@@ -77,34 +81,35 @@ impl Both {
         }
     }
 
-    /// A little later, one command to both, and then a look at all entries.
-    pub fn step(&mut self, rt: &impl Abort, dice: &mut Dice, answers: &mut Answers) {
+    /// A little later, one command to both; whether they answer the same, and have the same entries then.
+    pub fn step(&mut self, dice: &mut Dice, answers: &mut Answers) -> bool {
         self.now = self.now.saturating_add(u64::from(dice.below(3)));
+        self.command(dice, answers) && self.are_alike()
+    }
+
+    fn command(&mut self, dice: &mut Dice, answers: &mut Answers) -> bool {
         match dice.below(64) {
             0 => self.flush(dice),
             1 => self.expire(),
-            2..=20 => self.find(rt, dice),
-            _ => answers.count(self.learn(rt, dice)),
+            2..=20 => return self.find(dice),
+            _ => return self.learn(dice, answers),
         }
-        self.look(rt);
+        true
     }
 
-    fn learn(&mut self, rt: &impl Abort, dice: &mut Dice) -> Learnt {
+    fn learn(&mut self, dice: &mut Dice, answers: &mut Answers) -> bool {
         let vid = some_vid(dice);
         let mac = some_station(dice);
         let port = some_port(dice);
         let answer = self.table.learn(vid, mac, port, self.now);
-        assert_eq!(rt; answer, self.plain.learn(vid, mac, port, self.now));
-        answer
+        answers.count(answer);
+        answer == self.plain.learn(vid, mac, port, self.now)
     }
 
-    fn find(&self, rt: &impl Abort, dice: &mut Dice) {
+    fn find(&self, dice: &mut Dice) -> bool {
         let vid = some_vid(dice);
         let mac = some_station(dice);
-        assert_eq!(rt;
-            self.table.find(vid, mac, self.now),
-            self.plain.find(vid, mac, self.now)
-        );
+        self.table.find(vid, mac, self.now) == self.plain.find(vid, mac, self.now)
     }
 
     fn flush(&mut self, dice: &mut Dice) {
@@ -118,13 +123,15 @@ impl Both {
         self.plain.expire(self.now);
     }
 
-    /// Both have the same entries in the same order.
-    fn look(&self, rt: &impl Abort) {
+    /// Whether both have the same entries in the same order.
+    fn are_alike(&self) -> bool {
         let mut entries = self.table.entries();
-        for entry in self.plain.entries() {
-            assert_eq!(rt; entries.next(), Some(*entry));
+        for entry in &self.plain.entries {
+            if entries.next() != Some(*entry) {
+                return false;
+            }
         }
-        assert_eq!(rt; entries.next(), None);
+        entries.next().is_none()
     }
 }
 

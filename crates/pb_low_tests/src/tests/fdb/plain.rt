@@ -9,7 +9,7 @@ use std::alloc::Global;
 pub struct Plain {
     limit: usize,
     ageing: u32,
-    entries: Vec<Entry>,
+    pub entries: Vec<Entry>,
     /// How often old entries made room for a station.
     pub sweeps: u32,
 }
@@ -26,10 +26,7 @@ impl Plain {
 
     pub fn find(&self, vid: u16, mac: Mac, now: u64) -> Option<u8> {
         for entry in &self.entries {
-            if entry.vid == vid
-                && entry.mac == mac
-                && now.saturating_sub(entry.learnt) < u64::from(self.ageing)
-            {
+            if is_of(entry, vid, mac) && is_live(entry, self.ageing, now) {
                 return Some(entry.port);
             }
         }
@@ -58,15 +55,20 @@ impl Plain {
         }
     }
 
+    /// How many entries are not too old.
+    fn live(&self, now: u64) -> usize {
+        let mut live = 0usize;
+        for entry in &self.entries {
+            if is_live(entry, self.ageing, now) {
+                live = live.saturating_add(1);
+            }
+        }
+        live
+    }
+
     /// Room for one more, if not as many as may be are live.
     fn makes_room(&mut self, now: u64) -> bool {
-        let ageing = u64::from(self.ageing);
-        let live = self
-            .entries
-            .iter()
-            .filter(|entry| now.saturating_sub(entry.learnt) < ageing)
-            .count();
-        if live >= self.limit {
+        if self.live(now) >= self.limit {
             return false;
         }
         if self.entries.len() >= self.limit {
@@ -77,8 +79,8 @@ impl Plain {
     }
 
     fn replace(&mut self, new: Entry, answer: Learnt) -> Learnt {
-        self.entries
-            .retain(|entry| entry.vid != new.vid || entry.mac != new.mac);
+        let (vid, mac) = (new.vid, new.mac);
+        self.entries.retain(|entry| !is_of(entry, vid, mac));
         match self.entries.push(new) {
             Ok(()) => answer,
             Err(_) => Learnt::Memory,
@@ -90,12 +92,17 @@ impl Plain {
     }
 
     pub fn expire(&mut self, now: u64) {
-        let ageing = u64::from(self.ageing);
-        self.entries
-            .retain(|entry| now.saturating_sub(entry.learnt) < ageing);
+        let ageing = self.ageing;
+        self.entries.retain(|entry| is_live(entry, ageing, now));
     }
+}
 
-    pub fn entries(&self) -> &[Entry] {
-        self.entries.as_slice()
-    }
+/// Whether an entry tells of a station in a service.
+fn is_of(entry: &Entry, vid: u16, mac: Mac) -> bool {
+    entry.vid == vid && entry.mac == mac
+}
+
+/// Whether an entry is not too old.
+fn is_live(entry: &Entry, ageing: u32, now: u64) -> bool {
+    now.saturating_sub(entry.learnt) < u64::from(ageing)
 }

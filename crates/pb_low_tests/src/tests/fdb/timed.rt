@@ -49,50 +49,53 @@ impl Timed {
     /// Walks the rows. A row that does not hold is named by its number from 0.
     pub fn walk(&mut self, rt: &impl Abort, rows: &[Row]) {
         for (place, row) in rows.iter().enumerate() {
-            match *row {
-                Row::At(moment) => self.now = self.now.max(moment),
-                Row::Flushes(port) => self.table.flush(port),
-                Row::Expires => self.table.expire(self.now),
-                Row::Has(entries) => has(rt, &self.table, entries, place),
-                Row::Counts(wanted) => assert_eq!(rt; count(&self.table), wanted, "row {place}"),
-                _ => self.is_told(rt, *row, place),
-            }
+            assert!(rt; self.holds(*row), "row {place}");
         }
     }
 
-    /// A station is seen or sought.
-    fn is_told(&mut self, rt: &impl Abort, row: Row, place: usize) {
+    /// Whether a row is as it is told.
+    fn holds(&mut self, row: Row) -> bool {
         match row {
+            Row::At(moment) => self.now = self.now.max(moment),
+            Row::Flushes(port) => self.table.flush(port),
+            Row::Expires => self.table.expire(self.now),
             Row::Learns(vid, mac, port, wanted) => {
-                let learnt = self.table.learn(vid, mac, port, self.now);
-                assert_eq!(rt; learnt, wanted, "row {place}");
+                return self.table.learn(vid, mac, port, self.now) == wanted;
             }
-            Row::LearnsFirst(stations, vid, port) => {
-                for number in 0..stations {
-                    let learnt = self.table.learn(vid, station(number), port, self.now);
-                    assert_eq!(rt; learnt, Learnt::New, "row {place}");
-                }
-            }
-            Row::Finds(vid, mac, wanted) => {
-                assert_eq!(rt; self.table.find(vid, mac, self.now), wanted, "row {place}")
-            }
-            _ => {}
+            Row::LearnsFirst(stations, vid, port) => return self.learns(stations, vid, port),
+            Row::Finds(vid, mac, wanted) => return self.table.find(vid, mac, self.now) == wanted,
+            Row::Has(entries) => return has(&self.table, entries),
+            Row::Counts(wanted) => return count(&self.table) == wanted,
         }
+        true
+    }
+
+    /// Whether so many stations, from number 0 on, are new in a service at a port.
+    fn learns(&mut self, stations: u16, vid: u16, port: u8) -> bool {
+        for number in 0..stations {
+            if self.table.learn(vid, station(number), port, self.now) != Learnt::New {
+                return false;
+            }
+        }
+        true
     }
 }
 
 /// The station 02-00-00-00-XX-XX of this number.
 fn station(number: u16) -> Mac {
-    Mac([2, 0, 0, 0, (number / 256) as u8, (number % 256) as u8])
+    let [high, low] = number.to_be_bytes();
+    Mac([2, 0, 0, 0, high, low])
 }
 
-/// The table has these entries in this order.
-fn has(rt: &impl Abort, table: &Fdb, wanted: &[Entry], place: usize) {
+/// Whether the table has these entries in this order.
+fn has(table: &Fdb, wanted: &[Entry]) -> bool {
     let mut entries = table.entries();
     for entry in wanted {
-        assert_eq!(rt; entries.next(), Some(*entry), "row {place}");
+        if entries.next() != Some(*entry) {
+            return false;
+        }
     }
-    assert_eq!(rt; entries.next(), None, "row {place}");
+    entries.next().is_none()
 }
 
 /// How many entries the table has.

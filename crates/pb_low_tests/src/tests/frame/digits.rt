@@ -2,17 +2,35 @@
 
 ghost use Rattle.std.specs.Prelude.{◌≡◌, []};
 
-use super::is;
-use bytes::{Bytes, BytesMut};
-use pb_frame::{HexFault, has_upper_case, hex_octets, hex_octets_in, hex_read, hex_text};
+use bytes::BytesMut;
+use pb_frame::{HexFault, Memory, has_upper_case, hex_octets, hex_octets_in, hex_read, hex_text};
 use std::alloc::Global;
-use std::process::Abort;
 use std::test::Fail;
+
+const OCTETS: &[u8] = b"\x00\xaf\xfa";
+
+/// Whether these octets are read from digits.
+fn are_read(alloc: Global, digits: &[u8], octets: &[u8]) -> Result<bool, HexFault> {
+    let read = hex_octets(alloc, digits)?;
+    Ok(read.as_slice() == octets)
+}
 
 #[test]
 fn hexadecimal_is_read_in_either_case(rt: HostRuntime) -> Result<(), Fail> {
-    let octets = hex_octets(rt.alloc(), b"00aFfA")?;
-    is(&rt, rt.alloc(), &octets, "00affa")
+    assert!(rt; are_read(rt.alloc(), b"00aFfA", OCTETS)?);
+    Ok(())
+}
+
+/// Whether octets are written as these digits.
+fn are_written(alloc: Global, octets: &[u8], digits: &str) -> Result<bool, Memory> {
+    let text = hex_text(alloc, octets)?;
+    Ok(text.as_str() == digits)
+}
+
+#[test]
+fn hexadecimal_is_written_in_lower_case(rt: HostRuntime) -> Result<(), Fail> {
+    assert!(rt; are_written(rt.alloc(), OCTETS, "00affa")?);
+    Ok(())
 }
 
 /// Whether a text is refused for this.
@@ -36,17 +54,22 @@ fn capitals_are_found(rt: HostRuntime) {
     }
 }
 
-/// Whether octets are read from their digits, also where these are capitals.
-fn are_read_back(alloc: Global, octets: &[u8]) -> Result<bool, Fail> {
-    let digits = hex_text(alloc, octets)?;
+/// Whether octets are read from these digits, also where they are capitals.
+fn are_read_either(alloc: Global, digits: &str, octets: &[u8]) -> Result<bool, Fail> {
     let capitals = digits.to_ascii_uppercase(alloc)?;
-    Ok(are_read(alloc, digits.as_str(), octets)? && are_read(alloc, capitals.as_str(), octets)?)
+    Ok(reads(alloc, digits, octets)? && reads(alloc, &capitals, octets)?)
 }
 
-/// Whether these octets are read from digits.
-fn are_read(alloc: Global, digits: &str, octets: &[u8]) -> Result<bool, HexFault> {
+/// Whether these octets are read from a text.
+fn reads(alloc: Global, digits: &str, octets: &[u8]) -> Result<bool, HexFault> {
     let read = hex_read(alloc, digits)?;
     Ok(read.as_slice() == octets)
+}
+
+/// Whether octets are read from what is written of them.
+fn are_read_back(alloc: Global, octets: &[u8]) -> Result<bool, Fail> {
+    let digits = hex_text(alloc, octets)?;
+    are_read_either(alloc, &digits, octets)
 }
 
 #[test]
@@ -64,68 +87,68 @@ fn each_octet_is_read_from_its_digits(rt: HostRuntime) -> Result<(), Fail> {
 fn what_is_no_digit_is_refused(rt: HostRuntime) {
     for c in 0..=255u8 {
         let is_read = hex_octets(rt.alloc(), &[b'0', b'0', b'0', c]).is_ok();
-        assert_eq!(rt; is_read, c.is_ascii_hexdigit());
+        assert!(rt; is_read == c.is_ascii_hexdigit(), "{c}");
     }
 }
 
-/// What is no octets is refused, and takes no room of a buffer; nor do no digits.
-fn keeps_its_room(rt: &impl Abort, buffer: &mut BytesMut)
+/// Whether what is no octets is refused, and takes no room of a buffer; nor do no digits.
+fn keeps_its_room(buffer: &mut BytesMut) -> bool
     requires { buffer.old.items ≡ [] }
     ensures { buffer.new.items ≡ [] }
 {
     let room = buffer.capacity();
     let first = hex_octets_in(buffer, b"0g0").err();
     let second = hex_octets_in(buffer, b"000").err();
-    let is_none = hex_octets_in(buffer, b"").is_ok_and(|octets| octets.is_empty());
-    let told = (first, second, is_none, buffer.capacity());
-    assert_eq!(rt;
-        told,
-        (Some(HexFault::Digit), Some(HexFault::Odd), true, room)
-    );
+    let third = match hex_octets_in(buffer, b"") {
+        Ok(octets) => octets.len(),
+        Err(_) => 1,
+    };
+    let are_refused = first == Some(HexFault::Digit) && second == Some(HexFault::Odd);
+    are_refused && third == 0 && buffer.capacity() == room
 }
 
-/// The octets 17 take room of a buffer.
-fn takes_room(rt: &impl Abort, alloc: Global, buffer: &mut BytesMut) -> Result<(), Fail>
+/// Whether the octets 17 take room of a buffer.
+fn takes_room(buffer: &mut BytesMut) -> Result<bool, HexFault>
     requires { buffer.old.items ≡ [] }
 {
     let room = buffer.capacity();
     let octets = hex_octets_in(buffer, b"17")?;
-    assert!(rt; buffer.capacity() < room);
-    is(rt, alloc, &octets, "17")
+    Ok(buffer.capacity() < room && octets.as_slice() == b"\x17".as_slice())
 }
 
 #[test]
 fn octets_share_the_memory_of_a_buffer(rt: HostRuntime) -> Result<(), Fail> {
     let mut buffer = BytesMut::new(rt.alloc());
     let first = hex_octets_in(&mut buffer, b"00aFfA")?;
-    keeps_its_room(&rt, &mut buffer);
-    takes_room(&rt, rt.alloc(), &mut buffer)?;
-    is(&rt, rt.alloc(), &first, "00affa")
+    assert!(rt; keeps_its_room(&mut buffer));
+    assert!(rt; takes_room(&mut buffer)?);
+    assert!(rt; first.as_slice() == OCTETS);
+    Ok(())
 }
 
-/// So many digits, all 7, are read into a buffer.
-fn read_sevens(alloc: Global, buffer: &mut BytesMut, digits: usize) -> Result<Bytes, Fail>
-    requires { buffer.old.items ≡ [] }
-    ensures { buffer.new.items ≡ [] }
-{
-    let digits = vec![in alloc; b'7'; digits]?;
-    Ok(hex_octets_in(buffer, digits.as_slice())?)
+/// Whether the octets are so many, and each is that of the digits 77.
+fn are_sevens(octets: &[u8], count: usize) -> bool {
+    for octet in octets {
+        if *octet != 0x77 {
+            return false;
+        }
+    }
+    octets.len() == count
 }
 
-/// The octets are so many, and each is that of the digits 77.
-fn are_sevens(rt: &impl Abort, octets: &Bytes, count: usize) {
-    assert_eq!(rt; octets.len(), count);
-    assert!(rt; octets.as_slice().iter().all(|octet| *octet == 0x77));
+/// Whether digits, all 7, are read three times into one buffer.
+fn are_read_thrice(alloc: Global, digits: &[u8]) -> Result<bool, HexFault> {
+    let mut buffer = BytesMut::new(alloc);
+    let first = hex_octets_in(&mut buffer, digits)?;
+    let second = hex_octets_in(&mut buffer, digits)?;
+    let third = hex_octets_in(&mut buffer, digits)?;
+    let count = digits.len() / 2;
+    Ok(are_sevens(&first, count) && are_sevens(&second, count) && are_sevens(&third, count))
 }
 
 #[test]
 fn octets_that_find_no_room_in_a_buffer_take_more(rt: HostRuntime) -> Result<(), Fail> {
-    let mut buffer = BytesMut::new(rt.alloc());
-    let first = read_sevens(rt.alloc(), &mut buffer, 60_000)?;
-    let second = read_sevens(rt.alloc(), &mut buffer, 60_000)?;
-    let third = read_sevens(rt.alloc(), &mut buffer, 60_000)?;
-    for octets in [&first, &second, &third] {
-        are_sevens(&rt, octets, 30_000);
-    }
+    let digits = vec![in rt.alloc(); b'7'; 60_000]?;
+    assert!(rt; are_read_thrice(rt.alloc(), &digits)?);
     Ok(())
 }

@@ -2,8 +2,8 @@ use Rattle.std.proofs.Common.{◌≡◌, ◌+◌, [], arith}
 use Rattle.std.proofs.lemmas.List.Elements.{All-nil, All-same}
 use Rattle.pb_frame.proofs.Things.{here_is}
 use Rattle.pb_run.specs.Wires.{HasOuter}
-use Rattle.pb_run.specs.declared.access.Access.{Access}
-use Rattle.pb_run.specs.declared.access.Last.TheVariants.{More}
+use Rattle.pb_workers.specs.declared.access.Access.{Access}
+use Rattle.pb_workers.specs.declared.access.Last.TheVariants.{More}
 use Rattle.pb_run.proofs.EndsThere.{customers_apart, customer_ports, first_there, others_there, others_distinct}
 use Rattle.pb_run.proofs.Gifts.{no_accesses, access_pushed}
 use Rattle.pb_work.proofs.Alls.{all_more}

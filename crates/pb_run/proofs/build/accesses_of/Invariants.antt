@@ -3,7 +3,7 @@ use Rattle.std.specs.List.{AllByRecursion, IsDistinct}
 use Rattle.pb_lan.specs.Plans.{is_same_port, ports_in}
 use Rattle.pb_run.specs.Gifts.{AreAccesses, given_access}
 use Rattle.pb_run.specs.Wires.{HasOuter}
-use Rattle.pb_run.specs.declared.access.Last.TheVariants.{More}
+use Rattle.pb_workers.specs.declared.access.Last.TheVariants.{More}
 use Rattle.pb_run.proofs.build.accesses_of.Given as goal
 
 abbrev pub invariant-loop-customer : goal.invariant-loop-customer

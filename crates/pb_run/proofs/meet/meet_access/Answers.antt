@@ -5,7 +5,7 @@ use Rattle.pb_frame.proofs.Things.{here_is}
 use Rattle.pb_lan.specs.PortLists.{fed, delivered}
 use Rattle.pb_lan.specs.Records.{received, transmitted}
 use Rattle.pb_run.specs.Gifts.{access_gift}
-use Rattle.pb_run.specs.declared.gift.AccessGift.{AccessGift}
+use Rattle.pb_workers.specs.declared.gift.AccessGift.{AccessGift}
 use Rattle.pb_run.proofs.Gifts.{customer_stands}
 use Rattle.pb_run.proofs.Lists.{thing_is, both_kept_at}
 use Rattle.pb_run.proofs.Meeting.{bridge_here, bridge_rings, gift_is, begins_there, customer_meets}

@@ -2,7 +2,7 @@ use Rattle.std.proofs.Common.{◌+◌, ◌-◌, sym, ap, ◌∙◌, arith}
 use Rattle.std.proofs.lemmas.List.{length-map}
 use Rattle.pb_lan.specs.LaneLists.{put}
 use Rattle.pb_lan.specs.Records.{received}
-use Rattle.pb_run.specs.declared.gift.LaneGift.{LaneGift}
+use Rattle.pb_workers.specs.declared.gift.LaneGift.{LaneGift}
 use Rattle.pb_run.proofs.Lists.{thing_is, both_kept_at}
 use Rattle.pb_run.proofs.Meeting.{bridge_here, bridge_rings, gift_is, begins_there}
 use Rattle.pb_run.proofs.meet.meet_here.Goals as goal

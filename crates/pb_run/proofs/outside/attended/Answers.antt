@@ -1,11 +1,11 @@
 use Rattle.std.proofs.Common.{◌≡◌, [], map, sym, ap, ◌∙◌, rules}
 use Rattle.std.proofs.lemmas.List.Elements.{All-head, All-rest, All-same}
 use Rattle.pb_run.specs.Gifts.{given_access}
-use Rattle.pb_run.specs.declared.gift.AccessGift.{AccessGift}
-use Rattle.pb_run.specs.Ports.{KeepsPort}
-use Rattle.pb_run.specs.declared.customer.CustomerWorker.{CustomerWorker}
-use Rattle.pb_run.specs.declared.access.Access.{Access}
-use Rattle.pb_run.specs.declared.access.Last.TheVariants.{More}
+use Rattle.pb_workers.specs.declared.gift.AccessGift.{AccessGift}
+use Rattle.pb_workers.specs.Ports.{KeepsPort}
+use Rattle.pb_workers.specs.declared.customer.CustomerWorker.{CustomerWorker}
+use Rattle.pb_workers.specs.declared.access.Access.{Access}
+use Rattle.pb_workers.specs.declared.access.Last.TheVariants.{More}
 use Rattle.pb_run.proofs.Kept.{keeps_fresh}
 use Rattle.pb_work.proofs.Alls.{all_more, moved_on}
 use Rattle.pb_run.proofs.outside.attended.Goals as goal

@@ -2,8 +2,8 @@ use Rattle.std.proofs.Common.{◌≡◌, ◌+◌, ◌≤◌, ◌++◌, [], All, 
 use Rattle.std.specs.VecDeque.{deque_len}
 use Rattle.std.specs.Vec.Iter.{into_iter_items, into_iter_len}
 use Rattle.pb_run.specs.Gifts.{given_access}
-use Rattle.pb_run.specs.Ports.{KeepsPort}
-use Rattle.pb_run.specs.declared.access.Last.TheVariants.{More}
+use Rattle.pb_workers.specs.Ports.{KeepsPort}
+use Rattle.pb_workers.specs.declared.access.Last.TheVariants.{More}
 use Rattle.pb_run.proofs.outside.attended.Given as goal
 
 abbrev pub invariant-loop-port : goal.invariant-loop-port

@@ -1,6 +1,6 @@
 use Rattle.std.proofs.Common.{◌∙◌, List, All, subst, rules, arith}
 use Rattle.pb_lan.specs.PortLists.{IsLawfulPort}
-use Rattle.pb_run.specs.declared.access.Access.{Access}
+use Rattle.pb_workers.specs.declared.access.Access.{Access}
 use Rattle.pb_run.proofs.Lists.{all_front, counted_more, mapped_more}
 use Rattle.pb_run.proofs.record.access_lists.Goals as goal
 

@@ -4,7 +4,7 @@ use Rattle.pb_lan.specs.Laws.{is_setting}
 use Rattle.pb_lan.specs.declared.step.Step.{Step}
 use Rattle.pb_lan.specs.BridgeLists.{IsLawfulBridge}
 use Rattle.pb_relay.specs.Protocol.{spanning_tree}
-use Rattle.pb_run.specs.declared.bridge.BridgeWorker.{BridgeWorker}
+use Rattle.pb_workers.specs.declared.bridge.BridgeWorker.{BridgeWorker}
 use Rattle.std.proofs.lemmas.List.Elements.{All-push}
 use Rattle.pb_run.proofs.Lists.{mapped_more, counted_more, unset_more}
 use Rattle.pb_run.proofs.record.bridge_lists.Goals as goal

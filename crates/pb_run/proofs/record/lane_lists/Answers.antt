@@ -1,6 +1,6 @@
 use Rattle.std.proofs.Common.{◌∙◌, List, All, subst, rules, arith}
 use Rattle.pb_lan.specs.LaneLists.{IsLawfulLane}
-use Rattle.pb_run.specs.declared.lane.LaneWorker.{LaneWorker}
+use Rattle.pb_workers.specs.declared.lane.LaneWorker.{LaneWorker}
 use Rattle.pb_run.proofs.Lists.{all_front, counted_more, mapped_more}
 use Rattle.pb_run.proofs.record.lane_lists.Goals as goal
 

@@ -4,7 +4,7 @@ use Rattle.pb_frame.proofs.Lists.{Some-injective}
 use Rattle.pb_lan.specs.Records.{steps_of}
 use Rattle.pb_lan.specs.declared.step.Step.{Step}
 use Rattle.pb_rstp.specs.Profile.{machine_of}
-use Rattle.pb_run.specs.declared.bridge.BridgeWorker.{BridgeWorker}
+use Rattle.pb_workers.specs.declared.bridge.BridgeWorker.{BridgeWorker}
 use Rattle.pb_run.proofs.SettledLemmas.{machine_there, one_more_known, machines_all}
 use Rattle.pb_run.proofs.settled.machines_of.Goals as goal
 

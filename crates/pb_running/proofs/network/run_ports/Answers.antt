@@ -3,7 +3,8 @@ use Rattle.std.proofs.lemmas.Grind.{common_steps}
 use denote.Param.Object.{read_made}
 use Rattle.std.specs.Vec.Iter.{into_iter_items}
 use Rattle.pb_running.specs.Scripted.{script_at}
-use Rattle.pb_running.proofs.NetworkLemmas.{on_value, are_scripted, moved_over, all_moved}
+use Rattle.pb_opening.proofs.MoveLemmas.{moved_over}
+use Rattle.pb_running.proofs.NetworkLemmas.{on_value, are_scripted, all_moved}
 use Rattle.pb_running.proofs.network.run_ports.OwnLists.{own-1, at-1-1}
 use Rattle.pb_running.proofs.network.run_ports.Goals as goal
 

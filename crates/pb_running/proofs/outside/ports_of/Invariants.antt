@@ -1,6 +1,6 @@
 use Rattle.std.proofs.Common.{◌≡◌, ◌++◌, length, map, vec_len}
 use Rattle.std.specs.Vec.Iter.{into_iter_items}
-use Rattle.pb_running.specs.Opened.{shown}
+use Rattle.pb_opening.specs.Opened.{shown}
 use Rattle.pb_running.specs.Scripted.{script_at}
 use Rattle.pb_running.proofs.outside.ports_of.Given as goal
 

@@ -1,0 +1,5 @@
+//! Runs of `check`, `show`, `init`, `step`, `trace` and `tree` with ample memory.
+#![tactic(auto)]
+
+#[cfg(test)]
+mod tests;

@@ -1,0 +1,209 @@
+//! What is answered to step scripts.
+
+ghost use Rattle.std.specs.Prelude.{◌≡◌, ◌≢◌, ◌⊎◌, IfErr, IfOk};
+ghost use Rattle.std.specs.Io.KnownBytes.{Keeps};
+ghost use Rattle.pb_print.specs.Refusals.{PrintsRefusal};
+ghost use Rattle.pb_step.specs.Scripts.{PrintsDriven, PrintsDrivenBeginning};
+
+mod e_lan;
+mod e_line;
+mod failover;
+mod losses;
+mod metro;
+mod parallel;
+mod settling;
+mod two_bridges;
+
+use pb_fakes::{Full, Slow, Unflushed};
+use pb_said::CommandFault;
+use pb_step::run_script;
+use std::alloc::Global;
+use std::io::{ErrorKind, Read, Write};
+use std::process::Abort;
+use std::test::Fail;
+
+/// What a caller may take from `run_script`: the status 0 with the answers and the report of the plan that the file tells, or 1 with
+/// the rule that it breaks; before a fault nothing, or the answers to the first lines.
+fn driven<R: Read, W: Write>(
+    alloc: Global,
+    file: &[u8],
+    reader: &mut R,
+    writer: &mut W,
+) -> Result<u8, CommandFault>
+    ensures whole { IfOk result (λ status. ((status ≡ 0) × PrintsDriven file.now (R.remaining reader.old) (W.contents writer.old) (W.contents writer.new))
+        ⊎ ((status ≡ 1) × PrintsRefusal file.now (W.contents writer.old) (W.contents writer.new))) }
+    ensures part { IfErr result (λ e. e ≢ CommandFault.Write → ((e ≡ CommandFault.Memory) × Keeps (W.contents writer.old) (W.contents writer.new))
+        ⊎ PrintsDrivenBeginning e file.now (R.remaining reader.old) (W.contents writer.old) (W.contents writer.new)) }
+{
+    run_script(alloc, file, reader, writer)
+}
+
+/// The script over the plan file writes this, and exits with 0.
+fn drives(rt: &impl Abort, alloc: Global, plan: &str, script: &str, want: &str) {
+    let mut output = Vec::new(alloc);
+    let mut reader = script.as_bytes();
+    let result = driven(alloc, plan.as_bytes(), &mut reader, &mut output);
+    assert_eq!(rt; result, Ok(0));
+    assert!(rt; output.as_slice() == want.as_bytes());
+}
+
+/// The report of the two bridges where nothing happened.
+const NOTHING: &str =
+    "port C1 entered 0 left 0 filtered 0\nport C2 entered 0 left 0 filtered 0\nport C3 entered 0 left 0 filtered 0\nlink L1 ab taken 0 lost 0 ba taken 0 lost 0\nforest yes\n";
+
+/// The answers to a script over the two bridges, before the report of a network in which nothing happened.
+fn says(rt: &impl Abort, alloc: Global, script: &str, answers: &str) -> Result<(), Fail> {
+    let mut want = String::from_str(alloc, answers)?;
+    want.push_str(NOTHING)?;
+    drives(rt, alloc, two_bridges::PLAN, script, want.as_str());
+    Ok(())
+}
+
+#[test]
+fn the_examples_run(rt: HostRuntime) {
+    let alloc = rt.alloc();
+    for (plan, script, want) in [
+        (two_bridges::PLAN, two_bridges::STEPS, two_bridges::EXPECTED),
+        (metro::PLAN, metro::STEPS, metro::EXPECTED),
+        (e_line::PLAN, e_line::STEPS, e_line::EXPECTED),
+        (e_lan::PLAN, e_lan::STEPS, e_lan::EXPECTED),
+        (parallel::PLAN, parallel::STEPS, parallel::EXPECTED),
+        (losses::PLAN, losses::STEPS, losses::EXPECTED),
+        (settling::PLAN, settling::STEPS, settling::EXPECTED),
+        (failover::PLAN, failover::STEPS, failover::EXPECTED),
+    ] {
+        drives(&rt, alloc, plan, script, want);
+    }
+}
+
+#[test]
+fn lines_without_work_are_told(rt: HostRuntime) -> Result<(), Fail> {
+    let alloc = rt.alloc();
+    says(&rt, alloc, "", "")?;
+    says(&rt, alloc, "feed C1\ndeliver C1", "idle\nidle\n")?;
+    says(&rt, alloc, "receive B1 2\ntransmit B1 1\n", "idle\nidle\n")?;
+    says(&rt, alloc, "take L1 ba\nput L1 ba\n", "idle\nidle\n")?;
+    says(&rt, alloc, "tick B1\nadmin B1 1 up\n", "ticked\nset\n")?;
+    says(
+        &rt,
+        alloc,
+        "\nfeed C1\r\n\n",
+        "line 1: bad\nline 2: bad\nline 3: bad\n",
+    )
+}
+
+#[test]
+fn names_that_the_plan_lacks_are_told(rt: HostRuntime) -> Result<(), Fail> {
+    let alloc = rt.alloc();
+    says(&rt, alloc, "feed C4\npoll c1 00\n", "no such\nno such\n")?;
+    says(&rt, alloc, "tick B3\nreceive B1 3\n", "no such\nno such\n")?;
+    says(
+        &rt,
+        alloc,
+        "receive B1 17\ntransmit B1 256\n",
+        "no such\nno such\n",
+    )?;
+    says(
+        &rt,
+        alloc,
+        "admin B1 2 up\nadmin B1 3 down\n",
+        "no such\nno such\n",
+    )?;
+    says(&rt, alloc, "take L2 ab\nput C1 ba\n", "no such\nno such\n")
+}
+
+#[test]
+fn the_limit_of_steps_ends_a_run(rt: HostRuntime) -> Result<(), Fail> {
+    let alloc = rt.alloc();
+    let mut plan = String::from_str(alloc, "[network]\nsteps = 1\n")?;
+    plan.push_str(two_bridges::PLAN)?;
+    let mut output = Vec::new(alloc);
+    let mut reader = b"poll C1 00\npoll C1 00\nfeed C9\nfeed C1\nfeed C2\n".as_slice();
+    let result = run_script(alloc, plan.as_bytes(), &mut reader, &mut output);
+    assert_eq!(rt; result, Err(CommandFault::Steps));
+    assert!(rt; output.as_slice() == "polled C1 0\nidle\nno such\n".as_bytes());
+    Ok(())
+}
+
+/// The two bridges, which decide their own spanning tree.
+fn tree(alloc: Global) -> Result<String, Fail> {
+    let mut plan = String::from_str(alloc, "[network]\nspanning = \"rstp\"\n")?;
+    plan.push_str(two_bridges::PLAN)?;
+    Ok(plan)
+}
+
+#[test]
+fn bridges_are_not_settled_at_the_start(rt: HostRuntime) -> Result<(), Fail> {
+    let alloc = rt.alloc();
+    let plan = tree(alloc)?;
+    let mut want = String::from_str(alloc, NOTHING)?;
+    want.push_str("settled no\n")?;
+    drives(&rt, alloc, plan.as_str(), "", want.as_str());
+    Ok(())
+}
+
+#[test]
+fn bridges_settle_where_one_hears_the_other(rt: HostRuntime) -> Result<(), Fail> {
+    let alloc = rt.alloc();
+    let plan = tree(alloc)?;
+    let mut output = Vec::new(alloc);
+    let mut reader = b"tick B1\ntransmit B1 1\ntake L1 ab\nput L1 ab\nreceive B2 1\n".as_slice();
+    let result = run_script(alloc, plan.as_bytes(), &mut reader, &mut output);
+    assert_eq!(rt; result, Ok(0));
+    assert!(rt; output.as_slice().starts_with(b"ticked\nsent 0180c2000008"));
+    assert!(rt; output.as_slice().ends_with(b"forest yes\nsettled yes\n"));
+    Ok(())
+}
+
+#[test]
+fn a_refused_plan_is_told(rt: HostRuntime) {
+    let alloc = rt.alloc();
+    for (plan, want) in [
+        ("x", "plan: 2 toml\n"),
+        ("[network]\nageing = 9", "plan: 5 range network.ageing\n"),
+    ] {
+        let mut output = Vec::new(alloc);
+        let mut reader = b"hop".as_slice();
+        let result = run_script(alloc, plan.as_bytes(), &mut reader, &mut output);
+        assert_eq!(rt; result, Ok(1), "{plan}");
+        assert!(rt; output.as_slice() == want.as_bytes(), "{plan}");
+    }
+}
+
+#[test]
+fn a_failed_read_ends_a_run(rt: HostRuntime) {
+    let alloc = rt.alloc();
+    let mut output = Vec::new(alloc);
+    let mut reader = Slow {
+        rest: b"feed C1\nfeed C2\n",
+        most: 8,
+        calls: 0,
+        fails_at: 1,
+        kind: ErrorKind::BrokenPipe,
+    };
+    let result = run_script(
+        alloc,
+        two_bridges::PLAN.as_bytes(),
+        &mut reader,
+        &mut output,
+    );
+    assert_eq!(rt; result, Err(CommandFault::Read));
+    assert!(rt; output.as_slice() == "idle\n".as_bytes());
+}
+
+#[test]
+fn a_failed_write_ends_a_run(rt: HostRuntime) {
+    let alloc = rt.alloc();
+    let plan = two_bridges::PLAN.as_bytes();
+    for room in [0usize, 3, 5, 100] {
+        let mut reader = b"feed C1\n".as_slice();
+        let result = run_script(alloc, plan, &mut reader, &mut Full { room });
+        assert_eq!(rt; result, Err(CommandFault::Write), "at {room}");
+    }
+    let mut reader = b"feed C1\n".as_slice();
+    let result = run_script(alloc, plan, &mut reader, &mut Unflushed);
+    assert_eq!(rt; result, Err(CommandFault::Write));
+    let mut reader = b"".as_slice();
+    let result = run_script(alloc, b"x", &mut reader, &mut Full { room: 4 });
+    assert_eq!(rt; result, Err(CommandFault::Write));
+}

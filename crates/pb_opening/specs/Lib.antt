@@ -1,0 +1,4 @@
+pub mod Deeds
+pub mod OpenFaults
+pub mod Uses
+pub mod Opened

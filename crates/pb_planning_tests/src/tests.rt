@@ -1,0 +1,5 @@
+//! Each module has a harness, and its tests name networks.
+
+mod draw;
+mod settle;
+mod survive;

@@ -1,0 +1,175 @@
+//! Pictures of plan files.
+
+ghost use Rattle.std.specs.Prelude.{◌≡◌, ◌⊎◌, IfOk};
+ghost use Rattle.pb_draw.specs.Draws.{HasWritten};
+ghost use Rattle.pb_print.specs.Refusals.{PrintsRefusal};
+
+mod apart;
+mod plans;
+
+use pb_draw::{Asked, DrawEnd, Format, Rest, run_draw};
+use pb_fakes::{Full, Unflushed};
+use pb_said::CommandFault;
+use plans::Piece;
+use std::alloc::{AllocError, Global};
+use std::io::Write;
+use std::process::Abort;
+use std::test::Fail;
+
+/// What is asked of a plan: the service that stands out, the ports that go down, the most ticks, and the form.
+type Question = (Option<&'static str>, &'static [&'static str], u32, Format);
+
+/// A plan file, what is asked of it, how it ends, and what pieces are written how often.
+type Row = (&'static str, Question, DrawEnd, &'static [Piece]);
+
+const SVG: Format = Format::Svg;
+
+const DOT: Format = Format::Dot;
+
+/// Words as they stand on a command line.
+fn words_of(alloc: Global, texts: &[&str]) -> Result<Vec<String>, AllocError> {
+    let mut words = Vec::new(alloc);
+    for text in texts {
+        words.push(String::from_str(alloc, text)?)?;
+    }
+    Ok(words)
+}
+
+/// Whether the pieces stand in a text, each so often. Where there are none, the text is empty.
+fn has_pieces(rt: &impl Abort, number: usize, text: &str, pieces: &[Piece]) {
+    assert_eq!(rt; text.is_empty(), pieces.is_empty(), "row {number}");
+    for (piece, wanted) in pieces {
+        let times = text.matches(*piece).count();
+        assert_eq!(rt; times, *wanted, "row {number}: {piece}");
+    }
+}
+
+/// What a caller may take from `run_draw`: what was written of the plan that the file tells, or the rule that it breaks.
+fn drawn<W: Write>(
+    alloc: Global,
+    file: &[u8],
+    asked: &Asked<'_>,
+    writer: &mut W,
+) -> Result<DrawEnd, CommandFault>
+    ensures { IfOk result (λ end. HasWritten file.now asked.now end (W.contents writer.old) (W.contents writer.new)
+        ⊎ ((end ≡ DrawEnd.Refused) × PrintsRefusal file.now (W.contents writer.old) (W.contents writer.new))) }
+{
+    run_draw(alloc, file, asked, writer)
+}
+
+/// The rows come out as they are told.
+fn draws(rt: &impl Abort, alloc: Global, rows: &[Row]) -> Result<(), Fail> {
+    for (number, (plan, question, end, pieces)) in rows.iter().enumerate() {
+        let (service, downs, ticks, format) = *question;
+        let words = words_of(alloc, downs)?;
+        let asked = Asked {
+            service,
+            downs: words.as_slice(),
+            ticks,
+            format,
+        };
+        let mut output = Vec::new(alloc);
+        let told = drawn(alloc, plan.as_bytes(), &asked, &mut output);
+        assert_eq!(rt; told, Ok(*end), "row {number}");
+        let text = std::str::from_utf8(output.as_slice()).unwrap_or("");
+        has_pieces(rt, number, text, pieces);
+    }
+    Ok(())
+}
+
+#[test]
+fn networks_are_drawn(rt: HostRuntime) -> Result<(), Fail> {
+    const ROWS: &[Row] = &[
+        (
+            plans::GIVEN,
+            (None, &[], 200, SVG),
+            DrawEnd::Drawn(Rest::Given),
+            plans::GIVEN_PIECES,
+        ),
+        (
+            plans::GIVEN,
+            (Some("blue"), &[], 200, SVG),
+            DrawEnd::Drawn(Rest::Given),
+            plans::BLUE_PIECES,
+        ),
+        (
+            plans::GIVEN,
+            (None, &["B2:2"], 0, SVG),
+            DrawEnd::Drawn(Rest::Given),
+            plans::DOWN_PIECES,
+        ),
+        (
+            plans::GIVEN,
+            (None, &[], 200, DOT),
+            DrawEnd::Drawn(Rest::Given),
+            plans::DOT_PIECES,
+        ),
+        (
+            plans::RING,
+            (None, &[], 200, SVG),
+            DrawEnd::Drawn(Rest::Settled(2)),
+            plans::RING_PIECES,
+        ),
+        (
+            plans::RING,
+            (None, &[], 0, SVG),
+            DrawEnd::Drawn(Rest::Unsettled(0)),
+            plans::UNSETTLED_PIECES,
+        ),
+    ];
+    draws(&rt, rt.alloc(), ROWS)
+}
+
+#[test]
+fn what_is_wrong_is_told(rt: HostRuntime) -> Result<(), Fail> {
+    const NONE: &[Piece] = &[];
+    const ROWS: &[Row] = &[
+        (
+            "bridges = []",
+            (None, &[], 200, SVG),
+            DrawEnd::Refused,
+            &[("plan: 6 unknown bridges\n", 1)],
+        ),
+        (
+            plans::GIVEN,
+            (Some("green"), &[], 200, SVG),
+            DrawEnd::NoService,
+            NONE,
+        ),
+        (
+            plans::GIVEN,
+            (Some(""), &["B9:1"], 200, SVG),
+            DrawEnd::NoService,
+            NONE,
+        ),
+        (
+            plans::GIVEN,
+            (Some("red"), &["B2:2", "B9:1"], 200, SVG),
+            DrawEnd::NoPort(1),
+            NONE,
+        ),
+        (
+            plans::GIVEN,
+            (None, &["B1:3"], 200, DOT),
+            DrawEnd::NoPort(0),
+            NONE,
+        ),
+    ];
+    draws(&rt, rt.alloc(), ROWS)
+}
+
+#[test]
+fn writes_that_fail_are_told(rt: HostRuntime) {
+    let alloc = rt.alloc();
+    let asked = Asked {
+        service: None,
+        downs: &[],
+        ticks: 200,
+        format: Format::Svg,
+    };
+    let plan = plans::RING.as_bytes();
+    let told = run_draw(alloc, plan, &asked, &mut Full { room: 5 });
+    assert_eq!(rt; told, Err(CommandFault::Write));
+    let told = run_draw(alloc, plan, &asked, &mut Unflushed);
+    assert_eq!(rt; told, Err(CommandFault::Write));
+}

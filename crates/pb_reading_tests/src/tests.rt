@@ -1,0 +1,5 @@
+//! Each module is about one kind of text.
+
+mod locate;
+mod script;
+mod service;

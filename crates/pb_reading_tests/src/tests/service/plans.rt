@@ -1,0 +1,428 @@
+//! What a file that is taken tells.
+
+ghost use Rattle.std.specs.Prelude.{◌≡◌, IfOk};
+ghost use Rattle.pb_service.specs.PlanFiles.{Tells, network_row};
+ghost use Rattle.pb_service.specs.Tables.{limits_told};
+
+use super::NETWORK;
+use bytes::Bytes;
+use pb_frame::Text;
+use pb_lan::{
+    BridgePlan, CustomerPlan, End, LinkPlan, Mac, Plan, PortState, Seq, ServicePlan, Spanning,
+};
+use pb_service::{
+    Limits, PlanFault, PortEvent, PortSpec, Stamp, read_limits, read_plan, read_plan_file,
+};
+use std::alloc::Global;
+use std::fmt::Write;
+
+/// What a caller may take from `read_limits`: what stands under the network's keys, with the defaults.
+fn limits_of(alloc: Global, file: &[u8]) -> Result<Limits, PlanFault>
+    ensures { IfOk result (λ limits. Tells file.now (λ document. limits ≡ limits_told (network_row document))) }
+{
+    read_limits(alloc, file)
+}
+
+/// Whether these are its bridges, by the defaults where the file tells nothing.
+fn are_bridges(bridges: &[BridgePlan]) -> bool {
+    let [first, second] = bridges else {
+        return false;
+    };
+    first.name.as_str() == "B1"
+        && second.address == Mac([2, 0, 0, 0, 0, 2])
+        && first.priority == 32_768
+        && first.queue == 64
+}
+
+/// Whether these are its services.
+fn are_services(services: &[ServicePlan]) -> bool {
+    let [_, second] = services else {
+        return false;
+    };
+    second.name.as_str() == "blue" && second.vid == 200
+}
+
+/// Whether it has these by default.
+fn has_defaults(plan: &Plan) -> bool {
+    plan.spanning == Spanning::Fixed
+        && plan.ageing == 300
+        && plan.ring == 64
+        && plan.steps == u64::MAX
+}
+
+#[test]
+fn the_network_has_its_bridges_and_services(rt: HostRuntime) -> Result<(), PlanFault> {
+    let (plan, ports) = read_plan(rt.alloc(), NETWORK.as_bytes())?;
+    assert!(rt; are_bridges(plan.bridges.as_slice()));
+    assert!(rt; are_services(plan.services.as_slice()));
+    assert!(rt; has_defaults(&plan) && ports.len() == 3);
+    Ok(())
+}
+
+/// Whether an end is this port, by the defaults.
+fn is_end_at(end: &End, bridge: u8, port: u8) -> bool {
+    end.bridge == bridge
+        && end.port == port
+        && end.cost == 20_000
+        && end.priority == 128
+        && end.start == PortState::Forwarding
+        && end.services.is_none()
+}
+
+/// Whether this is its one link.
+fn are_links(links: &[LinkPlan]) -> bool {
+    let [link] = links else {
+        return false;
+    };
+    link.name.as_str() == "L1"
+        && is_end_at(&link.a, 1, 1)
+        && is_end_at(&link.b, 2, 1)
+        && link.lost_ab.len() == 0
+}
+
+/// Whether these are its customer ports, the last one by its keys.
+fn are_customers(customers: &[CustomerPlan]) -> bool {
+    let [_, _, last] = customers else {
+        return false;
+    };
+    last.name.as_str() == "C3"
+        && last.bridge == 2
+        && last.port == 3
+        && last.service == 2
+        && last.pcp == 0
+        && last.queue == 64
+}
+
+/// Whether there are three ports, of which the last is this.
+fn are_ports(ports: &[PortSpec], want: &PortSpec) -> bool {
+    match ports {
+        [_, _, last] => last == want,
+        _ => false,
+    }
+}
+
+#[test]
+fn the_network_has_its_link_and_ports(rt: HostRuntime) -> Result<(), PlanFault> {
+    let want = PortSpec::Memory(Seq::from_vec(Vec::new(rt.alloc())));
+    let (plan, ports) = read_plan(rt.alloc(), NETWORK.as_bytes())?;
+    assert!(rt; are_links(plan.links.as_slice()));
+    assert!(rt; are_customers(plan.customers.as_slice()));
+    assert!(rt; are_ports(&ports, &want));
+    Ok(())
+}
+
+/// A file, and the limits that it asks for.
+type Asked = (&'static str, Limits);
+
+/// The limits of a file that says nothing of them.
+const UNSAID: Limits = Limits {
+    turns: u64::MAX,
+    tick_every: 0,
+    tick_ms: 0,
+    hold: 0,
+};
+
+/// Files with their limits.
+const LIMITS: &[Asked] = &[
+    (NETWORK, UNSAID),
+    ("", UNSAID),
+    (
+        "[network]\nturns = 7\ntick_every = 5\n",
+        Limits {
+            turns: 7,
+            tick_every: 5,
+            ..UNSAID
+        },
+    ),
+    (
+        "[network]\nhold = 11\ntick_ms = 3\n",
+        Limits {
+            tick_ms: 3,
+            hold: 11,
+            ..UNSAID
+        },
+    ),
+    (
+        "[network]\nhold = 2\ntick_every = 9\ntick_ms = 0\n",
+        Limits {
+            tick_every: 9,
+            hold: 2,
+            ..UNSAID
+        },
+    ),
+];
+
+#[test]
+fn limits_are_read_or_have_defaults(rt: HostRuntime) -> Result<(), PlanFault> {
+    for (file, limits) in LIMITS {
+        let told = limits_of(rt.alloc(), file.as_bytes())?;
+        assert!(rt; told == *limits, "{file}");
+    }
+    Ok(())
+}
+
+/// Events behind the network's file, and what they are, in the order of the file.
+const EVENTS: (&str, &[PortEvent]) = (
+    "[[event]]\nat = 4294967295\nbridge = \"B2\"\nport = 1\nup = true\n[[event]]\nat = 0\nbridge = \"B1\"\nport = 1\nup = false\n",
+    &[
+        PortEvent {
+            at: 4_294_967_295,
+            bridge: 2,
+            port: 1,
+            up: true,
+        },
+        PortEvent {
+            at: 0,
+            bridge: 1,
+            port: 1,
+            up: false,
+        },
+    ],
+);
+
+/// What the network's file tells with these behind it: how many bridges and ports, and whether the turns have no limit and
+/// the events are these.
+fn told_with(
+    alloc: Global,
+    (tables, events): (&str, &[PortEvent]),
+) -> Result<(usize, usize, bool), PlanFault> {
+    let text = format!(in alloc; "{NETWORK}{tables}")?;
+    let file = read_plan_file(alloc, text.as_bytes())?;
+    let are_told = file.limits == UNSAID && file.events.as_slice() == events;
+    Ok((file.plan.bridges.len(), file.ports.len(), are_told))
+}
+
+#[test]
+fn events_are_read_in_order(rt: HostRuntime) -> Result<(), PlanFault> {
+    assert_eq!(rt; told_with(rt.alloc(), EVENTS)?, (2, 3, true));
+    assert_eq!(rt; told_with(rt.alloc(), ("", &[]))?, (2, 3, true));
+    Ok(())
+}
+
+/// Files whose limits are refused.
+const WRONG: &[&str] = &[
+    "[network]\nturns = 0\n",
+    "bridge = 1",
+    "[network]\ntick_every = 1\ntick_ms = 1\n",
+    "[network]\nhold = 1\n",
+];
+
+#[test]
+fn limits_of_a_wrong_file_are_refused(rt: HostRuntime) {
+    for file in WRONG {
+        assert!(rt; read_limits(rt.alloc(), file.as_bytes()).is_err(), "{file}");
+    }
+}
+
+/// A link with every key, between a bridge's ports.
+const LINK: &str = "\
+[network]
+spanning = \"rstp\"
+[[bridge]]
+name = \"B\"
+address = \"02-00-00-00-00-01\"
+[[link]]
+name = \"L\"
+a = \"B\"
+a_port = 1
+b = \"B\"
+b_port = 2
+a_cost = 3
+b_cost = 4
+a_priority = 16
+b_priority = 32
+a_state = \"discarding\"
+b_state = \"learning\"
+a_services = [\"blue\", \"red\"]
+b_services = []
+lost_ab = [0, 5]
+lost_ba = [1, 2, 9223372036854775807]
+[[service]]
+name = \"red\"
+vid = 1
+[[service]]
+name = \"green\"
+vid = 2
+[[service]]
+name = \"blue\"
+vid = 3
+";
+
+/// Whether an end has these keys.
+fn has_keys(end: &End, cost: u32, priority: u8, start: PortState) -> bool {
+    end.cost == cost && end.priority == priority && end.start == start
+}
+
+/// Whether the ends of the one link have their keys.
+fn have_keys(links: &[LinkPlan]) -> bool {
+    let [link] = links else {
+        return false;
+    };
+    has_keys(&link.a, 3, 16, PortState::Discarding) && has_keys(&link.b, 4, 32, PortState::Learning)
+}
+
+#[test]
+fn ends_have_their_keys(rt: HostRuntime) -> Result<(), PlanFault> {
+    let (plan, _) = read_plan(rt.alloc(), LINK.as_bytes())?;
+    assert!(rt; plan.spanning == Spanning::Rstp && have_keys(plan.links.as_slice()));
+    Ok(())
+}
+
+/// Whether an end is for these services.
+fn is_for(end: &End, services: &[u8]) -> bool {
+    match &end.services {
+        Some(listed) => listed.as_slice() == services,
+        None => false,
+    }
+}
+
+/// The items that the link loses each way.
+const LOST_AB: &[u64] = &[0, 5];
+
+const LOST_BA: &[u64] = &[1, 2, 9_223_372_036_854_775_807];
+
+/// Whether the one link has its lists.
+fn have_lists(links: &[LinkPlan]) -> bool {
+    let [link] = links else {
+        return false;
+    };
+    is_for(&link.a, &[1, 3])
+        && is_for(&link.b, &[])
+        && link.lost_ab.as_slice() == LOST_AB
+        && link.lost_ba.as_slice() == LOST_BA
+}
+
+#[test]
+fn links_have_their_lists(rt: HostRuntime) -> Result<(), PlanFault> {
+    let (plan, _) = read_plan(rt.alloc(), LINK.as_bytes())?;
+    assert!(rt; have_lists(plan.links.as_slice()));
+    Ok(())
+}
+
+/// Whether a port with these keys is of this kind.
+fn is_port(alloc: Global, keys: &str, want: &PortSpec) -> Result<bool, PlanFault> {
+    let text = format!(in alloc; "{NETWORK}{keys}\n")?;
+    let (_, ports) = read_plan(alloc, text.as_bytes())?;
+    Ok(are_ports(&ports, want))
+}
+
+/// A port over memory that gives the octets 0A and FF, and then none.
+fn memory(alloc: Global) -> Result<PortSpec, PlanFault> {
+    let mut frames = Vec::new(alloc);
+    frames.push(Bytes::copy_from_slice(alloc, &[0x0a, 0xff])?)?;
+    frames.push(Bytes::copy_from_slice(alloc, &[])?)?;
+    Ok(PortSpec::Memory(Seq::from_vec(frames)))
+}
+
+fn text(alloc: Global, word: &str) -> Result<Text, PlanFault> {
+    Ok(Text::from_string(String::from_str(alloc, word)?))
+}
+
+/// A port over two captures.
+fn capture(alloc: Global, stamp: Stamp) -> Result<PortSpec, PlanFault> {
+    let read = text(alloc, "in.pcap")?;
+    let write = text(alloc, "out.pcap")?;
+    Ok(PortSpec::Capture { read, write, stamp })
+}
+
+fn socket(alloc: Global, listens: bool) -> Result<PortSpec, PlanFault> {
+    let path = text(alloc, "p")?;
+    Ok(PortSpec::Socket { path, listens })
+}
+
+/// Whether the keys of a port over memory are read.
+fn is_memory(alloc: Global) -> Result<bool, PlanFault> {
+    let want = memory(alloc)?;
+    is_port(alloc, "in = [\"0aFf\", \"\"]", &want)
+}
+
+/// The same of a port over captures, with this stamp.
+fn is_capture(alloc: Global, stamp: &str, want: Stamp) -> Result<bool, PlanFault> {
+    let want = capture(alloc, want)?;
+    let keys = format!(in alloc;
+        "kind = \"capture\"\nread = \"in.pcap\"\nwrite = \"out.pcap\"\n{stamp}\n[network]\ntick_ms = 10"
+    )?;
+    is_port(alloc, keys.as_str(), &want)
+}
+
+/// The same of a port over a socket, whose path stands at a key.
+fn is_socket(alloc: Global, key: &str, listens: bool) -> Result<bool, PlanFault> {
+    let want = socket(alloc, listens)?;
+    let keys = format!(in alloc; "kind = \"socket\"\n{key} = \"p\"")?;
+    is_port(alloc, keys.as_str(), &want)
+}
+
+#[test]
+fn ports_are_of_three_kinds(rt: HostRuntime) -> Result<(), PlanFault> {
+    assert!(rt; is_memory(rt.alloc())?);
+    assert!(rt; is_capture(rt.alloc(), "", Stamp::Ticks)?);
+    assert!(rt; is_capture(rt.alloc(), "stamp = \"ticks\"", Stamp::Ticks)?);
+    assert!(rt; is_capture(rt.alloc(), "stamp = \"time\"", Stamp::Time)?);
+    assert!(rt; is_socket(rt.alloc(), "path", false)?);
+    assert!(rt; is_socket(rt.alloc(), "listen", true)?);
+    Ok(())
+}
+
+/// A table of the largest plan.
+fn put_table(text: &mut String, head: &str, number: u8, rest: &str) -> Result<(), PlanFault> {
+    write!(text, "[[{head}]]\nname = \"{head}-{number}\"\n{rest}\n")?;
+    Ok(())
+}
+
+/// The bridges and services of the largest plan.
+fn put_bridges(alloc: Global, text: &mut String) -> Result<(), PlanFault> {
+    for i in 0..32u8 {
+        put_table(
+            text,
+            "bridge",
+            i,
+            format!(in alloc; "address = \"02-00-00-00-00-{i:02x}\"")?.as_str(),
+        )?;
+    }
+    for i in 0..64u8 {
+        put_table(
+            text,
+            "service",
+            i,
+            format!(in alloc; "vid = 10{i}")?.as_str(),
+        )?;
+    }
+    Ok(())
+}
+
+/// Its links and customer ports.
+fn put_ports(alloc: Global, text: &mut String) -> Result<(), PlanFault> {
+    for i in 0..64u8 {
+        let (a, b, port) = (i % 32, (i % 32 + 1) % 32, 1 + i / 32 * 2);
+        let rest = format!(in alloc;
+            "a = \"bridge-{a}\"\na_port = {port}\nb = \"bridge-{b}\"\nb_port = 1{port}\nb_services = [\"service-{i}\"]"
+        )?;
+        put_table(text, "link", i, rest.as_str())?;
+    }
+    for i in 0..128u8 {
+        let (bridge, service, port) = (i % 32, i % 64, 5 + i / 32);
+        let rest = format!(in alloc;
+            "bridge = \"bridge-{bridge}\"\nservice = \"service-{service}\"\nport = {port}"
+        )?;
+        put_table(text, "port", i, rest.as_str())?;
+    }
+    Ok(())
+}
+
+/// How many bridges, links, services and customer ports there are.
+fn sizes(plan: &Plan) -> (usize, usize, usize, usize) {
+    let (bridges, links) = (plan.bridges.len(), plan.links.len());
+    (bridges, links, plan.services.len(), plan.customers.len())
+}
+
+#[test]
+fn the_largest_plan_is_read(rt: HostRuntime) -> Result<(), PlanFault> {
+    let alloc = rt.alloc();
+    let mut text = String::new(alloc);
+    put_bridges(alloc, &mut text)?;
+    put_ports(alloc, &mut text)?;
+    let (plan, ports) = read_plan(alloc, text.as_bytes())?;
+    assert_eq!(rt; sizes(&plan), (32, 64, 64, 128));
+    assert_eq!(rt; ports.len(), 128);
+    Ok(())
+}

@@ -1,5 +1,0 @@
-use Rattle.pb_run.specs.Bridges.{AreUsed}
-use Rattle.pb_run.proofs.used.used_ports.Given as goal
-
-abbrev pub invariant-loop-port : goal.invariant-loop-port
-invariant-loop-port l = AreUsed l.plan l.bridge l.count l.ports.items

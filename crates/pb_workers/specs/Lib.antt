@@ -1,0 +1,4 @@
+pub mod Ports
+pub mod Bridges
+pub mod Workers
+pub mod Drained

@@ -1,0 +1,351 @@
+//! The worker of a bridge.
+
+ghost use Rattle.std.specs.Prelude.{◌≡◌, ◌&&◌, ◌<◌, ◌≤◌, ◌+◌, ◌-◌, ℕ, [], true, false, IfOk, OnErr, length, map, vec_len, slice_index_or};
+ghost use Rattle.std.specs.List.{list_any};
+ghost use Rattle.rtrb.specs.Ring.{sent, received as received_over};
+ghost use Rattle.pb_frame.specs.Lists.{IsBeginning};
+ghost use Rattle.pb_lan.specs.LaneLists.{taken, put};
+ghost use Rattle.pb_lan.specs.Laws.{is_setting};
+ghost use Rattle.pb_lan.specs.PortLists.{fed, delivered};
+ghost use Rattle.pb_lan.specs.Ports.{port_at, is_used, is_provider};
+ghost use Rattle.pb_lan.specs.Plans.{IsSound, IsNumber};
+ghost use Rattle.pb_lan.specs.Records.{received, transmitted};
+ghost use Rattle.pb_relay.specs.Changes.{HasSet};
+ghost use Rattle.pb_relay.specs.Standing.{at_start};
+ghost use Rattle.pb_ring.specs.Rings.{shown_at};
+ghost use Rattle.pb_workers.specs.Bridges.{AreUsed, view_of};
+
+use crate::access::Access;
+use crate::gift::BridgeGift;
+use crate::lane::LaneWorker;
+use crate::mode::Mode;
+use crate::refusal::{Refusal, Taken, turn};
+use crate::used::used_ports;
+use crate::view::view_of;
+use pb_frame::Memory;
+use pb_lan::{Outcome, Place, Plan};
+use pb_relay::{Bridge, BridgeFault};
+use pb_ring::{Inlets, Outlets, Wiring};
+use pb_work::{Did, Finish, Moment, PortView, Turn, Wish, Work};
+use std::alloc::Global;
+
+/// A bridge of a plan with the rings at its local ports: by one it receives, and by the other it sends.
+/// The rings of local port p stand at place p-1.
+#[derive(Drop)]
+pub struct BridgeWorker<W: Wiring> {
+    /// The bridge's number in the plan, from 1.
+    pub number: u8,
+    /// The bridge.
+    pub bridge: Bridge,
+    /// The ends through which it receives.
+    pub ins: Inlets<W>,
+    /// The ends through which it sends.
+    pub outs: Outlets<W>,
+    /// The local ports that the plan uses.
+    pub ports: Vec<u8>,
+    /// Why the worker ended, once it has.
+    pub finish: Option<Finish>,
+    /// Where the next look at the ports begins.
+    pub(crate) next: usize,
+    /// Whether it fulfils wishes.
+    pub(crate) sets: bool,
+    pub ghost used: { AreUsed bridge.plan bridge.number (vec_len ins.ends) ports.items },
+    pub ghost sides: { vec_len outs.ends ≡ vec_len ins.ends },
+    pub ghost took: { (q : ℕ) → shown_at (λ i. received_over i.end) ins.ends.items q ≡ received (q + 1) bridge.steps },
+    pub ghost gave: { (q : ℕ) → shown_at (λ o. sent o.end) outs.ends.items q ≡ transmitted (q + 1) bridge.steps },
+    pub ghost wishes: { sets ≡ true → W.sets ≡ true },
+    pub ghost unset: { W.sets ≡ false → list_any is_setting bridge.steps ≡ false },
+    pub ghost kept: { W.keeps ≡ true → bridge.is_kept ≡ true },
+}
+
+impl From<BridgeFault> for Refusal {
+    fn from(fault: BridgeFault) -> Refusal {
+        match fault {
+            BridgeFault::StepLimit => Refusal::Limit,
+            BridgeFault::Memory => Refusal::Memory,
+        }
+    }
+}
+
+/// The bridge of this number, which keeps its steps or only counts them.
+fn new_bridge(alloc: Global, plan: &Plan, number: u8, keeps: bool) -> Result<Bridge, Memory>
+    requires sound { IsSound plan.now }
+    requires bridge { IsNumber number (length plan.now.bridges) }
+    ensures { IfOk result (λ bridge. bridge ≡ at_start plan.now number keeps) }
+{
+    if keeps {
+        Bridge::new(alloc, plan, number)
+    } else {
+        Bridge::counting(alloc, plan, number)
+    }
+}
+
+/// How many copies of a frame were queued, and how many found no room.
+struct Copies {
+    queued: u64,
+    refused: u64,
+}
+
+/// How many copies there are of a frame of which this became.
+fn copies_of(outcome: &Outcome) -> Copies {
+    match outcome {
+        Outcome::Relayed { chosen, refused } => {
+            let (chosen, refused) = (chosen.list(), refused.list());
+            let (chosen, refused) = (chosen.as_slice().len(), refused.as_slice().len());
+            Copies {
+                queued: chosen.saturating_sub(refused) as u64,
+                refused: refused as u64,
+            }
+        }
+        _ => Copies {
+            queued: 0,
+            refused: 0,
+        },
+    }
+}
+
+/// The turn in which a frame was received, of which this became. One that is marked is to be done with.
+fn received(is_marked: bool, outcome: &Outcome) -> Turn {
+    let Copies { queued, refused } = copies_of(outcome);
+    Turn {
+        did: Did::Done,
+        more: if is_marked { queued } else { 0 },
+        fewer: u64::from(is_marked),
+        refused,
+        has_stirred: matches!(outcome, Outcome::Heard),
+    }
+}
+
+/// A turn after which roles and states of ports may be others.
+fn stirred(turn: Turn) -> Turn {
+    Turn {
+        has_stirred: true,
+        ..turn
+    }
+}
+
+impl<W: Wiring> BridgeWorker<W> {
+    ghost use Rattle.pb_workers.specs.Workers.{AreNewSides, IsSameBridge, HasRings};
+
+    /// The worker of the bridge of this number, which has taken no step, over rings that nothing has
+    /// passed. It serves the local ports that the plan uses and that have rings. By its mode it keeps its steps or only
+    /// counts them, and fulfils wishes or not.
+    ///
+    /// `Memory` is answered where there was none for the bridge or for the list of its ports.
+    pub fn new(
+        alloc: Global,
+        plan: &Plan,
+        number: u8,
+        ins: Inlets<W>,
+        outs: Outlets<W>,
+        mode: Mode,
+    ) -> Result<BridgeWorker<W>, Memory>
+        requires kept { W.keeps ≡ true → mode.keeps ≡ true }
+        requires set { mode.sets ≡ true → W.sets ≡ true }
+        requires sound { IsSound plan.now }
+        requires bridge { IsNumber number (length plan.now.bridges) }
+        requires sides { AreNewSides ins outs }
+        ensures number { IfOk result (λ worker. worker.number ≡ number) }
+        ensures bridge { IfOk result (λ worker. worker.bridge ≡ at_start plan.now number mode.keeps) }
+        ensures rings { IfOk result (λ worker. (worker.ins ≡ ins) × (worker.outs ≡ outs)) }
+    {
+        let ports = used_ports(alloc, plan, number, ins.ends.len())?;
+        let bridge = new_bridge(alloc, plan, number, mode.keeps)?;
+        Ok(BridgeWorker {
+            number,
+            bridge,
+            ins,
+            outs,
+            ports,
+            finish: None,
+            next: 0,
+            sets: mode.sets,
+        })
+    }
+
+    /// Sends the item that leaves a port next, where one waits and the ring has room.
+    fn transmit(&mut self, port: u8) -> Taken
+        requires port { (0 < port) × (port ≤ vec_len self.old.ins.ends) }
+        requires used { is_used (port_at self.old.bridge.plan self.old.bridge.number port) ≡ true }
+        ensures { IsSameBridge self.old self.new }
+    {
+        let place = port as usize - 1;
+        if self.bridge.waiting(port) == 0 || !self.outs.has_room(place) {
+            return Ok(false);
+        }
+        self.bridge.reserve_step()?;
+        let item = self.bridge.pop_out(port);
+        self.outs.push(place, item);
+        Ok(true)
+    }
+
+    /// Receives the item that came first to a port, where one did.
+    fn receive(&mut self, port: u8) -> Turn
+        requires port { (0 < port) × (port ≤ vec_len self.old.ins.ends) }
+        requires used { is_used (port_at self.old.bridge.plan self.old.bridge.number port) ≡ true }
+        ensures { IsSameBridge self.old self.new }
+    {
+        let place = port as usize - 1;
+        if !self.ins.has_item(place) {
+            return turn(Ok(false), 0, 0);
+        }
+        if let Err(fault) = self.bridge.reserve_step() {
+            return turn(Err(Refusal::from(fault)), 0, 0);
+        }
+        let Some(item) = self.ins.pop(place) else {
+            return turn(Ok(false), 0, 0);
+        };
+        let is_marked = item.mark.is_some();
+        let Ok(outcome) = self.bridge.receive(port, item) else {
+            unreachable!();
+        };
+        received(is_marked, &outcome)
+    }
+
+    /// The clock ticks.
+    fn tick(&mut self) -> Taken
+        ensures number { self.new.number ≡ self.old.number }
+        ensures bridge { (self.new.bridge.plan ≡ self.old.bridge.plan) × (self.new.bridge.number ≡ self.old.bridge.number) }
+        ensures ports { self.new.ports ≡ self.old.ports }
+        ensures rings { (self.new.ins ≡ self.old.ins) × (self.new.outs ≡ self.old.outs) }
+    {
+        self.bridge.tick()?;
+        Ok(true)
+    }
+
+    /// Sets a port to another bridge up or down, where the worker fulfils wishes and the bridge has such a port. Else nothing
+    /// has changed.
+    fn set(&mut self, wish: Wish) -> Taken
+        ensures whether { IfOk result (λ has_set. has_set ≡ (self.old.sets && is_provider (port_at self.old.bridge.plan self.old.bridge.number wish.port))) }
+        ensures done { IfOk result (λ has_set. has_set ≡ true → HasSet self.old.bridge wish.port wish.up self.new.bridge) }
+        ensures left { IfOk result (λ has_set. has_set ≡ false → self.new.bridge ≡ self.old.bridge) }
+        ensures err { OnErr result (self.new.bridge ≡ self.old.bridge) }
+        ensures number { self.new.number ≡ self.old.number }
+        ensures bridge { (self.new.bridge.plan ≡ self.old.bridge.plan) × (self.new.bridge.number ≡ self.old.bridge.number) }
+        ensures ports { self.new.ports ≡ self.old.ports }
+        ensures rings { (self.new.ins ≡ self.old.ins) × (self.new.outs ≡ self.old.outs) }
+    {
+        if !self.sets || !self.bridge.has_link(wish.port) {
+            return Ok(false);
+        }
+        self.bridge.admin(wish.port, wish.up)?;
+        Ok(true)
+    }
+
+    /// Sends at a port, or receives there: the first that there is to do.
+    fn serve(&mut self, port: u8) -> Turn
+        requires port { (0 < port) × (port ≤ vec_len self.old.ins.ends) }
+        requires used { is_used (port_at self.old.bridge.plan self.old.bridge.number port) ≡ true }
+        ensures { IsSameBridge self.old self.new }
+    {
+        let sent = self.transmit(port);
+        if sent != Ok(false) {
+            return turn(sent, 0, 0);
+        }
+        self.receive(port)
+    }
+
+    /// Serves the first port at which there is something to do, in turn from that behind the last.
+    fn look(&mut self) -> Turn
+        ensures { IsSameBridge self.old self.new }
+    {
+        let count = self.ports.len();
+        for ahead in 0..count {
+            let place = self.next.wrapping_add(ahead) % count;
+            let port = self.ports[place];
+            let served = self.serve(port);
+            if served.did != Did::Idle {
+                self.next = place.wrapping_add(1);
+                return served;
+            }
+        }
+        turn(Ok(false), 0, 0)
+    }
+
+    /// The rings of a customer port and of this bridge's local port, once both workers are back: what the
+    /// bridge received begins what the port fed, and what the port took begins what the bridge sent.
+    pub fn meet_customer(&mut self, port: u8, access: &mut Access<W>)
+        requires { HasRings self.old port access.old.feed.number access.old.drain.number }
+        ensures into { IsBeginning (received port self.old.bridge.steps) (fed access.old.place.steps) }
+        ensures out { IsBeginning (delivered access.old.place.steps) (transmitted port self.old.bridge.steps) }
+        ensures bridge { (self.new.bridge ≡ self.old.bridge) × (self.new.number ≡ self.old.number) }
+        ensures ins { map (λ i. i.number) self.new.ins.ends.items ≡ map (λ i. i.number) self.old.ins.ends.items }
+        ensures outs { map (λ o. o.number) self.new.outs.ends.items ≡ map (λ o. o.number) self.old.outs.ends.items }
+        ensures access { (access.new.place ≡ access.old.place) × (access.new.book ≡ access.old.book) × (access.new.offered ≡ access.old.offered) }
+        ensures rings { (access.new.feed.number ≡ access.old.feed.number) × (access.new.drain.number ≡ access.old.drain.number) }
+    {
+        self.ins.meet(port as usize - 1, &mut access.feed);
+        self.outs.meet(port as usize - 1, &mut access.drain);
+    }
+
+    /// The ring from this bridge's local port to the lane that leads away from it, once both workers are
+    /// back: what the lane took begins what the bridge sent.
+    pub fn meet_lane_away(&mut self, port: u8, lane: &mut LaneWorker<W>)
+        requires port { (0 < port) × (port ≤ vec_len self.old.ins.ends) }
+        requires ring { slice_index_or (map (λ o. o.number) self.old.outs.ends.items) (port - 1) 0 ≡ lane.old.from.number }
+        ensures onto { IsBeginning (taken lane.old.lane.steps) (transmitted port self.old.bridge.steps) }
+        ensures bridge { (self.new.bridge ≡ self.old.bridge) × (self.new.number ≡ self.old.number) }
+        ensures ins { self.new.ins ≡ self.old.ins }
+        ensures outs { map (λ o. o.number) self.new.outs.ends.items ≡ map (λ o. o.number) self.old.outs.ends.items }
+        ensures lane { (lane.new.lane ≡ lane.old.lane) × (lane.new.number ≡ lane.old.number) }
+        ensures rings { (lane.new.from.number ≡ lane.old.from.number) × (lane.new.to ≡ lane.old.to) }
+    {
+        self.outs.meet(port as usize - 1, &mut lane.from);
+    }
+
+    /// The ring from the lane that leads to this bridge's local port, once both workers are back: what the
+    /// bridge received begins what the lane put.
+    pub fn meet_lane_here(&mut self, port: u8, lane: &mut LaneWorker<W>)
+        requires port { (0 < port) × (port ≤ vec_len self.old.ins.ends) }
+        requires ring { slice_index_or (map (λ i. i.number) self.old.ins.ends.items) (port - 1) 0 ≡ lane.old.to.number }
+        ensures off { IsBeginning (received port self.old.bridge.steps) (put lane.old.lane.steps) }
+        ensures bridge { (self.new.bridge ≡ self.old.bridge) × (self.new.number ≡ self.old.number) }
+        ensures ins { map (λ i. i.number) self.new.ins.ends.items ≡ map (λ i. i.number) self.old.ins.ends.items }
+        ensures outs { self.new.outs ≡ self.old.outs }
+        ensures lane { (lane.new.lane ≡ lane.old.lane) × (lane.new.number ≡ lane.old.number) }
+        ensures rings { (lane.new.to.number ≡ lane.old.to.number) × (lane.new.from ≡ lane.old.from) }
+    {
+        self.ins.meet(port as usize - 1, &mut lane.to);
+    }
+}
+
+impl<W: Wiring> Work for BridgeWorker<W> {
+    type Given = BridgeGift;
+
+    ghost given = { λ w. record { worker = w.number; bridge = w.bridge.number; plan = w.bridge.plan; ins = map (λ i. i.number) w.ins.ends.items; outs = map (λ o. o.number) w.outs.ends.items } };
+
+    ghost fits = { λ w. Unit {0} };
+
+    ghost shown_of = { λ w port. view_of w.bridge port };
+
+    fn place(&self) -> Place {
+        Place::Bridge(self.number)
+    }
+
+    fn turn(&mut self, moment: Moment) -> Turn {
+        if !moment.is_tick {
+            return self.look();
+        }
+        let ticked = self.tick();
+        if ticked.is_err() {
+            return turn(ticked, 0, 0);
+        }
+        let looked = self.look();
+        if looked.did == Did::Idle {
+            return stirred(turn(ticked, 0, 0));
+        }
+        stirred(looked)
+    }
+
+    fn fulfil(&mut self, wish: Wish) -> Turn {
+        stirred(turn(self.set(wish), 0, 0))
+    }
+
+    fn shown(&self, port: u8) -> Option<PortView> {
+        view_of(&self.bridge, port)
+    }
+
+    fn close(&mut self, _moment: Moment, finish: Finish) {
+        self.finish = Some(finish);
+    }
+}

@@ -1,0 +1,212 @@
+//! The worker of a customer port.
+
+ghost use Rattle.std.specs.Prelude.{◌≡◌, ◌++◌, [], true, Ok};
+ghost use Rattle.pb_workers.specs.Ports.{KeepsPort};
+
+use crate::access::{Access, Last};
+use crate::gift::CustomerGift;
+use crate::refusal::{Refusal, Taken, turn};
+use pb_lan::Place;
+use pb_port::{Offered, Polled, Port, Pumped};
+use pb_ring::Wiring;
+use pb_work::{Did, Finish, Moment, PortView, Turn, Work};
+use std::snapshot::Snapshot;
+
+/// After how many turns the port writes at the latest, where something waits in it. It writes sooner where there is nothing
+/// else to do, and where it is full, so that frames that leave in close order are written together.
+const PART: u8 = 32;
+
+/// A customer port of a plan: the port outside, and its access.
+#[derive(Drop)]
+pub struct CustomerWorker<W: Wiring, P> {
+    /// The port outside.
+    pub port: P,
+    /// The access.
+    pub access: Access<W>,
+    /// Why the worker ended, once it has.
+    pub finish: Option<Finish>,
+    /// The port as the worker was given it.
+    pub was: Snapshot<P>,
+    /// For how many turns the port has not written.
+    pub held: u8,
+}
+
+impl<W: Wiring, P> CustomerWorker<W, P> {
+    /// The worker of a port and its access. Takes no memory.
+    pub fn new(port: P, access: Access<W>) -> CustomerWorker<W, P>
+        ensures port { (result.port ≡ port) × (result.was.value ≡ port) }
+        ensures access { result.access ≡ access }
+    {
+        let was = Snapshot::of(&port);
+        CustomerWorker {
+            port,
+            access,
+            finish: None,
+            was,
+            held: 0,
+        }
+    }
+}
+
+impl<W: Wiring, P: Port> CustomerWorker<W, P> {
+    /// Polls the port, where a frame may come in.
+    fn poll(&mut self) -> Taken
+        requires { KeepsPort P.script P.tally self.old.was.value self.old.port self.old.access.place.steps self.old.access.book.last }
+        ensures port { KeepsPort P.script P.tally self.new.was.value self.new.port self.new.access.place.steps self.new.access.book.last }
+        ensures was { self.new.was ≡ self.old.was }
+        ensures place { (self.new.access.place.number ≡ self.old.access.place.number) × (self.new.access.book.number ≡ self.old.access.book.number) }
+        ensures rings { (self.new.access.feed.number ≡ self.old.access.feed.number) × (self.new.access.drain.number ≡ self.old.access.drain.number) }
+    {
+        if !self.access.asks()? {
+            return Ok(false);
+        }
+        match self.port.poll() {
+            Polled::Frame(frame) => {
+                self.access.take_in(frame);
+                return Ok(true);
+            }
+            Polled::Nothing => {}
+            Polled::End => self.access.book.last = Last::End,
+            Polled::Fault(8) => return Err(Refusal::Memory),
+            Polled::Fault(fault) => self.access.book.last = Last::Fault(fault),
+        }
+        Ok(false)
+    }
+
+    /// Offers the port the oldest item that waits for it.
+    fn deliver(&mut self) -> Taken
+        requires { KeepsPort P.script P.tally self.old.was.value self.old.port self.old.access.place.steps self.old.access.book.last }
+        ensures port { KeepsPort P.script P.tally self.new.was.value self.new.port self.new.access.place.steps self.new.access.book.last }
+        ensures was { self.new.was ≡ self.old.was }
+        ensures place { (self.new.access.place.number ≡ self.old.access.place.number) × (self.new.access.book.number ≡ self.old.access.book.number) }
+        ensures rings { (self.new.access.feed.number ≡ self.old.access.feed.number) × (self.new.access.drain.number ≡ self.old.access.drain.number) }
+    {
+        if !self.access.fetch()? {
+            return Ok(false);
+        }
+        let access = &self.access;
+        let Some(item) = &access.offered else {
+            return Ok(false);
+        };
+        if item.wire.len() >= 65_536 {
+            return Err(Refusal::Memory);
+        }
+        match self.port.offer(&item.wire) {
+            Offered::Taken => {
+                self.access.let_out(false);
+                Ok(true)
+            }
+            Offered::Gone => {
+                self.access.let_out(true);
+                Ok(true)
+            }
+            Offered::Full => {
+                self.held = PART;
+                Ok(false)
+            }
+            Offered::Memory => Err(Refusal::Memory),
+        }
+    }
+
+    /// Has the port write what waits in it. Answers whether frames left.
+    fn pump(&mut self, now: u32) -> Taken
+        requires { KeepsPort P.script P.tally self.old.was.value self.old.port self.old.access.place.steps self.old.access.book.last }
+        ensures port { KeepsPort P.script P.tally self.new.was.value self.new.port self.new.access.place.steps self.new.access.book.last }
+        ensures was { self.new.was ≡ self.old.was }
+        ensures access { self.new.access ≡ self.old.access }
+    {
+        match self.port.pump(now) {
+            Pumped::Wrote(_) => Ok(true),
+            Pumped::Fault(8) => Err(Refusal::Memory),
+            _ => Ok(false),
+        }
+    }
+
+    /// Whether the port is to write after a turn that did this.
+    fn is_to_write(&mut self, did: Did) -> bool
+        ensures port { (self.new.port ≡ self.old.port) × (self.new.access ≡ self.old.access) × (self.new.was ≡ self.old.was) }
+    {
+        match did {
+            Did::Memory | Did::Limit => false,
+            Did::Done if self.held < PART => {
+                self.held = self.held.saturating_add(1);
+                false
+            }
+            Did::Done | Did::Idle => {
+                self.held = 0;
+                true
+            }
+        }
+    }
+
+    /// Delivers, or feeds, or, where frames may enter, polls: the first that there is to do.
+    fn step(&mut self, may_enter: bool) -> Turn
+        requires { KeepsPort P.script P.tally self.old.was.value self.old.port self.old.access.place.steps self.old.access.book.last }
+        ensures port { KeepsPort P.script P.tally self.new.was.value self.new.port self.new.access.place.steps self.new.access.book.last }
+        ensures was { self.new.was ≡ self.old.was }
+        ensures place { (self.new.access.place.number ≡ self.old.access.place.number) × (self.new.access.book.number ≡ self.old.access.book.number) }
+        ensures rings { (self.new.access.feed.number ≡ self.old.access.feed.number) × (self.new.access.drain.number ≡ self.old.access.drain.number) }
+    {
+        let delivered = self.deliver();
+        if delivered != Ok(false) {
+            return turn(delivered, 0, 1);
+        }
+        let fed = self.access.hand_on();
+        if fed != Ok(false) {
+            return turn(fed, 0, 0);
+        }
+        if !may_enter {
+            return turn(Ok(false), 0, 0);
+        }
+        let had_more = self.access.book.last == Last::More;
+        let polled = self.poll();
+        if had_more && self.access.book.last != Last::More {
+            return Turn {
+                did: Did::Done,
+                fewer: 1,
+                ..Turn::IDLE
+            };
+        }
+        turn(polled, 1, 0)
+    }
+}
+
+impl<W: Wiring, P: Port> Work for CustomerWorker<W, P> {
+    type Given = CustomerGift<P>;
+
+    ghost given = { λ w. record { was = w.was; book = w.access.book.number; access = record { place = w.access.place.number; feed = w.access.feed.number; drain = w.access.drain.number } } };
+
+    ghost fits = { λ w. KeepsPort P.script P.tally w.was.value w.port w.access.place.steps w.access.book.last };
+
+    fn place(&self) -> Place {
+        Place::Customer(self.access.book.number)
+    }
+
+    fn shown(&self, _port: u8) -> Option<PortView> {
+        None
+    }
+
+    fn turn(&mut self, moment: Moment) -> Turn {
+        let stepped = self.step(moment.is_open);
+        if !self.is_to_write(stepped.did) {
+            return stepped;
+        }
+        match self.pump(moment.now) {
+            Err(Refusal::Memory) => Turn {
+                did: Did::Memory,
+                ..stepped
+            },
+            pumped if stepped.did == Did::Idle => turn(pumped, 0, 0),
+            _ => stepped,
+        }
+    }
+
+    fn close(&mut self, moment: Moment, finish: Finish) {
+        self.finish = Some(finish);
+        for _ in 0..4_096u32 {
+            if self.pump(moment.now) != Ok(true) {
+                break;
+            }
+        }
+    }
+}
