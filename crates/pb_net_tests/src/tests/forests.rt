@@ -265,56 +265,58 @@ fn parents_and_depths_show_a_forest_or_none(rt: HostRuntime) -> Result<(), Fail>
     all_hold(&rt, rt.alloc(), ROWS)
 }
 
+/// What is found in networks.
+const SEARCHES: &[Row] = &[
+    (Network::Apart, NOTHING, Asked::Finds(1, Found::Forest)),
+    (Network::Line, NOTHING, Asked::Finds(1, Found::Forest)),
+    (
+        Network::Line,
+        Closed::Port(1, 1),
+        Asked::Finds(1, Found::Forest),
+    ),
+    (Network::Line, NOTHING, Asked::Finds(9, Found::Forest)),
+    (Network::Doubled, NOTHING, Asked::Finds(1, Found::Nothing)),
+    (
+        Network::Doubled,
+        Closed::Port(1, 3),
+        Asked::Finds(1, Found::Forest),
+    ),
+    (Network::Doubled, NOTHING, Asked::Finds(3, Found::Forest)),
+    (Network::Parted, NOTHING, Asked::Finds(1, Found::Forest)),
+    (Network::Parted, NOTHING, Asked::Finds(2, Found::Forest)),
+    (Network::Ring, NOTHING, Asked::Finds(1, Found::Nothing)),
+    (
+        Network::Ring,
+        Closed::Port(2, 1),
+        Asked::Finds(1, Found::Forest),
+    ),
+    (
+        Network::RingWithTail,
+        NOTHING,
+        Asked::Finds(1, Found::Nothing),
+    ),
+    (
+        Network::RingWithTail,
+        Closed::Port(2, 1),
+        Asked::Finds(1, Found::Forest),
+    ),
+    (Network::Looped, NOTHING, Asked::Finds(1, Found::Nothing)),
+    (
+        Network::Looped,
+        Closed::Port(0, 2),
+        Asked::Finds(1, Found::Forest),
+    ),
+    (Network::Astray, NOTHING, Asked::Finds(1, Found::Nothing)),
+    (
+        Network::Astray,
+        Closed::Port(3, 0),
+        Asked::Finds(1, Found::Forest),
+    ),
+];
+
 #[test]
 fn a_forest_is_found_where_there_is_one(rt: HostRuntime) -> Result<(), Fail> {
-    const ROWS: &[Row] = &[
-        (Network::Apart, NOTHING, Asked::Finds(1, Found::Forest)),
-        (Network::Line, NOTHING, Asked::Finds(1, Found::Forest)),
-        (
-            Network::Line,
-            Closed::Port(1, 1),
-            Asked::Finds(1, Found::Forest),
-        ),
-        (Network::Line, NOTHING, Asked::Finds(9, Found::Forest)),
-        (Network::Doubled, NOTHING, Asked::Finds(1, Found::Nothing)),
-        (
-            Network::Doubled,
-            Closed::Port(1, 3),
-            Asked::Finds(1, Found::Forest),
-        ),
-        (Network::Doubled, NOTHING, Asked::Finds(3, Found::Forest)),
-        (Network::Parted, NOTHING, Asked::Finds(1, Found::Forest)),
-        (Network::Parted, NOTHING, Asked::Finds(2, Found::Forest)),
-        (Network::Ring, NOTHING, Asked::Finds(1, Found::Nothing)),
-        (
-            Network::Ring,
-            Closed::Port(2, 1),
-            Asked::Finds(1, Found::Forest),
-        ),
-        (
-            Network::RingWithTail,
-            NOTHING,
-            Asked::Finds(1, Found::Nothing),
-        ),
-        (
-            Network::RingWithTail,
-            Closed::Port(2, 1),
-            Asked::Finds(1, Found::Forest),
-        ),
-        (Network::Looped, NOTHING, Asked::Finds(1, Found::Nothing)),
-        (
-            Network::Looped,
-            Closed::Port(0, 2),
-            Asked::Finds(1, Found::Forest),
-        ),
-        (Network::Astray, NOTHING, Asked::Finds(1, Found::Nothing)),
-        (
-            Network::Astray,
-            Closed::Port(3, 0),
-            Asked::Finds(1, Found::Forest),
-        ),
-    ];
-    all_hold(&rt, rt.alloc(), ROWS)
+    all_hold(&rt, rt.alloc(), SEARCHES)
 }
 
 #[test]

@@ -15,62 +15,64 @@ const PICTURE: Picture = Picture {
     output: None,
 };
 
+/// Words behind `draw`.
+const PICTURES: &[Row] = &[
+    (&["draw", "a"], Wanted::Draw(PICTURE)),
+    (
+        &["draw", "a", "--service", "red"],
+        Wanted::Draw(Picture {
+            service: Some("red"),
+            ..PICTURE
+        }),
+    ),
+    (
+        &["draw", "--format", "dot", "a"],
+        Wanted::Draw(Picture {
+            format: PictureFormat::Dot,
+            ..PICTURE
+        }),
+    ),
+    (&["draw", "a", "--format=svg"], Wanted::Draw(PICTURE)),
+    (
+        &["draw", "--down", "B1:1", "a", "--down", "B2:16"],
+        Wanted::Draw(Picture {
+            downs: &["B1:1", "B2:16"],
+            ..PICTURE
+        }),
+    ),
+    (
+        &["draw", "a", "--ticks", "0"],
+        Wanted::Draw(Picture {
+            ticks: 0,
+            ..PICTURE
+        }),
+    ),
+    (
+        &["draw", "a", "--ticks=100000"],
+        Wanted::Draw(Picture {
+            ticks: 100_000,
+            ..PICTURE
+        }),
+    ),
+    (
+        &["draw", "--", "--format"],
+        Wanted::Draw(Picture {
+            path: "--format",
+            ..PICTURE
+        }),
+    ),
+    (&["draw"], WRONG),
+    (&["draw", "a", "b"], WRONG),
+    (&["draw", "a", "--format", "png"], WRONG),
+    (&["draw", "a", "--format"], WRONG),
+    (&["draw", "a", "--service"], WRONG),
+    (&["draw", "a", "--ticks", "100001"], WRONG),
+    (&["draw", "a", "--pairs"], WRONG),
+];
+
 #[test]
 fn draws_one_file(rt: HostRuntime) -> Result<(), Fail> {
-    const ROWS: &[Row] = &[
-        (&["draw", "a"], Wanted::Draw(PICTURE)),
-        (
-            &["draw", "a", "--service", "red"],
-            Wanted::Draw(Picture {
-                service: Some("red"),
-                ..PICTURE
-            }),
-        ),
-        (
-            &["draw", "--format", "dot", "a"],
-            Wanted::Draw(Picture {
-                format: PictureFormat::Dot,
-                ..PICTURE
-            }),
-        ),
-        (&["draw", "a", "--format=svg"], Wanted::Draw(PICTURE)),
-        (
-            &["draw", "--down", "B1:1", "a", "--down", "B2:16"],
-            Wanted::Draw(Picture {
-                downs: &["B1:1", "B2:16"],
-                ..PICTURE
-            }),
-        ),
-        (
-            &["draw", "a", "--ticks", "0"],
-            Wanted::Draw(Picture {
-                ticks: 0,
-                ..PICTURE
-            }),
-        ),
-        (
-            &["draw", "a", "--ticks=100000"],
-            Wanted::Draw(Picture {
-                ticks: 100_000,
-                ..PICTURE
-            }),
-        ),
-        (
-            &["draw", "--", "--format"],
-            Wanted::Draw(Picture {
-                path: "--format",
-                ..PICTURE
-            }),
-        ),
-        (&["draw"], WRONG),
-        (&["draw", "a", "b"], WRONG),
-        (&["draw", "a", "--format", "png"], WRONG),
-        (&["draw", "a", "--format"], WRONG),
-        (&["draw", "a", "--service"], WRONG),
-        (&["draw", "a", "--ticks", "100001"], WRONG),
-        (&["draw", "a", "--pairs"], WRONG),
-    ];
-    all_ask(&rt, rt.alloc(), ROWS)
+    all_ask(&rt, rt.alloc(), PICTURES)
 }
 
 #[test]

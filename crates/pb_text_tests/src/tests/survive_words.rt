@@ -13,64 +13,66 @@ const LINKS: Look = Look {
     ticks: 200,
 };
 
+/// Words behind `survive`.
+const LOOKS: &[Row] = &[
+    (&["survive", "a"], Wanted::Survive(LINKS)),
+    (
+        &["survive", "--pairs", "a"],
+        Wanted::Survive(Look {
+            pairs: true,
+            ..LINKS
+        }),
+    ),
+    (
+        &["survive", "a", "--bridges"],
+        Wanted::Survive(Look {
+            bridges: true,
+            ..LINKS
+        }),
+    ),
+    (
+        &["survive", "a", "--ticks", "1"],
+        Wanted::Survive(Look { ticks: 1, ..LINKS }),
+    ),
+    (
+        &["survive", "a", "--ticks=1000000"],
+        Wanted::Survive(Look {
+            ticks: 1_000_000,
+            ..LINKS
+        }),
+    ),
+    (
+        &["survive", "a", "--service", "red"],
+        Wanted::Survive(Look {
+            of: Of::Service("red"),
+            ..LINKS
+        }),
+    ),
+    (
+        &["survive", "--from", "C1", "a"],
+        Wanted::Survive(Look {
+            of: Of::From("C1"),
+            ..LINKS
+        }),
+    ),
+    (
+        &["survive", "--", "--pairs"],
+        Wanted::Survive(Look {
+            path: "--pairs",
+            ..LINKS
+        }),
+    ),
+    (&["survive"], WRONG),
+    (&["survive", "--pairs"], WRONG),
+    (&["survive", "a", "b"], WRONG),
+    (&["survive", "a", "--ticks", "0"], WRONG),
+    (&["survive", "a", "--ticks", "1000001"], WRONG),
+    (&["survive", "a", "--service"], WRONG),
+    (&["survive", "a", "--service", "red", "--from", "C1"], WRONG),
+    (&["survive", "a", "--format", "dot"], WRONG),
+];
+
 #[test]
 fn looks_at_failures(rt: HostRuntime) -> Result<(), Fail> {
-    const ROWS: &[Row] = &[
-        (&["survive", "a"], Wanted::Survive(LINKS)),
-        (
-            &["survive", "--pairs", "a"],
-            Wanted::Survive(Look {
-                pairs: true,
-                ..LINKS
-            }),
-        ),
-        (
-            &["survive", "a", "--bridges"],
-            Wanted::Survive(Look {
-                bridges: true,
-                ..LINKS
-            }),
-        ),
-        (
-            &["survive", "a", "--ticks", "1"],
-            Wanted::Survive(Look { ticks: 1, ..LINKS }),
-        ),
-        (
-            &["survive", "a", "--ticks=1000000"],
-            Wanted::Survive(Look {
-                ticks: 1_000_000,
-                ..LINKS
-            }),
-        ),
-        (
-            &["survive", "a", "--service", "red"],
-            Wanted::Survive(Look {
-                of: Of::Service("red"),
-                ..LINKS
-            }),
-        ),
-        (
-            &["survive", "--from", "C1", "a"],
-            Wanted::Survive(Look {
-                of: Of::From("C1"),
-                ..LINKS
-            }),
-        ),
-        (
-            &["survive", "--", "--pairs"],
-            Wanted::Survive(Look {
-                path: "--pairs",
-                ..LINKS
-            }),
-        ),
-        (&["survive"], WRONG),
-        (&["survive", "--pairs"], WRONG),
-        (&["survive", "a", "b"], WRONG),
-        (&["survive", "a", "--ticks", "0"], WRONG),
-        (&["survive", "a", "--ticks", "1000001"], WRONG),
-        (&["survive", "a", "--service"], WRONG),
-        (&["survive", "a", "--service", "red", "--from", "C1"], WRONG),
-        (&["survive", "a", "--format", "dot"], WRONG),
-    ];
-    all_ask(&rt, rt.alloc(), ROWS)
+    all_ask(&rt, rt.alloc(), LOOKS)
 }

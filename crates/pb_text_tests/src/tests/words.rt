@@ -133,74 +133,76 @@ fn runs_one_file(rt: HostRuntime) -> Result<(), Fail> {
     all_ask(&rt, rt.alloc(), ROWS)
 }
 
+/// Words beside the file of a run.
+const BESIDE: &[Row] = &[
+    (
+        &["run", "--seconds", "1", "a"],
+        Wanted::Run(Run {
+            seconds: Some(1),
+            ..RUN
+        }),
+    ),
+    (
+        &["run", "a", "--seconds=1000000000"],
+        Wanted::Run(Run {
+            seconds: Some(1_000_000_000),
+            ..RUN
+        }),
+    ),
+    (
+        &["run", "--progress", "a"],
+        Wanted::Run(Run {
+            progress: true,
+            ..RUN
+        }),
+    ),
+    (
+        &["run", "a", "--strict"],
+        Wanted::Run(Run {
+            strict: true,
+            ..RUN
+        }),
+    ),
+    (
+        &["run", "--strict", "--seconds", "20", "a", "--progress"],
+        Wanted::Run(Run {
+            seconds: Some(20),
+            progress: true,
+            strict: true,
+            ..RUN
+        }),
+    ),
+    (
+        &["run", "a", "--control", "b.sock"],
+        Wanted::Run(Run {
+            control: Some("b.sock"),
+            ..RUN
+        }),
+    ),
+    (&["run", "a", "--control"], WRONG),
+    (&["step", "a", "--control", "b.sock"], WRONG),
+    (
+        &["run", "--", "--strict"],
+        Wanted::Run(Run {
+            path: "--strict",
+            ..RUN
+        }),
+    ),
+    (&["run", "--seconds", "0", "a"], WRONG),
+    (&["run", "--seconds", "1000000001", "a"], WRONG),
+    (&["run", "--seconds", "-1", "a"], WRONG),
+    (&["run", "--seconds", "1.5", "a"], WRONG),
+    (&["run", "--seconds", "a"], WRONG),
+    (&["run", "--seconds"], WRONG),
+    (&["run", "--strict"], WRONG),
+    (&["run", "--strict=yes", "a"], WRONG),
+    (&["run", "--slow", "a"], WRONG),
+    (&["step", "--strict", "a"], WRONG),
+];
+
 #[test]
 fn runs_have_words_beside_the_file(rt: HostRuntime) -> Result<(), Fail> {
-    const ROWS: &[Row] = &[
-        (
-            &["run", "--seconds", "1", "a"],
-            Wanted::Run(Run {
-                seconds: Some(1),
-                ..RUN
-            }),
-        ),
-        (
-            &["run", "a", "--seconds=1000000000"],
-            Wanted::Run(Run {
-                seconds: Some(1_000_000_000),
-                ..RUN
-            }),
-        ),
-        (
-            &["run", "--progress", "a"],
-            Wanted::Run(Run {
-                progress: true,
-                ..RUN
-            }),
-        ),
-        (
-            &["run", "a", "--strict"],
-            Wanted::Run(Run {
-                strict: true,
-                ..RUN
-            }),
-        ),
-        (
-            &["run", "--strict", "--seconds", "20", "a", "--progress"],
-            Wanted::Run(Run {
-                seconds: Some(20),
-                progress: true,
-                strict: true,
-                ..RUN
-            }),
-        ),
-        (
-            &["run", "a", "--control", "b.sock"],
-            Wanted::Run(Run {
-                control: Some("b.sock"),
-                ..RUN
-            }),
-        ),
-        (&["run", "a", "--control"], WRONG),
-        (&["step", "a", "--control", "b.sock"], WRONG),
-        (
-            &["run", "--", "--strict"],
-            Wanted::Run(Run {
-                path: "--strict",
-                ..RUN
-            }),
-        ),
-        (&["run", "--seconds", "0", "a"], WRONG),
-        (&["run", "--seconds", "1000000001", "a"], WRONG),
-        (&["run", "--seconds", "-1", "a"], WRONG),
-        (&["run", "--seconds", "1.5", "a"], WRONG),
-        (&["run", "--seconds", "a"], WRONG),
-        (&["run", "--seconds"], WRONG),
-        (&["run", "--strict"], WRONG),
-        (&["run", "--strict=yes", "a"], WRONG),
-        (&["run", "--slow", "a"], WRONG),
-        (&["step", "--strict", "a"], WRONG),
-    ];
-    all_ask(&rt, rt.alloc(), ROWS)
+    all_ask(&rt, rt.alloc(), BESIDE)
 }
 
 #[test]
