@@ -2,7 +2,7 @@
 #
 # A test is all that follows `begin`, up to the next `begin` or `end`. It prints `ok NAME`, or `FAILED NAME: WHY` and
 # below it what the program printed on standard error.
-# shellcheck shell=bash disable=SC2034
+# shellcheck shell=bash disable=SC2034,SC2154
 
 passed=0
 failed=0
@@ -41,12 +41,13 @@ finish() {
     [ "$failed" = 0 ] && [ "$passed" != 0 ]
 }
 
-# Runs the program: its standard output goes to a file, its standard error to out/errors, its exit status to `told`.
+# Runs the program for 60 seconds at most: its standard output goes to a file, its standard error to out/errors, its exit
+# status to `told`.
 runs() {
     local output=$1
     shift
     told=0
-    "$program" "$@" >"$output" 2>out/errors || told=$?
+    timeout -k 5 60 "$program" "$@" >"$output" 2>out/errors || told=$?
 }
 
 # The program ended with this status.
