@@ -157,8 +157,7 @@ def smaller(case, folder, seconds=45):
     return case.with_script(lines)
 
 
-def first_difference(case, folder):
-    here, there = case.here(folder), case.there()
+def first_difference(here, there):
     if here[1] != there[1]:
         return f"exit status {here[1]} here, {there[1]} there: {here[0][-80:]!r}, {there[0][-80:]!r}"
     for number, (one, two) in enumerate(zip(here[0].split("\n"), there[0].split("\n")), 1):
@@ -167,8 +166,10 @@ def first_difference(case, folder):
     return "one output is longer"
 
 
-def keep(case, name):
+def keep(case, name, here, there):
     folder = pathlib.Path(tempfile.mkdtemp(prefix=f"difference-{name}-"))
+    (folder / "here").write_text(f"{here[0]}exit status {here[1]}\n", encoding="utf-8")
+    (folder / "there").write_text(f"{there[0]}exit status {there[1]}\n", encoding="utf-8")
     if case.plan is not None:
         (folder / "plan.toml").write_bytes(case.plan)
     if case.script is not None:
@@ -201,17 +202,21 @@ def compare(seed, kind, numbers, folder, seen):
         seen.update(filter(None, map(kind_of, there[0].split("\n"))))
         if here != there:
             differing.append(number)
-            tell(case, f"{kind}/{number}", folder)
+            tell(case, f"{kind}/{number}", folder, here, there)
         if len(differing) == 5:
             print(f"five cases of {kind} differ, the others are left out", file=sys.stderr)
             break
     return differing, lines
 
 
-def tell(case, name, folder):
-    few = smaller(case, folder)
-    kept = keep(few, name.replace("/", "-"))
-    print(f"case {name} differs: {first_difference(few, folder)}; kept in {kept}", file=sys.stderr, flush=True)
+def tell(case, name, folder, here, there):
+    """Prints what differs in a case, and keeps it: a smaller one, if it differs a second time."""
+    again = "and not again"
+    if case.differs(folder):
+        again, case = "and again", smaller(case, folder)
+        here, there = case.here(folder), case.there()
+    kept = keep(case, name.replace("/", "-"), here, there)
+    print(f"case {name} differs, {again}: {first_difference(here, there)}; kept in {kept}", file=sys.stderr, flush=True)
 
 
 def counts_text(seen):
