@@ -4,8 +4,9 @@
     interop/differences.py [--seed TEXT] [--cases N] [--kind KIND] [--case KIND/NUMBER]
 
 Runs N cases of each kind, or of one kind alone. Each case depends on the seed, its kind and its number alone. A case
-that differs is made smaller, by leaving out lines while it still differs, and kept in a folder whose path is printed.
-The exit status is 0 if the program ran, at least one case was compared and no case differs.
+that differs is kept in a folder whose path is printed, with what both sides print. The first of each kind is made
+smaller there, by leaving out lines while it still differs. The exit status is 0 if the program ran, at least one case
+was compared and no case differs.
 """
 
 import argparse
@@ -201,22 +202,22 @@ def compare(seed, kind, numbers, folder, seen):
         lines += there[0].count("\n")
         seen.update(filter(None, map(kind_of, there[0].split("\n"))))
         if here != there:
+            tell(case, f"{kind}/{number}", folder, (here, there), is_first=not differing)
             differing.append(number)
-            tell(case, f"{kind}/{number}", folder, here, there)
         if len(differing) == 5:
             print(f"five cases of {kind} differ, the others are left out", file=sys.stderr)
             break
     return differing, lines
 
 
-def tell(case, name, folder, here, there):
-    """Prints what differs in a case, and keeps it: a smaller one, if it differs a second time."""
-    again = "and not again"
-    if case.differs(folder):
-        again, case = "and again", smaller(case, folder)
-        here, there = case.here(folder), case.there()
-    kept = keep(case, name.replace("/", "-"), here, there)
-    print(f"case {name} differs, {again}: {first_difference(here, there)}; kept in {kept}", file=sys.stderr, flush=True)
+def tell(case, name, folder, outputs, is_first):
+    """Prints what differs in a case, and keeps it. The first one is made smaller, if it differs a second time."""
+    differs = "differs once" if case.here(folder) != outputs[0] else "differs"
+    if is_first and case.differs(folder):
+        case = smaller(case, folder)
+        outputs = case.here(folder), case.there()
+    kept = keep(case, name.replace("/", "-"), *outputs)
+    print(f"case {name} {differs}: {first_difference(*outputs)}; kept in {kept}", file=sys.stderr, flush=True)
 
 
 def counts_text(seen):
