@@ -75,8 +75,8 @@ class Room:
         """Starts the launcher in a session of its own, with what it prints in the files NAME.out and NAME.err."""
         words = [*before, self.launcher, "run", *arguments]
         with open(f"{self.path}/{name}.out", "wb") as out, open(f"{self.path}/{name}.err", "wb") as err:
-            how = {"stdin": subprocess.DEVNULL, "stdout": out, "stderr": err, "env": self.env, "cwd": self.path, **more}
-            return subprocess.Popen(words, start_new_session=True, **how)
+            how = {"stdin": subprocess.DEVNULL, "stdout": out, "stderr": err, "env": self.env, "cwd": self.path}
+            return subprocess.Popen(words, start_new_session=True, **{**how, **more})
 
     def processes(self):
         """Returns the arguments of all processes of the test that are left, by their numbers."""
