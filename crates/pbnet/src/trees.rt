@@ -3,7 +3,7 @@
 use crate::formatted::Output;
 use crate::{REFUSED, contents, ended};
 use pb_formats::TREE;
-use pb_front::{WRONG_WORDS, tell_on};
+use crate::telling::{WRONG_WORDS, tell_on};
 use pb_tree::{TreeEnd, run_tree};
 use pb_words::TreeOrder;
 use std::fs::Files;
