@@ -55,7 +55,14 @@ fn heard_of(
     let board = Fake::new(alloc);
     let mut stream = UnixStream::connect(rt, PATH)?;
     let mut heard = Vec::new(alloc);
-    if talks(control, plan, &board, &mut stream, lines.as_bytes(), &mut heard)? {
+    if talks(
+        control,
+        plan,
+        &board,
+        &mut stream,
+        lines.as_bytes(),
+        &mut heard,
+    )? {
         Ok(heard)
     } else {
         Err(Fail::from("the socket does not answer"))
@@ -80,10 +87,17 @@ fn each_command_gets_its_answer(rt: HostRuntime) -> Result<(), Fail> {
     let plan = plan(rt.alloc())?;
     let mut control = Control::open(&rt, rt.alloc(), PATH)?;
     for (lines, status) in CONVERSATIONS {
-        let line_end = if lines.is_empty() || lines.ends_with('\n') { "" } else { "\n" };
+        let line_end = if lines.is_empty() || lines.ends_with('\n') {
+            ""
+        } else {
+            "\n"
+        };
         let whole = format!(in rt.alloc(); "{lines}{line_end}")?;
         let heard = heard_of(&rt, rt.alloc(), &mut control, &plan, whole.as_str())?;
-        assert!(rt; ends_with(rt.alloc(), lines, heard.as_slice(), *status), "{lines:?}");
+        assert!(rt;
+            ends_with(rt.alloc(), lines, heard.as_slice(), *status),
+            "{lines:?}"
+        );
     }
     control.close(&rt);
     Ok(leave(&rt, rt.process())?)
@@ -144,9 +158,15 @@ fn fault_of<W: std::io::Write>(
 #[test]
 fn faults_name_what_failed(rt: HostRuntime) -> Result<(), Fail> {
     let mut sent = Vec::new(rt.alloc());
-    assert_eq!(rt; fault_of(rt.alloc(), 2, &mut sent), Some(ControlFault::Input));
+    assert_eq!(rt;
+        fault_of(rt.alloc(), 2, &mut sent),
+        Some(ControlFault::Input)
+    );
     assert_eq!(rt; fault_of(rt.alloc(), u64::MAX, &mut sent), None);
-    assert_eq!(rt; fault_of(rt.alloc(), u64::MAX, &mut Full { room: 2 }), Some(ControlFault::HungUp));
+    assert_eq!(rt;
+        fault_of(rt.alloc(), u64::MAX, &mut Full { room: 2 }),
+        Some(ControlFault::HungUp)
+    );
     let mut input = b"stop\n".as_slice();
     let mut came = one_by_one(b"ok\n");
     let unprinted = converse(rt.alloc(), &mut input, &mut sent, &mut came, &mut Unflushed);
