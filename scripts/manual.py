@@ -228,7 +228,8 @@ _NAME_offer()
     local before=
     case $1 in --*=*) before=${1%%=*}= ;; esac
     if [ "$2" = @file ]; then
-        compopt -o filenames 2>/dev/null
+        # (names in quotes are left to readline)
+        compopt -o filenames -o default 2>/dev/null
         mapfile -t COMPREPLY < <(compgen -f -P "$before" -- "${1#"$before"}")
     else
         mapfile -t COMPREPLY < <(compgen -W "$2" -P "$before" -- "${1#"$before"}")
@@ -237,10 +238,18 @@ _NAME_offer()
 
 _NAME()
 {
-    local current=$2 words word command='' options='' repeats='' is_plain='' at=0 places=() follows=()
-    # (a dot keeps the last word if it is empty)
-    read -ra words <<<"${COMP_LINE:0:COMP_POINT}."
-    words[-1]=${words[-1]%.}
+    local current=$2 line=$COMP_LINE rest word command='' options='' repeats='' is_plain='' at=0
+    local words=() places=() follows=()
+    # (COMP_WORDS is split at `=` and `:` too)
+    for word in "${COMP_WORDS[@]:0:COMP_CWORD+1}"; do
+        rest=${line#"${line%%[![:space:]]*}"}
+        if [ "${#words[@]}" -gt 0 ] && [ "$rest" = "$line" ]; then
+            words[-1]+=$word
+        else
+            words+=("$word")
+        fi
+        line=${rest#"$word"}
+    done
     _NAME_command ''
     for word in "${words[@]:1:${#words[@]}-2}"; do
         if [ "${#follows[@]}" -gt 0 ]; then
