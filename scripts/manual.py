@@ -4,8 +4,8 @@
 usage: scripts/manual.py PROGRAM FOLDER [--date YYYY-MM-DD]
 
 Runs PROGRAM with --version, with --help, and with COMMAND --help for each command that it lists. Writes FOLDER/NAME.1
-and FOLDER/completions/NAME.bash, _NAME and NAME.fish. NAME is the name that PROGRAM --version prints. --date is the day
-in the man page. The help has the form that clap prints: a description, `Usage:`, and lists under titles such as
+and FOLDER/completions/NAME.bash, _NAME and NAME.fish. NAME is the name that PROGRAM --version prints. --date is the
+day in the man page. The help has the form that clap prints: a description, `Usage:`, and lists under titles such as
 `Options:`."""
 import argparse
 import collections
