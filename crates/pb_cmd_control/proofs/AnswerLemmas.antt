@@ -21,7 +21,8 @@ back_of lines line text e = rw (begins_at lines line text e, e) (drop-append_sea
 -- one answer more
 pub AreAnswers-snoc : (verdicts : List Verdict) (verdict : Verdict) (text more : List ℕ) → AreAnswers verdicts text
     → IsAnswer verdict more → AreAnswers (verdicts ++ verdict ∷ []) (text ++ more)
-AreAnswers-snoc [] verdict text more none last = (more, [], last, refl, ap (λ t. t ++ more) none ∙ sym (append-nil more))
+AreAnswers-snoc [] verdict text more none last =
+    (more, [], last, refl, ap (λ t. t ++ more) none ∙ sym (append-nil more))
 AreAnswers-snoc (v ∷ verdicts) verdict text more (first, others, is_first, are_others, e) last = (
   first,
   others ++ more,

@@ -19,7 +19,8 @@ AreRead (Some octets) held (Some rest) commands =
     cut_lines longest_command octets ≡ commands ++ cut_lines longest_command (held ++ rest)
 
 -- a conversation of which some commands are answered
-pub record Conversation (status : ℕ) (held : List ℕ) (input left sent sent_now came came_now printed printed_now : Option (List ℕ)) : Type 0 where
+pub record Conversation (status : ℕ) (held : List ℕ)
+    (input left sent sent_now came came_now printed printed_now : Option (List ℕ)) : Type 0 where
   pub commands : List (List ℕ)
   pub verdicts : List Verdict
   pub text : List ℕ
@@ -58,7 +59,8 @@ one_read None mid left held held' command commands read gives = tt
 one_read (Some octets) None left held held' command commands read gives = absurd read
 one_read (Some octets) (Some rest) None held held' command commands read gives = absurd gives
 one_read (Some octets) (Some rest) (Some rest') held held' command commands read gives =
-    read ∙ ap (λ z. commands ++ z) gives ∙ sym (append_assoc commands (command ∷ []) (cut_lines longest_command (held' ++ rest')))
+    read ∙ ap (λ z. commands ++ z) gives
+    ∙ sym (append_assoc commands (command ∷ []) (cut_lines longest_command (held' ++ rest')))
 
 -- a command is sent and answered
 pub goes_on : (status : ℕ) (verdict : Verdict) (held held' command : List ℕ)
@@ -68,7 +70,8 @@ pub goes_on : (status : ℕ) (verdict : Verdict) (held held' command : List ℕ)
     → Appends sent_now sent_then (sent_line command)
     → IsPassedOn verdict came_now came_then printed_now printed_then
     → Conversation (max status (status_of verdict)) held' input left sent sent_then came came_then printed printed_then
-goes_on status verdict held held' command input mid left sent sent_now sent_then came came_now came_then printed printed_now printed_then
+goes_on status verdict held held' command input mid left sent sent_now sent_then came came_now came_then printed
+    printed_now printed_then
     so_far gives is_sent passed = record {
       commands = so_far.commands ++ command ∷ [];
       verdicts = so_far.verdicts ++ verdict ∷ [];
@@ -81,11 +84,14 @@ goes_on status verdict held held' command input mid left sent sent_now sent_then
         length-append so_far.commands (command ∷ []),
       );
       are_sent = rw (flat_map-append sent_line so_far.commands (command ∷ []), append-nil (sent_line command))
-          (Appends-trans sent sent_now sent_then (flat_map sent_line so_far.commands) (sent_line command) so_far.are_sent is_sent);
+          (Appends-trans sent sent_now sent_then (flat_map sent_line so_far.commands) (sent_line command)
+          so_far.are_sent is_sent);
       are_answers = AreAnswers-snoc so_far.verdicts verdict so_far.text passed.text so_far.are_answers passed.is_answer;
       have_come = Consumes-trans came came_now came_then so_far.text passed.text so_far.have_come passed.has_come;
-      are_printed = Appends-trans printed printed_now printed_then so_far.text passed.text so_far.are_printed passed.is_printed;
-      status_is = ap (λ s. max s (status_of verdict)) so_far.status_is ∙ sym (status_of_all-snoc so_far.verdicts verdict);
+      are_printed = Appends-trans printed printed_now printed_then so_far.text passed.text so_far.are_printed
+          passed.is_printed;
+      status_is = ap (λ s. max s (status_of verdict)) so_far.status_is
+          ∙ sym (status_of_all-snoc so_far.verdicts verdict);
     }
 
 all_read : (input left : Option (List ℕ)) (held : List ℕ) (commands : List (List ℕ)) → AreRead input held left commands
@@ -95,7 +101,8 @@ all_read (Some octets) None held commands read none = absurd read
 all_read (Some octets) (Some rest) held commands read none = read ∙ ap (λ z. commands ++ z) none ∙ append-nil commands
 
 -- no command is left
-pub finishes : (status : ℕ) (held : List ℕ) (input left sent sent_now came came_now printed printed_now : Option (List ℕ))
+pub finishes : (status : ℕ) (held : List ℕ) (input left sent sent_now came came_now printed printed_now : Option
+    (List ℕ))
     → Conversation status held input left sent sent_now came came_now printed printed_now
     → HasNoLine longest_command left held
     → HasConversed status input sent sent_now came came_now printed printed_now

@@ -24,8 +24,8 @@ IsAnswer verdict text = EndsWithLine (last_line verdict) text
 -- the text is an answer for each of these verdicts, in order
 abbrev pub AreAnswers : List Verdict → List ℕ → Type 0
 AreAnswers [] text = text ≡ []
-AreAnswers (verdict ∷ verdicts) text =
-    (first : List ℕ) × (others : List ℕ) × IsAnswer verdict first × AreAnswers verdicts others × (text ≡ first ++ others)
+AreAnswers (verdict ∷ verdicts) text = (first : List ℕ) × (others : List ℕ)
+    × IsAnswer verdict first × AreAnswers verdicts others × (text ≡ first ++ others)
 
 -- the exit status for an answer, and for several: 4 if a command was not done
 abbrev pub status_of : Verdict → ℕ

@@ -26,7 +26,8 @@ PrintsAnswers printed printed_after =
     (verdicts : List Verdict) × (text : List ℕ) × AreAnswers verdicts text × Appends printed printed_after text
 
 -- each line of the input was sent, and got its answer; just these answers came and were printed; the status is theirs
-pub record HasConversed (status : ℕ) (input sent sent_after came came_after printed printed_after : Option (List ℕ)) : Type 0 where
+pub record HasConversed (status : ℕ)
+    (input sent sent_after came came_after printed printed_after : Option (List ℕ)) : Type 0 where
   pub commands : List (List ℕ)
   pub verdicts : List Verdict
   pub text : List ℕ

@@ -78,7 +78,8 @@ fn verdict_of(text: &[u8]) -> Option<Verdict>
 
 /// Appends to a text what comes next. The fault is that nothing comes any more, or that an allocation failed.
 fn read_more<R: Read>(answers: &mut R, text: &mut Vec<u8>) -> Result<(), ControlFault>
-    ensures { OnOk result ((more : List ℕ) × Consumes (R.remaining answers.old) (R.remaining answers.new) more × (text.new.items ≡ text.old.items ++ more)) }
+    ensures { OnOk result ((more : List ℕ) × Consumes (R.remaining answers.old) (R.remaining answers.new) more
+        × (text.new.items ≡ text.old.items ++ more)) }
 {
     let mut octets = [0u8; CHUNK];
     match answers.read(&mut octets) {
@@ -99,10 +100,11 @@ pub(crate) struct Answer {
     pub verdict: Verdict,
 }
 
-/// Reads the next answer. The fault is `HungUp` if the other side hangs up before, or sends more than [`LONGEST`] octets that
-/// are no answer; `Memory` if an allocation failed.
+/// Reads the next answer. The fault is `HungUp` if the other side hangs up before, or sends more than [`LONGEST`]
+/// octets that are no answer; `Memory` if an allocation failed.
 pub(crate) fn read_answer<R: Read>(alloc: Global, answers: &mut R) -> Result<Answer, ControlFault>
-    ensures came { IfOk result (λ answer. Consumes (R.remaining answers.old) (R.remaining answers.new) answer.text.items) }
+    ensures came { IfOk result (λ answer.
+        Consumes (R.remaining answers.old) (R.remaining answers.new) answer.text.items) }
     ensures ended { IfOk result (λ answer. IsAnswer answer.verdict answer.text.items) }
 {
     let mut text = Vec::new(alloc);

@@ -56,16 +56,16 @@ fn ask<Q: Write, R: Read, W: Write>(
     Ok(answer.verdict)
 }
 
-/// Sends each line of the input as a command, and prints the answer to each before it reads the next line. Of a line of more
-/// than 256 octets it sends 257, to which a run answers `bad`.
+/// Sends each line of the input as a command, and prints the answer to each before it reads the next line. Of a line of
+/// more than 256 octets it sends 257, to which a run answers `bad`.
 ///
 /// Returns the exit status: 0 if each command was answered by `ok`, else 4.
 ///
 /// # Errors
 ///
-/// `HungUp` if the other side hangs up before it has answered a command, or sends more than 65,536 octets that end no answer;
-/// `Input` if the input can't be read; `Memory` if an allocation failed. Then the answers to the commands before are printed
-/// whole, and nothing else. `Output` if an answer can't be printed.
+/// `HungUp` if the other side hangs up before it has answered a command, or sends more than 65,536 octets that end no
+/// answer; `Input` if the input can't be read; `Memory` if an allocation failed. Then the answers to the commands before
+/// are printed whole, and nothing else. `Output` if an answer can't be printed.
 pub fn converse<I: Read, Q: Write, R: Read, W: Write>(
     alloc: Global,
     input: &mut I,
@@ -76,7 +76,8 @@ pub fn converse<I: Read, Q: Write, R: Read, W: Write>(
     ensures ok { IfOk result (λ status. HasConversed status (I.remaining input.old)
         (Q.contents requests.old) (Q.contents requests.new) (R.remaining answers.old) (R.remaining answers.new)
         (W.contents out.old) (W.contents out.new)) }
-    ensures part { IfErr result (λ e. e ≢ ControlFault.Output → PrintsAnswers (W.contents out.old) (W.contents out.new)) }
+    ensures part { IfErr result (λ e.
+        e ≢ ControlFault.Output → PrintsAnswers (W.contents out.old) (W.contents out.new)) }
 {
     let mut lines = LineReader::new(alloc, LONGEST)?;
     let mut status = 0;

@@ -44,12 +44,24 @@ fn talk<R: Input + Print + AllocGlobal>(
     if let [only] = arguments {
         if only.as_str() == FROM_INPUT {
             let mut input = rt.reader();
-            return converse(rt.alloc(), &mut input, &mut requests, &mut answers, &mut out);
+            return converse(
+                rt.alloc(),
+                &mut input,
+                &mut requests,
+                &mut answers,
+                &mut out,
+            );
         }
     }
     let lines = command_lines(rt.alloc(), arguments)?;
     let mut input = lines.as_slice();
-    converse(rt.alloc(), &mut input, &mut requests, &mut answers, &mut out)
+    converse(
+        rt.alloc(),
+        &mut input,
+        &mut requests,
+        &mut answers,
+        &mut out,
+    )
 }
 
 /// Reports that nothing listens at the path.
@@ -64,13 +76,9 @@ fn unreachable_at(rt: &(impl Print + Eprint), path: &str, error: &io::Error) -> 
     status
 }
 
-/// Returns the exit status of a conversation. Standard error says why it ended early, and what to send instead of a command
-/// that was refused.
-fn ended(
-    rt: &(impl Print + Eprint),
-    path: &str,
-    outcome: Result<u8, ControlFault>,
-) -> ExitCode {
+/// Returns the exit status of a conversation. Standard error says why it ended early, and what to send instead of a
+/// command that was refused.
+fn ended(rt: &(impl Print + Eprint), path: &str, outcome: Result<u8, ControlFault>) -> ExitCode {
     match outcome {
         Ok(0) => ExitCode::SUCCESS,
         Ok(status) => {
@@ -83,7 +91,9 @@ fn ended(
         Err(fault) => {
             let status = tell(rt, fault);
             if fault == ControlFault::HungUp {
-                let _ = eprintln!(rt; "{path}: the run hung up before it had answered every command");
+                let _ = eprintln!(rt;
+                    "{path}: the run hung up before it had answered every command"
+                );
             }
             status
         }

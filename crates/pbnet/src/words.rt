@@ -34,7 +34,9 @@ fn unread(rt: &(impl Print + Eprint), error: &io::Error) -> ExitCode
 
 /// The words of the command line, of which the first is the program's own; or the exit status where one isn't UTF-8 or memory
 /// ran out, once that is told.
-pub(crate) fn words_of(rt: &(impl Env + Print + Eprint + AllocGlobal)) -> Result<Vec<String>, ExitCode>
+pub(crate) fn words_of(
+    rt: &(impl Env + Print + Eprint + AllocGlobal),
+) -> Result<Vec<String>, ExitCode>
     ensures { IfErr result (λ status. (exit_status status ≡ 2) ⊎ (exit_status status ≡ 3)) }
 {
     match read_words(rt) {

@@ -2,8 +2,8 @@
 
 use super::wanted::{Look, Of, Picture, Row, Run, Wanted};
 use pb_words::{
-    ControlOrder, DrawOrder, Order, ReportFormat, ReportOrder, RunOrder, SurviveOrder, SurviveScope, TraceEntry,
-    TraceOrder, TreeOrder, order_of,
+    ControlOrder, DrawOrder, Order, ReportFormat, ReportOrder, RunOrder, SurviveOrder,
+    SurviveScope, TraceEntry, TraceOrder, TreeOrder, order_of,
 };
 use std::alloc::{AllocError, Global};
 use std::process::Abort;

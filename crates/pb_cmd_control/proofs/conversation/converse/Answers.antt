@@ -9,7 +9,8 @@ use Rattle.pb_cmd_control.proofs.conversation.converse.Goals as goal
 
 pub loop-init : goal.loop-init
 loop-init g c = record {
-  so_far = starts (held c.in_ok-lines.lines) (g.I.Read.remaining c.args.input.now) (g.Q.Write.contents c.args.requests.now)
+  so_far = starts (held c.in_ok-lines.lines) (g.I.Read.remaining c.args.input.now)
+      (g.Q.Write.contents c.args.requests.now)
       (g.R.Read.remaining c.args.answers.now) (g.W.Write.contents c.args.out.now) c.in_ok-lines.ensures.held;
   limit = c.in_ok-lines.ensures.limit;
 }
@@ -24,10 +25,13 @@ loop-preserved g c =
       so_far = rw status (goes_on c.loop.status c.in_ok-verdict.verdict (held c.loop.lines) (held c.next.new.self)
           (newest c.next.new.self)
           (g.I.Read.remaining c.args.input.now) (g.I.Read.remaining c.loop.input) (g.I.Read.remaining c.next.new.reader)
-          (g.Q.Write.contents c.args.requests.now) (g.Q.Write.contents c.loop.requests) (g.Q.Write.contents c.ask.new.requests)
-          (g.R.Read.remaining c.args.answers.now) (g.R.Read.remaining c.loop.answers) (g.R.Read.remaining c.ask.new.answers)
+          (g.Q.Write.contents c.args.requests.now) (g.Q.Write.contents c.loop.requests)
+          (g.Q.Write.contents c.ask.new.requests)
+          (g.R.Read.remaining c.args.answers.now) (g.R.Read.remaining c.loop.answers)
+          (g.R.Read.remaining c.ask.new.answers)
           (g.W.Write.contents c.args.out.now) (g.W.Write.contents c.loop.out) (g.W.Write.contents c.ask.new.out)
-          c.loop.invariant.so_far gives (rw c.line.ensures at c.in_ok-verdict.ensures.sent) c.in_ok-verdict.ensures.passed_on);
+          c.loop.invariant.so_far gives (rw c.line.ensures at c.in_ok-verdict.ensures.sent)
+          c.in_ok-verdict.ensures.passed_on);
       limit = c.next.ensures.limit ∙ c.loop.invariant.limit;
     }
 
@@ -44,8 +48,10 @@ returns-then-eq-2-clause-ok g c =
     (g.W.Write.contents c.args.out.now) (g.W.Write.contents c.ask.new.out)
     (goes_on c.loop.status c.in_ok-verdict.verdict (held c.loop.lines) (held c.next.new.self) (newest c.next.new.self)
     (g.I.Read.remaining c.args.input.now) (g.I.Read.remaining c.loop.input) (g.I.Read.remaining c.next.new.reader)
-    (g.Q.Write.contents c.args.requests.now) (g.Q.Write.contents c.loop.requests) (g.Q.Write.contents c.ask.new.requests)
+    (g.Q.Write.contents c.args.requests.now) (g.Q.Write.contents c.loop.requests)
+    (g.Q.Write.contents c.ask.new.requests)
     (g.R.Read.remaining c.args.answers.now) (g.R.Read.remaining c.loop.answers) (g.R.Read.remaining c.ask.new.answers)
     (g.W.Write.contents c.args.out.now) (g.W.Write.contents c.loop.out) (g.W.Write.contents c.ask.new.out)
-    c.loop.invariant.so_far last.0 (rw c.line.ensures at c.in_ok-verdict.ensures.sent) c.in_ok-verdict.ensures.passed_on)
+    c.loop.invariant.so_far last.0 (rw c.line.ensures at c.in_ok-verdict.ensures.sent)
+    c.in_ok-verdict.ensures.passed_on)
     last.1)
