@@ -1,7 +1,7 @@
 #!/usr/bin/env bash
-# Whether the gate runs these examples as they stand here, and the pages of docs/ show them so. Each file is compared
-# with its copy in a test of crates/NAME_runs or beside the program; then scripts/pages compares the blocks of the pages
-# with these files.
+# Compares each file of examples/ with its copy in a test of the gate or beside the program, and then, by
+# scripts/pages, the blocks of the pages of docs/ with the files. Prints `N copies agree, and the pages`, or what
+# differs on standard error with exit status 1.
 set -eu
 cd -- "$(dirname -- "$0")"
 
@@ -16,10 +16,12 @@ constant() {
 }
 
 status=0
+count=0
 
 # Whether the constant of this name in the test file of this crate is the file.
 is_copied() {
     local test=../crates/$3/src/tests/$2.rt
+    count=$((count + 1))
     if ! [ -f "$test" ] || ! constant "$1" "$test" | cmp -s - "$4"; then
         echo "examples: $4 is not what $1 of ${test#../} has" >&2
         status=1
@@ -36,6 +38,7 @@ done
 
 # flat: one example is what the gate runs the program on, the others are tests.
 for part in broadcast.txt:stdin broadcast.expected:stdout; do
+    count=$((count + 1))
     if ! cmp -s -- "${part%:*}" "../crates/pbnet/${part#*:}"; then
         echo "examples: ${part%:*} is not crates/pbnet/${part#*:}" >&2
         status=1
@@ -60,6 +63,7 @@ is_copied REPORT captures pb_running_tests captures.report
 for name in none:plans provider:captures camera:captures; do
     octets=$(od -An -v -tx1 "captures/${name%:*}.pcap" | tr -d '\n' | sed 's/ 00/\\0/g; s/ \([0-9a-f][0-9a-f]\)/\\x\1/g')
     test=../crates/pb_running_tests/src/tests/${name#*:}.rt
+    count=$((count + 1))
     if ! grep -qF "b\"$octets\"" "$test"; then
         echo "examples: captures/${name%:*}.pcap is not what ${test#../} has" >&2
         status=1
@@ -67,4 +71,5 @@ for name in none:plans provider:captures camera:captures; do
 done
 
 ../scripts/pages || status=1
+[ "$status" != 0 ] || echo "$count copies agree, and the pages"
 exit "$status"

@@ -8,7 +8,9 @@ import sys
 import tempfile
 
 TOP = pathlib.Path(__file__).resolve().parent.parent
-PROGRAM = os.environ.get("PBNET", str(TOP / "pbnet"))
+# The program as an absolute path: ./pbnet, or the one that PBNET names by a path or by a name on the search path.
+NAMED = os.environ.get("PBNET") or str(TOP / "pbnet")
+PROGRAM = os.path.abspath(shutil.which(NAMED) or NAMED)
 
 
 def run(*words, given=b"", cwd=TOP):
@@ -17,6 +19,17 @@ def run(*words, given=b"", cwd=TOP):
         [PROGRAM, *map(str, words)], input=given, stdout=subprocess.PIPE, stderr=subprocess.DEVNULL, cwd=cwd
     )
     return done.stdout.decode("utf-8", "replace"), done.returncode
+
+
+def need_program():
+    """Ends with a message if the program can't be run: if `show` fails or prints nothing."""
+    try:
+        done = subprocess.run([PROGRAM, "show"], stdout=subprocess.PIPE, stderr=subprocess.PIPE, cwd=TOP, check=False)
+    except OSError as error:
+        sys.exit(f"{PROGRAM} can't be run: {error.strerror}")
+    if done.returncode or not done.stdout:
+        said = done.stderr.decode("utf-8", "replace").strip() or "it prints nothing"
+        sys.exit(f"{PROGRAM} can't be run: `show` ends with status {done.returncode}: {said}")
 
 
 def output(*words, **more):

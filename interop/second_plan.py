@@ -12,7 +12,9 @@ ADDRESS = re.compile(r"[0-9A-Fa-f]{2}(-[0-9A-Fa-f]{2}){5}\Z")
 HEX = re.compile(r"([0-9A-Fa-f]{2})*\Z")
 STATES = ("discarding", "learning", "forwarding")
 KINDS = ("memory", "capture", "socket")
-MOST = {"bridge": 32, "link": 64, "service": 64, "port": 128}
+MOST = {"bridge": 32, "link": 64, "service": 64, "event": 128, "port": 128}
+# Where the file sets no limit.
+UNLIMITED = 2**64 - 1
 
 
 class Fault(Exception):
@@ -34,7 +36,7 @@ class Plan:
     rstp: bool = False
     ageing: int = 300
     ring: int = 64
-    steps: int = 1000000
+    steps: int = UNLIMITED
     bridges: list = field(default_factory=list)
     links: list = field(default_factory=list)
     services: list = field(default_factory=list)
@@ -50,6 +52,10 @@ def is_number(value):
 
 def is_text(value):
     return isinstance(value, str)
+
+
+def is_truth(value):
+    return isinstance(value, bool)
 
 
 def number(least, most, step=1):
@@ -93,8 +99,8 @@ KEYS = {
         ("spanning", word(("fixed", "rstp")), "fixed"),
         ("ageing", number(10, 1000000), 300),
         ("ring", number(1, 4096), 64),
-        ("steps", number(1, 1000000), 1000000),
-        ("turns", number(1, 1000000000), 10000000),
+        ("steps", number(1, 1000000), UNLIMITED),
+        ("turns", number(1, 1000000000), UNLIMITED),
         ("tick_every", number(0, 1000000), 0),
         ("tick_ms", number(0, 60000), 0),
         ("hold", number(0, 1000000), 0),
@@ -123,6 +129,12 @@ KEYS = {
         ("lost_ba", LOSSES, []),
     ],
     "service": [("name", text(NAME), NONE), ("vid", number(1, 4094), NONE)],
+    "event": [
+        ("at", number(0, 2**32 - 1), NONE),
+        ("bridge", text(NAME), NONE),
+        ("port", number(1, 16), NONE),
+        ("up", (is_truth, lambda _: True), NONE),
+    ],
     "port": [
         ("name", text(NAME), NONE),
         ("bridge", text(NAME), NONE),
@@ -135,8 +147,9 @@ KEYS = {
 }
 OF_KIND = {
     "memory": [("in", items(is_text, are_frames), [])],
-    "capture": [("read", text(), NONE), ("write", text(), NONE)],
+    "capture": [("read", text(), NONE), ("write", text(), NONE), ("stamp", word(("ticks", "time")), "ticks")],
     "socket": [("path", text(), NONE)],
+    "listening": [("listen", text(), NONE)],
 }
 
 
@@ -160,7 +173,8 @@ def read_table(table, place, array):
     for key, kind, default in KEYS[array]:
         values[key] = read_key(table, place, key, kind, default)
     if array == "port":
-        for key, kind, default in OF_KIND[values["kind"]]:
+        is_listening = values["kind"] == "socket" and "listen" in table
+        for key, kind, default in OF_KIND["listening" if is_listening else values["kind"]]:
             values[key] = read_key(table, place, key, kind, default)
     unknown = sorted((key for key in table if key not in values), key=str.encode)
     if unknown:
@@ -256,7 +270,15 @@ def read_services(document):
     return rows
 
 
-def read_ports(document, plan, used):
+def look_at_events(document, bridges, used):
+    """Events set ports up and down at which links end. Only those are used so far."""
+    for place, table in enumerate(tables_of(document, "event")):
+        row = read_table(table, f"event[{place}]", "event")
+        if (index_of(bridges, row["bridge"]), row["port"]) not in used:
+            raise Fault(f"5 range event[{place}].port")
+
+
+def read_ports(document, plan, used, has_time):
     rows = []
     for place, table in enumerate(tables_of(document, "port")):
         row = read_table(table, f"port[{place}]", "port")
@@ -264,6 +286,8 @@ def read_ports(document, plan, used):
         row["at"] = index_of(plan.bridges, row["bridge"])
         row["of"] = index_of(plan.services, row["service"])
         use(used, row["at"], row["port"])
+        if row.get("stamp") == "time" and not has_time:
+            raise Fault(f"5 range port[{place}].stamp")
         rows.append(row)
     return rows
 
@@ -305,7 +329,8 @@ def read_plan(octets):
     plan.bridges = read_bridges(document)
     plan.links = read_links(document, plan.bridges, used)
     plan.services = read_services(document)
-    plan.ports = read_ports(document, plan, used)
+    look_at_events(document, plan.bridges, used)
+    plan.ports = read_ports(document, plan, used, row["tick_ms"] > 0)
     for link in plan.links:
         for end in (link["end_a"], link["end_b"]):
             if end.services is not None:

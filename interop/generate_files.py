@@ -1,0 +1,193 @@
+"""Plan files by chance, for the `check` cases of differences.py. Each depends on its random.Random alone."""
+
+import generate
+
+WRONG = [
+    0,
+    -1,
+    1,
+    5,
+    9,
+    16,
+    17,
+    65,
+    240,
+    241,
+    4095,
+    4097,
+    61440,
+    65536,
+    200000001,
+    2**63 - 1,
+    2**63,
+    -(2**63) - 1,
+    True,
+    1.0,
+    "",
+    "x",
+    "a b",
+    "é",
+    "n" * 33,
+    "rstp",
+    "learning",
+    "socket",
+    "capture",
+    "time",
+    2**32 - 1,
+    2**32,
+    False,
+    "02-00-00-00-00-01",
+    "01-00-00-00-00-01",
+    "02-00-00-00-00-0g",
+    "0200.0000.0001",
+    [],
+    [1],
+    [0, 1],
+    [1, 1],
+    [2, 1],
+    [-1],
+    ["x"],
+    ["0"],
+    ["00", "zz"],
+    ["a", "a"],
+    [True],
+    {},
+    {"x": 1},
+    [[]],
+    "abc",
+    "00",
+]
+NEW_KEYS = ["zz", "aa", "Name", "in", "read", "write", "path", "start", "a b", "é", "queue", "priority", "state"]
+NEW_KEYS += ["listen", "stamp", "kind", "at", "up"]
+
+
+def some_table(chance, document):
+    array = chance.choice([key for key in document if document[key]] or ["network"])
+    value = document[array]
+    return value if isinstance(value, dict) else chance.choice(value)
+
+
+def take_key(chance, document):
+    table = some_table(chance, document)
+    if isinstance(table, dict) and table:
+        del table[chance.choice(list(table))]
+
+
+def put_wrong(chance, document):
+    table = some_table(chance, document)
+    if isinstance(table, dict):
+        keys = list(table) + [key for rows in second_keys().values() for key in rows]
+        table[chance.choice(list(table) or keys) if chance.random() < 0.7 else chance.choice(keys)] = chance.choice(
+            WRONG
+        )
+
+
+def second_keys():
+    return {
+        "network": ["ring", "steps"],
+        "link": ["a_services", "lost_ab", "b_state", "a_cost"],
+        "bridge": ["queue", "priority"],
+    }
+
+
+def put_key(chance, document):
+    table = some_table(chance, document) if chance.random() < 0.8 else document
+    if isinstance(table, dict):
+        for _ in range(chance.choice([1, 1, 2])):
+            table[chance.choice(NEW_KEYS)] = chance.choice(WRONG)
+
+
+def copy_value(chance, document):
+    """A value of one table goes to another of its array: so names, addresses and ports stand twice."""
+    rows = document[chance.choice([key for key in ("bridge", "link", "service", "port") if document.get(key)])]
+    if isinstance(rows, list) and len(rows) > 1 and all(isinstance(row, dict) for row in rows):
+        one, two = chance.sample(rows, 2)
+        key = chance.choice(list(one) or ["name"])
+        if key in one:
+            two[key] = one[key]
+
+
+def swap_end(chance, document):
+    for rows in (document.get("link"), document.get("port")):
+        if isinstance(rows, list) and rows and isinstance(rows[0], dict):
+            row = chance.choice(rows)
+            row[chance.choice(["a_port", "b_port", "port", "bridge", "service", "a", "b"])] = chance.choice(
+                [1, 2, 3, "nobody"]
+            )
+
+
+def put_top(chance, document):
+    document[chance.choice(["network", "bridge", "link", "service", "event", "port"])] = chance.choice(WRONG)
+
+
+def too_many(chance, document):
+    array, most = chance.choice([("bridge", 32), ("link", 64), ("service", 64), ("event", 128), ("port", 128)])
+    rows = document.get(array)
+    if isinstance(rows, list) and rows and isinstance(rows[0], dict):
+        document[array] = (rows * 129)[: most + chance.choice([0, 1])]
+
+
+def put_services(chance, document):
+    """Lists of services that may name what there is not."""
+    rows = document.get("link")
+    if isinstance(rows, list) and rows and isinstance(rows[0], dict):
+        names = [row.get("name") for row in document.get("service", []) if isinstance(row, dict)] + ["nobody"]
+        names = [name for name in names if isinstance(name, str)]
+        chance.choice(rows)[chance.choice(["a_services", "b_services"])] = chance.sample(
+            names, chance.randint(1, len(names))
+        )
+
+
+CHANGES = [take_key, put_wrong, put_wrong, put_key, copy_value, copy_value, swap_end, put_top, too_many, put_services]
+
+
+def change_octets(chance, octets):
+    """Damage to the text itself."""
+    place = chance.randrange(len(octets))
+    roll = chance.random()
+    if roll < 0.4:
+        return octets[:place] + bytes([chance.choice([0x80, 0xFF, 0xC3, 0xE9])]) + octets[place:]
+    if roll < 0.7:
+        return octets[:place] + chance.choice([b"=", b"[", b'"', b"]]", b"\0", b"a = ", b"\r"]) + octets[place:]
+    return octets[:place]
+
+
+def put_kinds(chance, document):
+    """Some ports become captures or sockets."""
+    for table in document["port"]:
+        kind = chance.choice(["memory"] * 6 + ["capture", "capture", "socket", "listen"])
+        if kind == "memory":
+            continue
+        table.pop("in", None)
+        table["kind"] = "capture" if kind == "capture" else "socket"
+        for key in {"capture": ["read", "write"], "socket": ["path"], "listen": ["listen"]}[kind]:
+            table[key] = chance.choice(["", "a", "a/b.pcap", "-"])
+        if kind == "capture":
+            generate.sometimes(chance, 0.5, table, "stamp", lambda: chance.choice(["ticks", "time"]))
+
+
+def put_events(chance, document):
+    """Events at ends of links, and sometimes at any port."""
+    ends = [(table[side], table[side + "_port"]) for table in document["link"] for side in "ab"]
+    if not ends or chance.random() < 0.7:
+        return
+    document["event"] = []
+    for _ in range(chance.choice([1, 2, 5])):
+        bridge, port = chance.choice(ends)
+        port = chance.randint(1, 16) if chance.random() < 0.05 else port
+        at = chance.choice([0, 1, 80, 2**32 - 1])
+        document["event"].append({"at": at, "bridge": bridge, "port": port, "up": chance.random() < 0.5})
+
+
+def plan_file(chance):
+    """A plan file, whole or with some rules broken."""
+    document = generate.plan(chance)
+    put_kinds(chance, document)
+    put_events(chance, document)
+    for _ in range(chance.choice([0, 1, 1, 1, 2])):
+        try:
+            chance.choice(CHANGES)(chance, document)
+        except (IndexError, TypeError, AttributeError):
+            continue
+    octets = generate.toml(document).encode()
+    return change_octets(chance, octets) if chance.random() < 0.1 else octets
