@@ -59,11 +59,13 @@ compare() {
         END { printf "%s: %.2f by the best, %.2f by the medians\n", name, $1 / best, $2 / middle }'
 }
 
-# The script builds the program where that is due, and then looks at its sources each time; that isn't timed. It runs
-# `flat` as a program of its own where that was built, as from a fresh clone, and else as a part of the whole.
-./pbnet help >/dev/null
-program=out/pb_first
-[ -x "$program" ] || program=out/pbnet
+# The launcher looks at the sources each time, which isn't timed.
+program=${PBNET-}
+if [ -z "$program" ]; then
+    ./pbnet show >/dev/null
+    program=release/pbnet
+    ./pbnet --version | grep -q released || program=out/pbnet
+fi
 echo "measured: $program"
 export GLIBC_TUNABLES=${GLIBC_TUNABLES-glibc.malloc.hugetlb=1}
 has_yardstick=

@@ -2,6 +2,7 @@
 
 mod answers;
 mod board;
+mod client;
 mod files;
 mod folder;
 mod lines;

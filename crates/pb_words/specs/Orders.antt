@@ -4,7 +4,7 @@ use Rattle.std.specs.declared.option.Option.{Option}
 use Rattle.pb_words.specs.declared.init_order.InitOrder.{InitOrder}
 use Rattle.pb_words.specs.declared.init_order.InitOrder.TheVariants.{Line, Ring, Star}
 use Rattle.pb_words.specs.declared.order.Order.{Order}
-use Rattle.pb_words.specs.declared.order.Order.TheVariants.{Flat, Check, Step, Run, Tree, Trace, Show, Init, Survive, Draw}
+use Rattle.pb_words.specs.declared.order.Order.TheVariants.{Flat, Check, Step, Run, Tree, Trace, Show, Init, Survive, Draw, Control}
 
 -- a run is stopped after 1 to 1,000,000,000 seconds, or not
 abbrev pub AreSeconds : Option ℕ → Type 0
@@ -49,6 +49,7 @@ IsAllowed Show = Unit {0}
 IsAllowed (Init order) = IsNetwork order
 IsAllowed (Survive order) = AreWaitedTicks order.ticks
 IsAllowed (Draw order) = AreTicks order.ticks
+IsAllowed (Control control) = Unit {0}
 
 -- the order of a command over the plan file at a path, which is also one that the program may be asked for
 abbrev pub IsPlanOrder : List ℕ → List ℕ → Order → Type 0

@@ -10,8 +10,7 @@ use clap::ArgMatches;
 use std::alloc::{AllocError, Global};
 
 /// What `draw` does.
-pub(crate) const DRAW: &str =
-    "Lets the bridges of a plan file settle, and draws the network: bridges by their distance from the root, links with the states of their ends, and customer ports by service";
+pub(crate) const DRAW: &str = "Draw the network as SVG or Graphviz";
 
 /// What `--service` does.
 const SERVICE: &str = "Lets the service of this name stand out, and its tree";

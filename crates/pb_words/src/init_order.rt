@@ -7,8 +7,7 @@ use crate::table::{Argument, Takes};
 use clap::ArgMatches;
 
 /// What `init` does.
-pub(crate) const INIT: &str =
-    "Prints a plan file to begin with: bridges in a line, a ring or a star, one service, and comments; without a word two bridges in a line";
+pub(crate) const INIT: &str = "Print a starter plan";
 
 /// What `--line` does.
 const LINE: &str = "A line of N bridges, 1 to 32";

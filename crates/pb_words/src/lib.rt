@@ -2,6 +2,7 @@
 #![tactic(auto)]
 
 mod arguments;
+mod control_order;
 mod draw_order;
 mod init_order;
 mod order;
@@ -13,6 +14,7 @@ mod trace_order;
 mod tree_order;
 
 pub use arguments::ReportFormat;
+pub use control_order::ControlOrder;
 pub use draw_order::{DrawOrder, PictureFormat};
 pub use init_order::InitOrder;
 pub use order::{Order, order_of};

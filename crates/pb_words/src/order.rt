@@ -4,6 +4,7 @@ ghost use Rattle.std.specs.Prelude.{IfOk, IfSome};
 ghost use Rattle.pb_words.specs.Orders.{IsAllowed, IsPlanOrder};
 
 use crate::arguments::{AS_DOCUMENT, AS_TABLE, PLAN_FILE};
+use crate::control_order::{self, CONTROL, ControlOrder, control_order};
 use crate::draw_order::{self, DRAW, DrawOrder, draw_order};
 use crate::init_order::{self, INIT, InitOrder, init_order};
 use crate::report_order::{ReportOrder, report_order};
@@ -16,23 +17,19 @@ use clap::{ArgMatches, Command, Error};
 use std::alloc::{AllocError, Global};
 
 /// The program's version.
-const VERSION: &str = "0.1.0";
+const VERSION: &str = "0.2.0";
 
 /// What `flat` does.
-const FLAT: &str =
-    "Runs one bridge over the lines `in PORT HEX` of standard input, and prints each frame that leaves it or why it went nowhere";
+const FLAT: &str = "Run one bridge on `in PORT HEX` lines from standard input";
 
 /// What `check` does.
-const CHECK: &str =
-    "Reads a plan file, and prints what it has and whether a ring of links starts open for a service, or the rule that the file breaks";
+const CHECK: &str = "Validate a plan and report forwarding loops";
 
 /// What `step` does.
-const STEP: &str =
-    "Drives the network of a plan file event by event over the lines of standard input, prints what each did, and reports at the end";
+const STEP: &str = "Drive a network event by event from a script on standard input";
 
 /// What `show` does.
-const SHOW: &str =
-    "Prints what becomes of frames for the addresses 01-80-C2-00-00-00 to -0F: carry, filter, or provider where the bridges themselves take them";
+const SHOW: &str = "Print how reserved group addresses are handled";
 
 /// What is to be done.
 #[derive(PartialEq, Eq, Debug, Drop)]
@@ -57,6 +54,8 @@ pub enum Order {
     Survive(SurviveOrder),
     /// Drawing the network of a plan file.
     Draw(DrawOrder),
+    /// Sending commands to a running network.
+    Control(ControlOrder),
 }
 
 /// The argument of `flat`.
@@ -89,6 +88,11 @@ const COMMANDS: &[CommandRow] = &[
         name: "run",
         about: RUN,
         arguments: run_order::ARGUMENTS,
+    },
+    CommandRow {
+        name: "control",
+        about: CONTROL,
+        arguments: control_order::ARGUMENTS,
     },
     CommandRow {
         name: "tree",
@@ -184,6 +188,10 @@ pub fn order_of(alloc: Global, words: &[String]) -> Result<Option<Order>, Error>
         Some(("show", _)) => Ok(Some(Order::Show)),
         Some(("init", given)) => match init_order(given) {
             Some(order) => Ok(Some(Order::Init(order))),
+            None => Ok(None),
+        },
+        Some(("control", given)) => match given.get_str("PATH") {
+            Some(path) => Ok(Some(Order::Control(control_order(alloc, path, given)?))),
             None => Ok(None),
         },
         Some((command, given)) => match given.get_str("FILE") {

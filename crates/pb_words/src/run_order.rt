@@ -18,8 +18,7 @@ const LINGER: u32 = 100;
 const MOST_LINGER: u32 = 60_000;
 
 /// What `run` does.
-pub(crate) const RUN: &str =
-    "Runs the network of a plan file, each bridge, link and port in a thread of its own, and reports at the end";
+pub(crate) const RUN: &str = "Run a network in threads between captures and sockets";
 
 /// What `--seconds` does.
 const SECONDS: &str =

@@ -15,8 +15,7 @@ const USUAL: u32 = 200;
 const MOST: u32 = 1_000_000;
 
 /// What `survive` does.
-pub(crate) const SURVIVE: &str =
-    "Takes each link of a plan file's network down in turn, and prints which customer ports can no longer reach each other";
+pub(crate) const SURVIVE: &str = "Fail each link in turn and report disconnected sites";
 
 /// What `--pairs` does.
 const PAIRS: &str = "Takes each two links down too";

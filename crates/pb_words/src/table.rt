@@ -27,6 +27,8 @@ pub(crate) enum Takes {
     Place,
     /// It is a number at its place, of at least the first and at most the second, below 256.
     SmallPlace(i64, i64),
+    /// It is all arguments from its place on, one or more, whatever they begin with.
+    Rest,
 }
 
 /// An argument of a command.
@@ -75,6 +77,15 @@ fn placed<'a>(arg: Arg<'a>) -> Arg<'a> {
     arg.required(true).action(ArgAction::Set)
 }
 
+/// All arguments from its place on, one or more, whatever they begin with.
+fn remaining<'a>(arg: Arg<'a>) -> Arg<'a> {
+    arg.required(true)
+        .num_args(1..)
+        .trailing_var_arg(true)
+        .allow_hyphen_values(true)
+        .action(ArgAction::Append)
+}
+
 /// An argument by what stands behind it.
 fn taking<'a>(arg: Arg<'a>, argument: Argument) -> Arg<'a> {
     match argument.takes {
@@ -94,6 +105,7 @@ fn taking<'a>(arg: Arg<'a>, argument: Argument) -> Arg<'a> {
         Takes::SmallPlace(least, most) => {
             placed(arg).value_parser(clap::value_parser!(u8).range(least..=most))
         }
+        Takes::Rest => remaining(arg),
     }
 }
 

@@ -8,8 +8,7 @@ use clap::ArgMatches;
 use std::alloc::{AllocError, Global};
 
 /// What `trace` does.
-pub(crate) const TRACE: &str =
-    "Lets a frame come into a plan file's network, and prints where it goes, hop by hop, until nothing is left to do";
+pub(crate) const TRACE: &str = "Trace a frame hop by hop";
 
 /// What PORT is.
 const PORT: &str = "The customer port where the frame comes in";

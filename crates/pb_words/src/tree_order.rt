@@ -15,8 +15,7 @@ const TICKS: u32 = 200;
 const MOST: u32 = 100_000;
 
 /// What `tree` does.
-pub(crate) const TREE: &str =
-    "Lets the bridges of a plan file settle, and prints the spanning tree: roots, roles, states and costs, and the trees of the services";
+pub(crate) const TREE: &str = "Print the spanning tree after convergence";
 
 /// What `--ticks` does.
 const TICKS_HELP: &str = "Lets each bridge tick N times at most, 0 to 100000; without it 200";

@@ -1,8 +1,8 @@
 //! The command `draw`.
 
+use crate::telling::{FAULT, WRONG_WORDS, tell};
 use crate::{REFUSED, contents, ended};
 use pb_draw::{Asked, DrawEnd, Format, Rest, run_draw};
-use pb_front::{FAULT, WRONG_WORDS, tell};
 use pb_said::CommandFault;
 use pb_words::{DrawOrder, PictureFormat};
 use std::fs::Files;

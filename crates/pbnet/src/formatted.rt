@@ -1,7 +1,7 @@
 //! Reports in the form that is asked for.
 
+use crate::telling::FAULT;
 use pb_formats::{Form, FormatFault, Table, csv_of, json_of};
-use pb_front::FAULT;
 use pb_said::CommandFault;
 use pb_words::ReportFormat;
 use std::fmt::Display;

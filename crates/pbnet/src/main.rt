@@ -7,24 +7,28 @@
 //! connected to, or a file has two uses (standard error says which), `spawn` where a thread could not be started, and,
 //! behind the report of a run, `port NAME N` for each port whose input has the fault N. A run that is strict has the status
 //! 4 where it would be 0 and a frame was lost, the run did not drain, or bridges have not settled; `survive` has it where a
-//! failure parts a service, and the status 2 where the plan lacks what is named, as `draw` has.
+//! failure parts a service, and the status 2 where the plan lacks what is named, as `draw` has. `control` has the status 4 if
+//! a command was not done, and `fault: path` if no run listens.
 //!
 //! A report is printed in the form that is asked for: as lines, or as one document of them at the end, in which a fault stands
 //! under the key `fault`.
 #![tactic(auto)]
 
+mod control;
 mod draw;
+mod flat;
 mod formatted;
 mod looks;
 mod progress;
 mod survive;
+mod telling;
 mod trace;
 mod trees;
+mod words;
 
 use formatted::Output;
 use pb_check::{run_check, run_show};
 use pb_formats::{CHECK, COUNTS, RUN, STEP};
-use pb_front::{WRONG_WORDS, flat, refuse, tell, tell_on, words_of};
 use pb_init::{Shape, write_plan};
 use pb_locate::refused_at;
 use pb_running::{RunOptions, Strictness, Traffic, run_network};
@@ -41,7 +45,9 @@ use std::sync::{Arc, Wait};
 use std::thread::Threads;
 use std::time::Clock;
 use std::{fs, io};
+use telling::{WRONG_WORDS, tell, tell_on};
 use trees::tree;
+use words::{refuse, words_of};
 
 /// The exit status where a plan file is refused.
 const REFUSED: u8 = 1;
@@ -55,7 +61,7 @@ fn main(rt: HostRuntime) -> ExitCode {
         Err(status) => return status,
     };
     match order_of(rt.alloc(), words.as_slice()) {
-        Ok(Some(Order::Flat(ports))) => flat(&rt, ports),
+        Ok(Some(Order::Flat(ports))) => flat::flat(&rt, ports),
         Ok(Some(Order::Check(order))) => check(&rt, &order),
         Ok(Some(Order::Step(order))) => step(&rt, &order),
         Ok(Some(Order::Run(order))) => {
@@ -71,6 +77,7 @@ fn main(rt: HostRuntime) -> ExitCode {
             survive::tell_survivals(&rt, &order, rt.stderr().is_terminal())
         }
         Ok(Some(Order::Draw(order))) => draw::draw_network(&rt, &order),
+        Ok(Some(Order::Control(order))) => control::control(&rt, &order),
         Ok(None) => ExitCode::from(WRONG_WORDS),
         Err(e) => refuse(&rt, e),
     }

@@ -2,9 +2,9 @@
 
 use crate::formatted::Output;
 use crate::looks::Looks;
+use crate::telling::tell_on;
 use crate::{contents, ended};
 use pb_formats::{FAILURES, SURVIVE};
-use pb_front::tell_on;
 use pb_survive::{Asked, Kinds, Scope, run_survive};
 use pb_words::{SurviveOrder, SurviveScope};
 use std::fs::Files;

@@ -1,9 +1,9 @@
 //! Where frames go in the network of a plan file.
 
 use crate::formatted::Output;
+use crate::telling::{WRONG_WORDS, tell_on};
 use crate::{REFUSED, contents, ended};
 use pb_formats::TRACE;
-use pb_front::{WRONG_WORDS, tell_on};
 use pb_said::CommandFault;
 use pb_trace::{Entry, TraceEnd, run_trace};
 use pb_words::{TraceEntry, TraceOrder};

@@ -1,9 +1,9 @@
 //! The trees of the network of a plan file.
 
 use crate::formatted::Output;
+use crate::telling::{WRONG_WORDS, tell_on};
 use crate::{REFUSED, contents, ended};
 use pb_formats::TREE;
-use pb_front::{WRONG_WORDS, tell_on};
 use pb_tree::{TreeEnd, run_tree};
 use pb_words::TreeOrder;
 use std::fs::Files;

@@ -2,8 +2,8 @@
 
 use super::wanted::{Look, Of, Picture, Row, Run, Wanted};
 use pb_words::{
-    DrawOrder, Order, ReportFormat, ReportOrder, RunOrder, SurviveOrder, SurviveScope, TraceEntry,
-    TraceOrder, TreeOrder, order_of,
+    ControlOrder, DrawOrder, Order, ReportFormat, ReportOrder, RunOrder, SurviveOrder,
+    SurviveScope, TraceEntry, TraceOrder, TreeOrder, order_of,
 };
 use std::alloc::{AllocError, Global};
 use std::process::Abort;
@@ -117,6 +117,10 @@ fn is_picture(told: &DrawOrder, picture: &Picture) -> bool {
         && is_text(told.output.as_ref(), picture.output)
 }
 
+fn is_control(told: &ControlOrder, path: &str, arguments: &[&str]) -> bool {
+    told.path.as_str() == path && are_words(told.arguments.as_slice(), arguments)
+}
+
 /// The form of the report that is asked for, where there is one.
 fn format_of(order: &Order) -> Option<ReportFormat> {
     match order {
@@ -126,7 +130,7 @@ fn format_of(order: &Order) -> Option<ReportFormat> {
         Order::Tree(order) => Some(order.format),
         Order::Trace(order) => Some(order.format),
         Order::Survive(order) => Some(order.format),
-        Order::Flat(_) | Order::Show | Order::Init(_) | Order::Draw(_) => None,
+        Order::Flat(_) | Order::Show | Order::Init(_) | Order::Draw(_) | Order::Control(_) => None,
     }
 }
 
@@ -145,6 +149,9 @@ fn is_so(order: &Order, wanted: &Wanted) -> bool {
         (Wanted::Draw(picture), Order::Draw(told)) => is_picture(told, picture),
         (Wanted::Show, Order::Show) => true,
         (Wanted::Init(network), Order::Init(told)) => told == network,
+        (Wanted::Control(path, arguments), Order::Control(told)) => {
+            is_control(told, path, arguments)
+        }
         (Wanted::Form(form), _) => format_of(order) == Some(*form),
         _ => false,
     }

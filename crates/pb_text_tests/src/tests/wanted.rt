@@ -79,6 +79,8 @@ pub(super) enum Wanted {
     Draw(Picture),
     Show,
     Init(InitOrder),
+    /// The path of the control socket, and the arguments of its commands.
+    Control(&'static str, &'static [&'static str]),
     /// A report in this form.
     Form(ReportFormat),
     /// They are wrong, or ask for help.

@@ -240,6 +240,33 @@ fn begins_with_a_network(rt: HostRuntime) -> Result<(), Fail> {
 }
 
 #[test]
+fn controls_a_run(rt: HostRuntime) -> Result<(), Fail> {
+    const ROWS: &[Row] = &[
+        (
+            &["control", "a.sock", "stop"],
+            Wanted::Control("a.sock", &["stop"]),
+        ),
+        (
+            &["control", "a.sock", "down", "B1", "2"],
+            Wanted::Control("a.sock", &["down", "B1", "2"]),
+        ),
+        (
+            &["control", "a", "down", "-B", "2", "--", "--x", "--", "stop"],
+            Wanted::Control("a", &["down", "-B", "2", "--", "--x", "--", "stop"]),
+        ),
+        (&["control", "a", "-"], Wanted::Control("a", &["-"])),
+        (
+            &["control", "a", "stop", "--help"],
+            Wanted::Control("a", &["stop", "--help"]),
+        ),
+        (&["control", "a"], WRONG),
+        (&["control"], WRONG),
+        (&["control", "--help"], HELP),
+    ];
+    all_ask(&rt, rt.alloc(), ROWS)
+}
+
+#[test]
 fn refuses_other_words_and_helps(rt: HostRuntime) -> Result<(), Fail> {
     const ROWS: &[Row] = &[
         (&[], WRONG),

@@ -8,14 +8,14 @@ use std::io::Write;
 use std::process::ExitCode;
 
 /// The exit status where the words of the command line ask for nothing that is known.
-pub const WRONG_WORDS: u8 = 2;
+pub(crate) const WRONG_WORDS: u8 = 2;
 
 /// The exit status of a command that a fault ended.
-pub const FAULT: u8 = 3;
+pub(crate) const FAULT: u8 = 3;
 
 /// Says on standard output which fault ended a command, as `fault: ` and its word, and gives the exit status for it. A write
 /// that fails is not told.
-pub fn tell(rt: &impl Print, fault: impl Display + Drop) -> ExitCode
+pub(crate) fn tell(rt: &impl Print, fault: impl Display + Drop) -> ExitCode
     ensures { exit_status result ≡ 3 }
 {
     let _ = println!(rt; "fault: {fault}");
@@ -23,7 +23,7 @@ pub fn tell(rt: &impl Print, fault: impl Display + Drop) -> ExitCode
 }
 
 /// Says which fault ended a command where its report goes, as [`tell`] does on standard output.
-pub fn tell_on<W: Write>(out: &mut W, fault: impl Display + Drop) -> ExitCode
+pub(crate) fn tell_on<W: Write>(out: &mut W, fault: impl Display + Drop) -> ExitCode
     ensures { exit_status result ≡ 3 }
 {
     let _ = writeln!(out, "fault: {fault}");

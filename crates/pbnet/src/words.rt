@@ -34,7 +34,9 @@ fn unread(rt: &(impl Print + Eprint), error: &io::Error) -> ExitCode
 
 /// The words of the command line, of which the first is the program's own; or the exit status where one isn't UTF-8 or memory
 /// ran out, once that is told.
-pub fn words_of(rt: &(impl Env + Print + Eprint + AllocGlobal)) -> Result<Vec<String>, ExitCode>
+pub(crate) fn words_of(
+    rt: &(impl Env + Print + Eprint + AllocGlobal),
+) -> Result<Vec<String>, ExitCode>
     ensures { IfErr result (λ status. (exit_status status ≡ 2) ⊎ (exit_status status ≡ 3)) }
 {
     match read_words(rt) {
@@ -45,7 +47,7 @@ pub fn words_of(rt: &(impl Env + Print + Eprint + AllocGlobal)) -> Result<Vec<St
 
 /// Tells what the reader of the command line's words has to say, and gives the exit status for it: 0 where it is the help or
 /// the version that was asked for, 2 where the words ask for nothing that is known, 3 where memory ran out.
-pub fn refuse(rt: &(impl Print + Eprint), error: Error) -> ExitCode
+pub(crate) fn refuse(rt: &(impl Print + Eprint), error: Error) -> ExitCode
     ensures { (exit_status result ≡ 0) ⊎ (exit_status result ≡ 2) ⊎ (exit_status result ≡ 3) }
 {
     if error.kind() == WordsFault::OutOfMemory {

@@ -1,0 +1,9 @@
+-- The fault of a conversation whose commands can't be read.
+use Rattle.pb_lines.specs.declared.LineFault.{LineFault}
+use Rattle.pb_lines.specs.declared.LineFault.TheVariants.{Read as line_unread, Memory as line_unheld}
+use Rattle.pb_cmd_control.specs.declared.fault.ControlFault.{ControlFault}
+use Rattle.pb_cmd_control.specs.declared.fault.ControlFault.TheVariants.{Input, Memory}
+
+abbrev pub of_line : LineFault → ControlFault
+of_line line_unread = Input
+of_line line_unheld = Memory

@@ -1,0 +1,121 @@
+//! Answers of a control socket.
+
+ghost use Rattle.std.specs.Prelude.{◌≡◌, ◌↔◌, ◌++◌, IsTrue, IfOk, IfSome, IfNone, List, ℕ, OnOk};
+ghost use Rattle.std.specs.Io.KnownBytes.{Consumes};
+ghost use Rattle.pb_cmd_control.specs.Answers.{AreWholeLines, EndsWithLine, IsAnswer, status_of};
+ghost use Rattle.pb_cmd_control.specs.declared.answer.Verdict.{Verdict};
+
+use crate::fault::ControlFault;
+use std::alloc::Global;
+use std::io::{ErrorKind, Read};
+
+/// How many octets are read at a time.
+const CHUNK: usize = 4096;
+
+/// The most octets after which an answer has to end. The longest one of a run has less than 16,384.
+const LONGEST: usize = 65_536;
+
+/// How an answer ends.
+#[derive(Clone, Copy, Debug, PartialEq, Eq)]
+pub enum Verdict {
+    /// `ok`: the command is done.
+    Done,
+    /// `no such`: the plan lacks the bridge, or its port leads to no other bridge.
+    NoSuch,
+    /// `bad`: no command reads so.
+    Bad,
+}
+
+impl Verdict {
+    /// Returns the exit status of a command that ended so: 0 for `ok`, 4 for `no such` and `bad`.
+    pub(crate) fn status(self) -> u8
+        ensures { result ≡ status_of self }
+    {
+        match self {
+            Verdict::Done => 0,
+            Verdict::NoSuch | Verdict::Bad => 4,
+        }
+    }
+}
+
+/// Returns whether a text is no line, or lines that all have their LF.
+fn are_whole_lines(text: &[u8]) -> bool
+    ensures { IsTrue result ↔ AreWholeLines text.now }
+{
+    match text {
+        [] => true,
+        [.., last] => *last == b'\n',
+    }
+}
+
+/// Returns whether a text is lines, of which this is the last one.
+fn ends_with_line(text: &[u8], line: &[u8]) -> bool
+    ensures { IsTrue result ↔ EndsWithLine line.now text.now }
+{
+    if text.len() < line.len() {
+        return false;
+    }
+    let (lines, last) = text.split_at(text.len() - line.len());
+    last == line && are_whole_lines(lines)
+}
+
+/// Returns the verdict of a text that is an answer.
+fn verdict_of(text: &[u8]) -> Option<Verdict>
+    ensures some { IfSome result (λ verdict. IsAnswer verdict text.now) }
+    ensures none { IfNone result ((verdict : Verdict) → IsAnswer verdict text.now → ⊥) }
+{
+    if ends_with_line(text, b"ok\n") {
+        return Some(Verdict::Done);
+    }
+    if ends_with_line(text, b"no such\n") {
+        return Some(Verdict::NoSuch);
+    }
+    if ends_with_line(text, b"bad\n") {
+        return Some(Verdict::Bad);
+    }
+    None
+}
+
+/// Appends to a text what comes next. The fault is that nothing comes any more, or that an allocation failed.
+fn read_more<R: Read>(answers: &mut R, text: &mut Vec<u8>) -> Result<(), ControlFault>
+    ensures { OnOk result ((more : List ℕ) × Consumes (R.remaining answers.old) (R.remaining answers.new) more
+        × (text.new.items ≡ text.old.items ++ more)) }
+{
+    let mut octets = [0u8; CHUNK];
+    match answers.read(&mut octets) {
+        Ok(0) => Err(ControlFault::HungUp),
+        Ok(count) => {
+            text.extend_from_slice(&octets[..count])?;
+            Ok(())
+        }
+        Err(e) if e.kind() == ErrorKind::Interrupted => Ok(()),
+        Err(_) => Err(ControlFault::HungUp),
+    }
+}
+
+/// An answer as it came, and how it ends.
+#[derive(Drop)]
+pub(crate) struct Answer {
+    pub text: Vec<u8>,
+    pub verdict: Verdict,
+}
+
+/// Reads the next answer. The fault is `HungUp` if the other side hangs up before, or sends more than [`LONGEST`]
+/// octets that are no answer; `Memory` if an allocation failed.
+pub(crate) fn read_answer<R: Read>(alloc: Global, answers: &mut R) -> Result<Answer, ControlFault>
+    ensures came { IfOk result (λ answer.
+        Consumes (R.remaining answers.old) (R.remaining answers.new) answer.text.items) }
+    ensures ended { IfOk result (λ answer. IsAnswer answer.verdict answer.text.items) }
+{
+    let mut text = Vec::new(alloc);
+    for _ in 0..u64::MAX {
+        read_more(answers, &mut text)?;
+        if let Some(verdict) = verdict_of(text.as_slice()) {
+            return Ok(Answer { text, verdict });
+        }
+        if text.len() > LONGEST {
+            break;
+        }
+    }
+    Err(ControlFault::HungUp)
+}

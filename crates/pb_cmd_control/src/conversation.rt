@@ -1,0 +1,96 @@
+//! Conversations with a control socket.
+
+ghost use Rattle.std.specs.Prelude.{◌≡◌, ◌≢◌, ◌++◌, ◌∷◌, [], IfOk, IfErr, OnOk};
+ghost use Rattle.std.specs.Io.KnownBytes.{Appends, Keeps};
+ghost use Rattle.pb_cmd_control.specs.Conversations.{HasConversed, IsPassedOn, PrintsAnswers, sent_line};
+
+use crate::answer::{Verdict, read_answer};
+use crate::fault::ControlFault;
+use pb_lines::{Found, LineReader};
+use std::alloc::Global;
+use std::io::{Read, Write};
+
+/// The most octets of a command. Of a longer one one octet more is sent, and the run answers `bad`.
+const LONGEST: usize = 256;
+
+/// Sends a command as a line. The fault is `HungUp` or `Memory`.
+fn send<Q: Write>(alloc: Global, command: &[u8], requests: &mut Q) -> Result<(), ControlFault>
+    ensures sent { OnOk result (Appends (Q.contents requests.old) (Q.contents requests.new) (sent_line command.now)) }
+    ensures kinds { IfErr result (λ e. e ≢ ControlFault.Output) }
+{
+    let mut line = Vec::from_slice(alloc, command)?;
+    line.push(b'\n')?;
+    match requests.write_all(line.as_slice()) {
+        Ok(()) => Ok(()),
+        Err(_) => Err(ControlFault::HungUp),
+    }
+}
+
+/// Prints an answer at once. The fault is `Output`.
+fn print<W: Write>(text: &[u8], out: &mut W) -> Result<(), ControlFault>
+    ensures ok { OnOk result (Appends (W.contents out.old) (W.contents out.new) text.now) }
+    ensures kinds { IfErr result (λ e. e ≡ ControlFault.Output) }
+{
+    if out.write_all(text).is_err() || out.flush().is_err() {
+        return Err(ControlFault::Output);
+    }
+    Ok(())
+}
+
+/// Sends a command, and prints its answer once that came whole.
+fn ask<Q: Write, R: Read, W: Write>(
+    alloc: Global,
+    command: &[u8],
+    requests: &mut Q,
+    answers: &mut R,
+    out: &mut W,
+) -> Result<Verdict, ControlFault>
+    ensures sent { OnOk result (Appends (Q.contents requests.old) (Q.contents requests.new) (sent_line command.now)) }
+    ensures passed_on { IfOk result (λ verdict. IsPassedOn verdict
+        (R.remaining answers.old) (R.remaining answers.new) (W.contents out.old) (W.contents out.new)) }
+    ensures none { IfErr result (λ e. e ≢ ControlFault.Output → Keeps (W.contents out.old) (W.contents out.new)) }
+{
+    send(alloc, command, requests)?;
+    let answer = read_answer(alloc, answers)?;
+    print(answer.text.as_slice(), out)?;
+    Ok(answer.verdict)
+}
+
+/// Sends each line of the input as a command, and prints the answer to each before it reads the next line. Of a line of
+/// more than 256 octets it sends 257, to which a run answers `bad`.
+///
+/// Returns the exit status: 0 if each command was answered by `ok`, else 4.
+///
+/// # Errors
+///
+/// `HungUp` if the other side hangs up before it has answered a command, or sends more than 65,536 octets that end no
+/// answer; `Input` if the input can't be read; `Memory` if an allocation failed. Then the answers to the commands before
+/// are printed whole, and nothing else. `Output` if an answer can't be printed.
+pub fn converse<I: Read, Q: Write, R: Read, W: Write>(
+    alloc: Global,
+    input: &mut I,
+    requests: &mut Q,
+    answers: &mut R,
+    out: &mut W,
+) -> Result<u8, ControlFault>
+    ensures ok { IfOk result (λ status. HasConversed status (I.remaining input.old)
+        (Q.contents requests.old) (Q.contents requests.new) (R.remaining answers.old) (R.remaining answers.new)
+        (W.contents out.old) (W.contents out.new)) }
+    ensures part { IfErr result (λ e.
+        e ≢ ControlFault.Output → PrintsAnswers (W.contents out.old) (W.contents out.new)) }
+{
+    let mut lines = LineReader::new(alloc, LONGEST)?;
+    let mut status = 0;
+    for _ in 0..u64::MAX {
+        let found = lines.next(input)?;
+        if found == Found::End {
+            return Ok(status);
+        }
+        let verdict = ask(alloc, lines.line(), requests, answers, out)?;
+        status = status.max(verdict.status());
+        if found == Found::Last {
+            return Ok(status);
+        }
+    }
+    Err(ControlFault::Input)
+}
