@@ -313,6 +313,36 @@ head -n 1 out/still.all >out/still.report
 says out/still.report "ended stopped"
 has_line out/errors '0 frames entered, 0 left, 0 copies refused, tick 0'
 
+# The client of a control socket, with a run whose port waits for a peer. Port 1 of the bridge is a customer's.
+begin "control"
+rm -f out/wait.control
+plan 'kind = "socket"\nlisten = "out/wait.sock"' >out/wait.toml
+timeout 60 "$program" run --control out/wait.control out/wait.toml >out/wait.report &
+until [ -S out/wait.sock ] || ! kill -0 $! 2>/dev/null; do sleep 0.05; done
+runs out/wait.answer control out/wait.control counts -- down B1 1 -- tree
+ended 4
+says out/wait.answer "port C1 entered 0 left 0
+bridge B1 refused 0 ticks 0
+ok
+no such
+ok"
+printf 'stop\n' >out/wait.commands
+runs out/wait.answer control out/wait.control - <out/wait.commands
+ended 0
+says out/wait.answer ok
+wait
+says out/wait.report "ended stopped
+port C1 entered 0 left 0 filtered 0
+forest yes"
+missing out/wait.control
+missing out/wait.sock
+
+begin "control without a run"
+runs out/wait.answer control out/wait.control stop
+ended 3
+says out/wait.answer "fault: path"
+says out/errors "out/wait.control: no run listens there: start one by \`pbnet run --control out/wait.control\`"
+
 begin "run sockets.toml"
 peer out/peer python3 examples/peer.py
 runs out/sockets.report run examples/sockets.toml
