@@ -44,10 +44,10 @@ for part in broadcast.txt:stdin broadcast.expected:stdout; do
         status=1
     fi
 done
-is_copied LEARNING examples pb_flat_tests learning.txt
-is_copied LEARNING_ANSWERS examples pb_flat_tests learning.expected
-is_copied REASONS examples pb_flat_tests reasons.txt
-is_copied REASONS_ANSWERS examples pb_flat_tests reasons.expected
+is_copied LEARNING examples pb_cmd_flat_tests learning.txt
+is_copied LEARNING_ANSWERS examples pb_cmd_flat_tests learning.expected
+is_copied REASONS examples pb_cmd_flat_tests reasons.txt
+is_copied REASONS_ANSWERS examples pb_cmd_flat_tests reasons.expected
 
 # check and show.
 is_copied PLAN_FILE check/examples pb_commands_tests plan-file.toml
@@ -58,11 +58,11 @@ is_copied SHOWN check/examples pb_commands_tests show.expected
 is_copied INIT init/examples pb_commands_tests init.toml
 
 # run: the metro ring between captures.
-is_copied PLAN captures pb_running_tests captures.toml
-is_copied REPORT captures pb_running_tests captures.report
+is_copied PLAN captures pb_cmd_run_tests captures.toml
+is_copied REPORT captures pb_cmd_run_tests captures.report
 for name in none:plans provider:captures camera:captures; do
     octets=$(od -An -v -tx1 "captures/${name%:*}.pcap" | tr -d '\n' | sed 's/ 00/\\0/g; s/ \([0-9a-f][0-9a-f]\)/\\x\1/g')
-    test=../crates/pb_running_tests/src/tests/${name#*:}.rt
+    test=../crates/pb_cmd_run_tests/src/tests/${name#*:}.rt
     count=$((count + 1))
     if ! grep -qF "b\"$octets\"" "$test"; then
         echo "examples: captures/${name%:*}.pcap is not what ${test#../} has" >&2

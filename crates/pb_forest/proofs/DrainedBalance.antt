@@ -10,7 +10,7 @@ use Rattle.pb_forest.proofs.Leftovers.{drained-left}
 use Rattle.pb_forest.proofs.Sums.{total, total-agree, total-append, total-map, total-plus, sum_by-total, total_at}
 use Rattle.pb_forest.proofs.Sums.{total-at, total_at-same, total_at-plus, total_at-none, total-lists, total-pairs}
 use Rattle.pb_forest.specs.Draining.{gains, losses, Balances}
-use Rattle.pb_steps.specs.Draining.{is_marked, gain, loss}
+use Rattle.pb_history.specs.Draining.{is_marked, gain, loss}
 use Rattle.pb_lan.proofs.QueueCounts.{balance}
 use Rattle.pb_lan.specs.Counts.{IsDrained}
 use Rattle.pb_lan.specs.LaneLists.{IsLawfulLane, taken, carried, put}

@@ -7,7 +7,7 @@ use Rattle.std.specs.List.{AllByRecursion, count_by, filter, list_any}
 use Rattle.pb_forest.proofs.Sums.{given, total, total-agree, total-none, total-plus, total-same, sum_by-total}
 use Rattle.pb_forest.proofs.Sums.{total-numbered, total_at-swap, total_at-same, total-at, total_at}
 use Rattle.pb_forest.proofs.UsedOnce.{used-once, used-total, used-at}
-use Rattle.pb_steps.specs.Draining.{is_marked, is_some_mark, gets_copy, gain, loss}
+use Rattle.pb_history.specs.Draining.{is_marked, is_some_mark, gets_copy, gain, loss}
 use Rattle.pb_frame.proofs.Counting.{count_by-append, count_by-cons, count-none}
 use Rattle.pb_frame.proofs.Lists.{and-left, and-right, All-imply}
 use Rattle.pb_frame.specs.Lists.{IsBeginning}

@@ -7,7 +7,7 @@ use Rattle.std.specs.List.{AllByRecursion, count_by, list_any}
 use Rattle.pb_forest.proofs.Flows.{queued-total, none-queued}
 use Rattle.pb_forest.proofs.Sums.{given, total, total-agree, total-zero, total-none, sum_by-total, total_at}
 use Rattle.pb_forest.proofs.Sums.{total_at-same, total_at-none, total_at-zero}
-use Rattle.pb_steps.specs.Draining.{is_marked, is_some_mark}
+use Rattle.pb_history.specs.Draining.{is_marked, is_some_mark}
 use Rattle.pb_frame.proofs.Counting.{count-none, count_by-map}
 use Rattle.pb_frame.proofs.Lists.{and-left, and-right, All-imply, list_any-found, eqb-refl}
 use Rattle.pb_lan.proofs.QueueCounts.{count_waiting, balance}

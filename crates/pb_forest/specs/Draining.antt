@@ -9,7 +9,7 @@ use Rattle.pb_lan.specs.declared.plan.Plan.{Plan}
 use Rattle.pb_lan.specs.declared.record.Record.{Record}
 use Rattle.pb_lan.specs.declared.step.Mark.{Mark}
 use Rattle.pb_lan.specs.declared.step.Step.{Step}
-use Rattle.pb_steps.specs.Draining.{gain, loss}
+use Rattle.pb_history.specs.Draining.{gain, loss}
 
 -- in the steps of all places of a kind
 abbrev pub gains : List (List Step) → ℕ

@@ -3,7 +3,7 @@
 ghost use Rattle.std.specs.Prelude.{◌≡◌, ◌↔◌, ◌≤◌, ◌*◌, ◌^◌, IsTrue, length};
 ghost use Rattle.pb_forest.specs.Draining.{gains, losses, Balances, TellsDrained};
 
-use pb_steps::{Tallies, Tally};
+use pb_history::{Tallies, Tally};
 
 /// The most places of one kind that a record of a sound plan has.
 const MOST_PLACES: usize = 128;

@@ -5,7 +5,7 @@ use Rattle.std.specs.declared.option.Option.{Option}
 use Rattle.pb_frame.proofs.Lists.{Some-injective}
 use Rattle.pb_frame.proofs.Things.{slice_get-next}
 use Rattle.pb_lan.specs.Events.{is_all_fetched}
-use Rattle.pb_steps.specs.StepLists.{StepsView, given_back, with_step}
+use Rattle.pb_history.specs.StepLists.{StepsView, given_back, with_step}
 use Rattle.pb_lan.specs.declared.step.Item.{Item}
 use Rattle.pb_lan.specs.declared.step.Step.{Step}
 use Rattle.pb_link.specs.Holdings.{brought_by, brought_at, held, this_of, holding_of, HasRoom, IsHand}

@@ -7,7 +7,7 @@ use Rattle.std.specs.List.{list_any, filter}
 use Rattle.pb_frame.proofs.Lists.{All-append, filter-append}
 use Rattle.pb_frame.proofs.Things.{flat_map-none, flat_map-more, slice_get-next}
 use Rattle.pb_lan.specs.LaneLists.{Taken, all_taken, taken, taken_by, carried, put, put_by, IsLaneStep, AreCounted}
-use Rattle.pb_steps.specs.StepLists.{StepsView, given_back}
+use Rattle.pb_history.specs.StepLists.{StepsView, given_back}
 use Rattle.pb_lan.specs.declared.step.Item.{Item}
 use Rattle.pb_lan.specs.declared.step.Step.{Step}
 use Rattle.pb_lan.specs.declared.step.Step.TheVariants.{Take, Put}

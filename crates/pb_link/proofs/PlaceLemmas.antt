@@ -6,7 +6,7 @@ use Rattle.pb_frame.proofs.Lists.{All-append}
 use Rattle.pb_frame.proofs.Things.{flat_map-none, flat_map-more}
 use Rattle.pb_lan.specs.Events.{is_hand_empty}
 use Rattle.pb_lan.specs.PortLists.{polled, fed, polled_by, fed_by, IsPortStep, AreMarked}
-use Rattle.pb_steps.specs.StepLists.{StepsView, given_back}
+use Rattle.pb_history.specs.StepLists.{StepsView, given_back}
 use Rattle.pb_lan.specs.declared.step.Item.{Item}
 use Rattle.pb_lan.specs.declared.step.Mark.{Mark}
 use Rattle.pb_lan.specs.declared.step.Step.{Step}

@@ -10,8 +10,8 @@ use crate::holding::Holding;
 use crate::steps::append;
 use bytes::Bytes;
 use pb_frame::Memory;
+use pb_history::Steps;
 use pb_lan::{FrameNumber, Item, Mark, Step};
-use pb_steps::Steps;
 use std::alloc::Global;
 use std::marker::Model;
 

@@ -1,10 +1,10 @@
 //! The list of steps of a place.
 
 ghost use Rattle.std.specs.Prelude.{◌≡◌, true};
-ghost use Rattle.pb_steps.specs.StepLists.{with_step};
+ghost use Rattle.pb_history.specs.StepLists.{with_step};
 
+use pb_history::Steps;
 use pb_lan::Step;
-use pb_steps::Steps;
 
 /// Puts a step behind the others. Where it is only counted, it is let go.
 #[inline(always)]

@@ -1,4 +1,4 @@
-//! Runs of pb_link, pb_ring and pb_work with ample memory.
+//! Runs of pb_link, pb_ring and pb_threads with ample memory.
 #![tactic(auto)]
 
 #[cfg(test)]

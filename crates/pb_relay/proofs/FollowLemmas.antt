@@ -38,7 +38,7 @@ use Rattle.pb_fdb.proofs.LawLemmas.{live-dropped}
 use Rattle.pb_relay.proofs.StandingLemmas.{standing_later}
 use Rattle.pb_relay.proofs.Keeping.{shown, Keeps, grown}
 use Rattle.pb_relay.specs.declared.bridge.Bridge.TheInside.{Inside}
-use Rattle.pb_steps.specs.StepLists.{StepsView, with_step as steps_with}
+use Rattle.pb_history.specs.StepLists.{StepsView, with_step as steps_with}
 use Rattle.pb_rstp.specs.Profile.{causes_of}
 use Rattle.pb_relay.proofs.TableLemmas.{live_expired, table_expired}
 

@@ -13,7 +13,7 @@ use Rattle.pb_lan.specs.declared.step.Outcome.TheVariants.{Filtered}
 use Rattle.pb_lan.specs.declared.step.Step.{Step}
 use Rattle.pb_lan.specs.declared.step.Step.TheVariants.{Receive}
 use Rattle.pb_rstp.specs.Ports.{Machine}
-use Rattle.pb_steps.specs.StepLists.{StepsView, with_step as steps_with, given_back}
+use Rattle.pb_history.specs.StepLists.{StepsView, with_step as steps_with, given_back}
 use Rattle.pb_relay.specs.LocalPorts.{IsConfigured}
 use Rattle.pb_relay.specs.Machines.{IsSpanning}
 use Rattle.pb_relay.specs.Protocol.{spanning_tree}

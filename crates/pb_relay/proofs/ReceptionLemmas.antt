@@ -7,7 +7,7 @@ use Rattle.pb_lan.specs.declared.step.Step.{Step}
 use Rattle.pb_lan.specs.declared.step.Step.TheVariants.{Receive}
 use Rattle.pb_relay.specs.Receptions.{HasTaken, newest_outcome, outcome_at}
 use Rattle.pb_relay.specs.Standing.{BridgeView, with_step}
-use Rattle.pb_steps.specs.StepLists.{given_back}
+use Rattle.pb_history.specs.StepLists.{given_back}
 
 -- the newest outcome is that of the step that was appended
 pub told_outcome : (old new inside : BridgeView) (port : ℕ) (item : Item) (given : Option Step) (kept : List Step)

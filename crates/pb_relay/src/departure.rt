@@ -1,13 +1,13 @@
 //! How an item leaves a bridge.
 
 ghost use Rattle.std.specs.Prelude.{◌≡◌, true, false};
-ghost use Rattle.pb_steps.specs.StepLists.{with_step};
+ghost use Rattle.pb_history.specs.StepLists.{with_step};
 ghost use Rattle.pb_lan.specs.declared.step.Step.TheVariants.{Transmit};
 ghost use Rattle.pb_relay.specs.Departures.{copy_of};
 
 use crate::bridge::append;
+use pb_history::Steps;
 use pb_lan::{Item, Step};
-use pb_steps::Steps;
 
 /// An item that leaves a port, and its copy for the step that tells of it, where steps are kept.
 #[derive(Drop)]

@@ -5,7 +5,7 @@ ghost use Rattle.pb_frame.specs.Frames.{src_of, dst_of, is_group, shortest_frame
 ghost use Rattle.pb_lan.specs.BridgeLists.{ruling, Fits};
 ghost use Rattle.pb_lan.specs.BridgeLists.Ruling.{Refuses, LearnsOnly, Carries};
 ghost use Rattle.pb_lan.specs.Ports.{port_at, is_used};
-ghost use Rattle.pb_steps.specs.StepLists.{with_step, given_back};
+ghost use Rattle.pb_history.specs.StepLists.{with_step, given_back};
 ghost use Rattle.pb_relay.specs.Protocol.{spanning_tree};
 ghost use Rattle.pb_lan.specs.declared.step.Outcome.TheVariants.{Filtered};
 ghost use Rattle.pb_frame.specs.declared.reason.Reason.TheVariants.{Memory as WantOfMemory};
@@ -25,8 +25,8 @@ use crate::outcomes::newest_outcome;
 use crate::verdict::{Verdict, rule};
 use pb_fdb::Fdb;
 use pb_frame::{Learnt, Mac};
+use pb_history::Steps;
 use pb_lan::{Item, Outcome, Reason, Step};
-use pb_steps::Steps;
 
 impl Bridge {
     /// Rules on an item that comes in at a port, learns its source, queues its copies and appends

@@ -24,9 +24,9 @@ use crate::machine::{address, machine};
 use crate::ports::{Local, LocalPorts};
 use pb_fdb::Fdb;
 use pb_frame::Memory;
+use pb_history::Steps;
 use pb_lan::{CustomerPlan, End, LinkPlan, Plan, PortState, ServicePlan, Spanning};
 use pb_rstp::Rstp;
-use pb_steps::Steps;
 use pb_svlan::{AddFault, JoinFault, Services, Vid};
 use std::alloc::Global;
 

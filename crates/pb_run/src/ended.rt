@@ -2,7 +2,7 @@
 
 ghost use Rattle.std.specs.Prelude.{◌≡◌, ◌↔◌, IsTrue};
 
-use pb_work::Finish;
+use pb_threads::Finish;
 
 /// How a run ended.
 #[derive(Clone, Copy, PartialEq, Eq, Debug)]

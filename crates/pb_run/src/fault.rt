@@ -3,7 +3,7 @@
 ghost use Rattle.std.specs.Prelude.{◌≡◌};
 
 use crate::outside::Held;
-use pb_work::WorkFault;
+use pb_threads::WorkFault;
 
 /// Why no place of a plan took a step.
 #[derive(Clone, Copy, PartialEq, Eq, Debug)]

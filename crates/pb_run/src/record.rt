@@ -10,9 +10,9 @@ ghost use Rattle.pb_relay.specs.Protocol.{spanning_tree};
 ghost use Rattle.pb_run.specs.Rooms.{HasRoomFor};
 
 use pb_frame::{Memory, Seq};
+use pb_history::{Steps, Tally};
 use pb_lan::Step;
 use pb_ring::Wiring;
-use pb_steps::{Steps, Tally};
 use pb_workers::{Access, BridgeWorker, LaneWorker};
 use std::alloc::Global;
 

@@ -1,4 +1,4 @@
-//! Runs of pb_lines, pb_losses, pb_said and pb_words with ample memory.
+//! Runs of pb_lines, pb_run_losses, pb_messages and pb_cli with ample memory.
 #![tactic(auto)]
 
 #[cfg(test)]

@@ -12,7 +12,7 @@ use Rattle.pb_relay.specs.declared.bridge.Bridge.{Bridge}
 use Rattle.pb_rstp.specs.Ports.{Machine}
 use Rattle.pb_rstp.specs.Readings.{roles_of}
 use Rattle.pb_rstp.specs.declared.role.Role.{Role}
-use Rattle.pb_work.specs.declared.view.PortView.{PortView}
+use Rattle.pb_threads.specs.declared.view.PortView.{PortView}
 use Rattle.pb_lan.specs.declared.plan.Plan.{Plan}
 
 -- the plan uses each of these local ports of the bridge, and there are rings for them

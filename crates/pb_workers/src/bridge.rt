@@ -26,7 +26,7 @@ use pb_frame::Memory;
 use pb_lan::{Outcome, Place, Plan};
 use pb_relay::{Bridge, BridgeFault};
 use pb_ring::{Inlets, Outlets, Wiring};
-use pb_work::{Did, Finish, Moment, PortView, Turn, Wish, Work};
+use pb_threads::{Did, Finish, Moment, PortView, Turn, Wish, Work};
 use std::alloc::Global;
 
 /// A bridge of a plan with the rings at its local ports: by one it receives, and by the other it sends.

@@ -9,7 +9,7 @@ use crate::refusal::{Refusal, Taken, turn};
 use pb_lan::Place;
 use pb_port::{Offered, Polled, Port, Pumped};
 use pb_ring::Wiring;
-use pb_work::{Did, Finish, Moment, PortView, Turn, Work};
+use pb_threads::{Did, Finish, Moment, PortView, Turn, Work};
 use std::snapshot::Snapshot;
 
 /// After how many turns the port writes at the latest, where something waits in it. It writes sooner where there is nothing

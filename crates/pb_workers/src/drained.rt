@@ -5,7 +5,7 @@ ghost use Rattle.pb_workers.specs.Drained.{TellsAllDrained};
 
 use crate::access::Last;
 use pb_forest::is_drained;
-use pb_steps::Tallies;
+use pb_history::Tallies;
 
 /// Whether every port came to its end.
 fn are_all_ended(lasts: &[Last]) -> bool

@@ -9,7 +9,7 @@ use crate::refusal::{Refusal, Taken, turn};
 use pb_lan::Place;
 use pb_link::Lane;
 use pb_ring::{Inlet, Outlet, Wiring};
-use pb_work::{Finish, Moment, PortView, Turn, Work};
+use pb_threads::{Finish, Moment, PortView, Turn, Work};
 
 /// A lane of a plan with the two rings that it joins: from one it takes, and onto the other it puts.
 #[derive(Drop)]

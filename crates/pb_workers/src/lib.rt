@@ -25,5 +25,5 @@ pub use gift::{AccessGift, BridgeGift, CustomerGift, LaneGift};
 pub use lane::LaneWorker;
 pub use mode::Mode;
 pub use pb_frame::Memory;
-pub use pb_work::{PortView, Wish};
+pub use pb_threads::{PortView, Wish};
 pub use used::is_used;

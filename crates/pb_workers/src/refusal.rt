@@ -1,7 +1,7 @@
 //! Why a worker can't take a step that it has to take.
 
 use pb_frame::Memory;
-use pb_work::{Did, Turn};
+use pb_threads::{Did, Turn};
 
 /// Why a worker can't take a step that it has to take.
 #[derive(Clone, Copy, PartialEq, Eq, Debug)]

@@ -9,7 +9,7 @@ ghost use Rattle.pb_workers.specs.Bridges.{role_among, role_in, view_of};
 use pb_lan::PortState;
 use pb_relay::Bridge;
 use pb_rstp::{Role, Rstp};
-use pb_work::PortView;
+use pb_threads::PortView;
 
 /// The role of a port in a list of those of a bridge's ports.
 fn role_at(roles: &[(u8, Role)], port: u8) -> Option<Role>

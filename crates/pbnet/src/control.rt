@@ -1,8 +1,8 @@
 //! The command `control`.
 
 use crate::telling::{WRONG_WORDS, tell};
+use pb_cli::ControlOrder;
 use pb_cmd_control::{ControlFault, command_lines, converse};
-use pb_words::ControlOrder;
 use std::io;
 use std::io::ErrorKind;
 use std::net::Net;

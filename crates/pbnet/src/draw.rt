@@ -2,9 +2,9 @@
 
 use crate::telling::{FAULT, WRONG_WORDS, tell};
 use crate::{REFUSED, contents, ended};
-use pb_draw::{Asked, DrawEnd, Format, Rest, run_draw};
-use pb_said::CommandFault;
-use pb_words::{DrawOrder, PictureFormat};
+use pb_cli::{DrawOrder, PictureFormat};
+use pb_cmd_draw::{Asked, DrawEnd, Format, Rest, run_draw};
+use pb_messages::CommandFault;
 use std::fs::Files;
 use std::io::Write;
 use std::os::unix::fs::MetadataExt;

@@ -4,8 +4,8 @@ ghost use Rattle.std.specs.Prelude.{◌≡◌, ◌≤◌, ◌⊎◌};
 ghost use Rattle.std.specs.Process.{exit_status};
 
 use crate::telling::tell;
-use pb_flat::{Switch, run_flat_on};
-use pb_said::CommandFault;
+use pb_cmd_flat::{Switch, run_flat_on};
+use pb_messages::CommandFault;
 use std::io::{BufWriter, Write};
 use std::process::ExitCode;
 use std::{io, mem};

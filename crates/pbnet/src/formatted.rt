@@ -1,9 +1,9 @@
 //! Reports in the form that is asked for.
 
 use crate::telling::FAULT;
-use pb_formats::{Form, FormatFault, Table, csv_of, json_of};
-use pb_said::CommandFault;
-use pb_words::ReportFormat;
+use pb_cli::ReportFormat;
+use pb_export::{Form, FormatFault, Table, csv_of, json_of};
+use pb_messages::CommandFault;
 use std::fmt::Display;
 use std::io::Write;
 use std::process::ExitCode;

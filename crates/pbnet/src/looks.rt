@@ -1,6 +1,6 @@
 //! What is told while failures are looked at.
 
-use pb_survive::Watch;
+use pb_cmd_survive::Watch;
 use std::sync::atomic::{AtomicU64, Ordering};
 use std::time::Clock;
 

@@ -1,8 +1,8 @@
 //! What is told of a network while it runs, and when it is stopped.
 
+use pb_cmd_run::{Opening, Traffic, Watch};
 use pb_lan::Place;
 use pb_run::{Gate, Go};
-use pb_running::{Opening, Traffic, Watch};
 use std::alloc::Global;
 use std::sync::Arc;
 use std::sync::atomic::{AtomicU64, Ordering};

@@ -3,10 +3,10 @@
 use crate::formatted::Output;
 use crate::telling::{WRONG_WORDS, tell_on};
 use crate::{REFUSED, contents, ended};
-use pb_formats::TRACE;
-use pb_said::CommandFault;
-use pb_trace::{Entry, TraceEnd, run_trace};
-use pb_words::{TraceEntry, TraceOrder};
+use pb_cli::{TraceEntry, TraceOrder};
+use pb_cmd_trace::{Entry, TraceEnd, run_trace};
+use pb_export::TRACE;
+use pb_messages::CommandFault;
 use std::alloc::{AllocError, Global};
 use std::fs::Files;
 use std::io::Write;

@@ -3,9 +3,9 @@
 use crate::formatted::Output;
 use crate::telling::{WRONG_WORDS, tell_on};
 use crate::{REFUSED, contents, ended};
-use pb_formats::TREE;
-use pb_tree::{TreeEnd, run_tree};
-use pb_words::TreeOrder;
+use pb_cli::TreeOrder;
+use pb_cmd_tree::{TreeEnd, run_tree};
+use pb_export::TREE;
 use std::fs::Files;
 use std::io::Write;
 use std::process::ExitCode;

@@ -6,7 +6,7 @@ ghost use Rattle.std.specs.Process.{exit_status};
 use crate::telling::{WRONG_WORDS, tell};
 use clap::Error;
 use clap::error::ErrorKind as WordsFault;
-use pb_said::CommandFault;
+use pb_messages::CommandFault;
 use std::io::ErrorKind;
 use std::process::ExitCode;
 use std::rt::Env;

@@ -2,16 +2,16 @@
 
 ghost use Rattle.std.specs.Prelude.{◌≡◌, ◌⊎◌, [], ◌∷◌, flat_map, ℕ, List, OnOk, IfOk};
 ghost use Rattle.std.specs.Io.KnownBytes.{Appends};
-ghost use Rattle.pb_check.specs.Checks.{IsPlanText};
-ghost use Rattle.pb_check.specs.Shows.{fate_line};
+ghost use Rattle.pb_cmd_check.specs.Checks.{IsPlanText};
+ghost use Rattle.pb_cmd_check.specs.Shows.{fate_line};
 ghost use Rattle.pb_frame.specs.Admission.{block};
-ghost use Rattle.pb_print.specs.Refusals.{IsRefusalText};
+ghost use Rattle.pb_report.specs.Refusals.{IsRefusalText};
 
 mod examples;
 
-use pb_check::{run_check, run_show};
+use pb_cmd_check::{run_check, run_show};
 use pb_fakes::{Full, Unflushed};
-use pb_said::CommandFault;
+use pb_messages::CommandFault;
 use std::alloc::Global;
 use std::io::Write;
 use std::process::Abort;

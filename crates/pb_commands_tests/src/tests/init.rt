@@ -3,15 +3,15 @@
 ghost use Rattle.std.specs.Prelude.{◌++◌, flat_map, OnOk};
 ghost use Rattle.std.specs.Io.KnownBytes.{Appends};
 ghost use Rattle.std.specs.List.{range_with_len};
-ghost use Rattle.pb_init.specs.PlanTexts.{head_text, keys_text, places_text, bridge_text, link_text, service_text, port_text, kinds_text};
-ghost use Rattle.pb_init.specs.Shapes.{bridge_count, link_count, port_count, site_of};
+ghost use Rattle.pb_cmd_init.specs.PlanTexts.{head_text, keys_text, places_text, bridge_text, link_text, service_text, port_text, kinds_text};
+ghost use Rattle.pb_cmd_init.specs.Shapes.{bridge_count, link_count, port_count, site_of};
 
 mod examples;
 
-use pb_check::run_check;
+use pb_cmd_check::run_check;
+use pb_cmd_init::{Shape, write_plan};
 use pb_fakes::{Full, Unflushed};
-use pb_init::{Shape, write_plan};
-use pb_said::CommandFault;
+use pb_messages::CommandFault;
 use pb_service::{Limits, read_limits};
 use std::alloc::{AllocError, Global};
 use std::io::Write;

@@ -2,8 +2,8 @@
 
 ghost use Rattle.std.specs.Prelude.{◌≡◌, ◌≢◌, ◌⊎◌, IfErr, IfOk};
 ghost use Rattle.std.specs.Io.KnownBytes.{Keeps};
-ghost use Rattle.pb_print.specs.Refusals.{PrintsRefusal};
-ghost use Rattle.pb_step.specs.Scripts.{PrintsDriven, PrintsDrivenBeginning};
+ghost use Rattle.pb_report.specs.Refusals.{PrintsRefusal};
+ghost use Rattle.pb_cmd_step.specs.Scripts.{PrintsDriven, PrintsDrivenBeginning};
 
 mod e_lan;
 mod e_line;
@@ -14,9 +14,9 @@ mod parallel;
 mod settling;
 mod two_bridges;
 
+use pb_cmd_step::run_script;
 use pb_fakes::{Full, Slow, Unflushed};
-use pb_said::CommandFault;
-use pb_step::run_script;
+use pb_messages::CommandFault;
 use std::alloc::Global;
 use std::io::{ErrorKind, Read, Write};
 use std::process::Abort;

@@ -2,9 +2,9 @@
 
 mod plans;
 
+use pb_cmd_trace::{Entry, TraceEnd, run_trace};
 use pb_fakes::{Full, Unflushed};
-use pb_said::CommandFault;
-use pb_trace::{Entry, TraceEnd, run_trace};
+use pb_messages::CommandFault;
 use std::alloc::{AllocError, Global};
 use std::process::Abort;
 use std::test::Fail;

@@ -2,9 +2,9 @@
 
 mod drawn;
 
+use pb_cmd_tree::{TreeEnd, run_tree};
 use pb_fakes::{Full, Unflushed};
-use pb_said::CommandFault;
-use pb_tree::{TreeEnd, run_tree};
+use pb_messages::CommandFault;
 use std::alloc::{AllocError, Global};
 use std::process::Abort;
 use std::test::Fail;

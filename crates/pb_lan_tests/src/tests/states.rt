@@ -3,8 +3,8 @@
 use super::draft::{Draft, TWO_BRIDGES};
 use super::made::{plan_of, seq};
 use pb_frame::Memory;
+use pb_history::{Tallies, last_shape};
 use pb_lan::{Moved, PortState, Record, Seq, Shape, Spanning, Step, plan_is_sound, start_shape};
-use pb_steps::{Tallies, last_shape};
 use std::alloc::{AllocError, Global};
 use std::test::Fail;
 

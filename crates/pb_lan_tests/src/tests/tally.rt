@@ -1,10 +1,10 @@
 //! What is counted of steps, where each is kept and where none is.
 
 use bytes::Bytes;
+use pb_history::{CauseCounts, Steps, Tally};
 use pb_lan::{
     Item, Learnt, Moved, NoRoom, Outcome, PortSet, PortState, Reason, Refusals, Seq, Step,
 };
-use pb_steps::{CauseCounts, Steps, Tally};
 use std::alloc::{AllocError, Global};
 use std::process::Abort;
 use std::test::Fail;

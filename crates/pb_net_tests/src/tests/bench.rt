@@ -12,11 +12,11 @@ use super::plans::plan_of;
 use super::records::{Did, Done, Piece, record_of, tallies_of};
 use pb_forest::{forest, is_drained};
 use pb_frame::Memory;
+use pb_history::{Tallies, last_shape};
 use pb_lan::{
     Plan, Record, frames_arrive_exactly_once, left, plan_is_sound, planned_states_stay,
     start_shape, still_frames_are_traced,
 };
-use pb_steps::{Tallies, last_shape};
 use std::alloc::Global;
 use std::test::Fail;
 

@@ -2,10 +2,10 @@
 
 use bytes::Bytes;
 use pb_frame::Memory;
+use pb_history::Tallies;
 use pb_lan::{
     FrameNumber, Item, Learnt, Mark, NoRoom, Outcome, PortSet, Record, Refusals, Seq, Step,
 };
-use pb_steps::Tallies;
 use std::alloc::{AllocError, Global};
 
 /// The first frame of customer port 1: its hops, and its octets.

@@ -16,9 +16,9 @@ use super::seen::{
 use bytes::Bytes;
 use pb_forest::forest;
 use pb_frame::Memory;
+use pb_history::{Tallies, last_shape};
 use pb_lan::{Plan, PortState, Record, Shape, plan_is_sound};
 use pb_net::{Did, Net};
-use pb_steps::{Tallies, last_shape};
 use std::alloc::Global;
 use std::process::Abort;
 use std::test::Fail;

@@ -3,7 +3,9 @@
 ghost use Rattle.std.specs.Prelude.{◌==◌, Some, None, if◌then◌else◌};
 
 use pb_lan::{Limits, Place, PortState};
-use pb_work::{Did, Finish, Gate, Go, Moment, Places, PortView, Turn, Wish, Work, Worked, run_all};
+use pb_threads::{
+    Did, Finish, Gate, Go, Moment, Places, PortView, Turn, Wish, Work, Worked, run_all,
+};
 use std::alloc::{AllocError, Global};
 use std::sync::atomic::{AtomicU64, Ordering};
 use std::test::Fail;

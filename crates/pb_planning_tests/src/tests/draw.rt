@@ -1,15 +1,15 @@
 //! Pictures of plan files.
 
 ghost use Rattle.std.specs.Prelude.{◌≡◌, ◌⊎◌, IfOk};
-ghost use Rattle.pb_draw.specs.Draws.{HasWritten};
-ghost use Rattle.pb_print.specs.Refusals.{PrintsRefusal};
+ghost use Rattle.pb_cmd_draw.specs.Draws.{HasWritten};
+ghost use Rattle.pb_report.specs.Refusals.{PrintsRefusal};
 
 mod apart;
 mod plans;
 
-use pb_draw::{Asked, DrawEnd, Format, Rest, run_draw};
+use pb_cmd_draw::{Asked, DrawEnd, Format, Rest, run_draw};
 use pb_fakes::{Full, Unflushed};
-use pb_said::CommandFault;
+use pb_messages::CommandFault;
 use plans::Piece;
 use std::alloc::{AllocError, Global};
 use std::io::Write;

@@ -4,11 +4,11 @@ ghost use Rattle.std.specs.Prelude.{◌≡◌};
 ghost use Rattle.pb_lan.specs.Plans.{IsSound};
 
 use bytes::Bytes;
-use pb_init::{Shape, write_plan};
+use pb_cmd_init::{Shape, write_plan};
+use pb_converge::{DriveFault, Rest, drain, settle};
 use pb_lan::{Event, Plan};
 use pb_net::Net;
 use pb_service::read_plan;
-use pb_settle::{DriveFault, Rest, drain, settle};
 use std::alloc::{AllocError, Global};
 use std::process::Abort;
 use std::test::Fail;

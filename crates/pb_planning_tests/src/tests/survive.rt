@@ -6,9 +6,9 @@ mod texts;
 mod watching;
 
 use draft::{Draft, plan_file};
+use pb_cmd_survive::{Asked, Kinds, Scope, run_survive};
 use pb_fakes::{Full, Unflushed};
-use pb_said::CommandFault;
-use pb_survive::{Asked, Kinds, Scope, run_survive};
+use pb_messages::CommandFault;
 use std::alloc::Global;
 use std::process::Abort;
 use std::test::Fail;

@@ -1,11 +1,11 @@
 //! Where files break a rule.
 
 ghost use Rattle.std.specs.Prelude.{◌≡◌, ◌⊎◌, None, IfOk};
-ghost use Rattle.pb_locate.specs.Spots.{IsRefusedAt};
+ghost use Rattle.pb_plan_spans.specs.Spots.{IsRefusedAt};
 ghost use Rattle.pb_service.specs.PlanFiles.{IsPlanFile};
 
 use pb_frame::Memory;
-use pb_locate::{Spot, refused_at};
+use pb_plan_spans::{Spot, refused_at};
 use std::alloc::Global;
 
 /// A file, and the spot that is told of it, or nothing.

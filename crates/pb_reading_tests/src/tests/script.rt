@@ -6,7 +6,7 @@ mod plans;
 
 use bytes::Bytes;
 use pb_lan::{Event, plan_is_sound};
-use pb_script::{Names, read_line};
+use pb_step_script::{Names, read_line};
 use plans::network;
 use std::alloc::Global;
 use std::process::Abort;

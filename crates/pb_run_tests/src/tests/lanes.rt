@@ -10,7 +10,7 @@ use pb_lan::{FrameNumber, Item, Mark, Place, Seq};
 use pb_link::Lane;
 use pb_ring::{Inlet, Outlet, Wiring};
 use pb_run::LaneWorker;
-use pb_work::{Did, Finish, Moment, Turn, Work};
+use pb_threads::{Did, Finish, Moment, Turn, Work};
 use rtrb::{Consumer, Producer, RingBuffer};
 use std::alloc::{AllocError, Global};
 use std::marker::Brand;

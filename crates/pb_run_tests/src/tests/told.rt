@@ -4,10 +4,10 @@ use super::frames::{Frames, are_frames, count_of};
 use bytes::Bytes;
 use pb_forest::is_drained;
 use pb_frame::{Memory, Seq};
+use pb_history::Tallies;
 use pb_lan::{Learnt, NoRoom, Outcome, Place, Reason, Record, Step, entered, left};
 use pb_port::{Polled, Port, Shelf};
 use pb_run::{Ended, Held, KeptRun, Last, Ran, RunCause, RunFault};
-use pb_steps::Tallies;
 use std::alloc::Global;
 use std::collections::VecDeque;
 

@@ -1,7 +1,7 @@
 //! The harness: words of the command line are read, and what they ask for is looked at.
 
 use super::wanted::{Look, Of, Picture, Row, Run, Wanted};
-use pb_words::{
+use pb_cli::{
     ControlOrder, DrawOrder, Order, ReportFormat, ReportOrder, RunOrder, SurviveOrder,
     SurviveScope, TraceEntry, TraceOrder, TreeOrder, order_of,
 };

@@ -2,7 +2,7 @@
 
 use super::asked::all_ask;
 use super::wanted::{Picture, Row, WRONG, Wanted};
-use pb_words::PictureFormat;
+use pb_cli::PictureFormat;
 use std::test::Fail;
 
 /// A picture of the file `a`, on standard output.

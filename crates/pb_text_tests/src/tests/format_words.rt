@@ -2,7 +2,7 @@
 
 use super::asked::all_ask;
 use super::wanted::{RUN, Row, Run, WRONG, Wanted};
-use pb_words::ReportFormat;
+use pb_cli::ReportFormat;
 use std::test::Fail;
 
 const TEXT: Wanted = Wanted::Form(ReportFormat::Text);

@@ -1,7 +1,7 @@
 //! Words of lines: the parts around a space, a port's digits, names.
 
 use pb_lan::is_name;
-use pb_said::{cut, local_port, read_port};
+use pb_messages::{cut, local_port, read_port};
 
 /// A text, and what stands in front of its first space and behind it.
 type Parts = (&'static [u8], Option<(&'static [u8], &'static [u8])>);

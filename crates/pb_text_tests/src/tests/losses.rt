@@ -2,12 +2,12 @@
 
 use bytes::Bytes;
 use pb_frame::{Held, Memory};
+use pb_history::Tallies;
 use pb_lan::{
     BridgePlan, Item, Learnt, Mac, Moved, NoRoom, Outcome, Plan, PortSet, Reason, Record, Refusals,
     Seq, Spanning, Step, Text,
 };
-use pb_losses::put_losses;
-use pb_steps::Tallies;
+use pb_run_losses::put_losses;
 use std::alloc::Global;
 use std::test::Fail;
 

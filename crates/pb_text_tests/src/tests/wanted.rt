@@ -1,6 +1,6 @@
 //! What words of the command line ask for.
 
-use pb_words::{InitOrder, PictureFormat, ReportFormat};
+use pb_cli::{InitOrder, PictureFormat, ReportFormat};
 
 /// A run of a plan file, and what is to be done beside it. Its report is a text.
 #[derive(Clone, Copy)]

@@ -2,7 +2,7 @@
 
 use super::asked::all_ask;
 use super::wanted::{HELP, RUN, Row, Run, WRONG, Wanted};
-use pb_words::InitOrder;
+use pb_cli::InitOrder;
 use std::test::Fail;
 
 #[test]

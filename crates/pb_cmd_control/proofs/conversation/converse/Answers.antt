@@ -1,7 +1,7 @@
 use Rattle.std.proofs.Common.{◌∙◌, ap}
 use Rattle.std.specs.Prelude.{max}
 use Rattle.pb_lines.specs.Reader.{held, newest}
-use Rattle.pb_said.proofs.LineLemmas.{line_found, last_found}
+use Rattle.pb_messages.proofs.LineLemmas.{line_found, last_found}
 use Rattle.pb_cmd_control.specs.Answers.{status_of}
 use Rattle.pb_cmd_control.specs.Conversations.{longest_command}
 use Rattle.pb_cmd_control.proofs.ConversationLemmas.{starts, goes_on, finishes}

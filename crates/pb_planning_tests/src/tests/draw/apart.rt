@@ -1,7 +1,7 @@
 //! That no box and no name of a link hides another.
 
 use super::plans;
-use pb_draw::{BridgeMark, LinkMark, Scene, scene_of};
+use pb_cmd_draw::{BridgeMark, LinkMark, Scene, scene_of};
 use pb_lan::start_shape;
 use pb_service::read_plan;
 use std::alloc::Global;

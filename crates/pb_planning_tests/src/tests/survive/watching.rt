@@ -1,6 +1,6 @@
 //! A watch that counts.
 
-use pb_survive::Watch;
+use pb_cmd_survive::Watch;
 use std::sync::atomic::{AtomicU64, Ordering};
 
 /// How many failures were looked at, of how many, and how often it was told that no more are.

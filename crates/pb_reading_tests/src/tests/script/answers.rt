@@ -5,7 +5,7 @@ use bytes::Bytes;
 use pb_lan::{
     FrameNumber, Item, Mark, Moved, NoRoom, Outcome, Place, PortSet, Reason, Refusals, Seq, Step,
 };
-use pb_script::{put_done, put_idle, put_no_such};
+use pb_step_script::{put_done, put_idle, put_no_such};
 use std::alloc::{AllocError, Global};
 use std::process::Abort;
 use std::test::Fail;

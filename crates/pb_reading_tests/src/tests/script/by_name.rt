@@ -1,7 +1,7 @@
 //! Names in the order of their octets.
 
 use super::plans::unordered;
-use pb_script::{bridges_by_name, links_by_name, ports_by_name};
+use pb_step_script::{bridges_by_name, links_by_name, ports_by_name};
 use std::test::Fail;
 
 /// Whether these are the names and numbers that are wanted.

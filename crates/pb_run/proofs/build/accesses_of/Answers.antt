@@ -6,7 +6,7 @@ use Rattle.pb_workers.specs.declared.access.Access.{Access}
 use Rattle.pb_workers.specs.declared.access.Last.TheVariants.{More}
 use Rattle.pb_run.proofs.EndsThere.{customers_apart, customer_ports, first_there, others_there, others_distinct}
 use Rattle.pb_run.proofs.Gifts.{no_accesses, access_pushed}
-use Rattle.pb_work.proofs.Alls.{all_more}
+use Rattle.pb_threads.proofs.Alls.{all_more}
 use Rattle.pb_run.proofs.build.accesses_of.Goals as goal
 
 pub loop-customer-init : goal.loop-customer-init

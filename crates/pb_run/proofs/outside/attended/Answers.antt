@@ -7,7 +7,7 @@ use Rattle.pb_workers.specs.declared.customer.CustomerWorker.{CustomerWorker}
 use Rattle.pb_workers.specs.declared.access.Access.{Access}
 use Rattle.pb_workers.specs.declared.access.Last.TheVariants.{More}
 use Rattle.pb_run.proofs.Kept.{keeps_fresh}
-use Rattle.pb_work.proofs.Alls.{all_more, moved_on}
+use Rattle.pb_threads.proofs.Alls.{all_more, moved_on}
 use Rattle.pb_run.proofs.outside.attended.Goals as goal
 
 pub loop-port-preserved : goal.loop-port-preserved

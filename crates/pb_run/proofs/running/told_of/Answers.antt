@@ -7,7 +7,7 @@ use Rattle.pb_lan.specs.declared.record.Record.{Record}
 use Rattle.pb_lan.specs.declared.step.Step.{Step}
 use Rattle.pb_lan.proofs.Headline.{faithful}
 use Rattle.pb_lan.proofs.Stillness.{planned_states_stay, still_frames_are_traced}
-use Rattle.pb_steps.specs.Tallied.{record_of}
+use Rattle.pb_history.specs.Tallied.{record_of}
 use Rattle.pb_run.proofs.Lawful.{lawful_workers}
 use Rattle.pb_run.proofs.running.told_of.Goals as goal
 

@@ -6,7 +6,7 @@ use Rattle.pb_lan.specs.declared.plan.Spanning.TheVariants.{Fixed, Rstp}
 use Rattle.pb_lan.specs.declared.step.Step.TheVariants.{Tick}
 use Rattle.pb_relay.specs.Protocol.{spanning_tree}
 use Rattle.pb_relay.specs.Standing.{BridgeView, with_step}
-use Rattle.pb_steps.specs.StepLists.{StepsView, with_step as steps_with}
+use Rattle.pb_history.specs.StepLists.{StepsView, with_step as steps_with}
 use Rattle.pb_relay.proofs.FollowLemmas.{of_ports, followed_names, after_followed, expired_later, ticked_fits}
 use Rattle.pb_relay.proofs.CauseLemmas.{is_fixed}
 use Rattle.pb_relay.proofs.Keeping.{clock_small, shown}

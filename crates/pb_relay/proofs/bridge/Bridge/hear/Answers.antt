@@ -10,7 +10,7 @@ use Rattle.pb_relay.specs.Standing.{BridgeView}
 use Rattle.pb_relay.proofs.FollowLemmas.{of_ports, followed_names, after_followed, heard_fits}
 use Rattle.pb_relay.proofs.CauseLemmas.{is_fixed, stays_none}
 use Rattle.pb_relay.proofs.Keeping.{taken}
-use Rattle.pb_steps.specs.StepLists.{with_step as steps_with, given_back}
+use Rattle.pb_history.specs.StepLists.{with_step as steps_with, given_back}
 use Rattle.pb_relay.proofs.bridge.Bridge.hear.Goals as goal
 
 pub returns-in_default-hear : goal.returns-in_default-hear

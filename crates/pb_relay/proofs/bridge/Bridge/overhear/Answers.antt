@@ -15,7 +15,7 @@ use Rattle.pb_relay.proofs.FollowLemmas.{heard_fits}
 use Rattle.pb_relay.proofs.Keeping.{grown}
 use Rattle.pb_relay.proofs.MovedLemmas.{after_unsent}
 use Rattle.pb_relay.proofs.StandingLemmas.{fixed_names}
-use Rattle.pb_steps.specs.StepLists.{with_step as steps_with}
+use Rattle.pb_history.specs.StepLists.{with_step as steps_with}
 use Rattle.pb_relay.proofs.bridge.Bridge.overhear.Goals as goal
 
 pub invariant_of-self : goal.invariant_of-self

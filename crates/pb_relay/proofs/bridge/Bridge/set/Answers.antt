@@ -14,7 +14,7 @@ use Rattle.pb_relay.proofs.Keeping.{linked_there, grown, seen}
 use Rattle.pb_relay.proofs.LoadLemmas.{kept_here}
 use Rattle.pb_relay.proofs.SettingLemmas.{state_set_is, after_set, set_fits}
 use Rattle.pb_relay.proofs.TableLemmas.{table_flushed_or}
-use Rattle.pb_steps.specs.StepLists.{with_step as steps_with}
+use Rattle.pb_history.specs.StepLists.{with_step as steps_with}
 use Rattle.pb_relay.proofs.bridge.Bridge.set.Goals as goal
 
 pub overflow_sub-place : goal.overflow_sub-place

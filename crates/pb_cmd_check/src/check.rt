@@ -1,0 +1,75 @@
+//! What a plan file tells.
+
+ghost use Rattle.std.specs.Prelude.{◌≡◌, ◌≢◌, ◌⊎◌, ◌++◌, List, ℕ, string_bytes, IfOk, IfErr, OnOk};
+ghost use Rattle.std.specs.Io.KnownBytes.{Appends, Keeps};
+ghost use Rattle.pb_lan.specs.Plans.{IsSound};
+ghost use Rattle.pb_cmd_check.specs.Checks.{IsCheckText, plan_line};
+
+use pb_frame::Memory;
+use pb_lan::{Plan, start_shape};
+use pb_messages::CommandFault;
+use pb_report::{put_forest, put_refusal};
+use pb_service::read_plan;
+use std::alloc::Global;
+use std::io::Write;
+
+/// The exit status where the file is a plan.
+const TAKEN: u8 = 0;
+
+/// The exit status where it isn't.
+const REFUSED: u8 = 1;
+
+/// The line of a plan that is taken.
+fn put_plan(out: &mut String, plan: &Plan) -> Result<(), Memory>
+    ensures { OnOk result (string_bytes out.new ≡ string_bytes out.old ++ plan_line plan.now) }
+{
+    let bridges = plan.bridges.len();
+    let links = plan.links.len();
+    let services = plan.services.len();
+    let ports = plan.customers.len();
+    writeln!(
+        out,
+        "ok bridges {bridges} links {links} services {services} ports {ports}"
+    )?;
+    Ok(())
+}
+
+/// Puts what a plan file tells behind a text, and answers the exit status.
+fn put_check(alloc: Global, out: &mut String, file: &[u8]) -> Result<u8, Memory>
+    ensures { IfOk result (λ status. (text : List ℕ) × (string_bytes out.new ≡ string_bytes out.old ++ text) × IsCheckText file.now status text) }
+{
+    match read_plan(alloc, file) {
+        Ok((plan, _ports)) => {
+            put_plan(out, &plan)?;
+            let shape = start_shape(alloc, &plan)?;
+            put_forest(alloc, out, &plan, &shape)?;
+            Ok(TAKEN)
+        }
+        Err(fault) => {
+            put_refusal(out, &fault)?;
+            Ok(REFUSED)
+        }
+    }
+}
+
+/// Reads a plan file, and writes whether it is one.
+///
+/// Of a plan: `ok bridges N links N services N ports N`, and `forest yes`, or `forest no` and a line
+/// `loop NAME` for each service whose Forwarding ports close a ring at the start, by name; the answer is
+/// the exit status 0. Of any other file: `plan: N WORD` with the number and the word of the rule that it
+/// breaks, and the key or name where there is one; the answer is 1.
+///
+/// `Memory` is answered where memory ran out for the text, and then nothing was written; `Write` where a write
+/// failed, and then nothing is said of what was written. No other fault comes.
+pub fn run_check<W: Write>(alloc: Global, file: &[u8], writer: &mut W) -> Result<u8, CommandFault>
+    ensures ok { IfOk result (λ status. (text : List ℕ) × Appends (W.contents writer.old) (W.contents writer.new) text × IsCheckText file.now status text) }
+    ensures kinds { IfErr result (λ e. (e ≡ CommandFault.Write) ⊎ (e ≡ CommandFault.Memory)) }
+    ensures none { IfErr result (λ e. e ≢ CommandFault.Write → Keeps (W.contents writer.old) (W.contents writer.new)) }
+{
+    let mut out = String::new(alloc);
+    let status = put_check(alloc, &mut out, file)?;
+    if writer.write_all(out.as_bytes()).is_err() || writer.flush().is_err() {
+        return Err(CommandFault::Write);
+    }
+    Ok(status)
+}

@@ -1,0 +1,297 @@
+//! A scene as a graph for the programs of Graphviz.
+
+ghost use Rattle.std.specs.Prelude.{◌≡◌, ◌++◌, flat_map, string_bytes, OnOk};
+ghost use Rattle.pb_cmd_draw.specs.Dot.{tone_style, active_style, arrow_word, colour_code, node_head, known_node, bridge_node, edge_ends, arrows_text, edge_label, edge_head, known_edge, link_edge, leaf_edge, leaf_head, leaf_node, known_leaf, port_node, parts_text, dot_text};
+ghost use Rattle.pb_cmd_draw.specs.Words.{colour_of};
+
+use crate::titles::{put_bridge_words, put_link_words, put_port_words};
+use crate::words::{colour_of, losing_word};
+use pb_draw_layout::{BridgeMark, LinkFacts, LinkMark, PortFacts, PortMark, Scene, Tone};
+use pb_forest::numbered;
+use pb_frame::Memory;
+use pb_lan::{BridgePlan, CustomerPlan, LinkPlan, Plan, PortState};
+use pb_names::service_name;
+use std::alloc::Global;
+
+/// The end of a list of attributes: how a part stands out.
+fn tone_style(tone: Tone) -> &'static str
+    ensures { result.now ≡ tone_style tone }
+{
+    match tone {
+        Tone::Plain => "\"];\n",
+        Tone::Lit => "\", penwidth=3];\n",
+        Tone::Faint => "\", color=gray80, fontcolor=gray60];\n",
+    }
+}
+
+/// Puts the end of a list of attributes behind a text.
+fn put_tone(out: &mut String, tone: Tone) -> Result<(), Memory>
+    ensures { OnOk result (string_bytes out.new ≡ string_bytes out.old ++ tone_style tone) }
+{
+    out.push_str(tone_style(tone))?;
+    Ok(())
+}
+
+/// What is said of whether a link is active.
+fn active_style(active: bool) -> &'static str
+    ensures { result.now ≡ active_style active }
+{
+    if active {
+        ""
+    } else {
+        "style=dashed, color=gray50, "
+    }
+}
+
+/// How an end of a link is drawn, by its state.
+fn arrow_word(state: PortState) -> &'static str
+    ensures { result.now ≡ arrow_word state }
+{
+    match state {
+        PortState::Discarding => "box",
+        PortState::Learning => "odot",
+        PortState::Forwarding => "none",
+    }
+}
+
+/// The colour of a service.
+fn colour_code(service: u8) -> &'static str
+    ensures { result.now ≡ colour_code (colour_of service) }
+{
+    match colour_of(service) {
+        0 => "#0072b2",
+        1 => "#e69f00",
+        2 => "#009e73",
+        3 => "#cc79a7",
+        4 => "#56b4e9",
+        5 => "#d55e00",
+        6 => "#aa4499",
+        _ => "#999933",
+    }
+}
+
+/// The beginning of a bridge's node.
+fn put_node_head(out: &mut String, number: u8, name: &str) -> Result<(), Memory>
+    ensures { OnOk result (string_bytes out.new ≡ string_bytes out.old ++ node_head number name.now) }
+{
+    write!(out, "b{number} [shape=box, label=\"{name}\", tooltip=\"")?;
+    Ok(())
+}
+
+/// The node of a bridge.
+fn put_known_node(
+    alloc: Global,
+    out: &mut String,
+    bridge: &BridgePlan,
+    mark: &BridgeMark,
+) -> Result<(), Memory>
+    ensures { OnOk result (string_bytes out.new ≡ string_bytes out.old ++ known_node bridge.now mark.now) }
+{
+    put_node_head(out, mark.facts.number, bridge.name.as_str())?;
+    put_bridge_words(alloc, out, bridge)?;
+    put_tone(out, mark.facts.tone)
+}
+
+/// The node of a bridge.
+fn put_bridge(alloc: Global, out: &mut String, plan: &Plan, mark: &BridgeMark) -> Result<(), Memory>
+    ensures { OnOk result (string_bytes out.new ≡ string_bytes out.old ++ bridge_node plan.now mark.now) }
+{
+    match numbered(plan.bridges.as_slice(), mark.facts.number as usize) {
+        None => Ok(()),
+        Some(bridge) => put_known_node(alloc, out, bridge, mark),
+    }
+}
+
+/// The ends of a link's edge.
+fn put_edge_ends(out: &mut String, link: &LinkPlan) -> Result<(), Memory>
+    ensures { OnOk result (string_bytes out.new ≡ string_bytes out.old ++ edge_ends link.now) }
+{
+    let (a, b) = (link.a.bridge, link.b.bridge);
+    let (a_port, b_port) = (link.a.port, link.b.port);
+    write!(
+        out,
+        "b{a} -- b{b} [taillabel=\"{a_port}\", headlabel=\"{b_port}\", dir=both, "
+    )?;
+    Ok(())
+}
+
+/// How a link's edge and its ends are drawn.
+fn put_arrows(out: &mut String, facts: LinkFacts) -> Result<(), Memory>
+    ensures { OnOk result (string_bytes out.new ≡ string_bytes out.old ++ arrows_text facts) }
+{
+    let tail = arrow_word(facts.a);
+    let head = arrow_word(facts.b);
+    let style = active_style(facts.active);
+    write!(out, "arrowtail={tail}, arrowhead={head}, {style}")?;
+    Ok(())
+}
+
+/// The name of a link's edge.
+fn put_edge_label(out: &mut String, link: &LinkPlan) -> Result<(), Memory>
+    ensures { OnOk result (string_bytes out.new ≡ string_bytes out.old ++ edge_label link.now) }
+{
+    let name = link.name.as_str();
+    let losing = losing_word(link);
+    write!(out, "label=\"{name}{losing}\", tooltip=\"")?;
+    Ok(())
+}
+
+/// The beginning of a link's edge.
+fn put_edge_head(out: &mut String, link: &LinkPlan, facts: LinkFacts) -> Result<(), Memory>
+    ensures { OnOk result (string_bytes out.new ≡ string_bytes out.old ++ edge_head link.now facts) }
+{
+    put_edge_ends(out, link)?;
+    put_arrows(out, facts)?;
+    put_edge_label(out, link)
+}
+
+/// The edge of a link.
+fn put_known_edge(
+    out: &mut String,
+    plan: &Plan,
+    link: &LinkPlan,
+    facts: LinkFacts,
+) -> Result<(), Memory>
+    ensures { OnOk result (string_bytes out.new ≡ string_bytes out.old ++ known_edge plan.now link.now facts) }
+{
+    put_edge_head(out, link, facts)?;
+    put_link_words(out, plan, link, facts)?;
+    put_tone(out, facts.tone)
+}
+
+/// The edge of a link.
+fn put_link(out: &mut String, plan: &Plan, mark: &LinkMark) -> Result<(), Memory>
+    ensures { OnOk result (string_bytes out.new ≡ string_bytes out.old ++ link_edge plan.now mark.now) }
+{
+    match numbered(plan.links.as_slice(), mark.facts.number as usize) {
+        None => Ok(()),
+        Some(link) => put_known_edge(out, plan, link, mark.facts),
+    }
+}
+
+/// The beginning of the edge from a customer port to its bridge.
+fn put_leaf_edge(out: &mut String, bridge: u8, facts: PortFacts) -> Result<(), Memory>
+    ensures { OnOk result (string_bytes out.new ≡ string_bytes out.old ++ leaf_edge bridge facts) }
+{
+    let number = facts.number;
+    let colour = colour_code(facts.service);
+    write!(out, "b{bridge} -- p{number} [color=\"{colour}")?;
+    Ok(())
+}
+
+/// The beginning of a customer port's node.
+fn put_leaf_head(
+    out: &mut String,
+    name: &str,
+    service: &str,
+    facts: PortFacts,
+) -> Result<(), Memory>
+    ensures { OnOk result (string_bytes out.new ≡ string_bytes out.old ++ leaf_head name.now service.now facts) }
+{
+    let number = facts.number;
+    let colour = colour_code(facts.service);
+    write!(
+        out,
+        "p{number} [color=\"{colour}\", label=\"{name} {service}\", tooltip=\""
+    )?;
+    Ok(())
+}
+
+/// The node of a customer port of a service.
+fn put_leaf_node(
+    out: &mut String,
+    plan: &Plan,
+    port: &CustomerPlan,
+    service: &str,
+    facts: PortFacts,
+) -> Result<(), Memory>
+    ensures { OnOk result (string_bytes out.new ≡ string_bytes out.old ++ leaf_node plan.now port.now service.now facts) }
+{
+    put_leaf_head(out, port.name.as_str(), service, facts)?;
+    put_port_words(out, plan, port, service)?;
+    put_tone(out, facts.tone)
+}
+
+/// The node of a customer port, and its edge to the bridge.
+fn put_known_leaf(
+    out: &mut String,
+    plan: &Plan,
+    port: &CustomerPlan,
+    facts: PortFacts,
+) -> Result<(), Memory>
+    ensures { OnOk result (string_bytes out.new ≡ string_bytes out.old ++ known_leaf plan.now port.now facts) }
+{
+    put_leaf_node(out, plan, port, service_name(plan, facts.service), facts)?;
+    put_leaf_edge(out, port.bridge, facts)?;
+    put_tone(out, facts.tone)
+}
+
+/// The node of a customer port, and its edge to the bridge.
+fn put_port(out: &mut String, plan: &Plan, mark: &PortMark) -> Result<(), Memory>
+    ensures { OnOk result (string_bytes out.new ≡ string_bytes out.old ++ port_node plan.now mark.now) }
+{
+    match numbered(plan.customers.as_slice(), mark.facts.number as usize) {
+        None => Ok(()),
+        Some(port) => put_known_leaf(out, plan, port, mark.facts),
+    }
+}
+
+/// The nodes of the bridges.
+fn put_bridges(
+    alloc: Global,
+    out: &mut String,
+    plan: &Plan,
+    marks: &[BridgeMark],
+) -> Result<(), Memory>
+    ensures { OnOk result (string_bytes out.new ≡ string_bytes out.old ++ flat_map (bridge_node plan.now) marks.now) }
+{
+    for mark in marks {
+        put_bridge(alloc, out, plan, mark)?;
+    }
+    Ok(())
+}
+
+/// The edges of the links.
+fn put_links(out: &mut String, plan: &Plan, marks: &[LinkMark]) -> Result<(), Memory>
+    ensures { OnOk result (string_bytes out.new ≡ string_bytes out.old ++ flat_map (link_edge plan.now) marks.now) }
+{
+    for mark in marks {
+        put_link(out, plan, mark)?;
+    }
+    Ok(())
+}
+
+/// The nodes and edges of the customer ports.
+fn put_ports(out: &mut String, plan: &Plan, marks: &[PortMark]) -> Result<(), Memory>
+    ensures { OnOk result (string_bytes out.new ≡ string_bytes out.old ++ flat_map (port_node plan.now) marks.now) }
+{
+    for mark in marks {
+        put_port(out, plan, mark)?;
+    }
+    Ok(())
+}
+
+/// The nodes and edges of all parts.
+fn put_parts(alloc: Global, out: &mut String, plan: &Plan, scene: &Scene) -> Result<(), Memory>
+    ensures { OnOk result (string_bytes out.new ≡ string_bytes out.old ++ parts_text plan.now scene.now) }
+{
+    put_bridges(alloc, out, plan, scene.bridges.as_slice())?;
+    put_links(out, plan, scene.links.as_slice())?;
+    put_ports(out, plan, scene.ports.as_slice())
+}
+
+/// Puts a scene of a plan behind a text, as a graph in the language DOT of Graphviz.
+///
+/// Bridges are boxes, customer ports ellipses in the colour of their service, links edges between bridges. A port that is
+/// Discarding ends in a square, one that is Learning in a ring; a link that is not active is dashed and grey. The
+/// places are Graphviz's own.
+///
+/// `Memory` is answered where memory ran out, and then a part of the graph may stand there.
+pub fn put_dot(alloc: Global, out: &mut String, plan: &Plan, scene: &Scene) -> Result<(), Memory>
+    ensures { OnOk result (string_bytes out.new ≡ string_bytes out.old ++ dot_text plan.now scene.now) }
+{
+    out.push_str("graph network {\n")?;
+    put_parts(alloc, out, plan, scene)?;
+    out.push_str("}\n")?;
+    Ok(())
+}

@@ -1,0 +1,150 @@
+//! One bridge, driven by lines of text.
+
+ghost use Rattle.std.specs.Prelude.{◌≡◌, ◌≢◌, ◌<◌, ◌≤◌, ◌-◌, ◌^◌, ◌++◌, [], ℕ, List, length, true, IsErrOf, OnOk, IfErr};
+ghost use Rattle.std.specs.Io.KnownBytes.{Keeps};
+ghost use Rattle.pb_lines.specs.Reader.{held, limit_of};
+ghost use Rattle.pb_messages.specs.BadLines.{longest_line};
+ghost use Rattle.pb_cmd_flat.specs.Answers.{Answer};
+ghost use Rattle.pb_cmd_flat.specs.Receipts.{receipts};
+ghost use Rattle.pb_cmd_flat.specs.Switches.{IsFlatPast};
+ghost use Rattle.pb_cmd_flat.specs.Progress.{Prints, PrintsBeginning};
+
+use crate::line::read_frame_line;
+use crate::print::append_bad;
+use crate::switch::Switch;
+use bytes::BytesMut;
+use pb_lines::{Found, LineReader};
+use pb_messages::{CommandFault, MAX_LINE};
+use std::alloc::Global;
+use std::io::{Read, Write};
+
+/// Puts the answer to one line behind a text. Its frame takes room of a buffer in which nothing stands.
+fn answer(
+    limit: usize,
+    ports: u8,
+    number: u64,
+    line: &[u8],
+    frames: &mut BytesMut,
+    switch: &mut Switch,
+    out: &mut Vec<u8>,
+) -> Result<(), CommandFault>
+    requires frames { frames.old.items ≡ [] }
+    requires ports { ports ≡ switch.old.ports }
+    requires ready { switch.old.is_ready ≡ true }
+    ensures frames { frames.new.items ≡ [] }
+    ensures ready { OnOk result (switch.new.is_ready ≡ true) }
+    ensures steps { IsErrOf result CommandFault.Steps → 2 ^ 60 - 1 ≤ length (receipts switch.old.steps) }
+    ensures ports { OnOk result (switch.new.ports ≡ ports) }
+    ensures past { OnOk result (IsFlatPast ports switch.old.steps → IsFlatPast ports switch.new.steps) }
+    ensures ok { OnOk result ((text : List ℕ) × (out.new.items ≡ out.old.items ++ text)
+        × Answer limit ports number line.now (receipts switch.old.steps) (receipts switch.new.steps) text) }
+{
+    if line.is_empty() {
+        return Ok(());
+    }
+    let alloc = *frames.allocator();
+    match read_frame_line(frames, limit, ports, line)? {
+        None => append_bad(alloc, out, number)?,
+        Some(handed) => switch.handle(alloc, handed.port, handed.frame, handed.digits, out)?,
+    }
+    Ok(())
+}
+
+/// Has the writer hand on all that it took.
+fn finish<W: Write>(writer: &mut W) -> Result<(), CommandFault>
+    ensures ok { OnOk result (Keeps (W.contents writer.old) (W.contents writer.new)) }
+    ensures err { IfErr result (λ e. e ≡ CommandFault.Write) }
+{
+    if writer.flush().is_err() {
+        return Err(CommandFault::Write);
+    }
+    Ok(())
+}
+
+/// Answers each line of what is read, with a reader of lines and a bridge that are new.
+fn answer_lines<R: Read, W: Write>(
+    alloc: Global,
+    limit: usize,
+    ports: u8,
+    lines: &mut LineReader,
+    switch: &mut Switch,
+    reader: &mut R,
+    writer: &mut W,
+) -> Result<(), CommandFault>
+    requires limit { limit < 2 ^ 32 }
+    requires lines { limit_of lines.old ≡ limit }
+    requires held { held lines.old ≡ [] }
+    requires ports { switch.old.ports ≡ ports }
+    requires ready { switch.old.is_ready ≡ true }
+    requires fresh { switch.old.steps ≡ [] }
+    ensures ok { OnOk result (Prints limit ports (R.remaining reader.old) (W.contents writer.old) (W.contents writer.new)) }
+    ensures part { IfErr result (λ e. e ≢ CommandFault.Write →
+        PrintsBeginning e limit ports (R.remaining reader.old) (W.contents writer.old) (W.contents writer.new)) }
+{
+    let mut out = Vec::new(alloc);
+    let mut frames = BytesMut::new(alloc);
+    for number in 1..u64::MAX {
+        let found = lines.next(reader)?;
+        if found == Found::End {
+            finish(writer)?;
+            return Ok(());
+        }
+        out.clear();
+        let line = lines.line();
+        answer(limit, ports, number, line, &mut frames, switch, &mut out)?;
+        if writer.write_all(out.as_slice()).is_err() {
+            return Err(CommandFault::Write);
+        }
+        if found == Found::Last {
+            finish(writer)?;
+            return Ok(());
+        }
+    }
+    Err(CommandFault::Read)
+}
+
+/// Runs a bridge that is new over lines, as [`run_flat`] does with a bridge of its own, and with its
+/// faults. The bridge stays with the caller: a program that ends then need not free the record of its
+/// steps one by one.
+pub fn run_flat_on<R: Read, W: Write>(
+    alloc: Global,
+    switch: &mut Switch,
+    reader: &mut R,
+    writer: &mut W,
+) -> Result<(), CommandFault>
+    requires ready { switch.old.is_ready ≡ true }
+    requires fresh { switch.old.steps ≡ [] }
+    ensures ok { OnOk result (Prints longest_line switch.old.ports (R.remaining reader.old) (W.contents writer.old) (W.contents writer.new)) }
+    ensures part { IfErr result (λ e. e ≢ CommandFault.Write →
+        PrintsBeginning e longest_line switch.old.ports (R.remaining reader.old) (W.contents writer.old) (W.contents writer.new)) }
+{
+    let mut lines = LineReader::new(alloc, MAX_LINE)?;
+    let ports = switch.ports();
+    answer_lines(alloc, MAX_LINE, ports, &mut lines, switch, reader, writer)
+}
+
+/// Runs one bridge (IEEE 802.1Q) with `ports` customer ports of one service, 2 to 16, over lines,
+/// and writes each line's answers by one `write_all`, in order.
+///
+/// The line `in PORT HEX` hands a frame to a port; its answer is a line `out PORT HEX` for each port
+/// at which the frame leaves, ascending, or a line `filtered PORT REASON`. An empty line has no
+/// answer, and any other, also one of more than [`MAX_LINE`] octets, has `line N: bad`.
+///
+/// `Read` is answered where a read failed, `Write` where a write did, `Steps` where the bridge has
+/// taken as many steps as it may, `Memory` where memory ran out. After any fault but `Write`, the answers to
+/// the first lines, as many as were answered, are written whole, and nothing else is; at least 2^60-1 of these
+/// lines hand over a frame where the fault is `Steps`. After `Write` nothing is said of what was written.
+pub fn run_flat<R: Read, W: Write>(
+    alloc: Global,
+    ports: u8,
+    reader: &mut R,
+    writer: &mut W,
+) -> Result<(), CommandFault>
+    requires { (2 ≤ ports) × (ports ≤ 16) }
+    ensures ok { OnOk result (Prints longest_line ports (R.remaining reader.old) (W.contents writer.old) (W.contents writer.new)) }
+    ensures part { IfErr result (λ e. e ≢ CommandFault.Write →
+        PrintsBeginning e longest_line ports (R.remaining reader.old) (W.contents writer.old) (W.contents writer.new)) }
+{
+    let mut switch = Switch::new(alloc, ports)?;
+    run_flat_on(alloc, &mut switch, reader, writer)
+}

@@ -1,0 +1,195 @@
+//! One bridge that stands alone.
+
+ghost use Rattle.std.specs.Prelude.{◌≡◌, ◌≤◌, ◌<◌, ◌+◌, ◌-◌, ◌^◌, ◌⊎◌, [], true, false, length, IfErr, OnOk, IsErrOf, IfOk};
+ghost use Rattle.pb_frame.specs.Hex.{IsHex};
+ghost use Rattle.pb_lan.specs.BridgeLists.{IsLawfulBridge};
+ghost use Rattle.pb_lan.specs.Ports.{port_at, is_used};
+ghost use Rattle.pb_relay.specs.Protocol.{spanning_tree};
+ghost use Rattle.pb_cmd_flat.specs.Faults.{of_bridge};
+ghost use Rattle.pb_cmd_flat.specs.FlatPlans.{flat_plan};
+ghost use Rattle.pb_relay.specs.Standing.{HasCounted};
+ghost use Rattle.pb_cmd_flat.specs.Quiet.{IsToldBy, IsWaiting, IsDraining, HasDrained, Tells, arriving, waits};
+ghost use Rattle.pb_cmd_flat.specs.Receipts.{receipts, IsClearOutcome};
+ghost use Rattle.pb_cmd_flat.specs.Switches.{HasHandled};
+
+use crate::flat_plan::flat_plan;
+use crate::print::put_answer;
+use bytes::Bytes;
+use pb_frame::{Learnt, Memory};
+use pb_lan::{Item, Outcome, Reason, Step};
+use pb_messages::CommandFault;
+use pb_relay::{Bridge, BridgeFault};
+use std::alloc::Global;
+use std::marker::Model;
+
+/// A bridge of customer ports of one service. A fault leaves it not ready for another frame.
+#[derive(Drop)]
+pub struct Switch {
+    ports: u8,
+    bridge: Bridge,
+    is_ready: bool,
+}
+
+impl Model for Switch {
+    ghost use Rattle.std.specs.Prelude.{◌≡◌, ◌≤◌, true};
+    ghost use Rattle.pb_cmd_flat.specs.Quiet.{IsQuiet};
+    ghost use Rattle.pb_cmd_flat.specs.Switches.{SwitchView};
+
+    ghost Value = { SwitchView };
+
+    ghost view = { λ s. record { ports = s.ports; steps = s.bridge.steps; is_ready = s.is_ready } };
+
+    ghost invariant = { λ s. (2 ≤ s.ports) × (s.ports ≤ 16) × (s.is_ready ≡ true → IsQuiet s.ports s.bridge) };
+}
+
+/// What ends a run where the bridge can take no step.
+fn fault_of(fault: BridgeFault) -> CommandFault
+    ensures { result ≡ of_bridge fault }
+{
+    match fault {
+        BridgeFault::StepLimit => CommandFault::Steps,
+        BridgeFault::Memory => CommandFault::Memory,
+    }
+}
+
+/// Has the bridge receive a frame at a port, and hands out the step that tells of it.
+fn admit(bridge: &mut Bridge, port: u8, frame: Bytes) -> Result<Step, CommandFault>
+    requires used { is_used (port_at bridge.old.plan bridge.old.number port) ≡ true }
+    requires counted { bridge.old.is_kept ≡ false }
+    ensures ok { IfOk result (λ step. HasCounted bridge.old port (arriving frame) step bridge.new) }
+    ensures kinds { IfErr result (λ e. (e ≡ CommandFault.Steps) ⊎ (e ≡ CommandFault.Memory)) }
+    ensures limit { IsErrOf result CommandFault.Steps → length bridge.old.steps ≡ bridge.old.plan.steps }
+{
+    let item = Item {
+        mark: None,
+        hops: 0,
+        wire: frame,
+    };
+    match bridge.receive_counted(port, item) {
+        Ok(step) => Ok(step),
+        Err((fault, _)) => Err(fault_of(fault)),
+    }
+}
+
+/// The outcome tells of a frame or a copy that was lost for want of memory. The bridge's queues were
+/// empty, so a copy is refused for nothing else.
+fn is_lost(outcome: &Outcome) -> bool
+    ensures lost { result ≡ true → IsClearOutcome outcome.now → ⊥ }
+    ensures kept { result ≡ false → IsClearOutcome outcome.now }
+{
+    match outcome {
+        Outcome::Relayed { refused, .. } => !refused.is_empty(),
+        Outcome::Filtered(reason) => *reason == Reason::Memory,
+        Outcome::Heard => false,
+    }
+}
+
+/// Prints what became of the frame that a step received.
+fn tell(alloc: Global, step: &Step, digits: &[u8], out: &mut Vec<u8>) -> Result<(), CommandFault>
+    requires { IsToldBy digits.now step.now }
+    ensures ok { OnOk result (Tells step.now out.old.items out.new.items) }
+    ensures err { IfErr result (λ e. e ≡ CommandFault.Memory) }
+{
+    let Step::Receive {
+        port,
+        item,
+        learnt,
+        outcome,
+        ..
+    } = step
+    else {
+        unreachable!();
+    };
+    if *learnt == Some(Learnt::Memory) || is_lost(outcome) {
+        return Err(CommandFault::Memory);
+    }
+    put_answer(alloc, out, *port, item.wire.as_slice(), digits, outcome)?;
+    Ok(())
+}
+
+/// Has a port send what waits there, at most one item.
+fn drain_at(bridge: &mut Bridge, port: u8) -> Result<(), CommandFault>
+    requires used { is_used (port_at bridge.old.plan bridge.old.number port) ≡ true }
+    ensures ok { OnOk result (HasDrained port bridge.old bridge.new) }
+    ensures kinds { IfErr result (λ e. (e ≡ CommandFault.Steps) ⊎ (e ≡ CommandFault.Memory)) }
+    ensures some { IsErrOf result CommandFault.Steps → 0 < waits bridge.old port }
+    ensures limit { IsErrOf result CommandFault.Steps → length bridge.old.steps ≡ bridge.old.plan.steps }
+{
+    if bridge.waiting(port) == 0 {
+        return Ok(());
+    }
+    if let Err(fault) = bridge.reserve_step() {
+        return Err(fault_of(fault));
+    }
+    let _ = bridge.pop_out(port);
+    Ok(())
+}
+
+/// Has each port send what waits there. Nothing does at the one at which a frame came in.
+fn drain(bridge: &mut Bridge, ports: u8, port: u8) -> Result<(), CommandFault>
+    requires most { ports ≤ 16 }
+    requires from { 1 ≤ port }
+    requires to { port ≤ ports }
+    requires waiting { IsWaiting ports port bridge.old }
+    ensures ok { OnOk result (IsDraining ports port (ports + 1) bridge.old bridge.new) }
+    ensures kinds { IfErr result (λ e. (e ≡ CommandFault.Steps) ⊎ (e ≡ CommandFault.Memory)) }
+    ensures lawful { OnOk result (IsLawfulBridge spanning_tree bridge.new.plan bridge.new.number bridge.new.steps) }
+    ensures steps { IsErrOf result CommandFault.Steps → 2 ^ 60 ≤ length (receipts bridge.old.steps) }
+{
+    for other in 1..ports + 1 {
+        drain_at(bridge, other)?;
+    }
+    let _steps = bridge.steps();
+    Ok(())
+}
+
+impl Switch {
+    /// A bridge with so many ports, 2 to 16, that has received nothing.
+    pub fn new(alloc: Global, ports: u8) -> Result<Switch, Memory>
+        requires { (2 ≤ ports) × (ports ≤ 16) }
+        ensures { IfOk result (λ s. s ≡ record { ports = ports; steps = []; is_ready = true }) }
+    {
+        let plan = flat_plan(alloc, ports)?;
+        let bridge = Bridge::counting(alloc, &plan, 1)?;
+        Ok(Switch {
+            ports,
+            bridge,
+            is_ready: true,
+        })
+    }
+
+    /// The number of ports.
+    pub fn ports(&self) -> u8
+        ensures { result ≡ self.now.ports }
+    {
+        self.ports
+    }
+
+    /// Takes a frame at a port, and prints what becomes of it. The digits are those of the frame.
+    ///
+    /// `Steps` is answered where the bridge has taken 2^64-1 steps, `Memory` where memory ran out: at least
+    /// 2^60-1 frames were taken before the first. After either the bridge takes no more frames.
+    pub fn handle(
+        &mut self,
+        alloc: Global,
+        port: u8,
+        frame: Bytes,
+        digits: &[u8],
+        out: &mut Vec<u8>,
+    ) -> Result<(), CommandFault>
+        requires digits { IsHex digits.now frame }
+        requires from { 1 ≤ port }
+        requires to { port ≤ self.old.ports }
+        requires ready { self.old.is_ready ≡ true }
+        ensures ok { OnOk result (HasHandled self.old port frame out.old.items self.new out.new.items) }
+        ensures kinds { IfErr result (λ e. (e ≡ CommandFault.Steps) ⊎ (e ≡ CommandFault.Memory)) }
+        ensures steps { IsErrOf result CommandFault.Steps → 2 ^ 60 - 1 ≤ length (receipts self.old.steps) }
+    {
+        self.is_ready = false;
+        let step = admit(&mut self.bridge, port, frame)?;
+        tell(alloc, &step, digits, out)?;
+        drain(&mut self.bridge, self.ports, port)?;
+        self.is_ready = true;
+        Ok(())
+    }
+}

@@ -1,0 +1,63 @@
+//! More lines than there is memory for a list of what they did.
+
+use pb_cmd_flat::run_flat;
+use std::io;
+use std::io::{Read, Write};
+use std::test::Fail;
+
+/// A broadcast comes in at port 1.
+const LINE: &[u8] = b"in 1 ffffffffffff0200000001010800\n";
+
+/// The octets of `out 2` or `out 3` with that broadcast.
+const ANSWER_OCTETS: u64 = 35;
+
+/// Gives the line again and again, at most the rest of one a call.
+#[derive(Drop)]
+struct Again {
+    /// How many octets were given.
+    given: u64,
+    /// How many are given in all.
+    most: u64,
+}
+
+impl Read for Again {
+    fn read(&mut self, buf: &mut [u8]) -> io::Result<usize> {
+        if self.given >= self.most {
+            return Ok(0);
+        }
+        let rest = &LINE[self.given as usize % LINE.len()..];
+        let count = rest.len().min(buf.len());
+        buf[..count].copy_from_slice(&rest[..count]);
+        self.given = self.given.saturating_add(count as u64);
+        Ok(count)
+    }
+}
+
+/// Counts what it is given.
+#[derive(Drop)]
+struct Counter {
+    octets: u64,
+}
+
+impl Write for Counter {
+    fn write(&mut self, buf: &[u8]) -> io::Result<usize> {
+        self.octets = self.octets.saturating_add(buf.len() as u64);
+        Ok(buf.len())
+    }
+
+    fn flush(&mut self) -> io::Result<()> {
+        Ok(())
+    }
+}
+
+#[test]
+fn three_million_lines_have_six_million_answers(rt: HostRuntime) -> Result<(), Fail> {
+    let mut lines = Again {
+        given: 0,
+        most: 3_000_000 * LINE.len() as u64,
+    };
+    let mut answers = Counter { octets: 0 };
+    run_flat(rt.alloc(), 3, &mut lines, &mut answers)?;
+    assert_eq!(rt; answers.octets, 6_000_000 * ANSWER_OCTETS);
+    Ok(())
+}

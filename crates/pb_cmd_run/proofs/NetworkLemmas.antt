@@ -1,0 +1,52 @@
+-- Plans of files and their ports.
+use Rattle.std.proofs.Common.{◌≡◌, ℕ, Bool, refl, List, [], ◌∷◌, ◌++◌, length, map, ap, sym, ◌∙◌}
+use Rattle.std.proofs.Common.{append-nil, arith, Ok, Err, IfOk}
+use Rattle.std.proofs.lemmas.Slice.Zip.{AllZip-long}
+use Rattle.std.specs.declared.result.Result.{Result}
+use Rattle.pb_lan.specs.declared.plan.Plan.{Plan}
+use Rattle.pb_lan.specs.declared.step.Step.{Step}
+use Rattle.pb_run.specs.Runs.{Lists, ArePortsKept, frames_of}
+use Rattle.pb_workers.specs.declared.access.Last.{Last}
+use Rattle.pb_service.specs.PlanFiles.{Tells, IsPlanOf}
+use Rattle.pb_service.specs.declared.port_spec.PortSpec.{PortSpec}
+use Rattle.pb_run.specs.declared.ended.Ended.{Ended}
+use Rattle.pb_cmd_run.specs.Scripted.{AreScripted}
+use Rattle.pb_run_ports.specs.Opened.{script_in}
+use Rattle.pb_run_losses.specs.Strict.{exit_status, is_whole}
+use Rattle.pb_run_losses.specs.declared.strictness.Strictness.{Strictness}
+use Rattle.pb_run_losses.specs.declared.strictness.Strictness.TheVariants.{Strict, Lenient}
+
+-- a file has as many ports as its plan
+pub ports_per_plan : (file : List ℕ) (plan : Plan) (specs : List PortSpec)
+    → Tells file (λ document. IsPlanOf document plan specs) → length specs ≡ length plan.customers
+ports_per_plan file plan specs (document, parsed, told) = AllZip-long _ _ specs told.ports
+    ∙ sym (AllZip-long _ _ plan.customers told.customers)
+
+-- the exit status of a run by what it lost, where a strict run knows that
+pub exits : (strictness : Strictness) (ended : Ended) (lost text : List ℕ) (told : ℕ) (whole : Bool) (status : ℕ)
+    → status ≡ exit_status strictness whole told → whole ≡ is_whole ended lost → (strictness ≡ Strict → lost ≡ text)
+    → status ≡ exit_status strictness (is_whole ended text) told
+exits Strict ended lost text told whole status s w l = s
+    ∙ ap (λ x. exit_status Strict x told) (w ∙ ap (is_whole ended) (l refl))
+exits Lenient ended lost text told whole status s w l = s
+
+-- what a fact of a value that is Ok gives
+pub on_value : {A E : Type 0} {P Q : A → Type 0} (r : Result A E) → ((x : A) → P x → Q x) → IfOk r P → IfOk r Q
+on_value (Ok x) f p = f x p
+on_value (Err e) f p = p
+
+-- what entered at ports that had to give what a file lists
+pub are_scripted : (specs : List PortSpec) (before after : Lists) (customers : List (List Step)) (lasts : List Last)
+    → before.scripts ≡ map script_in specs → ArePortsKept before after customers lasts
+    → AreScripted specs customers lasts
+are_scripted specs before after customers lasts same kept = record {
+  rest = after.scripts;
+  begun = λ number. ap (λ scripts. frames_of scripts number) (sym same) ∙ kept.script number;
+  used_up = kept.used_up;
+}
+
+-- once nothing is to come, all that was made shows what all showed that came
+pub all_moved : {X Y Z : Type 0} (f : X → Z) (xs : List X) (g : Y → Z) (left all ys : List Y)
+    → map f xs ++ map g left ≡ map g all → length left ≡ 0 → all ≡ ys → map f xs ≡ map g ys
+all_moved f xs g [] all ys before none same = sym (append-nil (map f xs)) ∙ before ∙ ap (map g) same
+all_moved f xs g (y ∷ left) all ys before none same = absurd (omega arith)

@@ -1,0 +1,19 @@
+use Rattle.std.proofs.Common.{◌∙◌, inr}
+use Rattle.pb_cmd_run.proofs.NetworkLemmas.{ports_per_plan, on_value}
+use Rattle.pb_cmd_run.proofs.network.run_network.Goals as goal
+
+pub run_opened-ran-requires-clause-count : goal.run_opened-ran-requires-clause-count
+run_opened-ran-requires-clause-count g c = λ lifetimes alive.
+    let network = c.in-Ok.field-0 in
+    network.ports.ok.0 ∙ ports_per_plan c.args.file.now network.plan network.ports.items c.in-Ok.ensures.ok
+
+pub returns-in_ok-plug-in-Ok-clause-ok : goal.returns-in_ok-plug-in-Ok-clause-ok
+returns-in_ok-plug-in-Ok-clause-ok g c =
+    let network = c.in-Ok.field-0 in
+    on_value c.run_opened-ran.result
+    (λ status ran. inr (record {
+      plan = network.plan;
+      specs = network.ports.items;
+      told = c.in-Ok.ensures.ok;
+      prints = ran;
+    })) c.run_opened-ran.ensures.ok

@@ -1,0 +1,44 @@
+use Rattle.std.proofs.Common.{refl, ap, ◌∙◌, arith, rules}
+use Rattle.std.proofs.lemmas.Grind.{common_steps}
+use denote.Param.Object.{read_made}
+use Rattle.std.specs.Vec.Iter.{into_iter_items}
+use Rattle.pb_cmd_run.specs.Scripted.{script_at}
+use Rattle.pb_run_ports.proofs.MoveLemmas.{moved_over}
+use Rattle.pb_cmd_run.proofs.NetworkLemmas.{on_value, are_scripted, all_moved}
+use Rattle.pb_cmd_run.proofs.network.run_ports.OwnLists.{own-1, at-1-1}
+use Rattle.pb_cmd_run.proofs.network.run_ports.Goals as goal
+
+pub loop-port-preserved : goal.loop-port-preserved
+loop-port-preserved g c = record {
+  count = grind (arith, common_steps);
+  scripts = moved_over (λ b. (own-1.entry b.vtable).1.script b.value) c.loop-port.held.items c.push.new.self.items
+      c.into_dyn_box.result (λ w. script_at w.port)
+      (into_iter_items c.loop-port.port-iterator) (into_iter_items c.next.new.self) c.in-Some.port _
+      c.loop-port.invariant.scripts c.in_ok-push.ensures.items c.in-Some.ensures.steps.0
+      (read_made own-1 (own-1.entry at-1-1) at-1-1 refl _ (λ e port. e.1.script port) c.into_dyn_box.result.vtable
+      c.into_dyn_box.result.value c.in_ok-new.field-0.value
+      c.into_dyn_box.ensures.1 ∙ ap (λ w. script_at w.port) c.in_ok-new.ensures.ok);
+}
+
+pub returns-in-Ok-clause-ok : goal.returns-in-Ok-clause-ok
+returns-in-Ok-clause-ok g c =
+    let ran = c.in-Ok.ran in
+    let after = c.lingered-ran.result in
+    let kept = c.lingered-ran.ensures in
+    let given = all_moved (λ b. (own-1.entry b.vtable).1.script b.value) c.loop-port.held.items
+    (λ w. script_at w.port) (into_iter_items c.loop-port.port-iterator)
+    (into_iter_items c.into_iter-port-iterator.result) c.args.ports.items c.loop-port.invariant.scripts (search rules)
+    (search rules) in
+    on_value c.tell.result (λ status told specs same. record {
+      rec = after.counts;
+      lawful = rw kept.counts c.in-Ok.ensures.lawful;
+      headline = rw kept.counts c.in-Ok.ensures.headline;
+      lasts = after.last.items;
+      last_count = rw kept.last (grind (arith, common_steps));
+      scripted = rw (kept.counts, kept.last)
+          (are_scripted specs _ _ ran.counts.customers ran.last.items (given ∙ same) c.in-Ok.ensures.ports);
+      ended = after.ended;
+      tells_ended = rw (kept.counts, kept.last, kept.ended) c.in-Ok.ensures.ended;
+      settled = after.settled;
+      report = told;
+    }) c.tell.ensures.ok

@@ -1,0 +1,74 @@
+-- What is printed of the network of a plan file.
+use Rattle.std.specs.Prelude.{◌≡◌, ◌⊎◌, ℕ, Bool, List, [], length}
+use Rattle.std.specs.Io.KnownBytes.{Appends}
+use Rattle.std.specs.declared.option.Option.{Option}
+use Rattle.std.specs.declared.result.Result.{Result}
+use Rattle.pb_frame.specs.declared.memory.Memory.{Memory}
+use Rattle.pb_lan.specs.Counts.{IsDrained}
+use Rattle.pb_lan.specs.Headline.{IsFaithful}
+use Rattle.pb_lan.specs.Records.{IsLawfulRecord}
+use Rattle.pb_lan.specs.declared.plan.Plan.{Plan}
+use Rattle.pb_lan.specs.declared.record.Record.{Record}
+use Rattle.pb_lan.specs.declared.step.Mark.{Mark}
+use Rattle.pb_relay.specs.Protocol.{spanning_tree}
+use Rattle.pb_report.specs.Refusals.{PrintsRefusal}
+use Rattle.pb_workers.specs.Ports.{Frames}
+use Rattle.pb_run.specs.Runs.{TellsEnded}
+use Rattle.pb_workers.specs.declared.access.Last.{Last}
+use Rattle.pb_run.specs.declared.ended.Ended.{Ended}
+use Rattle.pb_service.specs.PlanFiles.{Tells, IsPlanOf}
+use Rattle.pb_service.specs.declared.port_spec.PortSpec.{PortSpec}
+use Rattle.pb_cmd_run.specs.Reports.{IsRunReport}
+use Rattle.pb_cmd_run.specs.Scripted.{AreScripted}
+use Rattle.pb_run_losses.specs.Strict.{exit_status, is_whole, lost_text}
+use Rattle.pb_run_losses.specs.declared.strictness.Strictness.{Strictness}
+
+-- a run is reported, and the exit status is that of the report, or 4 where the run is strict and wasn't whole. Of each
+-- customer port there is what its newest poll said, and what waits in it
+pub record PrintsReport (strictness : Strictness) (plan : Plan) (rec : Record) (ended : Ended) (settled : Result (Option Bool) Memory) (lasts : List Last) (status : ℕ) (before after : Option (List ℕ)) : Type 0 where
+  pub told : ℕ
+  pub text : List ℕ
+  pub written : Appends before after text
+  pub is_report : IsRunReport plan rec ended settled lasts told text
+  pub unsent : List Frames
+  pub unsent_count : length unsent ≡ length plan.customers
+  pub status_is : status ≡ exit_status strictness (is_whole ended (lost_text plan rec settled unsent)) told
+
+-- a plan has run with its ports: what its places did is a lawful record with the promises of every run, what
+-- entered is what the ports had to give, and the report tells of that record
+pub record PrintsRan (strictness : Strictness) (plan : Plan) (specs : List PortSpec) (status : ℕ) (before after : Option (List ℕ)) : Type 0 where
+  pub rec : Record
+  pub lawful : IsLawfulRecord spanning_tree plan rec
+  pub headline : IsFaithful plan rec
+  pub lasts : List Last
+  pub last_count : length lasts ≡ length plan.customers
+  pub scripted : AreScripted specs rec.customers lasts
+  pub ended : Ended
+  pub tells_ended : TellsEnded plan rec lasts ended
+  pub settled : Result (Option Bool) Memory
+  pub report : PrintsReport strictness plan rec ended settled lasts status before after
+
+-- the plan that the file tells has run with the ports that it tells
+pub record PrintsRunOf (strictness : Strictness) (file : List ℕ) (status : ℕ) (before after : Option (List ℕ)) : Type 0 where
+  pub plan : Plan
+  pub specs : List PortSpec
+  pub told : Tells file (λ document. IsPlanOf document plan specs)
+  pub prints : PrintsRan strictness plan specs status before after
+
+-- what is written for a file, with the program's exit status
+abbrev pub PrintsNetwork : Strictness → List ℕ → ℕ → Option (List ℕ) → Option (List ℕ) → Type 0
+PrintsNetwork strictness file status before after = ((status ≡ 1) × PrintsRefusal file before after) ⊎ PrintsRunOf strictness file status before after
+
+-- the file tells a plan, and its network has carried all that entered: each frame has left or was dropped for a reason that is
+-- no want of room, what left is faithful to what entered, and nothing is to be told of losses
+pub record HasCarriedAll (file : List ℕ) : Type 0 where
+  pub plan : Plan
+  pub specs : List PortSpec
+  pub told : Tells file (λ document. IsPlanOf document plan specs)
+  pub rec : Record
+  pub lawful : IsLawfulRecord spanning_tree plan rec
+  pub headline : IsFaithful plan rec
+  pub drained : (mark : Mark) → IsDrained plan rec mark
+  pub settled : Result (Option Bool) Memory
+  pub unsent : List Frames
+  pub lost : lost_text plan rec settled unsent ≡ []

@@ -1,0 +1,76 @@
+//! Ports of any kind.
+
+ghost use Rattle.pb_cmd_run.specs.AnyPorts.{of_any};
+
+use bytes::Bytes;
+use pb_port::{Offered, Polled, Port, Pumped, Shelf};
+use std::collections::VecDeque;
+
+/// A port of one of three kinds: each call is that port's.
+#[derive(Drop)]
+pub(crate) enum AnyPort<M, C, S> {
+    /// A script and a LAN in memory.
+    Memory(M),
+    /// Two capture files.
+    Capture(C),
+    /// A stream socket.
+    Socket(S),
+}
+
+impl<M: Port, C: Port, S: Port> Port for AnyPort<M, C, S> {
+    ghost script = { of_any M.script C.script S.script };
+
+    ghost tally = { of_any M.tally C.tally S.tally };
+
+    ghost waiting = { of_any M.waiting C.waiting S.waiting };
+
+    ghost capacity = { of_any M.capacity C.capacity S.capacity };
+
+    ghost ended = { of_any M.ended C.ended S.ended };
+
+    ghost is_shelved = { of_any M.is_shelved C.is_shelved S.is_shelved };
+
+    ghost is_failed = { of_any M.is_failed C.is_failed S.is_failed };
+
+    ghost failed = { of_any M.failed C.failed S.failed };
+
+    fn poll(&mut self) -> Polled {
+        match self {
+            AnyPort::Memory(port) => port.poll(),
+            AnyPort::Capture(port) => port.poll(),
+            AnyPort::Socket(port) => port.poll(),
+        }
+    }
+
+    fn offer(&mut self, f: &Bytes) -> Offered {
+        match self {
+            AnyPort::Memory(port) => port.offer(f),
+            AnyPort::Capture(port) => port.offer(f),
+            AnyPort::Socket(port) => port.offer(f),
+        }
+    }
+
+    fn pump(&mut self, now: u32) -> Pumped {
+        match self {
+            AnyPort::Memory(port) => port.pump(now),
+            AnyPort::Capture(port) => port.pump(now),
+            AnyPort::Socket(port) => port.pump(now),
+        }
+    }
+
+    fn unsent(&self) -> &VecDeque<Bytes> {
+        match self {
+            AnyPort::Memory(port) => port.unsent(),
+            AnyPort::Capture(port) => port.unsent(),
+            AnyPort::Socket(port) => port.unsent(),
+        }
+    }
+
+    fn shelve(&mut self, home: &mut Shelf) {
+        match self {
+            AnyPort::Memory(port) => port.shelve(home),
+            AnyPort::Capture(port) => port.shelve(home),
+            AnyPort::Socket(port) => port.shelve(home),
+        }
+    }
+}

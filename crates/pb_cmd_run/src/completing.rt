@@ -1,0 +1,70 @@
+//! Captures once a run is over: those to which nothing left, and inputs of another format.
+
+ghost use Rattle.std.specs.Prelude.{◌≡◌, OnOk};
+ghost use Rattle.std.specs.Io.KnownBytes.{Appends};
+ghost use Rattle.pb_port.specs.Spelling.{file_header};
+
+use crate::telling::{name_at, write_path_fault};
+use pb_frame::Text;
+use pb_lan::CustomerPlan;
+use pb_run_ports::Verb;
+use std::alloc::Global;
+use std::fs::File;
+use std::io;
+use std::io::Write;
+
+/// The files of a capture port of a network.
+#[derive(Drop)]
+pub(crate) struct CaptureFiles {
+    /// The port's place in the plan, from 0.
+    pub place: usize,
+    /// The path of the file that it reads.
+    pub read: Text,
+    /// The path of the file that it writes.
+    pub write: Text,
+    /// A handle of the file that it writes, which shares its position with the port's.
+    pub file: File,
+}
+
+/// The octets of a capture without records, as a capture port writes them before its first one.
+fn empty_capture() -> [u8; 24]
+    ensures { result ≡ file_header }
+{
+    [
+        0xd4, 0xc3, 0xb2, 0xa1, 2, 0, 4, 0, 0, 0, 0, 0, 0, 0, 0, 0, 0xff, 0xff, 0, 0, 1, 0, 0, 0,
+    ]
+}
+
+/// Writes a capture without records.
+fn write_empty_capture<W: Write>(writer: &mut W) -> io::Result<()>
+    ensures { OnOk result (Appends (W.contents writer.old) (W.contents writer.new) file_header) }
+{
+    writer.write_all(&empty_capture())
+}
+
+/// Makes a capture without records of a file in which nothing stands. A device or a pipe stays as it is.
+fn complete(file: &File) -> io::Result<()> {
+    let metadata = file.metadata()?;
+    if metadata.is_file() && metadata.len() == 0 {
+        let mut writer = file;
+        return write_empty_capture(&mut writer);
+    }
+    Ok(())
+}
+
+/// Makes captures without records of the files to which nothing left, and tells on the error writer where one can't
+/// be written.
+pub(crate) fn complete_all<E: Write>(
+    alloc: Global,
+    customers: &[CustomerPlan],
+    files: &[CaptureFiles],
+    errors: &mut E,
+) {
+    for written in files {
+        if let Err(error) = complete(&written.file) {
+            let name = name_at(customers, written.place);
+            let path = written.write.as_str();
+            let _ = write_path_fault(alloc, name, Verb::Write, path, &error, errors);
+        }
+    }
+}

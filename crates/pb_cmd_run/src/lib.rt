@@ -1,0 +1,27 @@
+//! The network of a plan file in threads, between files and sockets: the command `run`.
+#![tactic(auto)]
+
+mod any_port;
+mod completing;
+mod input;
+mod linger;
+mod network;
+mod network_fault;
+mod options;
+mod outside;
+mod pcapng;
+mod peer;
+mod report;
+mod system;
+mod telling;
+mod watched;
+
+pub use network::run_network;
+pub use network_fault::NetworkFault;
+pub use options::RunOptions;
+pub use pb_run_control::{Opening, Traffic, Watch};
+pub use pb_run_losses::{Strictness, lost_of};
+pub use pb_run_ports::{
+    Deed, FileUser, OpenFault, Opened, Openings, PathFault, SharedFile, Verb, open_all,
+};
+pub use report::write_report;

@@ -1,0 +1,330 @@
+//! Runs of the networks of plan files.
+
+ghost use Rattle.std.specs.Prelude.{◌≡◌, ◌≢◌, ◌⊎◌, length, map, vec_len, string_bytes, List, ℕ, IfOk, IfErr, OnOk};
+ghost use Rattle.std.specs.Io.KnownBytes.{Appends, Keeps};
+ghost use Rattle.pb_lan.specs.Plans.{IsSound};
+ghost use Rattle.pb_relay.specs.Settled.{TellsSettled};
+ghost use Rattle.pb_service.specs.PlanFiles.{Tells, IsPlanOf, RefusesFile};
+ghost use Rattle.pb_service.specs.declared.port_spec.PortSpec.{PortSpec};
+ghost use Rattle.pb_report.specs.Refusals.{refusal_line};
+ghost use Rattle.pb_cmd_run.specs.Faults.{ComesOf};
+ghost use Rattle.pb_cmd_run.specs.Networks.{PrintsReport, PrintsRan, PrintsNetwork};
+ghost use Rattle.pb_cmd_run.specs.Scripted.{script_at};
+ghost use Rattle.pb_run_ports.specs.Opened.{script_in};
+ghost use Rattle.pb_run_losses.specs.Strict.{lost_text};
+ghost use Rattle.pb_run_losses.specs.declared.strictness.Strictness.TheVariants.{Strict as strict};
+
+use crate::completing::{CaptureFiles, complete_all};
+use crate::linger::{Lingering, lingered};
+use crate::network_fault::NetworkFault;
+use crate::options::RunOptions;
+use crate::outside::{Outside, SystemPort, open_ports};
+use crate::pcapng::show_pcapng;
+use crate::peer::remove_sockets;
+use crate::report::write_report;
+use crate::watched::Watched;
+use pb_control_socket::Control;
+use pb_frame::Memory;
+use pb_history::Tallies;
+use pb_lan::{Limits, Plan, Spanning};
+use pb_report::write_refusal;
+use pb_run::{Held, Ran, run_set};
+use pb_run_control::{Steering, Traffic, Watch};
+use pb_run_losses::{Strictness, exit_status, is_whole, lost_of};
+use pb_service::{PlanFault, PlanFile, PortSpec, read_plan_file};
+use std::alloc::Global;
+use std::fs::{File, Files};
+use std::io;
+use std::io::Write;
+use std::net::Net;
+use std::sync::{Arc, Wait};
+use std::thread::Threads;
+use std::time::Clock;
+
+/// The exit status where the plan is refused.
+const REFUSED: u8 = 1;
+
+/// Writes which rule a plan file breaks, and answers the exit status. `Write` is answered where a write failed,
+/// `Memory` where memory for the text ran out, and then nothing was written. No other fault comes.
+fn refuse<W: Write>(alloc: Global, fault: &PlanFault, writer: &mut W) -> Result<u8, NetworkFault>
+    ensures status { IfOk result (λ status. status ≡ 1) }
+    ensures text { OnOk result (Appends (W.contents writer.old) (W.contents writer.new) (refusal_line fault.now)) }
+    ensures kinds { IfErr result (λ e. (e ≡ NetworkFault.Write) ⊎ (e ≡ NetworkFault.Memory)) }
+    ensures none { IfErr result (λ e. e ≢ NetworkFault.Write → Keeps (W.contents writer.old) (W.contents writer.new)) }
+{
+    write_refusal(alloc, fault, writer)?;
+    Ok(REFUSED)
+}
+
+/// What a run lost. Where there is no memory to tell it, a lenient run tells nothing, and a strict one answers `Memory`.
+fn lost_under(
+    alloc: Global,
+    strictness: Strictness,
+    plan: &Plan,
+    ports: &[Held],
+    counts: &Tallies,
+    settled: &Result<Option<bool>, Memory>,
+) -> Result<String, NetworkFault>
+    requires ports { length ports.now ≡ length plan.now.customers }
+    requires lists { length counts.now.customers ≡ length plan.now.customers }
+    ensures err { IfErr result (λ e. e ≡ NetworkFault.Memory) }
+    ensures ok { IfOk result (λ text. strictness ≡ strict → string_bytes text ≡ lost_text plan.now counts.now settled.now (map (λ b. waiting b) ports.now)) }
+{
+    match lost_of(alloc, plan, ports, counts, settled) {
+        Ok(lost) => Ok(lost),
+        Err(_) if strictness == Strictness::Lenient => Ok(String::new(alloc)),
+        Err(_) => Err(NetworkFault::Memory),
+    }
+}
+
+/// Writes a text, where there is one. It isn't told where that fails.
+fn show<E: Write>(text: &str, errors: &mut E) {
+    if !text.is_empty() {
+        let _ = errors.write_all(text.as_bytes());
+        let _ = errors.flush();
+    }
+}
+
+/// Tells that the control socket can't be made.
+fn show_unmade<E: Write>(alloc: Global, path: &str, error: &io::Error, errors: &mut E) {
+    if let Ok(text) = format!(in alloc; "control {path}: {error}\n") {
+        show(text.as_str(), errors);
+    }
+}
+
+/// Makes the control socket of a run, where one is asked for. `Path` is answered where it can't be made, and told on the
+/// error writer.
+fn plug<R: Files + Net, G, E: Write>(
+    rt: &R,
+    alloc: Global,
+    path: Option<&str>,
+    steering: &Steering<'_, G>,
+    errors: &mut E,
+) -> Result<(), NetworkFault>
+    ensures { IfErr result (λ e. e ≡ NetworkFault.Path) }
+{
+    let Some(path) = path else {
+        return Ok(());
+    };
+    match Control::open(rt, alloc, path) {
+        Ok(control) => {
+            steering.plug(control);
+            Ok(())
+        }
+        Err(e) => {
+            show_unmade(alloc, path, &e, errors);
+            Err(NetworkFault::Path)
+        }
+    }
+}
+
+/// Whether frames wait until the bridges have settled: where that is asked for, and the bridges decide the states of their
+/// ports, by clocks that tick.
+fn waits_for(options: &RunOptions<'_>, plan: &Plan, limits: Limits) -> bool {
+    let has_clock = limits.tick_every > 0 || limits.tick_ms > 0;
+    options.settles && has_clock && plan.spanning == Spanning::Rstp
+}
+
+/// Tells how many events of the plan have not come, where there are some: the run was over before.
+fn show_left<E: Write>(alloc: Global, left: u64, errors: &mut E) {
+    if left == 0 {
+        return;
+    }
+    let text = if left == 1 {
+        String::from_str(alloc, "1 event has not come\n")
+    } else {
+        format!(in alloc; "{left} events have not come\n")
+    };
+    if let Ok(text) = text {
+        show(text.as_str(), errors);
+    }
+}
+
+/// Writes what came of a run, and then what it lost, and answers the exit status. `Write` is answered where the report
+/// could not be written, `Memory` where memory for its text ran out, or for that of what a strict run lost, and then
+/// nothing of it was written. No other fault comes.
+fn tell<W: Write, E: Write>(
+    alloc: Global,
+    strictness: Strictness,
+    plan: &Plan,
+    ran: &Ran,
+    writer: &mut W,
+    errors: &mut E,
+) -> Result<u8, NetworkFault>
+    requires sound { IsSound plan.now }
+    requires settled { IfOk ran.now.settled (TellsSettled plan.now ran.now.counts) }
+    requires lasts { length ran.now.last.items ≡ length plan.now.customers }
+    requires ports { length ran.now.ports.items ≡ length plan.now.customers }
+    requires lists { length ran.now.counts.customers ≡ length plan.now.customers }
+    ensures ok { IfOk result (λ status. PrintsReport strictness plan.now ran.now.counts ran.now.ended ran.now.settled ran.now.last.items status
+        (W.contents writer.old) (W.contents writer.new)) }
+    ensures kinds { IfErr result (λ e. (e ≡ NetworkFault.Write) ⊎ (e ≡ NetworkFault.Memory)) }
+    ensures none { IfErr result (λ e. e ≢ NetworkFault.Write → Keeps (W.contents writer.old) (W.contents writer.new)) }
+{
+    let ports = ran.ports.as_slice();
+    let lost = lost_under(alloc, strictness, plan, ports, &ran.counts, &ran.settled)?;
+    let told = write_report(alloc, plan, ran, writer)?;
+    show(lost.as_str(), errors);
+    let is_whole = is_whole(ran.ended, lost.as_str());
+    Ok(exit_status(strictness, is_whole, told))
+}
+
+/// Runs a plan with its ports, of which some have these files, and reports on the run, as [`run_network`] does.
+///
+/// `Memory` is answered where there was none for the ports' boxes or for the workers, and then nothing has run; and
+/// where there was none for the text of the report, once the run is over. `Spawn` is answered where a thread could
+/// not be started, and then nothing has run; `Write` where the report could not be written. After any fault but
+/// `Write`, nothing was written to `writer`. `Ports` is never answered: there are as many ports as customer ports.
+fn run_ports<R, G: Watch, W: Write, E: Write>(
+    rt: &R,
+    alloc: Global,
+    plan: &Plan,
+    ports: Vec<Watched<SystemPort>>,
+    files: &[CaptureFiles],
+    limits: Limits,
+    strictness: Strictness,
+    lingering: Lingering<'_>,
+    gate: &G,
+    writer: &mut W,
+    errors: &mut E,
+) -> Result<u8, NetworkFault>
+where
+    R: Files + Threads + Wait + Clock + Sync,
+    requires sound { IsSound plan.now }
+    requires count { vec_len ports ≡ length plan.now.customers }
+    ensures ok { IfOk result (λ status. (specs : List PortSpec) → map (λ w. script_at w.port) ports.items ≡ map script_in specs
+        → PrintsRan strictness plan.now specs status (W.contents writer.old) (W.contents writer.new)) }
+    ensures err { IfErr result (λ e. e ≡ NetworkFault.Ports → ⊥) }
+    ensures none { IfErr result (λ e. e ≢ NetworkFault.Write → Keeps (W.contents writer.old) (W.contents writer.new)) }
+{
+    let mut held: Vec<Held> = Vec::with_capacity(alloc, ports.len())?;
+    for port in ports {
+        let port: Held = Box::new(alloc, port)?;
+        held.push(port)?;
+    }
+    match run_set(rt, alloc, plan, held, gate, limits) {
+        Ok(ran) => {
+            gate.close();
+            let ran = lingered(rt, ran, lingering);
+            let customers = plan.customers.as_slice();
+            complete_all(alloc, customers, files, errors);
+            show_pcapng(rt, alloc, customers, files, ran.last.as_slice(), errors);
+            tell(alloc, strictness, plan, &ran, writer, errors)
+        }
+        Err(fault) => {
+            gate.close();
+            complete_all(alloc, plan.customers.as_slice(), files, errors);
+            Err(NetworkFault::from(fault.cause))
+        }
+    }
+}
+
+/// Runs a plan with the ports that it tells, as [`run_network`] does, once they are open. The faults are those of
+/// [`run_ports`], and `Path` where a port can't be opened.
+fn run_opened<R, G: Watch, W: Write, E: Write>(
+    rt: &R,
+    alloc: Global,
+    plan: &Plan,
+    specs: Vec<PortSpec>,
+    limits: Limits,
+    strictness: Strictness,
+    options: &RunOptions<'_>,
+    traffic: &Arc<Traffic, Global>,
+    gate: &G,
+    writer: &mut W,
+    errors: &mut E,
+) -> Result<u8, NetworkFault>
+where
+    R: Files<File = File> + Net + Threads + Wait + Clock + Sync,
+    requires sound { IsSound plan.now }
+    requires count { vec_len specs ≡ length plan.now.customers }
+    ensures ok { IfOk result (λ status. PrintsRan strictness plan.now specs.items status (W.contents writer.old) (W.contents writer.new)) }
+    ensures err { IfErr result (λ e. e ≡ NetworkFault.Ports → ⊥) }
+    ensures none { IfErr result (λ e. e ≢ NetworkFault.Write → Keeps (W.contents writer.old) (W.contents writer.new)) }
+{
+    let lingering = Lingering {
+        millis: options.linger,
+        traffic,
+    };
+    let path = options.plan;
+    let outside = open_ports(rt, alloc, path, plan, specs, limits, traffic, errors)?;
+    let Outside {
+        ports,
+        files,
+        sockets,
+    } = outside;
+    let files = files.as_slice();
+    let ran = run_ports(
+        rt, alloc, plan, ports, files, limits, strictness, lingering, gate, writer, errors,
+    );
+    remove_sockets(rt, sockets.as_slice());
+    ran
+}
+
+/// Runs the network of a plan file, whose ports lead to the files and sockets that it names, each bridge, each
+/// direction of a link and each customer port in a thread of its own, within the limits of the file, and
+/// reports on the run as [`write_report`] does. The exit status is answered. The frames that enter and leave, the copies that
+/// find no room and the ticks are counted in `traffic` meanwhile, and each worker passes the gate before each of its turns.
+/// Ports between bridges are set up and down as the file's events say: each when the clock of its bridge has ticked so often,
+/// if the run goes on till then, and `errors` is told how many events have not come. Whoever connects to the control socket,
+/// where one is asked for, sets ports so too, sees what was counted, and stops the run. Where it is asked for, and the bridges
+/// decide the states of their ports by clocks that tick, no frame enters before they seem settled or have ticked 200 times,
+/// and the gate is told which. What
+/// [`lost_of`] tells goes to `errors`, behind the report; a strict run that has something of it to tell, or that did not
+/// end drained, has the status 4 in place of 0.
+///
+/// Where the file is no plan, the rule that it breaks is written as `check` does, and
+/// the answer is 1.
+///
+/// Once a run is over, its ports have a while to write what still waits in them, as the options say. A file to which nothing
+/// left is made a capture without records then, or `errors` is told why it can't be; sockets that ports have made are
+/// removed; and `errors` is told which inputs are pcapng.
+///
+/// `Path` is answered where a file can't be opened, made or emptied, a socket not be connected to or made, or a file has two
+/// uses, and `errors` is told which: the control socket is made first, and then files and sockets are opened as [`open_all`]
+/// says, so that no file is emptied before all are open. `Memory` is answered where there was none for the ports or
+/// the workers, and where there was none for the text to be written; `Spawn` where a worker could not be started;
+/// `Write` where a write to `writer` failed. Nothing has run after `Path` and `Spawn`, and they come only where the
+/// file is a plan. After any fault but `Write`, nothing was written to `writer`; after `Write` nothing is said of
+/// what was. `Ports` is never answered, since a plan file has as many ports as its plan.
+pub fn run_network<R, G: Watch, W: Write, E: Write>(
+    rt: &R,
+    alloc: Global,
+    file: &[u8],
+    strictness: Strictness,
+    options: &RunOptions<'_>,
+    traffic: &Arc<Traffic, Global>,
+    gate: &G,
+    writer: &mut W,
+    errors: &mut E,
+) -> Result<u8, NetworkFault>
+where
+    R: Files<File = File> + Net + Threads + Wait + Clock + Sync,
+    ensures ok { IfOk result (λ status. PrintsNetwork strictness file.now status (W.contents writer.old) (W.contents writer.new)) }
+    ensures err { IfErr result (λ e. e ≡ NetworkFault.Ports → ⊥) }
+    ensures due { IfErr result (ComesOf file.now) }
+    ensures none { IfErr result (λ e. e ≢ NetworkFault.Write → Keeps (W.contents writer.old) (W.contents writer.new)) }
+{
+    match read_plan_file(alloc, file) {
+        Ok(
+            PlanFile {
+                plan,
+                ports,
+                limits,
+                events,
+            },
+        ) => {
+            let waits = waits_for(options, &plan, limits);
+            let steering = Steering::new(alloc, gate, &plan, traffic, events, waits)?;
+            plug(rt, alloc, options.control, &steering, errors)?;
+            let ran = run_opened(
+                rt, alloc, &plan, ports, limits, strictness, options, traffic, &steering, writer,
+                errors,
+            );
+            steering.unplug(rt);
+            show_left(alloc, steering.left(), errors);
+            ran
+        }
+        Err(fault) => refuse(alloc, &fault, writer),
+    }
+}

@@ -1,0 +1,247 @@
+//! What the ports of a network lead to.
+
+ghost use Rattle.std.specs.Prelude.{◌≡◌, ◌⊎◌, ◌<◌, ◌≤◌, length, map, vec_len, IfOk, IfErr};
+ghost use Rattle.pb_lan.specs.Plans.{IsSound};
+ghost use Rattle.pb_run_ports.specs.Opened.{script_in, shown};
+ghost use Rattle.pb_cmd_run.specs.Scripted.{script_at};
+
+use crate::any_port::AnyPort;
+use crate::completing::CaptureFiles;
+use crate::input::Input;
+use crate::network_fault::NetworkFault;
+use crate::peer::{Peer, SocketFile, remove_sockets};
+use crate::system::{Output, System};
+use crate::telling::write_open_fault;
+use crate::watched::Watched;
+use bytes::Bytes;
+use pb_frame::Seq;
+use pb_lan::{Limits, Plan};
+use pb_port::{CapturePort, MemoryPort, Over, SocketPort, Timescale};
+use pb_run_control::Traffic;
+use pb_run_ports::{Opened, open_all};
+use pb_service::{PortSpec, Stamp};
+use std::alloc::{AllocError, Global};
+use std::collections::VecDeque;
+use std::fs::{File, Files};
+use std::io::Write;
+use std::net::Net;
+use std::sync::Arc;
+use std::time::Clock;
+
+/// A port over memory, files of the system or a socket of it.
+pub(crate) type SystemPort = AnyPort<
+    MemoryPort,
+    CapturePort<Over<Input>, Over<File>>,
+    SocketPort<Over<Peer>>,
+>;
+
+/// What a port has open at the system.
+type SystemOpened = Opened<Input, Output, Peer>;
+
+/// The ports of a network, the files of those over captures, and the sockets that some have made.
+pub(crate) struct Outside {
+    pub ports: Vec<Watched<SystemPort>>,
+    pub files: Vec<CaptureFiles>,
+    pub sockets: Vec<SocketFile>,
+}
+
+/// What the ports of a network have open, and the sockets that were made for it.
+struct OpenSystem {
+    opened: Vec<SystemOpened>,
+    sockets: Vec<SocketFile>,
+}
+
+/// The frames of a script, in a queue.
+fn script_of(alloc: Global, frames: Seq<Bytes>) -> Result<VecDeque<Bytes>, AllocError>
+    ensures { IfOk result (λ script. script.items ≡ frames) }
+{
+    let mut script = VecDeque::new(alloc);
+    for frame in frames.into_vec() {
+        script.push_back(frame)?;
+    }
+    Ok(script)
+}
+
+/// The most microseconds at tick 0.
+const LATEST: u64 = 4_611_686_018_427_387_903;
+
+/// The scale that tells the time of day after so many ticks of so many milliseconds, beginning now. Where the clock can't
+/// be read, it begins in 1970.
+fn day_scale<R: Clock>(rt: &R, tick_ms: u64) -> Timescale {
+    let start = match rt.since_1970() {
+        Ok(time) => time
+            .as_secs()
+            .saturating_mul(1_000_000)
+            .saturating_add(u64::from(time.subsec_micros())),
+        Err(_) => 0,
+    };
+    Timescale {
+        start: start.min(LATEST),
+        tick: (tick_ms.min(60_000) * 1_000) as u32,
+    }
+}
+
+/// On which scale a capture tells times.
+fn scale_of(stamp: Stamp, day: Timescale) -> Timescale {
+    match stamp {
+        Stamp::Ticks => Timescale::ticks(),
+        Stamp::Time => day,
+    }
+}
+
+/// The port at a place of the plan, of what it has open. The files of one over captures are put behind others.
+fn port_of(
+    alloc: Global,
+    capacity: u16,
+    place: usize,
+    day: Timescale,
+    opened: SystemOpened,
+    files: &mut Vec<CaptureFiles>,
+) -> Result<SystemPort, AllocError>
+    requires { (0 < capacity) × (capacity ≤ 4096) }
+    ensures { IfOk result (λ port. script_at port ≡ (shown opened).0) }
+{
+    match opened {
+        Opened::Memory(frames) => {
+            let script = script_of(alloc, frames)?;
+            Ok(AnyPort::Memory(MemoryPort::new(alloc, capacity, script)))
+        }
+        Opened::Capture {
+            input,
+            output,
+            read,
+            write,
+            stamp,
+        } => {
+            let Output { file, twin, .. } = output;
+            files.push(CaptureFiles {
+                place,
+                read,
+                write,
+                file: twin,
+            })?;
+            let scale = scale_of(stamp, day);
+            let (input, file) = (Over::new(input), Over::new(file));
+            let port = CapturePort::on_scale(alloc, capacity, scale, input, file);
+            Ok(AnyPort::Capture(port))
+        }
+        Opened::Socket(peer) => {
+            let peer = Over::new(peer);
+            Ok(AnyPort::Socket(SocketPort::new(alloc, capacity, peer)))
+        }
+    }
+}
+
+/// How many frames may wait in a customer port of a plan, by its place, from 0.
+fn capacity_of(plan: &Plan, place: usize) -> u16
+    requires sound { IsSound plan.now }
+    requires place { place < length plan.now.customers }
+    ensures { (0 < result) × (result ≤ 4096) }
+{
+    plan.customers.as_slice()[place].queue
+}
+
+/// The number of the customer port at a place, from 0.
+fn number_at(place: usize) -> u8 {
+    place.min(254) as u8 + 1
+}
+
+/// The ports of a plan, of what each has open. Their frames are counted, and the files of those over captures are put
+/// behind others.
+fn ports_of(
+    alloc: Global,
+    plan: &Plan,
+    day: Timescale,
+    opened: Vec<SystemOpened>,
+    traffic: &Arc<Traffic, Global>,
+    files: &mut Vec<CaptureFiles>,
+) -> Result<Vec<Watched<SystemPort>>, AllocError>
+    requires sound { IsSound plan.now }
+    requires count { vec_len opened ≡ length plan.now.customers }
+    ensures count { IfOk result (λ ports. vec_len ports ≡ length plan.now.customers) }
+    ensures scripts { IfOk result (λ ports. map (λ w. script_at w.port) ports.items ≡ map (λ port. (shown port).0) opened.items) }
+{
+    let mut ports = Vec::new(alloc);
+    for port in opened {
+        let place = ports.len();
+        let capacity = capacity_of(plan, place);
+        let port = port_of(alloc, capacity, place, day, port, files)?;
+        let traffic = Arc::try_clone(traffic)?;
+        ports.push(Watched {
+            port,
+            number: number_at(place),
+            traffic,
+            latest: 0,
+        })?;
+    }
+    Ok(ports)
+}
+
+/// Opens the files and sockets of a plan, as [`open_all`] does, and tells on the error writer what could not be
+/// opened. `Path` is answered then, and `Memory` where memory ran out, and no socket that was made is left. No other fault
+/// comes.
+fn open_system<R: Files<File = File> + Net, E: Write>(
+    rt: &R,
+    alloc: Global,
+    plan_path: &str,
+    plan: &Plan,
+    specs: Vec<PortSpec>,
+    errors: &mut E,
+) -> Result<OpenSystem, NetworkFault>
+    ensures count { IfOk result (λ system. vec_len system.opened ≡ vec_len specs) }
+    ensures scripts { IfOk result (λ system. map (λ port. (shown port).0) system.opened.items ≡ map script_in specs.items) }
+    ensures err { IfErr result (λ e. (e ≡ NetworkFault.Path) ⊎ (e ≡ NetworkFault.Memory)) }
+{
+    let mut system = System {
+        rt,
+        alloc,
+        sockets: Vec::new(alloc),
+    };
+    match open_all(alloc, &mut system, plan_path, specs) {
+        Ok(opened) => {
+            let System { sockets, .. } = system;
+            Ok(OpenSystem { opened, sockets })
+        }
+        Err(fault) => {
+            remove_sockets(rt, system.sockets.as_slice());
+            let _ = write_open_fault(alloc, plan.customers.as_slice(), &fault, errors);
+            Err(NetworkFault::from(fault))
+        }
+    }
+}
+
+/// Opens the ports of a plan, which was read at a path. Their frames are counted. `Path` is answered where a file or socket
+/// can't be opened, or a file has two uses, and told on the error writer; `Memory` where memory ran out. No other fault
+/// comes, and after one no socket that was made is left.
+pub(crate) fn open_ports<R: Files<File = File> + Net + Clock, E: Write>(
+    rt: &R,
+    alloc: Global,
+    plan_path: &str,
+    plan: &Plan,
+    specs: Vec<PortSpec>,
+    limits: Limits,
+    traffic: &Arc<Traffic, Global>,
+    errors: &mut E,
+) -> Result<Outside, NetworkFault>
+    requires sound { IsSound plan.now }
+    requires count { vec_len specs ≡ length plan.now.customers }
+    ensures count { IfOk result (λ outside. vec_len outside.ports ≡ length plan.now.customers) }
+    ensures scripts { IfOk result (λ outside. map (λ w. script_at w.port) outside.ports.items ≡ map script_in specs.items) }
+    ensures err { IfErr result (λ e. (e ≡ NetworkFault.Path) ⊎ (e ≡ NetworkFault.Memory)) }
+{
+    let system = open_system(rt, alloc, plan_path, plan, specs, errors)?;
+    let OpenSystem { opened, sockets } = system;
+    let day = day_scale(rt, limits.tick_ms);
+    let mut files = Vec::new(alloc);
+    match ports_of(alloc, plan, day, opened, traffic, &mut files) {
+        Ok(ports) => Ok(Outside {
+            ports,
+            files,
+            sockets,
+        }),
+        Err(_) => {
+            remove_sockets(rt, sockets.as_slice());
+            Err(NetworkFault::Memory)
+        }
+    }
+}

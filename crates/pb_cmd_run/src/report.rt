@@ -1,0 +1,153 @@
+//! What is printed of a run.
+
+ghost use Rattle.std.specs.Prelude.{◌≡◌, ◌≢◌, ◌⊎◌, ◌++◌, List, ℕ, length, string_bytes, IfOk, IfErr, OnOk};
+ghost use Rattle.std.specs.Io.KnownBytes.{Appends, Keeps};
+ghost use Rattle.pb_lan.specs.Plans.{IsSound};
+ghost use Rattle.pb_relay.specs.Settled.{TellsSettled};
+ghost use Rattle.pb_cmd_run.specs.Reports.{ended_line, fault_at, fault_lines, memory_line, settled_lines, status_of, IsRunReport};
+ghost use Rattle.pb_report.specs.RecordTexts.{IsRecordText};
+
+use pb_frame::Memory;
+use pb_lan::{CustomerPlan, Plan};
+use pb_messages::CommandFault;
+use pb_report::{put_record, put_settled};
+use pb_run::{Ended, Last, Ran};
+use std::alloc::Global;
+use std::io::Write;
+
+/// The exit status of a run that was reported without a fault.
+const REPORTED: u8 = 0;
+
+/// The exit status of a run with a fault.
+const FAULT: u8 = 3;
+
+/// Puts how a run ended behind a text.
+fn put_ended(out: &mut String, ended: Ended) -> Result<(), Memory>
+    ensures { OnOk result (string_bytes out.new ≡ string_bytes out.old ++ ended_line ended) }
+{
+    match ended {
+        Ended::Drained => out.push_str("ended drained\n")?,
+        Ended::Stopped => out.push_str("ended stopped\n")?,
+        Ended::Limit => out.push_str("ended limit\n")?,
+        Ended::NoMemory => out.push_str("ended memory\n")?,
+    }
+    Ok(())
+}
+
+/// Puts whether the bridges are settled behind a text, where that could be found.
+fn put_settling(out: &mut String, settled: &Result<Option<bool>, Memory>) -> Result<(), Memory>
+    ensures { OnOk result (string_bytes out.new ≡ string_bytes out.old ++ settled_lines settled.now) }
+{
+    match settled {
+        Ok(answer) => put_settled(out, *answer),
+        Err(_) => Ok(()),
+    }
+}
+
+/// Puts what is wrong with a customer port's input behind a text, where something is.
+fn put_port_fault(out: &mut String, name: &str, last: Last) -> Result<(), Memory>
+    ensures { OnOk result (string_bytes out.new ≡ string_bytes out.old ++ fault_at name.now last) }
+{
+    if let Last::Fault(number) = last {
+        writeln!(out, "fault: port {name} {number}")?;
+    }
+    Ok(())
+}
+
+/// Puts a line for each customer port whose input has a fault behind a text.
+fn put_port_faults(
+    out: &mut String,
+    customers: &[CustomerPlan],
+    lasts: &[Last],
+) -> Result<(), Memory>
+    requires { length lasts.now ≡ length customers.now }
+    ensures { OnOk result (string_bytes out.new ≡ string_bytes out.old ++ fault_lines customers.now lasts.now) }
+{
+    for (index, customer) in customers.iter().enumerate() {
+        put_port_fault(out, customer.name.as_str(), lasts[index])?;
+    }
+    Ok(())
+}
+
+/// Puts that there was no memory to look whether the bridges are settled behind a text, where there was none.
+fn put_memory_fault(out: &mut String, settled: &Result<Option<bool>, Memory>) -> Result<(), Memory>
+    ensures { OnOk result (string_bytes out.new ≡ string_bytes out.old ++ memory_line settled.now) }
+{
+    match settled {
+        Ok(_) => {}
+        Err(_) => out.push_str("fault: memory\n")?,
+    }
+    Ok(())
+}
+
+/// Puts the faults of a run behind a text, and answers the exit status that they ask for.
+fn put_faults(
+    out: &mut String,
+    customers: &[CustomerPlan],
+    lasts: &[Last],
+    settled: &Result<Option<bool>, Memory>,
+) -> Result<u8, Memory>
+    requires { length lasts.now ≡ length customers.now }
+    ensures text { OnOk result (string_bytes out.new ≡ string_bytes out.old ++ (fault_lines customers.now lasts.now ++ memory_line settled.now)) }
+    ensures status { IfOk result (λ status. status ≡ status_of (fault_lines customers.now lasts.now ++ memory_line settled.now)) }
+{
+    let before = out.as_bytes().len();
+    put_port_faults(out, customers, lasts)?;
+    put_memory_fault(out, settled)?;
+    if out.as_bytes().len() == before {
+        return Ok(REPORTED);
+    }
+    Ok(FAULT)
+}
+
+/// Puts what a run tells behind a text, and answers the exit status.
+fn put_run(alloc: Global, out: &mut String, plan: &Plan, ran: &Ran) -> Result<u8, Memory>
+    requires sound { IsSound plan.now }
+    requires settled { IfOk ran.now.settled (TellsSettled plan.now ran.now.counts) }
+    requires count { length ran.now.last.items ≡ length plan.now.customers }
+    ensures { IfOk result (λ status. (text : List ℕ) × (string_bytes out.new ≡ string_bytes out.old ++ text)
+        × IsRunReport plan.now ran.now.counts ran.now.ended ran.now.settled ran.now.last.items status text) }
+{
+    put_ended(out, ran.ended)?;
+    put_record(alloc, out, plan, &ran.counts)?;
+    put_settling(out, &ran.settled)?;
+    let customers = plan.customers.as_slice();
+    let lasts = ran.last.as_slice();
+    let status = put_faults(out, customers, lasts, &ran.settled)?;
+    Ok(status)
+}
+
+/// Writes what came of a run by one `write_all`, and answers the exit status: 3 exactly where a line that
+/// begins with `fault:` was written, else 0.
+///
+/// The report begins with `ended drained`, `ended stopped`, `ended limit` or `ended memory`. A line
+/// `port NAME entered N left N filtered N` for each customer port and a line `link NAME ab taken N lost N ba
+/// taken N lost N` for each link follow, both by name, then `forest yes`, or `forest no` and a line `loop NAME`
+/// for each service for which the last shape is none. Where the spanning tree decides the states of ports,
+/// `settled yes` or `settled no` tells whether the bridges are settled (IEEE 802.1D-2004 clause 17). Last, for
+/// each customer port in the plan's order whose input has a fault, comes `fault: port NAME N`, and
+/// `fault: memory` where there was none to look whether the bridges are settled.
+///
+/// `Write` is answered where a write failed, `Memory` where memory for the text ran out, and then nothing was
+/// written.
+pub fn write_report<W: Write>(
+    alloc: Global,
+    plan: &Plan,
+    ran: &Ran,
+    writer: &mut W,
+) -> Result<u8, CommandFault>
+    requires sound { IsSound plan.now }
+    requires settled { IfOk ran.now.settled (TellsSettled plan.now ran.now.counts) }
+    requires count { length ran.now.last.items ≡ length plan.now.customers }
+    ensures kinds { IfErr result (λ e. (e ≡ CommandFault.Write) ⊎ (e ≡ CommandFault.Memory)) }
+    ensures none { IfErr result (λ e. e ≢ CommandFault.Write → Keeps (W.contents writer.old) (W.contents writer.new)) }
+    ensures ok { IfOk result (λ status. (text : List ℕ) × Appends (W.contents writer.old) (W.contents writer.new) text
+        × IsRunReport plan.now ran.now.counts ran.now.ended ran.now.settled ran.now.last.items status text) }
+{
+    let mut out = String::new(alloc);
+    let status = put_run(alloc, &mut out, plan, ran)?;
+    if writer.write_all(out.as_bytes()).is_err() || writer.flush().is_err() {
+        return Err(CommandFault::Write);
+    }
+    Ok(status)
+}

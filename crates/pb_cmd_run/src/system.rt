@@ -1,0 +1,164 @@
+//! The files and sockets of the system.
+
+use crate::input::{Input, input_path, open_input};
+use crate::peer::{Peer, SocketFile};
+use mio::net::UnixStream;
+use pb_control_socket::{listen, node_at};
+use pb_frame::{Memory, Text};
+use pb_run_ports::Openings;
+use std::alloc::{AllocError, Global};
+use std::fs::{File, Files, Metadata, OpenOptions};
+use std::io::ErrorKind;
+use std::net::Net;
+use std::os::unix::fs::{FileTypeExt, MetadataExt};
+use std::path::Path;
+use std::{fs, io};
+
+/// The system as what files and sockets are opened by.
+#[derive(Drop)]
+pub(crate) struct System<'a, R> {
+    pub rt: &'a R,
+    pub alloc: Global,
+    /// The sockets that were made, or that could not be.
+    pub sockets: Vec<SocketFile>,
+}
+
+/// A file that is written.
+#[derive(Drop)]
+pub(crate) struct Output {
+    /// The file, as its port has it.
+    pub file: File,
+    /// Another handle of it, which is kept till the run is over.
+    pub twin: File,
+    /// It was made when it was opened.
+    pub is_made: bool,
+}
+
+/// The device and the number of a file, as a text.
+fn number_of(alloc: Global, metadata: &Metadata) -> Result<String, AllocError> {
+    let (device, number) = (metadata.dev(), metadata.ino());
+    format!(in alloc; "{device} {number}")
+}
+
+/// A text for a file that is missing: the folder where it would stand, by device and number, and its name there.
+/// Where the folder can't be found it is the path itself.
+fn missing_file(rt: &impl Files, alloc: Global, path: &str) -> Result<String, AllocError> {
+    let whole = Path::new(path);
+    let (Some(folder), Some(name)) = (whole.parent(), whole.file_name()) else {
+        return format!(in alloc; "/{path}");
+    };
+    let folder = if folder.as_str().is_empty() {
+        "."
+    } else {
+        folder.as_str()
+    };
+    let Ok(metadata) = fs::metadata(rt, folder) else {
+        return format!(in alloc; "/{path}");
+    };
+    let folder = number_of(alloc, &metadata)?;
+    format!(in alloc; "{folder}/{name}")
+}
+
+/// Which file a path names, as a text, where `-` is standard input. A device, as `/dev/null`, may have several uses.
+fn file_at(rt: &impl Files, alloc: Global, path: &str) -> Result<Option<String>, AllocError> {
+    let path = input_path(path);
+    match fs::metadata(rt, path) {
+        Ok(metadata) if metadata.file_type().is_char_device() => Ok(None),
+        Ok(metadata) => Ok(Some(number_of(alloc, &metadata)?)),
+        Err(_) => Ok(Some(missing_file(rt, alloc, path)?)),
+    }
+}
+
+/// Makes a file to be written. One that a symbolic link leads to was not there either, and stays where it is made.
+fn make<R: Files<File = File>>(rt: &R, path: &str) -> io::Result<(File, bool)> {
+    match OpenOptions::new()
+        .write(true)
+        .create_new(true)
+        .open(rt, path)
+    {
+        Ok(file) => Ok((file, true)),
+        Err(e) if e.kind() == ErrorKind::AlreadyExists => {
+            let file = OpenOptions::new().write(true).create(true).open(rt, path)?;
+            Ok((file, false))
+        }
+        Err(e) => Err(e),
+    }
+}
+
+/// Opens a file to be written, or makes it, and says whether it was made.
+fn open_or_make<R: Files<File = File>>(rt: &R, path: &str) -> io::Result<(File, bool)> {
+    match OpenOptions::new().write(true).open(rt, path) {
+        Ok(file) => Ok((file, false)),
+        Err(e) if e.kind() == ErrorKind::NotFound => make(rt, path),
+        Err(e) => Err(e),
+    }
+}
+
+/// Removes a file that was made, and no other.
+fn remove_made(rt: &impl Files, path: &str, is_made: bool) {
+    if is_made {
+        let _ = fs::remove_file(rt, path);
+    }
+}
+
+impl<R: Files<File = File> + Net> Openings for System<'_, R> {
+    type Input = Input;
+
+    type Output = Output;
+
+    type Stream = Peer;
+
+    fn file_at(&self, alloc: Global, path: &str) -> Result<Option<Text>, Memory> {
+        let file = file_at(self.rt, alloc, path)?;
+        Ok(file.map(|text| Text::from_string(text)))
+    }
+
+    fn open_read(&mut self, path: &str) -> io::Result<Input> {
+        open_input(self.rt, path)
+    }
+
+    fn connect(&mut self, path: &str) -> io::Result<Peer> {
+        let stream = UnixStream::connect(self.rt, path)?;
+        Ok(Peer::Here(stream))
+    }
+
+    fn listen(&mut self, path: &str) -> io::Result<Peer> {
+        let kept = String::from_str(self.alloc, path)?;
+        self.sockets.push(SocketFile {
+            path: Text::from_string(kept),
+            node: None,
+        })?;
+        let listener = listen(self.rt, path)?;
+        if let Some(last) = self.sockets.last_mut() {
+            last.node = node_at(self.rt, path);
+        }
+        Ok(Peer::Awaited(listener))
+    }
+
+    fn open_write(&mut self, path: &str) -> io::Result<Output> {
+        let (file, is_made) = open_or_make(self.rt, path)?;
+        match file.try_clone() {
+            Ok(twin) => Ok(Output {
+                file,
+                twin,
+                is_made,
+            }),
+            Err(e) => {
+                remove_made(self.rt, path, is_made);
+                Err(e)
+            }
+        }
+    }
+
+    fn empty(&mut self, output: &Output, _path: &str) -> io::Result<()> {
+        let metadata = output.file.metadata()?;
+        if metadata.is_file() && metadata.len() != 0 {
+            output.file.set_len(0)?;
+        }
+        Ok(())
+    }
+
+    fn forget(&mut self, output: Output, path: &str) {
+        remove_made(self.rt, path, output.is_made);
+    }
+}

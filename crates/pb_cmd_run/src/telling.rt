@@ -1,0 +1,122 @@
+//! What is told of files and sockets that can't be used.
+
+ghost use Rattle.std.specs.Prelude.{◌≡◌, ◌++◌, List, ℕ, string_bytes, IfOk, OnOk};
+ghost use Rattle.std.specs.Io.KnownBytes.{Appends};
+ghost use Rattle.pb_cmd_run.specs.Telling.{name_at, word_of, path_line, sharing, TellsFault};
+
+use pb_frame::Memory;
+use pb_lan::CustomerPlan;
+use pb_messages::CommandFault;
+use pb_run_ports::{FileUser, OpenFault, Verb};
+use std::alloc::{AllocError, Global};
+use std::io::{Error, Write};
+
+/// The name of the customer port at a place of the plan, from 0, or nothing.
+#[tactic(auto, using(crate::proofs::TellingLemmas::named, crate::proofs::TellingLemmas::unnamed))]
+pub(crate) fn name_at(customers: &[CustomerPlan], place: usize) -> &str
+    ensures { result.now ≡ name_at customers.now place }
+{
+    if place < customers.len() {
+        customers[place].name.as_str()
+    } else {
+        ""
+    }
+}
+
+/// What a port does with a path, in a word.
+fn word_of(verb: Verb) -> &'static str
+    ensures { result.now ≡ word_of verb }
+{
+    match verb {
+        Verb::Read => "read",
+        Verb::Write => "write",
+        Verb::Connect => "connect",
+        Verb::Listen => "listen",
+    }
+}
+
+/// Puts a line on a path behind a text.
+fn put_line(out: &mut String, name: &str, word: &str, path: &str, why: &str) -> Result<(), Memory>
+    ensures { OnOk result (string_bytes out.new ≡ string_bytes out.old ++ path_line name.now word.now path.now why.now) }
+{
+    writeln!(out, "port {name}: {word} {path}: {why}")?;
+    Ok(())
+}
+
+/// Writes a line on a path by one `write_all`. `Write` is answered where a write failed, `Memory` where memory for the
+/// text ran out.
+fn write_line<W: Write>(
+    alloc: Global,
+    name: &str,
+    word: &str,
+    path: &str,
+    why: &str,
+    writer: &mut W,
+) -> Result<(), CommandFault>
+    ensures { OnOk result (Appends (W.contents writer.old) (W.contents writer.new) (path_line name.now word.now path.now why.now)) }
+{
+    let mut out = String::new(alloc);
+    put_line(&mut out, name, word, path, why)?;
+    if writer.write_all(out.as_bytes()).is_err() || writer.flush().is_err() {
+        return Err(CommandFault::Write);
+    }
+    Ok(())
+}
+
+/// Writes `port NAME: VERB PATH: WHY`, for a path that a port could not use, with what the system says of it.
+pub(crate) fn write_path_fault<W: Write>(
+    alloc: Global,
+    name: &str,
+    verb: Verb,
+    path: &str,
+    error: &Error,
+    writer: &mut W,
+) -> Result<(), CommandFault>
+    ensures { OnOk result ((why : List ℕ) × Appends (W.contents writer.old) (W.contents writer.new) (path_line name.now (word_of verb) path.now why)) }
+{
+    let why = format!(in alloc; "{error}")?;
+    write_line(alloc, name, word_of(verb), path, why.as_str(), writer)
+}
+
+/// What is said of a file that has another user too.
+fn sharing(alloc: Global, customers: &[CustomerPlan], other: FileUser) -> Result<String, AllocError>
+    ensures { IfOk result (λ text. string_bytes text ≡ sharing customers.now other) }
+{
+    match other {
+        FileUser::Plan => String::from_str(alloc, "also the plan file"),
+        FileUser::Reader(place) => {
+            let name = name_at(customers, place);
+            format!(in alloc; "also read by port {name}")
+        }
+        FileUser::Writer(place) => {
+            let name = name_at(customers, place);
+            format!(in alloc; "also written by port {name}")
+        }
+    }
+}
+
+/// Writes `port NAME: VERB PATH: WHY`, why the ports of a plan could not be opened, and nothing where memory ran out.
+///
+/// `Write` is answered where a write failed, `Memory` where memory for the text ran out.
+pub(crate) fn write_open_fault<W: Write>(
+    alloc: Global,
+    customers: &[CustomerPlan],
+    fault: &OpenFault,
+    writer: &mut W,
+) -> Result<(), CommandFault>
+    ensures { OnOk result (TellsFault customers.now fault.now (W.contents writer.old) (W.contents writer.new)) }
+{
+    match fault {
+        OpenFault::Unopened(f) | OpenFault::Unemptied(f) => {
+            let name = name_at(customers, f.place);
+            write_path_fault(alloc, name, f.verb, f.path.as_str(), &f.error, writer)
+        }
+        OpenFault::Shared(f) => {
+            let name = name_at(customers, f.place);
+            let why = sharing(alloc, customers, f.other)?;
+            let word = word_of(Verb::Write);
+            write_line(alloc, name, word, f.path.as_str(), why.as_str(), writer)
+        }
+        OpenFault::Memory => Ok(()),
+    }
+}

@@ -1,0 +1,75 @@
+-- What a strict run says by its exit status.
+use Rattle.std.proofs.Common.{◌≡◌, ◌⊎◌, ℕ, zero, suc, Bool, true, false, refl, sym, subst, ◌∙◌, List, [], ◌∷◌, Option, inl, inr}
+use Rattle.std.proofs.Common.{IfOk}
+use Rattle.std.specs.declared.result.Result.{Result}
+use Rattle.pb_report.specs.Refusals.{PrintsRefusal}
+use Rattle.pb_run.specs.declared.ended.Ended.{Ended}
+use Rattle.pb_run.specs.declared.ended.Ended.TheVariants.{Drained, NoMemory, Limit, Stopped}
+use Rattle.pb_cmd_run.specs.Networks.{PrintsNetwork, PrintsRunOf, HasCarriedAll}
+use Rattle.pb_cmd_run.proofs.NetworkLemmas.{on_value}
+use Rattle.pb_run_losses.specs.Strict.{exit_status, is_whole, lost_text}
+use Rattle.pb_run_losses.specs.declared.strictness.Strictness.{Strictness}
+use Rattle.pb_run_losses.specs.declared.strictness.Strictness.TheVariants.{Strict}
+use Rattle.pb_cmd_run.specs.declared.network_fault.NetworkFault.{NetworkFault}
+
+whole_at : (whole : Bool) (told : ℕ) → 0 ≡ exit_status Strict whole told → whole ≡ true
+whole_at true told e = refl
+whole_at false zero e = cc
+whole_at false (suc told) e = cc
+
+drained_at : (ended : Ended) (lost : List ℕ) → is_whole ended lost ≡ true → ended ≡ Drained
+drained_at Drained lost e = refl
+drained_at NoMemory lost e = cc
+drained_at Limit lost e = cc
+drained_at Stopped lost e = cc
+
+nothing_at : (ended : Ended) (lost : List ℕ) → is_whole ended lost ≡ true → lost ≡ []
+nothing_at ended [] e = refl
+nothing_at Drained (x ∷ lost) e = cc
+nothing_at NoMemory (x ∷ lost) e = cc
+nothing_at Limit (x ∷ lost) e = cc
+nothing_at Stopped (x ∷ lost) e = cc
+
+of_run : (file : List ℕ) (status : ℕ) (before after : Option (List ℕ)) → status ≡ 0
+    → PrintsRunOf Strict file status before after → HasCarriedAll file
+of_run file status before after e run =
+    let ran = run.prints in
+    let report = ran.report in
+    let lost = lost_text run.plan ran.rec ran.settled report.unsent in
+    let whole = whole_at (is_whole ran.ended lost) report.told (sym e ∙ report.status_is) in
+    record {
+      plan = run.plan;
+      specs = run.specs;
+      told = run.told;
+      rec = ran.rec;
+      lawful = ran.lawful;
+      headline = ran.headline;
+      drained = (ran.tells_ended.0 (drained_at ran.ended lost whole)).1;
+      settled = ran.settled;
+      unsent = report.unsent;
+      lost = nothing_at ran.ended lost whole;
+    }
+
+by_case : {A B C : Type 0} → A ⊎ B → (A → C) → (B → C) → C
+by_case (inl a) f g = f a
+by_case (inr b) f g = g b
+
+neither : {C : Type 0} (status : ℕ) → status ≡ 0 → status ≡ 1 → C
+neither status nil one = cc
+
+-- a strict run with the exit status 0 has carried all
+pub zero_carried : (file : List ℕ) (status : ℕ) (before after : Option (List ℕ)) → status ≡ 0
+    → PrintsNetwork Strict file status before after → HasCarriedAll file
+zero_carried file status before after e prints =
+    by_case {A = (status ≡ 1) × PrintsRefusal file before after} {B = PrintsRunOf Strict file status before after} {C = HasCarriedAll file}
+    prints (λ refusal. neither status e refusal.0) (λ run. of_run file status before after e run)
+
+-- the same of what a run may answer, over octets that are those of a text
+pub strict_carried : (strictness : Strictness) (file text : List ℕ) (before after : Option (List ℕ)) (r : Result ℕ NetworkFault)
+    → file ≡ text → IfOk r (λ status. PrintsNetwork strictness file status before after) → strictness ≡ Strict
+    → IfOk r (λ status. status ≡ 0 → HasCarriedAll text)
+strict_carried strictness file text before after r same p strict =
+    on_value {P = λ status. PrintsNetwork strictness file status before after} {Q = λ status. status ≡ 0 → HasCarriedAll text} r
+    (λ status prints e. subst HasCarriedAll same (zero_carried file status before after e
+    (subst (λ s. PrintsNetwork s file status before after) strict prints)))
+    p

@@ -1,0 +1,120 @@
+//! What a run lost, by its record.
+
+ghost use Rattle.std.specs.Prelude.{◌≡◌, [], IfOk};
+
+use bytes::Bytes;
+use pb_cmd_run::lost_of;
+use pb_frame::{Mac, Memory, Seq, Text};
+use pb_history::Tallies;
+use pb_lan::{BridgePlan, Item, NoRoom, Outcome, Plan, PortSet, Record, Refusals, Spanning, Step};
+use std::alloc::Global;
+use std::test::Fail;
+
+/// A bridge.
+fn bridge(alloc: Global) -> Result<BridgePlan, Memory> {
+    Ok(BridgePlan {
+        name: Text::from_string(String::from_str(alloc, "B1")?),
+        address: Mac([2, 0, 0, 0, 0, 1]),
+        priority: 32_768,
+        queue: 1,
+    })
+}
+
+/// The plan of one bridge, and nothing else.
+fn alone(alloc: Global) -> Result<Plan, Memory>
+    ensures { IfOk result (λ plan. plan.customers ≡ []) }
+{
+    let bridges = vec![in alloc; bridge(alloc)?]?;
+    Ok(Plan {
+        bridges: Seq::from_vec(bridges),
+        links: Seq::from_vec(Vec::new(alloc)),
+        services: Seq::from_vec(Vec::new(alloc)),
+        customers: Seq::from_vec(Vec::new(alloc)),
+        spanning: Spanning::Rstp,
+        ageing: 300,
+        ring: 64,
+        steps: 1_000,
+    })
+}
+
+/// The bridge has relayed a frame to ports 2 and 3, and port 3 got no copy.
+fn step() -> Step {
+    Step::Receive {
+        port: 1,
+        item: Item {
+            mark: None,
+            hops: 0,
+            wire: Bytes::new(),
+        },
+        learnt: None,
+        outcome: Outcome::Relayed {
+            chosen: PortSet::from_slice(&[2, 3]).unwrap_or(PortSet::new()),
+            refused: Refusals::from_slice(&[(3, NoRoom::Full)]).unwrap_or(Refusals::new()),
+        },
+        moved: None,
+    }
+}
+
+/// The steps of a bridge that did so so many times.
+fn steps(alloc: Global, times: u32) -> Result<Seq<Step>, Memory> {
+    let mut steps = Vec::new(alloc);
+    for _ in 0..times {
+        steps.push(step())?;
+    }
+    Ok(Seq::from_vec(steps))
+}
+
+/// The record of the plan's network, whose bridge did so.
+fn refused(alloc: Global, times: u32) -> Result<Record, Memory>
+    ensures { IfOk result (λ rec. rec.customers ≡ []) }
+{
+    let bridges = vec![in alloc; steps(alloc, times)?]?;
+    Ok(Record {
+        bridges: Seq::from_vec(bridges),
+        lanes: Seq::from_vec(Vec::new(alloc)),
+        customers: Seq::from_vec(Vec::new(alloc)),
+    })
+}
+
+/// How often a copy was refused, whether the bridges have settled, and what is told.
+type Lost = (u32, Result<Option<bool>, Memory>, &'static str);
+
+const LOST: &[Lost] = &[
+    (0, Ok(Some(true)), ""),
+    (0, Ok(None), ""),
+    (0, Ok(Some(false)), "bridges not settled\n"),
+    (
+        2,
+        Err(Memory),
+        "bridge B1 port 3: 2 copies not queued: full\n",
+    ),
+    (
+        1,
+        Ok(Some(false)),
+        "bridge B1 port 3: 1 copies not queued: full\nbridges not settled\n",
+    ),
+];
+
+/// What is counted in that record.
+fn counts(alloc: Global, times: u32) -> Result<Tallies, Memory>
+    ensures { IfOk result (λ counts. counts.customers ≡ []) }
+{
+    let record = refused(alloc, times)?;
+    Ok(Tallies::of(alloc, &record)?)
+}
+
+/// Whether this is told of such a run.
+fn is_told(alloc: Global, (times, settled, wanted): Lost) -> Result<bool, Memory> {
+    let counts = counts(alloc, times)?;
+    let plan = alone(alloc)?;
+    let lost = lost_of(alloc, &plan, &[], &counts, &settled)?;
+    Ok(lost.as_str() == wanted)
+}
+
+#[test]
+fn what_found_no_room_is_told_before_what_has_not_settled(rt: HostRuntime) -> Result<(), Fail> {
+    for lost in LOST {
+        assert!(rt; is_told(rt.alloc(), *lost)?, "{}", lost.2);
+    }
+    Ok(())
+}

@@ -1,0 +1,402 @@
+//! What is opened when, over what stands in for the system.
+
+ghost use Rattle.std.specs.Prelude.{◌≡◌, Some, IfOk};
+
+use bytes::Bytes;
+use pb_cmd_run::{Deed, FileUser, OpenFault, Opened, Openings, open_all};
+use pb_frame::{Memory, Seq, Text};
+use pb_service::{PortSpec, Stamp};
+use std::alloc::{AllocError, Global};
+use std::io;
+use std::io::{Error, ErrorKind};
+use std::test::Fail;
+
+/// Remembers what is done. One path can't be opened, and one can't be emptied.
+#[derive(Drop)]
+struct Desk {
+    alloc: Global,
+    deeds: Vec<Deed>,
+    missing: &'static str,
+    stuck: &'static str,
+    forgotten: usize,
+}
+
+impl Desk {
+    /// A path as it is remembered, or an error where it can't be opened.
+    fn text(&self, path: &str) -> io::Result<Text>
+        ensures { IfOk result (λ text. text ≡ path.now) }
+    {
+        if path == self.missing {
+            return Err(Error::from(ErrorKind::NotFound));
+        }
+        Ok(Text::from_string(String::from_str(self.alloc, path)?))
+    }
+}
+
+impl Openings for Desk {
+    type Input = ();
+
+    type Output = ();
+
+    type Stream = ();
+
+    ghost done = { λ desk. Some desk.deeds.items };
+
+    ghost named = { λ _. Some (λ path. Some path) };
+
+    fn file_at(&self, alloc: Global, path: &str) -> Result<Option<Text>, Memory> {
+        let text = Text::from_string(String::from_str(alloc, path)?);
+        Ok(Some(text))
+    }
+
+    fn open_read(&mut self, path: &str) -> io::Result<()> {
+        let text = self.text(path)?;
+        self.deeds.push(Deed::Read(text))?;
+        Ok(())
+    }
+
+    fn connect(&mut self, path: &str) -> io::Result<()> {
+        let text = self.text(path)?;
+        self.deeds.push(Deed::Connect(text))?;
+        Ok(())
+    }
+
+    fn listen(&mut self, path: &str) -> io::Result<()> {
+        let text = self.text(path)?;
+        self.deeds.push(Deed::Listen(text))?;
+        Ok(())
+    }
+
+    fn open_write(&mut self, path: &str) -> io::Result<()> {
+        let text = self.text(path)?;
+        self.deeds.push(Deed::Write(text))?;
+        Ok(())
+    }
+
+    fn empty(&mut self, _output: &(), path: &str) -> io::Result<()> {
+        if path == self.stuck {
+            return Err(Error::from(ErrorKind::PermissionDenied));
+        }
+        let text = self.text(path)?;
+        self.deeds.push(Deed::Empty(text))?;
+        Ok(())
+    }
+
+    fn forget(&mut self, _output: (), _path: &str) {
+        self.forgotten = self.forgotten.saturating_add(1);
+    }
+}
+
+/// What a port of a row is.
+#[derive(Clone, Copy)]
+enum Kind {
+    Memory,
+    Capture(&'static str, &'static str),
+    Socket(&'static str),
+    Listener(&'static str),
+}
+
+/// A text of the plan.
+fn text(alloc: Global, text: &str) -> Result<Text, AllocError> {
+    Ok(Text::from_string(String::from_str(alloc, text)?))
+}
+
+fn capture(alloc: Global, read: &str, write: &str) -> Result<PortSpec, AllocError> {
+    let read = text(alloc, read)?;
+    Ok(PortSpec::Capture {
+        read,
+        write: text(alloc, write)?,
+        stamp: Stamp::Ticks,
+    })
+}
+
+fn socket(alloc: Global, path: &str, listens: bool) -> Result<PortSpec, AllocError> {
+    let path = text(alloc, path)?;
+    Ok(PortSpec::Socket { path, listens })
+}
+
+/// A port of a row.
+fn spec_of(alloc: Global, kind: Kind) -> Result<PortSpec, AllocError> {
+    match kind {
+        Kind::Memory => Ok(PortSpec::Memory(Seq::from_vec(Vec::<Bytes>::new(alloc)))),
+        Kind::Capture(read, write) => capture(alloc, read, write),
+        Kind::Socket(path) => socket(alloc, path, false),
+        Kind::Listener(path) => socket(alloc, path, true),
+    }
+}
+
+/// The ports of a row.
+fn specs_of(alloc: Global, kinds: &[Kind]) -> Result<Vec<PortSpec>, AllocError> {
+    let mut specs = Vec::new(alloc);
+    for kind in kinds {
+        specs.push(spec_of(alloc, *kind)?)?;
+    }
+    Ok(specs)
+}
+
+/// Something that is done, by its path.
+#[derive(Clone, Copy)]
+enum Done {
+    Read(&'static str),
+    Connect(&'static str),
+    Listen(&'static str),
+    Write(&'static str),
+    Empty(&'static str),
+}
+
+/// What comes of it in the end. A port goes by its place in the plan, from 0.
+#[derive(Clone, Copy)]
+enum End {
+    /// So many ports are open.
+    Open(usize),
+    /// A port's path can't be opened.
+    Unopened(usize, &'static str),
+    /// A port's output can't be emptied.
+    Unemptied(usize, &'static str),
+    /// A path that a port would write has another user.
+    Shared(&'static str, usize, FileUser),
+}
+
+/// Whether this was done.
+fn is_done(deed: &Deed, done: Done) -> bool {
+    match (deed, done) {
+        (Deed::Read(path), Done::Read(wanted)) => path.as_str() == wanted,
+        (Deed::Connect(path), Done::Connect(wanted)) => path.as_str() == wanted,
+        (Deed::Listen(path), Done::Listen(wanted)) => path.as_str() == wanted,
+        (Deed::Write(path), Done::Write(wanted)) => path.as_str() == wanted,
+        (Deed::Empty(path), Done::Empty(wanted)) => path.as_str() == wanted,
+        _ => false,
+    }
+}
+
+/// How many deeds are those that were to be done, before the first that is not.
+fn deeds_done(deeds: &[Deed], done: &[Done]) -> usize {
+    for (place, deed) in deeds.iter().enumerate() {
+        match done.get(place) {
+            Some(done) if is_done(deed, *done) => {}
+            _ => return place,
+        }
+    }
+    deeds.len()
+}
+
+/// Whether this came of it.
+fn is_end(outcome: &Result<Vec<Opened<(), (), ()>>, OpenFault>, end: End) -> bool {
+    match (outcome, end) {
+        (Ok(ports), End::Open(count)) => ports.len() == count,
+        (Err(OpenFault::Unopened(fault)), End::Unopened(place, path)) => {
+            fault.place == place && fault.path.as_str() == path
+        }
+        (Err(OpenFault::Unemptied(fault)), End::Unemptied(place, path)) => {
+            fault.place == place && fault.path.as_str() == path
+        }
+        (Err(OpenFault::Shared(file)), End::Shared(path, place, other)) => {
+            file.place == place && file.path.as_str() == path && file.other == other
+        }
+        _ => false,
+    }
+}
+
+/// Ports of a plan that was read at `plan`, what can't be opened and what can't be emptied, what is done, what comes of it, and how many outputs are given up.
+struct Row {
+    kinds: &'static [Kind],
+    missing: &'static str,
+    stuck: &'static str,
+    done: &'static [Done],
+    end: End,
+    forgotten: usize,
+}
+
+const TWO: &[Kind] = &[
+    Kind::Capture("a.in", "a.out"),
+    Kind::Memory,
+    Kind::Socket("s"),
+    Kind::Capture("b.in", "b.out"),
+];
+
+const ROWS: &[Row] = &[
+    Row {
+        kinds: TWO,
+        missing: "",
+        stuck: "",
+        done: &[
+            Done::Read("a.in"),
+            Done::Connect("s"),
+            Done::Read("b.in"),
+            Done::Write("a.out"),
+            Done::Write("b.out"),
+            Done::Empty("a.out"),
+            Done::Empty("b.out"),
+        ],
+        end: End::Open(4),
+        forgotten: 0,
+    },
+    // The socket behind a capture is missing: its output was emptied before.
+    Row {
+        kinds: TWO,
+        missing: "s",
+        stuck: "",
+        done: &[Done::Read("a.in")],
+        end: End::Unopened(2, "s"),
+        forgotten: 0,
+    },
+    Row {
+        kinds: TWO,
+        missing: "b.in",
+        stuck: "",
+        done: &[Done::Read("a.in"), Done::Connect("s")],
+        end: End::Unopened(3, "b.in"),
+        forgotten: 0,
+    },
+    // The last output can't be made: the first was emptied before.
+    Row {
+        kinds: TWO,
+        missing: "b.out",
+        stuck: "",
+        done: &[
+            Done::Read("a.in"),
+            Done::Connect("s"),
+            Done::Read("b.in"),
+            Done::Write("a.out"),
+        ],
+        end: End::Unopened(3, "b.out"),
+        forgotten: 1,
+    },
+    Row {
+        kinds: TWO,
+        missing: "",
+        stuck: "b.out",
+        done: &[
+            Done::Read("a.in"),
+            Done::Connect("s"),
+            Done::Read("b.in"),
+            Done::Write("a.out"),
+            Done::Write("b.out"),
+            Done::Empty("a.out"),
+        ],
+        end: End::Unemptied(3, "b.out"),
+        forgotten: 0,
+    },
+    // One path is read and written: the input was emptied before.
+    Row {
+        kinds: &[Kind::Memory, Kind::Capture("a", "a")],
+        missing: "",
+        stuck: "",
+        done: &[],
+        end: End::Shared("a", 1, FileUser::Reader(1)),
+        forgotten: 0,
+    },
+    // Two ports write one path: each took half of the file before.
+    Row {
+        kinds: &[Kind::Capture("a", "c"), Kind::Capture("b", "c")],
+        missing: "",
+        stuck: "",
+        done: &[],
+        end: End::Shared("c", 1, FileUser::Writer(0)),
+        forgotten: 0,
+    },
+    // The later port reads what the earlier one writes.
+    Row {
+        kinds: &[Kind::Capture("a", "c"), Kind::Capture("c", "d")],
+        missing: "",
+        stuck: "",
+        done: &[],
+        end: End::Shared("c", 0, FileUser::Reader(1)),
+        forgotten: 0,
+    },
+    // A file may be read twice.
+    Row {
+        kinds: &[Kind::Capture("a", "c"), Kind::Capture("a", "d")],
+        missing: "",
+        stuck: "",
+        done: &[
+            Done::Read("a"),
+            Done::Read("a"),
+            Done::Write("c"),
+            Done::Write("d"),
+            Done::Empty("c"),
+            Done::Empty("d"),
+        ],
+        end: End::Open(2),
+        forgotten: 0,
+    },
+    // A port writes the plan: it was emptied before.
+    Row {
+        kinds: &[Kind::Memory, Kind::Capture("a", "plan")],
+        missing: "",
+        stuck: "",
+        done: &[],
+        end: End::Shared("plan", 1, FileUser::Plan),
+        forgotten: 0,
+    },
+    // The plan may be read.
+    Row {
+        kinds: &[Kind::Capture("plan", "c")],
+        missing: "",
+        stuck: "",
+        done: &[Done::Read("plan"), Done::Write("c"), Done::Empty("c")],
+        end: End::Open(1),
+        forgotten: 0,
+    },
+    // A socket is made where others are connected to.
+    Row {
+        kinds: &[
+            Kind::Socket("s"),
+            Kind::Listener("l"),
+            Kind::Capture("a", "c"),
+        ],
+        missing: "",
+        stuck: "",
+        done: &[
+            Done::Connect("s"),
+            Done::Listen("l"),
+            Done::Read("a"),
+            Done::Write("c"),
+            Done::Empty("c"),
+        ],
+        end: End::Open(3),
+        forgotten: 0,
+    },
+    Row {
+        kinds: &[
+            Kind::Socket("s"),
+            Kind::Listener("l"),
+            Kind::Capture("a", "c"),
+        ],
+        missing: "l",
+        stuck: "",
+        done: &[Done::Connect("s")],
+        end: End::Unopened(1, "l"),
+        forgotten: 0,
+    },
+];
+
+/// What is seen of a row: how many of its deeds were done, how many were done at all, whether the end is the row's, and how many
+/// outputs were given up.
+fn seen(alloc: Global, row: &Row) -> Result<(usize, usize, bool, usize), AllocError> {
+    let specs = specs_of(alloc, row.kinds)?;
+    let mut desk = Desk {
+        alloc,
+        deeds: Vec::new(alloc),
+        missing: row.missing,
+        stuck: row.stuck,
+        forgotten: 0,
+    };
+    let outcome = open_all(alloc, &mut desk, "plan", specs);
+    let done = deeds_done(&desk.deeds, row.done);
+    Ok((
+        done,
+        desk.deeds.len(),
+        is_end(&outcome, row.end),
+        desk.forgotten,
+    ))
+}
+
+#[test]
+fn inputs_are_opened_first_and_outputs_emptied_last(rt: HostRuntime) -> Result<(), Fail> {
+    for (place, row) in ROWS.iter().enumerate() {
+        let wanted = (row.done.len(), row.done.len(), true, row.forgotten);
+        assert_eq!(rt; seen(rt.alloc(), row)?, wanted, "row {place}");
+    }
+    Ok(())
+}

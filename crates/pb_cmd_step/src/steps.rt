@@ -1,0 +1,253 @@
+//! A network, driven by lines of text.
+
+ghost use Rattle.std.specs.Prelude.{◌≡◌, ◌≢◌, ◌<◌, ◌^◌, ◌++◌, ◌∷◌, [], ℕ, List, true, Some, string_bytes, IsErrOf, OnOk, IfOk, IfErr};
+ghost use Rattle.std.specs.Io.KnownBytes.{Appends, Keeps};
+ghost use Rattle.pb_lan.specs.Events.{has_place};
+ghost use Rattle.pb_lan.specs.Plans.{IsSound};
+ghost use Rattle.pb_lan.specs.Records.{IsLawfulRecord};
+ghost use Rattle.pb_relay.specs.Protocol.{spanning_tree};
+ghost use Rattle.pb_lines.specs.Reader.{held, limit_of};
+ghost use Rattle.pb_messages.specs.BadLines.{longest_line};
+ghost use Rattle.pb_relay.specs.Settled.{TellsSettled};
+ghost use Rattle.pb_cmd_step.specs.Steps.{newest_at, HasGrown, StepAnswer, IsReport, IsAtLimit, PrintsSteps, HaveAnswered, PrintsStepsBeginning, start_of};
+ghost use Rattle.pb_report.specs.RecordTexts.{settled_line, IsRecordText};
+
+use pb_frame::Memory;
+use pb_history::Tallies;
+use pb_lan::{Place, Plan, Record, Spanning, Step};
+use pb_lines::{Found, LineReader};
+use pb_messages::{CommandFault, MAX_LINE, put_bad};
+use pb_net::{Did, Net, NetFault};
+use pb_report::{put_record, put_settled};
+use pb_step_script::{Names, put_done, put_idle, put_no_such, read_line};
+use std::alloc::Global;
+use std::io::{Read, Write};
+
+/// The newest step of a place that has taken one.
+fn newest(net: &Net, place: Place) -> &Step
+    requires has { has_place net.now.plan place ≡ true }
+    requires grown { HasGrown net.now.rec place }
+    ensures lawful { IsLawfulRecord spanning_tree net.now.plan net.now.rec }
+    ensures newest { newest_at net.now.rec place ≡ Some result.now }
+{
+    let Some(step) = net.steps(place).last() else {
+        unreachable!();
+    };
+    step
+}
+
+/// Puts the answer to one line behind a text.
+fn answer_step(
+    alloc: Global,
+    limit: usize,
+    number: u64,
+    line: &[u8],
+    names: &Names<'_>,
+    net: &mut Net,
+    out: &mut String,
+) -> Result<(), CommandFault>
+    requires sound { IsSound names.now.plan.now }
+    requires plan { net.old.plan ≡ names.now.plan.now }
+    ensures plan { OnOk result (net.new.plan ≡ names.now.plan.now) }
+    ensures ok { OnOk result ((text : List ℕ) × (string_bytes out.new ≡ string_bytes out.old ++ text) × StepAnswer limit number line.now net.old net.new text) }
+    ensures steps { IsErrOf result CommandFault.Steps → IsAtLimit limit net.old (line.now ∷ []) }
+{
+    let Some(event) = read_line(alloc, limit, names, line)? else {
+        put_bad(out, number)?;
+        return Ok(());
+    };
+    match net.step(event) {
+        Ok(Did::Idle) => {
+            put_idle(out)?;
+            Ok(())
+        }
+        Ok(Did::Done(place)) => {
+            put_done(alloc, out, names.plan, place, newest(net, place))?;
+            Ok(())
+        }
+        Err(NetFault::NoSuch) => {
+            put_no_such(out)?;
+            Ok(())
+        }
+        Err(NetFault::StepLimit) => Err(CommandFault::Steps),
+        Err(NetFault::Memory) => Err(CommandFault::Memory),
+    }
+}
+
+/// Answers each line of what is read, with a reader of lines and a network that are new.
+fn answer_steps<R: Read, W: Write>(
+    alloc: Global,
+    limit: usize,
+    names: &Names<'_>,
+    lines: &mut LineReader,
+    net: &mut Net,
+    reader: &mut R,
+    writer: &mut W,
+) -> Result<(), CommandFault>
+    requires limit { limit < 2 ^ 32 }
+    requires lines { limit_of lines.old ≡ limit }
+    requires held { held lines.old ≡ [] }
+    requires sound { IsSound names.now.plan.now }
+    requires fresh { net.old ≡ start_of names.now.plan.now }
+    ensures plan { OnOk result (net.new.plan ≡ names.now.plan.now) }
+    ensures ok { OnOk result (HaveAnswered limit names.now.plan.now (R.remaining reader.old) (W.contents writer.old) (W.contents writer.new) net.new) }
+    ensures part { IfErr result (λ e. e ≢ CommandFault.Write →
+        PrintsStepsBeginning e limit names.now.plan.now (R.remaining reader.old) (W.contents writer.old) (W.contents writer.new)) }
+{
+    let mut out = String::new(alloc);
+    for number in 1..u64::MAX {
+        let found = lines.next(reader)?;
+        if found == Found::End {
+            return Ok(());
+        }
+        out.clear();
+        let line = lines.line();
+        answer_step(alloc, limit, number, line, names, net, &mut out)?;
+        if writer.write_all(out.as_bytes()).is_err() {
+            return Err(CommandFault::Write);
+        }
+        if found == Found::Last {
+            return Ok(());
+        }
+    }
+    Err(CommandFault::Read)
+}
+
+/// Puts what a record tells behind a text: the counts of its customer ports and links, whether its last
+/// shape is a forest for each service, and whether its bridges are settled.
+fn put_report(
+    alloc: Global,
+    out: &mut String,
+    plan: &Plan,
+    tallies: &Tallies,
+    settled: Option<bool>,
+) -> Result<(), Memory>
+    requires sound { IsSound plan.now }
+    requires settled { TellsSettled plan.now tallies.now settled }
+    ensures { OnOk result ((text : List ℕ) × (string_bytes out.new ≡ string_bytes out.old ++ text) × IsReport plan.now tallies.now text) }
+{
+    put_record(alloc, out, plan, tallies)?;
+    put_settled(out, settled)
+}
+
+/// Writes what a record tells.
+fn write_report<W: Write>(
+    alloc: Global,
+    plan: &Plan,
+    rec: &Record,
+    settled: Option<bool>,
+    writer: &mut W,
+) -> Result<(), CommandFault>
+    requires sound { IsSound plan.now }
+    requires settled { TellsSettled plan.now rec.now settled }
+    ensures ok { OnOk result ((text : List ℕ) × Appends (W.contents writer.old) (W.contents writer.new) text × IsReport plan.now rec.now text) }
+    ensures steps { IfErr result (λ e. e ≢ CommandFault.Steps) }
+    ensures part { IfErr result (λ e. e ≢ CommandFault.Write → Keeps (W.contents writer.old) (W.contents writer.new)) }
+{
+    let mut out = String::new(alloc);
+    let tallies = Tallies::of(alloc, rec)?;
+    put_report(alloc, &mut out, plan, &tallies, settled)?;
+    if writer.write_all(out.as_bytes()).is_err() || writer.flush().is_err() {
+        return Err(CommandFault::Write);
+    }
+    Ok(())
+}
+
+/// Writes what a record tells but for whether its bridges are settled. `Write` is answered where a write failed,
+/// `Memory` where memory for the text ran out, and then nothing was written. No other fault comes.
+fn write_record<W: Write>(
+    alloc: Global,
+    plan: &Plan,
+    rec: &Record,
+    writer: &mut W,
+) -> Result<(), CommandFault>
+    requires { IsSound plan.now }
+    ensures ok { OnOk result ((text : List ℕ) × Appends (W.contents writer.old) (W.contents writer.new) text × IsRecordText plan.now rec.now text) }
+    ensures steps { IfErr result (λ e. e ≢ CommandFault.Steps) }
+    ensures part { IfErr result (λ e. e ≢ CommandFault.Write → Keeps (W.contents writer.old) (W.contents writer.new)) }
+{
+    let mut out = String::new(alloc);
+    let tallies = Tallies::of(alloc, rec)?;
+    put_record(alloc, &mut out, plan, &tallies)?;
+    if writer.write_all(out.as_bytes()).is_err() || writer.flush().is_err() {
+        return Err(CommandFault::Write);
+    }
+    Ok(())
+}
+
+/// Whether the bridges of a network are settled, or None where its plan gives the states of ports. `Memory` is
+/// answered where memory ran out for it, and only where the spanning tree decides the states.
+fn look_settled(alloc: Global, plan: &Plan, net: &Net) -> Result<Option<bool>, Memory>
+    requires { net.now.plan ≡ plan.now }
+    ensures ok { IfOk result (TellsSettled plan.now net.now.rec) }
+    ensures err { IfErr result (λ e. plan.now.spanning ≡ Spanning.Rstp) }
+{
+    match plan.spanning {
+        Spanning::Fixed => Ok(None),
+        Spanning::Rstp => net.settled(alloc),
+    }
+}
+
+/// Answers each line of what is read, and reports on the network that has come of it.
+fn drive<R: Read, W: Write>(
+    alloc: Global,
+    limit: usize,
+    plan: &Plan,
+    mut net: Net,
+    reader: &mut R,
+    writer: &mut W,
+) -> Result<(), CommandFault>
+    requires limit { limit < 2 ^ 32 }
+    requires sound { IsSound plan.now }
+    requires fresh { net ≡ start_of plan.now }
+    ensures ok { OnOk result (PrintsSteps limit plan.now (R.remaining reader.old) (W.contents writer.old) (W.contents writer.new)) }
+    ensures part { IfErr result (λ e. e ≢ CommandFault.Write →
+        PrintsStepsBeginning e limit plan.now (R.remaining reader.old) (W.contents writer.old) (W.contents writer.new)) }
+{
+    let names = Names::new(alloc, plan)?;
+    let mut lines = LineReader::new(alloc, limit)?;
+    answer_steps(alloc, limit, &names, &mut lines, &mut net, reader, writer)?;
+    let settled = look_settled(alloc, plan, &net);
+    let rec = net.finish();
+    match settled {
+        Ok(settled) => write_report(alloc, plan, &rec, settled, writer),
+        Err(_) => {
+            write_record(alloc, plan, &rec, writer)?;
+            Err(CommandFault::Memory)
+        }
+    }
+}
+
+/// Drives the network of a sound plan by the lines of a step script, each of which asks for one event, and
+/// writes each line's answer by one `write_all`, in order, and at the end the report.
+///
+/// An answer is what the event's place did, as `polled NAME K`, `fed`, `delivered HEX`, `relayed` with
+/// ports, `filtered REASON`, `heard`, `sent HEX`, `ticked`, `set`, `taken K`, `lost K` or `put`; `idle` where
+/// there was nothing to do; `no such` where the plan lacks what the line names; and `line N: bad` for a line
+/// of no such form, also for an empty one and one of more than [`MAX_LINE`] octets. The report has a line
+/// `port NAME entered N left N filtered N` for each customer port, a line `link NAME ab taken N lost N ba
+/// taken N lost N` for each link, both by name, and `forest yes`, or `forest no` and a line `loop NAME` for
+/// each service for which the last shape is none. Where the spanning tree decides the states of ports, its
+/// last line is `settled yes` or `settled no`.
+///
+/// `Read` is answered where a read failed, `Write` where a write did, `Steps` where the place of the next
+/// line's event has taken as many steps as the plan allows, `Memory` where memory ran out. After any fault but
+/// `Write`, the answers to the first lines, as many as were answered, are written whole; where the fault is
+/// `Steps`, the line behind these asks for the step that is too many. Nothing stands behind these answers but in
+/// one case: where the spanning tree decides the states of ports, every line was answered, and the fault is
+/// `Memory`, the report may stand there without its last line, since there was no memory to look whether the
+/// bridges are settled. After `Write` nothing is said of what was written.
+pub fn run_steps<R: Read, W: Write>(
+    alloc: Global,
+    plan: Plan,
+    reader: &mut R,
+    writer: &mut W,
+) -> Result<(), CommandFault>
+    requires sound { IsSound plan }
+    ensures ok { OnOk result (PrintsSteps longest_line plan (R.remaining reader.old) (W.contents writer.old) (W.contents writer.new)) }
+    ensures part { IfErr result (λ e. e ≢ CommandFault.Write →
+        PrintsStepsBeginning e longest_line plan (R.remaining reader.old) (W.contents writer.old) (W.contents writer.new)) }
+{
+    let net = Net::new(alloc, plan.clone()?)?;
+    drive(alloc, MAX_LINE, &plan, net, reader, writer)
+}

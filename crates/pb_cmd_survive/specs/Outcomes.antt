@@ -1,0 +1,52 @@
+-- What comes of a failure.
+use Rattle.std.specs.Prelude.{◌≡◌, ℕ, List}
+use Rattle.std.specs.List.{AllZip}
+use Rattle.pb_converge.specs.Falls.{fresh}
+use Rattle.pb_lan.specs.LastShapes.{last_shape}
+use Rattle.pb_lan.specs.Records.{IsLawfulRecord}
+use Rattle.pb_lan.specs.declared.plan.Plan.{Plan}
+use Rattle.pb_net.specs.Answers.{NetView, HaveRun}
+use Rattle.pb_relay.specs.Protocol.{spanning_tree}
+use Rattle.pb_converge.specs.Drives.{HasRested}
+use Rattle.pb_converge.specs.declared.rest.Rest.{Rest}
+use Rattle.pb_cmd_survive.specs.Failures.{downs}
+use Rattle.pb_cmd_survive.specs.Views.{AreViews}
+use Rattle.pb_cmd_survive.specs.declared.failure.Failure.{Failure}
+use Rattle.pb_cmd_survive.specs.declared.failure.Failure.TheVariants.{Nothing, Link, Pair, Bridge}
+use Rattle.pb_cmd_survive.specs.declared.outcome.Outcome.{Outcome}
+
+-- with nothing down the bridges settle
+abbrev pub IsCalm : Plan → ℕ → ℕ → Rest → NetView → Type 0
+IsCalm plan most events rest new = HasRested most events rest (fresh plan) new
+
+-- both ends of each link that a failure takes down are set down, and the bridges settle again
+pub record HasFailedFrom (plan : Plan) (most events : ℕ) (failure : Failure) (calm : NetView) (rest : Rest) (new : NetView) : Type 0 where
+  pub down : NetView
+  pub set_down : HaveRun calm (downs plan failure) down
+  pub settles : HasRested most events rest down new
+
+-- under a failure they settle before it and after it
+pub record IsFailed (plan : Plan) (most events : ℕ) (failure : Failure) (rest : Rest) (new : NetView) : Type 0 where
+  pub first : Rest
+  pub calm : NetView
+  pub is_calm : IsCalm plan most events first calm
+  pub fails : HasFailedFrom plan most events failure calm rest new
+
+abbrev pub IsDriven : Plan → ℕ → ℕ → Failure → Rest → NetView → Type 0
+IsDriven plan most events Nothing rest new = IsCalm plan most events rest new
+IsDriven plan most events (Link number) rest new = IsFailed plan most events (Link number) rest new
+IsDriven plan most events (Pair first second) rest new = IsFailed plan most events (Pair first second) rest new
+IsDriven plan most events (Bridge number) rest new = IsFailed plan most events (Bridge number) rest new
+
+-- what is told of a failure is told of the last shape of a lawful record of the plan's network, which was driven so
+pub record IsOutcome (plan : Plan) (services : List ℕ) (most events : ℕ) (failure : Failure) (outcome : Outcome) : Type 0 where
+  pub failed : outcome.failure ≡ failure
+  pub last : NetView
+  pub driven : IsDriven plan most events failure outcome.rest last
+  pub planned : last.plan ≡ plan
+  pub lawful : IsLawfulRecord spanning_tree plan last.rec
+  pub views : AreViews plan (last_shape plan last.rec) failure services outcome.views
+
+-- of each of these failures, in their order
+abbrev pub AreOutcomes : Plan → List ℕ → ℕ → ℕ → List Failure → List Outcome → Type 0
+AreOutcomes plan services most events failures outcomes = AllZip (IsOutcome plan services most events) failures outcomes

@@ -1,0 +1,33 @@
+-- Which bridges and customer ports can reach each other.
+use Rattle.std.specs.Prelude.{◌≡◌, ◌⊎◌, ◌↔◌, ℕ, ◌-◌, false, List, Some, slice_index}
+use Rattle.pb_lan.specs.Forests.{AreJoined}
+use Rattle.pb_lan.specs.Numbering.{numbered}
+use Rattle.pb_lan.specs.Plans.{IsNumber}
+use Rattle.pb_lan.specs.declared.plan.Plan.{Plan}
+use Rattle.pb_lan.specs.declared.plan.CustomerPlan.{CustomerPlan}
+use Rattle.pb_lan.specs.declared.shape.Shape.{Shape}
+use Rattle.pb_cmd_survive.specs.Failures.{is_out}
+use Rattle.pb_cmd_survive.specs.declared.failure.Failure.{Failure}
+
+-- the customer ports of these numbers stand at bridges that have not failed, and active links join these
+pub record AreLinked (plan : Plan) (shape : Shape) (failure : Failure) (vid p q : ℕ) : Type 0 where
+  pub here : CustomerPlan
+  pub there : CustomerPlan
+  pub planned_here : numbered plan.customers p ≡ Some here
+  pub planned_there : numbered plan.customers q ≡ Some there
+  pub up_here : is_out failure here.bridge ≡ false
+  pub up_there : is_out failure there.bridge ≡ false
+  pub joined : AreJoined plan shape vid here.bridge there.bridge
+
+-- a customer port reaches itself, and those to which it is linked
+abbrev pub CanReach : Plan → Shape → Failure → ℕ → ℕ → ℕ → Type 0
+CanReach plan shape failure vid p q = (p ≡ q) ⊎ AreLinked plan shape failure vid p q
+
+-- the mark of a bridge
+abbrev pub mark_at : List ℕ → ℕ → ℕ
+mark_at marks bridge = slice_index marks (bridge - 1)
+
+-- two bridges have one mark just where active links join them
+abbrev pub TellsJoined : Plan → Shape → ℕ → List ℕ → Type 0
+TellsJoined plan shape vid marks =
+    (a b : ℕ) → IsNumber a 32 → IsNumber b 32 → (mark_at marks a ≡ mark_at marks b) ↔ AreJoined plan shape vid a b

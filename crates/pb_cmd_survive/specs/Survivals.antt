@@ -1,0 +1,48 @@
+-- What is printed of a plan file by `survive`.
+use Rattle.std.specs.Prelude.{◌≡◌, ◌⊎◌, ℕ, List, true, false, count_by, ◌==◌, if◌then◌else◌}
+use Rattle.pb_lan.specs.declared.plan.Plan.{Plan}
+use Rattle.pb_report.specs.Refusals.{IsRefusalText}
+use Rattle.pb_service.specs.PlanFiles.{Tells, IsPlanOf}
+use Rattle.pb_service.specs.declared.port_spec.PortSpec.{PortSpec}
+use Rattle.pb_cmd_survive.specs.Failures.{all_failures}
+use Rattle.pb_cmd_survive.specs.Outcomes.{IsOutcome, AreOutcomes}
+use Rattle.pb_cmd_survive.specs.Reports.{parts, report_text}
+use Rattle.pb_cmd_survive.specs.Scopes.{services_of, from_of, is_found, no_such_line}
+use Rattle.pb_cmd_survive.specs.declared.failure.Failure.TheVariants.{Nothing}
+use Rattle.pb_cmd_survive.specs.declared.outcome.Outcome.{Outcome}
+use Rattle.pb_cmd_survive.specs.declared.survive.Asked.{Asked}
+
+-- the most events besides ticks that settling takes
+abbrev pub most_events : ℕ
+most_events = 1000000000
+
+-- 4 where some failure parts a service
+abbrev pub status_of : ℕ → ℕ
+status_of parting = if parting == 0 then 0 else 4
+
+-- the report on the plan's network with nothing down, and under each failure that is asked for
+pub record IsReport (plan : Plan) (asked : Asked) (status : ℕ) (text : List ℕ) : Type 0 where
+  pub found : is_found plan asked.scope ≡ true
+  pub base : Outcome
+  pub is_base : IsOutcome plan (services_of plan asked.scope) asked.ticks most_events Nothing base
+  pub outcomes : List Outcome
+  pub are_outcomes : AreOutcomes plan (services_of plan asked.scope) asked.ticks most_events (all_failures plan asked.kinds) outcomes
+  pub text_is : text ≡ report_text plan (from_of plan asked.scope) base outcomes
+  pub status_is : status ≡ status_of (count_by (parts (from_of plan asked.scope) base) outcomes)
+
+-- the plan has not what is named
+pub record IsLacking (plan : Plan) (asked : Asked) (status : ℕ) (text : List ℕ) : Type 0 where
+  pub lacking : is_found plan asked.scope ≡ false
+  pub text_is : text ≡ no_such_line asked.scope
+  pub status_is : status ≡ 2
+
+-- what is said of the plan that the file tells
+pub record IsPlanText (file : List ℕ) (asked : Asked) (status : ℕ) (text : List ℕ) : Type 0 where
+  pub plan : Plan
+  pub specs : List PortSpec
+  pub told : Tells file (λ document. IsPlanOf document plan specs)
+  pub said : IsReport plan asked status text ⊎ IsLacking plan asked status text
+
+-- the answer to a file, with the program's exit status
+abbrev pub IsSurviveText : List ℕ → Asked → ℕ → List ℕ → Type 0
+IsSurviveText file asked status text = IsPlanText file asked status text ⊎ ((status ≡ 1) × IsRefusalText file text)

@@ -1,0 +1,50 @@
+//! Which bridges are joined by active links.
+
+ghost use Rattle.std.specs.Prelude.{◌≡◌, ◌<◌, ◌==◌, ℕ, map, slice_index, if◌then◌else◌};
+ghost use Rattle.pb_lan.specs.Plans.{IsSound};
+ghost use Rattle.pb_cmd_survive.specs.Reach.{TellsJoined, mark_at};
+
+use pb_forest::is_active;
+use pb_lan::{Plan, Shape};
+
+/// A mark for each bridge, of which no two are alike.
+const OWN_MARKS: [u8; 32] = [
+    0, 1, 2, 3, 4, 5, 6, 7, 8, 9, 10, 11, 12, 13, 14, 15, 16, 17, 18, 19, 20, 21, 22, 23, 24, 25,
+    26, 27, 28, 29, 30, 31,
+];
+
+/// The mark that a bridge has after one mark was replaced by another.
+fn replaced(gone: u8, kept: u8, mark: u8) -> u8
+    ensures { result ≡ (if mark == gone then kept else mark) }
+{
+    if mark == gone { kept } else { mark }
+}
+
+/// All bridges with the mark of the one get that of the other.
+fn join(marks: &mut [u8; 32], into: usize, from: usize)
+    requires into { into < 32 }
+    requires from { from < 32 }
+    ensures { marks.new ≡ map (λ m. if m == slice_index marks.old from then slice_index marks.old into else m) marks.old }
+{
+    let (kept, gone) = (marks[into], marks[from]);
+    for mark in marks.iter_mut() {
+        *mark = replaced(gone, kept, *mark);
+    }
+}
+
+/// By bridge, a mark that two bridges share just where the active links of a service join them.
+pub(crate) fn marks(plan: &Plan, shape: &Shape, vid: u16) -> [u8; 32]
+    requires { IsSound plan.now }
+    ensures joined { TellsJoined plan.now shape.now vid result }
+    ensures below { (bridge : ℕ) → mark_at result bridge < 32 }
+{
+    let mut marks = OWN_MARKS;
+    for link in plan.links.as_slice() {
+        if is_active(plan, shape, vid, link) {
+            let into = link.a.bridge as usize - 1;
+            let from = link.b.bridge as usize - 1;
+            join(&mut marks, into, from);
+        }
+    }
+    marks
+}

@@ -1,0 +1,77 @@
+//! Whether a failure parts a service.
+
+ghost use Rattle.std.specs.Prelude.{◌≡◌, ◌==◌, ◌&&◌, not};
+ghost use Rattle.std.specs.List.{list_any, list_all, zip};
+ghost use Rattle.pb_cmd_survive.specs.Reports.{is_parted, is_asked, is_lost, parts_view, parts, are_forests, is_settled, is_quiet};
+
+use crate::outcome::Outcome;
+use crate::sites::Site;
+use crate::view::View;
+use pb_converge::Rest;
+
+/// Whether the port is the one that is asked for, where one is.
+fn is_asked(from: Option<u8>, port: u8) -> bool
+    ensures { result ≡ is_asked from port }
+{
+    match from {
+        None => true,
+        Some(asked) => port == asked,
+    }
+}
+
+/// Whether some port that is asked for could reach this one before, and can't now. Each site is given as it was
+/// and as it is.
+pub(crate) fn is_lost(from: Option<u8>, before: &[Site], now: &[Site], was: Site, is: Site) -> bool
+    ensures { result ≡ is_lost from (zip before.now now.now) (was, is) }
+{
+    before.iter().zip(now.iter()).any(|(old, new)| {
+        is_asked(from, old.port) && old.group == was.group && new.group != is.group
+    })
+}
+
+/// Whether a failure parts a service, which is given as it was before and as it is.
+pub(crate) fn parts_view(from: Option<u8>, old: &View, new: &View) -> bool
+    ensures { result ≡ parts_view from (old.now, new.now) }
+{
+    let before = old.sites.as_slice();
+    let now = new.sites.as_slice();
+    before
+        .iter()
+        .zip(now.iter())
+        .any(|(was, is)| is_lost(from, before, now, *was, *is))
+}
+
+/// Whether a failure parts some service.
+pub(crate) fn parts(from: Option<u8>, base: &Outcome, outcome: &Outcome) -> bool
+    ensures { result ≡ parts from base.now outcome.now }
+{
+    base.views
+        .as_slice()
+        .iter()
+        .zip(outcome.views.as_slice().iter())
+        .any(|(old, new)| parts_view(from, old, new))
+}
+
+/// Whether all services' links are forests.
+pub(crate) fn are_forests(views: &[View]) -> bool
+    ensures { result ≡ are_forests views.now }
+{
+    views.iter().all(|view| view.is_forest)
+}
+
+/// Whether the bridges came to rest.
+fn is_settled(rest: Rest) -> bool
+    ensures { result ≡ is_settled rest }
+{
+    match rest {
+        Rest::Given | Rest::Settled(_) => true,
+        Rest::Unsettled(_) => false,
+    }
+}
+
+/// Whether a failure changes nothing that is told.
+pub(crate) fn is_quiet(from: Option<u8>, base: &Outcome, outcome: &Outcome) -> bool
+    ensures { result ≡ is_quiet from base.now outcome.now }
+{
+    is_settled(outcome.rest) && are_forests(outcome.views.as_slice()) && !parts(from, base, outcome)
+}

@@ -1,0 +1,306 @@
+//! The report on a network under failures.
+
+ghost use Rattle.std.specs.Prelude.{◌≡◌, ◌<◌, ◌++◌, flat_map, length, slice_index_or, count_by, string_bytes, IfOk, OnOk};
+ghost use Rattle.std.specs.List.{zip};
+ghost use Rattle.pb_cmd_survive.specs.Reports.{failure_text, rest_text, forest_text, head_line, member_text, group_text, later_text, groups_text, service_line, loop_line, lost_text, cut_off_line, parting_line, view_text, whole_text, outcome_text, no_site, parts, report_text};
+
+use crate::failure::Failure;
+use crate::outcome::Outcome;
+use crate::parting::{are_forests, is_lost, is_quiet, parts_view};
+use crate::sites::Site;
+use crate::totals::{count_parting, put_all_quiet, put_verdict};
+use crate::view::View;
+use pb_converge::Rest;
+use pb_frame::Memory;
+use pb_lan::Plan;
+use pb_names::{bridge_name, link_name, port_name, service_name};
+
+/// What is down.
+fn put_failure(out: &mut String, plan: &Plan, failure: Failure) -> Result<(), Memory>
+    ensures { OnOk result (string_bytes out.new ≡ string_bytes out.old ++ failure_text plan.now failure) }
+{
+    match failure {
+        Failure::Nothing => out.push_str("nothing down")?,
+        Failure::Link(number) => write!(out, "link {} down", link_name(plan, number))?,
+        Failure::Pair(first, second) => {
+            let (one, other) = (link_name(plan, first), link_name(plan, second));
+            write!(out, "links {one} {other} down")?;
+        }
+        Failure::Bridge(number) => write!(out, "bridge {} down", bridge_name(plan, number))?,
+    }
+    Ok(())
+}
+
+/// Whether the bridges settled.
+fn put_rest(out: &mut String, rest: Rest) -> Result<(), Memory>
+    ensures { OnOk result (string_bytes out.new ≡ string_bytes out.old ++ rest_text rest) }
+{
+    match rest {
+        Rest::Given => out.push_str("states given")?,
+        Rest::Settled(ticks) => write!(out, "settled ticks {ticks}")?,
+        Rest::Unsettled(ticks) => write!(out, "not settled ticks {ticks}")?,
+    }
+    Ok(())
+}
+
+/// Whether the shape is a forest for each service.
+fn put_forest(out: &mut String, views: &[View]) -> Result<(), Memory>
+    ensures { OnOk result (string_bytes out.new ≡ string_bytes out.old ++ forest_text views.now) }
+{
+    if are_forests(views) {
+        out.push_str(" forest yes")?;
+    } else {
+        out.push_str(" forest no")?;
+    }
+    Ok(())
+}
+
+/// The line of a failure.
+fn put_head(out: &mut String, plan: &Plan, outcome: &Outcome) -> Result<(), Memory>
+    ensures { OnOk result (string_bytes out.new ≡ string_bytes out.old ++ head_line plan.now outcome.now) }
+{
+    put_failure(out, plan, outcome.failure)?;
+    out.push_str(": ")?;
+    put_rest(out, outcome.rest)?;
+    put_forest(out, outcome.views.as_slice())?;
+    out.push_str("\n")?;
+    Ok(())
+}
+
+/// The ports of a group.
+fn put_group(out: &mut String, plan: &Plan, sites: &[Site], group: u8) -> Result<(), Memory>
+    ensures { OnOk result (string_bytes out.new ≡ string_bytes out.old ++ group_text plan.now sites.now group) }
+{
+    for site in sites {
+        if site.group == group {
+            write!(out, " {}", port_name(plan, site.port))?;
+        }
+    }
+    Ok(())
+}
+
+/// The groups of those ports that are the first of theirs.
+fn put_later(out: &mut String, plan: &Plan, sites: &[Site], later: &[Site]) -> Result<(), Memory>
+    ensures { OnOk result (string_bytes out.new ≡ string_bytes out.old ++ flat_map (later_text plan.now sites.now) later.now) }
+{
+    for site in later {
+        if site.group == site.port {
+            out.push_str(" |")?;
+            put_group(out, plan, sites, site.group)?;
+        }
+    }
+    Ok(())
+}
+
+/// The groups of a service's ports.
+fn put_groups(out: &mut String, plan: &Plan, sites: &[Site]) -> Result<(), Memory>
+    ensures { OnOk result (string_bytes out.new ≡ string_bytes out.old ++ groups_text plan.now sites.now) }
+{
+    match sites.split_first() {
+        None => Ok(()),
+        Some((first, later)) => {
+            put_group(out, plan, sites, first.group)?;
+            put_later(out, plan, sites, later)
+        }
+    }
+}
+
+/// The line of a service.
+fn put_service(out: &mut String, plan: &Plan, view: &View) -> Result<(), Memory>
+    ensures { OnOk result (string_bytes out.new ≡ string_bytes out.old ++ service_line plan.now view.now) }
+{
+    write!(out, "  service {}:", service_name(plan, view.service))?;
+    put_groups(out, plan, view.sites.as_slice())?;
+    out.push_str("\n")?;
+    Ok(())
+}
+
+/// The line of a service whose links are no forest.
+fn put_loop(out: &mut String, plan: &Plan, view: &View) -> Result<(), Memory>
+    ensures { OnOk result (string_bytes out.new ≡ string_bytes out.old ++ loop_line plan.now view.now) }
+{
+    if !view.is_forest {
+        writeln!(out, "  loop {}", service_name(plan, view.service))?;
+    }
+    Ok(())
+}
+
+/// A port that the one that is asked for can't reach any more.
+fn put_one_lost(
+    out: &mut String,
+    plan: &Plan,
+    from: Option<u8>,
+    before: &[Site],
+    now: &[Site],
+    place: usize,
+) -> Result<(), Memory>
+    requires was { place < length before.now }
+    requires is { place < length now.now }
+    ensures { OnOk result (string_bytes out.new ≡ string_bytes out.old ++ lost_text plan.now from (zip before.now now.now) (slice_index_or before.now place no_site, slice_index_or now.now place no_site)) }
+{
+    let (was, is) = (before[place], now[place]);
+    if is_lost(from, before, now, was, is) {
+        write!(out, " {}", port_name(plan, is.port))?;
+    }
+    Ok(())
+}
+
+/// The ports that the one that is asked for can't reach any more.
+fn put_lost(
+    out: &mut String,
+    plan: &Plan,
+    from: Option<u8>,
+    before: &[Site],
+    now: &[Site],
+) -> Result<(), Memory>
+    ensures { OnOk result (string_bytes out.new ≡ string_bytes out.old ++ flat_map (lost_text plan.now from (zip before.now now.now)) (zip before.now now.now)) }
+{
+    for place in 0..before.len().min(now.len()) {
+        put_one_lost(out, plan, from, before, now, place)?;
+    }
+    Ok(())
+}
+
+/// The line of a port that is cut off from others.
+fn put_cut_off(
+    out: &mut String,
+    plan: &Plan,
+    port: u8,
+    old: &View,
+    new: &View,
+) -> Result<(), Memory>
+    ensures { OnOk result (string_bytes out.new ≡ string_bytes out.old ++ cut_off_line plan.now port (old.now, new.now)) }
+{
+    write!(out, "  {} cut off from:", port_name(plan, port))?;
+    let (before, now) = (old.sites.as_slice(), new.sites.as_slice());
+    put_lost(out, plan, Some(port), before, now)?;
+    out.push_str("\n")?;
+    Ok(())
+}
+
+/// How a service is parted.
+fn put_parting(
+    out: &mut String,
+    plan: &Plan,
+    from: Option<u8>,
+    old: &View,
+    new: &View,
+) -> Result<(), Memory>
+    ensures { OnOk result (string_bytes out.new ≡ string_bytes out.old ++ parting_line plan.now from (old.now, new.now)) }
+{
+    match from {
+        None => put_service(out, plan, new),
+        Some(port) => put_cut_off(out, plan, port, old, new),
+    }
+}
+
+/// What is told of a service under a failure.
+fn put_view(
+    out: &mut String,
+    plan: &Plan,
+    from: Option<u8>,
+    old: &View,
+    new: &View,
+) -> Result<(), Memory>
+    ensures { OnOk result (string_bytes out.new ≡ string_bytes out.old ++ view_text plan.now from (old.now, new.now)) }
+{
+    put_loop(out, plan, new)?;
+    if parts_view(from, old, new) {
+        put_parting(out, plan, from, old, new)?;
+    }
+    Ok(())
+}
+
+/// What is told of all services under a failure.
+fn put_views(
+    out: &mut String,
+    plan: &Plan,
+    from: Option<u8>,
+    old: &[View],
+    new: &[View],
+) -> Result<(), Memory>
+    ensures { OnOk result (string_bytes out.new ≡ string_bytes out.old ++ flat_map (view_text plan.now from) (zip old.now new.now)) }
+{
+    for place in 0..old.len().min(new.len()) {
+        put_view(out, plan, from, &old[place], &new[place])?;
+    }
+    Ok(())
+}
+
+/// What is told with nothing down.
+fn put_whole(out: &mut String, plan: &Plan, outcome: &Outcome) -> Result<(), Memory>
+    ensures { OnOk result (string_bytes out.new ≡ string_bytes out.old ++ whole_text plan.now outcome.now) }
+{
+    put_head(out, plan, outcome)?;
+    for view in outcome.views.as_slice() {
+        put_loop(out, plan, view)?;
+        put_service(out, plan, view)?;
+    }
+    Ok(())
+}
+
+/// What is told of a failure.
+fn put_outcome(
+    out: &mut String,
+    plan: &Plan,
+    from: Option<u8>,
+    base: &Outcome,
+    outcome: &Outcome,
+) -> Result<(), Memory>
+    ensures { OnOk result (string_bytes out.new ≡ string_bytes out.old ++ outcome_text plan.now from base.now outcome.now) }
+{
+    if is_quiet(from, base, outcome) {
+        return Ok(());
+    }
+    put_head(out, plan, outcome)?;
+    put_views(
+        out,
+        plan,
+        from,
+        base.views.as_slice(),
+        outcome.views.as_slice(),
+    )
+}
+
+/// What is told of all failures.
+fn put_outcomes(
+    out: &mut String,
+    plan: &Plan,
+    from: Option<u8>,
+    base: &Outcome,
+    outcomes: &[Outcome],
+) -> Result<(), Memory>
+    ensures { OnOk result (string_bytes out.new ≡ string_bytes out.old ++ flat_map (outcome_text plan.now from base.now) outcomes.now) }
+{
+    for outcome in outcomes {
+        put_outcome(out, plan, from, base, outcome)?;
+    }
+    Ok(())
+}
+
+/// Puts the report on a network with nothing down, and under failures, behind a text, and answers how many of the
+/// failures part a service.
+///
+/// First comes what is so with nothing down: whether the bridges settled and after how many ticks, whether the
+/// active links are a forest for each service, and the groups of each service's customer ports. Then each failure
+/// that changes something is told the same way, with the services that it parts, then how many change nothing and
+/// the most ticks that settling took after these, and how many part a service. Where `from` names a customer port, only what cuts that port off counts as parting.
+///
+/// `Memory` is answered where memory ran out, and then a part of the report may stand there.
+pub fn put_report(
+    out: &mut String,
+    plan: &Plan,
+    from: Option<u8>,
+    base: &Outcome,
+    outcomes: &[Outcome],
+) -> Result<usize, Memory>
+    ensures text { OnOk result (string_bytes out.new ≡ string_bytes out.old ++ report_text plan.now from base.now outcomes.now) }
+    ensures parting { IfOk result (λ parting. parting ≡ count_by (parts from base.now) outcomes.now) }
+{
+    put_whole(out, plan, base)?;
+    put_outcomes(out, plan, from, base, outcomes)?;
+    put_all_quiet(out, from, base, outcomes)?;
+    let parting = count_parting(from, base, outcomes);
+    put_verdict(out, parting, outcomes.len())?;
+    Ok(parting)
+}

@@ -1,0 +1,116 @@
+//! The customer ports of a service, in groups that can reach each other.
+
+ghost use Rattle.std.specs.Prelude.{◌≡◌, ◌<◌, map, length, IfOk};
+ghost use Rattle.pb_forest.specs.ServiceVids.{vid_numbered};
+ghost use Rattle.pb_lan.specs.Plans.{IsSound};
+ghost use Rattle.pb_cmd_survive.specs.Failures.{is_out};
+ghost use Rattle.pb_cmd_survive.specs.Groups.{ports_of, color_of, lead_of, site_of, AreGroups};
+
+use crate::failure::Failure;
+use crate::marks::marks;
+use pb_forest::{numbered, vid_numbered};
+use pb_frame::Memory;
+use pb_lan::{Plan, Shape};
+use std::alloc::Global;
+
+/// A customer port, and the group of those that it can reach.
+#[derive(Clone, Copy, PartialEq, Eq, Debug)]
+pub struct Site {
+    /// Its number in the plan.
+    pub port: u8,
+    /// The number of the first port in its group.
+    pub group: u8,
+}
+
+/// Whether the failure takes the bridge down.
+fn is_out(failure: Failure, bridge: u8) -> bool
+    ensures { result ≡ is_out failure bridge }
+{
+    match failure {
+        Failure::Bridge(failed) => bridge == failed,
+        Failure::Nothing | Failure::Link(_) | Failure::Pair(_, _) => false,
+    }
+}
+
+/// The numbers of the customer ports of a service.
+fn ports_of(alloc: Global, plan: &Plan, service: u8) -> Result<Vec<u8>, Memory>
+    requires { IsSound plan.now }
+    ensures { IfOk result (λ ports. ports.items ≡ ports_of plan.now service) }
+{
+    let mut ports = Vec::new(alloc);
+    for (place, customer) in plan.customers.as_slice().iter().enumerate() {
+        if customer.service == service {
+            ports.push(place as u8 + 1)?;
+        }
+    }
+    Ok(ports)
+}
+
+/// A number that two customer ports share just where they can reach each other.
+fn color_of(plan: &Plan, marks: &[u8; 32], failure: Failure, port: u8) -> u8
+    requires { IsSound plan.now }
+    ensures { result ≡ color_of plan.now marks.now failure port }
+{
+    match numbered(plan.customers.as_slice(), port as usize) {
+        None => 0,
+        Some(customer) if is_out(failure, customer.bridge) => port + 32,
+        Some(customer) => marks[customer.bridge as usize - 1],
+    }
+}
+
+/// The first of the ports that can reach this one.
+fn lead_of(plan: &Plan, marks: &[u8; 32], failure: Failure, ports: &[u8], port: u8) -> u8
+    requires { IsSound plan.now }
+    ensures { result ≡ lead_of (color_of plan.now marks.now failure) ports.now port }
+{
+    let color = color_of(plan, marks, failure, port);
+    for other in ports {
+        if color_of(plan, marks, failure, *other) == color {
+            return *other;
+        }
+    }
+    0
+}
+
+/// The ports with their groups.
+fn sites_of(
+    alloc: Global,
+    plan: &Plan,
+    marks: &[u8; 32],
+    failure: Failure,
+    ports: &[u8],
+) -> Result<Vec<Site>, Memory>
+    requires { IsSound plan.now }
+    ensures { IfOk result (λ sites. sites.items ≡ map (site_of (color_of plan.now marks.now failure) ports.now) ports.now) }
+{
+    let mut sites = Vec::with_capacity(alloc, ports.len())?;
+    for port in ports {
+        sites.push(Site {
+            port: *port,
+            group: lead_of(plan, marks, failure, ports, *port),
+        })?;
+    }
+    Ok(sites)
+}
+
+/// The customer ports of a service in a shape, in groups that can reach each other. They are in the plan's order.
+///
+/// Two ports have one group if and only if links that are active for the service join their bridges. A link is
+/// active where both its ends are Forwarding and members of the service (802.1Q clause 8.8). Where a bridge
+/// failed, each of its own ports is alone, and reaches only itself. `service` is a service's number, from 1.
+///
+/// `Memory` is answered where there was none for the list, and nothing else is refused.
+pub fn groups(
+    alloc: Global,
+    plan: &Plan,
+    shape: &Shape,
+    failure: Failure,
+    service: u8,
+) -> Result<Vec<Site>, Memory>
+    requires { IsSound plan.now }
+    ensures { IfOk result (λ sites. AreGroups plan.now shape.now failure service (vid_numbered plan.now service) sites.items) }
+{
+    let marks = marks(plan, shape, vid_numbered(plan, service));
+    let ports = ports_of(alloc, plan, service)?;
+    sites_of(alloc, plan, &marks, failure, ports.as_slice())
+}

@@ -1,0 +1,108 @@
+//! How many failures change nothing, and how many part a service.
+
+ghost use Rattle.std.specs.Prelude.{◌≡◌, ◌++◌, length, count_by, string_bytes, OnOk};
+ghost use Rattle.pb_cmd_survive.specs.Reports.{quiet_line, quiet_count_line, quiet_ticks, slowest, verdict_line, parting_count_line, is_quiet, parts};
+
+use crate::outcome::Outcome;
+use crate::parting::{is_quiet, parts};
+use pb_converge::Rest;
+use pb_frame::Memory;
+
+/// A number of failures that change nothing.
+fn put_quiet_count(out: &mut String, quiet: usize, all: usize, ticks: u32) -> Result<(), Memory>
+    ensures { OnOk result (string_bytes out.new ≡ string_bytes out.old ++ quiet_count_line quiet all ticks) }
+{
+    writeln!(
+        out,
+        "{quiet} of {all} failures part nothing, ticks at most {ticks}"
+    )?;
+    Ok(())
+}
+
+/// The number of failures that change nothing, where there are any.
+fn put_quiet(out: &mut String, quiet: usize, all: usize, ticks: u32) -> Result<(), Memory>
+    ensures { OnOk result (string_bytes out.new ≡ string_bytes out.old ++ quiet_line quiet all ticks) }
+{
+    if quiet == 0 {
+        return Ok(());
+    }
+    put_quiet_count(out, quiet, all, ticks)
+}
+
+/// A number of failures that part a service.
+fn put_parting_count(out: &mut String, parting: usize, all: usize) -> Result<(), Memory>
+    ensures { OnOk result (string_bytes out.new ≡ string_bytes out.old ++ parting_count_line parting all) }
+{
+    writeln!(out, "{parting} of {all} failures part a service")?;
+    Ok(())
+}
+
+/// The number of failures that part a service, or that there are none.
+pub(crate) fn put_verdict(out: &mut String, parting: usize, all: usize) -> Result<(), Memory>
+    ensures { OnOk result (string_bytes out.new ≡ string_bytes out.old ++ verdict_line parting all) }
+{
+    if parting == 0 {
+        out.push_str("survives every single failure\n")?;
+        return Ok(());
+    }
+    put_parting_count(out, parting, all)
+}
+
+/// How many of the failures part a service.
+pub(crate) fn count_parting(from: Option<u8>, base: &Outcome, outcomes: &[Outcome]) -> usize
+    ensures { result ≡ count_by (parts from base.now) outcomes.now }
+{
+    outcomes
+        .iter()
+        .filter(|outcome| parts(from, base, outcome))
+        .count()
+}
+
+/// How many of the failures change nothing.
+fn count_quiet(from: Option<u8>, base: &Outcome, outcomes: &[Outcome]) -> usize
+    ensures { result ≡ count_by (is_quiet from base.now) outcomes.now }
+{
+    outcomes
+        .iter()
+        .filter(|outcome| is_quiet(from, base, outcome))
+        .count()
+}
+
+/// The ticks after which the bridges settled, if the failure changes nothing.
+fn quiet_ticks(from: Option<u8>, base: &Outcome, outcome: &Outcome) -> u32
+    ensures { result ≡ quiet_ticks from base.now outcome.now }
+{
+    if !is_quiet(from, base, outcome) {
+        return 0;
+    }
+    match outcome.rest {
+        Rest::Given => 0,
+        Rest::Settled(ticks) | Rest::Unsettled(ticks) => ticks,
+    }
+}
+
+/// The most ticks that it took until the bridges settled after a failure that changes nothing.
+fn slowest(from: Option<u8>, base: &Outcome, outcomes: &[Outcome]) -> u32
+    ensures { result ≡ slowest from base.now outcomes.now }
+{
+    let mut most = 0;
+    for outcome in outcomes {
+        most = most.max(quiet_ticks(from, base, outcome));
+    }
+    most
+}
+
+/// The number of failures that change nothing, where there are any, and the most ticks that settling took after them.
+pub(crate) fn put_all_quiet(
+    out: &mut String,
+    from: Option<u8>,
+    base: &Outcome,
+    outcomes: &[Outcome],
+) -> Result<(), Memory>
+    ensures { OnOk result (string_bytes out.new ≡ string_bytes out.old
+        ++ quiet_line (count_by (is_quiet from base.now) outcomes.now) (length outcomes.now) (slowest from base.now outcomes.now)) }
+{
+    let quiet = count_quiet(from, base, outcomes);
+    let ticks = slowest(from, base, outcomes);
+    put_quiet(out, quiet, outcomes.len(), ticks)
+}

@@ -1,0 +1,187 @@
+-- Frames that come in one after the other.
+use Rattle.std.proofs.Common.{◌≡◌, ◌<◌, ◌+◌, ℕ, Bool, true, false, List, [], ◌∷◌, ◌++◌, take, length, get_or}
+use Rattle.std.proofs.Common.{string_bytes, Option, Ok, refl, sym, ap, subst, ◌∙◌, append_assoc, append-nil}
+use Rattle.std.proofs.lemmas.List.{take_more}
+use Rattle.pb_frame.proofs.Things.{here_is}
+use Rattle.pb_lan.specs.Events.{has_place}
+use Rattle.pb_lan.specs.declared.event.Event.TheVariants.{Poll}
+use Rattle.pb_lan.specs.declared.plan.Plan.{Plan}
+use Rattle.pb_lan.specs.declared.step.Place.{Place}
+use Rattle.pb_lan.specs.declared.step.Place.TheVariants.{Customer}
+use Rattle.pb_net.specs.Answers.{NetView, IsAnswer}
+use Rattle.pb_net.specs.declared.did.Did.TheVariants.{Done}
+use Rattle.pb_cmd_step.specs.Steps.{HasGrown}
+use Rattle.pb_names.proofs.TextLemmas.{join_three}
+use Rattle.pb_names.specs.Numbers.{port_named}
+use Rattle.pb_cmd_trace.specs.Stories.{AnswersEntry, sent, unsent, AnswersFrame, followed, waits, absent, AreStories}
+use Rattle.pb_cmd_trace.specs.Stories.{IsRoundStory, IsSent, IsConclusion, IsEntry, IsFollowed}
+use Rattle.pb_report.specs.PlanFiles.{IsToldBy}
+use Rattle.pb_cmd_trace.specs.Traces.{HasTraced, HasTold}
+use Rattle.pb_cmd_trace.specs.Walks.{HasWalked}
+use Rattle.pb_cmd_trace.specs.declared.end.TraceEnd.{TraceEnd}
+use Rattle.pb_cmd_trace.specs.declared.end.TraceEnd.TheVariants.{Told, Refused, NoPort, NoFrame}
+use Rattle.pb_cmd_trace.specs.declared.entry.Entry.{Entry}
+use Rattle.pb_cmd_trace.specs.declared.frame.Fate.{Fate}
+use Rattle.pb_cmd_trace.specs.declared.frame.Fate.TheVariants.{Ended as fate_ended, GoesRound as fate_round}
+use Rattle.pb_cmd_trace.specs.declared.frame.Fate.TheVariants.{NoPort as fate_no_port, NoFrame as fate_no_frame}
+use Rattle.pb_cmd_trace.specs.declared.onward.Onward.TheVariants.{Feed}
+use Rattle.pb_cmd_trace.specs.declared.round.FrameId.{FrameId}
+use Rattle.pb_cmd_trace.specs.declared.walk.Course.{Course}
+use Rattle.pb_cmd_trace.specs.declared.walk.Course.TheVariants.{Ended, GoesRound}
+
+-- one story more
+stories-snoc : (plan : Plan) (entries : List Entry) (entry : Entry) (old mid new : NetView) (text more : List ℕ)
+    → AreStories plan entries old mid text → AnswersEntry plan entry fate_ended mid new more
+    → AreStories plan (entries ++ entry ∷ []) old new (text ++ more)
+stories-snoc plan [] entry old mid new text more (same, none) here = (
+  new,
+  more,
+  [],
+  subst (λ v. AnswersEntry plan entry fate_ended v new more) same here,
+  (refl, refl),
+  ap
+      (λ z. z ++ more) none ∙ sym (append-nil more),
+)
+stories-snoc plan (e ∷ entries) entry old mid new text more (between, front, back, first, others, is) here = (
+  between,
+  front,
+  back ++ more,
+  first,
+  stories-snoc plan entries entry between mid new back more others here,
+  ap (λ z. z ++ more) is ∙ append_assoc front back more,
+)
+
+pub stories-more : (plan : Plan) (entries : List Entry) (k : ℕ) (entry : Entry) (old mid new : NetView)
+    (first text more out out' : List ℕ) → k < length entries → entry ≡ get_or entries k entry
+    → out ≡ first ++ text → AreStories plan (take k entries) old mid text → out' ≡ out ++ more
+    → AnswersEntry plan entry fate_ended mid new more
+    → (all : List ℕ) × (out' ≡ first ++ all) × AreStories plan (take (k + 1) entries) old new all
+stories-more plan entries k entry old mid new first text more out out' within is so_far stories out_is here = (
+  text ++ more,
+  out_is ∙ ap (λ z. z ++ more) so_far ∙ append_assoc first text more,
+  subst (λ es. AreStories plan es old new (text ++ more))
+      (ap (λ x. take k entries ++ x ∷ []) is ∙ sym (take_more entries k entry within))
+      (stories-snoc plan (take k entries) entry old mid new text more stories here),
+)
+
+-- a frame that has just come in was followed
+pub follow_joined : (plan : Plan) (port number : ℕ) (old walked new : NetView) (course : Course) (fate : Fate)
+    (head body rest out one two out' : List ℕ)
+    → IsEntry plan port number old head → HasWalked plan (Feed port ∷ []) course old walked body
+    → IsConclusion course fate number walked new rest
+    → one ≡ out ++ head → two ≡ one ++ body → out' ≡ two ++ rest
+    → (text : List ℕ) × (out' ≡ out ++ text) × IsFollowed plan port fate old new text
+follow_joined plan port number old walked new course fate head body rest out one two out' entry walk conclusion e f g
+    = (
+      head ++ body ++ rest,
+      join_three out head body rest one two out' e f g,
+      record {
+        number = number;
+        head = head;
+        entry = entry;
+        course = course;
+        walked = walked;
+        body = body;
+        walk = walk;
+        rest = rest;
+        conclusion = conclusion;
+        text_is = refl;
+      },
+    )
+
+-- it came in before
+pub frame_followed : (plan : Plan) (port : ℕ) (frame : List ℕ) (fate : Fate) (place : Place)
+    (old polled new : NetView) (text : List ℕ)
+    → IsAnswer old (Poll port frame) (Ok (Done place)) polled → IsFollowed plan port fate polled new text
+    → AnswersFrame plan port frame fate old new text
+frame_followed plan port frame fate place old polled new text h f =
+    followed polled (subst (λ q. IsAnswer old (Poll port frame) (Ok (Done q)) polled) h.1 h) f
+
+-- the customer port where a frame came in is there, and has taken one step more
+pub port_there : (port : ℕ) (frame : List ℕ) (place : Place) (old new : NetView)
+    → IsAnswer old (Poll port frame) (Ok (Done place)) new → has_place new.plan (Customer port) ≡ true
+port_there port frame place old new h = subst (λ p. has_place p (Customer port) ≡ true) (sym h.2) h.0.named
+
+pub port_grew : (port : ℕ) (frame : List ℕ) (place : Place) (old new : NetView)
+    → IsAnswer old (Poll port frame) (Ok (Done place)) new → HasGrown new.rec (Customer port)
+port_grew port frame place old new h = (old.rec, h.3.0, h.3.2)
+
+-- a walk concludes with a frame that ended, or goes round
+not_lacking : (course : Course) (fate : Fate) (number : ℕ) (walked new : NetView) (rest : List ℕ)
+    → IsConclusion course fate number walked new rest
+    → (fate ≡ fate_no_port → ⊥) × (fate ≡ fate_no_frame → ⊥)
+not_lacking Ended fate number walked new rest c = (
+  λ e. let f : fate_ended ≡ fate_no_port = sym c.0 ∙ e in cc,
+  λ e. let f : fate_ended ≡ fate_no_frame = sym c.0
+      ∙ e in cc,
+)
+not_lacking GoesRound fate number walked new rest c = (
+  λ e. let f : fate_round number ≡ fate_no_port = sym c.0 ∙ e in cc,
+  λ e. let f : fate_round number ≡ fate_no_frame
+      = sym c.0 ∙ e in cc,
+)
+
+-- the plan lacks the port of a frame
+no_port : (plan : Plan) (port : ℕ) (frame : List ℕ) (fate : Fate) (old new : NetView) (text : List ℕ)
+    → fate ≡ fate_no_port → AnswersFrame plan port frame fate old new text
+    → has_place old.plan (Customer port) ≡ false
+no_port plan port frame fate old new text e (followed polled h f) =
+    absurd ((not_lacking f.course fate f.number f.walked new f.rest f.conclusion).0 e)
+no_port plan port frame fate old new text e (waits is h t) = let f : fate_ended ≡ fate_no_port = sym is ∙ e in cc
+no_port plan port frame fate old new text e (absent is h t) = h.0
+
+pub entry_lacks_port : (plan : Plan) (entry : Entry) (old new : NetView) (text : List ℕ) → old.plan ≡ plan
+    → AnswersEntry plan entry fate_no_port old new text
+    → has_place plan (Customer (port_named plan (string_bytes entry.port))) ≡ false
+entry_lacks_port plan entry old new text e (sent frame s h) =
+    subst (λ p. has_place p (Customer (port_named plan (string_bytes entry.port))) ≡ false) e
+    (no_port plan (port_named plan (string_bytes entry.port)) frame fate_no_port old new text refl h)
+entry_lacks_port plan entry old new text e (unsent is none same t) = cc
+
+-- digits are no frame
+is_a_frame : (plan : Plan) (port : ℕ) (frame : List ℕ) (fate : Fate) (old new : NetView) (text : List ℕ)
+    → fate ≡ fate_no_frame → AnswersFrame plan port frame fate old new text → ⊥
+is_a_frame plan port frame fate old new text e (followed polled h f) =
+    (not_lacking f.course fate f.number f.walked new f.rest f.conclusion).1 e
+is_a_frame plan port frame fate old new text e (waits is h t) = let f : fate_ended ≡ fate_no_frame = sym is ∙ e in cc
+is_a_frame plan port frame fate old new text e (absent is h t) = let f : fate_no_port ≡ fate_no_frame = sym is ∙ e in cc
+
+pub entry_is_none : (plan : Plan) (entry : Entry) (old new : NetView) (text : List ℕ)
+    → AnswersEntry plan entry fate_no_frame old new text → (frame : List ℕ) → IsSent entry frame → ⊥
+entry_is_none plan entry old new text (sent given s h) = λ frame is. is_a_frame plan
+    (port_named plan (string_bytes entry.port)) given fate_no_frame old new text refl h
+entry_is_none plan entry old new text (unsent is none same t) = none
+
+-- a frame goes round
+pub round_told : (plan : Plan) (entries : List Entry) (k : ℕ) (entry : Entry) (frame : FrameId)
+    (old mid new : NetView) (first text more out out' : List ℕ) → k < length entries → entry ≡ get_or entries k entry
+    → out ≡ first ++ text → AreStories plan (take k entries) old mid text → out' ≡ out ++ more
+    → AnswersEntry plan entry (fate_round frame.number) mid new more
+    → frame.port ≡ port_named plan (string_bytes entry.port) → (all : List ℕ) × (out' ≡ first ++ all)
+    × IsRoundStory plan entries frame old new all
+round_told plan entries k entry frame old mid new first text more out out' within is so_far stories out_is here port = (
+  text ++ more,
+  out_is ∙ ap (λ z. z ++ more) so_far ∙ append_assoc first text more,
+  record {
+    index = k;
+    entry = entry;
+    there = here_is entries k entry within is;
+    between = mid;
+    front = text;
+    stories =
+        stories;
+    back = more;
+    story = here;
+    port = port;
+    text_is = refl;
+  },
+)
+
+-- what the command has done, of the plan that a file tells
+pub told_of : (file : List ℕ) (plan : Plan) (entries : List Entry) (settles : Bool) (end : TraceEnd)
+    (before after : Option (List ℕ)) → IsToldBy file plan → HasTraced plan entries settles end before after
+    → HasTold file entries settles end before after
+told_of file plan entries settles Told before after told h = (plan, told, h)
+told_of file plan entries settles Refused before after told h = absurd h
+told_of file plan entries settles (NoPort index) before after told h = (plan, told, h)
+told_of file plan entries settles (NoFrame index) before after told h = (plan, told, h)

@@ -1,0 +1,61 @@
+use Rattle.std.proofs.Common.{◌++◌, string_bytes, ap, ◌∙◌, append_assoc}
+use Rattle.pb_frame.proofs.Things.{here_is}
+use Rattle.pb_names.specs.Numbers.{port_named}
+use Rattle.pb_cmd_trace.proofs.StoryLemmas.{stories-more, round_told, entry_lacks_port, entry_is_none}
+use Rattle.pb_cmd_trace.proofs.journey.travel.Goals as goal
+
+pub returns-in-GoesRound-clause-ok : goal.returns-in-GoesRound-clause-ok
+returns-in-GoesRound-clause-ok c =
+    let plan = c.args.plan.now in
+    let entry = c.index-entries-index.result in
+    let before = c.loop-index.invariant.told in
+    let f = rw c.in-GoesRound.is at c.in_ok-trace_entry.ensures.ok in
+    round_told plan c.args.entries.now c.loop-index.index entry
+    (record { port = c.port_named-port.result; number = c.in-GoesRound.number }) c.args.net.now c.loop-index.net
+    c.trace_entry.new.net
+    (string_bytes c.args.out.now) before.0 f.0 (string_bytes c.loop-index.out) (string_bytes c.trace_entry.new.out)
+    c.loop-index-test.true c.index-entries-index.is before.1 before.2 f.1 f.2
+    (c.port_named-port.ensures ∙ ap (λ t. port_named plan t) c.as_str.ensures.value)
+
+pub returns-in-NoPort-clause-ok : goal.returns-in-NoPort-clause-ok
+returns-in-NoPort-clause-ok c =
+    let entry = c.index-entries-index.result in
+    let before = c.loop-index.invariant.told in
+    let f = rw c.in-NoPort.is at c.in_ok-trace_entry.ensures.ok in (
+      before.0 ++ f.0,
+      f.1 ∙ ap (λ z. z ++ f.0) before.1 ∙ append_assoc (string_bytes c.args.out.now) before.0 f.0,
+      (
+        entry,
+        here_is c.args.entries.now c.loop-index.index entry c.loop-index-test.true c.index-entries-index.is,
+        entry_lacks_port c.args.plan.now entry c.loop-index.net c.trace_entry.new.net f.0 c.loop-index.invariant.plan
+            f.2,
+      ),
+    )
+
+pub returns-in-NoFrame-clause-ok : goal.returns-in-NoFrame-clause-ok
+returns-in-NoFrame-clause-ok c =
+    let entry = c.index-entries-index.result in
+    let before = c.loop-index.invariant.told in
+    let f = rw c.in-NoFrame.is at c.in_ok-trace_entry.ensures.ok in (
+      before.0 ++ f.0,
+      f.1 ∙ ap (λ z. z ++ f.0) before.1 ∙ append_assoc (string_bytes c.args.out.now) before.0 f.0,
+      (
+        entry,
+        here_is c.args.entries.now c.loop-index.index entry c.loop-index-test.true c.index-entries-index.is,
+        entry_is_none c.args.plan.now entry c.loop-index.net c.trace_entry.new.net f.0 f.2,
+      ),
+    )
+
+pub loop-index-preserved : goal.loop-index-preserved
+loop-index-preserved c =
+    let entry = c.index-entries-index.result in
+    let before = c.loop-index.invariant.told in
+    let f = rw c.in-Ended.is at c.in_ok-trace_entry.ensures.ok in
+    record {
+      told = stories-more c.args.plan.now c.args.entries.now c.loop-index.index entry c.args.net.now c.loop-index.net
+          c.trace_entry.new.net
+          (string_bytes c.args.out.now) before.0 f.0 (string_bytes c.loop-index.out)
+          (string_bytes c.trace_entry.new.out) c.loop-index-test.true c.index-entries-index.is before.1 before.2
+          f.1 f.2;
+      plan = c.in_ok-trace_entry.ensures.plan;
+    }

@@ -1,0 +1,29 @@
+use Rattle.std.proofs.Common.{◌≡◌, string_bytes, arith, subst}
+use Rattle.pb_cmd_trace.specs.Walks.{GoesOn}
+use Rattle.pb_cmd_trace.proofs.WalkLemmas.{walks-more, walked-round}
+use Rattle.pb_cmd_trace.proofs.walk.walk_on.Goals as goal
+
+pub loop-preserved : goal.loop-preserved
+loop-preserved c =
+    let before = c.loop.invariant in
+    let plan = c.args.plan.now in
+    let out = string_bytes c.go_on.new.out in
+    let went = subst (λ b. GoesOn b plan c.in-Some.onward c.loop.net c.go_on.new.net c.pop.new.self.items
+    c.go_on.new.todo.items (string_bytes c.loop.out) out) c.if-not-branch.false c.in_ok-go_on.ensures.ok in
+    record {
+      walked = walks-more c.loop.counter plan c.args.todo.now.items c.args.net.now c.loop.net c.go_on.new.net
+          c.loop.todo.items c.pop.new.self.items c.in-Some.onward c.go_on.new.todo.items
+          (string_bytes c.args.out.now) before.walked.0 (string_bytes c.loop.out) out c.in-Some.ensures.items
+          before.walked.2 before.walked.1 went;
+      plan = c.in_ok-go_on.ensures.plan;
+    }
+
+pub returns-clause-ok : goal.returns-clause-ok
+returns-clause-ok c =
+    let before = c.loop.invariant.walked in
+    let full : c.loop.counter ≡ 1000 = omega arith in (
+      before.0,
+      before.1,
+      walked-round c.loop.counter c.args.plan.now c.args.todo.now.items c.loop.todo.items
+          c.args.net.now c.loop.net before.0 full before.2,
+    )

@@ -1,0 +1,54 @@
+-- How a frame and its copies go on through a network, step by step.
+use Rattle.std.specs.Prelude.{◌≡◌, ◌≤◌, ◌⊎◌, ℕ, zero, suc, Bool, true, false, List, [], ◌∷◌, ◌++◌, Some, Ok}
+use Rattle.pb_lan.specs.Events.{place_of, steps_at}
+use Rattle.pb_lan.specs.Records.{IsLawfulRecord}
+use Rattle.pb_lan.specs.declared.plan.Plan.{Plan}
+use Rattle.pb_lan.specs.declared.step.Step.{Step}
+use Rattle.pb_net.specs.Answers.{NetView, IsAnswer}
+use Rattle.pb_net.specs.declared.did.Did.TheVariants.{Done}
+use Rattle.pb_relay.specs.Protocol.{spanning_tree}
+use Rattle.pb_converge.specs.Drives.{IsNotDue}
+use Rattle.pb_cmd_step.specs.Steps.{newest_at}
+use Rattle.pb_cmd_trace.specs.Onwards.{event_of, follows}
+use Rattle.pb_cmd_trace.specs.Tellings.{told}
+use Rattle.pb_cmd_trace.specs.declared.onward.Onward.{Onward}
+use Rattle.pb_cmd_trace.specs.declared.walk.Course.{Course}
+use Rattle.pb_cmd_trace.specs.declared.walk.Course.TheVariants.{Ended, GoesRound}
+
+-- a place took the step that was to be done. It is told, and what follows it is to be done next. The record is a lawful one
+pub record HasGoneOn (plan : Plan) (onward : Onward) (old new : NetView) (line : List ℕ) (next : List Onward) : Type 0 where
+  pub step : Step
+  pub done : IsAnswer old (event_of onward) (Ok (Done (place_of (event_of onward)))) new
+  pub newest : newest_at new.rec (place_of (event_of onward)) ≡ Some step
+  pub lawful : IsLawfulRecord spanning_tree new.plan new.rec
+  pub line_is : line ≡ told plan (steps_at new.rec (place_of (event_of onward))) onward step
+  pub next_is : next ≡ follows plan onward step
+
+-- it did; or it was not due, and nothing changed
+abbrev pub GoesOn : Bool → Plan → Onward → NetView → NetView → List Onward → List Onward → List ℕ → List ℕ → Type 0
+GoesOn true plan onward old new todo todo' out out' =
+    (line : List ℕ) × (next : List Onward) × HasGoneOn plan onward old new line next × (todo' ≡ todo ++ next) × (out' ≡ out ++ line)
+GoesOn false plan onward old new todo todo' out out' = IsNotDue old (event_of onward) × (new ≡ old) × (todo' ≡ todo) × (out' ≡ out)
+
+-- so many steps were taken, each the last of what was to be done: a copy is followed to its end before the next one
+abbrev pub Walks : ℕ → Plan → List Onward → NetView → List Onward → NetView → List ℕ → Type 0
+Walks zero plan start old todo new text = (todo ≡ start) × (new ≡ old) × (text ≡ [])
+Walks (suc n) plan start old todo new text =
+    (between : NetView) × (others : List Onward) × (onward : Onward) × (next : List Onward) × (before : List ℕ) × (line : List ℕ)
+    × Walks n plan start old (others ++ onward ∷ []) between before × HasGoneOn plan onward between new line next
+    × (todo ≡ others ++ next) × (text ≡ before ++ line)
+
+-- nothing is to be done, or what is to be done next is not due
+abbrev pub IsAtEnd : List Onward → NetView → Type 0
+IsAtEnd todo net = (todo ≡ []) ⊎ ((others : List Onward) × (onward : Onward) × (todo ≡ others ++ onward ∷ []) × IsNotDue net (event_of onward))
+
+-- the walk came to its end within 1,000 steps, or took as many
+abbrev pub HasEnded : Course → ℕ → List Onward → NetView → Type 0
+HasEnded Ended count todo net = (count ≤ 1000) × IsAtEnd todo net
+HasEnded GoesRound count todo net = count ≡ 1000
+
+pub record HasWalked (plan : Plan) (start : List Onward) (course : Course) (old new : NetView) (text : List ℕ) : Type 0 where
+  pub count : ℕ
+  pub todo : List Onward
+  pub walks : Walks count plan start old todo new text
+  pub ended : HasEnded course count todo new

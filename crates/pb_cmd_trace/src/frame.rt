@@ -1,0 +1,158 @@
+//! What becomes of one frame.
+
+ghost use Rattle.std.specs.Prelude.{◌≡◌, ◌++◌, List, ℕ, true, string_bytes, IfOk, OnOk};
+ghost use Rattle.pb_lan.specs.Events.{has_place};
+ghost use Rattle.pb_lan.specs.Plans.{IsSound};
+ghost use Rattle.pb_lan.specs.declared.step.Place.TheVariants.{Customer};
+ghost use Rattle.pb_converge.specs.Drives.{HasDrained};
+ghost use Rattle.pb_cmd_step.specs.Steps.{HasGrown};
+ghost use Rattle.pb_cmd_trace.specs.Stories.{AnswersFrame, IsConclusion, IsEntry, IsFollowed, others_line};
+ghost use Rattle.pb_cmd_trace.specs.Stories.{entry_number};
+
+use crate::telling::put_entry;
+use crate::walk::{Course, newest, walk};
+use bytes::Bytes;
+use pb_converge::{drain, fault_of};
+use pb_frame::Memory;
+use pb_lan::{Event, Place, Plan, Step};
+use pb_messages::CommandFault;
+use pb_net::{Did, Net, NetFault};
+use pb_step_script::put_idle;
+use std::alloc::Global;
+
+/// The most other events that are done until nothing is due.
+const MOST_OTHERS: u64 = 1_000_000;
+
+/// What became of a frame.
+#[derive(Clone, Copy, Debug, PartialEq, Eq)]
+pub(crate) enum Fate {
+    /// It and its copies went as far as they go.
+    Ended,
+    /// It goes round; its number among the frames of its port.
+    GoesRound(u64),
+    /// The plan lacks its customer port.
+    NoPort,
+    /// The digits are no frame.
+    NoFrame,
+}
+
+/// Puts the number of other events behind a text, where there were any.
+fn put_others(out: &mut String, others: u64) -> Result<(), Memory>
+    ensures { OnOk result (string_bytes out.new ≡ string_bytes out.old ++ others_line others) }
+{
+    if others != 0 {
+        writeln!(out, "others {others}")?;
+    }
+    Ok(())
+}
+
+/// The number of a frame that came in among those of its port.
+fn entry_number(step: &Step) -> u64
+    ensures { result ≡ entry_number step.now }
+{
+    match step {
+        Step::Poll { item } => match item.mark {
+            Some(mark) => mark.number.get(),
+            None => 0,
+        },
+        _ => 0,
+    }
+}
+
+/// Tells a frame that came in at a customer port, and answers its number among those of the port.
+fn tell_entry(
+    alloc: Global,
+    out: &mut String,
+    plan: &Plan,
+    net: &Net,
+    port: u8,
+) -> Result<u64, Memory>
+    requires has { has_place net.now.plan (Customer port) ≡ true }
+    requires grown { HasGrown net.now.rec (Customer port) }
+    ensures { IfOk result (λ number. (text : List ℕ) × (string_bytes out.new ≡ string_bytes out.old ++ text) × IsEntry plan.now port number net.now text) }
+{
+    let (_, step) = newest(net, Place::Customer(port));
+    put_entry(alloc, out, plan, port, step)?;
+    Ok(entry_number(step))
+}
+
+/// Does what else is due, and puts the number of these events behind a text, where there were any.
+fn finish(out: &mut String, plan: &Plan, net: &mut Net) -> Result<(), CommandFault>
+    requires sound { IsSound plan.now }
+    requires plan { net.old.plan ≡ plan.now }
+    ensures plan { net.new.plan ≡ plan.now }
+    ensures ok { OnOk result ((others : ℕ) × HasDrained others net.old net.new × (string_bytes out.new ≡ string_bytes out.old ++ others_line others)) }
+{
+    match drain(net, plan, MOST_OTHERS) {
+        Ok(others) => Ok(put_others(out, others)?),
+        Err(fault) => Err(fault_of(fault)),
+    }
+}
+
+/// Does what else is due, where a frame went as far as it goes.
+fn conclude(
+    out: &mut String,
+    plan: &Plan,
+    net: &mut Net,
+    course: Course,
+    number: u64,
+) -> Result<Fate, CommandFault>
+    requires sound { IsSound plan.now }
+    requires plan { net.old.plan ≡ plan.now }
+    ensures plan { net.new.plan ≡ plan.now }
+    ensures ok { IfOk result (λ fate. (text : List ℕ) × (string_bytes out.new ≡ string_bytes out.old ++ text) × IsConclusion course fate number net.old net.new text) }
+{
+    match course {
+        Course::GoesRound => Ok(Fate::GoesRound(number)),
+        Course::Ended => {
+            finish(out, plan, net)?;
+            Ok(Fate::Ended)
+        }
+    }
+}
+
+/// Tells a frame that came in at a customer port, and all that follows.
+fn follow(
+    alloc: Global,
+    out: &mut String,
+    plan: &Plan,
+    net: &mut Net,
+    port: u8,
+) -> Result<Fate, CommandFault>
+    requires sound { IsSound plan.now }
+    requires plan { net.old.plan ≡ plan.now }
+    requires has { has_place net.old.plan (Customer port) ≡ true }
+    requires grown { HasGrown net.old.rec (Customer port) }
+    ensures plan { net.new.plan ≡ plan.now }
+    ensures ok { IfOk result (λ fate. (text : List ℕ) × (string_bytes out.new ≡ string_bytes out.old ++ text) × IsFollowed plan.now port fate net.old net.new text) }
+{
+    let number = tell_entry(alloc, out, plan, net, port)?;
+    let course = walk(alloc, out, plan, net, port)?;
+    conclude(out, plan, net, course, number)
+}
+
+/// Lets a frame come in at a customer port, and tells all that follows.
+pub(crate) fn trace_frame(
+    alloc: Global,
+    out: &mut String,
+    plan: &Plan,
+    net: &mut Net,
+    port: u8,
+    frame: Bytes,
+) -> Result<Fate, CommandFault>
+    requires sound { IsSound plan.now }
+    requires plan { net.old.plan ≡ plan.now }
+    ensures plan { net.new.plan ≡ plan.now }
+    ensures ok { IfOk result (λ fate. (text : List ℕ) × (string_bytes out.new ≡ string_bytes out.old ++ text) × AnswersFrame plan.now port frame fate net.old net.new text) }
+{
+    match net.step(Event::Poll { port, frame }) {
+        Ok(Did::Done(_)) => follow(alloc, out, plan, net, port),
+        Ok(Did::Idle) => {
+            put_idle(out)?;
+            Ok(Fate::Ended)
+        }
+        Err(NetFault::NoSuch) => Ok(Fate::NoPort),
+        Err(NetFault::StepLimit) => Err(CommandFault::Steps),
+        Err(NetFault::Memory) => Err(CommandFault::Memory),
+    }
+}

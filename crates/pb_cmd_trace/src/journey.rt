@@ -1,0 +1,73 @@
+//! What becomes of several frames, one after the other.
+
+ghost use Rattle.std.specs.Prelude.{◌≡◌, ◌++◌, List, ℕ, string_bytes, IfOk};
+ghost use Rattle.pb_lan.specs.Plans.{IsSound};
+ghost use Rattle.pb_cmd_trace.specs.Stories.{AnswersEntry, HasJourneyed};
+
+use crate::entry::Entry;
+use crate::frame::{Fate, trace_frame};
+use crate::round::FrameId;
+use pb_lan::Plan;
+use pb_messages::CommandFault;
+use pb_names::port_named;
+use pb_net::Net;
+use pb_step_script::read_frame;
+use std::alloc::Global;
+
+/// What became of several frames.
+#[derive(Clone, Copy, Debug, PartialEq, Eq)]
+pub(crate) enum Journey {
+    /// They went as far as they go; or this one goes round, and those behind it did not come in.
+    Told(Option<FrameId>),
+    /// The plan lacks the customer port of the frame at this index.
+    NoPort(usize),
+    /// The digits at this index are no frame.
+    NoFrame(usize),
+}
+
+/// Lets a frame come in, and tells all that follows.
+fn trace_entry(
+    alloc: Global,
+    out: &mut String,
+    plan: &Plan,
+    net: &mut Net,
+    entry: &Entry,
+) -> Result<Fate, CommandFault>
+    requires sound { IsSound plan.now }
+    requires plan { net.old.plan ≡ plan.now }
+    ensures plan { net.new.plan ≡ plan.now }
+    ensures ok { IfOk result (λ fate. (text : List ℕ) × (string_bytes out.new ≡ string_bytes out.old ++ text) × AnswersEntry plan.now entry.now fate net.old net.new text) }
+{
+    let port = port_named(plan, entry.port.as_str());
+    match read_frame(alloc, entry.hex.as_bytes())? {
+        Some(frame) => trace_frame(alloc, out, plan, net, port, frame),
+        None => Ok(Fate::NoFrame),
+    }
+}
+
+/// Lets frames come in one after the other, and tells all that follows each.
+pub(crate) fn travel(
+    alloc: Global,
+    out: &mut String,
+    plan: &Plan,
+    net: &mut Net,
+    entries: &[Entry],
+) -> Result<Journey, CommandFault>
+    requires sound { IsSound plan.now }
+    requires plan { net.old.plan ≡ plan.now }
+    ensures plan { net.new.plan ≡ plan.now }
+    ensures ok { IfOk result (λ journey. (text : List ℕ) × (string_bytes out.new ≡ string_bytes out.old ++ text) × HasJourneyed plan.now entries.now journey net.old net.new text) }
+{
+    for (index, entry) in entries.iter().enumerate() {
+        match trace_entry(alloc, out, plan, net, entry)? {
+            Fate::Ended => {}
+            Fate::GoesRound(number) => {
+                let port = port_named(plan, entry.port.as_str());
+                return Ok(Journey::Told(Some(FrameId { port, number })));
+            }
+            Fate::NoPort => return Ok(Journey::NoPort(index)),
+            Fate::NoFrame => return Ok(Journey::NoFrame(index)),
+        }
+    }
+    Ok(Journey::Told(None))
+}

@@ -1,0 +1,233 @@
+//! What is told of a step of a frame that is under way.
+
+ghost use Rattle.std.specs.Prelude.{◌≡◌, ◌++◌, string_bytes, OnOk};
+ghost use Rattle.pb_cmd_trace.specs.Tellings.{delivery_line, direction_word, entry_line, hops_of, indent, lane_words, put_on_words, receiving_line, sending_words, spaces, tag_by, tag_words, taking_line, told, transmission_line};
+
+use crate::names::neighbour;
+use crate::onward::Onward;
+use crate::receipt::{put_receipt, tag_text};
+use crate::stations::has_service_tag;
+use pb_frame::{Memory, hex_text};
+use pb_lan::{Item, Place, Plan, Step};
+use pb_names::{bridge_name, customer_at, link_name, port_name};
+use pb_step_script::put_done;
+use std::alloc::Global;
+
+/// The most levels by which a line is moved in, but for one: a frame that goes round has no end of them.
+const MOST_LEVELS: u32 = 32;
+
+/// Puts two spaces for each level behind a text.
+fn put_spaces(out: &mut String, levels: u32) -> Result<(), Memory>
+    ensures { OnOk result (string_bytes out.new ≡ string_bytes out.old ++ spaces levels) }
+{
+    for _ in 0..levels {
+        out.push_str("  ")?;
+    }
+    Ok(())
+}
+
+/// How many bridges have relayed the frame of a step.
+fn hops_of(step: &Step) -> u32
+    ensures { result ≡ hops_of step.now }
+{
+    match step {
+        Step::Poll { item }
+        | Step::Feed { item }
+        | Step::Deliver { item, .. }
+        | Step::Receive { item, .. }
+        | Step::Transmit { item, .. }
+        | Step::Take { item, .. }
+        | Step::Put { item } => item.hops,
+        Step::Tick { .. } | Step::Admin { .. } => 0,
+    }
+}
+
+/// Moves a line in: by a level, and one for each bridge that has relayed its frame.
+fn put_indent(out: &mut String, step: &Step) -> Result<(), Memory>
+    ensures { OnOk result (string_bytes out.new ≡ string_bytes out.old ++ indent (hops_of step.now)) }
+{
+    put_spaces(out, hops_of(step).min(MOST_LEVELS) + 1)
+}
+
+/// Whether a tag was put on here: at the first bridge.
+fn put_on_words(hops: u32) -> &'static str
+    ensures { result.now ≡ put_on_words hops }
+{
+    if hops == 1 { " put on" } else { "" }
+}
+
+/// Puts the tag of a frame that goes to another bridge behind a text.
+fn put_tag(alloc: Global, out: &mut String, item: &Item) -> Result<(), Memory>
+    ensures { OnOk result (string_bytes out.new ≡ string_bytes out.old ++ tag_by None item.now) }
+{
+    let wire = item.wire.as_slice();
+    if !has_service_tag(wire) {
+        return Ok(());
+    }
+    let tag = tag_text(alloc, wire)?;
+    let word = put_on_words(item.hops);
+    write!(out, ", tag {tag}{word}")?;
+    Ok(())
+}
+
+/// Puts what became of the tag of a frame that a bridge sent behind a text.
+fn put_tag_of(
+    alloc: Global,
+    out: &mut String,
+    plan: &Plan,
+    bridge: u8,
+    port: u8,
+    step: &Step,
+) -> Result<(), Memory>
+    ensures { OnOk result (string_bytes out.new ≡ string_bytes out.old ++ tag_words plan.now bridge port step.now) }
+{
+    let Step::Transmit { item, .. } = step else {
+        return Ok(());
+    };
+    match customer_at(plan, bridge, port) {
+        None => put_tag(alloc, out, item),
+        Some(_) if item.hops > 1 => {
+            out.push_str(", tag taken off")?;
+            Ok(())
+        }
+        Some(_) => Ok(()),
+    }
+}
+
+/// Puts behind a text where a bridge sent a frame, and what became of its tag.
+fn put_sending(
+    alloc: Global,
+    out: &mut String,
+    plan: &Plan,
+    bridge: u8,
+    port: u8,
+    step: &Step,
+) -> Result<(), Memory>
+    ensures { OnOk result (string_bytes out.new ≡ string_bytes out.old ++ sending_words plan.now bridge port step.now) }
+{
+    let name = bridge_name(plan, bridge);
+    let near = neighbour(plan, bridge, port);
+    write!(out, "{name} {port} to {near}")?;
+    put_tag_of(alloc, out, plan, bridge, port, step)
+}
+
+/// The direction of a lane: from a to b, or back.
+fn direction_word(lane: u8) -> &'static str
+    ensures { result.now ≡ direction_word lane }
+{
+    if lane % 2 == 1 { " ab" } else { " ba" }
+}
+
+/// Puts a lane of a link behind a text.
+fn put_lane(out: &mut String, plan: &Plan, lane: u8) -> Result<(), Memory>
+    ensures { OnOk result (string_bytes out.new ≡ string_bytes out.old ++ lane_words plan.now lane) }
+{
+    out.push_str(link_name(plan, ((u16::from(lane) + 1) / 2) as u8))?;
+    out.push_str(direction_word(lane))?;
+    Ok(())
+}
+
+/// Puts what a bridge did with a frame that it received behind a text.
+fn put_receiving(
+    alloc: Global,
+    out: &mut String,
+    plan: &Plan,
+    bridge: u8,
+    port: u8,
+    steps: &[Step],
+    step: &Step,
+) -> Result<(), Memory>
+    ensures { OnOk result (string_bytes out.new ≡ string_bytes out.old ++ receiving_line plan.now bridge port steps.now step.now) }
+{
+    put_indent(out, step)?;
+    put_receipt(alloc, out, plan, bridge, port, steps, step)?;
+    out.push_str(": ")?;
+    put_done(alloc, out, plan, Place::Bridge(bridge), step)
+}
+
+/// Puts that a bridge sent a frame behind a text.
+fn put_transmission(
+    alloc: Global,
+    out: &mut String,
+    plan: &Plan,
+    bridge: u8,
+    port: u8,
+    step: &Step,
+) -> Result<(), Memory>
+    ensures { OnOk result (string_bytes out.new ≡ string_bytes out.old ++ transmission_line plan.now bridge port step.now) }
+{
+    put_indent(out, step)?;
+    put_sending(alloc, out, plan, bridge, port, step)?;
+    out.push_str("\n")?;
+    Ok(())
+}
+
+/// Puts what a customer port got behind a text.
+fn put_delivery(
+    alloc: Global,
+    out: &mut String,
+    plan: &Plan,
+    port: u8,
+    step: &Step,
+) -> Result<(), Memory>
+    ensures { OnOk result (string_bytes out.new ≡ string_bytes out.old ++ delivery_line plan.now port step.now) }
+{
+    put_indent(out, step)?;
+    out.push_str(port_name(plan, port))?;
+    out.push_str(": ")?;
+    put_done(alloc, out, plan, Place::Customer(port), step)
+}
+
+/// Puts what a lane took behind a text.
+fn put_taking(
+    alloc: Global,
+    out: &mut String,
+    plan: &Plan,
+    lane: u8,
+    step: &Step,
+) -> Result<(), Memory>
+    ensures { OnOk result (string_bytes out.new ≡ string_bytes out.old ++ taking_line plan.now lane step.now) }
+{
+    put_indent(out, step)?;
+    put_lane(out, plan, lane)?;
+    out.push_str(": ")?;
+    put_done(alloc, out, plan, Place::Lane(lane), step)
+}
+
+/// Puts what is told of a step behind a text; it is the last of those of its place.
+pub(crate) fn put_told(
+    alloc: Global,
+    out: &mut String,
+    plan: &Plan,
+    steps: &[Step],
+    onward: Onward,
+    step: &Step,
+) -> Result<(), Memory>
+    ensures { OnOk result (string_bytes out.new ≡ string_bytes out.old ++ told plan.now steps.now onward step.now) }
+{
+    match onward {
+        Onward::Feed(_) | Onward::Put(_) => Ok(()),
+        Onward::Deliver(port) => put_delivery(alloc, out, plan, port, step),
+        Onward::Receive(bridge, port) => put_receiving(alloc, out, plan, bridge, port, steps, step),
+        Onward::Transmit(bridge, port) => put_transmission(alloc, out, plan, bridge, port, step),
+        Onward::Take(lane) => put_taking(alloc, out, plan, lane, step),
+    }
+}
+
+/// Puts what is told of a frame that came in behind a text.
+pub(crate) fn put_entry(
+    alloc: Global,
+    out: &mut String,
+    plan: &Plan,
+    port: u8,
+    step: &Step,
+) -> Result<(), Memory>
+    ensures { OnOk result (string_bytes out.new ≡ string_bytes out.old ++ entry_line plan.now port step.now) }
+{
+    let Step::Poll { item } = step else {
+        return Ok(());
+    };
+    let octets = hex_text(alloc, item.wire.as_slice())?;
+    write!(out, "in {octets}: ")?;
+    put_done(alloc, out, plan, Place::Customer(port), step)
+}

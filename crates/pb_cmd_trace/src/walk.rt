@@ -1,0 +1,120 @@
+//! How a frame and its copies go on through a network, step by step.
+
+ghost use Rattle.std.specs.Prelude.{◌≡◌, ◌++◌, ◌∷◌, [], List, ℕ, true, Some, string_bytes, IfOk};
+ghost use Rattle.pb_lan.specs.Events.{has_place, steps_at};
+ghost use Rattle.pb_lan.specs.Plans.{IsSound};
+ghost use Rattle.pb_lan.specs.Records.{IsLawfulRecord};
+ghost use Rattle.pb_relay.specs.Protocol.{spanning_tree};
+ghost use Rattle.pb_cmd_step.specs.Steps.{newest_at, HasGrown};
+ghost use Rattle.pb_cmd_trace.specs.Walks.{GoesOn, HasWalked};
+ghost use Rattle.pb_cmd_trace.specs.declared.onward.Onward.TheVariants.{Feed};
+
+use crate::following::push_following;
+use crate::onward::{Onward, event_of};
+use crate::telling::put_told;
+use pb_lan::{Place, Plan, Step};
+use pb_messages::CommandFault;
+use pb_net::{Did, Net, NetFault};
+use std::alloc::Global;
+
+/// The most events that are done for a frame besides its coming in.
+///
+/// A plan uses at most 256 ports, 128 of them at links. Where no ring is closed a frame leaves each of them once at most
+/// (IEEE 802.1Q clause 8.6), which takes two events, and four at a link. So a frame that takes more than 1,000 goes round.
+const MOST_EVENTS: u32 = 1_000;
+
+/// How far a frame and its copies went.
+#[derive(Clone, Copy, Debug, PartialEq, Eq)]
+pub(crate) enum Course {
+    /// As far as they go.
+    Ended,
+    /// Round and round: the most events were done, and more is to be done.
+    GoesRound,
+}
+
+/// The steps of a place that has taken one, and the newest of them.
+pub(crate) fn newest(net: &Net, place: Place) -> (&[Step], &Step)
+    requires has { has_place net.now.plan place ≡ true }
+    requires grown { HasGrown net.now.rec place }
+    ensures lawful { IsLawfulRecord spanning_tree net.now.plan net.now.rec }
+    ensures steps { result.0.now ≡ steps_at net.now.rec place }
+    ensures newest { newest_at net.now.rec place ≡ Some result.1.now }
+{
+    let steps = net.steps(place);
+    let Some(step) = steps.last() else {
+        unreachable!();
+    };
+    (steps, step)
+}
+
+/// Does what is to be done, where it is due: tells the step, and puts what follows it behind what is to be done. Answers
+/// whether it was due.
+fn go_on(
+    alloc: Global,
+    out: &mut String,
+    plan: &Plan,
+    net: &mut Net,
+    todo: &mut Vec<Onward>,
+    onward: Onward,
+) -> Result<bool, CommandFault>
+    requires sound { IsSound plan.now }
+    requires plan { net.old.plan ≡ plan.now }
+    ensures plan { net.new.plan ≡ plan.now }
+    ensures ok { IfOk result (λ went. GoesOn went plan.now onward net.old net.new todo.old.items todo.new.items (string_bytes out.old) (string_bytes out.new)) }
+{
+    match net.step(event_of(onward)) {
+        Ok(Did::Done(place)) => {
+            let (steps, step) = newest(net, place);
+            put_told(alloc, out, plan, steps, onward, step)?;
+            push_following(todo, plan, onward, step)?;
+            Ok(true)
+        }
+        Ok(Did::Idle) | Err(NetFault::NoSuch) => Ok(false),
+        Err(NetFault::StepLimit) => Err(CommandFault::Steps),
+        Err(NetFault::Memory) => Err(CommandFault::Memory),
+    }
+}
+
+/// Does what is to be done, the last first, and tells each step.
+fn walk_on(
+    alloc: Global,
+    out: &mut String,
+    plan: &Plan,
+    net: &mut Net,
+    todo: &mut Vec<Onward>,
+) -> Result<Course, CommandFault>
+    requires sound { IsSound plan.now }
+    requires plan { net.old.plan ≡ plan.now }
+    ensures plan { net.new.plan ≡ plan.now }
+    ensures ok { IfOk result (λ course. (text : List ℕ) × (string_bytes out.new ≡ string_bytes out.old ++ text) × HasWalked plan.now todo.old.items course net.old net.new text) }
+{
+    for _ in 0..MOST_EVENTS {
+        let Some(onward) = todo.pop() else {
+            return Ok(Course::Ended);
+        };
+        if !go_on(alloc, out, plan, net, todo, onward)? {
+            return Ok(Course::Ended);
+        }
+    }
+    Ok(Course::GoesRound)
+}
+
+/// Follows the frame that a customer port holds, with its copies, and puts each step behind a text.
+///
+/// A copy is followed to its end before the next one: of the copies that a bridge makes first the one at the lowest port.
+pub(crate) fn walk(
+    alloc: Global,
+    out: &mut String,
+    plan: &Plan,
+    net: &mut Net,
+    port: u8,
+) -> Result<Course, CommandFault>
+    requires sound { IsSound plan.now }
+    requires plan { net.old.plan ≡ plan.now }
+    ensures plan { net.new.plan ≡ plan.now }
+    ensures ok { IfOk result (λ course. (text : List ℕ) × (string_bytes out.new ≡ string_bytes out.old ++ text) × HasWalked plan.now (Feed port ∷ []) course net.old net.new text) }
+{
+    let mut todo = Vec::new(alloc);
+    todo.push(Onward::Feed(port))?;
+    walk_on(alloc, out, plan, net, &mut todo)
+}

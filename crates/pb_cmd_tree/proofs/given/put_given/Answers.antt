@@ -1,0 +1,11 @@
+use Rattle.std.proofs.Common.{◌<◌, string_bytes, subst}
+use Rattle.pb_cmd_tree.specs.TreeTexts.{given_bridge_lines}
+use Rattle.pb_names.proofs.TextLemmas.{numbers_more}
+use Rattle.pb_cmd_tree.proofs.given.put_given.Goals as goal
+
+pub loop-place-preserved : goal.loop-place-preserved
+loop-place-preserved c =
+    numbers_more (given_bridge_lines c.args.plan.now c.args.shape.now) c.args.plan.now.bridges c.loop-place.place
+    (string_bytes c.loop-place.out) (string_bytes c.put_bridge.new.out) _
+    (subst (λ k. c.loop-place.place < k) c.len-place-end.ensures c.loop-place-test.true) c.in_ok-put_bridge.ensures
+    c.loop-place.invariant

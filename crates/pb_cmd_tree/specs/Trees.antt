@@ -1,0 +1,44 @@
+-- The command: ends of links go down, the bridges settle, and the trees are printed.
+use Rattle.std.specs.Prelude.{ℕ, List, Some, None, Option}
+use Rattle.std.specs.Io.KnownBytes.{Appends, Keeps}
+use Rattle.std.specs.Global.{Global}
+use Rattle.std.specs.declared.string.String.{String}
+use Rattle.pb_converge.specs.Falls.{HaveFallen, LacksEnd}
+use Rattle.pb_lan.specs.declared.plan.Plan.{Plan}
+use Rattle.pb_net.specs.Answers.{NetView}
+use Rattle.pb_report.specs.PlanFiles.{IsToldBy}
+use Rattle.pb_report.specs.Refusals.{PrintsRefusal}
+use Rattle.pb_converge.specs.Drives.{HasRested}
+use Rattle.pb_converge.specs.declared.rest.Rest.{Rest}
+use Rattle.pb_cmd_tree.specs.TreeTexts.{IsTreeText}
+use Rattle.pb_cmd_tree.specs.declared.end.TreeEnd.{TreeEnd}
+use Rattle.pb_cmd_tree.specs.declared.end.TreeEnd.TheVariants.{Told, Refused, NoPort}
+
+-- the bridges ticked so often at most, and these are the trees
+pub record IsDrawingFrom (plan : Plan) (ticks : ℕ) (fallen : NetView) (text : List ℕ) : Type 0 where
+  pub last : NetView
+  pub rest : Rest
+  pub rested : HasRested ticks 1000000000 rest fallen last
+  pub trees : IsTreeText plan last.rec rest text
+
+-- the ends that are named went down before
+pub record IsDrawing (plan : Plan) (words : List (String Global)) (ticks : ℕ) (text : List ℕ) : Type 0 where
+  pub fallen : NetView
+  pub falls : HaveFallen plan words fallen
+  pub drawing : IsDrawingFrom plan ticks fallen text
+
+-- the text that is to be written, or the index of the words that name no end of a link
+abbrev pub AnswersDrawing : Plan → List (String Global) → ℕ → Option ℕ → List ℕ → Type 0
+AnswersDrawing plan words ticks None text = IsDrawing plan words ticks text
+AnswersDrawing plan words ticks (Some index) text = LacksEnd plan words index
+
+-- the trees were written behind what stood there; or words name no end of a link, and nothing was written
+abbrev pub HasDrawn : Plan → List (String Global) → ℕ → Option ℕ → Option (List ℕ) → Option (List ℕ) → Type 0
+HasDrawn plan words ticks None before after = (text : List ℕ) × Appends before after text × IsDrawing plan words ticks text
+HasDrawn plan words ticks (Some index) before after = LacksEnd plan words index × Keeps before after
+
+-- what the command has done: the trees of the plan that the file tells, or the rule that the file breaks
+abbrev pub HasTold : List ℕ → List (String Global) → ℕ → TreeEnd → Option (List ℕ) → Option (List ℕ) → Type 0
+HasTold file words ticks Told before after = (plan : Plan) × IsToldBy file plan × HasDrawn plan words ticks None before after
+HasTold file words ticks Refused before after = PrintsRefusal file before after
+HasTold file words ticks (NoPort index) before after = (plan : Plan) × IsToldBy file plan × HasDrawn plan words ticks (Some index) before after

@@ -1,0 +1,43 @@
+//! What is named in the trees of a network.
+
+ghost use Rattle.std.specs.Prelude.{◌≡◌, ◌++◌, string_bytes, OnOk};
+ghost use Rattle.pb_cmd_tree.specs.Names.{id_name, cost_at, link_name_at, path_cost_at};
+
+use pb_frame::Memory;
+use pb_lan::Plan;
+use pb_names::{bridge_id, is_end_at, link_at};
+
+/// Puts the name of the bridge with an identifier behind a text, or the identifier where no bridge has it.
+pub(crate) fn put_id(out: &mut String, plan: &Plan, id: u64) -> Result<(), Memory>
+    ensures { OnOk result (string_bytes out.new ≡ string_bytes out.old ++ id_name plan.now id) }
+{
+    for bridge in plan.bridges.as_slice() {
+        if bridge_id(bridge.priority, bridge.address) == id {
+            out.push_str(bridge.name.as_str())?;
+            return Ok(());
+        }
+    }
+    write!(out, "{id}")?;
+    Ok(())
+}
+
+/// The name of the link at a bridge's port.
+pub(crate) fn link_name_at(plan: &Plan, bridge: u8, port: u8) -> &str
+    ensures { result.now ≡ link_name_at plan.now bridge port }
+{
+    match link_at(plan, bridge, port) {
+        Some(link) => link.name.as_str(),
+        None => "",
+    }
+}
+
+/// The path cost of a bridge's port.
+pub(crate) fn path_cost_at(plan: &Plan, bridge: u8, port: u8) -> u32
+    ensures { result ≡ path_cost_at plan.now bridge port }
+{
+    match link_at(plan, bridge, port) {
+        Some(link) if is_end_at(bridge, port, &link.a) => link.a.cost,
+        Some(link) => link.b.cost,
+        None => 0,
+    }
+}

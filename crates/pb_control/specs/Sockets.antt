@@ -1,7 +1,0 @@
--- What contracts see of the control socket.
-use Rattle.std.specs.Prelude.{ℕ, List, string_bytes}
-use Rattle.pb_control.specs.declared.control.Control.{Control}
-
--- the path at which it was made, and whose file is removed at the end
-abbrev pub path_of : Control → List ℕ
-path_of control = string_bytes control.path

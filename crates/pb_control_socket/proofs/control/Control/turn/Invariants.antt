@@ -1,0 +1,6 @@
+use Rattle.std.proofs.Common.{◌≡◌}
+use Rattle.pb_control_socket.specs.Sockets.{path_of}
+use Rattle.pb_control_socket.proofs.control.Control.turn.Given as goal
+
+abbrev pub invariant-loop : goal.invariant-loop
+invariant-loop g l = path_of l.self ≡ path_of l.initial.self

@@ -1,0 +1,65 @@
+-- The lines of answers.
+use Rattle.std.specs.Prelude.{◌≡◌, ℕ, List, [], ◌∷◌, ◌++◌, Some, None, map, flat_map, unwrap_or, codes}
+use Rattle.std.specs.declared.option.Option.{Option}
+use Rattle.std.specs.Fmt.{decimal}
+use Rattle.pb_lan.specs.declared.plan.Plan.{Plan}
+use Rattle.pb_lan.specs.Numbering.{numbered}
+use Rattle.pb_lan.specs.Ports.{local_ports}
+use Rattle.pb_names.specs.Names.{role_word, state_word}
+use Rattle.pb_rstp.specs.declared.role.Role.{Role}
+use Rattle.pb_step_script.specs.Counts.{AreByName}
+use Rattle.pb_threads.specs.declared.view.PortView.{PortView}
+
+abbrev pub ok_line : List ℕ
+ok_line = codes "ok" ++ 10 ∷ []
+
+abbrev pub bad_line : List ℕ
+bad_line = codes "bad" ++ 10 ∷ []
+
+-- the line of a customer port, and that of a bridge, by its name and two counts
+abbrev pub port_line : List ℕ → ℕ × ℕ → List ℕ
+port_line name counts = codes "port " ++ name ++ codes " entered " ++ decimal counts.0 ++ codes " left " ++ decimal counts.1 ++ 10 ∷ []
+
+abbrev pub bridge_line : List ℕ → ℕ × ℕ → List ℕ
+bridge_line name counts = codes "bridge " ++ name ++ codes " refused " ++ decimal counts.0 ++ codes " ticks " ++ decimal counts.1 ++ 10 ∷ []
+
+-- the word for a role and a space, where there is a role
+abbrev pub role_words : Option Role → List ℕ
+role_words None = []
+role_words (Some role) = role_word role ++ codes " "
+
+-- the line of a bridge's port, of which this view was told, if one was
+abbrev pub view_line : List ℕ → ℕ → Option PortView → List ℕ
+view_line name port None = []
+view_line name port (Some view) = codes "port " ++ name ++ 32 ∷ decimal port ++ 32 ∷ role_words view.role ++ state_word view.state ++ 10 ∷ []
+
+-- the line of one of a bridge's ports, and those of all, by these views
+abbrev pub line_among : List ℕ → List (Option PortView) → ℕ → List ℕ
+line_among name views port = view_line name port (unwrap_or (numbered views port) None)
+
+abbrev pub view_lines : List ℕ → List (Option PortView) → List ℕ
+view_lines name views = flat_map (line_among name views) local_ports
+
+-- the lines of each of these names and numbers, by what was told of the number
+abbrev pub AreLines : {A : Type 0} → (List ℕ → A → List ℕ) → (ℕ → A → Type 0) → List (List ℕ × ℕ) → List ℕ → Type 0
+AreLines line told [] text = text ≡ []
+AreLines {A} line told (thing ∷ things) text =
+    (fact : A) × (others : List ℕ) × told thing.1 fact × (text ≡ line thing.0 fact ++ others) × AreLines line told things others
+
+-- the same, by the octets of the names
+pub record AreLinesByName {A : Type 0} (line : List ℕ → A → List ℕ) (told : ℕ → A → Type 0) (names : List (List ℕ)) (text : List ℕ) : Type 0 where
+  pub things : List (List ℕ × ℕ)
+  pub by_name : AreByName names things
+  pub are_lines : AreLines line told things text
+
+-- a line for each customer port, and one for each bridge
+pub record IsCountsText (plan : Plan) (told_port told_bridge : ℕ → ℕ × ℕ → Type 0) (text : List ℕ) : Type 0 where
+  pub ports : List ℕ
+  pub are_ports : AreLinesByName port_line told_port (map (λ c. c.name) plan.customers) ports
+  pub bridges : List ℕ
+  pub are_bridges : AreLinesByName bridge_line told_bridge (map (λ b. b.name) plan.bridges) bridges
+  pub text_is : text ≡ ports ++ bridges
+
+-- the lines of all ports between bridges
+abbrev pub IsTreeText : Plan → (told_views : ℕ → List (Option PortView) → Type 0) → List ℕ → Type 0
+IsTreeText plan told_views text = AreLinesByName view_lines told_views (map (λ b. b.name) plan.bridges) text

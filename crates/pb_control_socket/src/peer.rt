@@ -1,0 +1,116 @@
+//! A peer that is connected to the socket.
+
+ghost use Rattle.std.specs.Prelude.{◌≡◌, ◌≤◌, ◌<◌, ℕ, true, string_len};
+ghost use Rattle.pb_control_socket.specs.Sizes.{IsFew};
+ghost use Rattle.pb_control_socket.specs.Requests.{is_there};
+ghost use Rattle.pb_control_socket.specs.declared.request.Request.{Request};
+
+use crate::board::Board;
+use crate::lines::LineBuffer;
+use crate::replies::answer;
+use pb_frame::Memory;
+use pb_lan::Plan;
+use std::alloc::Global;
+use std::io::{Error, ErrorKind, Read, Write};
+
+/// The most octets of a line, but for one that tells of more.
+const LONGEST: usize = 256;
+
+/// How many octets are read at a time.
+const CHUNK: usize = 512;
+
+/// What a step with a peer came to.
+#[derive(Clone, Copy, Debug, PartialEq, Eq)]
+pub(crate) enum Step {
+    /// Something was done.
+    Moved,
+    /// There was nothing to do.
+    Idle,
+    /// The peer has hung up, or is to be hung up on.
+    Gone,
+}
+
+/// What a call of a stream that failed comes to.
+fn step_of(error: &Error) -> Step {
+    match error.kind() {
+        ErrorKind::Interrupted | ErrorKind::WouldBlock => Step::Idle,
+        _ => Step::Gone,
+    }
+}
+
+/// A peer, what it has sent, and the answer that it is to get.
+///
+/// One answer at a time is held. While it waits no line is looked at, and while a line waits nothing is read.
+#[derive(Drop)]
+pub(crate) struct Peer<S> {
+    stream: S,
+    lines: LineBuffer,
+    answer: String,
+    sent: usize,
+    ghost within: { sent ≤ string_len answer },
+}
+
+impl<S: Read + Write> Peer<S> {
+    /// A peer that has sent nothing yet.
+    pub(crate) fn new(alloc: Global, stream: S) -> Peer<S> {
+        Peer {
+            stream,
+            lines: LineBuffer::new(alloc, LONGEST),
+            answer: String::new(alloc),
+            sent: 0,
+        }
+    }
+
+    /// Writes what it takes of the answer.
+    fn write_on(&mut self) -> Step {
+        match self.stream.write(&self.answer.as_bytes()[self.sent..]) {
+            Ok(0) => Step::Gone,
+            Ok(count) => {
+                self.sent += count;
+                Step::Moved
+            }
+            Err(e) => step_of(&e),
+        }
+    }
+
+    /// Reads what it has sent.
+    fn read_on(&mut self) -> Step {
+        let mut octets = [0u8; CHUNK];
+        match self.stream.read(&mut octets) {
+            Ok(0) => Step::Gone,
+            Ok(count) => match self.lines.put(&octets[..count]) {
+                Ok(()) => Step::Moved,
+                Err(Memory) => Step::Gone,
+            },
+            Err(e) => step_of(&e),
+        }
+    }
+
+    /// Makes the answer to a line.
+    fn answer<B: Board>(&mut self, alloc: Global, plan: &Plan, board: &B, line: &[u8]) -> Step
+        requires few { IsFew plan.now }
+        requires allowed { (request : Request) → is_there plan.now request ≡ true → B.allows board.now request }
+    {
+        self.sent = 0;
+        self.answer.clear();
+        match answer(alloc, plan, board, line, &mut self.answer) {
+            Ok(()) => Step::Moved,
+            Err(Memory) => Step::Gone,
+        }
+    }
+
+    /// Writes on; where all was written answers the next line; where there is none reads on.
+    pub(crate) fn step<B: Board>(&mut self, alloc: Global, plan: &Plan, board: &B) -> Step
+        requires few { IsFew plan.now }
+        requires allowed { (request : Request) → is_there plan.now request ≡ true → B.allows board.now request }
+    {
+        if self.sent < self.answer.len() {
+            return self.write_on();
+        }
+        match self.lines.next_line() {
+            Ok(Some(line)) => self.answer(alloc, plan, board, line.as_slice()),
+            Ok(None) => self.read_on(),
+            Err(Memory) => Step::Gone,
+        }
+    }
+}

@@ -1,0 +1,105 @@
+//! What the ports between bridges are like.
+
+ghost use Rattle.std.specs.Prelude.{◌≡◌, ◌++◌, List, ℕ, None, map, flat_map, unwrap_or, string_bytes, OnOk};
+ghost use Rattle.pb_control_socket.specs.Sizes.{IsFew};
+ghost use Rattle.pb_control_socket.specs.Texts.{role_words, view_line, line_among, view_lines, AreLines, IsTreeText};
+ghost use Rattle.pb_lan.specs.Numbering.{numbered};
+
+use crate::board::Board;
+use pb_frame::Memory;
+use pb_lan::Plan;
+use pb_names::{role_word, state_word};
+use pb_rstp::Role;
+use pb_step_script::bridges_by_name;
+use pb_threads::PortView;
+use std::alloc::Global;
+
+/// The numbers of a bridge's local ports.
+const PORTS: &[u8] = &[1, 2, 3, 4, 5, 6, 7, 8, 9, 10, 11, 12, 13, 14, 15, 16];
+
+/// Puts the word for a role and a space behind a text, where there is a role.
+fn put_role(out: &mut String, role: Option<Role>) -> Result<(), Memory>
+    ensures { OnOk result (string_bytes out.new ≡ string_bytes out.old ++ role_words role) }
+{
+    if let Some(role) = role {
+        let word = role_word(role);
+        write!(out, "{word} ")?;
+    }
+    Ok(())
+}
+
+/// Puts the line of a bridge's port behind a text, where a view is told.
+fn put_view(out: &mut String, name: &str, port: u8, view: Option<PortView>) -> Result<(), Memory>
+    ensures { OnOk result (string_bytes out.new ≡ string_bytes out.old ++ view_line name.now port view) }
+{
+    let Some(view) = view else {
+        return Ok(());
+    };
+    write!(out, "port {name} {port} ")?;
+    put_role(out, view.role)?;
+    let state = state_word(view.state);
+    writeln!(out, "{state}")?;
+    Ok(())
+}
+
+/// The view of the port of this number, from 1.
+fn view_at(views: &[Option<PortView>], port: u8) -> Option<PortView>
+    ensures { result ≡ unwrap_or (numbered views.now port) None }
+{
+    if port == 0 {
+        return None;
+    }
+    match views.get(port as usize - 1) {
+        Some(view) => *view,
+        None => None,
+    }
+}
+
+/// Puts the lines of these ports of a bridge behind a text.
+fn put_views(
+    out: &mut String,
+    name: &str,
+    views: &[Option<PortView>],
+    ports: &[u8],
+) -> Result<(), Memory>
+    ensures { OnOk result (string_bytes out.new ≡ string_bytes out.old ++ flat_map (line_among name.now views.now) ports.now) }
+{
+    for port in ports {
+        put_view(out, name, *port, view_at(views, *port))?;
+    }
+    Ok(())
+}
+
+/// Puts the lines of all ports of a bridge behind a text.
+fn put_bridge(out: &mut String, name: &str, views: &[Option<PortView>]) -> Result<(), Memory>
+    ensures { OnOk result (string_bytes out.new ≡ string_bytes out.old ++ view_lines name.now views.now) }
+{
+    put_views(out, name, views, PORTS)
+}
+
+/// Puts the lines of the ports of bridges behind a text.
+fn put_bridges<B: Board>(board: &B, bridges: &[(&str, u8)], out: &mut String) -> Result<(), Memory>
+    ensures { OnOk result ((text : List ℕ) × (string_bytes out.new ≡ string_bytes out.old ++ text)
+        × AreLines view_lines (B.told_views board.now) (map (λ n. (n.0.now, n.1)) bridges.now) text) }
+{
+    for (name, number) in bridges {
+        let views = board.views(*number);
+        put_bridge(out, name, &views)?;
+    }
+    Ok(())
+}
+
+/// Puts the lines of all ports between bridges behind a text, by the names of the bridges.
+pub(crate) fn put_tree<B: Board>(
+    alloc: Global,
+    plan: &Plan,
+    board: &B,
+    out: &mut String,
+) -> Result<(), Memory>
+    requires { IsFew plan.now }
+    ensures { OnOk result ((text : List ℕ) × (string_bytes out.new ≡ string_bytes out.old ++ text)
+        × IsTreeText plan.now (B.told_views board.now) text) }
+{
+    let bridges = bridges_by_name(alloc, plan)?;
+    put_bridges(board, bridges.as_slice(), out)
+}

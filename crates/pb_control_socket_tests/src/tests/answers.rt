@@ -1,0 +1,151 @@
+//! What lines are answered.
+
+ghost use Rattle.pb_lan.specs.Plans.{IsSound};
+
+use super::board::Fake;
+use super::plans::{COUNTS, TREE, plan};
+use pb_control_socket::{Refused, Request, answer, read_request};
+use pb_frame::Memory;
+use pb_lan::Plan;
+use std::alloc::Global;
+use std::process::Abort;
+use std::test::Fail;
+
+/// A line is read, answered and done as wanted.
+const AS_WANTED: (bool, bool, bool) = (true, true, true);
+
+/// A line, and what it asks for, or why it asks for nothing.
+type Row = (&'static str, Result<Request, Refused>);
+
+const NO_SUCH: Result<Request, Refused> = Err(Refused::NoSuch);
+
+const BAD: Result<Request, Refused> = Err(Refused::Bad);
+
+/// Lines that ask for something, and lines of that form.
+const ASKING: &[Row] = &[
+    ("stop", Ok(Request::Stop)),
+    ("counts", Ok(Request::Counts)),
+    ("tree", Ok(Request::Tree)),
+    (
+        "down west 2",
+        Ok(Request::Set {
+            bridge: 1,
+            port: 2,
+            up: false,
+        }),
+    ),
+    (
+        "up east 16",
+        Ok(Request::Set {
+            bridge: 2,
+            port: 16,
+            up: true,
+        }),
+    ),
+    ("down north 2", NO_SUCH),
+    ("down West 2", NO_SUCH),
+    ("down L1 2", NO_SUCH),
+    ("down shop 1", NO_SUCH),
+    ("up west 1", NO_SUCH),
+    ("up west 3", NO_SUCH),
+    ("up east 2", NO_SUCH),
+    ("up west 16", NO_SUCH),
+    ("up east 17", NO_SUCH),
+    ("up west 258", NO_SUCH),
+    ("up west 999", NO_SUCH),
+    ("up abcdefghijklmnopqrstuvwxyz-_0189 2", NO_SUCH),
+];
+
+/// Lines that ask for nothing.
+const WRONG: &[&str] = &[
+    "",
+    " ",
+    "Stop",
+    "stop ",
+    " stop",
+    "stop\r",
+    "stop now",
+    "stops",
+    "count",
+    "counts\r",
+    "counts west",
+    "trees",
+    "tree\r",
+    "Tree",
+    "down",
+    "down ",
+    "down west",
+    "down west ",
+    "down west 0",
+    "down west 02",
+    "down west +2",
+    "down west 2 ",
+    "down west 2\r",
+    "down west 2 3",
+    "down west 1000",
+    "down  west 2",
+    "down west  2",
+    "down\twest 2",
+    "down w.st 2",
+    "down we\u{df}t 2",
+    "down abcdefghijklmnopqrstuvwxyz-_01897 2",
+    "left west 2",
+    "ups west 2",
+    "set west 2 up",
+    "\0",
+];
+
+/// The answer to a line.
+fn reply(read: Result<Request, Refused>) -> &'static str {
+    match read {
+        Ok(Request::Counts) => COUNTS,
+        Ok(Request::Tree) => TREE,
+        Ok(_) => "ok\n",
+        Err(Refused::NoSuch) => "no such\n",
+        Err(Refused::Bad) => "bad\n",
+    }
+}
+
+/// Whether the board was asked for this, and for nothing else.
+fn has_done(board: &Fake, read: Result<Request, Refused>) -> bool {
+    match read {
+        Ok(Request::Counts | Request::Tree) | Err(_) => board.has_done(&[]),
+        Ok(request) => board.has_done(&[request]),
+    }
+}
+
+/// Whether a line is read, answered behind what stood there, and done as wanted.
+fn comes_of(
+    alloc: Global,
+    plan: &Plan,
+    line: &str,
+    want: Result<Request, Refused>,
+) -> Result<(bool, bool, bool), Memory>
+    requires { IsSound plan.now }
+{
+    let is_read = read_request(plan, line.as_bytes()) == want;
+    let board = Fake::new(alloc);
+    let mut out = String::from_str(alloc, "before ")?;
+    answer(alloc, plan, &board, line.as_bytes(), &mut out)?;
+    let is_answered = out.as_str().strip_prefix("before ") == Some(reply(want));
+    Ok((is_read, is_answered, has_done(&board, want)))
+}
+
+/// The lines of both tables are read, answered and done as they tell.
+fn are_answered(rt: &impl Abort, alloc: Global, plan: &Plan) -> Result<(), Fail>
+    requires { IsSound plan.now }
+{
+    for (line, want) in ASKING {
+        assert_eq!(rt; comes_of(alloc, plan, line, *want)?, AS_WANTED, "{line}");
+    }
+    for line in WRONG {
+        assert_eq!(rt; comes_of(alloc, plan, line, BAD)?, AS_WANTED, "{line}");
+    }
+    Ok(())
+}
+
+#[test]
+fn lines_are_answered(rt: HostRuntime) -> Result<(), Fail> {
+    let plan = plan(rt.alloc())?;
+    are_answered(&rt, rt.alloc(), &plan)
+}

@@ -1,0 +1,76 @@
+//! A board that notes what it is asked for.
+
+use pb_control_socket::{Board, Request};
+use pb_lan::PortState;
+use pb_rstp::Role;
+use pb_threads::PortView;
+use std::alloc::Global;
+use std::cell::RefCell;
+
+/// Notes what it is asked for, and tells counts by which a port or a bridge is known.
+#[derive(Drop)]
+pub(super) struct Fake {
+    asked: RefCell<Vec<Request>>,
+}
+
+impl Fake {
+    /// It was asked for nothing yet.
+    pub(super) fn new(alloc: Global) -> Fake {
+        Fake {
+            asked: RefCell::new(Vec::new(alloc)),
+        }
+    }
+
+    /// Whether it was asked for these, in this order, and for nothing else.
+    pub(super) fn has_done(&self, wanted: &[Request]) -> bool {
+        match self.asked.try_borrow() {
+            Ok(asked) => asked.as_slice() == wanted,
+            Err(_) => false,
+        }
+    }
+
+    fn note(&self, request: Request) {
+        if let Ok(mut asked) = self.asked.try_borrow_mut() {
+            let _ = asked.push(request);
+        }
+    }
+}
+
+impl Board for Fake {
+    fn stop(&self) {
+        self.note(Request::Stop);
+    }
+
+    fn set(&self, bridge: u8, port: u8, up: bool) {
+        self.note(Request::Set { bridge, port, up });
+    }
+
+    fn traffic(&self, port: u8) -> (u64, u64) {
+        (100 + u64::from(port), u64::MAX - u64::from(port))
+    }
+
+    fn bridge(&self, bridge: u8) -> (u64, u64) {
+        (200 + u64::from(bridge), 300 + u64::from(bridge))
+    }
+
+    fn views(&self, bridge: u8) -> [Option<PortView>; 16] {
+        let mut views = [None; 16];
+        views[0] = Some(PortView {
+            role: Some(Role::Root),
+            state: PortState::Forwarding,
+        });
+        views[15] = Some(PortView {
+            role: if bridge == 1 {
+                None
+            } else {
+                Some(Role::Alternate)
+            },
+            state: if bridge == 1 {
+                PortState::Learning
+            } else {
+                PortState::Discarding
+            },
+        });
+        views
+    }
+}

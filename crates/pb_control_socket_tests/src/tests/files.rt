@@ -1,0 +1,122 @@
+//! The file of a control socket.
+
+use super::folder::{enter, leave};
+use mio::net::{UnixListener, UnixStream};
+use pb_control_socket::Control;
+use std::alloc::Global;
+use std::fs::Files;
+use std::io::ErrorKind;
+use std::net::Net;
+use std::os::unix::fs::{FileTypeExt, MetadataExt, symlink};
+use std::test::Fail;
+use std::{fs, io};
+
+/// The socket's path.
+const PATH: &str = "control.sock";
+
+/// Why no socket can be made at a path.
+fn refusal<R: Files + Net>(rt: &R, alloc: Global, path: &str) -> Option<ErrorKind> {
+    match Control::open(rt, alloc, path) {
+        Ok(_) => None,
+        Err(e) => Some(e.kind()),
+    }
+}
+
+/// Nothing stands at the path.
+fn is_free(rt: &impl Files) -> bool {
+    fs::symlink_metadata(rt, PATH).is_err()
+}
+
+/// Somebody listens at the path.
+fn is_heard(rt: &impl Net) -> bool {
+    UnixStream::connect(rt, PATH).is_ok()
+}
+
+/// What any thread may have: a run attends to its socket in whichever thread comes by.
+fn for_any_thread<T: Send>(it: T) -> T {
+    it
+}
+
+/// Whether a socket stands at the path, and its mode.
+fn node(rt: &impl Files) -> io::Result<(bool, u32)> {
+    let metadata = fs::symlink_metadata(rt, PATH)?;
+    Ok((metadata.file_type().is_socket(), metadata.mode() & 0o7777))
+}
+
+/// A socket is made and closed. Answers what stood at the path meanwhile, and whether it is free then.
+fn made_and_closed<R: Files + Net>(rt: &R, alloc: Global) -> io::Result<((bool, u32), bool)> {
+    let control = for_any_thread(Control::open(rt, alloc, PATH)?);
+    let node = node(rt);
+    control.close(rt);
+    Ok((node?, is_free(rt)))
+}
+
+/// Somebody listens at the path. Answers why no socket can be made there, and whether he still is connected to.
+fn beside_a_live_one<R: Files + Net>(
+    rt: &R,
+    alloc: Global,
+) -> io::Result<(Option<ErrorKind>, bool)> {
+    let listener = UnixListener::bind(rt, PATH)?;
+    let refusal = refusal(rt, alloc, PATH);
+    Ok((refusal, is_heard(rt) && listener.accept().is_ok()))
+}
+
+/// A socket is made where one stands whose listener is gone. Answers whether the path was free before, whether it is
+/// connected to, and whether the path is free once it is closed.
+fn in_place_of_a_stale_one<R: Files + Net>(
+    rt: &R,
+    alloc: Global,
+) -> io::Result<(bool, bool, bool)> {
+    let was_free = is_free(rt);
+    let control = Control::open(rt, alloc, PATH)?;
+    let is_heard = is_heard(rt);
+    control.close(rt);
+    Ok((was_free, is_heard, is_free(rt)))
+}
+
+/// A socket is closed once a text file stands in its place.
+fn closed_too_late<R: Files + Net>(rt: &R, alloc: Global) -> io::Result<()> {
+    let control = Control::open(rt, alloc, PATH)?;
+    let is_written = fs::remove_file(rt, PATH).and(fs::write(rt, PATH, "words"));
+    control.close(rt);
+    is_written
+}
+
+/// A text file stands at the path. Answers why no socket can be made there, and whether its text is left. The file is
+/// removed then.
+fn beside_a_file<R: Files + Net + AllocGlobal>(
+    rt: &R,
+    alloc: Global,
+) -> io::Result<(Option<ErrorKind>, bool)> {
+    let refusal = refusal(rt, alloc, PATH);
+    let is_left = fs::read_to_string(rt, PATH)?.as_str() == "words";
+    fs::remove_file(rt, PATH)?;
+    Ok((refusal, is_left))
+}
+
+/// A symbolic link stands at the path. Answers why no socket can be made there, and whether the path is free. The link
+/// is removed then.
+fn beside_a_link<R: Files + Net>(rt: &R, alloc: Global) -> io::Result<(Option<ErrorKind>, bool)> {
+    symlink(rt, "nowhere.sock", PATH)?;
+    let seen = (refusal(rt, alloc, PATH), is_free(rt));
+    fs::remove_file(rt, PATH)?;
+    Ok(seen)
+}
+
+#[test]
+fn the_file_is_ours_alone(rt: HostRuntime) -> Result<(), Fail> {
+    const IN_USE: (Option<ErrorKind>, bool) = (Some(ErrorKind::AddrInUse), true);
+    const EXISTS: Option<ErrorKind> = Some(ErrorKind::AlreadyExists);
+    let alloc = rt.alloc();
+    enter(&rt, rt.process())?;
+    // (a socket is made, only its owner may connect, and its file is removed at the end)
+    assert!(rt; made_and_closed(&rt, alloc)? == ((true, 0o600), true));
+    assert!(rt; beside_a_live_one(&rt, alloc)? == IN_USE);
+    assert!(rt; in_place_of_a_stale_one(&rt, alloc)? == (false, true, true));
+    // (a file that is no socket is left as it is, and so is what stands there once ours is gone)
+    closed_too_late(&rt, alloc)?;
+    assert!(rt; beside_a_file(&rt, alloc)? == (EXISTS, true));
+    assert!(rt; beside_a_link(&rt, alloc)? == (EXISTS, false));
+    assert!(rt; refusal(&rt, alloc, "none/control.sock") == Some(ErrorKind::NotFound));
+    Ok(leave(&rt, rt.process())?)
+}

@@ -1,0 +1,162 @@
+//! Peers that send lines to a control socket.
+
+ghost use Rattle.pb_lan.specs.Plans.{IsSound};
+
+use super::folder::{enter, leave};
+use super::plans::{COUNTS, plan};
+use super::stage::Step::{Connects, HaveHeard, Says};
+use super::stage::Who::{First, Second};
+use super::stage::{PATH, Stage, Step, happens};
+use pb_control_socket::{Control, Request};
+use pb_lan::Plan;
+use std::alloc::Global;
+use std::fs::Files;
+use std::net::Net;
+use std::process::{Abort, Process};
+use std::rt::Env;
+use std::test::Fail;
+
+/// What happens, step by step, with peers of its own.
+type Story = &'static [Step];
+
+/// All steps of some stories come to pass at a socket, one story after the other.
+fn are_told<R: Abort + Net>(
+    rt: &R,
+    alloc: Global,
+    control: &mut Control,
+    plan: &Plan,
+    stories: &[Story],
+) -> Result<(), Fail>
+    requires { IsSound plan.now }
+{
+    for (story, steps) in stories.iter().enumerate() {
+        let mut stage = Stage::new(alloc);
+        for (step, what) in steps.iter().enumerate() {
+            let is_so = happens(rt, control, plan, &mut stage, *what)?;
+            assert!(rt; is_so, "story {story}, step {step}");
+        }
+    }
+    Ok(())
+}
+
+/// All steps of some stories come to pass at a socket in a folder of its own.
+fn come_to_pass<R: Abort + Env + Files + Net + AllocGlobal>(
+    rt: &R,
+    alloc: Global,
+    process: Process,
+    stories: &[Story],
+) -> Result<(), Fail> {
+    enter(rt, process)?;
+    let plan = plan(alloc)?;
+    let mut control = Control::open(rt, alloc, PATH)?;
+    are_told(rt, alloc, &mut control, &plan, stories)?;
+    control.close(rt);
+    Ok(leave(rt, process)?)
+}
+
+/// 256 octets that are no line.
+const LONG: &[u8] = &[b'a'; 256];
+
+/// A peer of each story's own sends lines, in pieces or whole, and hears the answers.
+const ANSWERED: &[Story] = &[
+    &[Connects(First), HaveHeard("")],
+    &[Connects(First), Says(First, b"stop\n"), HaveHeard("ok\n")],
+    &[Connects(First), Says(First, b"counts\n"), HaveHeard(COUNTS)],
+    &[
+        Connects(First),
+        Says(First, b"stop\ndown west 2\n\n"),
+        HaveHeard("ok\nok\nbad\n"),
+    ],
+    &[
+        Connects(First),
+        Says(First, b"down west 1\nstop\r\n"),
+        HaveHeard("no such\nbad\n"),
+    ],
+    &[
+        Connects(First),
+        Says(First, b"s"),
+        Says(First, b"t"),
+        Says(First, b"o"),
+        Says(First, b"p"),
+        Says(First, b"\n"),
+        Says(First, b"u"),
+        Says(First, b"p"),
+        HaveHeard("ok\n"),
+    ],
+    &[
+        Connects(First),
+        Says(First, LONG),
+        Says(First, b"\nstop\n"),
+        HaveHeard("bad\nok\n"),
+    ],
+    &[
+        Connects(First),
+        Says(First, b"stop "),
+        Says(First, LONG),
+        Says(First, LONG),
+        Says(First, LONG),
+        Says(First, b"stop\nstop\n"),
+        HaveHeard("bad\nok\n"),
+    ],
+];
+
+#[test]
+fn peers_are_answered(rt: HostRuntime) -> Result<(), Fail> {
+    come_to_pass(&rt, rt.alloc(), rt.process(), ANSWERED)
+}
+
+/// What a peer has sent is done before it is heard that it sends no more, and then it is hung up on.
+const ANSWERS_THE_LAST: Story = &[
+    Step::Connects(First),
+    Step::Sends(First, b"down west 2\nstop\nstop", 1),
+    Step::IsDone(First),
+    Step::Settles,
+    Step::Hears(First, true),
+    Step::HaveHeard("ok\nok\n"),
+    Step::IsAsked(&[
+        Request::Set {
+            bridge: 1,
+            port: 2,
+            up: false,
+        },
+        Request::Stop,
+    ]),
+];
+
+/// A second peer is answered once the first has hung up.
+const WAITS_ITS_TURN: Story = &[
+    Step::Connects(First),
+    Step::Says(First, b"up"),
+    Step::Connects(Second),
+    Step::Says(Second, b"stop\n"),
+    Step::HaveHeard(""),
+    Step::Says(First, b" east 16\n"),
+    Step::HaveHeard("ok\n"),
+    Step::HangsUp(First),
+    Step::Settles,
+    Step::Hears(Second, false),
+    Step::HaveHeard("ok\nok\n"),
+];
+
+/// A peer that hangs up before it has heard its answers makes room for the next.
+const OUTLIVES_A_PEER: Story = &[
+    Step::Connects(First),
+    Step::Sends(First, b"counts\n", 200),
+    Step::Turns,
+    Step::HangsUp(First),
+    Step::Connects(Second),
+    Step::Says(Second, b"stop\n"),
+    Step::HaveHeard("ok\n"),
+];
+
+#[test]
+fn one_peer_at_a_time_is_answered(rt: HostRuntime) -> Result<(), Fail> {
+    const STORIES: &[Story] = &[ANSWERS_THE_LAST, WAITS_ITS_TURN, OUTLIVES_A_PEER];
+    come_to_pass(&rt, rt.alloc(), rt.process(), STORIES)
+}
+
+#[test]
+fn a_peer_that_takes_nothing_is_not_read(rt: HostRuntime) -> Result<(), Fail> {
+    const STORIES: &[Story] = &[&[Step::Connects(First), Step::Floods(First, 100_000)]];
+    come_to_pass(&rt, rt.alloc(), rt.process(), STORIES)
+}

@@ -1,0 +1,184 @@
+//! What happens between a control socket and its peers.
+
+ghost use Rattle.pb_lan.specs.Plans.{IsSound};
+
+use super::board::Fake;
+use super::talk::{floods, hear, settles, talks};
+use mio::net::UnixStream;
+use pb_control_socket::{Control, Request};
+use pb_lan::Plan;
+use std::alloc::Global;
+use std::io::{self, Write};
+use std::net::{Net, Shutdown};
+use std::test::Fail;
+
+/// The socket's path.
+pub(super) const PATH: &str = "control.sock";
+
+/// One of two peers.
+#[derive(Clone, Copy)]
+pub(super) enum Who {
+    First,
+    Second,
+}
+
+/// What happens, or is seen.
+#[derive(Clone, Copy)]
+pub(super) enum Step {
+    /// A peer connects.
+    Connects(Who),
+    /// It sends octets, the socket has its turns, and it hears what is answered; it is not hung up on.
+    Says(Who, &'static [u8]),
+    /// It sends octets so many times, and the socket has no turn.
+    Sends(Who, &'static [u8], u32),
+    /// It sends no more.
+    IsDone(Who),
+    /// The socket has one turn, and does something.
+    Turns,
+    /// The socket has its turns.
+    Settles,
+    /// A peer hears what was answered, and whether it is hung up on.
+    Hears(Who, bool),
+    /// It hangs up.
+    HangsUp(Who),
+    /// All that both have heard by now.
+    HaveHeard(&'static str),
+    /// All that the board was asked for by now.
+    IsAsked(&'static [Request]),
+    /// A peer asks for counts so many times. It is not read from while it takes no answer, and loses none.
+    Floods(Who, usize),
+}
+
+/// The streams of both peers, where they are connected.
+#[derive(Drop)]
+struct Peers {
+    first: Option<UnixStream>,
+    second: Option<UnixStream>,
+}
+
+impl Peers {
+    fn of(&mut self, who: Who) -> &mut Option<UnixStream> {
+        match who {
+            Who::First => &mut self.first,
+            Who::Second => &mut self.second,
+        }
+    }
+}
+
+/// Two peers, what they have heard, and the board that the socket asks.
+#[derive(Drop)]
+pub(super) struct Stage {
+    alloc: Global,
+    peers: Peers,
+    heard: Vec<u8>,
+    board: Fake,
+}
+
+impl Stage {
+    /// No peer is connected, and nothing has happened.
+    pub(super) fn new(alloc: Global) -> Stage {
+        Stage {
+            alloc,
+            peers: Peers {
+                first: None,
+                second: None,
+            },
+            heard: Vec::new(alloc),
+            board: Fake::new(alloc),
+        }
+    }
+
+    fn connects(&mut self, rt: &impl Net, who: Who) -> io::Result<bool> {
+        *self.peers.of(who) = Some(UnixStream::connect(rt, PATH)?);
+        Ok(true)
+    }
+
+    fn hangs_up(&mut self, who: Who) -> bool {
+        let was_connected = self.peers.of(who).is_some();
+        *self.peers.of(who) = None;
+        was_connected
+    }
+
+    fn says(
+        &mut self,
+        control: &mut Control,
+        plan: &Plan,
+        who: Who,
+        octets: &[u8],
+    ) -> Result<bool, Fail>
+        requires { IsSound plan.now }
+    {
+        let (board, heard) = (&self.board, &mut self.heard);
+        match self.peers.of(who) {
+            Some(stream) => talks(control, plan, board, stream, octets, heard),
+            None => Ok(false),
+        }
+    }
+
+    fn sends(&mut self, who: Who, octets: &[u8], times: u32) -> io::Result<bool> {
+        let Some(stream) = self.peers.of(who) else {
+            return Ok(false);
+        };
+        for _ in 0..times {
+            stream.write_all(octets)?;
+        }
+        Ok(true)
+    }
+
+    fn is_done(&mut self, who: Who) -> bool {
+        match self.peers.of(who) {
+            Some(stream) => stream.shutdown(Shutdown::Write).is_ok(),
+            None => false,
+        }
+    }
+
+    fn hears(&mut self, who: Who, is_end: bool) -> Result<bool, Fail> {
+        match self.peers.of(who) {
+            Some(stream) => Ok(hear(stream, &mut self.heard)? == is_end),
+            None => Ok(false),
+        }
+    }
+
+    fn floods(
+        &mut self,
+        control: &mut Control,
+        plan: &Plan,
+        who: Who,
+        count: usize,
+    ) -> Result<bool, Fail>
+        requires { IsSound plan.now }
+    {
+        let line: &[u8] = b"counts\n";
+        let lines = line.repeat(self.alloc, count)?;
+        let (board, heard) = (&self.board, &mut self.heard);
+        match self.peers.of(who) {
+            Some(stream) => floods(control, plan, board, stream, lines.as_slice(), heard),
+            None => Ok(false),
+        }
+    }
+}
+
+/// Whether a step comes to pass.
+pub(super) fn happens(
+    rt: &impl Net,
+    control: &mut Control,
+    plan: &Plan,
+    stage: &mut Stage,
+    step: Step,
+) -> Result<bool, Fail>
+    requires { IsSound plan.now }
+{
+    match step {
+        Step::Connects(who) => Ok(stage.connects(rt, who)?),
+        Step::Says(who, octets) => stage.says(control, plan, who, octets),
+        Step::Sends(who, octets, times) => Ok(stage.sends(who, octets, times)?),
+        Step::IsDone(who) => Ok(stage.is_done(who)),
+        Step::Turns => Ok(control.turn(plan, &stage.board)),
+        Step::Settles => Ok(settles(control, plan, &stage.board)),
+        Step::Hears(who, is_end) => stage.hears(who, is_end),
+        Step::HangsUp(who) => Ok(stage.hangs_up(who)),
+        Step::HaveHeard(text) => Ok(stage.heard.as_slice() == text.as_bytes()),
+        Step::IsAsked(requests) => Ok(stage.board.has_done(requests)),
+        Step::Floods(who, count) => stage.floods(control, plan, who, count),
+    }
+}

@@ -1,5 +1,0 @@
-//! Runs of pb_control with ample memory.
-#![tactic(auto)]
-
-#[cfg(test)]
-mod tests;

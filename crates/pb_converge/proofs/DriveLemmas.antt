@@ -1,0 +1,122 @@
+-- Events that were done one after the other.
+use Rattle.std.proofs.Common.{◌≡◌, ◌≤◌, ◌+◌, ◌-◌, ℕ, Bool, true, List, [], ◌∷◌, ◌++◌, length, Ok, Err, refl, ap}
+use Rattle.std.proofs.Common.{subst, ◌∙◌, arith, length-append}
+use Rattle.pb_frame.proofs.Lists.{All-append, All-imply}
+use Rattle.pb_lan.specs.declared.event.Event.{Event}
+use Rattle.pb_lan.specs.declared.event.Event.TheVariants.{Poll, Feed, Deliver, Receive, Transmit, Tick, Admin, Take}
+use Rattle.pb_lan.specs.declared.event.Event.TheVariants.{Put}
+use Rattle.pb_lan.specs.declared.step.Place.{Place}
+use Rattle.pb_net.specs.Answers.{NetView, IsAnswer}
+use Rattle.std.specs.declared.result.Result.{Result}
+use Rattle.pb_net.specs.declared.did.Did.{Did}
+use Rattle.pb_net.specs.declared.did.Did.TheVariants.{Idle, Done}
+use Rattle.pb_net.specs.declared.fault.NetFault.{NetFault}
+use Rattle.pb_net.specs.declared.fault.NetFault.TheVariants.{StepLimit, Memory, NoSuch}
+use Rattle.pb_converge.specs.Drives.{is_onward, is_onward_or_tick, HaveDone, HaveGone, HasStopped, HasBeenDriven}
+use Rattle.pb_converge.specs.declared.fault.DriveFault.{DriveFault}
+use Rattle.pb_converge.specs.declared.fault.DriveFault.TheVariants.{Events}
+
+-- some, and then others
+pub done-append : (old mid new : NetView) (front back : List Event) → HaveDone old front mid → HaveDone mid back new
+    → HaveDone old (front ++ back) new
+done-append old mid new [] back e h = subst (λ v. HaveDone v back new) e h
+done-append old mid new (event ∷ front) back (between, answer, rest) h =
+    (between, answer, done-append between mid new front back rest h)
+
+-- one event was done
+pub done-one : (old new : NetView) (event : Event) (place : Place) → IsAnswer old event (Ok (Done place)) new
+    → HaveDone old (event ∷ []) new
+done-one old new event place h = (new, subst (λ p. IsAnswer old event (Ok (Done p)) new) h.1 h, refl)
+
+-- the plan stays
+pub done-plan : (old new : NetView) (events : List Event) → HaveDone old events new → new.plan ≡ old.plan
+done-plan old new [] e = ap (λ v. v.plan) e
+done-plan old new (event ∷ events) (between, answer, rest) = done-plan between new events rest ∙ answer.2
+
+pub answer-plan : (old new : NetView) (event : Event) (result : Result Did NetFault) → IsAnswer old event result new
+    → new.plan ≡ old.plan
+answer-plan old new event (Err NoSuch) h = ap (λ v. v.plan) h.1
+answer-plan old new event (Err StepLimit) h = ap (λ v. v.plan) h.3
+answer-plan old new event (Err Memory) h = ap (λ v. v.plan) h.1
+answer-plan old new event (Ok Idle) h = ap (λ v. v.plan) h.2
+answer-plan old new event (Ok (Done place)) h = h.2
+
+-- nothing was done
+done-nothing : (old new : NetView) (events : List Event) → length events ≡ 0 → HaveDone old events new → new ≡ old
+done-nothing old new [] n e = e
+done-nothing old new (event ∷ events) n h = absurd (omega (arith, n))
+
+pub gone-none : (kind : Event → Bool) (old new : NetView) → new ≡ old → HaveGone kind 0 old new
+gone-none kind old new e = record { events = []; kinds = tt; done = e; number = refl }
+
+pub gone-nothing : (kind : Event → Bool) (count : ℕ) (old new : NetView) → HaveGone kind count old new → count ≡ 0
+    → new ≡ old
+gone-nothing kind count old new g z = done-nothing old new g.events (g.number ∙ z) g.done
+
+pub gone-one : (kind : Event → Bool) (old new : NetView) (event : Event) (place : Place) → kind event ≡ true
+    → IsAnswer old event (Ok (Done place)) new → HaveGone kind 1 old new
+gone-one kind old new event place is h =
+    record { events = event ∷ []; kinds = (is, tt); done = done-one old new event place h; number = refl }
+
+pub gone-append : (kind : Event → Bool) (a b : ℕ) (old mid new : NetView) → HaveGone kind a old mid
+    → HaveGone kind b mid new → HaveGone kind (a + b) old new
+gone-append kind a b old mid new f s = record {
+  events = f.events ++ s.events;
+  kinds = All-append (λ e. kind e ≡ true) f.events s.events f.kinds s.kinds;
+  done = done-append old mid new f.events s.events f.done s.done;
+  number = omega (arith, length-append f.events s.events, f.number, s.number);
+}
+
+pub stopped-over : (most : ℕ) (old new : NetView) (event : Event) (place : Place) → most ≡ 0 → is_onward event ≡ true
+    → IsAnswer old event (Ok (Done place)) new → HasStopped most Events old new
+stopped-over most old new event place z is h =
+    record {
+      count = 1;
+      gone = gone-one is_onward old new event place is h;
+      too_many = λ _. omega (arith, z);
+      within =
+          λ other. absurd (other refl);
+    }
+
+pub stopped-later : (most a : ℕ) (fault : DriveFault) (old mid new : NetView) → HaveGone is_onward a old mid
+    → a ≤ most → HasStopped (most - a) fault mid new → HasStopped most fault old new
+stopped-later most a fault old mid new g within s = record {
+  count = a + s.count;
+  gone = gone-append is_onward a s.count old mid new g s.gone;
+  too_many = λ is. omega (arith, s.too_many is, within);
+  within = λ other. omega (arith, s.within other, within);
+}
+
+-- with ticks
+is_wider : (event : Event) → is_onward event ≡ true → is_onward_or_tick event ≡ true
+is_wider (Poll port frame) h = h
+is_wider (Feed port) h = refl
+is_wider (Deliver port) h = refl
+is_wider (Receive bridge port) h = refl
+is_wider (Transmit bridge port) h = refl
+is_wider (Tick bridge) h = refl
+is_wider (Admin bridge port up) h = h
+is_wider (Take lane) h = refl
+is_wider (Put lane) h = refl
+
+pub driven-gone : (count : ℕ) (old new : NetView) → HaveGone is_onward count old new → HasBeenDriven old new
+driven-gone count old new g = record {
+  count = count;
+  gone = record {
+    events = g.events;
+    kinds = All-imply (λ e. is_onward e ≡ true) (λ e. is_onward_or_tick e ≡ true) is_wider g.events g.kinds;
+    done = g.done;
+    number = g.number;
+  };
+}
+
+pub driven-none : (old new : NetView) → new ≡ old → HasBeenDriven old new
+driven-none old new e = record { count = 0; gone = gone-none is_onward_or_tick old new e }
+
+pub driven-append : (old mid new : NetView) → HasBeenDriven old mid → HasBeenDriven mid new → HasBeenDriven old new
+driven-append old mid new f s =
+    record {
+      count = f.count + s.count;
+      gone = gone-append is_onward_or_tick f.count s.count old mid new f.gone
+          s.gone;
+    }

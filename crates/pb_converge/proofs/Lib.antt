@@ -1,0 +1,4 @@
+pub mod DriveLemmas
+pub mod SweepLemmas
+pub mod TickLemmas
+pub mod FallLemmas

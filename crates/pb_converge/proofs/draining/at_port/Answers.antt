@@ -1,0 +1,22 @@
+use Rattle.std.proofs.Common.{subst, sym}
+use Rattle.std.proofs.lemmas.Result.{err_from_is_err_and}
+use Rattle.pb_lan.specs.declared.event.Event.TheVariants.{Receive, Transmit}
+use Rattle.pb_converge.proofs.DriveLemmas.{stopped-later}
+use Rattle.pb_converge.proofs.SweepLemmas.{tried-join}
+use Rattle.pb_converge.specs.Drives.{HasStopped}
+use Rattle.pb_converge.specs.Sweeps.{IsThis, IsAtPort}
+use Rattle.pb_converge.proofs.draining.at_port.Goals as goal
+
+pub returns-in_err-more-clause-err : goal.returns-in_err-more-clause-err
+returns-in_err-more-clause-err c =
+    let p = err_from_is_err_and c.from_residual-in_err-more.result c.from_residual-in_err-more.ensures.1 in
+    let s = stopped-later c.args.left c.in_ok-done.done c.in_err-more.field-0.0 c.args.net.now c.attempt.new.net
+    c.attempt-2.new.net c.in_ok-done.ensures.ok.gone c.in_ok-done.ensures.within c.in_err-more.ensures.err in
+    rw p.1 (subst (λ f. HasStopped c.args.left f c.args.net.now c.attempt-2.new.net) (sym p.2) s)
+
+pub returns-clause-ok : goal.returns-clause-ok
+returns-clause-ok c =
+    tried-join (IsThis (Receive c.args.bridge c.args.port)) (IsThis (Transmit c.args.bridge c.args.port))
+    (IsAtPort c.args.bridge c.args.port) c.in_ok-done.done c.in_ok-more.more c.args.net.now c.attempt.new.net
+    c.attempt-2.new.net
+    (λ event is. is) c.in_ok-done.ensures.ok c.in_ok-more.ensures.ok

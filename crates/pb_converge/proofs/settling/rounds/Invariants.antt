@@ -1,0 +1,11 @@
+use Rattle.std.proofs.Common.{◌≡◌, ◌≤◌, true}
+use Rattle.pb_converge.specs.Drives.{AreRounds}
+use Rattle.pb_converge.proofs.settling.rounds.Given as goal
+
+abbrev pub invariant-loop-ticks : goal.invariant-loop-ticks
+invariant-loop-ticks l = record {
+  rounds : AreRounds l.ticks l.done l.fn.net l.net;
+  within : l.done ≤ l.events;
+  plan : l.net.plan ≡ l.plan;
+  seen : l.was_settled ≡ true → 1 ≤ l.ticks;
+}

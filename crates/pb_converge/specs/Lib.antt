@@ -1,0 +1,4 @@
+pub mod Drives
+pub mod Sweeps
+pub mod Falls
+pub mod Rests

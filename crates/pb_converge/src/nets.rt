@@ -1,0 +1,29 @@
+//! Networks before the first step and after the last one.
+
+ghost use Rattle.std.specs.Prelude.{◌≡◌, IfOk};
+ghost use Rattle.pb_lan.specs.LastShapes.{last_shape};
+ghost use Rattle.pb_lan.specs.Plans.{IsSound};
+ghost use Rattle.pb_converge.specs.Falls.{fresh};
+
+use pb_frame::Memory;
+use pb_history::{Tallies, last_shape};
+use pb_lan::{Plan, Record, Shape};
+use pb_net::Net;
+use std::alloc::Global;
+
+/// The network of a plan, in which nothing was done. `Memory` is answered where there was none for it.
+pub fn fresh(alloc: Global, plan: &Plan) -> Result<Net, Memory>
+    requires { IsSound plan.now }
+    ensures { IfOk result (λ net. net ≡ fresh plan.now) }
+{
+    Net::new(alloc, plan.clone()?)
+}
+
+/// The states of all ports after the steps of a record. `Memory` is answered where there was none for the lists.
+pub fn shape_of(alloc: Global, plan: &Plan, rec: &Record) -> Result<Shape, Memory>
+    requires { IsSound plan.now }
+    ensures { IfOk result (λ shape. shape ≡ last_shape plan.now rec.now) }
+{
+    let tallies = Tallies::of(alloc, rec)?;
+    last_shape(alloc, plan, &tallies)
+}

@@ -1,8 +1,0 @@
-use Rattle.std.proofs.Common.{◌≡◌, ◌++◌, drop, flat_map, string_bytes}
-use Rattle.pb_draw.specs.SvgBoxes.{service_element}
-use Rattle.pb_draw.proofs.svg.put_services.Given as goal
-
-abbrev pub invariant-loop-mark : goal.invariant-loop-mark
-invariant-loop-mark l =
-    string_bytes l.out ++ flat_map (service_element l.plan) (drop l.mark-index l.marks) ≡ string_bytes l.initial.out
-    ++ flat_map (service_element l.plan) l.marks

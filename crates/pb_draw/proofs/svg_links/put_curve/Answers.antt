@@ -1,5 +1,0 @@
-use Rattle.std.proofs.Common.{◌∙◌, append_assoc}
-use Rattle.pb_draw.proofs.svg_links.put_curve.Goals as goal
-
-pub returns : goal.returns
-returns c = c.in_ok-write.ensures.bytes ∙ simp append_assoc

@@ -1,0 +1,136 @@
+//! The scene of a plan's network.
+
+ghost use Rattle.std.specs.Prelude.{◌≡◌, map, IfOk};
+ghost use Rattle.pb_lan.specs.Numbering.{numbers_from};
+ghost use Rattle.pb_lan.specs.Plans.{IsSound};
+ghost use Rattle.pb_draw_layout.specs.Facts.{bridge_facts, link_facts, port_facts, service_facts};
+ghost use Rattle.pb_draw_layout.specs.Scenes.{IsSceneOf};
+
+use crate::facts::{bridge_facts, link_facts, port_facts, service_facts};
+use crate::layout::{Layout, layout_of};
+use crate::scene::{BridgeMark, LinkMark, PortMark, Scene, ServiceMark};
+use pb_frame::{Memory, Seq};
+use pb_lan::{Plan, Shape};
+use std::alloc::Global;
+
+/// The bridges.
+fn bridge_marks(
+    alloc: Global,
+    plan: &Plan,
+    shape: &Shape,
+    chosen: Option<u8>,
+    layout: &Layout,
+) -> Result<Seq<BridgeMark>, Memory>
+    requires { IsSound plan.now }
+    ensures { IfOk result (λ marks. map (λ m. m.facts) marks ≡ map (bridge_facts plan.now shape.now chosen) (numbers_from 1 plan.now.bridges)) }
+{
+    let mut marks = Vec::new(alloc);
+    for place in 0..plan.bridges.len() {
+        let number = place as u8 + 1;
+        marks.push(BridgeMark {
+            facts: bridge_facts(plan, shape, chosen, number),
+            corner: layout.corner(number),
+            size: layout.box_size(number),
+        })?;
+    }
+    Ok(Seq::from_vec(marks))
+}
+
+/// The links.
+fn link_marks(
+    alloc: Global,
+    plan: &Plan,
+    shape: &Shape,
+    chosen: Option<u8>,
+    layout: &Layout,
+) -> Result<Seq<LinkMark>, Memory>
+    requires { IsSound plan.now }
+    ensures { IfOk result (λ marks. map (λ m. m.facts) marks ≡ map (link_facts plan.now shape.now chosen) (numbers_from 1 plan.now.links)) }
+{
+    let mut marks = Vec::new(alloc);
+    for place in 0..plan.links.len() {
+        let number = place as u8 + 1;
+        marks.push(LinkMark {
+            facts: link_facts(plan, shape, chosen, number),
+            route: layout.route(plan, number),
+        })?;
+    }
+    Ok(Seq::from_vec(marks))
+}
+
+/// The customer ports.
+fn port_marks(
+    alloc: Global,
+    plan: &Plan,
+    chosen: Option<u8>,
+    layout: &Layout,
+) -> Result<Seq<PortMark>, Memory>
+    requires { IsSound plan.now }
+    ensures { IfOk result (λ marks. map (λ m. m.facts) marks ≡ map (port_facts plan.now chosen) (numbers_from 1 plan.now.customers)) }
+{
+    let mut marks = Vec::new(alloc);
+    for place in 0..plan.customers.len() {
+        let number = place as u8 + 1;
+        marks.push(PortMark {
+            facts: port_facts(plan, chosen, number),
+            corner: layout.port_corner(plan, number),
+        })?;
+    }
+    Ok(Seq::from_vec(marks))
+}
+
+/// The services.
+fn service_marks(
+    alloc: Global,
+    plan: &Plan,
+    chosen: Option<u8>,
+    layout: &Layout,
+) -> Result<Seq<ServiceMark>, Memory>
+    requires { IsSound plan.now }
+    ensures { IfOk result (λ marks. map (λ m. m.facts) marks ≡ map (service_facts chosen) (numbers_from 1 plan.now.services)) }
+{
+    let mut marks = Vec::new(alloc);
+    for place in 0..plan.services.len() {
+        let number = place as u8 + 1;
+        marks.push(ServiceMark {
+            facts: service_facts(chosen, number),
+            corner: layout.service_corner(number),
+        })?;
+    }
+    Ok(Seq::from_vec(marks))
+}
+
+/// The scene of a sound plan's network, with the ports in these states.
+///
+/// Each bridge, link, customer port and service of the plan stands there once, in the plan's order. A link is active where
+/// both its ends are Forwarding and members of one service at least (802.1D-2004 clause 7.4, 802.1Q clause 8.8). Where a
+/// service is chosen by its number, its customer ports, its active links and the bridges at these are lit, and all else
+/// is faint. Bridges stand by levels: how many links lead up to the root of their tree. The root is the bridge with the
+/// lowest identifier where the bridges decide the states (802.1D-2004 clause 9.2.5), and that with the lowest number where
+/// the plan gives them. No two boxes, and no two names of links, stand in one place; no contract says so.
+///
+/// `Memory` is answered where there was none for the scene, and nothing else is refused.
+pub fn scene_of(
+    alloc: Global,
+    plan: &Plan,
+    shape: &Shape,
+    chosen: Option<u8>,
+) -> Result<Scene, Memory>
+    requires { IsSound plan.now }
+    ensures { IfOk result (IsSceneOf plan.now shape.now chosen) }
+{
+    let layout = layout_of(alloc, plan, shape)?;
+    let bridges = bridge_marks(alloc, plan, shape, chosen, &layout)?;
+    let links = link_marks(alloc, plan, shape, chosen, &layout)?;
+    let ports = port_marks(alloc, plan, chosen, &layout)?;
+    let services = service_marks(alloc, plan, chosen, &layout)?;
+    let size = layout.size(plan);
+    Ok(Scene {
+        bridges,
+        links,
+        ports,
+        services,
+        chosen,
+        size,
+    })
+}

@@ -1,9 +1,0 @@
-use Rattle.std.proofs.Common.{List, take}
-use Rattle.pb_lan.specs.declared.event.Event.{Event}
-use Rattle.pb_settle.specs.Drives.{HaveDone}
-use Rattle.pb_drive.specs.Falls.{AreFalls, fresh}
-use Rattle.pb_drive.proofs.falling.falls.Given as goal
-
-abbrev pub invariant-loop-index : goal.invariant-loop-index
-invariant-loop-index l = (events : List Event) × AreFalls l.plan (take l.index l.words) events
-    × HaveDone (fresh l.plan) events l.net

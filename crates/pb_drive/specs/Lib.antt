@@ -1,2 +1,0 @@
-pub mod Falls
-pub mod Rests

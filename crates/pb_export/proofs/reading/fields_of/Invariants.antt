@@ -1,0 +1,13 @@
+use Rattle.std.proofs.Common.{◌≡◌, ◌++◌, take}
+use Rattle.pb_export.specs.Rows.{fields_text, AreFilled}
+use denote.Shadow.{shadow}
+use denote.Text.{Utf8}
+use Rattle.pb_export.proofs.reading.fields_of.Given as goal
+
+abbrev pub invariant-loop-slot : goal.invariant-loop-slot
+invariant-loop-slot l = record {
+  filled : AreFilled (take l.slot-index l.slots) l.fields.items;
+  text_is : l.fn.text
+      ≡ fields_text l.fields.items ++ l.rest;
+  utf8 : shadow (Utf8 l.rest);
+}

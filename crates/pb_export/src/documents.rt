@@ -1,0 +1,239 @@
+//! The document of a report.
+
+ghost use Rattle.std.specs.Prelude.{◌≡◌, [], map, option_map, IfOk, OnOk};
+ghost use Rattle.std.specs.List.{list_any};
+ghost use Rattle.serde_json.specs.Data.{null};
+ghost use Rattle.serde_json.specs.View.{view, members_view};
+ghost use Rattle.pb_export.specs.Documents.{document_of, first_data, first_item, inner_items, is_at, is_in, item_data, list_data, list_entry, objects_of, put_some, row_data, some_list, values_of, with_fields, with_inner, with_lists, with_top};
+
+use crate::rows::{Filled, Row};
+use crate::templates::{Form, ListForm, ListShape};
+use crate::values::field_value;
+use serde_json::{Map, Value, put};
+use std::alloc::{AllocError, Global};
+
+/// Puts a member to others, where there is something to say.
+fn put_value(
+    alloc: Global,
+    map: &mut Map<String, Value>,
+    key: &str,
+    value: Option<Value>,
+) -> Result<(), AllocError>
+    ensures { OnOk result (members_view map.new.entries ≡ put_some key.now (option_map view value) (members_view map.old.entries)) }
+{
+    match value {
+        Some(value) => put(map, alloc, key, value),
+        None => Ok(()),
+    }
+}
+
+/// Puts what slots hold to a document, each under its key.
+fn put_fields(
+    alloc: Global,
+    map: &mut Map<String, Value>,
+    fields: &[Filled<'_>],
+) -> Result<(), AllocError>
+    ensures { OnOk result (members_view map.new.entries ≡ with_fields fields.now (members_view map.old.entries)) }
+{
+    for filled in fields {
+        let value = field_value(alloc, &filled.field)?;
+        put_value(alloc, map, filled.slot.key, value)?;
+    }
+    Ok(())
+}
+
+/// What a row says, as an object.
+fn row_value(alloc: Global, row: &Row<'_>) -> Result<Value, AllocError>
+    ensures { IfOk result (λ v. view v ≡ row_data row.now) }
+{
+    let mut map = Map::new(alloc);
+    put_fields(alloc, &mut map, row.fields.as_slice())?;
+    Ok(Value::Object(map))
+}
+
+/// Whether a row stands in the list of a key.
+pub(crate) fn is_at(key: &str, row: &Row<'_>) -> bool
+    ensures { result ≡ is_at key.now row.now }
+{
+    row.template.home == key
+}
+
+/// Whether a row stands in one of some lists.
+fn is_in(keys: &[&str], row: &Row<'_>) -> bool
+    ensures { result ≡ is_in keys.now row.now }
+{
+    for key in keys {
+        if is_at(key, row) {
+            return true;
+        }
+    }
+    false
+}
+
+/// The list inside an object, of the rows behind the object's own.
+fn inner_value(
+    alloc: Global,
+    key: &str,
+    keys: &[&str],
+    rows: &[Row<'_>],
+) -> Result<Value, AllocError>
+    ensures { IfOk result (λ v. view v ≡ list_data (inner_items key.now keys.now rows.now)) }
+{
+    let mut items = Vec::new(alloc);
+    for row in rows {
+        if !is_in(keys, row) {
+            return Ok(Value::Array(items));
+        }
+        if is_at(key, row) {
+            items.push(row_value(alloc, row)?)?;
+        }
+    }
+    Ok(Value::Array(items))
+}
+
+/// Puts the lists inside an object, of the rows behind the object's own.
+fn put_inner(
+    alloc: Global,
+    map: &mut Map<String, Value>,
+    keys: &[&str],
+    rows: &[Row<'_>],
+) -> Result<(), AllocError>
+    ensures { OnOk result (members_view map.new.entries ≡ with_inner keys.now keys.now rows.now (members_view map.old.entries)) }
+{
+    for key in keys {
+        let inner = inner_value(alloc, key, keys, rows)?;
+        put(map, alloc, key, inner)?;
+    }
+    Ok(())
+}
+
+/// What a row of a list says, as an object with the lists inside it.
+fn item_value(
+    alloc: Global,
+    list: &ListForm,
+    row: &Row<'_>,
+    later: &[Row<'_>],
+) -> Result<Value, AllocError>
+    ensures { IfOk result (λ v. view v ≡ item_data list.now row.now later.now) }
+{
+    let mut map = Map::new(alloc);
+    put_fields(alloc, &mut map, row.fields.as_slice())?;
+    put_inner(alloc, &mut map, list.inner, later)?;
+    Ok(Value::Object(map))
+}
+
+/// An object for each row of a list.
+fn object_values(alloc: Global, list: &ListForm, rows: &[Row<'_>]) -> Result<Vec<Value>, AllocError>
+    ensures { IfOk result (λ values. map view values.items ≡ objects_of list.now rows.now) }
+{
+    let mut items = Vec::new(alloc);
+    for (i, row) in rows.iter().enumerate() {
+        if is_at(list.key, row) {
+            items.push(item_value(alloc, list, row, &rows[i + 1..])?)?;
+        }
+    }
+    Ok(items)
+}
+
+/// The object of the first row of a list, where there is one.
+fn single_value(
+    alloc: Global,
+    list: &ListForm,
+    rows: &[Row<'_>],
+) -> Result<Option<Value>, AllocError>
+    ensures { IfOk result (λ o. option_map view o ≡ first_item (objects_of list.now rows.now)) }
+{
+    for (i, row) in rows.iter().enumerate() {
+        if is_at(list.key, row) {
+            return Ok(Some(item_value(alloc, list, row, &rows[i + 1..])?));
+        }
+    }
+    Ok(None)
+}
+
+/// What the first slot holds, of those of a row.
+fn first_value(alloc: Global, fields: &[Filled<'_>]) -> Result<Value, AllocError>
+    ensures { IfOk result (λ v. view v ≡ first_data fields.now) }
+{
+    let [filled, ..] = fields else {
+        return Ok(Value::Null);
+    };
+    match field_value(alloc, &filled.field)? {
+        Some(value) => Ok(value),
+        None => Ok(Value::Null),
+    }
+}
+
+/// What the first slot of each row of a list holds.
+fn first_values(alloc: Global, key: &str, rows: &[Row<'_>]) -> Result<Vec<Value>, AllocError>
+    ensures { IfOk result (λ values. map view values.items ≡ values_of key.now rows.now) }
+{
+    let mut items = Vec::new(alloc);
+    for row in rows {
+        if is_at(key, row) {
+            items.push(first_value(alloc, row.fields.as_slice())?)?;
+        }
+    }
+    Ok(items)
+}
+
+/// The array of some values, where there is one.
+fn some_values(values: Vec<Value>) -> Option<Value>
+    ensures { option_map view result ≡ some_list (map view values.items) }
+{
+    if values.is_empty() {
+        None
+    } else {
+        Some(Value::Array(values))
+    }
+}
+
+/// What a document has at the key of a list. None where the key is left out.
+fn list_value(alloc: Global, list: &ListForm, rows: &[Row<'_>]) -> Result<Option<Value>, AllocError>
+    ensures { IfOk result (λ o. option_map view o ≡ list_entry list.now.shape list.now rows.now) }
+{
+    match list.shape {
+        ListShape::Objects => Ok(Some(Value::Array(object_values(alloc, list, rows)?))),
+        ListShape::Values => Ok(Some(Value::Array(first_values(alloc, list.key, rows)?))),
+        ListShape::Leftovers => Ok(some_values(first_values(alloc, list.key, rows)?)),
+        ListShape::Single => single_value(alloc, list, rows),
+    }
+}
+
+/// Puts what rows say that stand in no list to a document.
+fn put_top(alloc: Global, map: &mut Map<String, Value>, rows: &[Row<'_>]) -> Result<(), AllocError>
+    ensures { OnOk result (members_view map.new.entries ≡ with_top rows.now (members_view map.old.entries)) }
+{
+    for row in rows {
+        if is_at("", row) {
+            put_fields(alloc, map, row.fields.as_slice())?;
+        }
+    }
+    Ok(())
+}
+
+/// Puts the lists of a document.
+fn put_lists(
+    alloc: Global,
+    map: &mut Map<String, Value>,
+    lists: &[ListForm],
+    rows: &[Row<'_>],
+) -> Result<(), AllocError>
+    ensures { OnOk result (members_view map.new.entries ≡ with_lists lists.now rows.now (members_view map.old.entries)) }
+{
+    for list in lists {
+        let value = list_value(alloc, list, rows)?;
+        put_value(alloc, map, list.key, value)?;
+    }
+    Ok(())
+}
+
+/// The document of a report's rows. `AllocError` is answered where memory ran out.
+pub(crate) fn document(alloc: Global, form: &Form, rows: &[Row<'_>]) -> Result<Value, AllocError>
+    ensures { IfOk result (λ v. view v ≡ document_of form.now rows.now) }
+{
+    let mut map = Map::new(alloc);
+    put_top(alloc, &mut map, rows)?;
+    put_lists(alloc, &mut map, form.lists, rows)?;
+    Ok(Value::Object(map))
+}

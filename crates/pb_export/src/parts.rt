@@ -1,0 +1,67 @@
+//! Parts of a line.
+
+ghost use Rattle.std.specs.Prelude.{◌≡◌, ◌++◌, ◌∷◌, ◌*◌, decimal, IfSome};
+ghost use Rattle.pb_export.specs.Rows.{spaces};
+
+use itoa::Buffer;
+
+/// The most times that two spaces are read as a depth.
+const MOST_DEPTH: u64 = 64;
+
+/// What stands behind a text, where another begins with it.
+pub(crate) fn behind<'a>(text: &'a str, front: &str) -> Option<&'a str>
+    ensures { IfSome result (λ rest. text.now ≡ front.now ++ rest.now) }
+{
+    text.strip_prefix(front)
+}
+
+/// What stands in front of the first place where a text has another, and behind it.
+pub(crate) fn around<'a>(text: &'a str, middle: &str) -> Option<(&'a str, &'a str)>
+    ensures { IfSome result (λ parts. text.now ≡ parts.0.now ++ (middle.now ++ parts.1.now)) }
+{
+    text.split_once(middle)
+}
+
+/// A text in two parts, of which the second begins where another text is found first; all, where that text is empty.
+pub(crate) fn before<'a>(text: &'a str, next: &str) -> Option<(&'a str, &'a str)>
+    ensures { IfSome result (λ parts. text.now ≡ parts.0.now ++ parts.1.now) }
+{
+    if next.is_empty() {
+        return text.split_at_checked(text.len());
+    }
+    text.split_at_checked(text.find(next)?)
+}
+
+/// How many digits stand at the front of a text.
+fn digit_count(text: &str) -> usize {
+    text.bytes().take_while(|c| c.is_ascii_digit()).count()
+}
+
+/// The number at the front of a text, and what stands behind it. None where there is none, or it isn't written as
+/// numbers are printed.
+pub(crate) fn number_at(text: &str) -> Option<(u64, &str)>
+    ensures { IfSome result (λ parts. text.now ≡ decimal parts.0 ++ parts.1.now) }
+{
+    let (digits, rest) = text.split_at_checked(digit_count(text))?;
+    let number = digits.parse::<u64>().ok()?;
+    let mut buffer = Buffer::new();
+    if buffer.format(number) == digits {
+        Some((number, rest))
+    } else {
+        None
+    }
+}
+
+/// How many times two spaces stand at the front of a text, 64 times at most, and what stands behind them.
+pub(crate) fn depth_at(text: &str) -> (u64, &str)
+    ensures { text.now ≡ spaces result.0 ++ result.1.now }
+{
+    let mut rest = text;
+    for depth in 0..MOST_DEPTH {
+        match behind(rest, "  ") {
+            Some(inner) => rest = inner,
+            None => return (depth, rest),
+        }
+    }
+    (MOST_DEPTH, rest)
+}

@@ -1,0 +1,210 @@
+//! Lines, read by templates.
+
+ghost use Rattle.std.specs.Prelude.{◌≡◌, ◌++◌, List, map, Contains, All, IfOk, IfSome};
+ghost use Rattle.pb_export.specs.Rows.{field_text, fields_text, filled_text, report_text, row_text, Fits, IsFilled, AreFilled, IsRow, IsRowOf, AreRows};
+
+use crate::faults::FormatFault;
+use crate::parts::{around, before, behind, depth_at, number_at};
+use crate::rows::{Field, Filled, Row};
+use crate::templates::{Choice, Kind, Slot, Template};
+use crate::words::{groups_in, numbers_at, words_in};
+use std::alloc::{AllocError, Global};
+
+/// The first of some texts that stands at the front of a text, and what stands behind it.
+fn choice_at<'a>(choices: &[Choice], text: &'a str) -> Option<(Choice, &'a str)>
+    ensures text { IfSome result (λ parts. text.now ≡ parts.0.text.now ++ parts.1.now) }
+    ensures among { IfSome result (λ parts. Contains choices.now parts.0) }
+{
+    for choice in choices {
+        if let Some(rest) = behind(text, choice.text) {
+            return Some((*choice, rest));
+        }
+    }
+    None
+}
+
+/// What a slot holds that takes no memory, and what stands behind it.
+fn plain_field<'a>(slot: &Slot, text: &'a str) -> Option<(Field<'a>, &'a str)>
+    ensures text { IfSome result (λ parts. text.now ≡ field_text parts.0 ++ parts.1.now) }
+    ensures fits { IfSome result (λ parts. Fits slot.now.kind parts.0) }
+{
+    match slot.kind {
+        Kind::Text => {
+            let (front, rest) = before(text, slot.until)?;
+            Some((Field::Text(front), rest))
+        }
+        Kind::Number => {
+            let (number, rest) = number_at(text)?;
+            Some((Field::Number(number), rest))
+        }
+        Kind::Depth => {
+            let (depth, rest) = depth_at(text);
+            Some((Field::Depth(depth), rest))
+        }
+        Kind::OneOf(choices) => {
+            let (choice, rest) = choice_at(choices, text)?;
+            Some((Field::Chosen(choice), rest))
+        }
+        Kind::Words | Kind::Numbers | Kind::Groups => None,
+    }
+}
+
+/// Words, each behind a space, up to where another text is found first.
+fn words_field<'a>(
+    alloc: Global,
+    text: &'a str,
+    until: &str,
+) -> Result<Option<(Field<'a>, &'a str)>, AllocError>
+    ensures { IfOk result (λ o. IfSome o (λ parts. (text.now ≡ field_text parts.0 ++ parts.1.now) × Fits Kind.Words parts.0)) }
+{
+    let Some((front, rest)) = before(text, until) else {
+        return Ok(None);
+    };
+    match words_in(alloc, front)? {
+        Some(words) => Ok(Some((Field::Words(words), rest))),
+        None => Ok(None),
+    }
+}
+
+/// Numbers, each behind a space.
+fn numbers_field<'a>(
+    alloc: Global,
+    text: &'a str,
+) -> Result<Option<(Field<'a>, &'a str)>, AllocError>
+    ensures { IfOk result (λ o. IfSome o (λ parts. (text.now ≡ field_text parts.0 ++ parts.1.now) × Fits Kind.Numbers parts.0)) }
+{
+    let (numbers, rest) = numbers_at(alloc, text)?;
+    Ok(Some((Field::Numbers(numbers), rest)))
+}
+
+/// Groups of words, up to the end of a line.
+fn groups_field<'a>(
+    alloc: Global,
+    text: &'a str,
+) -> Result<Option<(Field<'a>, &'a str)>, AllocError>
+    ensures { IfOk result (λ o. IfSome o (λ parts. (text.now ≡ field_text parts.0 ++ parts.1.now) × Fits Kind.Groups parts.0)) }
+{
+    match groups_in(alloc, text)? {
+        Some((groups, last)) => Ok(Some((Field::Groups(groups, last), ""))),
+        None => Ok(None),
+    }
+}
+
+/// What a slot holds at the front of a text, and what stands behind it. None where nothing that it may hold stands there.
+fn field_at<'a>(
+    alloc: Global,
+    slot: &Slot,
+    text: &'a str,
+) -> Result<Option<(Field<'a>, &'a str)>, AllocError>
+    ensures { IfOk result (λ o. IfSome o (λ parts. (text.now ≡ field_text parts.0 ++ parts.1.now) × Fits slot.now.kind parts.0)) }
+{
+    match slot.kind {
+        Kind::Words => words_field(alloc, text, slot.until),
+        Kind::Numbers => numbers_field(alloc, text),
+        Kind::Groups => groups_field(alloc, text),
+        Kind::Text | Kind::Number | Kind::Depth | Kind::OneOf(_) => Ok(plain_field(slot, text)),
+    }
+}
+
+/// A slot that is filled by what stands at the front of a text, with the fixed text behind it, and what stands behind that.
+fn filled_at<'a>(
+    alloc: Global,
+    slot: &Slot,
+    text: &'a str,
+) -> Result<Option<(Filled<'a>, &'a str)>, AllocError>
+    ensures { IfOk result (λ o. IfSome o (λ parts. IsFilled slot.now parts.0 × (text.now ≡ filled_text parts.0 ++ parts.1.now))) }
+{
+    let Some((field, rest)) = field_at(alloc, slot, text)? else {
+        return Ok(None);
+    };
+    match behind(rest, slot.until) {
+        Some(rest) => Ok(Some((Filled { slot: *slot, field }, rest))),
+        None => Ok(None),
+    }
+}
+
+/// Slots that are filled by a text. None where it isn't theirs.
+fn fields_of<'a>(
+    alloc: Global,
+    slots: &[Slot],
+    text: &'a str,
+) -> Result<Option<Vec<Filled<'a>>>, AllocError>
+    ensures { IfOk result (λ o. IfSome o (λ fields. AreFilled slots.now fields.items × (text.now ≡ fields_text fields.items))) }
+{
+    let mut fields = Vec::with_capacity(alloc, slots.len())?;
+    let mut rest = text;
+    for slot in slots {
+        let Some((filled, later)) = filled_at(alloc, slot, rest)? else {
+            return Ok(None);
+        };
+        fields.push(filled)?;
+        rest = later;
+    }
+    if rest.is_empty() {
+        Ok(Some(fields))
+    } else {
+        Ok(None)
+    }
+}
+
+/// A line, read by a template. None where it has another form.
+fn row_by<'a>(
+    alloc: Global,
+    template: &Template,
+    line: &'a str,
+) -> Result<Option<Row<'a>>, AllocError>
+    ensures { IfOk result (λ o. IfSome o (IsRow template.now line.now)) }
+{
+    let Some(rest) = behind(line, template.lead) else {
+        return Ok(None);
+    };
+    match fields_of(alloc, template.slots, rest)? {
+        Some(fields) => Ok(Some(Row {
+            template: *template,
+            fields,
+        })),
+        None => Ok(None),
+    }
+}
+
+/// A line, read by the first of some templates whose form it has. None where it has none of these forms.
+fn row_of<'a>(
+    alloc: Global,
+    templates: &[Template],
+    line: &'a str,
+) -> Result<Option<Row<'a>>, AllocError>
+    ensures { IfOk result (λ o. IfSome o (λ row. IsRowOf templates.now row × (line.now ≡ row_text row))) }
+{
+    for template in templates {
+        if let Some(row) = row_by(alloc, template, line)? {
+            return Ok(Some(row));
+        }
+    }
+    Ok(None)
+}
+
+/// Reads a report line by line, each by the first of some templates whose form it has. The rows give back the text.
+///
+/// `Unread` is answered where a line has none of the forms, or the last line has no end; `Memory` where memory ran out.
+pub fn read_report<'a>(
+    alloc: Global,
+    templates: &[Template],
+    text: &'a str,
+) -> Result<Vec<Row<'a>>, FormatFault>
+    ensures { IfOk result (λ rows. AreRows templates.now text.now rows.items) }
+{
+    let mut rows = Vec::new(alloc);
+    let mut rest = text;
+    'lines: while let Some((line, later)) = around(rest, "\n") {
+        let Some(row) = row_of(alloc, templates, line)? else {
+            return Err(FormatFault::Unread);
+        };
+        rows.push(row)?;
+        rest = later;
+    }
+    if rest.is_empty() {
+        Ok(rows)
+    } else {
+        Err(FormatFault::Unread)
+    }
+}

@@ -1,9 +1,0 @@
--- What ends a run where the bridge can take no step.
-use Rattle.pb_said.specs.declared.fault.CommandFault.{CommandFault}
-use Rattle.pb_said.specs.declared.fault.CommandFault.TheVariants.{Steps, Memory}
-use Rattle.pb_relay.specs.declared.fault.BridgeFault.{BridgeFault}
-use Rattle.pb_relay.specs.declared.fault.BridgeFault.TheVariants.{StepLimit, Memory as no_step_held}
-
-abbrev pub of_bridge : BridgeFault → CommandFault
-of_bridge StepLimit = Steps
-of_bridge no_step_held = Memory

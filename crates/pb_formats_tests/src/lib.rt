@@ -1,5 +1,0 @@
-//! Runs of pb_formats with ample memory.
-#![tactic(auto)]
-
-#[cfg(test)]
-mod tests;

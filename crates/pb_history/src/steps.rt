@@ -1,0 +1,175 @@
+//! The list of steps of a place.
+
+ghost use Rattle.std.specs.Prelude.{◌≡◌, ◌<◌, ◌&&◌, [], true, false, length, OnOk, OnErr, IsOk};
+ghost use Rattle.pb_history.specs.StepLists.{with_step, given_back};
+
+use crate::tally::Tally;
+use pb_frame::Memory;
+use pb_lan::Step;
+use std::alloc::Global;
+use std::marker::Model;
+
+/// The steps that a place has taken, in order, with what is counted of them. Either each of them is kept in memory,
+/// or they are only counted: then contracts see the list, and the program has no octet of it.
+///
+/// Contracts see the steps, whether they are kept, and whether there is room for one more.
+#[derive(Drop)]
+pub struct Steps {
+    tally: Tally,
+    kept: Vec<Step>,
+    is_kept: bool,
+    is_reserved: bool,
+}
+
+impl Model for Steps {
+    ghost use Rattle.std.specs.Prelude.{vec_capacity};
+    ghost use Rattle.pb_history.specs.StepLists.{StepsView, AreTold};
+
+    ghost Value = { StepsView };
+
+    ghost view = { λ s. record { steps = s.tally; is_kept = s.is_kept; is_reserved = s.is_reserved } };
+
+    ghost invariant = { λ s. AreTold s.tally s.kept.items (vec_capacity s.kept) s.is_kept s.is_reserved };
+}
+
+impl Steps {
+    /// No steps, each of which will be kept. Takes no memory.
+    pub fn kept(alloc: Global) -> Steps
+        ensures { result ≡ record { steps = []; is_kept = true; is_reserved = false } }
+    {
+        Steps::none(alloc, true)
+    }
+
+    /// No steps, which will only be counted. Takes no memory.
+    pub fn counted(alloc: Global) -> Steps
+        ensures { result ≡ record { steps = []; is_kept = false; is_reserved = false } }
+    {
+        Steps::none(alloc, false)
+    }
+
+    /// No steps.
+    fn none(alloc: Global, is_kept: bool) -> Steps
+        ensures { result ≡ record { steps = []; is_kept = is_kept; is_reserved = false } }
+    {
+        Steps {
+            tally: Tally::new(),
+            kept: Vec::new(alloc),
+            is_kept,
+            is_reserved: false,
+        }
+    }
+
+    /// The number of steps.
+    #[inline(always)]
+    pub fn len(&self) -> u64
+        ensures { result ≡ length self.now.steps }
+    {
+        self.tally.len()
+    }
+
+    /// Whether each step is kept.
+    #[inline(always)]
+    pub fn are_kept(&self) -> bool
+        ensures { result ≡ self.now.is_kept }
+    {
+        self.is_kept
+    }
+
+    /// Makes room for one step, which the next step uses up.
+    ///
+    /// `Memory` is answered where there is none for one more, or 2^64-1 steps were taken; nothing has changed
+    /// then. Where there is room already, the answer is `Ok`, and where steps are only counted and fewer were
+    /// taken.
+    #[inline(always)]
+    pub fn reserve(&mut self) -> Result<(), Memory>
+        ensures ok { OnOk result (self.new ≡ record self.old { is_reserved = true }) }
+        ensures err { OnErr result (self.new ≡ self.old) }
+        ensures reserved { self.old.is_reserved ≡ true → IsOk result }
+        ensures counted { self.old.is_kept ≡ false → length self.old.steps < u64.MAX → IsOk result }
+    {
+        if self.is_reserved {
+            return Ok(());
+        }
+        if self.tally.len() == u64::MAX {
+            return Err(Memory);
+        }
+        if self.is_kept {
+            self.kept.reserve(1)?;
+        }
+        self.is_reserved = true;
+        Ok(())
+    }
+
+    /// Whether there is room for one step.
+    #[inline(always)]
+    pub fn has_room(&self) -> bool
+        ensures { result ≡ self.now.is_reserved }
+    {
+        self.is_reserved
+    }
+
+    /// The room for one step is there no longer, unless it is to be kept.
+    #[inline(always)]
+    pub fn keep_room(&mut self, is_kept: bool)
+        ensures { self.new ≡ record self.old { is_reserved = self.old.is_reserved && is_kept } }
+    {
+        self.is_reserved = self.is_reserved && is_kept;
+    }
+
+    /// Puts a step behind the others, and gives it back where it is only counted. Takes no memory.
+    #[inline(always)]
+    pub fn append(&mut self, step: Step) -> Option<Step>
+        requires { self.old.is_reserved ≡ true }
+        ensures steps { self.new ≡ with_step self.old step }
+        ensures back { result ≡ given_back self.old.is_kept step }
+    {
+        self.tally.note(&step);
+        self.is_reserved = false;
+        if !self.is_kept {
+            return Some(step);
+        }
+        let _ = self.kept.push(step);
+        None
+    }
+
+    /// What is counted of the steps.
+    pub fn tally(&self) -> &Tally
+        ensures { result.now ≡ self.now.steps }
+    {
+        &self.tally
+    }
+
+    /// The steps where they are kept, and else none.
+    pub fn as_slice(&self) -> &[Step]
+        ensures kept { self.now.is_kept ≡ true → result.now ≡ self.now.steps }
+    {
+        self.kept.as_slice()
+    }
+
+    /// The steps where they are kept, and else none. Takes no memory.
+    pub fn into_vec(self) -> Vec<Step>
+        ensures kept { self.is_kept ≡ true → result.items ≡ self.steps }
+    {
+        let Steps {
+            tally: _,
+            kept,
+            is_kept: _,
+            is_reserved: _,
+        } = self;
+        kept
+    }
+
+    /// What is counted of the steps, and the steps where they are kept, and else none. Takes no memory.
+    pub fn into_parts(self) -> (Tally, Vec<Step>)
+        ensures tally { result.0 ≡ self.steps }
+        ensures kept { self.is_kept ≡ true → result.1.items ≡ self.steps }
+    {
+        let Steps {
+            tally,
+            kept,
+            is_kept: _,
+            is_reserved: _,
+        } = self;
+        (tally, kept)
+    }
+}

@@ -1,7 +1,0 @@
-use Rattle.std.proofs.Common.{◌≡◌, drop}
-use Rattle.pb_locate.specs.Lines.{has_text}
-use Rattle.pb_locate.proofs.header.has_text.Given as goal
-
--- no text begins before
-abbrev pub invariant-loop-i : goal.invariant-loop-i
-invariant-loop-i l = has_text (drop l.i l.file) ≡ has_text l.file

@@ -1,7 +1,0 @@
-use Rattle.std.proofs.Common.{◌≡◌, drop}
-use Rattle.pb_locate.specs.Lines.{squeezed}
-use Rattle.pb_locate.proofs.line.behind_octet.Given as goal
-
--- only blanks stand before
-abbrev pub invariant-loop-i : goal.invariant-loop-i
-invariant-loop-i l = squeezed (drop l.i l.line) ≡ squeezed l.line

@@ -1,7 +1,0 @@
-use Rattle.std.proofs.Common.{◌≡◌, drop}
-use Rattle.pb_locate.specs.Lines.{squeezed}
-use Rattle.pb_locate.proofs.line.is_empty.Given as goal
-
--- only blanks stand before
-abbrev pub invariant-loop-b : goal.invariant-loop-b
-invariant-loop-b l = squeezed (drop l.b-index l.line) ≡ squeezed l.line

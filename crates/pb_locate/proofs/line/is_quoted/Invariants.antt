@@ -1,7 +1,0 @@
-use Rattle.std.proofs.Common.{◌≡◌, drop}
-use Rattle.pb_locate.specs.Lines.{is_quoted}
-use Rattle.pb_locate.proofs.line.is_quoted.Given as goal
-
--- only blanks stand before
-abbrev pub invariant-loop-i : goal.invariant-loop-i
-invariant-loop-i l = is_quoted (drop l.i l.line) ≡ is_quoted l.line

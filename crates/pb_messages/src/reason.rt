@@ -1,0 +1,26 @@
+//! Words for reasons.
+
+ghost use Rattle.std.specs.Prelude.{◌≡◌, ◌++◌, string_bytes, OnOk};
+ghost use Rattle.pb_messages.specs.Reasons.{reason_word};
+
+use pb_frame::Memory;
+use pb_lan::Reason;
+
+/// Puts the word for why a frame went nowhere behind a text. `Memory` is answered where memory ran out, and then a part of
+/// it may stand there.
+pub fn put_reason(out: &mut String, reason: Reason) -> Result<(), Memory>
+    ensures { OnOk result (string_bytes out.new ≡ string_bytes out.old ++ reason_word reason) }
+{
+    match reason {
+        Reason::NotForwarding => out.push_str("not-forwarding")?,
+        Reason::NotMember => out.push_str("not-member")?,
+        Reason::Untagged => out.push_str("untagged")?,
+        Reason::Reserved(number) => write!(out, "reserved-{number}")?,
+        Reason::Malformed => out.push_str("malformed")?,
+        Reason::Worn => out.push_str("worn")?,
+        Reason::Memory => out.push_str("memory")?,
+        Reason::STagged => out.push_str("s-tagged")?,
+        Reason::Long => out.push_str("long")?,
+    }
+    Ok(())
+}

@@ -1,0 +1,48 @@
+//! Words and numbers in lines.
+
+ghost use Rattle.std.specs.Prelude.{◌≡◌, ◌≤◌, ◌<◌, ◌+◌, ◌==◌, ◌++◌, ◌∷◌, Some, None, IfSome, IfNone, length, take, drop};
+ghost use Rattle.std.specs.List.{position};
+ghost use Rattle.pb_messages.specs.Words.{cut as cut_at, HasNoSpace, port_of, local_port};
+
+/// Where the first space stands.
+fn space_in(text: &[u8]) -> Option<usize>
+    ensures place { result ≡ position (λ c. c == 32) text.now }
+    ensures some { IfSome result (λ i. (i < length text.now) × (text.now ≡ take i text.now ++ 32 ∷ drop (i + 1) text.now) × HasNoSpace (take i text.now)) }
+    ensures none { IfNone result (HasNoSpace text.now) }
+{
+    text.iter().position(|c| *c == b' ')
+}
+
+/// The parts in front of the first space and behind it.
+pub fn cut(text: &[u8]) -> Option<(&[u8], &[u8])>
+    ensures some { IfSome result (λ parts. cut_at text.now ≡ Some (parts.0.now, parts.1.now)) }
+    ensures none { IfNone result (cut_at text.now ≡ None) }
+    ensures parts { IfSome result (λ parts. (text.now ≡ parts.0.now ++ 32 ∷ parts.1.now) × HasNoSpace parts.0.now) }
+    ensures whole { IfNone result (HasNoSpace text.now) }
+{
+    match space_in(text) {
+        Some(i) => Some((&text[..i], &text[i + 1..])),
+        None => None,
+    }
+}
+
+/// What a port's digits say: one to three, the first not 0.
+pub fn read_port(digits: &[u8]) -> Option<u16>
+    ensures { result ≡ port_of digits.now }
+{
+    match digits {
+        [a @ b'1'..=b'9'] => Some(u16::from(*a - 48)),
+        [a @ b'1'..=b'9', b @ b'0'..=b'9'] => Some(u16::from(*a - 48) * 10 + u16::from(*b - 48)),
+        [a @ b'1'..=b'9', b @ b'0'..=b'9', c @ b'0'..=b'9'] => {
+            Some(u16::from(*a - 48) * 100 + u16::from(*b - 48) * 10 + u16::from(*c - 48))
+        }
+        _ => None,
+    }
+}
+
+/// A bridge's local port; a number above its sixteen names none, as 0 does.
+pub fn local_port(number: u16) -> u8
+    ensures { result ≡ local_port number }
+{
+    if number <= 16 { number as u8 } else { 0 }
+}

@@ -1,0 +1,58 @@
+//! What the parts of a plan are called.
+
+ghost use Rattle.std.specs.Prelude.{◌≡◌};
+ghost use Rattle.pb_rstp.specs.Vectors.{bridge_id};
+ghost use Rattle.pb_names.specs.Names.{bridge_name, link_name, service_name, port_name};
+
+use byteorder::{BigEndian, ByteOrder};
+use pb_forest::numbered;
+use pb_frame::Mac;
+use pb_lan::Plan;
+
+/// The name of the bridge of this number, from 1; empty where there is none.
+pub fn bridge_name(plan: &Plan, number: u8) -> &str
+    ensures { result.now ≡ bridge_name plan.now number }
+{
+    match numbered(plan.bridges.as_slice(), number as usize) {
+        None => "",
+        Some(bridge) => bridge.name.as_str(),
+    }
+}
+
+/// The name of the link of this number, from 1; empty where there is none.
+pub fn link_name(plan: &Plan, number: u8) -> &str
+    ensures { result.now ≡ link_name plan.now number }
+{
+    match numbered(plan.links.as_slice(), number as usize) {
+        None => "",
+        Some(link) => link.name.as_str(),
+    }
+}
+
+/// The name of the service of this number, from 1; empty where there is none.
+pub fn service_name(plan: &Plan, number: u8) -> &str
+    ensures { result.now ≡ service_name plan.now number }
+{
+    match numbered(plan.services.as_slice(), number as usize) {
+        None => "",
+        Some(service) => service.name.as_str(),
+    }
+}
+
+/// The name of the customer port of this number, from 1; empty where there is none.
+pub fn port_name(plan: &Plan, number: u8) -> &str
+    ensures { result.now ≡ port_name plan.now number }
+{
+    match numbered(plan.customers.as_slice(), number as usize) {
+        None => "",
+        Some(customer) => customer.name.as_str(),
+    }
+}
+
+/// The identifier of a bridge with this priority and address: the priority times 2^48 and the address
+/// (IEEE 802.1D-2004 clause 9.2.5).
+pub fn bridge_id(priority: u16, address: Mac) -> u64
+    ensures { result ≡ bridge_id priority address.0 }
+{
+    priority as u64 * 0x1_0000_0000_0000 + BigEndian::read_uint(&address.0, 6)
+}

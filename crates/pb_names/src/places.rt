@@ -1,0 +1,39 @@
+//! What stands at a bridge's port. A bridge goes by its number and a port by its local number, both from 1.
+
+ghost use Rattle.std.specs.Option.{option_copied};
+ghost use Rattle.std.specs.Prelude.{◌≡◌};
+ghost use Rattle.pb_lan.specs.Ports.{is_end_at};
+ghost use Rattle.pb_names.specs.Places.{customer_at, link_at};
+
+use pb_lan::{CustomerPlan, End, LinkPlan, Plan};
+
+/// The customer port at a bridge's port, if one is there. A sound plan has at most one.
+pub fn customer_at(plan: &Plan, bridge: u8, port: u8) -> Option<&CustomerPlan>
+    ensures { option_copied result ≡ customer_at plan.now bridge port }
+{
+    for customer in plan.customers.as_slice() {
+        if customer.bridge == bridge && customer.port == port {
+            return Some(customer);
+        }
+    }
+    None
+}
+
+/// Whether an end of a link is this bridge's port.
+pub fn is_end_at(bridge: u8, port: u8, end: &End) -> bool
+    ensures { result ≡ is_end_at bridge port end.now }
+{
+    end.bridge == bridge && end.port == port
+}
+
+/// The link with an end at a bridge's port, if one is there. A sound plan has at most one.
+pub fn link_at(plan: &Plan, bridge: u8, port: u8) -> Option<&LinkPlan>
+    ensures { option_copied result ≡ link_at plan.now bridge port }
+{
+    for link in plan.links.as_slice() {
+        if is_end_at(bridge, port, &link.a) || is_end_at(bridge, port, &link.b) {
+            return Some(link);
+        }
+    }
+    None
+}

@@ -1,0 +1,31 @@
+//! The words for what a port of a bridge is and does.
+
+ghost use Rattle.std.specs.Prelude.{◌≡◌};
+ghost use Rattle.pb_names.specs.Names.{role_word, state_word};
+
+use pb_lan::PortState;
+use pb_rstp::Role;
+
+/// The word for a role, in small letters.
+pub fn role_word(role: Role) -> &'static str
+    ensures { result.now ≡ role_word role }
+{
+    match role {
+        Role::Disabled => "disabled",
+        Role::Root => "root",
+        Role::Designated => "designated",
+        Role::Alternate => "alternate",
+        Role::Backup => "backup",
+    }
+}
+
+/// The word for a state, in small letters.
+pub fn state_word(state: PortState) -> &'static str
+    ensures { result.now ≡ state_word state }
+{
+    match state {
+        PortState::Discarding => "discarding",
+        PortState::Learning => "learning",
+        PortState::Forwarding => "forwarding",
+    }
+}

@@ -1,8 +1,0 @@
-use Rattle.std.proofs.Common.{drop, map}
-use Rattle.pb_opening.specs.Deeds.{Begun}
-use Rattle.pb_opening.specs.Opened.{emptied, shown}
-use Rattle.pb_opening.proofs.opened.empty_outs.Given as goal
-
-abbrev pub invariant-loop-place : goal.invariant-loop-place
-invariant-loop-place g l = Begun (g.O.Openings.done l.initial.opener) (g.O.Openings.done l.opener)
-    (emptied (map shown l.ports)) (emptied (map shown (drop l.place l.ports)))

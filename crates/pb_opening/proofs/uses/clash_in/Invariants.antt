@@ -1,6 +1,0 @@
-use Rattle.std.proofs.Common.{◌≡◌, drop}
-use Rattle.pb_opening.specs.Uses.{is_apart}
-use Rattle.pb_opening.proofs.uses.clash_in.Given as goal
-
-abbrev pub invariant-loop-index : goal.invariant-loop-index
-invariant-loop-index l = is_apart l.uses ≡ is_apart (drop l.index l.uses)

@@ -1,9 +1,0 @@
-use Rattle.std.proofs.Common.{◌++◌, List, ℕ, map, drop}
-use Rattle.pb_print.specs.ForestTexts.{AreLooping}
-use Rattle.pb_print.proofs.forests.looping.Given as goal
-
--- whatever names the services from here on give, they complete the names so far
-abbrev pub invariant-loop-index : goal.invariant-loop-index
-invariant-loop-index l =
-    (rest : List (List ℕ)) → AreLooping l.plan l.shape (drop l.index l.plan.services) rest
-    → AreLooping l.plan l.shape l.plan.services (map (λ n. n.now) l.names.items ++ rest)

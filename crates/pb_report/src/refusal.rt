@@ -1,0 +1,63 @@
+//! Files that are no plans.
+
+ghost use Rattle.std.specs.Prelude.{◌≡◌, ◌≢◌, ◌⊎◌, ◌++◌, string_bytes, IfErr, OnOk};
+ghost use Rattle.std.specs.Io.KnownBytes.{Appends, Keeps};
+ghost use Rattle.pb_report.specs.Refusals.{fault_words, refusal_line};
+
+use pb_frame::Memory;
+use pb_messages::CommandFault;
+use pb_service::PlanFault;
+use std::alloc::Global;
+use std::io::Write;
+
+/// The word for a fault, and the key or name that it tells.
+fn put_fault(out: &mut String, fault: &PlanFault) -> Result<(), Memory>
+    ensures { OnOk result (string_bytes out.new ≡ string_bytes out.old ++ fault_words fault.now) }
+{
+    match fault {
+        PlanFault::Utf8 => out.push_str("utf8")?,
+        PlanFault::Toml => out.push_str("toml")?,
+        PlanFault::Missing(key) => write!(out, "missing {}", key.as_str())?,
+        PlanFault::Kind(key) => write!(out, "kind {}", key.as_str())?,
+        PlanFault::Range(key) => write!(out, "range {}", key.as_str())?,
+        PlanFault::Unknown(key) => write!(out, "unknown {}", key.as_str())?,
+        PlanFault::Twice(name) => write!(out, "twice {}", name.as_str())?,
+        PlanFault::NoSuch(name) => write!(out, "no-such {}", name.as_str())?,
+        PlanFault::LinkEnd => out.push_str("link-end")?,
+        PlanFault::TooMany => out.push_str("too-many")?,
+        PlanFault::Memory => out.push_str("memory")?,
+    }
+    Ok(())
+}
+
+/// Puts the line of a plan that is refused behind a text: `plan: N WORD` with the number and the word of the
+/// rule that the file breaks, and the key or name where there is one. `Memory` is answered where memory ran out.
+pub fn put_refusal(out: &mut String, fault: &PlanFault) -> Result<(), Memory>
+    ensures { OnOk result (string_bytes out.new ≡ string_bytes out.old ++ refusal_line fault.now) }
+{
+    let number = fault.number();
+    write!(out, "plan: {number} ")?;
+    put_fault(out, fault)?;
+    writeln!(out)?;
+    Ok(())
+}
+
+/// Writes which rule a plan file breaks, by one `write_all`. `Write` is answered where a write failed, and then
+/// nothing is said of what was written; `Memory` where memory for the text ran out, and then nothing was written.
+/// No other fault comes.
+pub fn write_refusal<W: Write>(
+    alloc: Global,
+    fault: &PlanFault,
+    writer: &mut W,
+) -> Result<(), CommandFault>
+    ensures ok { OnOk result (Appends (W.contents writer.old) (W.contents writer.new) (refusal_line fault.now)) }
+    ensures kinds { IfErr result (λ e. (e ≡ CommandFault.Write) ⊎ (e ≡ CommandFault.Memory)) }
+    ensures none { IfErr result (λ e. e ≢ CommandFault.Write → Keeps (W.contents writer.old) (W.contents writer.new)) }
+{
+    let mut out = String::new(alloc);
+    put_refusal(&mut out, fault)?;
+    if writer.write_all(out.as_bytes()).is_err() || writer.flush().is_err() {
+        return Err(CommandFault::Write);
+    }
+    Ok(())
+}

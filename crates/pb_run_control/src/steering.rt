@@ -1,0 +1,285 @@
+//! The gate that steers a run.
+
+ghost use Rattle.std.specs.Prelude.{◌≤◌, length};
+ghost use Rattle.pb_lan.specs.Plans.{IsSound};
+
+use crate::agenda::Agenda;
+use crate::mailbox::Mailbox;
+use crate::traffic::Traffic;
+use crate::views::Views;
+use pb_control_socket::{Board, Control};
+use pb_frame::Memory;
+use pb_lan::{Place, Plan};
+use pb_service::PortEvent;
+use pb_threads::{Gate, Go, PortView, Wish};
+use std::alloc::Global;
+use std::fs::Files;
+use std::sync::Mutex;
+use std::sync::atomic::{AtomicU64, Ordering};
+
+/// The worker of the first bridge attends to the control socket once in so many turns.
+const LOOK: u64 = 16;
+
+/// After how many ticks of each bridge frames enter all the same, where the bridges have not settled.
+const PATIENCE: u64 = 200;
+
+/// Why frames may enter that were held back until the bridges have settled.
+#[derive(Clone, Copy, PartialEq, Eq, Debug)]
+pub enum Opening {
+    /// The bridges seem settled after so many ticks of the one that ticked most.
+    Settled(u64),
+    /// They don't after so many of the one that ticked least, and it is waited no longer.
+    Unsettled(u64),
+}
+
+/// A gate that is told how its run goes on.
+pub trait Watch: Gate {
+    /// Frames may enter from now on, which were held back until the bridges have settled.
+    fn open(&self, opening: Opening);
+
+    /// The run is over, and no worker comes any more. Nothing was printed yet of what came of it.
+    fn close(&self);
+}
+
+/// What is to happen to one bridge.
+#[derive(Drop)]
+struct Course {
+    agenda: Agenda,
+    mailbox: Mailbox,
+    views: Views,
+}
+
+/// The gate that steers a run: it gives bridges the wishes that are due, attends to the control socket, counts, and is else
+/// the gate that it has inside.
+#[derive(Drop)]
+pub struct Steering<'a, G> {
+    gate: &'a G,
+    plan: &'a Plan,
+    traffic: &'a Traffic,
+    /// That of each bridge, in the order of the plan.
+    courses: Vec<Course>,
+    /// The control socket, while there is one.
+    control: Mutex<Option<Control>>,
+    /// 1 once the run is to end.
+    stop: AtomicU64,
+    /// 1 once frames may enter.
+    open: AtomicU64,
+    ghost few_bridges: { length plan.now.bridges ≤ 32 },
+    ghost few_customers: { length plan.now.customers ≤ 128 },
+}
+
+/// What is to happen to the bridge of this number, from 1.
+fn course_of(alloc: Global, events: &[PortEvent], bridge: u8) -> Result<Course, Memory> {
+    Ok(Course {
+        agenda: Agenda::of(alloc, events, bridge)?,
+        mailbox: Mailbox::new(alloc)?,
+        views: Views::new(alloc)?,
+    })
+}
+
+/// What is to happen to each bridge of a plan.
+fn courses_of(alloc: Global, plan: &Plan, events: Vec<PortEvent>) -> Result<Vec<Course>, Memory> {
+    let mut events = events;
+    events.sort_by_key(|event| event.at)?;
+    let mut courses = Vec::new(alloc);
+    for place in 0..plan.bridges.len().min(32) {
+        courses.push(course_of(alloc, events.as_slice(), place as u8 + 1)?)?;
+    }
+    Ok(courses)
+}
+
+impl<'a, G> Steering<'a, G> {
+    /// The gate that steers a run of a sound plan, in which these events come, beside the gate of whoever runs it. It has no
+    /// control socket. Where it is to wait for the bridges, no frame enters before each of them has ports in the states of
+    /// their roles (802.1D-2004 clause 17.10) of which none has changed for four ticks, or each has ticked 200 times; no
+    /// contract says so. `Memory` is answered where there was none for the gate.
+    pub fn new(
+        alloc: Global,
+        gate: &'a G,
+        plan: &'a Plan,
+        traffic: &'a Traffic,
+        events: Vec<PortEvent>,
+        waits: bool,
+    ) -> Result<Steering<'a, G>, Memory>
+        requires { IsSound plan.now }
+    {
+        let courses = courses_of(alloc, plan, events)?;
+        Ok(Steering {
+            gate,
+            plan,
+            traffic,
+            courses,
+            control: Mutex::new(None),
+            stop: AtomicU64::new(0),
+            open: AtomicU64::new(if waits { 0 } else { 1 }),
+        })
+    }
+
+    /// How many events have not come so far.
+    pub fn left(&self) -> u64 {
+        let mut left = 0u64;
+        for course in &self.courses {
+            left = left.saturating_add(course.agenda.left());
+        }
+        left
+    }
+
+    /// Whoever connects to this control socket steers the run too, from now on.
+    pub fn plug(&self, control: Control) {
+        if let Some(mut held) = self.control.try_lock() {
+            *held = Some(control);
+        }
+    }
+
+    /// Closes the control socket, where there is one, and removes its file.
+    pub fn unplug<R: Files>(&self, rt: &R) {
+        if let Some(mut held) = self.control.try_lock() {
+            if let Some(control) = held.take() {
+                control.close(rt);
+            }
+        }
+    }
+
+    /// The wish that is due at the bridge of this number, from 1, where one is. Its clock has ticked so often.
+    fn due(&self, bridge: u8, now: u32) -> Option<Wish> {
+        let course = self.courses.get(usize::from(bridge).wrapping_sub(1))?;
+        match course.agenda.take(now) {
+            Some(wish) => Some(wish),
+            None => course.mailbox.take(),
+        }
+    }
+
+    /// Whether all bridges seem settled, by their own clocks.
+    fn are_settled(&self) -> bool {
+        let mut bridge = 0u8;
+        for course in &self.courses {
+            bridge = bridge.wrapping_add(1);
+            let (_, ticks) = self.traffic.at_bridge(bridge);
+            if !course.views.are_quiet(ticks) {
+                return false;
+            }
+        }
+        true
+    }
+
+    /// How often the clock of the bridge has ticked that ticked least.
+    fn slowest(&self) -> u64 {
+        let (mut bridge, mut least) = (0u8, u64::MAX);
+        for _ in &self.courses {
+            bridge = bridge.wrapping_add(1);
+            let (_, ticks) = self.traffic.at_bridge(bridge);
+            least = least.min(ticks);
+        }
+        least
+    }
+
+    /// Why frames may enter now that were held back so far; None where they may not yet, or may already.
+    fn opening(&self) -> Option<Opening> {
+        if self.open.load(Ordering::SeqCst) != 0 {
+            return None;
+        }
+        if self.are_settled() {
+            return Some(Opening::Settled(self.traffic.ticks()));
+        }
+        let ticks = self.slowest();
+        if ticks >= PATIENCE {
+            return Some(Opening::Unsettled(ticks));
+        }
+        None
+    }
+
+    /// Attends to the control socket, and answers whether the run goes on.
+    fn attend(&self) -> Go {
+        if let Some(mut held) = self.control.try_lock() {
+            if let Some(control) = held.as_mut() {
+                control.turn(self.plan, self);
+            }
+        }
+        if self.stop.load(Ordering::SeqCst) == 0 {
+            Go::Go
+        } else {
+            Go::Stop
+        }
+    }
+}
+
+impl<G> Board for Steering<'_, G> {
+    fn stop(&self) {
+        self.stop.store(1, Ordering::SeqCst);
+    }
+
+    fn set(&self, bridge: u8, port: u8, up: bool) {
+        if let Some(course) = self.courses.get(usize::from(bridge).wrapping_sub(1)) {
+            course.mailbox.put(Wish { port, up });
+        }
+    }
+
+    fn traffic(&self, port: u8) -> (u64, u64) {
+        self.traffic.at_port(port)
+    }
+
+    fn bridge(&self, bridge: u8) -> (u64, u64) {
+        self.traffic.at_bridge(bridge)
+    }
+
+    fn views(&self, bridge: u8) -> [Option<PortView>; 16] {
+        match self.courses.get(usize::from(bridge).wrapping_sub(1)) {
+            Some(course) => course.views.all(),
+            None => [None; 16],
+        }
+    }
+}
+
+impl<G: Watch> Gate for Steering<'_, G> {
+    fn pass(&self, place: Place, turn: u64) -> Go {
+        if turn % LOOK == 0 && place == Place::Bridge(1) {
+            if let Some(opening) = self.opening() {
+                self.gate.open(opening);
+                self.open.store(1, Ordering::SeqCst);
+            }
+            if self.attend() == Go::Stop {
+                return Go::Stop;
+            }
+        }
+        self.gate.pass(place, turn)
+    }
+
+    fn is_open(&self) -> bool {
+        self.open.load(Ordering::SeqCst) != 0
+    }
+
+    fn shows(&self, place: Place, port: u8, view: PortView) {
+        if let Place::Bridge(bridge) = place {
+            if let Some(course) = self.courses.get(usize::from(bridge).wrapping_sub(1)) {
+                let (_, ticks) = self.traffic.at_bridge(bridge);
+                course.views.show(port, view, ticks);
+            }
+        }
+    }
+
+    fn wish(&self, place: Place, now: u32) -> Option<Wish> {
+        match place {
+            Place::Bridge(bridge) => {
+                self.traffic.tick(bridge, now);
+                self.due(bridge, now)
+            }
+            _ => None,
+        }
+    }
+
+    fn refused(&self, place: Place, copies: u64) {
+        if let Place::Bridge(bridge) = place {
+            self.traffic.refuse(bridge, copies);
+        }
+    }
+}
+
+impl<G: Watch> Watch for Steering<'_, G> {
+    fn open(&self, opening: Opening) {
+        self.gate.open(opening);
+    }
+
+    fn close(&self) {
+        self.gate.close();
+    }
+}

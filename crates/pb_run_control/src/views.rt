@@ -1,0 +1,140 @@
+//! What the ports of a bridge are like while it runs.
+
+ghost use Rattle.std.specs.Prelude.{◌≤◌};
+
+use pb_lan::PortState;
+use pb_rstp::Role;
+use pb_threads::PortView;
+use std::alloc::{AllocError, Global};
+use std::sync::atomic::{AtomicU64, Ordering};
+
+/// The local ports of a bridge.
+const PORTS: usize = 16;
+
+/// For how many ticks nothing may change at a bridge that is settled: two hello times (802.1D-2004 table 17-1).
+const QUIET: u64 = 4;
+
+/// What the ports of a bridge are like, as its worker shows them.
+#[derive(Drop)]
+pub(crate) struct Views {
+    /// That of each local port, as a number; 0 where nothing was shown.
+    ports: Vec<AtomicU64>,
+    /// After how many ticks a port was last shown otherwise than before.
+    stirred: AtomicU64,
+}
+
+/// The number of a role, from 0 to 5.
+fn role_code(role: Option<Role>) -> u64
+    ensures { result ≤ 5 }
+{
+    match role {
+        None => 0,
+        Some(Role::Disabled) => 1,
+        Some(Role::Root) => 2,
+        Some(Role::Designated) => 3,
+        Some(Role::Alternate) => 4,
+        Some(Role::Backup) => 5,
+    }
+}
+
+/// The role of a number.
+fn role_of(code: u64) -> Option<Role> {
+    match code {
+        1 => Some(Role::Disabled),
+        2 => Some(Role::Root),
+        3 => Some(Role::Designated),
+        4 => Some(Role::Alternate),
+        5 => Some(Role::Backup),
+        _ => None,
+    }
+}
+
+/// The number of a state, from 1 to 3.
+fn state_code(state: PortState) -> u64
+    ensures { result ≤ 3 }
+{
+    match state {
+        PortState::Discarding => 1,
+        PortState::Learning => 2,
+        PortState::Forwarding => 3,
+    }
+}
+
+/// The view of a number, where it is that of one.
+fn view_of(code: u64) -> Option<PortView> {
+    let state = match code % 4 {
+        1 => PortState::Discarding,
+        2 => PortState::Learning,
+        3 => PortState::Forwarding,
+        _ => return None,
+    };
+    Some(PortView {
+        role: role_of(code / 4),
+        state,
+    })
+}
+
+/// Whether the port has the state of its role, in which it stays while nothing changes (802.1D-2004 clause 17.10).
+fn is_at_rest(view: PortView) -> bool {
+    match view.role {
+        None => true,
+        Some(Role::Root | Role::Designated) => view.state == PortState::Forwarding,
+        Some(Role::Disabled | Role::Alternate | Role::Backup) => {
+            view.state == PortState::Discarding
+        }
+    }
+}
+
+impl Views {
+    /// Nothing was shown. `AllocError` is answered where there was no memory for them.
+    pub(crate) fn new(alloc: Global) -> Result<Views, AllocError> {
+        let mut ports = Vec::with_capacity(alloc, PORTS)?;
+        for _ in 0..PORTS {
+            ports.push(AtomicU64::new(0))?;
+        }
+        Ok(Views {
+            ports,
+            stirred: AtomicU64::new(0),
+        })
+    }
+
+    /// The local port of this number, from 1, is like this after so many ticks. Only the bridge's own worker shows it.
+    pub(crate) fn show(&self, port: u8, view: PortView, ticks: u64) {
+        if let Some(kept) = self.ports.get(usize::from(port).wrapping_sub(1)) {
+            let code = 4 * role_code(view.role) + state_code(view.state);
+            if kept.swap(code, Ordering::SeqCst) != code {
+                self.stirred.store(ticks, Ordering::SeqCst);
+            }
+        }
+    }
+
+    /// What the port at this place, from 0, is like.
+    fn at(&self, place: usize) -> Option<PortView> {
+        view_of(self.ports.get(place)?.load(Ordering::SeqCst))
+    }
+
+    /// What the local ports are like. None of one that was not shown.
+    pub(crate) fn all(&self) -> [Option<PortView>; 16] {
+        let mut views = [None; 16];
+        for place in 0..PORTS {
+            views[place] = self.at(place);
+        }
+        views
+    }
+
+    /// Whether the bridge seems settled after so many ticks: each port has the state of its role, and none has changed for
+    /// two hello times.
+    pub(crate) fn are_quiet(&self, ticks: u64) -> bool {
+        if ticks < self.stirred.load(Ordering::SeqCst).saturating_add(QUIET) {
+            return false;
+        }
+        for view in self.all() {
+            if let Some(view) = view {
+                if !is_at_rest(view) {
+                    return false;
+                }
+            }
+        }
+        true
+    }
+}

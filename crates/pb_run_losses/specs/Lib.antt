@@ -1,0 +1,3 @@
+pub mod Losses
+pub mod Unwritten
+pub mod Strict

@@ -1,0 +1,19 @@
+-- The frames that a run could not write.
+use Rattle.std.specs.Prelude.{ℕ, ◌==◌, if◌then◌else◌, List, [], ◌∷◌, ◌++◌, length, codes}
+use Rattle.std.specs.Fmt.{decimal}
+use Rattle.std.specs.List.{count_by}
+use Rattle.pb_lan.specs.declared.plan.CustomerPlan.{CustomerPlan}
+use Rattle.pb_lan.specs.declared.step.Step.{Step}
+use Rattle.pb_port.specs.Reading.{held_sum}
+use Rattle.pb_workers.specs.Ports.{Frames}
+use Rattle.pb_history.specs.Passages.{is_gone}
+
+-- so many frames of a customer port were not written, where there are some
+abbrev pub unwritten_line : List ℕ → ℕ → List ℕ
+unwritten_line name count = if count == 0 then [] else codes "port " ++ name ++ codes ": " ++ decimal count ++ codes " frames not written" ++ 10 ∷ []
+
+-- of each customer port those that wait in its port, and those that came when it took none any more
+abbrev pub unwritten_lines : List CustomerPlan → List Frames → List (List Step) → List ℕ
+unwritten_lines (customer ∷ customers) (waiting ∷ waitings) (steps ∷ lists) =
+    unwritten_line customer.name (held_sum (length waiting) (count_by is_gone steps)) ++ unwritten_lines customers waitings lists
+unwritten_lines _ _ _ = []

@@ -1,0 +1,41 @@
+//! The frames that a run could not write.
+
+ghost use Rattle.std.specs.Prelude.{◌≡◌, ◌++◌, length, map, string_bytes, OnOk};
+ghost use Rattle.pb_run_losses.specs.Unwritten.{unwritten_line, unwritten_lines};
+
+use pb_frame::Memory;
+use pb_history::Tally;
+use pb_lan::CustomerPlan;
+use pb_port::Port;
+use pb_run::Held;
+
+/// Puts how many frames of a customer port were not written behind a text, where there are some.
+fn put_count(out: &mut String, name: &str, count: u64) -> Result<(), Memory>
+    ensures { OnOk result (string_bytes out.new ≡ string_bytes out.old ++ unwritten_line name.now count) }
+{
+    if count != 0 {
+        writeln!(out, "port {name}: {count} frames not written")?;
+    }
+    Ok(())
+}
+
+/// Puts `port NAME: N frames not written` behind a text for each customer port, in the plan's order, with frames that a
+/// run could not write: those that its port took and still has, and those that came to it after a write had failed.
+/// Nothing is put where there are none.
+pub(crate) fn put_unwritten(
+    out: &mut String,
+    customers: &[CustomerPlan],
+    ports: &[Held],
+    tallies: &[Tally],
+) -> Result<(), Memory>
+    requires ports { length ports.now ≡ length customers.now }
+    requires tallies { length tallies.now ≡ length customers.now }
+    ensures { OnOk result (string_bytes out.new ≡ string_bytes out.old ++ unwritten_lines customers.now (map (λ b. waiting b) ports.now) tallies.now) }
+{
+    for (index, customer) in customers.iter().enumerate() {
+        let unsent = ports[index].unsent().len() as u64;
+        let gone = tallies[index].gone();
+        put_count(out, customer.name.as_str(), unsent.saturating_add(gone))?;
+    }
+    Ok(())
+}

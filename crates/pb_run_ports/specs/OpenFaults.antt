@@ -1,0 +1,17 @@
+-- Why the ports of a plan were not opened.
+use Rattle.pb_run_ports.specs.declared.open_fault.OpenFault.{OpenFault}
+use Rattle.pb_run_ports.specs.declared.open_fault.OpenFault.TheVariants.{Unopened, Unemptied, Shared, Memory}
+
+-- a path can't be opened, or memory ran out
+abbrev pub IsUnopened : OpenFault → Type 0
+IsUnopened (Unopened fault) = Unit {0}
+IsUnopened Memory = Unit {0}
+IsUnopened (Unemptied fault) = ⊥
+IsUnopened (Shared file) = ⊥
+
+-- a file can't be emptied
+abbrev pub IsUnemptied : OpenFault → Type 0
+IsUnemptied (Unemptied fault) = Unit {0}
+IsUnemptied (Unopened fault) = ⊥
+IsUnemptied Memory = ⊥
+IsUnemptied (Shared file) = ⊥

@@ -1,0 +1,118 @@
+//! Why the ports of a plan were not opened.
+
+ghost use Rattle.std.specs.Prelude.{◌≡◌};
+ghost use Rattle.pb_run_ports.specs.OpenFaults.{IsUnopened, IsUnemptied};
+ghost use Rattle.pb_run_ports.specs.declared.open_fault.OpenFault.TheVariants.{Memory as memory_fault};
+
+use pb_frame::{Memory, Text};
+use std::alloc::{AllocFailed, Global};
+use std::io::{Error, ErrorKind};
+
+/// What a port does with a path.
+#[derive(Clone, Copy, Debug, PartialEq, Eq)]
+pub enum Verb {
+    /// It reads the file.
+    Read,
+    /// It writes the file.
+    Write,
+    /// It connects to the socket.
+    Connect,
+    /// It makes the socket.
+    Listen,
+}
+
+/// Who uses a file. A port goes by its place in the plan, from 0.
+#[derive(Clone, Copy, Debug, PartialEq, Eq)]
+pub enum FileUser {
+    /// The run, which has read its plan there.
+    Plan,
+    /// A port that reads it.
+    Reader(usize),
+    /// A port that writes it.
+    Writer(usize),
+}
+
+/// A path that a port could not use.
+#[derive(Debug, Drop)]
+pub struct PathFault {
+    /// The port's place in the plan, from 0.
+    pub place: usize,
+    /// What it was to do with the path.
+    pub verb: Verb,
+    /// The path.
+    pub path: Text,
+    /// Why it could not.
+    pub error: Error,
+}
+
+/// A file that a port would write and that has another use.
+#[derive(Debug, Drop)]
+pub struct SharedFile {
+    /// The place in the plan, from 0, of the port that would write it.
+    pub place: usize,
+    /// The path by which it would.
+    pub path: Text,
+    /// Who uses it too.
+    pub other: FileUser,
+}
+
+/// Why the ports of a plan were not opened.
+#[derive(Debug, Drop)]
+pub enum OpenFault {
+    /// A file can't be opened or made, or a socket not be connected to or made. No file was emptied.
+    Unopened(PathFault),
+    /// All were open, and a file can't be emptied. Those before it in the plan are empty.
+    Unemptied(PathFault),
+    /// One file would be written twice, written and read, or written over the plan. Nothing was opened.
+    Shared(SharedFile),
+    /// Memory ran out. No file was emptied.
+    Memory,
+}
+
+impl From<Memory> for OpenFault {
+    ghost from_gives = { λ _ e. e ≡ memory_fault };
+
+    fn from(_e: Memory) -> OpenFault {
+        OpenFault::Memory
+    }
+}
+
+impl<T: Drop> From<AllocFailed<T>> for OpenFault {
+    ghost from_gives = { λ _ e. IsUnopened e };
+
+    fn from(_e: AllocFailed<T>) -> OpenFault {
+        OpenFault::Memory
+    }
+}
+
+/// Why a path can't be opened: want of memory, or another reason.
+pub(crate) fn unopened(place: usize, verb: Verb, path: Text, error: Error) -> OpenFault
+    ensures { IsUnopened result }
+{
+    if error.kind() == ErrorKind::OutOfMemory {
+        return OpenFault::Memory;
+    }
+    OpenFault::Unopened(PathFault {
+        place,
+        verb,
+        path,
+        error,
+    })
+}
+
+/// Why the file at a path can't be emptied. Where there is no memory for the path, it is left out.
+pub(crate) fn unemptied(alloc: Global, place: usize, path: &Text, error: Error) -> OpenFault
+    ensures { IsUnemptied result }
+{
+    let path = match path.clone() {
+        Ok(path) => path,
+        Err(_) => Text::from_string(String::new(alloc)),
+    };
+    let verb = Verb::Write;
+    OpenFault::Unemptied(PathFault {
+        place,
+        verb,
+        path,
+        error,
+    })
+}

@@ -1,0 +1,143 @@
+//! Files that have two uses.
+
+ghost use Rattle.std.specs.Prelude.{◌≡◌, ◌++◌, is_some, is_none, IfSome, IfOk, OnOk};
+ghost use Rattle.std.specs.List.{list_any};
+ghost use Rattle.pb_run_ports.specs.Uses.{are_apart, clashes, is_apart, use_of, uses_at, writes};
+
+use crate::open_fault::FileUser;
+use crate::openings::Openings;
+use pb_frame::{Memory, Text};
+use pb_service::PortSpec;
+use std::alloc::Global;
+
+/// A use that is made of a file.
+#[derive(Drop)]
+pub(crate) struct FileUse {
+    /// Which file it is.
+    pub file: Text,
+    /// Who uses it.
+    pub user: FileUser,
+}
+
+/// A port would write a file that has another use.
+#[derive(Clone, Copy)]
+pub(crate) struct Clash {
+    /// The place in the plan, from 0, of the port that would write it.
+    pub place: usize,
+    /// Who uses it too.
+    pub other: FileUser,
+}
+
+/// Whether a user of a file writes it.
+fn writes(user: FileUser) -> bool
+    ensures { result ≡ writes user }
+{
+    match user {
+        FileUser::Writer(_) => true,
+        FileUser::Reader(_) | FileUser::Plan => false,
+    }
+}
+
+/// The place in the plan, from 0, of a port that uses a file.
+fn place_of(user: FileUser) -> usize {
+    match user {
+        FileUser::Reader(place) | FileUser::Writer(place) => place,
+        FileUser::Plan => 0,
+    }
+}
+
+/// Two uses are of one file, and one of them writes it.
+fn is_clash(earlier: &FileUse, later: &FileUse) -> bool
+    ensures { result ≡ clashes earlier.now later.now }
+{
+    let is_written = writes(earlier.user) || writes(later.user);
+    is_written && earlier.file == later.file
+}
+
+/// What is told of two uses: the later one, where it writes.
+fn clash_of(earlier: &FileUse, later: &FileUse) -> Clash {
+    let (one, other) = if writes(later.user) {
+        (later, earlier)
+    } else {
+        (earlier, later)
+    };
+    Clash {
+        place: place_of(one.user),
+        other: other.user,
+    }
+}
+
+/// A use that clashes with an earlier one, where there is one.
+fn clash_with(earlier: &FileUse, uses: &[FileUse]) -> Option<Clash>
+    ensures { is_some result ≡ list_any (clashes earlier.now) uses.now }
+{
+    for later in uses {
+        if is_clash(earlier, later) {
+            return Some(clash_of(earlier, later));
+        }
+    }
+    None
+}
+
+/// Two uses that clash, where there are such.
+fn clash_in(uses: &[FileUse]) -> Option<Clash>
+    ensures { is_none result ≡ is_apart uses.now }
+{
+    for (index, earlier) in uses.iter().enumerate() {
+        let (_, later) = uses.split_at(index + 1);
+        if let Some(clash) = clash_with(earlier, later) {
+            return Some(clash);
+        }
+    }
+    None
+}
+
+/// Puts the use that is made of a path behind others, where it may have no other.
+fn put_use<O: Openings>(
+    alloc: Global,
+    opener: &O,
+    uses: &mut Vec<FileUse>,
+    user: FileUser,
+    path: &str,
+) -> Result<(), Memory>
+    ensures { OnOk result (IfSome (O.named opener.now) (λ name. uses.new.items ≡ uses.old.items ++ use_of user (name path.now))) }
+{
+    if let Some(file) = opener.file_at(alloc, path)? {
+        uses.push(FileUse { file, user })?;
+    }
+    Ok(())
+}
+
+/// Puts the uses that a port makes of files behind others.
+fn put_uses<O: Openings>(
+    alloc: Global,
+    opener: &O,
+    uses: &mut Vec<FileUse>,
+    place: usize,
+    spec: &PortSpec,
+) -> Result<(), Memory>
+    ensures { OnOk result (IfSome (O.named opener.now) (λ name. uses.new.items ≡ uses.old.items ++ uses_at name place spec.now)) }
+{
+    if let PortSpec::Capture { read, write, .. } = spec {
+        put_use(alloc, opener, uses, FileUser::Reader(place), read.as_str())?;
+        put_use(alloc, opener, uses, FileUser::Writer(place), write.as_str())?;
+    }
+    Ok(())
+}
+
+/// A file that a port would write and that has another use, where there is one. The plan was read at its path.
+pub(crate) fn find_clash<O: Openings>(
+    alloc: Global,
+    opener: &O,
+    plan_path: &str,
+    specs: &[PortSpec],
+) -> Result<Option<Clash>, Memory>
+    ensures { IfOk result (λ clash. IfSome (O.named opener.now) (λ name. is_none clash ≡ are_apart name plan_path.now specs.now)) }
+{
+    let mut uses = Vec::new(alloc);
+    put_use(alloc, opener, &mut uses, FileUser::Plan, plan_path)?;
+    for (place, spec) in specs.iter().enumerate() {
+        put_uses(alloc, opener, &mut uses, place, spec)?;
+    }
+    Ok(clash_in(uses.as_slice()))
+}

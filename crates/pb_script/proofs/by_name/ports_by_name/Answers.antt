@@ -1,4 +1,0 @@
-use Rattle.pb_script.proofs.by_name.ports_by_name.Goals as goal
-
-pub returns : goal.returns
-returns c = c.sort.ensures _ c.in_ok-ports.ensures

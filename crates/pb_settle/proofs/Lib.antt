@@ -1,3 +1,0 @@
-pub mod DriveLemmas
-pub mod SweepLemmas
-pub mod TickLemmas

@@ -1,0 +1,4 @@
+use Rattle.pb_step_script.proofs.by_name.ports_by_name.Goals as goal
+
+pub returns : goal.returns
+returns c = c.sort.ensures _ c.in_ok-ports.ensures

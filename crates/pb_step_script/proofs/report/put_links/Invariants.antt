@@ -1,0 +1,8 @@
+use Rattle.std.proofs.Common.{◌≡◌, ◌++◌, map, drop, flat_map, string_bytes}
+use Rattle.pb_step_script.specs.Counts.{link_line}
+use Rattle.pb_step_script.proofs.report.put_links.Given as goal
+
+abbrev pub invariant-loop-name : goal.invariant-loop-name
+invariant-loop-name l =
+    string_bytes l.out ++ flat_map (link_line l.tallies) (map (λ n. (n.0.now, n.1)) (drop l.name-index l.links))
+    ≡ string_bytes l.initial.out ++ flat_map (link_line l.tallies) (map (λ n. (n.0.now, n.1)) l.links)

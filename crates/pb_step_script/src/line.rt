@@ -1,0 +1,205 @@
+//! Lines that ask for one event.
+
+ghost use Rattle.std.specs.Prelude.{◌≡◌, ℕ, List, Bool, codes, true, false, length, IfOk, IfSome, IfNone, ◌<◌};
+ghost use Rattle.pb_frame.specs.Hex.{IsHex};
+ghost use Rattle.pb_lan.specs.declared.event.Event.{Event};
+ghost use Rattle.pb_step_script.specs.Lines.{IsFrameAt, IsBridgePort, IsBridgeWay, IsWay, IsLinkLane, AsksFor, Asks};
+ghost use Rattle.pb_lan.specs.Names.{is_name};
+
+use crate::names::Names;
+use crate::verb::{Verb, verb_of};
+use bytes::Bytes;
+use pb_frame::{HexFault, Memory, hex_octets};
+use pb_lan::{Event, is_name};
+use pb_messages::{cut, local_port, read_port};
+use std::alloc::Global;
+
+/// A frame of one octet at least, from pairs of hexadecimal digits in either case.
+///
+/// None is answered of no digits, an odd number of them, and another octet among them; `Memory` where memory ran out for
+/// the frame.
+pub fn read_frame(alloc: Global, hex: &[u8]) -> Result<Option<Bytes>, Memory>
+    ensures some { IfOk result (λ o. IfSome o (λ frame. IsHex hex.now frame)) }
+    ensures filled { IfOk result (λ o. IfSome o (λ frame. 0 < length frame)) }
+    ensures none { IfOk result (λ o. IfNone o ((frame : List ℕ) → IsHex hex.now frame → 0 < length frame → ⊥)) }
+{
+    if hex.is_empty() {
+        return Ok(None);
+    }
+    match hex_octets(alloc, hex) {
+        Ok(frame) => Ok(Some(frame)),
+        Err(HexFault::Memory) => Err(Memory),
+        Err(HexFault::Digit) => Ok(None),
+        Err(HexFault::Odd) => Ok(None),
+    }
+}
+
+/// What comes in at which customer port, of the words `NAME HEX`.
+fn read_frame_at(
+    alloc: Global,
+    names: &Names<'_>,
+    words: &[u8],
+) -> Result<Option<(u8, Bytes)>, Memory>
+    ensures some { IfOk result (λ o. IfSome o (λ e. IsFrameAt names.now.plan.now words.now e.0 e.1)) }
+    ensures none { IfOk result (λ o. IfNone o ((port : ℕ) (frame : List ℕ) → IsFrameAt names.now.plan.now words.now port frame → ⊥)) }
+{
+    let Some((name, hex)) = cut(words) else {
+        return Ok(None);
+    };
+    if !is_name(name) {
+        return Ok(None);
+    }
+    match read_frame(alloc, hex)? {
+        Some(frame) => Ok(Some((names.customer(name), frame))),
+        None => Ok(None),
+    }
+}
+
+/// The bridge and its local port, of the words `BRIDGE PORT`.
+fn read_bridge_port(names: &Names<'_>, words: &[u8]) -> Option<(u8, u8)>
+    ensures some { IfSome result (λ at. IsBridgePort names.now.plan.now words.now at.0 at.1) }
+    ensures none { IfNone result ((bridge port : ℕ) → IsBridgePort names.now.plan.now words.now bridge port → ⊥) }
+{
+    let (name, digits) = cut(words)?;
+    if !is_name(name) {
+        return None;
+    }
+    let number = read_port(digits)?;
+    Some((names.bridge(name), local_port(number)))
+}
+
+/// Whether a port is set up, of the word `up` or `down`.
+fn read_way(word: &[u8]) -> Option<bool>
+    ensures some { IfSome result (λ up. IsWay word.now up) }
+    ensures none { IfNone result ((up : Bool) → IsWay word.now up → ⊥) }
+{
+    match word {
+        b"up" => Some(true),
+        b"down" => Some(false),
+        _ => None,
+    }
+}
+
+/// A local port of a bridge that is to be set up or down.
+#[derive(Clone, Copy)]
+struct PortSetting {
+    /// The bridge's number.
+    bridge: u8,
+    /// The local port.
+    port: u8,
+    /// Whether it is to be up.
+    up: bool,
+}
+
+/// The port that is to be set, and whether up, of the words `BRIDGE PORT WAY`.
+fn read_bridge_way(names: &Names<'_>, words: &[u8]) -> Option<PortSetting>
+    ensures some { IfSome result (λ at. IsBridgeWay names.now.plan.now words.now at.bridge at.port at.up) }
+    ensures none { IfNone result ((bridge port : ℕ) (up : Bool) → IsBridgeWay names.now.plan.now words.now bridge port up → ⊥) }
+{
+    let (name, rest) = cut(words)?;
+    let (digits, way) = cut(rest)?;
+    if !is_name(name) {
+        return None;
+    }
+    let number = read_port(digits)?;
+    match read_way(way) {
+        Some(up) => Some(PortSetting {
+            bridge: names.bridge(name),
+            port: local_port(number),
+            up,
+        }),
+        None => None,
+    }
+}
+
+/// The lane of a link, of the words `LINK ab` or `LINK ba`.
+fn read_link_lane(names: &Names<'_>, words: &[u8]) -> Option<u8>
+    ensures some { IfSome result (λ lane. IsLinkLane names.now.plan.now words.now lane) }
+    ensures none { IfNone result ((lane : ℕ) → IsLinkLane names.now.plan.now words.now lane → ⊥) }
+{
+    let (name, way) = cut(words)?;
+    if !is_name(name) {
+        return None;
+    }
+    let link = names.link(name);
+    match way {
+        b"ab" => Some((2 * link).saturating_sub(1)),
+        b"ba" => Some(2 * link),
+        _ => None,
+    }
+}
+
+/// The event that a line's words behind its verb ask for.
+fn read_words(
+    alloc: Global,
+    names: &Names<'_>,
+    verb: Verb,
+    words: &[u8],
+) -> Result<Option<Event>, Memory>
+    ensures some { IfOk result (λ o. IfSome o (λ event. AsksFor names.now.plan.now verb words.now event)) }
+    ensures none { IfOk result (λ o. IfNone o ((event : Event) → AsksFor names.now.plan.now verb words.now event → ⊥)) }
+{
+    let event = match verb {
+        Verb::Poll => match read_frame_at(alloc, names, words)? {
+            Some((port, frame)) => Event::Poll { port, frame },
+            None => return Ok(None),
+        },
+        Verb::Receive => match read_bridge_port(names, words) {
+            Some((bridge, port)) => Event::Receive { bridge, port },
+            None => return Ok(None),
+        },
+        Verb::Transmit => match read_bridge_port(names, words) {
+            Some((bridge, port)) => Event::Transmit { bridge, port },
+            None => return Ok(None),
+        },
+        Verb::Admin => match read_bridge_way(names, words) {
+            Some(PortSetting { bridge, port, up }) => Event::Admin { bridge, port, up },
+            None => return Ok(None),
+        },
+        Verb::Take => match read_link_lane(names, words) {
+            Some(lane) => Event::Take { lane },
+            None => return Ok(None),
+        },
+        Verb::Put => match read_link_lane(names, words) {
+            Some(lane) => Event::Put { lane },
+            None => return Ok(None),
+        },
+        Verb::Feed if is_name(words) => Event::Feed {
+            port: names.customer(words),
+        },
+        Verb::Deliver if is_name(words) => Event::Deliver {
+            port: names.customer(words),
+        },
+        Verb::Tick if is_name(words) => Event::Tick {
+            bridge: names.bridge(words),
+        },
+        Verb::Feed | Verb::Deliver | Verb::Tick => return Ok(None),
+    };
+    Ok(Some(event))
+}
+
+/// Reads a line of a step script, of at most `limit` octets: a verb and its words, one space each.
+///
+/// The answer is the event that it asks for. Of a name that the plan lacks, or a port above 16, the
+/// event has the number 0, which names nothing. None is answered of any other line, an empty one too,
+/// and of one that is longer. `Memory` is answered where memory ran out for a frame.
+pub fn read_line(
+    alloc: Global,
+    limit: usize,
+    names: &Names<'_>,
+    line: &[u8],
+) -> Result<Option<Event>, Memory>
+    ensures some { IfOk result (λ o. IfSome o (λ event. Asks limit names.now.plan.now line.now event)) }
+    ensures none { IfOk result (λ o. IfNone o ((event : Event) → Asks limit names.now.plan.now line.now event → ⊥)) }
+{
+    if line.len() > limit {
+        return Ok(None);
+    }
+    let Some((word, words)) = cut(line) else {
+        return Ok(None);
+    };
+    match verb_of(word) {
+        Some(verb) => read_words(alloc, names, verb, words),
+        None => Ok(None),
+    }
+}

@@ -1,0 +1,257 @@
+//! What a worker does, whatever its place.
+
+ghost use Rattle.std.specs.Prelude.{◌≡◌, ℕ, None};
+ghost use Rattle.std.specs.declared.option.Option.{Option};
+ghost use Rattle.pb_threads.specs.declared.view.PortView.{PortView};
+ghost use Rattle.pb_threads.specs.Started.{IsBack};
+
+use crate::gate::{Gate, Go, Wish};
+use crate::share::Share;
+use crate::ticks::{Moment, Ticks};
+use crate::view::PortView;
+use crate::words::Words;
+use pb_lan::{Limits, Place};
+use std::sync::Wait;
+use std::thread;
+use std::time::{Clock, Duration};
+
+/// The local ports of a place.
+const PORTS: u8 = 16;
+
+/// What a turn did.
+#[derive(Clone, Copy, PartialEq, Eq, Debug)]
+pub enum Did {
+    /// There was nothing to do.
+    Idle,
+    /// The place took a step, or something else that it had to do was done.
+    Done,
+    /// Memory was refused. The worker ends.
+    Memory,
+    /// The place has taken as many steps as it may. The worker ends.
+    Limit,
+}
+
+/// What a turn did, how much more and less is left to do in the whole run, and what was lost.
+#[derive(Clone, Copy, PartialEq, Eq, Debug)]
+pub struct Turn {
+    /// What it did.
+    pub did: Did,
+    /// How much more is left.
+    pub more: u64,
+    /// How much less is left.
+    pub fewer: u64,
+    /// How many copies of a frame found no room.
+    pub refused: u64,
+    /// Whether what is shown of the place's ports may have changed.
+    pub has_stirred: bool,
+}
+
+impl Turn {
+    /// A turn in which there was nothing to do.
+    pub const IDLE: Turn = Turn {
+        did: Did::Idle,
+        more: 0,
+        fewer: 0,
+        refused: 0,
+        has_stirred: false,
+    };
+}
+
+/// Why a worker took no more turns.
+#[derive(Clone, Copy, PartialEq, Eq, Debug)]
+pub enum Finish {
+    /// Another worker ended the run, the gate did, or nothing was left to do.
+    Told,
+    /// Memory was refused.
+    Memory,
+    /// It took as many turns, or its place as many steps, as it may.
+    Limit,
+}
+
+/// A place that a worker owns.
+pub trait Work: Drop {
+    /// What clauses remember of the place as the worker was given it.
+    type Given;
+
+    /// What the worker was given.
+    ghost given: { Self → Self.Given };
+
+    /// What holds of the place between turns.
+    ghost fits: { Self → Type 0 };
+
+    /// What is shown of a local port. A place of which nothing is shown leaves it out.
+    ghost shown_of: { Self → ℕ → Option PortView } = { λ _ _. None };
+
+    /// The place.
+    fn place(&self) -> Place;
+
+    /// What is shown of the local port of this number, 1 to 16. None: nothing is.
+    fn shown(&self, port: u8) -> Option<PortView>
+        ensures { result ≡ shown_of self.now port };
+
+    /// Takes a turn: a tick where the clock ticks, and at most one step more.
+    fn turn(&mut self, moment: Moment) -> Turn
+        requires { fits self.old }
+        ensures given { given self.new ≡ given self.old }
+        ensures fits { fits self.new };
+
+    /// Fulfils a wish in place of a turn. A place that has no such port does nothing.
+    fn fulfil(&mut self, _wish: Wish) -> Turn
+        requires { fits self.old }
+        ensures given { given self.new ≡ given self.old }
+        ensures fits { fits self.new }
+    {
+        Turn::IDLE
+    }
+
+    /// What is to be done after the last turn. `moment` is that of the turn which would come next.
+    fn close(&mut self, moment: Moment, finish: Finish)
+        requires { fits self.old }
+        ensures given { given self.new ≡ given self.old }
+        ensures fits { fits self.new };
+}
+
+/// Lets other threads run, and after many idle turns in a row leaves the processor for a while.
+fn rest<R: Clock>(rt: &R, idle: u32) {
+    if idle < 64 {
+        thread::yield_now();
+        return;
+    }
+    let micros = (u64::from(idle) - 60).min(500);
+    thread::sleep(rt, Duration::from_micros(micros));
+}
+
+/// Whether a worker that may take this turn ends before it.
+fn is_ended<G: Gate>(gate: &G, words: &Words, place: Place, turn: u64) -> bool {
+    if !words.go_on() {
+        return true;
+    }
+    let is_stopped = gate.pass(place, turn) == Go::Stop;
+    if is_stopped {
+        words.end();
+    }
+    is_stopped
+}
+
+/// Why a worker ends after a turn that did this, where it does.
+fn own_end(did: Did) -> Option<Finish> {
+    match did {
+        Did::Idle | Did::Done => None,
+        Did::Memory => Some(Finish::Memory),
+        Did::Limit => Some(Finish::Limit),
+    }
+}
+
+/// Takes a turn, or fulfils a wish in its place.
+fn take_turn<T: Work, G: Gate, R: Clock>(
+    rt: &R,
+    owned: &mut T,
+    gate: &G,
+    place: Place,
+    ticks: &mut Ticks,
+) -> Turn
+    requires { T.fits owned.old }
+    ensures given { T.given owned.new ≡ T.given owned.old }
+    ensures fits { T.fits owned.new }
+{
+    match gate.wish(place, ticks.last().now) {
+        Some(wish) => owned.fulfil(wish),
+        None => {
+            let mut moment = ticks.next(rt);
+            moment.is_open = moment.is_open && gate.is_open();
+            owned.turn(moment)
+        }
+    }
+}
+
+/// Shows what each local port of a place is like.
+fn show_ports<T: Work, G: Gate>(owned: &T, gate: &G, place: Place) {
+    for index in 0..PORTS {
+        let port = index + 1;
+        if let Some(view) = owned.shown(port) {
+            gate.shows(place, port, view);
+        }
+    }
+}
+
+/// Takes turn after turn, and answers why there are no more.
+fn take_turns<T: Work, G: Gate, R: Clock>(
+    rt: &R,
+    owned: &mut T,
+    gate: &G,
+    words: &Words,
+    ticks: &mut Ticks,
+    turns: u64,
+) -> Finish
+    requires { T.fits owned.old }
+    ensures given { T.given owned.new ≡ T.given owned.old }
+    ensures fits { T.fits owned.new }
+{
+    let place = owned.place();
+    let (mut idle, mut share) = (0u32, Share::new());
+    show_ports(owned, gate, place);
+    for turn in 0..turns {
+        if is_ended(gate, words, place, turn) {
+            return Finish::Told;
+        }
+        let turned = take_turn(rt, owned, gate, place, ticks);
+        share.count(words, turned.more, turned.fewer);
+        if turned.refused > 0 {
+            gate.refused(place, turned.refused);
+        }
+        if turned.has_stirred {
+            show_ports(owned, gate, place);
+        }
+        if let Some(finish) = own_end(turned.did) {
+            return finish;
+        }
+        idle = match turned.did {
+            Did::Idle => {
+                rest(rt, idle);
+                idle.saturating_add(1)
+            }
+            _ => 0,
+        };
+    }
+    Finish::Limit
+}
+
+/// A place that comes back from its worker.
+#[derive(Drop)]
+pub(crate) struct Back<T> {
+    /// The place.
+    pub place: T,
+    /// The worker was let begin.
+    pub has_begun: bool,
+}
+
+/// Waits for the start, takes turn after turn, and closes the place. A worker that ends for a cause of
+/// its own has the others end, and one that is not let begin gives its place back as it is.
+pub(crate) fn run_place<T: Work, G: Gate, R: Wait + Clock>(
+    rt: &R,
+    place: T,
+    gate: &G,
+    words: &Words,
+    limits: Limits,
+) -> Back<T>
+    requires { T.fits place }
+    ensures { IsBack T.given T.fits place result }
+{
+    let mut owned = place;
+    if !words.wait(rt) {
+        return Back {
+            place: owned,
+            has_begun: false,
+        };
+    }
+    let mut ticks = Ticks::new(rt, limits);
+    let finish = take_turns(rt, &mut owned, gate, words, &mut ticks, limits.turns);
+    if finish != Finish::Told {
+        words.end();
+    }
+    owned.close(ticks.last(), finish);
+    Back {
+        place: owned,
+        has_begun: true,
+    }
+}

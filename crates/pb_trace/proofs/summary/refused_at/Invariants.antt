@@ -1,7 +1,0 @@
-use Rattle.std.proofs.Common.{◌≡◌, ◌≤◌, ◌*◌, take}
-use Rattle.std.specs.Prelude.{sum_by}
-use Rattle.pb_trace.specs.Summaries.{refusals}
-use Rattle.pb_trace.proofs.summary.refused_at.Given as goal
-
-abbrev pub invariant-loop-step : goal.invariant-loop-step
-invariant-loop-step l = (l.sum ≡ sum_by refusals (take l.step-index l.steps)) × (l.sum ≤ 16 * l.step-index)
