@@ -17,6 +17,7 @@ mod layout;
 mod learnt;
 mod mac;
 mod memory;
+mod number;
 mod reason;
 mod seq;
 mod service_tag;
@@ -32,6 +33,7 @@ pub use layout::View;
 pub use learnt::Learnt;
 pub use mac::Mac;
 pub use memory::Memory;
+pub use number::index_of;
 pub use reason::Reason;
 pub use seq::Seq;
 pub use service_tag::{

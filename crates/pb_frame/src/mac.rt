@@ -1,6 +1,7 @@
 //! Station addresses.
 
 ghost use Rattle.std.specs.Prelude.{◌≡◌, ◌+◌, ◌*◌, string_bytes, IfOk, IfSome, IfNone, ℕ, List};
+ghost use Rattle.pb_frame.specs.Frames.{is_group};
 ghost use Rattle.pb_frame.specs.Hex.{IsMacText, mac_text};
 
 use crate::hex::{octet, put_upper};
@@ -32,6 +33,15 @@ impl Mac {
             octets[i] = octet(digits[3 * i], digits[3 * i + 1])?;
         }
         Some(Mac(octets))
+    }
+
+    /// Returns whether it is the address of a group: whether the lowest bit of its first octet is set (IEEE 802.3
+    /// clause 3.2.3).
+    #[inline(always)]
+    pub fn is_group(&self) -> bool
+        ensures { result ≡ is_group self.now.0 }
+    {
+        self.0[0] % 2 == 1
     }
 
     /// Six pairs of hexadecimal digits in upper case, parted by hyphens.
