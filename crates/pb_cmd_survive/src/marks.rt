@@ -5,6 +5,7 @@ ghost use Rattle.pb_lan.specs.Plans.{IsSound};
 ghost use Rattle.pb_cmd_survive.specs.Reach.{TellsJoined, mark_at};
 
 use pb_forest::is_active;
+use pb_frame::index_of;
 use pb_lan::{Plan, Shape};
 
 /// A mark for each bridge, of which no two are alike.
@@ -41,8 +42,8 @@ pub(crate) fn marks(plan: &Plan, shape: &Shape, vid: u16) -> [u8; 32]
     let mut marks = OWN_MARKS;
     for link in plan.links.as_slice() {
         if is_active(plan, shape, vid, link) {
-            let into = link.a.bridge as usize - 1;
-            let from = link.b.bridge as usize - 1;
+            let into = index_of(link.a.bridge);
+            let from = index_of(link.b.bridge);
             join(&mut marks, into, from);
         }
     }

@@ -9,7 +9,7 @@ ghost use Rattle.pb_cmd_survive.specs.Groups.{ports_of, color_of, lead_of, site_
 use crate::failure::Failure;
 use crate::marks::marks;
 use pb_forest::{numbered, vid_numbered};
-use pb_frame::Memory;
+use pb_frame::{Memory, index_of};
 use pb_lan::{Plan, Shape};
 use std::alloc::Global;
 
@@ -54,7 +54,7 @@ fn color_of(plan: &Plan, marks: &[u8; 32], failure: Failure, port: u8) -> u8
     match numbered(plan.customers.as_slice(), port as usize) {
         None => 0,
         Some(customer) if is_out(failure, customer.bridge) => port + 32,
-        Some(customer) => marks[customer.bridge as usize - 1],
+        Some(customer) => marks[index_of(customer.bridge)],
     }
 }
 

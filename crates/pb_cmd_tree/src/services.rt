@@ -6,7 +6,7 @@ ghost use Rattle.pb_lan.specs.Plans.{IsSound};
 ghost use Rattle.pb_cmd_tree.specs.TreeTexts.{up_at, up_line, up_lines, AreServiceTexts, IsServiceTextAt};
 
 use pb_forest::forest;
-use pb_frame::Memory;
+use pb_frame::{Memory, index_of};
 use pb_lan::{Plan, Rooted, Shape};
 use pb_names::{bridge_name, link_name};
 use std::alloc::Global;
@@ -18,7 +18,7 @@ fn up_at(rooted: &Rooted, bridge: u8) -> Option<u8>
     if bridge == 0 {
         return None;
     }
-    match rooted.up.as_slice().get(bridge as usize - 1) {
+    match rooted.up.as_slice().get(index_of(bridge)) {
         Some(up) => *up,
         None => None,
     }
@@ -31,7 +31,7 @@ fn depth_at(rooted: &Rooted, bridge: u8) -> u8
     if bridge == 0 {
         return 0;
     }
-    match rooted.depth.as_slice().get(bridge as usize - 1) {
+    match rooted.depth.as_slice().get(index_of(bridge)) {
         Some(depth) => *depth,
         None => 0,
     }

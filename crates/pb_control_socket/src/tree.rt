@@ -6,7 +6,7 @@ ghost use Rattle.pb_control_socket.specs.Texts.{role_words, view_line, line_amon
 ghost use Rattle.pb_lan.specs.Numbering.{numbered};
 
 use crate::board::Board;
-use pb_frame::Memory;
+use pb_frame::{Memory, index_of};
 use pb_lan::Plan;
 use pb_names::{role_word, state_word};
 use pb_rstp::Role;
@@ -49,7 +49,7 @@ fn view_at(views: &[Option<PortView>], port: u8) -> Option<PortView>
     if port == 0 {
         return None;
     }
-    match views.get(port as usize - 1) {
+    match views.get(index_of(port)) {
         Some(view) => *view,
         None => None,
     }

@@ -1,4 +1,4 @@
-//! Driving a network by events alone, until nothing is under way, and until its bridges have settled.
+//! Drives a network by events alone until nothing is under way, and until its bridges have converged.
 //!
 //! ```text
 //! let mut net = Net::new(alloc, plan.clone()?)?;              // of pb_net
@@ -7,13 +7,13 @@
 //! drain(&mut net, &plan, 1_000_000)?;                         // it and its copies go as far as they go
 //! ```
 //!
-//! What commands share that set ports down and let a network rest before they look at it.
+//! Commands that analyse a network disable the ports that their arguments name, and let it converge first.
 //!
 //! ```text
-//! let mut net = fresh(alloc, &plan)?;                          // nothing was done in it
-//! if falls(alloc, &mut net, &plan, words)?.is_none() {         // the ends that words name are down
-//!     let rest = rests(alloc, &mut net, &plan, 200)?;          // and the bridges have settled
-//!     let shape = shape_of(alloc, &plan, &net.finish())?;      // in these states
+//! let mut net = fresh(alloc, &plan)?;                          // no place has taken a step
+//! if falls(alloc, &mut net, &plan, words)?.is_none() {         // the named ends are disabled
+//!     let rest = rests(alloc, &mut net, &plan, 200)?;          // and the bridges have converged
+//!     let shape = shape_of(alloc, &plan, &net.finish())?;      // with their ports in these states
 //! }
 //! ```
 #![tactic(auto)]

@@ -14,7 +14,7 @@ use Rattle.pb_frame.proofs.Things.{eqb-symm}
 use Rattle.pb_fdb.proofs.EntryLemmas.{same-symm}
 use Rattle.pb_fdb.proofs.StationLemmas.{same_station, itself}
 use Rattle.pb_fdb.specs.declared.station.LastSeen.{LastSeen}
-use Rattle.pb_fdb.specs.declared.station.Place.{Place}
+use Rattle.pb_fdb.specs.declared.station.LogEntry.{LogEntry}
 use Rattle.pb_fdb.specs.declared.station.Station.{Station}
 use Rattle.pb_fdb.specs.Journals.{is_same, stations, IsIndexWith}
 
@@ -67,10 +67,10 @@ module _ {S : Type 0} (m : IndexMap Station LastSeen S) (i : ℕ) where
   )
 
 -- the stations of a log with one more place
-stations-push : (ps : List Place) (p : Place) → stations (ps ++ p ∷ []) ≡ stations ps ++ p.station ∷ []
+stations-push : (ps : List LogEntry) (p : LogEntry) → stations (ps ++ p ∷ []) ≡ stations ps ++ p.station ∷ []
 stations-push [] p = refl
 stations-push (q ∷ ps) p = ap (λ ss. q.station ∷ ss) (stations-push ps p)
 
-pub stations-put : (ps log : List Place) (p : Place) (s : Station) → log ≡ ps ++ p ∷ [] → p.station ≡ s
+pub stations-put : (ps log : List LogEntry) (p : LogEntry) (s : Station) → log ≡ ps ++ p ∷ [] → p.station ≡ s
     → stations log ≡ stations ps ++ s ∷ []
 stations-put ps log p s is at = ap stations is ∙ stations-push ps p ∙ ap (λ x. stations ps ++ x ∷ []) at

@@ -5,7 +5,7 @@ use Rattle.std.specs.List.{filter}
 use Rattle.pb_frame.specs.Admission.{same}
 use Rattle.pb_fdb.specs.declared.entry.Entry.{Entry}
 use Rattle.pb_fdb.specs.declared.station.LastSeen.{LastSeen}
-use Rattle.pb_fdb.specs.declared.station.Place.{Place}
+use Rattle.pb_fdb.specs.declared.station.LogEntry.{LogEntry}
 use Rattle.pb_fdb.specs.declared.station.Station.{Station}
 
 -- the station in the service
@@ -46,7 +46,7 @@ entries_from index at [] = []
 entries_from index at (s ∷ ss) = entry_at at s (index s) ++ entries_from index (place_after at 1) ss
 
 -- the stations at the places of a log
-abbrev pub stations : List Place → List Station
+abbrev pub stations : List LogEntry → List Station
 stations places = map (λ p. p.station) places
 
 -- each station of the index has its one entry

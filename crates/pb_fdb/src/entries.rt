@@ -9,7 +9,7 @@ ghost use Rattle.pb_fdb.specs.Journals.{entries_from, is_same, stations};
 
 use crate::entry::Entry;
 use crate::journal::{Index, entry_there};
-use crate::station::Place;
+use crate::station::LogEntry;
 use std::collections::vec_deque::Iter;
 use std::marker::Model;
 
@@ -18,7 +18,7 @@ use std::marker::Model;
 #[derive(Drop)]
 pub struct Entries<'a> {
     index: &'a Index,
-    log: Iter<'a, Place>,
+    log: Iter<'a, LogEntry>,
     at: u64,
 }
 
@@ -37,7 +37,7 @@ impl<'a> Model for Entries<'a> {
 
 impl<'a> Entries<'a> {
     /// The entries of a log that begins at this place.
-    pub(crate) fn of(index: &'a Index, log: Iter<'a, Place>, at: u64) -> Entries<'a>
+    pub(crate) fn of(index: &'a Index, log: Iter<'a, LogEntry>, at: u64) -> Entries<'a>
         ensures { result ≡ sightings (entries_from (get is_same index.now) at (stations (deque_iter_rest log.entry))) }
     {
         Entries { index, log, at }

@@ -3,16 +3,18 @@
 ghost use Rattle.indexmap.specs.IndexMap.{get, keys, values, index_map_len};
 ghost use Rattle.std.specs.List.{filter};
 ghost use Rattle.std.specs.Option.{option_to_list};
-ghost use Rattle.std.specs.Prelude.{◌≡◌, ◌==◌, ◌<◌, ◌≤◌, ◌+◌, ◌^◌, ◌++◌, ◌∷◌, [], List, Some, None, not, length, drop, slice_get, OnOk, OnErr, OnSome, IfSome, IfNone};
+ghost use Rattle.std.specs.Prelude.{◌≡◌, ◌==◌, ◌<◌, ◌≤◌, ◌+◌, ◌^◌, ◌++◌, ◌∷◌, [], List, Some, None, not, length, drop};
+ghost use Rattle.std.specs.Prelude.{slice_get, OnOk, OnErr, OnSome, IfSome, IfNone};
 ghost use Rattle.std.specs.VecDeque.{deque_len, deque_capacity};
 ghost use Rattle.pb_frame.specs.Stations.{is_sighted};
 ghost use Rattle.pb_fdb.specs.Entries.{sighting_of, sightings, without_station};
-ghost use Rattle.pb_fdb.specs.Journals.{is_same, entry_at, entries_from, place_after, stations, stays, HasEach, HasTurned, IsIndexWith};
+ghost use Rattle.pb_fdb.specs.Journals.{is_same, entry_at, entries_from, place_after, stations, stays, HasEach};
+ghost use Rattle.pb_fdb.specs.Journals.{HasTurned, IsIndexWith};
 ghost use Rattle.pb_fdb.specs.declared.station.Station.{Station};
 
 use crate::entries::Entries;
 use crate::entry::Entry;
-use crate::station::{LastSeen, Place, Station};
+use crate::station::{LastSeen, LogEntry, Station};
 use indexmap::IndexMap;
 use pb_frame::Mac;
 use std::alloc::{AllocError, Global};
@@ -33,7 +35,7 @@ pub(crate) type Index = IndexMap<Station, LastSeen>;
 #[derive(Drop)]
 pub struct Journal {
     index: Index,
-    log: VecDeque<Place>,
+    log: VecDeque<LogEntry>,
     first: u64,
 }
 
@@ -48,7 +50,8 @@ impl Model for Journal {
 
     ghost view = { λ j. entries_from (get is_same j.index) j.first (stations j.log.items) };
 
-    ghost invariant = { λ j. IsJournal (get is_same j.index) (index_map_len j.index) (deque_capacity j.log) (entries_from (get is_same j.index) j.first (stations j.log.items)) };
+    ghost invariant = { λ j. IsJournal (get is_same j.index) (index_map_len j.index) (deque_capacity j.log)
+        (entries_from (get is_same j.index) j.first (stations j.log.items)) };
 }
 
 /// The slot at which the index has a station, by a look-up. It stays a call of its own, so that `slot_of`, which
@@ -65,7 +68,7 @@ fn find_slot(index: &Index, station: &Station) -> Option<usize>
 
 /// The slot at which the index has the station of a place: mostly the one that the place tells, and else a
 /// look-up finds it.
-fn slot_of(index: &Index, place: &Place) -> Option<usize>
+fn slot_of(index: &Index, place: &LogEntry) -> Option<usize>
     ensures station { IfSome result (λ slot. slice_get (keys index.now) slot ≡ Some place.now.station) }
     ensures seen { IfSome result (λ slot. slice_get (values index.now) slot ≡ get is_same index.now place.now.station) }
     ensures within { IfSome result (λ slot. slot < index_map_len index.now) }
@@ -79,7 +82,7 @@ fn slot_of(index: &Index, place: &Place) -> Option<usize>
 }
 
 /// The entry that stands at a place of the log, if the station's last place is this one.
-pub(crate) fn entry_there(index: &Index, at: u64, place: &Place) -> Option<Entry>
+pub(crate) fn entry_there(index: &Index, at: u64, place: &LogEntry) -> Option<Entry>
     ensures { entry_at at place.now.station (get is_same index.now place.now.station) ≡ option_to_list result }
 {
     let slot = slot_of(index, place)?;
@@ -99,7 +102,8 @@ pub(crate) fn entry_there(index: &Index, at: u64, place: &Place) -> Option<Entry
 fn note(index: &mut Index, slot: usize, seen: LastSeen) -> LastSeen
     requires { slot < index_map_len index.old }
     ensures old { slice_get (values index.old) slot ≡ Some result }
-    ensures noted { (s : Station) → slice_get (keys index.old) slot ≡ Some s → IsIndexWith s (Some seen) (get is_same index.old) (get is_same index.new) }
+    ensures noted { (s : Station) → slice_get (keys index.old) slot ≡ Some s
+        → IsIndexWith s (Some seen) (get is_same index.old) (get is_same index.new) }
     ensures len { index_map_len index.new ≡ index_map_len index.old }
 {
     let (_, last) = index.pair_mut(slot);
@@ -109,8 +113,9 @@ fn note(index: &mut Index, slot: usize, seen: LastSeen) -> LastSeen
 }
 
 /// Drops the places at the front of a log that count no more, and answers the entry at the first that does.
-fn front(index: &Index, log: &mut VecDeque<Place>, first: &mut u64) -> Option<Entry>
-    ensures entries { entries_from (get is_same index.now) first.new (stations log.new.items) ≡ entries_from (get is_same index.now) first.old (stations log.old.items) }
+fn front(index: &Index, log: &mut VecDeque<LogEntry>, first: &mut u64) -> Option<Entry>
+    ensures entries { entries_from (get is_same index.now) first.new (stations log.new.items)
+        ≡ entries_from (get is_same index.now) first.old (stations log.old.items) }
     ensures oldest { result ≡ slice_get (entries_from (get is_same index.now) first.old (stations log.old.items)) 0 }
     ensures capacity { deque_capacity log.new ≡ deque_capacity log.old }
 {
@@ -126,14 +131,18 @@ fn front(index: &Index, log: &mut VecDeque<Place>, first: &mut u64) -> Option<En
 }
 
 /// Drops the first place of a log, and where it counts and is at another port, has its entry stand last.
-fn turn(index: &mut Index, log: &mut VecDeque<Place>, first: &mut u64, port: Option<u8>)
+fn turn(index: &mut Index, log: &mut VecDeque<LogEntry>, first: &mut u64, port: Option<u8>)
     requires some { 0 < deque_len log.old }
-    requires each { HasEach (get is_same index.old) (entries_from (get is_same index.old) first.old (stations log.old.items)) }
+    requires each { HasEach (get is_same index.old)
+        (entries_from (get is_same index.old) first.old (stations log.old.items)) }
     ensures first { first.new ≡ place_after first.old 1 }
     ensures turned { (s : Station) (rest : List Station) → stations log.old.items ≡ s ∷ rest
-        → HasTurned (stays port) (get is_same index.old) (get is_same index.new) first.old s rest (stations log.new.items) }
-    ensures each { HasEach (get is_same index.new) (entries_from (get is_same index.new) first.new (stations log.new.items)) }
-    ensures count { length (entries_from (get is_same index.old) first.old (stations log.old.items)) ≡ index_map_len index.old
+        → HasTurned (stays port) (get is_same index.old) (get is_same index.new) first.old s rest
+        (stations log.new.items) }
+    ensures each { HasEach (get is_same index.new)
+        (entries_from (get is_same index.new) first.new (stations log.new.items)) }
+    ensures count { length (entries_from (get is_same index.old) first.old (stations log.old.items))
+        ≡ index_map_len index.old
         → length (entries_from (get is_same index.new) first.new (stations log.new.items)) ≡ index_map_len index.new }
     ensures capacity { deque_capacity log.new ≡ deque_capacity log.old }
 {
@@ -158,16 +167,21 @@ fn turn(index: &mut Index, log: &mut VecDeque<Place>, first: &mut u64, port: Opt
         ..seen
     };
     let _ = note(index, slot, last);
-    log.push_back_reserved(Place::new(place.station, slot));
+    log.push_back_reserved(LogEntry::new(place.station, slot));
 }
 
 /// Drops the places of a log that count no more, and the entries at a port: each in turn goes, or goes last.
-fn rotate(index: &mut Index, log: &mut VecDeque<Place>, first: &mut u64, port: Option<u8>)
-    requires each { HasEach (get is_same index.old) (entries_from (get is_same index.old) first.old (stations log.old.items)) }
-    requires count { length (entries_from (get is_same index.old) first.old (stations log.old.items)) ≡ index_map_len index.old }
-    ensures entries { entries_from (get is_same index.new) first.new (stations log.new.items) ≡ filter (stays port) (entries_from (get is_same index.old) first.old (stations log.old.items)) }
-    ensures each { HasEach (get is_same index.new) (entries_from (get is_same index.new) first.new (stations log.new.items)) }
-    ensures count { length (entries_from (get is_same index.new) first.new (stations log.new.items)) ≡ index_map_len index.new }
+fn rotate(index: &mut Index, log: &mut VecDeque<LogEntry>, first: &mut u64, port: Option<u8>)
+    requires each { HasEach (get is_same index.old)
+        (entries_from (get is_same index.old) first.old (stations log.old.items)) }
+    requires count { length (entries_from (get is_same index.old) first.old (stations log.old.items))
+        ≡ index_map_len index.old }
+    ensures entries { entries_from (get is_same index.new) first.new (stations log.new.items)
+        ≡ filter (stays port) (entries_from (get is_same index.old) first.old (stations log.old.items)) }
+    ensures each { HasEach (get is_same index.new)
+        (entries_from (get is_same index.new) first.new (stations log.new.items)) }
+    ensures count { length (entries_from (get is_same index.new) first.new (stations log.new.items))
+        ≡ index_map_len index.new }
     ensures len { deque_len log.new ≡ index_map_len index.new }
     ensures capacity { deque_capacity log.new ≡ deque_capacity log.old }
 {
@@ -178,11 +192,15 @@ fn rotate(index: &mut Index, log: &mut VecDeque<Place>, first: &mut u64, port: O
 
 /// Has a log that is full take one more place, by dropping those that count no more, where any do.
 #[tactic(auto, using(crate::proofs::LogLemmas::all_stay))]
-fn free_place(index: &mut Index, log: &mut VecDeque<Place>, first: &mut u64)
-    requires each { HasEach (get is_same index.old) (entries_from (get is_same index.old) first.old (stations log.old.items)) }
-    requires count { length (entries_from (get is_same index.old) first.old (stations log.old.items)) ≡ index_map_len index.old }
-    ensures entries { entries_from (get is_same index.new) first.new (stations log.new.items) ≡ entries_from (get is_same index.old) first.old (stations log.old.items) }
-    ensures each { HasEach (get is_same index.new) (entries_from (get is_same index.new) first.new (stations log.new.items)) }
+fn free_place(index: &mut Index, log: &mut VecDeque<LogEntry>, first: &mut u64)
+    requires each { HasEach (get is_same index.old)
+        (entries_from (get is_same index.old) first.old (stations log.old.items)) }
+    requires count { length (entries_from (get is_same index.old) first.old (stations log.old.items))
+        ≡ index_map_len index.old }
+    ensures entries { entries_from (get is_same index.new) first.new (stations log.new.items)
+        ≡ entries_from (get is_same index.old) first.old (stations log.old.items) }
+    ensures each { HasEach (get is_same index.new)
+        (entries_from (get is_same index.new) first.new (stations log.new.items)) }
     ensures len { index_map_len index.new ≡ index_map_len index.old }
     ensures place { index_map_len index.old < deque_capacity log.old → deque_len log.new < deque_capacity log.new }
     ensures capacity { deque_capacity log.new ≡ deque_capacity log.old }
@@ -193,7 +211,7 @@ fn free_place(index: &mut Index, log: &mut VecDeque<Place>, first: &mut u64)
 }
 
 /// Has a log take one more place, and twice as many as a station more than these.
-fn make_room(log: &mut VecDeque<Place>, count: usize) -> Result<(), AllocError>
+fn make_room(log: &mut VecDeque<LogEntry>, count: usize) -> Result<(), AllocError>
     requires { count < 2 ^ 63 }
     ensures items { log.new.items ≡ log.old.items }
     ensures place { OnOk result (deque_len log.new < deque_capacity log.new) }
@@ -279,7 +297,7 @@ impl Journal {
             port: new.port,
         };
         let old = note(&mut self.index, slot, seen);
-        self.log.push_back_reserved(Place::new(station, slot));
+        self.log.push_back_reserved(LogEntry::new(station, slot));
         Some(Entry {
             vid: new.vid,
             mac: new.mac,
@@ -304,7 +322,7 @@ impl Journal {
             port: entry.port,
         };
         let (slot, _) = self.index.insert_full(station, seen)?;
-        self.log.push_back_reserved(Place::new(station, slot));
+        self.log.push_back_reserved(LogEntry::new(station, slot));
         Ok(())
     }
 

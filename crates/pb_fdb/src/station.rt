@@ -40,24 +40,24 @@ pub struct LastSeen {
     pub port: u8,
 }
 
-/// A place of a log.
+/// An entry of a log.
 #[derive(Clone, Copy, Debug)]
-pub struct Place {
-    /// The station that stands there.
+pub struct LogEntry {
+    /// The station.
     pub station: Station,
-    /// The slot at which the index had the station when it was put there. A hint alone: the index may have
-    /// moved the station since.
+    /// The slot at which the index had the station when the entry was made. It is only a hint: the index may have moved
+    /// the station since.
     pub slot: u32,
 }
 
-impl Place {
-    /// The place of a station that the index has at this slot. Only the lower bits of the slot are kept, which
+impl LogEntry {
+    /// Returns the entry of a station that the index has at this slot. Only the lower bits of the slot are kept, which
     /// is enough for a hint.
-    pub fn new(station: Station, slot: usize) -> Place
+    pub fn new(station: Station, slot: usize) -> LogEntry
         ensures station { result.station ≡ station }
         ensures slot { result.slot ≡ slot % 2 ^ 32 }
     {
-        Place {
+        LogEntry {
             station,
             slot: (slot & 0xFFFF_FFFF) as u32,
         }

@@ -88,7 +88,8 @@ fn add(journal: &mut Journal, entry: Entry, limit: usize, ageing: u32) -> Result
     requires order { InOrder journal.old }
     requires before { AllByRecursion (λ e. e.learnt ≤ entry.learnt) journal.old }
     requires ageing { 0 < ageing }
-    ensures ok { OnOk result (journal.new ≡ without_station entry (entries_with_room limit ageing entry.learnt journal.old) ++ entry ∷ []) }
+    ensures ok { OnOk result (journal.new
+        ≡ without_station entry (entries_with_room limit ageing entry.learnt journal.old) ++ entry ∷ []) }
     ensures err { OnErr result (journal.new ≡ journal.old) }
 {
     let full = journal.len() >= limit;
@@ -132,11 +133,12 @@ impl Fdb {
     /// too old go first. `Full`, `Group` and `Memory` leave the entries as they were.
     pub fn learn(&mut self, vid: u16, mac: Mac, port: u8, now: u64) -> Learnt
         requires { self.old.clock ≤ now }
-        ensures answer { IsLearnt (is_group mac.0) (where_in self.old now vid mac.0) (is_full self.old now) port result }
+        ensures answer { IsLearnt (is_group mac.0) (where_in self.old now vid mac.0) (is_full self.old now) port
+            result }
         ensures table { self.new ≡ learnt_table self.old (sighting_at vid mac.0 port now) result }
     {
         self.clock = now;
-        if mac.0[0] % 2 == 1 {
+        if mac.is_group() {
             return Learnt::Group;
         }
         let entry = Entry {

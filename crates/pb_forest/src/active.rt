@@ -6,7 +6,8 @@ ghost use Rattle.std.specs.Option.{option_copied};
 ghost use Rattle.pb_forest.specs.ServiceVids.{vid_numbered};
 ghost use Rattle.pb_lan.specs.Numbering.{numbered};
 ghost use Rattle.pb_lan.specs.Ports.{has_vid, serves};
-ghost use Rattle.pb_lan.specs.Shapes.{is_forwarding, state_in, is_end_forwarding, are_ends_forwarding, is_open, is_active};
+ghost use Rattle.pb_lan.specs.Shapes.{is_forwarding, state_in, is_end_forwarding, are_ends_forwarding, is_open};
+ghost use Rattle.pb_lan.specs.Shapes.{is_active};
 
 use pb_lan::{End, LinkPlan, Plan, PortState, ServicePlan, Shape};
 

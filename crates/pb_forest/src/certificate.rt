@@ -115,7 +115,8 @@ fn is_marked_if_active(
     link: &LinkPlan,
     number: usize,
 ) -> bool
-    ensures { IsTrue result ↔ (is_active plan.now shape.now vid link.now ≡ true → slice_index_or marks.now number false ≡ true) }
+    ensures { IsTrue result ↔ (is_active plan.now shape.now vid link.now ≡ true
+        → slice_index_or marks.now number false ≡ true) }
 {
     !is_active(plan, shape, vid, link) || (number < 256 && marks[number])
 }
@@ -151,14 +152,16 @@ fn have_one_child(plan: &Plan, shape: &Shape, vid: u16, ups: &[Option<u8>]) -> b
 
 /// Whether both lists have one entry a bridge.
 fn has_all_entries(plan: &Plan, rooted: &Rooted) -> bool
-    ensures { IsTrue result ↔ (length rooted.now.up ≡ length plan.now.bridges × (length rooted.now.depth ≡ length plan.now.bridges)) }
+    ensures { IsTrue result ↔ (length rooted.now.up ≡ length plan.now.bridges
+        × (length rooted.now.depth ≡ length plan.now.bridges)) }
 {
     rooted.up.len() == plan.bridges.len() && rooted.depth.len() == plan.bridges.len()
 }
 
 /// Whether all entries are true, and each active link is the way up of just one bridge.
 fn entries_show(plan: &Plan, shape: &Shape, vid: u16, rooted: &Rooted) -> bool
-    ensures { IsTrue result ↔ (AllStand plan.now shape.now vid rooted.now × (AreApart rooted.now.up × AllLeadUp plan.now shape.now vid rooted.now.up)) }
+    ensures { IsTrue result ↔ (AllStand plan.now shape.now vid rooted.now
+        × (AreApart rooted.now.up × AllLeadUp plan.now shape.now vid rooted.now.up)) }
 {
     all_stand(plan, shape, vid, rooted) && have_one_child(plan, shape, vid, rooted.up.as_slice())
 }

@@ -1,6 +1,7 @@
 //! The active links of a service, as bridges are taken off.
 
-ghost use Rattle.std.specs.Prelude.{◌≡◌, ◌≢◌, ◌++◌, ◌+◌, ◌<◌, ◌≤◌, ◌^◌, ℕ, [], ◌∷◌, Some, None, MatchOption, OnOk, IfOk, length, slice_set, slice_index};
+ghost use Rattle.std.specs.Prelude.{◌≡◌, ◌≢◌, ◌++◌, ◌+◌, ◌<◌, ◌≤◌, ◌^◌, ℕ, [], ◌∷◌, Some, None, MatchOption, OnOk};
+ghost use Rattle.std.specs.Prelude.{IfOk, length, slice_set, slice_index};
 ghost use Rattle.std.specs.List.{list_any};
 ghost use Rattle.std.specs.Option.{is_some};
 ghost use Rattle.pb_forest.specs.Graphs.{at, share, degree, IsLast, IsBetween};
@@ -122,7 +123,8 @@ impl Graph {
     pub(crate) fn last_branch(&self, bridge: usize) -> Option<Branch>
         requires counted { IsCounted self.now }
         requires there { bridge < length self.now.degrees.items }
-        ensures { MatchOption result (degree self.now.links.items bridge ≢ 1) (λ b. (b.bridge ≡ bridge) × IsLast self.now.links.items b) }
+        ensures { MatchOption result (degree self.now.links.items bridge ≢ 1) (λ b. (b.bridge ≡ bridge)
+            × IsLast self.now.links.items b) }
     {
         if self.degrees[bridge] != 1 {
             return None;

@@ -41,7 +41,8 @@ fn ends_of(link: &LinkPlan, bridges: usize) -> Option<Ends>
 fn graph_of(alloc: Global, plan: &Plan, shape: &Shape, vid: u16) -> Result<Option<Graph>, Memory>
     requires { length plan.now.links ≤ 255 }
     ensures { IfOk result (λ graph. MatchOption graph (IsForest plan.now shape.now vid → ⊥)
-        (λ g. IsCounted g × (length g.degrees.items ≡ length plan.now.bridges) × AreEdges plan.now shape.now vid plan.now.links g.links.items)) }
+        (λ g. IsCounted g × (length g.degrees.items ≡ length plan.now.bridges)
+        × AreEdges plan.now shape.now vid plan.now.links g.links.items)) }
 {
     let bridges = plan.bridges.len();
     let mut graph = Graph::new(alloc, bridges)?;

@@ -43,7 +43,8 @@ fn across(plan: &Plan, bridge: u8, number: u8) -> u8
 
 /// The link up from the bridge.
 fn up_of(rooted: &Rooted, bridge: u8) -> Option<u8>
-    ensures { MatchOption result ((number : ℕ) → HasUp rooted.now bridge number → ⊥) (λ number. HasUp rooted.now bridge number) }
+    ensures { MatchOption result ((number : ℕ) → HasUp rooted.now bridge number
+        → ⊥) (λ number. HasUp rooted.now bridge number) }
 {
     match numbered(rooted.up.as_slice(), bridge as usize) {
         None => None,
@@ -53,7 +54,8 @@ fn up_of(rooted: &Rooted, bridge: u8) -> Option<u8>
 
 /// Climbs over the link up, if there is one.
 fn climb(plan: &Plan, rooted: &Rooted, side: &mut Side) -> Result<bool, Memory>
-    ensures { IfOk result (λ climbs. Climbs plan.now rooted.now side.old.bridge side.old.links.items side.new.bridge side.new.links.items climbs) }
+    ensures { IfOk result (λ climbs. Climbs plan.now rooted.now side.old.bridge side.old.links.items side.new.bridge
+        side.new.links.items climbs) }
 {
     let Some(number) = up_of(rooted, side.bridge) else {
         return Ok(false);

@@ -1,7 +1,7 @@
 //! Taking a frame apart.
 
 ghost use Rattle.std.specs.Prelude.{◌≡◌, ◌+◌, ◌*◌, ◌<◌, ◌≤◌, ◌↔◌, length, IfOk, IsErrOf};
-ghost use Rattle.pb_frame.specs.Frames.{shortest_frame, longest_frame};
+ghost use Rattle.pb_frame.specs.Frames.{shortest_frame, longest_frame, dst_of, src_of};
 ghost use Rattle.pb_frame.specs.Views.{IsView};
 
 use crate::layout::View;
@@ -29,6 +29,28 @@ pub enum FrameFault {
     Long,
 }
 
+/// Returns the destination of a frame: its octets 0 to 5 (IEEE 802.3 clause 3).
+#[inline(always)]
+pub fn destination_of(frame: &[u8]) -> Mac
+    requires { shortest_frame ≤ length frame.now }
+    ensures { result.0 ≡ dst_of frame.now }
+{
+    let mut octets = [0u8; 6];
+    octets.copy_from_slice(&frame[..6]);
+    Mac(octets)
+}
+
+/// Returns the source of a frame: its octets 6 to 11 (IEEE 802.3 clause 3).
+#[inline(always)]
+pub fn source_of(frame: &[u8]) -> Mac
+    requires { shortest_frame ≤ length frame.now }
+    ensures { result.0 ≡ src_of frame.now }
+{
+    let mut octets = [0u8; 6];
+    octets.copy_from_slice(&frame[6..12]);
+    Mac(octets)
+}
+
 /// Takes a frame of 14 to 1,996 octets apart (IEEE 802.3 clause 3). Takes no memory.
 ///
 /// `Short` is answered under 14 octets, `Long` over 1,996.
@@ -43,13 +65,9 @@ pub fn view(frame: &[u8]) -> Result<View<'_>, FrameFault>
     if frame.len() > LONGEST_FRAME {
         return Err(FrameFault::Long);
     }
-    let mut dst = [0u8; 6];
-    let mut src = [0u8; 6];
-    dst.copy_from_slice(&frame[..6]);
-    src.copy_from_slice(&frame[6..12]);
     Ok(View {
-        dst: Mac(dst),
-        src: Mac(src),
+        dst: destination_of(frame),
+        src: source_of(frame),
         kind: u16::from(frame[12]) * 256 + u16::from(frame[13]),
         rest: &frame[14..],
     })

@@ -1,8 +1,10 @@
 //! Octets as hexadecimal texts.
 
-ghost use Rattle.std.specs.Prelude.{◌≡◌, ◌/◌, ◌%◌, ◌*◌, ◌<◌, ◌≤◌, ◌↔◌, ◌++◌, ◌∷◌, true, false, length, string_bytes, IfOk, OnOk, IfSome, IfNone, Some, None, IsSome, IsErrOf, [], ℕ};
+ghost use Rattle.std.specs.Prelude.{◌≡◌, ◌/◌, ◌%◌, ◌*◌, ◌<◌, ◌≤◌, ◌↔◌, ◌++◌, ◌∷◌, true, false, length, string_bytes};
+ghost use Rattle.std.specs.Prelude.{IfOk, OnOk, IfSome, IfNone, Some, None, IsSome, IsErrOf, [], ℕ};
 ghost use Rattle.std.specs.List.{list_all, list_any};
-ghost use Rattle.pb_frame.specs.Hex.{digit_value, is_digit, is_upper, IsPair, IsHex, hex_text as text_of, lower_digit, upper_digit};
+ghost use Rattle.pb_frame.specs.Hex.{digit_value, is_digit, is_upper, IsPair, IsHex, hex_text as text_of, lower_digit};
+ghost use Rattle.pb_frame.specs.Hex.{upper_digit};
 ghost use Rattle.pb_frame.specs.declared.hex.HexFault.{HexFault};
 ghost use Rattle.pb_frame.specs.declared.hex.HexFault.TheVariants.{Memory as memory_fault};
 
@@ -195,7 +197,8 @@ fn upper(n: u8) -> char
 
 /// Puts the two digits of an octet behind a text, in lower case.
 fn put_lower(text: &mut String, octet: u8) -> Result<(), Memory>
-    ensures { OnOk result (string_bytes text.new ≡ string_bytes text.old ++ lower_digit (octet / 16) ∷ lower_digit (octet % 16) ∷ []) }
+    ensures { OnOk result (string_bytes text.new ≡ string_bytes text.old
+        ++ lower_digit (octet / 16) ∷ lower_digit (octet % 16) ∷ []) }
 {
     text.push(lower(octet / 16))?;
     text.push(lower(octet % 16))?;
@@ -204,7 +207,8 @@ fn put_lower(text: &mut String, octet: u8) -> Result<(), Memory>
 
 /// Puts the two digits of an octet behind a text, in upper case.
 pub(crate) fn put_upper(text: &mut String, octet: u8) -> Result<(), Memory>
-    ensures { OnOk result (string_bytes text.new ≡ string_bytes text.old ++ upper_digit (octet / 16) ∷ upper_digit (octet % 16) ∷ []) }
+    ensures { OnOk result (string_bytes text.new ≡ string_bytes text.old
+        ++ upper_digit (octet / 16) ∷ upper_digit (octet % 16) ∷ []) }
 {
     text.push(upper(octet / 16))?;
     text.push(upper(octet % 16))?;

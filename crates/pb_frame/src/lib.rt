@@ -25,7 +25,8 @@ mod tci;
 mod text;
 
 pub use frame::{
-    FrameFault, LONGEST_FRAME, LONGEST_UNTAGGED, SHORTEST_FRAME, SHORTEST_TAGGED, view,
+    FrameFault, LONGEST_FRAME, LONGEST_UNTAGGED, SHORTEST_FRAME, SHORTEST_TAGGED, destination_of,
+    source_of, view,
 };
 pub use held::Held;
 pub use hex::{HexFault, has_upper_case, hex_octets, hex_octets_in, hex_read, hex_text};

@@ -1,7 +1,9 @@
 //! Service tags (S-tags), and the customer tags that are data to a provider.
 
 ghost use Rattle.std.specs.Prelude.{ℕ, List, ◌≡◌, ◌<◌, ◌≤◌, ◌↔◌, true, false, length, IfOk, IfSome, IsSome, IsErrOf};
-ghost use Rattle.pb_frame.specs.Tags.{tagged, untagged, bare, control, control_of, IsTag, has_service_type, has_customer_tag, has_priority_tag, priority_tag_of, priority_of, shortest_tagged, vid_of};
+ghost use Rattle.pb_frame.specs.Tags.{tagged, untagged, bare, control, control_of, IsTag, has_service_type};
+ghost use Rattle.pb_frame.specs.Tags.{has_customer_tag, has_priority_tag, priority_tag_of, priority_of};
+ghost use Rattle.pb_frame.specs.Tags.{shortest_tagged, vid_of};
 ghost use Rattle.pb_frame.specs.declared.service_tag.TagFault.{TagFault};
 ghost use Rattle.pb_frame.specs.declared.service_tag.TagFault.TheVariants.{Memory as memory_fault};
 
@@ -53,7 +55,8 @@ pub fn push_s(alloc: Global, frame: &Bytes, tci: Tci) -> Result<Bytes, Memory>
 pub fn pop_s(alloc: Global, frame: &Bytes) -> Result<(Tci, Bytes), TagFault>
     ensures ok { IfOk result (λ p. frame.now ≡ tagged p.1 p.0.pcp p.0.dei p.0.vid) }
     ensures no_tag { IsErrOf result TagFault.NoTag ↔ (has_service_type frame.now ≡ false) }
-    ensures cut { IsErrOf result TagFault.Cut ↔ ((has_service_type frame.now ≡ true) × (length frame.now < shortest_tagged)) }
+    ensures cut { IsErrOf result TagFault.Cut
+        ↔ ((has_service_type frame.now ≡ true) × (length frame.now < shortest_tagged)) }
 {
     let octets = frame.as_slice();
     if !has_service_type(octets) {
@@ -138,7 +141,8 @@ pub fn has_priority_tag(frame: &[u8]) -> bool
 /// Of two equal tagged frames, the frames without their tags are equal, and so are the tags' controls; and where
 /// priority, drop eligibility and identifier are within their 3, 1 and 12 bits, these are equal one by one.
 pub fn tags_undo_each_other()
-    ensures control { (x y : List ℕ) (p d v q e w : ℕ) → 14 ≤ length x → 14 ≤ length y → tagged x p d v ≡ tagged y q e w → (x ≡ y) × (control p d v ≡ control q e w) }
+    ensures control { (x y : List ℕ) (p d v q e w : ℕ) → 14 ≤ length x → 14 ≤ length y
+        → tagged x p d v ≡ tagged y q e w → (x ≡ y) × (control p d v ≡ control q e w) }
     ensures parts { (x y : List ℕ) (p d v q e w : ℕ) → 14 ≤ length x → 14 ≤ length y → IsTag p d v → IsTag q e w
         → tagged x p d v ≡ tagged y q e w → (x ≡ y) × (p ≡ q) × (d ≡ e) × (v ≡ w) }
     ensures off { (x : List ℕ) (p d v : ℕ) → 14 ≤ length x → untagged (tagged x p d v) ≡ x }

@@ -56,7 +56,8 @@ fn is_chosen(chosen: &[u8], port: u8) -> bool
 
 /// How many of the chosen ports got a copy, where some got none.
 fn copies_but(chosen: &[u8], refused: &[(u8, NoRoom)]) -> u128
-    ensures exact { result ≡ count_by (λ port. list_any (λ p. p == port) chosen.now && not (is_refused refused.now port)) local_ports }
+    ensures exact { result ≡ count_by (λ port. list_any (λ p. p == port) chosen.now
+        && not (is_refused refused.now port)) local_ports }
     ensures few { result ≤ 16 }
 {
     LOCAL_PORTS
@@ -68,7 +69,8 @@ fn copies_but(chosen: &[u8], refused: &[(u8, NoRoom)]) -> u128
 /// How many of the chosen ports got a copy.
 #[inline(always)]
 fn copies(chosen: &PortSet, refused: &Refusals) -> u128
-    ensures exact { result ≡ count_by (λ port. list_any (λ p. p == port) chosen.now && not (is_refused refused.now port)) local_ports }
+    ensures exact { result ≡ count_by (λ port. list_any (λ p. p == port) chosen.now
+        && not (is_refused refused.now port)) local_ports }
     ensures few { result ≤ 16 }
 {
     if refused.is_empty() {

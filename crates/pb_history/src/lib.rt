@@ -1,7 +1,7 @@
 //! The steps of a place as contracts see them, and what is counted of them.
 //!
-//! The laws speak of the list of all steps that a place ever took. A [`Tally`] has that list for contracts alone, and in
-//! memory what reports tell of it: so a place can run without end. [`Steps`] has a tally, and keeps each step
+//! The laws speak of the list of all steps that a place ever took. A [`Tally`] has that list for contracts alone, and
+//! in memory what reports tell of it: so a place can run without end. [`Steps`] has a tally, and keeps each step
 //! besides where that is asked for.
 #![tactic(auto)]
 

@@ -37,7 +37,8 @@ impl Model for Tally {
 
     ghost view = { λ t. t.passages };
 
-    ghost invariant = { λ t. (t.filtered ≡ t.passages) × (t.newest ≡ t.passages) × (t.balance ≡ t.passages) × (t.losses ≡ t.passages) };
+    ghost invariant = { λ t. (t.filtered ≡ t.passages) × (t.newest ≡ t.passages) × (t.balance ≡ t.passages)
+        × (t.losses ≡ t.passages) };
 }
 
 impl Tally {
@@ -154,8 +155,8 @@ impl Tally {
         self.balance.parted()
     }
 
-    /// How many copies of relayed frames were not queued at a bridge's local port, 1 to 16, by cause (802.1Q clauses 8.6.6
-    /// and 8.6.7).
+    /// How many copies of relayed frames were not queued at a bridge's local port, 1 to 16, by cause (802.1Q clauses
+    /// 8.6.6 and 8.6.7).
     pub fn copies_not_queued(&self, port: u8) -> CauseCounts
         requires { port ≤ 16 }
         ensures { result ≡ counts_at port (flat_map refused_by self.now) }

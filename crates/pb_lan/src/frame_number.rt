@@ -25,7 +25,8 @@ impl Model for FrameNumber {
 
     ghost inverse = { λ n. record { 0 = to_le_bytes w64 n } };
 
-    ghost inverse_ok = { λ n h. ap (λ octets. record { 0 = octets }) (le_bytes_8 n.0 (from_le_bytes w64 n.0) h.0 h.1 refl) };
+    ghost inverse_ok = { λ n h.
+        ap (λ octets. record { 0 = octets }) (le_bytes_8 n.0 (from_le_bytes w64 n.0) h.0 h.1 refl) };
 }
 
 impl FrameNumber {

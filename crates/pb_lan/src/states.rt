@@ -46,8 +46,9 @@ fn start_by(spanning: Spanning, planned: PortState) -> PortState
     }
 }
 
-/// The state of a bridge's local port to which the steps of the bridge last set it; None where none did. A customer port
-/// is always Forwarding, an unused one Discarding, and a provider port that no step set has the state in which it starts.
+/// The state of a bridge's local port to which the steps of the bridge last set it; None where none did. A customer
+/// port is always Forwarding, an unused one Discarding, and a provider port that no step set has the state in which it
+/// starts.
 pub fn port_state(plan: &Plan, bridge: u8, port: u8, newest: Option<PortState>) -> PortState
     ensures { result ≡ newest_state plan.now bridge port newest }
 {

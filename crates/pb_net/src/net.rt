@@ -12,6 +12,7 @@ use crate::fault::NetFault;
 use crate::lists::{Lists, bridge_steps, customer_steps, lane_steps};
 use crate::slots::Slots;
 use crate::spots::is_number;
+use pb_frame::index_of;
 use pb_lan::{Event, Item, Place, Plan, Record, Step};
 use pb_link::{CustomerPlace, Lane};
 use pb_relay::Bridge;
@@ -104,9 +105,9 @@ impl Net {
         ensures lawful { IsLawfulRecord spanning_tree self.now.plan self.now.rec }
     {
         match place {
-            Place::Bridge(number) => self.bridges[number as usize - 1].steps(),
-            Place::Customer(number) => self.customers[number as usize - 1].steps(),
-            Place::Lane(number) => self.lanes[number as usize - 1].steps(),
+            Place::Bridge(number) => self.bridges[index_of(number)].steps(),
+            Place::Customer(number) => self.customers[index_of(number)].steps(),
+            Place::Lane(number) => self.lanes[index_of(number)].steps(),
         }
     }
 

@@ -10,7 +10,7 @@ ghost use Rattle.pb_relay.specs.Machines.{machine_in};
 ghost use Rattle.pb_relay.specs.Settled.{TellsSettled, machines_in};
 
 use crate::net::Net;
-use pb_frame::Memory;
+use pb_frame::{Memory, index_of};
 use pb_lan::Spanning;
 use pb_rstp::{Rstp, is_settled, planned_are_machines};
 use std::alloc::Global;
@@ -37,7 +37,7 @@ impl Net {
         requires { has_place self.now.plan (Bridge bridge) ≡ true }
         ensures { option_copied result ≡ machine_in self.now.plan bridge (steps_of self.now.rec.bridges bridge) }
     {
-        self.bridges[bridge as usize - 1].rstp()
+        self.bridges[index_of(bridge)].rstp()
     }
 
     /// Whether the bridges are settled (IEEE 802.1D-2004 clause 17), or None where the plan gives the states of

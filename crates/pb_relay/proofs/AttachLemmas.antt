@@ -1,5 +1,5 @@
 -- What a local port becomes.
-use Rattle.pb_svlan.specs.ServiceTables.{ServiceTable, vid_of, are_known, is_taken, role_at, attached, carried}
+use Rattle.pb_svlan.specs.ServiceTables.{ServiceTable, vid_of, are_known, is_taken, kind_at, attached, carried}
 use Rattle.std.proofs.Common.{◌≢◌, length-set, get_or-set_same, get_or-set_other, ◌≡◌, ℕ, ◌+◌, ◌-◌, ◌<◌, true, false}
 use Rattle.std.proofs.Common.{cond, ◌==◌, Some, None, List, map, length, get_or, set, unwrap_or, eq-eqb}
 use Rattle.std.proofs.Common.{refl, sym, ap, ◌∙◌, subst, arith}
@@ -21,27 +21,27 @@ use Rattle.pb_lan.specs.declared.plan.End.{End}
 use Rattle.pb_lan.specs.declared.shape.PortState.{PortState}
 use Rattle.pb_lan.specs.declared.shape.PortState.TheVariants.{Discarding}
 use Rattle.pb_svlan.specs.declared.port.Join.{Join}
-use Rattle.pb_svlan.specs.declared.port.Role.{Role}
-use Rattle.pb_svlan.specs.declared.port.Role.TheVariants.{Customer, Trunk}
-use Rattle.pb_relay.proofs.RoleLemmas.{local_here, locals-length}
-use Rattle.pb_relay.proofs.ServiceLemmas.{vid-known, all-known, carried-serves, role-attached}
+use Rattle.pb_svlan.specs.declared.port.PortKind.{PortKind}
+use Rattle.pb_svlan.specs.declared.port.PortKind.TheVariants.{Customer, Trunk}
+use Rattle.pb_relay.proofs.PortKindLemmas.{local_here, locals-length}
+use Rattle.pb_relay.proofs.ServiceLemmas.{vid-known, all-known, carried-serves, kind-attached}
 use Rattle.pb_relay.specs.LocalPorts.{IsKept}
-use Rattle.pb_relay.specs.Roles.{local_as, local_of, locals, serves_of, vids_of}
-use Rattle.pb_relay.specs.Roles.LocalPort.{ToCustomer, ToBridge}
+use Rattle.pb_relay.specs.PortKinds.{local_as, local_of, locals, serves_of, vids_of}
+use Rattle.pb_relay.specs.PortKinds.LocalPort.{ToCustomer, ToBridge}
 use Rattle.pb_relay.specs.Starts.{HasServices, HasAttached, KeepsPorts}
 
 -- a port that is attached is what it is attached as, and the others are what they were
-pub role-here : (table : ServiceTable) (port : ℕ) (role : Role) → is_taken table port ≡ false
-    → role_at (attached table port role) port ≡ Some role
-role-here table port role free =
-    role-attached table.ports (record { port = port; role = role }) port (none_from (role_at table port) free)
-    ∙ ap (λ b. cond b (Some role) (role_at table port)) (eq-eqb port port refl)
+pub kind-here : (table : ServiceTable) (port : ℕ) (kind : PortKind) → is_taken table port ≡ false
+    → kind_at (attached table port kind) port ≡ Some kind
+kind-here table port kind free =
+    kind-attached table.ports (record { port = port; kind = kind }) port (none_from (kind_at table port) free)
+    ∙ ap (λ b. cond b (Some kind) (kind_at table port)) (eq-eqb port port refl)
 
-pub role-elsewhere : (table : ServiceTable) (port q : ℕ) (role : Role) → is_taken table port ≡ false
-    → (q == port) ≡ false → role_at (attached table port role) q ≡ role_at table q
-role-elsewhere table port q role free other =
-    role-attached table.ports (record { port = port; role = role }) q (none_from (role_at table port) free)
-    ∙ ap (λ b. cond b (Some role) (role_at table q)) (eqb-symm port q ∙ other)
+pub kind-elsewhere : (table : ServiceTable) (port q : ℕ) (kind : PortKind) → is_taken table port ≡ false
+    → (q == port) ≡ false → kind_at (attached table port kind) q ≡ kind_at table q
+kind-elsewhere table port q kind free other =
+    kind-attached table.ports (record { port = port; kind = kind }) q (none_from (kind_at table port) free)
+    ∙ ap (λ b. cond b (Some kind) (kind_at table q)) (eqb-symm port q ∙ other)
 
 -- the services of an end are known
 listed-sound : (plan : Plan) (e : End) (services : Option (List ℕ)) → e.services ≡ services → IsSoundEnd plan e
@@ -64,7 +64,7 @@ pub customer_kept : (plan : Plan) (number port : ℕ) (table new : ServiceTable)
     (c : CustomerPlan) → IsSound plan → HasServices plan table
     → Some c ≡ first (is_customer_at number port) plan.customers → is_taken table port ≡ false
     → vid_of table c.service ≡ Some join.vid → join.pcp ≡ c.pcp → new ≡ attached table c.port (Customer join)
-    → IsKept plan (port_at plan number port) (local_as new start (role_at new port))
+    → IsKept plan (port_at plan number port) (local_as new start (kind_at new port))
 customer_kept plan number port table new join start c sound h found free vid pcp e =
     let there = customer_there plan number port c sound found in
     let s = numbered-exists plan.services c.service there.0.service in
@@ -75,13 +75,13 @@ customer_kept plan number port table new join start c sound h found free vid pcp
     let all : (v : ℕ) → (join.vid == v) ≡ has_vid plan v c.service = λ v.
     ap (λ n. n == v) (one ∙ ap (λ o. unwrap_or (option_map (λ t. t.vid) o) 0) s.1)
     ∙ sym (ap (λ o. unwrap_or (option_map (λ t. t.vid == v) o) false) s.1) in
-    let here : role_at new port ≡ Some (Customer join) =
-    ap (λ (t : ServiceTable). role_at t port) (e ∙ ap (λ n. attached table n (Customer join)) there.1)
-    ∙ role-here table port (Customer join) free in
+    let here : kind_at new port ≡ Some (Customer join) =
+    ap (λ (t : ServiceTable). kind_at t port) (e ∙ ap (λ n. attached table n (Customer join)) there.1)
+    ∙ kind-here table port (Customer join) free in
     let kept : IsKept plan (port_at plan number port) (ToCustomer join.vid join.pcp) =
     subst (λ o. IsKept plan (customer_or_else o (provider_or_unused (first (is_end_at number port) (all_ends plan))))
     (ToCustomer join.vid join.pcp)) found (one, pcp, all) in
-    subst (λ (o : Option Role). IsKept plan (port_at plan number port) (local_as new start o)) (sym here) kept
+    subst (λ (o : Option PortKind). IsKept plan (port_at plan number port) (local_as new start o)) (sym here) kept
 
 -- a port to another bridge is kept with the services of its end
 pub end_kept : (plan : Plan) (number port : ℕ) (table new : ServiceTable) (e : End) → IsSound plan
@@ -89,33 +89,33 @@ pub end_kept : (plan : Plan) (number port : ℕ) (table new : ServiceTable) (e :
     → None ≡ first (is_customer_at number port) plan.customers
     → Some e ≡ first (is_end_at number port) (all_ends plan) → is_taken table port ≡ false
     → new ≡ attached table e.port (Trunk (carried table e.services))
-    → IsKept plan (port_at plan number port) (local_as new e.start (role_at new port))
+    → IsKept plan (port_at plan number port) (local_as new e.start (kind_at new port))
 end_kept plan number port table new e sound h nobody found free a =
     let there = end_there plan number port e sound found in
-    let here : role_at new port ≡ Some (Trunk (carried table e.services)) =
-    ap (λ (t : ServiceTable). role_at t port)
+    let here : kind_at new port ≡ Some (Trunk (carried table e.services)) =
+    ap (λ (t : ServiceTable). kind_at t port)
     (a ∙ ap (λ n. attached table n (Trunk (carried table e.services))) there.1)
-    ∙ role-here table port (Trunk (carried table e.services)) free in
+    ∙ kind-here table port (Trunk (carried table e.services)) free in
     let carries : (v : ℕ) → serves_of (vids_of new (carried table e.services)) v ≡ serves plan v e =
     λ v. carried-serves plan table new e.services v h (ap (λ (t : ServiceTable). t.services) a)
     (listed-sound plan e e.services refl there.0) in
-    subst (λ (o : Option Role). IsKept plan (port_at plan number port) (local_as new e.start o)) (sym here)
+    subst (λ (o : Option PortKind). IsKept plan (port_at plan number port) (local_as new e.start o)) (sym here)
     (subst (λ o. IsKept plan (customer_or_else o (provider_or_unused (first (is_end_at number port) (all_ends plan))))
     (local_as new e.start (Some (Trunk (carried table e.services))))) nobody
     (subst (λ o. IsKept plan (provider_or_unused o) (local_as new e.start (Some (Trunk (carried table e.services)))))
     found (refl, carries)))
 
--- where the services are the same, so is what a role makes of a port
-as-same : (t u : ServiceTable) (start : PortState) (role : Option Role) → t.services ≡ u.services
-    → local_as t start role ≡ local_as u start role
+-- where the services are the same, so is what a kind makes of a port
+as-same : (t u : ServiceTable) (start : PortState) (kind : Option PortKind) → t.services ≡ u.services
+    → local_as t start kind ≡ local_as u start kind
 as-same t u start (Some (Trunk None)) e = ap (λ ss. ToBridge start (map (λ s. s.0) ss)) e
 as-same t u start _ e = refl
 
 -- one port more
 pub attached_more : (plan : Plan) (number : ℕ) (old new : ServiceTable) (starts : List PortState) (r : ℕ)
     (start : PortState) → r < 16 → HasAttached plan number old starts r
-    → new.services ≡ old.services → ((p : ℕ) → (p == r + 1) ≡ false → role_at new p ≡ role_at old p)
-    → IsKept plan (port_at plan number (r + 1)) (local_as new start (role_at new (r + 1)))
+    → new.services ≡ old.services → ((p : ℕ) → (p == r + 1) ≡ false → kind_at new p ≡ kind_at old p)
+    → IsKept plan (port_at plan number (r + 1)) (local_as new start (kind_at new (r + 1)))
     → HasAttached plan number new (set starts r start) (r + 1)
 attached_more plan number old new starts r start few h e others here = record {
   services = e ∙ h.services;
@@ -140,7 +140,7 @@ attached_more plan number old new starts r start few h e others here = record {
         let at : get_or (set starts r start) (r + 1 - 1) Discarding ≡ start =
         ap (λ n. get_or (set starts r start) n Discarding) (place r)
         ∙ get_or-set_same starts r start Discarding (omega (arith, h.count)) in
-        subst (λ (s : PortState). IsKept plan (port_at plan number (r + 1)) (local_as new s (role_at new (r + 1))))
+        subst (λ (s : PortState). IsKept plan (port_at plan number (r + 1)) (local_as new s (kind_at new (r + 1))))
         (sym at) here
 
     older : (k : ℕ) → k < r → local_of new (set starts r start) (k + 1) ≡ local_of old starts (k + 1)
@@ -149,10 +149,10 @@ attached_more plan number old new starts r start few h e others here = record {
         let at : get_or (set starts r start) (k + 1 - 1) Discarding ≡ get_or starts (k + 1 - 1) Discarding =
         ap (λ i. get_or (set starts r start) i Discarding) (place k) ∙ get_or-set_other starts r k start Discarding n
         ∙ ap (λ i. get_or starts i Discarding) (sym (place k)) in
-        ap (λ (s : PortState). local_as new s (role_at new (k + 1))) at
+        ap (λ (s : PortState). local_as new s (kind_at new (k + 1))) at
         ∙ ap (local_as new (get_or starts (k + 1 - 1) Discarding))
         (others (k + 1) (ne_eqb (k + 1) (r + 1) (λ e. omega (arith, l, e))))
-        ∙ as-same new old (get_or starts (k + 1 - 1) Discarding) (role_at old (k + 1)) e
+        ∙ as-same new old (get_or starts (k + 1 - 1) Discarding) (kind_at old (k + 1)) e
 
 -- all ports were asked
 pub attached_all : (plan : Plan) (number : ℕ) (table : ServiceTable) (starts : List PortState) (n : ℕ) → n ≡ 16
@@ -162,6 +162,6 @@ attached_all plan number table starts n e h = record {
   kept = λ r l. let within : r < n = omega (arith, l, e) in
       let p : r + 1 - 1 ≡ r = omega arith in
       subst (IsKept plan (port_at plan number (r + 1)))
-      (ap (λ i. local_as table (get_or starts i Discarding) (role_at table (r + 1))) p
+      (ap (λ i. local_as table (get_or starts i Discarding) (kind_at table (r + 1))) p
       ∙ sym (local_here table starts r l)) (h.kept r within);
 }

@@ -21,8 +21,8 @@ use Rattle.pb_lan.specs.declared.plan.Plan.{Plan}
 use Rattle.pb_lan.specs.declared.shape.PortState.{PortState}
 use Rattle.pb_lan.specs.declared.shape.PortState.TheVariants.{Discarding, Learning, Forwarding}
 use Rattle.pb_lan.specs.declared.step.Item.{Item}
-use Rattle.pb_relay.specs.Roles.{LocalPort, told}
-use Rattle.pb_relay.specs.Roles.LocalPort.{ToCustomer, ToBridge}
+use Rattle.pb_relay.specs.PortKinds.{LocalPort, told}
+use Rattle.pb_relay.specs.PortKinds.LocalPort.{ToCustomer, ToBridge}
 use Rattle.pb_relay.specs.Loads.{IsLoadable}
 use Rattle.pb_relay.specs.LocalPorts.{IsKept}
 

@@ -9,8 +9,8 @@ use Rattle.pb_lan.specs.Queues.{class_of, priority_in, wire_out}
 use Rattle.pb_lan.specs.declared.plan.Plan.{Plan}
 use Rattle.pb_lan.specs.declared.shape.PortState.{PortState}
 use Rattle.pb_relay.specs.declared.load.Load.{Load}
-use Rattle.pb_relay.specs.Roles.{LocalPort, told}
-use Rattle.pb_relay.specs.Roles.LocalPort.{ToCustomer, ToBridge, ToNobody}
+use Rattle.pb_relay.specs.PortKinds.{LocalPort, told}
+use Rattle.pb_relay.specs.PortKinds.LocalPort.{ToCustomer, ToBridge, ToNobody}
 use Rattle.pb_relay.specs.Kinds.{is_to_customer, is_to_bridge}
 use Rattle.pb_relay.specs.Loads.{IsLoad, IsLoadedAt, brought, is_member_of}
 use Rattle.pb_relay.specs.LocalPorts.{IsKept, IsConfigured}

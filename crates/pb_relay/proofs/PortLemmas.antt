@@ -11,8 +11,8 @@ use Rattle.pb_relay.proofs.SettingLemmas.{provider_used}
 use Rattle.pb_relay.proofs.StandingLemmas.{used_port}
 use Rattle.pb_relay.specs.Kinds.{is_to_customer, is_to_bridge}
 use Rattle.pb_relay.specs.LocalPorts.{IsKept}
-use Rattle.pb_relay.specs.Roles.{LocalPort}
-use Rattle.pb_relay.specs.Roles.LocalPort.{ToCustomer, ToBridge, ToNobody}
+use Rattle.pb_relay.specs.PortKinds.{LocalPort}
+use Rattle.pb_relay.specs.PortKinds.LocalPort.{ToCustomer, ToBridge, ToNobody}
 
 -- it goes to another bridge, or is used, where the plan says so
 told_where : (plan : Plan) (port : Port) (local : LocalPort) → IsKept plan port local

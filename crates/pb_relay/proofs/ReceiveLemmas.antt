@@ -27,8 +27,8 @@ use Rattle.pb_frame.specs.declared.reason.Reason.TheVariants.{NotForwarding, Mem
 use Rattle.pb_lan.specs.declared.step.Step.{Step}
 use Rattle.pb_lan.specs.declared.step.Step.TheVariants.{Receive}
 use Rattle.pb_relay.specs.declared.load.Load.{Load}
-use Rattle.pb_relay.specs.Roles.{LocalPort}
-use Rattle.pb_relay.specs.Roles.LocalPort.{ToNobody}
+use Rattle.pb_relay.specs.PortKinds.{LocalPort}
+use Rattle.pb_relay.specs.PortKinds.LocalPort.{ToNobody}
 use Rattle.pb_relay.specs.Copies.{AreCopied, AreSeparate, copy_at}
 use Rattle.pb_relay.specs.Loads.{IsLoadedAt, is_choice, is_member_of}
 use Rattle.pb_relay.specs.LocalPorts.{IsConfigured}

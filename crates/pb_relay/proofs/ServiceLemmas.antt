@@ -16,10 +16,10 @@ use Rattle.pb_lan.specs.Plans.{IsNumber, IsSound}
 use Rattle.pb_lan.specs.Ports.{has_vid as has_vid_of, listed}
 use Rattle.pb_lan.specs.declared.plan.Plan.{Plan}
 use Rattle.pb_lan.specs.declared.plan.ServicePlan.{ServicePlan}
-use Rattle.pb_svlan.specs.ServiceTables.{ServiceTable, vid_of, is_known, has_name, has_vid, role_in, place_of}
+use Rattle.pb_svlan.specs.ServiceTables.{ServiceTable, vid_of, is_known, has_name, has_vid, kind_in, place_of}
 use Rattle.pb_svlan.specs.ServiceTables.{carried, vids_of as vids_numbered}
 use Rattle.pb_svlan.specs.declared.port.Attachment.{Attachment}
-use Rattle.pb_relay.specs.Roles.{serves_of, vids_of}
+use Rattle.pb_relay.specs.PortKinds.{serves_of, vids_of}
 use Rattle.pb_relay.specs.Starts.{HasServices}
 
 -- a service with its VID and name
@@ -113,31 +113,31 @@ carried-serves plan old new None v h e a =
 carried-serves plan old new (Some numbers) v h e a = carried-listed plan old numbers v h (a numbers refl)
 
 -- ports with one more that was nothing
-pub role-attached : (ports : List Attachment) (a : Attachment) (q : ℕ) → role_in ports a.port ≡ None
-    → role_in (insert ports (place_of a.port ports) a) q ≡ cond (a.port == q) (Some a.role) (role_in ports q)
-role-attached [] a q none = elim (a.port == q) as (λ t. option_map (λ z. z.role) (cond t (Some a) None) ≡ cond t
-    (Some a.role) None) [ true ↦ refl | false ↦ refl ]
-role-attached (b ∷ others) a q none =
-    elim (nat_lt b.port a.port) as (λ t. role_in (insert (b ∷ others) (cond t (suc (place_of a.port others)) 0) a) q
-    ≡ cond (a.port == q) (Some a.role) (role_in (b ∷ others) q)) [
+pub kind-attached : (ports : List Attachment) (a : Attachment) (q : ℕ) → kind_in ports a.port ≡ None
+    → kind_in (insert ports (place_of a.port ports) a) q ≡ cond (a.port == q) (Some a.kind) (kind_in ports q)
+kind-attached [] a q none = elim (a.port == q) as (λ t. option_map (λ z. z.kind) (cond t (Some a) None) ≡ cond t
+    (Some a.kind) None) [ true ↦ refl | false ↦ refl ]
+kind-attached (b ∷ others) a q none =
+    elim (nat_lt b.port a.port) as (λ t. kind_in (insert (b ∷ others) (cond t (suc (place_of a.port others)) 0) a) q
+    ≡ cond (a.port == q) (Some a.kind) (kind_in (b ∷ others) q)) [
       | true ↦ by_ports (b.port == q) (a.port == q) refl refl
-          (role-attached others a q (differs (b.port == a.port) none).1)
+          (kind-attached others a q (differs (b.port == a.port) none).1)
       | false ↦ elim (a.port == q) as
-          (λ t. option_map (λ z. z.role) (cond t (Some a) (first (λ z. z.port == q) (b ∷ others))) ≡ cond t
-          (Some a.role) (role_in (b ∷ others) q)) [ true ↦ refl | false ↦ refl ]
+          (λ t. option_map (λ z. z.kind) (cond t (Some a) (first (λ z. z.port == q) (b ∷ others))) ≡ cond t
+          (Some a.kind) (kind_in (b ∷ others) q)) [ true ↦ refl | false ↦ refl ]
     ]
   where
-    differs : (t : Bool) → option_map (λ z. z.role) (cond t (Some b) (first (λ z. z.port == a.port) others)) ≡ None
-        → (t ≡ false) × (role_in others a.port ≡ None)
+    differs : (t : Bool) → option_map (λ z. z.kind) (cond t (Some b) (first (λ z. z.port == a.port) others)) ≡ None
+        → (t ≡ false) × (kind_in others a.port ≡ None)
     differs true h = cc
     differs false h = (refl, h)
 
     by_ports : (s t : Bool) → (b.port == q) ≡ s → (a.port == q) ≡ t
-        → role_in (insert others (place_of a.port others) a) q ≡ cond (a.port == q) (Some a.role) (role_in others q)
-        → option_map (λ z. z.role)
+        → kind_in (insert others (place_of a.port others) a) q ≡ cond (a.port == q) (Some a.kind) (kind_in others q)
+        → option_map (λ z. z.kind)
         (cond (b.port == q) (Some b) (first (λ z. z.port == q) (insert others (place_of a.port others) a)))
-        ≡ cond (a.port == q) (Some a.role)
-        (option_map (λ z. z.role) (cond (b.port == q) (Some b) (first (λ z. z.port == q) others)))
+        ≡ cond (a.port == q) (Some a.kind)
+        (option_map (λ z. z.kind) (cond (b.port == q) (Some b) (first (λ z. z.port == q) others)))
     by_ports true true e f rest =
         let same_port : b.port ≡ a.port = eqb-true b.port q e ∙ sym (eqb-true a.port q f) in
         let unlike = (differs (b.port == a.port) none).0 in

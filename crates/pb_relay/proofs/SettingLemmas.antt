@@ -23,8 +23,8 @@ use Rattle.pb_lan.specs.declared.step.Moved.{Moved}
 use Rattle.pb_lan.specs.declared.step.Step.{Step}
 use Rattle.pb_lan.specs.declared.step.Step.TheVariants.{Admin}
 use Rattle.pb_lan.proofs.StateLemmas.{same_state}
-use Rattle.pb_relay.specs.Roles.{LocalPort, told}
-use Rattle.pb_relay.specs.Roles.LocalPort.{ToBridge}
+use Rattle.pb_relay.specs.PortKinds.{LocalPort, told}
+use Rattle.pb_relay.specs.PortKinds.LocalPort.{ToBridge}
 use Rattle.pb_relay.specs.Changes.{moved_by_setting, moved_to, state_set, ports_flushed}
 use Rattle.pb_relay.specs.LocalPorts.{IsKept}
 use Rattle.pb_relay.specs.Standing.{IsStanding}

@@ -18,8 +18,8 @@ use Rattle.pb_relay.specs.Classes.{no_items}
 use Rattle.pb_relay.specs.LocalPorts.{IsKept}
 use Rattle.pb_relay.specs.Standing.{IsStanding}
 use Rattle.pb_relay.specs.Starts.{first_state, KeepsPorts}
-use Rattle.pb_relay.specs.Roles.{LocalPort, told}
-use Rattle.pb_relay.specs.Roles.LocalPort.{ToCustomer, ToBridge, ToNobody}
+use Rattle.pb_relay.specs.PortKinds.{LocalPort, told}
+use Rattle.pb_relay.specs.PortKinds.LocalPort.{ToCustomer, ToBridge, ToNobody}
 
 -- one more state
 pub states_more : (spanning : Spanning) (states : List PortState) (ports : List LocalPort) (r : ℕ) (s : PortState)

@@ -2,8 +2,8 @@
 use Rattle.std.specs.Prelude.{◌≡◌, ◌≤◌, ℕ, List, Bool, true, false, slice_index_or}
 use Rattle.pb_relay.specs.declared.ports.Local.{Local}
 use Rattle.pb_relay.specs.declared.ports.Local.TheVariants.{Customer, Bridge, Nobody}
-use Rattle.pb_relay.specs.Roles.{LocalPort, told}
-use Rattle.pb_relay.specs.Roles.LocalPort.{ToNobody}
+use Rattle.pb_relay.specs.PortKinds.{LocalPort, told}
+use Rattle.pb_relay.specs.PortKinds.LocalPort.{ToNobody}
 
 -- a customer is there
 abbrev pub is_customer_told : Local → Bool

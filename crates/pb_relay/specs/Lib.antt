@@ -1,7 +1,7 @@
 pub mod Protocol
 pub mod Machines
 pub mod Classes
-pub mod Roles
+pub mod PortKinds
 pub mod Kinds
 pub mod LocalPorts
 pub mod Standing

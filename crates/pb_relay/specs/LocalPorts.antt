@@ -5,8 +5,8 @@ use Rattle.pb_lan.specs.Ports.Port.{Customer, Provider, Unused}
 use Rattle.pb_lan.specs.Plans.{IsSound}
 use Rattle.pb_lan.specs.declared.plan.Plan.{Plan}
 use Rattle.pb_lan.specs.Queues.{capacity_of}
-use Rattle.pb_relay.specs.Roles.{LocalPort, serves_of}
-use Rattle.pb_relay.specs.Roles.LocalPort.{ToCustomer, ToBridge, ToNobody}
+use Rattle.pb_relay.specs.PortKinds.{LocalPort, serves_of}
+use Rattle.pb_relay.specs.PortKinds.LocalPort.{ToCustomer, ToBridge, ToNobody}
 
 -- what is kept is what the plan says
 abbrev pub IsKept : Plan → Port → LocalPort → Type 0

@@ -8,13 +8,13 @@ use Rattle.pb_lan.specs.declared.plan.Spanning.{Spanning}
 use Rattle.pb_lan.specs.declared.shape.PortState.{PortState}
 use Rattle.pb_lan.specs.declared.shape.PortState.TheVariants.{Discarding, Forwarding}
 use Rattle.pb_relay.specs.LocalPorts.{IsKept}
-use Rattle.pb_relay.specs.Roles.{LocalPort, local_of}
-use Rattle.pb_relay.specs.Roles.LocalPort.{ToNobody}
+use Rattle.pb_relay.specs.PortKinds.{LocalPort, local_of}
+use Rattle.pb_relay.specs.PortKinds.LocalPort.{ToNobody}
 use Rattle.pb_relay.specs.declared.ports.Local.{Local}
 use Rattle.pb_relay.specs.declared.ports.Local.TheVariants.{Customer as customer_there, Bridge as bridge_there, Nobody as nobody_there}
-use Rattle.pb_svlan.specs.ServiceTables.{ServiceTable, role_at, vid_of, attached}
+use Rattle.pb_svlan.specs.ServiceTables.{ServiceTable, kind_at, vid_of, attached}
 use Rattle.pb_svlan.specs.declared.port.Join.{Join}
-use Rattle.pb_svlan.specs.declared.port.Role.TheVariants.{Customer}
+use Rattle.pb_svlan.specs.declared.port.PortKind.TheVariants.{Customer}
 
 -- the state in which a port starts
 abbrev pub first_state : Spanning → Local → PortState
@@ -43,4 +43,4 @@ pub record HasAttached (plan : Plan) (number : ℕ) (table : ServiceTable) (star
   pub services : HasServices plan table
   pub count : length starts ≡ 16
   pub kept : (r : ℕ) → r < n → IsKept plan (port_at plan number (r + 1)) (local_of table starts (r + 1))
-  pub free : (p : ℕ) → n < p → role_at table p ≡ None
+  pub free : (p : ℕ) → n < p → kind_at table p ≡ None

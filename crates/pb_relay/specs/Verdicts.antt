@@ -6,8 +6,8 @@ use Rattle.pb_lan.specs.BridgeLists.Ruling.{Refuses, Listens, LearnsOnly, Carrie
 use Rattle.pb_lan.specs.declared.shape.PortState.{PortState}
 use Rattle.pb_lan.specs.declared.step.Item.{Item}
 use Rattle.pb_relay.specs.Protocol.{spanning_tree}
-use Rattle.pb_relay.specs.Roles.{LocalPort, serves_of}
-use Rattle.pb_relay.specs.Roles.LocalPort.{ToCustomer, ToBridge, ToNobody}
+use Rattle.pb_relay.specs.PortKinds.{LocalPort, serves_of}
+use Rattle.pb_relay.specs.PortKinds.LocalPort.{ToCustomer, ToBridge, ToNobody}
 use Rattle.pb_relay.specs.declared.verdict.Verdict.{Verdict}
 use Rattle.pb_relay.specs.declared.verdict.Verdict.TheVariants.{Refuse, Hear, Learn, Carry}
 

@@ -10,7 +10,7 @@ ghost use Rattle.pb_relay.specs.Backlogs.{KeepsBacklog};
 use crate::backlog::Backlog;
 use crate::copies::note;
 use pb_bpdu::Bpdu;
-use pb_frame::{Mac, Memory};
+use pb_frame::{Mac, Memory, index_of};
 use pb_lan::{Item, NoRoom};
 use std::alloc::Global;
 
@@ -110,13 +110,14 @@ pub fn queue_bpdus(backlog: &mut Backlog, room: &mut BpduRoom, sends: &[(u8, Bpd
     requires queued_room { length sends.now ≤ vec_capacity room.old.queued }
     requires dropped_room { length sends.now ≤ vec_capacity room.old.dropped }
     requires separate { AreSeparate (places_of (frames_of address.0 sends.now)) }
-    ensures copied { AreCopied backlog.old.capacity 7 (own_at (frames_of address.0 sends.now)) backlog.old.ports (places_of (frames_of address.0 sends.now)) room.new.dropped.items backlog.new.ports }
+    ensures copied { AreCopied backlog.old.capacity 7 (own_at (frames_of address.0 sends.now)) backlog.old.ports
+        (places_of (frames_of address.0 sends.now)) room.new.dropped.items backlog.new.ports }
     ensures count { length backlog.new.ports ≡ 16 }
     ensures kept { KeepsBacklog backlog.old backlog.new }
     ensures queued { room.new.queued.items ≡ own_queued room.new.dropped.items (frames_of address.0 sends.now) }
 {
     for (port, bpdu) in sends {
-        let place = *port as usize - 1;
+        let place = index_of(*port);
         let answer = send(room.alloc, backlog, place, address, bpdu);
         note_sent(&mut room.queued, &mut room.dropped, *port, answer);
     }

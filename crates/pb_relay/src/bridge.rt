@@ -16,7 +16,7 @@ use crate::departure::depart;
 use crate::fault::BridgeFault;
 use crate::forwarding::Forwarding;
 use crate::ports::{LocalPorts, PORTS, is_bridge, is_customer};
-use pb_frame::Mac;
+use pb_frame::{Mac, index_of};
 use pb_history::Steps;
 use pb_lan::{Item, Plan, PortState, Step};
 use pb_rstp::Rstp;
@@ -60,10 +60,17 @@ impl Model for Bridge {
 
     ghost Value = { BridgeView };
 
-    ghost view = { λ b. record { plan = b.plan; number = b.number; steps = b.steps.steps; is_kept = b.steps.is_kept; is_reserved = b.steps.is_reserved } };
+    ghost view = { λ b. record {
+      plan = b.plan;
+      number = b.number;
+      steps = b.steps.steps;
+      is_kept = b.steps.is_kept;
+      is_reserved = b.steps.is_reserved;
+    } };
 
     ghost invariant = { λ b. IsConfigured b.plan b.number b.ports b.forwarding.backlog.capacity b.limit
-        × IsStanding b.plan b.number b.steps.steps b.forwarding.states b.forwarding.backlog.ports b.clock b.forwarding.table.sightings
+        × IsStanding b.plan b.number b.steps.steps b.forwarding.states b.forwarding.backlog.ports b.clock
+        b.forwarding.table.sightings
         × HasRoom b.steps.steps b.limit b.steps.is_reserved
         × IsTableOf b.plan b.clock b.forwarding.table
         × IsSpanning b.plan b.number b.steps.steps b.rstp b.address.0
@@ -143,7 +150,7 @@ impl Bridge {
         if port == 0 || port as usize > PORTS {
             return false;
         }
-        let local = ports.at(port as usize - 1);
+        let local = ports.at(index_of(port));
         is_customer(local) | is_bridge(local)
     }
 
@@ -155,7 +162,7 @@ impl Bridge {
         if port == 0 || port as usize > PORTS {
             return false;
         }
-        is_bridge(ports.at(port as usize - 1))
+        is_bridge(ports.at(index_of(port)))
     }
 
     /// The number of items that wait at a port, in all traffic classes.
@@ -163,7 +170,7 @@ impl Bridge {
         requires { is_used (port_at self.now.plan self.now.number port) ≡ true }
         ensures { result ≡ length (waiting self.now.plan self.now.number port self.now.steps) }
     {
-        self.forwarding.backlog.waiting(port as usize - 1) as u16
+        self.forwarding.backlog.waiting(index_of(port)) as u16
     }
 
     /// The item that leaves a port next: the oldest of the highest class (IEEE 802.1Q clause 8,
@@ -172,7 +179,7 @@ impl Bridge {
         requires { is_used (port_at self.now.plan self.now.number port) ≡ true }
         ensures { option_copied result ≡ next_out (waiting self.now.plan self.now.number port self.now.steps) }
     {
-        self.forwarding.backlog.first(port as usize - 1)
+        self.forwarding.backlog.first(index_of(port))
     }
 
     /// Takes the item that leaves a port next, and appends the Transmit step that tells of it. Takes
@@ -185,7 +192,7 @@ impl Bridge {
         ensures step { self.new ≡ with_step self.old (Transmit port result) }
         ensures fits { Fits spanning_tree self.old.plan self.old.number self.old.steps (Transmit port result) }
     {
-        let Some(departure) = self.forwarding.backlog.pop(port as usize - 1) else {
+        let Some(departure) = self.forwarding.backlog.pop(index_of(port)) else {
             unreachable!();
         };
         depart(&mut self.steps, port, departure)

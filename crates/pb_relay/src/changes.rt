@@ -1,18 +1,20 @@
 //! What changes a bridge's ports, and its clock.
 
-ghost use Rattle.std.specs.Prelude.{◌≡◌, ◌↔◌, ◌<◌, length, true, false, if◌then◌else◌, IfOk, OnOk, OnErr, IsErrOf, IsOk};
+ghost use Rattle.std.specs.Prelude.{◌≡◌, ◌↔◌, ◌<◌, length, true, false, if◌then◌else◌, IfOk, OnOk, OnErr, IsErrOf};
+ghost use Rattle.std.specs.Prelude.{IsOk};
 ghost use Rattle.pb_fdb.specs.Tables.{flushed};
 ghost use Rattle.pb_lan.specs.Ports.{port_at, is_provider};
 ghost use Rattle.pb_lan.specs.Rules.{is_same, from_to};
 ghost use Rattle.pb_lan.specs.declared.plan.Spanning.TheVariants.{Fixed};
 ghost use Rattle.pb_relay.specs.Machines.{is_by_protocol};
-ghost use Rattle.pb_relay.specs.Changes.{HasTicked, HasSet, unmoved, moved_by_setting, moved_to, state_set, ports_flushed};
+ghost use Rattle.pb_relay.specs.Changes.{HasTicked, HasSet, unmoved, moved_by_setting, moved_to, state_set};
+ghost use Rattle.pb_relay.specs.Changes.{ports_flushed};
 
 use crate::bridge::{Bridge, append};
 use crate::fault::BridgeFault;
 use crate::ports::Local;
 use pb_fdb::Fdb;
-use pb_frame::{Memory, Seq};
+use pb_frame::{Memory, Seq, index_of};
 use pb_lan::{Moved, PortState, Spanning, Step};
 use std::alloc::Global;
 
@@ -94,7 +96,7 @@ impl Bridge {
         ensures { IfOk result (λ moved. moved ≡ moved_by_setting self.now.plan self.now.number self.now.steps port up) }
     {
         let ports = &self.ports;
-        let place = port as usize - 1;
+        let place = index_of(port);
         let next = state_set(ports.at(place), up);
         moved_to(self.alloc, port, up, self.forwarding.states[place], next)
     }
@@ -108,7 +110,7 @@ impl Bridge {
         ensures { HasSet self.old port up self.new }
     {
         let ports = &self.ports;
-        let place = port as usize - 1;
+        let place = index_of(port);
         let next = state_set(ports.at(place), up);
         flush_unless(&mut self.forwarding.table, up, port);
         self.forwarding.states[place] = next;

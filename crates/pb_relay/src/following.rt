@@ -8,7 +8,7 @@ ghost use Rattle.pb_relay.specs.Moves.{all_flushed, states_changed};
 use crate::bpdus::{BpduRoom, queue_bpdus};
 use crate::forwarding::Forwarding;
 use pb_fdb::Fdb;
-use pb_frame::{Mac, Seq};
+use pb_frame::{Mac, Seq, index_of};
 use pb_lan::{Moved, PortState};
 use pb_rstp::Change;
 
@@ -18,7 +18,7 @@ fn set_states(states: &mut [PortState; 16], changes: &[(u8, PortState)])
     ensures { states.new ≡ states_changed states.old changes.now }
 {
     for (port, state) in changes {
-        states[*port as usize - 1] = *state;
+        states[index_of(*port)] = *state;
     }
 }
 

@@ -8,7 +8,7 @@ ghost use Rattle.pb_relay.specs.Machines.{machine_in, listed, priority_in};
 ghost use Rattle.pb_rstp.specs.Profile.{address_in, rstp_port, rstp_ports, machine_at_start};
 
 use crate::start::{customer_at, end_at};
-use pb_frame::{Mac, Memory, Seq};
+use pb_frame::{Mac, Memory, Seq, index_of};
 use pb_lan::{Plan, Spanning};
 use pb_rstp::{Config, Rstp, RstpPort};
 use std::alloc::Global;
@@ -18,7 +18,7 @@ pub fn address(plan: &Plan, number: u8) -> Mac
     requires { IsNumber number (length plan.now.bridges) }
     ensures { result.0 ≡ address_in plan.now number }
 {
-    plan.bridges.as_slice()[number as usize - 1].address
+    plan.bridges.as_slice()[index_of(number)].address
 }
 
 /// The priority of the bridge.
@@ -26,7 +26,7 @@ fn priority(plan: &Plan, number: u8) -> u16
     requires { IsNumber number (length plan.now.bridges) }
     ensures { result ≡ priority_in plan.now number }
 {
-    plan.bridges.as_slice()[number as usize - 1].priority
+    plan.bridges.as_slice()[index_of(number)].priority
 }
 
 /// The local port, if it goes to another bridge.

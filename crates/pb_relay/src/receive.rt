@@ -1,7 +1,8 @@
 //! What a bridge does with a frame that comes in at a port (IEEE 802.1Q clause 8).
 
-ghost use Rattle.std.specs.Prelude.{◌≡◌, ◌≤◌, ◌↔◌, length, true, false, IfOk, IfErr, OnOk, OnErr, IsErrOf, IsOk, if◌then◌else◌, None};
-ghost use Rattle.pb_frame.specs.Frames.{src_of, dst_of, is_group, shortest_frame};
+ghost use Rattle.std.specs.Prelude.{◌≡◌, ◌≤◌, ◌↔◌, length, true, false, IfOk, IfErr, OnOk, OnErr, IsErrOf, IsOk};
+ghost use Rattle.std.specs.Prelude.{if◌then◌else◌, None};
+ghost use Rattle.pb_frame.specs.Frames.{dst_of, is_group, shortest_frame};
 ghost use Rattle.pb_lan.specs.BridgeLists.{ruling, Fits};
 ghost use Rattle.pb_lan.specs.BridgeLists.Ruling.{Refuses, LearnsOnly, Carries};
 ghost use Rattle.pb_lan.specs.Ports.{port_at, is_used};
@@ -24,7 +25,7 @@ use crate::load::Load;
 use crate::outcomes::newest_outcome;
 use crate::verdict::{Verdict, rule};
 use pb_fdb::Fdb;
-use pb_frame::{Learnt, Mac};
+use pb_frame::{Learnt, destination_of, index_of, source_of};
 use pb_history::Steps;
 use pb_lan::{Item, Outcome, Reason, Step};
 
@@ -44,6 +45,8 @@ impl Bridge {
         ensures reserved { self.old.is_reserved ≡ true → IsOk result }
     {
         let given = self.admit(port, item)?;
+        // The step owns the outcome, since it is part of the record. It is read back here, two words, for the one caller
+        // that asks for it: to hand it up through `relay` and `carry` would move it twice for every caller.
         let outcome = newest_outcome(&given, self.steps.as_slice());
         Ok(outcome)
     }
@@ -108,7 +111,7 @@ impl Bridge {
         ensures { as_ruling result ≡ ruling spanning_tree self.now.plan self.now.number self.now.steps port item.now }
     {
         let ports = &self.ports;
-        let place = port as usize - 1;
+        let place = index_of(port);
         rule(ports, place, self.forwarding.states[place], item)
     }
 
@@ -125,7 +128,8 @@ impl Bridge {
     /// Appends a step that tells that there is no memory to relay or to hear the item.
     pub(crate) fn give_up(&mut self, port: u8, item: Item) -> Option<Step>
         requires reserved { self.old.is_reserved ≡ true }
-        requires fits { Fits spanning_tree self.old.plan self.old.number self.old.steps (Receive port item None (Filtered WantOfMemory) None) }
+        requires fits { Fits spanning_tree self.old.plan self.old.number self.old.steps
+            (Receive port item None (Filtered WantOfMemory) None) }
         ensures { HasTaken self.old port item result self.new }
     {
         let outcome = Outcome::Filtered(Reason::Memory);
@@ -152,7 +156,7 @@ impl Bridge {
         ensures { HasTaken self.old port item result self.new }
     {
         let ports = &self.ports;
-        let local = ports.at(port as usize - 1);
+        let local = ports.at(index_of(port));
         match Load::new(self.alloc, ports, local, &item.wire) {
             Ok(load) => self.carry(port, item, vid, load),
             Err(_) => self.give_up(port, item),
@@ -164,7 +168,8 @@ impl Bridge {
         requires used { is_used (port_at self.old.plan self.old.number port) ≡ true }
         requires reserved { self.old.is_reserved ≡ true }
         requires ruling { ruling spanning_tree self.old.plan self.old.number self.old.steps port item ≡ Carries vid }
-        requires load { IsLoadedAt self.old.plan self.old.number (port_at self.old.plan self.old.number port) item.wire load }
+        requires load { IsLoadedAt self.old.plan self.old.number (port_at self.old.plan self.old.number port)
+            item.wire load }
         ensures { HasTaken self.old port item result self.new }
     {
         let frame = item.wire.as_slice();
@@ -201,33 +206,13 @@ fn append_receive(
     })
 }
 
-/// The source of a frame: its octets 6 to 11 (IEEE 802.3 clause 3).
-fn source_of(frame: &[u8]) -> Mac
-    requires { shortest_frame ≤ length frame.now }
-    ensures { result.0 ≡ src_of frame.now }
-{
-    let mut octets = [0u8; 6];
-    octets.copy_from_slice(&frame[6..12]);
-    Mac(octets)
-}
-
-/// The destination of a frame: its first six octets.
-fn destination_of(frame: &[u8]) -> Mac
-    requires { shortest_frame ≤ length frame.now }
-    ensures { result.0 ≡ dst_of frame.now }
-{
-    let mut octets = [0u8; 6];
-    octets.copy_from_slice(&frame[..6]);
-    Mac(octets)
-}
-
 /// The port at which the destination of a frame was seen. Groups are never sought.
 fn sought(table: &Fdb, vid: u16, frame: &[u8], now: u64) -> Option<u8>
     requires { shortest_frame ≤ length frame.now }
     ensures { result ≡ (if is_group (dst_of frame.now) then None else where_in table.now now vid (dst_of frame.now)) }
 {
     let destination = destination_of(frame);
-    if destination.0[0] % 2 == 1 {
+    if destination.is_group() {
         return None;
     }
     table.find(vid, destination, now)

@@ -8,12 +8,13 @@ ghost use Rattle.pb_lan.specs.Plans.{IsSound, IsNumber};
 ghost use Rattle.pb_lan.specs.Ports.{port_at, is_customer_at, is_end_at, ends_of};
 ghost use Rattle.pb_lan.specs.Queues.{capacity_of};
 ghost use Rattle.pb_lan.specs.Shapes.{start_by};
-ghost use Rattle.pb_svlan.specs.ServiceTables.{is_known, are_known, has_name, has_vid, is_taken, role_at, attached, carried};
-ghost use Rattle.pb_svlan.specs.declared.port.Role.TheVariants.{Trunk};
+ghost use Rattle.pb_svlan.specs.ServiceTables.{is_known, are_known, has_name, has_vid, is_taken, kind_at, attached};
+ghost use Rattle.pb_svlan.specs.ServiceTables.{carried};
+ghost use Rattle.pb_svlan.specs.declared.port.PortKind.TheVariants.{Trunk};
 ghost use Rattle.pb_relay.specs.LocalPorts.{IsKept};
 ghost use Rattle.pb_relay.specs.Machines.{machine_in};
 ghost use Rattle.pb_relay.specs.Backlogs.{empty_backlog};
-ghost use Rattle.pb_relay.specs.Roles.{local_as, told};
+ghost use Rattle.pb_relay.specs.PortKinds.{local_as, told};
 ghost use Rattle.pb_relay.specs.Standing.{at_start};
 ghost use Rattle.pb_relay.specs.Starts.{first_state, HasJoined, HasServices, KeepsPorts};
 
@@ -23,7 +24,7 @@ use crate::forwarding::Forwarding;
 use crate::machine::{address, machine};
 use crate::ports::{Local, LocalPorts};
 use pb_fdb::Fdb;
-use pb_frame::Memory;
+use pb_frame::{Memory, index_of};
 use pb_history::Steps;
 use pb_lan::{CustomerPlan, End, LinkPlan, Plan, PortState, ServicePlan, Spanning};
 use pb_rstp::Rstp;
@@ -39,7 +40,10 @@ fn add(alloc: Global, services: &mut Services, service: &ServicePlan) -> Result<
     requires name { has_name services.old service.now.name ≡ false }
     requires free { has_vid services.old service.now.vid ≡ false }
     requires few { length services.old.services < 64 }
-    ensures { OnOk result (services.new ≡ record services.old { services = services.old.services ++ (service.now.vid, service.now.name) ∷ [] }) }
+    ensures { OnOk result (services.new ≡ record services.old {
+      services = services.old.services
+          ++ (service.now.vid, service.now.name) ∷ [];
+    }) }
 {
     let Some(vid) = Vid::new(service.vid) else {
         unreachable!();
@@ -109,7 +113,8 @@ fn join(services: &mut Services, customer: &CustomerPlan) -> Result<(), Memory>
 fn trunk(alloc: Global, services: &mut Services, end: &End) -> Result<(), Memory>
     requires known { are_known services.old end.now.services ≡ true }
     requires free { is_taken services.old end.now.port ≡ false }
-    ensures { OnOk result (services.new ≡ attached services.old end.now.port (Trunk (carried services.old end.now.services))) }
+    ensures { OnOk result (services.new
+        ≡ attached services.old end.now.port (Trunk (carried services.old end.now.services))) }
 {
     let listed = end.services.as_ref().map(|numbers| numbers.as_slice());
     match services.trunk(alloc, end.port, listed) {
@@ -130,9 +135,10 @@ fn attach(
     requires sound { IsSound plan.now }
     requires services { HasServices plan.now services.old }
     requires free { is_taken services.old port ≡ false }
-    ensures kept { IfOk result (λ start. IsKept plan.now (port_at plan.now number port) (local_as services.new start (role_at services.new port))) }
+    ensures kept { IfOk result (λ start. IsKept plan.now (port_at plan.now number port)
+        (local_as services.new start (kind_at services.new port))) }
     ensures services { OnOk result (services.new.services ≡ services.old.services) }
-    ensures others { OnOk result ((p : ℕ) → (p == port) ≡ false → role_at services.new p ≡ role_at services.old p) }
+    ensures others { OnOk result ((p : ℕ) → (p == port) ≡ false → kind_at services.new p ≡ kind_at services.old p) }
 {
     if let Some(customer) = customer_at(plan.customers.as_slice(), number, port) {
         join(services, customer)?;
@@ -197,7 +203,7 @@ fn capacity(plan: &Plan, number: u8) -> usize
     requires { IsNumber number (length plan.now.bridges) }
     ensures { result ≡ capacity_of plan.now number }
 {
-    plan.bridges.as_slice()[number as usize - 1].queue as usize
+    plan.bridges.as_slice()[index_of(number)].queue as usize
 }
 
 /// The plan, and what it has at the local ports.

@@ -1,6 +1,5 @@
-//! What a run lost, and the exit status of a run that is strict about it.
-//!
-//! What is told of copies, BPDUs and sources for which bridges had no room, so that nothing is lost in silence.
+//! The loss report of a run: what ports could not write, and the copies, BPDUs and sources that bridges dropped; and the
+//! exit status of a strict run.
 #![tactic(auto)]
 
 mod losses;

@@ -5,7 +5,7 @@ ghost use Rattle.std.specs.List.{list_any};
 ghost use Rattle.pb_frame.specs.Hex.{hex_text as hex_of};
 ghost use Rattle.pb_step_script.specs.Answers.{copied, idle_line, no_such_line, outcome_words, place_name, port_words, refused_words, step_line, step_words};
 
-use pb_frame::{Memory, hex_text};
+use pb_frame::{Memory, hex_text, index_of};
 use pb_lan::{NoRoom, Outcome, Place, Plan, Step};
 use pb_messages::put_reason;
 use std::alloc::Global;
@@ -118,7 +118,7 @@ fn name_at(plan: &Plan, place: Place) -> &str
     if number == 0 {
         return "";
     }
-    match plan.customers.as_slice().get(number as usize - 1) {
+    match plan.customers.as_slice().get(index_of(number)) {
         Some(customer) => customer.name.as_str(),
         None => "",
     }

@@ -6,7 +6,7 @@ use Rattle.indexmap.specs.IndexMap.{insert_entry}
 use Rattle.pb_frame.proofs.Lists.{All-imply}
 use Rattle.pb_frame.specs.Lists.{first, Rises}
 use Rattle.pb_frame.proofs.Things.{none_from}
-use Rattle.pb_svlan.specs.ServiceTables.{place_of, role_in}
+use Rattle.pb_svlan.specs.ServiceTables.{place_of, kind_in}
 use Rattle.pb_svlan.specs.declared.port.Attachment.{Attachment}
 use Rattle.std.proofs.Common.{eq-eqb, length, is_some, get_or, subst, ◌≡◌, ℕ, zero, suc, ◌<◌, ◌≤◌, Bool}
 use Rattle.std.proofs.Common.{true, false, cond, nat_lt, ◌||◌, ◌==◌, List, [], ◌∷◌, ◌++◌, map, insert, Some, None}
@@ -53,7 +53,7 @@ All-placed P (b ∷ others) a all h =
 
 -- ports that are ascending stay so
 pub ascending-placed : (ports : List Attachment) (a : Attachment) → Rises (map (λ a. a.port) ports)
-    → role_in ports a.port ≡ None
+    → kind_in ports a.port ≡ None
     → Rises (map (λ a. a.port) (insert ports (place_of a.port ports) a))
 ascending-placed [] a rise none = (tt, tt)
 ascending-placed (b ∷ others) a rise none =
@@ -77,8 +77,8 @@ ascending-placed (b ∷ others) a rise none =
           )
     ] refl
   where
-    unlike : (t : Bool) → option_map (λ a. a.role) (cond t (Some b) (first (λ c. c.port == a.port) others)) ≡ None
-        → (t ≡ false) × (role_in others a.port ≡ None)
+    unlike : (t : Bool) → option_map (λ a. a.kind) (cond t (Some b) (first (λ c. c.port == a.port) others)) ≡ None
+        → (t ≡ false) × (kind_in others a.port ≡ None)
     unlike true h = cc
     unlike false h = (refl, h)
 
@@ -108,24 +108,24 @@ ascending-some p (a ∷ others) rise =
 
 -- ports with one more in its place
 pub ascending-attached : (ports others : List Attachment) (a : Attachment) → Rises (map (λ a. a.port) ports)
-    → is_some (role_in ports a.port) ≡ false
+    → is_some (kind_in ports a.port) ≡ false
     → others ≡ insert ports (place_of a.port ports) a → Rises (map (λ a. a.port) others)
 ascending-attached ports others a rise free h =
-    rw h (ascending-placed ports a rise (none_from (role_in ports a.port) free))
+    rw h (ascending-placed ports a rise (none_from (kind_in ports a.port) free))
 
 -- where a port stands in its place among ascending ones, it is what is found
 pub found-there : (ports : List Attachment) (i port : ℕ) (a : Attachment) → Rises (map (λ a. a.port) ports)
     → i < length ports → a ≡ get_or ports i a → a.port ≡ port
-    → role_in ports port ≡ Some a.role
+    → kind_in ports port ≡ Some a.kind
 found-there [] i port a rise within there is = absurd (omega arith)
 found-there (b ∷ others) zero port a rise within there is =
-    ap (λ t. option_map (λ c. c.role) (cond t (Some b) (first (λ c. c.port == port) others)))
+    ap (λ t. option_map (λ c. c.kind) (cond t (Some b) (first (λ c. c.port == port) others)))
     (eq-eqb b.port port (ap (λ (z : Attachment). z.port) (sym there) ∙ is))
-    ∙ ap (λ (z : Attachment). Some z.role) (sym there)
+    ∙ ap (λ (z : Attachment). Some z.kind) (sym there)
 found-there (b ∷ others) (suc i) port a rise within there is =
     let below : b.port < a.port = among others i rise.0 (omega arith) there in
     let differs : (b.port == port) ≡ false = ne_eqb b.port port (λ e. omega (arith, below, is, e)) in
-    ap (λ t. option_map (λ c. c.role) (cond t (Some b) (first (λ c. c.port == port) others))) differs
+    ap (λ t. option_map (λ c. c.kind) (cond t (Some b) (first (λ c. c.port == port) others))) differs
     ∙ found-there others i port a rise.1 (omega arith) there is
   where
     among : (others : List Attachment) (i : ℕ) → AllByRecursion (λ m. b.port < m) (map (λ a. a.port) others)

@@ -6,8 +6,8 @@ use Rattle.std.specs.Option.{option_map}
 use Rattle.pb_frame.specs.Admission.{same}
 use Rattle.pb_frame.specs.Lists.{first}
 use Rattle.pb_svlan.specs.declared.port.Attachment.{Attachment}
-use Rattle.pb_svlan.specs.declared.port.Role.{Role}
-use Rattle.pb_svlan.specs.declared.port.Role.TheVariants.{Customer, Trunk}
+use Rattle.pb_svlan.specs.declared.port.PortKind.{PortKind}
+use Rattle.pb_svlan.specs.declared.port.PortKind.TheVariants.{Customer, Trunk}
 
 -- the services, each a VID with its name, in the order of their numbers, and the ports, ascending
 pub record ServiceTable : Type 0 where
@@ -34,14 +34,14 @@ abbrev pub has_vid : ServiceTable → ℕ → Bool
 has_vid table vid = list_any (λ s. s.0 == vid) table.services
 
 -- what the port is: a customer port of one service, a port to other bridges, or nothing
-abbrev pub role_in : List Attachment → ℕ → Option Role
-role_in ports port = option_map (λ a. a.role) (first (λ a. a.port == port) ports)
+abbrev pub kind_in : List Attachment → ℕ → Option PortKind
+kind_in ports port = option_map (λ a. a.kind) (first (λ a. a.port == port) ports)
 
-abbrev pub role_at : ServiceTable → ℕ → Option Role
-role_at table port = role_in table.ports port
+abbrev pub kind_at : ServiceTable → ℕ → Option PortKind
+kind_at table port = kind_in table.ports port
 
 abbrev pub is_taken : ServiceTable → ℕ → Bool
-is_taken table port = is_some (role_at table port)
+is_taken table port = is_some (kind_at table port)
 
 -- a port to other bridges carries these services, or each one
 abbrev pub carries : ServiceTable → ℕ → Option (List ℕ) → Bool
@@ -49,40 +49,40 @@ carries table vid None = has_vid table vid
 carries table vid (Some vids) = list_any (λ v. v == vid) vids
 
 -- a port of this kind is a member of the service with this VID
-abbrev pub is_member_as : ServiceTable → ℕ → Role → Bool
+abbrev pub is_member_as : ServiceTable → ℕ → PortKind → Bool
 is_member_as table vid (Customer join) = join.vid == vid
 is_member_as table vid (Trunk vids) = carries table vid vids
 
 abbrev pub is_member : ServiceTable → ℕ → ℕ → Bool
-is_member table port vid = unwrap_or (option_map (is_member_as table vid) (role_at table port)) false
+is_member table port vid = unwrap_or (option_map (is_member_as table vid) (kind_at table port)) false
 
 -- the members of the service, ascending
 abbrev pub ports_of : ServiceTable → ℕ → List ℕ
-ports_of table vid = map (λ a. a.port) (filter (λ a. is_member_as table vid a.role) table.ports)
+ports_of table vid = map (λ a. a.port) (filter (λ a. is_member_as table vid a.kind) table.ports)
 
 -- the priority of a customer port
-abbrev pub pcp_as : Role → Option ℕ
+abbrev pub pcp_as : PortKind → Option ℕ
 pcp_as (Customer join) = Some join.pcp
 pcp_as (Trunk vids) = None
 
-abbrev pub pcp_in : Option Role → Option ℕ
+abbrev pub pcp_in : Option PortKind → Option ℕ
 pcp_in None = None
-pcp_in (Some role) = pcp_as role
+pcp_in (Some kind) = pcp_as kind
 
 abbrev pub pcp_of : ServiceTable → ℕ → Option ℕ
-pcp_of table port = pcp_in (role_at table port)
+pcp_of table port = pcp_in (kind_at table port)
 
 -- the VID of a customer port's service
-abbrev pub vid_as : Role → Option ℕ
+abbrev pub vid_as : PortKind → Option ℕ
 vid_as (Customer join) = Some join.vid
 vid_as (Trunk vids) = None
 
-abbrev pub vid_in : Option Role → Option ℕ
+abbrev pub vid_in : Option PortKind → Option ℕ
 vid_in None = None
-vid_in (Some role) = vid_as role
+vid_in (Some kind) = vid_as kind
 
 abbrev pub vid_at : ServiceTable → ℕ → Option ℕ
-vid_at table port = vid_in (role_at table port)
+vid_at table port = vid_in (kind_at table port)
 
 -- the VIDs of the services of these numbers
 abbrev pub vids_of : ServiceTable → List ℕ → List ℕ
@@ -104,5 +104,5 @@ place_of port [] = 0
 place_of port (a ∷ others) = if nat_lt a.port port then suc (place_of port others) else 0
 
 -- the table with one port more
-abbrev pub attached : ServiceTable → ℕ → Role → ServiceTable
-attached table port role = record table { ports = insert table.ports (place_of port table.ports) (record { port = port; role = role }) }
+abbrev pub attached : ServiceTable → ℕ → PortKind → ServiceTable
+attached table port kind = record table { ports = insert table.ports (place_of port table.ports) (record { port = port; kind = kind }) }

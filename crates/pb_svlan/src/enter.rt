@@ -7,7 +7,7 @@ ghost use Rattle.pb_frame.specs.Tags.{bare, has_service_type};
 ghost use Rattle.pb_svlan.specs.Reserving.{reserved_octet};
 
 use pb_frame::{
-    LONGEST_FRAME, LONGEST_UNTAGGED, Mac, Reason, SHORTEST_FRAME, has_priority_tag,
+    LONGEST_FRAME, LONGEST_UNTAGGED, Reason, SHORTEST_FRAME, destination_of, has_priority_tag,
     has_service_type,
 };
 use pb_reserved::{Fate, fate};
@@ -39,9 +39,7 @@ fn reserved_octet(frame: &[u8]) -> Option<u8>
     requires { shortest_frame ≤ length frame.now }
     ensures { result ≡ reserved_octet frame.now }
 {
-    let mut destination = [0u8; 6];
-    destination.copy_from_slice(&frame[..6]);
-    match fate(Mac(destination)) {
+    match fate(destination_of(frame)) {
         Fate::Carry => None,
         Fate::Provider => Some(8),
         Fate::Filter(last) => Some(last),

@@ -12,6 +12,6 @@ mod vid;
 pub use enter::refusal;
 pub use entered::Entered;
 pub use fault::{AddFault, JoinFault};
-pub use port::{Attachment, Join, Role};
+pub use port::{Attachment, Join, PortKind};
 pub use services::Services;
 pub use vid::Vid;

@@ -17,7 +17,7 @@ pub struct Join {
 
 /// What a port is.
 #[derive(Debug, Drop)]
-pub enum Role {
+pub enum PortKind {
     /// A customer port of one service.
     Customer(Join),
     /// A port to other bridges. It carries the services with these VIDs; None is every service, those
@@ -31,5 +31,5 @@ pub struct Attachment {
     /// The port's number.
     pub port: u8,
     /// What it is.
-    pub role: Role,
+    pub kind: PortKind,
 }

@@ -1,21 +1,25 @@
 //! Services and their members.
 
-ghost use Rattle.std.specs.Prelude.{◌≡◌, ◌+◌, ◌≤◌, ◌↔◌, ◌++◌, ◌∷◌, [], ◌==◌, true, false, length, insert, map, unwrap_or, IsTrue, IsOk, IfOk, IfErr, IsSome, OnOk, OnErr, IsErrOf, Some, option_copied};
+ghost use Rattle.std.specs.Prelude.{◌≡◌, ◌+◌, ◌≤◌, ◌↔◌, ◌++◌, ◌∷◌, [], ◌==◌, true, false, length, insert, map};
+ghost use Rattle.std.specs.Prelude.{unwrap_or, IsTrue, IsOk, IfOk, IfErr, IsSome, OnOk, OnErr, IsErrOf, Some};
+ghost use Rattle.std.specs.Prelude.{option_copied};
 ghost use Rattle.std.specs.List.{list_any, list_all};
 ghost use Rattle.pb_frame.specs.Admission.{same, is_admitted, refusal};
 ghost use Rattle.pb_svlan.specs.declared.port.Join.{Join};
 ghost use Rattle.pb_svlan.specs.Entering.{IsEntered};
 ghost use Rattle.pb_frame.specs.Lists.{Rises};
-ghost use Rattle.pb_svlan.specs.ServiceTables.{vid_of, is_known, are_known, has_name, has_vid, role_in, is_taken, is_member, is_member_as, role_at, attached, carried, vids_of, ports_of, pcp_of, vid_at, place_of};
-ghost use Rattle.pb_svlan.specs.declared.port.Role.TheVariants.{Customer, Trunk};
+ghost use Rattle.pb_svlan.specs.ServiceTables.{vid_of, is_known, are_known, has_name, has_vid, kind_in, is_taken};
+ghost use Rattle.pb_svlan.specs.ServiceTables.{is_member, is_member_as, kind_at, attached, carried, vids_of, ports_of};
+ghost use Rattle.pb_svlan.specs.ServiceTables.{pcp_of, vid_at, place_of};
+ghost use Rattle.pb_svlan.specs.declared.port.PortKind.TheVariants.{Customer, Trunk};
 
 use crate::enter::refusal;
 use crate::entered::Entered;
 use crate::fault::{AddFault, JoinFault};
-use crate::port::{Attachment, Join, Role};
+use crate::port::{Attachment, Join, PortKind};
 use crate::vid::Vid;
 use indexmap::IndexMap;
-use pb_frame::{Memory, Reason, Seq, Text, has_priority_tag, priority_of};
+use pb_frame::{Memory, Reason, Seq, Text, has_priority_tag, index_of, priority_of};
 use std::alloc::{AllocError, Global};
 use std::marker::Model;
 
@@ -91,8 +95,11 @@ impl Services {
         ensures number { IfOk result (λ n. n ≡ length self.old.services + 1) }
         ensures err { OnErr result (self.new ≡ self.old) }
         ensures taken_name { IsErrOf result AddFault.TakenName ↔ (has_name self.old name.now ≡ true) }
-        ensures taken_vid { IsErrOf result AddFault.TakenVid ↔ ((has_name self.old name.now ≡ false) × (has_vid self.old vid ≡ true)) }
-        ensures too_many { IsErrOf result AddFault.TooMany ↔ ((has_name self.old name.now ≡ false) × (has_vid self.old vid ≡ false) × (64 ≤ length self.old.services)) }
+        ensures taken_vid { IsErrOf result AddFault.TakenVid
+            ↔ ((has_name self.old name.now ≡ false) × (has_vid self.old vid ≡ true)) }
+        ensures too_many { IsErrOf result AddFault.TooMany
+            ↔ ((has_name self.old name.now ≡ false) × (has_vid self.old vid ≡ false)
+            × (64 ≤ length self.old.services)) }
     {
         if self.has_name(name) {
             return Err(AddFault::TakenName);
@@ -116,7 +123,7 @@ impl Services {
         if number == 0 {
             return None;
         }
-        let (vid, _) = self.services.get_index(number as usize - 1)?;
+        let (vid, _) = self.services.get_index(index_of(number))?;
         Some(*vid)
     }
 
@@ -149,17 +156,17 @@ impl Services {
     }
 
     /// What the port is. None is answered for a port that is nothing.
-    pub fn role(&self, port: u8) -> Option<&Role>
-        ensures { option_copied result ≡ role_at self.now port }
+    pub fn kind(&self, port: u8) -> Option<&PortKind>
+        ensures { option_copied result ≡ kind_at self.now port }
     {
-        role_at(&self.ports, port)
+        kind_at(&self.ports, port)
     }
 
     /// The port is something already.
     pub fn is_taken(&self, port: u8) -> bool
         ensures { result ≡ is_taken self.now port }
     {
-        role_at(&self.ports, port).is_some()
+        kind_at(&self.ports, port).is_some()
     }
 
     /// Makes a port a customer port of the service of this number, where frames without a priority tag have
@@ -169,10 +176,12 @@ impl Services {
     /// already, else `Memory` where memory ran out. All leave the ports as they were.
     pub fn join(&mut self, port: u8, service: u8, pcp: u8) -> Result<(), JoinFault>
         requires { pcp ≤ 7 }
-        ensures ok { OnOk result ((join : Join) × (vid_of self.old service ≡ Some join.vid) × (join.pcp ≡ pcp) × (self.new ≡ attached self.old port (Customer join))) }
+        ensures ok { OnOk result ((join : Join) × (vid_of self.old service ≡ Some join.vid) × (join.pcp ≡ pcp)
+            × (self.new ≡ attached self.old port (Customer join))) }
         ensures err { OnErr result (self.new ≡ self.old) }
         ensures no_service { IsErrOf result JoinFault.NoService ↔ (is_known self.old service ≡ false) }
-        ensures taken { IsErrOf result JoinFault.Taken ↔ ((is_known self.old service ≡ true) × (is_taken self.old port ≡ true)) }
+        ensures taken { IsErrOf result JoinFault.Taken
+            ↔ ((is_known self.old service ≡ true) × (is_taken self.old port ≡ true)) }
     {
         let Some(vid) = self.vid_of(service) else {
             return Err(JoinFault::NoService);
@@ -181,8 +190,8 @@ impl Services {
             return Err(JoinFault::Taken);
         }
         let join = customer(vid, pcp);
-        let role = Role::Customer(join);
-        attach(&mut self.ports, Attachment { port, role })?;
+        let kind = PortKind::Customer(join);
+        attach(&mut self.ports, Attachment { port, kind })?;
         Ok(())
     }
 
@@ -197,10 +206,13 @@ impl Services {
         port: u8,
         services: Option<&[u8]>,
     ) -> Result<(), JoinFault>
-        ensures ok { OnOk result (self.new ≡ attached self.old port (Trunk (carried self.old (option_copied services.entry)))) }
+        ensures ok { OnOk result (self.new
+            ≡ attached self.old port (Trunk (carried self.old (option_copied services.entry)))) }
         ensures err { OnErr result (self.new ≡ self.old) }
-        ensures no_service { IsErrOf result JoinFault.NoService ↔ (are_known self.old (option_copied services.entry) ≡ false) }
-        ensures taken { IsErrOf result JoinFault.Taken ↔ ((are_known self.old (option_copied services.entry) ≡ true) × (is_taken self.old port ≡ true)) }
+        ensures no_service { IsErrOf result JoinFault.NoService
+            ↔ (are_known self.old (option_copied services.entry) ≡ false) }
+        ensures taken { IsErrOf result JoinFault.Taken ↔ ((are_known self.old (option_copied services.entry) ≡ true)
+            × (is_taken self.old port ≡ true)) }
     {
         if !self.are_known(services) {
             return Err(JoinFault::NoService);
@@ -212,8 +224,8 @@ impl Services {
             None => None,
             Some(numbers) => Some(self.vids_of(alloc, numbers)?),
         };
-        let role = Role::Trunk(vids);
-        attach(&mut self.ports, Attachment { port, role })?;
+        let kind = PortKind::Trunk(vids);
+        attach(&mut self.ports, Attachment { port, kind })?;
         Ok(())
     }
 
@@ -233,7 +245,7 @@ impl Services {
     {
         let mut members = Vec::new(alloc);
         for attachment in &self.ports {
-            if self.is_member_as(vid, &attachment.role) {
+            if self.is_member_as(vid, &attachment.kind) {
                 members.push(attachment.port)?;
             }
         }
@@ -244,20 +256,20 @@ impl Services {
     pub fn is_member(&self, port: u8, vid: u16) -> bool
         ensures { result ≡ is_member self.now port vid }
     {
-        match role_at(&self.ports, port) {
+        match kind_at(&self.ports, port) {
             None => false,
-            Some(role) => self.is_member_as(vid, role),
+            Some(kind) => self.is_member_as(vid, kind),
         }
     }
 
     /// A port of this kind is a member of the service with this VID.
-    fn is_member_as(&self, vid: u16, role: &Role) -> bool
-        ensures { result ≡ is_member_as self.now vid role.now }
+    fn is_member_as(&self, vid: u16, kind: &PortKind) -> bool
+        ensures { result ≡ is_member_as self.now vid kind.now }
     {
-        match role {
-            Role::Customer(join) => join.vid.number() == vid,
-            Role::Trunk(None) => self.has_vid(vid),
-            Role::Trunk(Some(vids)) => contains_vid(vids.as_slice(), vid),
+        match kind {
+            PortKind::Customer(join) => join.vid.number() == vid,
+            PortKind::Trunk(None) => self.has_vid(vid),
+            PortKind::Trunk(Some(vids)) => contains_vid(vids.as_slice(), vid),
         }
     }
 
@@ -266,9 +278,9 @@ impl Services {
     pub fn pcp_of(&self, port: u8) -> Option<u8>
         ensures { result ≡ pcp_of self.now port }
     {
-        match role_at(&self.ports, port)? {
-            Role::Customer(join) => Some(join.pcp),
-            Role::Trunk(_) => None,
+        match kind_at(&self.ports, port)? {
+            PortKind::Customer(join) => Some(join.pcp),
+            PortKind::Trunk(_) => None,
         }
     }
 
@@ -276,9 +288,9 @@ impl Services {
     pub fn vid_at(&self, port: u8) -> Option<Vid>
         ensures { result ≡ vid_at self.now port }
     {
-        match role_at(&self.ports, port)? {
-            Role::Customer(join) => Some(join.vid),
-            Role::Trunk(_) => None,
+        match kind_at(&self.ports, port)? {
+            PortKind::Customer(join) => Some(join.vid),
+            PortKind::Trunk(_) => None,
         }
     }
 
@@ -309,23 +321,23 @@ impl Services {
 }
 
 /// What the port is. Where the first ports all are something, a port's place is found at once.
-fn role_at(ports: &[Attachment], port: u8) -> Option<&Role>
+fn kind_at(ports: &[Attachment], port: u8) -> Option<&PortKind>
     requires { Rises (map (λ a. a.port) ports.now) }
-    ensures { option_copied result ≡ role_in ports.now port }
+    ensures { option_copied result ≡ kind_in ports.now port }
 {
     match ports.get(usize::from(port.saturating_sub(1))) {
-        Some(attachment) if attachment.port == port => Some(&attachment.role),
+        Some(attachment) if attachment.port == port => Some(&attachment.kind),
         _ => searched(ports, port),
     }
 }
 
 /// What the port is, of those that are something.
-fn searched(ports: &[Attachment], port: u8) -> Option<&Role>
-    ensures { option_copied result ≡ role_in ports.now port }
+fn searched(ports: &[Attachment], port: u8) -> Option<&PortKind>
+    ensures { option_copied result ≡ kind_in ports.now port }
 {
     for attachment in ports {
         if attachment.port == port {
-            return Some(&attachment.role);
+            return Some(&attachment.kind);
         }
     }
     None
@@ -342,7 +354,8 @@ fn customer(vid: Vid, pcp: u8) -> Join
 
 /// Puts a port in its place.
 fn attach(ports: &mut Vec<Attachment>, attachment: Attachment) -> Result<(), AllocError>
-    ensures ok { OnOk result (ports.new.items ≡ insert ports.old.items (place_of attachment.port ports.old.items) attachment) }
+    ensures ok { OnOk result (ports.new.items
+        ≡ insert ports.old.items (place_of attachment.port ports.old.items) attachment) }
     ensures err { OnErr result (ports.new.items ≡ ports.old.items) }
 {
     let place = place_of(ports, attachment.port);

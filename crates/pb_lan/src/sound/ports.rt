@@ -19,7 +19,8 @@ fn is_same(a: LocalPort, b: LocalPort) -> bool
 
 /// Whether a link has an end at the port.
 fn is_link_port(port: LocalPort, links: &[LinkPlan]) -> bool
-    ensures { result ≡ list_any (λ l. is_same_port port (l.a.bridge, l.a.port) || is_same_port port (l.b.bridge, l.b.port)) links.now }
+    ensures { result ≡ list_any (λ l. is_same_port port (l.a.bridge, l.a.port)
+        || is_same_port port (l.b.bridge, l.b.port)) links.now }
 {
     links.iter().any(|link| {
         is_same(port, (link.a.bridge, link.a.port)) || is_same(port, (link.b.bridge, link.b.port))

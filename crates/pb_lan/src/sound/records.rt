@@ -51,7 +51,7 @@ fn services_rise(numbers: &[u8]) -> bool
 fn is_sound_bridge(bridge: &BridgePlan) -> bool
     ensures { IsTrue result ↔ IsSoundBridge bridge.now }
 {
-    bridge.address.0[0] % 2 == 0
+    !bridge.address.is_group()
         && bridge.priority % 4096 == 0
         && bridge.priority <= 61440
         && is_number(bridge.queue as u64, 4096)
@@ -75,7 +75,8 @@ fn number_services(numbers: &[u8], services: &[ServicePlan]) -> bool
 
 /// Whether the services of an end are all of them, or a rising list.
 fn are_end_services(numbers: &Option<Seq<u8>>, services: &[ServicePlan]) -> bool
-    ensures { IsTrue result ↔ IfSome numbers.now (λ numbers. Rises numbers × AllByRecursion (λ s. IsNumber s (length services.now)) numbers) }
+    ensures { IsTrue result ↔ IfSome numbers.now (λ numbers. Rises numbers
+        × AllByRecursion (λ s. IsNumber s (length services.now)) numbers) }
 {
     match numbers {
         None => true,

@@ -1,7 +1,7 @@
 use Rattle.std.proofs.Common.{◌<◌, length, sym, ap, ◌∙◌, arith}
 use Rattle.pb_relay.specs.Kinds.{is_to_bridge, is_bridge_told}
-use Rattle.pb_relay.specs.Roles.{locals}
-use Rattle.pb_relay.proofs.RoleLemmas.{any_there, any_later, any_none, locals-length}
+use Rattle.pb_relay.specs.PortKinds.{locals}
+use Rattle.pb_relay.proofs.PortKindLemmas.{any_there, any_later, any_none, locals-length}
 use Rattle.pb_relay.proofs.ports.any_bridge.Goals as goal
 
 pub returns-then-is_bridge : goal.returns-then-is_bridge

@@ -1,7 +1,7 @@
 use Rattle.std.proofs.Common.{◌≡◌, drop}
 use Rattle.std.specs.List.{list_any}
 use Rattle.pb_relay.specs.Kinds.{is_to_bridge}
-use Rattle.pb_relay.specs.Roles.{locals}
+use Rattle.pb_relay.specs.PortKinds.{locals}
 use Rattle.pb_relay.proofs.ports.any_bridge.Given as goal
 
 abbrev pub invariant-loop-place : goal.invariant-loop-place

@@ -1,7 +1,7 @@
 use Rattle.std.proofs.Common.{◌<◌, length, sym, ap, ◌∙◌, arith}
 use Rattle.pb_relay.specs.Kinds.{is_to_customer, is_customer_told}
-use Rattle.pb_relay.specs.Roles.{locals}
-use Rattle.pb_relay.proofs.RoleLemmas.{any_there, any_later, any_none, locals-length}
+use Rattle.pb_relay.specs.PortKinds.{locals}
+use Rattle.pb_relay.proofs.PortKindLemmas.{any_there, any_later, any_none, locals-length}
 use Rattle.pb_relay.proofs.ports.any_customer.Goals as goal
 
 pub returns-then-is_customer : goal.returns-then-is_customer

@@ -1,9 +1,9 @@
 use Rattle.std.proofs.Common.{inl, inr, arith}
 use Rattle.std.proofs.lemmas.Bool.{cases_lt}
 use Rattle.std.proofs.lemmas.List.{get_or_past}
-use Rattle.pb_relay.specs.Roles.{locals}
-use Rattle.pb_relay.specs.Roles.LocalPort.{ToNobody}
-use Rattle.pb_relay.proofs.RoleLemmas.{locals-length}
+use Rattle.pb_relay.specs.PortKinds.{locals}
+use Rattle.pb_relay.specs.PortKinds.LocalPort.{ToNobody}
+use Rattle.pb_relay.proofs.PortKindLemmas.{locals-length}
 use Rattle.pb_relay.proofs.ports.used_of.Goals as goal
 
 pub returns-clause-nothing : goal.returns-clause-nothing

@@ -1,6 +1,6 @@
 use Rattle.std.proofs.Common.{◌≡◌, ◌≤◌, ◌<◌, ℕ, slice_index_or}
-use Rattle.pb_relay.specs.Roles.{locals}
-use Rattle.pb_relay.specs.Roles.LocalPort.{ToNobody}
+use Rattle.pb_relay.specs.PortKinds.{locals}
+use Rattle.pb_relay.specs.PortKinds.LocalPort.{ToNobody}
 use Rattle.pb_relay.proofs.ports.used_of.Given as goal
 
 abbrev pub invariant-loop-place : goal.invariant-loop-place

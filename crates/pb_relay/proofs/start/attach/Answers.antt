@@ -4,9 +4,9 @@ use Rattle.pb_frame.specs.Lists.{first}
 use Rattle.pb_lan.specs.Ports.{is_customer_at, is_end_at, ends_of}
 use Rattle.pb_lan.specs.declared.plan.CustomerPlan.{CustomerPlan}
 use Rattle.pb_lan.specs.declared.plan.LinkPlan.{LinkPlan}
-use Rattle.pb_svlan.specs.ServiceTables.{ServiceTable, is_taken, attached, carried, role_at}
-use Rattle.pb_svlan.specs.declared.port.Role.TheVariants.{Customer, Trunk}
-use Rattle.pb_relay.proofs.AttachLemmas.{end_known, customer_kept, end_kept, role-elsewhere}
+use Rattle.pb_svlan.specs.ServiceTables.{ServiceTable, is_taken, attached, carried, kind_at}
+use Rattle.pb_svlan.specs.declared.port.PortKind.TheVariants.{Customer, Trunk}
+use Rattle.pb_relay.proofs.AttachLemmas.{end_known, customer_kept, end_kept, kind-elsewhere}
 use Rattle.pb_relay.proofs.StandingLemmas.{customer_there, end_there}
 use Rattle.pb_relay.proofs.ServiceLemmas.{known}
 use Rattle.pb_relay.proofs.start.attach.Goals as goal
@@ -46,10 +46,10 @@ returns-in-Some-clause-others c = λ p other.
     let found = c.in-Some.ensures
     ∙ ap (λ (cs : List CustomerPlan). first (is_customer_at c.args.number c.args.port) cs) c.as_slice.ensures in
     let joined = c.in_ok-join.ensures in
-    ap (λ (t : ServiceTable). role_at t p)
+    ap (λ (t : ServiceTable). kind_at t p)
     (joined.table ∙ ap (λ n. attached c.args.services.now n (Customer joined.join))
     (customer_there c.args.plan.now c.args.number c.args.port c.in-Some.customer.now c.requires.sound found).1)
-    ∙ role-elsewhere c.args.services.now c.args.port p (Customer joined.join) c.requires.free other
+    ∙ kind-elsewhere c.args.services.now c.args.port p (Customer joined.join) c.requires.free other
 
 pub trunk-requires-clause-known : goal.trunk-requires-clause-known
 trunk-requires-clause-known c =
@@ -84,9 +84,9 @@ returns-clause-others c = λ p other.
     ∙ ap (λ (ls : List LinkPlan). first (is_end_at c.args.number c.args.port) (flat_map ends_of ls))
     c.as_slice-2.ensures in
     let e = c.in-Some-end_at.end.now in
-    ap (λ (t : ServiceTable). role_at t p)
+    ap (λ (t : ServiceTable). kind_at t p)
     (c.in_ok-trunk.ensures ∙ ap
     (λ n. attached c.args.services.now n (Trunk (carried c.args.services.now e.services)))
     (end_there c.args.plan.now c.args.number c.args.port e c.requires.sound found).1)
-    ∙ role-elsewhere c.args.services.now c.args.port p (Trunk (carried c.args.services.now e.services))
+    ∙ kind-elsewhere c.args.services.now c.args.port p (Trunk (carried c.args.services.now e.services))
     c.requires.free other

@@ -1,5 +1,5 @@
 use Rattle.std.proofs.Common.{List, sym, subst, arith}
-use Rattle.pb_relay.specs.Roles.{LocalPort}
+use Rattle.pb_relay.specs.PortKinds.{LocalPort}
 use Rattle.pb_relay.specs.Starts.{KeepsPorts}
 use Rattle.pb_relay.proofs.AttachLemmas.{attached_more, attached_all}
 use Rattle.pb_relay.proofs.start.local_ports.Goals as goal

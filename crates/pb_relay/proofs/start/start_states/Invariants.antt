@@ -1,7 +1,7 @@
 use Rattle.std.proofs.Common.{◌≡◌, ℕ, ◌<◌, get_or, length}
 use Rattle.pb_lan.specs.declared.shape.PortState.TheVariants.{Discarding}
-use Rattle.pb_relay.specs.Roles.{told}
-use Rattle.pb_relay.specs.Roles.LocalPort.{ToNobody}
+use Rattle.pb_relay.specs.PortKinds.{told}
+use Rattle.pb_relay.specs.PortKinds.LocalPort.{ToNobody}
 use Rattle.pb_relay.specs.Starts.{first_state}
 use Rattle.pb_relay.proofs.start.start_states.Given as goal
 

@@ -1,7 +1,7 @@
 use Rattle.std.proofs.Common.{◌≡◌, ◌<◌, ℕ, ltb, true, sym, arith}
 use Rattle.std.proofs.lemmas.Bool.Decides.{nat_tests}
 use Rattle.pb_svlan.proofs.ServiceLemmas.{found-there}
-use Rattle.pb_svlan.proofs.services.role_at.Goals as goal
+use Rattle.pb_svlan.proofs.services.kind_at.Goals as goal
 
 within : (i n : ℕ) → true ≡ ltb i n → i < n
 within i n h = grind (arith, nat_tests)

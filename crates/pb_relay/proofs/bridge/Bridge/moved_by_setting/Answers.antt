@@ -9,7 +9,7 @@ use Rattle.pb_relay.specs.Standing.{BridgeView}
 use Rattle.pb_relay.proofs.SettingLemmas.{state_set_is, moved_is}
 use Rattle.pb_relay.proofs.Keeping.{linked_there}
 use Rattle.pb_relay.proofs.VerdictLemmas.{at_port}
-use Rattle.pb_relay.specs.Roles.LocalPort.{ToNobody}
+use Rattle.pb_relay.specs.PortKinds.LocalPort.{ToNobody}
 use Rattle.pb_relay.specs.declared.ports.Local.{Local}
 use Rattle.pb_relay.proofs.LoadLemmas.{kept_here}
 use Rattle.pb_relay.proofs.bridge.Bridge.moved_by_setting.Goals as goal

@@ -11,7 +11,7 @@ use Rattle.pb_relay.specs.Standing.{BridgeView}
 use Rattle.pb_relay.proofs.EntryLemmas.{loadable, sound_port}
 use Rattle.std.specs.List.{list_any}
 use Rattle.pb_relay.specs.Kinds.{is_to_customer, is_to_bridge}
-use Rattle.pb_relay.specs.Roles.LocalPort.{ToNobody}
+use Rattle.pb_relay.specs.PortKinds.LocalPort.{ToNobody}
 use Rattle.pb_relay.specs.declared.ports.Local.{Local}
 use Rattle.pb_relay.proofs.Keeping.{used_there}
 use Rattle.pb_relay.proofs.LoadLemmas.{loaded, kept_here}

@@ -1,5 +1,5 @@
 use Rattle.std.proofs.Common.{◌-◌, get_or, arith, ap, ◌∙◌}
-use Rattle.pb_relay.specs.Roles.LocalPort.{ToNobody}
+use Rattle.pb_relay.specs.PortKinds.LocalPort.{ToNobody}
 use Rattle.pb_relay.proofs.LoadLemmas.{kept_here}
 use Rattle.pb_lan.specs.Ports.{port_at, is_used}
 use Rattle.pb_lan.specs.BridgeLists.{ruling}

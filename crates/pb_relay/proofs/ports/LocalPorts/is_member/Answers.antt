@@ -1,8 +1,8 @@
 use Rattle.std.proofs.Common.{List, get_or, ap, ◌∙◌}
 use Rattle.pb_relay.specs.Loads.{is_member_of}
-use Rattle.pb_relay.specs.Roles.{LocalPort}
-use Rattle.pb_relay.specs.Roles.LocalPort.{ToNobody}
-use Rattle.pb_relay.proofs.RoleLemmas.{member_here}
+use Rattle.pb_relay.specs.PortKinds.{LocalPort}
+use Rattle.pb_relay.specs.PortKinds.LocalPort.{ToNobody}
+use Rattle.pb_relay.proofs.PortKindLemmas.{member_here}
 use Rattle.pb_relay.proofs.ports.LocalPorts.is_member.Goals as goal
 
 pub returns : goal.returns

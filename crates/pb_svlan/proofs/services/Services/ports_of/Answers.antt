@@ -9,4 +9,4 @@ returns-clause-ascending c =
     let old : ServiceTable = record { services = c.self.inside.services.entries; ports = c.self.inside.ports.items } in
     rw c.in_ok-members.ensures
     (subst (λ t. Rises (ports_of t c.args.vid)) c.self.view_is
-    (ascending-some (λ a. is_member_as old c.args.vid a.role) c.self.inside.ports.items c.self.invariant.1))
+    (ascending-some (λ a. is_member_as old c.args.vid a.kind) c.self.inside.ports.items c.self.invariant.1))

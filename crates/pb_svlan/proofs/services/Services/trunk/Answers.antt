@@ -1,13 +1,13 @@
 use Rattle.std.proofs.Common.{◌≡◌, Some, option_copied, false, is_some, ap, sym, ◌∙◌}
-use Rattle.pb_svlan.specs.ServiceTables.{ServiceTable, is_taken, role_in, attached, carried}
-use Rattle.pb_svlan.specs.declared.port.Role.TheVariants.{Trunk}
+use Rattle.pb_svlan.specs.ServiceTables.{ServiceTable, is_taken, kind_in, attached, carried}
+use Rattle.pb_svlan.specs.declared.port.PortKind.TheVariants.{Trunk}
 use Rattle.pb_svlan.proofs.ServiceLemmas.{ascending-attached}
 use Rattle.pb_svlan.proofs.services.Services.trunk.Goals as goal
 use Rattle.pb_svlan.proofs.services.Services.trunk.Goals.{in-None, in-Some+in_ok-vids_of-in-Some}
 
 pub invariant_of-self-2 : goal.invariant_of-self-2
 invariant_of-self-2 c =
-    let free : is_some (role_in c.self.inside.ports.items c.args.port) ≡ false = ap (λ t. is_taken t c.args.port)
+    let free : is_some (kind_in c.self.inside.ports.items c.args.port) ≡ false = ap (λ t. is_taken t c.args.port)
     c.self.view_is ∙ sym c.is_taken.ensures ∙ c.if-is_taken.false in (
       c.self.invariant.0,
       ascending-attached c.self.inside.ports.items c.attach.new.ports.items _ c.self.invariant.1

@@ -5,9 +5,9 @@ use Rattle.std.specs.declared.option.Option.{Option}
 use Rattle.pb_lan.specs.Ports.{local_ports}
 use Rattle.pb_lan.specs.declared.shape.PortState.{PortState}
 use Rattle.pb_lan.specs.declared.shape.PortState.TheVariants.{Discarding}
-use Rattle.pb_svlan.specs.ServiceTables.{ServiceTable, role_at}
-use Rattle.pb_svlan.specs.declared.port.Role.{Role}
-use Rattle.pb_svlan.specs.declared.port.Role.TheVariants.{Customer, Trunk}
+use Rattle.pb_svlan.specs.ServiceTables.{ServiceTable, kind_at}
+use Rattle.pb_svlan.specs.declared.port.PortKind.{PortKind}
+use Rattle.pb_svlan.specs.declared.port.PortKind.TheVariants.{Customer, Trunk}
 use Rattle.pb_relay.specs.declared.ports.Local.{Local}
 use Rattle.pb_relay.specs.declared.ports.Local.TheVariants.{Customer as customer_there, Bridge as bridge_there, Nobody as nobody_there}
 
@@ -27,15 +27,15 @@ vids_of table (Some vids) = vids
 abbrev pub serves_of : List ℕ → ℕ → Bool
 serves_of vids vid = list_any (λ w. w == vid) vids
 
--- what a port of a role is, by the services
-abbrev pub local_as : ServiceTable → PortState → Option Role → LocalPort
+-- what a port of a kind is, by the services
+abbrev pub local_as : ServiceTable → PortState → Option PortKind → LocalPort
 local_as table start None = ToNobody
 local_as table start (Some (Customer join)) = ToCustomer join.vid join.pcp
 local_as table start (Some (Trunk vids)) = ToBridge start (vids_of table vids)
 
 -- what a port is, by the services and the states in which ports start
 abbrev pub local_of : ServiceTable → List PortState → ℕ → LocalPort
-local_of table starts port = local_as table (slice_index_or starts (port - 1) Discarding) (role_at table port)
+local_of table starts port = local_as table (slice_index_or starts (port - 1) Discarding) (kind_at table port)
 
 -- what all local ports are
 unfoldable pub locals : ServiceTable → List PortState → List LocalPort
@@ -47,7 +47,7 @@ told (ToCustomer vid pcp) = customer_there vid pcp
 told (ToBridge start vids) = bridge_there start
 told ToNobody = nobody_there
 
--- and of a port of a role
-abbrev pub told_as : PortState → Role → Local
+-- and of a port of a kind
+abbrev pub told_as : PortState → PortKind → Local
 told_as start (Customer join) = customer_there join.vid join.pcp
 told_as start (Trunk vids) = bridge_there start

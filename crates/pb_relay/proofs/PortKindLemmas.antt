@@ -8,12 +8,12 @@ use Rattle.std.specs.declared.option.Option.{Option}
 use Rattle.pb_lan.proofs.Distinctness.{list_any-map}
 use Rattle.pb_lan.specs.declared.shape.PortState.{PortState}
 use Rattle.pb_lan.specs.declared.shape.PortState.TheVariants.{Discarding}
-use Rattle.pb_svlan.specs.ServiceTables.{ServiceTable, role_at, is_member, is_member_as}
-use Rattle.pb_svlan.specs.declared.port.Role.{Role}
-use Rattle.pb_svlan.specs.declared.port.Role.TheVariants.{Customer, Trunk}
+use Rattle.pb_svlan.specs.ServiceTables.{ServiceTable, kind_at, is_member, is_member_as}
+use Rattle.pb_svlan.specs.declared.port.PortKind.{PortKind}
+use Rattle.pb_svlan.specs.declared.port.PortKind.TheVariants.{Customer, Trunk}
 use Rattle.pb_relay.specs.Loads.{is_member_of}
-use Rattle.pb_relay.specs.Roles.{LocalPort, local_as, local_of, locals, told, told_as}
-use Rattle.pb_relay.specs.Roles.LocalPort.{ToNobody}
+use Rattle.pb_relay.specs.PortKinds.{LocalPort, local_as, local_of, locals, told, told_as}
+use Rattle.pb_relay.specs.PortKinds.LocalPort.{ToNobody}
 use Rattle.pb_relay.proofs.VerdictLemmas.{get_up}
 
 -- there are sixteen
@@ -24,35 +24,35 @@ locals-length table starts = refl
 -- what stands at a place
 pub local_here : (table : ServiceTable) (starts : List PortState) (place : ℕ) → place < 16
     → get_or (locals table starts) place ToNobody ≡ local_as table (get_or starts place Discarding)
-    (role_at table (place + 1))
+    (kind_at table (place + 1))
 unfolding locals
 local_here table starts place l =
     let s : 1 + place ≡ place + 1 = omega arith in
     let t : place + 1 - 1 ≡ place = omega arith in
     get_up (local_of table starts) 16 1 place ToNobody l ∙ ap (local_of table starts) s
-    ∙ ap (λ n. local_as table (get_or starts n Discarding) (role_at table (place + 1))) t
+    ∙ ap (λ n. local_as table (get_or starts n Discarding) (kind_at table (place + 1))) t
 
-pub told_here : (table : ServiceTable) (starts : List PortState) (place : ℕ) (role : Option Role) → place < 16
-    → role ≡ role_at table (place + 1)
-    → told (local_as table (get_or starts place Discarding) role) ≡ told (get_or (locals table starts) place ToNobody)
-told_here table starts place role l e = ap (λ o. told (local_as table (get_or starts place Discarding) o)) e
+pub told_here : (table : ServiceTable) (starts : List PortState) (place : ℕ) (kind : Option PortKind) → place < 16
+    → kind ≡ kind_at table (place + 1)
+    → told (local_as table (get_or starts place Discarding) kind) ≡ told (get_or (locals table starts) place ToNobody)
+told_here table starts place kind l e = ap (λ o. told (local_as table (get_or starts place Discarding) o)) e
     ∙ ap told (sym (local_here table starts place l))
 
-pub told_role : (table : ServiceTable) (start : PortState) (role : Role)
-    → told_as start role ≡ told (local_as table start (Some role))
-told_role table start (Customer join) = refl
-told_role table start (Trunk vids) = refl
+pub told_kind : (table : ServiceTable) (start : PortState) (kind : PortKind)
+    → told_as start kind ≡ told (local_as table start (Some kind))
+told_kind table start (Customer join) = refl
+told_kind table start (Trunk vids) = refl
 
 -- its membership
-member_as : (table : ServiceTable) (start : PortState) (vid : ℕ) (role : Option Role)
-    → unwrap_or (option_map (is_member_as table vid) role) false ≡ is_member_of (local_as table start role) vid
+member_as : (table : ServiceTable) (start : PortState) (vid : ℕ) (kind : Option PortKind)
+    → unwrap_or (option_map (is_member_as table vid) kind) false ≡ is_member_of (local_as table start kind) vid
 member_as table start vid (Some (Trunk None)) = sym (list_any-map (λ w. w == vid) (λ s. s.0) table.services)
 member_as table start vid _ = refl
 
 pub member_here : (table : ServiceTable) (starts : List PortState) (place vid : ℕ) → place < 16
     → is_member table (place + 1) vid ≡ is_member_of (get_or (locals table starts) place ToNobody) vid
 member_here table starts place vid l =
-    member_as table (get_or starts place Discarding) vid (role_at table (place + 1))
+    member_as table (get_or starts place Discarding) vid (kind_at table (place + 1))
     ∙ ap (λ z. is_member_of z vid) (sym (local_here table starts place l))
 
 -- some one from a place on: it, or one after it
