@@ -22,7 +22,7 @@ mod sheet;
 mod times;
 
 use self::sheet::Sheet;
-use pb_cmd_run::{NetworkFault, Opening, RunOptions, Strictness, Traffic, Watch, run_network};
+use pb_cmd_run::{NetworkFault, Opening, RunSettings, Strictness, Traffic, Watch, run_network};
 use pb_lan::Place;
 use pb_run::{Gate, Go};
 use std::alloc::{AllocError, Global};
@@ -124,7 +124,7 @@ where
 {
     let traffic = no_traffic(alloc)?;
     let file = file.as_bytes();
-    let options = RunOptions {
+    let settings = RunSettings {
         plan: manner.path,
         control: None,
         settles: false,
@@ -132,7 +132,7 @@ where
     };
     let strictness = manner.strictness;
     let result = run_network(
-        rt, alloc, file, strictness, &options, &traffic, door, writer, errors,
+        rt, alloc, file, strictness, &settings, &traffic, door, writer, errors,
     );
     Ok(Told {
         result,

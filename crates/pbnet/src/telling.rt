@@ -7,8 +7,8 @@ use std::fmt::Display;
 use std::io::Write;
 use std::process::ExitCode;
 
-/// The exit status where the words of the command line ask for nothing that is known.
-pub(crate) const WRONG_WORDS: u8 = 2;
+/// The exit status if the arguments of the command line are refused.
+pub(crate) const WRONG_ARGUMENTS: u8 = 2;
 
 /// The exit status of a command that a fault ended.
 pub(crate) const FAULT: u8 = 3;
