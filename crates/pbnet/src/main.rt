@@ -30,7 +30,7 @@ use arguments::{arguments_of, refuse};
 use formatted::Output;
 use pb_cli::{CommandLine, InitOptions, ReportOptions, RunOptions, command_line_of};
 use pb_cmd_check::{run_check, run_show};
-use pb_cmd_init::{Shape, write_plan};
+use pb_cmd_init::{Topology, write_plan};
 use pb_cmd_run::{RunSettings, Strictness, Traffic, run_network};
 use pb_cmd_step::run_script;
 use pb_export::{CHECK, COUNTS, RUN, STEP};
@@ -280,12 +280,12 @@ fn show(rt: &impl Print) -> ExitCode {
 
 /// Prints a plan file to begin with.
 fn init(rt: &(impl Print + AllocGlobal), options: InitOptions) -> ExitCode {
-    let shape = match options {
-        InitOptions::Line(bridges) => Shape::Line(bridges),
-        InitOptions::Ring(bridges) => Shape::Ring(bridges),
-        InitOptions::Star(bridges) => Shape::Star(bridges),
+    let topology = match options {
+        InitOptions::Line(bridges) => Topology::Line(bridges),
+        InitOptions::Ring(bridges) => Topology::Ring(bridges),
+        InitOptions::Star(bridges) => Topology::Star(bridges),
     };
-    match write_plan(rt.alloc(), shape, &mut io::writer(rt)) {
+    match write_plan(rt.alloc(), topology, &mut io::writer(rt)) {
         Err(fault) => tell(rt, fault),
         Ok(()) => ExitCode::SUCCESS,
     }
