@@ -2,10 +2,10 @@
 
 ghost use Rattle.std.specs.Prelude.{◌≡◌, ◌<◌, ◌++◌, flat_map, length, slice_index_or, count_by, string_bytes, IfOk, OnOk};
 ghost use Rattle.std.specs.List.{zip};
-ghost use Rattle.pb_cmd_survive.specs.Reports.{failure_text, rest_text, forest_text, head_line, member_text, group_text, later_text, groups_text, service_line, loop_line, lost_text, cut_off_line, parting_line, view_text, whole_text, outcome_text, no_site, parts, report_text};
+ghost use Rattle.pb_cmd_survive.specs.Reports.{failure_text, rest_text, forest_text, head_line, member_text, group_text, later_text, groups_text, service_line, loop_line, lost_text, cut_off_line, parting_line, view_text, whole_text, impact_text, no_site, parts, report_text};
 
 use crate::failure::Failure;
-use crate::outcome::Outcome;
+use crate::impact::Impact;
 use crate::parting::{are_forests, is_lost, is_quiet, parts_view};
 use crate::sites::Site;
 use crate::totals::{count_parting, put_all_quiet, put_verdict};
@@ -56,13 +56,13 @@ fn put_forest(out: &mut String, views: &[View]) -> Result<(), Memory>
 }
 
 /// The line of a failure.
-fn put_head(out: &mut String, plan: &Plan, outcome: &Outcome) -> Result<(), Memory>
-    ensures { OnOk result (string_bytes out.new ≡ string_bytes out.old ++ head_line plan.now outcome.now) }
+fn put_head(out: &mut String, plan: &Plan, impact: &Impact) -> Result<(), Memory>
+    ensures { OnOk result (string_bytes out.new ≡ string_bytes out.old ++ head_line plan.now impact.now) }
 {
-    put_failure(out, plan, outcome.failure)?;
+    put_failure(out, plan, impact.failure)?;
     out.push_str(": ")?;
-    put_rest(out, outcome.rest)?;
-    put_forest(out, outcome.views.as_slice())?;
+    put_rest(out, impact.rest)?;
+    put_forest(out, impact.views.as_slice())?;
     out.push_str("\n")?;
     Ok(())
 }
@@ -228,11 +228,11 @@ fn put_views(
 }
 
 /// What is told with nothing down.
-fn put_whole(out: &mut String, plan: &Plan, outcome: &Outcome) -> Result<(), Memory>
-    ensures { OnOk result (string_bytes out.new ≡ string_bytes out.old ++ whole_text plan.now outcome.now) }
+fn put_whole(out: &mut String, plan: &Plan, impact: &Impact) -> Result<(), Memory>
+    ensures { OnOk result (string_bytes out.new ≡ string_bytes out.old ++ whole_text plan.now impact.now) }
 {
-    put_head(out, plan, outcome)?;
-    for view in outcome.views.as_slice() {
+    put_head(out, plan, impact)?;
+    for view in impact.views.as_slice() {
         put_loop(out, plan, view)?;
         put_service(out, plan, view)?;
     }
@@ -240,40 +240,40 @@ fn put_whole(out: &mut String, plan: &Plan, outcome: &Outcome) -> Result<(), Mem
 }
 
 /// What is told of a failure.
-fn put_outcome(
+fn put_impact(
     out: &mut String,
     plan: &Plan,
     from: Option<u8>,
-    base: &Outcome,
-    outcome: &Outcome,
+    base: &Impact,
+    impact: &Impact,
 ) -> Result<(), Memory>
-    ensures { OnOk result (string_bytes out.new ≡ string_bytes out.old ++ outcome_text plan.now from base.now outcome.now) }
+    ensures { OnOk result (string_bytes out.new ≡ string_bytes out.old ++ impact_text plan.now from base.now impact.now) }
 {
-    if is_quiet(from, base, outcome) {
+    if is_quiet(from, base, impact) {
         return Ok(());
     }
-    put_head(out, plan, outcome)?;
+    put_head(out, plan, impact)?;
     put_views(
         out,
         plan,
         from,
         base.views.as_slice(),
-        outcome.views.as_slice(),
+        impact.views.as_slice(),
     )
 }
 
 /// What is told of all failures.
-fn put_outcomes(
+fn put_impacts(
     out: &mut String,
     plan: &Plan,
     from: Option<u8>,
-    base: &Outcome,
-    outcomes: &[Outcome],
+    base: &Impact,
+    impacts: &[Impact],
 ) -> Result<(), Memory>
-    ensures { OnOk result (string_bytes out.new ≡ string_bytes out.old ++ flat_map (outcome_text plan.now from base.now) outcomes.now) }
+    ensures { OnOk result (string_bytes out.new ≡ string_bytes out.old ++ flat_map (impact_text plan.now from base.now) impacts.now) }
 {
-    for outcome in outcomes {
-        put_outcome(out, plan, from, base, outcome)?;
+    for impact in impacts {
+        put_impact(out, plan, from, base, impact)?;
     }
     Ok(())
 }
@@ -291,16 +291,16 @@ pub fn put_report(
     out: &mut String,
     plan: &Plan,
     from: Option<u8>,
-    base: &Outcome,
-    outcomes: &[Outcome],
+    base: &Impact,
+    impacts: &[Impact],
 ) -> Result<usize, Memory>
-    ensures text { OnOk result (string_bytes out.new ≡ string_bytes out.old ++ report_text plan.now from base.now outcomes.now) }
-    ensures parting { IfOk result (λ parting. parting ≡ count_by (parts from base.now) outcomes.now) }
+    ensures text { OnOk result (string_bytes out.new ≡ string_bytes out.old ++ report_text plan.now from base.now impacts.now) }
+    ensures parting { IfOk result (λ parting. parting ≡ count_by (parts from base.now) impacts.now) }
 {
     put_whole(out, plan, base)?;
-    put_outcomes(out, plan, from, base, outcomes)?;
-    put_all_quiet(out, from, base, outcomes)?;
-    let parting = count_parting(from, base, outcomes);
-    put_verdict(out, parting, outcomes.len())?;
+    put_impacts(out, plan, from, base, impacts)?;
+    put_all_quiet(out, from, base, impacts)?;
+    let parting = count_parting(from, base, impacts);
+    put_verdict(out, parting, impacts.len())?;
     Ok(parting)
 }

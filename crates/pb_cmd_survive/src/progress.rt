@@ -1,7 +1,7 @@
-//! Who is told while failures are looked at.
+//! Progress over the failures.
 
-/// Who is told while failures are looked at, so that it can be shown how far that is.
-pub trait Watch: Sync {
+/// Receives how many failures have been analysed, while they are.
+pub trait FailureProgress: Sync {
     /// One more of so many failures is done with: it was looked at, or another look had met a fault before. Failures come in any
     /// order, and several threads may call at once.
     fn looked(&self, failures: usize);
