@@ -29,7 +29,7 @@ use pb_history::Tallies;
 use pb_lan::{Limits, Plan, Spanning};
 use pb_report::write_refusal;
 use pb_run::{Held, Ran, run_set};
-use pb_run_control::{Steering, Traffic, Watch};
+use pb_run_control::{Steering, Traffic, RunProgress};
 use pb_run_losses::{Strictness, exit_status, is_whole, lost_of};
 use pb_service::{PlanFault, PlanFile, PortSpec, read_plan_file};
 use std::alloc::Global;
@@ -175,7 +175,7 @@ fn tell<W: Write, E: Write>(
 /// where there was none for the text of the report, once the run is over. `Spawn` is answered where a thread could
 /// not be started, and then nothing has run; `Write` where the report could not be written. After any fault but
 /// `Write`, nothing was written to `writer`. `Ports` is never answered: there are as many ports as customer ports.
-fn run_ports<R, G: Watch, W: Write, E: Write>(
+fn run_ports<R, G: RunProgress, W: Write, E: Write>(
     rt: &R,
     alloc: Global,
     plan: &Plan,
@@ -221,7 +221,7 @@ where
 
 /// Runs a plan with the ports that it tells, as [`run_network`] does, once they are open. The faults are those of
 /// [`run_ports`], and `Path` where a port can't be opened.
-fn run_opened<R, G: Watch, W: Write, E: Write>(
+fn run_opened<R, G: RunProgress, W: Write, E: Write>(
     rt: &R,
     alloc: Global,
     plan: &Plan,
@@ -287,7 +287,7 @@ where
 /// `Write` where a write to `writer` failed. Nothing has run after `Path` and `Spawn`, and they come only where the
 /// file is a plan. After any fault but `Write`, nothing was written to `writer`; after `Write` nothing is said of
 /// what was. `Ports` is never answered, since a plan file has as many ports as its plan.
-pub fn run_network<R, G: Watch, W: Write, E: Write>(
+pub fn run_network<R, G: RunProgress, W: Write, E: Write>(
     rt: &R,
     alloc: Global,
     file: &[u8],

@@ -22,7 +22,7 @@ mod sheet;
 mod times;
 
 use self::sheet::Sheet;
-use pb_cmd_run::{NetworkFault, Opening, RunSettings, Strictness, Traffic, Watch, run_network};
+use pb_cmd_run::{NetworkFault, Opening, RunSettings, Strictness, Traffic, RunProgress, run_network};
 use pb_lan::Place;
 use pb_run::{Gate, Go};
 use std::alloc::{AllocError, Global};
@@ -84,7 +84,7 @@ impl Gate for Door {
     }
 }
 
-impl Watch for Door {
+impl RunProgress for Door {
     fn open(&self, _opening: Opening) {}
 
     fn close(&self) {

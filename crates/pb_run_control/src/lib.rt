@@ -11,5 +11,5 @@ mod steering;
 mod traffic;
 mod views;
 
-pub use steering::{Opening, Steering, Watch};
+pub use steering::{Opening, Steering, RunProgress};
 pub use traffic::Traffic;

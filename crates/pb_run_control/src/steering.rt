@@ -32,8 +32,8 @@ pub enum Opening {
     Unsettled(u64),
 }
 
-/// A gate that is told how its run goes on.
-pub trait Watch: Gate {
+/// A gate that receives the progress of its run.
+pub trait RunProgress: Gate {
     /// Frames may enter from now on, which were held back until the bridges have settled.
     fn open(&self, opening: Opening);
 
@@ -230,7 +230,7 @@ impl<G> Board for Steering<'_, G> {
     }
 }
 
-impl<G: Watch> Gate for Steering<'_, G> {
+impl<G: RunProgress> Gate for Steering<'_, G> {
     fn pass(&self, place: Place, turn: u64) -> Go {
         if turn % LOOK == 0 && place == Place::Bridge(1) {
             if let Some(opening) = self.opening() {
@@ -274,7 +274,7 @@ impl<G: Watch> Gate for Steering<'_, G> {
     }
 }
 
-impl<G: Watch> Watch for Steering<'_, G> {
+impl<G: RunProgress> RunProgress for Steering<'_, G> {
     fn open(&self, opening: Opening) {
         self.gate.open(opening);
     }

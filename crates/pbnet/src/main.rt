@@ -36,7 +36,7 @@ use pb_cmd_step::run_script;
 use pb_export::{CHECK, COUNTS, RUN, STEP};
 use pb_messages::CommandFault;
 use pb_plan_spans::refused_at;
-use progress::{Progress, Shown};
+use progress::{RunMonitor, Shown};
 use std::alloc::{AllocError, Global};
 use std::fs::{File, Files};
 use std::io::{BufWriter, ErrorKind, IsTerminal, Read, Write};
@@ -242,7 +242,7 @@ where
     let Ok(counted) = Arc::try_clone(&traffic) else {
         return tell_on(out, CommandFault::Memory);
     };
-    let progress = Progress::new(rt, counted, shown, options.seconds);
+    let progress = RunMonitor::new(rt, counted, shown, options.seconds);
     match run_network(
         rt,
         rt.alloc(),

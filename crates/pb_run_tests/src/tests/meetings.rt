@@ -6,7 +6,7 @@ use super::guests::Habit;
 use super::networks::LINE;
 use super::runs::{LONG, Outer, Setup, Way, ran, ran_under};
 use super::told::Told;
-use super::watch::Watch;
+use super::activity::PortActivity;
 use pb_frame::Memory;
 use pb_run::Ended;
 use std::alloc::Global;
@@ -63,9 +63,9 @@ fn ran_held<R: Threads + Wait + Clock + Sync>(
     alloc: Global,
     setup: &Setup,
 ) -> Result<Told, Memory> {
-    let watch = Arc::new(alloc, Watch::new())?;
-    let gate = Holding(Arc::try_clone(&watch)?);
-    ran_under(rt, alloc, setup, &gate, &watch, Way::Kept)
+    let activity = Arc::new(alloc, PortActivity::new())?;
+    let gate = Holding(Arc::try_clone(&activity)?);
+    ran_under(rt, alloc, setup, &gate, &activity, Way::Kept)
 }
 
 #[test]

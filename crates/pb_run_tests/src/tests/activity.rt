@@ -6,7 +6,7 @@ use std::sync::atomic::{AtomicU64, Ordering};
 
 /// What the ports of a run are seen to do, all together.
 #[derive(Drop)]
-pub(super) struct Watch {
+pub(super) struct PortActivity {
     /// How often they were polled.
     pub(super) polls: AtomicU64,
     /// How many frames they took.
@@ -19,10 +19,10 @@ pub(super) struct Watch {
     pub(super) writes: AtomicU64,
 }
 
-impl Watch {
-    /// Nothing was seen.
-    pub(super) fn new() -> Watch {
-        Watch {
+impl PortActivity {
+    /// Creates the activity of ports that nothing was seen of.
+    pub(super) fn new() -> PortActivity {
+        PortActivity {
             polls: AtomicU64::new(0),
             taken: AtomicU64::new(0),
             here: AtomicU64::new(0),
