@@ -11,7 +11,7 @@ ghost use Rattle.pb_service.specs.declared.fault.PlanFault.TheVariants.{Twice as
 use crate::fault::PlanFault;
 use crate::formats::keys_of;
 use crate::row::check_keys;
-use crate::section::{Place, Section};
+use crate::section::{KeyTable, Section};
 use crate::told::text_at;
 use pb_frame::Text;
 use std::alloc::Global;
@@ -64,7 +64,7 @@ pub(crate) fn check_row(
 {
     check_keys(
         alloc,
-        Place::Row(section, index),
+        KeyTable::Row(section, index),
         keys_of(section, row),
         row,
     )?;

@@ -16,7 +16,7 @@ use crate::formats::keys_of;
 use crate::key_fault::KeyFault;
 use crate::link::named;
 use crate::row::{check_keys, told};
-use crate::section::{Place, Section};
+use crate::section::{KeyTable, Section};
 use crate::table::{names_of, rows_of};
 use crate::told::{flag_at, number_at};
 use crate::used::{LocalPort, is_used};
@@ -48,12 +48,12 @@ fn read_event(
     ensures ok { IfOk result (IsRead (IsEventOf (map (λ n. n.now) bridges.now) ends.now) event_keys (table_view row.now)) }
     ensures err { IfErr result (RefusesEvent (map (λ n. n.now) bridges.now) ends.now index (table_view row.now)) }
 {
-    let place = Place::Row(Section::Event, index);
-    check_keys(alloc, place, keys_of(Section::Event, row), row)?;
+    let key_table = KeyTable::Row(Section::Event, index);
+    check_keys(alloc, key_table, keys_of(Section::Event, row), row)?;
     let bridge = named(alloc, row, "bridge", bridges)?;
     let port = number_at(row, "port", 0, 16) as u8;
     if !is_used(ends, LocalPort { bridge, port }) {
-        return Err(told(alloc, place, "port", KeyFault::Range));
+        return Err(told(alloc, key_table, "port", KeyFault::Range));
     }
     Ok(PortEvent {
         at: number_at(row, "at", 0, 4_294_967_295) as u32,

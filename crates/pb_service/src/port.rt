@@ -22,7 +22,7 @@ use crate::key_fault::KeyFault;
 use crate::link::named;
 use crate::port_spec::PortSpec;
 use crate::row::told;
-use crate::section::{Place, Section};
+use crate::section::{KeyTable, Section};
 use crate::table::{names_of, tables_at};
 use crate::told::{copy_at, has_key, items_at, number_at, stamp_of, text_at};
 use crate::used::{LocalPort, use_port};
@@ -80,8 +80,8 @@ fn capture_of(
 {
     let stamp = text_at(row, "stamp");
     if lacks_time(limits, stamp) {
-        let place = Place::Row(Section::Port, index);
-        return Err(told(alloc, place, "stamp", KeyFault::Range));
+        let key_table = KeyTable::Row(Section::Port, index);
+        return Err(told(alloc, key_table, "stamp", KeyFault::Range));
     }
     Ok(PortSpec::Capture {
         read: copy_at(alloc, row, "read")?,

@@ -13,7 +13,7 @@ ghost use Rattle.pb_service.specs.declared.fault.PlanFault.TheVariants.{Unknown 
 use crate::fault::PlanFault;
 use crate::key_fault::KeyFault;
 use crate::rule::Key;
-use crate::section::{Place, path_at};
+use crate::section::{KeyTable, path_at};
 use crate::told::value_at;
 use crate::values::{is_allowed, is_of_kind};
 use pb_frame::Text;
@@ -41,11 +41,11 @@ fn refusal(key: &Key, value: Option<&Value>) -> Option<KeyFault>
     }
 }
 
-/// The fault of a key with its place.
-pub(crate) fn told(alloc: Global, place: Place, key: &str, fault: KeyFault) -> PlanFault
-    ensures { (result ≡ memory_fault) ⊎ (result ≡ fault_of fault (path_at place key.now)) }
+/// Returns the fault of a key, with its path.
+pub(crate) fn told(alloc: Global, key_table: KeyTable, key: &str, fault: KeyFault) -> PlanFault
+    ensures { (result ≡ memory_fault) ⊎ (result ≡ fault_of fault (path_at key_table key.now)) }
 {
-    match path_at(alloc, place, key) {
+    match path_at(alloc, key_table, key) {
         Ok(path) => told_at(path, fault),
         Err(_) => PlanFault::Memory,
     }
@@ -92,21 +92,21 @@ fn is_known(known: &[Key], key: &str) -> bool
 /// Whether a table keeps the rules of its keys: the first that is broken.
 pub(crate) fn check_keys(
     alloc: Global,
-    place: Place,
+    key_table: KeyTable,
     keys: &[Key],
     row: &Table,
 ) -> Result<(), PlanFault>
     ensures ok { OnOk result (IsAccepted (rules_of keys.now) (table_view row.now)) }
-    ensures err { IfErr result (RefusesRow (rules_of keys.now) place (table_view row.now)) }
+    ensures err { IfErr result (RefusesRow (rules_of keys.now) key_table (table_view row.now)) }
 {
     for key in keys {
         if let Some(fault) = refusal(key, value_at(row, key.name)) {
-            return Err(told(alloc, place, key.name, fault));
+            return Err(told(alloc, key_table, key.name, fault));
         }
     }
     match unknown_key(row, keys) {
         None => Ok(()),
-        Some(key) => Err(PlanFault::Unknown(path_at(alloc, place, key)?)),
+        Some(key) => Err(PlanFault::Unknown(path_at(alloc, key_table, key)?)),
     }
 }
 
