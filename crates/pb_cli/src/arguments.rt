@@ -8,7 +8,8 @@ use std::alloc::{AllocError, Global};
 
 /// What `--down` does.
 const DOWN: &str =
-    "Sets a port to another bridge down before, named by its bridge and its number there; may stand several times, for both ends of a link";
+    "Sets a port to another bridge down before, named by its bridge and its number there; may stand several times, for \
+    both ends of a link";
 
 /// What `--format` does where a report may be a document.
 const DOCUMENT: &str =

@@ -173,8 +173,8 @@ fn plan_command_line(
 
 /// Parses the arguments of the program, of which the first is its own name.
 ///
-/// The numbers among them are in the ranges of the help. `None` would mean arguments that were parsed and name no command.
-/// It is never returned, since a required argument has a value; no contract says so.
+/// The numbers among them are in the ranges of the help. `None` would mean arguments that were parsed and name no
+/// command. It is never returned, since a required argument has a value; no contract says so.
 ///
 /// # Errors
 ///

@@ -14,7 +14,8 @@ const PATH: &str = "Control socket of the run, as in `run --control PATH`";
 
 /// What COMMAND is.
 const COMMAND: &str =
-    "stop, counts, tree, down BRIDGE PORT or up BRIDGE PORT; -- separates several, - reads them from standard input, one a line";
+    "stop, counts, tree, down BRIDGE PORT or up BRIDGE PORT; -- separates several, - reads them from standard input, \
+    one a line";
 
 /// The arguments of `control`.
 pub(crate) const ARGUMENTS: &[Argument] = &[

@@ -73,8 +73,8 @@ fn network_of(line: Option<u8>, ring: Option<u8>, star: Option<u8>) -> Option<In
     }
 }
 
-/// Returns the options of `init`. None is never returned, since a parsed argument is in its range and excludes the others;
-/// no contract says so.
+/// Returns the options of `init`. None is never returned, since a parsed argument is in its range and excludes the
+/// others; no contract says so.
 pub(crate) fn init_options(given: &ArgMatches<'_>) -> Option<InitOptions>
     ensures { IfSome result IsNetwork }
 {

@@ -2,10 +2,10 @@
 #![tactic(auto)]
 
 mod arguments;
+mod command_line;
 mod control_options;
 mod draw_options;
 mod init_options;
-mod command_line;
 mod report_options;
 mod run_options;
 mod survive_options;
@@ -14,10 +14,10 @@ mod trace_options;
 mod tree_options;
 
 pub use arguments::ReportFormat;
+pub use command_line::{CommandLine, command_line_of};
 pub use control_options::ControlOptions;
 pub use draw_options::{DrawOptions, PictureFormat};
 pub use init_options::InitOptions;
-pub use command_line::{CommandLine, command_line_of};
 pub use report_options::ReportOptions;
 pub use run_options::RunOptions;
 pub use survive_options::{SurviveOptions, SurviveScope};

@@ -22,7 +22,8 @@ pub(crate) const RUN: &str = "Run a network in threads between captures and sock
 
 /// What `--seconds` does.
 const SECONDS: &str =
-    "Stops the run after N seconds, 1 to 1000000000, and reports; without it a run goes on until nothing is left to do or a limit of the plan is reached";
+    "Stops the run after N seconds, 1 to 1000000000, and reports; without it a run goes on until nothing is left to do \
+    or a limit of the plan is reached";
 
 /// What `--progress` does.
 const PROGRESS: &str =
@@ -30,11 +31,13 @@ const PROGRESS: &str =
 
 /// What `--control` does.
 const CONTROL: &str =
-    "Makes a Unix socket at PATH, on which one peer at a time asks for counts, sets ports between bridges up and down, and stops the run";
+    "Makes a Unix socket at PATH, on which one peer at a time asks for counts, sets ports between bridges up and down, \
+    and stops the run";
 
 /// What `--settle` does.
 const SETTLE: &str =
-    "Lets no frame enter before the bridges have settled, where they decide the states of their ports, or the clock has ticked 200 times";
+    "Lets no frame enter before the bridges have settled, where they decide the states of their ports, or the clock \
+    has ticked 200 times";
 
 /// What `--linger` does.
 const LINGER_HELP: &str =
@@ -42,7 +45,8 @@ const LINGER_HELP: &str =
 
 /// What `--strict` does.
 const STRICT: &str =
-    "Exits with status 4 where a frame was lost for want of room, memory or a device, or the run did not drain, or bridges have not settled";
+    "Exits with status 4 where a frame was lost for want of room, memory or a device, or the run did not drain, or \
+    bridges have not settled";
 
 /// The arguments of `run`.
 pub(crate) const ARGUMENTS: &[Argument] = &[

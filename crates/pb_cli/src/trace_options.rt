@@ -126,8 +126,8 @@ fn entries_of(
     Ok(entries)
 }
 
-/// Returns the options of `trace` for the plan file at a path. None is never returned, since a required argument has a value;
-/// no contract says so.
+/// Returns the options of `trace` for the plan file at a path. None is never returned, since a required argument has a
+/// value; no contract says so.
 pub(crate) fn trace_options(
     alloc: Global,
     path: &str,

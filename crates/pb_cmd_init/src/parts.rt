@@ -28,7 +28,8 @@ fn put_bridge(alloc: Global, out: &mut String, bridge: u8) -> Result<(), Memory>
 
 /// All bridges.
 pub(crate) fn put_bridges(alloc: Global, out: &mut String, topology: Topology) -> Result<(), Memory>
-    ensures { OnOk result (string_bytes out.new ≡ string_bytes out.old ++ flat_map bridge_text (range_with_len 1 (bridge_count topology))) }
+    ensures { OnOk result (string_bytes out.new ≡ string_bytes out.old
+        ++ flat_map bridge_text (range_with_len 1 (bridge_count topology))) }
 {
     for before in 0..topology.bridges() {
         put_bridge(alloc, out, before + 1)?;
@@ -56,7 +57,8 @@ fn put_link(out: &mut String, topology: Topology, link: u8) -> Result<(), Memory
 
 /// All links.
 pub(crate) fn put_links(out: &mut String, topology: Topology) -> Result<(), Memory>
-    ensures { OnOk result (string_bytes out.new ≡ string_bytes out.old ++ flat_map (link_text topology) (range_with_len 1 (link_count topology))) }
+    ensures { OnOk result (string_bytes out.new ≡ string_bytes out.old
+        ++ flat_map (link_text topology) (range_with_len 1 (link_count topology))) }
 {
     for before in 0..topology.links() {
         put_link(out, topology, before + 1)?;
@@ -87,7 +89,8 @@ fn put_port(out: &mut String, topology: Topology, port: u8) -> Result<(), Memory
 
 /// All customer ports.
 pub(crate) fn put_ports(out: &mut String, topology: Topology) -> Result<(), Memory>
-    ensures { OnOk result (string_bytes out.new ≡ string_bytes out.old ++ flat_map (port_text topology) (range_with_len 1 (port_count topology))) }
+    ensures { OnOk result (string_bytes out.new ≡ string_bytes out.old
+        ++ flat_map (port_text topology) (range_with_len 1 (port_count topology))) }
 {
     for before in 0..topology.ports() {
         put_port(out, topology, before + 1)?;

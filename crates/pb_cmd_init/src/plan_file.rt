@@ -5,8 +5,8 @@ ghost use Rattle.std.specs.Io.KnownBytes.{Appends, Keeps};
 ghost use Rattle.pb_cmd_init.specs.PlanTexts.{plan_text};
 
 use crate::parts::{put_bridges, put_links, put_ports};
-use crate::topology::Topology;
 use crate::texts::{put_head, put_kinds, put_service};
+use crate::topology::Topology;
 use pb_frame::Memory;
 use pb_messages::CommandFault;
 use std::alloc::Global;
@@ -24,13 +24,17 @@ fn put_plan(alloc: Global, out: &mut String, topology: Topology) -> Result<(), M
     put_kinds(out, topology.first_site())
 }
 
-/// Writes a plan file to begin with, by one `write_all`: its bridges are joined in this topology, it has one service, and each
-/// bridge but the centre of a star has a customer port. A broadcast comes in at the first of these. Comments tell what each
-/// part is for. With the numbers that [`Topology`] states it is a plan that `read_plan` takes.
+/// Writes a plan file to begin with, by one `write_all`: its bridges are joined in this topology, it has one service,
+/// and each bridge but the centre of a star has a customer port. A broadcast comes in at the first of these. Comments
+/// tell what each part is for. With the numbers that [`Topology`] states it is a plan that `read_plan` takes.
 ///
 /// `Memory` is answered where memory ran out for the text, and then nothing was written; `Write` where a write
 /// failed, and then nothing is said of what was written. No other fault comes.
-pub fn write_plan<W: Write>(alloc: Global, topology: Topology, writer: &mut W) -> Result<(), CommandFault>
+pub fn write_plan<W: Write>(
+    alloc: Global,
+    topology: Topology,
+    writer: &mut W,
+) -> Result<(), CommandFault>
     ensures ok { OnOk result (Appends (W.contents writer.old) (W.contents writer.new) (plan_text topology)) }
     ensures kinds { IfErr result (λ e. (e ≡ CommandFault.Write) ⊎ (e ≡ CommandFault.Memory)) }
     ensures none { IfErr result (λ e. e ≢ CommandFault.Write → Keeps (W.contents writer.old) (W.contents writer.new)) }

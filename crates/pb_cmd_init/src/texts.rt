@@ -1,7 +1,8 @@
 //! The parts of a plan file of which there is one.
 
 ghost use Rattle.std.specs.Prelude.{◌≡◌, ◌++◌, string_bytes, OnOk};
-ghost use Rattle.pb_cmd_init.specs.PlanTexts.{head_text, keys_text, places_text, service_text, capture_text, socket_text, kinds_text};
+ghost use Rattle.pb_cmd_init.specs.PlanTexts.{head_text, keys_text, places_text, service_text};
+ghost use Rattle.pb_cmd_init.specs.PlanTexts.{capture_text, socket_text, kinds_text};
 
 use crate::topology::Topology;
 use pb_frame::Memory;
@@ -70,7 +71,8 @@ fn keys_of(topology: Topology) -> &'static str
 
 /// All that stands before the bridges.
 pub(crate) fn put_head(out: &mut String, topology: Topology) -> Result<(), Memory>
-    ensures { OnOk result (string_bytes out.new ≡ string_bytes out.old ++ (head_text ++ keys_text topology ++ places_text)) }
+    ensures { OnOk result (string_bytes out.new ≡ string_bytes out.old
+        ++ (head_text ++ keys_text topology ++ places_text)) }
 {
     out.push_str(HEAD)?;
     out.push_str(keys_of(topology))?;
@@ -92,7 +94,8 @@ fn put_capture(out: &mut String, bridge: u8) -> Result<(), Memory>
 {
     write!(
         out,
-        "\n#[[port]]\n#name = \"capture\"\n#bridge = \"B{bridge}\"\n#port = 4\n#service = \"red\"\n#kind = \"capture\"\n#read = \"in.pcap\"\n#write = \"out.pcap\"\n"
+        "\n#[[port]]\n#name = \"capture\"\n#bridge = \"B{bridge}\"\n#port = 4\n#service = \"red\"\n\
+        #kind = \"capture\"\n#read = \"in.pcap\"\n#write = \"out.pcap\"\n"
     )?;
     Ok(())
 }
@@ -103,7 +106,8 @@ fn put_socket(out: &mut String, bridge: u8) -> Result<(), Memory>
 {
     write!(
         out,
-        "\n#[[port]]\n#name = \"socket\"\n#bridge = \"B{bridge}\"\n#port = 5\n#service = \"red\"\n#kind = \"socket\"\n#path = \"port.sock\"\n"
+        "\n#[[port]]\n#name = \"socket\"\n#bridge = \"B{bridge}\"\n#port = 5\n#service = \"red\"\n#kind = \"socket\"\n\
+        #path = \"port.sock\"\n"
     )?;
     Ok(())
 }

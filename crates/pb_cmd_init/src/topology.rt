@@ -10,8 +10,8 @@ pub enum Topology {
     Line(u8),
     /// A line whose last bridge is joined to the first. A plan takes 3 to 32: fewer have no such ring.
     Ring(u8),
-    /// The first, the centre, is joined to each of the others, and has no customers. A plan takes 2 to 17: the centre has
-    /// sixteen ports.
+    /// The first, the centre, is joined to each of the others, and has no customers. A plan takes 2 to 17: the centre
+    /// has sixteen ports.
     Star(u8),
 }
 

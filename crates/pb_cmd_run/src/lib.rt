@@ -18,7 +18,7 @@ mod watched;
 
 pub use network::run_network;
 pub use network_fault::NetworkFault;
-pub use pb_run_control::{Opening, Traffic, RunProgress};
+pub use pb_run_control::{Opening, RunProgress, Traffic};
 pub use pb_run_losses::{Strictness, lost_of};
 pub use pb_run_ports::{
     Deed, FileUser, OpenFault, Opened, Openings, PathFault, SharedFile, Verb, open_all,

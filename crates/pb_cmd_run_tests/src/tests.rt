@@ -22,7 +22,9 @@ mod sheet;
 mod times;
 
 use self::sheet::Sheet;
-use pb_cmd_run::{NetworkFault, Opening, RunSettings, Strictness, Traffic, RunProgress, run_network};
+use pb_cmd_run::{
+    NetworkFault, Opening, RunProgress, RunSettings, Strictness, Traffic, run_network,
+};
 use pb_lan::Place;
 use pb_run::{Gate, Go};
 use std::alloc::{AllocError, Global};

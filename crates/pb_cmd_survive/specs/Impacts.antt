@@ -38,7 +38,7 @@ IsDriven plan most events (Link number) rest new = IsFailed plan most events (Li
 IsDriven plan most events (Pair first second) rest new = IsFailed plan most events (Pair first second) rest new
 IsDriven plan most events (Bridge number) rest new = IsFailed plan most events (Bridge number) rest new
 
--- what is told of a failure is told of the last shape of a lawful record of the plan's network, which was driven so
+-- the impact of a failure is that of the last shape of a lawful record of the plan's network, which was driven so
 pub record IsImpact (plan : Plan) (services : List ℕ) (most events : ℕ) (failure : Failure) (impact : Impact) : Type 0 where
   pub failed : impact.failure ≡ failure
   pub last : NetView
@@ -47,6 +47,6 @@ pub record IsImpact (plan : Plan) (services : List ℕ) (most events : ℕ) (fai
   pub lawful : IsLawfulRecord spanning_tree plan last.rec
   pub views : AreViews plan (last_shape plan last.rec) failure services impact.views
 
--- of each of these failures, in their order
+-- the impacts of these failures, in their order
 abbrev pub AreImpacts : Plan → List ℕ → ℕ → ℕ → List Failure → List Impact → Type 0
 AreImpacts plan services most events failures impacts = AllZip (IsImpact plan services most events) failures impacts

@@ -104,7 +104,8 @@ fn fail(
     requires sound { IsSound plan.now }
     requires plan { net.old.plan ≡ plan.now }
     ensures plan { OnOk result (net.new.plan ≡ plan.now) }
-    ensures ok { IfOk result (λ rest. HasFailedFrom plan.now patience.ticks patience.events failure net.old rest net.new) }
+    ensures ok { IfOk result (λ rest.
+        HasFailedFrom plan.now patience.ticks patience.events failure net.old rest net.new) }
 {
     take_down(alloc, net, plan, failure)?;
     settle(alloc, net, plan, patience.ticks, patience.events)

@@ -9,8 +9,8 @@ ghost use Rattle.pb_cmd_survive.specs.Views.{AreViews};
 use crate::drive::{Patience, drive};
 use crate::failure::Failure;
 use crate::impact::Impact;
-use crate::view::{View, views};
 use crate::progress::FailureProgress;
+use crate::view::{View, views};
 use pb_converge::{DriveFault, fresh, shape_of};
 use pb_frame::Memory;
 use pb_lan::{Plan, Record, Seq};
@@ -65,8 +65,8 @@ pub fn look_at(
     })
 }
 
-/// What comes of one of several failures, as [`look_at`] finds out, or the fault that another look has met before. The first
-/// fault that is met is kept in `met`.
+/// What comes of one of several failures, as [`look_at`] finds out, or the fault that another look has met before. The
+/// first fault that is met is kept in `met`.
 fn look_unless_met(
     alloc: Global,
     plan: &Plan,
@@ -90,9 +90,9 @@ fn look_unless_met(
 
 /// What comes of each of these failures, each as [`look_at`] finds out, in their order.
 ///
-/// They are looked at side by side, by as many threads as there are processors or two times as many; where a thread can't be
-/// started, what it was to do is done in turn. `progress` is told of each failure that was looked at. The faults are those of
-/// [`look_at`]: once one is met no further look begins, and one that was met is answered.
+/// They are looked at side by side, by as many threads as there are processors or two times as many; where a thread
+/// can't be started, what it was to do is done in turn. `progress` is told of each failure that was looked at. The
+/// faults are those of [`look_at`]: once one is met no further look begins, and one that was met is answered.
 pub fn look_at_all<R: Threads + Sync, V: FailureProgress>(
     rt: &R,
     alloc: Global,
@@ -103,7 +103,8 @@ pub fn look_at_all<R: Threads + Sync, V: FailureProgress>(
     progress: &V,
 ) -> Result<Vec<Impact>, DriveFault>
     requires { IsSound plan.now }
-    ensures { IfOk result (λ impacts. AreImpacts plan.now services.now patience.ticks patience.events failures.now impacts.items) }
+    ensures { IfOk result (λ impacts.
+        AreImpacts plan.now services.now patience.ticks patience.events failures.now impacts.items) }
 {
     let all = failures.len();
     let fault = OnceLock::new();
@@ -114,7 +115,8 @@ pub fn look_at_all<R: Threads + Sync, V: FailureProgress>(
         .map(
             |failure: &Failure| -> Result<Impact, DriveFault>
                 requires { IsSound plan.now }
-                ensures { IfOk result (IsImpact plan.entry.now services.entry.now patience.ticks patience.events failure.now) }
+                ensures { IfOk result (IsImpact plan.entry.now services.entry.now patience.ticks patience.events
+                    failure.now) }
             {
                 let looked = look_unless_met(alloc, plan, services, *failure, patience, met);
                 progress.looked(all);

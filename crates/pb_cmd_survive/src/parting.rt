@@ -2,7 +2,8 @@
 
 ghost use Rattle.std.specs.Prelude.{◌≡◌, ◌==◌, ◌&&◌, not};
 ghost use Rattle.std.specs.List.{list_any, list_all, zip};
-ghost use Rattle.pb_cmd_survive.specs.Reports.{is_parted, is_asked, is_lost, parts_view, parts, are_forests, is_settled, is_quiet};
+ghost use Rattle.pb_cmd_survive.specs.Reports.{is_parted, is_asked, is_lost, parts_view};
+ghost use Rattle.pb_cmd_survive.specs.Reports.{parts, are_forests, is_settled, is_quiet};
 
 use crate::impact::Impact;
 use crate::sites::Site;

@@ -1,11 +1,11 @@
 //! Progress over the failures.
 
-/// Receives how many failures have been analysed, while they are.
+/// Receives the progress over the failures, while they are analysed.
 pub trait FailureProgress: Sync {
-    /// One more of so many failures is done with: it was looked at, or another look had met a fault before. Failures come in any
-    /// order, and several threads may call at once.
+    /// Receives that one more of so many failures is finished: it was analysed, or another thread had met a fault
+    /// before. Failures come in any order, and several threads may call at once.
     fn looked(&self, failures: usize);
 
-    /// No failure is looked at any more, and nothing was written yet of what came of them.
+    /// Receives that no failure is analysed any more. Nothing was written yet of their impacts.
     fn close(&self);
 }

@@ -1,8 +1,12 @@
 //! The report on a network under failures.
 
-ghost use Rattle.std.specs.Prelude.{◌≡◌, ◌<◌, ◌++◌, flat_map, length, slice_index_or, count_by, string_bytes, IfOk, OnOk};
+ghost use Rattle.std.specs.Prelude.{◌≡◌, ◌<◌, ◌++◌, flat_map, length, slice_index_or};
+ghost use Rattle.std.specs.Prelude.{count_by, string_bytes, IfOk, OnOk};
 ghost use Rattle.std.specs.List.{zip};
-ghost use Rattle.pb_cmd_survive.specs.Reports.{failure_text, rest_text, forest_text, head_line, member_text, group_text, later_text, groups_text, service_line, loop_line, lost_text, cut_off_line, parting_line, view_text, whole_text, impact_text, no_site, parts, report_text};
+ghost use Rattle.pb_cmd_survive.specs.Reports.{failure_text, rest_text, forest_text, head_line, member_text};
+ghost use Rattle.pb_cmd_survive.specs.Reports.{group_text, later_text, groups_text, service_line, loop_line, lost_text};
+ghost use Rattle.pb_cmd_survive.specs.Reports.{cut_off_line, parting_line, view_text, whole_text, impact_text, no_site};
+ghost use Rattle.pb_cmd_survive.specs.Reports.{parts, report_text};
 
 use crate::failure::Failure;
 use crate::impact::Impact;
@@ -81,7 +85,8 @@ fn put_group(out: &mut String, plan: &Plan, sites: &[Site], group: u8) -> Result
 
 /// The groups of those ports that are the first of theirs.
 fn put_later(out: &mut String, plan: &Plan, sites: &[Site], later: &[Site]) -> Result<(), Memory>
-    ensures { OnOk result (string_bytes out.new ≡ string_bytes out.old ++ flat_map (later_text plan.now sites.now) later.now) }
+    ensures { OnOk result (string_bytes out.new ≡ string_bytes out.old
+        ++ flat_map (later_text plan.now sites.now) later.now) }
 {
     for site in later {
         if site.group == site.port {
@@ -136,7 +141,11 @@ fn put_one_lost(
 ) -> Result<(), Memory>
     requires was { place < length before.now }
     requires is { place < length now.now }
-    ensures { OnOk result (string_bytes out.new ≡ string_bytes out.old ++ lost_text plan.now from (zip before.now now.now) (slice_index_or before.now place no_site, slice_index_or now.now place no_site)) }
+    ensures { OnOk result (string_bytes out.new ≡ string_bytes out.old
+        ++ lost_text plan.now from (zip before.now now.now) (
+          slice_index_or before.now place no_site,
+          slice_index_or now.now place no_site,
+        )) }
 {
     let (was, is) = (before[place], now[place]);
     if is_lost(from, before, now, was, is) {
@@ -153,7 +162,8 @@ fn put_lost(
     before: &[Site],
     now: &[Site],
 ) -> Result<(), Memory>
-    ensures { OnOk result (string_bytes out.new ≡ string_bytes out.old ++ flat_map (lost_text plan.now from (zip before.now now.now)) (zip before.now now.now)) }
+    ensures { OnOk result (string_bytes out.new ≡ string_bytes out.old
+        ++ flat_map (lost_text plan.now from (zip before.now now.now)) (zip before.now now.now)) }
 {
     for place in 0..before.len().min(now.len()) {
         put_one_lost(out, plan, from, before, now, place)?;
@@ -169,7 +179,8 @@ fn put_cut_off(
     old: &View,
     new: &View,
 ) -> Result<(), Memory>
-    ensures { OnOk result (string_bytes out.new ≡ string_bytes out.old ++ cut_off_line plan.now port (old.now, new.now)) }
+    ensures { OnOk result (string_bytes out.new ≡ string_bytes out.old
+        ++ cut_off_line plan.now port (old.now, new.now)) }
 {
     write!(out, "  {} cut off from:", port_name(plan, port))?;
     let (before, now) = (old.sites.as_slice(), new.sites.as_slice());
@@ -186,7 +197,8 @@ fn put_parting(
     old: &View,
     new: &View,
 ) -> Result<(), Memory>
-    ensures { OnOk result (string_bytes out.new ≡ string_bytes out.old ++ parting_line plan.now from (old.now, new.now)) }
+    ensures { OnOk result (string_bytes out.new ≡ string_bytes out.old
+        ++ parting_line plan.now from (old.now, new.now)) }
 {
     match from {
         None => put_service(out, plan, new),
@@ -219,7 +231,8 @@ fn put_views(
     old: &[View],
     new: &[View],
 ) -> Result<(), Memory>
-    ensures { OnOk result (string_bytes out.new ≡ string_bytes out.old ++ flat_map (view_text plan.now from) (zip old.now new.now)) }
+    ensures { OnOk result (string_bytes out.new ≡ string_bytes out.old
+        ++ flat_map (view_text plan.now from) (zip old.now new.now)) }
 {
     for place in 0..old.len().min(new.len()) {
         put_view(out, plan, from, &old[place], &new[place])?;
@@ -239,7 +252,7 @@ fn put_whole(out: &mut String, plan: &Plan, impact: &Impact) -> Result<(), Memor
     Ok(())
 }
 
-/// What is told of a failure.
+/// Appends the impact of a failure to a text.
 fn put_impact(
     out: &mut String,
     plan: &Plan,
@@ -247,7 +260,8 @@ fn put_impact(
     base: &Impact,
     impact: &Impact,
 ) -> Result<(), Memory>
-    ensures { OnOk result (string_bytes out.new ≡ string_bytes out.old ++ impact_text plan.now from base.now impact.now) }
+    ensures { OnOk result (string_bytes out.new ≡ string_bytes out.old
+        ++ impact_text plan.now from base.now impact.now) }
 {
     if is_quiet(from, base, impact) {
         return Ok(());
@@ -262,7 +276,7 @@ fn put_impact(
     )
 }
 
-/// What is told of all failures.
+/// Appends the impacts of all failures to a text.
 fn put_impacts(
     out: &mut String,
     plan: &Plan,
@@ -270,7 +284,8 @@ fn put_impacts(
     base: &Impact,
     impacts: &[Impact],
 ) -> Result<(), Memory>
-    ensures { OnOk result (string_bytes out.new ≡ string_bytes out.old ++ flat_map (impact_text plan.now from base.now) impacts.now) }
+    ensures { OnOk result (string_bytes out.new ≡ string_bytes out.old
+        ++ flat_map (impact_text plan.now from base.now) impacts.now) }
 {
     for impact in impacts {
         put_impact(out, plan, from, base, impact)?;
@@ -281,10 +296,11 @@ fn put_impacts(
 /// Puts the report on a network with nothing down, and under failures, behind a text, and answers how many of the
 /// failures part a service.
 ///
-/// First comes what is so with nothing down: whether the bridges settled and after how many ticks, whether the
-/// active links are a forest for each service, and the groups of each service's customer ports. Then each failure
-/// that changes something is told the same way, with the services that it parts, then how many change nothing and
-/// the most ticks that settling took after these, and how many part a service. Where `from` names a customer port, only what cuts that port off counts as parting.
+/// First comes what is so with nothing down: whether the bridges settled and after how many ticks, whether the active
+/// links are a forest for each service, and the groups of each service's customer ports. Then each failure that changes
+/// something is told the same way, with the services that it parts, then how many change nothing and the most ticks
+/// that settling took after these, and how many part a service. Where `from` names a customer port, only what cuts that
+/// port off counts as parting.
 ///
 /// `Memory` is answered where memory ran out, and then a part of the report may stand there.
 pub fn put_report(
@@ -294,7 +310,8 @@ pub fn put_report(
     base: &Impact,
     impacts: &[Impact],
 ) -> Result<usize, Memory>
-    ensures text { OnOk result (string_bytes out.new ≡ string_bytes out.old ++ report_text plan.now from base.now impacts.now) }
+    ensures text { OnOk result (string_bytes out.new ≡ string_bytes out.old
+        ++ report_text plan.now from base.now impacts.now) }
     ensures parting { IfOk result (λ parting. parting ≡ count_by (parts from base.now) impacts.now) }
 {
     put_whole(out, plan, base)?;

@@ -1,7 +1,8 @@
 //! How many failures change nothing, and how many part a service.
 
 ghost use Rattle.std.specs.Prelude.{◌≡◌, ◌++◌, length, count_by, string_bytes, OnOk};
-ghost use Rattle.pb_cmd_survive.specs.Reports.{quiet_line, quiet_count_line, quiet_ticks, slowest, verdict_line, parting_count_line, is_quiet, parts};
+ghost use Rattle.pb_cmd_survive.specs.Reports.{quiet_line, quiet_count_line, quiet_ticks, slowest};
+ghost use Rattle.pb_cmd_survive.specs.Reports.{verdict_line, parting_count_line, is_quiet, parts};
 
 use crate::impact::Impact;
 use crate::parting::{is_quiet, parts};
@@ -100,7 +101,8 @@ pub(crate) fn put_all_quiet(
     impacts: &[Impact],
 ) -> Result<(), Memory>
     ensures { OnOk result (string_bytes out.new ≡ string_bytes out.old
-        ++ quiet_line (count_by (is_quiet from base.now) impacts.now) (length impacts.now) (slowest from base.now impacts.now)) }
+        ++ quiet_line (count_by (is_quiet from base.now) impacts.now) (length impacts.now)
+        (slowest from base.now impacts.now)) }
 {
     let quiet = count_quiet(from, base, impacts);
     let ticks = slowest(from, base, impacts);

@@ -21,8 +21,8 @@ const STEPS: u32 = 256;
 
 /// A Unix socket on which one peer at a time sends lines and gets answers.
 ///
-/// No call waits. At most one answer is held, which for the largest plan is less than 16 KiB, and of a peer that doesn't
-/// take it nothing more is read. A second peer waits until the first hangs up.
+/// No call waits. At most one answer is held, which for the largest plan is less than 16 KiB, and of a peer that
+/// doesn't take it nothing more is read. A second peer waits until the first hangs up.
 #[derive(Drop)]
 pub struct Control {
     alloc: Global,

@@ -34,10 +34,10 @@ pub enum Opening {
 
 /// A gate that receives the progress of its run.
 pub trait RunProgress: Gate {
-    /// Frames may enter from now on, which were held back until the bridges have settled.
+    /// Receives that frames may enter from now on. They were held back until the bridges converged.
     fn open(&self, opening: Opening);
 
-    /// The run is over, and no worker comes any more. Nothing was printed yet of what came of it.
+    /// Receives that the run is over: no worker comes any more, and no report was printed yet.
     fn close(&self);
 }
 
@@ -49,8 +49,8 @@ struct Course {
     views: Views,
 }
 
-/// The gate that steers a run: it gives bridges the wishes that are due, attends to the control socket, counts, and is else
-/// the gate that it has inside.
+/// The gate that steers a run: it gives bridges the wishes that are due, attends to the control socket, counts, and is
+/// else the gate that it has inside.
 #[derive(Drop)]
 pub struct Steering<'a, G> {
     gate: &'a G,
@@ -89,10 +89,10 @@ fn courses_of(alloc: Global, plan: &Plan, events: Vec<PortEvent>) -> Result<Vec<
 }
 
 impl<'a, G> Steering<'a, G> {
-    /// The gate that steers a run of a sound plan, in which these events come, beside the gate of whoever runs it. It has no
-    /// control socket. Where it is to wait for the bridges, no frame enters before each of them has ports in the states of
-    /// their roles (802.1D-2004 clause 17.10) of which none has changed for four ticks, or each has ticked 200 times; no
-    /// contract says so. `Memory` is answered where there was none for the gate.
+    /// The gate that steers a run of a sound plan, in which these events come, beside the gate of whoever runs it. It
+    /// has no control socket. Where it is to wait for the bridges, no frame enters before each of them has ports in the
+    /// states of their roles (802.1D-2004 clause 17.10) of which none has changed for four ticks, or each has ticked
+    /// 200 times; no contract says so. `Memory` is answered where there was none for the gate.
     pub fn new(
         alloc: Global,
         gate: &'a G,

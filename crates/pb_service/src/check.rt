@@ -6,7 +6,8 @@ ghost use Rattle.pb_service.specs.Keys.{IsAccepted};
 ghost use Rattle.pb_service.specs.Formats.{keys_of};
 ghost use Rattle.pb_service.specs.Tables.{is_one_of, text_at};
 ghost use Rattle.pb_service.specs.Refusals.{RefusesTable};
-ghost use Rattle.pb_service.specs.declared.fault.PlanFault.TheVariants.{Twice as twice_fault, NoSuch as no_such_fault, Memory as memory_fault};
+ghost use Rattle.pb_service.specs.declared.fault.PlanFault.TheVariants.{Twice as twice_fault, NoSuch as no_such_fault};
+ghost use Rattle.pb_service.specs.declared.fault.PlanFault.TheVariants.{Memory as memory_fault};
 
 use crate::fault::PlanFault;
 use crate::formats::keys_of;
@@ -59,7 +60,8 @@ pub(crate) fn check_row(
 ) -> Result<(), PlanFault>
     requires { index ≤ length names.now }
     ensures ok { OnOk result (IsAccepted (keys_of section (table_view row.now)) (table_view row.now)) }
-    ensures new { OnOk result (is_one_of (map (λ n. n.now) (take index names.now)) (text_at (table_view row.now) (codes "name")) ≡ false) }
+    ensures new { OnOk result (is_one_of (map (λ n. n.now) (take index names.now))
+        (text_at (table_view row.now) (codes "name")) ≡ false) }
     ensures err { IfErr result (RefusesTable section (map (λ n. n.now) names.now) index (table_view row.now)) }
 {
     check_keys(

@@ -1,14 +1,17 @@
 //! Whether a table keeps the rules of its keys.
 
-ghost use Rattle.std.specs.Prelude.{◌≡◌, ◌⊎◌, option_map, option_copied, find, not, OnOk, IfErr, IfNone, IfSome, None, string_bytes};
+ghost use Rattle.std.specs.Prelude.{◌≡◌, ◌⊎◌, option_map, option_copied, find, not};
+ghost use Rattle.std.specs.Prelude.{OnOk, IfErr, IfNone, IfSome, None, string_bytes};
 ghost use Rattle.std.specs.BTreeMap.{keys};
 ghost use Rattle.toml.specs.Data.{get_member};
 ghost use Rattle.toml.specs.View.{view, table_view};
 ghost use Rattle.pb_service.specs.Sections.{path_at};
 ghost use Rattle.pb_service.specs.Formats.{top_keys};
 ghost use Rattle.pb_service.specs.Refusals.{Refuses};
-ghost use Rattle.pb_service.specs.Keys.{rule_of, rules_of, names_of, IsTaken, IsRefused, IsAccepted, RefusesRow, first_unknown, is_known, fault_of};
-ghost use Rattle.pb_service.specs.declared.fault.PlanFault.TheVariants.{Unknown as unknown_fault, Memory as memory_fault};
+ghost use Rattle.pb_service.specs.Keys.{rule_of, rules_of, names_of, IsTaken, IsRefused, IsAccepted};
+ghost use Rattle.pb_service.specs.Keys.{RefusesRow, first_unknown, is_known, fault_of};
+ghost use Rattle.pb_service.specs.declared.fault.PlanFault.TheVariants.{Unknown as unknown_fault};
+ghost use Rattle.pb_service.specs.declared.fault.PlanFault.TheVariants.{Memory as memory_fault};
 
 use crate::fault::PlanFault;
 use crate::key_fault::KeyFault;
@@ -23,7 +26,8 @@ use toml::{Table, Value};
 /// Why what stands at a key is refused, if it is.
 fn refusal(key: &Key, value: Option<&Value>) -> Option<KeyFault>
     ensures none { IfNone result (IsTaken (rule_of key.now) (option_map (λ v. view v.now) value.entry)) }
-    ensures some { IfSome result (λ fault. IsRefused (rule_of key.now) (option_map (λ v. view v.now) value.entry) fault) }
+    ensures some { IfSome result (λ fault.
+        IsRefused (rule_of key.now) (option_map (λ v. view v.now) value.entry) fault) }
 {
     let Some(value) = value else {
         return if key.needed {
@@ -73,7 +77,8 @@ fn unknown_key<'a>(table: &'a Table, known: &[Key]) -> Option<&'a str>
 }
 
 fn unknown_entry<'a>(table: &'a Table, known: &[Key]) -> Option<&'a String>
-    ensures { option_copied result ≡ find (λ key. not (is_known (names_of (rules_of known.now)) (string_bytes key))) (keys table.now) }
+    ensures { option_copied result ≡ find (λ key. not (is_known (names_of (rules_of known.now)) (string_bytes key)))
+        (keys table.now) }
 {
     table.keys().find(|key| !is_known(known, key.as_str()))
 }

@@ -17,8 +17,8 @@ pub(crate) enum Section {
     Event,
 }
 
-/// The table in which a key is: the top of the file, the table of the network, or a table of an array. Tables of an array
-/// are numbered from 0.
+/// The table in which a key is: the top of the file, the table of the network, or a table of an array. Tables of an
+/// array are numbered from 0.
 #[derive(Clone, Copy)]
 pub(crate) enum KeyTable {
     Top,
@@ -64,7 +64,8 @@ pub(crate) fn path_at(alloc: Global, key_table: KeyTable, key: &str) -> Result<T
 
 /// Returns the path of a key of a table in an array.
 fn row_path(alloc: Global, word: &str, index: usize, key: &str) -> Result<String, Memory>
-    ensures { IfOk result (λ path. string_bytes path ≡ word.now ++ codes "[" ++ decimal index ++ codes "]." ++ key.now) }
+    ensures { IfOk result (λ path. string_bytes path ≡ word.now ++ codes "[" ++ decimal index ++ codes "]."
+        ++ key.now) }
 {
     Ok(format!(in alloc; "{word}[{index}].{key}")?)
 }

@@ -36,8 +36,8 @@ fn unread(rt: &(impl Print + Eprint), error: &io::Error) -> ExitCode
     ExitCode::from(WRONG_ARGUMENTS)
 }
 
-/// Returns the arguments of the command line, of which the first is the program's name. Reports on standard error if one is
-/// not UTF-8, and returns the exit status for it; so too if an allocation failed.
+/// Returns the arguments of the command line, of which the first is the program's name. Reports on standard error if
+/// one is not UTF-8, and returns the exit status for it; so too if an allocation failed.
 pub(crate) fn arguments_of(
     rt: &(impl Env + Print + Eprint + AllocGlobal),
 ) -> Result<Vec<String>, ExitCode>
@@ -49,8 +49,8 @@ pub(crate) fn arguments_of(
     }
 }
 
-/// Prints the parser's message, and returns the exit status for it: 0 if it is the help or the version, 2 if the arguments
-/// are refused, 3 if an allocation failed.
+/// Prints the parser's message, and returns the exit status for it: 0 if it is the help or the version, 2 if the
+/// arguments are refused, 3 if an allocation failed.
 pub(crate) fn refuse(rt: &(impl Print + Eprint), error: Error) -> ExitCode
     ensures { (exit_status result ≡ 0) ⊎ (exit_status result ≡ 2) ⊎ (exit_status result ≡ 3) }
 {

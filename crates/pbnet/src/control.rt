@@ -83,8 +83,8 @@ fn ended(rt: &(impl Print + Eprint), path: &str, outcome: Result<u8, ControlFaul
         Ok(0) => ExitCode::SUCCESS,
         Ok(status) => {
             let _ = eprintln!(rt;
-                "{path}: not every command was done: the commands are stop, counts, tree, down BRIDGE PORT and up BRIDGE PORT, \
-                 and tree lists each BRIDGE with its PORTs"
+                "{path}: not every command was done: the commands are stop, counts, tree, down BRIDGE PORT and up \
+                 BRIDGE PORT, and tree lists each BRIDGE with its PORTs"
             );
             ExitCode::from(status)
         }

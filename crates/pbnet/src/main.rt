@@ -1,17 +1,17 @@
 //! A provider bridged Ethernet network in one process.
 //!
-//! The exit status is 0 where all went well, 1 where a plan file was refused (standard error says at which line, as far as
-//! that can be told), 2 where the arguments of the command line are refused, and 3 after a line that begins
-//! with `fault:`. Such a line is the last one that is printed: `fault: read`, `write` or `memory` where reading, writing or
+//! The exit status is 0 where all went well, 1 where a plan file was refused (standard error says at which line, as far
+//! as that can be told), 2 where the arguments of the command line are refused, and 3 after a line that begins with
+//! `fault:`. Such a line is the last one that is printed: `fault: read`, `write` or `memory` where reading, writing or
 //! memory failed, `steps` where a bridge had taken all its steps, `path` where a file can't be opened, a socket not be
 //! connected to, or a file has two uses (standard error says which), `spawn` where a thread could not be started, and,
-//! behind the report of a run, `port NAME N` for each port whose input has the fault N. A run that is strict has the status
-//! 4 where it would be 0 and a frame was lost, the run did not drain, or bridges have not settled; `survive` has it where a
-//! failure parts a service, and the status 2 where the plan lacks what is named, as `draw` has. `control` has the status 4 if
-//! a command was not done, and `fault: path` if no run listens.
+//! behind the report of a run, `port NAME N` for each port whose input has the fault N. A run that is strict has the
+//! status 4 where it would be 0 and a frame was lost, the run did not drain, or bridges have not settled; `survive` has
+//! it where a failure parts a service, and the status 2 where the plan lacks what is named, as `draw` has. `control`
+//! has the status 4 if a command was not done, and `fault: path` if no run listens.
 //!
-//! A report is printed in the form that is asked for: as lines, or as one document of them at the end, in which a fault stands
-//! under the key `fault`.
+//! A report is printed in the form that is asked for: as lines, or as one document of them at the end, in which a fault
+//! stands under the key `fault`.
 #![tactic(auto)]
 
 mod arguments;
@@ -83,8 +83,8 @@ fn main(rt: HostRuntime) -> ExitCode {
     }
 }
 
-/// What stands in the file at a path, or the exit status where it can't be opened or read, once the fault is told. Standard
-/// error says why it can't be opened.
+/// What stands in the file at a path, or the exit status where it can't be opened or read, once the fault is told.
+/// Standard error says why it can't be opened.
 fn contents<R: Files + Eprint + AllocGlobal, W: Write>(
     rt: &R,
     path: &str,
@@ -133,7 +133,10 @@ fn check_on<R: Files + Eprint + AllocGlobal, W: Write>(
 }
 
 /// Drives the network of a plan file over standard input, and reports in the form that is asked for.
-fn step<R: Files + Input + Print + Eprint + AllocGlobal>(rt: &R, options: &ReportOptions) -> ExitCode {
+fn step<R: Files + Input + Print + Eprint + AllocGlobal>(
+    rt: &R,
+    options: &ReportOptions,
+) -> ExitCode {
     let mut out = Output::new(rt, options.format);
     let status = step_on(rt, options.path.as_str(), &mut out);
     out.end(&STEP, Some(&COUNTS), status)
@@ -155,8 +158,8 @@ fn step_on<R: Files + Input + Eprint + AllocGlobal, W: Write>(
     }
 }
 
-/// Drives the network of a plan file, by its octets, over standard input. The exit status is answered. Output is gathered
-/// before it is written.
+/// Drives the network of a plan file, by its octets, over standard input. The exit status is answered. Output is
+/// gathered before it is written.
 fn step_over<R: Input + AllocGlobal, W: Write>(
     rt: &R,
     file: &[u8],
@@ -259,8 +262,8 @@ where
     }
 }
 
-/// The exit status of a command over a plan file. Where the file was refused, standard error says where it breaks a rule, as
-/// far as that can be told.
+/// The exit status of a command over a plan file. Where the file was refused, standard error says where it breaks a
+/// rule, as far as that can be told.
 fn ended(rt: &(impl Eprint + AllocGlobal), path: &str, file: &[u8], status: u8) -> ExitCode {
     if status == REFUSED {
         if let Ok(Some(spot)) = refused_at(rt.alloc(), file) {

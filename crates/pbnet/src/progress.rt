@@ -1,6 +1,6 @@
-//! What is told of a network while it runs, and when it is stopped.
+//! What is reported of a network while it runs, and when it is stopped.
 
-use pb_cmd_run::{Opening, Traffic, RunProgress};
+use pb_cmd_run::{Opening, RunProgress, Traffic};
 use pb_lan::Place;
 use pb_run::{Gate, Go};
 use std::alloc::Global;
@@ -22,7 +22,7 @@ pub enum Shown {
     Lines,
 }
 
-/// What is told of a run once a second. As a gate it lets every worker go on until the run is to be stopped.
+/// Reports the progress of a run once a second. As a gate it lets every worker go on until the run is to be stopped.
 #[derive(Drop)]
 pub struct RunMonitor<'a, R> {
     rt: &'a R,
@@ -41,7 +41,7 @@ fn end_of<R: Clock>(rt: &R, seconds: Option<u32>) -> Option<Duration> {
 }
 
 impl<'a, R: Clock + Eprint> RunMonitor<'a, R> {
-    /// Of a run that begins now and is stopped after so many seconds, where there are any. Nothing was told yet.
+    /// Creates the monitor of a run that begins now and is stopped after so many seconds, if any are given.
     pub fn new(
         rt: &'a R,
         traffic: Arc<Traffic, Global>,

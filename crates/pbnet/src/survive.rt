@@ -22,8 +22,8 @@ fn scope_of(scope: &SurviveScope) -> Scope<'_> {
     }
 }
 
-/// Tells what is left of the network of a plan file under failures, in the form that is asked for, and how many were looked at
-/// so far where that is shown.
+/// Tells what is left of the network of a plan file under failures, in the form that is asked for, and how many were
+/// looked at so far where that is shown.
 pub(crate) fn tell_survivals<R: Files + Threads + Clock + Print + Eprint + AllocGlobal + Sync>(
     rt: &R,
     options: &SurviveOptions,

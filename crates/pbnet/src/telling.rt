@@ -13,8 +13,8 @@ pub(crate) const WRONG_ARGUMENTS: u8 = 2;
 /// The exit status of a command that a fault ended.
 pub(crate) const FAULT: u8 = 3;
 
-/// Says on standard output which fault ended a command, as `fault: ` and its word, and gives the exit status for it. A write
-/// that fails is not told.
+/// Says on standard output which fault ended a command, as `fault: ` and its word, and gives the exit status for it. A
+/// write that fails is not told.
 pub(crate) fn tell(rt: &impl Print, fault: impl Display + Drop) -> ExitCode
     ensures { exit_status result ≡ 3 }
 {

@@ -11,7 +11,10 @@ use std::io::Write;
 use std::process::ExitCode;
 
 /// Prints the trees of the network of a plan file, in the form that is asked for.
-pub(crate) fn tree<R: Files + Print + Eprint + AllocGlobal>(rt: &R, options: &TreeOptions) -> ExitCode {
+pub(crate) fn tree<R: Files + Print + Eprint + AllocGlobal>(
+    rt: &R,
+    options: &TreeOptions,
+) -> ExitCode {
     let mut out = Output::new(rt, options.format);
     let status = tree_on(rt, options, &mut out);
     out.end(&TREE, None, status)

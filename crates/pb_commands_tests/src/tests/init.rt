@@ -3,7 +3,8 @@
 ghost use Rattle.std.specs.Prelude.{◌++◌, flat_map, OnOk};
 ghost use Rattle.std.specs.Io.KnownBytes.{Appends};
 ghost use Rattle.std.specs.List.{range_with_len};
-ghost use Rattle.pb_cmd_init.specs.PlanTexts.{head_text, keys_text, places_text, bridge_text, link_text, service_text, port_text, kinds_text};
+ghost use Rattle.pb_cmd_init.specs.PlanTexts.{head_text, keys_text, places_text, bridge_text};
+ghost use Rattle.pb_cmd_init.specs.PlanTexts.{link_text, service_text, port_text, kinds_text};
 ghost use Rattle.pb_cmd_init.specs.Topologies.{bridge_count, link_count, port_count, site_of};
 
 mod examples;
@@ -18,8 +19,8 @@ use std::io::Write;
 use std::process::Abort;
 use std::test::Fail;
 
-/// What a file tells: how many bridges, links and customer ports there are, the milliseconds of a tick, and the ticks before
-/// frames enter.
+/// What a file tells: how many bridges, links and customer ports there are, the milliseconds of a tick, and the ticks
+/// before frames enter.
 type Told = (u8, u8, u8, u64, u64);
 
 /// A file is a plan that tells this, with one service and no ring that is open at the start.
@@ -60,10 +61,11 @@ fn tried(alloc: Global, file: &[u8]) -> Result<String, AllocError> {
     Ok(text)
 }
 
-/// What a caller may take from `write_plan`: a table for each bridge, link and customer port of the topology, in order, between the
-/// network's keys and what can be tried.
+/// What a caller may take from `write_plan`: a table for each bridge, link and customer port of the topology, in order,
+/// between the network's keys and what can be tried.
 fn begun<W: Write>(alloc: Global, topology: Topology, writer: &mut W) -> Result<(), CommandFault>
-    ensures { OnOk result (Appends (W.contents writer.old) (W.contents writer.new) (head_text ++ keys_text topology ++ places_text
+    ensures { OnOk result (Appends (W.contents writer.old) (W.contents writer.new)
+        (head_text ++ keys_text topology ++ places_text
         ++ flat_map bridge_text (range_with_len 1 (bridge_count topology))
         ++ flat_map (link_text topology) (range_with_len 1 (link_count topology))
         ++ service_text
@@ -137,7 +139,10 @@ fn links_join_the_bridges(rt: HostRuntime) -> Result<(), Fail> {
             "L16\"\na = \"B1\"\na_port = 16\nb = \"B17\"\nb_port = 1\n",
         ),
         (Topology::Star(2), "C1\"\nbridge = \"B2\"\nport = 3\n"),
-        (Topology::Line(32), "B32\"\naddress = \"02-00-00-00-00-20\"\n"),
+        (
+            Topology::Line(32),
+            "B32\"\naddress = \"02-00-00-00-00-20\"\n",
+        ),
     ] {
         let mut file = Vec::new(alloc);
         assert_eq!(rt; write_plan(alloc, topology, &mut file), Ok(()));
@@ -150,7 +155,10 @@ fn links_join_the_bridges(rt: HostRuntime) -> Result<(), Fail> {
 #[test]
 fn two_bridges_in_a_line_are_the_example(rt: HostRuntime) -> Result<(), Fail> {
     let mut file = Vec::new(rt.alloc());
-    assert_eq!(rt; write_plan(rt.alloc(), Topology::Line(2), &mut file), Ok(()));
+    assert_eq!(rt;
+        write_plan(rt.alloc(), Topology::Line(2), &mut file),
+        Ok(())
+    );
     assert!(rt; file.as_slice() == examples::INIT.as_bytes());
     Ok(())
 }

@@ -6,7 +6,7 @@ use super::folder::{enter, leave};
 use super::plans::{COUNTS, plan};
 use super::stage::Action::{Connects, HaveHeard, Says};
 use super::stage::Who::{First, Second};
-use super::stage::{PATH, Stage, Action, happens};
+use super::stage::{Action, PATH, Stage, happens};
 use pb_control_socket::{Control, Request};
 use pb_lan::Plan;
 use std::alloc::Global;

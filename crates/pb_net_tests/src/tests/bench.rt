@@ -9,7 +9,7 @@ ghost use Rattle.pb_net_tests.specs.Benches.{TellsAllDelivered};
 use super::draft::{Draft, Joint};
 use super::networks::JOINED;
 use super::plans::plan_of;
-use super::records::{Performed, Done, Piece, record_of, tallies_of};
+use super::records::{Done, Performed, Piece, record_of, tallies_of};
 use pb_forest::{forest, is_drained};
 use pb_frame::Memory;
 use pb_history::{Tallies, last_shape};
@@ -74,13 +74,19 @@ const LEFT: Piece = (2, BROADCAST);
 
 const AT_C1: &[Performed] = &[Performed::Poll(CAME), Performed::Feed(CAME)];
 
-const AT_B1: &[Performed] = &[Performed::Receive(2, CAME, 1, &[]), Performed::Transmit(1, CROSSED)];
+const AT_B1: &[Performed] = &[
+    Performed::Receive(2, CAME, 1, &[]),
+    Performed::Transmit(1, CROSSED),
+];
 
 /// The broadcast went from C1 to C2.
 const FINISHED: Done = Done {
     bridges: &[
         AT_B1,
-        &[Performed::Receive(1, CROSSED, 2, &[]), Performed::Transmit(2, LEFT)],
+        &[
+            Performed::Receive(1, CROSSED, 2, &[]),
+            Performed::Transmit(2, LEFT),
+        ],
     ],
     lanes: &[&[Performed::Take(CROSSED), Performed::Put(CROSSED)], &[]],
     customers: &[AT_C1, &[Performed::Deliver(LEFT)], &[]],

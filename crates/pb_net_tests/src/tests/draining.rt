@@ -1,6 +1,6 @@
 //! Whether a frame is on its way, from one customer port of a bridge to another.
 
-use super::records::{Performed, Done, Piece, tallies_of};
+use super::records::{Done, Performed, Piece, tallies_of};
 use pb_forest::is_drained;
 use pb_frame::Memory;
 use pb_lan::NoRoom;
@@ -49,7 +49,10 @@ const ROWS: &[(Done, bool)] = &[
     // it left
     (
         Done {
-            bridges: &[&[Performed::Receive(2, FRAME, 3, &[]), Performed::Transmit(3, FRAME)]],
+            bridges: &[&[
+                Performed::Receive(2, FRAME, 3, &[]),
+                Performed::Transmit(3, FRAME),
+            ]],
             lanes: &[],
             customers: &[
                 &[Performed::Poll(FRAME), Performed::Feed(FRAME)],

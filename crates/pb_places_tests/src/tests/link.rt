@@ -82,7 +82,12 @@ fn step_of(alloc: Global, (deed, number): NumberedDeed) -> Result<Step, AllocErr
 }
 
 /// Whether the step at a place is this one.
-fn is_step(alloc: Global, steps: &[Step], place: usize, deed: NumberedDeed) -> Result<bool, AllocError> {
+fn is_step(
+    alloc: Global,
+    steps: &[Step],
+    place: usize,
+    deed: NumberedDeed,
+) -> Result<bool, AllocError> {
     let step = step_of(alloc, deed)?;
     Ok(steps.get(place) == Some(&step))
 }
@@ -98,7 +103,12 @@ fn are_steps(alloc: Global, steps: &[Step], all: &[NumberedDeed]) -> Result<bool
 }
 
 /// Whether the steps are shown: these where they are kept, and none where they are counted.
-fn are_shown(alloc: Global, kind: Kind, steps: &[Step], all: &[NumberedDeed]) -> Result<bool, AllocError> {
+fn are_shown(
+    alloc: Global,
+    kind: Kind,
+    steps: &[Step],
+    all: &[NumberedDeed],
+) -> Result<bool, AllocError> {
     match kind {
         Kind::Kept => are_steps(alloc, steps, all),
         Kind::Counted => Ok(steps.is_empty()),

@@ -22,7 +22,8 @@ network = { steps = 2 }
 bridge = [{ name = \"B1\", address = \"02-00-00-00-00-01\" }, { name = \"B2\", address = \"02-00-00-00-00-02\" }]
 link = [{ name = \"L1\", a = \"B1\", a_port = 1, b = \"B2\", b_port = 1 }]
 service = [{ name = \"red\", vid = 100 }]
-port = [{ name = \"C1\", bridge = \"B1\", port = 2, service = \"red\" }, { name = \"C2\", bridge = \"B2\", port = 2, service = \"red\" }]
+port = [{ name = \"C1\", bridge = \"B1\", port = 2, service = \"red\" }, { name = \"C2\", bridge = \"B2\", port = 2, \
+service = \"red\" }]
 ";
 
 /// What is done to a network, and what is answered.
@@ -123,8 +124,8 @@ fn a_place_has_so_many_steps(rt: HostRuntime) -> Result<(), Fail> {
     goes(&rt, rt.alloc(), SHORT.as_bytes(), ROWS)
 }
 
-/// What the root tells crosses a small ring within a tick. In a ring of 32 bridges better and better roots come by, and a
-/// port sends six BPDUs a tick at most, so that it takes some ticks.
+/// What the root tells crosses a small ring within a tick. In a ring of 32 bridges better and better roots come by, and
+/// a port sends six BPDUs a tick at most, so that it takes some ticks.
 #[test]
 fn rings_settle(rt: HostRuntime) -> Result<(), Fail> {
     for (bridges, ticks) in [(3u8, 2), (6, 2), (32, 14)] {

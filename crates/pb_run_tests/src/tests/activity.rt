@@ -1,10 +1,10 @@
-//! What ports of the tests' own are seen to do.
+//! The activity of ports of the tests' own.
 
 use super::gates::comes_to;
 use super::told::Told;
 use std::sync::atomic::{AtomicU64, Ordering};
 
-/// What the ports of a run are seen to do, all together.
+/// The activity of the ports of a run, all together.
 #[derive(Drop)]
 pub(super) struct PortActivity {
     /// How often they were polled.
@@ -20,7 +20,7 @@ pub(super) struct PortActivity {
 }
 
 impl PortActivity {
-    /// Creates the activity of ports that nothing was seen of.
+    /// Creates a count of no activity.
     pub(super) fn new() -> PortActivity {
         PortActivity {
             polls: AtomicU64::new(0),

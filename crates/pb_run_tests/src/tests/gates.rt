@@ -1,7 +1,7 @@
 //! Gates.
 
-use super::told::slot_of;
 use super::activity::PortActivity;
+use super::told::slot_of;
 use pb_lan::{Place, PortState};
 use pb_run::{Gate, Go, PortView, Wish};
 use std::alloc::{AllocError, Global};

@@ -1,12 +1,12 @@
 //! All places run at once.
 
+use super::activity::PortActivity;
 use super::frames::Frames;
 use super::gates::{Holding, Meeting};
 use super::guests::Habit;
 use super::networks::LINE;
 use super::runs::{LONG, Outer, Setup, Way, ran, ran_under};
 use super::told::Told;
-use super::activity::PortActivity;
 use pb_frame::Memory;
 use pb_run::Ended;
 use std::alloc::Global;

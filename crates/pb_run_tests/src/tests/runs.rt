@@ -1,12 +1,12 @@
 //! The harness: a plan is run with ports of these kinds.
 
+use super::activity::PortActivity;
 use super::draft::Draft;
 use super::frames::{Frames, script_of};
 use super::guests::{Guest, Habit};
 use super::plans::plan_of;
 use super::streams::{Broken, Stream};
 use super::told::{NOTHING, Told, tell, tell_counted, tell_fault};
-use super::activity::PortActivity;
 use pb_frame::Memory;
 use pb_lan::{Limits, Plan, plan_is_sound};
 use pb_port::{MemoryPort, SocketPort};
@@ -95,7 +95,11 @@ fn socket(
 }
 
 /// A port outside, in a box.
-fn port_of(alloc: Global, outer: Outer, activity: &Arc<PortActivity, Global>) -> Result<Held, Memory> {
+fn port_of(
+    alloc: Global,
+    outer: Outer,
+    activity: &Arc<PortActivity, Global>,
+) -> Result<Held, Memory> {
     match outer {
         Outer::Memory(count) => memory(alloc, count),
         Outer::Guest(count, habit) => guest(alloc, count, habit, activity),
@@ -175,7 +179,7 @@ fn ran_with<G: Gate, R: Threads + Wait + Clock + Sync>(
     }
 }
 
-/// Runs what a setup tells and notes what its ports are seen to do, and tells what came of it. What it tells owns nothing, so that
+/// Runs what a setup states, and returns what came of it, with the activity of its ports. The result owns nothing, so that
 /// tests are cheap to prove.
 pub(super) fn ran_under<G: Gate, R: Threads + Wait + Clock + Sync>(
     rt: &R,

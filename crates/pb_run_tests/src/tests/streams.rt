@@ -2,8 +2,8 @@
 
 ghost use Rattle.std.specs.Prelude.{◌≤◌, vec_len};
 
-use super::frames::frame_of;
 use super::activity::PortActivity;
+use super::frames::frame_of;
 use pb_frame::Memory;
 use pb_port::{Device, Got};
 use std::alloc::Global;

@@ -218,9 +218,15 @@ fn begins_with_a_network(rt: HostRuntime) -> Result<(), Fail> {
         (&["init", "--line", "1"], Wanted::Init(InitOptions::Line(1))),
         (&["init", "--line=32"], Wanted::Init(InitOptions::Line(32))),
         (&["init", "--ring", "3"], Wanted::Init(InitOptions::Ring(3))),
-        (&["init", "--ring", "32"], Wanted::Init(InitOptions::Ring(32))),
+        (
+            &["init", "--ring", "32"],
+            Wanted::Init(InitOptions::Ring(32)),
+        ),
         (&["init", "--star", "2"], Wanted::Init(InitOptions::Star(2))),
-        (&["init", "--star", "17"], Wanted::Init(InitOptions::Star(17))),
+        (
+            &["init", "--star", "17"],
+            Wanted::Init(InitOptions::Star(17)),
+        ),
         (&["init", "--line", "0"], WRONG),
         (&["init", "--line", "33"], WRONG),
         (&["init", "--ring", "2"], WRONG),

@@ -2,8 +2,8 @@
 
 use super::wanted::{Look, Of, Picture, Row, Run, Wanted};
 use pb_cli::{
-    CommandLine, ControlOptions, DrawOptions, ReportFormat, ReportOptions, RunOptions, SurviveOptions,
-    SurviveScope, TraceEntry, TraceOptions, TreeOptions, command_line_of,
+    CommandLine, ControlOptions, DrawOptions, ReportFormat, ReportOptions, RunOptions,
+    SurviveOptions, SurviveScope, TraceEntry, TraceOptions, TreeOptions, command_line_of,
 };
 use std::alloc::{AllocError, Global};
 use std::process::Abort;
@@ -130,7 +130,11 @@ fn format_of(line: &CommandLine) -> Option<ReportFormat> {
         CommandLine::Tree(options) => Some(options.format),
         CommandLine::Trace(options) => Some(options.format),
         CommandLine::Survive(options) => Some(options.format),
-        CommandLine::Flat(_) | CommandLine::Show | CommandLine::Init(_) | CommandLine::Draw(_) | CommandLine::Control(_) => None,
+        CommandLine::Flat(_)
+        | CommandLine::Show
+        | CommandLine::Init(_)
+        | CommandLine::Draw(_)
+        | CommandLine::Control(_) => None,
     }
 }
 
@@ -141,7 +145,9 @@ fn is_so(line: &CommandLine, wanted: &Wanted) -> bool {
         (Wanted::Check(path), CommandLine::Check(told)) => is_report(told, path),
         (Wanted::Step(path), CommandLine::Step(told)) => is_report(told, path),
         (Wanted::Run(run), CommandLine::Run(told)) => is_run(told, run),
-        (Wanted::Tree(path, downs, ticks), CommandLine::Tree(told)) => is_tree(told, path, downs, *ticks),
+        (Wanted::Tree(path, downs, ticks), CommandLine::Tree(told)) => is_tree(
+            told, path, downs, *ticks,
+        ),
         (Wanted::Trace(path, frames, settles), CommandLine::Trace(told)) => {
             is_trace(told, path, frames, *settles)
         }

@@ -1,4 +1,4 @@
-//! Failure progress that counts.
+//! Progress over failures that is only counted.
 
 use pb_cmd_survive::FailureProgress;
 use std::sync::atomic::{AtomicU64, Ordering};
