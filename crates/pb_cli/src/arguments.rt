@@ -8,7 +8,8 @@ use std::alloc::{AllocError, Global};
 
 /// What `--down` does.
 const DOWN: &str =
-    "Sets a port to another bridge down before, named by its bridge and its number there; may stand several times, for both ends of a link";
+    "Sets a port to another bridge down before, named by its bridge and its number there; may stand several times, for \
+    both ends of a link";
 
 /// What `--format` does where a report may be a document.
 const DOCUMENT: &str =
@@ -52,7 +53,7 @@ pub(crate) const AS_DOCUMENT: Argument = Argument {
     name: "format",
     value: "FORM",
     help: DOCUMENT,
-    takes: Takes::Word(&["text", "json"]),
+    takes: Takes::Name(&["text", "json"]),
     excludes: &[],
 };
 
@@ -61,7 +62,7 @@ pub(crate) const AS_TABLE: Argument = Argument {
     name: "format",
     value: "FORM",
     help: TABLE,
-    takes: Takes::Word(&["text", "json", "csv"]),
+    takes: Takes::Name(&["text", "json", "csv"]),
     excludes: &[],
 };
 
@@ -102,9 +103,9 @@ pub(crate) fn text_of(
 /// The ports that go down before.
 pub(crate) fn downs_of(alloc: Global, given: &ArgMatches<'_>) -> Result<Vec<String>, AllocError> {
     let mut downs = Vec::new(alloc);
-    if let Some(words) = given.get_strs("down") {
-        for word in words {
-            downs.push(String::from_str(alloc, word)?)?;
+    if let Some(values) = given.get_strs("down") {
+        for value in values {
+            downs.push(String::from_str(alloc, value)?)?;
         }
     }
     Ok(downs)

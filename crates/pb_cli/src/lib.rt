@@ -1,25 +1,25 @@
-//! What the words of the program's command line ask for.
+//! The program's command line: its commands, their arguments, and what a command line asks for.
 #![tactic(auto)]
 
 mod arguments;
-mod control_order;
-mod draw_order;
-mod init_order;
-mod order;
-mod report_order;
-mod run_order;
-mod survive_order;
+mod command_line;
+mod control_options;
+mod draw_options;
+mod init_options;
+mod report_options;
+mod run_options;
+mod survive_options;
 mod table;
-mod trace_order;
-mod tree_order;
+mod trace_options;
+mod tree_options;
 
 pub use arguments::ReportFormat;
-pub use control_order::ControlOrder;
-pub use draw_order::{DrawOrder, PictureFormat};
-pub use init_order::InitOrder;
-pub use order::{Order, order_of};
-pub use report_order::ReportOrder;
-pub use run_order::RunOrder;
-pub use survive_order::{SurviveOrder, SurviveScope};
-pub use trace_order::{TraceEntry, TraceOrder};
-pub use tree_order::TreeOrder;
+pub use command_line::{CommandLine, command_line_of};
+pub use control_options::ControlOptions;
+pub use draw_options::{DrawOptions, PictureFormat};
+pub use init_options::InitOptions;
+pub use report_options::ReportOptions;
+pub use run_options::RunOptions;
+pub use survive_options::{SurviveOptions, SurviveScope};
+pub use trace_options::{TraceEntry, TraceOptions};
+pub use tree_options::TreeOptions;

@@ -1,4 +1,4 @@
-//! Commands and their arguments as tables, and what the reader of words makes of them.
+//! Commands and their arguments as tables, and the parser that is made of them.
 
 use clap::builder::ValueParser;
 use clap::{Arg, ArgAction, Command, Error};
@@ -17,8 +17,8 @@ pub(crate) enum Takes {
     Texts,
     /// The name of a port and the digits of a frame, each time that the argument stands.
     Frames,
-    /// One of these words.
-    Word(&'static [&'static str]),
+    /// One of these names.
+    Name(&'static [&'static str]),
     /// A number of at least the first and at most the second, below 2^32.
     Number(i64, i64),
     /// A number of at least the first and at most the second, below 256.
@@ -49,7 +49,7 @@ pub(crate) struct Argument {
 /// A command.
 #[derive(Clone, Copy)]
 pub(crate) struct CommandRow {
-    /// Its word.
+    /// Its name on the command line.
     pub name: &'static str,
     /// What it does.
     pub about: &'static str,
@@ -94,7 +94,7 @@ fn taking<'a>(arg: Arg<'a>, argument: Argument) -> Arg<'a> {
         Takes::TextBy(letter) => named(arg, argument).short(letter),
         Takes::Texts => named(arg, argument).action(ArgAction::Append),
         Takes::Frames => framed(arg, argument),
-        Takes::Word(words) => named(arg, argument).value_parser(ValueParser::Names(words)),
+        Takes::Name(names) => named(arg, argument).value_parser(ValueParser::Names(names)),
         Takes::Number(least, most) => {
             named(arg, argument).value_parser(clap::value_parser!(u32).range(least..=most))
         }
@@ -109,13 +109,13 @@ fn taking<'a>(arg: Arg<'a>, argument: Argument) -> Arg<'a> {
     }
 }
 
-/// What the reader of words makes of an argument.
+/// Returns the parser's argument for a row of a table.
 fn arg_of<'a>(alloc: Global, argument: Argument) -> Result<Arg<'a>, Error> {
     let arg = taking(Arg::new(alloc, argument.name).help(argument.help), argument);
     Ok(arg.conflicts_with_all(argument.excludes)?)
 }
 
-/// What it makes of a command.
+/// Returns the parser's command for a row of a table.
 fn command_of<'a>(alloc: Global, row: CommandRow) -> Result<Command<'a>, Error> {
     let mut command = Command::new(alloc, row.name).about(row.about);
     for argument in row.arguments {

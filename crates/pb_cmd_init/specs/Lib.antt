@@ -1,2 +1,2 @@
-pub mod Shapes
+pub mod Topologies
 pub mod PlanTexts

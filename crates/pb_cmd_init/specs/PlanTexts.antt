@@ -3,10 +3,10 @@ use Rattle.std.specs.Prelude.{ℕ, ◌==◌, if◌then◌else◌, List, [], ◌�
 use Rattle.std.specs.Fmt.{decimal}
 use Rattle.std.specs.List.{range_with_len}
 use Rattle.pb_frame.specs.Hex.{mac_text}
-use Rattle.pb_cmd_init.specs.Shapes.{bridge_count, link_count, port_count, ends_of, site_of}
-use Rattle.pb_cmd_init.specs.declared.shape.Ends.{Ends}
-use Rattle.pb_cmd_init.specs.declared.shape.Shape.{Shape}
-use Rattle.pb_cmd_init.specs.declared.shape.Shape.TheVariants.{Line, Ring, Star}
+use Rattle.pb_cmd_init.specs.Topologies.{bridge_count, link_count, port_count, ends_of, site_of}
+use Rattle.pb_cmd_init.specs.declared.topology.Ends.{Ends}
+use Rattle.pb_cmd_init.specs.declared.topology.Topology.{Topology}
+use Rattle.pb_cmd_init.specs.declared.topology.Topology.TheVariants.{Line, Ring, Star}
 
 -- what the file is, and how to go on
 abbrev pub head_text : List ℕ
@@ -40,7 +40,7 @@ rstp_text =
     ++ codes "# No frame enters before 200 ticks: first a tree, then traffic.\n"
     ++ codes "hold = 200\n"
 
-abbrev pub keys_text : Shape → List ℕ
+abbrev pub keys_text : Topology → List ℕ
 keys_text (Line n) = fixed_text
 keys_text (Ring n) = rstp_text
 keys_text (Star n) = fixed_text
@@ -61,8 +61,8 @@ ends_text link ends =
     ++ codes "\"\na = \"B" ++ decimal ends.a ++ codes "\"\na_port = " ++ decimal ends.a_port
     ++ codes "\nb = \"B" ++ decimal ends.b ++ codes "\"\nb_port = " ++ decimal ends.b_port ++ codes "\n"
 
-abbrev pub link_text : Shape → ℕ → List ℕ
-link_text shape link = ends_text link (ends_of shape link)
+abbrev pub link_text : Topology → ℕ → List ℕ
+link_text topology link = ends_text link (ends_of topology link)
 
 abbrev pub service_text : List ℕ
 service_text =
@@ -84,9 +84,9 @@ broadcast_text =
 abbrev pub in_text : ℕ → List ℕ
 in_text port = if port == 1 then broadcast_text else []
 
-abbrev pub port_text : Shape → ℕ → List ℕ
-port_text shape port =
-    codes "\n[[port]]\nname = \"C" ++ decimal port ++ codes "\"\nbridge = \"B" ++ decimal (site_of shape port)
+abbrev pub port_text : Topology → ℕ → List ℕ
+port_text topology port =
+    codes "\n[[port]]\nname = \"C" ++ decimal port ++ codes "\"\nbridge = \"B" ++ decimal (site_of topology port)
     ++ codes "\"\nport = 3\nservice = \"red\"\n" ++ in_text port
 
 -- ports of the kinds that need files or a peer, as comments
@@ -110,11 +110,11 @@ abbrev pub kinds_text : ℕ → List ℕ
 kinds_text bridge = needs_text ++ capture_text bridge ++ socket_text bridge
 
 -- the whole file
-abbrev pub plan_text : Shape → List ℕ
-plan_text shape =
-    head_text ++ keys_text shape ++ places_text
-    ++ flat_map bridge_text (range_with_len 1 (bridge_count shape))
-    ++ flat_map (link_text shape) (range_with_len 1 (link_count shape))
+abbrev pub plan_text : Topology → List ℕ
+plan_text topology =
+    head_text ++ keys_text topology ++ places_text
+    ++ flat_map bridge_text (range_with_len 1 (bridge_count topology))
+    ++ flat_map (link_text topology) (range_with_len 1 (link_count topology))
     ++ service_text
-    ++ flat_map (port_text shape) (range_with_len 1 (port_count shape))
-    ++ kinds_text (site_of shape 1)
+    ++ flat_map (port_text topology) (range_with_len 1 (port_count topology))
+    ++ kinds_text (site_of topology 1)

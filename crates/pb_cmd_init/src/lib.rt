@@ -3,8 +3,8 @@
 
 mod parts;
 mod plan_file;
-mod shape;
 mod texts;
+mod topology;
 
 pub use plan_file::write_plan;
-pub use shape::Shape;
+pub use topology::Topology;

@@ -3,9 +3,9 @@
 ghost use Rattle.std.specs.Prelude.{◌≡◌, ◌+◌, ◌≤◌, ◌++◌, flat_map, string_bytes, OnOk};
 ghost use Rattle.std.specs.List.{range_with_len};
 ghost use Rattle.pb_cmd_init.specs.PlanTexts.{bridge_text, link_text, in_text, port_text};
-ghost use Rattle.pb_cmd_init.specs.Shapes.{bridge_count, link_count, port_count};
+ghost use Rattle.pb_cmd_init.specs.Topologies.{bridge_count, link_count, port_count};
 
-use crate::shape::{Ends, Shape};
+use crate::topology::{Ends, Topology};
 use pb_frame::{Mac, Memory};
 use std::alloc::Global;
 
@@ -27,26 +27,27 @@ fn put_bridge(alloc: Global, out: &mut String, bridge: u8) -> Result<(), Memory>
 }
 
 /// All bridges.
-pub(crate) fn put_bridges(alloc: Global, out: &mut String, shape: Shape) -> Result<(), Memory>
-    ensures { OnOk result (string_bytes out.new ≡ string_bytes out.old ++ flat_map bridge_text (range_with_len 1 (bridge_count shape))) }
+pub(crate) fn put_bridges(alloc: Global, out: &mut String, topology: Topology) -> Result<(), Memory>
+    ensures { OnOk result (string_bytes out.new ≡ string_bytes out.old
+        ++ flat_map bridge_text (range_with_len 1 (bridge_count topology))) }
 {
-    for before in 0..shape.bridges() {
+    for before in 0..topology.bridges() {
         put_bridge(alloc, out, before + 1)?;
     }
     Ok(())
 }
 
 /// A link.
-fn put_link(out: &mut String, shape: Shape, link: u8) -> Result<(), Memory>
-    requires { link ≤ link_count shape }
-    ensures { OnOk result (string_bytes out.new ≡ string_bytes out.old ++ link_text shape link) }
+fn put_link(out: &mut String, topology: Topology, link: u8) -> Result<(), Memory>
+    requires { link ≤ link_count topology }
+    ensures { OnOk result (string_bytes out.new ≡ string_bytes out.old ++ link_text topology link) }
 {
     let Ends {
         a,
         a_port,
         b,
         b_port,
-    } = shape.ends(link);
+    } = topology.ends(link);
     write!(
         out,
         "\n[[link]]\nname = \"L{link}\"\na = \"B{a}\"\na_port = {a_port}\nb = \"B{b}\"\nb_port = {b_port}\n"
@@ -55,11 +56,12 @@ fn put_link(out: &mut String, shape: Shape, link: u8) -> Result<(), Memory>
 }
 
 /// All links.
-pub(crate) fn put_links(out: &mut String, shape: Shape) -> Result<(), Memory>
-    ensures { OnOk result (string_bytes out.new ≡ string_bytes out.old ++ flat_map (link_text shape) (range_with_len 1 (link_count shape))) }
+pub(crate) fn put_links(out: &mut String, topology: Topology) -> Result<(), Memory>
+    ensures { OnOk result (string_bytes out.new ≡ string_bytes out.old
+        ++ flat_map (link_text topology) (range_with_len 1 (link_count topology))) }
 {
-    for before in 0..shape.links() {
-        put_link(out, shape, before + 1)?;
+    for before in 0..topology.links() {
+        put_link(out, topology, before + 1)?;
     }
     Ok(())
 }
@@ -72,11 +74,11 @@ fn incoming(port: u8) -> &'static str
 }
 
 /// A customer port.
-fn put_port(out: &mut String, shape: Shape, port: u8) -> Result<(), Memory>
-    requires { port ≤ port_count shape }
-    ensures { OnOk result (string_bytes out.new ≡ string_bytes out.old ++ port_text shape port) }
+fn put_port(out: &mut String, topology: Topology, port: u8) -> Result<(), Memory>
+    requires { port ≤ port_count topology }
+    ensures { OnOk result (string_bytes out.new ≡ string_bytes out.old ++ port_text topology port) }
 {
-    let bridge = shape.site(port);
+    let bridge = topology.site(port);
     let incoming = incoming(port);
     write!(
         out,
@@ -86,11 +88,12 @@ fn put_port(out: &mut String, shape: Shape, port: u8) -> Result<(), Memory>
 }
 
 /// All customer ports.
-pub(crate) fn put_ports(out: &mut String, shape: Shape) -> Result<(), Memory>
-    ensures { OnOk result (string_bytes out.new ≡ string_bytes out.old ++ flat_map (port_text shape) (range_with_len 1 (port_count shape))) }
+pub(crate) fn put_ports(out: &mut String, topology: Topology) -> Result<(), Memory>
+    ensures { OnOk result (string_bytes out.new ≡ string_bytes out.old
+        ++ flat_map (port_text topology) (range_with_len 1 (port_count topology))) }
 {
-    for before in 0..shape.ports() {
-        put_port(out, shape, before + 1)?;
+    for before in 0..topology.ports() {
+        put_port(out, topology, before + 1)?;
     }
     Ok(())
 }

@@ -5,38 +5,42 @@ ghost use Rattle.std.specs.Io.KnownBytes.{Appends, Keeps};
 ghost use Rattle.pb_cmd_init.specs.PlanTexts.{plan_text};
 
 use crate::parts::{put_bridges, put_links, put_ports};
-use crate::shape::Shape;
 use crate::texts::{put_head, put_kinds, put_service};
+use crate::topology::Topology;
 use pb_frame::Memory;
 use pb_messages::CommandFault;
 use std::alloc::Global;
 use std::io::Write;
 
 /// Puts the plan file behind a text.
-fn put_plan(alloc: Global, out: &mut String, shape: Shape) -> Result<(), Memory>
-    ensures { OnOk result (string_bytes out.new ≡ string_bytes out.old ++ plan_text shape) }
+fn put_plan(alloc: Global, out: &mut String, topology: Topology) -> Result<(), Memory>
+    ensures { OnOk result (string_bytes out.new ≡ string_bytes out.old ++ plan_text topology) }
 {
-    put_head(out, shape)?;
-    put_bridges(alloc, out, shape)?;
-    put_links(out, shape)?;
+    put_head(out, topology)?;
+    put_bridges(alloc, out, topology)?;
+    put_links(out, topology)?;
     put_service(out)?;
-    put_ports(out, shape)?;
-    put_kinds(out, shape.first_site())
+    put_ports(out, topology)?;
+    put_kinds(out, topology.first_site())
 }
 
-/// Writes a plan file to begin with, by one `write_all`: its bridges are joined in this shape, it has one service, and each
-/// bridge but the centre of a star has a customer port. A broadcast comes in at the first of these. Comments tell what each
-/// part is for. With the numbers that [`Shape`] tells it is a plan that `read_plan` takes.
+/// Writes a plan file to begin with, by one `write_all`: its bridges are joined in this topology, it has one service,
+/// and each bridge but the centre of a star has a customer port. A broadcast comes in at the first of these. Comments
+/// tell what each part is for. With the numbers that [`Topology`] states it is a plan that `read_plan` takes.
 ///
 /// `Memory` is answered where memory ran out for the text, and then nothing was written; `Write` where a write
 /// failed, and then nothing is said of what was written. No other fault comes.
-pub fn write_plan<W: Write>(alloc: Global, shape: Shape, writer: &mut W) -> Result<(), CommandFault>
-    ensures ok { OnOk result (Appends (W.contents writer.old) (W.contents writer.new) (plan_text shape)) }
+pub fn write_plan<W: Write>(
+    alloc: Global,
+    topology: Topology,
+    writer: &mut W,
+) -> Result<(), CommandFault>
+    ensures ok { OnOk result (Appends (W.contents writer.old) (W.contents writer.new) (plan_text topology)) }
     ensures kinds { IfErr result (λ e. (e ≡ CommandFault.Write) ⊎ (e ≡ CommandFault.Memory)) }
     ensures none { IfErr result (λ e. e ≢ CommandFault.Write → Keeps (W.contents writer.old) (W.contents writer.new)) }
 {
     let mut out = String::new(alloc);
-    put_plan(alloc, &mut out, shape)?;
+    put_plan(alloc, &mut out, topology)?;
     if writer.write_all(out.as_bytes()).is_err() || writer.flush().is_err() {
         return Err(CommandFault::Write);
     }

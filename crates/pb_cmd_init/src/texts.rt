@@ -1,9 +1,10 @@
 //! The parts of a plan file of which there is one.
 
 ghost use Rattle.std.specs.Prelude.{◌≡◌, ◌++◌, string_bytes, OnOk};
-ghost use Rattle.pb_cmd_init.specs.PlanTexts.{head_text, keys_text, places_text, service_text, capture_text, socket_text, kinds_text};
+ghost use Rattle.pb_cmd_init.specs.PlanTexts.{head_text, keys_text, places_text, service_text};
+ghost use Rattle.pb_cmd_init.specs.PlanTexts.{capture_text, socket_text, kinds_text};
 
-use crate::shape::Shape;
+use crate::topology::Topology;
 use pb_frame::Memory;
 
 /// What the file is, and how to go on.
@@ -59,21 +60,22 @@ const KINDS: &str = "\
 # a Unix socket. The file to read has to be there, and a peer has to listen at the socket.\n";
 
 /// The keys of the network.
-fn keys_of(shape: Shape) -> &'static str
-    ensures { result.now ≡ keys_text shape }
+fn keys_of(topology: Topology) -> &'static str
+    ensures { result.now ≡ keys_text topology }
 {
-    match shape {
-        Shape::Line(_) | Shape::Star(_) => FIXED,
-        Shape::Ring(_) => RSTP,
+    match topology {
+        Topology::Line(_) | Topology::Star(_) => FIXED,
+        Topology::Ring(_) => RSTP,
     }
 }
 
 /// All that stands before the bridges.
-pub(crate) fn put_head(out: &mut String, shape: Shape) -> Result<(), Memory>
-    ensures { OnOk result (string_bytes out.new ≡ string_bytes out.old ++ (head_text ++ keys_text shape ++ places_text)) }
+pub(crate) fn put_head(out: &mut String, topology: Topology) -> Result<(), Memory>
+    ensures { OnOk result (string_bytes out.new ≡ string_bytes out.old
+        ++ (head_text ++ keys_text topology ++ places_text)) }
 {
     out.push_str(HEAD)?;
-    out.push_str(keys_of(shape))?;
+    out.push_str(keys_of(topology))?;
     out.push_str(PLACES)?;
     Ok(())
 }
@@ -92,7 +94,8 @@ fn put_capture(out: &mut String, bridge: u8) -> Result<(), Memory>
 {
     write!(
         out,
-        "\n#[[port]]\n#name = \"capture\"\n#bridge = \"B{bridge}\"\n#port = 4\n#service = \"red\"\n#kind = \"capture\"\n#read = \"in.pcap\"\n#write = \"out.pcap\"\n"
+        "\n#[[port]]\n#name = \"capture\"\n#bridge = \"B{bridge}\"\n#port = 4\n#service = \"red\"\n\
+        #kind = \"capture\"\n#read = \"in.pcap\"\n#write = \"out.pcap\"\n"
     )?;
     Ok(())
 }
@@ -103,7 +106,8 @@ fn put_socket(out: &mut String, bridge: u8) -> Result<(), Memory>
 {
     write!(
         out,
-        "\n#[[port]]\n#name = \"socket\"\n#bridge = \"B{bridge}\"\n#port = 5\n#service = \"red\"\n#kind = \"socket\"\n#path = \"port.sock\"\n"
+        "\n#[[port]]\n#name = \"socket\"\n#bridge = \"B{bridge}\"\n#port = 5\n#service = \"red\"\n#kind = \"socket\"\n\
+        #path = \"port.sock\"\n"
     )?;
     Ok(())
 }

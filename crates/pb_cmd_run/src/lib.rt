@@ -7,21 +7,21 @@ mod input;
 mod linger;
 mod network;
 mod network_fault;
-mod options;
 mod outside;
 mod pcapng;
 mod peer;
 mod report;
+mod settings;
 mod system;
 mod telling;
 mod watched;
 
 pub use network::run_network;
 pub use network_fault::NetworkFault;
-pub use options::RunOptions;
-pub use pb_run_control::{Opening, Traffic, Watch};
+pub use pb_run_control::{Opening, RunProgress, Traffic};
 pub use pb_run_losses::{Strictness, lost_of};
 pub use pb_run_ports::{
     Deed, FileUser, OpenFault, Opened, Openings, PathFault, SharedFile, Verb, open_all,
 };
 pub use report::write_report;
+pub use settings::RunSettings;

@@ -17,11 +17,11 @@ ghost use Rattle.pb_run_losses.specs.declared.strictness.Strictness.TheVariants.
 use crate::completing::{CaptureFiles, complete_all};
 use crate::linger::{Lingering, lingered};
 use crate::network_fault::NetworkFault;
-use crate::options::RunOptions;
 use crate::outside::{Outside, SystemPort, open_ports};
 use crate::pcapng::show_pcapng;
 use crate::peer::remove_sockets;
 use crate::report::write_report;
+use crate::settings::RunSettings;
 use crate::watched::Watched;
 use pb_control_socket::Control;
 use pb_frame::Memory;
@@ -29,7 +29,7 @@ use pb_history::Tallies;
 use pb_lan::{Limits, Plan, Spanning};
 use pb_report::write_refusal;
 use pb_run::{Held, Ran, run_set};
-use pb_run_control::{Steering, Traffic, Watch};
+use pb_run_control::{RunProgress, Steering, Traffic};
 use pb_run_losses::{Strictness, exit_status, is_whole, lost_of};
 use pb_service::{PlanFault, PlanFile, PortSpec, read_plan_file};
 use std::alloc::Global;
@@ -120,9 +120,9 @@ fn plug<R: Files + Net, G, E: Write>(
 
 /// Whether frames wait until the bridges have settled: where that is asked for, and the bridges decide the states of their
 /// ports, by clocks that tick.
-fn waits_for(options: &RunOptions<'_>, plan: &Plan, limits: Limits) -> bool {
+fn waits_for(settings: &RunSettings<'_>, plan: &Plan, limits: Limits) -> bool {
     let has_clock = limits.tick_every > 0 || limits.tick_ms > 0;
-    options.settles && has_clock && plan.spanning == Spanning::Rstp
+    settings.settles && has_clock && plan.spanning == Spanning::Rstp
 }
 
 /// Tells how many events of the plan have not come, where there are some: the run was over before.
@@ -175,7 +175,7 @@ fn tell<W: Write, E: Write>(
 /// where there was none for the text of the report, once the run is over. `Spawn` is answered where a thread could
 /// not be started, and then nothing has run; `Write` where the report could not be written. After any fault but
 /// `Write`, nothing was written to `writer`. `Ports` is never answered: there are as many ports as customer ports.
-fn run_ports<R, G: Watch, W: Write, E: Write>(
+fn run_ports<R, G: RunProgress, W: Write, E: Write>(
     rt: &R,
     alloc: Global,
     plan: &Plan,
@@ -221,14 +221,14 @@ where
 
 /// Runs a plan with the ports that it tells, as [`run_network`] does, once they are open. The faults are those of
 /// [`run_ports`], and `Path` where a port can't be opened.
-fn run_opened<R, G: Watch, W: Write, E: Write>(
+fn run_opened<R, G: RunProgress, W: Write, E: Write>(
     rt: &R,
     alloc: Global,
     plan: &Plan,
     specs: Vec<PortSpec>,
     limits: Limits,
     strictness: Strictness,
-    options: &RunOptions<'_>,
+    settings: &RunSettings<'_>,
     traffic: &Arc<Traffic, Global>,
     gate: &G,
     writer: &mut W,
@@ -243,10 +243,10 @@ where
     ensures none { IfErr result (λ e. e ≢ NetworkFault.Write → Keeps (W.contents writer.old) (W.contents writer.new)) }
 {
     let lingering = Lingering {
-        millis: options.linger,
+        millis: settings.linger,
         traffic,
     };
-    let path = options.plan;
+    let path = settings.plan;
     let outside = open_ports(rt, alloc, path, plan, specs, limits, traffic, errors)?;
     let Outside {
         ports,
@@ -276,7 +276,7 @@ where
 /// Where the file is no plan, the rule that it breaks is written as `check` does, and
 /// the answer is 1.
 ///
-/// Once a run is over, its ports have a while to write what still waits in them, as the options say. A file to which nothing
+/// Once a run is over, its ports have a while to write what still waits in them, as the settings say. A file to which nothing
 /// left is made a capture without records then, or `errors` is told why it can't be; sockets that ports have made are
 /// removed; and `errors` is told which inputs are pcapng.
 ///
@@ -287,12 +287,12 @@ where
 /// `Write` where a write to `writer` failed. Nothing has run after `Path` and `Spawn`, and they come only where the
 /// file is a plan. After any fault but `Write`, nothing was written to `writer`; after `Write` nothing is said of
 /// what was. `Ports` is never answered, since a plan file has as many ports as its plan.
-pub fn run_network<R, G: Watch, W: Write, E: Write>(
+pub fn run_network<R, G: RunProgress, W: Write, E: Write>(
     rt: &R,
     alloc: Global,
     file: &[u8],
     strictness: Strictness,
-    options: &RunOptions<'_>,
+    settings: &RunSettings<'_>,
     traffic: &Arc<Traffic, Global>,
     gate: &G,
     writer: &mut W,
@@ -314,11 +314,11 @@ where
                 events,
             },
         ) => {
-            let waits = waits_for(options, &plan, limits);
+            let waits = waits_for(settings, &plan, limits);
             let steering = Steering::new(alloc, gate, &plan, traffic, events, waits)?;
-            plug(rt, alloc, options.control, &steering, errors)?;
+            plug(rt, alloc, settings.control, &steering, errors)?;
             let ran = run_opened(
-                rt, alloc, &plan, ports, limits, strictness, options, traffic, &steering, writer,
+                rt, alloc, &plan, ports, limits, strictness, settings, traffic, &steering, writer,
                 errors,
             );
             steering.unplug(rt);

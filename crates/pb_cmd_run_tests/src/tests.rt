@@ -22,7 +22,9 @@ mod sheet;
 mod times;
 
 use self::sheet::Sheet;
-use pb_cmd_run::{NetworkFault, Opening, RunOptions, Strictness, Traffic, Watch, run_network};
+use pb_cmd_run::{
+    NetworkFault, Opening, RunProgress, RunSettings, Strictness, Traffic, run_network,
+};
 use pb_lan::Place;
 use pb_run::{Gate, Go};
 use std::alloc::{AllocError, Global};
@@ -84,7 +86,7 @@ impl Gate for Door {
     }
 }
 
-impl Watch for Door {
+impl RunProgress for Door {
     fn open(&self, _opening: Opening) {}
 
     fn close(&self) {
@@ -124,7 +126,7 @@ where
 {
     let traffic = no_traffic(alloc)?;
     let file = file.as_bytes();
-    let options = RunOptions {
+    let settings = RunSettings {
         plan: manner.path,
         control: None,
         settles: false,
@@ -132,7 +134,7 @@ where
     };
     let strictness = manner.strictness;
     let result = run_network(
-        rt, alloc, file, strictness, &options, &traffic, door, writer, errors,
+        rt, alloc, file, strictness, &settings, &traffic, door, writer, errors,
     );
     Ok(Told {
         result,

@@ -2,7 +2,7 @@ pub mod Failures
 pub mod Reach
 pub mod Groups
 pub mod Views
-pub mod Outcomes
+pub mod Impacts
 pub mod Reports
 pub mod Scopes
 pub mod Survivals

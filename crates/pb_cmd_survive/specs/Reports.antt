@@ -8,7 +8,7 @@ use Rattle.pb_converge.specs.declared.rest.Rest.{Rest}
 use Rattle.pb_converge.specs.declared.rest.Rest.TheVariants.{Given, Settled, Unsettled}
 use Rattle.pb_cmd_survive.specs.declared.failure.Failure.{Failure}
 use Rattle.pb_cmd_survive.specs.declared.failure.Failure.TheVariants.{Nothing, Link, Pair, Bridge}
-use Rattle.pb_cmd_survive.specs.declared.outcome.Outcome.{Outcome}
+use Rattle.pb_cmd_survive.specs.declared.impact.Impact.{Impact}
 use Rattle.pb_cmd_survive.specs.declared.sites.Site.{Site}
 use Rattle.pb_cmd_survive.specs.declared.view.View.{View}
 
@@ -32,7 +32,7 @@ are_forests views = list_all (λ v. v.is_forest) views
 abbrev pub forest_text : List View → List ℕ
 forest_text views = if are_forests views then codes " forest yes" else codes " forest no"
 
-abbrev pub head_line : Plan → Outcome → List ℕ
+abbrev pub head_line : Plan → Impact → List ℕ
 head_line plan o = failure_text plan o.failure ++ codes ": " ++ rest_text o.rest ++ forest_text o.views ++ 10 ∷ []
 
 -- the ports of a group, each behind a space
@@ -74,7 +74,7 @@ abbrev pub parts_view : Option ℕ → (View × View) → Bool
 parts_view from v = list_any (is_lost from (zip v.0.sites v.1.sites)) (zip v.0.sites v.1.sites)
 
 -- it parts some service
-abbrev pub parts : Option ℕ → Outcome → Outcome → Bool
+abbrev pub parts : Option ℕ → Impact → Impact → Bool
 parts from base o = list_any (parts_view from) (zip base.views o.views)
 
 -- what is read behind the end of a list
@@ -101,7 +101,7 @@ abbrev pub view_text : Plan → Option ℕ → (View × View) → List ℕ
 view_text plan from v = loop_line plan v.1 ++ (if parts_view from v then parting_line plan from v else [])
 
 -- with nothing down, each is told
-abbrev pub whole_text : Plan → Outcome → List ℕ
+abbrev pub whole_text : Plan → Impact → List ℕ
 whole_text plan o = head_line plan o ++ flat_map (λ v. loop_line plan v ++ service_line plan v) o.views
 
 abbrev pub is_settled : Rest → Bool
@@ -110,12 +110,12 @@ is_settled (Settled ticks) = true
 is_settled (Unsettled ticks) = false
 
 -- the failure changes nothing: the bridges settle, no service has a ring, and none is parted
-abbrev pub is_quiet : Option ℕ → Outcome → Outcome → Bool
+abbrev pub is_quiet : Option ℕ → Impact → Impact → Bool
 is_quiet from base o = is_settled o.rest && are_forests o.views && not (parts from base o)
 
 -- one that changes something is told
-abbrev pub outcome_text : Plan → Option ℕ → Outcome → Outcome → List ℕ
-outcome_text plan from base o =
+abbrev pub impact_text : Plan → Option ℕ → Impact → Impact → List ℕ
+impact_text plan from base o =
     if is_quiet from base o then [] else head_line plan o ++ flat_map (view_text plan from) (zip base.views o.views)
 
 -- the ticks after which the bridges settled
@@ -124,11 +124,11 @@ ticks_of Given = 0
 ticks_of (Settled ticks) = ticks
 ticks_of (Unsettled ticks) = ticks
 
-abbrev pub quiet_ticks : Option ℕ → Outcome → Outcome → ℕ
+abbrev pub quiet_ticks : Option ℕ → Impact → Impact → ℕ
 quiet_ticks from base o = if is_quiet from base o then ticks_of o.rest else 0
 
 -- the most that it took after a failure that changes nothing
-abbrev pub slowest : Option ℕ → Outcome → List Outcome → ℕ
+abbrev pub slowest : Option ℕ → Impact → List Impact → ℕ
 slowest from base [] = 0
 slowest from base (o ∷ os) = max (quiet_ticks from base o) (slowest from base os)
 
@@ -147,8 +147,8 @@ abbrev pub verdict_line : ℕ → ℕ → List ℕ
 verdict_line parting all = if parting == 0 then codes "survives every single failure" ++ 10 ∷ [] else parting_count_line parting all
 
 -- the report on a network with nothing down, and under failures
-abbrev pub report_text : Plan → Option ℕ → Outcome → List Outcome → List ℕ
-report_text plan from base outcomes =
-    whole_text plan base ++ flat_map (outcome_text plan from base) outcomes
-    ++ quiet_line (count_by (is_quiet from base) outcomes) (length outcomes) (slowest from base outcomes)
-    ++ verdict_line (count_by (parts from base) outcomes) (length outcomes)
+abbrev pub report_text : Plan → Option ℕ → Impact → List Impact → List ℕ
+report_text plan from base impacts =
+    whole_text plan base ++ flat_map (impact_text plan from base) impacts
+    ++ quiet_line (count_by (is_quiet from base) impacts) (length impacts) (slowest from base impacts)
+    ++ verdict_line (count_by (parts from base) impacts) (length impacts)

@@ -5,11 +5,11 @@ use Rattle.pb_report.specs.Refusals.{IsRefusalText}
 use Rattle.pb_service.specs.PlanFiles.{Tells, IsPlanOf}
 use Rattle.pb_service.specs.declared.port_spec.PortSpec.{PortSpec}
 use Rattle.pb_cmd_survive.specs.Failures.{all_failures}
-use Rattle.pb_cmd_survive.specs.Outcomes.{IsOutcome, AreOutcomes}
+use Rattle.pb_cmd_survive.specs.Impacts.{IsImpact, AreImpacts}
 use Rattle.pb_cmd_survive.specs.Reports.{parts, report_text}
 use Rattle.pb_cmd_survive.specs.Scopes.{services_of, from_of, is_found, no_such_line}
 use Rattle.pb_cmd_survive.specs.declared.failure.Failure.TheVariants.{Nothing}
-use Rattle.pb_cmd_survive.specs.declared.outcome.Outcome.{Outcome}
+use Rattle.pb_cmd_survive.specs.declared.impact.Impact.{Impact}
 use Rattle.pb_cmd_survive.specs.declared.survive.Asked.{Asked}
 
 -- the most events besides ticks that settling takes
@@ -23,12 +23,12 @@ status_of parting = if parting == 0 then 0 else 4
 -- the report on the plan's network with nothing down, and under each failure that is asked for
 pub record IsReport (plan : Plan) (asked : Asked) (status : ℕ) (text : List ℕ) : Type 0 where
   pub found : is_found plan asked.scope ≡ true
-  pub base : Outcome
-  pub is_base : IsOutcome plan (services_of plan asked.scope) asked.ticks most_events Nothing base
-  pub outcomes : List Outcome
-  pub are_outcomes : AreOutcomes plan (services_of plan asked.scope) asked.ticks most_events (all_failures plan asked.kinds) outcomes
-  pub text_is : text ≡ report_text plan (from_of plan asked.scope) base outcomes
-  pub status_is : status ≡ status_of (count_by (parts (from_of plan asked.scope) base) outcomes)
+  pub base : Impact
+  pub is_base : IsImpact plan (services_of plan asked.scope) asked.ticks most_events Nothing base
+  pub impacts : List Impact
+  pub are_impacts : AreImpacts plan (services_of plan asked.scope) asked.ticks most_events (all_failures plan asked.kinds) impacts
+  pub text_is : text ≡ report_text plan (from_of plan asked.scope) base impacts
+  pub status_is : status ≡ status_of (count_by (parts (from_of plan asked.scope) base) impacts)
 
 -- the plan has not what is named
 pub record IsLacking (plan : Plan) (asked : Asked) (status : ℕ) (text : List ℕ) : Type 0 where

@@ -8,7 +8,7 @@ ghost use Rattle.pb_net.specs.Answers.{HaveRun};
 ghost use Rattle.pb_relay.specs.Protocol.{spanning_tree};
 ghost use Rattle.pb_converge.specs.Drives.{HasRested};
 ghost use Rattle.pb_cmd_survive.specs.Failures.{downs, downs_of, is_hit, set_down};
-ghost use Rattle.pb_cmd_survive.specs.Outcomes.{HasFailedFrom, IsDriven};
+ghost use Rattle.pb_cmd_survive.specs.Impacts.{HasFailedFrom, IsDriven};
 
 use crate::failure::Failure;
 use pb_converge::{DriveFault, Rest, settle};
@@ -104,7 +104,8 @@ fn fail(
     requires sound { IsSound plan.now }
     requires plan { net.old.plan ≡ plan.now }
     ensures plan { OnOk result (net.new.plan ≡ plan.now) }
-    ensures ok { IfOk result (λ rest. HasFailedFrom plan.now patience.ticks patience.events failure net.old rest net.new) }
+    ensures ok { IfOk result (λ rest.
+        HasFailedFrom plan.now patience.ticks patience.events failure net.old rest net.new) }
 {
     take_down(alloc, net, plan, failure)?;
     settle(alloc, net, plan, patience.ticks, patience.events)

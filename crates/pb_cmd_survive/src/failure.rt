@@ -4,7 +4,8 @@ ghost use Rattle.std.specs.Prelude.{◌≡◌, ◌+◌, ◌++◌, ◌<◌, map, 
 ghost use Rattle.pb_lan.specs.Numbering.{numbers_from};
 ghost use Rattle.pb_lan.specs.Plans.{IsSound};
 ghost use Rattle.pb_cmd_survive.specs.Failures.{all_failures, pairs_of};
-ghost use Rattle.pb_cmd_survive.specs.declared.failure.Failure.TheVariants.{Link as link_fails, Pair as pair_fails, Bridge as bridge_fails};
+ghost use Rattle.pb_cmd_survive.specs.declared.failure.Failure.TheVariants.{Link as link_fails, Pair as pair_fails};
+ghost use Rattle.pb_cmd_survive.specs.declared.failure.Failure.TheVariants.{Bridge as bridge_fails};
 
 use pb_frame::Memory;
 use pb_lan::{BridgePlan, LinkPlan, Plan};
@@ -62,7 +63,8 @@ fn put_with(
     later: &[LinkPlan],
 ) -> Result<(), Memory>
     requires { before + length later.now < 256 }
-    ensures { OnOk result (failures.new.items ≡ failures.old.items ++ map (pair_fails link) (numbers_from (before + 1) later.now)) }
+    ensures { OnOk result (failures.new.items ≡ failures.old.items
+        ++ map (pair_fails link) (numbers_from (before + 1) later.now)) }
 {
     for (place, _) in later.iter().enumerate() {
         failures.push(Failure::Pair(link, (before + place) as u8 + 1))?;

@@ -3,25 +3,25 @@
 
 mod drive;
 mod failure;
+mod impact;
 mod look;
 mod marks;
-mod outcome;
 mod parting;
+mod progress;
 mod report;
 mod scope;
 mod sites;
 mod survive;
 mod totals;
 mod view;
-mod watch;
 
 pub use drive::Patience;
 pub use failure::{Failure, Kinds, failures};
+pub use impact::Impact;
 pub use look::{look_at, look_at_all};
-pub use outcome::Outcome;
+pub use progress::FailureProgress;
 pub use report::put_report;
 pub use scope::Scope;
 pub use sites::{Site, groups};
 pub use survive::{Asked, run_survive};
 pub use view::{View, views};
-pub use watch::Watch;

@@ -2,15 +2,15 @@
 
 ghost use Rattle.std.specs.Prelude.{◌≡◌, IfOk};
 ghost use Rattle.pb_lan.specs.Plans.{IsSound};
-ghost use Rattle.pb_cmd_survive.specs.Outcomes.{IsOutcome, AreOutcomes};
+ghost use Rattle.pb_cmd_survive.specs.Impacts.{IsImpact, AreImpacts};
 ghost use Rattle.pb_lan.specs.LastShapes.{last_shape};
 ghost use Rattle.pb_cmd_survive.specs.Views.{AreViews};
 
 use crate::drive::{Patience, drive};
 use crate::failure::Failure;
-use crate::outcome::Outcome;
+use crate::impact::Impact;
+use crate::progress::FailureProgress;
 use crate::view::{View, views};
-use crate::watch::Watch;
 use pb_converge::{DriveFault, fresh, shape_of};
 use pb_frame::Memory;
 use pb_lan::{Plan, Record, Seq};
@@ -50,23 +50,23 @@ pub fn look_at(
     services: &[u8],
     failure: Failure,
     patience: Patience,
-) -> Result<Outcome, DriveFault>
+) -> Result<Impact, DriveFault>
     requires { IsSound plan.now }
-    ensures { IfOk result (IsOutcome plan.now services.now patience.ticks patience.events failure) }
+    ensures { IfOk result (IsImpact plan.now services.now patience.ticks patience.events failure) }
 {
     let mut net = fresh(alloc, plan)?;
     let rest = drive(alloc, &mut net, plan, failure, patience)?;
     let rec = net.finish();
     let views = last_views(alloc, plan, &rec, failure, services)?;
-    Ok(Outcome {
+    Ok(Impact {
         failure,
         rest,
         views,
     })
 }
 
-/// What comes of one of several failures, as [`look_at`] finds out, or the fault that another look has met before. The first
-/// fault that is met is kept in `met`.
+/// What comes of one of several failures, as [`look_at`] finds out, or the fault that another look has met before. The
+/// first fault that is met is kept in `met`.
 fn look_unless_met(
     alloc: Global,
     plan: &Plan,
@@ -74,9 +74,9 @@ fn look_unless_met(
     failure: Failure,
     patience: Patience,
     met: &OnceLock<DriveFault>,
-) -> Result<Outcome, DriveFault>
+) -> Result<Impact, DriveFault>
     requires { IsSound plan.now }
-    ensures { IfOk result (IsOutcome plan.now services.now patience.ticks patience.events failure) }
+    ensures { IfOk result (IsImpact plan.now services.now patience.ticks patience.events failure) }
 {
     if let Some(fault) = met.get() {
         return Err(*fault);
@@ -90,40 +90,42 @@ fn look_unless_met(
 
 /// What comes of each of these failures, each as [`look_at`] finds out, in their order.
 ///
-/// They are looked at side by side, by as many threads as there are processors or two times as many; where a thread can't be
-/// started, what it was to do is done in turn. `watch` is told of each failure that was looked at. The faults are those of
-/// [`look_at`]: once one is met no further look begins, and one that was met is answered.
-pub fn look_at_all<R: Threads + Sync, V: Watch>(
+/// They are looked at side by side, by as many threads as there are processors or two times as many; where a thread
+/// can't be started, what it was to do is done in turn. `progress` is told of each failure that was looked at. The
+/// faults are those of [`look_at`]: once one is met no further look begins, and one that was met is answered.
+pub fn look_at_all<R: Threads + Sync, V: FailureProgress>(
     rt: &R,
     alloc: Global,
     plan: &Plan,
     services: &[u8],
     failures: &[Failure],
     patience: Patience,
-    watch: &V,
-) -> Result<Vec<Outcome>, DriveFault>
+    progress: &V,
+) -> Result<Vec<Impact>, DriveFault>
     requires { IsSound plan.now }
-    ensures { IfOk result (λ outcomes. AreOutcomes plan.now services.now patience.ticks patience.events failures.now outcomes.items) }
+    ensures { IfOk result (λ impacts.
+        AreImpacts plan.now services.now patience.ticks patience.events failures.now impacts.items) }
 {
     let all = failures.len();
     let fault = OnceLock::new();
     let met = &fault;
-    let looked: Result<Result<Vec<Outcome>, DriveFault>, AllocError> = failures
+    let looked: Result<Result<Vec<Impact>, DriveFault>, AllocError> = failures
         .par_iter()
         .with_min_len(1)
         .map(
-            |failure: &Failure| -> Result<Outcome, DriveFault>
+            |failure: &Failure| -> Result<Impact, DriveFault>
                 requires { IsSound plan.now }
-                ensures { IfOk result (IsOutcome plan.entry.now services.entry.now patience.ticks patience.events failure.now) }
+                ensures { IfOk result (IsImpact plan.entry.now services.entry.now patience.ticks patience.events
+                    failure.now) }
             {
                 let looked = look_unless_met(alloc, plan, services, *failure, patience, met);
-                watch.looked(all);
+                progress.looked(all);
                 looked
             },
         )
         .collect(rt, alloc);
     match looked {
-        Ok(outcomes) => outcomes,
+        Ok(impacts) => impacts,
         Err(_) => Err(DriveFault::Memory),
     }
 }

@@ -25,7 +25,8 @@ fn replaced(gone: u8, kept: u8, mark: u8) -> u8
 fn join(marks: &mut [u8; 32], into: usize, from: usize)
     requires into { into < 32 }
     requires from { from < 32 }
-    ensures { marks.new ≡ map (λ m. if m == slice_index marks.old from then slice_index marks.old into else m) marks.old }
+    ensures { marks.new ≡ map (λ m. if m == slice_index marks.old from then slice_index marks.old into else m)
+        marks.old }
 {
     let (kept, gone) = (marks[into], marks[from]);
     for mark in marks.iter_mut() {

@@ -2,9 +2,10 @@
 
 ghost use Rattle.std.specs.Prelude.{◌≡◌, ◌==◌, ◌&&◌, not};
 ghost use Rattle.std.specs.List.{list_any, list_all, zip};
-ghost use Rattle.pb_cmd_survive.specs.Reports.{is_parted, is_asked, is_lost, parts_view, parts, are_forests, is_settled, is_quiet};
+ghost use Rattle.pb_cmd_survive.specs.Reports.{is_parted, is_asked, is_lost, parts_view};
+ghost use Rattle.pb_cmd_survive.specs.Reports.{parts, are_forests, is_settled, is_quiet};
 
-use crate::outcome::Outcome;
+use crate::impact::Impact;
 use crate::sites::Site;
 use crate::view::View;
 use pb_converge::Rest;
@@ -42,13 +43,13 @@ pub(crate) fn parts_view(from: Option<u8>, old: &View, new: &View) -> bool
 }
 
 /// Whether a failure parts some service.
-pub(crate) fn parts(from: Option<u8>, base: &Outcome, outcome: &Outcome) -> bool
-    ensures { result ≡ parts from base.now outcome.now }
+pub(crate) fn parts(from: Option<u8>, base: &Impact, impact: &Impact) -> bool
+    ensures { result ≡ parts from base.now impact.now }
 {
     base.views
         .as_slice()
         .iter()
-        .zip(outcome.views.as_slice().iter())
+        .zip(impact.views.as_slice().iter())
         .any(|(old, new)| parts_view(from, old, new))
 }
 
@@ -70,8 +71,8 @@ fn is_settled(rest: Rest) -> bool
 }
 
 /// Whether a failure changes nothing that is told.
-pub(crate) fn is_quiet(from: Option<u8>, base: &Outcome, outcome: &Outcome) -> bool
-    ensures { result ≡ is_quiet from base.now outcome.now }
+pub(crate) fn is_quiet(from: Option<u8>, base: &Impact, impact: &Impact) -> bool
+    ensures { result ≡ is_quiet from base.now impact.now }
 {
-    is_settled(outcome.rest) && are_forests(outcome.views.as_slice()) && !parts(from, base, outcome)
+    is_settled(impact.rest) && are_forests(impact.views.as_slice()) && !parts(from, base, impact)
 }

@@ -1,11 +1,15 @@
 //! The report on a network under failures.
 
-ghost use Rattle.std.specs.Prelude.{◌≡◌, ◌<◌, ◌++◌, flat_map, length, slice_index_or, count_by, string_bytes, IfOk, OnOk};
+ghost use Rattle.std.specs.Prelude.{◌≡◌, ◌<◌, ◌++◌, flat_map, length, slice_index_or};
+ghost use Rattle.std.specs.Prelude.{count_by, string_bytes, IfOk, OnOk};
 ghost use Rattle.std.specs.List.{zip};
-ghost use Rattle.pb_cmd_survive.specs.Reports.{failure_text, rest_text, forest_text, head_line, member_text, group_text, later_text, groups_text, service_line, loop_line, lost_text, cut_off_line, parting_line, view_text, whole_text, outcome_text, no_site, parts, report_text};
+ghost use Rattle.pb_cmd_survive.specs.Reports.{failure_text, rest_text, forest_text, head_line, member_text};
+ghost use Rattle.pb_cmd_survive.specs.Reports.{group_text, later_text, groups_text, service_line, loop_line, lost_text};
+ghost use Rattle.pb_cmd_survive.specs.Reports.{cut_off_line, parting_line, view_text, whole_text, impact_text, no_site};
+ghost use Rattle.pb_cmd_survive.specs.Reports.{parts, report_text};
 
 use crate::failure::Failure;
-use crate::outcome::Outcome;
+use crate::impact::Impact;
 use crate::parting::{are_forests, is_lost, is_quiet, parts_view};
 use crate::sites::Site;
 use crate::totals::{count_parting, put_all_quiet, put_verdict};
@@ -56,13 +60,13 @@ fn put_forest(out: &mut String, views: &[View]) -> Result<(), Memory>
 }
 
 /// The line of a failure.
-fn put_head(out: &mut String, plan: &Plan, outcome: &Outcome) -> Result<(), Memory>
-    ensures { OnOk result (string_bytes out.new ≡ string_bytes out.old ++ head_line plan.now outcome.now) }
+fn put_head(out: &mut String, plan: &Plan, impact: &Impact) -> Result<(), Memory>
+    ensures { OnOk result (string_bytes out.new ≡ string_bytes out.old ++ head_line plan.now impact.now) }
 {
-    put_failure(out, plan, outcome.failure)?;
+    put_failure(out, plan, impact.failure)?;
     out.push_str(": ")?;
-    put_rest(out, outcome.rest)?;
-    put_forest(out, outcome.views.as_slice())?;
+    put_rest(out, impact.rest)?;
+    put_forest(out, impact.views.as_slice())?;
     out.push_str("\n")?;
     Ok(())
 }
@@ -81,7 +85,8 @@ fn put_group(out: &mut String, plan: &Plan, sites: &[Site], group: u8) -> Result
 
 /// The groups of those ports that are the first of theirs.
 fn put_later(out: &mut String, plan: &Plan, sites: &[Site], later: &[Site]) -> Result<(), Memory>
-    ensures { OnOk result (string_bytes out.new ≡ string_bytes out.old ++ flat_map (later_text plan.now sites.now) later.now) }
+    ensures { OnOk result (string_bytes out.new ≡ string_bytes out.old
+        ++ flat_map (later_text plan.now sites.now) later.now) }
 {
     for site in later {
         if site.group == site.port {
@@ -136,7 +141,11 @@ fn put_one_lost(
 ) -> Result<(), Memory>
     requires was { place < length before.now }
     requires is { place < length now.now }
-    ensures { OnOk result (string_bytes out.new ≡ string_bytes out.old ++ lost_text plan.now from (zip before.now now.now) (slice_index_or before.now place no_site, slice_index_or now.now place no_site)) }
+    ensures { OnOk result (string_bytes out.new ≡ string_bytes out.old
+        ++ lost_text plan.now from (zip before.now now.now) (
+          slice_index_or before.now place no_site,
+          slice_index_or now.now place no_site,
+        )) }
 {
     let (was, is) = (before[place], now[place]);
     if is_lost(from, before, now, was, is) {
@@ -153,7 +162,8 @@ fn put_lost(
     before: &[Site],
     now: &[Site],
 ) -> Result<(), Memory>
-    ensures { OnOk result (string_bytes out.new ≡ string_bytes out.old ++ flat_map (lost_text plan.now from (zip before.now now.now)) (zip before.now now.now)) }
+    ensures { OnOk result (string_bytes out.new ≡ string_bytes out.old
+        ++ flat_map (lost_text plan.now from (zip before.now now.now)) (zip before.now now.now)) }
 {
     for place in 0..before.len().min(now.len()) {
         put_one_lost(out, plan, from, before, now, place)?;
@@ -169,7 +179,8 @@ fn put_cut_off(
     old: &View,
     new: &View,
 ) -> Result<(), Memory>
-    ensures { OnOk result (string_bytes out.new ≡ string_bytes out.old ++ cut_off_line plan.now port (old.now, new.now)) }
+    ensures { OnOk result (string_bytes out.new ≡ string_bytes out.old
+        ++ cut_off_line plan.now port (old.now, new.now)) }
 {
     write!(out, "  {} cut off from:", port_name(plan, port))?;
     let (before, now) = (old.sites.as_slice(), new.sites.as_slice());
@@ -186,7 +197,8 @@ fn put_parting(
     old: &View,
     new: &View,
 ) -> Result<(), Memory>
-    ensures { OnOk result (string_bytes out.new ≡ string_bytes out.old ++ parting_line plan.now from (old.now, new.now)) }
+    ensures { OnOk result (string_bytes out.new ≡ string_bytes out.old
+        ++ parting_line plan.now from (old.now, new.now)) }
 {
     match from {
         None => put_service(out, plan, new),
@@ -219,7 +231,8 @@ fn put_views(
     old: &[View],
     new: &[View],
 ) -> Result<(), Memory>
-    ensures { OnOk result (string_bytes out.new ≡ string_bytes out.old ++ flat_map (view_text plan.now from) (zip old.now new.now)) }
+    ensures { OnOk result (string_bytes out.new ≡ string_bytes out.old
+        ++ flat_map (view_text plan.now from) (zip old.now new.now)) }
 {
     for place in 0..old.len().min(new.len()) {
         put_view(out, plan, from, &old[place], &new[place])?;
@@ -228,52 +241,54 @@ fn put_views(
 }
 
 /// What is told with nothing down.
-fn put_whole(out: &mut String, plan: &Plan, outcome: &Outcome) -> Result<(), Memory>
-    ensures { OnOk result (string_bytes out.new ≡ string_bytes out.old ++ whole_text plan.now outcome.now) }
+fn put_whole(out: &mut String, plan: &Plan, impact: &Impact) -> Result<(), Memory>
+    ensures { OnOk result (string_bytes out.new ≡ string_bytes out.old ++ whole_text plan.now impact.now) }
 {
-    put_head(out, plan, outcome)?;
-    for view in outcome.views.as_slice() {
+    put_head(out, plan, impact)?;
+    for view in impact.views.as_slice() {
         put_loop(out, plan, view)?;
         put_service(out, plan, view)?;
     }
     Ok(())
 }
 
-/// What is told of a failure.
-fn put_outcome(
+/// Appends the impact of a failure to a text.
+fn put_impact(
     out: &mut String,
     plan: &Plan,
     from: Option<u8>,
-    base: &Outcome,
-    outcome: &Outcome,
+    base: &Impact,
+    impact: &Impact,
 ) -> Result<(), Memory>
-    ensures { OnOk result (string_bytes out.new ≡ string_bytes out.old ++ outcome_text plan.now from base.now outcome.now) }
+    ensures { OnOk result (string_bytes out.new ≡ string_bytes out.old
+        ++ impact_text plan.now from base.now impact.now) }
 {
-    if is_quiet(from, base, outcome) {
+    if is_quiet(from, base, impact) {
         return Ok(());
     }
-    put_head(out, plan, outcome)?;
+    put_head(out, plan, impact)?;
     put_views(
         out,
         plan,
         from,
         base.views.as_slice(),
-        outcome.views.as_slice(),
+        impact.views.as_slice(),
     )
 }
 
-/// What is told of all failures.
-fn put_outcomes(
+/// Appends the impacts of all failures to a text.
+fn put_impacts(
     out: &mut String,
     plan: &Plan,
     from: Option<u8>,
-    base: &Outcome,
-    outcomes: &[Outcome],
+    base: &Impact,
+    impacts: &[Impact],
 ) -> Result<(), Memory>
-    ensures { OnOk result (string_bytes out.new ≡ string_bytes out.old ++ flat_map (outcome_text plan.now from base.now) outcomes.now) }
+    ensures { OnOk result (string_bytes out.new ≡ string_bytes out.old
+        ++ flat_map (impact_text plan.now from base.now) impacts.now) }
 {
-    for outcome in outcomes {
-        put_outcome(out, plan, from, base, outcome)?;
+    for impact in impacts {
+        put_impact(out, plan, from, base, impact)?;
     }
     Ok(())
 }
@@ -281,26 +296,28 @@ fn put_outcomes(
 /// Puts the report on a network with nothing down, and under failures, behind a text, and answers how many of the
 /// failures part a service.
 ///
-/// First comes what is so with nothing down: whether the bridges settled and after how many ticks, whether the
-/// active links are a forest for each service, and the groups of each service's customer ports. Then each failure
-/// that changes something is told the same way, with the services that it parts, then how many change nothing and
-/// the most ticks that settling took after these, and how many part a service. Where `from` names a customer port, only what cuts that port off counts as parting.
+/// First comes what is so with nothing down: whether the bridges settled and after how many ticks, whether the active
+/// links are a forest for each service, and the groups of each service's customer ports. Then each failure that changes
+/// something is told the same way, with the services that it parts, then how many change nothing and the most ticks
+/// that settling took after these, and how many part a service. Where `from` names a customer port, only what cuts that
+/// port off counts as parting.
 ///
 /// `Memory` is answered where memory ran out, and then a part of the report may stand there.
 pub fn put_report(
     out: &mut String,
     plan: &Plan,
     from: Option<u8>,
-    base: &Outcome,
-    outcomes: &[Outcome],
+    base: &Impact,
+    impacts: &[Impact],
 ) -> Result<usize, Memory>
-    ensures text { OnOk result (string_bytes out.new ≡ string_bytes out.old ++ report_text plan.now from base.now outcomes.now) }
-    ensures parting { IfOk result (λ parting. parting ≡ count_by (parts from base.now) outcomes.now) }
+    ensures text { OnOk result (string_bytes out.new ≡ string_bytes out.old
+        ++ report_text plan.now from base.now impacts.now) }
+    ensures parting { IfOk result (λ parting. parting ≡ count_by (parts from base.now) impacts.now) }
 {
     put_whole(out, plan, base)?;
-    put_outcomes(out, plan, from, base, outcomes)?;
-    put_all_quiet(out, from, base, outcomes)?;
-    let parting = count_parting(from, base, outcomes);
-    put_verdict(out, parting, outcomes.len())?;
+    put_impacts(out, plan, from, base, impacts)?;
+    put_all_quiet(out, from, base, impacts)?;
+    let parting = count_parting(from, base, impacts);
+    put_verdict(out, parting, impacts.len())?;
     Ok(parting)
 }

@@ -81,7 +81,8 @@ fn sites_of(
     ports: &[u8],
 ) -> Result<Vec<Site>, Memory>
     requires { IsSound plan.now }
-    ensures { IfOk result (λ sites. sites.items ≡ map (site_of (color_of plan.now marks.now failure) ports.now) ports.now) }
+    ensures { IfOk result (λ sites.
+        sites.items ≡ map (site_of (color_of plan.now marks.now failure) ports.now) ports.now) }
 {
     let mut sites = Vec::with_capacity(alloc, ports.len())?;
     for port in ports {
@@ -108,7 +109,8 @@ pub fn groups(
     service: u8,
 ) -> Result<Vec<Site>, Memory>
     requires { IsSound plan.now }
-    ensures { IfOk result (λ sites. AreGroups plan.now shape.now failure service (vid_numbered plan.now service) sites.items) }
+    ensures { IfOk result (λ sites.
+        AreGroups plan.now shape.now failure service (vid_numbered plan.now service) sites.items) }
 {
     let marks = marks(plan, shape, vid_numbered(plan, service));
     let ports = ports_of(alloc, plan, service)?;

@@ -1,9 +1,10 @@
 //! How many failures change nothing, and how many part a service.
 
 ghost use Rattle.std.specs.Prelude.{◌≡◌, ◌++◌, length, count_by, string_bytes, OnOk};
-ghost use Rattle.pb_cmd_survive.specs.Reports.{quiet_line, quiet_count_line, quiet_ticks, slowest, verdict_line, parting_count_line, is_quiet, parts};
+ghost use Rattle.pb_cmd_survive.specs.Reports.{quiet_line, quiet_count_line, quiet_ticks, slowest};
+ghost use Rattle.pb_cmd_survive.specs.Reports.{verdict_line, parting_count_line, is_quiet, parts};
 
-use crate::outcome::Outcome;
+use crate::impact::Impact;
 use crate::parting::{is_quiet, parts};
 use pb_converge::Rest;
 use pb_frame::Memory;
@@ -49,45 +50,45 @@ pub(crate) fn put_verdict(out: &mut String, parting: usize, all: usize) -> Resul
 }
 
 /// How many of the failures part a service.
-pub(crate) fn count_parting(from: Option<u8>, base: &Outcome, outcomes: &[Outcome]) -> usize
-    ensures { result ≡ count_by (parts from base.now) outcomes.now }
+pub(crate) fn count_parting(from: Option<u8>, base: &Impact, impacts: &[Impact]) -> usize
+    ensures { result ≡ count_by (parts from base.now) impacts.now }
 {
-    outcomes
+    impacts
         .iter()
-        .filter(|outcome| parts(from, base, outcome))
+        .filter(|impact| parts(from, base, impact))
         .count()
 }
 
 /// How many of the failures change nothing.
-fn count_quiet(from: Option<u8>, base: &Outcome, outcomes: &[Outcome]) -> usize
-    ensures { result ≡ count_by (is_quiet from base.now) outcomes.now }
+fn count_quiet(from: Option<u8>, base: &Impact, impacts: &[Impact]) -> usize
+    ensures { result ≡ count_by (is_quiet from base.now) impacts.now }
 {
-    outcomes
+    impacts
         .iter()
-        .filter(|outcome| is_quiet(from, base, outcome))
+        .filter(|impact| is_quiet(from, base, impact))
         .count()
 }
 
 /// The ticks after which the bridges settled, if the failure changes nothing.
-fn quiet_ticks(from: Option<u8>, base: &Outcome, outcome: &Outcome) -> u32
-    ensures { result ≡ quiet_ticks from base.now outcome.now }
+fn quiet_ticks(from: Option<u8>, base: &Impact, impact: &Impact) -> u32
+    ensures { result ≡ quiet_ticks from base.now impact.now }
 {
-    if !is_quiet(from, base, outcome) {
+    if !is_quiet(from, base, impact) {
         return 0;
     }
-    match outcome.rest {
+    match impact.rest {
         Rest::Given => 0,
         Rest::Settled(ticks) | Rest::Unsettled(ticks) => ticks,
     }
 }
 
 /// The most ticks that it took until the bridges settled after a failure that changes nothing.
-fn slowest(from: Option<u8>, base: &Outcome, outcomes: &[Outcome]) -> u32
-    ensures { result ≡ slowest from base.now outcomes.now }
+fn slowest(from: Option<u8>, base: &Impact, impacts: &[Impact]) -> u32
+    ensures { result ≡ slowest from base.now impacts.now }
 {
     let mut most = 0;
-    for outcome in outcomes {
-        most = most.max(quiet_ticks(from, base, outcome));
+    for impact in impacts {
+        most = most.max(quiet_ticks(from, base, impact));
     }
     most
 }
@@ -96,13 +97,14 @@ fn slowest(from: Option<u8>, base: &Outcome, outcomes: &[Outcome]) -> u32
 pub(crate) fn put_all_quiet(
     out: &mut String,
     from: Option<u8>,
-    base: &Outcome,
-    outcomes: &[Outcome],
+    base: &Impact,
+    impacts: &[Impact],
 ) -> Result<(), Memory>
     ensures { OnOk result (string_bytes out.new ≡ string_bytes out.old
-        ++ quiet_line (count_by (is_quiet from base.now) outcomes.now) (length outcomes.now) (slowest from base.now outcomes.now)) }
+        ++ quiet_line (count_by (is_quiet from base.now) impacts.now) (length impacts.now)
+        (slowest from base.now impacts.now)) }
 {
-    let quiet = count_quiet(from, base, outcomes);
-    let ticks = slowest(from, base, outcomes);
-    put_quiet(out, quiet, outcomes.len(), ticks)
+    let quiet = count_quiet(from, base, impacts);
+    let ticks = slowest(from, base, impacts);
+    put_quiet(out, quiet, impacts.len(), ticks)
 }

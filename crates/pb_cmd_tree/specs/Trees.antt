@@ -15,30 +15,30 @@ use Rattle.pb_cmd_tree.specs.declared.end.TreeEnd.{TreeEnd}
 use Rattle.pb_cmd_tree.specs.declared.end.TreeEnd.TheVariants.{Told, Refused, NoPort}
 
 -- the bridges ticked so often at most, and these are the trees
-pub record IsDrawingFrom (plan : Plan) (ticks : ℕ) (fallen : NetView) (text : List ℕ) : Type 0 where
+pub record AreTreesFrom (plan : Plan) (ticks : ℕ) (fallen : NetView) (text : List ℕ) : Type 0 where
   pub last : NetView
   pub rest : Rest
   pub rested : HasRested ticks 1000000000 rest fallen last
   pub trees : IsTreeText plan last.rec rest text
 
--- the ends that are named went down before
-pub record IsDrawing (plan : Plan) (words : List (String Global)) (ticks : ℕ) (text : List ℕ) : Type 0 where
+-- the named ends were disabled first
+pub record AreTrees (plan : Plan) (downs : List (String Global)) (ticks : ℕ) (text : List ℕ) : Type 0 where
   pub fallen : NetView
-  pub falls : HaveFallen plan words fallen
-  pub drawing : IsDrawingFrom plan ticks fallen text
+  pub falls : HaveFallen plan downs fallen
+  pub trees : AreTreesFrom plan ticks fallen text
 
--- the text that is to be written, or the index of the words that name no end of a link
-abbrev pub AnswersDrawing : Plan → List (String Global) → ℕ → Option ℕ → List ℕ → Type 0
-AnswersDrawing plan words ticks None text = IsDrawing plan words ticks text
-AnswersDrawing plan words ticks (Some index) text = LacksEnd plan words index
+-- the text to print, or the index of the argument that names no end of a link
+abbrev pub ReturnsTrees : Plan → List (String Global) → ℕ → Option ℕ → List ℕ → Type 0
+ReturnsTrees plan downs ticks None text = AreTrees plan downs ticks text
+ReturnsTrees plan downs ticks (Some index) text = LacksEnd plan downs index
 
--- the trees were written behind what stood there; or words name no end of a link, and nothing was written
-abbrev pub HasDrawn : Plan → List (String Global) → ℕ → Option ℕ → Option (List ℕ) → Option (List ℕ) → Type 0
-HasDrawn plan words ticks None before after = (text : List ℕ) × Appends before after text × IsDrawing plan words ticks text
-HasDrawn plan words ticks (Some index) before after = LacksEnd plan words index × Keeps before after
+-- the trees were printed after the earlier output; or an argument names no end of a link, and nothing was printed
+abbrev pub HasPrinted : Plan → List (String Global) → ℕ → Option ℕ → Option (List ℕ) → Option (List ℕ) → Type 0
+HasPrinted plan downs ticks None before after = (text : List ℕ) × Appends before after text × AreTrees plan downs ticks text
+HasPrinted plan downs ticks (Some index) before after = LacksEnd plan downs index × Keeps before after
 
 -- what the command has done: the trees of the plan that the file tells, or the rule that the file breaks
 abbrev pub HasTold : List ℕ → List (String Global) → ℕ → TreeEnd → Option (List ℕ) → Option (List ℕ) → Type 0
-HasTold file words ticks Told before after = (plan : Plan) × IsToldBy file plan × HasDrawn plan words ticks None before after
-HasTold file words ticks Refused before after = PrintsRefusal file before after
-HasTold file words ticks (NoPort index) before after = (plan : Plan) × IsToldBy file plan × HasDrawn plan words ticks (Some index) before after
+HasTold file downs ticks Told before after = (plan : Plan) × IsToldBy file plan × HasPrinted plan downs ticks None before after
+HasTold file downs ticks Refused before after = PrintsRefusal file before after
+HasTold file downs ticks (NoPort index) before after = (plan : Plan) × IsToldBy file plan × HasPrinted plan downs ticks (Some index) before after

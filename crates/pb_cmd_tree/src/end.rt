@@ -7,6 +7,6 @@ pub enum TreeEnd {
     Told,
     /// The file is no plan, and the rule that it breaks was written.
     Refused,
-    /// The words at this index, from 0, name no port to another bridge. Nothing was written.
+    /// The argument at this index, from 0, names no port to another bridge. Nothing was written.
     NoPort(usize),
 }

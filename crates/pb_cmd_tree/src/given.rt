@@ -17,7 +17,8 @@ fn put_port(
     bridge: u8,
     port: u8,
 ) -> Result<(), Memory>
-    ensures { OnOk result (string_bytes out.new ≡ string_bytes out.old ++ given_port_line plan.now shape.now bridge port) }
+    ensures { OnOk result (string_bytes out.new ≡ string_bytes out.old
+        ++ given_port_line plan.now shape.now bridge port) }
 {
     let Some(link) = link_at(plan, bridge, port) else {
         return Ok(());
@@ -31,7 +32,8 @@ fn put_port(
 
 /// Puts the lines of a bridge and its ports behind a text.
 fn put_bridge(out: &mut String, plan: &Plan, shape: &Shape, bridge: u8) -> Result<(), Memory>
-    ensures { OnOk result (string_bytes out.new ≡ string_bytes out.old ++ given_bridge_lines plan.now shape.now bridge) }
+    ensures { OnOk result (string_bytes out.new ≡ string_bytes out.old
+        ++ given_bridge_lines plan.now shape.now bridge) }
 {
     let name = bridge_name(plan, bridge);
     writeln!(out, "bridge {name}")?;

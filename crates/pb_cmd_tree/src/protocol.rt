@@ -7,7 +7,8 @@ ghost use Rattle.pb_rstp.specs.Ports.{port_of};
 ghost use Rattle.pb_frame.specs.Lists.{first};
 ghost use Rattle.pb_rstp.specs.Ports.{is_root};
 ghost use Rattle.pb_rstp.specs.Readings.{roles_of};
-ghost use Rattle.pb_cmd_tree.specs.TreeTexts.{is_served, designated_at, port_words, port_line, root_port_words, bridge_line, bridge_lines, protocol_lines};
+ghost use Rattle.pb_cmd_tree.specs.TreeTexts.{is_served, designated_at, port_words, port_line};
+ghost use Rattle.pb_cmd_tree.specs.TreeTexts.{root_port_words, bridge_line, bridge_lines, protocol_lines};
 
 use crate::names::{link_name_at, path_cost_at, put_id};
 use pb_frame::Memory;
@@ -50,7 +51,8 @@ struct Shown {
 
 /// Puts the line of a port behind a text.
 fn put_port(out: &mut String, plan: &Plan, bridge: u8, shown: &Shown) -> Result<(), Memory>
-    ensures { OnOk result (string_bytes out.new ≡ string_bytes out.old ++ port_words plan.now bridge shown.now.port shown.now.role shown.now.state shown.now.from) }
+    ensures { OnOk result (string_bytes out.new ≡ string_bytes out.old
+        ++ port_words plan.now bridge shown.now.port shown.now.role shown.now.state shown.now.from) }
 {
     let name = bridge_name(plan, bridge);
     let port = shown.port;
@@ -69,7 +71,8 @@ fn put_port(out: &mut String, plan: &Plan, bridge: u8, shown: &Shown) -> Result<
 
 /// Puts the lines of a bridge's ports behind a text.
 fn put_ports(out: &mut String, plan: &Plan, bridge: u8, machine: &Rstp) -> Result<(), Memory>
-    ensures { OnOk result (string_bytes out.new ≡ string_bytes out.old ++ flat_map (port_line plan.now bridge machine.now) machine.now.ports) }
+    ensures { OnOk result (string_bytes out.new ≡ string_bytes out.old
+        ++ flat_map (port_line plan.now bridge machine.now) machine.now.ports) }
 {
     let roles = machine.roles();
     let states = machine.states();
@@ -88,7 +91,8 @@ fn put_ports(out: &mut String, plan: &Plan, bridge: u8, machine: &Rstp) -> Resul
 
 /// Puts the Root port behind a text, where there is one.
 fn put_root_port(out: &mut String, roles: &[(u8, Role)]) -> Result<(), Memory>
-    ensures { OnOk result (string_bytes out.new ≡ string_bytes out.old ++ root_port_words (first (λ p. is_root p.1) roles.now)) }
+    ensures { OnOk result (string_bytes out.new ≡ string_bytes out.old
+        ++ root_port_words (first (λ p. is_root p.1) roles.now)) }
 {
     for (port, role) in roles {
         if matches!(*role, Role::Root) {

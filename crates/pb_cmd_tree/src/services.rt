@@ -45,7 +45,8 @@ fn put_up(
     rooted: &Rooted,
     bridge: u8,
 ) -> Result<(), Memory>
-    ensures { OnOk result (string_bytes out.new ≡ string_bytes out.old ++ up_line plan.now service.now rooted.now bridge) }
+    ensures { OnOk result (string_bytes out.new ≡ string_bytes out.old
+        ++ up_line plan.now service.now rooted.now bridge) }
 {
     let Some(link) = up_at(rooted, bridge) else {
         return Ok(());
@@ -81,7 +82,8 @@ fn put_service(
 ) -> Result<(), Memory>
     requires sound { IsSound plan.now }
     requires there { place < length plan.now.services }
-    ensures { OnOk result ((text : List ℕ) × (string_bytes out.new ≡ string_bytes out.old ++ text) × IsServiceTextAt plan.now shape.now place text) }
+    ensures { OnOk result ((text : List ℕ) × (string_bytes out.new ≡ string_bytes out.old ++ text)
+        × IsServiceTextAt plan.now shape.now place text) }
 {
     let Some(rooted) = forest(alloc, shape, plan, place as u8 + 1)? else {
         return Ok(());
@@ -102,7 +104,8 @@ pub(crate) fn put_services(
     shape: &Shape,
 ) -> Result<(), Memory>
     requires { IsSound plan.now }
-    ensures { OnOk result ((text : List ℕ) × (string_bytes out.new ≡ string_bytes out.old ++ text) × AreServiceTexts plan.now shape.now plan.now.services text) }
+    ensures { OnOk result ((text : List ℕ) × (string_bytes out.new ≡ string_bytes out.old ++ text)
+        × AreServiceTexts plan.now shape.now plan.now.services text) }
 {
     for place in 0..plan.services.len() {
         put_service(alloc, out, plan, shape, place)?;

@@ -7,7 +7,7 @@ ghost use Rattle.pb_lan.specs.LastShapes.{last_shape};
 ghost use Rattle.pb_lan.specs.Plans.{IsSound};
 ghost use Rattle.pb_report.specs.ForestTexts.{IsForestText};
 ghost use Rattle.pb_cmd_tree.specs.TreeTexts.{IsGivenText, IsTreeText};
-ghost use Rattle.pb_cmd_tree.specs.Trees.{AnswersDrawing, HasDrawn, HasTold, IsDrawingFrom};
+ghost use Rattle.pb_cmd_tree.specs.Trees.{ReturnsTrees, HasPrinted, HasTold, AreTreesFrom};
 
 use crate::end::TreeEnd;
 use crate::given::put_given;
@@ -26,7 +26,8 @@ use std::io::Write;
 /// Puts whether the last shape of a record is a forest for each service behind a text.
 fn put_last_forest(alloc: Global, out: &mut String, plan: &Plan, rec: &Record) -> Result<(), Memory>
     requires { IsSound plan.now }
-    ensures { OnOk result ((text : List ℕ) × (string_bytes out.new ≡ string_bytes out.old ++ text) × IsForestText plan.now (last_shape plan.now rec.now) text) }
+    ensures { OnOk result ((text : List ℕ) × (string_bytes out.new ≡ string_bytes out.old ++ text)
+        × IsForestText plan.now (last_shape plan.now rec.now) text) }
 {
     let shape = shape_of(alloc, plan, rec)?;
     put_forest(alloc, out, plan, &shape)
@@ -35,7 +36,8 @@ fn put_last_forest(alloc: Global, out: &mut String, plan: &Plan, rec: &Record) -
 /// Puts the trees behind a text, where the plan gives the states.
 fn put_planned(alloc: Global, out: &mut String, plan: &Plan, rec: &Record) -> Result<(), Memory>
     requires { IsSound plan.now }
-    ensures { OnOk result ((text : List ℕ) × (string_bytes out.new ≡ string_bytes out.old ++ text) × IsGivenText plan.now (last_shape plan.now rec.now) text) }
+    ensures { OnOk result ((text : List ℕ) × (string_bytes out.new ≡ string_bytes out.old ++ text)
+        × IsGivenText plan.now (last_shape plan.now rec.now) text) }
 {
     let shape = shape_of(alloc, plan, rec)?;
     put_given(out, plan, &shape)?;
@@ -43,7 +45,7 @@ fn put_planned(alloc: Global, out: &mut String, plan: &Plan, rec: &Record) -> Re
     put_services(alloc, out, plan, &shape)
 }
 
-/// Puts the trees of a network behind a text.
+/// Appends the trees of a network to a text.
 fn put_trees(
     alloc: Global,
     out: &mut String,
@@ -54,7 +56,8 @@ fn put_trees(
     requires sound { IsSound plan.now }
     requires plan { net.plan ≡ plan.now }
     requires rest { IsRestIn plan.now.spanning rest }
-    ensures { OnOk result ((text : List ℕ) × (string_bytes out.new ≡ string_bytes out.old ++ text) × IsTreeText plan.now net.rec rest text) }
+    ensures { OnOk result ((text : List ℕ) × (string_bytes out.new ≡ string_bytes out.old ++ text)
+        × IsTreeText plan.now net.rec rest text) }
 {
     match plan.spanning {
         Spanning::Fixed => put_planned(alloc, out, plan, &net.finish()),
@@ -76,26 +79,28 @@ fn put_rested(
 ) -> Result<(), CommandFault>
     requires sound { IsSound plan.now }
     requires plan { net.plan ≡ plan.now }
-    ensures { OnOk result ((text : List ℕ) × (string_bytes out.new ≡ string_bytes out.old ++ text) × IsDrawingFrom plan.now ticks net text) }
+    ensures { OnOk result ((text : List ℕ) × (string_bytes out.new ≡ string_bytes out.old ++ text)
+        × AreTreesFrom plan.now ticks net text) }
 {
     let rest = rests(alloc, &mut net, plan, ticks)?;
     Ok(put_trees(alloc, out, plan, net, rest)?)
 }
 
-/// Puts the trees behind a text, when the ends have gone down that words name. Where words name none, their index is
-/// answered.
-fn put_drawing(
+/// Appends the trees to a text, after the ends that `downs` names are disabled. Returns the index of the first of them
+/// that names no end.
+fn put_trees_with_downs(
     alloc: Global,
     out: &mut String,
     plan: &Plan,
-    words: &[String],
+    downs: &[String],
     ticks: u32,
 ) -> Result<Option<usize>, CommandFault>
     requires { IsSound plan.now }
-    ensures { IfOk result (λ lacking. (text : List ℕ) × (string_bytes out.new ≡ string_bytes out.old ++ text) × AnswersDrawing plan.now words.now ticks lacking text) }
+    ensures { IfOk result (λ lacking. (text : List ℕ) × (string_bytes out.new ≡ string_bytes out.old ++ text)
+        × ReturnsTrees plan.now downs.now ticks lacking text) }
 {
     let mut net = fresh(alloc, plan)?;
-    match falls(alloc, &mut net, plan, words)? {
+    match falls(alloc, &mut net, plan, downs)? {
         Some(index) => Ok(Some(index)),
         None => {
             put_rested(alloc, out, plan, net, ticks)?;
@@ -104,21 +109,22 @@ fn put_drawing(
     }
 }
 
-/// Writes the trees of a plan, when the ends have gone down that words name. Where words name none, their index is
-/// answered, and nothing is written.
-fn draw<W: Write>(
+/// Prints the trees of a plan, after the ends that `downs` names are disabled. Returns the index of the first of them
+/// that names no end; nothing is printed then.
+fn print_trees<W: Write>(
     alloc: Global,
     plan: &Plan,
-    words: &[String],
+    downs: &[String],
     ticks: u32,
     writer: &mut W,
 ) -> Result<Option<usize>, CommandFault>
     requires { IsSound plan.now }
-    ensures ok { IfOk result (λ lacking. HasDrawn plan.now words.now ticks lacking (W.contents writer.old) (W.contents writer.new)) }
+    ensures ok { IfOk result (λ lacking.
+        HasPrinted plan.now downs.now ticks lacking (W.contents writer.old) (W.contents writer.new)) }
     ensures none { IfErr result (λ e. e ≢ CommandFault.Write → Keeps (W.contents writer.old) (W.contents writer.new)) }
 {
     let mut out = String::new(alloc);
-    let lacking = put_drawing(alloc, &mut out, plan, words, ticks)?;
+    let lacking = put_trees_with_downs(alloc, &mut out, plan, downs, ticks)?;
     if lacking.is_some() {
         return Ok(lacking);
     }
@@ -150,11 +156,12 @@ pub fn run_tree<W: Write>(
     ticks: u32,
     writer: &mut W,
 ) -> Result<TreeEnd, CommandFault>
-    ensures ok { IfOk result (λ end. HasTold file.now downs.now ticks end (W.contents writer.old) (W.contents writer.new)) }
+    ensures ok { IfOk result (λ end.
+        HasTold file.now downs.now ticks end (W.contents writer.old) (W.contents writer.new)) }
     ensures none { IfErr result (λ e. e ≢ CommandFault.Write → Keeps (W.contents writer.old) (W.contents writer.new)) }
 {
     match read_plan(alloc, file) {
-        Ok((plan, _ports)) => match draw(alloc, &plan, downs, ticks, writer)? {
+        Ok((plan, _ports)) => match print_trees(alloc, &plan, downs, ticks, writer)? {
             None => Ok(TreeEnd::Told),
             Some(index) => Ok(TreeEnd::NoPort(index)),
         },

@@ -46,8 +46,8 @@ pub trait Board {
     fn bridge(&self, bridge: u8) -> (u64, u64)
         ensures { told_bridge self.now bridge result };
 
-    /// What the local ports 1 to 16 of the bridge (from 1) are like. None of a port that leads to no other bridge, and of all
-    /// before the bridge has begun.
+    /// What the local ports 1 to 16 of the bridge (from 1) are like. None of a port that leads to no other bridge, and
+    /// of all before the bridge has begun.
     fn views(&self, bridge: u8) -> [Option<PortView>; 16]
         ensures { told_views self.now bridge result };
 }

@@ -8,7 +8,7 @@ ghost use Rattle.pb_control_socket.specs.declared.request.Request.{Request};
 
 use crate::board::Board;
 use crate::path::{listen, node_at};
-use crate::peer::{Peer, Step};
+use crate::peer::{Peer, Progress};
 use mio::net::{UnixListener, UnixStream};
 use pb_lan::Plan;
 use std::alloc::Global;
@@ -21,8 +21,8 @@ const STEPS: u32 = 256;
 
 /// A Unix socket on which one peer at a time sends lines and gets answers.
 ///
-/// No call waits. At most one answer is held, which for the largest plan is less than 16 KiB, and of a peer that doesn't
-/// take it nothing more is read. A second peer waits until the first hangs up.
+/// No call waits. At most one answer is held, which for the largest plan is less than 16 KiB, and of a peer that
+/// doesn't take it nothing more is read. A second peer waits until the first hangs up.
 #[derive(Drop)]
 pub struct Control {
     alloc: Global,
@@ -54,19 +54,19 @@ impl Control {
     }
 
     /// Lets the next peer in, where one waits.
-    fn accept(&mut self) -> Step
+    fn accept(&mut self) -> Progress
         ensures { path_of self.new ≡ path_of self.old }
     {
         match self.listener.accept() {
             Ok((stream, _)) => {
                 self.peer = Some(Peer::new(self.alloc, stream));
-                Step::Moved
+                Progress::Moved
             }
-            Err(_) => Step::Idle,
+            Err(_) => Progress::Idle,
         }
     }
 
-    fn step<B: Board>(&mut self, plan: &Plan, board: &B) -> Step
+    fn step<B: Board>(&mut self, plan: &Plan, board: &B) -> Progress
         requires few { IsFew plan.now }
         requires allowed { (request : Request) → is_there plan.now request ≡ true → B.allows board.now request }
         ensures { path_of self.new ≡ path_of self.old }
@@ -88,9 +88,9 @@ impl Control {
         let mut has_moved = false;
         for _ in 0..STEPS {
             match self.step(plan, board) {
-                Step::Idle => return has_moved,
-                Step::Moved => {}
-                Step::Gone => self.peer = None,
+                Progress::Idle => return has_moved,
+                Progress::Moved => {}
+                Progress::Gone => self.peer = None,
             }
             has_moved = true;
         }

@@ -59,8 +59,10 @@ impl LineBuffer {
     /// Takes the first whole line, without its LF, and without what stands past one octet more than the limit; None
     /// where no LF came yet. `Memory` is answered where there was none for the line; then nothing has changed.
     pub fn next_line(&mut self) -> Result<Option<Vec<u8>>, Memory>
-        ensures some { IfOk result (λ found. IfSome found (λ line. GivesLine (limit_of self.old) (held self.old) line.items (held self.new))) }
-        ensures none { IfOk result (λ found. IfNone found (KeepsLine (limit_of self.old) (held self.old) (held self.new))) }
+        ensures some { IfOk result (λ found.
+            IfSome found (λ line. GivesLine (limit_of self.old) (held self.old) line.items (held self.new))) }
+        ensures none { IfOk result (λ found.
+            IfNone found (KeepsLine (limit_of self.old) (held self.old) (held self.new))) }
         ensures err { OnErr result (held self.new ≡ held self.old) }
         ensures limit { limit_of self.new ≡ limit_of self.old }
     {

@@ -64,12 +64,12 @@ fn turn_away(listener: &UnixListener) {
     }
 }
 
-/// Makes a Unix socket at a path, to which only its owner may connect, and of which no call waits. The system sets a mode once
-/// the socket is there, so those are turned away who connected before.
+/// Makes a Unix socket at a path, to which only its owner may connect, and of which no call waits. The system sets a
+/// mode once the socket is there, so those are turned away who connected before.
 ///
-/// A file that stands there is replaced only where it is a socket on which nobody listens. Else the error is `AddrInUse`
-/// where somebody does, or may, and `AlreadyExists` for any other file, a symbolic link among them; all other errors are
-/// the system's. After an error no socket of ours is left.
+/// A file that stands there is replaced only where it is a socket on which nobody listens. Else the error is
+/// `AddrInUse` where somebody does, or may, and `AlreadyExists` for any other file, a symbolic link among them; all
+/// other errors are the system's. After an error no socket of ours is left.
 pub fn listen<R: Files + Net>(rt: &R, path: &str) -> io::Result<UnixListener> {
     let listener = bind(rt, path)?;
     match fs::set_permissions(rt, path, Permissions::from_mode(MODE)) {

@@ -19,9 +19,9 @@ const LONGEST: usize = 256;
 /// How many octets are read at a time.
 const CHUNK: usize = 512;
 
-/// What a step with a peer came to.
+/// The progress that one call made with a peer.
 #[derive(Clone, Copy, Debug, PartialEq, Eq)]
-pub(crate) enum Step {
+pub(crate) enum Progress {
     /// Something was done.
     Moved,
     /// There was nothing to do.
@@ -30,11 +30,11 @@ pub(crate) enum Step {
     Gone,
 }
 
-/// What a call of a stream that failed comes to.
-fn step_of(error: &Error) -> Step {
+/// Returns the progress of a call of a stream that failed.
+fn progress_of(error: &Error) -> Progress {
     match error.kind() {
-        ErrorKind::Interrupted | ErrorKind::WouldBlock => Step::Idle,
-        _ => Step::Gone,
+        ErrorKind::Interrupted | ErrorKind::WouldBlock => Progress::Idle,
+        _ => Progress::Gone,
     }
 }
 
@@ -62,45 +62,45 @@ impl<S: Read + Write> Peer<S> {
     }
 
     /// Writes what it takes of the answer.
-    fn write_on(&mut self) -> Step {
+    fn write_on(&mut self) -> Progress {
         match self.stream.write(&self.answer.as_bytes()[self.sent..]) {
-            Ok(0) => Step::Gone,
+            Ok(0) => Progress::Gone,
             Ok(count) => {
                 self.sent += count;
-                Step::Moved
+                Progress::Moved
             }
-            Err(e) => step_of(&e),
+            Err(e) => progress_of(&e),
         }
     }
 
     /// Reads what it has sent.
-    fn read_on(&mut self) -> Step {
+    fn read_on(&mut self) -> Progress {
         let mut octets = [0u8; CHUNK];
         match self.stream.read(&mut octets) {
-            Ok(0) => Step::Gone,
+            Ok(0) => Progress::Gone,
             Ok(count) => match self.lines.put(&octets[..count]) {
-                Ok(()) => Step::Moved,
-                Err(Memory) => Step::Gone,
+                Ok(()) => Progress::Moved,
+                Err(Memory) => Progress::Gone,
             },
-            Err(e) => step_of(&e),
+            Err(e) => progress_of(&e),
         }
     }
 
     /// Makes the answer to a line.
-    fn answer<B: Board>(&mut self, alloc: Global, plan: &Plan, board: &B, line: &[u8]) -> Step
+    fn answer<B: Board>(&mut self, alloc: Global, plan: &Plan, board: &B, line: &[u8]) -> Progress
         requires few { IsFew plan.now }
         requires allowed { (request : Request) → is_there plan.now request ≡ true → B.allows board.now request }
     {
         self.sent = 0;
         self.answer.clear();
         match answer(alloc, plan, board, line, &mut self.answer) {
-            Ok(()) => Step::Moved,
-            Err(Memory) => Step::Gone,
+            Ok(()) => Progress::Moved,
+            Err(Memory) => Progress::Gone,
         }
     }
 
     /// Writes on; where all was written answers the next line; where there is none reads on.
-    pub(crate) fn step<B: Board>(&mut self, alloc: Global, plan: &Plan, board: &B) -> Step
+    pub(crate) fn step<B: Board>(&mut self, alloc: Global, plan: &Plan, board: &B) -> Progress
         requires few { IsFew plan.now }
         requires allowed { (request : Request) → is_there plan.now request ≡ true → B.allows board.now request }
     {
@@ -110,7 +110,7 @@ impl<S: Read + Write> Peer<S> {
         match self.lines.next_line() {
             Ok(Some(line)) => self.answer(alloc, plan, board, line.as_slice()),
             Ok(None) => self.read_on(),
-            Err(Memory) => Step::Gone,
+            Err(Memory) => Progress::Gone,
         }
     }
 }

@@ -74,7 +74,8 @@ fn read_word(line: &[u8]) -> Option<Request>
 fn read_set(plan: &Plan, line: &[u8]) -> Result<Request, Refused>
     requires { IsFew plan.now }
     ensures read { result ≢ Err Refused.Bad → Reads plan.now line.now result }
-    ensures bad { result ≡ Err Refused.Bad → (bridge port : ℕ) (up : Bool) → AsksToSet plan.now line.now bridge port up → ⊥ }
+    ensures bad { result ≡ Err Refused.Bad → (bridge port : ℕ) (up : Bool) → AsksToSet plan.now line.now bridge port up
+        → ⊥ }
 {
     let Some(Setting { bridge, port, up }) = read_setting(plan, line) else {
         return Err(Refused::Bad);
@@ -86,9 +87,9 @@ fn read_set(plan: &Plan, line: &[u8]) -> Result<Request, Refused>
     }
 }
 
-/// What a line asks for, which is one of the lines `stop`, `counts`, `tree`, `up BRIDGE PORT` and `down BRIDGE PORT`, without
-/// its LF. BRIDGE is the name of a bridge, PORT one to three digits, the first not 0, and one space stands between the
-/// words. No such line has more than 41 octets, so of a longer one only the first 42 matter.
+/// What a line asks for, which is one of the lines `stop`, `counts`, `tree`, `up BRIDGE PORT` and `down BRIDGE PORT`,
+/// without its LF. BRIDGE is the name of a bridge, PORT one to three digits, the first not 0, and one space stands
+/// between the words. No such line has more than 41 octets, so of a longer one only the first 42 matter.
 ///
 /// `NoSuch` is answered where a line reads so and the plan lacks its bridge, or its port is none that leads to another
 /// bridge; `Bad` where no line reads so. A carriage return is no part of a word, and makes the line `Bad`.

@@ -69,9 +69,9 @@ fn perform<B: Board>(board: &B, request: Request)
 ///
 /// An answer is lines, the last of which is `ok`, `no such` or `bad`, as [`read_request`] says. Before `ok` stand, for
 /// `counts`, a line `port NAME entered N left N` for each customer port and a line `bridge NAME refused N ticks N` for
-/// each bridge, both by the octets of the names, and for `tree` a line `port BRIDGE N ROLE STATE` for each port to another
-/// bridge, by the octets of the bridges' names and by number, without the role where the plan gives the states. Nothing is
-/// done but what the line asks for.
+/// each bridge, both by the octets of the names, and for `tree` a line `port BRIDGE N ROLE STATE` for each port to
+/// another bridge, by the octets of the bridges' names and by number, without the role where the plan gives the states.
+/// Nothing is done but what the line asks for.
 ///
 /// `Memory` is answered where there was none for the answer. Then the board was not asked to do anything, and a part of
 /// the answer may stand behind the text.
@@ -83,8 +83,10 @@ pub fn answer<B: Board>(
     out: &mut String,
 ) -> Result<(), Memory>
     requires few { IsFew plan.now }
-    requires allowed { (request : Request) → Asks plan.now line.now request → is_there plan.now request ≡ true → B.allows board.now request }
-    ensures { OnOk result (HasAnswered plan.now (B.was_asked board.now) (B.told_port board.now) (B.told_bridge board.now) (B.told_views board.now)
+    requires allowed { (request : Request) → Asks plan.now line.now request → is_there plan.now request ≡ true
+        → B.allows board.now request }
+    ensures { OnOk result (HasAnswered plan.now (B.was_asked board.now) (B.told_port board.now)
+        (B.told_bridge board.now) (B.told_views board.now)
         line.now (string_bytes out.old) (string_bytes out.new)) }
 {
     match read_request(plan, line) {

@@ -62,7 +62,8 @@ fn put_views(
     views: &[Option<PortView>],
     ports: &[u8],
 ) -> Result<(), Memory>
-    ensures { OnOk result (string_bytes out.new ≡ string_bytes out.old ++ flat_map (line_among name.now views.now) ports.now) }
+    ensures { OnOk result (string_bytes out.new ≡ string_bytes out.old
+        ++ flat_map (line_among name.now views.now) ports.now) }
 {
     for port in ports {
         put_view(out, name, *port, view_at(views, *port))?;

@@ -56,8 +56,8 @@ impl Agenda {
         })
     }
 
-    /// The wish of the next event, where the bridge's clock has ticked often enough. It has come then. Only the bridge's own
-    /// worker asks.
+    /// The wish of the next event, where the bridge's clock has ticked often enough. It has come then. Only the
+    /// bridge's own worker asks.
     pub(crate) fn take(&self, now: u32) -> Option<Wish> {
         let come = self.come.load(Ordering::SeqCst);
         let wish = wish_due(self.events.as_slice(), come, now)?;

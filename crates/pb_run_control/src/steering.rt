@@ -32,12 +32,12 @@ pub enum Opening {
     Unsettled(u64),
 }
 
-/// A gate that is told how its run goes on.
-pub trait Watch: Gate {
-    /// Frames may enter from now on, which were held back until the bridges have settled.
+/// A gate that receives the progress of its run.
+pub trait RunProgress: Gate {
+    /// Receives that frames may enter from now on. They were held back until the bridges converged.
     fn open(&self, opening: Opening);
 
-    /// The run is over, and no worker comes any more. Nothing was printed yet of what came of it.
+    /// Receives that the run is over: no worker comes any more, and no report was printed yet.
     fn close(&self);
 }
 
@@ -49,8 +49,8 @@ struct Course {
     views: Views,
 }
 
-/// The gate that steers a run: it gives bridges the wishes that are due, attends to the control socket, counts, and is else
-/// the gate that it has inside.
+/// The gate that steers a run: it gives bridges the wishes that are due, attends to the control socket, counts, and is
+/// else the gate that it has inside.
 #[derive(Drop)]
 pub struct Steering<'a, G> {
     gate: &'a G,
@@ -89,10 +89,10 @@ fn courses_of(alloc: Global, plan: &Plan, events: Vec<PortEvent>) -> Result<Vec<
 }
 
 impl<'a, G> Steering<'a, G> {
-    /// The gate that steers a run of a sound plan, in which these events come, beside the gate of whoever runs it. It has no
-    /// control socket. Where it is to wait for the bridges, no frame enters before each of them has ports in the states of
-    /// their roles (802.1D-2004 clause 17.10) of which none has changed for four ticks, or each has ticked 200 times; no
-    /// contract says so. `Memory` is answered where there was none for the gate.
+    /// The gate that steers a run of a sound plan, in which these events come, beside the gate of whoever runs it. It
+    /// has no control socket. Where it is to wait for the bridges, no frame enters before each of them has ports in the
+    /// states of their roles (802.1D-2004 clause 17.10) of which none has changed for four ticks, or each has ticked
+    /// 200 times; no contract says so. `Memory` is answered where there was none for the gate.
     pub fn new(
         alloc: Global,
         gate: &'a G,
@@ -230,7 +230,7 @@ impl<G> Board for Steering<'_, G> {
     }
 }
 
-impl<G: Watch> Gate for Steering<'_, G> {
+impl<G: RunProgress> Gate for Steering<'_, G> {
     fn pass(&self, place: Place, turn: u64) -> Go {
         if turn % LOOK == 0 && place == Place::Bridge(1) {
             if let Some(opening) = self.opening() {
@@ -274,7 +274,7 @@ impl<G: Watch> Gate for Steering<'_, G> {
     }
 }
 
-impl<G: Watch> Watch for Steering<'_, G> {
+impl<G: RunProgress> RunProgress for Steering<'_, G> {
     fn open(&self, opening: Opening) {
         self.gate.open(opening);
     }

@@ -9,8 +9,8 @@ const PORTS: usize = 128;
 /// The most bridges.
 const BRIDGES: usize = 32;
 
-/// Words that nobody reads: they stand between the counts of one worker and those of the next, since processors that write
-/// to the same 128 octets wait for one another.
+/// Words that nobody reads: they stand between the counts of one worker and those of the next, since processors that
+/// write to the same 128 octets wait for one another.
 type Gap = [u64; 14];
 
 /// How many frames have entered and left at a customer port.

@@ -122,8 +122,8 @@ impl Views {
         views
     }
 
-    /// Whether the bridge seems settled after so many ticks: each port has the state of its role, and none has changed for
-    /// two hello times.
+    /// Whether the bridge seems settled after so many ticks: each port has the state of its role, and none has changed
+    /// for two hello times.
     pub(crate) fn are_quiet(&self, ticks: u64) -> bool {
         if ticks < self.stirred.load(Ordering::SeqCst).saturating_add(QUIET) {
             return false;

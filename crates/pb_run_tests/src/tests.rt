@@ -1,5 +1,6 @@
 //! Runs, a table each.
 
+mod activity;
 mod carried;
 mod counts;
 mod devices;
@@ -17,5 +18,4 @@ mod spanning;
 mod stops;
 mod streams;
 mod told;
-mod watch;
 mod wishes;

@@ -8,7 +8,7 @@ use Rattle.toml.specs.Data.{Data, Members, get_member}
 use Rattle.toml.specs.View.{members_view}
 use Rattle.toml.proofs.Views.{Entry}
 use Rattle.pb_service.specs.declared.rule.Key.{Key}
-use Rattle.pb_service.specs.declared.section.Place.{Place}
+use Rattle.pb_service.specs.declared.section.KeyTable.{KeyTable}
 use Rattle.pb_service.specs.declared.key_fault.KeyFault.{KeyFault}
 use Rattle.pb_service.specs.declared.key_fault.KeyFault.TheVariants.{Missing, Kind, Range}
 use Rattle.pb_service.specs.declared.fault.PlanFault.{PlanFault}
@@ -28,7 +28,7 @@ first_unknown-find names (e ∷ es) =
       | inr other ↦ rw other
     ]
 
--- a fact of one key by its place
+-- a fact of one key by its index
 pub some_at : (P : KeyRule → Type 0) (keys : List Key) (i : ℕ) (d : Key) → i < length keys
     → P (rule_of (get_or keys i d)) → SomeOf P (rules_of keys)
 some_at P [] i d h p = absurd (omega arith)
@@ -36,24 +36,24 @@ some_at P (k ∷ ks) zero d h p = inl p
 some_at P (k ∷ ks) (suc i) d h p = inr (some_at P ks i d (omega arith) p)
 
 -- the fault that is told of a refused key
-pub refuses_told : (keys : List KeyRule) (place : Place) (row : Members) (f : KeyFault) (path : List ℕ) (e : PlanFault)
-    → RefusesKey keys place row f path → (e ≡ Memory) ⊎ (e ≡ fault_of f path) → RefusesRow keys place row e
-refuses_told keys place row Missing path e h (inl m) = rw m tt
-refuses_told keys place row Missing path e h (inr t) = rw t h
-refuses_told keys place row Kind path e h (inl m) = rw m tt
-refuses_told keys place row Kind path e h (inr t) = rw t h
-refuses_told keys place row Range path e h (inl m) = rw m tt
-refuses_told keys place row Range path e h (inr t) = rw t h
+pub refuses_told : (keys : List KeyRule) (key_table : KeyTable) (row : Members) (f : KeyFault) (path : List ℕ) (e : PlanFault)
+    → RefusesKey keys key_table row f path → (e ≡ Memory) ⊎ (e ≡ fault_of f path) → RefusesRow keys key_table row e
+refuses_told keys key_table row Missing path e h (inl m) = rw m tt
+refuses_told keys key_table row Missing path e h (inr t) = rw t h
+refuses_told keys key_table row Kind path e h (inl m) = rw m tt
+refuses_told keys key_table row Kind path e h (inr t) = rw t h
+refuses_told keys key_table row Range path e h (inl m) = rw m tt
+refuses_told keys key_table row Range path e h (inr t) = rw t h
 
-pub refused_at : (keys : List Key) (place : Place) (row : Members) (i : ℕ) (d : Key) (f : KeyFault)
+pub refused_at : (keys : List Key) (key_table : KeyTable) (row : Members) (i : ℕ) (d : Key) (f : KeyFault)
     (value : Option Data) (e : PlanFault) → i < length keys
     → value ≡ get_member (get_or keys i d).name.now row → IsRefused (rule_of (get_or keys i d)) value f
-    → (e ≡ Memory) ⊎ (e ≡ fault_of f (path_at place (get_or keys i d).name.now))
-    → RefusesRow (rules_of keys) place row e
-refused_at keys place row i d f value e h same refused told =
+    → (e ≡ Memory) ⊎ (e ≡ fault_of f (path_at key_table (get_or keys i d).name.now))
+    → RefusesRow (rules_of keys) key_table row e
+refused_at keys key_table row i d f value e h same refused told =
     let here : IsRefused (rule_of (get_or keys i d)) (get_member (get_or keys i d).name.now row) f =
     rw (← same) refused in
-    let path = path_at place (get_or keys i d).name.now in
-    refuses_told (rules_of keys) place row f path e
-    (some_at (λ k. IsRefused k (get_member k.name row) f × (path ≡ path_at place k.name)) keys i d h (here, refl))
+    let path = path_at key_table (get_or keys i d).name.now in
+    refuses_told (rules_of keys) key_table row f path e
+    (some_at (λ k. IsRefused k (get_member k.name row) f × (path ≡ path_at key_table k.name)) keys i d h (here, refl))
     told

@@ -28,7 +28,7 @@ pub network_refused : (document row : Members) (r : Result NetworkValue PlanFaul
 network_refused document row (Ok n) e h = tt
 network_refused document row (Err f) e h = in_network document f (rw (← e) h)
 
--- the table at a place
+-- the table at an index
 abbrev pub Table : Type 0
 Table = BTreeMap (String Global) Value
 

@@ -4,7 +4,7 @@ use Rattle.pb_frame.specs.Admission.{same}
 use Rattle.pb_lan.specs.declared.limits.Limits.{Limits}
 use Rattle.pb_service.specs.declared.fault.PlanFault.{PlanFault}
 use Rattle.pb_service.specs.declared.fault.PlanFault.TheVariants.{Range, Memory}
-use Rattle.pb_service.specs.declared.section.Place.TheVariants.{Network}
+use Rattle.pb_service.specs.declared.section.KeyTable.TheVariants.{Network}
 use Rattle.pb_service.specs.Sections.{path_at}
 
 -- bridges would tick by turns and by time

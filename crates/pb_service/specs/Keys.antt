@@ -10,7 +10,7 @@ use Rattle.pb_service.specs.declared.key_fault.KeyFault.{KeyFault}
 use Rattle.pb_service.specs.declared.key_fault.KeyFault.TheVariants.{Missing as missing, Kind as kind, Range as range}
 use Rattle.pb_service.specs.declared.fault.PlanFault.{PlanFault}
 use Rattle.pb_service.specs.declared.fault.PlanFault.TheVariants.{Missing, Kind, Range, Unknown, Memory}
-use Rattle.pb_service.specs.declared.section.Place.{Place}
+use Rattle.pb_service.specs.declared.section.KeyTable.{KeyTable}
 use Rattle.pb_service.specs.Sections.{path_at}
 use Rattle.pb_service.specs.Values.{is_of_kind, IsAllowed}
 
@@ -73,14 +73,14 @@ SomeOf P [] = ⊥
 SomeOf P (x ∷ xs) = P x ⊎ SomeOf P xs
 
 -- one of the keys is refused in this way, and the path is that key's
-abbrev pub RefusesKey : List KeyRule → Place → Members → KeyFault → List ℕ → Type 0
-RefusesKey keys place row fault path = SomeOf (λ k. IsRefused k (get_member k.name row) fault × (path ≡ path_at place k.name)) keys
+abbrev pub RefusesKey : List KeyRule → KeyTable → Members → KeyFault → List ℕ → Type 0
+RefusesKey keys key_table row fault path = SomeOf (λ k. IsRefused k (get_member k.name row) fault × (path ≡ path_at key_table k.name)) keys
 
 -- the table breaks a rule of its keys, in the way that the fault tells
-abbrev pub RefusesRow : List KeyRule → Place → Members → PlanFault → Type 0
-RefusesRow keys place row (Missing path) = RefusesKey keys place row missing path
-RefusesRow keys place row (Kind path) = RefusesKey keys place row kind path
-RefusesRow keys place row (Range path) = RefusesKey keys place row range path
-RefusesRow keys place row (Unknown path) = (key : List ℕ) × (first_unknown (names_of keys) row ≡ Some key) × (path ≡ path_at place key)
-RefusesRow keys place row Memory = Unit {0}
-RefusesRow keys place row other = ⊥
+abbrev pub RefusesRow : List KeyRule → KeyTable → Members → PlanFault → Type 0
+RefusesRow keys key_table row (Missing path) = RefusesKey keys key_table row missing path
+RefusesRow keys key_table row (Kind path) = RefusesKey keys key_table row kind path
+RefusesRow keys key_table row (Range path) = RefusesKey keys key_table row range path
+RefusesRow keys key_table row (Unknown path) = (key : List ℕ) × (first_unknown (names_of keys) row ≡ Some key) × (path ≡ path_at key_table key)
+RefusesRow keys key_table row Memory = Unit {0}
+RefusesRow keys key_table row other = ⊥

@@ -12,7 +12,7 @@ use Rattle.pb_service.specs.declared.fault.PlanFault.{PlanFault}
 use Rattle.pb_service.specs.declared.fault.PlanFault.TheVariants.{Kind, Range, Unknown, Twice, NoSuch, LinkEnd, TooMany, Memory}
 use Rattle.pb_service.specs.declared.section.Section.{Section}
 use Rattle.pb_service.specs.declared.section.Section.TheVariants.{Bridge, Link, Service, Port, Event}
-use Rattle.pb_service.specs.declared.section.Place.TheVariants.{Network, Row}
+use Rattle.pb_service.specs.declared.section.KeyTable.TheVariants.{Network, Row}
 use Rattle.pb_service.specs.declared.used.LocalPort.{LocalPort}
 use Rattle.pb_service.specs.UsedPorts.{is_used}
 use Rattle.pb_service.specs.Sections.{word_of, most_of, path_at}
@@ -80,7 +80,7 @@ RefusesEvent bridges ends index row fault =
     (fault ≡ Memory) ⊎ (RefusesRow event_keys (Row Event index) row fault ⊎ (LacksName bridges row (codes "bridge") fault
     ⊎ ((fault ≡ Range (path_at (Row Event index) (codes "port"))) × (is_used ends (port_told bridges row (codes "bridge") (codes "port")) ≡ false))))
 
--- a local port of a bridge that is there stands again behind its first place
+-- a local port of a bridge that is there stands again behind the first time
 pub record UsesTwice (ports : List LocalPort) (port : LocalPort) : Type 0 where
   pub before : List LocalPort
   pub behind : List LocalPort

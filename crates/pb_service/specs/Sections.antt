@@ -1,10 +1,10 @@
--- The tables of a plan file, and the places of their keys.
+-- The tables of a plan file, and the paths of their keys.
 use Rattle.std.specs.Prelude.{ℕ, List, codes, ◌++◌}
 use Rattle.std.specs.Fmt.{decimal}
 use Rattle.pb_service.specs.declared.section.Section.{Section}
 use Rattle.pb_service.specs.declared.section.Section.TheVariants.{Bridge, Link, Service, Port, Event}
-use Rattle.pb_service.specs.declared.section.Place.{Place}
-use Rattle.pb_service.specs.declared.section.Place.TheVariants.{Top, Network, Row}
+use Rattle.pb_service.specs.declared.section.KeyTable.{KeyTable}
+use Rattle.pb_service.specs.declared.section.KeyTable.TheVariants.{Top, Network, Row}
 
 -- the key of an array of tables
 abbrev pub word_of : Section → List ℕ
@@ -22,8 +22,8 @@ most_of Service = 64
 most_of Port = 128
 most_of Event = 128
 
--- a key with its place, as it is printed
-abbrev pub path_at : Place → List ℕ → List ℕ
+-- the path of a key, as it is printed
+abbrev pub path_at : KeyTable → List ℕ → List ℕ
 path_at Top key = key
 path_at Network key = codes "network." ++ key
 path_at (Row section index) key = word_of section ++ codes "[" ++ decimal index ++ codes "]." ++ key

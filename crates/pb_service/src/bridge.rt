@@ -48,7 +48,8 @@ fn read_bridge(
 ) -> Result<BridgePlan, PlanFault>
     requires { index ≤ length names.now }
     ensures ok { IfOk result (IsRead IsBridgeOf bridge_keys (table_view row.now)) }
-    ensures new { OnOk result (is_one_of (map (λ n. n.now) (take index names.now)) (text_at (table_view row.now) (codes "name")) ≡ false) }
+    ensures new { OnOk result (is_one_of (map (λ n. n.now) (take index names.now))
+        (text_at (table_view row.now) (codes "name")) ≡ false) }
     ensures err { IfErr result (RefusesTable bridge_section (map (λ n. n.now) names.now) index (table_view row.now)) }
 {
     check_row(alloc, Section::Bridge, row, names, index)?;
@@ -79,7 +80,8 @@ fn twice(alloc: Global, address: &Mac) -> PlanFault
 
 /// The bridges of a document.
 pub(crate) fn read_bridges(alloc: Global, document: &Table) -> Result<Vec<BridgePlan>, PlanFault>
-    ensures ok { IfOk result (λ bridges. AllZip (IsRead IsBridgeOf bridge_keys) (rows_of (table_view document.now) bridge_section) bridges.items) }
+    ensures ok { IfOk result (λ bridges. AllZip (IsRead IsBridgeOf bridge_keys)
+        (rows_of (table_view document.now) bridge_section) bridges.items) }
     ensures names { OnOk result (IsDistinct same (names_of (table_view document.now) bridge_section)) }
     ensures addresses { IfOk result (λ bridges. IsDistinct same (map (λ b. b.address.0) bridges.items)) }
     ensures tables { OnOk result (HasTables (table_view document.now) bridge_section) }

@@ -6,12 +6,13 @@ ghost use Rattle.pb_service.specs.Keys.{IsAccepted};
 ghost use Rattle.pb_service.specs.Formats.{keys_of};
 ghost use Rattle.pb_service.specs.Tables.{is_one_of, text_at};
 ghost use Rattle.pb_service.specs.Refusals.{RefusesTable};
-ghost use Rattle.pb_service.specs.declared.fault.PlanFault.TheVariants.{Twice as twice_fault, NoSuch as no_such_fault, Memory as memory_fault};
+ghost use Rattle.pb_service.specs.declared.fault.PlanFault.TheVariants.{Twice as twice_fault, NoSuch as no_such_fault};
+ghost use Rattle.pb_service.specs.declared.fault.PlanFault.TheVariants.{Memory as memory_fault};
 
 use crate::fault::PlanFault;
 use crate::formats::keys_of;
 use crate::row::check_keys;
-use crate::section::{Place, Section};
+use crate::section::{KeyTable, Section};
 use crate::told::text_at;
 use pb_frame::Text;
 use std::alloc::Global;
@@ -59,12 +60,13 @@ pub(crate) fn check_row(
 ) -> Result<(), PlanFault>
     requires { index ≤ length names.now }
     ensures ok { OnOk result (IsAccepted (keys_of section (table_view row.now)) (table_view row.now)) }
-    ensures new { OnOk result (is_one_of (map (λ n. n.now) (take index names.now)) (text_at (table_view row.now) (codes "name")) ≡ false) }
+    ensures new { OnOk result (is_one_of (map (λ n. n.now) (take index names.now))
+        (text_at (table_view row.now) (codes "name")) ≡ false) }
     ensures err { IfErr result (RefusesTable section (map (λ n. n.now) names.now) index (table_view row.now)) }
 {
     check_keys(
         alloc,
-        Place::Row(section, index),
+        KeyTable::Row(section, index),
         keys_of(section, row),
         row,
     )?;

@@ -8,7 +8,8 @@ ghost use Rattle.pb_service.specs.Formats.{event_keys};
 ghost use Rattle.pb_service.specs.Refusals.{Refuses, RefusesEvent, HasTables, ends_told, names_of};
 ghost use Rattle.pb_service.specs.Tables.{IsRead};
 ghost use Rattle.pb_service.specs.Told.{rows_of};
-ghost use Rattle.pb_service.specs.declared.section.Section.TheVariants.{Bridge as bridge_section, Event as event_section};
+ghost use Rattle.pb_service.specs.declared.section.Section.TheVariants.{Bridge as bridge_section};
+ghost use Rattle.pb_service.specs.declared.section.Section.TheVariants.{Event as event_section};
 
 use crate::check::put;
 use crate::fault::PlanFault;
@@ -16,7 +17,7 @@ use crate::formats::keys_of;
 use crate::key_fault::KeyFault;
 use crate::link::named;
 use crate::row::{check_keys, told};
-use crate::section::{Place, Section};
+use crate::section::{KeyTable, Section};
 use crate::table::{names_of, rows_of};
 use crate::told::{flag_at, number_at};
 use crate::used::{LocalPort, is_used};
@@ -45,15 +46,16 @@ fn read_event(
     ends: &[LocalPort],
 ) -> Result<PortEvent, PlanFault>
     requires { length bridges.now < 256 }
-    ensures ok { IfOk result (IsRead (IsEventOf (map (λ n. n.now) bridges.now) ends.now) event_keys (table_view row.now)) }
+    ensures ok { IfOk result (IsRead (IsEventOf (map (λ n. n.now) bridges.now) ends.now) event_keys
+        (table_view row.now)) }
     ensures err { IfErr result (RefusesEvent (map (λ n. n.now) bridges.now) ends.now index (table_view row.now)) }
 {
-    let place = Place::Row(Section::Event, index);
-    check_keys(alloc, place, keys_of(Section::Event, row), row)?;
+    let key_table = KeyTable::Row(Section::Event, index);
+    check_keys(alloc, key_table, keys_of(Section::Event, row), row)?;
     let bridge = named(alloc, row, "bridge", bridges)?;
     let port = number_at(row, "port", 0, 16) as u8;
     if !is_used(ends, LocalPort { bridge, port }) {
-        return Err(told(alloc, place, "port", KeyFault::Range));
+        return Err(told(alloc, key_table, "port", KeyFault::Range));
     }
     Ok(PortEvent {
         at: number_at(row, "at", 0, 4_294_967_295) as u32,
@@ -71,7 +73,8 @@ pub(crate) fn read_events(
 ) -> Result<Vec<PortEvent>, PlanFault>
     requires bridges { HasTables (table_view document.now) bridge_section }
     requires ends { ends.now ≡ ends_told (table_view document.now) }
-    ensures ok { IfOk result (λ events. AllZip (IsRead (IsEventOf (names_of (table_view document.now) bridge_section) (ends_told (table_view document.now))) event_keys)
+    ensures ok { IfOk result (λ events. AllZip (IsRead (IsEventOf (names_of (table_view document.now) bridge_section)
+        (ends_told (table_view document.now))) event_keys)
         (rows_of (table_view document.now) event_section) events.items) }
     ensures tables { OnOk result (HasTables (table_view document.now) event_section) }
     ensures err { IfErr result (Refuses (table_view document.now)) }

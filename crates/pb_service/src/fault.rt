@@ -10,7 +10,7 @@ use thiserror::Error;
 
 /// Why a plan file is refused: the first rule that it breaks.
 ///
-/// A key is told with its place, as `network.ageing` or `bridge[0].name`, where places count from 0; a
+/// A key is printed with its path, as `network.ageing` or `bridge[0].name`, where tables count from 0; a
 /// key at the top stands bare. The text printed is a word, and the key or name where there is one.
 #[derive(Debug, PartialEq, Eq, Drop, Error)]
 pub enum PlanFault {

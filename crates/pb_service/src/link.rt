@@ -1,6 +1,7 @@
 //! The links of a document.
 
-ghost use Rattle.std.specs.Prelude.{◌≡◌, ◌≤◌, ◌<◌, ◌⊎◌, ◌++◌, ◌∷◌, [], true, codes, length, map, Some, IfSome, IfNone, IfOk, IfErr, OnOk};
+ghost use Rattle.std.specs.Prelude.{◌≡◌, ◌≤◌, ◌<◌, ◌⊎◌, ◌++◌, ◌∷◌, [], true, codes, length};
+ghost use Rattle.std.specs.Prelude.{map, Some, IfSome, IfNone, IfOk, IfErr, OnOk};
 ghost use Rattle.std.specs.List.{AllZip, IsDistinct, flat_map};
 ghost use Rattle.toml.specs.Data.{get_member};
 ghost use Rattle.toml.specs.View.{items_view, table_view};
@@ -9,9 +10,12 @@ ghost use Rattle.pb_service.specs.Formats.{link_keys};
 ghost use Rattle.pb_service.specs.Told.{rows_of, number_from};
 ghost use Rattle.pb_service.specs.Tables.{text_at, services_told, are_known, names_of_end, IsEndOf, IsLinkOf, IsRead};
 ghost use Rattle.pb_service.specs.UsedPorts.{is_used, port_of, AreUsedOnce};
-ghost use Rattle.pb_service.specs.Refusals.{Refuses, RefusesTable, HasTables, LacksName, LacksListed, IsUnlisted, LinkLacks, names_of, link_ports};
-ghost use Rattle.pb_service.specs.declared.fault.PlanFault.TheVariants.{LinkEnd as link_end_fault, Memory as memory_fault};
-ghost use Rattle.pb_service.specs.declared.section.Section.TheVariants.{Bridge as bridge_section, Link as link_section, Service as service_section};
+ghost use Rattle.pb_service.specs.Refusals.{Refuses, RefusesTable, HasTables, LacksName, LacksListed};
+ghost use Rattle.pb_service.specs.Refusals.{IsUnlisted, LinkLacks, names_of, link_ports};
+ghost use Rattle.pb_service.specs.declared.fault.PlanFault.TheVariants.{LinkEnd as link_end_fault};
+ghost use Rattle.pb_service.specs.declared.fault.PlanFault.TheVariants.{Memory as memory_fault};
+ghost use Rattle.pb_service.specs.declared.section.Section.TheVariants.{Bridge as bridge_section, Link as link_section};
+ghost use Rattle.pb_service.specs.declared.section.Section.TheVariants.{Service as service_section};
 
 use crate::check::{check_row, is_one_of, no_such, put};
 use crate::fault::PlanFault;
@@ -59,8 +63,10 @@ static B: EndKeys = EndKeys {
 /// The number of the thing that a key names.
 pub(crate) fn named(alloc: Global, row: &Table, key: &str, names: &[&str]) -> Result<u8, PlanFault>
     requires { length names.now < 256 }
-    ensures ok { IfOk result (λ n. number_from 1 (map (λ n. n.now) names.now) (text_at (table_view row.now) key.now) ≡ Some n) }
-    ensures err { IfErr result (λ e. (e ≡ memory_fault) ⊎ LacksName (map (λ n. n.now) names.now) (table_view row.now) key.now e) }
+    ensures ok { IfOk result (λ n. number_from 1 (map (λ n. n.now) names.now) (text_at (table_view row.now) key.now)
+        ≡ Some n) }
+    ensures err { IfErr result (λ e.
+        (e ≡ memory_fault) ⊎ LacksName (map (λ n. n.now) names.now) (table_view row.now) key.now e) }
 {
     let name = text_at(row, key);
     match number_of(names, name) {
@@ -86,7 +92,8 @@ fn unlisted<'a>(names: &[&str], listed: &'a [Value]) -> Option<&'a str>
 /// Whether each listed name is one of those that are known.
 fn check_listed(alloc: Global, names: &[&str], listed: &[Value]) -> Result<(), PlanFault>
     ensures ok { OnOk result (are_known (map (λ n. n.now) names.now) (items_view listed.now) ≡ true) }
-    ensures err { IfErr result (λ e. (e ≡ memory_fault) ⊎ LacksListed (map (λ n. n.now) names.now) (items_view listed.now) e) }
+    ensures err { IfErr result (λ e.
+        (e ≡ memory_fault) ⊎ LacksListed (map (λ n. n.now) names.now) (items_view listed.now) e) }
 {
     match unlisted(names, listed) {
         None => Ok(()),
@@ -101,7 +108,8 @@ fn services_at(
     key: &str,
     names: &[&str],
 ) -> Result<Option<Seq<u8>>, PlanFault>
-    ensures ok { IfOk result (λ services. services ≡ services_told (map (λ n. n.now) names.now) (get_member key.now (table_view row.now))) }
+    ensures ok { IfOk result (λ services. services ≡ services_told (map (λ n. n.now) names.now)
+        (get_member key.now (table_view row.now))) }
     ensures err { IfErr result (λ e. e ≡ memory_fault) }
 {
     match value_at(row, key) {
@@ -140,8 +148,10 @@ fn link_of(
     services: &[&str],
 ) -> Result<LinkPlan, PlanFault>
     requires { length bridges.now < 256 }
-    ensures ok { IfOk result (IsLinkOf (map (λ n. n.now) bridges.now) (map (λ n. n.now) services.now) (table_view row.now)) }
-    ensures err { IfErr result (LinkLacks (map (λ n. n.now) bridges.now) (map (λ n. n.now) services.now) (table_view row.now)) }
+    ensures ok { IfOk result (IsLinkOf (map (λ n. n.now) bridges.now) (map (λ n. n.now) services.now)
+        (table_view row.now)) }
+    ensures err { IfErr result (LinkLacks (map (λ n. n.now) bridges.now) (map (λ n. n.now) services.now)
+        (table_view row.now)) }
 {
     let a = named(alloc, row, A.bridge, bridges)?;
     let b = named(alloc, row, B.bridge, bridges)?;
@@ -192,9 +202,12 @@ pub(crate) struct Links {
 /// The links of a document.
 pub(crate) fn read_links(alloc: Global, document: &Table) -> Result<Links, PlanFault>
     requires { HasTables (table_view document.now) bridge_section }
-    ensures ok { IfOk result (λ r. AllZip (IsRead (IsLinkOf (names_of (table_view document.now) bridge_section) (names_of (table_view document.now) service_section)) link_keys)
+    ensures ok { IfOk result (λ r. AllZip (IsRead (IsLinkOf (names_of (table_view document.now) bridge_section)
+        (names_of (table_view document.now) service_section)) link_keys)
         (rows_of (table_view document.now) link_section) r.links.items) }
-    ensures used { IfOk result (λ r. r.used.items ≡ flat_map (link_ports (names_of (table_view document.now) bridge_section)) (rows_of (table_view document.now) link_section)) }
+    ensures used { IfOk result (λ r. r.used.items ≡ flat_map
+        (link_ports (names_of (table_view document.now) bridge_section))
+        (rows_of (table_view document.now) link_section)) }
     ensures names { OnOk result (IsDistinct same (names_of (table_view document.now) link_section)) }
     ensures once { IfOk result (λ r. AreUsedOnce r.used.items) }
     ensures tables { OnOk result (HasTables (table_view document.now) link_section) }

@@ -14,7 +14,7 @@ use crate::fault::PlanFault;
 use crate::formats::network_keys;
 use crate::key_fault::KeyFault;
 use crate::row::{check_keys, told};
-use crate::section::Place;
+use crate::section::KeyTable;
 use crate::told::{number_at, spanning_of, text_at, value_at};
 use pb_frame::Text;
 use pb_lan::{DEFAULT_AGEING, Limits, Spanning};
@@ -64,10 +64,10 @@ fn check_clocks(alloc: Global, limits: Limits) -> Result<(), PlanFault>
     ensures err { IfErr result (RefusesClocks limits) }
 {
     if has_two_clocks(limits) {
-        return Err(told(alloc, Place::Network, "tick_ms", KeyFault::Range));
+        return Err(told(alloc, KeyTable::Network, "tick_ms", KeyFault::Range));
     }
     if holds_forever(limits) {
-        return Err(told(alloc, Place::Network, "hold", KeyFault::Range));
+        return Err(told(alloc, KeyTable::Network, "hold", KeyFault::Range));
     }
     Ok(())
 }
@@ -77,7 +77,7 @@ fn network_of(alloc: Global, row: &Table) -> Result<Network, PlanFault>
     ensures ok { IfOk result (IsNetworkOf (table_view row.now)) }
     ensures err { IfErr result (RefusesNetwork (table_view row.now)) }
 {
-    check_keys(alloc, Place::Network, network_keys(), row)?;
+    check_keys(alloc, KeyTable::Network, network_keys(), row)?;
     let limits = limits_of(row);
     check_clocks(alloc, limits)?;
     Ok(Network {

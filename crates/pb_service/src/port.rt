@@ -12,9 +12,12 @@ ghost use Rattle.pb_service.specs.Clocks.{lacks_time};
 ghost use Rattle.pb_service.specs.Told.{has_key, rows_of};
 ghost use Rattle.pb_service.specs.Tables.{text_at, AreFrames, IsPortSpecOf, IsCustomerOf, IsReadPort};
 ghost use Rattle.pb_service.specs.UsedPorts.{AreUsedOnce};
-ghost use Rattle.pb_service.specs.Refusals.{Refuses, RefusesStamp, HasTables, CustomerLacks, names_of, network_limits, link_ports, ports_told};
+ghost use Rattle.pb_service.specs.Refusals.{Refuses, RefusesStamp, HasTables, CustomerLacks};
+ghost use Rattle.pb_service.specs.Refusals.{names_of, network_limits, link_ports, ports_told};
 ghost use Rattle.pb_service.specs.declared.fault.PlanFault.TheVariants.{Memory as memory_fault};
-ghost use Rattle.pb_service.specs.declared.section.Section.TheVariants.{Bridge as bridge_section, Link as link_section, Service as service_section, Port as port_section};
+ghost use Rattle.pb_service.specs.declared.section.Section.TheVariants.{Bridge as bridge_section, Link as link_section};
+ghost use Rattle.pb_service.specs.declared.section.Section.TheVariants.{Service as service_section};
+ghost use Rattle.pb_service.specs.declared.section.Section.TheVariants.{Port as port_section};
 
 use crate::check::{check_row, put};
 use crate::fault::PlanFault;
@@ -22,7 +25,7 @@ use crate::key_fault::KeyFault;
 use crate::link::named;
 use crate::port_spec::PortSpec;
 use crate::row::told;
-use crate::section::{Place, Section};
+use crate::section::{KeyTable, Section};
 use crate::table::{names_of, tables_at};
 use crate::told::{copy_at, has_key, items_at, number_at, stamp_of, text_at};
 use crate::used::{LocalPort, use_port};
@@ -80,8 +83,8 @@ fn capture_of(
 {
     let stamp = text_at(row, "stamp");
     if lacks_time(limits, stamp) {
-        let place = Place::Row(Section::Port, index);
-        return Err(told(alloc, place, "stamp", KeyFault::Range));
+        let key_table = KeyTable::Row(Section::Port, index);
+        return Err(told(alloc, key_table, "stamp", KeyFault::Range));
     }
     Ok(PortSpec::Capture {
         read: copy_at(alloc, row, "read")?,
@@ -92,7 +95,8 @@ fn capture_of(
 
 /// The path of the socket that a table tells: at which the port listens, or to which it connects.
 fn socket_path(alloc: Global, row: &Table, listens: bool) -> Result<Text, PlanFault>
-    ensures ok { IfOk result (λ path. path ≡ text_at (table_view row.now) (if listens then codes "listen" else codes "path")) }
+    ensures ok { IfOk result (λ path. path ≡ text_at (table_view row.now)
+        (if listens then codes "listen" else codes "path")) }
     ensures err { IfErr result (λ e. e ≡ memory_fault) }
 {
     if listens {
@@ -109,7 +113,8 @@ fn port_spec_of(
     row: &Table,
     index: usize,
 ) -> Result<PortSpec, PlanFault>
-    requires { IsAccepted (port_keys (text_at (table_view row.now) (codes "kind")) (has_key (table_view row.now) (codes "listen"))) (table_view row.now) }
+    requires { IsAccepted (port_keys (text_at (table_view row.now) (codes "kind"))
+        (has_key (table_view row.now) (codes "listen"))) (table_view row.now) }
     ensures ok { IfOk result (IsPortSpecOf limits (table_view row.now)) }
     ensures err { IfErr result (RefusesStamp limits index (table_view row.now)) }
 {
@@ -135,8 +140,10 @@ fn customer_of(
 ) -> Result<CustomerPlan, PlanFault>
     requires bridges { length bridges.now < 256 }
     requires services { length services.now < 256 }
-    ensures ok { IfOk result (IsCustomerOf (map (λ n. n.now) bridges.now) (map (λ n. n.now) services.now) (table_view row.now)) }
-    ensures err { IfErr result (CustomerLacks (map (λ n. n.now) bridges.now) (map (λ n. n.now) services.now) (table_view row.now)) }
+    ensures ok { IfOk result (IsCustomerOf (map (λ n. n.now) bridges.now) (map (λ n. n.now) services.now)
+        (table_view row.now)) }
+    ensures err { IfErr result (CustomerLacks (map (λ n. n.now) bridges.now) (map (λ n. n.now) services.now)
+        (table_view row.now)) }
 {
     let bridge = named(alloc, row, "bridge", bridges)?;
     let service = named(alloc, row, "service", services)?;
@@ -167,11 +174,14 @@ pub(crate) fn read_customers(
     requires limits { limits ≡ network_limits (table_view document.now) }
     requires bridges { HasTables (table_view document.now) bridge_section }
     requires services { HasTables (table_view document.now) service_section }
-    requires used { used.items ≡ flat_map (link_ports (names_of (table_view document.now) bridge_section)) (rows_of (table_view document.now) link_section) }
+    requires used { used.items ≡ flat_map (link_ports (names_of (table_view document.now) bridge_section))
+        (rows_of (table_view document.now) link_section) }
     requires once { AreUsedOnce used.items }
-    ensures ok { IfOk result (λ r. AllZip (IsReadPort (IsCustomerOf (names_of (table_view document.now) bridge_section) (names_of (table_view document.now) service_section)))
+    ensures ok { IfOk result (λ r. AllZip (IsReadPort (IsCustomerOf (names_of (table_view document.now) bridge_section)
+        (names_of (table_view document.now) service_section)))
         (rows_of (table_view document.now) port_section) r.customers.items) }
-    ensures specs { IfOk result (λ r. AllZip (IsPortSpecOf (network_limits (table_view document.now))) (rows_of (table_view document.now) port_section) r.specs.items) }
+    ensures specs { IfOk result (λ r. AllZip (IsPortSpecOf (network_limits (table_view document.now)))
+        (rows_of (table_view document.now) port_section) r.specs.items) }
     ensures names { OnOk result (IsDistinct same (names_of (table_view document.now) port_section)) }
     ensures once { OnOk result (AreUsedOnce (ports_told (table_view document.now))) }
     ensures tables { OnOk result (HasTables (table_view document.now) port_section) }

@@ -1,19 +1,22 @@
 //! Whether a table keeps the rules of its keys.
 
-ghost use Rattle.std.specs.Prelude.{◌≡◌, ◌⊎◌, option_map, option_copied, find, not, OnOk, IfErr, IfNone, IfSome, None, string_bytes};
+ghost use Rattle.std.specs.Prelude.{◌≡◌, ◌⊎◌, option_map, option_copied, find, not};
+ghost use Rattle.std.specs.Prelude.{OnOk, IfErr, IfNone, IfSome, None, string_bytes};
 ghost use Rattle.std.specs.BTreeMap.{keys};
 ghost use Rattle.toml.specs.Data.{get_member};
 ghost use Rattle.toml.specs.View.{view, table_view};
 ghost use Rattle.pb_service.specs.Sections.{path_at};
 ghost use Rattle.pb_service.specs.Formats.{top_keys};
 ghost use Rattle.pb_service.specs.Refusals.{Refuses};
-ghost use Rattle.pb_service.specs.Keys.{rule_of, rules_of, names_of, IsTaken, IsRefused, IsAccepted, RefusesRow, first_unknown, is_known, fault_of};
-ghost use Rattle.pb_service.specs.declared.fault.PlanFault.TheVariants.{Unknown as unknown_fault, Memory as memory_fault};
+ghost use Rattle.pb_service.specs.Keys.{rule_of, rules_of, names_of, IsTaken, IsRefused, IsAccepted};
+ghost use Rattle.pb_service.specs.Keys.{RefusesRow, first_unknown, is_known, fault_of};
+ghost use Rattle.pb_service.specs.declared.fault.PlanFault.TheVariants.{Unknown as unknown_fault};
+ghost use Rattle.pb_service.specs.declared.fault.PlanFault.TheVariants.{Memory as memory_fault};
 
 use crate::fault::PlanFault;
 use crate::key_fault::KeyFault;
 use crate::rule::Key;
-use crate::section::{Place, path_at};
+use crate::section::{KeyTable, path_at};
 use crate::told::value_at;
 use crate::values::{is_allowed, is_of_kind};
 use pb_frame::Text;
@@ -23,7 +26,8 @@ use toml::{Table, Value};
 /// Why what stands at a key is refused, if it is.
 fn refusal(key: &Key, value: Option<&Value>) -> Option<KeyFault>
     ensures none { IfNone result (IsTaken (rule_of key.now) (option_map (λ v. view v.now) value.entry)) }
-    ensures some { IfSome result (λ fault. IsRefused (rule_of key.now) (option_map (λ v. view v.now) value.entry) fault) }
+    ensures some { IfSome result (λ fault.
+        IsRefused (rule_of key.now) (option_map (λ v. view v.now) value.entry) fault) }
 {
     let Some(value) = value else {
         return if key.needed {
@@ -41,11 +45,11 @@ fn refusal(key: &Key, value: Option<&Value>) -> Option<KeyFault>
     }
 }
 
-/// The fault of a key with its place.
-pub(crate) fn told(alloc: Global, place: Place, key: &str, fault: KeyFault) -> PlanFault
-    ensures { (result ≡ memory_fault) ⊎ (result ≡ fault_of fault (path_at place key.now)) }
+/// Returns the fault of a key, with its path.
+pub(crate) fn told(alloc: Global, key_table: KeyTable, key: &str, fault: KeyFault) -> PlanFault
+    ensures { (result ≡ memory_fault) ⊎ (result ≡ fault_of fault (path_at key_table key.now)) }
 {
-    match path_at(alloc, place, key) {
+    match path_at(alloc, key_table, key) {
         Ok(path) => told_at(path, fault),
         Err(_) => PlanFault::Memory,
     }
@@ -73,7 +77,8 @@ fn unknown_key<'a>(table: &'a Table, known: &[Key]) -> Option<&'a str>
 }
 
 fn unknown_entry<'a>(table: &'a Table, known: &[Key]) -> Option<&'a String>
-    ensures { option_copied result ≡ find (λ key. not (is_known (names_of (rules_of known.now)) (string_bytes key))) (keys table.now) }
+    ensures { option_copied result ≡ find (λ key. not (is_known (names_of (rules_of known.now)) (string_bytes key)))
+        (keys table.now) }
 {
     table.keys().find(|key| !is_known(known, key.as_str()))
 }
@@ -92,21 +97,21 @@ fn is_known(known: &[Key], key: &str) -> bool
 /// Whether a table keeps the rules of its keys: the first that is broken.
 pub(crate) fn check_keys(
     alloc: Global,
-    place: Place,
+    key_table: KeyTable,
     keys: &[Key],
     row: &Table,
 ) -> Result<(), PlanFault>
     ensures ok { OnOk result (IsAccepted (rules_of keys.now) (table_view row.now)) }
-    ensures err { IfErr result (RefusesRow (rules_of keys.now) place (table_view row.now)) }
+    ensures err { IfErr result (RefusesRow (rules_of keys.now) key_table (table_view row.now)) }
 {
     for key in keys {
         if let Some(fault) = refusal(key, value_at(row, key.name)) {
-            return Err(told(alloc, place, key.name, fault));
+            return Err(told(alloc, key_table, key.name, fault));
         }
     }
     match unknown_key(row, keys) {
         None => Ok(()),
-        Some(key) => Err(PlanFault::Unknown(path_at(alloc, place, key)?)),
+        Some(key) => Err(PlanFault::Unknown(path_at(alloc, key_table, key)?)),
     }
 }
 

@@ -1,4 +1,4 @@
-//! The tables of a plan file, and the places of their keys.
+//! The tables of a plan file, and the paths of their keys.
 
 ghost use Rattle.std.specs.Prelude.{◌≡◌, ◌++◌, codes, string_bytes, IfOk};
 ghost use Rattle.std.specs.Fmt.{decimal};
@@ -17,10 +17,10 @@ pub(crate) enum Section {
     Event,
 }
 
-/// Where a key stands: at the top, in the table of the network, or in a table of an array, which are
-/// numbered from 0.
+/// The table in which a key is: the top of the file, the table of the network, or a table of an array. Tables of an
+/// array are numbered from 0.
 #[derive(Clone, Copy)]
-pub(crate) enum Place {
+pub(crate) enum KeyTable {
     Top,
     Network,
     Row(Section, usize),
@@ -50,21 +50,22 @@ pub(crate) fn most_of(section: Section) -> usize
     }
 }
 
-/// A key with its place, as it is printed.
-pub(crate) fn path_at(alloc: Global, place: Place, key: &str) -> Result<Text, Memory>
-    ensures { IfOk result (λ path. path ≡ path_at place key.now) }
+/// Returns the path of a key, as it is printed.
+pub(crate) fn path_at(alloc: Global, key_table: KeyTable, key: &str) -> Result<Text, Memory>
+    ensures { IfOk result (λ path. path ≡ path_at key_table key.now) }
 {
-    let path = match place {
-        Place::Top => String::from_str(alloc, key)?,
-        Place::Network => format!(in alloc; "network.{key}")?,
-        Place::Row(section, index) => row_path(alloc, word_of(section), index, key)?,
+    let path = match key_table {
+        KeyTable::Top => String::from_str(alloc, key)?,
+        KeyTable::Network => format!(in alloc; "network.{key}")?,
+        KeyTable::Row(section, index) => row_path(alloc, word_of(section), index, key)?,
     };
     Ok(Text::from_string(path))
 }
 
-/// A key of a table in an array.
+/// Returns the path of a key of a table in an array.
 fn row_path(alloc: Global, word: &str, index: usize, key: &str) -> Result<String, Memory>
-    ensures { IfOk result (λ path. string_bytes path ≡ word.now ++ codes "[" ++ decimal index ++ codes "]." ++ key.now) }
+    ensures { IfOk result (λ path. string_bytes path ≡ word.now ++ codes "[" ++ decimal index ++ codes "]."
+        ++ key.now) }
 {
     Ok(format!(in alloc; "{word}[{index}].{key}")?)
 }

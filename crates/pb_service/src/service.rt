@@ -42,7 +42,8 @@ fn read_service(
 ) -> Result<ServicePlan, PlanFault>
     requires { index ≤ length names.now }
     ensures ok { IfOk result (IsRead IsServiceOf service_keys (table_view row.now)) }
-    ensures new { OnOk result (is_one_of (map (λ n. n.now) (take index names.now)) (text_at (table_view row.now) (codes "name")) ≡ false) }
+    ensures new { OnOk result (is_one_of (map (λ n. n.now) (take index names.now))
+        (text_at (table_view row.now) (codes "name")) ≡ false) }
     ensures err { IfErr result (RefusesTable service_section (map (λ n. n.now) names.now) index (table_view row.now)) }
 {
     check_row(alloc, Section::Service, row, names, index)?;
@@ -73,7 +74,8 @@ fn twice(alloc: Global, vid: u16) -> PlanFault
 
 /// The services of a document.
 pub(crate) fn read_services(alloc: Global, document: &Table) -> Result<Vec<ServicePlan>, PlanFault>
-    ensures ok { IfOk result (λ services. AllZip (IsRead IsServiceOf service_keys) (rows_of (table_view document.now) service_section) services.items) }
+    ensures ok { IfOk result (λ services. AllZip (IsRead IsServiceOf service_keys)
+        (rows_of (table_view document.now) service_section) services.items) }
     ensures names { OnOk result (IsDistinct same (names_of (table_view document.now) service_section)) }
     ensures vids { IfOk result (λ services. IsDistinct nat_eq (map (λ s. s.vid) services.items)) }
     ensures tables { OnOk result (HasTables (table_view document.now) service_section) }

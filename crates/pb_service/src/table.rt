@@ -22,7 +22,8 @@ pub(crate) fn tables_of<'a>(
     document: &'a Table,
     section: Section,
 ) -> Result<Vec<&'a Table>, PlanFault>
-    ensures ok { IfOk result (λ tables. map (λ t. table_view t.now) tables.items ≡ rows_of (table_view document.now) section) }
+    ensures ok { IfOk result (λ tables. map (λ t. table_view t.now) tables.items
+        ≡ rows_of (table_view document.now) section) }
     ensures err { IfErr result (λ e. e ≡ memory_fault) }
 {
     let items = items_at(document, word_of(section));
@@ -81,7 +82,8 @@ pub(crate) fn rows_of<'a>(
     document: &'a Table,
     section: Section,
 ) -> Result<Vec<&'a Table>, PlanFault>
-    ensures ok { IfOk result (λ rows. map (λ t. table_view t.now) rows.items ≡ rows_of (table_view document.now) section) }
+    ensures ok { IfOk result (λ rows. map (λ t. table_view t.now) rows.items
+        ≡ rows_of (table_view document.now) section) }
     ensures tables { OnOk result (HasTables (table_view document.now) section) }
     ensures err { IfErr result (Refuses (table_view document.now)) }
 {

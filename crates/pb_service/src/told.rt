@@ -3,7 +3,8 @@
 ghost use Rattle.std.specs.Prelude.{◌≡◌, ◌<◌, ◌≤◌, ◌^◌, length, map, option_map, take, IfOk, IfErr, IfSome};
 ghost use Rattle.toml.specs.Data.{get_member};
 ghost use Rattle.toml.specs.View.{view, items_view, table_view};
-ghost use Rattle.pb_service.specs.Told.{number_told, flag_told, text_told, items_told, state_of, spanning_of, naturals_in, number_from, listed_from, has_key, stamp_of};
+ghost use Rattle.pb_service.specs.Told.{number_told, flag_told, text_told, items_told, state_of, spanning_of};
+ghost use Rattle.pb_service.specs.Told.{naturals_in, number_from, listed_from, has_key, stamp_of};
 ghost use Rattle.pb_service.specs.declared.fault.PlanFault.TheVariants.{Memory as memory_fault};
 
 use crate::fault::PlanFault;
@@ -153,7 +154,8 @@ pub(crate) fn numbers_of(
     names: &[&str],
     listed: &[Value],
 ) -> Result<Seq<u8>, PlanFault>
-    ensures ok { IfOk result (λ numbers. numbers ≡ listed_from 1 (take 64 (map (λ n. n.now) names.now)) (items_view listed.now)) }
+    ensures ok { IfOk result (λ numbers.
+        numbers ≡ listed_from 1 (take 64 (map (λ n. n.now) names.now)) (items_view listed.now)) }
     ensures err { IfErr result (λ e. e ≡ memory_fault) }
 {
     numbers_among(alloc, &names[..64usize.min(names.len())], listed)

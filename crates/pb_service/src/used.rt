@@ -2,7 +2,8 @@
 
 ghost use Rattle.std.specs.Prelude.{◌≡◌, ◌⊎◌, ◌++◌, ◌∷◌, [], true, false, OnOk, IfErr};
 ghost use Rattle.pb_service.specs.UsedPorts.{is_used};
-ghost use Rattle.pb_service.specs.declared.fault.PlanFault.TheVariants.{LinkEnd as link_end_fault, Memory as memory_fault};
+ghost use Rattle.pb_service.specs.declared.fault.PlanFault.TheVariants.{LinkEnd as link_end_fault};
+ghost use Rattle.pb_service.specs.declared.fault.PlanFault.TheVariants.{Memory as memory_fault};
 
 use crate::fault::PlanFault;
 
@@ -29,7 +30,8 @@ pub(crate) fn is_used(used: &[LocalPort], port: LocalPort) -> bool
 pub(crate) fn use_port(used: &mut Vec<LocalPort>, port: LocalPort) -> Result<(), PlanFault>
     ensures ok { OnOk result (used.new.items ≡ used.old.items ++ port ∷ []) }
     ensures free { OnOk result (is_used used.old.items port ≡ false) }
-    ensures err { IfErr result (λ e. (e ≡ memory_fault) ⊎ ((e ≡ link_end_fault) × (is_used used.old.items port ≡ true))) }
+    ensures err { IfErr result (λ e. (e ≡ memory_fault) ⊎ ((e ≡ link_end_fault)
+        × (is_used used.old.items port ≡ true))) }
 {
     if is_used(used, port) {
         return Err(PlanFault::LinkEnd);

@@ -1,6 +1,7 @@
 //! What values of a TOML document may be.
 
-ghost use Rattle.std.specs.Prelude.{◌≡◌, false, ◌+◌, ◌^◌, ◌<◌, ◌↔◌, IsTrue, IsSome, IfSome, IfNone, nat_le, ◌==◌, ◌%◌, ◌&&◌, ◌||◌, is_some, codes, List, ℕ};
+ghost use Rattle.std.specs.Prelude.{◌≡◌, false, ◌+◌, ◌^◌, ◌<◌, ◌↔◌, IsTrue, IsSome, IfSome, IfNone};
+ghost use Rattle.std.specs.Prelude.{nat_le, ◌==◌, ◌%◌, ◌&&◌, ◌||◌, is_some, codes, List, ℕ};
 ghost use Rattle.std.specs.List.{list_all};
 ghost use Rattle.toml.specs.Data.{as_str, as_integer, as_bool};
 ghost use Rattle.toml.specs.View.{view, items_view};
@@ -8,7 +9,8 @@ ghost use Rattle.pb_frame.specs.Admission.{same};
 ghost use Rattle.pb_frame.specs.Frames.{is_group};
 ghost use Rattle.pb_frame.specs.Hex.{is_digit, IsMacText};
 ghost use Rattle.pb_lan.specs.Names.{is_name};
-ghost use Rattle.pb_service.specs.Values.{natural_of, is_text, is_natural, all_items, any_item, is_list, is_hex, text_in, IsAddress, rise_from, are_distinct, is_of_kind, IsAllowed};
+ghost use Rattle.pb_service.specs.Values.{natural_of, is_text, is_natural, all_items, any_item, is_list, is_hex};
+ghost use Rattle.pb_service.specs.Values.{text_in, IsAddress, rise_from, are_distinct, is_of_kind, IsAllowed};
 
 use crate::rule::Rule;
 use pb_frame::Mac;
@@ -120,7 +122,8 @@ fn is_spanning(value: &Value) -> bool
 }
 
 fn is_state(value: &Value) -> bool
-    ensures { result ≡ is_text (λ t. same t (codes "discarding") || (same t (codes "learning") || same t (codes "forwarding"))) (view value.now) }
+    ensures { result ≡ is_text (λ t. same t (codes "discarding")
+        || (same t (codes "learning") || same t (codes "forwarding"))) (view value.now) }
 {
     match value.as_str() {
         Some(text) => text == "discarding" || (text == "learning" || text == "forwarding"),
@@ -129,7 +132,8 @@ fn is_state(value: &Value) -> bool
 }
 
 fn is_port_kind(value: &Value) -> bool
-    ensures { result ≡ is_text (λ t. same t (codes "memory") || (same t (codes "capture") || same t (codes "socket"))) (view value.now) }
+    ensures { result ≡ is_text (λ t. same t (codes "memory") || (same t (codes "capture") || same t (codes "socket")))
+        (view value.now) }
 {
     match value.as_str() {
         Some(text) => text == "memory" || (text == "capture" || text == "socket"),

@@ -1,7 +1,7 @@
 //! The command `control`.
 
-use crate::telling::{WRONG_WORDS, tell};
-use pb_cli::ControlOrder;
+use crate::telling::{WRONG_ARGUMENTS, tell};
+use pb_cli::ControlOptions;
 use pb_cmd_control::{ControlFault, command_lines, converse};
 use std::io;
 use std::io::ErrorKind;
@@ -20,16 +20,16 @@ fn has_line_feed(argument: &String) -> bool {
 /// Sends commands to the run that listens at a path, and prints its answers.
 pub(crate) fn control<R: Input + Print + Eprint + Net + AllocGlobal>(
     rt: &R,
-    order: &ControlOrder,
+    options: &ControlOptions,
 ) -> ExitCode {
-    let arguments = order.arguments.as_slice();
+    let arguments = options.arguments.as_slice();
     if arguments.iter().any(has_line_feed) {
         let _ = eprintln!(rt; "error: an argument of control has a line feed in it");
-        return ExitCode::from(WRONG_WORDS);
+        return ExitCode::from(WRONG_ARGUMENTS);
     }
-    match UnixStream::connect(rt, order.path.as_str()) {
-        Ok(stream) => ended(rt, order.path.as_str(), talk(rt, arguments, &stream)),
-        Err(e) => unreachable_at(rt, order.path.as_str(), &e),
+    match UnixStream::connect(rt, options.path.as_str()) {
+        Ok(stream) => ended(rt, options.path.as_str(), talk(rt, arguments, &stream)),
+        Err(e) => unreachable_at(rt, options.path.as_str(), &e),
     }
 }
 
@@ -83,8 +83,8 @@ fn ended(rt: &(impl Print + Eprint), path: &str, outcome: Result<u8, ControlFaul
         Ok(0) => ExitCode::SUCCESS,
         Ok(status) => {
             let _ = eprintln!(rt;
-                "{path}: not every command was done: the commands are stop, counts, tree, down BRIDGE PORT and up BRIDGE PORT, \
-                 and tree lists each BRIDGE with its PORTs"
+                "{path}: not every command was done: the commands are stop, counts, tree, down BRIDGE PORT and up \
+                 BRIDGE PORT, and tree lists each BRIDGE with its PORTs"
             );
             ExitCode::from(status)
         }

@@ -1,8 +1,8 @@
 //! The command `draw`.
 
-use crate::telling::{FAULT, WRONG_WORDS, tell};
+use crate::telling::{FAULT, WRONG_ARGUMENTS, tell};
 use crate::{REFUSED, contents, ended};
-use pb_cli::{DrawOrder, PictureFormat};
+use pb_cli::{DrawOptions, PictureFormat};
 use pb_cmd_draw::{Asked, DrawEnd, Format, Rest, run_draw};
 use pb_messages::CommandFault;
 use std::fs::Files;
@@ -11,7 +11,7 @@ use std::os::unix::fs::MetadataExt;
 use std::process::ExitCode;
 use std::{fs, io};
 
-/// The form that the words ask for.
+/// Returns the form that the option names.
 fn format_of(format: PictureFormat) -> Format {
     match format {
         PictureFormat::Svg => Format::Svg,
@@ -22,23 +22,23 @@ fn format_of(format: PictureFormat) -> Format {
 /// Draws the network of a plan file.
 pub(crate) fn draw_network(
     rt: &(impl Files + Print + Eprint + AllocGlobal),
-    order: &DrawOrder,
+    options: &DrawOptions,
 ) -> ExitCode {
-    let path = order.path.as_str();
+    let path = options.path.as_str();
     let file = match contents(rt, path, &mut io::writer(rt)) {
         Ok(file) => file,
         Err(status) => return status,
     };
     let asked = Asked {
-        service: match &order.service {
+        service: match &options.service {
             Some(name) => Some(name.as_str()),
             None => None,
         },
-        downs: order.downs.as_slice(),
-        ticks: order.ticks,
-        format: format_of(order.format),
+        downs: options.downs.as_slice(),
+        ticks: options.ticks,
+        format: format_of(options.format),
     };
-    let drawn = match &order.output {
+    let drawn = match &options.output {
         None => run_draw(rt.alloc(), file.as_slice(), &asked, &mut io::writer(rt)),
         Some(output) => {
             let mut text = Vec::new(rt.alloc());
@@ -90,7 +90,7 @@ fn save(
 ) -> Result<io::Result<()>, ExitCode> {
     if is_one_file(rt, plan, output) {
         let _ = eprintln!(rt; "error: --output {output} is the plan file");
-        return Err(ExitCode::from(WRONG_WORDS));
+        return Err(ExitCode::from(WRONG_ARGUMENTS));
     }
     match fs::create(rt, output) {
         Ok(mut file) => Ok(file.write_all(text)),
@@ -110,12 +110,12 @@ fn drawn_at(rt: &impl Eprint, rest: Rest) -> ExitCode {
     ExitCode::SUCCESS
 }
 
-/// Says that words name no port to another bridge.
+/// Reports that a `--down` names no port to another bridge.
 fn no_port(rt: &impl Eprint, downs: &[String], index: usize) -> ExitCode {
-    if let Some(word) = downs.get(index) {
-        let _ = eprintln!(rt; "error: --down {word} names no port to another bridge");
+    if let Some(down) = downs.get(index) {
+        let _ = eprintln!(rt; "error: --down {down} names no port to another bridge");
     }
-    ExitCode::from(WRONG_WORDS)
+    ExitCode::from(WRONG_ARGUMENTS)
 }
 
 /// Says that the plan has no service of the name.
@@ -123,5 +123,5 @@ fn no_service(rt: &impl Eprint, service: Option<&str>) -> ExitCode {
     if let Some(name) = service {
         let _ = eprintln!(rt; "error: --service {name} names no service of the plan");
     }
-    ExitCode::from(WRONG_WORDS)
+    ExitCode::from(WRONG_ARGUMENTS)
 }

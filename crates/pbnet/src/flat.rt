@@ -13,8 +13,8 @@ use std::{io, mem};
 /// How many octets are gathered before they are written.
 const BUFFER: usize = 65_536;
 
-/// Runs one bridge with so many ports, 2 to 16, over the lines of standard input, as [`run_flat_on`] tells. The exit status is
-/// 0 where the lines came to their end, and 3 where a fault ended them, which is told.
+/// Runs one bridge with so many ports, 2 to 16, over the lines of standard input, as [`run_flat_on`] tells. The exit
+/// status is 0 where the lines came to their end, and 3 where a fault ended them, which is told.
 pub(crate) fn flat(rt: &(impl Input + Print + AllocGlobal), ports: u8) -> ExitCode
     requires { (2 ≤ ports) × (ports ≤ 16) }
     ensures { (exit_status result ≡ 0) ⊎ (exit_status result ≡ 3) }

@@ -40,8 +40,8 @@ impl<'a, R: Print + AllocGlobal> Output<'a, R> {
         Ok(json.into_bytes())
     }
 
-    /// Prints the document of the report, where it isn't text and so was printed. The exit status is that of the command, or
-    /// that of a fault where the document can't be made or printed.
+    /// Prints the document of the report, where it isn't text and so was printed. The exit status is that of the
+    /// command, or that of a fault where the document can't be made or printed.
     pub(crate) fn end(self, form: &Form, table: Option<&Table>, status: ExitCode) -> ExitCode {
         if self.format == ReportFormat::Text {
             return status;

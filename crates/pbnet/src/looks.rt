@@ -1,6 +1,6 @@
 //! What is told while failures are looked at.
 
-use pb_cmd_survive::Watch;
+use pb_cmd_survive::FailureProgress;
 use std::sync::atomic::{AtomicU64, Ordering};
 use std::time::Clock;
 
@@ -43,7 +43,7 @@ impl<'a, R: Clock + Eprint> Looks<'a, R> {
     }
 }
 
-impl<R: Clock + Eprint + Sync> Watch for Looks<'_, R> {
+impl<R: Clock + Eprint + Sync> FailureProgress for Looks<'_, R> {
     fn looked(&self, failures: usize) {
         let looked = self.looked.fetch_add(1, Ordering::SeqCst).saturating_add(1);
         if self.is_shown && self.is_due() {

@@ -1,6 +1,6 @@
-//! What is told of a network while it runs, and when it is stopped.
+//! What is reported of a network while it runs, and when it is stopped.
 
-use pb_cmd_run::{Opening, Traffic, Watch};
+use pb_cmd_run::{Opening, RunProgress, Traffic};
 use pb_lan::Place;
 use pb_run::{Gate, Go};
 use std::alloc::Global;
@@ -22,9 +22,9 @@ pub enum Shown {
     Lines,
 }
 
-/// What is told of a run once a second. As a gate it lets every worker go on until the run is to be stopped.
+/// Reports the progress of a run once a second. As a gate it lets every worker go on until the run is to be stopped.
 #[derive(Drop)]
-pub struct Progress<'a, R> {
+pub struct RunMonitor<'a, R> {
     rt: &'a R,
     traffic: Arc<Traffic, Global>,
     shown: Shown,
@@ -40,19 +40,19 @@ fn end_of<R: Clock>(rt: &R, seconds: Option<u32>) -> Option<Duration> {
     rt.monotonic().ok()?.checked_add(seconds)
 }
 
-impl<'a, R: Clock + Eprint> Progress<'a, R> {
-    /// Of a run that begins now and is stopped after so many seconds, where there are any. Nothing was told yet.
+impl<'a, R: Clock + Eprint> RunMonitor<'a, R> {
+    /// Creates the monitor of a run that begins now and is stopped after so many seconds, if any are given.
     pub fn new(
         rt: &'a R,
         traffic: Arc<Traffic, Global>,
         shown: Shown,
         seconds: Option<u32>,
-    ) -> Progress<'a, R> {
+    ) -> RunMonitor<'a, R> {
         let second = match rt.monotonic() {
             Ok(now) => now.as_secs(),
             Err(_) => 0,
         };
-        Progress {
+        RunMonitor {
             rt,
             traffic,
             shown,
@@ -98,7 +98,7 @@ impl<'a, R: Clock + Eprint> Progress<'a, R> {
     }
 }
 
-impl<R: Clock + Eprint + Sync> Gate for Progress<'_, R> {
+impl<R: Clock + Eprint + Sync> Gate for RunMonitor<'_, R> {
     fn pass(&self, place: Place, turn: u64) -> Go {
         if turn % LOOK == 0 && place == Place::Bridge(1) {
             return self.look();
@@ -107,7 +107,7 @@ impl<R: Clock + Eprint + Sync> Gate for Progress<'_, R> {
     }
 }
 
-impl<R: Clock + Eprint + Sync> Watch for Progress<'_, R> {
+impl<R: Clock + Eprint + Sync> RunProgress for RunMonitor<'_, R> {
     /// Tells it, on a line of its own.
     fn open(&self, opening: Opening) {
         self.close();

@@ -4,7 +4,7 @@ use crate::formatted::Output;
 use crate::looks::Looks;
 use crate::telling::tell_on;
 use crate::{contents, ended};
-use pb_cli::{SurviveOrder, SurviveScope};
+use pb_cli::{SurviveOptions, SurviveScope};
 use pb_cmd_survive::{Asked, Kinds, Scope, run_survive};
 use pb_export::{FAILURES, SURVIVE};
 use std::fs::Files;
@@ -13,7 +13,7 @@ use std::process::ExitCode;
 use std::thread::Threads;
 use std::time::Clock;
 
-/// Which services the words ask for.
+/// Returns which services the options ask for.
 fn scope_of(scope: &SurviveScope) -> Scope<'_> {
     match scope {
         SurviveScope::All => Scope::All,
@@ -22,40 +22,40 @@ fn scope_of(scope: &SurviveScope) -> Scope<'_> {
     }
 }
 
-/// Tells what is left of the network of a plan file under failures, in the form that is asked for, and how many were looked at
-/// so far where that is shown.
+/// Tells what is left of the network of a plan file under failures, in the form that is asked for, and how many were
+/// looked at so far where that is shown.
 pub(crate) fn tell_survivals<R: Files + Threads + Clock + Print + Eprint + AllocGlobal + Sync>(
     rt: &R,
-    order: &SurviveOrder,
+    options: &SurviveOptions,
     is_shown: bool,
 ) -> ExitCode {
-    let mut out = Output::new(rt, order.format);
-    let status = tell_survivals_on(rt, order, is_shown, &mut out);
+    let mut out = Output::new(rt, options.format);
+    let status = tell_survivals_on(rt, options, is_shown, &mut out);
     out.end(&SURVIVE, Some(&FAILURES), status)
 }
 
 /// Tells what is left of the network of a plan file under failures.
 fn tell_survivals_on<R, W: Write>(
     rt: &R,
-    order: &SurviveOrder,
+    options: &SurviveOptions,
     is_shown: bool,
     out: &mut W,
 ) -> ExitCode
 where
     R: Files + Threads + Clock + Eprint + AllocGlobal + Sync,
 {
-    let path = order.path.as_str();
+    let path = options.path.as_str();
     let file = match contents(rt, path, out) {
         Ok(file) => file,
         Err(status) => return status,
     };
     let asked = Asked {
         kinds: Kinds {
-            bridges: order.bridges,
-            pairs: order.pairs,
+            bridges: options.bridges,
+            pairs: options.pairs,
         },
-        scope: scope_of(&order.scope),
-        ticks: order.ticks,
+        scope: scope_of(&options.scope),
+        ticks: options.ticks,
     };
     let looks = Looks::new(rt, is_shown);
     match run_survive(rt, rt.alloc(), file.as_slice(), &asked, &looks, out) {

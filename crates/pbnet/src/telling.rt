@@ -7,14 +7,14 @@ use std::fmt::Display;
 use std::io::Write;
 use std::process::ExitCode;
 
-/// The exit status where the words of the command line ask for nothing that is known.
-pub(crate) const WRONG_WORDS: u8 = 2;
+/// The exit status if the arguments of the command line are refused.
+pub(crate) const WRONG_ARGUMENTS: u8 = 2;
 
 /// The exit status of a command that a fault ended.
 pub(crate) const FAULT: u8 = 3;
 
-/// Says on standard output which fault ended a command, as `fault: ` and its word, and gives the exit status for it. A write
-/// that fails is not told.
+/// Says on standard output which fault ended a command, as `fault: ` and its word, and gives the exit status for it. A
+/// write that fails is not told.
 pub(crate) fn tell(rt: &impl Print, fault: impl Display + Drop) -> ExitCode
     ensures { exit_status result ≡ 3 }
 {

@@ -1,9 +1,9 @@
 //! Where frames go in the network of a plan file.
 
 use crate::formatted::Output;
-use crate::telling::{WRONG_WORDS, tell_on};
+use crate::telling::{WRONG_ARGUMENTS, tell_on};
 use crate::{REFUSED, contents, ended};
-use pb_cli::{TraceEntry, TraceOrder};
+use pb_cli::{TraceEntry, TraceOptions};
 use pb_cmd_trace::{Entry, TraceEnd, run_trace};
 use pb_export::TRACE;
 use pb_messages::CommandFault;
@@ -12,12 +12,12 @@ use std::fs::Files;
 use std::io::Write;
 use std::process::ExitCode;
 
-/// The frames that the words tell.
-fn entries_of(alloc: Global, words: &[TraceEntry]) -> Result<Vec<Entry>, AllocError> {
-    let mut entries = Vec::with_capacity(alloc, words.len())?;
-    for word in words {
-        let port = word.port.clone()?;
-        let hex = word.hex.clone()?;
+/// Returns the frames of the options.
+fn entries_of(alloc: Global, given: &[TraceEntry]) -> Result<Vec<Entry>, AllocError> {
+    let mut entries = Vec::with_capacity(alloc, given.len())?;
+    for entry in given {
+        let port = entry.port.clone()?;
+        let hex = entry.hex.clone()?;
         entries.push(Entry { port, hex })?;
     }
     Ok(entries)
@@ -26,32 +26,32 @@ fn entries_of(alloc: Global, words: &[TraceEntry]) -> Result<Vec<Entry>, AllocEr
 /// Prints where frames go in the network of a plan file, in the form that is asked for.
 pub(crate) fn trace<R: Files + Print + Eprint + AllocGlobal>(
     rt: &R,
-    order: &TraceOrder,
+    options: &TraceOptions,
 ) -> ExitCode {
-    let mut out = Output::new(rt, order.format);
-    let status = trace_on(rt, order, &mut out);
+    let mut out = Output::new(rt, options.format);
+    let status = trace_on(rt, options, &mut out);
     out.end(&TRACE, None, status)
 }
 
 /// Prints where frames go in the network of a plan file.
 fn trace_on<R: Files + Eprint + AllocGlobal, W: Write>(
     rt: &R,
-    order: &TraceOrder,
+    options: &TraceOptions,
     out: &mut W,
 ) -> ExitCode {
-    let path = order.path.as_str();
+    let path = options.path.as_str();
     let file = match contents(rt, path, out) {
         Ok(file) => file,
         Err(status) => return status,
     };
-    let Ok(entries) = entries_of(rt.alloc(), order.entries.as_slice()) else {
+    let Ok(entries) = entries_of(rt.alloc(), options.entries.as_slice()) else {
         return tell_on(out, CommandFault::Memory);
     };
     match run_trace(
         rt.alloc(),
         file.as_slice(),
         entries.as_slice(),
-        order.settles,
+        options.settles,
         out,
     ) {
         Err(fault) => tell_on(out, fault),
@@ -68,7 +68,7 @@ fn no_port(rt: &impl Eprint, entries: &[Entry], index: usize) -> ExitCode {
         let port = entry.port.as_str();
         let _ = eprintln!(rt; "error: the plan has no customer port {port}");
     }
-    ExitCode::from(WRONG_WORDS)
+    ExitCode::from(WRONG_ARGUMENTS)
 }
 
 /// Says that digits are no frame.
@@ -77,5 +77,5 @@ fn no_frame(rt: &impl Eprint, entries: &[Entry], index: usize) -> ExitCode {
         let hex = entry.hex.as_str();
         let _ = eprintln!(rt; "error: '{hex}' is no frame: pairs of hexadecimal digits are");
     }
-    ExitCode::from(WRONG_WORDS)
+    ExitCode::from(WRONG_ARGUMENTS)
 }

@@ -1,9 +1,9 @@
 //! The trees of the network of a plan file.
 
 use crate::formatted::Output;
-use crate::telling::{WRONG_WORDS, tell_on};
+use crate::telling::{WRONG_ARGUMENTS, tell_on};
 use crate::{REFUSED, contents, ended};
-use pb_cli::TreeOrder;
+use pb_cli::TreeOptions;
 use pb_cmd_tree::{TreeEnd, run_tree};
 use pb_export::TREE;
 use std::fs::Files;
@@ -11,25 +11,28 @@ use std::io::Write;
 use std::process::ExitCode;
 
 /// Prints the trees of the network of a plan file, in the form that is asked for.
-pub(crate) fn tree<R: Files + Print + Eprint + AllocGlobal>(rt: &R, order: &TreeOrder) -> ExitCode {
-    let mut out = Output::new(rt, order.format);
-    let status = tree_on(rt, order, &mut out);
+pub(crate) fn tree<R: Files + Print + Eprint + AllocGlobal>(
+    rt: &R,
+    options: &TreeOptions,
+) -> ExitCode {
+    let mut out = Output::new(rt, options.format);
+    let status = tree_on(rt, options, &mut out);
     out.end(&TREE, None, status)
 }
 
 /// Prints the trees of the network of a plan file.
 fn tree_on<R: Files + Eprint + AllocGlobal, W: Write>(
     rt: &R,
-    order: &TreeOrder,
+    options: &TreeOptions,
     out: &mut W,
 ) -> ExitCode {
-    let path = order.path.as_str();
+    let path = options.path.as_str();
     let file = match contents(rt, path, out) {
         Ok(file) => file,
         Err(status) => return status,
     };
-    let downs = order.downs.as_slice();
-    match run_tree(rt.alloc(), file.as_slice(), downs, order.ticks, out) {
+    let downs = options.downs.as_slice();
+    match run_tree(rt.alloc(), file.as_slice(), downs, options.ticks, out) {
         Err(fault) => tell_on(out, fault),
         Ok(TreeEnd::Told) => ExitCode::SUCCESS,
         Ok(TreeEnd::Refused) => ended(rt, path, file.as_slice(), REFUSED),
@@ -37,10 +40,10 @@ fn tree_on<R: Files + Eprint + AllocGlobal, W: Write>(
     }
 }
 
-/// Says that words name no port to another bridge.
+/// Reports that a `--down` names no port to another bridge.
 fn unnamed(rt: &impl Eprint, downs: &[String], index: usize) -> ExitCode {
-    if let Some(word) = downs.get(index) {
-        let _ = eprintln!(rt; "error: --down {word} names no port to another bridge");
+    if let Some(down) = downs.get(index) {
+        let _ = eprintln!(rt; "error: --down {down} names no port to another bridge");
     }
-    ExitCode::from(WRONG_WORDS)
+    ExitCode::from(WRONG_ARGUMENTS)
 }

@@ -80,7 +80,8 @@ const FOR_RED: &str = "a_services = [\"red\"]\nb_services = [\"red\"]\n";
 /// And another the second.
 const FOR_BLUE: &str = "a_services = [\"blue\"]\nb_services = [\"blue\"]\n";
 
-/// What a caller may take from `run_check`: the status 0 with what the plan has, or 1 with the rule that the file breaks.
+/// What a caller may take from `run_check`: the status 0 with what the plan has, or 1 with the rule that the file
+/// breaks.
 fn checked<W: Write>(alloc: Global, file: &[u8], writer: &mut W) -> Result<u8, CommandFault>
     ensures { IfOk result (λ status. (text : List ℕ) × Appends (W.contents writer.old) (W.contents writer.new) text
         × (((status ≡ 0) × IsPlanText file.now text) ⊎ ((status ≡ 1) × IsRefusalText file.now text))) }
@@ -91,7 +92,8 @@ fn checked<W: Write>(alloc: Global, file: &[u8], writer: &mut W) -> Result<u8, C
 /// What a caller may take from `run_show`: the line of each of the sixteen addresses.
 fn shown<W: Write>(writer: &mut W) -> Result<(), CommandFault>
     ensures { OnOk result (Appends (W.contents writer.old) (W.contents writer.new)
-        (flat_map (λ k. fate_line (block k)) (0 ∷ 1 ∷ 2 ∷ 3 ∷ 4 ∷ 5 ∷ 6 ∷ 7 ∷ 8 ∷ 9 ∷ 10 ∷ 11 ∷ 12 ∷ 13 ∷ 14 ∷ 15 ∷ []))) }
+        (flat_map (λ k. fate_line (block k)) (0 ∷ 1 ∷ 2 ∷ 3 ∷ 4 ∷ 5 ∷ 6 ∷ 7 ∷ 8 ∷ 9 ∷ 10 ∷ 11 ∷ 12 ∷ 13 ∷ 14 ∷ 15
+        ∷ []))) }
 {
     run_show(writer)
 }

@@ -1,15 +1,16 @@
-//! Plan files to begin with, in all shapes.
+//! Plan files to begin with, in all topologies.
 
 ghost use Rattle.std.specs.Prelude.{◌++◌, flat_map, OnOk};
 ghost use Rattle.std.specs.Io.KnownBytes.{Appends};
 ghost use Rattle.std.specs.List.{range_with_len};
-ghost use Rattle.pb_cmd_init.specs.PlanTexts.{head_text, keys_text, places_text, bridge_text, link_text, service_text, port_text, kinds_text};
-ghost use Rattle.pb_cmd_init.specs.Shapes.{bridge_count, link_count, port_count, site_of};
+ghost use Rattle.pb_cmd_init.specs.PlanTexts.{head_text, keys_text, places_text, bridge_text};
+ghost use Rattle.pb_cmd_init.specs.PlanTexts.{link_text, service_text, port_text, kinds_text};
+ghost use Rattle.pb_cmd_init.specs.Topologies.{bridge_count, link_count, port_count, site_of};
 
 mod examples;
 
 use pb_cmd_check::run_check;
-use pb_cmd_init::{Shape, write_plan};
+use pb_cmd_init::{Topology, write_plan};
 use pb_fakes::{Full, Unflushed};
 use pb_messages::CommandFault;
 use pb_service::{Limits, read_limits};
@@ -18,8 +19,8 @@ use std::io::Write;
 use std::process::Abort;
 use std::test::Fail;
 
-/// What a file tells: how many bridges, links and customer ports there are, the milliseconds of a tick, and the ticks before
-/// frames enter.
+/// What a file tells: how many bridges, links and customer ports there are, the milliseconds of a tick, and the ticks
+/// before frames enter.
 type Told = (u8, u8, u8, u64, u64);
 
 /// A file is a plan that tells this, with one service and no ring that is open at the start.
@@ -60,23 +61,24 @@ fn tried(alloc: Global, file: &[u8]) -> Result<String, AllocError> {
     Ok(text)
 }
 
-/// What a caller may take from `write_plan`: a table for each bridge, link and customer port of the shape, in order, between the
-/// network's keys and what can be tried.
-fn begun<W: Write>(alloc: Global, shape: Shape, writer: &mut W) -> Result<(), CommandFault>
-    ensures { OnOk result (Appends (W.contents writer.old) (W.contents writer.new) (head_text ++ keys_text shape ++ places_text
-        ++ flat_map bridge_text (range_with_len 1 (bridge_count shape))
-        ++ flat_map (link_text shape) (range_with_len 1 (link_count shape))
+/// What a caller may take from `write_plan`: a table for each bridge, link and customer port of the topology, in order,
+/// between the network's keys and what can be tried.
+fn begun<W: Write>(alloc: Global, topology: Topology, writer: &mut W) -> Result<(), CommandFault>
+    ensures { OnOk result (Appends (W.contents writer.old) (W.contents writer.new)
+        (head_text ++ keys_text topology ++ places_text
+        ++ flat_map bridge_text (range_with_len 1 (bridge_count topology))
+        ++ flat_map (link_text topology) (range_with_len 1 (link_count topology))
         ++ service_text
-        ++ flat_map (port_text shape) (range_with_len 1 (port_count shape))
-        ++ kinds_text (site_of shape 1))) }
+        ++ flat_map (port_text topology) (range_with_len 1 (port_count topology))
+        ++ kinds_text (site_of topology 1))) }
 {
-    write_plan(alloc, shape, writer)
+    write_plan(alloc, topology, writer)
 }
 
-/// The file of a shape is a plan that tells this, and so is what it has for trying, with two ports more and a clock.
-fn begins(rt: &impl Abort, alloc: Global, shape: Shape, want: Told) -> Result<(), Fail> {
+/// The file of a topology is a plan that tells this, and so is what it has for trying, with two ports more and a clock.
+fn begins(rt: &impl Abort, alloc: Global, topology: Topology, want: Told) -> Result<(), Fail> {
     let mut file = Vec::new(alloc);
-    assert_eq!(rt; begun(alloc, shape, &mut file), Ok(()));
+    assert_eq!(rt; begun(alloc, topology, &mut file), Ok(()));
     tells(rt, alloc, file.as_slice(), want)?;
     let (bridges, links, ports, _, _) = want;
     let all = tried(alloc, file.as_slice())?;
@@ -91,7 +93,7 @@ fn begins(rt: &impl Abort, alloc: Global, shape: Shape, want: Told) -> Result<()
 #[test]
 fn lines_are_plans(rt: HostRuntime) -> Result<(), Fail> {
     for n in 1..33u8 {
-        begins(&rt, rt.alloc(), Shape::Line(n), (n, n - 1, n, 0, 0))?;
+        begins(&rt, rt.alloc(), Topology::Line(n), (n, n - 1, n, 0, 0))?;
     }
     Ok(())
 }
@@ -99,7 +101,7 @@ fn lines_are_plans(rt: HostRuntime) -> Result<(), Fail> {
 #[test]
 fn rings_are_plans(rt: HostRuntime) -> Result<(), Fail> {
     for n in 3..33u8 {
-        begins(&rt, rt.alloc(), Shape::Ring(n), (n, n, n, 10, 200))?;
+        begins(&rt, rt.alloc(), Topology::Ring(n), (n, n, n, 10, 200))?;
     }
     Ok(())
 }
@@ -107,7 +109,7 @@ fn rings_are_plans(rt: HostRuntime) -> Result<(), Fail> {
 #[test]
 fn stars_are_plans(rt: HostRuntime) -> Result<(), Fail> {
     for n in 2..18u8 {
-        begins(&rt, rt.alloc(), Shape::Star(n), (n, n - 1, n - 1, 0, 0))?;
+        begins(&rt, rt.alloc(), Topology::Star(n), (n, n - 1, n - 1, 0, 0))?;
     }
     Ok(())
 }
@@ -115,34 +117,37 @@ fn stars_are_plans(rt: HostRuntime) -> Result<(), Fail> {
 #[test]
 fn links_join_the_bridges(rt: HostRuntime) -> Result<(), Fail> {
     let alloc = rt.alloc();
-    for (shape, part) in [
+    for (topology, part) in [
         (
-            Shape::Line(32),
+            Topology::Line(32),
             "L31\"\na = \"B31\"\na_port = 1\nb = \"B32\"\nb_port = 2\n",
         ),
         (
-            Shape::Ring(3),
+            Topology::Ring(3),
             "L2\"\na = \"B2\"\na_port = 1\nb = \"B3\"\nb_port = 2\n",
         ),
         (
-            Shape::Ring(3),
+            Topology::Ring(3),
             "L3\"\na = \"B3\"\na_port = 1\nb = \"B1\"\nb_port = 2\n",
         ),
         (
-            Shape::Star(17),
+            Topology::Star(17),
             "L1\"\na = \"B1\"\na_port = 1\nb = \"B2\"\nb_port = 1\n",
         ),
         (
-            Shape::Star(17),
+            Topology::Star(17),
             "L16\"\na = \"B1\"\na_port = 16\nb = \"B17\"\nb_port = 1\n",
         ),
-        (Shape::Star(2), "C1\"\nbridge = \"B2\"\nport = 3\n"),
-        (Shape::Line(32), "B32\"\naddress = \"02-00-00-00-00-20\"\n"),
+        (Topology::Star(2), "C1\"\nbridge = \"B2\"\nport = 3\n"),
+        (
+            Topology::Line(32),
+            "B32\"\naddress = \"02-00-00-00-00-20\"\n",
+        ),
     ] {
         let mut file = Vec::new(alloc);
-        assert_eq!(rt; write_plan(alloc, shape, &mut file), Ok(()));
+        assert_eq!(rt; write_plan(alloc, topology, &mut file), Ok(()));
         let text = std::str::from_utf8(file.as_slice()).unwrap_or("");
-        assert!(rt; text.contains(part), "{shape:?}: {part}");
+        assert!(rt; text.contains(part), "{topology:?}: {part}");
     }
     Ok(())
 }
@@ -150,7 +155,10 @@ fn links_join_the_bridges(rt: HostRuntime) -> Result<(), Fail> {
 #[test]
 fn two_bridges_in_a_line_are_the_example(rt: HostRuntime) -> Result<(), Fail> {
     let mut file = Vec::new(rt.alloc());
-    assert_eq!(rt; write_plan(rt.alloc(), Shape::Line(2), &mut file), Ok(()));
+    assert_eq!(rt;
+        write_plan(rt.alloc(), Topology::Line(2), &mut file),
+        Ok(())
+    );
     assert!(rt; file.as_slice() == examples::INIT.as_bytes());
     Ok(())
 }
@@ -158,9 +166,9 @@ fn two_bridges_in_a_line_are_the_example(rt: HostRuntime) -> Result<(), Fail> {
 #[test]
 fn a_failed_write_is_told(rt: HostRuntime) {
     for room in [0, 1, 1000] {
-        let wrote = write_plan(rt.alloc(), Shape::Ring(3), &mut Full { room });
+        let wrote = write_plan(rt.alloc(), Topology::Ring(3), &mut Full { room });
         assert_eq!(rt; wrote, Err(CommandFault::Write), "at {room}");
     }
-    let wrote = write_plan(rt.alloc(), Shape::Ring(3), &mut Unflushed);
+    let wrote = write_plan(rt.alloc(), Topology::Ring(3), &mut Unflushed);
     assert_eq!(rt; wrote, Err(CommandFault::Write));
 }

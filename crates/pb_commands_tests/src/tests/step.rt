@@ -22,17 +22,19 @@ use std::io::{ErrorKind, Read, Write};
 use std::process::Abort;
 use std::test::Fail;
 
-/// What a caller may take from `run_script`: the status 0 with the answers and the report of the plan that the file tells, or 1 with
-/// the rule that it breaks; before a fault nothing, or the answers to the first lines.
+/// What a caller may take from `run_script`: the status 0 with the answers and the report of the plan that the file
+/// tells, or 1 with the rule that it breaks; before a fault nothing, or the answers to the first lines.
 fn driven<R: Read, W: Write>(
     alloc: Global,
     file: &[u8],
     reader: &mut R,
     writer: &mut W,
 ) -> Result<u8, CommandFault>
-    ensures whole { IfOk result (λ status. ((status ≡ 0) × PrintsDriven file.now (R.remaining reader.old) (W.contents writer.old) (W.contents writer.new))
+    ensures whole { IfOk result (λ status. ((status ≡ 0) × PrintsDriven file.now (R.remaining reader.old)
+        (W.contents writer.old) (W.contents writer.new))
         ⊎ ((status ≡ 1) × PrintsRefusal file.now (W.contents writer.old) (W.contents writer.new))) }
-    ensures part { IfErr result (λ e. e ≢ CommandFault.Write → ((e ≡ CommandFault.Memory) × Keeps (W.contents writer.old) (W.contents writer.new))
+    ensures part { IfErr result (λ e. e ≢ CommandFault.Write
+        → ((e ≡ CommandFault.Memory) × Keeps (W.contents writer.old) (W.contents writer.new))
         ⊎ PrintsDrivenBeginning e file.now (R.remaining reader.old) (W.contents writer.old) (W.contents writer.new)) }
 {
     run_script(alloc, file, reader, writer)
@@ -49,7 +51,8 @@ fn drives(rt: &impl Abort, alloc: Global, plan: &str, script: &str, want: &str) 
 
 /// The report of the two bridges where nothing happened.
 const NOTHING: &str =
-    "port C1 entered 0 left 0 filtered 0\nport C2 entered 0 left 0 filtered 0\nport C3 entered 0 left 0 filtered 0\nlink L1 ab taken 0 lost 0 ba taken 0 lost 0\nforest yes\n";
+    "port C1 entered 0 left 0 filtered 0\nport C2 entered 0 left 0 filtered 0\nport C3 entered 0 left 0 filtered 0\n\
+    link L1 ab taken 0 lost 0 ba taken 0 lost 0\nforest yes\n";
 
 /// The answers to a script over the two bridges, before the report of a network in which nothing happened.
 fn says(rt: &impl Abort, alloc: Global, script: &str, answers: &str) -> Result<(), Fail> {

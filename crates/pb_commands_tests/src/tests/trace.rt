@@ -314,9 +314,9 @@ fn lines_and_end(text: &str, end: &str) -> (usize, bool) {
     (lines, text.as_bytes().ends_with(end.as_bytes()))
 }
 
-/// Three bridges in an open ring. The frame comes in, and is received; then each four events take it a bridge on, and in
-/// the end two more put it onto a lane. Each third bridge is the first: the frame comes back 83 times, and the customer port
-/// there has room for 64 copies, or for one.
+/// Three bridges in an open ring. The frame comes in, and is received; then each four events take it a bridge on, and
+/// in the end two more put it onto a lane. Each third bridge is the first: the frame comes back 83 times, and the
+/// customer port there has room for 64 copies, or for one.
 #[test]
 fn a_frame_that_goes_round_is_told_so(rt: HostRuntime) -> Result<(), Fail> {
     const ROUND: &str = "goes round over L1 L2 L3; ended after 1000 events\n";

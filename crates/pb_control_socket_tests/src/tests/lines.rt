@@ -8,7 +8,8 @@ use std::test::Fail;
 /// The limit of the buffers here.
 const LIMIT: usize = 4;
 
-/// Pieces that are put one after the other, and the lines that come, each ended by a `|`. Behind each piece stands a `,`.
+/// Pieces that are put one after the other, and the lines that come, each ended by a `|`. Behind each piece stands a
+/// `,`.
 const ROWS: &[(&[&str], &str)] = &[
     (&[], ""),
     (&[""], ","),

@@ -4,9 +4,9 @@ ghost use Rattle.pb_lan.specs.Plans.{IsSound};
 
 use super::folder::{enter, leave};
 use super::plans::{COUNTS, plan};
-use super::stage::Step::{Connects, HaveHeard, Says};
+use super::stage::Action::{Connects, HaveHeard, Says};
 use super::stage::Who::{First, Second};
-use super::stage::{PATH, Stage, Step, happens};
+use super::stage::{Action, PATH, Stage, happens};
 use pb_control_socket::{Control, Request};
 use pb_lan::Plan;
 use std::alloc::Global;
@@ -17,7 +17,7 @@ use std::rt::Env;
 use std::test::Fail;
 
 /// What happens, step by step, with peers of its own.
-type Story = &'static [Step];
+type Story = &'static [Action];
 
 /// All steps of some stories come to pass at a socket, one story after the other.
 fn are_told<R: Abort + Net>(
@@ -107,13 +107,13 @@ fn peers_are_answered(rt: HostRuntime) -> Result<(), Fail> {
 
 /// What a peer has sent is done before it is heard that it sends no more, and then it is hung up on.
 const ANSWERS_THE_LAST: Story = &[
-    Step::Connects(First),
-    Step::Sends(First, b"down west 2\nstop\nstop", 1),
-    Step::IsDone(First),
-    Step::Settles,
-    Step::Hears(First, true),
-    Step::HaveHeard("ok\nok\n"),
-    Step::IsAsked(&[
+    Action::Connects(First),
+    Action::Sends(First, b"down west 2\nstop\nstop", 1),
+    Action::IsDone(First),
+    Action::Settles,
+    Action::Hears(First, true),
+    Action::HaveHeard("ok\nok\n"),
+    Action::IsAsked(&[
         Request::Set {
             bridge: 1,
             port: 2,
@@ -125,28 +125,28 @@ const ANSWERS_THE_LAST: Story = &[
 
 /// A second peer is answered once the first has hung up.
 const WAITS_ITS_TURN: Story = &[
-    Step::Connects(First),
-    Step::Says(First, b"up"),
-    Step::Connects(Second),
-    Step::Says(Second, b"stop\n"),
-    Step::HaveHeard(""),
-    Step::Says(First, b" east 16\n"),
-    Step::HaveHeard("ok\n"),
-    Step::HangsUp(First),
-    Step::Settles,
-    Step::Hears(Second, false),
-    Step::HaveHeard("ok\nok\n"),
+    Action::Connects(First),
+    Action::Says(First, b"up"),
+    Action::Connects(Second),
+    Action::Says(Second, b"stop\n"),
+    Action::HaveHeard(""),
+    Action::Says(First, b" east 16\n"),
+    Action::HaveHeard("ok\n"),
+    Action::HangsUp(First),
+    Action::Settles,
+    Action::Hears(Second, false),
+    Action::HaveHeard("ok\nok\n"),
 ];
 
 /// A peer that hangs up before it has heard its answers makes room for the next.
 const OUTLIVES_A_PEER: Story = &[
-    Step::Connects(First),
-    Step::Sends(First, b"counts\n", 200),
-    Step::Turns,
-    Step::HangsUp(First),
-    Step::Connects(Second),
-    Step::Says(Second, b"stop\n"),
-    Step::HaveHeard("ok\n"),
+    Action::Connects(First),
+    Action::Sends(First, b"counts\n", 200),
+    Action::Turns,
+    Action::HangsUp(First),
+    Action::Connects(Second),
+    Action::Says(Second, b"stop\n"),
+    Action::HaveHeard("ok\n"),
 ];
 
 #[test]
@@ -157,6 +157,6 @@ fn one_peer_at_a_time_is_answered(rt: HostRuntime) -> Result<(), Fail> {
 
 #[test]
 fn a_peer_that_takes_nothing_is_not_read(rt: HostRuntime) -> Result<(), Fail> {
-    const STORIES: &[Story] = &[&[Step::Connects(First), Step::Floods(First, 100_000)]];
+    const STORIES: &[Story] = &[&[Action::Connects(First), Action::Floods(First, 100_000)]];
     come_to_pass(&rt, rt.alloc(), rt.process(), STORIES)
 }

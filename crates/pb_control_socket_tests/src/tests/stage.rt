@@ -22,9 +22,9 @@ pub(super) enum Who {
     Second,
 }
 
-/// What happens, or is seen.
+/// An action of a peer or of the socket, or what is seen of it.
 #[derive(Clone, Copy)]
-pub(super) enum Step {
+pub(super) enum Action {
     /// A peer connects.
     Connects(Who),
     /// It sends octets, the socket has its turns, and it hears what is answered; it is not hung up on.
@@ -158,27 +158,27 @@ impl Stage {
     }
 }
 
-/// Whether a step comes to pass.
+/// Performs an action, and returns whether it went as stated.
 pub(super) fn happens(
     rt: &impl Net,
     control: &mut Control,
     plan: &Plan,
     stage: &mut Stage,
-    step: Step,
+    action: Action,
 ) -> Result<bool, Fail>
     requires { IsSound plan.now }
 {
-    match step {
-        Step::Connects(who) => Ok(stage.connects(rt, who)?),
-        Step::Says(who, octets) => stage.says(control, plan, who, octets),
-        Step::Sends(who, octets, times) => Ok(stage.sends(who, octets, times)?),
-        Step::IsDone(who) => Ok(stage.is_done(who)),
-        Step::Turns => Ok(control.turn(plan, &stage.board)),
-        Step::Settles => Ok(settles(control, plan, &stage.board)),
-        Step::Hears(who, is_end) => stage.hears(who, is_end),
-        Step::HangsUp(who) => Ok(stage.hangs_up(who)),
-        Step::HaveHeard(text) => Ok(stage.heard.as_slice() == text.as_bytes()),
-        Step::IsAsked(requests) => Ok(stage.board.has_done(requests)),
-        Step::Floods(who, count) => stage.floods(control, plan, who, count),
+    match action {
+        Action::Connects(who) => Ok(stage.connects(rt, who)?),
+        Action::Says(who, octets) => stage.says(control, plan, who, octets),
+        Action::Sends(who, octets, times) => Ok(stage.sends(who, octets, times)?),
+        Action::IsDone(who) => Ok(stage.is_done(who)),
+        Action::Turns => Ok(control.turn(plan, &stage.board)),
+        Action::Settles => Ok(settles(control, plan, &stage.board)),
+        Action::Hears(who, is_end) => stage.hears(who, is_end),
+        Action::HangsUp(who) => Ok(stage.hangs_up(who)),
+        Action::HaveHeard(text) => Ok(stage.heard.as_slice() == text.as_bytes()),
+        Action::IsAsked(requests) => Ok(stage.board.has_done(requests)),
+        Action::Floods(who, count) => stage.floods(control, plan, who, count),
     }
 }

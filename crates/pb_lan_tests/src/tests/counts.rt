@@ -20,10 +20,10 @@ enum Deed {
 }
 
 /// What a customer port did with a frame of customer port 1: the frame's number, and its only octet.
-type Did = (Deed, u64, u8);
+type FrameDeed = (Deed, u64, u8);
 
 /// By customer port, what it did.
-const DONE: &[&[Did]] = &[
+const DONE: &[&[FrameDeed]] = &[
     &[(Deed::Poll, 0, 7), (Deed::Feed, 0, 7), (Deed::Poll, 1, 8)],
     &[(Deed::Deliver, 0, 7), (Deed::Miss, 1, 8)],
 ];
@@ -51,7 +51,7 @@ fn step(alloc: Global, deed: Deed, number: u64, octet: u8) -> Result<Step, Alloc
 }
 
 /// The steps of a customer port.
-fn steps(alloc: Global, all: &[Did]) -> Result<Seq<Step>, AllocError> {
+fn steps(alloc: Global, all: &[FrameDeed]) -> Result<Seq<Step>, AllocError> {
     let mut steps = Vec::new(alloc);
     for (deed, number, octet) in all {
         steps.push(step(alloc, *deed, *number, *octet)?)?;
@@ -60,16 +60,16 @@ fn steps(alloc: Global, all: &[Did]) -> Result<Seq<Step>, AllocError> {
 }
 
 /// The steps of all customer ports.
-fn customers(alloc: Global, all: &[&[Did]]) -> Result<Seq<Seq<Step>>, AllocError> {
+fn customers(alloc: Global, all: &[&[FrameDeed]]) -> Result<Seq<Seq<Step>>, AllocError> {
     let mut customers = Vec::new(alloc);
-    for did in all {
-        customers.push(steps(alloc, did)?)?;
+    for deeds in all {
+        customers.push(steps(alloc, deeds)?)?;
     }
     Ok(Seq::from_vec(customers))
 }
 
 /// The record of it.
-fn record(alloc: Global, all: &[&[Did]]) -> Result<Record, AllocError> {
+fn record(alloc: Global, all: &[&[FrameDeed]]) -> Result<Record, AllocError> {
     let customers = customers(alloc, all)?;
     Ok(Record {
         bridges: Seq::from_vec(Vec::new(alloc)),

@@ -11,7 +11,7 @@ use std::test::Fail;
 
 /// A step, of which the tests name what is counted.
 #[derive(Clone, Copy)]
-enum Did {
+enum CountedStep {
     Poll,
     Feed,
     Deliver { gone: bool },
@@ -63,23 +63,23 @@ fn received(port: u8, learnt: Option<Learnt>, outcome: Outcome) -> Step {
     }
 }
 
-fn step(alloc: Global, did: Did) -> Result<Step, AllocError> {
-    Ok(match did {
-        Did::Poll => Step::Poll { item: item() },
-        Did::Feed => Step::Feed { item: item() },
-        Did::Deliver { gone } => Step::Deliver { item: item(), gone },
-        Did::Take { lost } => Step::Take {
+fn step(alloc: Global, counted: CountedStep) -> Result<Step, AllocError> {
+    Ok(match counted {
+        CountedStep::Poll => Step::Poll { item: item() },
+        CountedStep::Feed => Step::Feed { item: item() },
+        CountedStep::Deliver { gone } => Step::Deliver { item: item(), gone },
+        CountedStep::Take { lost } => Step::Take {
             number: 0,
             item: item(),
             lost,
         },
-        Did::Relay => received(3, None, relayed()),
-        Did::Filter(port) => received(
+        CountedStep::Relay => received(3, None, relayed()),
+        CountedStep::Filter(port) => received(
             port,
             Some(Learnt::Full),
             Outcome::Filtered(Reason::NotMember),
         ),
-        Did::Tick(port, state) => Step::Tick {
+        CountedStep::Tick(port, state) => Step::Tick {
             now: 1,
             moved: moved(alloc, port, state)?,
         },
@@ -87,30 +87,30 @@ fn step(alloc: Global, did: Did) -> Result<Step, AllocError> {
 }
 
 /// Steps of all kinds. No place takes all of these; a tally counts whatever it is given.
-const DONE: &[Did] = &[
-    Did::Poll,
-    Did::Feed,
-    Did::Poll,
-    Did::Deliver { gone: false },
-    Did::Deliver { gone: true },
-    Did::Take { lost: false },
-    Did::Take { lost: true },
-    Did::Take { lost: false },
-    Did::Relay,
-    Did::Filter(16),
-    Did::Filter(5),
-    Did::Filter(16),
-    Did::Tick(2, PortState::Learning),
-    Did::Tick(2, PortState::Forwarding),
+const DONE: &[CountedStep] = &[
+    CountedStep::Poll,
+    CountedStep::Feed,
+    CountedStep::Poll,
+    CountedStep::Deliver { gone: false },
+    CountedStep::Deliver { gone: true },
+    CountedStep::Take { lost: false },
+    CountedStep::Take { lost: true },
+    CountedStep::Take { lost: false },
+    CountedStep::Relay,
+    CountedStep::Filter(16),
+    CountedStep::Filter(5),
+    CountedStep::Filter(16),
+    CountedStep::Tick(2, PortState::Learning),
+    CountedStep::Tick(2, PortState::Forwarding),
 ];
 
 /// Takes these steps.
 fn take(alloc: Global, steps: &mut Steps) -> Result<usize, Fail> {
     let mut given = 0usize;
-    for did in DONE {
+    for counted in DONE {
         steps.reserve()?;
         if steps.has_room() {
-            let back = steps.append(step(alloc, *did)?);
+            let back = steps.append(step(alloc, *counted)?);
             given = given.saturating_add(usize::from(back.is_some()));
         }
     }

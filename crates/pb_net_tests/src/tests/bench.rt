@@ -9,7 +9,7 @@ ghost use Rattle.pb_net_tests.specs.Benches.{TellsAllDelivered};
 use super::draft::{Draft, Joint};
 use super::networks::JOINED;
 use super::plans::plan_of;
-use super::records::{Did, Done, Piece, record_of, tallies_of};
+use super::records::{Done, Performed, Piece, record_of, tallies_of};
 use pb_forest::{forest, is_drained};
 use pb_frame::Memory;
 use pb_history::{Tallies, last_shape};
@@ -72,24 +72,30 @@ const CROSSED: Piece = (1, TAGGED);
 
 const LEFT: Piece = (2, BROADCAST);
 
-const AT_C1: &[Did] = &[Did::Poll(CAME), Did::Feed(CAME)];
+const AT_C1: &[Performed] = &[Performed::Poll(CAME), Performed::Feed(CAME)];
 
-const AT_B1: &[Did] = &[Did::Receive(2, CAME, 1, &[]), Did::Transmit(1, CROSSED)];
+const AT_B1: &[Performed] = &[
+    Performed::Receive(2, CAME, 1, &[]),
+    Performed::Transmit(1, CROSSED),
+];
 
 /// The broadcast went from C1 to C2.
 const FINISHED: Done = Done {
     bridges: &[
         AT_B1,
-        &[Did::Receive(1, CROSSED, 2, &[]), Did::Transmit(2, LEFT)],
+        &[
+            Performed::Receive(1, CROSSED, 2, &[]),
+            Performed::Transmit(2, LEFT),
+        ],
     ],
-    lanes: &[&[Did::Take(CROSSED), Did::Put(CROSSED)], &[]],
-    customers: &[AT_C1, &[Did::Deliver(LEFT)], &[]],
+    lanes: &[&[Performed::Take(CROSSED), Performed::Put(CROSSED)], &[]],
+    customers: &[AT_C1, &[Performed::Deliver(LEFT)], &[]],
 };
 
 /// It is in the hand of the lane.
 const ON_ITS_WAY: Done = Done {
     bridges: &[AT_B1, &[]],
-    lanes: &[&[Did::Take(CROSSED)], &[]],
+    lanes: &[&[Performed::Take(CROSSED)], &[]],
     customers: &[AT_C1, &[], &[]],
 };
 

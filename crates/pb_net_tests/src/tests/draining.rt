@@ -1,6 +1,6 @@
 //! Whether a frame is on its way, from one customer port of a bridge to another.
 
-use super::records::{Did, Done, Piece, tallies_of};
+use super::records::{Done, Performed, Piece, tallies_of};
 use pb_forest::is_drained;
 use pb_frame::Memory;
 use pb_lan::NoRoom;
@@ -24,36 +24,39 @@ const ROWS: &[(Done, bool)] = &[
         Done {
             bridges: &[&[]],
             lanes: &[],
-            customers: &[&[Did::Poll(FRAME)], &[]],
+            customers: &[&[Performed::Poll(FRAME)], &[]],
         },
         false,
     ),
     // in a queue
     (
         Done {
-            bridges: &[&[Did::Receive(2, FRAME, 3, &[])]],
+            bridges: &[&[Performed::Receive(2, FRAME, 3, &[])]],
             lanes: &[],
-            customers: &[&[Did::Poll(FRAME), Did::Feed(FRAME)], &[]],
+            customers: &[&[Performed::Poll(FRAME), Performed::Feed(FRAME)], &[]],
         },
         false,
     ),
     // its copy was refused
     (
         Done {
-            bridges: &[&[Did::Receive(2, FRAME, 3, &[(3, NoRoom::Full)])]],
+            bridges: &[&[Performed::Receive(2, FRAME, 3, &[(3, NoRoom::Full)])]],
             lanes: &[],
-            customers: &[&[Did::Poll(FRAME), Did::Feed(FRAME)], &[]],
+            customers: &[&[Performed::Poll(FRAME), Performed::Feed(FRAME)], &[]],
         },
         true,
     ),
     // it left
     (
         Done {
-            bridges: &[&[Did::Receive(2, FRAME, 3, &[]), Did::Transmit(3, FRAME)]],
+            bridges: &[&[
+                Performed::Receive(2, FRAME, 3, &[]),
+                Performed::Transmit(3, FRAME),
+            ]],
             lanes: &[],
             customers: &[
-                &[Did::Poll(FRAME), Did::Feed(FRAME)],
-                &[Did::Deliver(FRAME)],
+                &[Performed::Poll(FRAME), Performed::Feed(FRAME)],
+                &[Performed::Deliver(FRAME)],
             ],
         },
         true,

@@ -88,8 +88,8 @@ fn all_come(net: &mut Net) -> Came {
     Came::Done
 }
 
-/// What came of the events in a network, and whether the frame left as it came, or else a bridge's step tells of want of
-/// memory.
+/// What came of the events in a network, and whether the frame left as it came, or else a bridge's step tells of want
+/// of memory.
 fn seen(alloc: Global) -> Result<(Came, bool, bool), Memory> {
     let plan = plan_of(alloc, &JOINED)?;
     if !plan_is_sound(&plan) {

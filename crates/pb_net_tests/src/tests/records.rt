@@ -13,7 +13,7 @@ pub(super) type Piece = (u32, &'static [u8]);
 
 /// What a place did with that frame.
 #[derive(Clone, Copy)]
-pub(super) enum Did {
+pub(super) enum Performed {
     Poll(Piece),
     Feed(Piece),
     /// A bridge received it at a port, and relayed it to another one, or refused it there.
@@ -24,24 +24,24 @@ pub(super) enum Did {
     Deliver(Piece),
 }
 
-/// What all places did.
+/// What all places performed.
 #[derive(Clone, Copy)]
 pub(super) struct Done {
-    pub(super) bridges: &'static [&'static [Did]],
-    pub(super) lanes: &'static [&'static [Did]],
-    pub(super) customers: &'static [&'static [Did]],
+    pub(super) bridges: &'static [&'static [Performed]],
+    pub(super) lanes: &'static [&'static [Performed]],
+    pub(super) customers: &'static [&'static [Performed]],
 }
 
-impl Did {
+impl Performed {
     fn piece(self) -> Piece {
         match self {
-            Did::Poll(piece)
-            | Did::Feed(piece)
-            | Did::Receive(_, piece, _, _)
-            | Did::Transmit(_, piece)
-            | Did::Take(piece)
-            | Did::Put(piece)
-            | Did::Deliver(piece) => piece,
+            Performed::Poll(piece)
+            | Performed::Feed(piece)
+            | Performed::Receive(_, piece, _, _)
+            | Performed::Transmit(_, piece)
+            | Performed::Take(piece)
+            | Performed::Put(piece)
+            | Performed::Deliver(piece) => piece,
         }
     }
 }
@@ -64,38 +64,38 @@ fn relayed(to: u8, refused: &[(u8, NoRoom)]) -> Outcome {
     }
 }
 
-fn step_of(did: Did) -> Step {
-    let item = item_of(did.piece());
-    match did {
-        Did::Poll(_) => Step::Poll { item },
-        Did::Feed(_) => Step::Feed { item },
-        Did::Receive(port, _, to, refused) => Step::Receive {
+fn step_of(performed: Performed) -> Step {
+    let item = item_of(performed.piece());
+    match performed {
+        Performed::Poll(_) => Step::Poll { item },
+        Performed::Feed(_) => Step::Feed { item },
+        Performed::Receive(port, _, to, refused) => Step::Receive {
             port,
             item,
             learnt: Some(Learnt::New),
             outcome: relayed(to, refused),
             moved: None,
         },
-        Did::Transmit(port, _) => Step::Transmit { port, item },
-        Did::Take(_) => Step::Take {
+        Performed::Transmit(port, _) => Step::Transmit { port, item },
+        Performed::Take(_) => Step::Take {
             number: 0,
             item,
             lost: false,
         },
-        Did::Put(_) => Step::Put { item },
-        Did::Deliver(_) => Step::Deliver { item, gone: false },
+        Performed::Put(_) => Step::Put { item },
+        Performed::Deliver(_) => Step::Deliver { item, gone: false },
     }
 }
 
-fn steps_of(alloc: Global, all: &[Did]) -> Result<Seq<Step>, AllocError> {
+fn steps_of(alloc: Global, all: &[Performed]) -> Result<Seq<Step>, AllocError> {
     let mut steps = Vec::new(alloc);
-    for did in all {
-        steps.push(step_of(*did))?;
+    for performed in all {
+        steps.push(step_of(*performed))?;
     }
     Ok(Seq::from_vec(steps))
 }
 
-fn lists_of(alloc: Global, all: &[&[Did]]) -> Result<Seq<Seq<Step>>, AllocError> {
+fn lists_of(alloc: Global, all: &[&[Performed]]) -> Result<Seq<Seq<Step>>, AllocError> {
     let mut lists = Vec::new(alloc);
     for steps in all {
         lists.push(steps_of(alloc, steps)?)?;

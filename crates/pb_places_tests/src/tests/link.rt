@@ -68,10 +68,10 @@ enum Deed {
 }
 
 /// What it did, with the frame of a number.
-type Did = (Deed, u64);
+type NumberedDeed = (Deed, u64);
 
 /// The step of it.
-fn step_of(alloc: Global, (deed, number): Did) -> Result<Step, AllocError> {
+fn step_of(alloc: Global, (deed, number): NumberedDeed) -> Result<Step, AllocError> {
     let item = item(alloc, number)?;
     Ok(match deed {
         Deed::Poll => Step::Poll { item },
@@ -82,15 +82,20 @@ fn step_of(alloc: Global, (deed, number): Did) -> Result<Step, AllocError> {
 }
 
 /// Whether the step at a place is this one.
-fn is_step(alloc: Global, steps: &[Step], place: usize, did: Did) -> Result<bool, AllocError> {
-    let step = step_of(alloc, did)?;
+fn is_step(
+    alloc: Global,
+    steps: &[Step],
+    place: usize,
+    deed: NumberedDeed,
+) -> Result<bool, AllocError> {
+    let step = step_of(alloc, deed)?;
     Ok(steps.get(place) == Some(&step))
 }
 
 /// Whether these are the steps.
-fn are_steps(alloc: Global, steps: &[Step], all: &[Did]) -> Result<bool, AllocError> {
-    for (place, did) in all.iter().enumerate() {
-        if !is_step(alloc, steps, place, *did)? {
+fn are_steps(alloc: Global, steps: &[Step], all: &[NumberedDeed]) -> Result<bool, AllocError> {
+    for (place, deed) in all.iter().enumerate() {
+        if !is_step(alloc, steps, place, *deed)? {
             return Ok(false);
         }
     }
@@ -98,7 +103,12 @@ fn are_steps(alloc: Global, steps: &[Step], all: &[Did]) -> Result<bool, AllocEr
 }
 
 /// Whether the steps are shown: these where they are kept, and none where they are counted.
-fn are_shown(alloc: Global, kind: Kind, steps: &[Step], all: &[Did]) -> Result<bool, AllocError> {
+fn are_shown(
+    alloc: Global,
+    kind: Kind,
+    steps: &[Step],
+    all: &[NumberedDeed],
+) -> Result<bool, AllocError> {
     match kind {
         Kind::Kept => are_steps(alloc, steps, all),
         Kind::Counted => Ok(steps.is_empty()),
@@ -139,7 +149,7 @@ fn passes(alloc: Global, place: &mut CustomerPlace, number: u64) -> Result<bool,
 }
 
 /// Two frames are polled and fed, one after the other.
-const FED: &[Did] = &[
+const FED: &[NumberedDeed] = &[
     (Deed::Poll, 0),
     (Deed::Feed, 0),
     (Deed::Poll, 1),
@@ -178,7 +188,7 @@ fn with_two_delivered(alloc: Global, kind: Kind) -> Result<CustomerPlace, Memory
 
 /// Whether a port delivers two items beside the frame that it holds, tells of that, and feeds the frame.
 fn delivers_two(alloc: Global, kind: Kind) -> Result<bool, Memory> {
-    const STEPS: &[Did] = &[(Deed::Poll, 0), (Deed::Deliver, 9), (Deed::Miss, 9)];
+    const STEPS: &[NumberedDeed] = &[(Deed::Poll, 0), (Deed::Deliver, 9), (Deed::Miss, 9)];
     let mut place = with_two_delivered(alloc, kind)?;
     let is_told = are_shown(alloc, kind, place.steps(), STEPS)? && place.step_count() == 3;
     Ok(is_told && !place.is_hand_empty() && is_fed(alloc, &mut place, 0)?)

@@ -44,7 +44,8 @@ fn has_pieces(rt: &impl Abort, number: usize, text: &str, pieces: &[Piece]) {
     }
 }
 
-/// What a caller may take from `run_draw`: what was written of the plan that the file tells, or the rule that it breaks.
+/// What a caller may take from `run_draw`: what was written of the plan that the file tells, or the rule that it
+/// breaks.
 fn drawn<W: Write>(
     alloc: Global,
     file: &[u8],

@@ -4,7 +4,7 @@ ghost use Rattle.std.specs.Prelude.{◌≡◌};
 ghost use Rattle.pb_lan.specs.Plans.{IsSound};
 
 use bytes::Bytes;
-use pb_cmd_init::{Shape, write_plan};
+use pb_cmd_init::{Topology, write_plan};
 use pb_converge::{DriveFault, Rest, drain, settle};
 use pb_lan::{Event, Plan};
 use pb_net::Net;
@@ -22,7 +22,8 @@ network = { steps = 2 }
 bridge = [{ name = \"B1\", address = \"02-00-00-00-00-01\" }, { name = \"B2\", address = \"02-00-00-00-00-02\" }]
 link = [{ name = \"L1\", a = \"B1\", a_port = 1, b = \"B2\", b_port = 1 }]
 service = [{ name = \"red\", vid = 100 }]
-port = [{ name = \"C1\", bridge = \"B1\", port = 2, service = \"red\" }, { name = \"C2\", bridge = \"B2\", port = 2, service = \"red\" }]
+port = [{ name = \"C1\", bridge = \"B1\", port = 2, service = \"red\" }, { name = \"C2\", bridge = \"B2\", port = 2, \
+service = \"red\" }]
 ";
 
 /// What is done to a network, and what is answered.
@@ -84,9 +85,9 @@ fn goes(rt: &impl Abort, alloc: Global, file: &[u8], rows: &[Row]) -> Result<(),
 }
 
 /// The network of a plan to begin with goes through the rows.
-fn begins(rt: &impl Abort, alloc: Global, shape: Shape, rows: &[Row]) -> Result<(), Fail> {
+fn begins(rt: &impl Abort, alloc: Global, topology: Topology, rows: &[Row]) -> Result<(), Fail> {
     let mut file = Vec::new(alloc);
-    assert_eq!(rt; write_plan(alloc, shape, &mut file), Ok(()));
+    assert_eq!(rt; write_plan(alloc, topology, &mut file), Ok(()));
     goes(rt, alloc, file.as_slice(), rows)
 }
 
@@ -108,7 +109,7 @@ fn a_frame_goes_as_far_as_it_goes(rt: HostRuntime) -> Result<(), Fail> {
         // The plan gives the states.
         Row::Settles(200, 0, Ok(Rest::Given)),
     ];
-    begins(&rt, rt.alloc(), Shape::Line(2), ROWS)
+    begins(&rt, rt.alloc(), Topology::Line(2), ROWS)
 }
 
 /// A bridge takes two steps for a frame: the third is that of the frame that comes back.
@@ -123,8 +124,8 @@ fn a_place_has_so_many_steps(rt: HostRuntime) -> Result<(), Fail> {
     goes(&rt, rt.alloc(), SHORT.as_bytes(), ROWS)
 }
 
-/// What the root tells crosses a small ring within a tick. In a ring of 32 bridges better and better roots come by, and a
-/// port sends six BPDUs a tick at most, so that it takes some ticks.
+/// What the root tells crosses a small ring within a tick. In a ring of 32 bridges better and better roots come by, and
+/// a port sends six BPDUs a tick at most, so that it takes some ticks.
 #[test]
 fn rings_settle(rt: HostRuntime) -> Result<(), Fail> {
     for (bridges, ticks) in [(3u8, 2), (6, 2), (32, 14)] {
@@ -134,7 +135,7 @@ fn rings_settle(rt: HostRuntime) -> Result<(), Fail> {
             Row::Falls(1, 1),
             Row::Settles(200, 1_000_000, Ok(Rest::Settled(2))),
         ];
-        begins(&rt, rt.alloc(), Shape::Ring(bridges), &rows)?;
+        begins(&rt, rt.alloc(), Topology::Ring(bridges), &rows)?;
     }
     Ok(())
 }
@@ -148,12 +149,12 @@ fn ticks_have_a_limit(rt: HostRuntime) -> Result<(), Fail> {
             Row::Settles(1, 1_000_000, Ok(Rest::Unsettled(1))),
             Row::Settles(ticks - 1, 1_000_000, Ok(Rest::Unsettled(ticks - 1))),
         ];
-        begins(&rt, rt.alloc(), Shape::Ring(bridges), &rows)?;
+        begins(&rt, rt.alloc(), Topology::Ring(bridges), &rows)?;
         let rows = [
             Row::Settles(1, 1_000_000, Ok(Rest::Unsettled(1))),
             Row::Settles(ticks, 1_000_000, Ok(Rest::Settled(ticks))),
         ];
-        begins(&rt, rt.alloc(), Shape::Ring(bridges), &rows)?;
+        begins(&rt, rt.alloc(), Topology::Ring(bridges), &rows)?;
     }
     Ok(())
 }
@@ -162,5 +163,5 @@ fn ticks_have_a_limit(rt: HostRuntime) -> Result<(), Fail> {
 #[test]
 fn events_have_a_limit(rt: HostRuntime) -> Result<(), Fail> {
     const ROWS: &[Row] = &[Row::Settles(200, 3, Err(DriveFault::Events))];
-    begins(&rt, rt.alloc(), Shape::Ring(3), ROWS)
+    begins(&rt, rt.alloc(), Topology::Ring(3), ROWS)
 }

@@ -1,10 +1,11 @@
 //! What is left of networks under failures.
 
+mod counted;
 mod draft;
 mod networks;
 mod texts;
-mod watching;
 
+use counted::Counted;
 use draft::{Draft, plan_file};
 use pb_cmd_survive::{Asked, Kinds, Scope, run_survive};
 use pb_fakes::{Full, Unflushed};
@@ -13,7 +14,6 @@ use std::alloc::Global;
 use std::process::Abort;
 use std::test::Fail;
 use std::thread::Threads;
-use watching::Counted;
 
 /// Single links alone.
 const LINKS: Kinds = Kinds {
@@ -54,8 +54,8 @@ fn says<R: Abort + Threads + Sync>(rt: &R, alloc: Global, row: &Row<'_>) -> Resu
     };
     for _ in 0..2 {
         let mut output = Vec::new(alloc);
-        let watch = Counted::new();
-        let result = run_survive(rt, alloc, file.as_bytes(), &asked, &watch, &mut output);
+        let progress = Counted::new();
+        let result = run_survive(rt, alloc, file.as_bytes(), &asked, &progress, &mut output);
         let text = std::str::from_utf8(output.as_slice()).unwrap_or("");
         assert_eq!(rt; text, row.text);
         assert_eq!(rt; result, Ok(row.status));
@@ -206,10 +206,10 @@ const ANY: Asked = Asked {
 fn a_refused_file_tells_the_rule(rt: HostRuntime) -> Result<(), Fail> {
     let alloc = rt.alloc();
     let mut output = Vec::new(alloc);
-    let watch = Counted::new();
-    let result = run_survive(&rt, alloc, b"x", &ANY, &watch, &mut output);
+    let progress = Counted::new();
+    let result = run_survive(&rt, alloc, b"x", &ANY, &progress, &mut output);
     assert_eq!(rt; result, Ok(1));
-    assert_eq!(rt; watch.counts(), (0, 0, 1));
+    assert_eq!(rt; progress.counts(), (0, 0, 1));
     assert!(rt; output.as_slice() == b"plan: 2 toml\n".as_slice());
     Ok(())
 }
@@ -218,10 +218,10 @@ fn a_refused_file_tells_the_rule(rt: HostRuntime) -> Result<(), Fail> {
 fn an_empty_plan_survives(rt: HostRuntime) -> Result<(), Fail> {
     let alloc = rt.alloc();
     let mut output = Vec::new(alloc);
-    let watch = Counted::new();
-    let result = run_survive(&rt, alloc, b"", &ANY, &watch, &mut output);
+    let progress = Counted::new();
+    let result = run_survive(&rt, alloc, b"", &ANY, &progress, &mut output);
     assert_eq!(rt; result, Ok(0));
-    assert_eq!(rt; watch.counts(), (0, 0, 1));
+    assert_eq!(rt; progress.counts(), (0, 0, 1));
     assert!(rt; output.as_slice() == texts::EMPTY.as_bytes());
     Ok(())
 }
@@ -238,10 +238,10 @@ fn each_failure_is_looked_at_once(rt: HostRuntime) -> Result<(), Fail> {
         ..ANY
     };
     let mut output = Vec::new(alloc);
-    let watch = Counted::new();
-    let result = run_survive(&rt, alloc, file.as_bytes(), &asked, &watch, &mut output);
+    let progress = Counted::new();
+    let result = run_survive(&rt, alloc, file.as_bytes(), &asked, &progress, &mut output);
     assert_eq!(rt; result, Ok(4));
-    assert_eq!(rt; watch.counts(), (27, 27, 1));
+    assert_eq!(rt; progress.counts(), (27, 27, 1));
     Ok(())
 }
 
@@ -250,22 +250,22 @@ fn a_look_that_meets_a_fault_ends_all(rt: HostRuntime) -> Result<(), Fail> {
     let alloc = rt.alloc();
     let file = plan_file(alloc, &networks::BRIEF)?;
     let mut output = Vec::new(alloc);
-    let watch = Counted::new();
-    let result = run_survive(&rt, alloc, file.as_bytes(), &ANY, &watch, &mut output);
+    let progress = Counted::new();
+    let result = run_survive(&rt, alloc, file.as_bytes(), &ANY, &progress, &mut output);
     assert_eq!(rt; result, Err(CommandFault::Steps));
     assert!(rt; output.is_empty());
-    assert_eq!(rt; watch.counts(), (3, 3, 1));
+    assert_eq!(rt; progress.counts(), (3, 3, 1));
     Ok(())
 }
 
 #[test]
 fn a_failed_write_is_told(rt: HostRuntime) -> Result<(), Fail> {
     let alloc = rt.alloc();
-    let watch = Counted::new();
+    let progress = Counted::new();
     let mut writer = Full { room: 5 };
-    let full = run_survive(&rt, alloc, b"", &ANY, &watch, &mut writer);
+    let full = run_survive(&rt, alloc, b"", &ANY, &progress, &mut writer);
     assert_eq!(rt; full, Err(CommandFault::Write));
-    let unflushed = run_survive(&rt, alloc, b"", &ANY, &watch, &mut Unflushed);
+    let unflushed = run_survive(&rt, alloc, b"", &ANY, &progress, &mut Unflushed);
     assert_eq!(rt; unflushed, Err(CommandFault::Write));
     Ok(())
 }

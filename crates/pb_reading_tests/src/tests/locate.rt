@@ -50,11 +50,13 @@ const ROWS: &[Row] = &[
         "line 5",
     ),
     (
-        b"[[service]]\r\nname = 'A'\r\nvid = 1\r\n\t[[service]]\r\nname = 'B'\r\nvid = 2\r\n[[ service ]]\r\nname = 'C'\r\nvid = 0\r\n",
+        b"[[service]]\r\nname = 'A'\r\nvid = 1\r\n\t[[service]]\r\nname = 'B'\r\nvid = 2\r\n[[ service ]]\r\n\
+        name = 'C'\r\nvid = 0\r\n",
         "line 7",
     ),
     (
-        b"[[service]]\nname = 'A'\nvid = 1\n[[port]]\n[[port.service]]\n[[services]]\n# [[service]]\n[[service]]\nvid = '2'\n",
+        b"[[service]]\nname = 'A'\nvid = 1\n[[port]]\n[[port.service]]\n[[services]]\n# [[service]]\n[[service]]\n\
+        vid = '2'\n",
         "line 6",
     ),
     (
@@ -64,7 +66,8 @@ const ROWS: &[Row] = &[
     (b"[[port]]\nname = 'P'\n[[link]]\nname = 'L'\n", "line 3"),
     (b"[[port]]\nname = 'P'", "line 1"),
     (
-        b"[[bridge]]\nname='B'\naddress='02-00-00-00-00-01'\n[[service]]\nname='S'\nvid=1\n[[port]]\nname='P'\nbridge='B'\nport=1\nservice='S'\n\
+        b"[[bridge]]\nname='B'\naddress='02-00-00-00-00-01'\n[[service]]\nname='S'\nvid=1\n[[port]]\nname='P'\n\
+        bridge='B'\nport=1\nservice='S'\n\
           kind='capture'\nread='r'\nwrite='w'\nstamp='time'\n",
         "line 7",
     ),
@@ -74,8 +77,10 @@ const ROWS: &[Row] = &[
     ),
     // eleven tables and more
     (
-        b"[[service]]\nname='a'\nvid=1\n[[service]]\nname='b'\nvid=2\n[[service]]\nname='c'\nvid=3\n[[service]]\nname='d'\nvid=4\n\
-          [[service]]\nname='e'\nvid=5\n[[service]]\nname='f'\nvid=6\n[[service]]\nname='g'\nvid=7\n[[service]]\nname='h'\nvid=8\n\
+        b"[[service]]\nname='a'\nvid=1\n[[service]]\nname='b'\nvid=2\n[[service]]\nname='c'\nvid=3\n[[service]]\n\
+        name='d'\nvid=4\n\
+          [[service]]\nname='e'\nvid=5\n[[service]]\nname='f'\nvid=6\n[[service]]\nname='g'\nvid=7\n[[service]]\n\
+          name='h'\nvid=8\n\
           [[service]]\nname='i'\nvid=9\n[[service]]\nname='j'\nvid=10\n[[service]]\nname='k'\nvid=4095\n",
         "line 31",
     ),

@@ -1,7 +1,7 @@
 //! Gates.
 
+use super::activity::PortActivity;
 use super::told::slot_of;
-use super::watch::Watch;
 use pb_lan::{Place, PortState};
 use pb_run::{Gate, Go, PortView, Wish};
 use std::alloc::{AllocError, Global};
@@ -151,7 +151,7 @@ impl Gate for Meeting {
 
 /// Holds B4 at its first turn until a port of the tests' own has taken a frame.
 #[derive(Drop)]
-pub(super) struct Holding(pub(super) Arc<Watch, Global>);
+pub(super) struct Holding(pub(super) Arc<PortActivity, Global>);
 
 impl Gate for Holding {
     fn pass(&self, place: Place, turn: u64) -> Go {

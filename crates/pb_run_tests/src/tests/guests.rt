@@ -3,7 +3,7 @@
 ghost use Rattle.std.specs.Prelude.{◌≡◌, ◌++◌, Some, None, true, false, if◌then◌else◌};
 ghost use Rattle.pb_port.specs.declared.answers.Ending.TheVariants.{End as ending_end};
 
-use super::watch::Watch;
+use super::activity::PortActivity;
 use bytes::Bytes;
 use pb_port::{MemoryPort, Offered, Polled, Port, Pumped, Shelf};
 use std::alloc::Global;
@@ -39,7 +39,7 @@ pub(super) struct Guest {
     script: VecDeque<Bytes>,
     lan: MemoryPort,
     habit: Habit,
-    watch: Arc<Watch, Global>,
+    activity: Arc<PortActivity, Global>,
     polls: u64,
     offers: u64,
     pumps: u64,
@@ -55,13 +55,13 @@ impl Guest {
         alloc: Global,
         script: VecDeque<Bytes>,
         habit: Habit,
-        watch: Arc<Watch, Global>,
+        activity: Arc<PortActivity, Global>,
     ) -> Guest {
         Guest {
             script,
             lan: MemoryPort::new(alloc, 4_096, VecDeque::new(alloc)),
             habit,
-            watch,
+            activity,
             polls: 0,
             offers: 0,
             pumps: 0,
@@ -90,12 +90,12 @@ impl Port for Guest {
 
     fn poll(&mut self) -> Polled {
         self.polls = self.polls.saturating_add(1);
-        self.watch.polls.fetch_add(1, Ordering::SeqCst);
+        self.activity.polls.fetch_add(1, Ordering::SeqCst);
         if self.is_over {
             return Polled::End;
         }
         match self.habit {
-            Habit::Meets if self.polls == 1 => self.watch.meet(),
+            Habit::Meets if self.polls == 1 => self.activity.meet(),
             Habit::Waits(polls) if self.polls <= polls => return Polled::Nothing,
             Habit::Refuses(Call::Poll(number)) if self.polls == number => {
                 return Polled::Fault(8);
@@ -120,7 +120,7 @@ impl Port for Guest {
         }
         let offered = self.lan.offer(f);
         if offered == Offered::Taken {
-            self.watch.taken.fetch_add(1, Ordering::SeqCst);
+            self.activity.taken.fetch_add(1, Ordering::SeqCst);
         }
         offered
     }

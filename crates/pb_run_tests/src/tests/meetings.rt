@@ -1,12 +1,12 @@
 //! All places run at once.
 
+use super::activity::PortActivity;
 use super::frames::Frames;
 use super::gates::{Holding, Meeting};
 use super::guests::Habit;
 use super::networks::LINE;
 use super::runs::{LONG, Outer, Setup, Way, ran, ran_under};
 use super::told::Told;
-use super::watch::Watch;
 use pb_frame::Memory;
 use pb_run::Ended;
 use std::alloc::Global;
@@ -63,9 +63,9 @@ fn ran_held<R: Threads + Wait + Clock + Sync>(
     alloc: Global,
     setup: &Setup,
 ) -> Result<Told, Memory> {
-    let watch = Arc::new(alloc, Watch::new())?;
-    let gate = Holding(Arc::try_clone(&watch)?);
-    ran_under(rt, alloc, setup, &gate, &watch, Way::Kept)
+    let activity = Arc::new(alloc, PortActivity::new())?;
+    let gate = Holding(Arc::try_clone(&activity)?);
+    ran_under(rt, alloc, setup, &gate, &activity, Way::Kept)
 }
 
 #[test]

@@ -1,12 +1,12 @@
 //! The harness: a plan is run with ports of these kinds.
 
+use super::activity::PortActivity;
 use super::draft::Draft;
 use super::frames::{Frames, script_of};
 use super::guests::{Guest, Habit};
 use super::plans::plan_of;
 use super::streams::{Broken, Stream};
 use super::told::{NOTHING, Told, tell, tell_counted, tell_fault};
-use super::watch::Watch;
 use pb_frame::Memory;
 use pb_lan::{Limits, Plan, plan_is_sound};
 use pb_port::{MemoryPort, SocketPort};
@@ -67,10 +67,10 @@ fn guest_of(
     alloc: Global,
     count: u32,
     habit: Habit,
-    watch: &Arc<Watch, Global>,
+    activity: &Arc<PortActivity, Global>,
 ) -> Result<Guest, Memory> {
     let script = script_of(alloc, count)?;
-    Ok(Guest::new(alloc, script, habit, Arc::try_clone(watch)?))
+    Ok(Guest::new(alloc, script, habit, Arc::try_clone(activity)?))
 }
 
 /// The same, in a box.
@@ -78,9 +78,9 @@ fn guest(
     alloc: Global,
     count: u32,
     habit: Habit,
-    watch: &Arc<Watch, Global>,
+    activity: &Arc<PortActivity, Global>,
 ) -> Result<Held, Memory> {
-    Ok(Box::new(alloc, guest_of(alloc, count, habit, watch)?)?)
+    Ok(Box::new(alloc, guest_of(alloc, count, habit, activity)?)?)
 }
 
 /// A socket port over a device that fails, in a box.
@@ -88,18 +88,22 @@ fn socket(
     alloc: Global,
     count: u32,
     broken: Broken,
-    watch: &Arc<Watch, Global>,
+    activity: &Arc<PortActivity, Global>,
 ) -> Result<Held, Memory> {
-    let stream = Stream::new(alloc, count, broken, Arc::try_clone(watch)?)?;
+    let stream = Stream::new(alloc, count, broken, Arc::try_clone(activity)?)?;
     Ok(Box::new(alloc, SocketPort::new(alloc, 4_096, stream))?)
 }
 
 /// A port outside, in a box.
-fn port_of(alloc: Global, outer: Outer, watch: &Arc<Watch, Global>) -> Result<Held, Memory> {
+fn port_of(
+    alloc: Global,
+    outer: Outer,
+    activity: &Arc<PortActivity, Global>,
+) -> Result<Held, Memory> {
     match outer {
         Outer::Memory(count) => memory(alloc, count),
-        Outer::Guest(count, habit) => guest(alloc, count, habit, watch),
-        Outer::Stream(count, broken) => socket(alloc, count, broken, watch),
+        Outer::Guest(count, habit) => guest(alloc, count, habit, activity),
+        Outer::Stream(count, broken) => socket(alloc, count, broken, activity),
     }
 }
 
@@ -107,11 +111,11 @@ fn port_of(alloc: Global, outer: Outer, watch: &Arc<Watch, Global>) -> Result<He
 fn ports_of(
     alloc: Global,
     outers: &[Outer],
-    watch: &Arc<Watch, Global>,
+    activity: &Arc<PortActivity, Global>,
 ) -> Result<Vec<Held>, Memory> {
     let mut ports = Vec::new(alloc);
     for outer in outers {
-        ports.push(port_of(alloc, *outer, watch)?)?;
+        ports.push(port_of(alloc, *outer, activity)?)?;
     }
     Ok(ports)
 }
@@ -158,7 +162,7 @@ fn ran_with<G: Gate, R: Threads + Wait + Clock + Sync>(
     ports: Vec<Held>,
     setup: &Setup,
     gate: &G,
-    watch: &Watch,
+    activity: &PortActivity,
     way: Way,
 ) -> Result<Told, Memory> {
     if !plan_is_sound(plan) {
@@ -168,27 +172,27 @@ fn ran_with<G: Gate, R: Threads + Wait + Clock + Sync>(
     match way {
         Way::Kept => {
             let outcome = run_kept(rt, alloc, plan, ports, gate, limits);
-            told_of_kept(alloc, outcome, setup.left, watch.polls())
+            told_of_kept(alloc, outcome, setup.left, activity.polls())
         }
         Way::Counted => told_of(alloc, run(rt, alloc, plan, ports, gate, limits)),
         Way::Set => told_of(alloc, run_set(rt, alloc, plan, ports, gate, limits)),
     }
 }
 
-/// Runs what a setup tells while a watch sees it, and tells what came of it. What it tells owns nothing, so that
+/// Runs what a setup states, and returns what came of it, with the activity of its ports. The result owns nothing, so that
 /// tests are cheap to prove.
 pub(super) fn ran_under<G: Gate, R: Threads + Wait + Clock + Sync>(
     rt: &R,
     alloc: Global,
     setup: &Setup,
     gate: &G,
-    watch: &Arc<Watch, Global>,
+    activity: &Arc<PortActivity, Global>,
     way: Way,
 ) -> Result<Told, Memory> {
     let plan = plan_of(alloc, &setup.draft)?;
-    let ports = ports_of(alloc, setup.ports, watch)?;
-    let mut told = ran_with(rt, alloc, &plan, ports, setup, gate, watch, way)?;
-    watch.tell(&mut told);
+    let ports = ports_of(alloc, setup.ports, activity)?;
+    let mut told = ran_with(rt, alloc, &plan, ports, setup, gate, activity, way)?;
+    activity.tell(&mut told);
     Ok(told)
 }
 
@@ -200,6 +204,6 @@ pub(super) fn ran<G: Gate, R: Threads + Wait + Clock + Sync>(
     gate: &G,
     way: Way,
 ) -> Result<Told, Memory> {
-    let watch = Arc::new(alloc, Watch::new())?;
-    ran_under(rt, alloc, setup, gate, &watch, way)
+    let activity = Arc::new(alloc, PortActivity::new())?;
+    ran_under(rt, alloc, setup, gate, &activity, way)
 }

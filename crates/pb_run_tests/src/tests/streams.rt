@@ -2,8 +2,8 @@
 
 ghost use Rattle.std.specs.Prelude.{◌≤◌, vec_len};
 
+use super::activity::PortActivity;
 use super::frames::frame_of;
-use super::watch::Watch;
 use pb_frame::Memory;
 use pb_port::{Device, Got};
 use std::alloc::Global;
@@ -29,7 +29,7 @@ pub(super) struct Stream {
     reads: u64,
     writes: u64,
     failures: u64,
-    watch: Arc<Watch, Global>,
+    activity: Arc<PortActivity, Global>,
     ghost within: { at ≤ vec_len input },
 }
 
@@ -39,7 +39,7 @@ impl Stream {
         alloc: Global,
         count: u32,
         broken: Broken,
-        watch: Arc<Watch, Global>,
+        activity: Arc<PortActivity, Global>,
     ) -> Result<Stream, Memory> {
         let mut input = Vec::new(alloc);
         for number in 0..count {
@@ -53,7 +53,7 @@ impl Stream {
             reads: 0,
             writes: 0,
             failures: 0,
-            watch,
+            activity,
         })
     }
 }
@@ -63,7 +63,7 @@ impl Device for Stream {
 
     fn read(&mut self, buf: &mut [u8]) -> Got {
         self.reads = self.reads.saturating_add(1);
-        self.watch.reads.fetch_add(1, Ordering::SeqCst);
+        self.activity.reads.fetch_add(1, Ordering::SeqCst);
         if self.failures == 0 && self.broken == Broken::Read(self.reads) {
             self.failures = 1;
             return Got::Failed;
@@ -76,7 +76,7 @@ impl Device for Stream {
 
     fn write(&mut self, buf: &[u8]) -> Got {
         self.writes = self.writes.saturating_add(1);
-        self.watch.writes.fetch_add(1, Ordering::SeqCst);
+        self.activity.writes.fetch_add(1, Ordering::SeqCst);
         if self.failures == 0 && self.broken == Broken::Write(self.writes) {
             self.failures = 1;
             return Got::Failed;

@@ -1,25 +1,25 @@
-//! The harness: words of the command line are read, and what they ask for is looked at.
+//! The harness: arguments of a command line are parsed, and what they ask for is checked.
 
 use super::wanted::{Look, Of, Picture, Row, Run, Wanted};
 use pb_cli::{
-    ControlOrder, DrawOrder, Order, ReportFormat, ReportOrder, RunOrder, SurviveOrder,
-    SurviveScope, TraceEntry, TraceOrder, TreeOrder, order_of,
+    CommandLine, ControlOptions, DrawOptions, ReportFormat, ReportOptions, RunOptions,
+    SurviveOptions, SurviveScope, TraceEntry, TraceOptions, TreeOptions, command_line_of,
 };
 use std::alloc::{AllocError, Global};
 use std::process::Abort;
 use std::test::Fail;
 
-fn push(line: &mut Vec<String>, alloc: Global, word: &str) -> Result<(), AllocError> {
-    line.push(String::from_str(alloc, word)?)?;
+fn push(line: &mut Vec<String>, alloc: Global, argument: &str) -> Result<(), AllocError> {
+    line.push(String::from_str(alloc, argument)?)?;
     Ok(())
 }
 
-/// All words of the command line.
-fn line_of(alloc: Global, words: &[&str]) -> Result<Vec<String>, AllocError> {
+/// Returns all arguments of the command line.
+fn line_of(alloc: Global, arguments: &[&str]) -> Result<Vec<String>, AllocError> {
     let mut line = Vec::new(alloc);
     push(&mut line, alloc, "pbnet")?;
-    for word in words {
-        push(&mut line, alloc, word)?;
+    for argument in arguments {
+        push(&mut line, alloc, argument)?;
     }
     Ok(line)
 }
@@ -33,10 +33,10 @@ fn is_text(told: Option<&String>, wanted: Option<&str>) -> bool {
     }
 }
 
-/// Whether these are the words.
-fn are_words(told: &[String], wanted: &[&str]) -> bool {
-    for (place, word) in wanted.iter().enumerate() {
-        if !is_text(told.get(place), Some(*word)) {
+/// Whether these are the texts.
+fn are_texts(told: &[String], wanted: &[&str]) -> bool {
+    for (index, text) in wanted.iter().enumerate() {
+        if !is_text(told.get(index), Some(*text)) {
             return false;
         }
     }
@@ -61,11 +61,11 @@ fn are_entries(told: &[TraceEntry], wanted: &[(&str, &str)]) -> bool {
 }
 
 /// Whether it is a report as text over this plan file.
-fn is_report(told: &ReportOrder, path: &str) -> bool {
+fn is_report(told: &ReportOptions, path: &str) -> bool {
     told.path.as_str() == path && told.format == ReportFormat::Text
 }
 
-fn is_run(told: &RunOrder, run: &Run) -> bool {
+fn is_run(told: &RunOptions, run: &Run) -> bool {
     told.path.as_str() == run.path
         && told.seconds == run.seconds
         && told.progress == run.progress
@@ -76,14 +76,14 @@ fn is_run(told: &RunOrder, run: &Run) -> bool {
         && told.format == ReportFormat::Text
 }
 
-fn is_tree(told: &TreeOrder, path: &str, downs: &[&str], ticks: u32) -> bool {
+fn is_tree(told: &TreeOptions, path: &str, downs: &[&str], ticks: u32) -> bool {
     told.path.as_str() == path
-        && are_words(&told.downs, downs)
+        && are_texts(&told.downs, downs)
         && told.ticks == ticks
         && told.format == ReportFormat::Text
 }
 
-fn is_trace(told: &TraceOrder, path: &str, frames: &[(&str, &str)], settles: bool) -> bool {
+fn is_trace(told: &TraceOptions, path: &str, frames: &[(&str, &str)], settles: bool) -> bool {
     told.path.as_str() == path
         && are_entries(&told.entries, frames)
         && told.settles == settles
@@ -99,7 +99,7 @@ fn is_scope(told: &SurviveScope, of: Of) -> bool {
     }
 }
 
-fn is_look(told: &SurviveOrder, look: &Look) -> bool {
+fn is_look(told: &SurviveOptions, look: &Look) -> bool {
     told.path.as_str() == look.path
         && told.pairs == look.pairs
         && told.bridges == look.bridges
@@ -108,56 +108,62 @@ fn is_look(told: &SurviveOrder, look: &Look) -> bool {
         && told.format == ReportFormat::Text
 }
 
-fn is_picture(told: &DrawOrder, picture: &Picture) -> bool {
+fn is_picture(told: &DrawOptions, picture: &Picture) -> bool {
     told.path.as_str() == picture.path
         && is_text(told.service.as_ref(), picture.service)
-        && are_words(&told.downs, picture.downs)
+        && are_texts(&told.downs, picture.downs)
         && told.format == picture.format
         && told.ticks == picture.ticks
         && is_text(told.output.as_ref(), picture.output)
 }
 
-fn is_control(told: &ControlOrder, path: &str, arguments: &[&str]) -> bool {
-    told.path.as_str() == path && are_words(told.arguments.as_slice(), arguments)
+fn is_control(told: &ControlOptions, path: &str, arguments: &[&str]) -> bool {
+    told.path.as_str() == path && are_texts(told.arguments.as_slice(), arguments)
 }
 
 /// The form of the report that is asked for, where there is one.
-fn format_of(order: &Order) -> Option<ReportFormat> {
-    match order {
-        Order::Check(order) => Some(order.format),
-        Order::Step(order) => Some(order.format),
-        Order::Run(order) => Some(order.format),
-        Order::Tree(order) => Some(order.format),
-        Order::Trace(order) => Some(order.format),
-        Order::Survive(order) => Some(order.format),
-        Order::Flat(_) | Order::Show | Order::Init(_) | Order::Draw(_) | Order::Control(_) => None,
+fn format_of(line: &CommandLine) -> Option<ReportFormat> {
+    match line {
+        CommandLine::Check(options) => Some(options.format),
+        CommandLine::Step(options) => Some(options.format),
+        CommandLine::Run(options) => Some(options.format),
+        CommandLine::Tree(options) => Some(options.format),
+        CommandLine::Trace(options) => Some(options.format),
+        CommandLine::Survive(options) => Some(options.format),
+        CommandLine::Flat(_)
+        | CommandLine::Show
+        | CommandLine::Init(_)
+        | CommandLine::Draw(_)
+        | CommandLine::Control(_) => None,
     }
 }
 
-/// Whether an order is the one that is wanted.
-fn is_so(order: &Order, wanted: &Wanted) -> bool {
-    match (wanted, order) {
-        (Wanted::Flat(ports), Order::Flat(told)) => told == ports,
-        (Wanted::Check(path), Order::Check(told)) => is_report(told, path),
-        (Wanted::Step(path), Order::Step(told)) => is_report(told, path),
-        (Wanted::Run(run), Order::Run(told)) => is_run(told, run),
-        (Wanted::Tree(path, downs, ticks), Order::Tree(told)) => is_tree(told, path, downs, *ticks),
-        (Wanted::Trace(path, frames, settles), Order::Trace(told)) => {
+/// Whether a command line is the one that is wanted.
+fn is_so(line: &CommandLine, wanted: &Wanted) -> bool {
+    match (wanted, line) {
+        (Wanted::Flat(ports), CommandLine::Flat(told)) => told == ports,
+        (Wanted::Check(path), CommandLine::Check(told)) => is_report(told, path),
+        (Wanted::Step(path), CommandLine::Step(told)) => is_report(told, path),
+        (Wanted::Run(run), CommandLine::Run(told)) => is_run(told, run),
+        (Wanted::Tree(path, downs, ticks), CommandLine::Tree(told)) => is_tree(
+            told, path, downs, *ticks,
+        ),
+        (Wanted::Trace(path, frames, settles), CommandLine::Trace(told)) => {
             is_trace(told, path, frames, *settles)
         }
-        (Wanted::Survive(look), Order::Survive(told)) => is_look(told, look),
-        (Wanted::Draw(picture), Order::Draw(told)) => is_picture(told, picture),
-        (Wanted::Show, Order::Show) => true,
-        (Wanted::Init(network), Order::Init(told)) => told == network,
-        (Wanted::Control(path, arguments), Order::Control(told)) => {
+        (Wanted::Survive(look), CommandLine::Survive(told)) => is_look(told, look),
+        (Wanted::Draw(picture), CommandLine::Draw(told)) => is_picture(told, picture),
+        (Wanted::Show, CommandLine::Show) => true,
+        (Wanted::Init(network), CommandLine::Init(told)) => told == network,
+        (Wanted::Control(path, arguments), CommandLine::Control(told)) => {
             is_control(told, path, arguments)
         }
-        (Wanted::Form(form), _) => format_of(order) == Some(*form),
+        (Wanted::Form(form), _) => format_of(line) == Some(*form),
         _ => false,
     }
 }
 
-/// Whether that is wanted of words that are wrong, or that ask for help.
+/// Whether that is wanted of arguments that are refused, or that ask for help.
 fn is_nothing(is_wrong: bool, wanted: &Wanted) -> bool {
     match wanted {
         Wanted::Nothing { wrong } => *wrong == is_wrong,
@@ -165,20 +171,20 @@ fn is_nothing(is_wrong: bool, wanted: &Wanted) -> bool {
     }
 }
 
-/// Whether the words behind the program's name ask for what is wanted.
-fn ask(alloc: Global, words: &[&str], wanted: &Wanted) -> Result<bool, AllocError> {
-    let line = line_of(alloc, words)?;
-    Ok(match order_of(alloc, line.as_slice()) {
-        Ok(Some(order)) => is_so(&order, wanted),
+/// Whether the arguments after the program's name ask for what is wanted.
+fn ask(alloc: Global, arguments: &[&str], wanted: &Wanted) -> Result<bool, AllocError> {
+    let line = line_of(alloc, arguments)?;
+    Ok(match command_line_of(alloc, line.as_slice()) {
+        Ok(Some(told)) => is_so(&told, wanted),
         Ok(None) => false,
         Err(e) => is_nothing(e.use_stderr(), wanted),
     })
 }
 
-/// The words of each row ask for what stands beside them.
+/// The arguments of each row ask for what is beside them.
 pub(super) fn all_ask(rt: &impl Abort, alloc: Global, rows: &[Row]) -> Result<(), Fail> {
-    for (words, wanted) in rows {
-        assert!(rt; ask(alloc, words, wanted)?, "{words:?}");
+    for (arguments, wanted) in rows {
+        assert!(rt; ask(alloc, arguments, wanted)?, "{arguments:?}");
     }
     Ok(())
 }

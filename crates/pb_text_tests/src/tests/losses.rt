@@ -16,7 +16,7 @@ type Ports = &'static [(u8, NoRoom)];
 
 /// What a bridge did.
 #[derive(Clone, Copy)]
-enum Did {
+enum Performed {
     /// It relayed a frame, and these ports got no copy.
     Relay(Ports),
     /// It relayed a frame to no port, and its table answered this.
@@ -37,20 +37,20 @@ enum Did {
     Transmit,
 }
 
-use Did::{Admin, Filter, Hear, HearNothing, Learn, Refuse, Relay, Tick, Transmit};
+use Performed::{Admin, Filter, Hear, HearNothing, Learn, Refuse, Relay, Tick, Transmit};
 
 /// The bridges of the plan, in its order.
 const NAMES: &[&str] = &["B2", "B1", "core"];
 
 /// What each bridge of the record did, and what is told.
-type Row = (&'static [&'static [Did]], &'static str);
+type Row = (&'static [&'static [Performed]], &'static str);
 
 const FULL: NoRoom = NoRoom::Full;
 
 const NO_MEMORY: NoRoom = NoRoom::Memory;
 
 /// Steps without losses: none of them has a line.
-const QUIET: &[Did] = &[
+const QUIET: &[Performed] = &[
     Relay(&[]),
     Learn(Learnt::New),
     Learn(Learnt::Kept),
@@ -180,8 +180,8 @@ fn relayed(refused: &[(u8, NoRoom)]) -> Outcome {
 }
 
 /// What became of a frame, and what the table answered.
-fn ruling_of(did: Did) -> (Option<Learnt>, Outcome) {
-    match did {
+fn ruling_of(performed: Performed) -> (Option<Learnt>, Outcome) {
+    match performed {
         Relay(ports) => (Some(Learnt::Kept), relayed(ports)),
         Learn(learnt) => (Some(learnt), relayed(&[])),
         Refuse(ports, learnt) => (Some(learnt), relayed(ports)),
@@ -200,16 +200,16 @@ fn item(alloc: Global) -> Result<Item, Memory> {
 }
 
 /// What changed by a BPDU that a bridge heard, if something did.
-fn heard(alloc: Global, did: Did) -> Result<Option<Held<Moved>>, Memory> {
-    let Hear(ports) = did else {
+fn heard(alloc: Global, performed: Performed) -> Result<Option<Held<Moved>>, Memory> {
+    let Hear(ports) = performed else {
         return Ok(None);
     };
     Ok(Some(Held::new(alloc, moved_of(alloc, ports)?)?))
 }
 
 /// The step in which a bridge received a frame.
-fn receipt(did: Did, item: Item, moved: Option<Held<Moved>>) -> Step {
-    let (learnt, outcome) = ruling_of(did);
+fn receipt(performed: Performed, item: Item, moved: Option<Held<Moved>>) -> Step {
+    let (learnt, outcome) = ruling_of(performed);
     Step::Receive {
         port: 9,
         item,
@@ -219,10 +219,10 @@ fn receipt(did: Did, item: Item, moved: Option<Held<Moved>>) -> Step {
     }
 }
 
-fn receipt_of(alloc: Global, did: Did) -> Result<Step, Memory> {
+fn receipt_of(alloc: Global, performed: Performed) -> Result<Step, Memory> {
     let item = item(alloc)?;
-    let moved = heard(alloc, did)?;
-    Ok(receipt(did, item, moved))
+    let moved = heard(alloc, performed)?;
+    Ok(receipt(performed, item, moved))
 }
 
 fn transmission(alloc: Global) -> Result<Step, Memory> {
@@ -244,25 +244,25 @@ fn admin(alloc: Global, ports: &[(u8, NoRoom)]) -> Result<Step, Memory> {
     })
 }
 
-fn step_of(alloc: Global, did: Did) -> Result<Step, Memory> {
-    match did {
+fn step_of(alloc: Global, performed: Performed) -> Result<Step, Memory> {
+    match performed {
         Tick(ports) => tick(alloc, ports),
         Admin(ports) => admin(alloc, ports),
         Transmit => transmission(alloc),
-        _ => receipt_of(alloc, did),
+        _ => receipt_of(alloc, performed),
     }
 }
 
-fn steps_of(alloc: Global, all: &[Did]) -> Result<Seq<Step>, Memory> {
+fn steps_of(alloc: Global, all: &[Performed]) -> Result<Seq<Step>, Memory> {
     let mut steps = Vec::new(alloc);
-    for did in all {
-        steps.push(step_of(alloc, *did)?)?;
+    for performed in all {
+        steps.push(step_of(alloc, *performed)?)?;
     }
     Ok(Seq::from_vec(steps))
 }
 
 /// The record in which the bridges did this.
-fn record_of(alloc: Global, bridges: &[&[Did]]) -> Result<Record, Memory> {
+fn record_of(alloc: Global, bridges: &[&[Performed]]) -> Result<Record, Memory> {
     let mut lists = Vec::new(alloc);
     for all in bridges {
         lists.push(steps_of(alloc, all)?)?;
@@ -309,20 +309,20 @@ fn plan_of(alloc: Global) -> Result<Plan, Memory> {
 }
 
 /// The tallies of the record in which the bridges did this.
-fn tallies_of(alloc: Global, bridges: &[&[Did]]) -> Result<Tallies, Memory> {
+fn tallies_of(alloc: Global, bridges: &[&[Performed]]) -> Result<Tallies, Memory> {
     let record = record_of(alloc, bridges)?;
     Tallies::of(alloc, &record)
 }
 
 /// Appends what is told where the bridges did this.
-fn put(out: &mut String, alloc: Global, bridges: &[&[Did]]) -> Result<(), Memory> {
+fn put(out: &mut String, alloc: Global, bridges: &[&[Performed]]) -> Result<(), Memory> {
     let plan = plan_of(alloc)?;
     let tallies = tallies_of(alloc, bridges)?;
     put_losses(out, &plan, &tallies)
 }
 
 /// Whether this is told behind what stands there, where the bridges did this.
-fn is_told(alloc: Global, bridges: &[&[Did]], wanted: &str) -> Result<bool, Memory> {
+fn is_told(alloc: Global, bridges: &[&[Performed]], wanted: &str) -> Result<bool, Memory> {
     let mut out = String::from_str(alloc, "before\n")?;
     put(&mut out, alloc, bridges)?;
     Ok(out.as_str().strip_prefix("before\n") == Some(wanted))

@@ -1,6 +1,6 @@
-//! What words of the command line ask for.
+//! What arguments of the command line ask for.
 
-use pb_cli::{InitOrder, PictureFormat, ReportFormat};
+use pb_cli::{InitOptions, PictureFormat, ReportFormat};
 
 /// A run of a plan file, and what is to be done beside it. Its report is a text.
 #[derive(Clone, Copy)]
@@ -64,7 +64,7 @@ pub(super) struct Picture {
     pub(super) output: Option<&'static str>,
 }
 
-/// What words ask for. Each report is a text.
+/// The command line that arguments make. Each report is a text.
 #[derive(Clone, Copy)]
 pub(super) enum Wanted {
     Flat(u8),
@@ -78,7 +78,7 @@ pub(super) enum Wanted {
     Survive(Look),
     Draw(Picture),
     Show,
-    Init(InitOrder),
+    Init(InitOptions),
     /// The path of the control socket, and the arguments of its commands.
     Control(&'static str, &'static [&'static str]),
     /// A report in this form.
@@ -91,5 +91,5 @@ pub(super) const WRONG: Wanted = Wanted::Nothing { wrong: true };
 
 pub(super) const HELP: Wanted = Wanted::Nothing { wrong: false };
 
-/// The words behind the program's name, and what they ask for.
+/// The arguments after the program's name, and what they ask for.
 pub(super) type Row = (&'static [&'static str], Wanted);

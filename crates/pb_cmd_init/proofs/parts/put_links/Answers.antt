@@ -5,6 +5,6 @@ use Rattle.pb_cmd_init.proofs.parts.put_links.Goals as goal
 
 pub loop-before-preserved : goal.loop-before-preserved
 loop-before-preserved c =
-    numbers_more (link_text c.args.shape) (c.loop-before.before + 1) c.loop-before.before _
+    numbers_more (link_text c.args.topology) (c.loop-before.before + 1) c.loop-before.before _
     (string_bytes c.loop-before.out) _ _
     c.loop-before-test.true c.in_ok-put_link.ensures c.loop-before.invariant

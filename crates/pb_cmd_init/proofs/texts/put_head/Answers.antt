@@ -8,7 +8,7 @@ returns c =
     let old = string_bytes c.args.out.now in
     let head = string_bytes c.push_str.new.self in
     let keys = string_bytes c.push_str-2.new.self in
-    let shape = c.args.shape in
-    let put = with_piece old head keys head_text (keys_text shape) c.in_ok-push_str.ensures.bytes
+    let topology = c.args.topology in
+    let put = with_piece old head keys head_text (keys_text topology) c.in_ok-push_str.ensures.bytes
     (c.in_ok-push_str-2.ensures.bytes ∙ ap (λ t. head ++ t) c.keys_of.ensures) in
     with_piece old keys (string_bytes c.push_str-3.new.self) _ places_text put c.in_ok-push_str-3.ensures.bytes

@@ -1,6 +1,6 @@
 use Rattle.std.proofs.Common.{◌≡◌, ◌++◌, string_bytes, count_by, refl, ap, subst, ◌∙◌}
 use Rattle.pb_cmd_survive.specs.Failures.{all_failures}
-use Rattle.pb_cmd_survive.specs.Outcomes.{IsOutcome, AreOutcomes}
+use Rattle.pb_cmd_survive.specs.Impacts.{IsImpact, AreImpacts}
 use Rattle.pb_cmd_survive.specs.Reports.{parts, report_text}
 use Rattle.pb_cmd_survive.specs.Scopes.{services_of, from_of}
 use Rattle.pb_cmd_survive.specs.Survivals.{most_events, status_of}
@@ -12,7 +12,7 @@ returns g c =
     let plan = c.args.plan.now in
     let asked = c.args.asked.now in
     let base = c.in_ok-base.base in
-    let outcomes = c.in_ok-outcomes.outcomes.items in
+    let impacts = c.in_ok-impacts.impacts.items in
     let from = from_of plan asked.scope in
     let services : c.as_slice.result.now ≡ services_of plan asked.scope = c.as_slice.ensures.value
     ∙ c.in_ok-services.ensures in
@@ -20,25 +20,25 @@ returns g c =
     ∙ c.in_ok-services.ensures in
     let failures : c.as_slice-3.result.now ≡ all_failures plan asked.kinds = c.as_slice-3.ensures.value
     ∙ c.in_ok-failures.ensures in
-    let looked = subst (λ fs. AreOutcomes plan c.as_slice-2.result.now asked.ticks most_events fs outcomes) failures
-    c.in_ok-outcomes.ensures in
-    let text : string_bytes c.put_report.new.out ≡ string_bytes c.args.out.now ++ report_text plan from base outcomes =
+    let looked = subst (λ fs. AreImpacts plan c.as_slice-2.result.now asked.ticks most_events fs impacts) failures
+    c.in_ok-impacts.ensures in
+    let text : string_bytes c.put_report.new.out ≡ string_bytes c.args.out.now ++ report_text plan from base impacts =
     c.in_ok-parting.ensures.text
     ∙ ap (λ f. string_bytes c.args.out.now ++ report_text plan f base c.as_slice-4.result.now)
     c.from_of-from.ensures
     ∙ ap (λ os. string_bytes c.args.out.now ++ report_text plan from base os) c.as_slice-4.ensures.value in
-    let parting : c.in_ok-parting.parting ≡ count_by (parts from base) outcomes =
+    let parting : c.in_ok-parting.parting ≡ count_by (parts from base) impacts =
     c.in_ok-parting.ensures.parting ∙ ap (λ f. count_by (parts f base) c.as_slice-4.result.now) c.from_of-from.ensures
     ∙ ap (λ os. count_by (parts from base) os) c.as_slice-4.ensures.value in (
-      report_text plan from base outcomes,
+      report_text plan from base impacts,
       text,
       record {
         found = c.requires.found;
         base = base;
-        is_base = subst (λ ns. IsOutcome plan ns asked.ticks most_events Nothing base) services c.in_ok-base.ensures;
-        outcomes = outcomes;
-        are_outcomes = subst (λ ns. AreOutcomes plan ns asked.ticks most_events (all_failures plan asked.kinds)
-            outcomes) services' looked;
+        is_base = subst (λ ns. IsImpact plan ns asked.ticks most_events Nothing base) services c.in_ok-base.ensures;
+        impacts = impacts;
+        are_impacts = subst (λ ns. AreImpacts plan ns asked.ticks most_events (all_failures plan asked.kinds)
+            impacts) services' looked;
         text_is = refl;
         status_is = c.status_of.ensures ∙ ap status_of parting;
       },

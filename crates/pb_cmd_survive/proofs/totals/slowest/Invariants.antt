@@ -2,6 +2,6 @@ use Rattle.std.proofs.Common.{◌≡◌, max, drop}
 use Rattle.pb_cmd_survive.specs.Reports.{slowest}
 use Rattle.pb_cmd_survive.proofs.totals.slowest.Given as goal
 
-abbrev pub invariant-loop-outcome : goal.invariant-loop-outcome
-invariant-loop-outcome l = max l.most (slowest l.from l.base (drop l.outcome-index l.outcomes)) ≡ slowest l.from
-    l.base l.outcomes
+abbrev pub invariant-loop-impact : goal.invariant-loop-impact
+invariant-loop-impact l = max l.most (slowest l.from l.base (drop l.impact-index l.impacts)) ≡ slowest l.from
+    l.base l.impacts

@@ -68,8 +68,8 @@ fn scene(rt: &impl Abort, alloc: Global, file: &str) -> Result<Scene, Fail> {
     Ok(scene_of(alloc, &plan, &shape, None)?)
 }
 
-/// A plan file in which bridge K, from 1, is joined to each of `ahead` bridges behind it, all with the states of a tree:
-/// only the first of these links forwards.
+/// A plan file in which bridge K, from 1, is joined to each of `ahead` bridges behind it, all with the states of a
+/// tree: only the first of these links forwards.
 fn plan_of(alloc: Global, bridges: usize, ahead: usize) -> Result<String, Fail> {
     let mut text = String::new(alloc);
     for number in 1..bridges {

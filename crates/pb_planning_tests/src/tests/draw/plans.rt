@@ -1,7 +1,8 @@
 //! Plans, and what their pictures have.
 //!
-//! The states follow from the plan files, and where the bridges decide them from IEEE 802.1D-2004 clause 17.6: the root is
-//! the bridge with the lowest identifier, and of two bridges that are as far from it the lower one serves their link.
+//! The states follow from the plan files, and where the bridges decide them from IEEE 802.1D-2004 clause 17.6: the root
+//! is the bridge with the lowest identifier, and of two bridges that are as far from it the lower one serves their
+//! link.
 
 /// A ring of three bridges whose states the plan gives: L3 stands by at B3. The service blue has no way over L2, which
 /// loses two frames.
@@ -146,15 +147,18 @@ pub(super) const DOT_PIECES: &[Piece] = &[
         1,
     ),
     (
-        "b1 -- b2 [taillabel=\"1\", headlabel=\"2\", dir=both, arrowtail=none, arrowhead=none, label=\"L1\", tooltip=\"link L1: B1 port 1 forwarding, B2 port 2 forwarding\"];\n",
+        "b1 -- b2 [taillabel=\"1\", headlabel=\"2\", dir=both, arrowtail=none, arrowhead=none, label=\"L1\", \
+        tooltip=\"link L1: B1 port 1 forwarding, B2 port 2 forwarding\"];\n",
         1,
     ),
     (
-        "b3 -- b1 [taillabel=\"1\", headlabel=\"2\", dir=both, arrowtail=box, arrowhead=none, style=dashed, color=gray50, label=\"L3\", tooltip=\"link L3: B3 port 1 discarding, B1 port 2 forwarding\"];\n",
+        "b3 -- b1 [taillabel=\"1\", headlabel=\"2\", dir=both, arrowtail=box, arrowhead=none, style=dashed, \
+        color=gray50, label=\"L3\", tooltip=\"link L3: B3 port 1 discarding, B1 port 2 forwarding\"];\n",
         1,
     ),
     (
-        "p3 [color=\"#e69f00\", label=\"C3 blue\", tooltip=\"port C3: B2 port 16, service blue, VID 200\"];\nb2 -- p3 [color=\"#e69f00\"];\n",
+        "p3 [color=\"#e69f00\", label=\"C3 blue\", tooltip=\"port C3: B2 port 16, service blue, VID 200\"];\n\
+        b2 -- p3 [color=\"#e69f00\"];\n",
         1,
     ),
     ("label=\"L2 (loses)\"", 1),

@@ -11,7 +11,8 @@ pub(super) struct Wire<'a>(pub(super) At, pub(super) At, pub(super) &'a str);
 /// A customer port at a bridge's port, with its service.
 pub(super) struct Stub<'a>(pub(super) At, pub(super) &'a str);
 
-/// A network: bridges `B1` and so on, links `L1` and so on, the services `red` and `blue`, customer ports `C1` and so on.
+/// A network: bridges `B1` and so on, links `L1` and so on, the services `red` and `blue`, customer ports `C1` and so
+/// on.
 pub(super) struct Draft<'a> {
     /// What stands in the table `network`.
     pub(super) network: &'a str,

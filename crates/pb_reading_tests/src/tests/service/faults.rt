@@ -142,7 +142,8 @@ fn the_time_of_day_is_told_by_a_clock_in_milliseconds(rt: HostRuntime) -> Result
     const CHANGES: &[Change] = &[
         (
             "service = \"blue\"",
-            "service = \"blue\"\nkind = \"capture\"\nread = \"r\"\nwrite = \"w\"\nstamp = \"time\"\n[network]\ntick_ms = 1",
+            "service = \"blue\"\nkind = \"capture\"\nread = \"r\"\nwrite = \"w\"\nstamp = \"time\"\n[network]\n\
+            tick_ms = 1",
             "0 ok",
         ),
         (
@@ -152,7 +153,8 @@ fn the_time_of_day_is_told_by_a_clock_in_milliseconds(rt: HostRuntime) -> Result
         ),
         (
             "service = \"blue\"",
-            "service = \"blue\"\nkind = \"capture\"\nread = \"r\"\nwrite = \"w\"\nstamp = \"time\"\n[network]\ntick_every = 1",
+            "service = \"blue\"\nkind = \"capture\"\nread = \"r\"\nwrite = \"w\"\nstamp = \"time\"\n[network]\n\
+            tick_every = 1",
             "5 range port[2].stamp",
         ),
         (

@@ -43,15 +43,18 @@ const FILES: &[(&str, &str)] = &[
         "6 unknown bridge[0].apple",
     ),
     (
-        "[[bridge]]\nname = \"B\"\naddress = \"02-00-00-00-00-01\"\n[[bridge]]\nname = \"B\"\naddress = \"02-00-00-00-00-01\"\nzebra = 1",
+        "[[bridge]]\nname = \"B\"\naddress = \"02-00-00-00-00-01\"\n[[bridge]]\nname = \"B\"\n\
+        address = \"02-00-00-00-00-01\"\nzebra = 1",
         "6 unknown bridge[1].zebra",
     ),
     (
-        "[[bridge]]\nname = \"B\"\naddress = \"02-00-00-00-00-01\"\n[[bridge]]\nname = \"B\"\naddress = \"02-00-00-00-00-01\"",
+        "[[bridge]]\nname = \"B\"\naddress = \"02-00-00-00-00-01\"\n[[bridge]]\nname = \"B\"\n\
+        address = \"02-00-00-00-00-01\"",
         "7 twice B",
     ),
     (
-        "[[bridge]]\nname = \"B\"\naddress = \"02-00-00-00-00-01\"\n[[link]]\nname = \"L\"\na = \"X\"\na_port = 1\nb = \"Y\"\nb_port = 1\nzebra = 1",
+        "[[bridge]]\nname = \"B\"\naddress = \"02-00-00-00-00-01\"\n[[link]]\nname = \"L\"\na = \"X\"\na_port = 1\n\
+        b = \"Y\"\nb_port = 1\nzebra = 1",
         "6 unknown link[0].zebra",
     ),
     (
@@ -59,19 +62,23 @@ const FILES: &[(&str, &str)] = &[
         "8 no-such X",
     ),
     (
-        "[[bridge]]\nname = \"B\"\naddress = \"02-00-00-00-00-01\"\n[[link]]\nname = \"L\"\na = \"B\"\na_port = 1\nb = \"B\"\nb_port = 1\na_services = [\"red\"]\n",
+        "[[bridge]]\nname = \"B\"\naddress = \"02-00-00-00-00-01\"\n[[link]]\nname = \"L\"\na = \"B\"\na_port = 1\n\
+        b = \"B\"\nb_port = 1\na_services = [\"red\"]\n",
         "8 no-such red",
     ),
     (
-        "[[bridge]]\nname = \"B\"\naddress = \"02-00-00-00-00-01\"\n[[link]]\nname = \"L\"\na = \"B\"\na_port = 1\nb = \"C\"\nb_port = 1\na_services = [\"red\"]\n",
+        "[[bridge]]\nname = \"B\"\naddress = \"02-00-00-00-00-01\"\n[[link]]\nname = \"L\"\na = \"B\"\na_port = 1\n\
+        b = \"C\"\nb_port = 1\na_services = [\"red\"]\n",
         "8 no-such C",
     ),
     (
-        "[[bridge]]\nname = \"B\"\naddress = \"02-00-00-00-00-01\"\n[[link]]\nname = \"L\"\na = \"B\"\na_port = 1\nb = \"B\"\nb_port = 1\na_services = [\"red\"]\n[[service]]\nname = \"red\"",
+        "[[bridge]]\nname = \"B\"\naddress = \"02-00-00-00-00-01\"\n[[link]]\nname = \"L\"\na = \"B\"\na_port = 1\n\
+        b = \"B\"\nb_port = 1\na_services = [\"red\"]\n[[service]]\nname = \"red\"",
         "9 link-end",
     ),
     (
-        "[[bridge]]\nname = \"B\"\naddress = \"02-00-00-00-00-01\"\n[[link]]\nname = \"L\"\na = \"B\"\na_port = 1\nb = \"B\"\nb_port = 2\na_services = [\"red\"]\n[[service]]\nname = \"red\"",
+        "[[bridge]]\nname = \"B\"\naddress = \"02-00-00-00-00-01\"\n[[link]]\nname = \"L\"\na = \"B\"\na_port = 1\n\
+        b = \"B\"\nb_port = 2\na_services = [\"red\"]\n[[service]]\nname = \"red\"",
         "3 missing service[0].vid",
     ),
     (
@@ -87,7 +94,9 @@ const FILES: &[(&str, &str)] = &[
         "5 range port[0].kind",
     ),
     (
-        "[[bridge]]\nname = \"B\"\naddress = \"02-00-00-00-00-01\"\n[[service]]\nname = \"S\"\nvid = 1\n[[port]]\nname = \"P\"\nbridge = \"B\"\nport = 1\nservice = \"T\"\nkind = \"capture\"\nread = \"r\"\nwrite = \"w\"\nstamp = \"time\"",
+        "[[bridge]]\nname = \"B\"\naddress = \"02-00-00-00-00-01\"\n[[service]]\nname = \"S\"\nvid = 1\n[[port]]\n\
+        name = \"P\"\nbridge = \"B\"\nport = 1\nservice = \"T\"\nkind = \"capture\"\nread = \"r\"\nwrite = \"w\"\n\
+        stamp = \"time\"",
         "8 no-such T",
     ),
 ];

@@ -163,7 +163,8 @@ fn limits_are_read_or_have_defaults(rt: HostRuntime) -> Result<(), PlanFault> {
 
 /// Events behind the network's file, and what they are, in the order of the file.
 const EVENTS: (&str, &[PortEvent]) = (
-    "[[event]]\nat = 4294967295\nbridge = \"B2\"\nport = 1\nup = true\n[[event]]\nat = 0\nbridge = \"B1\"\nport = 1\nup = false\n",
+    "[[event]]\nat = 4294967295\nbridge = \"B2\"\nport = 1\nup = true\n[[event]]\nat = 0\nbridge = \"B1\"\nport = 1\n\
+    up = false\n",
     &[
         PortEvent {
             at: 4_294_967_295,
@@ -180,8 +181,8 @@ const EVENTS: (&str, &[PortEvent]) = (
     ],
 );
 
-/// What the network's file tells with these behind it: how many bridges and ports, and whether the turns have no limit and
-/// the events are these.
+/// What the network's file tells with these behind it: how many bridges and ports, and whether the turns have no limit
+/// and the events are these.
 fn told_with(
     alloc: Global,
     (tables, events): (&str, &[PortEvent]),

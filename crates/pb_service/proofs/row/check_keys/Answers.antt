@@ -3,5 +3,5 @@ use Rattle.pb_service.proofs.row.check_keys.Goals as goal
 
 pub returns-in-Some-clause-err : goal.returns-in-Some-clause-err
 returns-in-Some-clause-err c =
-    refused_at c.args.keys.now c.args.place _ c.loop-key.key-index _ c.in-Some.fault _ _ c.loop-key-test.true
+    refused_at c.args.keys.now c.args.key_table _ c.loop-key.key-index _ c.in-Some.fault _ _ c.loop-key-test.true
     c.value_at.ensures c.in-Some.ensures.some c.told.ensures

@@ -1,7 +1,7 @@
-//! What the words behind `init` ask for.
+//! The options of `init`.
 
 ghost use Rattle.std.specs.Prelude.{IfSome};
-ghost use Rattle.pb_cli.specs.Orders.{IsNetwork, IsAsked};
+ghost use Rattle.pb_cli.specs.CommandLines.{IsNetwork, IsAsked};
 
 use crate::table::{Argument, Takes};
 use clap::ArgMatches;
@@ -43,9 +43,9 @@ pub(crate) const ARGUMENTS: &[Argument] = &[
     },
 ];
 
-/// The network of which a plan file is to be printed.
+/// The options of `init`: the network of which a plan is printed.
 #[derive(Clone, Copy, PartialEq, Eq, Debug)]
-pub enum InitOrder {
+pub enum InitOptions {
     /// A line of so many bridges, 1 to 32.
     Line(u8),
     /// A ring of so many bridges, 3 to 32.
@@ -54,28 +54,28 @@ pub enum InitOrder {
     Star(u8),
 }
 
-/// The network that these words ask for, of which at most one is there. None where its number is out of range.
-fn network_of(line: Option<u8>, ring: Option<u8>, star: Option<u8>) -> Option<InitOrder>
-    ensures { IfSome result (λ order. IsNetwork order × IsAsked line ring star order) }
+/// Returns the network of these arguments, of which at most one is present. None if its number is out of range.
+fn network_of(line: Option<u8>, ring: Option<u8>, star: Option<u8>) -> Option<InitOptions>
+    ensures { IfSome result (λ options. IsNetwork options × IsAsked line ring star options) }
 {
     match (line, ring, star) {
-        (None, None, None) => Some(InitOrder::Line(2)),
+        (None, None, None) => Some(InitOptions::Line(2)),
         (Some(bridges), None, None) if 1 <= bridges && bridges <= 32 => {
-            Some(InitOrder::Line(bridges))
+            Some(InitOptions::Line(bridges))
         }
         (None, Some(bridges), None) if 3 <= bridges && bridges <= 32 => {
-            Some(InitOrder::Ring(bridges))
+            Some(InitOptions::Ring(bridges))
         }
         (None, None, Some(bridges)) if 2 <= bridges && bridges <= 17 => {
-            Some(InitOrder::Star(bridges))
+            Some(InitOptions::Star(bridges))
         }
         _ => None,
     }
 }
 
-/// The network that the words behind `init` ask for. None doesn't come, since an argument that is read is in its range and
-/// has no other beside it; no contract says so.
-pub(crate) fn init_order(given: &ArgMatches<'_>) -> Option<InitOrder>
+/// Returns the options of `init`. None is never returned, since a parsed argument is in its range and excludes the
+/// others; no contract says so.
+pub(crate) fn init_options(given: &ArgMatches<'_>) -> Option<InitOptions>
     ensures { IfSome result IsNetwork }
 {
     network_of(

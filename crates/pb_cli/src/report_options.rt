@@ -1,4 +1,4 @@
-//! What the words behind `check` and `step` ask for.
+//! The options of `check` and `step`.
 
 ghost use Rattle.std.specs.Prelude.{◌≡◌, IfOk, string_bytes};
 
@@ -6,24 +6,24 @@ use crate::arguments::{ReportFormat, report_format_of};
 use clap::ArgMatches;
 use std::alloc::{AllocError, Global};
 
-/// A report over a plan file.
+/// The options of `check` and `step`: a report over a plan file.
 #[derive(PartialEq, Eq, Debug, Drop)]
-pub struct ReportOrder {
+pub struct ReportOptions {
     /// The plan file's path.
     pub path: String,
     /// The form in which the report is printed.
     pub format: ReportFormat,
 }
 
-/// The report over the plan file at a path that the words ask for.
-pub(crate) fn report_order(
+/// Returns the options of `check` or `step` for the plan file at a path.
+pub(crate) fn report_options(
     alloc: Global,
     path: &str,
     given: &ArgMatches<'_>,
-) -> Result<ReportOrder, AllocError>
+) -> Result<ReportOptions, AllocError>
     ensures { IfOk result (λ report. string_bytes report.path ≡ path.now) }
 {
-    Ok(ReportOrder {
+    Ok(ReportOptions {
         path: String::from_str(alloc, path)?,
         format: report_format_of(given),
     })

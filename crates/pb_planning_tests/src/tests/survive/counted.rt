@@ -1,6 +1,6 @@
-//! A watch that counts.
+//! Progress over failures that is only counted.
 
-use pb_cmd_survive::Watch;
+use pb_cmd_survive::FailureProgress;
 use std::sync::atomic::{AtomicU64, Ordering};
 
 /// How many failures were looked at, of how many, and how often it was told that no more are.
@@ -31,7 +31,7 @@ impl Counted {
     }
 }
 
-impl Watch for Counted {
+impl FailureProgress for Counted {
     fn looked(&self, failures: usize) {
         self.looked.fetch_add(1, Ordering::SeqCst);
         self.failures.store(failures as u64, Ordering::SeqCst);

@@ -1,7 +1,7 @@
-//! What the words behind `survive` ask for.
+//! The options of `survive`.
 
 ghost use Rattle.std.specs.Prelude.{◌≡◌, IfOk, string_bytes};
-ghost use Rattle.pb_cli.specs.Orders.{AreWaitedTicks};
+ghost use Rattle.pb_cli.specs.CommandLines.{AreWaitedTicks};
 
 use crate::arguments::{AS_TABLE, PLAN_FILE, ReportFormat, report_format_of, text_of};
 use crate::table::{Argument, Takes};
@@ -84,9 +84,9 @@ pub enum SurviveScope {
     From(String),
 }
 
-/// A look at the network of a plan file under failures.
+/// The options of `survive`: the failures, and the services that are checked.
 #[derive(PartialEq, Eq, Debug, Drop)]
-pub struct SurviveOrder {
+pub struct SurviveOptions {
     /// The plan file's path.
     pub path: String,
     /// Whether each two links are taken down too.
@@ -122,17 +122,17 @@ fn ticks_of(given: &ArgMatches<'_>) -> u32
     }
 }
 
-/// The look at the plan file at a path that the words ask for.
-pub(crate) fn survive_order(
+/// Returns the options of `survive` for the plan file at a path.
+pub(crate) fn survive_options(
     alloc: Global,
     path: &str,
     given: &ArgMatches<'_>,
-) -> Result<SurviveOrder, AllocError>
-    ensures path { IfOk result (λ order. string_bytes order.path ≡ path.now) }
-    ensures ticks { IfOk result (λ order. AreWaitedTicks order.ticks) }
+) -> Result<SurviveOptions, AllocError>
+    ensures path { IfOk result (λ options. string_bytes options.path ≡ path.now) }
+    ensures ticks { IfOk result (λ options. AreWaitedTicks options.ticks) }
 {
     let scope = scope_of(alloc, given)?;
-    Ok(SurviveOrder {
+    Ok(SurviveOptions {
         path: String::from_str(alloc, path)?,
         pairs: given.get_flag("pairs"),
         bridges: given.get_flag("bridges"),

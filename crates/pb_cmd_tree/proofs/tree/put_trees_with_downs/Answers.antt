@@ -1,7 +1,7 @@
 use Rattle.std.proofs.Common.{[], string_bytes, sym, append-nil}
 use Rattle.pb_converge.proofs.DriveLemmas.{done-plan}
 use Rattle.pb_converge.specs.Falls.{fresh}
-use Rattle.pb_cmd_tree.proofs.tree.put_drawing.Goals as goal
+use Rattle.pb_cmd_tree.proofs.tree.put_trees_with_downs.Goals as goal
 
 pub put_rested-requires-clause-plan : goal.put_rested-requires-clause-plan
 put_rested-requires-clause-plan c =

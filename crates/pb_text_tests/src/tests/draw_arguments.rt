@@ -1,4 +1,4 @@
-//! What the words behind `draw` ask for.
+//! The options of `draw`.
 
 use super::asked::all_ask;
 use super::wanted::{Picture, Row, WRONG, Wanted};
@@ -15,7 +15,7 @@ const PICTURE: Picture = Picture {
     output: None,
 };
 
-/// Words behind `draw`.
+/// Arguments of `draw`.
 const PICTURES: &[Row] = &[
     (&["draw", "a"], Wanted::Draw(PICTURE)),
     (

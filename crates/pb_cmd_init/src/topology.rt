@@ -1,17 +1,17 @@
 //! How the bridges of a network are joined.
 
 ghost use Rattle.std.specs.Prelude.{◌≡◌, ◌+◌, ◌≤◌};
-ghost use Rattle.pb_cmd_init.specs.Shapes.{bridge_count, link_count, port_count, site_of, ends_of};
+ghost use Rattle.pb_cmd_init.specs.Topologies.{bridge_count, link_count, port_count, site_of, ends_of};
 
-/// How the bridges of a network are joined, and how many there are.
+/// The topology of a network: how its bridges are joined, and how many there are.
 #[derive(Clone, Copy, PartialEq, Eq, Debug)]
-pub enum Shape {
+pub enum Topology {
     /// Each but the last is joined to the next. A plan takes 1 to 32.
     Line(u8),
     /// A line whose last bridge is joined to the first. A plan takes 3 to 32: fewer have no such ring.
     Ring(u8),
-    /// The first, the centre, is joined to each of the others, and has no customers. A plan takes 2 to 17: the centre has
-    /// sixteen ports.
+    /// The first, the centre, is joined to each of the others, and has no customers. A plan takes 2 to 17: the centre
+    /// has sixteen ports.
     Star(u8),
 }
 
@@ -24,82 +24,82 @@ pub(crate) struct Ends {
     pub(crate) b_port: u8,
 }
 
-impl Shape {
-    /// How many bridges there are.
+impl Topology {
+    /// Returns how many bridges there are.
     pub(crate) fn bridges(self) -> u8
         ensures { result ≡ bridge_count self }
     {
         match self {
-            Shape::Line(bridges) | Shape::Ring(bridges) | Shape::Star(bridges) => bridges,
+            Topology::Line(bridges) | Topology::Ring(bridges) | Topology::Star(bridges) => bridges,
         }
     }
 
-    /// How many links there are.
+    /// Returns how many links there are.
     pub(crate) fn links(self) -> u8
         ensures { result ≡ link_count self }
     {
         match self {
-            Shape::Line(bridges) | Shape::Star(bridges) => bridges.saturating_sub(1),
-            Shape::Ring(bridges) => bridges,
+            Topology::Line(bridges) | Topology::Star(bridges) => bridges.saturating_sub(1),
+            Topology::Ring(bridges) => bridges,
         }
     }
 
-    /// How many customer ports there are.
+    /// Returns how many customer ports there are.
     pub(crate) fn ports(self) -> u8
         ensures { result ≡ port_count self }
     {
         match self {
-            Shape::Line(bridges) | Shape::Ring(bridges) => bridges,
-            Shape::Star(bridges) => bridges.saturating_sub(1),
+            Topology::Line(bridges) | Topology::Ring(bridges) => bridges,
+            Topology::Star(bridges) => bridges.saturating_sub(1),
         }
     }
 
-    /// The bridge of the customer port of this number.
+    /// Returns the bridge of the customer port of this number.
     pub(crate) fn site(self, port: u8) -> u8
         requires { port ≤ port_count self }
         ensures { result ≡ site_of self port }
     {
         match self {
-            Shape::Line(_) | Shape::Ring(_) => port,
-            Shape::Star(_) => port + 1,
+            Topology::Line(_) | Topology::Ring(_) => port,
+            Topology::Star(_) => port + 1,
         }
     }
 
-    /// The bridge of the first customer port.
+    /// Returns the bridge of the first customer port.
     pub(crate) fn first_site(self) -> u8
         ensures { result ≡ site_of self 1 }
     {
         match self {
-            Shape::Line(_) | Shape::Ring(_) => 1,
-            Shape::Star(_) => 2,
+            Topology::Line(_) | Topology::Ring(_) => 1,
+            Topology::Star(_) => 2,
         }
     }
 
-    /// The ends of the link of this number.
+    /// Returns the ends of the link of this number.
     pub(crate) fn ends(self, link: u8) -> Ends
         requires { link ≤ link_count self }
         ensures { result ≡ ends_of self link }
     {
         match self {
-            Shape::Line(_) => Ends {
+            Topology::Line(_) => Ends {
                 a: link,
                 a_port: 1,
                 b: link + 1,
                 b_port: 2,
             },
-            Shape::Ring(bridges) if link == bridges => Ends {
+            Topology::Ring(bridges) if link == bridges => Ends {
                 a: link,
                 a_port: 1,
                 b: 1,
                 b_port: 2,
             },
-            Shape::Ring(_) => Ends {
+            Topology::Ring(_) => Ends {
                 a: link,
                 a_port: 1,
                 b: link + 1,
                 b_port: 2,
             },
-            Shape::Star(_) => Ends {
+            Topology::Star(_) => Ends {
                 a: 1,
                 a_port: link,
                 b: link + 1,

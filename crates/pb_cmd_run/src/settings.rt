@@ -1,8 +1,8 @@
-//! What is asked of a run beside its plan file.
+//! The settings of a run beside its plan file.
 
-/// What is asked of a run beside what its plan file says. No statement about a run depends on it.
+/// The settings of a run beside its plan file. No guarantee about a run depends on them.
 #[derive(Clone, Copy)]
-pub struct RunOptions<'a> {
+pub struct RunSettings<'a> {
     /// The path of the plan file.
     pub plan: &'a str,
     /// Where the control socket is made. None: there is none.

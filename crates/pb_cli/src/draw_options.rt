@@ -1,11 +1,11 @@
-//! What the words behind `draw` ask for.
+//! The options of `draw`.
 
 ghost use Rattle.std.specs.Prelude.{◌≡◌, IfOk, string_bytes};
-ghost use Rattle.pb_cli.specs.Orders.{AreTicks};
+ghost use Rattle.pb_cli.specs.CommandLines.{AreTicks};
 
 use crate::arguments::{DOWNS, PLAN_FILE, downs_of, text_of};
 use crate::table::{Argument, Takes};
-use crate::tree_order::{TICK_LIMIT, ticks_of};
+use crate::tree_options::{TICK_LIMIT, ticks_of};
 use clap::ArgMatches;
 use std::alloc::{AllocError, Global};
 
@@ -36,7 +36,7 @@ pub(crate) const ARGUMENTS: &[Argument] = &[
         name: "format",
         value: "FORM",
         help: FORMAT,
-        takes: Takes::Word(&["svg", "dot"]),
+        takes: Takes::Name(&["svg", "dot"]),
         excludes: &[],
     },
     Argument {
@@ -59,9 +59,9 @@ pub enum PictureFormat {
     Dot,
 }
 
-/// A picture of the network of a plan file.
+/// The options of `draw`: a picture of the network of a plan file.
 #[derive(PartialEq, Eq, Debug, Drop)]
-pub struct DrawOrder {
+pub struct DrawOptions {
     /// The plan file's path.
     pub path: String,
     /// The name of the service that is to stand out, if one is.
@@ -84,19 +84,19 @@ fn format_of(given: &ArgMatches<'_>) -> PictureFormat {
     }
 }
 
-/// The picture of the plan file at a path that the words ask for.
-pub(crate) fn draw_order(
+/// Returns the options of `draw` for the plan file at a path.
+pub(crate) fn draw_options(
     alloc: Global,
     path: &str,
     given: &ArgMatches<'_>,
-) -> Result<DrawOrder, AllocError>
-    ensures path { IfOk result (λ order. string_bytes order.path ≡ path.now) }
-    ensures ticks { IfOk result (λ order. AreTicks order.ticks) }
+) -> Result<DrawOptions, AllocError>
+    ensures path { IfOk result (λ options. string_bytes options.path ≡ path.now) }
+    ensures ticks { IfOk result (λ options. AreTicks options.ticks) }
 {
     let downs = downs_of(alloc, given)?;
     let service = text_of(alloc, given, "service")?;
     let output = text_of(alloc, given, "output")?;
-    Ok(DrawOrder {
+    Ok(DrawOptions {
         path: String::from_str(alloc, path)?,
         service,
         downs,

@@ -13,7 +13,7 @@ use Rattle.pb_cmd_survive.specs.Failures.{downs}
 use Rattle.pb_cmd_survive.specs.Views.{AreViews}
 use Rattle.pb_cmd_survive.specs.declared.failure.Failure.{Failure}
 use Rattle.pb_cmd_survive.specs.declared.failure.Failure.TheVariants.{Nothing, Link, Pair, Bridge}
-use Rattle.pb_cmd_survive.specs.declared.outcome.Outcome.{Outcome}
+use Rattle.pb_cmd_survive.specs.declared.impact.Impact.{Impact}
 
 -- with nothing down the bridges settle
 abbrev pub IsCalm : Plan → ℕ → ℕ → Rest → NetView → Type 0
@@ -38,15 +38,15 @@ IsDriven plan most events (Link number) rest new = IsFailed plan most events (Li
 IsDriven plan most events (Pair first second) rest new = IsFailed plan most events (Pair first second) rest new
 IsDriven plan most events (Bridge number) rest new = IsFailed plan most events (Bridge number) rest new
 
--- what is told of a failure is told of the last shape of a lawful record of the plan's network, which was driven so
-pub record IsOutcome (plan : Plan) (services : List ℕ) (most events : ℕ) (failure : Failure) (outcome : Outcome) : Type 0 where
-  pub failed : outcome.failure ≡ failure
+-- the impact of a failure is that of the last shape of a lawful record of the plan's network, which was driven so
+pub record IsImpact (plan : Plan) (services : List ℕ) (most events : ℕ) (failure : Failure) (impact : Impact) : Type 0 where
+  pub failed : impact.failure ≡ failure
   pub last : NetView
-  pub driven : IsDriven plan most events failure outcome.rest last
+  pub driven : IsDriven plan most events failure impact.rest last
   pub planned : last.plan ≡ plan
   pub lawful : IsLawfulRecord spanning_tree plan last.rec
-  pub views : AreViews plan (last_shape plan last.rec) failure services outcome.views
+  pub views : AreViews plan (last_shape plan last.rec) failure services impact.views
 
--- of each of these failures, in their order
-abbrev pub AreOutcomes : Plan → List ℕ → ℕ → ℕ → List Failure → List Outcome → Type 0
-AreOutcomes plan services most events failures outcomes = AllZip (IsOutcome plan services most events) failures outcomes
+-- the impacts of these failures, in their order
+abbrev pub AreImpacts : Plan → List ℕ → ℕ → ℕ → List Failure → List Impact → Type 0
+AreImpacts plan services most events failures impacts = AllZip (IsImpact plan services most events) failures impacts

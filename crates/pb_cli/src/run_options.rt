@@ -1,7 +1,7 @@
-//! What the words behind `run` ask for.
+//! The options of `run`.
 
 ghost use Rattle.std.specs.Prelude.{◌≡◌, ◌≤◌, IfOk, IfSome, string_bytes};
-ghost use Rattle.pb_cli.specs.Orders.{AreSeconds, IsLinger};
+ghost use Rattle.pb_cli.specs.CommandLines.{AreSeconds, IsLinger};
 
 use crate::arguments::{AS_TABLE, PLAN_FILE, ReportFormat, report_format_of, text_of};
 use crate::table::{Argument, Takes};
@@ -11,10 +11,10 @@ use std::alloc::{AllocError, Global};
 /// The most seconds after which a run may be stopped.
 const MOST: u32 = 1_000_000_000;
 
-/// For how many milliseconds what is left in sockets' ports is still sent, where the words tell none.
+/// For how many milliseconds socket ports still send their remaining frames at the end, without `--linger`.
 const LINGER: u32 = 100;
 
-/// The most that the words may tell.
+/// The most that `--linger` may be.
 const MOST_LINGER: u32 = 60_000;
 
 /// What `run` does.
@@ -22,7 +22,8 @@ pub(crate) const RUN: &str = "Run a network in threads between captures and sock
 
 /// What `--seconds` does.
 const SECONDS: &str =
-    "Stops the run after N seconds, 1 to 1000000000, and reports; without it a run goes on until nothing is left to do or a limit of the plan is reached";
+    "Stops the run after N seconds, 1 to 1000000000, and reports; without it a run goes on until nothing is left to do \
+    or a limit of the plan is reached";
 
 /// What `--progress` does.
 const PROGRESS: &str =
@@ -30,11 +31,13 @@ const PROGRESS: &str =
 
 /// What `--control` does.
 const CONTROL: &str =
-    "Makes a Unix socket at PATH, on which one peer at a time asks for counts, sets ports between bridges up and down, and stops the run";
+    "Makes a Unix socket at PATH, on which one peer at a time asks for counts, sets ports between bridges up and down, \
+    and stops the run";
 
 /// What `--settle` does.
 const SETTLE: &str =
-    "Lets no frame enter before the bridges have settled, where they decide the states of their ports, or the clock has ticked 200 times";
+    "Lets no frame enter before the bridges have settled, where they decide the states of their ports, or the clock \
+    has ticked 200 times";
 
 /// What `--linger` does.
 const LINGER_HELP: &str =
@@ -42,7 +45,8 @@ const LINGER_HELP: &str =
 
 /// What `--strict` does.
 const STRICT: &str =
-    "Exits with status 4 where a frame was lost for want of room, memory or a device, or the run did not drain, or bridges have not settled";
+    "Exits with status 4 where a frame was lost for want of room, memory or a device, or the run did not drain, or \
+    bridges have not settled";
 
 /// The arguments of `run`.
 pub(crate) const ARGUMENTS: &[Argument] = &[
@@ -92,9 +96,9 @@ pub(crate) const ARGUMENTS: &[Argument] = &[
     PLAN_FILE,
 ];
 
-/// A run of the network of a plan file, and what is to be done beside it.
+/// The options of `run`: a run of the network of a plan file.
 #[derive(PartialEq, Eq, Debug, Drop)]
-pub struct RunOrder {
+pub struct RunOptions {
     /// The plan file's path.
     pub path: String,
     /// After how many seconds the run is to be stopped, 1 to 1,000,000,000. None: it isn't.
@@ -135,17 +139,17 @@ fn linger_of(given: &ArgMatches<'_>) -> u32
     }
 }
 
-/// The run of the plan file at a path that the words ask for.
-pub(crate) fn run_order(
+/// Returns the options of `run` for the plan file at a path.
+pub(crate) fn run_options(
     alloc: Global,
     path: &str,
     given: &ArgMatches<'_>,
-) -> Result<RunOrder, AllocError>
+) -> Result<RunOptions, AllocError>
     ensures path { IfOk result (λ run. string_bytes run.path ≡ path.now) }
     ensures seconds { IfOk result (λ run. AreSeconds run.seconds) }
     ensures linger { IfOk result (λ run. IsLinger run.linger) }
 {
-    Ok(RunOrder {
+    Ok(RunOptions {
         path: String::from_str(alloc, path)?,
         seconds: seconds_of(given),
         progress: given.get_flag("progress"),

@@ -1,8 +1,8 @@
-//! What the words of the command line ask for.
+//! The arguments of the command line.
 
 use super::asked::all_ask;
 use super::wanted::{HELP, RUN, Row, Run, WRONG, Wanted};
-use pb_cli::InitOrder;
+use pb_cli::InitOptions;
 use std::test::Fail;
 
 #[test]
@@ -133,7 +133,7 @@ fn runs_one_file(rt: HostRuntime) -> Result<(), Fail> {
     all_ask(&rt, rt.alloc(), ROWS)
 }
 
-/// Words beside the file of a run.
+/// Options beside the file of a run.
 const BESIDE: &[Row] = &[
     (
         &["run", "--seconds", "1", "a"],
@@ -201,12 +201,12 @@ const BESIDE: &[Row] = &[
 ];
 
 #[test]
-fn runs_have_words_beside_the_file(rt: HostRuntime) -> Result<(), Fail> {
+fn runs_have_options_beside_the_file(rt: HostRuntime) -> Result<(), Fail> {
     all_ask(&rt, rt.alloc(), BESIDE)
 }
 
 #[test]
-fn shows_without_further_words(rt: HostRuntime) -> Result<(), Fail> {
+fn shows_without_further_arguments(rt: HostRuntime) -> Result<(), Fail> {
     const ROWS: &[Row] = &[(&["show"], Wanted::Show)];
     all_ask(&rt, rt.alloc(), ROWS)
 }
@@ -214,13 +214,19 @@ fn shows_without_further_words(rt: HostRuntime) -> Result<(), Fail> {
 #[test]
 fn begins_with_a_network(rt: HostRuntime) -> Result<(), Fail> {
     const ROWS: &[Row] = &[
-        (&["init"], Wanted::Init(InitOrder::Line(2))),
-        (&["init", "--line", "1"], Wanted::Init(InitOrder::Line(1))),
-        (&["init", "--line=32"], Wanted::Init(InitOrder::Line(32))),
-        (&["init", "--ring", "3"], Wanted::Init(InitOrder::Ring(3))),
-        (&["init", "--ring", "32"], Wanted::Init(InitOrder::Ring(32))),
-        (&["init", "--star", "2"], Wanted::Init(InitOrder::Star(2))),
-        (&["init", "--star", "17"], Wanted::Init(InitOrder::Star(17))),
+        (&["init"], Wanted::Init(InitOptions::Line(2))),
+        (&["init", "--line", "1"], Wanted::Init(InitOptions::Line(1))),
+        (&["init", "--line=32"], Wanted::Init(InitOptions::Line(32))),
+        (&["init", "--ring", "3"], Wanted::Init(InitOptions::Ring(3))),
+        (
+            &["init", "--ring", "32"],
+            Wanted::Init(InitOptions::Ring(32)),
+        ),
+        (&["init", "--star", "2"], Wanted::Init(InitOptions::Star(2))),
+        (
+            &["init", "--star", "17"],
+            Wanted::Init(InitOptions::Star(17)),
+        ),
         (&["init", "--line", "0"], WRONG),
         (&["init", "--line", "33"], WRONG),
         (&["init", "--ring", "2"], WRONG),
@@ -267,7 +273,7 @@ fn controls_a_run(rt: HostRuntime) -> Result<(), Fail> {
 }
 
 #[test]
-fn refuses_other_words_and_helps(rt: HostRuntime) -> Result<(), Fail> {
+fn refuses_other_arguments_and_helps(rt: HostRuntime) -> Result<(), Fail> {
     const ROWS: &[Row] = &[
         (&[], WRONG),
         (&["flat"], WRONG),

@@ -1,17 +1,17 @@
-//! What the words behind `tree` ask for.
+//! The options of `tree`.
 
 ghost use Rattle.std.specs.Prelude.{◌≡◌, IfOk, string_bytes};
-ghost use Rattle.pb_cli.specs.Orders.{AreTicks};
+ghost use Rattle.pb_cli.specs.CommandLines.{AreTicks};
 
 use crate::arguments::{AS_DOCUMENT, DOWNS, PLAN_FILE, ReportFormat, downs_of, report_format_of};
 use crate::table::{Argument, Takes};
 use clap::ArgMatches;
 use std::alloc::{AllocError, Global};
 
-/// The most ticks of each bridge, where the words tell none.
+/// The most ticks of each bridge, without `--ticks`.
 const TICKS: u32 = 200;
 
-/// The most that the words may tell.
+/// The most that `--ticks` may be.
 const MOST: u32 = 100_000;
 
 /// What `tree` does.
@@ -32,9 +32,9 @@ pub(crate) const TICK_LIMIT: Argument = Argument {
 /// The arguments of `tree`.
 pub(crate) const ARGUMENTS: &[Argument] = &[DOWNS, AS_DOCUMENT, TICK_LIMIT, PLAN_FILE];
 
-/// The trees of the network of a plan file.
+/// The options of `tree`: the spanning trees of the network of a plan file.
 #[derive(PartialEq, Eq, Debug, Drop)]
-pub struct TreeOrder {
+pub struct TreeOptions {
     /// The plan file's path.
     pub path: String,
     /// The ports that go down before, each as BRIDGE:PORT.
@@ -55,17 +55,17 @@ pub(crate) fn ticks_of(given: &ArgMatches<'_>) -> u32
     }
 }
 
-/// The trees of the plan file at a path that the words ask for.
-pub(crate) fn tree_order(
+/// Returns the options of `tree` for the plan file at a path.
+pub(crate) fn tree_options(
     alloc: Global,
     path: &str,
     given: &ArgMatches<'_>,
-) -> Result<TreeOrder, AllocError>
+) -> Result<TreeOptions, AllocError>
     ensures path { IfOk result (λ tree. string_bytes tree.path ≡ path.now) }
     ensures ticks { IfOk result (λ tree. AreTicks tree.ticks) }
 {
     let downs = downs_of(alloc, given)?;
-    Ok(TreeOrder {
+    Ok(TreeOptions {
         path: String::from_str(alloc, path)?,
         downs,
         ticks: ticks_of(given),

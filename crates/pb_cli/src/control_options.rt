@@ -1,4 +1,4 @@
-//! What the arguments of `control` ask for.
+//! The options of `control`.
 
 ghost use Rattle.std.specs.Prelude.{◌≡◌, IfOk, string_bytes};
 
@@ -14,7 +14,8 @@ const PATH: &str = "Control socket of the run, as in `run --control PATH`";
 
 /// What COMMAND is.
 const COMMAND: &str =
-    "stop, counts, tree, down BRIDGE PORT or up BRIDGE PORT; -- separates several, - reads them from standard input, one a line";
+    "stop, counts, tree, down BRIDGE PORT or up BRIDGE PORT; -- separates several, - reads them from standard input, \
+    one a line";
 
 /// The arguments of `control`.
 pub(crate) const ARGUMENTS: &[Argument] = &[
@@ -34,9 +35,9 @@ pub(crate) const ARGUMENTS: &[Argument] = &[
     },
 ];
 
-/// Commands for a control socket.
+/// The options of `control`: commands for a control socket.
 #[derive(PartialEq, Eq, Debug, Drop)]
-pub struct ControlOrder {
+pub struct ControlOptions {
     /// The socket's path.
     pub path: String,
     /// The arguments that make up the commands, `--` among them.
@@ -46,24 +47,24 @@ pub struct ControlOrder {
 /// The arguments from the place of COMMAND on.
 fn arguments_of(alloc: Global, given: &ArgMatches<'_>) -> Result<Vec<String>, AllocError> {
     let mut arguments = Vec::new(alloc);
-    if let Some(words) = given.get_strs("COMMAND") {
-        for word in words {
-            arguments.push(String::from_str(alloc, word)?)?;
+    if let Some(values) = given.get_strs("COMMAND") {
+        for value in values {
+            arguments.push(String::from_str(alloc, value)?)?;
         }
     }
     Ok(arguments)
 }
 
-/// Returns the commands for the control socket at a path that the arguments ask for.
-pub(crate) fn control_order(
+/// Returns the options of `control` for the control socket at a path.
+pub(crate) fn control_options(
     alloc: Global,
     path: &str,
     given: &ArgMatches<'_>,
-) -> Result<ControlOrder, AllocError>
+) -> Result<ControlOptions, AllocError>
     ensures { IfOk result (λ control. string_bytes control.path ≡ path.now) }
 {
     let arguments = arguments_of(alloc, given)?;
-    Ok(ControlOrder {
+    Ok(ControlOptions {
         path: String::from_str(alloc, path)?,
         arguments,
     })

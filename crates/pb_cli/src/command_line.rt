@@ -1,18 +1,18 @@
-//! What the words of a command line ask for.
+//! The commands, and the command line that is parsed.
 
 ghost use Rattle.std.specs.Prelude.{IfOk, IfSome};
-ghost use Rattle.pb_cli.specs.Orders.{IsAllowed, IsPlanOrder};
+ghost use Rattle.pb_cli.specs.CommandLines.{HasValidArguments, IsPlanCommandLine};
 
 use crate::arguments::{AS_DOCUMENT, AS_TABLE, PLAN_FILE};
-use crate::control_order::{self, CONTROL, ControlOrder, control_order};
-use crate::draw_order::{self, DRAW, DrawOrder, draw_order};
-use crate::init_order::{self, INIT, InitOrder, init_order};
-use crate::report_order::{ReportOrder, report_order};
-use crate::run_order::{self, RUN, RunOrder, run_order};
-use crate::survive_order::{self, SURVIVE, SurviveOrder, survive_order};
+use crate::control_options::{self, CONTROL, ControlOptions, control_options};
+use crate::draw_options::{self, DRAW, DrawOptions, draw_options};
+use crate::init_options::{self, INIT, InitOptions, init_options};
+use crate::report_options::{ReportOptions, report_options};
+use crate::run_options::{self, RUN, RunOptions, run_options};
+use crate::survive_options::{self, SURVIVE, SurviveOptions, survive_options};
 use crate::table::{Argument, CommandRow, Takes, with_commands};
-use crate::trace_order::{self, TRACE, TraceOrder, trace_order};
-use crate::tree_order::{self, TREE, TreeOrder, tree_order};
+use crate::trace_options::{self, TRACE, TraceOptions, trace_options};
+use crate::tree_options::{self, TREE, TreeOptions, tree_options};
 use clap::{ArgMatches, Command, Error};
 use std::alloc::{AllocError, Global};
 
@@ -31,31 +31,31 @@ const STEP: &str = "Drive a network event by event from a script on standard inp
 /// What `show` does.
 const SHOW: &str = "Print how reserved group addresses are handled";
 
-/// What is to be done.
+/// A command line: the command, and its options.
 #[derive(PartialEq, Eq, Debug, Drop)]
-pub enum Order {
+pub enum CommandLine {
     /// One bridge with so many ports, driven by the lines of standard input.
     Flat(u8),
     /// Telling whether the file at this path is a plan.
-    Check(ReportOrder),
+    Check(ReportOptions),
     /// Driving the network of the plan file at this path by the lines of standard input.
-    Step(ReportOrder),
+    Step(ReportOptions),
     /// Running the network of a plan file.
-    Run(RunOrder),
+    Run(RunOptions),
     /// Printing the trees of the network of a plan file.
-    Tree(TreeOrder),
+    Tree(TreeOptions),
     /// Printing where frames go in the network of a plan file.
-    Trace(TraceOrder),
+    Trace(TraceOptions),
     /// Telling what becomes of frames for the reserved addresses.
     Show,
     /// Printing a plan file to begin with.
-    Init(InitOrder),
+    Init(InitOptions),
     /// Looking at the network of a plan file under failures.
-    Survive(SurviveOrder),
+    Survive(SurviveOptions),
     /// Drawing the network of a plan file.
-    Draw(DrawOrder),
+    Draw(DrawOptions),
     /// Sending commands to a running network.
-    Control(ControlOrder),
+    Control(ControlOptions),
 }
 
 /// The argument of `flat`.
@@ -87,32 +87,32 @@ const COMMANDS: &[CommandRow] = &[
     CommandRow {
         name: "run",
         about: RUN,
-        arguments: run_order::ARGUMENTS,
+        arguments: run_options::ARGUMENTS,
     },
     CommandRow {
         name: "control",
         about: CONTROL,
-        arguments: control_order::ARGUMENTS,
+        arguments: control_options::ARGUMENTS,
     },
     CommandRow {
         name: "tree",
         about: TREE,
-        arguments: tree_order::ARGUMENTS,
+        arguments: tree_options::ARGUMENTS,
     },
     CommandRow {
         name: "survive",
         about: SURVIVE,
-        arguments: survive_order::ARGUMENTS,
+        arguments: survive_options::ARGUMENTS,
     },
     CommandRow {
         name: "draw",
         about: DRAW,
-        arguments: draw_order::ARGUMENTS,
+        arguments: draw_options::ARGUMENTS,
     },
     CommandRow {
         name: "trace",
         about: TRACE,
-        arguments: trace_order::ARGUMENTS,
+        arguments: trace_options::ARGUMENTS,
     },
     CommandRow {
         name: "show",
@@ -122,7 +122,7 @@ const COMMANDS: &[CommandRow] = &[
     CommandRow {
         name: "init",
         about: INIT,
-        arguments: init_order::ARGUMENTS,
+        arguments: init_options::ARGUMENTS,
     },
 ];
 
@@ -135,67 +135,70 @@ fn commands<'a>(alloc: Global) -> Result<Command<'a>, Error> {
     with_commands(alloc, program, COMMANDS)
 }
 
-/// What a command asks for that has a plan file. None where it is no such command, and where an argument of `trace` is
-/// missing that is required.
-fn plan_order(
+/// Returns the command line of a command that reads the plan file at a path. None if it is no such command, or if a
+/// required argument of `trace` is missing.
+fn plan_command_line(
     alloc: Global,
     command: &str,
     path: &str,
     given: &ArgMatches<'_>,
-) -> Result<Option<Order>, AllocError>
-    ensures { IfOk result (λ o. IfSome o (λ order. IsPlanOrder command.now path.now order)) }
+) -> Result<Option<CommandLine>, AllocError>
+    ensures { IfOk result (λ o. IfSome o (λ line. IsPlanCommandLine command.now path.now line)) }
 {
     if command == "check" {
-        return Ok(Some(Order::Check(report_order(alloc, path, given)?)));
+        return Ok(Some(CommandLine::Check(report_options(alloc, path, given)?)));
     }
     if command == "step" {
-        return Ok(Some(Order::Step(report_order(alloc, path, given)?)));
+        return Ok(Some(CommandLine::Step(report_options(alloc, path, given)?)));
     }
     if command == "run" {
-        return Ok(Some(Order::Run(run_order(alloc, path, given)?)));
+        return Ok(Some(CommandLine::Run(run_options(alloc, path, given)?)));
     }
     if command == "tree" {
-        return Ok(Some(Order::Tree(tree_order(alloc, path, given)?)));
+        return Ok(Some(CommandLine::Tree(tree_options(alloc, path, given)?)));
     }
     if command == "draw" {
-        return Ok(Some(Order::Draw(draw_order(alloc, path, given)?)));
+        return Ok(Some(CommandLine::Draw(draw_options(alloc, path, given)?)));
     }
     if command == "survive" {
-        return Ok(Some(Order::Survive(survive_order(alloc, path, given)?)));
+        return Ok(Some(CommandLine::Survive(survive_options(alloc, path, given)?)));
     }
     if command == "trace" {
-        if let Some(order) = trace_order(alloc, path, given)? {
-            return Ok(Some(Order::Trace(order)));
+        if let Some(options) = trace_options(alloc, path, given)? {
+            return Ok(Some(CommandLine::Trace(options)));
         }
     }
     Ok(None)
 }
 
-/// Reads the words of a command line, of which the first is the program's own.
+/// Parses the arguments of the program, of which the first is its own name.
 ///
-/// The error is a message for the user: that the words ask for nothing that is known, or the help
-/// that they ask for. `None` would stand for words that are read and name no order. It doesn't come, since an
-/// argument that is required has a value; no contract says so.
-pub fn order_of(alloc: Global, words: &[String]) -> Result<Option<Order>, Error>
-    ensures { IfOk result (λ o. IfSome o IsAllowed) }
+/// The numbers among them are in the ranges of the help. `None` would mean arguments that were parsed and name no
+/// command. It is never returned, since a required argument has a value; no contract says so.
+///
+/// # Errors
+///
+/// A message for the user: why the arguments are refused, or the help or the version that they ask for.
+pub fn command_line_of(alloc: Global, arguments: &[String]) -> Result<Option<CommandLine>, Error>
+    ensures { IfOk result (λ o. IfSome o HasValidArguments) }
 {
-    let matches = commands(alloc)?.try_get_matches_from(words)?;
+    let matches = commands(alloc)?.try_get_matches_from(arguments)?;
     match matches.subcommand() {
         Some(("flat", given)) => match given.get_one::<u8>("PORTS") {
-            Some(ports) if 2 <= ports && ports <= 16 => Ok(Some(Order::Flat(ports))),
+            Some(ports) if 2 <= ports && ports <= 16 => Ok(Some(CommandLine::Flat(ports))),
             _ => Ok(None),
         },
-        Some(("show", _)) => Ok(Some(Order::Show)),
-        Some(("init", given)) => match init_order(given) {
-            Some(order) => Ok(Some(Order::Init(order))),
+        Some(("show", _)) => Ok(Some(CommandLine::Show)),
+        Some(("init", given)) => match init_options(given) {
+            Some(options) => Ok(Some(CommandLine::Init(options))),
             None => Ok(None),
         },
         Some(("control", given)) => match given.get_str("PATH") {
-            Some(path) => Ok(Some(Order::Control(control_order(alloc, path, given)?))),
+            Some(path) => Ok(Some(CommandLine::Control(control_options(alloc, path, given)?))),
             None => Ok(None),
         },
         Some((command, given)) => match given.get_str("FILE") {
-            Some(path) => Ok(plan_order(alloc, command, path, given)?),
+            Some(path) => Ok(plan_command_line(alloc, command, path, given)?),
             None => Ok(None),
         },
         None => Ok(None),

@@ -1,4 +1,4 @@
-//! What the words behind `survive` ask for.
+//! The options of `survive`.
 
 use super::asked::all_ask;
 use super::wanted::{Look, Of, Row, WRONG, Wanted};
@@ -13,7 +13,7 @@ const LINKS: Look = Look {
     ticks: 200,
 };
 
-/// Words behind `survive`.
+/// Arguments of `survive`.
 const LOOKS: &[Row] = &[
     (&["survive", "a"], Wanted::Survive(LINKS)),
     (

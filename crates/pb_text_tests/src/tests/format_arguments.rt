@@ -1,4 +1,4 @@
-//! In which form reports are asked for, and what else was added to the words behind `run`.
+//! The form of reports, and further options of `run`.
 
 use super::asked::all_ask;
 use super::wanted::{RUN, Row, Run, WRONG, Wanted};

@@ -1,4 +1,4 @@
-//! What the words behind `trace` ask for.
+//! The options of `trace`.
 
 ghost use Rattle.std.specs.Prelude.{◌≡◌, IfOk, IfSome, string_bytes};
 
@@ -66,9 +66,9 @@ pub struct TraceEntry {
     pub hex: String,
 }
 
-/// Frames that come into the network of a plan file.
+/// The options of `trace`: the frames that enter the network of a plan file.
 #[derive(PartialEq, Eq, Debug, Drop)]
-pub struct TraceOrder {
+pub struct TraceOptions {
     /// The plan file's path.
     pub path: String,
     /// The frames, in order.
@@ -99,12 +99,12 @@ fn push_further(
     given: &ArgMatches<'_>,
 ) -> Result<(), AllocError> {
     let mut port = None;
-    if let Some(words) = given.get_strs("then") {
-        for word in words {
+    if let Some(values) = given.get_strs("then") {
+        for value in values {
             match port {
-                None => port = Some(word),
+                None => port = Some(value),
                 Some(name) => {
-                    push_entry(alloc, entries, name, word)?;
+                    push_entry(alloc, entries, name, value)?;
                     port = None;
                 }
             }
@@ -126,20 +126,20 @@ fn entries_of(
     Ok(entries)
 }
 
-/// The trace over the plan file at a path that the words ask for. None doesn't come, since an argument that is required has
-/// a value; no contract says so.
-pub(crate) fn trace_order(
+/// Returns the options of `trace` for the plan file at a path. None is never returned, since a required argument has a
+/// value; no contract says so.
+pub(crate) fn trace_options(
     alloc: Global,
     path: &str,
     given: &ArgMatches<'_>,
-) -> Result<Option<TraceOrder>, AllocError>
+) -> Result<Option<TraceOptions>, AllocError>
     ensures { IfOk result (λ o. IfSome o (λ trace. string_bytes trace.path ≡ path.now)) }
 {
     let (Some(port), Some(hex)) = (given.get_str("PORT"), given.get_str("HEX")) else {
         return Ok(None);
     };
     let entries = entries_of(alloc, port, hex, given)?;
-    Ok(Some(TraceOrder {
+    Ok(Some(TraceOptions {
         path: String::from_str(alloc, path)?,
         entries,
         settles: given.get_flag("settle"),

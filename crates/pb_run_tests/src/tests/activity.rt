@@ -1,12 +1,12 @@
-//! What ports of the tests' own are seen to do.
+//! The activity of ports of the tests' own.
 
 use super::gates::comes_to;
 use super::told::Told;
 use std::sync::atomic::{AtomicU64, Ordering};
 
-/// What the ports of a run are seen to do, all together.
+/// The activity of the ports of a run, all together.
 #[derive(Drop)]
-pub(super) struct Watch {
+pub(super) struct PortActivity {
     /// How often they were polled.
     pub(super) polls: AtomicU64,
     /// How many frames they took.
@@ -19,10 +19,10 @@ pub(super) struct Watch {
     pub(super) writes: AtomicU64,
 }
 
-impl Watch {
-    /// Nothing was seen.
-    pub(super) fn new() -> Watch {
-        Watch {
+impl PortActivity {
+    /// Creates a count of no activity.
+    pub(super) fn new() -> PortActivity {
+        PortActivity {
             polls: AtomicU64::new(0),
             taken: AtomicU64::new(0),
             here: AtomicU64::new(0),

@@ -1,0 +1,66 @@
+-- The command lines that the program accepts.
+use Rattle.std.specs.Prelude.{◌≡◌, ◌⊎◌, ℕ, ◌≤◌, List, Some, None, codes, string_bytes}
+use Rattle.std.specs.declared.option.Option.{Option}
+use Rattle.pb_cli.specs.declared.init_options.InitOptions.{InitOptions}
+use Rattle.pb_cli.specs.declared.init_options.InitOptions.TheVariants.{Line, Ring, Star}
+use Rattle.pb_cli.specs.declared.command_line.CommandLine.{CommandLine}
+use Rattle.pb_cli.specs.declared.command_line.CommandLine.TheVariants.{Flat, Check, Step, Run, Tree, Trace, Show, Init, Survive, Draw, Control}
+
+-- a run is stopped after 1 to 1,000,000,000 seconds, or not
+abbrev pub AreSeconds : Option ℕ → Type 0
+AreSeconds None = Unit {0}
+AreSeconds (Some seconds) = (1 ≤ seconds) × (seconds ≤ 1000000000)
+
+-- what is left in sockets' ports is sent for 0 to 60,000 milliseconds
+abbrev pub IsLinger : ℕ → Type 0
+IsLinger linger = linger ≤ 60000
+
+-- each bridge ticks 0 to 100,000 times at most
+abbrev pub AreTicks : ℕ → Type 0
+AreTicks ticks = ticks ≤ 100000
+
+-- it is waited for 1 to 1,000,000 ticks
+abbrev pub AreWaitedTicks : ℕ → Type 0
+AreWaitedTicks ticks = (1 ≤ ticks) × (ticks ≤ 1000000)
+
+-- a line has 1 to 32 bridges, a ring 3 to 32, and a star 2 to 17
+abbrev pub IsNetwork : InitOptions → Type 0
+IsNetwork (Line bridges) = (1 ≤ bridges) × (bridges ≤ 32)
+IsNetwork (Ring bridges) = (3 ≤ bridges) × (bridges ≤ 32)
+IsNetwork (Star bridges) = (2 ≤ bridges) × (bridges ≤ 17)
+
+-- the network of the argument that is present; without one, a line of two
+abbrev pub IsAsked : Option ℕ → Option ℕ → Option ℕ → InitOptions → Type 0
+IsAsked line ring star options =
+    ((line ≡ None) × (ring ≡ None) × (star ≡ None) × (options ≡ Line 2))
+    ⊎ ((bridges : ℕ) × (line ≡ Some bridges) × (ring ≡ None) × (star ≡ None) × (options ≡ Line bridges))
+    ⊎ ((bridges : ℕ) × (line ≡ None) × (ring ≡ Some bridges) × (star ≡ None) × (options ≡ Ring bridges))
+    ⊎ ((bridges : ℕ) × (line ≡ None) × (ring ≡ None) × (star ≡ Some bridges) × (options ≡ Star bridges))
+
+-- a flat run has 2 to 16 ports
+abbrev pub HasValidArguments : CommandLine → Type 0
+HasValidArguments (Flat ports) = (2 ≤ ports) × (ports ≤ 16)
+HasValidArguments (Check report) = Unit {0}
+HasValidArguments (Step report) = Unit {0}
+HasValidArguments (Run run) = AreSeconds run.seconds × IsLinger run.linger
+HasValidArguments (Tree tree) = AreTicks tree.ticks
+HasValidArguments (Trace trace) = Unit {0}
+HasValidArguments Show = Unit {0}
+HasValidArguments (Init options) = IsNetwork options
+HasValidArguments (Survive options) = AreWaitedTicks options.ticks
+HasValidArguments (Draw options) = AreTicks options.ticks
+HasValidArguments (Control control) = Unit {0}
+
+-- the command line of a command over the plan file at a path, whose arguments are valid too
+abbrev pub IsPlanCommandLine : List ℕ → List ℕ → CommandLine → Type 0
+IsPlanCommandLine command path (Check report) = (command ≡ codes "check") × (string_bytes report.path ≡ path)
+IsPlanCommandLine command path (Step report) = (command ≡ codes "step") × (string_bytes report.path ≡ path)
+IsPlanCommandLine command path (Run run) =
+    (command ≡ codes "run") × (string_bytes run.path ≡ path) × AreSeconds run.seconds × IsLinger run.linger
+IsPlanCommandLine command path (Tree tree) = (command ≡ codes "tree") × (string_bytes tree.path ≡ path) × AreTicks tree.ticks
+IsPlanCommandLine command path (Trace trace) = (command ≡ codes "trace") × (string_bytes trace.path ≡ path)
+IsPlanCommandLine command path (Survive options) =
+    (command ≡ codes "survive") × (string_bytes options.path ≡ path) × AreWaitedTicks options.ticks
+IsPlanCommandLine command path (Draw options) =
+    (command ≡ codes "draw") × (string_bytes options.path ≡ path) × AreTicks options.ticks
+IsPlanCommandLine command path _ = ⊥

@@ -1,0 +1,66 @@
+//! The arguments of the command line.
+
+ghost use Rattle.std.specs.Prelude.{◌≡◌, ◌⊎◌, IfErr};
+ghost use Rattle.std.specs.Process.{exit_status};
+
+use crate::telling::{WRONG_ARGUMENTS, tell};
+use clap::Error;
+use clap::error::ErrorKind as ArgumentFault;
+use pb_messages::CommandFault;
+use std::io::ErrorKind;
+use std::process::ExitCode;
+use std::rt::Env;
+use std::{env, io};
+
+/// Reads the arguments of the command line, of which the first is the program's name.
+///
+/// # Errors
+///
+/// One of them is not UTF-8, or an allocation failed.
+fn read_arguments(rt: &(impl Env + AllocGlobal)) -> io::Result<Vec<String>> {
+    let mut arguments = Vec::new(rt.alloc());
+    for argument in env::args(rt)? {
+        arguments.push(argument)?;
+    }
+    Ok(arguments)
+}
+
+/// Reports why the arguments of the command line can't be read, and returns the exit status.
+fn unread(rt: &(impl Print + Eprint), error: &io::Error) -> ExitCode
+    ensures { (exit_status result ≡ 2) ⊎ (exit_status result ≡ 3) }
+{
+    if error.kind() == ErrorKind::OutOfMemory {
+        return tell(rt, CommandFault::Memory);
+    }
+    let _ = eprintln!(rt; "error: a word of the command line is not UTF-8");
+    ExitCode::from(WRONG_ARGUMENTS)
+}
+
+/// Returns the arguments of the command line, of which the first is the program's name. Reports on standard error if
+/// one is not UTF-8, and returns the exit status for it; so too if an allocation failed.
+pub(crate) fn arguments_of(
+    rt: &(impl Env + Print + Eprint + AllocGlobal),
+) -> Result<Vec<String>, ExitCode>
+    ensures { IfErr result (λ status. (exit_status status ≡ 2) ⊎ (exit_status status ≡ 3)) }
+{
+    match read_arguments(rt) {
+        Ok(arguments) => Ok(arguments),
+        Err(e) => Err(unread(rt, &e)),
+    }
+}
+
+/// Prints the parser's message, and returns the exit status for it: 0 if it is the help or the version, 2 if the
+/// arguments are refused, 3 if an allocation failed.
+pub(crate) fn refuse(rt: &(impl Print + Eprint), error: Error) -> ExitCode
+    ensures { (exit_status result ≡ 0) ⊎ (exit_status result ≡ 2) ⊎ (exit_status result ≡ 3) }
+{
+    if error.kind() == ArgumentFault::OutOfMemory {
+        return tell(rt, CommandFault::Memory);
+    }
+    let _ = error.print(rt);
+    if error.use_stderr() {
+        ExitCode::from(WRONG_ARGUMENTS)
+    } else {
+        ExitCode::SUCCESS
+    }
+}
