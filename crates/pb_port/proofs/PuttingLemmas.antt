@@ -75,7 +75,7 @@ staged framing fresh stamp now done room frames begun front out part total spell
     ap (λ z. begun ++ z) (put_next framing fresh stamp now done room frames front out within some
     (is ∙ ap (λ z. front ++ take room (drop done z)) spells)) ∙ e
 
--- the frame at a place is the first from there on
+-- the frame at a position is the first from there on
 pub first_at : (frames : List (List ℕ)) (i : ℕ) (x : List ℕ) → i < length frames → x ≡ slice_index_or frames i x
     → first_of (drop i frames) ≡ x
 first_at [] i x h e = absurd (omega arith)

@@ -6,12 +6,13 @@ use Rattle.std.specs.Prelude.{⊤}
 use Rattle.std.proofs.lemmas.Bool.{le-ltb}
 use Rattle.std.proofs.Math.Seq.{take-append_seam, drop-append_seam}
 use Rattle.byteorder.specs.Endian.{big_number}
-use Rattle.pb_port.specs.declared.place.Order.{Order}
-use Rattle.pb_port.specs.declared.place.Order.TheVariants.{Big}
-use Rattle.pb_port.specs.declared.place.Place.{Place}
-use Rattle.pb_port.specs.declared.place.Place.TheVariants.{Header, Records, Lengths}
+use Rattle.pb_port.specs.declared.fault.PortFault.{PortFault}
+use Rattle.pb_port.specs.declared.stream_position.ByteOrder.{ByteOrder}
+use Rattle.pb_port.specs.declared.stream_position.ByteOrder.TheVariants.{Big}
+use Rattle.pb_port.specs.declared.stream_position.StreamPosition.{StreamPosition}
+use Rattle.pb_port.specs.declared.stream_position.StreamPosition.TheVariants.{Header, Records, Lengths}
 use Rattle.pb_port.specs.Ports.{Frames}
-use Rattle.pb_port.specs.Streams.{captured, original, order_of, fault_at, Passes, AreSkipped, IsHeader, IsRecord}
+use Rattle.pb_port.specs.Streams.{captured, original, byte_order_of, fault_at, Passes, AreSkipped, IsHeader, IsRecord}
 use Rattle.pb_port.specs.Streams.{IsSkipped, IsFrame, IsFramed}
 use Rattle.pb_port.specs.Whole.{Ends, IsStream}
 use Rattle.pb_port.proofs.StreamLemmas.{number-front, header_fault-front}
@@ -22,7 +23,7 @@ append_parts a b x y same e = (
   sym (drop-append_seam a x) ∙ ap (λ z. drop (length a) z) e ∙ ap (λ n. drop n (b ++ y)) same ∙ drop-append_seam b y,
 )
 
-record_same : (order : Order) (a b x y : List ℕ) → IsRecord order a → IsRecord order b → a ++ x ≡ b ++ y
+record_same : (order : ByteOrder) (a b x y : List ℕ) → IsRecord order a → IsRecord order b → a ++ x ≡ b ++ y
     → (a ≡ b) × (x ≡ y)
 record_same order a b x y is is' e =
     let here : captured order (a ++ x) ≡ captured order a = number-front order 4 8 a x (omega arith) in
@@ -30,7 +31,7 @@ record_same order a b x y is is' e =
     let same : captured order a ≡ captured order b = sym here ∙ ap (λ z. captured order z) e ∙ there in
     append_parts a b x y (omega arith) e
 
-frame_same : (p : Place) (a b f g x y : List ℕ) → IsFrame p a f → IsFrame p b g → a ++ x ≡ b ++ y → (f ≡ g) × (x ≡ y)
+frame_same : (p : StreamPosition) (a b f g x y : List ℕ) → IsFrame p a f → IsFrame p b g → a ++ x ≡ b ++ y → (f ≡ g) × (x ≡ y)
 frame_same Header a b f g x y is is' e = absurd is
 frame_same (Records order) a b f g x y is is' e =
     let parts = record_same order a b x y is.whole is'.whole e in
@@ -43,12 +44,12 @@ frame_same Lengths a b f g x y is is' e =
     (is.content ∙ ap (λ z. drop 2 z) parts.0 ∙ sym is'.content, parts.1)
 
 -- a whole part has no fault
-header_sound : (order : Order) (a x : List ℕ) → IsHeader order a → fault_at Header (a ++ x) ≡ None
+header_sound : (order : ByteOrder) (a x : List ℕ) → IsHeader order a → fault_at Header (a ++ x) ≡ None
 header_sound order a x is =
     let long : nat_lt (length (a ++ x)) 24 ≡ false = le-ltb (length (a ++ x)) 24 (omega (arith, length-append a x)) in
     rw long (header_fault-front a x (omega arith) ∙ is.sound)
 
-record_sound : (order : Order) (a x : List ℕ) → IsRecord order a → fault_at (Records order) (a ++ x) ≡ None
+record_sound : (order : ByteOrder) (a x : List ℕ) → IsRecord order a → fault_at (Records order) (a ++ x) ≡ None
 record_sound order a x is =
     let same : captured order (a ++ x) ≡ captured order a = number-front order 4 8 a x (omega arith) in
     let some : eqb (length (a ++ x)) 0 ≡ false = ne_eqb (length (a ++ x)) 0 (λ q. omega (arith, length-append a x)) in
@@ -67,18 +68,18 @@ framed_sound a x f is =
     le-ltb (length (a ++ x)) (2 + big_number 2 (a ++ x)) (omega (arith, length-append a x)) in
     rw (some, first, all) refl
 
-frame_sound : (p : Place) (a x f : List ℕ) → IsFrame p a f → fault_at p (a ++ x) ≡ None
+frame_sound : (p : StreamPosition) (a x f : List ℕ) → IsFrame p a f → fault_at p (a ++ x) ≡ None
 frame_sound Header a x f is = absurd is
 frame_sound (Records order) a x f is = record_sound order a x is.whole
 frame_sound Lengths a x f is = framed_sound a x f is
 
-frame_long : (p : Place) (a f : List ℕ) → IsFrame p a f → 0 < length a
+frame_long : (p : StreamPosition) (a f : List ℕ) → IsFrame p a f → 0 < length a
 frame_long Header a f is = absurd is
 frame_long (Records order) a f is = omega (arith, is.whole)
 frame_long Lengths a f is = omega arith
 
 -- where the input ends or has a fault, no whole part stands
-ends_short : (p : Place) (rest a x : List ℕ) (fault : Option ℕ) → Ends p rest fault → rest ≡ a ++ x → 0 < length a
+ends_short : (p : StreamPosition) (rest a x : List ℕ) (fault : Option PortFault) → Ends p rest fault → rest ≡ a ++ x → 0 < length a
     → fault_at p (a ++ x) ≡ None → ⊥
 ends_short p rest a x fault (here, none) e long sound =
     let is_none : fault ≡ None = sym here ∙ ap (λ z. fault_at p z) e ∙ sound in
@@ -86,12 +87,12 @@ ends_short p rest a x fault (here, none) e long sound =
     omega (arith, length-append a x, ap length empty)
 
 -- no part for no frame stands at the front
-abbrev Stops : Place → List ℕ → Type 0
-Stops Header rest = (order : Order) (header more : List ℕ) → IsHeader order header → rest ≡ header ++ more → ⊥
+abbrev Stops : StreamPosition → List ℕ → Type 0
+Stops Header rest = (order : ByteOrder) (header more : List ℕ) → IsHeader order header → rest ≡ header ++ more → ⊥
 Stops (Records order) rest = (first more : List ℕ) → IsSkipped order first → rest ≡ first ++ more → ⊥
 Stops Lengths rest = ⊤
 
-ends_stop : (p : Place) (rest : List ℕ) (fault : Option ℕ) → Ends p rest fault → Stops p rest
+ends_stop : (p : StreamPosition) (rest : List ℕ) (fault : Option PortFault) → Ends p rest fault → Stops p rest
 ends_stop Header rest fault ends = λ order header more is e.
     ends_short Header rest header more fault ends e (omega arith) (header_sound order header more is)
 ends_stop (Records order) rest fault ends = λ first more is e.
@@ -99,7 +100,7 @@ ends_stop (Records order) rest fault ends = λ first more is e.
     (record_sound order first more is.whole)
 ends_stop Lengths rest fault ends = tt
 
-frame_stops : (p : Place) (part rest f : List ℕ) → IsFrame p part f → Stops p (part ++ rest)
+frame_stops : (p : StreamPosition) (part rest f : List ℕ) → IsFrame p part f → Stops p (part ++ rest)
 frame_stops Header part rest f is = absurd is
 frame_stops (Records order) part rest f is = λ first more skipped e.
     let parts = record_same order part first rest more is.whole skipped.whole e in
@@ -109,7 +110,7 @@ frame_stops (Records order) part rest f is = λ first more skipped e.
     omega arith
 frame_stops Lengths part rest f is = tt
 
-skips_same : (order : Order) (m n : ℕ) (xs ys rest rest' : List ℕ) → AreSkipped order m xs → AreSkipped order n ys
+skips_same : (order : ByteOrder) (m n : ℕ) (xs ys rest rest' : List ℕ) → AreSkipped order m xs → AreSkipped order n ys
     → Stops (Records order) rest → Stops (Records order) rest' → xs ++ rest ≡ ys ++ rest' → (m ≡ n) × (rest ≡ rest')
 skips_same order zero zero xs ys rest rest' a b stop stop' e =
     (refl, sym (ap (λ z. z ++ rest) a) ∙ e ∙ ap (λ z. z ++ rest') b)
@@ -129,20 +130,20 @@ skips_same order (suc m) (suc n) xs ys rest rest' (first, more, is, left, parts)
     (ap suc next.0, next.1)
 
 -- two headers at one front, and the records behind them
-headers_same : (o o' : Order) (m n : ℕ) (header header' xs ys rest rest' : List ℕ) → IsHeader o header
+headers_same : (o o' : ByteOrder) (m n : ℕ) (header header' xs ys rest rest' : List ℕ) → IsHeader o header
     → IsHeader o' header'
     → AreSkipped o m xs → AreSkipped o' n ys → Stops (Records o) rest → Stops (Records o') rest'
     → header ++ (xs ++ rest) ≡ header' ++ (ys ++ rest') → (Records o ≡ Records o') × (m ≡ n) × (rest ≡ rest')
 headers_same o o' m n header header' xs ys rest rest' is is' a b stop stop' e =
     let both = append_parts header header' (xs ++ rest) (ys ++ rest') (omega arith) e in
-    let magic : Some o ≡ Some o' = sym is.magic ∙ ap (λ z. order_of (big_number 4 z)) both.0 ∙ is'.magic in
+    let magic : Some o ≡ Some o' = sym is.magic ∙ ap (λ z. byte_order_of (big_number 4 z)) both.0 ∙ is'.magic in
     let same : o ≡ o' = cc in
-    let P : Order → Type 0 = λ z. AreSkipped z n ys in
-    let Q : Order → Type 0 = λ z. Stops (Records z) rest' in
+    let P : ByteOrder → Type 0 = λ z. AreSkipped z n ys in
+    let Q : ByteOrder → Type 0 = λ z. Stops (Records z) rest' in
     let next = skips_same o m n xs ys rest rest' a (subst P (sym same) b) stop (subst Q (sym same) stop') both.1 in
     (ap (λ z. Records z) same, next.0, next.1)
 
-passes_same : (p q q' : Place) (m n : ℕ) (xs ys rest rest' : List ℕ) → Passes p xs q m → Passes p ys q' n
+passes_same : (p q q' : StreamPosition) (m n : ℕ) (xs ys rest rest' : List ℕ) → Passes p xs q m → Passes p ys q' n
     → Stops q rest → Stops q' rest'
     → xs ++ rest ≡ ys ++ rest' → (q ≡ q') × (m ≡ n) × (rest ≡ rest')
 passes_same Header Header Header m n xs ys rest rest' (a, zero_m) (b, zero_n) stop stop' e =
@@ -164,8 +165,8 @@ passes_same Header (Records o) (Records o') m n xs ys rest rest' (header, record
 passes_same Header (Records o) Lengths m n xs ys rest rest' a b stop stop' e = absurd b
 passes_same Header Lengths q' m n xs ys rest rest' a b stop stop' e = absurd a
 passes_same (Records o) (Records o1) (Records o2) m n xs ys rest rest' (one, a) (two, b) stop stop' e =
-    let P : Order → Type 0 = λ z. Stops (Records z) rest in
-    let Q : Order → Type 0 = λ z. Stops (Records z) rest' in
+    let P : ByteOrder → Type 0 = λ z. Stops (Records z) rest in
+    let Q : ByteOrder → Type 0 = λ z. Stops (Records z) rest' in
     let next = skips_same o m n xs ys rest rest' a b (subst P one stop) (subst Q two stop') e in
     (ap (λ z. Records z) (one ∙ sym two), next.0, next.1)
 passes_same (Records o) (Records o1) Header m n xs ys rest rest' a b stop stop' e = absurd b
@@ -180,17 +181,17 @@ passes_same Lengths Header q' m n xs ys rest rest' a b stop stop' e = absurd a
 passes_same Lengths (Records o) q' m n xs ys rest rest' a b stop stop' e = absurd a
 
 -- no frame stands where the other reading ends
-end_or_frame : (p q q' : Place) (m n : ℕ) (xs ys rest part rest' f : List ℕ) (fault : Option ℕ) → Passes p xs q m
+end_or_frame : (p q q' : StreamPosition) (m n : ℕ) (xs ys rest part rest' f : List ℕ) (fault : Option PortFault) → Passes p xs q m
     → Passes p ys q' n
     → Ends q rest fault → IsFrame q' part f → xs ++ rest ≡ ys ++ (part ++ rest') → ⊥
 end_or_frame p q q' m n xs ys rest part rest' f fault pass pass' ends is e =
     let same = passes_same p q q' m n xs ys rest (part ++ rest') pass pass' (ends_stop q rest fault ends)
     (frame_stops q' part rest' f is) e in
-    let P : Place → Type 0 = λ z. Ends z rest fault in
+    let P : StreamPosition → Type 0 = λ z. Ends z rest fault in
     ends_short q' rest part rest' fault (subst P same.0 ends) same.2 (frame_long q' part f is)
     (frame_sound q' part rest' f is)
 
-pub one_reading : (p : Place) (octets : List ℕ) (fs gs : Frames) (m n : ℕ) (fault fault' : Option ℕ)
+pub one_reading : (p : StreamPosition) (octets : List ℕ) (fs gs : Frames) (m n : ℕ) (fault fault' : Option PortFault)
     → IsStream p octets fs m fault → IsStream p octets gs n fault' → (fs ≡ gs) × (m ≡ n) × (fault ≡ fault')
 one_reading p octets [] [] m n fault fault' (q, front, rest, pass, e, ends) (q', front', rest', pass', e', ends') =
     let same = passes_same p q q' m n front front' rest rest' pass pass' (ends_stop q rest fault ends)
@@ -208,9 +209,9 @@ one_reading p octets (f ∷ fs) (g ∷ gs) m n fault fault' (q, front, part, res
     (q', front', part', rest', k', more', pass', is', e', left', sum') =
     let same = passes_same p q q' k k' front front' (part ++ rest) (part' ++ rest') pass pass'
     (frame_stops q part rest f is) (frame_stops q' part' rest' g is') (sym e ∙ e') in
-    let P : Place → Type 0 = λ z. IsFrame z part f in
+    let P : StreamPosition → Type 0 = λ z. IsFrame z part f in
     let both = frame_same q' part part' f g rest rest' (subst P same.0 is) is' same.2 in
-    let Q : Place → Type 0 = λ z. IsStream z rest fs more fault in
+    let Q : StreamPosition → Type 0 = λ z. IsStream z rest fs more fault in
     let R : List ℕ → Type 0 = λ z. IsStream q' z fs more fault in
     let next = one_reading q' rest' fs gs more more' fault fault' (subst R both.1 (subst Q same.0 left)) left' in
     let frames : (f ∷ fs) ≡ (g ∷ gs) = ap (λ z. z ∷ fs) both.0 ∙ ap (λ z. g ∷ z) next.0 in

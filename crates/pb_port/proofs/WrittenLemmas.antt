@@ -3,16 +3,16 @@ use Rattle.std.proofs.Common.{◌≡◌, ℕ, ◌+◌, ◌<◌, true, false, Lis
 use Rattle.std.proofs.Common.{None}
 use Rattle.byteorder.specs.Endian.{big_number, big_bytes, little_bytes}
 use Rattle.byteorder.specs.Numbers.{little_number-reads_back, big_number-reads_back}
-use Rattle.pb_port.specs.declared.place.Order.TheVariants.{Little}
-use Rattle.pb_port.specs.declared.place.Place.{Place}
-use Rattle.pb_port.specs.declared.place.Place.TheVariants.{Header, Records, Lengths}
+use Rattle.pb_port.specs.declared.stream_position.ByteOrder.TheVariants.{Little}
+use Rattle.pb_port.specs.declared.stream_position.StreamPosition.{StreamPosition}
+use Rattle.pb_port.specs.declared.stream_position.StreamPosition.TheVariants.{Header, Records, Lengths}
 use Rattle.pb_port.specs.declared.framing.Framing.{Framing}
 use Rattle.pb_port.specs.declared.framing.Framing.TheVariants.{Capture, Socket}
 use Rattle.pb_port.specs.Streams.{captured, original, Passes, IsHeader, IsFrame, IsFrameRecord, IsFramed}
 use Rattle.pb_port.specs.Ports.{Frames}
 use Rattle.pb_port.specs.Spelling.{file_header, record_head, spelled}
 use Rattle.pb_port.specs.Whole.{IsStream}
-use Rattle.pb_port.specs.Written.{place_of, spelled_all, frames_of, AreShort}
+use Rattle.pb_port.specs.Written.{position_of, spelled_all, frames_of, AreShort}
 
 header_written : IsHeader Little file_header
 header_written = record { long = refl; magic = refl; sound = refl }
@@ -37,12 +37,12 @@ frame_written f short =
     record { long = omega arith; content = refl }
 
 -- a frame with no part for none in front of it, and more behind
-frame_first : (p q : Place) (front part rest f : List ℕ) (fs : Frames) → Passes p front q 0 → IsFrame q part f
+frame_first : (p q : StreamPosition) (front part rest f : List ℕ) (fs : Frames) → Passes p front q 0 → IsFrame q part f
     → IsStream q rest fs 0 None → IsStream p (front ++ (part ++ rest)) (f ∷ fs) 0 None
 frame_first p q front part rest f fs pass is left = (q, front, part, rest, 0, 0, pass, is, refl, left, refl)
 
 written_behind : (framing : Framing) (frames : List (ℕ × List ℕ)) → AreShort frames
-    → IsStream (place_of framing false) (spelled_all framing false frames) (frames_of frames) 0 None
+    → IsStream (position_of framing false) (spelled_all framing false frames) (frames_of frames) 0 None
 written_behind Capture [] short = (Records Little, [], [], (refl, refl), refl, (refl, λ _. refl))
 written_behind Capture ((micros, f) ∷ more) (short, shorts) =
     frame_first (Records Little) (Records Little) [] (spelled Capture false micros f) (spelled_all Capture false more) f
@@ -54,7 +54,7 @@ written_behind Socket ((micros, f) ∷ more) (short, shorts) =
 
 pub written_read : (framing : Framing) (micros : ℕ) (f : List ℕ) (more : List (ℕ × List ℕ))
     → AreShort ((micros, f) ∷ more)
-    → IsStream (place_of framing true) (spelled_all framing true ((micros, f) ∷ more))
+    → IsStream (position_of framing true) (spelled_all framing true ((micros, f) ∷ more))
     (frames_of ((micros, f) ∷ more)) 0 None
 written_read Capture micros f more (short, shorts) =
     frame_first Header (Records Little) file_header (record_head micros (length f) ++ f)

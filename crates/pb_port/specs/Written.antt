@@ -1,8 +1,8 @@
 -- The reading of what is written.
 use Rattle.std.specs.Prelude.{ℕ, ◌<◌, Bool, true, false, List, [], ◌∷◌, ◌++◌, length, ⊤, None}
-use Rattle.pb_port.specs.declared.place.Order.TheVariants.{Little}
-use Rattle.pb_port.specs.declared.place.Place.{Place}
-use Rattle.pb_port.specs.declared.place.Place.TheVariants.{Header, Records, Lengths}
+use Rattle.pb_port.specs.declared.stream_position.ByteOrder.TheVariants.{Little}
+use Rattle.pb_port.specs.declared.stream_position.StreamPosition.{StreamPosition}
+use Rattle.pb_port.specs.declared.stream_position.StreamPosition.TheVariants.{Header, Records, Lengths}
 use Rattle.pb_port.specs.declared.framing.Framing.{Framing}
 use Rattle.pb_port.specs.declared.framing.Framing.TheVariants.{Capture, Socket}
 use Rattle.pb_port.specs.Ports.{Frames}
@@ -10,10 +10,10 @@ use Rattle.pb_port.specs.Spelling.{spelled}
 use Rattle.pb_port.specs.Whole.{IsStream}
 
 -- where a stream is read on, before its first frame was written and after
-abbrev pub place_of : Framing → Bool → Place
-place_of Capture true = Header
-place_of Capture false = Records Little
-place_of Socket fresh = Lengths
+abbrev pub position_of : Framing → Bool → StreamPosition
+position_of Capture true = Header
+position_of Capture false = Records Little
+position_of Socket fresh = Lengths
 
 -- the octets of frames, each begun at its own microsecond
 abbrev pub spelled_all : Framing → Bool → List (ℕ × List ℕ) → List ℕ
@@ -33,4 +33,4 @@ AreShort ((micros, f) ∷ more) = (length f < 65536) × AreShort more
 abbrev pub WrittenIsRead : Type 0
 WrittenIsRead =
     (framing : Framing) (micros : ℕ) (f : List ℕ) (more : List (ℕ × List ℕ)) → AreShort ((micros, f) ∷ more)
-    → IsStream (place_of framing true) (spelled_all framing true ((micros, f) ∷ more)) (frames_of ((micros, f) ∷ more)) 0 None
+    → IsStream (position_of framing true) (spelled_all framing true ((micros, f) ∷ more)) (frames_of ((micros, f) ∷ more)) 0 None

@@ -1,7 +1,7 @@
 //! Runs of octets that are gathered for one write.
 ghost use Rattle.std.specs.Prelude.{◌≡◌, ◌+◌, ◌-◌, ◌≤◌, ◌++◌, ℕ, List, length, take, drop, min};
 
-/// Puts octets into a run from a place on, as many as there is room for, and says where they end.
+/// Puts octets into a run from an index on, as many as it has space for, and returns the index at which they end.
 fn put(run: &mut [u8], at: usize, octets: &[u8]) -> usize
     requires { at ≤ length run.old }
     ensures end { result ≡ at + min (length octets.now) (length run.old - at) }
@@ -12,13 +12,14 @@ fn put(run: &mut [u8], at: usize, octets: &[u8]) -> usize
     at + count
 }
 
-/// Puts a frame and its head into a run from a place on, without the octets that are done, as many as there is
-/// room for, and says where they end.
+/// Puts a frame and its head into a run from an index on, without the octets that are done, as many as it has space
+/// for, and returns the index at which they end.
 pub(crate) fn put_part(run: &mut [u8], at: usize, head: &[u8], frame: &[u8], done: usize) -> usize
     requires at { at ≤ length run.old }
     requires done { done ≤ length head.now + length frame.now }
     ensures end { result ≡ at + min (length head.now + length frame.now - done) (length run.old - at) }
-    ensures octets { take result run.new ≡ take at run.old ++ take (length run.old - at) (drop done (head.now ++ frame.now)) }
+    ensures octets { take result run.new ≡ take at run.old ++ take (length run.old - at)
+        (drop done (head.now ++ frame.now)) }
 {
     if done < head.len() {
         let behind = put(run, at, &head[done..]);

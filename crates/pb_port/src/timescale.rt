@@ -1,8 +1,8 @@
-//! What times captures tell of frames.
+//! The times that captures give of frames.
 
 ghost use Rattle.std.specs.Prelude.{◌≡◌, ◌≤◌, ◌<◌, ◌^◌};
 
-/// How ticks are told as times: the microseconds at tick 0, and those of a tick.
+/// Converts ticks to times: the microseconds at tick 0, and those of a tick.
 #[derive(Clone, Copy)]
 pub struct Timescale {
     /// The microseconds at tick 0, less than 2^62.
@@ -16,7 +16,7 @@ pub struct Timescale {
 impl Timescale {
     ghost use Rattle.pb_port.specs.Timescales.{micros_at};
 
-    /// A tick is a second, and the first is second 0.
+    /// Creates the scale on which a tick is a second, and tick 0 is second 0.
     pub fn ticks() -> Timescale
         ensures { (result.start ≡ 0) × (result.tick ≡ 1000000) }
     {
@@ -26,7 +26,7 @@ impl Timescale {
         }
     }
 
-    /// The microseconds after so many ticks.
+    /// Returns the microseconds after so many ticks.
     pub fn micros(self, ticks: u32) -> u64
         ensures { result ≡ micros_at self ticks }
     {

@@ -32,9 +32,9 @@ const READ: &[Case] = &[Case {
     devices: Devices::Reader(WHOLE),
     rows: &[
         Row::Gives(FRAME),
-        Row::Faults(4),
-        Row::Faults(4),
-        Row::Faults(4),
+        Row::Faults(PortFault::Truncated),
+        Row::Faults(PortFault::Truncated),
+        Row::Faults(PortFault::Truncated),
     ],
     skipped: 1,
     ..NOTHING
@@ -181,19 +181,23 @@ fn check_told(rt: &impl Abort, alloc: Global, captures: &[Told]) {
 const ORDERS: &[Told] = &[
     (b"\xa1\xb2\xc3\xd4", &[Row::Tells(&[260])]),
     (
-        b"\xa1\xb2\xc3\xd4\0\x02\0\x04\0\0\0\0\0\0\0\0\0\0\xff\xff\0\0\0\x01\0\0\0\x01\0\0\0\x02\0\0\0\x02\0\0\0\x02\x07\x08",
+        b"\xa1\xb2\xc3\xd4\0\x02\0\x04\0\0\0\0\0\0\0\0\0\0\xff\xff\0\0\0\x01\
+          \0\0\0\x01\0\0\0\x02\0\0\0\x02\0\0\0\x02\x07\x08",
         &[Row::Tells(&[7, 8, 300, 256])],
     ),
     (
-        b"\xa1\xb2\x3c\x4d\0\x02\0\x04\0\0\0\0\0\0\0\0\0\0\xff\xff\0\0\0\x01\0\0\0\x01\0\0\0\x02\0\0\0\x02\0\0\0\x02\x07\x08",
+        b"\xa1\xb2\x3c\x4d\0\x02\0\x04\0\0\0\0\0\0\0\0\0\0\xff\xff\0\0\0\x01\
+          \0\0\0\x01\0\0\0\x02\0\0\0\x02\0\0\0\x02\x07\x08",
         &[Row::Tells(&[7, 8, 300, 256])],
     ),
     (
-        b"\xd4\xc3\xb2\xa1\x02\0\x04\0\0\0\0\0\0\0\0\0\xff\xff\0\0\x01\0\0\0\x01\0\0\0\x02\0\0\0\x02\0\0\0\x02\0\0\0\x07\x08",
+        b"\xd4\xc3\xb2\xa1\x02\0\x04\0\0\0\0\0\0\0\0\0\xff\xff\0\0\x01\0\0\0\
+          \x01\0\0\0\x02\0\0\0\x02\0\0\0\x02\0\0\0\x07\x08",
         &[Row::Tells(&[7, 8, 300, 256])],
     ),
     (
-        b"\x4d\x3c\xb2\xa1\x02\0\x04\0\0\0\0\0\0\0\0\0\xff\xff\0\0\x01\0\0\0\x01\0\0\0\x02\0\0\0\x02\0\0\0\x02\0\0\0\x07\x08",
+        b"\x4d\x3c\xb2\xa1\x02\0\x04\0\0\0\0\0\0\0\0\0\xff\xff\0\0\x01\0\0\0\
+          \x01\0\0\0\x02\0\0\0\x02\0\0\0\x02\0\0\0\x07\x08",
         &[Row::Tells(&[7, 8, 300, 256])],
     ),
 ];
@@ -293,7 +297,7 @@ fn fails_at_each_read(rt: HostRuntime) {
         };
         let case = Case {
             devices: Devices::Reader(reader),
-            rows: &[Row::Tells(&[262]), Row::Faults(6)],
+            rows: &[Row::Tells(&[262]), Row::Faults(PortFault::Read)],
             failures: 1,
             skipped: if 54 < call { 1 } else { 0 },
             ..NOTHING
@@ -305,14 +309,14 @@ fn fails_at_each_read(rt: HostRuntime) {
 /// A capture of a frame, of which nothing is written but what stands before a write that fails.
 const BROKEN: &[Row] = &[
     Row::Offers(&[1, 2, 3], Offered::Taken),
-    Row::Pumps(0, Pumped::Fault(7)),
+    Row::Pumps(0, Pumped::Fault(PortFault::Write)),
     Row::Offers(&[1, 2, 3], Offered::Gone),
-    Row::Pumps(0, Pumped::Fault(7)),
+    Row::Pumps(0, Pumped::Fault(PortFault::Write)),
     Row::Unsent(1),
 ];
 
-const UNBROKEN: &[u8] =
-    b"\xd4\xc3\xb2\xa1\x02\0\x04\0\0\0\0\0\0\0\0\0\xff\xff\0\0\x01\0\0\0\0\0\0\0\0\0\0\0\x03\0\0\0\x03\0\0\0\x01\x02\x03";
+const UNBROKEN: &[u8] = b"\xd4\xc3\xb2\xa1\x02\0\x04\0\0\0\0\0\0\0\0\0\xff\xff\0\0\x01\0\0\0\
+      \0\0\0\0\0\0\0\0\x03\0\0\0\x03\0\0\0\x01\x02\x03";
 
 #[test]
 fn fails_at_each_write(rt: HostRuntime) {

@@ -3,7 +3,7 @@
 use super::cases::{Case, Devices, NOTHING, check, check_all};
 use super::device::{Manner, Parts, SINK};
 use super::rows::Row;
-use pb_port::{Offered, Pumped};
+use pb_port::{Offered, PortFault, Pumped};
 use std::alloc::Global;
 use std::process::Abort;
 
@@ -52,18 +52,22 @@ const READS: &[Failing] = &[
     (9, BOTH_FRAMES, &[]),
 ];
 
-const NO_FRAME: &[Row] = &[Row::Tells(&[262]), Row::Faults(6), Row::Faults(6)];
+const NO_FRAME: &[Row] = &[
+    Row::Tells(&[262]),
+    Row::Faults(PortFault::Read),
+    Row::Faults(PortFault::Read),
+];
 
 const ONE_FRAME: &[Row] = &[
     Row::Tells(&[7, 8, 300, 262]),
-    Row::Faults(6),
-    Row::Faults(6),
+    Row::Faults(PortFault::Read),
+    Row::Faults(PortFault::Read),
 ];
 
 const BOTH_FRAMES: &[Row] = &[
     Row::Tells(&[7, 8, 300, 9, 16, 300, 262]),
-    Row::Faults(6),
-    Row::Faults(6),
+    Row::Faults(PortFault::Read),
+    Row::Faults(PortFault::Read),
 ];
 
 #[test]
@@ -87,10 +91,10 @@ const WRITES: &[Failing] = &[
 const TWO_LEFT: &[Row] = &[
     Row::Offers(&[7, 8], Offered::Taken),
     Row::Offers(&[9, 0x10], Offered::Taken),
-    Row::Pumps(0, Pumped::Fault(7)),
+    Row::Pumps(0, Pumped::Fault(PortFault::Write)),
     Row::Unsent(2),
     Row::Offers(&[0x11], Offered::Gone),
-    Row::Pumps(0, Pumped::Fault(7)),
+    Row::Pumps(0, Pumped::Fault(PortFault::Write)),
     Row::Unsent(2),
     Row::Ends,
 ];
@@ -98,10 +102,10 @@ const TWO_LEFT: &[Row] = &[
 const ONE_LEFT: &[Row] = &[
     Row::Offers(&[7, 8], Offered::Taken),
     Row::Offers(&[9, 0x10], Offered::Taken),
-    Row::Pumps(0, Pumped::Fault(7)),
+    Row::Pumps(0, Pumped::Fault(PortFault::Write)),
     Row::Unsent(1),
     Row::Offers(&[0x11], Offered::Gone),
-    Row::Pumps(0, Pumped::Fault(7)),
+    Row::Pumps(0, Pumped::Fault(PortFault::Write)),
     Row::Unsent(1),
     Row::Ends,
 ];
@@ -117,11 +121,11 @@ const EACH_WAY: &[Failing] = &[
     (
         1,
         &[
-            Row::Faults(6),
+            Row::Faults(PortFault::Read),
             Row::Offers(&[9], Offered::Taken),
             Row::Pumps(0, Pumped::Wrote(1)),
             Row::Unsent(0),
-            Row::Faults(6),
+            Row::Faults(PortFault::Read),
         ],
         &[(1, &[0, 1, 9])],
     ),
@@ -129,11 +133,11 @@ const EACH_WAY: &[Failing] = &[
         2,
         &[
             Row::Gives(&[7, 8]),
-            Row::Faults(6),
+            Row::Faults(PortFault::Read),
             Row::Offers(&[9], Offered::Taken),
             Row::Pumps(0, Pumped::Wrote(1)),
             Row::Unsent(0),
-            Row::Faults(6),
+            Row::Faults(PortFault::Read),
         ],
         &[(1, &[0, 1, 9])],
     ),
@@ -143,7 +147,7 @@ const EACH_WAY: &[Failing] = &[
             Row::Gives(&[7, 8]),
             Row::Ends,
             Row::Offers(&[9], Offered::Taken),
-            Row::Pumps(0, Pumped::Fault(7)),
+            Row::Pumps(0, Pumped::Fault(PortFault::Write)),
             Row::Unsent(1),
             Row::Offers(&[9], Offered::Gone),
             Row::Ends,
@@ -159,7 +163,7 @@ const EACH_WAY: &[Failing] = &[
             Row::Pumps(0, Pumped::Wrote(1)),
             Row::Unsent(0),
             Row::Offers(&[9], Offered::Taken),
-            Row::Pumps(0, Pumped::Fault(7)),
+            Row::Pumps(0, Pumped::Fault(PortFault::Write)),
             Row::Unsent(1),
             Row::Ends,
         ],
@@ -176,9 +180,9 @@ fn one_way_of_a_socket_does_not_stop_the_other(rt: HostRuntime) {
 /// writes anything.
 const FAILS_LATER: &[Row] = &[
     Row::Takes(3, &[7, 8]),
-    Row::Pumps(0, Pumped::Fault(7)),
+    Row::Pumps(0, Pumped::Fault(PortFault::Write)),
     Row::Unsent(2),
-    Row::Pumps(0, Pumped::Fault(7)),
+    Row::Pumps(0, Pumped::Fault(PortFault::Write)),
     Row::Unsent(2),
     Row::Shelves {
         sent: &[],
@@ -260,15 +264,15 @@ fn frames_that_left_are_gone_though_a_later_write_does_not_pass(rt: HostRuntime)
 /// A port that failed is put on its shelf, and each later pump still says that a write failed.
 const SHELVED: &[Row] = &[
     Row::Offers(&[7, 8], Offered::Taken),
-    Row::Pumps(0, Pumped::Fault(7)),
+    Row::Pumps(0, Pumped::Fault(PortFault::Write)),
     Row::Shelves {
         sent: &[],
         unsent: &[&[7, 8]],
     },
     Row::Unsent(0),
-    Row::Pumps(0, Pumped::Fault(7)),
+    Row::Pumps(0, Pumped::Fault(PortFault::Write)),
     Row::Offers(&[7, 8], Offered::Gone),
-    Row::Pumps(0, Pumped::Fault(7)),
+    Row::Pumps(0, Pumped::Fault(PortFault::Write)),
     Row::Unsent(0),
 ];
 

@@ -4,7 +4,7 @@ ghost use Rattle.std.specs.Prelude.{◌≡◌, []};
 
 use super::device::Seen;
 use bytes::Bytes;
-use pb_port::{Offered, Polled, Port, Pumped, Shelf};
+use pb_port::{Offered, Polled, Port, PortFault, Pumped, Shelf};
 use std::alloc::Global;
 use std::collections::VecDeque;
 
@@ -29,10 +29,10 @@ pub(super) enum Row {
     Waits,
     /// It comes to the end.
     Ends,
-    /// It tells a fault.
-    Faults(u8),
+    /// It returns a fault.
+    Faults(PortFault),
     /// What is said of the stream from now on: the octets of its frames, each frame followed by 300, then 256 for
-    /// the end, or 256 and the fault.
+    /// the end, or 256 and the fault's number.
     Tells(&'static [u16]),
     /// So many frames wait.
     Unsent(usize),
@@ -130,7 +130,7 @@ fn polls<P: Port>(port: &mut P, row: Row) -> bool {
     }
 }
 
-/// Whether this is told of a port's stream. Want of memory is passed over, since no octet is lost by it.
+/// Whether this is told of a port's stream. A failed allocation is passed over, since no octet is lost by it.
 fn tells<P: Port>(port: &mut P, told: &[u16]) -> bool {
     let mut at = 0usize;
     for _ in 0..2000u16 {
@@ -141,9 +141,9 @@ fn tells<P: Port>(port: &mut P, told: &[u16]) -> bool {
                 }
                 at = at.saturating_add(frame.len()).saturating_add(1);
             }
-            Polled::Nothing | Polled::Fault(8) => {}
+            Polled::Nothing | Polled::Fault(PortFault::Memory) => {}
             Polled::End => return is_last(told, at, 256),
-            Polled::Fault(k) => return is_last(told, at, 256 + u16::from(k)),
+            Polled::Fault(fault) => return is_last(told, at, 256 + u16::from(fault.number())),
         }
     }
     false

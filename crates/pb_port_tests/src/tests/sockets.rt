@@ -4,7 +4,7 @@ use super::cases::{Case, Devices, NOTHING, check_all};
 use super::device::{Manner, SINK, Seen};
 use super::rows::{Row, walk};
 use mio::net::{UnixListener, UnixStream};
-use pb_port::{Offered, Over, Pumped, SocketPort};
+use pb_port::{Offered, Over, PortFault, Pumped, SocketPort};
 use std::alloc::Global;
 use std::fs::{self, Files};
 use std::io;
@@ -16,7 +16,11 @@ const CUT: &[Case] = &[Case {
         gives: &[0, 0xe, 1, 2, 3, 4, 5],
         ..SINK
     }),
-    rows: &[Row::Faults(4), Row::Faults(4), Row::Faults(4)],
+    rows: &[
+        Row::Faults(PortFault::Truncated),
+        Row::Faults(PortFault::Truncated),
+        Row::Faults(PortFault::Truncated),
+    ],
     ..NOTHING
 }];
 

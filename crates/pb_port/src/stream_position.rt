@@ -1,0 +1,157 @@
+//! Which part begins at the front of a capture file's or a socket stream's octets.
+ghost use Rattle.std.specs.Prelude.{◌≡◌, ◌+◌, ◌<◌, ◌≤◌, ◌^◌, ℕ, List, length, take, drop, MatchResult, Some, None};
+ghost use Rattle.pb_port.specs.Streams.{number, byte_order_of, captured, original, header_fault, fault_at, unfinished};
+ghost use Rattle.pb_port.specs.Streams.{Shows};
+ghost use Rattle.pb_port.specs.Faults.{IsOfOctets};
+ghost use Rattle.byteorder.specs.Endian.{big_number};
+
+use crate::fault::PortFault;
+use byteorder::{BigEndian, ByteOrder as _, LittleEndian};
+
+/// Orders the octets of a number.
+#[derive(Clone, Copy, Debug, PartialEq, Eq)]
+pub enum ByteOrder {
+    /// The highest octet comes first.
+    Big,
+    /// The lowest octet comes first.
+    Little,
+}
+
+/// Locates a reader in its stream, between whole parts.
+#[derive(Clone, Copy, Debug, PartialEq, Eq)]
+pub enum StreamPosition {
+    /// Before a capture's header.
+    Header,
+    /// Before a record of a capture.
+    Records(ByteOrder),
+    /// Before a frame of a socket.
+    Lengths,
+}
+
+/// Describes the part at the front of some octets.
+#[derive(Clone, Copy, Debug, PartialEq, Eq)]
+pub(crate) enum Look {
+    /// No whole part.
+    Short,
+    /// A capture's header.
+    Header(ByteOrder),
+    /// A record that is skipped, of so many octets.
+    Skipped(usize),
+    /// A frame after a head of so many octets, and the octets of both.
+    Frame(usize, usize),
+    /// No part, whatever follows.
+    Fault(PortFault),
+}
+
+/// Reads the number in the four octets from an index on.
+fn number_at(order: ByteOrder, octets: &[u8], at: usize) -> u32
+    requires { at + 4 ≤ length octets.now }
+    ensures { result ≡ number order 4 (drop at octets.now) }
+{
+    let rest = &octets[at..];
+    match order {
+        ByteOrder::Big => BigEndian::read_u32(rest),
+        ByteOrder::Little => LittleEndian::read_u32(rest),
+    }
+}
+
+/// Reads the number in the two octets from an index on.
+fn half_at(order: ByteOrder, octets: &[u8], at: usize) -> u16
+    requires { at + 2 ≤ length octets.now }
+    ensures { result ≡ number order 2 (drop at octets.now) }
+{
+    let rest = &octets[at..];
+    match order {
+        ByteOrder::Big => BigEndian::read_u16(rest),
+        ByteOrder::Little => LittleEndian::read_u16(rest),
+    }
+}
+
+/// Returns the byte order that a magic gives, read the highest octet first.
+fn read_byte_order(magic: u32) -> Option<ByteOrder>
+    ensures { result ≡ byte_order_of magic }
+{
+    match magic {
+        0xA1B2_C3D4 | 0xA1B2_3C4D => Some(ByteOrder::Big),
+        0xD4C3_B2A1 | 0x4D3C_B2A1 => Some(ByteOrder::Little),
+        _ => None,
+    }
+}
+
+/// Returns the byte order of a header, or what is wrong with it.
+fn read_header(octets: &[u8]) -> Result<ByteOrder, PortFault>
+    requires { 24 ≤ length octets.now }
+    ensures { MatchResult result
+        (λ order. (byte_order_of (big_number 4 octets.now) ≡ Some order) × (header_fault octets.now ≡ None))
+        (λ k. IsOfOctets k × (header_fault octets.now ≡ Some k)) }
+{
+    let Some(order) = read_byte_order(BigEndian::read_u32(octets)) else {
+        return Err(PortFault::Magic);
+    };
+    if half_at(order, octets, 4) != 2 || half_at(order, octets, 6) != 4 {
+        return Err(PortFault::Version);
+    }
+    if number_at(order, octets, 20) != 1 {
+        return Err(PortFault::LinkType);
+    }
+    Ok(order)
+}
+
+/// Checks the front for a capture's header.
+fn look_header(octets: &[u8]) -> Look
+    ensures { Shows StreamPosition.Header octets.now result }
+{
+    if octets.len() < 24 {
+        return Look::Short;
+    }
+    match read_header(octets) {
+        Ok(order) => Look::Header(order),
+        Err(fault) => Look::Fault(fault),
+    }
+}
+
+/// Checks the front for a record of a capture.
+fn look_record(order: ByteOrder, octets: &[u8]) -> Look
+    ensures { Shows (StreamPosition.Records order) octets.now result }
+{
+    if octets.len() < 16 {
+        return Look::Short;
+    }
+    let captured = number_at(order, octets, 8);
+    if 262_144 < captured {
+        return Look::Fault(PortFault::Oversize);
+    }
+    let whole = 16 + captured as usize;
+    if octets.len() < whole {
+        return Look::Short;
+    }
+    if captured < number_at(order, octets, 12) {
+        return Look::Skipped(whole);
+    }
+    Look::Frame(16, whole)
+}
+
+/// Checks the front for a frame of a socket.
+fn look_length(octets: &[u8]) -> Look
+    ensures { Shows StreamPosition.Lengths octets.now result }
+{
+    if octets.len() < 2 {
+        return Look::Short;
+    }
+    let whole = 2 + BigEndian::read_u16(octets) as usize;
+    if octets.len() < whole {
+        return Look::Short;
+    }
+    Look::Frame(2, whole)
+}
+
+/// Checks which part begins at the front.
+pub(crate) fn look_at(position: StreamPosition, octets: &[u8]) -> Look
+    ensures { Shows position octets.now result }
+{
+    match position {
+        StreamPosition::Header => look_header(octets),
+        StreamPosition::Records(order) => look_record(order, octets),
+        StreamPosition::Lengths => look_length(octets),
+    }
+}
