@@ -6,7 +6,7 @@ ghost use Rattle.pb_cmd_run.specs.Telling.{name_at, word_of, path_line, sharing,
 
 use pb_frame::Memory;
 use pb_lan::CustomerPlan;
-use pb_messages::CommandFault;
+use pb_messages::{CommandFault, write_whole};
 use pb_run_ports::{FileUser, OpenFault, Verb};
 use std::alloc::{AllocError, Global};
 use std::io::{Error, Write};
@@ -37,7 +37,8 @@ fn word_of(verb: Verb) -> &'static str
 
 /// Puts a line on a path behind a text.
 fn put_line(out: &mut String, name: &str, word: &str, path: &str, why: &str) -> Result<(), Memory>
-    ensures { OnOk result (string_bytes out.new ≡ string_bytes out.old ++ path_line name.now word.now path.now why.now) }
+    ensures { OnOk result (string_bytes out.new ≡ string_bytes out.old
+        ++ path_line name.now word.now path.now why.now) }
 {
     writeln!(out, "port {name}: {word} {path}: {why}")?;
     Ok(())
@@ -53,14 +54,12 @@ fn write_line<W: Write>(
     why: &str,
     writer: &mut W,
 ) -> Result<(), CommandFault>
-    ensures { OnOk result (Appends (W.contents writer.old) (W.contents writer.new) (path_line name.now word.now path.now why.now)) }
+    ensures { OnOk result (Appends (W.contents writer.old) (W.contents writer.new)
+        (path_line name.now word.now path.now why.now)) }
 {
     let mut out = String::new(alloc);
     put_line(&mut out, name, word, path, why)?;
-    if writer.write_all(out.as_bytes()).is_err() || writer.flush().is_err() {
-        return Err(CommandFault::Write);
-    }
-    Ok(())
+    write_whole(writer, out.as_bytes())
 }
 
 /// Writes `port NAME: VERB PATH: WHY`, for a path that a port could not use, with what the system says of it.
@@ -72,7 +71,8 @@ pub(crate) fn write_path_fault<W: Write>(
     error: &Error,
     writer: &mut W,
 ) -> Result<(), CommandFault>
-    ensures { OnOk result ((why : List ℕ) × Appends (W.contents writer.old) (W.contents writer.new) (path_line name.now (word_of verb) path.now why)) }
+    ensures { OnOk result ((why : List ℕ) × Appends (W.contents writer.old) (W.contents writer.new)
+        (path_line name.now (word_of verb) path.now why)) }
 {
     let why = format!(in alloc; "{error}")?;
     write_line(alloc, name, word_of(verb), path, why.as_str(), writer)
