@@ -108,7 +108,7 @@ pub(crate) fn station(text: &str) -> Option<Mac>
 {
     match Mac::read(text) {
         None => None,
-        Some(mac) => { if mac.0[0] % 2 == 1 { None } else { Some(mac) } }
+        Some(mac) => { if mac.is_group() { None } else { Some(mac) } }
     }
 }
 

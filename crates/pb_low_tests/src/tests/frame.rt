@@ -4,7 +4,7 @@ mod digits;
 mod tags;
 mod values;
 
-use pb_frame::{FrameFault, Mac, Memory, Tci, view};
+use pb_frame::{FrameFault, Mac, Memory, Tci, destination_of, index_of, source_of, view};
 use std::alloc::{AllocError, Global};
 use std::test::Fail;
 
@@ -23,6 +23,27 @@ fn frames_are_taken_apart(rt: HostRuntime) {
     const FRAME: &[u8] = b"\xff\xff\xff\xff\xff\xff\x02\0\0\0\x01\x01\x08\0AB";
     const SRC: Mac = Mac([2, 0, 0, 0, 1, 1]);
     assert!(rt; has_parts(FRAME, Mac([255; 6]), SRC, 0x0800, b"AB"));
+    assert!(rt; destination_of(FRAME) == Mac([255; 6]) && source_of(FRAME) == SRC);
+}
+
+/// Addresses, and whether each is that of a group.
+const GROUPS: &[(Mac, bool)] = &[
+    (Mac([255; 6]), true),
+    (Mac([1, 0x80, 0xc2, 0, 0, 0]), true),
+    (Mac([2, 0, 0, 0, 1, 1]), false),
+    (Mac([0, 1, 1, 1, 1, 1]), false),
+];
+
+#[test]
+fn groups_are_known_by_one_bit(rt: HostRuntime) {
+    for (address, wanted) in GROUPS {
+        assert!(rt; address.is_group() == *wanted, "{address:?}");
+    }
+}
+
+#[test]
+fn numbers_begin_at_1(rt: HostRuntime) {
+    assert!(rt; index_of(1) == 0 && index_of(255) == 254);
 }
 
 /// What is wrong with a frame of so many octets, all 7.

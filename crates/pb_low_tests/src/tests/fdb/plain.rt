@@ -34,7 +34,7 @@ impl Plain {
     }
 
     pub fn learn(&mut self, vid: u16, mac: Mac, port: u8, now: u64) -> Learnt {
-        if mac.0[0] % 2 == 1 {
+        if mac.is_group() {
             return Learnt::Group;
         }
         let entry = Entry {
