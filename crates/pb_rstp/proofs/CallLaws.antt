@@ -11,73 +11,74 @@ use Rattle.pb_rstp.specs.Profile.{after, hear_read}
 use Rattle.pb_rstp.proofs.MovingLaws.{same_hearing, same_ticking, same_setting}
 use Rattle.pb_bpdu.specs.declared.bpdu.Bpdu.{Bpdu}
 use Rattle.pb_rstp.specs.Machine.{settle, unchanged, heard_at, hearing, hear_at, hear_by, after_hear, moved_by}
-use Rattle.pb_rstp.specs.Machine.{ticking, is_hello_time, hello_after, after_tick, setting, is_same_setting, admin_at}
+use Rattle.pb_rstp.specs.Machine.{ticking, is_hello_tick, hello_when_after, after_tick}
+use Rattle.pb_rstp.specs.Machine.{setting, is_same_setting, admin_at}
 use Rattle.pb_rstp.specs.Machine.{admin_by, after_admin, After}
-use Rattle.pb_rstp.specs.Ports.{Machine, port_of, delay_of}
+use Rattle.pb_rstp.specs.Ports.{Machine, port_of, fwd_delay_of}
 use Rattle.pb_rstp.specs.Roles.{root_vector}
 use Rattle.pb_rstp.specs.declared.moving.Heard.{Heard}
 use Rattle.pb_rstp.specs.declared.moving.Moving.{Moving}
 use Rattle.pb_rstp.specs.declared.port.Port.{Port}
 use Rattle.pb_rstp.specs.declared.vector.Vector.{Vector}
 
--- a BPDU is heard at a port that is up
+-- an enabled port receives a BPDU
 pub hears : (old now : Machine) (port : ℕ) (m : Bpdu) (p : Port) (heard : Heard) (root : Vector) (ports : List Moving)
-    → old ≡ now → port_of old.ports port ≡ Some p → p.up ≡ true → heard ≡ heard_at m p
+    → old ≡ now → port_of old.ports port ≡ Some p → p.port_enabled ≡ true → heard ≡ heard_at m p
     → root ≡ root_vector old.id old.ports
     → ports ≡ moved_by (hearing root p.number m) old.ports
-    → settle now.id old.hello_left (Some heard) ports ≡ after_hear now port m
-hears old now port m p heard root ports same found up h r e =
-    ap (λ x. settle now.id old.hello_left (Some x) ports) h
-    ∙ ap (λ ps. settle now.id old.hello_left (Some (heard_at m p)) ps)
+    → settle now.id old.hello_when (Some heard) ports ≡ after_hear now port m
+hears old now port m p heard root ports same found enabled h r e =
+    ap (λ x. settle now.id old.hello_when (Some x) ports) h
+    ∙ ap (λ ps. settle now.id old.hello_when (Some (heard_at m p)) ps)
     (e ∙ ap (λ x. moved_by (hearing x p.number m) old.ports) r)
-    ∙ ap (λ (x : Machine). settle now.id x.hello_left (Some (heard_at m p))
+    ∙ ap (λ (x : Machine). settle now.id x.hello_when (Some (heard_at m p))
     (moved_by (hearing (root_vector x.id x.ports) p.number m) x.ports)) same
-    ∙ ap (λ b. if b then hear_at now m p else unchanged now) (sym up)
+    ∙ ap (λ b. if b then hear_at now m p else unchanged now) (sym enabled)
     ∙ ap (λ o. hear_by now m o) (sym (ap (λ (x : Machine). port_of x.ports port) (sym same) ∙ found))
 
 -- a second passes
-pub ticks : (old now : Machine) (delay : ℕ) (hello : Bool) (hello_left : ℕ) (ports : List Moving)
-    → old ≡ now → delay ≡ delay_of old.ports → hello ≡ is_hello_time old → hello_left ≡ hello_after old
-    → ports ≡ moved_by (ticking delay hello) old.ports
-    → settle now.id hello_left None ports ≡ after_tick now
-ticks old now delay hello hello_left ports same d h l e =
+pub ticks : (old now : Machine) (fwd_delay : ℕ) (hello : Bool) (hello_when : ℕ) (ports : List Moving)
+    → old ≡ now → fwd_delay ≡ fwd_delay_of old.ports → hello ≡ is_hello_tick old → hello_when ≡ hello_when_after old
+    → ports ≡ moved_by (ticking fwd_delay hello) old.ports
+    → settle now.id hello_when None ports ≡ after_tick now
+ticks old now fwd_delay hello hello_when ports same d h l e =
     ap (λ n. settle now.id n None ports) l
-    ∙ ap (λ ps. settle now.id (hello_after old) None ps)
+    ∙ ap (λ ps. settle now.id (hello_when_after old) None ps)
     (e ∙ ap (λ x. moved_by (ticking x hello) old.ports) d ∙ ap
-    (λ b. moved_by (ticking (delay_of old.ports) b) old.ports) h)
-    ∙ ap (λ (x : Machine). settle now.id (hello_after x) None
-    (moved_by (ticking (delay_of x.ports) (is_hello_time x)) x.ports)) same
+    (λ b. moved_by (ticking (fwd_delay_of old.ports) b) old.ports) h)
+    ∙ ap (λ (x : Machine). settle now.id (hello_when_after x) None
+    (moved_by (ticking (fwd_delay_of x.ports) (is_hello_tick x)) x.ports)) same
 
 -- a port is set otherwise than it was
 pub sets : (old now : Machine) (port : ℕ) (up : Bool) (p : Port) (ports : List Moving)
-    → old ≡ now → port_of old.ports port ≡ Some p → is_same_setting p.up up ≡ false
+    → old ≡ now → port_of old.ports port ≡ Some p → is_same_setting p.port_enabled up ≡ false
     → ports ≡ moved_by (setting port up) old.ports
-    → settle now.id old.hello_left None ports ≡ after_admin now port up
+    → settle now.id old.hello_when None ports ≡ after_admin now port up
 sets old now port up p ports same found other e =
-    ap (λ ps. settle now.id old.hello_left None ps) e
-    ∙ ap (λ (x : Machine). settle now.id x.hello_left None (moved_by (setting port up) x.ports)) same
+    ap (λ ps. settle now.id old.hello_when None ps) e
+    ∙ ap (λ (x : Machine). settle now.id x.hello_when None (moved_by (setting port up) x.ports)) same
     ∙ ap (λ b. if b then unchanged now else admin_at now port up) (sym other)
     ∙ ap (λ o. admin_by now port up o) (sym (ap (λ (x : Machine). port_of x.ports port) (sym same) ∙ found))
 
 -- what holds of a machine as it is, and of each call that changes its ports, holds after every cause
 pub after-each : (P : After → Type 0) (machine : Machine) → P (unchanged machine)
-    → ((hello : ℕ) (heard : Option Heard) (change : Port → Port) → ((p : Port) → IsSamePort p (change p))
-    → P (settle machine.id hello heard (moved_by change machine.ports)))
+    → ((hello_when : ℕ) (heard : Option Heard) (change : Port → Port) → ((p : Port) → IsSamePort p (change p))
+    → P (settle machine.id hello_when heard (moved_by change machine.ports)))
     → (cause : Cause) → P (after machine cause)
 after-each P machine same each Ticks =
-    each (hello_after machine) None (ticking (delay_of machine.ports) (is_hello_time machine))
-    (same_ticking (delay_of machine.ports) (is_hello_time machine))
+    each (hello_when_after machine) None (ticking (fwd_delay_of machine.ports) (is_hello_tick machine))
+    (same_ticking (fwd_delay_of machine.ports) (is_hello_tick machine))
 after-each P machine same each (Hears port wire) = by_read (reading wire)
   where
-    by_up : (m : Bpdu) (p : Port) (b : Bool) → P (if b then hear_at machine m p else unchanged machine)
-    by_up m p true =
-        each machine.hello_left (Some (heard_at m p)) (hearing (root_vector machine.id machine.ports) p.number m)
+    by_enabled : (m : Bpdu) (p : Port) (b : Bool) → P (if b then hear_at machine m p else unchanged machine)
+    by_enabled m p true =
+        each machine.hello_when (Some (heard_at m p)) (hearing (root_vector machine.id machine.ports) p.number m)
         (same_hearing (root_vector machine.id machine.ports) p.number m)
-    by_up m p false = same
+    by_enabled m p false = same
 
     by_port : (m : Bpdu) (o : Option Port) → P (hear_by machine m o)
     by_port m None = same
-    by_port m (Some p) = by_up m p p.up
+    by_port m (Some p) = by_enabled m p p.port_enabled
 
     by_read : (x : Result Bpdu BpduFault) → P (hear_read machine port x)
     by_read (Ok m) = by_port m (port_of machine.ports port)
@@ -86,8 +87,8 @@ after-each P machine same each (Sets port up) = by_port (port_of machine.ports p
   where
     by_same : (b : Bool) → P (if b then unchanged machine else admin_at machine port up)
     by_same true = same
-    by_same false = each machine.hello_left None (setting port up) (same_setting port up)
+    by_same false = each machine.hello_when None (setting port up) (same_setting port up)
 
     by_port : (o : Option Port) → P (admin_by machine port up o)
     by_port None = same
-    by_port (Some p) = by_same (is_same_setting p.up up)
+    by_port (Some p) = by_same (is_same_setting p.port_enabled up)

@@ -148,7 +148,7 @@ state_sent : (k : ℕ) (ms : List Moving) → state_of (nows (with_sent ms)) k �
 state_sent k [] = refl
 state_sent k (x ∷ xs) = by_test (is_sending x.now) refl (state_sent k xs)
   where
-    number : (b : Bool) → (if b then record x.now { due = false; sent = x.now.sent + 1 } else x.now).number
+    number : (b : Bool) → (if b then record x.now { new_info = false; tx_count = x.now.tx_count + 1 } else x.now).number
         ≡ x.now.number
     number true = refl
     number false = refl
@@ -156,22 +156,24 @@ state_sent k (x ∷ xs) = by_test (is_sending x.now) refl (state_sent k xs)
     by_test : (b : Bool) → is_sending x.now ≡ b → state_of (nows (with_sent xs)) k ≡ state_of (nows xs) k
         → state_of (nows (with_sent (x ∷ xs))) k ≡ state_of (nows (x ∷ xs)) k
     by_test true e rest =
-        ap (λ b. state_of ((if b then record x.now { due = false; sent = x.now.sent + 1 } else x.now) ∷ nows
-        (with_sent xs)) k) e
+        ap (λ b. state_of ((if b then record x.now { new_info = false; tx_count = x.now.tx_count + 1 } else x.now)
+        ∷ nows (with_sent xs)) k) e
         ∙ by_number (x.now.number == k) refl
       where
         by_number : (t : Bool) → (x.now.number == k) ≡ t
-            → state_of (record x.now { due = false; sent = x.now.sent + 1 } ∷ nows (with_sent xs)) k ≡ state_of
-            (x.now ∷ nows xs) k
+            → state_of (record x.now { new_info = false; tx_count = x.now.tx_count + 1 } ∷ nows (with_sent xs)) k
+            ≡ state_of (x.now ∷ nows xs) k
         by_number true et =
-            state_of-cons k (record x.now { due = false; sent = x.now.sent + 1 }) (nows (with_sent xs)) true et
+            state_of-cons k (record x.now { new_info = false; tx_count = x.now.tx_count + 1 })
+            (nows (with_sent xs)) true et
             ∙ sym (state_of-cons k x.now (nows xs) true et)
         by_number false et =
-            state_of-cons k (record x.now { due = false; sent = x.now.sent + 1 }) (nows (with_sent xs)) false et
+            state_of-cons k (record x.now { new_info = false; tx_count = x.now.tx_count + 1 })
+            (nows (with_sent xs)) false et
             ∙ rest ∙ sym (state_of-cons k x.now (nows xs) false et)
     by_test false e rest =
-        ap (λ b. state_of ((if b then record x.now { due = false; sent = x.now.sent + 1 } else x.now) ∷ nows
-        (with_sent xs)) k) e
+        ap (λ b. state_of ((if b then record x.now { new_info = false; tx_count = x.now.tx_count + 1 } else x.now)
+        ∷ nows (with_sent xs)) k) e
         ∙ by_number (x.now.number == k) refl
       where
         by_number : (t : Bool) → (x.now.number == k) ≡ t
@@ -181,12 +183,12 @@ state_sent k (x ∷ xs) = by_test (is_sending x.now) refl (state_sent k xs)
         by_number false et = state_of-cons k x.now (nows (with_sent xs)) false et ∙ rest
             ∙ sym (state_of-cons k x.now (nows xs) false et)
 
-pub settle_named : (id hello_left hello_now : ℕ) (heard : Option Heard) (ps : List Port) (ms : List Moving)
+pub settle_named : (id hello_when hello_when_now : ℕ) (heard : Option Heard) (ps : List Port) (ms : List Moving)
     → AreMoving ps ms
     → AreRising 0 (map (λ p. p.number) ps)
-    → NamesChanges (record { id = id; ports = ps; hello_left = hello_left }) (settle id hello_now heard ms).machine
-    (settle id hello_now heard ms).change
-settle_named id hello_left hello_now heard ps ms h r =
+    → NamesChanges (record { id = id; ports = ps; hello_when = hello_when }) (settle id hello_when_now heard ms).machine
+    (settle id hello_when_now heard ms).change
+settle_named id hello_when hello_when_now heard ps ms h r =
     let all = settled id heard ms in
     let moving = moving_settled id heard ps ms h in
     record {

@@ -6,12 +6,13 @@ use Rattle.std.specs.List.{flat_map, list_any, AllByRecursion}
 use Rattle.std.proofs.lemmas.Bool.{eqb-true}
 use Rattle.pb_lan.specs.Rules.{Cause}
 use Rattle.pb_rstp.specs.Vectors.{own_vector, port_id}
-use Rattle.pb_rstp.specs.Ports.{Machine, start, fresh, is_designated, is_root_or_designated, is_discarding, delay_of}
+use Rattle.pb_rstp.specs.Ports.{Machine, start, fresh, is_designated, is_root_or_designated, is_discarding}
+use Rattle.pb_rstp.specs.Ports.{fwd_delay_of}
 use Rattle.pb_rstp.specs.declared.port.Port.{Port}
 use Rattle.pb_rstp.specs.Roles.{offers, best, root_vector}
 use Rattle.pb_rstp.specs.Settling.{nows, each, with_roles, with_agreements, with_infos, held_back, state_by}
 use Rattle.pb_rstp.specs.Settling.{with_state, synced, agreeing, with_agreement_at, with_proposal, is_proposed}
-use Rattle.pb_rstp.specs.Settling.{is_root_agreeing, is_agreeing, with_changing, is_telling, is_sending}
+use Rattle.pb_rstp.specs.Settling.{is_root_agreeing, is_agreeing, with_tc_while, is_telling, is_sending}
 use Rattle.pb_rstp.specs.Settling.{after_sending, with_sent, in_line, settled}
 use Rattle.pb_rstp.specs.declared.moving.Moving.{Moving}
 use Rattle.pb_rstp.specs.declared.moving.Heard.{Heard}
@@ -33,14 +34,14 @@ quiet-if : (b : Bool) (p q : Port) → IsQuiet p → IsQuiet q → IsQuiet (if b
 quiet-if true p q hp hq = hp
 quiet-if false p q hp hq = hq
 
-quiet_state : (delay : ℕ) (was now : Port) → IsQuiet (with_state delay was now)
-quiet_state delay was now = by_role now.role refl
+quiet_state : (fwd_delay : ℕ) (was now : Port) → IsQuiet (with_state fwd_delay was now)
+quiet_state fwd_delay was now = by_role now.role refl
   where
-    by_role : (r : Role) → now.role ≡ r → IsQuiet (state_by delay r was now)
+    by_role : (r : Role) → now.role ≡ r → IsQuiet (state_by fwd_delay r was now)
     by_role Root e = λ none. let yes = ap is_root_or_designated e in cc
     by_role Designated e = λ none.
-        let same : (state_by delay Designated was now).role ≡ Designated = let P : Role
-        → Type 0 = λ r. (state_by delay r was now).role ≡ now.role in subst P e (keeps-state delay was now).role
+        let same : (state_by fwd_delay Designated was now).role ≡ Designated = let P : Role
+        → Type 0 = λ r. (state_by fwd_delay r was now).role ≡ now.role in subst P e (keeps-state fwd_delay was now).role
         ∙ e in
         let yes = ap is_root_or_designated same in cc
     by_role _ e = λ none. refl
@@ -49,30 +50,32 @@ quiet-each : (f : Port → Port → Port) → ((was now : Port) → IsQuiet now 
     → AllByRecursion IsQuiet (nows ports) → AllByRecursion IsQuiet (nows (each f ports))
 quiet-each f keeps ports h = each-all IsQuiet IsQuiet f keeps ports h
 
-quiet_states : (delay : ℕ) (ports : List Moving) → AllByRecursion IsQuiet (nows (each (with_state delay) ports))
-quiet_states delay [] = tt
-quiet_states delay (p ∷ ps) = (quiet_state delay p.was p.now, quiet_states delay ps)
+quiet_states : (fwd_delay : ℕ) (ports : List Moving) → AllByRecursion IsQuiet (nows (each (with_state fwd_delay) ports))
+quiet_states fwd_delay [] = tt
+quiet_states fwd_delay (p ∷ ps) = (quiet_state fwd_delay p.was p.now, quiet_states fwd_delay ps)
 
 quiet-or : (b : Bool) (ps qs : List Moving) → AllByRecursion IsQuiet (nows ps) → AllByRecursion IsQuiet (nows qs)
     → AllByRecursion IsQuiet (nows (if b then ps else qs))
 quiet-or true ps qs hp hq = hp
 quiet-or false ps qs hp hq = hq
 
-quiet_synced : (delay : ℕ) (was now : Port) → IsQuiet now → IsQuiet (synced delay was now)
-quiet_synced delay was now h =
-    quiet-if (is_designated now.role && not now.agreed && not (is_discarding now.state)) (held_back delay now) now
+quiet_synced : (fwd_delay : ℕ) (was now : Port) → IsQuiet now → IsQuiet (synced fwd_delay was now)
+quiet_synced fwd_delay was now h =
+    quiet-if (is_designated now.role && not now.agreed && not (is_discarding now.state)) (held_back fwd_delay now) now
     (λ none. refl) h
 
 quiet_agreeing : (number : ℕ) (was now : Port) → IsQuiet now → IsQuiet (agreeing number was now)
-quiet_agreeing number was now h = quiet-if (is_agreeing number now) (record now { agree = true; due = true }) now h h
+quiet_agreeing number was now h =
+    quiet-if (is_agreeing number now) (record now { agree = true; new_info = true }) now h h
 
-quiet_changing : (heard : Option Heard) (ports : List Moving) (was now : Port) → IsQuiet now
-    → IsQuiet (with_changing heard ports was now)
-quiet_changing heard ports was now h = quiet-if (is_telling heard ports now) (record now { changing = 3; due = true })
-    now h h
+quiet_tc_while : (heard : Option Heard) (ports : List Moving) (was now : Port) → IsQuiet now
+    → IsQuiet (with_tc_while heard ports was now)
+quiet_tc_while heard ports was now h =
+    quiet-if (is_telling heard ports now) (record now { tc_while = 3; new_info = true }) now h h
 
 quiet_sending : (was now : Port) → IsQuiet now → IsQuiet (after_sending was now)
-quiet_sending was now h = quiet-if (is_sending now) (record now { due = false; sent = now.sent + 1 }) now h h
+quiet_sending was now h =
+    quiet-if (is_sending now) (record now { new_info = false; tx_count = now.tx_count + 1 }) now h h
 
 quiet_proposal : (heard : Option Heard) (ports : List Moving) → AllByRecursion IsQuiet (nows ports)
     → AllByRecursion IsQuiet (nows (with_proposal heard ports))
@@ -80,24 +83,25 @@ quiet_proposal None ports h = h
 quiet_proposal (Some heard) ports h =
     quiet-or (is_proposed heard) (with_agreement_at heard.port ports) ports
     (quiet-each (agreeing heard.port) (quiet_agreeing heard.port) _
-    (quiet-or (list_any (is_root_agreeing heard.port) (nows ports)) (each (synced (delay_of (nows ports))) ports) ports
-    (quiet-each (synced (delay_of (nows ports))) (quiet_synced (delay_of (nows ports))) ports h) h)) h
+    (quiet-or (list_any (is_root_agreeing heard.port) (nows ports))
+    (each (synced (fwd_delay_of (nows ports))) ports) ports
+    (quiet-each (synced (fwd_delay_of (nows ports))) (quiet_synced (fwd_delay_of (nows ports))) ports h) h)) h
 
 quiet_settled : (id : ℕ) (heard : Option Heard) (ports : List Moving)
     → AllByRecursion IsQuiet (nows (with_sent (settled id heard ports)))
 quiet_settled id heard ports =
     let infos = with_infos (with_agreements id (with_roles id ports)) in
-    let fourth : AllByRecursion IsQuiet (nows (in_line id ports)) = quiet_states (delay_of (nows infos)) infos in
+    let fourth : AllByRecursion IsQuiet (nows (in_line id ports)) = quiet_states (fwd_delay_of (nows infos)) infos in
     let proposed = with_proposal heard (in_line id ports) in
     quiet-each after_sending quiet_sending (settled id heard ports)
-    (quiet-each (with_changing heard proposed) (quiet_changing heard proposed) proposed
+    (quiet-each (with_tc_while heard proposed) (quiet_tc_while heard proposed) proposed
     (quiet_proposal heard (in_line id ports) fourth))
 
 -- Calls.
 
-pub settled_in_line : (id hello_left : ℕ) (heard : Option Heard) (ports : List Moving)
-    → IsInLine (settle id hello_left heard ports).machine
-settled_in_line id hello_left heard ports =
+pub settled_in_line : (id hello_when : ℕ) (heard : Option Heard) (ports : List Moving)
+    → IsInLine (settle id hello_when heard ports).machine
+settled_in_line id hello_when heard ports =
     let h = roles_settled id heard ports in
     record {
       roles = roles_related id (root_vector id (nows ports)) (nows (with_sent (settled id heard ports)))
@@ -108,7 +112,7 @@ settled_in_line id hello_left heard ports =
 pub calls_keep_line : (machine : Machine) (cause : Cause) → IsInLine machine → IsInLine (after machine cause).machine
 calls_keep_line machine cause h =
     after-each (λ a. IsInLine a.machine) machine h
-    (λ hello heard change same. settled_in_line machine.id hello heard (moved_by change machine.ports)) cause
+    (λ hello_when heard change same. settled_in_line machine.id hello_when heard (moved_by change machine.ports)) cause
 
 -- The start.
 

@@ -14,7 +14,7 @@ use Rattle.pb_rstp.specs.Machine.{moved_by, settle, takes_place, with_news, has_
 use Rattle.pb_rstp.specs.Machine.{with_timers, opened_by, opened, with_opening, is_hello, with_hello, ticking}
 use Rattle.pb_rstp.specs.Machine.{with_admin, setting}
 use Rattle.pb_rstp.specs.Messages.{is_young, info_of}
-use Rattle.pb_rstp.specs.Ports.{Machine, is_designated, delay_of, port_of}
+use Rattle.pb_rstp.specs.Ports.{Machine, is_designated, fwd_delay_of, port_of}
 use Rattle.pb_lan.specs.Shapes.{is_forwarding}
 use Rattle.pb_rstp.specs.Rising.{AreRising}
 use Rattle.pb_rstp.proofs.RisingLaws.{rises-above}
@@ -22,13 +22,13 @@ use Rattle.pb_rstp.specs.Roles.{root_vector}
 use Rattle.pb_rstp.specs.Vectors.{is_same_vector}
 use Rattle.pb_rstp.specs.Settling.{befores, nows, each, with_role, with_roles, without_agreement, with_agreements}
 use Rattle.pb_rstp.specs.Settling.{without_info, with_infos, with_state, with_states, synced, agreeing}
-use Rattle.pb_rstp.specs.Settling.{with_agreement_at, with_proposal, is_proposed, is_root_agreeing, with_changing}
+use Rattle.pb_rstp.specs.Settling.{with_agreement_at, with_proposal, is_proposed, is_root_agreeing, with_tc_while}
 use Rattle.pb_rstp.specs.Settling.{with_topology, after_sending, with_sent, in_line, settled}
 use Rattle.pb_rstp.specs.declared.moving.Heard.{Heard}
 use Rattle.pb_rstp.specs.declared.moving.Moving.{Moving}
 use Rattle.pb_rstp.specs.declared.port.Port.{Port}
 use Rattle.pb_rstp.specs.declared.vector.Vector.{Vector}
-use Rattle.pb_rstp.proofs.RoleLaws.{Keeps, keeps-agreement, keeps-state, keeps-synced, keeps-agreeing, keeps-changing}
+use Rattle.pb_rstp.proofs.RoleLaws.{Keeps, keeps-agreement, keeps-state, keeps-synced, keeps-agreeing, keeps-tc_while}
 use Rattle.pb_rstp.proofs.RoleLaws.{keeps-sending}
 
 pub is_same_port : (p : Port) → IsSamePort p p
@@ -99,14 +99,15 @@ moving_second id ps ms h =
 pub moving_third : (ps : List Port) (ms : List Moving) → AreMoving ps ms → AreMoving ps (with_infos ms)
 moving_third ps ms h =
     moving-each without_info
-    (λ was now. same_port-if (is_designated now.role && is_some now.info) now (record now { info = None; due = true })
+    (λ was now. same_port-if (is_designated now.role && is_some now.info) now
+    (record now { info = None; new_info = true })
     now
     (record { number = refl; cost = refl; priority = refl }) (is_same_port now)) ps ms h
 
 pub moving_fourth : (ps : List Port) (ms : List Moving) → AreMoving ps ms → AreMoving ps (with_states ms)
 moving_fourth ps ms h =
-    moving-each (with_state (delay_of (nows ms)))
-    (λ was now. of_keeps now _ (keeps-state (delay_of (nows ms)) was now)) ps ms h
+    moving-each (with_state (fwd_delay_of (nows ms)))
+    (λ was now. of_keeps now _ (keeps-state (fwd_delay_of (nows ms)) was now)) ps ms h
 
 pub moving_in_line : (id : ℕ) (ps : List Port) (ms : List Moving) → AreMoving ps ms → AreMoving ps (in_line id ms)
 moving_in_line id ps ms h =
@@ -118,14 +119,15 @@ moving_fifth None ps ms h = h
 moving_fifth (Some heard) ps ms h =
     moving-if (is_proposed heard) ps (with_agreement_at heard.port ms) ms
     (moving-each (agreeing heard.port) (λ was now. of_keeps now _ (keeps-agreeing heard.port was now)) ps _
-    (moving-if (list_any (is_root_agreeing heard.port) (nows ms)) ps (each (synced (delay_of (nows ms))) ms) ms
-    (moving-each (synced (delay_of (nows ms))) (λ was now. of_keeps now _ (keeps-synced (delay_of (nows ms)) was now))
+    (moving-if (list_any (is_root_agreeing heard.port) (nows ms)) ps (each (synced (fwd_delay_of (nows ms))) ms) ms
+    (moving-each (synced (fwd_delay_of (nows ms)))
+    (λ was now. of_keeps now _ (keeps-synced (fwd_delay_of (nows ms)) was now))
     ps ms h) h)) h
 
 pub moving_sixth : (heard : Option Heard) (ps : List Port) (ms : List Moving) → AreMoving ps ms
     → AreMoving ps (with_topology heard ms)
 moving_sixth heard ps ms h =
-    moving-each (with_changing heard ms) (λ was now. of_keeps now _ (keeps-changing heard ms was now)) ps ms h
+    moving-each (with_tc_while heard ms) (λ was now. of_keeps now _ (keeps-tc_while heard ms was now)) ps ms h
 
 pub moving_settled : (id : ℕ) (heard : Option Heard) (ps : List Port) (ms : List Moving) → AreMoving ps ms
     → AreMoving ps (settled id heard ms)
@@ -186,10 +188,10 @@ found_pair _ k _ _ h all p q ep eq = absurd h
 
 -- The machine after a call.
 
-pub settle_same : (id hello_left hello_now : ℕ) (heard : Option Heard) (ps : List Port) (ms : List Moving)
+pub settle_same : (id hello_when hello_when_now : ℕ) (heard : Option Heard) (ps : List Port) (ms : List Moving)
     → AreMoving ps ms
-    → IsSameBridge (record { id = id; ports = ps; hello_left = hello_left }) (settle id hello_now heard ms).machine
-settle_same id hello_left hello_now heard ps ms h =
+    → IsSameBridge (record { id = id; ports = ps; hello_when = hello_when }) (settle id hello_when_now heard ms).machine
+settle_same id hello_when hello_when_now heard ps ms h =
     let all = settled id heard ms in
     record { id = refl; ports = moving_now ps (with_sent all) (moving_sent ps all (moving_settled id heard ps ms h)) }
 
@@ -221,27 +223,27 @@ same_hearing root port m p =
     (same_port-trans p (with_news m p) (with_answer root m (with_news m p)) (same_news m p)
     (same_answer root m (with_news m p))) (is_same_port p)
 
-same_opened_by : (delay : ℕ) (state : PortState) (p : Port) → IsSamePort p (opened_by delay state p)
-same_opened_by delay Forwarding p = is_same_port p
-same_opened_by delay _ p = record { number = refl; cost = refl; priority = refl }
+same_opened_by : (fwd_delay : ℕ) (state : PortState) (p : Port) → IsSamePort p (opened_by fwd_delay state p)
+same_opened_by fwd_delay Forwarding p = is_same_port p
+same_opened_by fwd_delay _ p = record { number = refl; cost = refl; priority = refl }
 
-same_opening : (delay : ℕ) (p : Port) → IsSamePort p (with_opening delay p)
-same_opening delay p =
-    same_port-if (is_designated p.role && not (is_forwarding p.state)) p (opened delay p) p
-    (same_port-if (nat_lt 1 p.wait) p (record p { wait = p.wait - 1 }) (opened_by delay p.state p)
-    (record { number = refl; cost = refl; priority = refl }) (same_opened_by delay p.state p)) (is_same_port p)
+same_opening : (fwd_delay : ℕ) (p : Port) → IsSamePort p (with_opening fwd_delay p)
+same_opening fwd_delay p =
+    same_port-if (is_designated p.role && not (is_forwarding p.state)) p (opened fwd_delay p) p
+    (same_port-if (nat_lt 1 p.fd_while) p (record p { fd_while = p.fd_while - 1 }) (opened_by fwd_delay p.state p)
+    (record { number = refl; cost = refl; priority = refl }) (same_opened_by fwd_delay p.state p)) (is_same_port p)
 
 same_hello : (hello : Bool) (p : Port) → IsSamePort p (with_hello hello p)
 same_hello hello p =
-    same_port-if (hello && is_hello p) p (record p { due = true }) p
+    same_port-if (hello && is_hello p) p (record p { new_info = true }) p
     (record { number = refl; cost = refl; priority = refl }) (is_same_port p)
 
-pub same_ticking : (delay : ℕ) (hello : Bool) (p : Port) → IsSamePort p (ticking delay hello p)
-same_ticking delay hello p =
-    same_port-trans p (with_opening delay (with_timers p)) _
+pub same_ticking : (fwd_delay : ℕ) (hello : Bool) (p : Port) → IsSamePort p (ticking fwd_delay hello p)
+same_ticking fwd_delay hello p =
+    same_port-trans p (with_opening fwd_delay (with_timers p)) _
     (same_port-trans p (with_timers p) _ (record { number = refl; cost = refl; priority = refl })
-    (same_opening delay (with_timers p)))
-    (same_hello hello (with_opening delay (with_timers p)))
+    (same_opening fwd_delay (with_timers p)))
+    (same_hello hello (with_opening fwd_delay (with_timers p)))
 
 same_admin : (up : Bool) (p : Port) → IsSamePort p (with_admin up p)
 same_admin true p = record { number = refl; cost = refl; priority = refl }

@@ -8,13 +8,13 @@ use Rattle.pb_lan.specs.declared.shape.PortState.TheVariants.{Forwarding}
 use Rattle.pb_rstp.specs.Changes.{IsSamePort, AreMoving, HoldsOldRoots}
 use Rattle.pb_rstp.specs.Laws.{IsInLine}
 use Rattle.pb_rstp.specs.Machine.{settle}
-use Rattle.pb_rstp.specs.Ports.{is_root, is_designated, is_discarding, id_of, delay_of}
+use Rattle.pb_rstp.specs.Ports.{is_root, is_designated, is_discarding, id_of, fwd_delay_of}
 use Rattle.pb_rstp.specs.Roles.{root_vector, came_from, other_role, HasRole, IsRootVector}
 use Rattle.pb_rstp.specs.Vectors.{is_same_vector, port_id}
 use Rattle.pb_rstp.specs.Settling.{befores, nows, each, with_role, with_roles, without_agreement, with_agreements}
 use Rattle.pb_rstp.specs.Settling.{without_info, with_infos, held_back, forwarding_if_agreed, designated_state}
 use Rattle.pb_rstp.specs.Settling.{state_by, with_state, synced, agreeing, with_agreement_at, with_proposal}
-use Rattle.pb_rstp.specs.Settling.{is_proposed, is_root_agreeing, is_agreeing, with_changing, is_telling}
+use Rattle.pb_rstp.specs.Settling.{is_proposed, is_root_agreeing, is_agreeing, with_tc_while, is_telling}
 use Rattle.pb_rstp.specs.Settling.{after_sending, is_sending, with_sent, in_line, settled}
 use Rattle.pb_rstp.specs.declared.moving.Heard.{Heard}
 use Rattle.pb_rstp.specs.declared.moving.Moving.{Moving}
@@ -60,15 +60,15 @@ came id root all _ _ h is roles = absurd h
 abbrev IsFree : Port → Port → Type 0
 IsFree was now = is_root was.role ≡ true → (now.agreed ≡ false) ⊎ (is_designated now.role ≡ false)
 
--- the same root vector gives the port the role Root, if it is up
+-- the same root vector gives the port the role Root, if it is enabled
 free_role : (id : ℕ) (root : Vector) (was now : Port) → Came root.receiving was now
     → IsFree was (with_role id root was now)
-free_role id root was now came is = inr (by_up now.up)
+free_role id root was now came is = inr (by_enabled now.port_enabled)
   where
-    by_up : (up : Bool) → is_designated
-        (if up then (if came_from root now then Root else other_role id root now now.info) else Disabled) ≡ false
-    by_up true = ap (λ b. is_designated (if b then Root else other_role id root now now.info)) (came is)
-    by_up false = refl
+    by_enabled : (enabled : Bool) → is_designated
+        (if enabled then (if came_from root now then Root else other_role id root now now.info) else Disabled) ≡ false
+    by_enabled true = ap (λ b. is_designated (if b then Root else other_role id root now now.info)) (came is)
+    by_enabled false = refl
 
 same_receiving : (v w : Vector) → is_same_vector v w ≡ true → v.receiving ≡ w.receiving
 same_receiving v w e =
@@ -118,29 +118,29 @@ free-third : (ms : List Moving) → AllByRecursion (λ m. IsFree m.was m.now) ms
     → AllByRecursion (λ m. IsFree m.was m.now) (with_infos ms)
 free-third ms h =
     moved-all IsFree IsFree without_info
-    (λ was now f. free-if (is_designated now.role && is_some now.info) was (record now { info = None; due = true })
+    (λ was now f. free-if (is_designated now.role && is_some now.info) was (record now { info = None; new_info = true })
     now f f) ms h
 
 -- a port that was the Root port and isn't is Discarding
 abbrev IsHeld : Port → Port → Type 0
 IsHeld was now = is_root was.role ≡ true → is_root now.role ≡ false → is_discarding now.state ≡ true
 
-held-state : (delay : ℕ) (was now : Port) → IsFree was now → IsHeld was (with_state delay was now)
-held-state delay was now free is = by_role now.role refl
+held-state : (fwd_delay : ℕ) (was now : Port) → IsFree was now → IsHeld was (with_state fwd_delay was now)
+held-state fwd_delay was now free is = by_role now.role refl
   where
     not_designated : (r : Role) → is_root r ≡ true → is_designated r ≡ false
     not_designated Root e = refl
     not_designated _ e = cc
 
-    held : now.agreed ≡ false → is_discarding (designated_state delay was now).state ≡ true
+    held : now.agreed ≡ false → is_discarding (designated_state fwd_delay was now).state ≡ true
     held agreed =
-        ap (λ b. is_discarding (forwarding_if_agreed (if b then now else held_back delay now)).state)
+        ap (λ b. is_discarding (forwarding_if_agreed (if b then now else held_back fwd_delay now)).state)
         (not_designated was.role is)
-        ∙ ap (λ b. is_discarding (if b then record (held_back delay now) { state = Forwarding } else held_back delay
-        now).state) agreed
+        ∙ ap (λ b. is_discarding (if b then record (held_back fwd_delay now) { state = Forwarding }
+        else held_back fwd_delay now).state) agreed
 
-    by_role : (r : Role) → now.role ≡ r → is_root (state_by delay r was now).role ≡ false
-        → is_discarding (state_by delay r was now).state ≡ true
+    by_role : (r : Role) → now.role ≡ r → is_root (state_by fwd_delay r was now).role ≡ false
+        → is_discarding (state_by fwd_delay r was now).state ≡ true
     by_role Root e other = let yes = ap is_root e in cc
     by_role Designated e other = elim (free is) [
       | inl agreed ↦ held agreed
@@ -164,11 +164,11 @@ held-fifth None ms h = h
 held-fifth (Some heard) ms h =
     held-or (is_proposed heard) (with_agreement_at heard.port ms) ms
     (moved-all IsHeld IsHeld (agreeing heard.port)
-    (λ was now f. held-if (is_agreeing heard.port now) was (record now { agree = true; due = true }) now f f) _
-    (held-or (list_any (is_root_agreeing heard.port) (nows ms)) (each (synced (delay_of (nows ms))) ms) ms
-    (moved-all IsHeld IsHeld (synced (delay_of (nows ms)))
+    (λ was now f. held-if (is_agreeing heard.port now) was (record now { agree = true; new_info = true }) now f f) _
+    (held-or (list_any (is_root_agreeing heard.port) (nows ms)) (each (synced (fwd_delay_of (nows ms))) ms) ms
+    (moved-all IsHeld IsHeld (synced (fwd_delay_of (nows ms)))
     (λ was now f. held-if (is_designated now.role && not now.agreed && not (is_discarding now.state)) was
-    (held_back (delay_of (nows ms)) now) now (λ _ _. refl) f) ms h)
+    (held_back (fwd_delay_of (nows ms)) now) now (λ _ _. refl) f) ms h)
     h)) h
 
 held_settled : (id : ℕ) (heard : Option Heard) (ps : List Port) (ms : List Moving) → AreMoving ps ms
@@ -179,22 +179,24 @@ held_settled id heard ps ms h roles =
     let third : AllByRecursion (λ m. IsFree m.was m.now) infos = free-third (with_agreements id (with_roles id ms))
     (free-second id ps ms h roles) in
     let fourth : AllByRecursion (λ m. IsHeld m.was m.now) (in_line id ms) =
-    moved-all IsFree IsHeld (with_state (delay_of (nows infos))) (held-state (delay_of (nows infos))) infos third in
+    moved-all IsFree IsHeld (with_state (fwd_delay_of (nows infos)))
+    (held-state (fwd_delay_of (nows infos))) infos third in
     let proposed = with_proposal heard (in_line id ms) in
     let fifth : AllByRecursion (λ m. IsHeld m.was m.now) proposed = held-fifth heard (in_line id ms) fourth in
     let sixth : AllByRecursion (λ m. IsHeld m.was m.now) (settled id heard ms) =
-    moved-all IsHeld IsHeld (with_changing heard proposed)
-    (λ was now f. held-if (is_telling heard proposed now) was (record now { changing = 3; due = true }) now f f)
+    moved-all IsHeld IsHeld (with_tc_while heard proposed)
+    (λ was now f. held-if (is_telling heard proposed now) was (record now { tc_while = 3; new_info = true }) now f f)
     proposed fifth in
     moved-all IsHeld IsHeld after_sending
-    (λ was now f. held-if (is_sending now) was (record now { due = false; sent = now.sent + 1 }) now f f)
+    (λ was now f. held-if (is_sending now) was (record now { new_info = false; tx_count = now.tx_count + 1 }) now f f)
     (settled id heard ms) sixth
 
-pub settle_old_roots : (id hello_left hello_now : ℕ) (heard : Option Heard) (ps : List Port) (ms : List Moving)
+pub settle_old_roots : (id hello_when hello_when_now : ℕ) (heard : Option Heard) (ps : List Port) (ms : List Moving)
     → AreMoving ps ms
-    → IsInLine (record { id = id; ports = ps; hello_left = hello_left })
-    → HoldsOldRoots (record { id = id; ports = ps; hello_left = hello_left }) (settle id hello_now heard ms).machine
-settle_old_roots id hello_left hello_now heard ps ms h line number was is before after =
+    → IsInLine (record { id = id; ports = ps; hello_when = hello_when })
+    → HoldsOldRoots (record { id = id; ports = ps; hello_when = hello_when })
+    (settle id hello_when_now heard ms).machine
+settle_old_roots id hello_when hello_when_now heard ps ms h line number was is before after =
     found_pair IsHeld number ps (with_sent (settled id heard ms))
     (moving_sent ps (settled id heard ms) (moving_settled id heard ps ms h))
     (held_settled id heard ps ms h line.roles) was is before after

@@ -5,7 +5,7 @@ use Rattle.std.specs.declared.option.Option.{Option}
 use Rattle.std.specs.List.{flat_map, list_any, AllByRecursion}
 use Rattle.std.proofs.lemmas.Bool.{eq-eqb}
 use Rattle.pb_rstp.specs.Vectors.{is_better, own_vector, port_id, raised}
-use Rattle.pb_rstp.specs.Ports.{is_designated, is_discarding, id_of, stored_vector, designated_vector, delay_of}
+use Rattle.pb_rstp.specs.Ports.{is_designated, is_discarding, id_of, stored_vector, designated_vector, fwd_delay_of}
 use Rattle.pb_rstp.specs.declared.port.Info.{Info}
 use Rattle.pb_rstp.specs.declared.port.Port.{Port}
 use Rattle.pb_rstp.specs.Roles.{offer_of, offers, best, root_vector, came_from, other_role, role_by, IsWay}
@@ -13,7 +13,7 @@ use Rattle.pb_rstp.specs.Roles.{IsWayOfSome, IsRootVector, OffersBetter, StoresB
 use Rattle.pb_rstp.specs.Settling.{nows, each, with_role, with_roles, without_agreement, with_agreements}
 use Rattle.pb_rstp.specs.Settling.{without_info, with_infos, held_back, forwarding_if_agreed, state_by, with_state}
 use Rattle.pb_rstp.specs.Settling.{synced, agreeing, with_proposal, is_proposed, is_root_agreeing, is_agreeing}
-use Rattle.pb_rstp.specs.Settling.{with_changing, is_telling, is_sending, after_sending, with_sent, in_line, settled}
+use Rattle.pb_rstp.specs.Settling.{with_tc_while, is_telling, is_sending, after_sending, with_sent, in_line, settled}
 use Rattle.pb_rstp.specs.declared.moving.Moving.{Moving}
 use Rattle.pb_rstp.specs.declared.moving.Heard.{Heard}
 use Rattle.pb_rstp.specs.declared.vector.Vector.{Vector}
@@ -26,7 +26,7 @@ pub record SameSeen (p q : Port) : Type 0 where
   pub number : q.number ≡ p.number
   pub cost : q.cost ≡ p.cost
   pub priority : q.priority ≡ p.priority
-  pub up : q.up ≡ p.up
+  pub port_enabled : q.port_enabled ≡ p.port_enabled
   pub info : q.info ≡ p.info
 
 abbrev offer_at : ℕ → Option Info → ℕ → ℕ → List Vector
@@ -41,10 +41,11 @@ offer_at id (Some info) cost receiving =
     } ∷ []
 
 abbrev offers_at : ℕ → Bool → Option Info → ℕ → ℕ → ℕ → List Vector
-offers_at id up info cost priority number = if up then offer_at id info cost (port_id priority number) else []
+offers_at id port_enabled info cost priority number =
+    if port_enabled then offer_at id info cost (port_id priority number) else []
 
-offers-at : (id : ℕ) (p : Port) → offers id p ≡ offers_at id p.up p.info p.cost p.priority p.number
-offers-at id p = ap (λ o. if p.up then o else []) (by_info p.info)
+offers-at : (id : ℕ) (p : Port) → offers id p ≡ offers_at id p.port_enabled p.info p.cost p.priority p.number
+offers-at id p = ap (λ o. if p.port_enabled then o else []) (by_info p.info)
   where
     by_info : (o : Option Info) → offer_of id p o ≡ offer_at id o p.cost (port_id p.priority p.number)
     by_info None = refl
@@ -53,7 +54,7 @@ offers-at id p = ap (λ o. if p.up then o else []) (by_info p.info)
 pub offers-same : (id : ℕ) (p q : Port) → SameSeen p q → offers id q ≡ offers id p
 offers-same id p q s =
     offers-at id q
-    ∙ rw (s.up, s.info, s.cost, s.priority, s.number) refl
+    ∙ rw (s.port_enabled, s.info, s.cost, s.priority, s.number) refl
     ∙ sym (offers-at id p)
 
 abbrev other_at : ℕ → Vector → ℕ → Option Info → Role
@@ -65,12 +66,14 @@ other_at id root receiving (Some info) =
     else (if info.bridge == id then Backup else Alternate)
 
 abbrev role_at : ℕ → Vector → Bool → Option Info → ℕ → ℕ → Role
-role_at id root up info priority number =
-    if up then (if root.receiving == port_id priority number then Root else other_at id root (port_id priority number)
-    info) else Disabled
+role_at id root port_enabled info priority number =
+    if port_enabled then (if root.receiving == port_id priority number then Root
+    else other_at id root (port_id priority number) info) else Disabled
 
-role-at : (id : ℕ) (root : Vector) (p : Port) → role_by id root p ≡ role_at id root p.up p.info p.priority p.number
-role-at id root p = ap (λ r. if p.up then (if came_from root p then Root else r) else Disabled) (by_info p.info)
+role-at : (id : ℕ) (root : Vector) (p : Port)
+    → role_by id root p ≡ role_at id root p.port_enabled p.info p.priority p.number
+role-at id root p =
+    ap (λ r. if p.port_enabled then (if came_from root p then Root else r) else Disabled) (by_info p.info)
   where
     by_info : (o : Option Info) → other_role id root p o ≡ other_at id root (port_id p.priority p.number) o
     by_info None = refl
@@ -79,7 +82,7 @@ role-at id root p = ap (λ r. if p.up then (if came_from root p then Root else r
 pub role-same : (id : ℕ) (root : Vector) (p q : Port) → SameSeen p q → role_by id root q ≡ role_by id root p
 role-same id root p q s =
     role-at id root q
-    ∙ rw (s.up, s.info, s.priority, s.number) refl
+    ∙ rw (s.port_enabled, s.info, s.priority, s.number) refl
     ∙ sym (role-at id root p)
 
 -- each port has the role that follows from what all store
@@ -124,7 +127,7 @@ roles-each id root f keeps ports h = (
 )
 
 same_seen : (p : Port) → SameSeen p p
-same_seen p = record { number = refl; cost = refl; priority = refl; up = refl; info = refl }
+same_seen p = record { number = refl; cost = refl; priority = refl; port_enabled = refl; info = refl }
 
 pub keeps_all : (p : Port) → Keeps p p
 keeps_all p = record { seen = same_seen p; role = refl }
@@ -142,7 +145,7 @@ roles-first id ports = (
 )
   where
     same_role : (was now : Port) (root : Vector) → SameSeen now (with_role id root was now)
-    same_role was now root = record { number = refl; cost = refl; priority = refl; up = refl; info = refl }
+    same_role was now root = record { number = refl; cost = refl; priority = refl; port_enabled = refl; info = refl }
 
     all : (root : Vector) (ports : List Moving)
         → AllByRecursion (HasRoleBy id root) (nows (each (with_role id root) ports))
@@ -155,7 +158,10 @@ roles-first id ports = (
 -- second
 pub keeps-agreement : (was now : Port) → Keeps now (without_agreement was now)
 keeps-agreement was now =
-    record { seen = record { number = refl; cost = refl; priority = refl; up = refl; info = refl }; role = refl }
+    record {
+      seen = record { number = refl; cost = refl; priority = refl; port_enabled = refl; info = refl };
+      role = refl;
+    }
 
 roles-if : (id : ℕ) (root : Vector) (b : Bool) (ps qs : List Moving) → HaveRoles id root ps → HaveRoles id root qs
     → HaveRoles id root (if b then ps else qs)
@@ -175,14 +181,14 @@ designated_is _ e = cc
 
 -- the port that the root vector came from has the role Root
 root_role : (id : ℕ) (root : Vector) (p : Port) → IsWay id p root → role_by id root p ≡ Root
-root_role id root p (info, up, stored, other, is) =
+root_role id root p (info, enabled, stored, other, is) =
     let receiving : root.receiving ≡ id_of p = ap (λ v. v.receiving) is in
     let came : came_from root p ≡ true = eq-eqb root.receiving (id_of p) receiving in
-    ap₂ (λ u c. if u then (if c then Root else other_role id root p p.info) else Disabled) up came
+    ap₂ (λ u c. if u then (if c then Root else other_role id root p p.info) else Disabled) enabled came
 
 root_port_kept : (was p : Port) → p.role ≡ Root → without_info was p ≡ p
 root_port_kept was p role =
-    ap (λ r. if is_designated r && is_some p.info then record p { info = None; due = true } else p) role
+    ap (λ r. if is_designated r && is_some p.info then record p { info = None; new_info = true } else p) role
 
 way_kept : (id : ℕ) (root : Vector) (ports : List Moving) → AllByRecursion (HasRoleBy id root) (nows ports)
     → IsWayOfSome id (nows ports) root → IsWayOfSome id (nows (each without_info ports)) root
@@ -197,8 +203,9 @@ way_was : (id : ℕ) (v : Vector) (ports : List Moving) → IsWayOfSome id (nows
 way_was id v [] h = absurd h
 way_was id v (m ∷ ms) (inl way) = inl (by_test (is_designated m.now.role && is_some m.now.info) way)
   where
-    by_test : (t : Bool) → IsWay id (if t then record m.now { info = None; due = true } else m.now) v → IsWay id m.now v
-    by_test true (info, up, stored, other, is) = cc
+    by_test : (t : Bool) → IsWay id (if t then record m.now { info = None; new_info = true } else m.now) v
+        → IsWay id m.now v
+    by_test true (info, enabled, stored, other, is) = cc
     by_test false way = way
 way_was id v (m ∷ ms) (inr h) = inr (way_was id v ms h)
 
@@ -214,9 +221,9 @@ without_info_root id root ports h =
     root_vector-unique id (nows (with_infos ports)) (root_vector id (nows (with_infos ports))) root
     (root_vector-is id (nows (with_infos ports))) still
 
-designated_still : (up came : Bool) (r other : Role) → r ≡ Designated
-    → r ≡ (if up then (if came then Root else other) else Disabled)
-    → r ≡ (if up then (if came then Root else Designated) else Disabled)
+designated_still : (enabled came : Bool) (r other : Role) → r ≡ Designated
+    → r ≡ (if enabled then (if came then Root else other) else Disabled)
+    → r ≡ (if enabled then (if came then Root else Designated) else Disabled)
 designated_still true false r other d e = d
 designated_still _ _ r other d e = e
 
@@ -225,8 +232,9 @@ role_without_info : (id : ℕ) (root : Vector) (was now : Port) → HasRoleBy id
 role_without_info id root was now e = by_test (is_designated now.role) (is_some now.info) refl
   where
     by_test : (d s : Bool) → is_designated now.role ≡ d
-        → HasRoleBy id root (if d && s then record now { info = None; due = true } else now)
-    by_test true true d = designated_still now.up (came_from root now) now.role (other_role id root now now.info)
+        → HasRoleBy id root (if d && s then record now { info = None; new_info = true } else now)
+    by_test true true d = designated_still now.port_enabled (came_from root now) now.role
+        (other_role id root now now.info)
         (designated_is now.role d) e
     by_test _ _ d = e
 
@@ -238,8 +246,8 @@ roles-third id root ports h = (
 )
 
 -- fourth
-pub keeps-state : (delay : ℕ) (was now : Port) → Keeps now (with_state delay was now)
-keeps-state delay was now = by_role now.role
+pub keeps-state : (fwd_delay : ℕ) (was now : Port) → Keeps now (with_state fwd_delay was now)
+keeps-state fwd_delay was now = by_role now.role
   where
     agreed : (p q : Port) → Keeps p q → Keeps p (forwarding_if_agreed q)
     agreed p q k = keeps-if q.agreed p _ q
@@ -248,19 +256,19 @@ keeps-state delay was now = by_role now.role
             number = k.seen.number;
             cost = k.seen.cost;
             priority = k.seen.priority;
-            up = k.seen.up;
+            port_enabled = k.seen.port_enabled;
             info = k.seen.info;
           };
           role = k.role;
         }) k
 
-    by_role : (r : Role) → Keeps now (state_by delay r was now)
+    by_role : (r : Role) → Keeps now (state_by fwd_delay r was now)
     by_role Root = record {
-      seen = record { number = refl; cost = refl; priority = refl; up = refl; info = refl };
+      seen = record { number = refl; cost = refl; priority = refl; port_enabled = refl; info = refl };
       role = refl;
     }
     by_role Disabled = record {
-      seen = record { number = refl; cost = refl; priority = refl; up = refl; info = refl };
+      seen = record { number = refl; cost = refl; priority = refl; port_enabled = refl; info = refl };
       role = refl;
     }
     by_role Alternate = record {
@@ -268,38 +276,41 @@ keeps-state delay was now = by_role now.role
         number = refl;
         cost = refl;
         priority = refl;
-        up = refl;
+        port_enabled = refl;
         info = refl;
       };
       role = refl;
     }
     by_role Backup = record {
-      seen = record { number = refl; cost = refl; priority = refl; up = refl; info = refl };
+      seen = record { number = refl; cost = refl; priority = refl; port_enabled = refl; info = refl };
       role = refl;
     }
-    by_role Designated = agreed now (if is_designated was.role then now else held_back delay now)
-        (keeps-if (is_designated was.role) now now (held_back delay now) (keeps_all now)
+    by_role Designated = agreed now (if is_designated was.role then now else held_back fwd_delay now)
+        (keeps-if (is_designated was.role) now now (held_back fwd_delay now) (keeps_all now)
         (record {
-          seen = record { number = refl; cost = refl; priority = refl; up = refl; info = refl };
+          seen = record { number = refl; cost = refl; priority = refl; port_enabled = refl; info = refl };
           role = refl;
         }))
 
 -- fifth
-keeps_held : (delay : ℕ) (p : Port) → Keeps p (held_back delay p)
-keeps_held delay p = record {
-  seen = record { number = refl; cost = refl; priority = refl; up = refl; info = refl };
+keeps_held : (fwd_delay : ℕ) (p : Port) → Keeps p (held_back fwd_delay p)
+keeps_held fwd_delay p = record {
+  seen = record { number = refl; cost = refl; priority = refl; port_enabled = refl; info = refl };
   role = refl;
 }
 
-pub keeps-synced : (delay : ℕ) (was now : Port) → Keeps now (synced delay was now)
-keeps-synced delay was now =
+pub keeps-synced : (fwd_delay : ℕ) (was now : Port) → Keeps now (synced fwd_delay was now)
+keeps-synced fwd_delay was now =
     keeps-if (is_designated now.role && not now.agreed && not (is_discarding now.state)) now _ now
-    (keeps_held delay now) (keeps_all now)
+    (keeps_held fwd_delay now) (keeps_all now)
 
 pub keeps-agreeing : (number : ℕ) (was now : Port) → Keeps now (agreeing number was now)
 keeps-agreeing number was now =
     keeps-if (is_agreeing number now) now _ now
-    (record { seen = record { number = refl; cost = refl; priority = refl; up = refl; info = refl }; role = refl })
+    (record {
+      seen = record { number = refl; cost = refl; priority = refl; port_enabled = refl; info = refl };
+      role = refl;
+    })
     (keeps_all now)
 
 pub roles-fifth : (id : ℕ) (root : Vector) (heard : Option Heard) (ports : List Moving) → HaveRoles id root ports
@@ -309,20 +320,26 @@ roles-fifth id root (Some heard) ports h =
     roles-if id root (is_proposed heard) _ ports
     (roles-each id root (agreeing heard.port) (keeps-agreeing heard.port) _
     (roles-if id root (list_any (is_root_agreeing heard.port) (nows ports)) _ ports
-    (roles-each id root (synced (delay_of (nows ports))) (keeps-synced (delay_of (nows ports))) ports h) h)) h
+    (roles-each id root (synced (fwd_delay_of (nows ports))) (keeps-synced (fwd_delay_of (nows ports))) ports h) h)) h
 
 -- sixth and seventh
-pub keeps-changing : (heard : Option Heard) (ports : List Moving) (was now : Port)
-    → Keeps now (with_changing heard ports was now)
-keeps-changing heard ports was now =
+pub keeps-tc_while : (heard : Option Heard) (ports : List Moving) (was now : Port)
+    → Keeps now (with_tc_while heard ports was now)
+keeps-tc_while heard ports was now =
     keeps-if (is_telling heard ports now) now _ now
-    (record { seen = record { number = refl; cost = refl; priority = refl; up = refl; info = refl }; role = refl })
+    (record {
+      seen = record { number = refl; cost = refl; priority = refl; port_enabled = refl; info = refl };
+      role = refl;
+    })
     (keeps_all now)
 
 pub keeps-sending : (was now : Port) → Keeps now (after_sending was now)
 keeps-sending was now =
     keeps-if (is_sending now) now _ now
-    (record { seen = record { number = refl; cost = refl; priority = refl; up = refl; info = refl }; role = refl })
+    (record {
+      seen = record { number = refl; cost = refl; priority = refl; port_enabled = refl; info = refl };
+      role = refl;
+    })
     (keeps_all now)
 
 -- all seven
@@ -335,44 +352,46 @@ roles_settled id heard ports =
     let third = roles-third id root (with_agreements id (with_roles id ports)) second in
     let infos = with_infos (with_agreements id (with_roles id ports)) in
     let fourth : HaveRoles id root (in_line id ports) =
-    roles-each id root (with_state (delay_of (nows infos))) (keeps-state (delay_of (nows infos))) infos third in
+    roles-each id root (with_state (fwd_delay_of (nows infos))) (keeps-state (fwd_delay_of (nows infos))) infos third in
     let fifth = roles-fifth id root heard (in_line id ports) fourth in
     let proposed = with_proposal heard (in_line id ports) in
     let sixth : HaveRoles id root (settled id heard ports) =
-    roles-each id root (with_changing heard proposed) (keeps-changing heard proposed) proposed fifth in
+    roles-each id root (with_tc_while heard proposed) (keeps-tc_while heard proposed) proposed fifth in
     roles-each id root after_sending keeps-sending (settled id heard ports) sixth
 
 -- Roles as a relation.
 
 pub has_role : (id : ℕ) (root : Vector) (p : Port) → HasRole id root p (role_by id root p)
-has_role id root p = by_up p.up refl
+has_role id root p = by_enabled p.port_enabled refl
   where
-    by_better : (info : Info) → p.up ≡ true → came_from root p ≡ false → p.info ≡ Some info
+    by_better : (info : Info) → p.port_enabled ≡ true → came_from root p ≡ false → p.info ≡ Some info
         → (t own : Bool) → is_better (designated_vector id root p) (stored_vector p info) ≡ t
         → (info.bridge == id) ≡ own
         → HasRole id root p (if t then Designated else (if own then Backup else Alternate))
-    by_better info up came stored true own e eo =
-        let P : Option Info → Type 0 = λ o. OffersBetter id root p o in (up, came, subst P (sym stored) e)
-    by_better info up came stored false true e eo =
-        let P : Option Info → Type 0 = λ o. StoresBetter id root p o true in (up, came, subst P (sym stored) (e, eo))
-    by_better info up came stored false false e eo =
-        let P : Option Info → Type 0 = λ o. StoresBetter id root p o false in (up, came, subst P (sym stored) (e, eo))
+    by_better info enabled came stored true own e eo =
+        let P : Option Info → Type 0 = λ o. OffersBetter id root p o in (enabled, came, subst P (sym stored) e)
+    by_better info enabled came stored false true e eo =
+        let P : Option Info → Type 0 = λ o. StoresBetter id root p o true in
+        (enabled, came, subst P (sym stored) (e, eo))
+    by_better info enabled came stored false false e eo =
+        let P : Option Info → Type 0 = λ o. StoresBetter id root p o false in
+        (enabled, came, subst P (sym stored) (e, eo))
 
-    by_info : p.up ≡ true → came_from root p ≡ false → (o : Option Info) → p.info ≡ o
+    by_info : p.port_enabled ≡ true → came_from root p ≡ false → (o : Option Info) → p.info ≡ o
         → HasRole id root p (other_role id root p o)
-    by_info up came None stored = let P : Option Info
-        → Type 0 = λ o. OffersBetter id root p o in (up, came, subst P (sym stored) tt)
-    by_info up came (Some info) stored = by_better info up came stored _ _ refl refl
+    by_info enabled came None stored = let P : Option Info
+        → Type 0 = λ o. OffersBetter id root p o in (enabled, came, subst P (sym stored) tt)
+    by_info enabled came (Some info) stored = by_better info enabled came stored _ _ refl refl
 
-    by_came : p.up ≡ true → (c : Bool) → came_from root p ≡ c
+    by_came : p.port_enabled ≡ true → (c : Bool) → came_from root p ≡ c
         → HasRole id root p (if c then Root else other_role id root p p.info)
-    by_came up true came = (up, came)
-    by_came up false came = by_info up came p.info refl
+    by_came enabled true came = (enabled, came)
+    by_came enabled false came = by_info enabled came p.info refl
 
-    by_up : (u : Bool) → p.up ≡ u
+    by_enabled : (u : Bool) → p.port_enabled ≡ u
         → HasRole id root p (if u then (if came_from root p then Root else other_role id root p p.info) else Disabled)
-    by_up true up = by_came up (came_from root p) refl
-    by_up false up = up
+    by_enabled true enabled = by_came enabled (came_from root p) refl
+    by_enabled false enabled = enabled
 
 pub roles_related : (id : ℕ) (root : Vector) (all ports : List Port) → root_vector id all ≡ root
     → AllByRecursion (HasRoleBy id root) ports

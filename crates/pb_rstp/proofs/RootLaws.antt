@@ -68,30 +68,30 @@ best-least v (w ∷ ws) u (inr h) = best-least (pick v w) ws u h
 
 -- a way is an offer, and an offer a way
 pub way_offered : (id : ℕ) (p : Port) (v : Vector) → IsWay id p v → In v (offers id p)
-way_offered id p v (info, up, stored, other, is) =
+way_offered id p v (info, enabled, stored, other, is) =
     let P : Bool → Option Info → Type 0 = λ b o. In v (if b then offer_of id p o else []) in
-    rw (up, stored) (by_test (info.bridge == id) refl)
+    rw (enabled, stored) (by_test (info.bridge == id) refl)
   where
     by_test : (t : Bool) → (info.bridge == id) ≡ t → In v (if t then [] else root_path p info ∷ [])
     by_test true e = absurd (other (eqb-true info.bridge id e))
     by_test false e = inl is
 
 pub offered_way : (id : ℕ) (p : Port) (v : Vector) → In v (offers id p) → IsWay id p v
-offered_way id p v h = by_up p.up refl h
+offered_way id p v h = by_enabled p.port_enabled refl h
   where
-    by_bridge : (info : Info) → p.up ≡ true → p.info ≡ Some info → (t : Bool) → (info.bridge == id) ≡ t
+    by_bridge : (info : Info) → p.port_enabled ≡ true → p.info ≡ Some info → (t : Bool) → (info.bridge == id) ≡ t
         → In v (if t then [] else root_path p info ∷ []) → IsWay id p v
-    by_bridge info up stored true e h = absurd h
-    by_bridge info up stored false e (inl is) = (info, up, stored, eqb-false info.bridge id e, is)
-    by_bridge info up stored false e (inr none) = absurd none
+    by_bridge info enabled stored true e h = absurd h
+    by_bridge info enabled stored false e (inl is) = (info, enabled, stored, eqb-false info.bridge id e, is)
+    by_bridge info enabled stored false e (inr none) = absurd none
 
-    by_info : p.up ≡ true → (o : Option Info) → p.info ≡ o → In v (offer_of id p o) → IsWay id p v
-    by_info up None stored h = absurd h
-    by_info up (Some info) stored h = by_bridge info up stored (info.bridge == id) refl h
+    by_info : p.port_enabled ≡ true → (o : Option Info) → p.info ≡ o → In v (offer_of id p o) → IsWay id p v
+    by_info enabled None stored h = absurd h
+    by_info enabled (Some info) stored h = by_bridge info enabled stored (info.bridge == id) refl h
 
-    by_up : (b : Bool) → p.up ≡ b → In v (if b then offer_of id p p.info else []) → IsWay id p v
-    by_up true up h = by_info up p.info refl h
-    by_up false up h = absurd h
+    by_enabled : (b : Bool) → p.port_enabled ≡ b → In v (if b then offer_of id p p.info else []) → IsWay id p v
+    by_enabled true enabled h = by_info enabled p.info refl h
+    by_enabled false enabled h = absurd h
 
 pub ways_offered : (id : ℕ) (ports : List Port) (v : Vector) → IsWayOfSome id ports v
     → In v (flat_map (offers id) ports)

@@ -131,7 +131,7 @@ not_both Discarding d f = cc
 not_both Learning d f = cc
 not_both Forwarding d f = cc
 
--- a Forwarding port is Root or Designated, and up
+-- a Forwarding port is Root or Designated, and enabled
 active_role : (r : Role) (s : PortState) → (is_root_or_designated r ≡ false → is_discarding s ≡ true)
     → is_forwarding s ≡ true → is_root_or_designated r ≡ true
 active_role Root s quiet e = refl
@@ -139,7 +139,7 @@ active_role Designated s quiet e = refl
 active_role _ s quiet e = absurd (not_both s (quiet refl) e)
 
 role_up : (id : ℕ) (root : Vector) (p : Port) (r : Role) → HasRole id root p r → is_root_or_designated r ≡ true
-    → p.up ≡ true
+    → p.port_enabled ≡ true
 role_up id root p Root h e = h.0
 role_up id root p Designated h e = h.0
 role_up id root p _ h e = cc

@@ -29,11 +29,13 @@ leads m p q e =
     by_info None stored t = cc
     by_info (Some info) stored t = (info, stored, same-one (known info) (offered m p) t)
 
-one_leads : (m n : Machine) (p q : Port) → p.up ≡ true → q.up ≡ true
-    → (not (p.up && q.up) || leads_test m p q || leads_test n q p) ≡ true → LeadsTo m p q ⊎ LeadsTo n q p
+one_leads : (m n : Machine) (p q : Port) → p.port_enabled ≡ true → q.port_enabled ≡ true
+    → (not (p.port_enabled && q.port_enabled) || leads_test m p q || leads_test n q p) ≡ true
+    → LeadsTo m p q ⊎ LeadsTo n q p
 one_leads m n p q p_up q_up e = by_test (leads_test m p q) (leads_test n q p) refl refl (sym both ∙ e)
   where
-    both : (not (p.up && q.up) || leads_test m p q || leads_test n q p) ≡ (leads_test m p q || leads_test n q p)
+    both : (not (p.port_enabled && q.port_enabled) || leads_test m p q || leads_test n q p)
+        ≡ (leads_test m p q || leads_test n q p)
     both = ap₂ (λ a b. not (a && b) || leads_test m p q || leads_test n q p) p_up q_up
 
     by_test : (s t : Bool) → leads_test m p q ≡ s → leads_test n q p ≡ t → (s || t) ≡ true
@@ -106,16 +108,18 @@ link_passes machines link settled = by_places (place_at machines link.a) (place_
     by_leads m n p q false (inl h) = ap (λ t. t || leads_test n q p) (leads_passes m p q h)
     by_leads m n p q false (inr h) = or_right (leads_test m p q) (leads_test n q p) (leads_passes n q p h)
 
-    by_up : (m n : Machine) (p q : Port) (u v : Bool) → p.up ≡ u → q.up ≡ v → StandsAt machines link.a m p
+    by_enabled : (m n : Machine) (p q : Port) (u v : Bool) → p.port_enabled ≡ u → q.port_enabled ≡ v
+        → StandsAt machines link.a m p
         → StandsAt machines link.b n q
         → (not (u && v) || leads_test m p q || leads_test n q p) ≡ true
-    by_up m n p q true true eu ev here there = by_leads m n p q false (settled m n p q here there eu ev)
-    by_up m n p q _ _ eu ev here there = refl
+    by_enabled m n p q true true eu ev here there = by_leads m n p q false (settled m n p q here there eu ev)
+    by_enabled m n p q _ _ eu ev here there = refl
 
     by_places : (a b : Option Place) → place_at machines link.a ≡ a → place_at machines link.b ≡ b
         → is_settled_between a b ≡ true
     by_places (Some a) (Some b) ea eb =
-        by_up a.machine b.machine a.port b.port a.port.up b.port.up refl refl (place_stands machines link.a a ea)
+        by_enabled a.machine b.machine a.port b.port a.port.port_enabled b.port.port_enabled refl refl
+        (place_stands machines link.a a ea)
         (place_stands machines link.b b eb)
     by_places _ _ ea eb = refl
 

@@ -1,10 +1,10 @@
--- The three calls: a BPDU is heard, a second passes, a port is set up or down.
+-- The three calls: a BPDU is received, a second passes, a port is enabled or disabled.
 use Rattle.std.specs.Prelude.{ℕ, ◌-◌, Bool, true, false, List, [], Some, None, map, nat_lt, ◌==◌, ◌&&◌, ◌||◌, not, if◌then◌else◌}
 use Rattle.std.specs.declared.option.Option.{Option}
 use Rattle.pb_bpdu.specs.declared.bpdu.Bpdu.{Bpdu}
 use Rattle.pb_lan.specs.declared.shape.PortState.{PortState}
 use Rattle.pb_lan.specs.declared.shape.PortState.TheVariants.{Discarding, Learning, Forwarding}
-use Rattle.pb_rstp.specs.Ports.{Machine, is_root, is_designated, port_of, delay_of}
+use Rattle.pb_rstp.specs.Ports.{Machine, is_root, is_designated, port_of, fwd_delay_of}
 use Rattle.pb_lan.specs.Shapes.{is_forwarding}
 use Rattle.pb_rstp.specs.declared.port.Info.{Info}
 use Rattle.pb_rstp.specs.declared.port.Port.{Port}
@@ -31,16 +31,16 @@ moving change p = record { was = p; now = change p }
 abbrev pub moved_by : (Port → Port) → List Port → List Moving
 moved_by change ports = map (moving change) ports
 
--- what is due is sent
+-- each port with new_info sends
 abbrev pub finished : ℕ → ℕ → Option Heard → List Moving → After
-finished id hello_left heard ports = record {
-  machine = record { id = id; ports = nows (with_sent ports); hello_left = hello_left };
+finished id hello_when heard ports = record {
+  machine = record { id = id; ports = nows (with_sent ports); hello_when = hello_when };
   change = change_of id heard ports;
 }
 
--- all is brought into line, and what is due is sent
+-- all is brought into line, and each port with new_info sends
 abbrev pub settle : ℕ → ℕ → Option Heard → List Moving → After
-settle id hello_left heard ports = finished id hello_left heard (settled id heard ports)
+settle id hello_when heard ports = finished id hello_when heard (settled id heard ports)
 
 -- A BPDU is heard.
 
@@ -70,89 +70,99 @@ heard_at m p = record { port = p.number; bpdu = m; stored = is_stored m p }
 
 abbrev pub hear_at : Machine → Bpdu → Port → After
 hear_at machine m p =
-    settle machine.id machine.hello_left (Some (heard_at m p))
+    settle machine.id machine.hello_when (Some (heard_at m p))
     (moved_by (hearing (root_vector machine.id machine.ports) p.number m) machine.ports)
 
 -- nothing changes and nothing is sent
 abbrev pub unchanged : Machine → After
 unchanged machine = record { machine = machine; change = nothing }
 
--- a port that is down hears nothing
+-- a disabled port receives nothing
 abbrev pub hear_by : Machine → Bpdu → Option Port → After
 hear_by machine m None = unchanged machine
-hear_by machine m (Some p) = if p.up then hear_at machine m p else unchanged machine
+hear_by machine m (Some p) = if p.port_enabled then hear_at machine m p else unchanged machine
 
 abbrev pub after_hear : Machine → ℕ → Bpdu → After
 after_hear machine port m = hear_by machine m (port_of machine.ports port)
 
 -- A second passes.
 
--- what is stored grows old (clause 17.22)
+-- rcvd_info_while runs down, and the information expires with it (clause 17.22)
 abbrev pub aged_by : Info → Option Info
-aged_by info = if nat_lt 1 info.left then Some (record info { left = info.left - 1 }) else None
+aged_by info =
+    if nat_lt 1 info.rcvd_info_while then Some (record info { rcvd_info_while = info.rcvd_info_while - 1 }) else None
 
 abbrev pub aged : Option Info → Option Info
 aged None = None
 aged (Some info) = aged_by info
 
 abbrev pub with_timers : Port → Port
-with_timers p = record p { sent = p.sent - 1; changing = p.changing - 1; info = aged p.info }
+with_timers p = record p { tx_count = p.tx_count - 1; tc_while = p.tc_while - 1; info = aged p.info }
 
--- a Designated port goes on to the next state when its time is up (clause 17.29.3)
+-- a Designated port enters its next state when fd_while expires (clause 17.29.3)
 abbrev pub opened_by : ℕ → PortState → Port → Port
-opened_by delay Discarding p = record p { state = Learning; wait = delay }
-opened_by delay Learning p = record p { state = Forwarding; wait = 0 }
-opened_by delay Forwarding p = p
+opened_by fwd_delay Discarding p = record p { state = Learning; fd_while = fwd_delay }
+opened_by fwd_delay Learning p = record p { state = Forwarding; fd_while = 0 }
+opened_by fwd_delay Forwarding p = p
 
 abbrev pub opened : ℕ → Port → Port
-opened delay p = if nat_lt 1 p.wait then record p { wait = p.wait - 1 } else opened_by delay p.state p
+opened fwd_delay p =
+    if nat_lt 1 p.fd_while then record p { fd_while = p.fd_while - 1 } else opened_by fwd_delay p.state p
 
 abbrev pub with_opening : ℕ → Port → Port
-with_opening delay p = if is_designated p.role && not (is_forwarding p.state) then opened delay p else p
+with_opening fwd_delay p = if is_designated p.role && not (is_forwarding p.state) then opened fwd_delay p else p
 
--- every second tick Designated ports tell what they know, and a Root port that the topology changed
--- (clause 17.26)
+-- when hello_when expires, each Designated port sends, and a Root port that reports a topology change (clause 17.26)
 abbrev pub is_hello : Port → Bool
-is_hello p = is_designated p.role || (is_root p.role && nat_lt 0 p.changing)
+is_hello p = is_designated p.role || (is_root p.role && nat_lt 0 p.tc_while)
 
 abbrev pub with_hello : Bool → Port → Port
-with_hello hello p = if hello && is_hello p then record p { due = true } else p
+with_hello hello p = if hello && is_hello p then record p { new_info = true } else p
 
 abbrev pub ticking : ℕ → Bool → Port → Port
-ticking delay hello p = with_hello hello (with_opening delay (with_timers p))
+ticking fwd_delay hello p = with_hello hello (with_opening fwd_delay (with_timers p))
 
--- the hello time is over
-abbrev pub is_hello_time : Machine → Bool
-is_hello_time machine = not (nat_lt 1 machine.hello_left)
+-- hello_when expires at this tick
+abbrev pub is_hello_tick : Machine → Bool
+is_hello_tick machine = not (nat_lt 1 machine.hello_when)
 
-abbrev pub hello_after : Machine → ℕ
-hello_after machine = if is_hello_time machine then 2 else machine.hello_left - 1
+abbrev pub hello_when_after : Machine → ℕ
+hello_when_after machine = if is_hello_tick machine then 2 else machine.hello_when - 1
 
 abbrev pub after_tick : Machine → After
 after_tick machine =
-    settle machine.id (hello_after machine) None
-    (moved_by (ticking (delay_of machine.ports) (is_hello_time machine)) machine.ports)
+    settle machine.id (hello_when_after machine) None
+    (moved_by (ticking (fwd_delay_of machine.ports) (is_hello_tick machine)) machine.ports)
 
--- A port is set up or down.
+-- A port is enabled or disabled.
 
 abbrev pub with_admin : Bool → Port → Port
-with_admin true p = record p { up = true; info = None }
-with_admin false p = record p { up = false; info = None; agreed = false; agree = false; due = false; wait = 0; changing = 0 }
+with_admin true p = record p { port_enabled = true; info = None }
+with_admin false p = record p {
+  port_enabled = false;
+  info = None;
+  agreed = false;
+  agree = false;
+  new_info = false;
+  fd_while = 0;
+  tc_while = 0;
+}
 
 abbrev pub setting : ℕ → Bool → Port → Port
 setting port up p = if p.number == port then with_admin up p else p
 
 abbrev pub admin_at : Machine → ℕ → Bool → After
-admin_at machine port up = settle machine.id machine.hello_left None (moved_by (setting port up) machine.ports)
+admin_at machine port up = settle machine.id machine.hello_when None (moved_by (setting port up) machine.ports)
 
 abbrev pub is_same_setting : Bool → Bool → Bool
 is_same_setting true up = up
 is_same_setting false up = not up
 
--- setting what already holds changes nothing
+-- a call with the value that the port has already changes nothing
 abbrev pub admin_by : Machine → ℕ → Bool → Option Port → After
 admin_by machine port up None = unchanged machine
-admin_by machine port up (Some p) = if is_same_setting p.up up then unchanged machine else admin_at machine port up
+admin_by machine port up (Some p) =
+    if is_same_setting p.port_enabled up then unchanged machine else admin_at machine port up
 
 abbrev pub after_admin : Machine → ℕ → Bool → After
 after_admin machine port up = admin_by machine port up (port_of machine.ports port)

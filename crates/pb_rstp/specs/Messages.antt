@@ -1,4 +1,4 @@
--- The BPDUs that a bridge sends, and what it keeps of those that it hears.
+-- The BPDUs that a bridge sends, and the information that it stores from received ones.
 use Rattle.std.specs.Prelude.{ℕ, ◌+◌, ◌*◌, ◌/◌, ◌<◌, Bool, true, List, [], ◌∷◌, Some, None, min, max, nat_lt, nat_le, ◌==◌, ◌&&◌, ◌||◌, not}
 use Rattle.std.specs.declared.option.Option.{Option}
 use Rattle.std.proofs.Common.{lit<}
@@ -29,15 +29,20 @@ role_code-fits Backup = lit< tt
 role_code-fits Root = lit< tt
 role_code-fits Designated = lit< tt
 
--- a root's own times, or the stored ones, a second older (clause 17.21.25)
+-- the root's own times, or the stored ones with a message_age one second higher (clause 17.21.25)
 abbrev pub times_by : Option Info → Times
-times_by None = record { age = 0; max_age = 5120; hello = 512; delay = 3840 }
-times_by (Some info) = record { age = min (info.age + 256) 65535; max_age = info.max_age; hello = info.hello; delay = info.delay }
+times_by None = record { message_age = 0; max_age = 5120; hello_time = 512; forward_delay = 3840 }
+times_by (Some info) = record {
+  message_age = min (info.message_age + 256) 65535;
+  max_age = info.max_age;
+  hello_time = info.hello_time;
+  forward_delay = info.forward_delay;
+}
 
 -- the BPDU of a port, by the bridge, its root vector and its times (clause 17.21.20)
 abbrev pub message : ℕ → Vector → Times → Port → Bpdu
 message id root times p = record {
-  change = nat_lt 0 p.changing;
+  change = nat_lt 0 p.tc_while;
   proposal = is_designated p.role && not (is_forwarding p.state);
   role = role_code p.role;
   learning = not (is_discarding p.state);
@@ -47,10 +52,10 @@ message id root times p = record {
   cost = root.cost;
   bridge = id;
   port = id_of p;
-  age = times.age;
+  age = times.message_age;
   max_age = times.max_age;
-  hello = times.hello;
-  delay = times.delay;
+  hello = times.hello_time;
+  delay = times.forward_delay;
   role_fits = role_code-fits p.role;
 }
 
@@ -80,16 +85,16 @@ is_superior m (Some info) = is_before (told m) (known info) || (m.bridge == info
 abbrev pub is_young : Bpdu → Bool
 is_young m = nat_le (m.age + 256) m.max_age
 
--- what is kept of m: for three hello times
+-- the information that a port stores from m, for three times its Hello Time (clause 17.21.23)
 abbrev pub info_of : Bpdu → Info
 info_of m = record {
   root = m.root;
   cost = m.cost;
   bridge = m.bridge;
   port = m.port;
-  age = m.age;
+  message_age = m.age;
   max_age = m.max_age;
-  hello = m.hello;
-  delay = m.delay;
-  left = 3 * max 1 (m.hello / 256);
+  hello_time = m.hello;
+  forward_delay = m.delay;
+  rcvd_info_while = 3 * max 1 (m.hello / 256);
 }

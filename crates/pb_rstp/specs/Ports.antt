@@ -1,4 +1,4 @@
--- What a bridge keeps of itself and of each port.
+-- The variables that a bridge keeps for itself and for each port.
 use Rattle.std.specs.Prelude.{ℕ, ◌/◌, Bool, true, false, List, Some, None, map, max, ◌==◌}
 use Rattle.std.specs.declared.option.Option.{Option}
 use Rattle.std.specs.Option.{option_map, option_and_then}
@@ -16,7 +16,7 @@ use Rattle.pb_rstp.specs.declared.role.Role.TheVariants.{Disabled, Root, Designa
 pub record Machine : Type 0 where
   pub id : ℕ
   pub ports : List Port
-  pub hello_left : ℕ
+  pub hello_when : ℕ
 
 abbrev pub is_root : Role → Bool
 is_root Root = true
@@ -66,17 +66,17 @@ designated_vector id root p = record { root = root.root; cost = root.cost; bridg
 abbrev pub port_of : List Port → ℕ → Option Port
 port_of ports number = first (λ p. p.number == number) ports
 
--- what the Root port stores, where there is one
+-- the information that the Root port stores, if the bridge has one
 abbrev pub root_info : List Port → Option Info
 root_info ports = option_and_then (λ p. p.info) (first (λ p. is_root p.role) ports)
 
-abbrev pub delay_by : Option Info → ℕ
-delay_by None = 15
-delay_by (Some info) = max 1 (info.delay / 256)
+abbrev pub fwd_delay_by : Option Info → ℕ
+fwd_delay_by None = 15
+fwd_delay_by (Some info) = max 1 (info.forward_delay / 256)
 
--- ticks in which a port stays Discarding, and in which it stays Learning (clause 17.20.6)
-abbrev pub delay_of : List Port → ℕ
-delay_of ports = delay_by (root_info ports)
+-- FwdDelay: the ticks for which a port stays Discarding and then Learning (clause 17.20.6)
+abbrev pub fwd_delay_of : List Port → ℕ
+fwd_delay_of ports = fwd_delay_by (root_info ports)
 
 -- a port at the start
 abbrev pub fresh : RstpPort → Port
@@ -84,18 +84,18 @@ fresh p = record {
   number = p.port;
   cost = p.cost;
   priority = p.priority;
-  up = true;
+  port_enabled = true;
   info = None;
   role = Designated;
   state = Discarding;
-  wait = 15;
+  fd_while = 15;
   agreed = false;
   agree = false;
-  changing = 0;
-  sent = 0;
-  due = true;
+  tc_while = 0;
+  tx_count = 0;
+  new_info = true;
 }
 
 -- the machine at the start
 abbrev pub start : ℕ → List RstpPort → Machine
-start id ports = record { id = id; ports = map fresh ports; hello_left = 2 }
+start id ports = record { id = id; ports = map fresh ports; hello_when = 2 }

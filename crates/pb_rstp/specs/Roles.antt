@@ -17,7 +17,7 @@ offer_of id p (Some info) = if info.bridge == id then [] else root_path p info �
 
 -- the ways to a root
 abbrev pub offers : ℕ → Port → List Vector
-offers id p = if p.up then offer_of id p p.info else []
+offers id p = if p.port_enabled then offer_of id p p.info else []
 
 -- the better one, or else the first
 abbrev pub best : Vector → List Vector → Vector
@@ -31,7 +31,7 @@ root_vector id ports = best (own_vector id) (flat_map (offers id) ports)
 abbrev pub came_from : Vector → Port → Bool
 came_from root p = root.receiving == id_of p
 
--- of a port that is up and isn't the Root port
+-- of an enabled port that is not the Root port
 abbrev pub other_role : ℕ → Vector → Port → Option Info → Role
 other_role id root p None = Designated
 other_role id root p (Some info) =
@@ -41,13 +41,14 @@ other_role id root p (Some info) =
 
 abbrev pub role_by : ℕ → Vector → Port → Role
 role_by id root p =
-    if p.up then (if came_from root p then Root else other_role id root p p.info) else Disabled
+    if p.port_enabled then (if came_from root p then Root else other_role id root p p.info) else Disabled
 
 -- The same, with no word of how it is found.
 
--- the vector is the bridge's own, or a way through a port that is up and heard another bridge
+-- the vector is a path through an enabled port that stores the vector of another bridge
 abbrev pub IsWay : ℕ → Port → Vector → Type 0
-IsWay id p v = (info : Info) × (p.up ≡ true) × (p.info ≡ Some info) × (info.bridge ≢ id) × (v ≡ root_path p info)
+IsWay id p v =
+    (info : Info) × (p.port_enabled ≡ true) × (p.info ≡ Some info) × (info.bridge ≢ id) × (v ≡ root_path p info)
 
 abbrev pub IsWayOfSome : ℕ → List Port → Vector → Type 0
 IsWayOfSome id [] v = ⊥
@@ -74,11 +75,11 @@ StoresBetter id root p (Some info) own =
 
 -- the role of a port, by cases
 abbrev pub HasRole : ℕ → Vector → Port → Role → Type 0
-HasRole id root p Disabled = p.up ≡ false
-HasRole id root p Root = (p.up ≡ true) × (came_from root p ≡ true)
-HasRole id root p Designated = (p.up ≡ true) × (came_from root p ≡ false) × OffersBetter id root p p.info
-HasRole id root p Backup = (p.up ≡ true) × (came_from root p ≡ false) × StoresBetter id root p p.info true
-HasRole id root p Alternate = (p.up ≡ true) × (came_from root p ≡ false) × StoresBetter id root p p.info false
+HasRole id root p Disabled = p.port_enabled ≡ false
+HasRole id root p Root = (p.port_enabled ≡ true) × (came_from root p ≡ true)
+HasRole id root p Designated = (p.port_enabled ≡ true) × (came_from root p ≡ false) × OffersBetter id root p p.info
+HasRole id root p Backup = (p.port_enabled ≡ true) × (came_from root p ≡ false) × StoresBetter id root p p.info true
+HasRole id root p Alternate = (p.port_enabled ≡ true) × (came_from root p ≡ false) × StoresBetter id root p p.info false
 
 -- each port has its role
 abbrev pub HasRoles : ℕ → List Port → Type 0

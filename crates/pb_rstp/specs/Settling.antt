@@ -7,7 +7,7 @@ use Rattle.pb_lan.specs.Rules.{from_to}
 use Rattle.pb_lan.specs.declared.shape.PortState.{PortState}
 use Rattle.pb_lan.specs.declared.shape.PortState.TheVariants.{Discarding, Forwarding}
 use Rattle.pb_rstp.specs.Vectors.{is_same_vector}
-use Rattle.pb_rstp.specs.Ports.{is_root, is_designated, is_root_or_designated, is_discarding, delay_of}
+use Rattle.pb_rstp.specs.Ports.{is_root, is_designated, is_root_or_designated, is_discarding, fwd_delay_of}
 use Rattle.pb_lan.specs.Shapes.{is_forwarding}
 use Rattle.pb_rstp.specs.declared.port.Port.{Port}
 use Rattle.pb_rstp.specs.Roles.{root_vector, role_by}
@@ -47,38 +47,39 @@ abbrev pub with_agreements : ℕ → List Moving → List Moving
 with_agreements id ports =
     if is_same_vector (root_vector id (befores ports)) (root_vector id (nows ports)) then ports else each without_agreement ports
 
--- third: a Designated port stores nothing, and tells what it knows (clause 17.27)
+-- third: a Designated port that stores something drops it, and new_info is set (clause 17.27)
 abbrev pub without_info : Port → Port → Port
-without_info was now = if is_designated now.role && is_some now.info then record now { info = None; due = true } else now
+without_info was now =
+    if is_designated now.role && is_some now.info then record now { info = None; new_info = true } else now
 
 abbrev pub with_infos : List Moving → List Moving
 with_infos ports = each without_info ports
 
--- a port that is to be Discarding for a while, and tells so
+-- the port is Discarding, fd_while starts and new_info is set
 abbrev pub held_back : ℕ → Port → Port
-held_back delay now = record now { state = Discarding; wait = delay; due = true }
+held_back fwd_delay now = record now { state = Discarding; fd_while = fwd_delay; new_info = true }
 
 abbrev pub forwarding_if_agreed : Port → Port
 forwarding_if_agreed now = if now.agreed then record now { state = Forwarding } else now
 
--- a Designated port starts anew where it wasn't one, and forwards at once where the neighbour agreed
+-- a port that was not Designated is held back first; a Designated port is Forwarding if the neighbour has agreed
 abbrev pub designated_state : ℕ → Port → Port → Port
-designated_state delay was now =
-    forwarding_if_agreed (if is_designated was.role then now else held_back delay now)
+designated_state fwd_delay was now =
+    forwarding_if_agreed (if is_designated was.role then now else held_back fwd_delay now)
 
 -- fourth: the state, by the role (clause 17.29)
 abbrev pub state_by : ℕ → Role → Port → Port → Port
-state_by delay Root was now = record now { state = Forwarding }
-state_by delay Designated was now = designated_state delay was now
-state_by delay Disabled was now = record now { state = Discarding }
-state_by delay Alternate was now = record now { state = Discarding }
-state_by delay Backup was now = record now { state = Discarding }
+state_by fwd_delay Root was now = record now { state = Forwarding }
+state_by fwd_delay Designated was now = designated_state fwd_delay was now
+state_by fwd_delay Disabled was now = record now { state = Discarding }
+state_by fwd_delay Alternate was now = record now { state = Discarding }
+state_by fwd_delay Backup was now = record now { state = Discarding }
 
 abbrev pub with_state : ℕ → Port → Port → Port
-with_state delay was now = state_by delay now.role was now
+with_state fwd_delay was now = state_by fwd_delay now.role was now
 
 abbrev pub with_states : List Moving → List Moving
-with_states ports = each (with_state (delay_of (nows ports))) ports
+with_states ports = each (with_state (fwd_delay_of (nows ports))) ports
 
 -- fifth: a proposal is agreed to (clauses 17.21.11, 17.21.14 and 17.29.2)
 
@@ -94,18 +95,18 @@ is_agreeing number now = now.number == number && not (is_designated now.role)
 abbrev pub is_root_agreeing : ℕ → Port → Bool
 is_root_agreeing number now = now.number == number && is_root now.role
 
--- a Designated port whose neighbour hasn't agreed is held back, so that no ring is closed
+-- a Designated port whose neighbour has not agreed is held back; the call forms no forwarding loop then
 abbrev pub synced : ℕ → Port → Port → Port
-synced delay was now =
-    if is_designated now.role && not now.agreed && not (is_discarding now.state) then held_back delay now else now
+synced fwd_delay was now =
+    if is_designated now.role && not now.agreed && not (is_discarding now.state) then held_back fwd_delay now else now
 
 abbrev pub agreeing : ℕ → Port → Port → Port
-agreeing number was now = if is_agreeing number now then record now { agree = true; due = true } else now
+agreeing number was now = if is_agreeing number now then record now { agree = true; new_info = true } else now
 
 abbrev pub with_agreement_at : ℕ → List Moving → List Moving
 with_agreement_at number ports =
     each (agreeing number)
-    (if list_any (is_root_agreeing number) (nows ports) then each (synced (delay_of (nows ports))) ports else ports)
+    (if list_any (is_root_agreeing number) (nows ports) then each (synced (fwd_delay_of (nows ports))) ports else ports)
 
 abbrev pub with_proposal : Option Heard → List Moving → List Moving
 with_proposal None ports = ports
@@ -137,24 +138,25 @@ is_news_elsewhere heard ports now =
 abbrev pub is_flushed : Option Heard → List Moving → Moving → Bool
 is_flushed heard ports p = is_news_elsewhere heard ports p.now || has_closed p
 
--- the port is to tell of a topology change: of one that opened, itself too, or of one heard elsewhere
+-- the port starts to report a topology change: a port became Forwarding, itself too, or another port received one
 abbrev pub is_telling : Option Heard → List Moving → Port → Bool
 is_telling heard ports now =
     is_root_or_designated now.role
     && (list_any has_opened ports || list_any (λ number. not (number == now.number)) (changed_at heard ports))
 
-abbrev pub with_changing : Option Heard → List Moving → Port → Port → Port
-with_changing heard ports was now = if is_telling heard ports now then record now { changing = 3; due = true } else now
+abbrev pub with_tc_while : Option Heard → List Moving → Port → Port → Port
+with_tc_while heard ports was now =
+    if is_telling heard ports now then record now { tc_while = 3; new_info = true } else now
 
 abbrev pub with_topology : Option Heard → List Moving → List Moving
-with_topology heard ports = each (with_changing heard ports) ports
+with_topology heard ports = each (with_tc_while heard ports) ports
 
--- seventh: what is due is sent, six BPDUs of late at most (clauses 17.13.12 and 17.26)
+-- seventh: each enabled port with new_info sends a BPDU, if tx_count is below TxHoldCount (clauses 17.13.12 and 17.26)
 abbrev pub is_sending : Port → Bool
-is_sending now = now.up && now.due && nat_lt now.sent 6
+is_sending now = now.port_enabled && now.new_info && nat_lt now.tx_count 6
 
 abbrev pub after_sending : Port → Port → Port
-after_sending was now = if is_sending now then record now { due = false; sent = now.sent + 1 } else now
+after_sending was now = if is_sending now then record now { new_info = false; tx_count = now.tx_count + 1 } else now
 
 abbrev pub with_sent : List Moving → List Moving
 with_sent ports = each after_sending ports

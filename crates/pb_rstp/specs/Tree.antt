@@ -52,11 +52,11 @@ pub record LeadsTo (m : Machine) (p : Port) (q : Port) : Type 0 where
   pub there : is_designated q.role ≡ false
   pub stores : StoresOffer q m p
 
--- a link with both ends up has one Designated end, and the other end stores what it offers
+-- a link with both ends enabled has one Designated end, and the other end stores what it offers
 abbrev pub IsSettledLink : List Machine → LinkPlan → Type 0
 IsSettledLink machines link =
     (m n : Machine) (p q : Port) → StandsAt machines link.a m p → StandsAt machines link.b n q
-    → p.up ≡ true → q.up ≡ true → LeadsTo m p q ⊎ LeadsTo n q p
+    → p.port_enabled ≡ true → q.port_enabled ≡ true → LeadsTo m p q ⊎ LeadsTo n q p
 
 pub record IsSettled (plan : Plan) (machines : List Machine) : Type 0 where
   pub in_line : AllByRecursion IsInLine machines
@@ -87,7 +87,8 @@ place_at machines e = option_and_then (place_in e.port) (numbered machines e.bri
 
 abbrev pub is_settled_between : Option Place → Option Place → Bool
 is_settled_between (Some a) (Some b) =
-    not (a.port.up && b.port.up) || leads_test a.machine a.port b.port || leads_test b.machine b.port a.port
+    not (a.port.port_enabled && b.port.port_enabled)
+    || leads_test a.machine a.port b.port || leads_test b.machine b.port a.port
 is_settled_between None b = true
 is_settled_between (Some a) None = true
 

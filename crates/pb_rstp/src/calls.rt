@@ -1,4 +1,4 @@
-//! The three calls: a BPDU is heard, a second passes, a port is set up or down.
+//! The three calls: a BPDU is received, a second passes, a port is enabled or disabled.
 
 ghost use Rattle.std.specs.Prelude.{◌≡◌, ◌-◌, IfOk, OnOk, OnErr, nat_lt, not, if◌then◌else◌};
 ghost use Rattle.pb_rstp.specs.Changes.{AreMoving, IsSameBridge, HoldsOldRoots, NamesChanges};
@@ -10,7 +10,7 @@ ghost use Rattle.pb_rstp.specs.Settling.{nows, settled, with_sent, change_of};
 use crate::change::Change;
 use crate::hearing::{heard_at, hearing_at};
 use crate::moving::{Heard, Moving};
-use crate::port::{Port, delay_of, port_of};
+use crate::port::{Port, fwd_delay_of, port_of};
 use crate::role::Role;
 use crate::roles::root_vector;
 use crate::rstp::{Rstp, roles_of, states_of};
@@ -23,7 +23,7 @@ use pb_frame::Memory;
 use pb_lan::PortState;
 use std::alloc::Global;
 
-/// What a call leaves, and what it tells.
+/// The variables after a call, and the changes that it reports.
 #[derive(Drop)]
 struct Settled {
     ports: Vec<Port>,
@@ -32,7 +32,7 @@ struct Settled {
     change: Change,
 }
 
-/// The ports once all is in line and what is due was sent, and what that changes.
+/// Returns the ports after all is brought into line and the BPDUs are sent, and the changes.
 fn sent(
     alloc: Global,
     id: u64,
@@ -48,7 +48,7 @@ fn sent(
     Ok((ports, change_of(alloc, id, heard, &settled)?))
 }
 
-/// The role and the state of each port.
+/// Returns the role and the state of each port.
 fn told_of(alloc: Global, ports: &[Port]) -> Result<(Vec<(u8, Role)>, Vec<(u8, PortState)>), Memory>
     ensures roles { IfOk result (λ told. told.0.items ≡ roles_of ports.now) }
     ensures states { IfOk result (λ told. told.1.items ≡ states_of ports.now) }
@@ -74,38 +74,38 @@ fn settle(alloc: Global, id: u64, heard: Option<Heard>, ports: &[Moving]) -> Res
     })
 }
 
-/// The hello time is over.
-fn is_hello_time(hello_left: u8) -> bool
-    ensures { result ≡ not (nat_lt 1 hello_left) }
+/// Returns whether `hello_when` expires at this tick.
+fn is_hello_tick(hello_when: u8) -> bool
+    ensures { result ≡ not (nat_lt 1 hello_when) }
 {
-    hello_left <= 1
+    hello_when <= 1
 }
 
-/// Ticks to the next hello time, a second later.
-fn hello_after(hello_left: u8) -> u8
-    ensures { result ≡ (if not (nat_lt 1 hello_left) then 2 else hello_left - 1) }
+/// Returns `hello_when` one tick later.
+fn hello_when_after(hello_when: u8) -> u8
+    ensures { result ≡ (if not (nat_lt 1 hello_when) then 2 else hello_when - 1) }
 {
-    if hello_left > 1 { hello_left - 1 } else { 2 }
+    if hello_when > 1 { hello_when - 1 } else { 2 }
 }
 
-/// The port is set so already.
-fn is_same_setting(is_up: bool, up: bool) -> bool
-    ensures { result ≡ is_same_setting is_up up }
+/// Returns whether `port_enabled` already has the wanted value.
+fn is_same_setting(port_enabled: bool, up: bool) -> bool
+    ensures { result ≡ is_same_setting port_enabled up }
 {
-    is_up == up
+    port_enabled == up
 }
 
 impl Rstp {
-    /// Brings all into line, and keeps what came of it.
+    /// Brings all into line, and stores the result with the new `hello_when`.
     fn conclude(
         &mut self,
-        hello_left: u8,
+        hello_when: u8,
         heard: Option<Heard>,
         ports: &[Moving],
     ) -> Result<Change, Memory>
         requires { AreMoving self.old.ports ports.now }
-        ensures ok { OnOk result (self.new ≡ (settle self.old.id hello_left heard ports.now).machine) }
-        ensures change { IfOk result (λ change. change ≡ (settle self.old.id hello_left heard ports.now).change) }
+        ensures ok { OnOk result (self.new ≡ (settle self.old.id hello_when heard ports.now).machine) }
+        ensures change { IfOk result (λ change. change ≡ (settle self.old.id hello_when heard ports.now).change) }
         ensures same { OnOk result (IsSameBridge self.old self.new) }
         ensures old_roots { OnOk result (HoldsOldRoots self.old self.new) }
         ensures named { IfOk result (λ change. NamesChanges self.old self.new change) }
@@ -116,23 +116,25 @@ impl Rstp {
         self.ports = settled.ports;
         self.roles = settled.roles;
         self.states = settled.states;
-        self.hello_left = hello_left;
+        self.hello_when = hello_when;
         Ok(settled.change)
     }
 
-    /// A BPDU is heard at a port (IEEE 802.1D-2004 clause 17.23, the port receive machine). A port that
-    /// is down, and one that the bridge lacks, hears nothing.
+    /// Handles a BPDU that a port receives, and returns the changes (IEEE 802.1D-2004 clause 17.23, the Port Receive
+    /// machine). A BPDU for a disabled port, or for a port that the bridge lacks, changes nothing.
     ///
-    /// `Memory` is answered where memory ran out, and then nothing has changed.
+    /// # Errors
+    ///
+    /// `Memory` if an allocation failed. The bridge is unchanged then.
     pub fn hear(&mut self, port: u8, m: &Bpdu) -> Result<Change, Memory>
         ensures ok { OnOk result (self.new ≡ (after_hear self.old port m.now).machine) }
         ensures change { IfOk result (λ change. change ≡ (after_hear self.old port m.now).change) }
 
         // A call changes no bridge, and no port's number, cost or priority.
         ensures same { OnOk result (IsSameBridge self.old self.new) }
-        // A port that was the Root port and isn't any more is Discarding.
+        // A port that was the Root port and is not any more is Discarding.
         ensures old_roots { OnOk result (HoldsOldRoots self.old self.new) }
-        // Each change of state is told once, and each list goes by rising port number.
+        // Each change of state is reported once, and each list goes by rising port number.
         ensures named { IfOk result (λ change. NamesChanges self.old self.new change) }
         // Each port has its role, and only Root and Designated ports do more than discard.
         ensures in_line { IsInLine self.new }
@@ -142,56 +144,61 @@ impl Rstp {
         let Some(p) = port_of(&self.ports, port) else {
             return Ok(Change::nothing(self.alloc));
         };
-        if !p.up {
+        if !p.port_enabled {
             return Ok(Change::nothing(self.alloc));
         }
-        let hello_left = self.hello_left;
+        let hello_when = self.hello_when;
         let root = root_vector(self.id, &self.ports);
         let ports = hearing_at(self.alloc, &root, p.number, m, &self.ports)?;
         let heard = heard_at(m, &p);
-        let change = self.conclude(hello_left, Some(heard), &ports)?;
+        let change = self.conclude(hello_when, Some(heard), &ports)?;
         Ok(change)
     }
 
-    /// A second passes (IEEE 802.1D-2004 clause 17.22, the port timers machine).
+    /// Advances the timers by one second, and returns the changes (IEEE 802.1D-2004 clause 17.22, the Port Timers
+    /// machine).
     ///
-    /// `Memory` is answered where memory ran out, and then nothing has changed.
+    /// # Errors
+    ///
+    /// `Memory` if an allocation failed. The bridge is unchanged then.
     pub fn tick(&mut self) -> Result<Change, Memory>
         ensures ok { OnOk result (self.new ≡ (after_tick self.old).machine) }
         ensures change { IfOk result (λ change. change ≡ (after_tick self.old).change) }
 
         // A call changes no bridge, and no port's number, cost or priority.
         ensures same { OnOk result (IsSameBridge self.old self.new) }
-        // A port that was the Root port and isn't any more is Discarding.
+        // A port that was the Root port and is not any more is Discarding.
         ensures old_roots { OnOk result (HoldsOldRoots self.old self.new) }
-        // Each change of state is told once, and each list goes by rising port number.
+        // Each change of state is reported once, and each list goes by rising port number.
         ensures named { IfOk result (λ change. NamesChanges self.old self.new change) }
         // Each port has its role, and only Root and Designated ports do more than discard.
         ensures in_line { IsInLine self.new }
 
         ensures err { OnErr result (self.new ≡ self.old) }
     {
-        let delay = delay_of(&self.ports);
-        let hello = is_hello_time(self.hello_left);
-        let ports = ticking_all(self.alloc, delay, hello, &self.ports)?;
-        let hello_left = hello_after(self.hello_left);
-        let change = self.conclude(hello_left, None, &ports)?;
+        let fwd_delay = fwd_delay_of(&self.ports);
+        let hello = is_hello_tick(self.hello_when);
+        let ports = ticking_all(self.alloc, fwd_delay, hello, &self.ports)?;
+        let hello_when = hello_when_after(self.hello_when);
+        let change = self.conclude(hello_when, None, &ports)?;
         Ok(change)
     }
 
-    /// A port is set up or down (IEEE 802.1D-2004 clause 17.19.18, portEnabled). Setting what already
-    /// holds, and setting a port that the bridge lacks, changes nothing.
+    /// Enables or disables a port, and returns the changes (IEEE 802.1D-2004 clause 17.19.18, portEnabled). A call with
+    /// the value that the port has already, or for a port that the bridge lacks, changes nothing.
     ///
-    /// `Memory` is answered where memory ran out, and then nothing has changed.
+    /// # Errors
+    ///
+    /// `Memory` if an allocation failed. The bridge is unchanged then.
     pub fn admin(&mut self, port: u8, up: bool) -> Result<Change, Memory>
         ensures ok { OnOk result (self.new ≡ (after_admin self.old port up).machine) }
         ensures change { IfOk result (λ change. change ≡ (after_admin self.old port up).change) }
 
         // A call changes no bridge, and no port's number, cost or priority.
         ensures same { OnOk result (IsSameBridge self.old self.new) }
-        // A port that was the Root port and isn't any more is Discarding.
+        // A port that was the Root port and is not any more is Discarding.
         ensures old_roots { OnOk result (HoldsOldRoots self.old self.new) }
-        // Each change of state is told once, and each list goes by rising port number.
+        // Each change of state is reported once, and each list goes by rising port number.
         ensures named { IfOk result (λ change. NamesChanges self.old self.new change) }
         // Each port has its role, and only Root and Designated ports do more than discard.
         ensures in_line { IsInLine self.new }
@@ -201,12 +208,12 @@ impl Rstp {
         let Some(p) = port_of(&self.ports, port) else {
             return Ok(Change::nothing(self.alloc));
         };
-        if is_same_setting(p.up, up) {
+        if is_same_setting(p.port_enabled, up) {
             return Ok(Change::nothing(self.alloc));
         }
-        let hello_left = self.hello_left;
+        let hello_when = self.hello_when;
         let ports = setting_at(self.alloc, port, up, &self.ports)?;
-        let change = self.conclude(hello_left, None, &ports)?;
+        let change = self.conclude(hello_when, None, &ports)?;
         Ok(change)
     }
 }

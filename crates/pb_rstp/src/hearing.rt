@@ -1,7 +1,8 @@
-//! A BPDU is heard.
+//! A BPDU is received.
 
 ghost use Rattle.std.specs.Prelude.{◌≡◌, IfOk};
-ghost use Rattle.pb_rstp.specs.Machine.{takes_place, is_stored, with_news, has_agreed, with_answer, hearing, heard_at, moved_by};
+ghost use Rattle.pb_rstp.specs.Machine.{takes_place, is_stored, with_news, has_agreed, with_answer, hearing};
+ghost use Rattle.pb_rstp.specs.Machine.{heard_at, moved_by};
 
 use crate::message::{info_of, is_agreement, is_from_designated, is_superior, is_young};
 use crate::moving::{Heard, Moving};
@@ -11,21 +12,21 @@ use pb_bpdu::Bpdu;
 use pb_frame::Memory;
 use std::alloc::Global;
 
-/// The BPDU takes the place of what the port stores.
+/// Returns whether the BPDU replaces the stored information.
 fn takes_place(m: &Bpdu, p: &Port) -> bool
     ensures { result ≡ takes_place m.now p.now }
 {
     is_from_designated(m) && is_superior(m, p.info)
 }
 
-/// The port stores the BPDU.
+/// Returns whether the port stores the BPDU.
 fn is_stored(m: &Bpdu, p: &Port) -> bool
     ensures { result ≡ is_stored m.now p.now }
 {
     takes_place(m, p) && is_young(m)
 }
 
-/// The port with what it stores after the BPDU.
+/// Returns the port with the information that it stores after the BPDU.
 fn with_news(m: &Bpdu, p: &Port) -> Port
     ensures { result ≡ with_news m.now p.now }
 {
@@ -41,7 +42,7 @@ fn with_news(m: &Bpdu, p: &Port) -> Port
     }
 }
 
-/// The neighbour agrees to the root that the bridge has (IEEE 802.1D-2004 clause 17.21.9).
+/// Returns whether the neighbour agrees to the bridge's root (IEEE 802.1D-2004 clause 17.21.9, recordAgreement).
 fn has_agreed(root: &Vector, m: &Bpdu, p: &Port) -> bool
     ensures { result ≡ has_agreed root.now m.now p.now }
 {
@@ -68,7 +69,7 @@ fn hearing(root: &Vector, port: u8, m: &Bpdu, p: &Port) -> Port
     }
 }
 
-/// What the steps after are told of the BPDU.
+/// Returns the BPDU, its port and whether it was stored, for the steps that follow.
 pub(crate) fn heard_at(m: &Bpdu, p: &Port) -> Heard
     ensures { result ≡ heard_at m.now p.now }
 {
@@ -79,7 +80,7 @@ pub(crate) fn heard_at(m: &Bpdu, p: &Port) -> Heard
     }
 }
 
-/// The ports, of which this one heard the BPDU.
+/// Returns the ports after the port of this number received the BPDU.
 pub(crate) fn hearing_at(
     alloc: Global,
     root: &Vector,

@@ -1,7 +1,8 @@
-//! The BPDUs that a bridge sends, and what it keeps of those that it hears.
+//! The BPDUs that a bridge sends, and the information that it stores from received ones.
 
 ghost use Rattle.std.specs.Prelude.{◌≡◌};
-ghost use Rattle.pb_rstp.specs.Messages.{times_by, message, message_of, is_from_designated, is_agreement, told, known, is_superior, is_young, info_of};
+ghost use Rattle.pb_rstp.specs.Messages.{times_by, message, message_of, is_from_designated, is_agreement, told, known};
+ghost use Rattle.pb_rstp.specs.Messages.{is_superior, is_young, info_of};
 ghost use Rattle.pb_rstp.specs.Vectors.{is_before};
 
 use crate::port::{Info, Port, is_discarding, is_forwarding, root_info};
@@ -9,41 +10,42 @@ use crate::roles::root_vector;
 use crate::vector::Vector;
 use pb_bpdu::Bpdu;
 
-/// The times that a BPDU tells, in 1/256 s.
+/// The times in a BPDU, in units of 1/256 s: designatedTimes (IEEE 802.1D-2004 clause 17.19.5).
 #[derive(Clone, Copy, PartialEq, Eq, Debug)]
 pub(crate) struct Times {
-    pub(crate) age: u16,
+    pub(crate) message_age: u16,
     pub(crate) max_age: u16,
-    pub(crate) hello: u16,
-    pub(crate) delay: u16,
+    pub(crate) hello_time: u16,
+    pub(crate) forward_delay: u16,
 }
 
-/// A root's own times, or the stored ones, a second older (IEEE 802.1D-2004 clause 17.21.25).
+/// Returns the root's own times, or the stored times with a Message Age one second higher (IEEE 802.1D-2004 clause
+/// 17.21.25).
 fn times_by(info: Option<Info>) -> Times
     ensures { result ≡ times_by info }
 {
     match info {
         None => Times {
-            age: 0,
+            message_age: 0,
             max_age: 20 * 256,
-            hello: 2 * 256,
-            delay: 15 * 256,
+            hello_time: 2 * 256,
+            forward_delay: 15 * 256,
         },
         Some(info) => Times {
-            age: info.age.saturating_add(256),
+            message_age: info.message_age.saturating_add(256),
             max_age: info.max_age,
-            hello: info.hello,
-            delay: info.delay,
+            hello_time: info.hello_time,
+            forward_delay: info.forward_delay,
         },
     }
 }
 
-/// The BPDU of a port, by the bridge, its root vector and its times.
+/// Returns the BPDU of a port, from the bridge's identifier, root vector and times.
 fn message(id: u64, root: &Vector, times: &Times, p: &Port) -> Bpdu
     ensures { result ≡ message id root.now times.now p.now }
 {
     Bpdu {
-        change: p.changing > 0,
+        change: p.tc_while > 0,
         proposal: p.role.is_designated() && !is_forwarding(p.state),
         role: p.role.code(),
         learning: !is_discarding(p.state),
@@ -53,35 +55,35 @@ fn message(id: u64, root: &Vector, times: &Times, p: &Port) -> Bpdu
         cost: root.cost,
         bridge: id,
         port: p.id(),
-        age: times.age,
+        age: times.message_age,
         max_age: times.max_age,
-        hello: times.hello,
-        delay: times.delay,
+        hello: times.hello_time,
+        delay: times.forward_delay,
     }
 }
 
-/// The BPDU of a port of the bridge (IEEE 802.1D-2004 clause 17.21.20, txRstp).
+/// Returns the BPDU of a port of the bridge (IEEE 802.1D-2004 clause 17.21.20, txRstp).
 pub(crate) fn message_of(id: u64, ports: &[Port], p: &Port) -> Bpdu
     ensures { result ≡ message_of id ports.now p.now }
 {
     message(id, &root_vector(id, ports), &times_by(root_info(ports)), p)
 }
 
-/// The BPDU is of a Designated port.
+/// Returns whether a Designated port sent the BPDU.
 pub(crate) fn is_from_designated(m: &Bpdu) -> bool
     ensures { result ≡ is_from_designated m.now }
 {
     m.role == 3
 }
 
-/// The BPDU is of a Root, Alternate or Backup port that agrees.
+/// Returns whether a Root, Alternate or Backup port that agrees sent the BPDU.
 pub(crate) fn is_agreement(m: &Bpdu) -> bool
     ensures { result ≡ is_agreement m.now }
 {
     (m.role == 1 || m.role == 2) && m.agreement
 }
 
-/// The BPDU's vector is better than the stored one.
+/// Returns whether the BPDU's vector is better than the stored one.
 fn is_better(m: &Bpdu, info: &Info) -> bool
     ensures { result ≡ is_before (told m.now) (known info.now) }
 {
@@ -97,8 +99,8 @@ fn is_better(m: &Bpdu, info: &Info) -> bool
     m.port < info.port
 }
 
-/// The BPDU is better than what is stored, or comes from where that came from (IEEE 802.1D-2004 clause
-/// 17.21.8).
+/// Returns whether the BPDU is better than the stored information, or has the same designated bridge and port (IEEE
+/// 802.1D-2004 clause 17.21.8).
 pub(crate) fn is_superior(m: &Bpdu, info: Option<Info>) -> bool
     ensures { result ≡ is_superior m.now info }
 {
@@ -108,14 +110,15 @@ pub(crate) fn is_superior(m: &Bpdu, info: Option<Info>) -> bool
     }
 }
 
-/// The BPDU is not too old to be kept.
+/// Returns whether the BPDU is not too old to be stored: its age plus one second is at most its max age.
 pub(crate) fn is_young(m: &Bpdu) -> bool
     ensures { result ≡ is_young m.now }
 {
     m.age as u32 + 256 <= m.max_age as u32
 }
 
-/// What is kept of the BPDU, for three hello times (IEEE 802.1D-2004 clause 17.21.23).
+/// Returns the information that a port stores from the BPDU, for three times its Hello Time (IEEE 802.1D-2004 clause
+/// 17.21.23).
 pub(crate) fn info_of(m: &Bpdu) -> Info
     ensures { result ≡ info_of m.now }
 {
@@ -124,10 +127,10 @@ pub(crate) fn info_of(m: &Bpdu) -> Info
         cost: m.cost,
         bridge: m.bridge,
         port: m.port,
-        age: m.age,
+        message_age: m.age,
         max_age: m.max_age,
-        hello: m.hello,
-        delay: m.delay,
-        left: 3 * (m.hello / 256).max(1),
+        hello_time: m.hello,
+        forward_delay: m.delay,
+        rcvd_info_while: 3 * (m.hello / 256).max(1),
     }
 }

@@ -1,4 +1,4 @@
-//! Ports in the course of a call.
+//! Ports during a call.
 
 use crate::port::Port;
 use pb_bpdu::Bpdu;
@@ -10,7 +10,7 @@ pub(crate) struct Moving {
     pub(crate) now: Port,
 }
 
-/// The BPDU that was heard, the port at which, and whether it was stored.
+/// A received BPDU, its port, and whether the port stored it.
 #[derive(Clone, Copy, PartialEq, Eq, Debug)]
 pub(crate) struct Heard {
     pub(crate) port: u8,

@@ -6,21 +6,22 @@ ghost use Rattle.std.specs.Option.{option_copied, option_map};
 ghost use Rattle.pb_lan.specs.Numbering.{numbered};
 ghost use Rattle.pb_lan.specs.Plans.{IsSound};
 ghost use Rattle.pb_rstp.specs.Laws.{IsInLine};
-ghost use Rattle.pb_rstp.specs.Tree.{IsSettled, AreMachines, NoneHeld, AreForests, offered, is_quiet, stores_test, leads_test, place_at, is_settled_between};
+ghost use Rattle.pb_rstp.specs.Tree.{IsSettled, AreMachines, NoneHeld, AreForests, offered, is_quiet, stores_test};
+ghost use Rattle.pb_rstp.specs.Tree.{leads_test, place_at, is_settled_between};
 ghost use Rattle.pb_rstp.specs.Places.{place_of};
 
 use crate::port::{Port, is_discarding, port_of};
 use crate::rstp::Rstp;
 use pb_lan::{End, LinkPlan, Plan};
 
-/// A bridge at the end of a link, and its port there.
+/// The bridge at an end of a link, and its port.
 #[derive(Clone, Copy)]
 struct Standing<'a> {
     bridge: &'a Rstp,
     port: Port,
 }
 
-/// The port is Root or Designated, or it discards.
+/// Returns whether the port is Root or Designated, or Discarding.
 fn is_quiet(p: &Port) -> bool
     ensures { result ≡ is_quiet p.now }
 {
@@ -33,15 +34,15 @@ fn are_quiet(ports: &[Port]) -> bool
     ports.iter().all(|p| is_quiet(p))
 }
 
-/// Each port has the role that follows from the root vector, as every call leaves it, and only Root
-/// and Designated ports do more than discard.
+/// Returns whether each port has the role that follows from the root vector, and only Root and Designated ports do more
+/// than discard. Every call leaves a bridge so.
 fn is_in_line(bridge: &Rstp) -> bool
     ensures { IsTrue result ↔ IsInLine bridge.now }
 {
     are_quiet(&bridge.ports)
 }
 
-/// The thing of this number, if there is one. The first has number 1.
+/// Returns the item of this number, if there is one. The first has number 1.
 fn numbered<T>(things: &[T], number: usize) -> Option<&T>
     ensures { option_copied result ≡ numbered things.now number }
 {
@@ -51,14 +52,14 @@ fn numbered<T>(things: &[T], number: usize) -> Option<&T>
     things.get(number - 1)
 }
 
-/// The bridge of this number.
+/// Returns the bridge of this number.
 fn bridge_at<'a>(bridges: &[&'a Rstp], number: u8) -> Option<&'a Rstp>
     ensures { option_copied result ≡ numbered (map (λ m. m.now) bridges.now) number }
 {
     numbered(bridges, number as usize).copied()
 }
 
-/// What stands at the end of a link.
+/// Returns the bridge and the port at an end of a link.
 fn place_at<'a>(bridges: &[&'a Rstp], end: &End) -> Option<Standing<'a>>
     ensures { option_map place_of result ≡ place_at (map (λ m. m.now) bridges.now) end.now }
 {
@@ -67,7 +68,7 @@ fn place_at<'a>(bridges: &[&'a Rstp], end: &End) -> Option<Standing<'a>>
     Some(Standing { bridge, port })
 }
 
-/// The second port stores what the first one offers.
+/// Returns whether the second port stores what the first one offers.
 fn stores(offering: &Standing, port: &Port) -> bool
     ensures { result ≡ stores_test port.now.info (offered offering.now.bridge.now offering.now.port) }
 {
@@ -82,22 +83,24 @@ fn stores(offering: &Standing, port: &Port) -> bool
         && info.port == offering.port.id()
 }
 
-/// The first port alone is Designated, and the second stores what it offers.
+/// Returns whether only the first port is Designated, and the second stores what it offers.
 fn leads(here: &Standing, there: &Standing) -> bool
     ensures { result ≡ leads_test here.now.bridge.now here.now.port there.now.port }
 {
     here.port.role.is_designated() && !there.port.role.is_designated() && stores(here, &there.port)
 }
 
+/// Returns whether an end is disabled, or one end leads and the other stores its offer.
 fn is_settled_between(a: &Standing, b: &Standing) -> bool
     ensures { result ≡ is_settled_between (Some (place_of a.now)) (Some (place_of b.now)) }
 {
-    !(a.port.up && b.port.up) || leads(a, b) || leads(b, a)
+    !(a.port.port_enabled && b.port.port_enabled) || leads(a, b) || leads(b, a)
 }
 
-/// The link has one Designated end, and the other end stores what it offers, unless an end is down.
+/// Returns whether the link has one Designated end and the other end stores its offer, or an end is disabled.
 fn is_settled_link(bridges: &[&Rstp], link: &LinkPlan) -> bool
-    ensures { result ≡ is_settled_between (place_at (map (λ m. m.now) bridges.now) link.now.a) (place_at (map (λ m. m.now) bridges.now) link.now.b) }
+    ensures { result ≡ is_settled_between (place_at (map (λ m. m.now) bridges.now) link.now.a)
+        (place_at (map (λ m. m.now) bridges.now) link.now.b) }
 {
     match (place_at(bridges, &link.a), place_at(bridges, &link.b)) {
         (Some(a), Some(b)) => is_settled_between(&a, &b),
@@ -117,25 +120,27 @@ fn are_in_line(bridges: &[&Rstp]) -> bool
 }
 
 fn are_settled_links(bridges: &[&Rstp], links: &[LinkPlan]) -> bool
-    ensures { result ≡ list_all (λ link. is_settled_between (place_at (map (λ m. m.now) bridges.now) link.a) (place_at (map (λ m. m.now) bridges.now) link.b)) links.now }
+    ensures { result ≡ list_all (λ link. is_settled_between (place_at (map (λ m. m.now) bridges.now) link.a)
+        (place_at (map (λ m. m.now) bridges.now) link.b)) links.now }
 {
     links.iter().all(|link| is_settled_link(bridges, link))
 }
 
-/// Whether the bridges of a plan are settled: each has the roles that follow from the vectors, only
-/// Root and Designated ports are Forwarding, and each link with both ends up has just one Designated
-/// end, whose vector the other end stores (IEEE 802.1D-2004 clause 17). Takes no memory.
+/// Returns whether the bridges of a plan are settled: each port has the role that follows from the vectors, only Root
+/// and Designated ports are Forwarding, and each link with both ends enabled has exactly one Designated end, whose
+/// vector the other end stores (IEEE 802.1D-2004 clause 17). Allocates nothing.
 ///
-/// An end of a link at which no machine has a port counts as settled. What is told of forests asks for one
-/// machine for each bridge, in the plan's order, made for that plan. The answer is of this moment: bridges may
-/// settle and unsettle again.
+/// An end of a link at which no machine has a port counts as settled. The clause on forests requires one machine for
+/// each bridge, in the plan's order, made for that plan. The result holds for this moment: bridges may settle and
+/// unsettle again.
 pub fn is_settled(bridges: &[&Rstp], plan: &Plan) -> bool
     ensures settled { IsTrue result ↔ IsSettled plan.now (map (λ m. m.now) bridges.now) }
 
-    // Where no Root port's way costs more than a BPDU can tell, the links of a sound plan whose ends are both
+    // If no Root port's path costs more than a BPDU can carry, the links of a sound plan whose ends are both
     // Forwarding are one forest, those of each service are one, and root path cost rises along them.
     ensures forest { let machines = map (λ m. m.now) bridges.now in
-        IsTrue result → IsSound plan.now → AreMachines plan.now machines → NoneHeld machines → AreForests plan.now machines }
+        IsTrue result → IsSound plan.now → AreMachines plan.now machines → NoneHeld machines
+        → AreForests plan.now machines }
 {
     are_in_line(bridges) && are_settled_links(bridges, plan.links.as_slice())
 }

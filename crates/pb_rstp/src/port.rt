@@ -1,7 +1,8 @@
-//! What a bridge keeps of each port.
+//! The variables that a bridge keeps for each port.
 
 ghost use Rattle.std.specs.Prelude.{◌≡◌};
-ghost use Rattle.pb_rstp.specs.Ports.{id_of, stored_vector, root_path, designated_vector, port_of, root_info, delay_of, fresh, is_discarding};
+ghost use Rattle.pb_rstp.specs.Ports.{id_of, stored_vector, root_path, designated_vector, port_of, root_info};
+ghost use Rattle.pb_rstp.specs.Ports.{fwd_delay_of, fresh, is_discarding};
 ghost use Rattle.pb_lan.specs.Shapes.{is_forwarding};
 
 use crate::config::RstpPort;
@@ -9,50 +10,50 @@ use crate::role::Role;
 use crate::vector::Vector;
 use pb_lan::PortState;
 
-/// What a port stores of a BPDU: the standard's portPriority and portTimes (IEEE 802.1D-2004 clauses 17.19.21 and
-/// 17.19.22). Times are in 1/256 s.
+/// The information that a port stores from a BPDU: portPriority and portTimes (IEEE 802.1D-2004 clauses 17.19.21 and
+/// 17.19.22), and the timer of both. The times of portTimes are in units of 1/256 s.
 #[derive(Clone, Copy, PartialEq, Eq, Debug)]
 pub(crate) struct Info {
     pub(crate) root: u64,
     pub(crate) cost: u32,
     pub(crate) bridge: u64,
     pub(crate) port: u16,
-    pub(crate) age: u16,
+    pub(crate) message_age: u16,
     pub(crate) max_age: u16,
-    pub(crate) hello: u16,
-    pub(crate) delay: u16,
-    /// Ticks for which it is kept: rcvdInfoWhile (IEEE 802.1D-2004 clause 17.17.6).
-    pub(crate) left: u16,
+    pub(crate) hello_time: u16,
+    pub(crate) forward_delay: u16,
+    /// Ticks until the stored information expires (rcvdInfoWhile, clause 17.17.6).
+    pub(crate) rcvd_info_while: u16,
 }
 
-/// A port: its timers and variables (IEEE 802.1D-2004 clauses 17.17 and 17.19).
+/// A port with its timers and state machine variables (IEEE 802.1D-2004 clauses 17.17 and 17.19). Timers are in ticks.
 #[derive(Clone, Copy, PartialEq, Eq, Debug)]
 pub(crate) struct Port {
     pub(crate) number: u8,
     pub(crate) cost: u32,
     pub(crate) priority: u8,
-    /// It is set up and not down: portEnabled (clause 17.19.18).
-    pub(crate) up: bool,
-    /// What it stores, if anything.
+    /// The port is enabled (portEnabled, clause 17.19.18).
+    pub(crate) port_enabled: bool,
+    /// The information that it stores, if any (infoIs is Received, clause 17.19.10).
     pub(crate) info: Option<Info>,
     pub(crate) role: Role,
     pub(crate) state: PortState,
-    /// Ticks to the next state of a Designated port: fdWhile (clause 17.17.2).
-    pub(crate) wait: u16,
-    /// The neighbour has agreed: agreed (clause 17.19.3).
+    /// Ticks until a Designated port enters its next state (fdWhile, clause 17.17.2).
+    pub(crate) fd_while: u16,
+    /// The neighbour has agreed (agreed, clause 17.19.3).
     pub(crate) agreed: bool,
-    /// This port agrees: agree (clause 17.19.2).
+    /// This port agrees (agree, clause 17.19.2).
     pub(crate) agree: bool,
-    /// Ticks for which it tells of a topology change: tcWhile (clause 17.17.8).
-    pub(crate) changing: u8,
-    /// BPDUs sent of late: txCount (clause 17.19.44).
-    pub(crate) sent: u8,
-    /// A BPDU is due: newInfo (clause 17.19.16).
-    pub(crate) due: bool,
+    /// Ticks for which its BPDUs report a topology change (tcWhile, clause 17.17.8).
+    pub(crate) tc_while: u8,
+    /// BPDUs sent, decremented at each tick (txCount, clause 17.19.44).
+    pub(crate) tx_count: u8,
+    /// A BPDU is to be sent (newInfo, clause 17.19.16).
+    pub(crate) new_info: bool,
 }
 
 impl Port {
-    /// The port at the start.
+    /// Returns the port with its values at start: enabled, Designated and Discarding.
     pub(crate) fn fresh(p: &RstpPort) -> Port
         ensures { result ≡ fresh p.now }
     {
@@ -60,27 +61,27 @@ impl Port {
             number: p.port,
             cost: p.cost,
             priority: p.priority,
-            up: true,
+            port_enabled: true,
             info: None,
             role: Role::Designated,
             state: PortState::Discarding,
-            wait: 15,
+            fd_while: 15,
             agreed: false,
             agree: false,
-            changing: 0,
-            sent: 0,
-            due: true,
+            tc_while: 0,
+            tx_count: 0,
+            new_info: true,
         }
     }
 
-    /// The port's identifier.
+    /// Returns the port's identifier.
     pub(crate) fn id(&self) -> u16
         ensures { result ≡ id_of self.now }
     {
         self.priority as u16 * 256 + self.number as u16
     }
 
-    /// The vector of what it stores.
+    /// Returns the vector of the stored information.
     pub(crate) fn stored_vector(&self, info: &Info) -> Vector
         ensures { result ≡ stored_vector self.now info.now }
     {
@@ -93,7 +94,7 @@ impl Port {
         }
     }
 
-    /// The way to the root through this port (IEEE 802.1D-2004 clause 17.6).
+    /// Returns the path to the root through this port (IEEE 802.1D-2004 clause 17.6).
     pub(crate) fn root_path(&self, info: &Info) -> Vector
         ensures { result ≡ root_path self.now info.now }
     {
@@ -106,7 +107,7 @@ impl Port {
         }
     }
 
-    /// What the port offers the others on its link (IEEE 802.1D-2004 clause 17.6).
+    /// Returns the vector that the port offers on its link (IEEE 802.1D-2004 clause 17.6).
     pub(crate) fn designated_vector(&self, id: u64, root: &Vector) -> Vector
         ensures { result ≡ designated_vector id root.now self.now }
     {
@@ -120,21 +121,21 @@ impl Port {
     }
 }
 
-/// The state learns no station.
+/// Returns whether the state is Discarding.
 pub(crate) fn is_discarding(state: PortState) -> bool
     ensures { result ≡ is_discarding state }
 {
     matches!(state, PortState::Discarding)
 }
 
-/// The state relays.
+/// Returns whether the state is Forwarding.
 pub(crate) fn is_forwarding(state: PortState) -> bool
     ensures { result ≡ is_forwarding state }
 {
     matches!(state, PortState::Forwarding)
 }
 
-/// The port of this number.
+/// Returns the port of this number.
 pub(crate) fn port_of(ports: &[Port], number: u8) -> Option<Port>
     ensures { result ≡ port_of ports.now number }
 {
@@ -146,7 +147,7 @@ pub(crate) fn port_of(ports: &[Port], number: u8) -> Option<Port>
     None
 }
 
-/// What the Root port stores, where there is one.
+/// Returns the information that the Root port stores, if the bridge has a Root port.
 pub(crate) fn root_info(ports: &[Port]) -> Option<Info>
     ensures { result ≡ root_info ports.now }
 {
@@ -158,13 +159,13 @@ pub(crate) fn root_info(ports: &[Port]) -> Option<Info>
     None
 }
 
-/// The ticks for which a port stays Discarding, and for which it stays Learning (IEEE 802.1D-2004
-/// clause 17.20.6).
-pub(crate) fn delay_of(ports: &[Port]) -> u16
-    ensures { result ≡ delay_of ports.now }
+/// Returns the ticks for which a port stays Discarding and then Learning: FwdDelay (IEEE 802.1D-2004 clause 17.20.6).
+/// It is 15 at the root bridge. Otherwise it is the stored Forward Delay of the Root port, at least 1.
+pub(crate) fn fwd_delay_of(ports: &[Port]) -> u16
+    ensures { result ≡ fwd_delay_of ports.now }
 {
     match root_info(ports) {
         None => 15,
-        Some(info) => (info.delay / 256).max(1),
+        Some(info) => (info.forward_delay / 256).max(1),
     }
 }

@@ -4,18 +4,18 @@ ghost use Rattle.std.specs.Prelude.{◌≡◌, ◌<◌};
 ghost use Rattle.pb_rstp.specs.Ports.{is_root, is_designated, is_root_or_designated};
 ghost use Rattle.pb_rstp.specs.Messages.{role_code};
 
-/// What a port is for (IEEE 802.1D-2004 clause 17.7).
+/// The role of a port (IEEE 802.1D-2004 clause 17.7).
 #[derive(Clone, Copy, PartialEq, Eq, Debug)]
 pub enum Role {
-    /// It is down.
+    /// It is disabled.
     Disabled,
-    /// It is the bridge's best way to the root.
+    /// It is the bridge's best path to the root.
     Root,
-    /// It is the best way to the root for its link.
+    /// It is the best path to the root for its link.
     Designated,
-    /// Another bridge offers its link a better way.
+    /// Another bridge offers its link a better path.
     Alternate,
-    /// Another port of the same bridge offers its link a better way.
+    /// Another port of the same bridge offers its link a better path.
     Backup,
 }
 
@@ -38,7 +38,7 @@ impl Role {
         matches!(self, Role::Root | Role::Designated)
     }
 
-    /// How a BPDU tells it (IEEE 802.1D-2004 clause 9.3.3).
+    /// Returns the code of the role in a BPDU (IEEE 802.1D-2004 clause 9.3.3).
     pub(crate) fn code(self) -> u8
         ensures value { result ≡ role_code self }
         ensures fits { result < 4 }

@@ -7,11 +7,11 @@ use crate::port::{Info, Port};
 use crate::role::Role;
 use crate::vector::Vector;
 
-/// The way to a root that a port offers, unless the bridge itself has said so.
+/// Returns the path to a root through an enabled port that stores the vector of another bridge.
 fn offer(id: u64, p: &Port) -> Option<Vector>
     ensures { option_to_list result ≡ offers id p.now }
 {
-    if !p.up {
+    if !p.port_enabled {
         return None;
     }
     let info = p.info?;
@@ -21,7 +21,7 @@ fn offer(id: u64, p: &Port) -> Option<Vector>
     Some(p.root_path(&info))
 }
 
-/// The better one, or else the first.
+/// Returns the better vector, or the first one if neither is better.
 fn better(vector: Vector, way: Option<Vector>) -> Vector
     ensures { result ≡ best vector (option_to_list way) }
 {
@@ -31,8 +31,8 @@ fn better(vector: Vector, way: Option<Vector>) -> Vector
     }
 }
 
-/// The root vector: the least of the bridge's own vector and the ways that its ports offer (IEEE
-/// 802.1D-2004 clause 17.6).
+/// Returns the root vector: the least of the bridge's own vector and the paths through its ports (IEEE 802.1D-2004
+/// clause 17.6).
 pub(crate) fn root_vector(id: u64, ports: &[Port]) -> Vector
     ensures { result ≡ root_vector id ports.now }
 {
@@ -43,7 +43,7 @@ pub(crate) fn root_vector(id: u64, ports: &[Port]) -> Vector
     root
 }
 
-/// The role of a port that is up and isn't the Root port.
+/// Returns the role of an enabled port that is not the Root port.
 fn other_role(id: u64, root: &Vector, p: &Port, info: Option<Info>) -> Role
     ensures { result ≡ other_role id root.now p.now info }
 {
@@ -63,11 +63,11 @@ fn other_role(id: u64, root: &Vector, p: &Port, info: Option<Info>) -> Role
     }
 }
 
-/// The role of a port, by the root vector (IEEE 802.1D-2004 clause 17.21.25).
+/// Returns the role of a port, given the root vector (IEEE 802.1D-2004 clause 17.21.25).
 pub(crate) fn role_by(id: u64, root: &Vector, p: &Port) -> Role
     ensures { result ≡ role_by id root.now p.now }
 {
-    if !p.up {
+    if !p.port_enabled {
         Role::Disabled
     } else if root.receiving == p.id() {
         Role::Root

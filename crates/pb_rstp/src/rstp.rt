@@ -20,17 +20,16 @@ use std::marker::Model;
 
 /// The rapid spanning tree protocol at one bridge (IEEE 802.1D-2004 clause 17, in a profile).
 ///
-/// Contracts see the bridge's identifier, what it keeps of each port, and the ticks to the next hello
-/// time. Each port always has the role that follows from the root vector, and only Root and Designated
-/// ports do more than discard.
+/// Contracts see the bridge's identifier, the variables of each port, and `hello_when`. Each port always has the role
+/// that follows from the root vector, and only Root and Designated ports do more than discard.
 #[derive(Drop)]
 pub struct Rstp {
     pub(crate) alloc: Global,
     /// The bridge's identifier.
     pub(crate) id: u64,
     pub(crate) ports: Vec<Port>,
-    /// Ticks to the next hello time: helloWhen, which the standard has at each port (IEEE 802.1D-2004 clause 17.17.3).
-    pub(crate) hello_left: u8,
+    /// Ticks until the next periodic BPDUs: helloWhen (IEEE 802.1D-2004 clause 17.17.3), one for all ports.
+    pub(crate) hello_when: u8,
     /// The role of each port.
     pub(crate) roles: Vec<(u8, Role)>,
     /// The state of each port.
@@ -43,26 +42,27 @@ impl Model for Rstp {
 
     ghost Value = { Machine };
 
-    ghost view = { λ r. record { id = r.id; ports = r.ports.items; hello_left = r.hello_left } };
+    ghost view = { λ r. record { id = r.id; ports = r.ports.items; hello_when = r.hello_when } };
 
-    ghost invariant = { λ r. IsTold (record { id = r.id; ports = r.ports.items; hello_left = r.hello_left }) r.roles.items r.states.items };
+    ghost invariant = { λ r. IsTold (record { id = r.id; ports = r.ports.items; hello_when = r.hello_when })
+        r.roles.items r.states.items };
 }
 
-/// The ports at the start.
+/// Returns the ports with their values at start.
 fn fresh_ports(alloc: Global, ports: &[RstpPort]) -> Result<Vec<Port>, Memory>
     ensures { IfOk result (λ found. found.items ≡ map fresh ports.now) }
 {
     Ok(ports.iter().map(|p| Port::fresh(p)).collect(alloc)?)
 }
 
-/// The role of each port.
+/// Returns the role of each port.
 pub(crate) fn roles_of(alloc: Global, ports: &[Port]) -> Result<Vec<(u8, Role)>, Memory>
     ensures { IfOk result (λ found. found.items ≡ roles_of ports.now) }
 {
     Ok(ports.iter().map(|p| (p.number, p.role)).collect(alloc)?)
 }
 
-/// The state of each port.
+/// Returns the state of each port.
 pub(crate) fn states_of(alloc: Global, ports: &[Port]) -> Result<Vec<(u8, PortState)>, Memory>
     ensures { IfOk result (λ found. found.items ≡ states_of ports.now) }
 {
@@ -70,9 +70,11 @@ pub(crate) fn states_of(alloc: Global, ports: &[Port]) -> Result<Vec<(u8, PortSt
 }
 
 impl Rstp {
-    /// The bridge at the start: all ports are up, Designated and Discarding, and store nothing.
+    /// Returns a bridge with its values at start: all ports are enabled, Designated and Discarding, and store nothing.
     ///
-    /// `Memory` is answered where memory ran out.
+    /// # Errors
+    ///
+    /// `Memory` if an allocation failed.
     pub fn new(alloc: Global, config: Config) -> Result<Rstp, Memory>
         requires { AreAbove 0 config.ports }
         ensures { IfOk result (λ rstp. rstp ≡ start (bridge_id config.priority config.address.0) config.ports) }
@@ -85,13 +87,13 @@ impl Rstp {
             alloc,
             id,
             ports,
-            hello_left: 2,
+            hello_when: 2,
             roles,
             states,
         })
     }
 
-    /// The role of each port, by number (IEEE 802.1D-2004 clause 17.7). Takes no memory.
+    /// Returns the role of each port, by number (IEEE 802.1D-2004 clause 17.7). Allocates nothing.
     pub fn roles(&self) -> &[(u8, Role)]
         ensures roles { result.now ≡ roles_of self.now.ports }
         ensures by_number { AreRising 0 (numbers_of self.now) }
@@ -100,8 +102,8 @@ impl Rstp {
         self.roles.as_slice()
     }
 
-    /// The state of each port, by number. Ports that are neither Root nor Designated are Discarding.
-    /// Takes no memory.
+    /// Returns the state of each port, by number. Ports that are neither Root nor Designated are Discarding. Allocates
+    /// nothing.
     pub fn states(&self) -> &[(u8, PortState)]
         ensures states { result.now ≡ states_of self.now.ports }
         ensures by_number { AreRising 0 (numbers_of self.now) }
@@ -110,8 +112,8 @@ impl Rstp {
         self.states.as_slice()
     }
 
-    /// The root vector: the least of the bridge's own vector and the ways through its ports (IEEE
-    /// 802.1D-2004 clause 17.6). Takes no memory.
+    /// Returns the root vector: the least of the bridge's own vector and the paths through its ports (IEEE 802.1D-2004
+    /// clause 17.6). Allocates nothing.
     pub fn root(&self) -> Vector
         ensures value { result ≡ root_of self.now }
         ensures least { IsRootVector self.now.id self.now.ports result }
@@ -119,7 +121,7 @@ impl Rstp {
         root_vector(self.id, &self.ports)
     }
 
-    /// What a port offers the others on its link (IEEE 802.1D-2004 clause 17.6). Takes no memory.
+    /// Returns the vector that a port offers on its link (IEEE 802.1D-2004 clause 17.6). Allocates nothing.
     pub fn vector(&self, port: u8) -> Vector
         requires { IsSome (port_of self.now.ports port) }
         ensures { vector_at self.now port ≡ Some result }
@@ -129,8 +131,8 @@ impl Rstp {
         port.designated_vector(self.id, &root)
     }
 
-    /// The vector that a port stores, if it stores one (IEEE 802.1D-2004 clause 17.19.21, portPriority).
-    /// Takes no memory. None is answered for a port that the bridge lacks.
+    /// Returns the vector that a port stores (IEEE 802.1D-2004 clause 17.19.21, portPriority), or None if it stores
+    /// none or the bridge lacks the port. Allocates nothing.
     pub fn stored(&self, port: u8) -> Option<Vector>
         ensures { result ≡ stored_at self.now port }
     {

@@ -1,8 +1,9 @@
-//! BPDUs are sent, and what the call changed is told.
+//! BPDUs are sent, and the changes of the call are reported.
 
 ghost use Rattle.std.specs.Prelude.{◌≡◌, ◌++◌, IfOk, OnOk};
 ghost use Rattle.pb_lan.specs.Rules.{from_to, is_same};
-ghost use Rattle.pb_rstp.specs.Settling.{nows, moved_on, is_sending, after_sending, with_sent, state_changes, flushed, sent, change_of, settled};
+ghost use Rattle.pb_rstp.specs.Settling.{nows, moved_on, is_sending, after_sending, with_sent, state_changes};
+ghost use Rattle.pb_rstp.specs.Settling.{flushed, sent, change_of, settled};
 
 use crate::change::Change;
 use crate::message::message_of;
@@ -16,23 +17,25 @@ use pb_frame::{Memory, Seq};
 use pb_lan::PortState;
 use std::alloc::Global;
 
-/// The most BPDUs of late.
+/// The greatest `tx_count`: TxHoldCount (IEEE 802.1D-2004 clause 17.13.12).
 const HOLD_COUNT: u8 = 6;
 
-/// The port sends what is due (IEEE 802.1D-2004 clause 17.13.12, TxHoldCount).
+/// Returns whether the port sends a BPDU: it is enabled, `new_info` is set and `tx_count` is below TxHoldCount (IEEE
+/// 802.1D-2004 clause 17.26).
 fn is_sending(p: &Port) -> bool
     ensures { result ≡ is_sending p.now }
 {
-    p.up && p.due && p.sent < HOLD_COUNT
+    p.port_enabled && p.new_info && p.tx_count < HOLD_COUNT
 }
 
+/// Returns the port with `new_info` cleared and `tx_count` one higher, if it sends a BPDU.
 fn after_sending(p: &Moving) -> Moving
     ensures { result ≡ moved_on after_sending p.entry.now }
 {
     if is_sending(&p.now) {
         p.becomes(Port {
-            due: false,
-            sent: p.now.sent + 1,
+            new_info: false,
+            tx_count: p.now.tx_count + 1,
             ..p.now
         })
     } else {
@@ -40,14 +43,14 @@ fn after_sending(p: &Moving) -> Moving
     }
 }
 
-/// Seventh: what is due is sent.
+/// Sends the BPDUs: step 7 of 7.
 pub(crate) fn with_sent(alloc: Global, ports: &[Moving]) -> Result<Vec<Moving>, Memory>
     ensures { IfOk result (λ moved. moved.items ≡ with_sent ports.now) }
 {
     Ok(ports.iter().map(|p| after_sending(p)).collect(alloc)?)
 }
 
-/// All steps before BPDUs are sent.
+/// Returns the ports after steps 1 to 6, before BPDUs are sent.
 pub(crate) fn settled(
     alloc: Global,
     id: u64,
@@ -61,7 +64,7 @@ pub(crate) fn settled(
     Ok(with_topology(alloc, heard, &with_proposal)?)
 }
 
-/// The states are the same.
+/// Returns whether the states are the same.
 fn is_same(old: PortState, new: PortState) -> bool
     ensures { result ≡ is_same old new }
 {
@@ -70,7 +73,8 @@ fn is_same(old: PortState, new: PortState) -> bool
 
 /// Adds the change of the port's state, if there is one.
 fn add_state(changes: &mut Vec<(u8, PortState)>, p: &Moving) -> Result<(), Memory>
-    ensures { OnOk result (changes.new.items ≡ changes.old.items ++ from_to p.entry.now.now.number p.entry.now.was.state p.entry.now.now.state) }
+    ensures { OnOk result (changes.new.items ≡ changes.old.items
+        ++ from_to p.entry.now.now.number p.entry.now.was.state p.entry.now.now.state) }
 {
     if !is_same(p.was.state, p.now.state) {
         changes.push((p.now.number, p.now.state))?;
@@ -78,7 +82,7 @@ fn add_state(changes: &mut Vec<(u8, PortState)>, p: &Moving) -> Result<(), Memor
     Ok(())
 }
 
-/// The ports whose state is another than before the call.
+/// Returns the ports whose state is another than before the call, with their new states.
 fn state_changes(alloc: Global, ports: &[Moving]) -> Result<Vec<(u8, PortState)>, Memory>
     ensures { IfOk result (λ changes. changes.items ≡ state_changes ports.now) }
 {
@@ -89,7 +93,7 @@ fn state_changes(alloc: Global, ports: &[Moving]) -> Result<Vec<(u8, PortState)>
     Ok(changes)
 }
 
-/// The ports behind which stations are to be forgotten.
+/// Returns the ports whose stations are to be forgotten.
 fn flushed(alloc: Global, heard: Option<Heard>, ports: &[Moving]) -> Result<Vec<u8>, Memory>
     ensures { IfOk result (λ numbers. numbers.items ≡ flushed heard ports.now) }
 {
@@ -102,7 +106,7 @@ fn flushed(alloc: Global, heard: Option<Heard>, ports: &[Moving]) -> Result<Vec<
     Ok(numbers)
 }
 
-/// The BPDUs that are sent, each with its port.
+/// Returns the BPDUs that are sent, each with its port.
 fn sent(alloc: Global, id: u64, ports: &[Port]) -> Result<Vec<(u8, Bpdu)>, Memory>
     ensures { IfOk result (λ bpdus. bpdus.items ≡ sent id ports.now) }
 {
@@ -115,7 +119,7 @@ fn sent(alloc: Global, id: u64, ports: &[Port]) -> Result<Vec<(u8, Bpdu)>, Memor
     Ok(bpdus)
 }
 
-/// What the call tells, of the ports before BPDUs are sent.
+/// Returns the changes of the call, given the ports before BPDUs are sent.
 pub(crate) fn change_of(
     alloc: Global,
     id: u64,

@@ -1,4 +1,4 @@
-//! A port is set up or down.
+//! A port is enabled or disabled.
 
 ghost use Rattle.std.specs.Prelude.{◌≡◌, IfOk};
 ghost use Rattle.pb_rstp.specs.Machine.{with_admin, setting, moved_by};
@@ -8,29 +8,31 @@ use crate::port::Port;
 use pb_frame::Memory;
 use std::alloc::Global;
 
+/// Returns the port enabled, or disabled with its timers, agreements and `new_info` cleared. It stores nothing then.
 fn with_admin(up: bool, p: &Port) -> Port
     ensures { result ≡ with_admin up p.now }
 {
     if up {
         Port {
-            up: true,
+            port_enabled: true,
             info: None,
             ..*p
         }
     } else {
         Port {
-            up: false,
+            port_enabled: false,
             info: None,
             agreed: false,
             agree: false,
-            due: false,
-            wait: 0,
-            changing: 0,
+            new_info: false,
+            fd_while: 0,
+            tc_while: 0,
             ..*p
         }
     }
 }
 
+/// Returns the port, enabled or disabled if it has this number.
 fn setting(port: u8, up: bool, p: &Port) -> Port
     ensures { result ≡ setting port up p.now }
 {
@@ -41,7 +43,7 @@ fn setting(port: u8, up: bool, p: &Port) -> Port
     }
 }
 
-/// The ports, of which this one is set.
+/// Returns the ports, with the port of this number enabled or disabled.
 pub(crate) fn setting_at(
     alloc: Global,
     port: u8,

@@ -3,10 +3,12 @@
 ghost use Rattle.std.specs.Prelude.{◌≡◌, IfOk};
 ghost use Rattle.pb_rstp.specs.Roles.{root_vector};
 ghost use Rattle.pb_rstp.specs.Vectors.{is_same_vector};
-ghost use Rattle.pb_rstp.specs.Settling.{befores, nows, each, moved_on, with_role, with_roles, without_agreement, with_agreements, without_info, with_infos, held_back, forwarding_if_agreed, designated_state, state_by, with_state, with_states, in_line};
+ghost use Rattle.pb_rstp.specs.Settling.{befores, nows, each, moved_on, with_role, with_roles, without_agreement};
+ghost use Rattle.pb_rstp.specs.Settling.{with_agreements, without_info, with_infos, held_back, forwarding_if_agreed};
+ghost use Rattle.pb_rstp.specs.Settling.{designated_state, state_by, with_state, with_states, in_line};
 
 use crate::moving::Moving;
-use crate::port::{Port, delay_of};
+use crate::port::{Port, fwd_delay_of};
 use crate::role::Role;
 use crate::roles::{role_by, root_vector};
 use crate::vector::Vector;
@@ -15,7 +17,7 @@ use pb_lan::PortState;
 use std::alloc::Global;
 
 impl Moving {
-    /// The port as it is at a later point of the call.
+    /// Returns the port with this value at a later point of the call.
     pub(crate) fn becomes(&self, now: Port) -> Moving
         ensures { result ≡ record self.entry.now { now = now } }
     {
@@ -23,20 +25,21 @@ impl Moving {
     }
 }
 
-/// The ports as they were before the call.
+/// Returns the ports as they were before the call.
 pub(crate) fn befores(alloc: Global, ports: &[Moving]) -> Result<Vec<Port>, Memory>
     ensures { IfOk result (λ found. found.items ≡ befores ports.now) }
 {
     Ok(ports.iter().map(|p| p.was).collect(alloc)?)
 }
 
-/// The ports as they are.
+/// Returns the ports as they are now.
 pub(crate) fn nows(alloc: Global, ports: &[Moving]) -> Result<Vec<Port>, Memory>
     ensures { IfOk result (λ found. found.items ≡ nows ports.now) }
 {
     Ok(ports.iter().map(|p| p.now).collect(alloc)?)
 }
 
+/// Returns the port with its role.
 fn with_role(id: u64, root: &Vector, p: &Moving) -> Moving
     ensures { result ≡ moved_on (with_role id root.now) p.entry.now }
 {
@@ -46,7 +49,7 @@ fn with_role(id: u64, root: &Vector, p: &Moving) -> Moving
     })
 }
 
-/// First: each port has its role (IEEE 802.1D-2004 clause 17.21.25, updtRolesTree).
+/// Gives each port its role: step 1 of 7 (IEEE 802.1D-2004 clause 17.21.25, updtRolesTree).
 fn with_roles(alloc: Global, id: u64, ports: &[Moving]) -> Result<Vec<Moving>, Memory>
     ensures { IfOk result (λ moved. moved.items ≡ with_roles id ports.now) }
 {
@@ -59,6 +62,7 @@ fn with_roles(alloc: Global, id: u64, ports: &[Moving]) -> Result<Vec<Moving>, M
     )
 }
 
+/// Returns the port with `agreed` and `agree` cleared.
 fn without_agreement(p: &Moving) -> Moving
     ensures { result ≡ moved_on without_agreement p.entry.now }
 {
@@ -69,9 +73,10 @@ fn without_agreement(p: &Moving) -> Moving
     })
 }
 
-/// The root vector is the one before the call.
+/// Returns whether the root vector is the same as before the call.
 fn has_same_root(alloc: Global, id: u64, ports: &[Moving]) -> Result<bool, Memory>
-    ensures { IfOk result (λ same. same ≡ is_same_vector (root_vector id (befores ports.now)) (root_vector id (nows ports.now))) }
+    ensures { IfOk result (λ same. same ≡ is_same_vector (root_vector id (befores ports.now))
+        (root_vector id (nows ports.now))) }
 {
     let before = root_vector(id, &befores(alloc, ports)?);
     let now = root_vector(id, &nows(alloc, ports)?);
@@ -84,7 +89,7 @@ fn without_agreements(alloc: Global, ports: &[Moving]) -> Result<Vec<Moving>, Me
     Ok(ports.iter().map(|p| without_agreement(p)).collect(alloc)?)
 }
 
-/// Second: under another root vector no agreement holds.
+/// Clears all agreements if the root vector changed: step 2 of 7 (IEEE 802.1D-2004 clause 17.27).
 fn with_agreements(alloc: Global, id: u64, ports: Vec<Moving>) -> Result<Vec<Moving>, Memory>
     ensures { IfOk result (λ moved. moved.items ≡ with_agreements id ports.items) }
 {
@@ -95,13 +100,14 @@ fn with_agreements(alloc: Global, id: u64, ports: Vec<Moving>) -> Result<Vec<Mov
     Ok(without_agreements(alloc, &ports)?)
 }
 
+/// Returns a Designated port that stores nothing, with `new_info` set if it stored something.
 fn without_info(p: &Moving) -> Moving
     ensures { result ≡ moved_on without_info p.entry.now }
 {
     if p.now.role.is_designated() && p.now.info.is_some() {
         p.becomes(Port {
             info: None,
-            due: true,
+            new_info: true,
             ..p.now
         })
     } else {
@@ -109,26 +115,26 @@ fn without_info(p: &Moving) -> Moving
     }
 }
 
-/// Third: a Designated port stores nothing, and tells what it knows.
+/// Drops the information that Designated ports store: step 3 of 7 (IEEE 802.1D-2004 clause 17.27).
 fn with_infos(alloc: Global, ports: &[Moving]) -> Result<Vec<Moving>, Memory>
     ensures { IfOk result (λ moved. moved.items ≡ with_infos ports.now) }
 {
     Ok(ports.iter().map(|p| without_info(p)).collect(alloc)?)
 }
 
-/// The port is to be Discarding for a while, and tells so.
-pub(crate) fn held_back(delay: u16, p: &Port) -> Port
-    ensures { result ≡ held_back delay p.now }
+/// Returns the port Discarding, with `fd_while` started and `new_info` set.
+pub(crate) fn held_back(fwd_delay: u16, p: &Port) -> Port
+    ensures { result ≡ held_back fwd_delay p.now }
 {
     Port {
         state: PortState::Discarding,
-        wait: delay,
-        due: true,
+        fd_while: fwd_delay,
+        new_info: true,
         ..*p
     }
 }
 
-/// A Designated port forwards at once where the neighbour agreed.
+/// Returns a Designated port, Forwarding if the neighbour has agreed.
 fn forwarding_if_agreed(p: &Port) -> Port
     ensures { result ≡ forwarding_if_agreed p.now }
 {
@@ -142,27 +148,27 @@ fn forwarding_if_agreed(p: &Port) -> Port
     }
 }
 
-/// A port that wasn't Designated before the call starts anew.
-fn designated_state(delay: u16, was: &Port, now: &Port) -> Port
-    ensures { result ≡ designated_state delay was.now now.now }
+/// Returns a Designated port in its state. A port that was not Designated before the call is held back first.
+fn designated_state(fwd_delay: u16, was: &Port, now: &Port) -> Port
+    ensures { result ≡ designated_state fwd_delay was.now now.now }
 {
     if was.role.is_designated() {
         forwarding_if_agreed(now)
     } else {
-        forwarding_if_agreed(&held_back(delay, now))
+        forwarding_if_agreed(&held_back(fwd_delay, now))
     }
 }
 
-/// The port with the state of its role.
-fn state_by(delay: u16, role: Role, was: &Port, now: &Port) -> Port
-    ensures { result ≡ state_by delay role was.now now.now }
+/// Returns the port in the state of its role.
+fn state_by(fwd_delay: u16, role: Role, was: &Port, now: &Port) -> Port
+    ensures { result ≡ state_by fwd_delay role was.now now.now }
 {
     match role {
         Role::Root => Port {
             state: PortState::Forwarding,
             ..*now
         },
-        Role::Designated => designated_state(delay, was, now),
+        Role::Designated => designated_state(fwd_delay, was, now),
         Role::Disabled | Role::Alternate | Role::Backup => Port {
             state: PortState::Discarding,
             ..*now
@@ -170,21 +176,26 @@ fn state_by(delay: u16, role: Role, was: &Port, now: &Port) -> Port
     }
 }
 
-fn with_state(delay: u16, p: &Moving) -> Moving
-    ensures { result ≡ moved_on (with_state delay) p.entry.now }
+fn with_state(fwd_delay: u16, p: &Moving) -> Moving
+    ensures { result ≡ moved_on (with_state fwd_delay) p.entry.now }
 {
-    p.becomes(state_by(delay, p.now.role, &p.was, &p.now))
+    p.becomes(state_by(fwd_delay, p.now.role, &p.was, &p.now))
 }
 
-/// Fourth: the state, by the role (IEEE 802.1D-2004 clause 17.29).
+/// Gives each port the state of its role: step 4 of 7 (IEEE 802.1D-2004 clause 17.29).
 fn with_states(alloc: Global, ports: &[Moving]) -> Result<Vec<Moving>, Memory>
     ensures { IfOk result (λ moved. moved.items ≡ with_states ports.now) }
 {
-    let delay = delay_of(&nows(alloc, ports)?);
-    Ok(ports.iter().map(|p| with_state(delay, p)).collect(alloc)?)
+    let fwd_delay = fwd_delay_of(&nows(alloc, ports)?);
+    Ok(
+        ports
+            .iter()
+            .map(|p| with_state(fwd_delay, p))
+            .collect(alloc)?,
+    )
 }
 
-/// The first four steps.
+/// Returns the ports after steps 1 to 4.
 pub(crate) fn in_line(alloc: Global, id: u64, ports: &[Moving]) -> Result<Vec<Moving>, Memory>
     ensures { IfOk result (λ moved. moved.items ≡ in_line id ports.now) }
 {

@@ -1,7 +1,8 @@
 //! A second passes.
 
 ghost use Rattle.std.specs.Prelude.{◌≡◌, IfOk};
-ghost use Rattle.pb_rstp.specs.Machine.{aged_by, aged, with_timers, opened_by, opened, with_opening, is_hello, with_hello, ticking, moved_by};
+ghost use Rattle.pb_rstp.specs.Machine.{aged_by, aged, with_timers, opened_by, opened, with_opening, is_hello};
+ghost use Rattle.pb_rstp.specs.Machine.{with_hello, ticking, moved_by};
 
 use crate::moving::Moving;
 use crate::port::{Info, Port, is_forwarding};
@@ -9,13 +10,14 @@ use pb_frame::Memory;
 use pb_lan::PortState;
 use std::alloc::Global;
 
-/// What is stored grows old (IEEE 802.1D-2004 clause 17.22).
+/// Returns the stored information with `rcvd_info_while` one lower, or None if it expires (IEEE 802.1D-2004 clause
+/// 17.22).
 fn aged_by(info: Info) -> Option<Info>
     ensures { result ≡ aged_by info }
 {
-    if info.left > 1 {
+    if info.rcvd_info_while > 1 {
         Some(Info {
-            left: info.left - 1,
+            rcvd_info_while: info.rcvd_info_while - 1,
             ..info
         })
     } else {
@@ -23,6 +25,7 @@ fn aged_by(info: Info) -> Option<Info>
     }
 }
 
+/// Returns the stored information, if any, one tick later.
 fn aged(info: Option<Info>) -> Option<Info>
     ensures { result ≡ aged info }
 {
@@ -32,98 +35,105 @@ fn aged(info: Option<Info>) -> Option<Info>
     }
 }
 
+/// Returns the port with `tx_count`, `tc_while` and `rcvd_info_while` one lower.
 fn with_timers(p: &Port) -> Port
     ensures { result ≡ with_timers p.now }
 {
     Port {
-        sent: p.sent.saturating_sub(1),
-        changing: p.changing.saturating_sub(1),
+        tx_count: p.tx_count.saturating_sub(1),
+        tc_while: p.tc_while.saturating_sub(1),
         info: aged(p.info),
         ..*p
     }
 }
 
-/// The port in the state after this.
-fn opened_by(delay: u16, state: PortState, p: &Port) -> Port
-    ensures { result ≡ opened_by delay state p.now }
+/// Returns the port in the state that follows this one, with `fd_while` set for it.
+fn opened_by(fwd_delay: u16, state: PortState, p: &Port) -> Port
+    ensures { result ≡ opened_by fwd_delay state p.now }
 {
     match state {
         PortState::Discarding => Port {
             state: PortState::Learning,
-            wait: delay,
+            fd_while: fwd_delay,
             ..*p
         },
         PortState::Learning => Port {
             state: PortState::Forwarding,
-            wait: 0,
+            fd_while: 0,
             ..*p
         },
         PortState::Forwarding => *p,
     }
 }
 
-fn opened(delay: u16, p: &Port) -> Port
-    ensures { result ≡ opened delay p.now }
+/// Returns the port with `fd_while` one lower, or in its next state if `fd_while` expires.
+fn opened(fwd_delay: u16, p: &Port) -> Port
+    ensures { result ≡ opened fwd_delay p.now }
 {
-    if p.wait > 1 {
+    if p.fd_while > 1 {
         Port {
-            wait: p.wait - 1,
+            fd_while: p.fd_while - 1,
             ..*p
         }
     } else {
-        opened_by(delay, p.state, p)
+        opened_by(fwd_delay, p.state, p)
     }
 }
 
-/// A Designated port goes on to the next state when its time is up.
-fn with_opening(delay: u16, p: &Port) -> Port
-    ensures { result ≡ with_opening delay p.now }
+/// Advances a Designated port that is not Forwarding towards Forwarding (IEEE 802.1D-2004 clause 17.29.3).
+fn with_opening(fwd_delay: u16, p: &Port) -> Port
+    ensures { result ≡ with_opening fwd_delay p.now }
 {
     if p.role.is_designated() && !is_forwarding(p.state) {
-        opened(delay, p)
+        opened(fwd_delay, p)
     } else {
         *p
     }
 }
 
-/// The port sends at each hello time (IEEE 802.1D-2004 clause 17.26).
+/// Returns whether the port sends a BPDU when `hello_when` expires (IEEE 802.1D-2004 clause 17.26).
 fn is_hello(p: &Port) -> bool
     ensures { result ≡ is_hello p.now }
 {
-    p.role.is_designated() || (p.role.is_root() && p.changing > 0)
+    p.role.is_designated() || (p.role.is_root() && p.tc_while > 0)
 }
 
+/// Returns the port with `new_info` set, if `hello_when` expires and the port sends then.
 fn with_hello(hello: bool, p: &Port) -> Port
     ensures { result ≡ with_hello hello p.now }
 {
     if hello && is_hello(p) {
-        Port { due: true, ..*p }
+        Port {
+            new_info: true,
+            ..*p
+        }
     } else {
         *p
     }
 }
 
-fn ticking(delay: u16, hello: bool, p: &Port) -> Port
-    ensures { result ≡ ticking delay hello p.now }
+/// Returns the port one tick later.
+fn ticking(fwd_delay: u16, hello: bool, p: &Port) -> Port
+    ensures { result ≡ ticking fwd_delay hello p.now }
 {
-    with_hello(hello, &with_opening(delay, &with_timers(p)))
+    with_hello(hello, &with_opening(fwd_delay, &with_timers(p)))
 }
 
-/// The ports a second later.
+/// Returns the ports one tick later.
 pub(crate) fn ticking_all(
     alloc: Global,
-    delay: u16,
+    fwd_delay: u16,
     hello: bool,
     ports: &[Port],
 ) -> Result<Vec<Moving>, Memory>
-    ensures { IfOk result (λ moved. moved.items ≡ moved_by (ticking delay hello) ports.now) }
+    ensures { IfOk result (λ moved. moved.items ≡ moved_by (ticking fwd_delay hello) ports.now) }
 {
     Ok(
         ports
             .iter()
             .map(|p| Moving {
                 was: *p,
-                now: ticking(delay, hello, p),
+                now: ticking(fwd_delay, hello, p),
             })
             .collect(alloc)?,
     )

@@ -1,30 +1,31 @@
-//! Changes of the topology are told, and stations behind other ports forgotten.
+//! Topology changes are reported, and the stations of other ports are forgotten.
 
 ghost use Rattle.std.specs.Prelude.{◌≡◌, ◌==◌, ◌&&◌, not, IfOk, option_to_list};
 ghost use Rattle.std.specs.List.{list_any};
 ghost use Rattle.pb_rstp.specs.Ports.{is_root_or_designated};
-ghost use Rattle.pb_rstp.specs.Settling.{moved_on, has_opened, has_closed, changed_at, is_news_elsewhere, is_flushed, is_telling, with_changing, with_topology};
+ghost use Rattle.pb_rstp.specs.Settling.{moved_on, has_opened, has_closed, changed_at, is_news_elsewhere, is_flushed};
+ghost use Rattle.pb_rstp.specs.Settling.{is_telling, with_tc_while, with_topology};
 
 use crate::moving::{Heard, Moving};
 use crate::port::{Port, is_discarding, is_forwarding};
 use pb_frame::Memory;
 use std::alloc::Global;
 
-/// The port became Forwarding in this call.
+/// Returns whether the port became Forwarding in this call.
 fn has_opened(p: &Moving) -> bool
     ensures { result ≡ has_opened p.entry.now }
 {
     is_forwarding(p.now.state) && !is_forwarding(p.was.state)
 }
 
-/// The port left Learning or Forwarding.
+/// Returns whether the port left Learning or Forwarding for Discarding in this call.
 fn has_closed(p: &Moving) -> bool
     ensures { result ≡ has_closed p.entry.now }
 {
     is_discarding(p.now.state) && !is_discarding(p.was.state)
 }
 
-/// One of the ports became Forwarding in this call.
+/// Returns whether a port became Forwarding in this call.
 fn has_any_opened(ports: &[Moving]) -> bool
     ensures { result ≡ list_any has_opened ports.now }
 {
@@ -36,7 +37,7 @@ fn has_any_opened(ports: &[Moving]) -> bool
     false
 }
 
-/// Another port than this became Forwarding in this call.
+/// Returns whether another port than this became Forwarding in this call.
 fn has_other_opened(number: u8, ports: &[Moving]) -> bool
     ensures { result ≡ list_any (λ p. has_opened p && not (p.now.number == number)) ports.now }
 {
@@ -48,7 +49,7 @@ fn has_other_opened(number: u8, ports: &[Moving]) -> bool
     false
 }
 
-/// The port of this number is Root or Designated.
+/// Returns whether the port of this number is Root or Designated.
 fn is_in_tree(number: u8, ports: &[Moving]) -> bool
     ensures { result ≡ list_any (λ p. p.now.number == number && is_root_or_designated p.now.role) ports.now }
 {
@@ -60,7 +61,7 @@ fn is_in_tree(number: u8, ports: &[Moving]) -> bool
     false
 }
 
-/// The port where a topology change was heard, if it is Root or Designated.
+/// Returns the port that received a topology change, if it is Root or Designated.
 fn changed_at(heard: Option<Heard>, ports: &[Moving]) -> Option<u8>
     ensures { option_to_list result ≡ changed_at heard ports.now }
 {
@@ -72,7 +73,7 @@ fn changed_at(heard: Option<Heard>, ports: &[Moving]) -> Option<u8>
     }
 }
 
-/// A topology change was heard at another port than this.
+/// Returns whether another port than this received a topology change.
 fn is_changed_elsewhere(heard: Option<Heard>, ports: &[Moving], number: u8) -> bool
     ensures { result ≡ list_any (λ other. not (other == number)) (changed_at heard ports.now) }
 {
@@ -82,7 +83,7 @@ fn is_changed_elsewhere(heard: Option<Heard>, ports: &[Moving], number: u8) -> b
     }
 }
 
-/// Stations behind the port are to be forgotten (IEEE 802.1D-2004 clause 17.21.18, setTcPropTree).
+/// Returns whether the stations of the port are to be forgotten (IEEE 802.1D-2004 clause 17.21.18, setTcPropTree).
 pub(crate) fn is_flushed(heard: Option<Heard>, ports: &[Moving], p: &Moving) -> bool
     ensures { result ≡ is_flushed heard ports.now p.entry.now }
 {
@@ -91,7 +92,8 @@ pub(crate) fn is_flushed(heard: Option<Heard>, ports: &[Moving], p: &Moving) -> 
         || has_closed(p)
 }
 
-/// The port is to tell of a topology change: of one that opened, itself too, or of one heard elsewhere.
+/// Returns whether the port starts to report a topology change: a port of the bridge became Forwarding, itself too, or
+/// another port received one.
 fn is_telling(heard: Option<Heard>, ports: &[Moving], p: &Port) -> bool
     ensures { result ≡ is_telling heard ports.now p.now }
 {
@@ -99,13 +101,14 @@ fn is_telling(heard: Option<Heard>, ports: &[Moving], p: &Port) -> bool
         && (has_any_opened(ports) || is_changed_elsewhere(heard, ports, p.number))
 }
 
-fn with_changing(heard: Option<Heard>, ports: &[Moving], p: &Moving) -> Moving
-    ensures { result ≡ moved_on (with_changing heard ports.now) p.entry.now }
+/// Returns the port with `tc_while` started and `new_info` set, if it starts to report a topology change.
+fn with_tc_while(heard: Option<Heard>, ports: &[Moving], p: &Moving) -> Moving
+    ensures { result ≡ moved_on (with_tc_while heard ports.now) p.entry.now }
 {
     if is_telling(heard, ports, &p.now) {
         p.becomes(Port {
-            changing: 3,
-            due: true,
+            tc_while: 3,
+            new_info: true,
             ..p.now
         })
     } else {
@@ -113,7 +116,7 @@ fn with_changing(heard: Option<Heard>, ports: &[Moving], p: &Moving) -> Moving
     }
 }
 
-/// Sixth: changes of the topology are told.
+/// Starts the reports of topology changes: step 6 of 7 (IEEE 802.1D-2004 clause 17.31).
 pub(crate) fn with_topology(
     alloc: Global,
     heard: Option<Heard>,
@@ -124,7 +127,7 @@ pub(crate) fn with_topology(
     Ok(
         ports
             .iter()
-            .map(|p| with_changing(heard, ports, p))
+            .map(|p| with_tc_while(heard, ports, p))
             .collect(alloc)?,
     )
 }

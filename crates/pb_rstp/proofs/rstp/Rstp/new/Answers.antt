@@ -18,7 +18,7 @@ invariant_of-result c = record {
       (λ (ports : List Port). let machine : Machine = record {
         id = c.bridge_id-id.result;
         ports = ports;
-        hello_left = 2;
+        hello_when = 2;
       } in IsInLine machine)
       (sym (c.in_ok-ports.ensures ∙ ap (λ ports. map fresh ports) c.as_slice.ensures))
       (start_is_in_line c.bridge_id-id.result c.args.config.ports (above_zero 0 c.args.config.ports c.requires));
