@@ -9,7 +9,7 @@ ghost use Rattle.pb_net_tests.specs.Benches.{TellsAllDelivered};
 use super::draft::{Draft, Joint};
 use super::networks::JOINED;
 use super::plans::plan_of;
-use super::records::{Done, Performed, Piece, record_of, tallies_of};
+use super::records::{Done, FrameAction, Piece, record_of, tallies_of};
 use pb_forest::{forest, is_drained};
 use pb_frame::Memory;
 use pb_history::{Tallies, last_shape};
@@ -72,11 +72,11 @@ const CROSSED: Piece = (1, TAGGED);
 
 const LEFT: Piece = (2, BROADCAST);
 
-const AT_C1: &[Performed] = &[Performed::Poll(CAME), Performed::Feed(CAME)];
+const AT_C1: &[FrameAction] = &[FrameAction::Poll(CAME), FrameAction::Feed(CAME)];
 
-const AT_B1: &[Performed] = &[
-    Performed::Receive(2, CAME, 1, &[]),
-    Performed::Transmit(1, CROSSED),
+const AT_B1: &[FrameAction] = &[
+    FrameAction::Receive(2, CAME, 1, &[]),
+    FrameAction::Transmit(1, CROSSED),
 ];
 
 /// The broadcast went from C1 to C2.
@@ -84,18 +84,21 @@ const FINISHED: Done = Done {
     bridges: &[
         AT_B1,
         &[
-            Performed::Receive(1, CROSSED, 2, &[]),
-            Performed::Transmit(2, LEFT),
+            FrameAction::Receive(1, CROSSED, 2, &[]),
+            FrameAction::Transmit(2, LEFT),
         ],
     ],
-    lanes: &[&[Performed::Take(CROSSED), Performed::Put(CROSSED)], &[]],
-    customers: &[AT_C1, &[Performed::Deliver(LEFT)], &[]],
+    lanes: &[
+        &[FrameAction::Take(CROSSED), FrameAction::Put(CROSSED)],
+        &[],
+    ],
+    customers: &[AT_C1, &[FrameAction::Deliver(LEFT)], &[]],
 };
 
 /// It is in the hand of the lane.
 const ON_ITS_WAY: Done = Done {
     bridges: &[AT_B1, &[]],
-    lanes: &[&[Performed::Take(CROSSED)], &[]],
+    lanes: &[&[FrameAction::Take(CROSSED)], &[]],
     customers: &[AT_C1, &[], &[]],
 };
 

@@ -1,6 +1,6 @@
 //! Whether a frame is on its way, from one customer port of a bridge to another.
 
-use super::records::{Done, Performed, Piece, tallies_of};
+use super::records::{Done, FrameAction, Piece, tallies_of};
 use pb_forest::is_drained;
 use pb_frame::Memory;
 use pb_lan::NoRoom;
@@ -24,25 +24,25 @@ const ROWS: &[(Done, bool)] = &[
         Done {
             bridges: &[&[]],
             lanes: &[],
-            customers: &[&[Performed::Poll(FRAME)], &[]],
+            customers: &[&[FrameAction::Poll(FRAME)], &[]],
         },
         false,
     ),
     // in a queue
     (
         Done {
-            bridges: &[&[Performed::Receive(2, FRAME, 3, &[])]],
+            bridges: &[&[FrameAction::Receive(2, FRAME, 3, &[])]],
             lanes: &[],
-            customers: &[&[Performed::Poll(FRAME), Performed::Feed(FRAME)], &[]],
+            customers: &[&[FrameAction::Poll(FRAME), FrameAction::Feed(FRAME)], &[]],
         },
         false,
     ),
     // its copy was refused
     (
         Done {
-            bridges: &[&[Performed::Receive(2, FRAME, 3, &[(3, NoRoom::Full)])]],
+            bridges: &[&[FrameAction::Receive(2, FRAME, 3, &[(3, NoRoom::Full)])]],
             lanes: &[],
-            customers: &[&[Performed::Poll(FRAME), Performed::Feed(FRAME)], &[]],
+            customers: &[&[FrameAction::Poll(FRAME), FrameAction::Feed(FRAME)], &[]],
         },
         true,
     ),
@@ -50,13 +50,13 @@ const ROWS: &[(Done, bool)] = &[
     (
         Done {
             bridges: &[&[
-                Performed::Receive(2, FRAME, 3, &[]),
-                Performed::Transmit(3, FRAME),
+                FrameAction::Receive(2, FRAME, 3, &[]),
+                FrameAction::Transmit(3, FRAME),
             ]],
             lanes: &[],
             customers: &[
-                &[Performed::Poll(FRAME), Performed::Feed(FRAME)],
-                &[Performed::Deliver(FRAME)],
+                &[FrameAction::Poll(FRAME), FrameAction::Feed(FRAME)],
+                &[FrameAction::Deliver(FRAME)],
             ],
         },
         true,

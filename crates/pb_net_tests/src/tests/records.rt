@@ -11,9 +11,9 @@ use std::alloc::{AllocError, Global};
 /// The first frame of customer port 1: its hops, and its octets.
 pub(super) type Piece = (u32, &'static [u8]);
 
-/// What a place did with that frame.
+/// An action of a place with that frame.
 #[derive(Clone, Copy)]
-pub(super) enum Performed {
+pub(super) enum FrameAction {
     Poll(Piece),
     Feed(Piece),
     /// A bridge received it at a port, and relayed it to another one, or refused it there.
@@ -24,24 +24,24 @@ pub(super) enum Performed {
     Deliver(Piece),
 }
 
-/// What all places performed.
+/// The actions of all places.
 #[derive(Clone, Copy)]
 pub(super) struct Done {
-    pub(super) bridges: &'static [&'static [Performed]],
-    pub(super) lanes: &'static [&'static [Performed]],
-    pub(super) customers: &'static [&'static [Performed]],
+    pub(super) bridges: &'static [&'static [FrameAction]],
+    pub(super) lanes: &'static [&'static [FrameAction]],
+    pub(super) customers: &'static [&'static [FrameAction]],
 }
 
-impl Performed {
+impl FrameAction {
     fn piece(self) -> Piece {
         match self {
-            Performed::Poll(piece)
-            | Performed::Feed(piece)
-            | Performed::Receive(_, piece, _, _)
-            | Performed::Transmit(_, piece)
-            | Performed::Take(piece)
-            | Performed::Put(piece)
-            | Performed::Deliver(piece) => piece,
+            FrameAction::Poll(piece)
+            | FrameAction::Feed(piece)
+            | FrameAction::Receive(_, piece, _, _)
+            | FrameAction::Transmit(_, piece)
+            | FrameAction::Take(piece)
+            | FrameAction::Put(piece)
+            | FrameAction::Deliver(piece) => piece,
         }
     }
 }
@@ -64,38 +64,38 @@ fn relayed(to: u8, refused: &[(u8, NoRoom)]) -> Outcome {
     }
 }
 
-fn step_of(performed: Performed) -> Step {
-    let item = item_of(performed.piece());
-    match performed {
-        Performed::Poll(_) => Step::Poll { item },
-        Performed::Feed(_) => Step::Feed { item },
-        Performed::Receive(port, _, to, refused) => Step::Receive {
+fn step_of(action: FrameAction) -> Step {
+    let item = item_of(action.piece());
+    match action {
+        FrameAction::Poll(_) => Step::Poll { item },
+        FrameAction::Feed(_) => Step::Feed { item },
+        FrameAction::Receive(port, _, to, refused) => Step::Receive {
             port,
             item,
             learnt: Some(Learnt::New),
             outcome: relayed(to, refused),
             moved: None,
         },
-        Performed::Transmit(port, _) => Step::Transmit { port, item },
-        Performed::Take(_) => Step::Take {
+        FrameAction::Transmit(port, _) => Step::Transmit { port, item },
+        FrameAction::Take(_) => Step::Take {
             number: 0,
             item,
             lost: false,
         },
-        Performed::Put(_) => Step::Put { item },
-        Performed::Deliver(_) => Step::Deliver { item, gone: false },
+        FrameAction::Put(_) => Step::Put { item },
+        FrameAction::Deliver(_) => Step::Deliver { item, gone: false },
     }
 }
 
-fn steps_of(alloc: Global, all: &[Performed]) -> Result<Seq<Step>, AllocError> {
+fn steps_of(alloc: Global, all: &[FrameAction]) -> Result<Seq<Step>, AllocError> {
     let mut steps = Vec::new(alloc);
-    for performed in all {
-        steps.push(step_of(*performed))?;
+    for action in all {
+        steps.push(step_of(*action))?;
     }
     Ok(Seq::from_vec(steps))
 }
 
-fn lists_of(alloc: Global, all: &[&[Performed]]) -> Result<Seq<Seq<Step>>, AllocError> {
+fn lists_of(alloc: Global, all: &[&[FrameAction]]) -> Result<Seq<Seq<Step>>, AllocError> {
     let mut lists = Vec::new(alloc);
     for steps in all {
         lists.push(steps_of(alloc, steps)?)?;
