@@ -17,7 +17,7 @@ use clap::{ArgMatches, Command, Error};
 use std::alloc::{AllocError, Global};
 
 /// The program's version.
-const VERSION: &str = "0.2.0";
+const VERSION: &str = "0.3.0";
 
 /// What `flat` does.
 const FLAT: &str = "Run one bridge on `in PORT HEX` lines from standard input";

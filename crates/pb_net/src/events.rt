@@ -8,7 +8,7 @@ use crate::at_port::{deliver_at, feed_at, poll_at};
 use crate::did::Did;
 use crate::fault::NetFault;
 use crate::net::Net;
-use crate::spots::index_of;
+use crate::spots::index_among;
 use bytes::Bytes;
 use pb_lan::{Event, Place};
 
@@ -80,7 +80,7 @@ impl Net {
     fn tick(&mut self, bridge: u8) -> Result<Did, NetFault>
         ensures { IsAnswer self.old (Event.Tick bridge) result self.new }
     {
-        let Some(place) = index_of(bridge, self.bridges.len()) else {
+        let Some(place) = index_among(bridge, self.bridges.len()) else {
             return Err(NetFault::NoSuch);
         };
         self.bridges[place].tick()?;

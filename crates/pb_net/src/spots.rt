@@ -11,7 +11,7 @@ use crate::net::Net;
 use crate::slots::{PortUse, Spot};
 
 /// The index of the thing of a number, where there are so many, numbered from 1.
-pub(crate) fn index_of(number: u8, count: usize) -> Option<usize>
+pub(crate) fn index_among(number: u8, count: usize) -> Option<usize>
     ensures some { IfSome result (λ r. (r + 1 ≡ number) × (r < count)) }
     ensures none { IfNone result ((number ≡ 0) ⊎ (count < number)) }
 {
@@ -34,7 +34,7 @@ impl Net {
         ensures some { IfSome result (IsCustomerSpot self.now.plan port) }
         ensures none { IfNone result (has_place self.now.plan (CustomerPort port) ≡ false) }
     {
-        let place = index_of(port, self.customers.len())?;
+        let place = index_among(port, self.customers.len())?;
         let slot = self.slots.customers[place];
         Some(Spot { place, slot })
     }
@@ -44,7 +44,7 @@ impl Net {
         ensures some { IfSome result (IsLaneStart self.now.plan lane) }
         ensures none { IfNone result (has_place self.now.plan (Lane lane) ≡ false) }
     {
-        let place = index_of(lane, self.lanes.len())?;
+        let place = index_among(lane, self.lanes.len())?;
         let at = self.slots.lanes[place];
         Some(Spot {
             place,
@@ -57,7 +57,7 @@ impl Net {
         ensures some { IfSome result (IsLaneEnd self.now.plan lane) }
         ensures none { IfNone result (has_place self.now.plan (Lane lane) ≡ false) }
     {
-        let place = index_of(lane, self.lanes.len())?;
+        let place = index_among(lane, self.lanes.len())?;
         let at = self.slots.lanes[place];
         Some(Spot { place, slot: at.to })
     }
@@ -67,8 +67,8 @@ impl Net {
         ensures some { IfSome result (IsBridgeSpot self.now.plan bridge port) }
         ensures none { IfNone result (port_at self.now.plan bridge port ≡ Unused) }
     {
-        let place = index_of(bridge, self.bridges.len())?;
-        let column = index_of(port, 16)?;
+        let place = index_among(bridge, self.bridges.len())?;
+        let column = index_among(port, 16)?;
         Some(Spot {
             place,
             slot: 16 * place + column,
