@@ -26,7 +26,7 @@ use pb_frame::Memory;
 use pb_lan::{Outcome, Place, Plan};
 use pb_relay::{Bridge, BridgeFault};
 use pb_ring::{Inlets, Outlets, Wiring};
-use pb_threads::{Did, Finish, Moment, PortView, Turn, Wish, Work};
+use pb_threads::{Finish, Moment, PortView, Turn, TurnStatus, Wish, Work};
 use std::alloc::Global;
 
 /// A bridge of a plan with the rings at its local ports: by one it receives, and by the other it sends.
@@ -108,7 +108,7 @@ fn copies_of(outcome: &Outcome) -> Copies {
 fn received(is_marked: bool, outcome: &Outcome) -> Turn {
     let Copies { queued, refused } = copies_of(outcome);
     Turn {
-        did: Did::Done,
+        status: TurnStatus::Done,
         more: if is_marked { queued } else { 0 },
         fewer: u64::from(is_marked),
         refused,
@@ -254,7 +254,7 @@ impl<W: Wiring> BridgeWorker<W> {
             let place = self.next.wrapping_add(ahead) % count;
             let port = self.ports[place];
             let served = self.serve(port);
-            if served.did != Did::Idle {
+            if served.status != TurnStatus::Idle {
                 self.next = place.wrapping_add(1);
                 return served;
             }
@@ -331,7 +331,7 @@ impl<W: Wiring> Work for BridgeWorker<W> {
             return turn(ticked, 0, 0);
         }
         let looked = self.look();
-        if looked.did == Did::Idle {
+        if looked.status == TurnStatus::Idle {
             return stirred(turn(ticked, 0, 0));
         }
         stirred(looked)

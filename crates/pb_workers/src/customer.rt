@@ -9,7 +9,7 @@ use crate::refusal::{Refusal, Taken, turn};
 use pb_lan::Place;
 use pb_port::{Offered, Polled, Port, Pumped};
 use pb_ring::Wiring;
-use pb_threads::{Did, Finish, Moment, PortView, Turn, Work};
+use pb_threads::{Finish, Moment, PortView, Turn, TurnStatus, Work};
 use std::snapshot::Snapshot;
 
 /// After how many turns the port writes at the latest, where something waits in it. It writes sooner where there is nothing
@@ -122,17 +122,17 @@ impl<W: Wiring, P: Port> CustomerWorker<W, P> {
         }
     }
 
-    /// Whether the port is to write after a turn that did this.
-    fn is_to_write(&mut self, did: Did) -> bool
+    /// Whether the port is to write after a turn with this status.
+    fn is_to_write(&mut self, status: TurnStatus) -> bool
         ensures port { (self.new.port ≡ self.old.port) × (self.new.access ≡ self.old.access) × (self.new.was ≡ self.old.was) }
     {
-        match did {
-            Did::Memory | Did::Limit => false,
-            Did::Done if self.held < PART => {
+        match status {
+            TurnStatus::Memory | TurnStatus::Limit => false,
+            TurnStatus::Done if self.held < PART => {
                 self.held = self.held.saturating_add(1);
                 false
             }
-            Did::Done | Did::Idle => {
+            TurnStatus::Done | TurnStatus::Idle => {
                 self.held = 0;
                 true
             }
@@ -162,7 +162,7 @@ impl<W: Wiring, P: Port> CustomerWorker<W, P> {
         let polled = self.poll();
         if had_more && self.access.book.last != Last::More {
             return Turn {
-                did: Did::Done,
+                status: TurnStatus::Done,
                 fewer: 1,
                 ..Turn::IDLE
             };
@@ -188,15 +188,15 @@ impl<W: Wiring, P: Port> Work for CustomerWorker<W, P> {
 
     fn turn(&mut self, moment: Moment) -> Turn {
         let stepped = self.step(moment.is_open);
-        if !self.is_to_write(stepped.did) {
+        if !self.is_to_write(stepped.status) {
             return stepped;
         }
         match self.pump(moment.now) {
             Err(Refusal::Memory) => Turn {
-                did: Did::Memory,
+                status: TurnStatus::Memory,
                 ..stepped
             },
-            pumped if stepped.did == Did::Idle => turn(pumped, 0, 0),
+            pumped if stepped.status == TurnStatus::Idle => turn(pumped, 0, 0),
             _ => stepped,
         }
     }
