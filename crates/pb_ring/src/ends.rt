@@ -1,6 +1,7 @@
 //! The two ends of a ring, and their meeting.
 
-ghost use Rattle.std.specs.Prelude.{Bool, false, ◌≡◌, ◌<◌, ◌++◌, ◌∷◌, [], ◌↔◌, List, Some, None, IsTrue, IsSome, length, slice_get, option_to_list};
+ghost use Rattle.std.specs.Prelude.{Bool, false, ◌≡◌, ◌<◌, ◌++◌, ◌∷◌, [], ◌↔◌, List, Some, None};
+ghost use Rattle.std.specs.Prelude.{IsTrue, IsSome, length, slice_get, option_to_list};
 ghost use Rattle.std.specs.declared.alloc.Global.{Global};
 ghost use Rattle.rtrb.specs.Ring.{sent, received, known_free, known_items};
 ghost use Rattle.pb_frame.specs.Lists.{IsBeginning};

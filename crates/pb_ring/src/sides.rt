@@ -1,6 +1,7 @@
 //! The many ring ends of a bridge, by place.
 
-ghost use Rattle.std.specs.Prelude.{◌≡◌, ◌<◌, ◌++◌, ◌∷◌, [], ◌↔◌, ◌==◌, ℕ, IsTrue, None, length, map, vec_len, slice_index_or, option_to_list, if◌then◌else◌};
+ghost use Rattle.std.specs.Prelude.{◌≡◌, ◌<◌, ◌++◌, ◌∷◌, [], ◌↔◌, ◌==◌, ℕ, IsTrue, None, if◌then◌else◌};
+ghost use Rattle.std.specs.Prelude.{length, map, vec_len, slice_index_or, option_to_list};
 ghost use Rattle.rtrb.specs.Ring.{sent, received, known_free, known_items};
 ghost use Rattle.pb_frame.specs.Lists.{IsBeginning};
 ghost use Rattle.pb_ring.specs.Rings.{shown_at};
@@ -27,7 +28,8 @@ impl<W: Wiring> Inlets<W> {
     pub fn has_item(&mut self, place: usize) -> bool
         requires { place < vec_len self.old.ends }
         ensures item { IsTrue result ↔ (0 < length (shown_at (λ i. known_items i.end) self.new.ends.items place)) }
-        ensures received { map (λ i. received i.end) self.new.ends.items ≡ map (λ i. received i.end) self.old.ends.items }
+        ensures received { map (λ i. received i.end) self.new.ends.items
+            ≡ map (λ i. received i.end) self.old.ends.items }
         ensures numbers { map (λ i. i.number) self.new.ends.items ≡ map (λ i. i.number) self.old.ends.items }
         ensures count { vec_len self.new.ends ≡ vec_len self.old.ends }
     {
@@ -39,7 +41,8 @@ impl<W: Wiring> Inlets<W> {
     pub fn pop(&mut self, place: usize) -> Option<Item>
         requires { place < vec_len self.old.ends }
         ensures received { (p : ℕ) → shown_at (λ i. received i.end) self.new.ends.items p
-            ≡ shown_at (λ i. received i.end) self.old.ends.items p ++ (if place == p then option_to_list result else []) }
+            ≡ shown_at (λ i. received i.end) self.old.ends.items p
+            ++ (if place == p then option_to_list result else []) }
         ensures none { result ≡ None → shown_at (λ i. known_items i.end) self.new.ends.items place ≡ [] }
         ensures numbers { map (λ i. i.number) self.new.ends.items ≡ map (λ i. i.number) self.old.ends.items }
         ensures count { vec_len self.new.ends ≡ vec_len self.old.ends }
@@ -53,7 +56,8 @@ impl<W: Wiring> Inlets<W> {
         requires place { place < vec_len self.old.ends }
         requires same { slice_index_or (map (λ i. i.number) self.old.ends.items) place 0 ≡ outlet.old.number }
         ensures begins { IsBeginning (shown_at (λ i. received i.end) self.old.ends.items place) (sent outlet.old.end) }
-        ensures received { map (λ i. received i.end) self.new.ends.items ≡ map (λ i. received i.end) self.old.ends.items }
+        ensures received { map (λ i. received i.end) self.new.ends.items
+            ≡ map (λ i. received i.end) self.old.ends.items }
         ensures numbers { map (λ i. i.number) self.new.ends.items ≡ map (λ i. i.number) self.old.ends.items }
         ensures count { vec_len self.new.ends ≡ vec_len self.old.ends }
         ensures sent { sent outlet.new.end ≡ sent outlet.old.end }

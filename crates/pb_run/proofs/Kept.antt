@@ -12,7 +12,7 @@ use Rattle.pb_run.specs.Gifts.{AreAccesses}
 use Rattle.pb_workers.specs.declared.gift.AccessGift.{AccessGift}
 use Rattle.pb_workers.specs.Ports.{Frames, in_front, behind, IsEnded, KeepsPort}
 use Rattle.pb_lan.specs.Records.{steps_of}
-use Rattle.pb_run.specs.Runs.{ArePortsKept, frames_of, last_of}
+use Rattle.pb_run.specs.Runs.{ArePortsKept, lists_of, frames_of, last_of}
 use Rattle.pb_workers.specs.declared.access.Last.{Last}
 use Rattle.pb_workers.specs.declared.access.Last.TheVariants.{More}
 
@@ -36,8 +36,7 @@ module _ {X P : Type 0} (script tally : P → Option Frames) (was port : X → P
   kept_by (w ∷ ws) all (suc (suc r)) = kept_by ws (All-tail Keeps w ws all) (suc r)
 
   pub kept_ports : (ws : List X) → All Keeps ws
-      → ArePortsKept (record { scripts = map script (map was ws); tallies = map tally (map was ws) })
-      (record { scripts = map script (map port ws); tallies = map tally (map port ws) }) (map steps ws)
+      → ArePortsKept (lists_of script tally (map was ws)) (lists_of script tally (map port ws)) (map steps ws)
       (map last ws)
   kept_ports ws all = record {
     port_count = length-map (map port ws) script ∙ length-map ws port
@@ -51,8 +50,7 @@ module _ {X P : Type 0} (script tally : P → Option Frames) (was port : X → P
   -- the same of ports, lists and answers that come back
   pub kept_back : (ws : List X) (before after : List P) (customers : List (List Step)) (lasts : List Last)
       → map was ws ≡ before → after ≡ map port ws → customers ≡ map steps ws → lasts ≡ map last ws → All Keeps ws
-      → ArePortsKept (record { scripts = map script before; tallies = map tally before })
-      (record { scripts = map script after; tallies = map tally after }) customers lasts
+      → ArePortsKept (lists_of script tally before) (lists_of script tally after) customers lasts
   kept_back ws before after customers lasts eb ea ec el all = rw (el, ec, ea, ← eb) (kept_ports ws all)
 
 -- what is seen of things through what is seen of them
@@ -111,8 +109,7 @@ pub run_kept : {X P D G : Type 0} (script tally : P → Option Frames) (given : 
     → customers ≡ map steps accesses → lasts ≡ map last ws
     → (seen : G → P) → ((w : X) → was w ≡ seen (given w))
     → All (λ w. KeepsPort script tally (was w) (port w) (steps (access w)) (last w)) ws
-    → ArePortsKept (record { scripts = map script before; tallies = map tally before })
-    (record { scripts = map script after; tallies = map tally after }) customers lasts
+    → ArePortsKept (lists_of script tally before) (lists_of script tally after) customers lasts
 run_kept script tally given ws olds before after accesses customers lasts was port access steps last kept ports
     ports_now parts list said seen same all =
     kept_back script tally was port (λ w. steps (access w)) last ws before after customers lasts

@@ -1,5 +1,6 @@
--- What a run tells of its ports and of its end.
-use Rattle.std.specs.Prelude.{◌≡◌, ◌↔◌, ℕ, Bool, IfOk, Option, Result, None, List, length, unwrap_or, All}
+-- What a run guarantees of its record, its ports and its end.
+use Rattle.std.specs.Prelude.{◌≡◌, ◌↔◌, ℕ, Bool, IfOk, Option, Result, None, List, length, map, vec_len, unwrap_or, All}
+use Rattle.std.specs.declared.vec.Vec.{Vec}
 use Rattle.pb_frame.specs.declared.memory.Memory.{Memory}
 use Rattle.pb_lan.specs.Counts.{entered, left, IsDrained}
 use Rattle.pb_lan.specs.Headline.{IsFaithful}
@@ -18,6 +19,8 @@ use Rattle.pb_workers.specs.declared.access.Last.{Last}
 use Rattle.pb_workers.specs.declared.access.Last.TheVariants.{More, End}
 use Rattle.pb_run.specs.declared.ended.Ended.{Ended}
 use Rattle.pb_run.specs.declared.ended.Ended.TheVariants.{Drained}
+use Rattle.pb_run.specs.declared.fault.RunCause.{RunCause}
+use Rattle.pb_run.specs.declared.fault.RunCause.TheVariants.{PortCount}
 
 -- the frames of the port of this number, where it keeps them as a list
 abbrev pub frames_of : List (Option Frames) → ℕ → Option Frames
@@ -27,10 +30,14 @@ frames_of lists number = unwrap_or (numbered lists number) None
 abbrev pub last_of : List Last → ℕ → Last
 last_of lasts number = unwrap_or (numbered lasts number) More
 
--- the scripts and the tallies of the ports before a run and after it
+-- the scripts and the tallies of ports
 pub record Lists : Type 0 where
   pub scripts : List (Option Frames)
   pub tallies : List (Option Frames)
+
+-- the scripts and the tallies that these ports keep
+abbrev pub lists_of : {P : Type 0} → (P → Option Frames) → (P → Option Frames) → List P → Lists
+lists_of script tally ports = record { scripts = map script ports; tallies = map tally ports }
 
 -- what each port gave is what entered there, and what it took is what left; a script that came to its
 -- end is used up
@@ -52,12 +59,19 @@ pub record IsTrueRecord (plan : Plan) (counts : Record) : Type 0 where
   pub headline : IsFaithful plan counts
   pub planned : plan.spanning ≡ Fixed → NoPortIsSet counts → AreTracedFromStart plan counts
 
--- what is told of a run is true: its record is lawful and faithful to what came in, its frames were handled under the start
--- where no port was set, and so on of its ports, its end and its spanning trees
-pub record IsRun (plan : Plan) (before after : Lists) (counts : Record) (lasts : List Last) (end : Ended) (answer : Result (Option Bool) Memory) : Type 0 where
-  pub lawful : IsLawfulRecord spanning_tree plan counts
-  pub headline : IsFaithful plan counts
-  pub planned : plan.spanning ≡ Fixed → NoPortIsSet counts → AreTracedFromStart plan counts
-  pub ports : ArePortsKept before after counts.customers lasts
+-- what a run guarantees: its record is lawful and faithful to what came in, its ports gave what entered and took what left,
+-- what it reports of its end and of its spanning trees is true, and there was one port for each customer port of the plan.
+-- The ports keep these scripts and tallies
+pub record IsRun {P Z : Type 0} (script tally : P → Option Frames) (plan : Plan) (before after : Vec P Z) (counts : Record)
+    (lasts : List Last) (end : Ended) (answer : Result (Option Bool) Memory) : Type 0 where
+  pub steps : IsTrueRecord plan counts
+  pub ports : ArePortsKept (lists_of script tally before.items) (lists_of script tally after.items) counts.customers lasts
   pub ended : TellsEnded plan counts lasts end
   pub settled : IfOk answer (TellsSettled plan counts)
+  pub count : vec_len before ≡ length plan.customers
+
+-- a plan was not run: the cause is PortCount exactly if there were too few ports or too many, and the ports come back as
+-- they were
+pub record HasNotRun {P Z : Type 0} (plan : Plan) (before after : Vec P Z) (cause : RunCause) : Type 0 where
+  pub counted : (cause ≡ PortCount) ↔ (vec_len before ≡ length plan.customers → ⊥)
+  pub unpolled : after.items ≡ before.items

@@ -1,10 +1,12 @@
 -- The rings of a run: one into each local port of each bridge, and one out of it.
-use Rattle.std.specs.Prelude.{◌≡◌, ℕ, ◌+◌, ◌-◌, ◌*◌, ◌≤◌, List, [], Some, slice_get}
+use Rattle.std.specs.Prelude.{◌≡◌, ℕ, ◌+◌, ◌-◌, ◌*◌, ◌≤◌, List, [], Some, slice_get, vec_len, length}
 use Rattle.std.specs.declared.option.Option.{Option}
+use Rattle.std.specs.declared.vec.Vec.{Vec}
 use Rattle.rtrb.specs.Ring.{sent, received, IsPair}
 use Rattle.rtrb.specs.declared.producer.Producer.{Producer}
 use Rattle.rtrb.specs.declared.consumer.Consumer.{Consumer}
 use Rattle.pb_lan.specs.Plans.{IsNumber}
+use Rattle.pb_lan.specs.declared.plan.Plan.{Plan}
 use Rattle.pb_ring.specs.Rings.{RingName, writer_name, reader_name}
 
 -- the number of the ring by which a bridge receives at a local port
@@ -26,6 +28,12 @@ abbrev pub AreNamed : {T A P : Type 0} → List (RingName A) → List (Producer 
 AreNamed {T} {A} {P} names rings =
     (n : ℕ) (ring : Producer T A P × Consumer T A P) → slice_get rings n ≡ Some ring
     → (slice_get names n ≡ Some (writer_name ring.0)) × (slice_get names n ≡ Some (reader_name ring.1))
+
+-- the rings of a plan: 32 for each bridge, which nothing has passed, by these names
+pub record AreRingsOf {T A P Z : Type 0} (plan : Plan) (names : List (RingName A)) (rings : Vec (Producer T A P × Consumer T A P) Z) : Type 0 where
+  pub new : AreNew rings.items
+  pub named : AreNamed names rings.items
+  pub count : vec_len rings ≡ 32 * length plan.bridges
 
 -- the end of this number has not been given away
 abbrev pub IsThere : {X : Type 0} → List (Option X) → ℕ → Type 0

@@ -1,6 +1,6 @@
 //! The workers of a plan, and the rings between them.
 
-ghost use Rattle.std.specs.Prelude.{◌≡◌, ◌≢◌, ◌<◌, ◌+◌, ◌*◌, ℕ, [], true, IfOk, All, length, map, vec_len, slice_index_or};
+ghost use Rattle.std.specs.Prelude.{◌≡◌, ◌≢◌, ◌<◌, ◌+◌, ℕ, [], true, IfOk, All, length, map, vec_len, slice_index_or};
 ghost use Rattle.std.specs.List.{AllByRecursion};
 ghost use Rattle.rtrb.specs.Ring.{sent, received};
 ghost use Rattle.pb_lan.specs.Plans.{IsSound, IsNumber, ports_in};
@@ -8,9 +8,11 @@ ghost use Rattle.pb_frame.specs.Lists.{Rises};
 ghost use Rattle.pb_link.specs.Hands.{at_start as new_customer};
 ghost use Rattle.pb_link.specs.Lanes.{at_start as new_lane};
 ghost use Rattle.pb_ring.specs.Rings.{shown_at};
-ghost use Rattle.pb_run.specs.Gifts.{IsBridgeGift, AreBridges, AreLanes, access_gift, AreAccesses, given_bridge, given_lane, given_access, lane_over};
-ghost use Rattle.pb_run.specs.Wires.{ring_into, ring_out, AreNew, AreNamed, HasInner, HasOuter};
+ghost use Rattle.pb_run.specs.Gifts.{IsBridgeGift, AreBridges, AreLanes, access_gift, AreAccesses};
+ghost use Rattle.pb_run.specs.Gifts.{given_bridge, given_lane, given_access, lane_over};
+ghost use Rattle.pb_run.specs.Wires.{ring_into, ring_out, AreRingsOf, HasInner, HasOuter};
 ghost use Rattle.pb_run.specs.Workers.{IsBuilt};
+ghost use Rattle.pb_workers.specs.Workers.{IsModeFor};
 
 use crate::wires::{Ends, Ring};
 use pb_frame::{Memory, Seq};
@@ -40,12 +42,17 @@ fn sides_of<W: Wiring>(
 ) -> Result<(Inlets<W>, Outlets<W>), Memory>
     requires { (port : ℕ) → IsNumber port 16 → HasInner ends.old.outlets.items ends.old.inlets.items (bridge, port) }
     ensures count { IfOk result (λ sides. (vec_len sides.0.ends ≡ 16) × (vec_len sides.1.ends ≡ 16)) }
-    ensures into { IfOk result (λ sides. (q : ℕ) → q < 16 → slice_index_or (map (λ i. i.number) sides.0.ends.items) q 0 ≡ ring_into bridge (q + 1)) }
-    ensures out { IfOk result (λ sides. (q : ℕ) → q < 16 → slice_index_or (map (λ o. o.number) sides.1.ends.items) q 0 ≡ ring_out bridge (q + 1)) }
+    ensures into { IfOk result (λ sides. (q : ℕ) → q < 16
+        → slice_index_or (map (λ i. i.number) sides.0.ends.items) q 0 ≡ ring_into bridge (q + 1)) }
+    ensures out { IfOk result (λ sides. (q : ℕ) → q < 16
+        → slice_index_or (map (λ o. o.number) sides.1.ends.items) q 0 ≡ ring_out bridge (q + 1)) }
     ensures received { IfOk result (λ sides. (q : ℕ) → shown_at (λ i. received i.end) sides.0.ends.items q ≡ []) }
     ensures sent { IfOk result (λ sides. (q : ℕ) → shown_at (λ o. sent o.end) sides.1.ends.items q ≡ []) }
-    ensures inner { IfOk result (λ sides. (at : ℕ × ℕ) → at.0 ≢ bridge → HasInner ends.old.outlets.items ends.old.inlets.items at → HasInner ends.new.outlets.items ends.new.inlets.items at) }
-    ensures outer { IfOk result (λ sides. (at : ℕ × ℕ) → HasOuter ends.old.outlets.items ends.old.inlets.items at → HasOuter ends.new.outlets.items ends.new.inlets.items at) }
+    ensures inner { IfOk result (λ sides. (at : ℕ × ℕ) → at.0 ≢ bridge
+        → HasInner ends.old.outlets.items ends.old.inlets.items at
+        → HasInner ends.new.outlets.items ends.new.inlets.items at) }
+    ensures outer { IfOk result (λ sides. (at : ℕ × ℕ) → HasOuter ends.old.outlets.items ends.old.inlets.items at
+        → HasOuter ends.new.outlets.items ends.new.inlets.items at) }
 {
     let mut inlets = Vec::with_capacity(alloc, 16)?;
     let mut outlets = Vec::with_capacity(alloc, 16)?;
@@ -65,14 +72,17 @@ fn bridge_worker<W: Wiring>(
     number: u8,
     mode: Mode,
 ) -> Result<BridgeWorker<W>, Memory>
-    requires kept { W.keeps ≡ true → mode.keeps ≡ true }
-    requires set { mode.sets ≡ true → W.sets ≡ true }
+    requires mode { IsModeFor W.keeps W.sets mode }
     requires sound { IsSound plan.now }
     requires bridge { IsNumber number (length plan.now.bridges) }
-    requires there { (port : ℕ) → IsNumber port 16 → HasInner ends.old.outlets.items ends.old.inlets.items (number, port) }
+    requires there { (port : ℕ) → IsNumber port 16
+        → HasInner ends.old.outlets.items ends.old.inlets.items (number, port) }
     ensures gift { IfOk result (λ worker. IsBridgeGift plan.now number (given_bridge worker)) }
-    ensures inner { IfOk result (λ worker. (at : ℕ × ℕ) → at.0 ≢ number → HasInner ends.old.outlets.items ends.old.inlets.items at → HasInner ends.new.outlets.items ends.new.inlets.items at) }
-    ensures outer { IfOk result (λ worker. (at : ℕ × ℕ) → HasOuter ends.old.outlets.items ends.old.inlets.items at → HasOuter ends.new.outlets.items ends.new.inlets.items at) }
+    ensures inner { IfOk result (λ worker. (at : ℕ × ℕ) → at.0 ≢ number
+        → HasInner ends.old.outlets.items ends.old.inlets.items at
+        → HasInner ends.new.outlets.items ends.new.inlets.items at) }
+    ensures outer { IfOk result (λ worker. (at : ℕ × ℕ) → HasOuter ends.old.outlets.items ends.old.inlets.items at
+        → HasOuter ends.new.outlets.items ends.new.inlets.items at) }
 {
     let (ins, outs) = sides_of(alloc, ends, number)?;
     BridgeWorker::new(alloc, plan, number, ins, outs, mode)
@@ -85,12 +95,14 @@ fn bridge_workers<W: Wiring>(
     ends: &mut Ends<W>,
     mode: Mode,
 ) -> Result<Vec<BridgeWorker<W>>, Memory>
-    requires kept { W.keeps ≡ true → mode.keeps ≡ true }
-    requires set { mode.sets ≡ true → W.sets ≡ true }
+    requires mode { IsModeFor W.keeps W.sets mode }
     requires sound { IsSound plan.now }
-    requires there { (at : ℕ × ℕ) → IsNumber at.0 (length plan.now.bridges) → IsNumber at.1 16 → HasInner ends.old.outlets.items ends.old.inlets.items at }
-    ensures gifts { IfOk result (λ workers. AreBridges plan.now (length plan.now.bridges) (map given_bridge workers.items)) }
-    ensures outer { IfOk result (λ workers. (at : ℕ × ℕ) → HasOuter ends.old.outlets.items ends.old.inlets.items at → HasOuter ends.new.outlets.items ends.new.inlets.items at) }
+    requires there { (at : ℕ × ℕ) → IsNumber at.0 (length plan.now.bridges) → IsNumber at.1 16
+        → HasInner ends.old.outlets.items ends.old.inlets.items at }
+    ensures gifts { IfOk result (λ workers. AreBridges plan.now (length plan.now.bridges)
+        (map given_bridge workers.items)) }
+    ensures outer { IfOk result (λ workers. (at : ℕ × ℕ) → HasOuter ends.old.outlets.items ends.old.inlets.items at
+        → HasOuter ends.new.outlets.items ends.new.inlets.items at) }
 {
     let mut workers = Vec::with_capacity(alloc, plan.bridges.len())?;
     for place in 0..plan.bridges.len() {
@@ -139,9 +151,11 @@ fn lane_workers<W: Wiring>(
 ) -> Result<Vec<LaneWorker<W>>, Memory>
     requires kept { W.keeps ≡ true → keeps ≡ true }
     requires sound { IsSound plan.now }
-    requires there { AllByRecursion (HasOuter ends.old.outlets.items ends.old.inlets.items) (ports_in plan.now.links plan.now.customers) }
+    requires there { AllByRecursion (HasOuter ends.old.outlets.items ends.old.inlets.items)
+        (ports_in plan.now.links plan.now.customers) }
     ensures gifts { IfOk result (λ workers. AreLanes plan.now (length plan.now.links) (map given_lane workers.items)) }
-    ensures there { IfOk result (λ workers. AllByRecursion (HasOuter ends.new.outlets.items ends.new.inlets.items) (ports_in [] plan.now.customers)) }
+    ensures there { IfOk result (λ workers. AllByRecursion (HasOuter ends.new.outlets.items ends.new.inlets.items)
+        (ports_in [] plan.now.customers)) }
 {
     let links = plan.links.as_slice();
     let limit = plan.steps as usize;
@@ -180,7 +194,9 @@ fn access_of<W: Wiring>(
     requires outer { HasOuter ends.old.outlets.items ends.old.inlets.items (customer.now.bridge, customer.now.port) }
     ensures gift { given_access result ≡ access_gift number customer.now }
     ensures fresh { (result.place.steps ≡ []) × (result.book.last ≡ Last.More) × (result.book.number ≡ number) }
-    ensures outer { (at : ℕ × ℕ) → at ≢ (customer.now.bridge, customer.now.port) → HasOuter ends.old.outlets.items ends.old.inlets.items at → HasOuter ends.new.outlets.items ends.new.inlets.items at }
+    ensures outer { (at : ℕ × ℕ) → at ≢ (customer.now.bridge, customer.now.port)
+        → HasOuter ends.old.outlets.items ends.old.inlets.items at
+        → HasOuter ends.new.outlets.items ends.new.inlets.items at }
 {
     let (feed, drain) = ends.outer(customer.bridge, customer.port);
     let place = new_customer(alloc, number, keeps);
@@ -196,9 +212,12 @@ fn accesses_of<W: Wiring>(
 ) -> Result<VecDeque<Access<W>>, Memory>
     requires kept { W.keeps ≡ true → keeps ≡ true }
     requires sound { IsSound plan.now }
-    requires there { AllByRecursion (HasOuter ends.old.outlets.items ends.old.inlets.items) (ports_in [] plan.now.customers) }
-    ensures gifts { IfOk result (λ accesses. AreAccesses plan.now (length plan.now.customers) (map given_access accesses.items)) }
-    ensures fresh { IfOk result (λ accesses. All (λ d. (d.place.steps ≡ []) × (d.book.last ≡ Last.More)) accesses.items) }
+    requires there { AllByRecursion (HasOuter ends.old.outlets.items ends.old.inlets.items)
+        (ports_in [] plan.now.customers) }
+    ensures gifts { IfOk result (λ accesses. AreAccesses plan.now (length plan.now.customers)
+        (map given_access accesses.items)) }
+    ensures fresh { IfOk result (λ accesses.
+        All (λ d. (d.place.steps ≡ []) × (d.book.last ≡ Last.More)) accesses.items) }
 {
     let customers = plan.customers.as_slice();
     let limit = plan.steps as usize;
@@ -219,12 +238,9 @@ pub(crate) fn places_of<W: Wiring>(
     rings: Vec<Ring>,
     mode: Mode,
 ) -> Result<Built<W>, Memory>
-    requires kept { W.keeps ≡ true → mode.keeps ≡ true }
-    requires set { mode.sets ≡ true → W.sets ≡ true }
+    requires mode { IsModeFor W.keeps W.sets mode }
     requires sound { IsSound plan.now }
-    requires new { AreNew rings.items }
-    requires named { AreNamed W.rings rings.items }
-    requires count { vec_len rings ≡ 32 * length plan.now.bridges }
+    requires rings { AreRingsOf plan.now W.rings rings }
     ensures { IfOk result (IsBuilt plan.now) }
 {
     let mut ends = Ends::<W>::of(alloc, rings)?;

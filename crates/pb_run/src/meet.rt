@@ -7,7 +7,8 @@ ghost use Rattle.pb_lan.specs.Plans.{IsSound, IsSoundEnd};
 ghost use Rattle.pb_lan.specs.Records.{MeetsCustomer, MeetsOver, steps_of, received, transmitted};
 ghost use Rattle.pb_lan.specs.declared.plan.CustomerPlan.{CustomerPlan};
 ghost use Rattle.pb_lan.specs.declared.plan.LinkPlan.{LinkPlan};
-ghost use Rattle.pb_run.specs.Gifts.{AreBridges, AreLanes, AreAccesses, given_bridge, given_lane, given_access, lane_over};
+ghost use Rattle.pb_run.specs.Gifts.{AreBridges, AreLanes, AreAccesses};
+ghost use Rattle.pb_run.specs.Gifts.{given_bridge, given_lane, given_access, lane_over};
 ghost use Rattle.pb_run.specs.Meetings.{of_customers, of_lanes};
 ghost use Rattle.pb_run.specs.Wires.{ring_into, ring_out};
 ghost use Rattle.pb_run.specs.Workers.{AreSameBridges, AreSameLanes, AreSameAccesses};
@@ -30,7 +31,8 @@ fn meet_access<W: Wiring>(
     ensures bridges { AreSameBridges bridges.old.items bridges.new.items }
     ensures accesses { AreSameAccesses accesses.old.items accesses.new.items }
     ensures meets { (c : CustomerPlan) → slice_get plan.now.customers place ≡ Some c
-        → MeetsCustomer (of_customers (map (λ b. b.bridge.steps) bridges.old.items) (map (λ d. d.place.steps) accesses.old.items)) (place + 1) c }
+        → MeetsCustomer (of_customers (map (λ b. b.bridge.steps) bridges.old.items)
+        (map (λ d. d.place.steps) accesses.old.items)) (place + 1) c }
 {
     let customer = &plan.customers.as_slice()[place];
     let bridge = &mut bridges[usize::from(customer.bridge) - 1];
@@ -49,7 +51,8 @@ pub(crate) fn meet_accesses<W: Wiring>(
     ensures bridges { AreSameBridges bridges.old.items bridges.new.items }
     ensures accesses { AreSameAccesses accesses.old.items accesses.new.items }
     ensures meet { (k : ℕ) (c : CustomerPlan) → k < length plan.now.customers → slice_get plan.now.customers k ≡ Some c
-        → MeetsCustomer (of_customers (map (λ b. b.bridge.steps) bridges.old.items) (map (λ d. d.place.steps) accesses.old.items)) (k + 1) c }
+        → MeetsCustomer (of_customers (map (λ b. b.bridge.steps) bridges.old.items)
+        (map (λ d. d.place.steps) accesses.old.items)) (k + 1) c }
 {
     for place in 0..plan.customers.len() {
         meet_access(plan, bridges, accesses, place);
@@ -66,7 +69,8 @@ fn meet_away<W: Wiring>(
 )
     requires end { IsSoundEnd plan.now from.now }
     requires bridges { AreBridges plan.now (length plan.now.bridges) (map given_bridge bridges.old.items) }
-    requires lane { (number to : ℕ) × (losses : List ℕ) × (slice_get (map given_lane lanes.old.items) place ≡ Some (lane_over number (ring_out from.now.bridge from.now.port) to losses)) }
+    requires lane { (number to : ℕ) × (losses : List ℕ) × (slice_get (map given_lane lanes.old.items) place
+        ≡ Some (lane_over number (ring_out from.now.bridge from.now.port) to losses)) }
     ensures bridges { AreSameBridges bridges.old.items bridges.new.items }
     ensures lanes { AreSameLanes lanes.old.items lanes.new.items }
     ensures onto { IsBeginning (taken (steps_of (map (λ l. l.lane.steps) lanes.old.items) (place + 1)))
@@ -86,10 +90,12 @@ fn meet_here<W: Wiring>(
 )
     requires end { IsSoundEnd plan.now to.now }
     requires bridges { AreBridges plan.now (length plan.now.bridges) (map given_bridge bridges.old.items) }
-    requires lane { (number from : ℕ) × (losses : List ℕ) × (slice_get (map given_lane lanes.old.items) place ≡ Some (lane_over number from (ring_into to.now.bridge to.now.port) losses)) }
+    requires lane { (number from : ℕ) × (losses : List ℕ) × (slice_get (map given_lane lanes.old.items) place
+        ≡ Some (lane_over number from (ring_into to.now.bridge to.now.port) losses)) }
     ensures bridges { AreSameBridges bridges.old.items bridges.new.items }
     ensures lanes { AreSameLanes lanes.old.items lanes.new.items }
-    ensures off { IsBeginning (received to.now.port (steps_of (map (λ b. b.bridge.steps) bridges.old.items) to.now.bridge))
+    ensures off { IsBeginning
+        (received to.now.port (steps_of (map (λ b. b.bridge.steps) bridges.old.items) to.now.bridge))
         (put (steps_of (map (λ l. l.lane.steps) lanes.old.items) (place + 1))) }
 {
     let bridge = &mut bridges[usize::from(to.bridge) - 1];
@@ -110,8 +116,10 @@ fn meet_link<W: Wiring>(
     ensures bridges { AreSameBridges bridges.old.items bridges.new.items }
     ensures lanes { AreSameLanes lanes.old.items lanes.new.items }
     ensures meets { (link : LinkPlan) → slice_get plan.now.links place ≡ Some link
-        → MeetsOver (of_lanes (map (λ b. b.bridge.steps) bridges.old.items) (map (λ l. l.lane.steps) lanes.old.items)) (2 * place + 1) link.a link.b
-        × MeetsOver (of_lanes (map (λ b. b.bridge.steps) bridges.old.items) (map (λ l. l.lane.steps) lanes.old.items)) (2 * place + 2) link.b link.a }
+        → MeetsOver (of_lanes (map (λ b. b.bridge.steps) bridges.old.items) (map (λ l. l.lane.steps) lanes.old.items))
+        (2 * place + 1) link.a link.b
+        × MeetsOver (of_lanes (map (λ b. b.bridge.steps) bridges.old.items) (map (λ l. l.lane.steps) lanes.old.items))
+        (2 * place + 2) link.b link.a }
 {
     let link = &plan.links.as_slice()[place];
     meet_away(plan, bridges, lanes, 2 * place, &link.a);
@@ -132,8 +140,10 @@ pub(crate) fn meet_links<W: Wiring>(
     ensures bridges { AreSameBridges bridges.old.items bridges.new.items }
     ensures lanes { AreSameLanes lanes.old.items lanes.new.items }
     ensures meet { (k : ℕ) (link : LinkPlan) → k < length plan.now.links → slice_get plan.now.links k ≡ Some link
-        → MeetsOver (of_lanes (map (λ b. b.bridge.steps) bridges.old.items) (map (λ l. l.lane.steps) lanes.old.items)) (2 * k + 1) link.a link.b
-        × MeetsOver (of_lanes (map (λ b. b.bridge.steps) bridges.old.items) (map (λ l. l.lane.steps) lanes.old.items)) (2 * k + 2) link.b link.a }
+        → MeetsOver (of_lanes (map (λ b. b.bridge.steps) bridges.old.items) (map (λ l. l.lane.steps) lanes.old.items))
+        (2 * k + 1) link.a link.b
+        × MeetsOver (of_lanes (map (λ b. b.bridge.steps) bridges.old.items) (map (λ l. l.lane.steps) lanes.old.items))
+        (2 * k + 2) link.b link.a }
 {
     for place in 0..plan.links.len() {
         meet_link(plan, bridges, lanes, place);

@@ -3,7 +3,7 @@
 ghost use Rattle.std.specs.Prelude.{◌≡◌, ◌≤◌, ◌<◌, [], All, map, vec_len, vec_capacity};
 ghost use Rattle.std.specs.VecDeque.{deque_len};
 ghost use Rattle.pb_run.specs.Gifts.{given_access};
-ghost use Rattle.pb_workers.specs.Ports.{KeepsPort};
+ghost use Rattle.pb_workers.specs.Workers.{IsPortKept};
 ghost use Rattle.pb_run.specs.Rooms.{IsPushed};
 
 use pb_port::Port;
@@ -26,7 +26,7 @@ pub(crate) fn attended<W: Wiring, P: Port>(
     ensures ports { map (λ w. w.was.value) result.items ≡ ports.items }
     ensures ports_now { map (λ w. w.port) result.items ≡ ports.items }
     ensures gifts { map (λ w. given_access w.access) result.items ≡ map given_access accesses.items }
-    ensures keeps { All (λ w. KeepsPort P.script P.tally w.was.value w.port w.access.place.steps w.access.book.last) result.items }
+    ensures keeps { All (IsPortKept P.script P.tally) result.items }
 {
     let (mut accesses, mut workers) = (accesses, room);
     for port in ports {
@@ -75,7 +75,8 @@ pub(crate) fn apart<W: Wiring, P: Drop>(
     rooms: Parts<Access<W>, P>,
 ) -> Parts<Access<W>, P>
     requires empty { (rooms.ports.items ≡ []) × (rooms.accesses.items ≡ []) × (rooms.lasts.items ≡ []) }
-    requires room { (vec_len workers ≤ vec_capacity rooms.ports) × (vec_len workers ≤ vec_capacity rooms.accesses) × (vec_len workers ≤ vec_capacity rooms.lasts) }
+    requires room { (vec_len workers ≤ vec_capacity rooms.ports) × (vec_len workers ≤ vec_capacity rooms.accesses)
+        × (vec_len workers ≤ vec_capacity rooms.lasts) }
     ensures ports { result.ports.items ≡ map (λ w. w.port) workers.items }
     ensures accesses { result.accesses.items ≡ map (λ w. w.access) workers.items }
     ensures lasts { result.lasts.items ≡ map (λ w. w.access.book.last) workers.items }

@@ -42,7 +42,8 @@ impl Gathered {
         requires tallies { vec_len self.old.tallies < vec_capacity self.old.tallies }
         requires lists { vec_len self.old.lists < vec_capacity self.old.lists }
         ensures tallies { self.new.tallies.items ≡ self.old.tallies.items ++ steps.steps ∷ [] }
-        ensures lists { (kept : _) × (self.new.lists.items ≡ self.old.lists.items ++ kept ∷ []) × (steps.is_kept ≡ true → kept ≡ steps.steps) }
+        ensures lists { (kept : _) × (self.new.lists.items ≡ self.old.lists.items ++ kept ∷ [])
+            × (steps.is_kept ≡ true → kept ≡ steps.steps) }
         ensures tallies_room { vec_capacity self.new.tallies ≡ vec_capacity self.old.tallies }
         ensures lists_room { vec_capacity self.new.lists ≡ vec_capacity self.old.lists }
     {
@@ -58,7 +59,8 @@ pub(crate) fn bridge_lists<W: Wiring>(workers: Vec<BridgeWorker<W>>, mut room: G
     requires room { (vec_len workers ≤ vec_capacity room.tallies) × (vec_len workers ≤ vec_capacity room.lists) }
     ensures steps { result.tallies.items ≡ map (λ b. b.bridge.steps) workers.items }
     ensures kept { W.keeps ≡ true → result.lists.items ≡ map (λ b. b.bridge.steps) workers.items }
-    ensures lawful { All (λ b. IsLawfulBridge spanning_tree b.bridge.plan b.bridge.number b.bridge.steps) workers.items }
+    ensures lawful { All (λ b. IsLawfulBridge spanning_tree b.bridge.plan b.bridge.number b.bridge.steps)
+        workers.items }
     ensures unset { W.sets ≡ false → AllByRecursion (λ steps. list_any is_setting steps ≡ false) result.tallies.items }
 {
     for worker in workers {

@@ -1,17 +1,14 @@
 //! A run of a whole plan.
 
-ghost use Rattle.std.specs.Prelude.{◌≡◌, ◌↔◌, ◌*◌, true, false, IfOk, IfErr, length, map, vec_len};
+ghost use Rattle.std.specs.Prelude.{◌≡◌, true, false, IfOk, IfErr, length, map, vec_len};
 ghost use Rattle.pb_lan.specs.Laws.{AreTracedFromStart, NoPortIsSet};
 ghost use Rattle.pb_lan.specs.Plans.{IsSound};
-ghost use Rattle.pb_lan.specs.Records.{IsLawfulRecord};
 ghost use Rattle.pb_lan.specs.declared.plan.Spanning.TheVariants.{Fixed};
-ghost use Rattle.pb_relay.specs.Protocol.{spanning_tree};
-ghost use Rattle.pb_relay.specs.Settled.{TellsSettled};
-ghost use Rattle.pb_lan.specs.Headline.{IsFaithful};
 ghost use Rattle.pb_run.specs.Rooms.{HasPartRooms, HasPlaceRooms, HasRooms};
-ghost use Rattle.pb_run.specs.Runs.{ArePortsKept, TellsEnded, IsTrueRecord, IsRun};
-ghost use Rattle.pb_run.specs.Wires.{AreNew, AreNamed};
+ghost use Rattle.pb_run.specs.Runs.{IsTrueRecord, IsRun, HasNotRun};
+ghost use Rattle.pb_run.specs.Wires.{AreRingsOf};
 ghost use Rattle.pb_run.specs.Workers.{IsBuilt, AreBack};
+ghost use Rattle.pb_workers.specs.Workers.{IsModeFor};
 
 use crate::build::{Built, places_of};
 use crate::ended::{Causes, Ended, ended_by};
@@ -131,23 +128,22 @@ fn rooms_of<W: Wiring>(alloc: Global, plan: &Plan) -> Result<RoomsOf<W>, Memory>
     })
 }
 
-/// What ended the workers.
-fn causes_of<W: Wiring>(
-    customers: &[CustomerWorker<W, Held>],
-    lanes: &[LaneWorker<W>],
-    bridges: &[BridgeWorker<W>],
-) -> Causes {
+/// The places of a run over such rings.
+type PlacesOf<W> = Places<CustomerWorker<W, Held>, LaneWorker<W>, BridgeWorker<W>>;
+
+/// Returns what ended the workers.
+fn causes_of<W: Wiring>(places: &PlacesOf<W>) -> Causes {
     let mut causes = Causes {
         memory: false,
         limit: false,
     };
-    for worker in customers {
+    for worker in places.customers.as_slice() {
         causes = causes.and(worker.finish);
     }
-    for worker in lanes {
+    for worker in places.lanes.as_slice() {
         causes = causes.and(worker.finish);
     }
-    for worker in bridges {
+    for worker in places.bridges.as_slice() {
         causes = causes.and(worker.finish);
     }
     causes
@@ -201,13 +197,12 @@ fn run_built<W: Wiring + Send, G: Gate, R: Threads + Wait + Clock + Sync>(
     requires count { vec_len ports ≡ length plan.now.customers }
     requires built { IsBuilt plan.now built }
     requires rooms { HasRooms plan.now rooms }
-    ensures run { IfOk result (λ kept. IsRun plan.now (record { scripts = map (λ b. script b) ports.items; tallies = map (λ b. tally b) ports.items })
-        (record { scripts = map (λ b. script b) kept.ran.ports.items; tallies = map (λ b. tally b) kept.ran.ports.items })
+    ensures run { IfOk result (λ kept. IsRun (λ b. script b) (λ b. tally b) plan.now ports kept.ran.ports
         kept.ran.counts kept.ran.last.items kept.ran.ended kept.ran.settled) }
     ensures unset { IfOk result (λ kept. W.sets ≡ false → NoPortIsSet kept.ran.counts) }
     ensures rec { IfOk result (λ kept. W.keeps ≡ true → kept.rec ≡ kept.ran.counts) }
-    ensures fault { IfErr result (λ fault. fault.cause ≡ RunCause.PortCount → ⊥) }
-    ensures unpolled { IfErr result (λ fault. fault.ports.items ≡ ports.items) }
+    ensures failed { IfErr result (λ fault. (fault.cause ≡ RunCause.PortCount → ⊥)
+        × (fault.ports.items ≡ ports.items)) }
 {
     let left = ports.len() as u64;
     let customers = attended(ports, built.accesses, rooms.workers);
@@ -217,11 +212,7 @@ fn run_built<W: Wiring + Send, G: Gate, R: Threads + Wait + Clock + Sync>(
         bridges: built.bridges,
     };
     let Worked { places, verdict } = run_all(rt, alloc, places, gate, limits, left);
-    let causes = causes_of(
-        places.customers.as_slice(),
-        places.lanes.as_slice(),
-        places.bridges.as_slice(),
-    );
+    let causes = causes_of(&places);
     let Parts {
         ports,
         accesses,
@@ -261,20 +252,16 @@ fn run_wired<W: Wiring + Send, G: Gate, R: Threads + Wait + Clock + Sync>(
     limits: Limits,
     mode: Mode,
 ) -> Result<KeptRun, RunFault>
-    requires kept { W.keeps ≡ true → mode.keeps ≡ true }
-    requires set { mode.sets ≡ true → W.sets ≡ true }
+    requires mode { IsModeFor W.keeps W.sets mode }
     requires sound { IsSound plan.now }
     requires count { vec_len ports ≡ length plan.now.customers }
-    requires new { AreNew rings.items }
-    requires named { AreNamed W.rings rings.items }
-    requires rings { vec_len rings ≡ 32 * length plan.now.bridges }
-    ensures run { IfOk result (λ kept. IsRun plan.now (record { scripts = map (λ b. script b) ports.items; tallies = map (λ b. tally b) ports.items })
-        (record { scripts = map (λ b. script b) kept.ran.ports.items; tallies = map (λ b. tally b) kept.ran.ports.items })
+    requires rings { AreRingsOf plan.now W.rings rings }
+    ensures run { IfOk result (λ kept. IsRun (λ b. script b) (λ b. tally b) plan.now ports kept.ran.ports
         kept.ran.counts kept.ran.last.items kept.ran.ended kept.ran.settled) }
     ensures unset { IfOk result (λ kept. W.sets ≡ false → NoPortIsSet kept.ran.counts) }
     ensures rec { IfOk result (λ kept. W.keeps ≡ true → kept.rec ≡ kept.ran.counts) }
-    ensures fault { IfErr result (λ fault. fault.cause ≡ RunCause.PortCount → ⊥) }
-    ensures unpolled { IfErr result (λ fault. fault.ports.items ≡ ports.items) }
+    ensures failed { IfErr result (λ fault. (fault.cause ≡ RunCause.PortCount → ⊥)
+        × (fault.ports.items ≡ ports.items)) }
 {
     let (Ok(built), Ok(rooms)) = (
         places_of::<W>(alloc, plan, rings, mode),
@@ -297,14 +284,11 @@ fn run_places<G: Gate, R: Threads + Wait + Clock + Sync>(
     mode: Mode,
 ) -> Result<KeptRun, RunFault>
     requires { IsSound plan.now }
-    ensures run { IfOk result (λ kept. IsRun plan.now (record { scripts = map (λ b. script b) ports.items; tallies = map (λ b. tally b) ports.items })
-        (record { scripts = map (λ b. script b) kept.ran.ports.items; tallies = map (λ b. tally b) kept.ran.ports.items })
+    ensures run { IfOk result (λ kept. IsRun (λ b. script b) (λ b. tally b) plan.now ports kept.ran.ports
         kept.ran.counts kept.ran.last.items kept.ran.ended kept.ran.settled) }
     ensures unset { IfOk result (λ kept. mode.sets ≡ false → NoPortIsSet kept.ran.counts) }
-    ensures count { IfOk result (λ kept. vec_len ports ≡ length plan.now.customers) }
-    ensures fault { IfErr result (λ fault. (fault.cause ≡ RunCause.PortCount) ↔ (vec_len ports ≡ length plan.now.customers → ⊥)) }
-    ensures unpolled { IfErr result (λ fault. fault.ports.items ≡ ports.items) }
     ensures rec { IfOk result (λ kept. mode.keeps ≡ true → kept.rec ≡ kept.ran.counts) }
+    ensures failed { IfErr result (λ fault. HasNotRun plan.now ports fault.ports fault.cause) }
 {
     if ports.len() != plan.customers.len() {
         let cause = RunCause::PortCount;
@@ -317,28 +301,35 @@ fn run_places<G: Gate, R: Threads + Wait + Clock + Sync>(
     run_wired::<Brand, G, R>(rt, alloc, plan, ports, rings, gate, limits, mode)
 }
 
-/// Runs a sound plan: one worker for each bridge, lane and customer port, in threads of their own, with rings
-/// between them. No worker takes a step before all are started. A bridge ticks once every so many turns. No wish of the gate
-/// is fulfilled: see [`run_set`].
+/// Runs a sound plan: one worker for each bridge, lane and customer port, in threads of their own, with rings between
+/// them. No worker takes a step before all are started. A bridge ticks once every so many turns. No wish of the gate is
+/// fulfilled: see [`run_set`].
 ///
-/// Steps are only counted, so that the memory of a run does not grow with them. Contracts see the record of what all
-/// places did. It is lawful, so that the laws hold of it, whatever the schedule was: each
-/// departure has the octets of an arrival at a port of the same service, less a priority S-tag; a frame that was
-/// handled under a forest leaves each other port at most once, its own never, and none outside its tree; one to a
-/// group that was neither refused nor lost, and has drained, leaves each other port of its service in its tree
-/// once; no frame is multiplied; and frames of one port and one priority keep their order. For each port that keeps
-/// a script, the script before is what entered followed by the script left, and for each that keeps a tally, the
-/// tally after is the tally before followed by what left.
+/// Steps are only counted. The memory of a run does not grow with them. Contracts see the record of what all places
+/// did. It is lawful, and the laws hold of it, whatever the schedule was:
 ///
-/// Where the plan gives the states of the ports, none changes: each frame of a service for which the start is a
-/// forest was handled under that forest.
+/// - Each departure has the octets of an arrival at a port of the same service, less a priority S-tag.
+/// - A frame that was handled under a forest leaves each other port at most once, its own never, and none outside its
+///   tree.
+/// - A frame to a group that was neither refused nor lost, and has drained, leaves each other port of its service in
+///   its tree once.
+/// - No frame is multiplied.
+/// - Frames of one port and one priority keep their order.
 ///
-/// The run has drained exactly where every port came to its end and no frame is on its way. What is told of
-/// settled bridges is told of the bridges after all their steps.
+/// For each port that keeps a script, the script before the run is what entered followed by the script left. For each
+/// port that keeps a tally, the tally after the run is the tally before followed by what left.
 ///
-/// `PortCount` is answered exactly where there are not as many ports as customer ports, `Memory` where there
-/// was none for the workers, `Spawn` where one could not be started. The ports come back as they were then:
-/// none was polled, and none was offered a frame.
+/// If the plan gives the states of the ports, none changes: each frame of a service for which the start is a forest was
+/// handled under that forest.
+///
+/// The run has drained exactly if every port came to its end and no frame is on its way. `settled` reports whether the
+/// bridges have converged after all their steps.
+///
+/// # Errors
+///
+/// `PortCount` exactly if there are not as many ports as customer ports, `Memory` if an allocation for the workers
+/// failed, `Spawn` if a worker could not be started. The ports come back as they were: none was polled, and none was
+/// offered a frame.
 pub fn run<G: Gate, R: Threads + Wait + Clock + Sync>(
     rt: &R,
     alloc: Global,
@@ -348,28 +339,26 @@ pub fn run<G: Gate, R: Threads + Wait + Clock + Sync>(
     limits: Limits,
 ) -> Result<Ran, RunFault>
     requires { IsSound plan.now }
-    ensures lawful { IfOk result (λ ran. IsLawfulRecord spanning_tree plan.now ran.counts) }
-    ensures headline { IfOk result (λ ran. IsFaithful plan.now ran.counts) }
+    ensures run { IfOk result (λ ran. IsRun (λ b. script b) (λ b. tally b) plan.now ports ran.ports
+        ran.counts ran.last.items ran.ended ran.settled) }
     ensures planned { IfOk result (λ ran. plan.now.spanning ≡ Fixed → AreTracedFromStart plan.now ran.counts) }
-    ensures ports { IfOk result (λ ran. ArePortsKept (record { scripts = map (λ b. script b) ports.items; tallies = map (λ b. tally b) ports.items })
-        (record { scripts = map (λ b. script b) ran.ports.items; tallies = map (λ b. tally b) ran.ports.items }) ran.counts.customers ran.last.items) }
-    ensures ended { IfOk result (λ ran. TellsEnded plan.now ran.counts ran.last.items ran.ended) }
-    ensures settled { IfOk result (λ ran. IfOk ran.settled (TellsSettled plan.now ran.counts)) }
-    ensures count { IfOk result (λ ran. vec_len ports ≡ length plan.now.customers) }
-    ensures fault { IfErr result (λ fault. (fault.cause ≡ RunCause.PortCount) ↔ (vec_len ports ≡ length plan.now.customers → ⊥)) }
-    ensures unpolled { IfErr result (λ fault. fault.ports.items ≡ ports.items) }
+    ensures failed { IfErr result (λ fault. HasNotRun plan.now ports fault.ports fault.cause) }
 {
     let mode = Mode::COUNTED;
     let KeptRun { ran, rec: _ } = run_places(rt, alloc, plan, ports, gate, limits, mode)?;
     Ok(ran)
 }
 
-/// Runs a sound plan as [`run`] does, and bridges set their ports to other bridges up and down meanwhile, as the gate
-/// wishes. A wish for any other port does nothing. Each such setting is a step of its bridge like any other, so that the
+/// Runs a sound plan as [`run`] does, and bridges enable and disable their ports to other bridges meanwhile, as the
+/// gate wishes. A wish for any other port does nothing. Each such setting is a step of its bridge like any other. The
 /// record is lawful all the same, and all that follows from that holds.
 ///
-/// Where the plan gives the states of the ports, and none was set, each frame of a service for which the start is a forest
+/// If the plan gives the states of the ports, and none was set, each frame of a service for which the start is a forest
 /// was handled under that forest.
+///
+/// # Errors
+///
+/// Those of [`run`].
 pub fn run_set<G: Gate, R: Threads + Wait + Clock + Sync>(
     rt: &R,
     alloc: Global,
@@ -379,24 +368,21 @@ pub fn run_set<G: Gate, R: Threads + Wait + Clock + Sync>(
     limits: Limits,
 ) -> Result<Ran, RunFault>
     requires { IsSound plan.now }
-    ensures lawful { IfOk result (λ ran. IsLawfulRecord spanning_tree plan.now ran.counts) }
-    ensures headline { IfOk result (λ ran. IsFaithful plan.now ran.counts) }
-    ensures planned { IfOk result (λ ran. plan.now.spanning ≡ Fixed → NoPortIsSet ran.counts → AreTracedFromStart plan.now ran.counts) }
-    ensures ports { IfOk result (λ ran. ArePortsKept (record { scripts = map (λ b. script b) ports.items; tallies = map (λ b. tally b) ports.items })
-        (record { scripts = map (λ b. script b) ran.ports.items; tallies = map (λ b. tally b) ran.ports.items }) ran.counts.customers ran.last.items) }
-    ensures ended { IfOk result (λ ran. TellsEnded plan.now ran.counts ran.last.items ran.ended) }
-    ensures settled { IfOk result (λ ran. IfOk ran.settled (TellsSettled plan.now ran.counts)) }
-    ensures count { IfOk result (λ ran. vec_len ports ≡ length plan.now.customers) }
-    ensures fault { IfErr result (λ fault. (fault.cause ≡ RunCause.PortCount) ↔ (vec_len ports ≡ length plan.now.customers → ⊥)) }
-    ensures unpolled { IfErr result (λ fault. fault.ports.items ≡ ports.items) }
+    ensures run { IfOk result (λ ran. IsRun (λ b. script b) (λ b. tally b) plan.now ports ran.ports
+        ran.counts ran.last.items ran.ended ran.settled) }
+    ensures failed { IfErr result (λ fault. HasNotRun plan.now ports fault.ports fault.cause) }
 {
     let mode = Mode::SET;
     let KeptRun { ran, rec: _ } = run_places(rt, alloc, plan, ports, gate, limits, mode)?;
     Ok(ran)
 }
 
-/// Runs a sound plan as [`run`] does, with places that keep their steps: their record is given besides. The memory of the
-/// run grows with each step.
+/// Runs a sound plan as [`run`] does, with places that keep their steps, and returns their record besides. The memory
+/// of the run grows with each step.
+///
+/// # Errors
+///
+/// Those of [`run`].
 pub fn run_kept<G: Gate, R: Threads + Wait + Clock + Sync>(
     rt: &R,
     alloc: Global,
@@ -406,17 +392,11 @@ pub fn run_kept<G: Gate, R: Threads + Wait + Clock + Sync>(
     limits: Limits,
 ) -> Result<KeptRun, RunFault>
     requires { IsSound plan.now }
-    ensures lawful { IfOk result (λ kept. IsLawfulRecord spanning_tree plan.now kept.rec) }
-    ensures headline { IfOk result (λ kept. IsFaithful plan.now kept.rec) }
+    ensures run { IfOk result (λ kept. IsRun (λ b. script b) (λ b. tally b) plan.now ports kept.ran.ports
+        kept.rec kept.ran.last.items kept.ran.ended kept.ran.settled) }
     ensures planned { IfOk result (λ kept. plan.now.spanning ≡ Fixed → AreTracedFromStart plan.now kept.rec) }
-    ensures ports { IfOk result (λ kept. ArePortsKept (record { scripts = map (λ b. script b) ports.items; tallies = map (λ b. tally b) ports.items })
-        (record { scripts = map (λ b. script b) kept.ran.ports.items; tallies = map (λ b. tally b) kept.ran.ports.items }) kept.rec.customers kept.ran.last.items) }
-    ensures ended { IfOk result (λ kept. TellsEnded plan.now kept.rec kept.ran.last.items kept.ran.ended) }
-    ensures settled { IfOk result (λ kept. IfOk kept.ran.settled (TellsSettled plan.now kept.rec)) }
     ensures counts { IfOk result (λ kept. kept.ran.counts ≡ kept.rec) }
-    ensures count { IfOk result (λ kept. vec_len ports ≡ length plan.now.customers) }
-    ensures fault { IfErr result (λ fault. (fault.cause ≡ RunCause.PortCount) ↔ (vec_len ports ≡ length plan.now.customers → ⊥)) }
-    ensures unpolled { IfErr result (λ fault. fault.ports.items ≡ ports.items) }
+    ensures failed { IfErr result (λ fault. HasNotRun plan.now ports fault.ports fault.cause) }
 {
     let mode = Mode::KEPT;
     run_places(rt, alloc, plan, ports, gate, limits, mode)

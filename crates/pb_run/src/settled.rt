@@ -44,7 +44,8 @@ pub(crate) fn whether_settled<W: Wiring>(
 ) -> Result<Option<bool>, Memory>
     requires sound { IsSound plan.now }
     requires bridges { AreBridges plan.now (length plan.now.bridges) (map given_bridge workers.now) }
-    ensures { IfOk result (λ answer. (rec : Record) → rec.bridges ≡ map (λ b. b.bridge.steps) workers.now → TellsSettled plan.now rec answer) }
+    ensures { IfOk result (λ answer. (rec : Record) → rec.bridges ≡ map (λ b. b.bridge.steps) workers.now
+        → TellsSettled plan.now rec answer) }
 {
     match plan.spanning {
         Spanning::Fixed => Ok(None),

@@ -64,9 +64,12 @@ type Sides<W> = (Vec<Option<Outlet<W>>>, Vec<Option<Inlet<W>>>);
 fn ends_of<W: Wiring>(alloc: Global, rings: Vec<Ring>) -> Result<Sides<W>, Memory>
     requires new { AreNew rings.items }
     requires named { AreNamed W.rings rings.items }
-    ensures sending { IfOk result (λ sides. (n : ℕ) (o : _) → slice_get sides.0.items n ≡ Some (Some o) → (o.number ≡ n) × (sent o.end ≡ [])) }
-    ensures receiving { IfOk result (λ sides. (n : ℕ) (i : _) → slice_get sides.1.items n ≡ Some (Some i) → (i.number ≡ n) × (received i.end ≡ [])) }
-    ensures all { IfOk result (λ sides. (n : ℕ) → n < vec_len rings → IsThere sides.0.items n × IsThere sides.1.items n) }
+    ensures sending { IfOk result (λ sides. (n : ℕ) (o : _) → slice_get sides.0.items n ≡ Some (Some o)
+        → (o.number ≡ n) × (sent o.end ≡ [])) }
+    ensures receiving { IfOk result (λ sides. (n : ℕ) (i : _) → slice_get sides.1.items n ≡ Some (Some i)
+        → (i.number ≡ n) × (received i.end ≡ [])) }
+    ensures all { IfOk result (λ sides. (n : ℕ) → n < vec_len rings
+        → IsThere sides.0.items n × IsThere sides.1.items n) }
 {
     let mut outlets = Vec::with_capacity(alloc, rings.len())?;
     let mut inlets = Vec::with_capacity(alloc, rings.len())?;
@@ -84,8 +87,10 @@ fn ends_of<W: Wiring>(alloc: Global, rings: Vec<Ring>) -> Result<Sides<W>, Memor
 pub(crate) struct Ends<W: Wiring> {
     outlets: Vec<Option<Outlet<W>>>,
     inlets: Vec<Option<Inlet<W>>>,
-    ghost sending: { (n : ℕ) (o : _) → slice_get outlets.items n ≡ Some (Some o) → (o.number ≡ n) × (sent o.end ≡ []) },
-    ghost receiving: { (n : ℕ) (i : _) → slice_get inlets.items n ≡ Some (Some i) → (i.number ≡ n) × (received i.end ≡ []) },
+    ghost sending: { (n : ℕ) (o : _) → slice_get outlets.items n ≡ Some (Some o)
+        → (o.number ≡ n) × (sent o.end ≡ []) },
+    ghost receiving: { (n : ℕ) (i : _) → slice_get inlets.items n ≡ Some (Some i)
+        → (i.number ≡ n) × (received i.end ≡ []) },
 }
 
 impl<W: Wiring> Ends<W> {
@@ -94,7 +99,8 @@ impl<W: Wiring> Ends<W> {
     pub(crate) fn of(alloc: Global, rings: Vec<Ring>) -> Result<Ends<W>, Memory>
         requires new { AreNew rings.items }
         requires named { AreNamed W.rings rings.items }
-        ensures { IfOk result (λ ends. (n : ℕ) → n < vec_len rings → IsThere ends.outlets.items n × IsThere ends.inlets.items n) }
+        ensures { IfOk result (λ ends. (n : ℕ) → n < vec_len rings
+            → IsThere ends.outlets.items n × IsThere ends.inlets.items n) }
     {
         let (outlets, inlets) = ends_of(alloc, rings)?;
         Ok(Ends { outlets, inlets })
@@ -131,8 +137,11 @@ impl<W: Wiring> Ends<W> {
         requires { HasInner self.old.outlets.items self.old.inlets.items (bridge, port) }
         ensures inlet { (result.0.number ≡ ring_into bridge port) × (received result.0.end ≡ []) }
         ensures outlet { (result.1.number ≡ ring_out bridge port) × (sent result.1.end ≡ []) }
-        ensures inner { (at : ℕ × ℕ) → at ≢ (bridge, port) → HasInner self.old.outlets.items self.old.inlets.items at → HasInner self.new.outlets.items self.new.inlets.items at }
-        ensures outer { (at : ℕ × ℕ) → HasOuter self.old.outlets.items self.old.inlets.items at → HasOuter self.new.outlets.items self.new.inlets.items at }
+        ensures inner { (at : ℕ × ℕ) → at ≢ (bridge, port)
+            → HasInner self.old.outlets.items self.old.inlets.items at
+            → HasInner self.new.outlets.items self.new.inlets.items at }
+        ensures outer { (at : ℕ × ℕ) → HasOuter self.old.outlets.items self.old.inlets.items at
+            → HasOuter self.new.outlets.items self.new.inlets.items at }
     {
         let inlet = self.inlet(ring_into(bridge, port));
         let outlet = self.outlet(ring_out(bridge, port));
@@ -145,7 +154,9 @@ impl<W: Wiring> Ends<W> {
         requires { HasOuter self.old.outlets.items self.old.inlets.items (bridge, port) }
         ensures outlet { (result.0.number ≡ ring_into bridge port) × (sent result.0.end ≡ []) }
         ensures inlet { (result.1.number ≡ ring_out bridge port) × (received result.1.end ≡ []) }
-        ensures outer { (at : ℕ × ℕ) → at ≢ (bridge, port) → HasOuter self.old.outlets.items self.old.inlets.items at → HasOuter self.new.outlets.items self.new.inlets.items at }
+        ensures outer { (at : ℕ × ℕ) → at ≢ (bridge, port)
+            → HasOuter self.old.outlets.items self.old.inlets.items at
+            → HasOuter self.new.outlets.items self.new.inlets.items at }
     {
         let outlet = self.outlet(ring_into(bridge, port));
         let inlet = self.inlet(ring_out(bridge, port));

@@ -29,7 +29,8 @@ fn put_count(
     count: u128,
     words: &str,
 ) -> Result<(), Memory>
-    ensures { OnOk result (string_bytes out.new ≡ string_bytes out.old ++ count_line (place_words name.now port) count words.now) }
+    ensures { OnOk result (string_bytes out.new ≡ string_bytes out.old
+        ++ count_line (place_words name.now port) count words.now) }
 {
     if count == 0 {
         return Ok(());
@@ -59,7 +60,8 @@ fn put_port(
 /// The lines of the ports 1 to 16.
 fn put_ports(out: &mut String, name: &str, tally: &Tally) -> Result<(), Memory>
     ensures { OnOk result (string_bytes out.new ≡ string_bytes out.old
-        ++ flat_map (λ port. port_lines name.now port (counts_at port (flat_map refused_by tally.now)) (counts_at port (flat_map dropped_by tally.now))) (range_with_len 1 16)) }
+        ++ flat_map (λ port. port_lines name.now port (counts_at port (flat_map refused_by tally.now))
+        (counts_at port (flat_map dropped_by tally.now))) (range_with_len 1 16)) }
 {
     for port in 1..17u8 {
         let copies = tally.copies_not_queued(port);
@@ -90,9 +92,9 @@ fn put_bridge(out: &mut String, name: &str, tally: &Tally) -> Result<(), Memory>
     put_sources(out, name, tally.sources_not_learnt())
 }
 
-/// Puts behind a text how often bridges had no room, so that nothing is lost in silence. For each bridge of the plan,
-/// in the plan's order, there are lines of these forms, each with what is counted in the steps of its list, and none
-/// where it is 0:
+/// Appends to a text how often queues and learning tables of bridges were full. No loss is silent. Each bridge of the
+/// plan has, in the plan's order, lines of these forms, each with a count of the steps in the bridge's list. A count of
+/// 0 has no line:
 ///
 /// ```text
 /// bridge B2 port 1: 2571 copies not queued: full
@@ -103,13 +105,15 @@ fn put_bridge(out: &mut String, name: &str, tally: &Tally) -> Result<(), Memory>
 /// bridge B2: 2 sources not learnt: memory
 /// ```
 ///
-/// The local ports come first, 1 to 16, each with its four lines in this order, and then the two of the bridge.
-/// A copy of a relayed frame, or a BPDU of the bridge's own, is not queued at a port whose queue held its capacity, or
-/// where there was no memory for it (802.1Q clauses 8.6.6 and 8.6.7). A source is not learnt where the learning table
-/// held its limit of live entries, or where there was no memory for one (802.1Q clause 8.8). A bridge of which the record
-/// has no list has no lines, and lists behind the plan's last bridge are not told.
+/// The local ports come first, 1 to 16, each with its four lines in this order. The two lines of the bridge follow.
+/// A copy of a relayed frame, or a BPDU of the bridge's own, is not queued at a port if the queue is full or an
+/// allocation failed (802.1Q clauses 8.6.6 and 8.6.7). A source is not learnt if the learning table holds its limit of
+/// live entries or an allocation failed (802.1Q clause 8.8). A bridge for which the record has no list has no lines.
+/// Lists after the plan's last bridge have none either.
 ///
-/// `Memory` is answered where memory ran out, and then a part may stand behind the text.
+/// # Errors
+///
+/// `Memory` if an allocation failed. A part of the lines may follow the text then.
 pub fn put_losses(out: &mut String, plan: &Plan, tallies: &Tallies) -> Result<(), Memory>
     ensures { OnOk result (string_bytes out.new ≡ string_bytes out.old ++ losses_text plan.now tallies.now) }
 {

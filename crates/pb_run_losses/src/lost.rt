@@ -22,12 +22,14 @@ fn put_unsettled(out: &mut String, settled: &Result<Option<bool>, Memory>) -> Re
     Ok(())
 }
 
-/// What a run lost, in lines, by its ports, its record and what is told of its bridges: for each customer port `port NAME: N frames not written`, those that its port took and
-/// still has and those that came to it after a write had failed; what [`put_losses`] tells; and `bridges not settled`
-/// where the bridges decide the states of ports and have not settled (IEEE 802.1D-2004 clause 17). The text is empty where
-/// there is nothing to tell.
+/// Returns what a run lost, in lines: for each customer port `port NAME: N frames not written`, which counts the frames
+/// that its port took and still has and those that came to it after a write had failed; the lines of [`put_losses`];
+/// and `bridges not settled` if the bridges decide the states of ports and have not converged (IEEE 802.1D-2004
+/// clause 17). The text is empty if nothing was lost.
 ///
-/// `Memory` is answered where memory for the text ran out.
+/// # Errors
+///
+/// `Memory` if an allocation for the text failed.
 pub fn lost_of(
     alloc: Global,
     plan: &Plan,
@@ -37,7 +39,8 @@ pub fn lost_of(
 ) -> Result<String, Memory>
     requires ports { length ports.now ≡ length plan.now.customers }
     requires lists { length counts.now.customers ≡ length plan.now.customers }
-    ensures { IfOk result (λ text. string_bytes text ≡ lost_text plan.now counts.now settled.now (map (λ b. waiting b) ports.now)) }
+    ensures { IfOk result (λ text. string_bytes text
+        ≡ lost_text plan.now counts.now settled.now (map (λ b. waiting b) ports.now)) }
 {
     let mut out = String::new(alloc);
     let customers = plan.customers.as_slice();

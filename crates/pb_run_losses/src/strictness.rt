@@ -9,10 +9,10 @@ const LOST: u8 = 4;
 /// Whether a run that lost something has an exit status of its own.
 #[derive(Clone, Copy, PartialEq, Eq, Debug)]
 pub enum Strictness {
-    /// It has not: the status is 0 where no fault is told.
+    /// It has not: the status is 0 if no fault is reported.
     Lenient,
-    /// It has: 4 in place of 0 where a copy, a BPDU or a source found no room, a frame could not be written, the run did
-    /// not end drained, or bridges have not settled.
+    /// It has: 4 in place of 0 if a queue or a learning table was full, a frame could not be written, the run did not
+    /// end drained, or the bridges have not converged.
     Strict,
 }
 

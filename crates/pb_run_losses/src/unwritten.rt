@@ -30,7 +30,8 @@ pub(crate) fn put_unwritten(
 ) -> Result<(), Memory>
     requires ports { length ports.now ≡ length customers.now }
     requires tallies { length tallies.now ≡ length customers.now }
-    ensures { OnOk result (string_bytes out.new ≡ string_bytes out.old ++ unwritten_lines customers.now (map (λ b. waiting b) ports.now) tallies.now) }
+    ensures { OnOk result (string_bytes out.new ≡ string_bytes out.old
+        ++ unwritten_lines customers.now (map (λ b. waiting b) ports.now) tallies.now) }
 {
     for (index, customer) in customers.iter().enumerate() {
         let unsent = ports[index].unsent().len() as u64;

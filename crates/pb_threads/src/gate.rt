@@ -40,7 +40,7 @@ pub trait Gate: Sync {
     /// Copies of a frame found no room at a place.
     fn refused(&self, _place: Place, _copies: u64) {}
 
-    /// What a local port of a place is like: told of each port before the place's first turn, and after each turn that may
-    /// have changed one.
+    /// Receives the role and the state of a local port of a place: of each port before the place's first turn, and
+    /// after each turn that may have changed one.
     fn shows(&self, _place: Place, _port: u8, _view: PortView) {}
 }

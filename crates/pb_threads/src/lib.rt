@@ -16,5 +16,5 @@ mod words;
 pub use gate::{Gate, Go, Wish};
 pub use threads::{Places, WorkFault, Worked, run_all};
 pub use ticks::Moment;
-pub use turns::{Did, Finish, Turn, Work};
+pub use turns::{Finish, Turn, TurnStatus, Work};
 pub use view::PortView;

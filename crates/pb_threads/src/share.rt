@@ -10,8 +10,8 @@ const PART: u64 = 64;
 const PATIENCE: u32 = 32;
 
 /// How much the word that all workers share says beyond what is left to do, on this worker's account. The worker counts
-/// against it, so that it writes that word once in many turns. Never is more left than the word says, and once all workers
-/// have given back their shares, it says what is left. No contract speaks of it.
+/// against it, and so writes that word once in many turns. The word is never below what is left to do. Once all workers
+/// have given back their shares, it is what is left. No contract speaks of it.
 #[derive(Drop)]
 pub(crate) struct Share {
     spare: u64,

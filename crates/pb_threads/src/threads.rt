@@ -112,7 +112,8 @@ fn start_all<'s, E, T: Work + Send + 's, G: Gate, R: Threads + Wait + Clock + Sy
 )
     requires room { (children.old.items ≡ []) × (vec_len places ≤ deque_capacity children.old) }
     requires fits { All T.fits places.items }
-    ensures held { All (λ x. IsHeld (λ h. h.promise.0.value) (IsBack T.given T.fits) x.was.value x.child) children.new.items }
+    ensures held { All (λ x. IsHeld (λ h. h.promise.0.value) (IsBack T.given T.fits) x.was.value x.child)
+        children.new.items }
     ensures was { map (λ x. x.was.value) children.new.items ≡ places.items }
     ensures len { deque_len children.new ≡ vec_len places }
 {
@@ -142,7 +143,8 @@ fn join_all<T: Work, R: Threads>(
     places: &mut Vec<T>,
 ) -> bool
     requires room { (places.old.items ≡ []) × (deque_len children.old ≤ vec_capacity places.old) }
-    requires held { All (λ x. IsHeld (λ h. h.promise.0.value) (IsBack T.given T.fits) x.was.value x.child) children.old.items }
+    requires held { All (λ x. IsHeld (λ h. h.promise.0.value) (IsBack T.given T.fits) x.was.value x.child)
+        children.old.items }
     ensures fits { All T.fits places.new.items }
     ensures given { map T.given places.new.items ≡ map T.given (map (λ x. x.was.value) children.old.items) }
     ensures untouched { result ≡ false → places.new.items ≡ map (λ x. x.was.value) children.old.items }

@@ -18,24 +18,24 @@ use std::time::{Clock, Duration};
 /// The local ports of a place.
 const PORTS: u8 = 16;
 
-/// What a turn did.
+/// The status of a turn.
 #[derive(Clone, Copy, PartialEq, Eq, Debug)]
-pub enum Did {
+pub enum TurnStatus {
     /// There was nothing to do.
     Idle,
-    /// The place took a step, or something else that it had to do was done.
+    /// The place took a step, or did something else that was due.
     Done,
-    /// Memory was refused. The worker ends.
+    /// An allocation failed. The worker ends.
     Memory,
     /// The place has taken as many steps as it may. The worker ends.
     Limit,
 }
 
-/// What a turn did, how much more and less is left to do in the whole run, and what was lost.
+/// The result of a turn: its status, how much more and less is left to do in the whole run, and what was lost.
 #[derive(Clone, Copy, PartialEq, Eq, Debug)]
 pub struct Turn {
-    /// What it did.
-    pub did: Did,
+    /// Its status.
+    pub status: TurnStatus,
     /// How much more is left.
     pub more: u64,
     /// How much less is left.
@@ -49,7 +49,7 @@ pub struct Turn {
 impl Turn {
     /// A turn in which there was nothing to do.
     pub const IDLE: Turn = Turn {
-        did: Did::Idle,
+        status: TurnStatus::Idle,
         more: 0,
         fewer: 0,
         refused: 0,
@@ -133,12 +133,12 @@ fn is_ended<G: Gate>(gate: &G, words: &Words, place: Place, turn: u64) -> bool {
     is_stopped
 }
 
-/// Why a worker ends after a turn that did this, where it does.
-fn own_end(did: Did) -> Option<Finish> {
-    match did {
-        Did::Idle | Did::Done => None,
-        Did::Memory => Some(Finish::Memory),
-        Did::Limit => Some(Finish::Limit),
+/// Returns why a worker ends after a turn with this status, if it does.
+fn own_end(status: TurnStatus) -> Option<Finish> {
+    match status {
+        TurnStatus::Idle | TurnStatus::Done => None,
+        TurnStatus::Memory => Some(Finish::Memory),
+        TurnStatus::Limit => Some(Finish::Limit),
     }
 }
 
@@ -202,11 +202,11 @@ fn take_turns<T: Work, G: Gate, R: Clock>(
         if turned.has_stirred {
             show_ports(owned, gate, place);
         }
-        if let Some(finish) = own_end(turned.did) {
+        if let Some(finish) = own_end(turned.status) {
             return finish;
         }
-        idle = match turned.did {
-            Did::Idle => {
+        idle = match turned.status {
+            TurnStatus::Idle => {
                 rest(rt, idle);
                 idle.saturating_add(1)
             }

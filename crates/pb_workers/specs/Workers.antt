@@ -1,11 +1,22 @@
--- The worker of a bridge and its rings.
-use Rattle.std.specs.Prelude.{◌≡◌, ℕ, ◌-◌, ◌<◌, ◌≤◌, List, [], map, vec_len, slice_index_or}
+-- The workers of places and their rings.
+use Rattle.std.specs.Prelude.{◌≡◌, ℕ, ◌-◌, ◌<◌, ◌≤◌, Bool, true, Option, List, [], map, vec_len, slice_index_or}
 use Rattle.rtrb.specs.Ring.{sent, received as received_over}
 use Rattle.pb_ring.specs.Rings.{shown_at}
 use Rattle.pb_ring.specs.declared.ends.Wiring.{Ghosts}
 use Rattle.pb_ring.specs.declared.sides.Inlets.{Inlets}
 use Rattle.pb_ring.specs.declared.sides.Outlets.{Outlets}
+use Rattle.pb_workers.specs.Ports.{Frames, KeepsPort}
+use Rattle.pb_workers.specs.declared.access.Access.{Access}
 use Rattle.pb_workers.specs.declared.bridge.BridgeWorker.{BridgeWorker}
+use Rattle.pb_workers.specs.declared.customer.CustomerWorker.{CustomerWorker}
+use Rattle.pb_workers.specs.declared.lane.LaneWorker.{LaneWorker}
+use Rattle.pb_workers.specs.declared.mode.Mode.{Mode}
+
+-- places over rings may work in this mode: they keep their steps if the rings ask for it, and set ports only if the rings
+-- allow it
+pub record IsModeFor (keeps sets : Bool) (mode : Mode) : Type 0 where
+  pub kept : keeps ≡ true → mode.keeps ≡ true
+  pub set : mode.sets ≡ true → sets ≡ true
 
 -- a bridge has as many rings to send by as to receive by, and nothing has passed them
 pub record AreNewSides {X : Type 0} {W : Ghosts X} (ins : Inlets X W) (outs : Outlets X W) : Type 0 where
@@ -13,7 +24,34 @@ pub record AreNewSides {X : Type 0} {W : Ghosts X} (ins : Inlets X W) (outs : Ou
   pub came : (q : ℕ) → shown_at (λ i. received_over i.end) ins.ends.items q ≡ []
   pub went : (q : ℕ) → shown_at (λ o. sent o.end) outs.ends.items q ≡ []
 
--- a bridge's worker has its number, its ports and the numbers of its rings still, and its bridge the plan and its number
+-- the access keeps the number of its place, the numbers of its rings, and its book
+pub record IsSameAccess {X : Type 0} {W : Ghosts X} (old new : Access X W) : Type 0 where
+  pub place : new.place.number ≡ old.place.number
+  pub feed : new.feed.number ≡ old.feed.number
+  pub drain : new.drain.number ≡ old.drain.number
+  pub book : new.book ≡ old.book
+
+-- a customer port's worker keeps the port as it was given it, and the numbers of its place, its book and its rings
+pub record IsSameCustomer {X P : Type 0} {W : Ghosts X} (old new : CustomerWorker X P W) : Type 0 where
+  pub was : new.was ≡ old.was
+  pub place : new.access.place.number ≡ old.access.place.number
+  pub book : new.access.book.number ≡ old.access.book.number
+  pub feed : new.access.feed.number ≡ old.access.feed.number
+  pub drain : new.access.drain.number ≡ old.access.drain.number
+
+-- what a worker's port gave since the worker has it is what entered, and what the port took is what left
+abbrev pub IsPortKept : {X P : Type 0} {W : Ghosts X} → (P → Option Frames) → (P → Option Frames) → CustomerWorker X P W → Type 0
+IsPortKept script tally worker =
+    KeepsPort script tally worker.was.value worker.port worker.access.place.steps worker.access.book.last
+
+-- a lane's worker keeps its number, the numbers of its rings, and the losses of its lane
+pub record IsSameLane {X : Type 0} {W : Ghosts X} (old new : LaneWorker X W) : Type 0 where
+  pub number : new.number ≡ old.number
+  pub from : new.from.number ≡ old.from.number
+  pub to : new.to.number ≡ old.to.number
+  pub losses : new.lane.losses ≡ old.lane.losses
+
+-- a bridge's worker keeps its number, its ports and the numbers of its rings, and its bridge the plan and its number
 pub record IsSameBridge {X : Type 0} {W : Ghosts X} (old new : BridgeWorker X W) : Type 0 where
   pub number : new.number ≡ old.number
   pub plan : new.bridge.plan ≡ old.bridge.plan
@@ -22,6 +60,15 @@ pub record IsSameBridge {X : Type 0} {W : Ghosts X} (old new : BridgeWorker X W)
   pub count : vec_len new.ins.ends ≡ vec_len old.ins.ends
   pub ins : map (λ i. i.number) new.ins.ends.items ≡ map (λ i. i.number) old.ins.ends.items
   pub outs : map (λ o. o.number) new.outs.ends.items ≡ map (λ o. o.number) old.outs.ends.items
+
+-- a bridge's worker keeps all that, and its rings are unchanged
+pub record KeepsRings {X : Type 0} {W : Ghosts X} (old new : BridgeWorker X W) : Type 0 where
+  pub number : new.number ≡ old.number
+  pub plan : new.bridge.plan ≡ old.bridge.plan
+  pub bridge : new.bridge.number ≡ old.bridge.number
+  pub ports : new.ports ≡ old.ports
+  pub ins : new.ins ≡ old.ins
+  pub outs : new.outs ≡ old.outs
 
 -- a bridge's worker has two rings at a local port: it receives by the one of this number, and sends by the one of that
 pub record HasRings {X : Type 0} {W : Ghosts X} (worker : BridgeWorker X W) (at receives sends : ℕ) : Type 0 where

@@ -1,6 +1,7 @@
 //! A customer's access to its bridge: the place of a customer port with its ring ends.
 
-ghost use Rattle.std.specs.Prelude.{◌≡◌, ◌++◌, ◌∷◌, [], true, false, Ok, Some, IsSome, OnOk, OnErr, option_to_list, if◌then◌else◌};
+ghost use Rattle.std.specs.Prelude.{◌≡◌, ◌++◌, ◌∷◌, [], true, false, Ok, Some, if◌then◌else◌};
+ghost use Rattle.std.specs.Prelude.{IsSome, OnOk, OnErr, option_to_list};
 ghost use Rattle.rtrb.specs.Ring.{sent, received};
 ghost use Rattle.pb_lan.specs.Counts.{entered, left};
 ghost use Rattle.pb_lan.specs.Events.{is_hand_empty};
@@ -65,6 +66,8 @@ fn reserve(place: &mut CustomerPlace, limit: usize) -> Result<(), Refusal>
 }
 
 impl<W: Wiring> Access<W> {
+    ghost use Rattle.pb_workers.specs.Workers.{IsSameAccess};
+
     /// The access of a customer port that has taken no step, over rings that nothing has passed. It may take so many
     /// steps. Takes no memory.
     pub fn new(
@@ -96,11 +99,10 @@ impl<W: Wiring> Access<W> {
 
     /// Whether a frame may be polled: none is in hand, and more may come. A step is reserved then.
     pub(crate) fn asks(&mut self) -> Taken
-        ensures place { self.new.place.number ≡ self.old.place.number }
-        ensures rings { (self.new.feed.number ≡ self.old.feed.number) × (self.new.drain.number ≡ self.old.drain.number) }
-        ensures book { self.new.book ≡ self.old.book }
+        ensures same { IsSameAccess self.old self.new }
         ensures steps { self.new.place.steps ≡ self.old.place.steps }
-        ensures ready { result ≡ Ok true → (self.new.place.is_reserved ≡ true) × (is_hand_empty self.new.place.steps ≡ true) }
+        ensures ready { result ≡ Ok true
+            → (self.new.place.is_reserved ≡ true) × (is_hand_empty self.new.place.steps ≡ true) }
         ensures more { result ≡ Ok true → self.old.book.last ≡ Last.More }
     {
         if !self.place.is_hand_empty() || self.book.last != Last::More {
@@ -114,9 +116,7 @@ impl<W: Wiring> Access<W> {
     pub(crate) fn take_in(&mut self, frame: Bytes)
         requires reserved { self.old.place.is_reserved ≡ true }
         requires empty { is_hand_empty self.old.place.steps ≡ true }
-        ensures place { self.new.place.number ≡ self.old.place.number }
-        ensures rings { (self.new.feed.number ≡ self.old.feed.number) × (self.new.drain.number ≡ self.old.drain.number) }
-        ensures book { self.new.book ≡ self.old.book }
+        ensures same { IsSameAccess self.old self.new }
         ensures entered { entered self.new.place.steps ≡ entered self.old.place.steps ++ frame ∷ [] }
         ensures left { left self.new.place.steps ≡ left self.old.place.steps }
     {
@@ -125,9 +125,7 @@ impl<W: Wiring> Access<W> {
 
     /// Feeds the frame in hand to the bridge, where one is there and the ring has room.
     pub(crate) fn hand_on(&mut self) -> Taken
-        ensures place { self.new.place.number ≡ self.old.place.number }
-        ensures rings { (self.new.feed.number ≡ self.old.feed.number) × (self.new.drain.number ≡ self.old.drain.number) }
-        ensures book { self.new.book ≡ self.old.book }
+        ensures same { IsSameAccess self.old self.new }
         ensures entered { entered self.new.place.steps ≡ entered self.old.place.steps }
         ensures left { left self.new.place.steps ≡ left self.old.place.steps }
     {
@@ -142,9 +140,7 @@ impl<W: Wiring> Access<W> {
 
     /// Whether an item waits to be offered. A step is reserved then.
     pub(crate) fn fetch(&mut self) -> Taken
-        ensures place { self.new.place.number ≡ self.old.place.number }
-        ensures rings { (self.new.feed.number ≡ self.old.feed.number) × (self.new.drain.number ≡ self.old.drain.number) }
-        ensures book { self.new.book ≡ self.old.book }
+        ensures same { IsSameAccess self.old self.new }
         ensures steps { self.new.place.steps ≡ self.old.place.steps }
         ensures ready { result ≡ Ok true → (self.new.place.is_reserved ≡ true) × IsSome self.new.offered }
     {
@@ -162,11 +158,10 @@ impl<W: Wiring> Access<W> {
     pub(crate) fn let_out(&mut self, gone: bool)
         requires reserved { self.old.place.is_reserved ≡ true }
         requires some { IsSome self.old.offered }
-        ensures place { self.new.place.number ≡ self.old.place.number }
-        ensures rings { (self.new.feed.number ≡ self.old.feed.number) × (self.new.drain.number ≡ self.old.drain.number) }
-        ensures book { self.new.book ≡ self.old.book }
+        ensures same { IsSameAccess self.old self.new }
         ensures entered { entered self.new.place.steps ≡ entered self.old.place.steps }
-        ensures left { (item : _) → self.old.offered ≡ Some item → left self.new.place.steps ≡ left self.old.place.steps ++ (if gone then [] else item.wire ∷ []) }
+        ensures left { (item : _) → self.old.offered ≡ Some item
+            → left self.new.place.steps ≡ left self.old.place.steps ++ (if gone then [] else item.wire ∷ []) }
     {
         let Some(item) = self.offered.take() else {
             unreachable!();

@@ -1,6 +1,7 @@
 //! The worker of a bridge.
 
-ghost use Rattle.std.specs.Prelude.{◌≡◌, ◌&&◌, ◌<◌, ◌≤◌, ◌+◌, ◌-◌, ℕ, [], true, false, IfOk, OnErr, length, map, vec_len, slice_index_or};
+ghost use Rattle.std.specs.Prelude.{◌≡◌, ◌&&◌, ◌<◌, ◌≤◌, ◌+◌, ◌-◌, ℕ, [], true, false, IfOk, OnErr};
+ghost use Rattle.std.specs.Prelude.{length, map, vec_len, slice_index_or};
 ghost use Rattle.std.specs.List.{list_any};
 ghost use Rattle.rtrb.specs.Ring.{sent, received as received_over};
 ghost use Rattle.pb_frame.specs.Lists.{IsBeginning};
@@ -22,11 +23,11 @@ use crate::mode::Mode;
 use crate::refusal::{Refusal, Taken, turn};
 use crate::used::used_ports;
 use crate::view::view_of;
-use pb_frame::Memory;
+use pb_frame::{Memory, index_of};
 use pb_lan::{Outcome, Place, Plan};
 use pb_relay::{Bridge, BridgeFault};
 use pb_ring::{Inlets, Outlets, Wiring};
-use pb_threads::{Did, Finish, Moment, PortView, Turn, Wish, Work};
+use pb_threads::{Finish, Moment, PortView, Turn, TurnStatus, Wish, Work};
 use std::alloc::Global;
 
 /// A bridge of a plan with the rings at its local ports: by one it receives, and by the other it sends.
@@ -108,7 +109,7 @@ fn copies_of(outcome: &Outcome) -> Copies {
 fn received(is_marked: bool, outcome: &Outcome) -> Turn {
     let Copies { queued, refused } = copies_of(outcome);
     Turn {
-        did: Did::Done,
+        status: TurnStatus::Done,
         more: if is_marked { queued } else { 0 },
         fewer: u64::from(is_marked),
         refused,
@@ -125,7 +126,7 @@ fn stirred(turn: Turn) -> Turn {
 }
 
 impl<W: Wiring> BridgeWorker<W> {
-    ghost use Rattle.pb_workers.specs.Workers.{AreNewSides, IsSameBridge, HasRings};
+    ghost use Rattle.pb_workers.specs.Workers.{IsModeFor, AreNewSides, IsSameBridge, KeepsRings, HasRings};
 
     /// The worker of the bridge of this number, which has taken no step, over rings that nothing has
     /// passed. It serves the local ports that the plan uses and that have rings. By its mode it keeps its steps or only
@@ -140,8 +141,7 @@ impl<W: Wiring> BridgeWorker<W> {
         outs: Outlets<W>,
         mode: Mode,
     ) -> Result<BridgeWorker<W>, Memory>
-        requires kept { W.keeps ≡ true → mode.keeps ≡ true }
-        requires set { mode.sets ≡ true → W.sets ≡ true }
+        requires mode { IsModeFor W.keeps W.sets mode }
         requires sound { IsSound plan.now }
         requires bridge { IsNumber number (length plan.now.bridges) }
         requires sides { AreNewSides ins outs }
@@ -169,7 +169,7 @@ impl<W: Wiring> BridgeWorker<W> {
         requires used { is_used (port_at self.old.bridge.plan self.old.bridge.number port) ≡ true }
         ensures { IsSameBridge self.old self.new }
     {
-        let place = port as usize - 1;
+        let place = index_of(port);
         if self.bridge.waiting(port) == 0 || !self.outs.has_room(place) {
             return Ok(false);
         }
@@ -179,13 +179,13 @@ impl<W: Wiring> BridgeWorker<W> {
         Ok(true)
     }
 
-    /// Receives the item that came first to a port, where one did.
+    /// Receives the first item that came to a port, if one came.
     fn receive(&mut self, port: u8) -> Turn
         requires port { (0 < port) × (port ≤ vec_len self.old.ins.ends) }
         requires used { is_used (port_at self.old.bridge.plan self.old.bridge.number port) ≡ true }
         ensures { IsSameBridge self.old self.new }
     {
-        let place = port as usize - 1;
+        let place = index_of(port);
         if !self.ins.has_item(place) {
             return turn(Ok(false), 0, 0);
         }
@@ -204,26 +204,22 @@ impl<W: Wiring> BridgeWorker<W> {
 
     /// The clock ticks.
     fn tick(&mut self) -> Taken
-        ensures number { self.new.number ≡ self.old.number }
-        ensures bridge { (self.new.bridge.plan ≡ self.old.bridge.plan) × (self.new.bridge.number ≡ self.old.bridge.number) }
-        ensures ports { self.new.ports ≡ self.old.ports }
-        ensures rings { (self.new.ins ≡ self.old.ins) × (self.new.outs ≡ self.old.outs) }
+        ensures { KeepsRings self.old self.new }
     {
         self.bridge.tick()?;
         Ok(true)
     }
 
-    /// Sets a port to another bridge up or down, where the worker fulfils wishes and the bridge has such a port. Else nothing
-    /// has changed.
+    /// Enables or disables a port to another bridge, if the worker fulfils wishes and the bridge has such a port.
+    /// Changes nothing otherwise.
     fn set(&mut self, wish: Wish) -> Taken
-        ensures whether { IfOk result (λ has_set. has_set ≡ (self.old.sets && is_provider (port_at self.old.bridge.plan self.old.bridge.number wish.port))) }
-        ensures done { IfOk result (λ has_set. has_set ≡ true → HasSet self.old.bridge wish.port wish.up self.new.bridge) }
+        ensures whether { IfOk result (λ has_set. has_set
+            ≡ (self.old.sets && is_provider (port_at self.old.bridge.plan self.old.bridge.number wish.port))) }
+        ensures done { IfOk result (λ has_set. has_set ≡ true
+            → HasSet self.old.bridge wish.port wish.up self.new.bridge) }
         ensures left { IfOk result (λ has_set. has_set ≡ false → self.new.bridge ≡ self.old.bridge) }
         ensures err { OnErr result (self.new.bridge ≡ self.old.bridge) }
-        ensures number { self.new.number ≡ self.old.number }
-        ensures bridge { (self.new.bridge.plan ≡ self.old.bridge.plan) × (self.new.bridge.number ≡ self.old.bridge.number) }
-        ensures ports { self.new.ports ≡ self.old.ports }
-        ensures rings { (self.new.ins ≡ self.old.ins) × (self.new.outs ≡ self.old.outs) }
+        ensures same { KeepsRings self.old self.new }
     {
         if !self.sets || !self.bridge.has_link(wish.port) {
             return Ok(false);
@@ -254,7 +250,7 @@ impl<W: Wiring> BridgeWorker<W> {
             let place = self.next.wrapping_add(ahead) % count;
             let port = self.ports[place];
             let served = self.serve(port);
-            if served.did != Did::Idle {
+            if served.status != TurnStatus::Idle {
                 self.next = place.wrapping_add(1);
                 return served;
             }
@@ -271,18 +267,21 @@ impl<W: Wiring> BridgeWorker<W> {
         ensures bridge { (self.new.bridge ≡ self.old.bridge) × (self.new.number ≡ self.old.number) }
         ensures ins { map (λ i. i.number) self.new.ins.ends.items ≡ map (λ i. i.number) self.old.ins.ends.items }
         ensures outs { map (λ o. o.number) self.new.outs.ends.items ≡ map (λ o. o.number) self.old.outs.ends.items }
-        ensures access { (access.new.place ≡ access.old.place) × (access.new.book ≡ access.old.book) × (access.new.offered ≡ access.old.offered) }
-        ensures rings { (access.new.feed.number ≡ access.old.feed.number) × (access.new.drain.number ≡ access.old.drain.number) }
+        ensures access { (access.new.place ≡ access.old.place) × (access.new.book ≡ access.old.book)
+            × (access.new.offered ≡ access.old.offered) }
+        ensures rings { (access.new.feed.number ≡ access.old.feed.number)
+            × (access.new.drain.number ≡ access.old.drain.number) }
     {
-        self.ins.meet(port as usize - 1, &mut access.feed);
-        self.outs.meet(port as usize - 1, &mut access.drain);
+        self.ins.meet(index_of(port), &mut access.feed);
+        self.outs.meet(index_of(port), &mut access.drain);
     }
 
     /// The ring from this bridge's local port to the lane that leads away from it, once both workers are
     /// back: what the lane took begins what the bridge sent.
     pub fn meet_lane_away(&mut self, port: u8, lane: &mut LaneWorker<W>)
         requires port { (0 < port) × (port ≤ vec_len self.old.ins.ends) }
-        requires ring { slice_index_or (map (λ o. o.number) self.old.outs.ends.items) (port - 1) 0 ≡ lane.old.from.number }
+        requires ring { slice_index_or (map (λ o. o.number) self.old.outs.ends.items) (port - 1) 0
+            ≡ lane.old.from.number }
         ensures onto { IsBeginning (taken lane.old.lane.steps) (transmitted port self.old.bridge.steps) }
         ensures bridge { (self.new.bridge ≡ self.old.bridge) × (self.new.number ≡ self.old.number) }
         ensures ins { self.new.ins ≡ self.old.ins }
@@ -290,7 +289,7 @@ impl<W: Wiring> BridgeWorker<W> {
         ensures lane { (lane.new.lane ≡ lane.old.lane) × (lane.new.number ≡ lane.old.number) }
         ensures rings { (lane.new.from.number ≡ lane.old.from.number) × (lane.new.to ≡ lane.old.to) }
     {
-        self.outs.meet(port as usize - 1, &mut lane.from);
+        self.outs.meet(index_of(port), &mut lane.from);
     }
 
     /// The ring from the lane that leads to this bridge's local port, once both workers are back: what the
@@ -305,14 +304,20 @@ impl<W: Wiring> BridgeWorker<W> {
         ensures lane { (lane.new.lane ≡ lane.old.lane) × (lane.new.number ≡ lane.old.number) }
         ensures rings { (lane.new.to.number ≡ lane.old.to.number) × (lane.new.from ≡ lane.old.from) }
     {
-        self.ins.meet(port as usize - 1, &mut lane.to);
+        self.ins.meet(index_of(port), &mut lane.to);
     }
 }
 
 impl<W: Wiring> Work for BridgeWorker<W> {
     type Given = BridgeGift;
 
-    ghost given = { λ w. record { worker = w.number; bridge = w.bridge.number; plan = w.bridge.plan; ins = map (λ i. i.number) w.ins.ends.items; outs = map (λ o. o.number) w.outs.ends.items } };
+    ghost given = { λ w. record {
+      worker = w.number;
+      bridge = w.bridge.number;
+      plan = w.bridge.plan;
+      ins = map (λ i. i.number) w.ins.ends.items;
+      outs = map (λ o. o.number) w.outs.ends.items;
+    } };
 
     ghost fits = { λ w. Unit {0} };
 
@@ -331,7 +336,7 @@ impl<W: Wiring> Work for BridgeWorker<W> {
             return turn(ticked, 0, 0);
         }
         let looked = self.look();
-        if looked.did == Did::Idle {
+        if looked.status == TurnStatus::Idle {
             return stirred(turn(ticked, 0, 0));
         }
         stirred(looked)

@@ -1,7 +1,7 @@
 //! The worker of a customer port.
 
 ghost use Rattle.std.specs.Prelude.{◌≡◌, ◌++◌, [], true, Ok};
-ghost use Rattle.pb_workers.specs.Ports.{KeepsPort};
+ghost use Rattle.pb_workers.specs.Workers.{IsPortKept, IsSameCustomer};
 
 use crate::access::{Access, Last};
 use crate::gift::CustomerGift;
@@ -9,11 +9,11 @@ use crate::refusal::{Refusal, Taken, turn};
 use pb_lan::Place;
 use pb_port::{Offered, Polled, Port, Pumped};
 use pb_ring::Wiring;
-use pb_threads::{Did, Finish, Moment, PortView, Turn, Work};
+use pb_threads::{Finish, Moment, PortView, Turn, TurnStatus, Work};
 use std::snapshot::Snapshot;
 
-/// After how many turns the port writes at the latest, where something waits in it. It writes sooner where there is nothing
-/// else to do, and where it is full, so that frames that leave in close order are written together.
+/// After how many turns the port writes at the latest, if something waits in it. It writes sooner if there is nothing
+/// else to do, or if it is full. Frames that leave in close order are written together.
 const PART: u8 = 32;
 
 /// A customer port of a plan: the port outside, and its access.
@@ -51,11 +51,9 @@ impl<W: Wiring, P> CustomerWorker<W, P> {
 impl<W: Wiring, P: Port> CustomerWorker<W, P> {
     /// Polls the port, where a frame may come in.
     fn poll(&mut self) -> Taken
-        requires { KeepsPort P.script P.tally self.old.was.value self.old.port self.old.access.place.steps self.old.access.book.last }
-        ensures port { KeepsPort P.script P.tally self.new.was.value self.new.port self.new.access.place.steps self.new.access.book.last }
-        ensures was { self.new.was ≡ self.old.was }
-        ensures place { (self.new.access.place.number ≡ self.old.access.place.number) × (self.new.access.book.number ≡ self.old.access.book.number) }
-        ensures rings { (self.new.access.feed.number ≡ self.old.access.feed.number) × (self.new.access.drain.number ≡ self.old.access.drain.number) }
+        requires { IsPortKept P.script P.tally self.old }
+        ensures port { IsPortKept P.script P.tally self.new }
+        ensures same { IsSameCustomer self.old self.new }
     {
         if !self.access.asks()? {
             return Ok(false);
@@ -75,11 +73,9 @@ impl<W: Wiring, P: Port> CustomerWorker<W, P> {
 
     /// Offers the port the oldest item that waits for it.
     fn deliver(&mut self) -> Taken
-        requires { KeepsPort P.script P.tally self.old.was.value self.old.port self.old.access.place.steps self.old.access.book.last }
-        ensures port { KeepsPort P.script P.tally self.new.was.value self.new.port self.new.access.place.steps self.new.access.book.last }
-        ensures was { self.new.was ≡ self.old.was }
-        ensures place { (self.new.access.place.number ≡ self.old.access.place.number) × (self.new.access.book.number ≡ self.old.access.book.number) }
-        ensures rings { (self.new.access.feed.number ≡ self.old.access.feed.number) × (self.new.access.drain.number ≡ self.old.access.drain.number) }
+        requires { IsPortKept P.script P.tally self.old }
+        ensures port { IsPortKept P.script P.tally self.new }
+        ensures same { IsSameCustomer self.old self.new }
     {
         if !self.access.fetch()? {
             return Ok(false);
@@ -110,8 +106,8 @@ impl<W: Wiring, P: Port> CustomerWorker<W, P> {
 
     /// Has the port write what waits in it. Answers whether frames left.
     fn pump(&mut self, now: u32) -> Taken
-        requires { KeepsPort P.script P.tally self.old.was.value self.old.port self.old.access.place.steps self.old.access.book.last }
-        ensures port { KeepsPort P.script P.tally self.new.was.value self.new.port self.new.access.place.steps self.new.access.book.last }
+        requires { IsPortKept P.script P.tally self.old }
+        ensures port { IsPortKept P.script P.tally self.new }
         ensures was { self.new.was ≡ self.old.was }
         ensures access { self.new.access ≡ self.old.access }
     {
@@ -122,17 +118,19 @@ impl<W: Wiring, P: Port> CustomerWorker<W, P> {
         }
     }
 
-    /// Whether the port is to write after a turn that did this.
-    fn is_to_write(&mut self, did: Did) -> bool
-        ensures port { (self.new.port ≡ self.old.port) × (self.new.access ≡ self.old.access) × (self.new.was ≡ self.old.was) }
+    /// Whether the port is to write after a turn with this status.
+    fn is_to_write(&mut self, status: TurnStatus) -> bool
+        ensures port { self.new.port ≡ self.old.port }
+        ensures access { self.new.access ≡ self.old.access }
+        ensures was { self.new.was ≡ self.old.was }
     {
-        match did {
-            Did::Memory | Did::Limit => false,
-            Did::Done if self.held < PART => {
+        match status {
+            TurnStatus::Memory | TurnStatus::Limit => false,
+            TurnStatus::Done if self.held < PART => {
                 self.held = self.held.saturating_add(1);
                 false
             }
-            Did::Done | Did::Idle => {
+            TurnStatus::Done | TurnStatus::Idle => {
                 self.held = 0;
                 true
             }
@@ -141,11 +139,9 @@ impl<W: Wiring, P: Port> CustomerWorker<W, P> {
 
     /// Delivers, or feeds, or, where frames may enter, polls: the first that there is to do.
     fn step(&mut self, may_enter: bool) -> Turn
-        requires { KeepsPort P.script P.tally self.old.was.value self.old.port self.old.access.place.steps self.old.access.book.last }
-        ensures port { KeepsPort P.script P.tally self.new.was.value self.new.port self.new.access.place.steps self.new.access.book.last }
-        ensures was { self.new.was ≡ self.old.was }
-        ensures place { (self.new.access.place.number ≡ self.old.access.place.number) × (self.new.access.book.number ≡ self.old.access.book.number) }
-        ensures rings { (self.new.access.feed.number ≡ self.old.access.feed.number) × (self.new.access.drain.number ≡ self.old.access.drain.number) }
+        requires { IsPortKept P.script P.tally self.old }
+        ensures port { IsPortKept P.script P.tally self.new }
+        ensures same { IsSameCustomer self.old self.new }
     {
         let delivered = self.deliver();
         if delivered != Ok(false) {
@@ -162,7 +158,7 @@ impl<W: Wiring, P: Port> CustomerWorker<W, P> {
         let polled = self.poll();
         if had_more && self.access.book.last != Last::More {
             return Turn {
-                did: Did::Done,
+                status: TurnStatus::Done,
                 fewer: 1,
                 ..Turn::IDLE
             };
@@ -174,9 +170,17 @@ impl<W: Wiring, P: Port> CustomerWorker<W, P> {
 impl<W: Wiring, P: Port> Work for CustomerWorker<W, P> {
     type Given = CustomerGift<P>;
 
-    ghost given = { λ w. record { was = w.was; book = w.access.book.number; access = record { place = w.access.place.number; feed = w.access.feed.number; drain = w.access.drain.number } } };
+    ghost given = { λ w. record {
+      was = w.was;
+      book = w.access.book.number;
+      access = record {
+        place = w.access.place.number;
+        feed = w.access.feed.number;
+        drain = w.access.drain.number;
+      };
+    } };
 
-    ghost fits = { λ w. KeepsPort P.script P.tally w.was.value w.port w.access.place.steps w.access.book.last };
+    ghost fits = { λ w. IsPortKept P.script P.tally w };
 
     fn place(&self) -> Place {
         Place::Customer(self.access.book.number)
@@ -188,15 +192,15 @@ impl<W: Wiring, P: Port> Work for CustomerWorker<W, P> {
 
     fn turn(&mut self, moment: Moment) -> Turn {
         let stepped = self.step(moment.is_open);
-        if !self.is_to_write(stepped.did) {
+        if !self.is_to_write(stepped.status) {
             return stepped;
         }
         match self.pump(moment.now) {
             Err(Refusal::Memory) => Turn {
-                did: Did::Memory,
+                status: TurnStatus::Memory,
                 ..stepped
             },
-            pumped if stepped.did == Did::Idle => turn(pumped, 0, 0),
+            pumped if stepped.status == TurnStatus::Idle => turn(pumped, 0, 0),
             _ => stepped,
         }
     }

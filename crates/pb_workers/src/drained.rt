@@ -14,8 +14,8 @@ fn are_all_ended(lasts: &[Last]) -> bool
     lasts.iter().all(|last| *last == Last::End)
 }
 
-/// Whether every customer port of a run came to its end, by what the newest poll of each said, and no frame is on its way, by
-/// what was counted. Takes no memory.
+/// Whether every customer port of a run came to its end, by what the newest poll of each said, and no frame is on its
+/// way, by what was counted. Takes no memory.
 pub fn has_drained(lasts: &[Last], counts: &Tallies) -> bool
     ensures { TellsAllDrained counts.now lasts.now result }
 {

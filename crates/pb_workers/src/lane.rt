@@ -32,7 +32,10 @@ pub struct LaneWorker<W: Wiring> {
 }
 
 impl<W: Wiring> LaneWorker<W> {
-    /// The worker of a lane that has taken no step, over rings that nothing has passed. It may take so many steps. Takes no memory.
+    ghost use Rattle.pb_workers.specs.Workers.{IsSameLane};
+
+    /// Makes the worker of a lane that has taken no step, over rings that nothing has passed. The lane may take so many
+    /// steps. Takes no memory.
     pub fn new(number: u8, lane: Lane, from: Inlet<W>, to: Outlet<W>, limit: usize) -> LaneWorker<W>
         requires steps { lane.steps ≡ [] }
         requires kept { W.keeps ≡ true → lane.is_kept ≡ true }
@@ -61,9 +64,7 @@ impl<W: Wiring> LaneWorker<W> {
 
     /// Puts the item in hand, where one is there and the ring has room.
     fn put(&mut self) -> Taken
-        ensures number { self.new.number ≡ self.old.number }
-        ensures rings { (self.new.from.number ≡ self.old.from.number) × (self.new.to.number ≡ self.old.to.number) }
-        ensures losses { self.new.lane.losses ≡ self.old.lane.losses }
+        ensures { IsSameLane self.old self.new }
     {
         if self.lane.is_hand_empty() || !self.to.has_room() {
             return Ok(false);
@@ -74,9 +75,7 @@ impl<W: Wiring> LaneWorker<W> {
 
     /// Takes an item, where none is in hand and one is on the ring.
     fn take(&mut self) -> Taken
-        ensures number { self.new.number ≡ self.old.number }
-        ensures rings { (self.new.from.number ≡ self.old.from.number) × (self.new.to.number ≡ self.old.to.number) }
-        ensures losses { self.new.lane.losses ≡ self.old.lane.losses }
+        ensures { IsSameLane self.old self.new }
     {
         if !self.lane.is_hand_empty() || !self.from.has_item() {
             return Ok(false);

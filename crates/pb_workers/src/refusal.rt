@@ -1,7 +1,7 @@
 //! Why a worker can't take a step that it has to take.
 
 use pb_frame::Memory;
-use pb_threads::{Did, Turn};
+use pb_threads::{Turn, TurnStatus};
 
 /// Why a worker can't take a step that it has to take.
 #[derive(Clone, Copy, PartialEq, Eq, Debug)]
@@ -21,26 +21,29 @@ impl From<Memory> for Refusal {
 /// Whether a step was taken, or why it could not be.
 pub(crate) type Taken = Result<bool, Refusal>;
 
-/// What a turn did that took a step or not.
-pub(crate) fn did(taken: Taken) -> Did {
+/// Returns the status of a turn that took a step, or could not.
+fn status_of(taken: Taken) -> TurnStatus {
     match taken {
-        Ok(true) => Did::Done,
-        Ok(false) => Did::Idle,
-        Err(Refusal::Memory) => Did::Memory,
-        Err(Refusal::Limit) => Did::Limit,
+        Ok(true) => TurnStatus::Done,
+        Ok(false) => TurnStatus::Idle,
+        Err(Refusal::Memory) => TurnStatus::Memory,
+        Err(Refusal::Limit) => TurnStatus::Limit,
     }
 }
 
-/// A turn after which so much more and so much less is left to do, where it took a step.
+/// Returns a turn after which so much more and so much less is left to do, if it took a step.
 pub(crate) fn turn(taken: Taken, more: u64, fewer: u64) -> Turn {
-    let did = did(taken);
-    if did == Did::Done {
+    let status = status_of(taken);
+    if status == TurnStatus::Done {
         return Turn {
-            did,
+            status,
             more,
             fewer,
             ..Turn::IDLE
         };
     }
-    Turn { did, ..Turn::IDLE }
+    Turn {
+        status,
+        ..Turn::IDLE
+    }
 }

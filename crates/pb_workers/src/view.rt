@@ -6,6 +6,7 @@ ghost use Rattle.pb_lan.specs.Numbering.{numbered};
 ghost use Rattle.pb_lan.specs.declared.shape.PortState.TheVariants.{Discarding};
 ghost use Rattle.pb_workers.specs.Bridges.{role_among, role_in, view_of};
 
+use pb_frame::index_of;
 use pb_lan::PortState;
 use pb_relay::Bridge;
 use pb_rstp::{Role, Rstp};
@@ -40,7 +41,7 @@ fn state_at(states: &[PortState], port: u8) -> PortState
     if port == 0 {
         return PortState::Discarding;
     }
-    match states.get(port as usize - 1) {
+    match states.get(index_of(port)) {
         Some(state) => *state,
         None => PortState::Discarding,
     }

@@ -119,8 +119,10 @@ fn two_sides<W: Wiring>(
     first: Ring,
     second: Ring,
 ) -> Result<(Inlets<W>, Outlets<W>), Memory>
-    requires first { (slice_get W.rings 0 ≡ Some (writer_name first.0)) × (slice_get W.rings 0 ≡ Some (reader_name first.1)) }
-    requires second { (slice_get W.rings 1 ≡ Some (writer_name second.0)) × (slice_get W.rings 1 ≡ Some (reader_name second.1)) }
+    requires first { (slice_get W.rings 0 ≡ Some (writer_name first.0))
+        × (slice_get W.rings 0 ≡ Some (reader_name first.1)) }
+    requires second { (slice_get W.rings 1 ≡ Some (writer_name second.0))
+        × (slice_get W.rings 1 ≡ Some (reader_name second.1)) }
 {
     let mut outlets = Outlets {
         ends: Vec::new(alloc),
@@ -137,8 +139,10 @@ fn two_sides<W: Wiring>(
 
 /// The ends of two rings are used, and meet.
 fn use_two<W: Wiring>(alloc: Global, first: Ring, second: Ring) -> Result<bool, Memory>
-    requires first { (slice_get W.rings 0 ≡ Some (writer_name first.0)) × (slice_get W.rings 0 ≡ Some (reader_name first.1)) }
-    requires second { (slice_get W.rings 1 ≡ Some (writer_name second.0)) × (slice_get W.rings 1 ≡ Some (reader_name second.1)) }
+    requires first { (slice_get W.rings 0 ≡ Some (writer_name first.0))
+        × (slice_get W.rings 0 ≡ Some (reader_name first.1)) }
+    requires second { (slice_get W.rings 1 ≡ Some (writer_name second.0))
+        × (slice_get W.rings 1 ≡ Some (reader_name second.1)) }
 {
     let (mut inlets, mut outlets) = two_sides::<W>(alloc, first, second)?;
     let is_good = use_second(alloc, &mut inlets, &mut outlets)?;

@@ -4,7 +4,7 @@ ghost use Rattle.std.specs.Prelude.{◌==◌, Some, None, if◌then◌else◌};
 
 use pb_lan::{Limits, Place, PortState};
 use pb_threads::{
-    Did, Finish, Gate, Go, Moment, Places, PortView, Turn, Wish, Work, Worked, run_all,
+    Finish, Gate, Go, Moment, Places, PortView, Turn, TurnStatus, Wish, Work, Worked, run_all,
 };
 use std::alloc::{AllocError, Global};
 use std::sync::atomic::{AtomicU64, Ordering};
@@ -56,11 +56,15 @@ impl Work for Desk {
         if moment.is_open {
             self.opened = self.opened.saturating_add(1);
         }
-        let did = if self.jobs > 0 { Did::Done } else { Did::Idle };
+        let status = if self.jobs > 0 {
+            TurnStatus::Done
+        } else {
+            TurnStatus::Idle
+        };
         let fewer = self.jobs.min(1);
         self.jobs = self.jobs.saturating_sub(1);
         Turn {
-            did,
+            status,
             more: 0,
             fewer,
             refused: 2,
@@ -284,7 +288,7 @@ fn a_gate_stops_the_workers(rt: HostRuntime) -> Result<(), Fail> {
     Ok(())
 }
 
-/// Wishes once of each bridge that its port 3 be set up, once its clock has ticked, and counts what is refused and shown.
+/// Wishes once of each bridge to enable its port 3, after its clock has ticked, and counts what is refused and shown.
 #[derive(Drop)]
 struct Wishing {
     given: AtomicU64,

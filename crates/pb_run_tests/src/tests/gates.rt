@@ -102,7 +102,7 @@ impl Gate for Parting {
     }
 }
 
-/// At turn 0 each pass waits until all have come, and yields at most a million times. It counts the passes of all turns.
+/// At turn 0 each pass waits for all others, and yields at most a million times. It counts the passes of all turns.
 #[derive(Drop)]
 pub(super) struct Meeting {
     here: AtomicU64,

@@ -10,7 +10,7 @@ use pb_lan::{FrameNumber, Item, Mark, Place, Seq};
 use pb_link::Lane;
 use pb_ring::{Inlet, Outlet, Wiring};
 use pb_run::LaneWorker;
-use pb_threads::{Did, Finish, Moment, Turn, Work};
+use pb_threads::{Finish, Moment, Turn, TurnStatus, Work};
 use rtrb::{Consumer, Producer, RingBuffer};
 use std::alloc::{AllocError, Global};
 use std::marker::Brand;
@@ -54,11 +54,11 @@ fn worker_of<W: Wiring>(
     Ok(LaneWorker::new(3, lane, Inlet::new(from, 0), Outlet::new(to, 1), 5))
 }
 
-/// Whether the worker's next turn does this, and so much less is left after it.
-fn does<W: Wiring>(worker: &mut LaneWorker<W>, did: Did, fewer: u64) -> bool {
+/// Whether the worker's next turn has this status, and so much less is left after it.
+fn has_status<W: Wiring>(worker: &mut LaneWorker<W>, status: TurnStatus, fewer: u64) -> bool {
     worker.turn(STILL)
         == Turn {
-            did,
+            status,
             fewer,
             ..Turn::IDLE
         }
@@ -69,27 +69,27 @@ fn does<W: Wiring>(worker: &mut LaneWorker<W>, did: Did, fewer: u64) -> bool {
 enum Row {
     /// The item of a number is sent to it.
     Sent(u64),
-    /// Its turn does this, and so much less is left after it.
-    Turn(Did, u64),
+    /// Its turn has this status, and so much less is left after it.
+    Turn(TurnStatus, u64),
     /// The item of a number has come from it.
     Came(u64),
 }
 
 /// It takes and puts items, loses one, and comes to the limit.
 const ROWS: &[Row] = &[
-    Row::Turn(Did::Idle, 0),
+    Row::Turn(TurnStatus::Idle, 0),
     Row::Sent(0),
     Row::Sent(1),
     Row::Sent(2),
     Row::Sent(3),
-    Row::Turn(Did::Done, 0),
-    Row::Turn(Did::Done, 0),
-    Row::Turn(Did::Done, 1),
-    Row::Turn(Did::Done, 0),
-    Row::Turn(Did::Idle, 0),
+    Row::Turn(TurnStatus::Done, 0),
+    Row::Turn(TurnStatus::Done, 0),
+    Row::Turn(TurnStatus::Done, 1),
+    Row::Turn(TurnStatus::Done, 0),
+    Row::Turn(TurnStatus::Idle, 0),
     Row::Came(0),
-    Row::Turn(Did::Done, 0),
-    Row::Turn(Did::Limit, 0),
+    Row::Turn(TurnStatus::Done, 0),
+    Row::Turn(TurnStatus::Limit, 0),
     Row::Came(2),
 ];
 
@@ -102,7 +102,7 @@ fn holds<W: Wiring>(
     row: Row,
 ) -> Result<bool, Memory> {
     match row {
-        Row::Turn(did, fewer) => Ok(does(worker, did, fewer)),
+        Row::Turn(status, fewer) => Ok(has_status(worker, status, fewer)),
         Row::Sent(number) => Ok(near.push(item(alloc, number)?).is_ok()),
         Row::Came(number) => {
             let wanted = item(alloc, number)?;

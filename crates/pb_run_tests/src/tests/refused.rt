@@ -37,8 +37,8 @@ fn seen<R: Threads + Wait + Clock + Sync>(
     Ok((told.ended, told.ports, told.is_left, script, told.is_kept()))
 }
 
-/// Runs with a port that is refused memory at a call end for want of memory. Nothing is lost of so many frames of the first
-/// port's script, and the frames that have to leave do.
+/// Checks runs with a port that is refused memory at a call. They end out of memory. No frame is lost of so many in the
+/// first port's script, and the frames that have to leave do.
 fn all_run_out<R: Abort + Threads + Wait + Clock + Sync>(
     rt: &R,
     alloc: Global,

@@ -23,6 +23,7 @@ loop-port-preserved g c = record {
 pub returns-in-Ok-clause-ok : goal.returns-in-Ok-clause-ok
 returns-in-Ok-clause-ok g c =
     let ran = c.in-Ok.ran in
+    let run = c.in-Ok.ensures.run in
     let after = c.lingered-ran.result in
     let kept = c.lingered-ran.ensures in
     let given = all_moved (λ b. (own-1.entry b.vtable).1.script b.value) c.loop-port.held.items
@@ -31,14 +32,14 @@ returns-in-Ok-clause-ok g c =
     (search rules) in
     on_value c.tell.result (λ status told specs same. record {
       rec = after.counts;
-      lawful = rw kept.counts c.in-Ok.ensures.lawful;
-      headline = rw kept.counts c.in-Ok.ensures.headline;
+      lawful = rw kept.counts run.steps.lawful;
+      headline = rw kept.counts run.steps.headline;
       lasts = after.last.items;
       last_count = rw kept.last (grind (arith, common_steps));
       scripted = rw (kept.counts, kept.last)
-          (are_scripted specs _ _ ran.counts.customers ran.last.items (given ∙ same) c.in-Ok.ensures.ports);
+          (are_scripted specs _ _ ran.counts.customers ran.last.items (given ∙ same) run.ports);
       ended = after.ended;
-      tells_ended = rw (kept.counts, kept.last, kept.ended) c.in-Ok.ensures.ended;
+      tells_ended = rw (kept.counts, kept.last, kept.ended) run.ended;
       settled = after.settled;
       report = told;
     }) c.tell.ensures.ok

@@ -2,7 +2,7 @@ use Rattle.std.proofs.Common.{◌≡◌, ◌+◌, ◌≤◌, ◌++◌, [], All, 
 use Rattle.std.specs.VecDeque.{deque_len}
 use Rattle.std.specs.Vec.Iter.{into_iter_items, into_iter_len}
 use Rattle.pb_run.specs.Gifts.{given_access}
-use Rattle.pb_workers.specs.Ports.{KeepsPort}
+use Rattle.pb_workers.specs.Workers.{IsPortKept}
 use Rattle.pb_workers.specs.declared.access.Last.TheVariants.{More}
 use Rattle.pb_run.proofs.outside.attended.Given as goal
 
@@ -15,8 +15,7 @@ invariant-loop-port g l = record {
   gifts : map (λ w. given_access w.access) l.workers.items ++ map given_access l.accesses.items ≡ map given_access
       l.initial.accesses.items;
   fresh : All (λ d. (d.place.steps ≡ []) × (d.book.last ≡ More)) l.accesses.items;
-  keeps : All (λ w. KeepsPort g.P.Port.script g.P.Port.tally w.was.value w.port w.access.place.steps
-      w.access.book.last) l.workers.items;
+  keeps : All (IsPortKept g.P.Port.script g.P.Port.tally) l.workers.items;
   count : deque_len l.accesses ≡ into_iter_len l.port-iterator;
   room : vec_len l.workers + into_iter_len l.port-iterator ≤ vec_capacity l.workers;
 }

@@ -14,7 +14,7 @@ apart-ports-requires-clause-room g c =
 
 pub whether_settled-settled-requires-clause-bridges : goal.whether_settled-settled-requires-clause-bridges
 whether_settled-settled-requires-clause-bridges g c =
-    rw (c.as_slice-4.ensures.value, c.run_all-places.ensures.bridges.0) c.requires.built.bridges
+    rw (c.as_slice.ensures.value, c.run_all-places.ensures.bridges.0) c.requires.built.bridges
 
 pub told_of-counts-requires-clause-back : goal.told_of-counts-requires-clause-back
 told_of-counts-requires-clause-back g c = record {
@@ -28,16 +28,15 @@ told_of-counts-requires-clause-back g c = record {
 pub returns-clause-run : goal.returns-clause-run
 returns-clause-run g c =
     let told = c.told_of-counts.ensures in record {
-      lawful = told.steps.lawful;
-      headline = told.steps.headline;
-      planned = told.steps.planned;
+      steps = told.steps;
       ports = run_kept _ _ _ _ _ _ _ _ _ _ _ _ _ _ _ c.run_all-places.ensures.customers.0
           c.attended-customers.ensures.ports c.apart-ports.ensures.ports
           c.apart-ports.ensures.accesses told.customers c.apart-ports.ensures.lasts (λ t. t.was.value) (λ w. refl)
           c.run_all-places.ensures.customers.1;
       ended = tells_ended c.args.plan.now c.told_of-counts.result.counts c.apart-ports.result.lasts.items
-          c.as_slice-5.result.now c.has_drained.result
-          c.ended_by-ended.result c.ended_by-ended.ensures c.has_drained.ensures c.as_slice-5.ensures.value
+          c.as_slice-2.result.now c.has_drained.result
+          c.ended_by-ended.result c.ended_by-ended.ensures c.has_drained.ensures c.as_slice-2.ensures.value
           c.requires.sound told.steps.lawful;
       settled = search rules;
+      count = c.requires.count;
     }

@@ -1,4 +1,4 @@
-use Rattle.std.proofs.Common.{◌≡◌, ◌+◌, ◌-◌, ℕ, List, ap, ◌∙◌, subst, arith}
+use Rattle.std.proofs.Common.{◌≡◌, ◌+◌, ℕ, List, ap, ◌∙◌, subst, arith}
 use Rattle.rtrb.specs.Ring.{received as received_over}
 use Rattle.pb_frame.specs.Lists.{IsBeginning}
 use Rattle.pb_lan.specs.PortLists.{fed}
@@ -10,9 +10,10 @@ use Rattle.pb_workers.proofs.bridge.BridgeWorker.meet_customer.Goals as goal
 pub returns-clause-into : goal.returns-clause-into
 returns-clause-into g c =
     let worker = c.args.self.now in let access = c.args.access.now in
-    let same : c.args.port - 1 + 1 ≡ c.args.port = omega (arith, c.requires.port.0) in
-    let here = shown_at (λ i. received_over i.end) worker.ins.ends.items (c.args.port - 1) in
-    let came : here ≡ received c.args.port worker.bridge.steps = worker.took (c.args.port - 1)
+    let place = c.index_of.result in
+    let same : place + 1 ≡ c.args.port = omega (arith, c.requires.port.0, c.index_of.ensures) in
+    let here = shown_at (λ i. received_over i.end) worker.ins.ends.items place in
+    let came : here ≡ received c.args.port worker.bridge.steps = worker.took place
     ∙ ap (λ (r : ℕ). received r worker.bridge.steps) same in
     let Fed : List Item → Type 0 = λ items. IsBeginning here items in
     let Came : List Item → Type 0 = λ items. IsBeginning items (fed access.place.steps) in

@@ -1,11 +1,10 @@
 use Rattle.std.proofs.Common.{◌≡◌}
-use Rattle.pb_workers.specs.Ports.{KeepsPort}
+use Rattle.pb_workers.specs.Workers.{IsPortKept}
 use Rattle.pb_workers.proofs.customer.CustomerWorkerWork.close.Given as goal
 
 abbrev pub invariant-loop : goal.invariant-loop
 invariant-loop g l = record {
   was : l.self.was ≡ l.initial.self.was;
   access : l.self.access ≡ l.initial.self.access;
-  port : KeepsPort g.P.Port.script g.P.Port.tally l.self.was.value l.self.port l.self.access.place.steps
-      l.self.access.book.last;
+  port : IsPortKept g.P.Port.script g.P.Port.tally l.self;
 }
