@@ -44,7 +44,7 @@ fn copy<P: Port>(port: &mut P) -> Result<u64> {
                 drain(port)?;
                 return Ok(count);
             }
-            Polled::Fault(k) => bail!("fault {k} of the input"),
+            Polled::Fault(fault) => bail!("fault {} of the input", fault.number()),
         }
     }
     bail!("too many polls")
@@ -74,7 +74,7 @@ fn drain<P: Port>(port: &mut P) -> Result<()> {
         }
         match port.pump(0) {
             Pumped::Wrote(_) | Pumped::Nothing => {}
-            Pumped::Fault(k) => bail!("fault {k} of the output"),
+            Pumped::Fault(fault) => bail!("fault {} of the output", fault.number()),
         }
     }
     bail!("too many pumps")

@@ -8,6 +8,7 @@ use Rattle.pb_lan.specs.declared.plan.CustomerPlan.{CustomerPlan}
 use Rattle.pb_lan.specs.declared.plan.Plan.{Plan}
 use Rattle.pb_lan.specs.declared.record.Record.{Record}
 use Rattle.pb_relay.specs.Settled.{TellsSettled}
+use Rattle.pb_port.specs.Faults.{fault_number}
 use Rattle.pb_workers.specs.declared.access.Last.{Last}
 use Rattle.pb_workers.specs.declared.access.Last.TheVariants.{More, End, Fault}
 use Rattle.pb_run.specs.declared.ended.Ended.{Ended}
@@ -37,7 +38,7 @@ fault_line name number = codes "fault: port " ++ name ++ codes " " ++ decimal nu
 
 -- what its newest poll said, where that is a fault
 abbrev pub fault_at : List ℕ → Last → List ℕ
-fault_at name (Fault number) = fault_line name number
+fault_at name (Fault fault) = fault_line name (fault_number fault)
 fault_at name More = []
 fault_at name End = []
 

@@ -5,6 +5,7 @@ use crate::input::input_path;
 use crate::telling::name_at;
 use pb_lan::CustomerPlan;
 use pb_messages::write_whole;
+use pb_port::PortFault;
 use pb_run::Last;
 use std::alloc::Global;
 use std::fs::Files;
@@ -44,7 +45,7 @@ pub(crate) fn show_pcapng<E: Write>(
 ) {
     for capture in files {
         let path = capture.read.as_str();
-        let is_refused = matches!(lasts.get(capture.place), Some(Last::Fault(1)));
+        let is_refused = matches!(lasts.get(capture.place), Some(Last::Fault(PortFault::Magic)));
         if !is_refused || !is_pcapng(rt, input_path(path)) {
             continue;
         }

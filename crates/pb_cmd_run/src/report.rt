@@ -49,7 +49,8 @@ fn put_settling(out: &mut String, settled: &Result<Option<bool>, Memory>) -> Res
 fn put_port_fault(out: &mut String, name: &str, last: Last) -> Result<(), Memory>
     ensures { OnOk result (string_bytes out.new ≡ string_bytes out.old ++ fault_at name.now last) }
 {
-    if let Last::Fault(number) = last {
+    if let Last::Fault(fault) = last {
+        let number = fault.number();
         writeln!(out, "fault: port {name} {number}")?;
     }
     Ok(())

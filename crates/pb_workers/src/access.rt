@@ -11,6 +11,7 @@ use crate::refusal::{Refusal, Taken};
 use bytes::Bytes;
 use pb_lan::Item;
 use pb_link::CustomerPlace;
+use pb_port::PortFault;
 use pb_ring::{Inlet, Outlet, Wiring};
 
 /// What the newest poll of a port said.
@@ -21,7 +22,7 @@ pub enum Last {
     /// No frame comes any more.
     End,
     /// The input has this fault, and no frame comes any more.
-    Fault(u8),
+    Fault(PortFault),
 }
 
 /// What an access goes by: its number, its limit, and what the port said.

@@ -7,7 +7,7 @@ use crate::access::{Access, Last};
 use crate::gift::CustomerGift;
 use crate::refusal::{Refusal, Taken, turn};
 use pb_lan::Place;
-use pb_port::{Offered, Polled, Port, Pumped};
+use pb_port::{Offered, Polled, Port, PortFault, Pumped};
 use pb_ring::Wiring;
 use pb_threads::{Finish, Moment, PortView, Turn, TurnStatus, Work};
 use std::snapshot::Snapshot;
@@ -65,7 +65,7 @@ impl<W: Wiring, P: Port> CustomerWorker<W, P> {
             }
             Polled::Nothing => {}
             Polled::End => self.access.book.last = Last::End,
-            Polled::Fault(8) => return Err(Refusal::Memory),
+            Polled::Fault(PortFault::Memory) => return Err(Refusal::Memory),
             Polled::Fault(fault) => self.access.book.last = Last::Fault(fault),
         }
         Ok(false)
@@ -84,8 +84,10 @@ impl<W: Wiring, P: Port> CustomerWorker<W, P> {
         let Some(item) = &access.offered else {
             return Ok(false);
         };
+        // No port takes a frame of more than 65,535 octets: it counts as lost, and the run goes on.
         if item.wire.len() >= 65_536 {
-            return Err(Refusal::Memory);
+            self.access.let_out(true);
+            return Ok(true);
         }
         match self.port.offer(&item.wire) {
             Offered::Taken => {
@@ -113,7 +115,7 @@ impl<W: Wiring, P: Port> CustomerWorker<W, P> {
     {
         match self.port.pump(now) {
             Pumped::Wrote(_) => Ok(true),
-            Pumped::Fault(8) => Err(Refusal::Memory),
+            Pumped::Fault(PortFault::Memory) => Err(Refusal::Memory),
             _ => Ok(false),
         }
     }

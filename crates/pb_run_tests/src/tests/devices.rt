@@ -6,6 +6,7 @@ use super::networks::STAR;
 use super::runs::{LONG, Outer, Setup, Way, ran};
 use super::streams::Broken;
 use pb_frame::Memory;
+use pb_port::PortFault;
 use pb_run::{Ended, Last};
 use std::alloc::Global;
 use std::sync::Wait;
@@ -86,7 +87,7 @@ fn a_failed_read_leaves_the_other_ports(rt: HostRuntime) -> Result<(), Fail> {
         // The frames before the one whose read fails enter. Read 13 comes to the end.
         let entered = ((call - 1) / 4).min(3) as u32;
         let (ended, last) = if call <= 13 {
-            (Ended::Stopped, Last::Fault(6))
+            (Ended::Stopped, Last::Fault(PortFault::Read))
         } else {
             (Ended::Drained, Last::End)
         };

@@ -5,7 +5,7 @@ ghost use Rattle.pb_port.specs.declared.answers.Ending.TheVariants.{End as endin
 
 use super::activity::PortActivity;
 use bytes::Bytes;
-use pb_port::{MemoryPort, Offered, Polled, Port, Pumped, Shelf};
+use pb_port::{MemoryPort, Offered, Polled, Port, PortFault, Pumped, Shelf};
 use std::alloc::Global;
 use std::collections::VecDeque;
 use std::sync::Arc;
@@ -98,7 +98,7 @@ impl Port for Guest {
             Habit::Meets if self.polls == 1 => self.activity.meet(),
             Habit::Waits(polls) if self.polls <= polls => return Polled::Nothing,
             Habit::Refuses(Call::Poll(number)) if self.polls == number => {
-                return Polled::Fault(8);
+                return Polled::Fault(PortFault::Memory);
             }
             _ => {}
         }
@@ -131,7 +131,7 @@ impl Port for Guest {
         }
         self.pumps = self.pumps.saturating_add(1);
         if self.habit == Habit::Refuses(Call::Pump(self.pumps)) {
-            return Pumped::Fault(8);
+            return Pumped::Fault(PortFault::Memory);
         }
         self.lan.pump(now)
     }
