@@ -64,7 +64,7 @@ for name in none:plans provider:captures camera:captures; do
     octets=$(od -An -v -tx1 "captures/${name%:*}.pcap" | tr -d '\n' | sed 's/ 00/\\0/g; s/ \([0-9a-f][0-9a-f]\)/\\x\1/g')
     test=../crates/pb_cmd_run_tests/src/tests/${name#*:}.rt
     count=$((count + 1))
-    if ! grep -qF "b\"$octets\"" "$test"; then
+    if ! sed -z 's/\\\n *//g' "$test" | grep -qF "b\"$octets\""; then
         echo "examples: captures/${name%:*}.pcap is not what ${test#../} has" >&2
         status=1
     fi
