@@ -45,8 +45,8 @@ impl Bridge {
         ensures reserved { self.old.is_reserved ≡ true → IsOk result }
     {
         let given = self.admit(port, item)?;
-        // The step owns the outcome, since it is part of the record. It is read back here, two words, for the one caller
-        // that asks for it: to hand it up through `relay` and `carry` would move it twice for every caller.
+        // The step owns the outcome, since it is part of the record. It is read back here, two words, for the one
+        // caller that asks for it: handed up through `relay` and `carry`, it would be moved twice for every caller.
         let outcome = newest_outcome(&given, self.steps.as_slice());
         Ok(outcome)
     }

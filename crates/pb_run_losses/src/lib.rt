@@ -1,5 +1,5 @@
-//! The loss report of a run: what ports could not write, and the copies, BPDUs and sources that bridges dropped; and the
-//! exit status of a strict run.
+//! The loss report of a run: what ports could not write, and the copies, BPDUs and sources that bridges dropped; and
+//! the exit status of a strict run.
 #![tactic(auto)]
 
 mod losses;

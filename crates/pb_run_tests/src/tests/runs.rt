@@ -179,8 +179,8 @@ fn ran_with<G: Gate, R: Threads + Wait + Clock + Sync>(
     }
 }
 
-/// Runs what a setup states, and returns what came of it, with the activity of its ports. The result owns nothing. Tests
-/// are cheap to prove then.
+/// Runs what a setup states, and returns what came of it, with the activity of its ports. The result owns nothing.
+/// Tests are cheap to prove then.
 pub(super) fn ran_under<G: Gate, R: Threads + Wait + Clock + Sync>(
     rt: &R,
     alloc: Global,
