@@ -105,10 +105,9 @@ fn note_sent(
 /// Queues each BPDU at its port in the highest class, and notes where one was queued and where not.
 pub fn queue_bpdus(backlog: &mut Backlog, room: &mut BpduRoom, sends: &[(u8, Bpdu)], address: Mac)
     requires backlog { length backlog.old.ports ≡ 16 }
-    requires queued { room.old.queued.items ≡ [] }
-    requires dropped { room.old.dropped.items ≡ [] }
-    requires queued_room { length sends.now ≤ vec_capacity room.old.queued }
-    requires dropped_room { length sends.now ≤ vec_capacity room.old.dropped }
+    requires empty { (room.old.queued.items ≡ []) × (room.old.dropped.items ≡ []) }
+    requires room { (length sends.now ≤ vec_capacity room.old.queued)
+        × (length sends.now ≤ vec_capacity room.old.dropped) }
     requires separate { AreSeparate (places_of (frames_of address.0 sends.now)) }
     ensures copied { AreCopied backlog.old.capacity 7 (own_at (frames_of address.0 sends.now)) backlog.old.ports
         (places_of (frames_of address.0 sends.now)) room.new.dropped.items backlog.new.ports }

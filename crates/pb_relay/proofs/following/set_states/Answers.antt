@@ -9,7 +9,8 @@ pub loop-port-preserved : goal.loop-port-preserved
 loop-port-preserved c =
     let i = c.loop-port.port-index in
     let x = get_or c.args.changes.now i (0, Discarding) in (
-      ap (λ ss. set ss (x.0 - 1) x.1) c.loop-port.invariant.0
+      ap (λ k. set c.loop-port.states k x.1) c.index_of.ensures
+          ∙ ap (λ ss. set ss (x.0 - 1) x.1) c.loop-port.invariant.0
           ∙ sym (states_changed-more c.args.states.now (take i c.args.changes.now) x.0 x.1)
           ∙ ap (states_changed c.args.states.now)
           (sym (take_more c.args.changes.now i (0, Discarding) c.loop-port-test.true)),

@@ -1,6 +1,7 @@
-use Rattle.std.proofs.Common.{◌≤◌, arith, ap, ◌∙◌}
+use Rattle.std.proofs.Common.{◌≤◌, get_or, arith, ap, ◌∙◌}
 use Rattle.pb_lan.specs.Ports.{port_at, is_provider}
-use Rattle.pb_relay.specs.Kinds.{is_bridge_told}
+use Rattle.pb_relay.specs.Kinds.{is_bridge_told, is_to_bridge}
+use Rattle.pb_relay.specs.PortKinds.LocalPort.{ToNobody}
 use Rattle.pb_relay.specs.Standing.{BridgeView}
 use Rattle.pb_relay.proofs.PortLemmas.{told_at, none_elsewhere}
 use Rattle.pb_relay.proofs.bridge.Bridge.has_link.Goals as goal
@@ -19,5 +20,6 @@ returns-then-port-eq0 c =
 pub returns : goal.returns
 returns c =
     c.is_bridge.ensures ∙ ap is_bridge_told c.at.ensures
+    ∙ ap (λ k. is_to_bridge (get_or c.self.inside.ports k ToNobody)) c.index_of.ensures
     ∙ (told_at c.self.inside c.args.port c.self.invariant c.if-port-eq0.false c.if-port-gt-PORTS.false).0
     ∙ ap (λ (v : BridgeView). is_provider (port_at v.plan v.number c.args.port)) c.self.view_is

@@ -1,6 +1,7 @@
-use Rattle.std.proofs.Common.{◌≤◌, ◌||◌, arith, ap, ◌∙◌}
+use Rattle.std.proofs.Common.{ℕ, ◌≤◌, ◌||◌, get_or, arith, ap, ◌∙◌}
 use Rattle.pb_lan.specs.Ports.{port_at, is_used}
-use Rattle.pb_relay.specs.Kinds.{is_bridge_told, is_customer_told}
+use Rattle.pb_relay.specs.Kinds.{is_bridge_told, is_customer_told, is_to_bridge, is_to_customer}
+use Rattle.pb_relay.specs.PortKinds.LocalPort.{ToNobody}
 use Rattle.pb_relay.specs.Standing.{BridgeView}
 use Rattle.pb_relay.specs.declared.ports.Local.{Local}
 use Rattle.pb_relay.proofs.PortLemmas.{told_at, none_elsewhere}
@@ -22,5 +23,7 @@ returns c =
     ap (λ b. b || c.is_bridge.result) c.is_customer.ensures
     ∙ ap (λ b. is_customer_told c.at-local.result || b) c.is_bridge.ensures
     ∙ ap (λ (l : Local). is_customer_told l || is_bridge_told l) c.at-local.ensures
+    ∙ ap (λ (k : ℕ). is_to_customer (get_or c.self.inside.ports k ToNobody)
+    || is_to_bridge (get_or c.self.inside.ports k ToNobody)) c.index_of.ensures
     ∙ (told_at c.self.inside c.args.port c.self.invariant c.if-port-eq0.false c.if-port-gt-PORTS.false).1
     ∙ ap (λ (v : BridgeView). is_used (port_at v.plan v.number c.args.port)) c.self.view_is
