@@ -170,7 +170,7 @@ impl Bridge {
         requires { is_used (port_at self.now.plan self.now.number port) ≡ true }
         ensures { result ≡ length (waiting self.now.plan self.now.number port self.now.steps) }
     {
-        self.forwarding.backlog.waiting(port as usize - 1) as u16
+        self.forwarding.backlog.waiting(index_of(port)) as u16
     }
 
     /// The item that leaves a port next: the oldest of the highest class (IEEE 802.1Q clause 8,
@@ -179,7 +179,7 @@ impl Bridge {
         requires { is_used (port_at self.now.plan self.now.number port) ≡ true }
         ensures { option_copied result ≡ next_out (waiting self.now.plan self.now.number port self.now.steps) }
     {
-        self.forwarding.backlog.first(port as usize - 1)
+        self.forwarding.backlog.first(index_of(port))
     }
 
     /// Takes the item that leaves a port next, and appends the Transmit step that tells of it. Takes
@@ -192,7 +192,7 @@ impl Bridge {
         ensures step { self.new ≡ with_step self.old (Transmit port result) }
         ensures fits { Fits spanning_tree self.old.plan self.old.number self.old.steps (Transmit port result) }
     {
-        let Some(departure) = self.forwarding.backlog.pop(port as usize - 1) else {
+        let Some(departure) = self.forwarding.backlog.pop(index_of(port)) else {
             unreachable!();
         };
         depart(&mut self.steps, port, departure)
