@@ -64,8 +64,8 @@ fn ask<Q: Write, R: Read, W: Write>(
 /// # Errors
 ///
 /// `HungUp` if the other side hangs up before it has answered a command, or sends more than 65,536 octets that end no
-/// answer; `Input` if the input can't be read; `Memory` if an allocation failed. Then the answers to the commands before
-/// are printed whole, and nothing else. `Output` if an answer can't be printed.
+/// answer; `Input` if the input can't be read; `Memory` if an allocation failed. Then the answers to the commands
+/// before are printed whole, and nothing else. `Output` if an answer can't be printed.
 pub fn converse<I: Read, Q: Write, R: Read, W: Write>(
     alloc: Global,
     input: &mut I,

@@ -6,8 +6,8 @@ ghost use Rattle.pb_messages.specs.Reasons.{reason_word};
 use pb_frame::Memory;
 use pb_lan::Reason;
 
-/// Puts the word for why a frame went nowhere behind a text. `Memory` is answered where memory ran out, and then a part of
-/// it may stand there.
+/// Puts the word for why a frame went nowhere behind a text. `Memory` is answered where memory ran out, and then a part
+/// of it may stand there.
 pub fn put_reason(out: &mut String, reason: Reason) -> Result<(), Memory>
     ensures { OnOk result (string_bytes out.new ≡ string_bytes out.old ++ reason_word reason) }
 {

@@ -1,13 +1,15 @@
 //! Words and numbers in lines.
 
-ghost use Rattle.std.specs.Prelude.{◌≡◌, ◌≤◌, ◌<◌, ◌+◌, ◌==◌, ◌++◌, ◌∷◌, Some, None, IfSome, IfNone, length, take, drop};
+ghost use Rattle.std.specs.Prelude.{◌≡◌, ◌≤◌, ◌<◌, ◌+◌, ◌==◌, ◌++◌, ◌∷◌, Some, None, IfSome, IfNone, length, take};
+ghost use Rattle.std.specs.Prelude.{drop};
 ghost use Rattle.std.specs.List.{position};
 ghost use Rattle.pb_messages.specs.Words.{cut as cut_at, HasNoSpace, port_of, local_port};
 
 /// Where the first space stands.
 fn space_in(text: &[u8]) -> Option<usize>
     ensures place { result ≡ position (λ c. c == 32) text.now }
-    ensures some { IfSome result (λ i. (i < length text.now) × (text.now ≡ take i text.now ++ 32 ∷ drop (i + 1) text.now) × HasNoSpace (take i text.now)) }
+    ensures some { IfSome result (λ i. (i < length text.now)
+        × (text.now ≡ take i text.now ++ 32 ∷ drop (i + 1) text.now) × HasNoSpace (take i text.now)) }
     ensures none { IfNone result (HasNoSpace text.now) }
 {
     text.iter().position(|c| *c == b' ')
