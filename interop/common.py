@@ -6,6 +6,7 @@ import shutil
 import subprocess
 import sys
 import tempfile
+import time
 
 TOP = pathlib.Path(__file__).resolve().parent.parent
 # The program as an absolute path: ./pbnet, or the one that PBNET names by a path or by a name on the search path.
@@ -45,6 +46,15 @@ def version(*words):
 
 def package_version(name):
     return output("dpkg-query", "-W", "-f", "${Version}", name).strip()
+
+
+def wait_for(path):
+    """Waits up to 20 seconds until a path exists."""
+    for _ in range(400):
+        if pathlib.Path(path).exists():
+            return
+        time.sleep(0.05)
+    raise SystemExit(f"{path} does not come")
 
 
 class Folder:

@@ -5,7 +5,6 @@ It runs in userspace with its dummy datapath, whose ports are Unix sockets, and 
 """
 
 import os
-import pathlib
 import time
 
 import captures
@@ -27,7 +26,7 @@ class Switch:
         self.database = f"unix:{self.path}/db.sock"
         self.tool("ovsdb-tool", "create", self.path / "conf.db", SCHEMA)
         self.start("ovsdb-server", self.path / "conf.db", f"--remote=p{self.database}", "--log-file")
-        wait_for(self.path / "db.sock")
+        common.wait_for(self.path / "db.sock")
         self.vsctl("--no-wait", "init")
         self.start(
             "ovs-vswitchd", "--enable-dummy=override", "--disable-system", "--log-file", "--pidfile", self.database
@@ -62,19 +61,11 @@ class Switch:
             f"options:pstream=punix:{path}",
         ]
         self.vsctl(*words, "mtu_request=2000", *(["--", "set", "port", name, *settings] if settings else []))
-        wait_for(path)
+        common.wait_for(path)
         return path
 
     def service_port(self, bridge, name, vid):
         return self.port(bridge, name, "vlan_mode=dot1q-tunnel", f"tag={vid}", "other-config:qinq-ethtype=802.1ad")
-
-
-def wait_for(path):
-    for _ in range(400):
-        if pathlib.Path(path).exists():
-            return
-        time.sleep(0.05)
-    raise SystemExit(f"{path} does not come")
 
 
 # Chained

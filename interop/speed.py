@@ -17,7 +17,6 @@ import time
 import captures
 import common
 from streams import Listener
-from vde import wait_for
 
 # The hubs are one program: the first writes each frame by itself, the second all that a read brought.
 PROGRAMS = ("pbnet run", "hub, each", "hub, all", "VDE")
@@ -44,7 +43,7 @@ def start_listening(folder, words, paths):
 
 def start_vde(folder, receivers):
     folder.start("vde_switch", "-s", folder.path / "switch", "-x", stdin=subprocess.PIPE)
-    wait_for(folder.path / "switch" / "ctl")
+    common.wait_for(folder.path / "switch" / "ctl")
     streams = []
     for _ in range(receivers + 1):
         here, there = socket.socketpair()

@@ -9,14 +9,14 @@ joins all bridges that the links left join. How many ticks settling takes is not
 plan, with exit status 1."""
 import argparse
 import itertools
-import os
 import random
 import re
 import subprocess
 import sys
 import tempfile
 
-ROOT = os.path.dirname(os.path.dirname(os.path.realpath(__file__)))
+import common
+
 SERVICES = ["red", "blue", "green"]
 
 
@@ -129,7 +129,7 @@ def report(plan):
 
 def main():
     words = argparse.ArgumentParser(usage=__doc__.split("usage: ")[1])
-    words.add_argument("--program", default=os.environ.get("PBNET", f"{ROOT}/pbnet"))
+    words.add_argument("--program", default=common.PROGRAM)
     words.add_argument("--plans", type=int, default=500)
     words.add_argument("--seed", type=int, default=1)
     given = words.parse_args()

@@ -3,7 +3,6 @@
 
 import socket
 import subprocess
-import time
 
 import captures
 import common
@@ -22,7 +21,7 @@ class Switches:
         self.folder = folder
         for name in ("one", "two"):
             folder.start("vde_switch", "-s", folder.path / name, stdin=subprocess.PIPE)
-            wait_for(folder.path / name / "ctl")
+            common.wait_for(folder.path / name / "ctl")
         folder.start("dpipe", "vde_plug", folder.path / "one", "=", "vde_plug", folder.path / "two")
 
     def plug(self, name, stream):
@@ -35,14 +34,6 @@ class Switches:
         here, there = socket.socketpair()
         self.plug(name, there)
         return Peer(here)
-
-
-def wait_for(path):
-    for _ in range(200):
-        if path.exists():
-            return
-        time.sleep(0.05)
-    raise SystemExit(f"{path} does not come")
 
 
 def start_run(folder):
