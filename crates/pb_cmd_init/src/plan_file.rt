@@ -8,7 +8,7 @@ use crate::parts::{put_bridges, put_links, put_ports};
 use crate::shape::Shape;
 use crate::texts::{put_head, put_kinds, put_service};
 use pb_frame::Memory;
-use pb_messages::CommandFault;
+use pb_messages::{CommandFault, write_whole};
 use std::alloc::Global;
 use std::io::Write;
 
@@ -37,8 +37,5 @@ pub fn write_plan<W: Write>(alloc: Global, shape: Shape, writer: &mut W) -> Resu
 {
     let mut out = String::new(alloc);
     put_plan(alloc, &mut out, shape)?;
-    if writer.write_all(out.as_bytes()).is_err() || writer.flush().is_err() {
-        return Err(CommandFault::Write);
-    }
-    Ok(())
+    write_whole(writer, out.as_bytes())
 }
