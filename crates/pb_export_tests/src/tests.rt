@@ -28,9 +28,11 @@ pub(crate) struct Said {
     pub(crate) json: &'static str,
 }
 
-/// What a caller may take from `json_of`: the JSON is read back as the document of some rows, and these give back the report.
+/// What a caller may take from `json_of`: the JSON is read back as the document of some rows, and these give back the
+/// report.
 fn documented(alloc: Global, form: &Form, text: &str) -> Result<String, FormatFault>
-    ensures { IfOk result (λ json. (rows : List Row) × (text.now ≡ report_text rows) × (read (string_bytes json) ≡ Some (document_of form.now rows))) }
+    ensures { IfOk result (λ json. (rows : List Row) × (text.now ≡ report_text rows)
+        × (read (string_bytes json) ≡ Some (document_of form.now rows))) }
 {
     json_of(alloc, form, text)
 }
@@ -141,7 +143,8 @@ fn tabled(
 #[test]
 fn counts_are_tabled(rt: HostRuntime) -> Result<(), Fail> {
     let wanted =
-        "kind,name,direction,entered,left,filtered,taken,lost\r\nport,C1,,2,1,0,,\r\nlink,L1,ab,,,,3,1\r\nlink,L1,ba,,,,4,0\r\n";
+        "kind,name,direction,entered,left,filtered,taken,lost\r\nport,C1,,2,1,0,,\r\nlink,L1,ab,,,,3,1\r\n\
+        link,L1,ba,,,,4,0\r\n";
     tabled(&rt, rt.alloc(), &RUN, &COUNTS, reports::COUNTED, wanted)?;
     let wanted = "kind,name,direction,entered,left,filtered,taken,lost\r\n";
     tabled(

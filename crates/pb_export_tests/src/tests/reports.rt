@@ -4,11 +4,16 @@ use super::Said;
 
 /// A run with counts.
 pub(super) const COUNTED: &str =
-    "ended limit\nport C1 entered 2 left 1 filtered 0\nlink L1 ab taken 3 lost 1 ba taken 4 lost 0\nforest no\nloop red\nloop blue\nsettled no\nfault: port C1 13\nfault: memory\n";
+    "ended limit\nport C1 entered 2 left 1 filtered 0\nlink L1 ab taken 3 lost 1 ba taken 4 lost 0\nforest no\n\
+    loop red\nloop blue\nsettled no\nfault: port C1 13\nfault: memory\n";
 
 /// A network under failures.
 pub(super) const FAILED: &str =
-    "nothing down: settled ticks 3 forest no\n  loop red\n  service red: C1 C2 | C3 | C4\nlink ring5 down: settled ticks 3 forest yes\n  service red: C1 | C2\nlinks a b down: not settled ticks 200 forest no\n  C1 cut off from: C2 C3\nbridge B1 down: states given forest yes\n7 of 10 failures part nothing, ticks at most 7\n3 of 10 failures part a service\n";
+    "nothing down: settled ticks 3 forest no\n  loop red\n  service red: C1 C2 | C3 | C4\n\
+    link ring5 down: settled ticks 3 forest yes\n  service red: C1 | C2\n\
+    links a b down: not settled ticks 200 forest no\n  C1 cut off from: C2 C3\n\
+    bridge B1 down: states given forest yes\n7 of 10 failures part nothing, ticks at most 7\n\
+    3 of 10 failures part a service\n";
 
 /// Reports of `check`.
 pub(super) const CHECKS: &[Said] = &[
@@ -48,43 +53,53 @@ pub(super) const RUNS: &[Said] = &[
         text: COUNTED,
         json: r#"{"ended": "limit", "ports": [{"name": "C1", "entered": 2, "left": 1, "filtered": 0}],
             "links": [{"name": "L1", "ab_taken": 3, "ab_lost": 1, "ba_taken": 4, "ba_lost": 0}], "forest": false,
-            "loops": ["red", "blue"], "settled": false, "port_faults": [{"port": "C1", "fault": 13}], "fault": "memory"}"#,
+            "loops": ["red", "blue"], "settled": false, "port_faults": [{"port": "C1", "fault": 13}],
+            "fault": "memory"}"#,
     },
     Said {
         text: "port C1 entered 18446744073709551615 left 0 filtered 007\n",
-        json: r#"{"ports": [], "links": [], "loops": [], "port_faults": [], "other": ["port C1 entered 18446744073709551615 left 0 filtered 007"]}"#,
+        json: r#"{"ports": [], "links": [], "loops": [], "port_faults": [],
+            "other": ["port C1 entered 18446744073709551615 left 0 filtered 007"]}"#,
     },
     Said {
         text: "port C1 entered 18446744073709551615 left 0 filtered 7\nfault: spawn\n",
-        json: r#"{"ports": [{"name": "C1", "entered": 18446744073709551615, "left": 0, "filtered": 7}], "links": [], "loops": [],
-            "port_faults": [], "fault": "spawn"}"#,
+        json: r#"{"ports": [{"name": "C1", "entered": 18446744073709551615, "left": 0, "filtered": 7}], "links": [],
+            "loops": [], "port_faults": [], "fault": "spawn"}"#,
     },
 ];
 
 /// Reports of `step`.
 pub(super) const STEPS: &[Said] = &[Said {
     text: "polled C1 0\nfed\n\nline 4: bad\nport C1 entered 1 left 0 filtered 0\nforest yes\nsettled yes\n",
-    json: r#"{"answers": ["polled C1 0", "fed", "", "line 4: bad"], "ports": [{"name": "C1", "entered": 1, "left": 0, "filtered": 0}],
-        "links": [], "loops": [], "forest": true, "settled": true}"#,
+    json: r#"{"answers": ["polled C1 0", "fed", "", "line 4: bad"],
+        "ports": [{"name": "C1", "entered": 1, "left": 0, "filtered": 0}], "links": [], "loops": [], "forest": true,
+        "settled": true}"#,
 }];
 
 /// Reports of `trace`.
 pub(super) const TRACES: &[Said] = &[
     Said {
-        text: "settled yes ticks 3\nin ffff: polled C1 0\n  B1 2 from C1, red vid 100 priority 5, tag 88a80000 taken off, source learnt, flooded: relayed 1 3 full 4 memory 5\n    B1 1 to L1, tag 88a80064 put on\n    L1 ab: taken 0\n    B2 1 from L1, no service vid 9 priority 0: filtered not-member\n    L2 ba: lost 7\nin ffff: polled C2 1\n  B1 3 from L3, untagged, table full, nowhere: relayed\n  B1 4 to L4, tag 88a80064\n  B1 2 to C3, tag taken off\n  B1 2 to C4\n  C3: delivered ffff\nothers 2\nleft at C3 C4; refused 1; lost 1\n",
-        json: r#"{"settled": true, "ticks": 3, "others": 2, "left_at": ["C3", "C4"], "refused": 1, "lost": 1, "frames": [
+        text: "settled yes ticks 3\n\
+            in ffff: polled C1 0\n  B1 2 from C1, red vid 100 priority 5, tag 88a80000 taken off, source learnt, \
+            flooded: relayed 1 3 full 4 memory 5\n    B1 1 to L1, tag 88a80064 put on\n    L1 ab: taken 0\n    B2 1 \
+            from L1, no service vid 9 priority 0: filtered not-member\n    L2 ba: lost 7\n\
+            in ffff: polled C2 1\n  B1 3 from L3, untagged, table full, nowhere: relayed\n  B1 4 to L4, tag \
+            88a80064\n  B1 2 to C3, tag taken off\n  B1 2 to C4\n  C3: delivered ffff\nothers 2\n\
+            left at C3 C4; refused 1; lost 1\n",
+        json: r#"{"settled": true, "ticks": 3, "others": 2, "left_at": ["C3", "C4"], "refused": 1, "lost": 1,
+            "frames": [
             {"frame": "ffff", "port": "C1", "number": 0, "hops": [
-                {"depth": 1, "event": "received", "bridge": "B1", "port": 2, "from": "C1", "service": "red", "vid": 100, "priority": 5,
-                    "tag_taken_off": "88a80000", "source": "learnt", "way": "flooded", "outcome": "relayed", "relayed_to": [1, 3],
-                    "no_room": ["full", "4", "memory", "5"]},
+                {"depth": 1, "event": "received", "bridge": "B1", "port": 2, "from": "C1", "service": "red", "vid": 100,
+                    "priority": 5, "tag_taken_off": "88a80000", "source": "learnt", "way": "flooded",
+                    "outcome": "relayed", "relayed_to": [1, 3], "no_room": ["full", "4", "memory", "5"]},
                 {"depth": 2, "event": "sent", "bridge": "B1", "port": 1, "to": "L1", "tag": "88a80064", "put_on": true},
                 {"depth": 2, "event": "taken", "link": "L1", "direction": "ab", "number": 0},
-                {"depth": 2, "event": "received", "bridge": "B2", "port": 1, "from": "L1", "service": "no service", "vid": 9,
-                    "priority": 0, "outcome": "filtered", "reason": "not-member"},
+                {"depth": 2, "event": "received", "bridge": "B2", "port": 1, "from": "L1", "service": "no service",
+                    "vid": 9, "priority": 0, "outcome": "filtered", "reason": "not-member"},
                 {"depth": 2, "event": "lost", "link": "L2", "direction": "ba", "number": 7}]},
             {"frame": "ffff", "port": "C2", "number": 1, "hops": [
-                {"depth": 1, "event": "received", "bridge": "B1", "port": 3, "from": "L3", "untagged": true, "source": "table full",
-                    "way": "nowhere", "outcome": "relayed", "relayed_to": [], "no_room": []},
+                {"depth": 1, "event": "received", "bridge": "B1", "port": 3, "from": "L3", "untagged": true,
+                    "source": "table full", "way": "nowhere", "outcome": "relayed", "relayed_to": [], "no_room": []},
                 {"depth": 1, "event": "sent", "bridge": "B1", "port": 4, "to": "L4", "tag": "88a80064"},
                 {"depth": 1, "event": "sent", "bridge": "B1", "port": 2, "to": "C3", "tag": "taken off"},
                 {"depth": 1, "event": "sent", "bridge": "B1", "port": 2, "to": "C4"},
@@ -92,23 +107,28 @@ pub(super) const TRACES: &[Said] = &[
     },
     Said {
         text: "goes round over L1 L2; ended after 1000 events\nleft nowhere; refused 0; lost 0\n",
-        json: r#"{"frames": [], "goes_round_over": ["L1", "L2"], "events": 1000, "left_at": [], "refused": 0, "lost": 0}"#,
+        json: r#"{"frames": [], "goes_round_over": ["L1", "L2"], "events": 1000, "left_at": [], "refused": 0,
+            "lost": 0}"#,
     },
 ];
 
 /// Reports of `tree`.
 pub(super) const TREES: &[Said] = &[
     Said {
-        text: "settled no ticks 200\nbridge B1 root B1 cost 0\nport B1 1 link L1 designated forwarding cost 20000 from B1\nbridge B2 root B1 cost 20000 port 1\nforest yes\n",
+        text: "settled no ticks 200\nbridge B1 root B1 cost 0\n\
+            port B1 1 link L1 designated forwarding cost 20000 from B1\nbridge B2 root B1 cost 20000 port 1\n\
+            forest yes\n",
         json: r#"{"settled": false, "ticks": 200, "forest": true, "loops": [], "branches": [], "bridges": [
-            {"name": "B1", "root": "B1", "cost": 0, "ports": [{"bridge": "B1", "port": 1, "link": "L1", "role": "designated",
-                "state": "forwarding", "cost": 20000, "from": "B1"}]},
+            {"name": "B1", "root": "B1", "cost": 0,
+                "ports": [{"bridge": "B1", "port": 1, "link": "L1", "role": "designated", "state": "forwarding",
+                    "cost": 20000, "from": "B1"}]},
             {"name": "B2", "root": "B1", "cost": 20000, "root_port": 1, "ports": []}]}"#,
     },
     Said {
         text: "bridge B1\nport B1 1 link L1 discarding\nforest yes\nservice red bridge B2 up L1 depth 1\n",
-        json: r#"{"forest": true, "loops": [], "bridges": [{"name": "B1", "ports": [{"bridge": "B1", "port": 1, "link": "L1",
-            "state": "discarding"}]}], "branches": [{"service": "red", "bridge": "B2", "up": "L1", "depth": 1}]}"#,
+        json: r#"{"forest": true, "loops": [], "bridges": [{"name": "B1",
+            "ports": [{"bridge": "B1", "port": 1, "link": "L1", "state": "discarding"}]}],
+            "branches": [{"service": "red", "bridge": "B2", "up": "L1", "depth": 1}]}"#,
     },
 ];
 
@@ -119,10 +139,10 @@ pub(super) const SURVIVALS: &[Said] = &[
         json: r#"{"nothing_down": {"settled": true, "ticks": 3, "forest": false, "loops": [{"service": "red"}],
                 "services": [{"name": "red", "groups": [["C1", "C2"], ["C3"], ["C4"]]}]},
             "failures": [
-                {"down": "link", "name": "ring5", "settled": true, "ticks": 3, "forest": true, "loops": [], "cut_off": [],
-                    "services": [{"name": "red", "groups": [["C1"], ["C2"]]}]},
-                {"down": "links", "name": "a", "other": "b", "settled": false, "ticks": 200, "forest": false, "loops": [],
-                    "services": [], "cut_off": [{"port": "C1", "from": ["C2", "C3"]}]},
+                {"down": "link", "name": "ring5", "settled": true, "ticks": 3, "forest": true, "loops": [],
+                    "cut_off": [], "services": [{"name": "red", "groups": [["C1"], ["C2"]]}]},
+                {"down": "links", "name": "a", "other": "b", "settled": false, "ticks": 200, "forest": false,
+                    "loops": [], "services": [], "cut_off": [{"port": "C1", "from": ["C2", "C3"]}]},
                 {"down": "bridge", "name": "B1", "forest": true, "loops": [], "services": [], "cut_off": []}],
             "part_nothing": 7, "failures_tried": 10, "most_ticks": 7, "part_a_service": 3, "survives": false}"#,
     },
