@@ -36,7 +36,8 @@ fn put_plan(out: &mut String, plan: &Plan) -> Result<(), Memory>
 
 /// Puts what a plan file tells behind a text, and answers the exit status.
 fn put_check(alloc: Global, out: &mut String, file: &[u8]) -> Result<u8, Memory>
-    ensures { IfOk result (λ status. (text : List ℕ) × (string_bytes out.new ≡ string_bytes out.old ++ text) × IsCheckText file.now status text) }
+    ensures { IfOk result (λ status. (text : List ℕ) × (string_bytes out.new ≡ string_bytes out.old ++ text)
+        × IsCheckText file.now status text) }
 {
     match read_plan(alloc, file) {
         Ok((plan, _ports)) => {
@@ -62,7 +63,8 @@ fn put_check(alloc: Global, out: &mut String, file: &[u8]) -> Result<u8, Memory>
 /// `Memory` is answered where memory ran out for the text, and then nothing was written; `Write` where a write
 /// failed, and then nothing is said of what was written. No other fault comes.
 pub fn run_check<W: Write>(alloc: Global, file: &[u8], writer: &mut W) -> Result<u8, CommandFault>
-    ensures ok { IfOk result (λ status. (text : List ℕ) × Appends (W.contents writer.old) (W.contents writer.new) text × IsCheckText file.now status text) }
+    ensures ok { IfOk result (λ status. (text : List ℕ) × Appends (W.contents writer.old) (W.contents writer.new) text
+        × IsCheckText file.now status text) }
     ensures kinds { IfErr result (λ e. (e ≡ CommandFault.Write) ⊎ (e ≡ CommandFault.Memory)) }
     ensures none { IfErr result (λ e. e ≢ CommandFault.Write → Keeps (W.contents writer.old) (W.contents writer.new)) }
 {

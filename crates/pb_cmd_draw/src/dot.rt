@@ -1,7 +1,10 @@
 //! A scene as a graph for the programs of Graphviz.
 
 ghost use Rattle.std.specs.Prelude.{◌≡◌, ◌++◌, flat_map, string_bytes, OnOk};
-ghost use Rattle.pb_cmd_draw.specs.Dot.{tone_style, active_style, arrow_word, colour_code, node_head, known_node, bridge_node, edge_ends, arrows_text, edge_label, edge_head, known_edge, link_edge, leaf_edge, leaf_head, leaf_node, known_leaf, port_node, parts_text, dot_text};
+ghost use Rattle.pb_cmd_draw.specs.Dot.{tone_style, active_style, arrow_word, colour_code, node_head, known_node};
+ghost use Rattle.pb_cmd_draw.specs.Dot.{bridge_node, edge_ends, arrows_text, edge_label, edge_head, known_edge};
+ghost use Rattle.pb_cmd_draw.specs.Dot.{link_edge, leaf_edge, leaf_head, leaf_node, known_leaf, port_node, parts_text};
+ghost use Rattle.pb_cmd_draw.specs.Dot.{dot_text};
 ghost use Rattle.pb_cmd_draw.specs.Words.{colour_of};
 
 use crate::titles::{put_bridge_words, put_link_words, put_port_words};
@@ -205,7 +208,8 @@ fn put_leaf_node(
     service: &str,
     facts: PortFacts,
 ) -> Result<(), Memory>
-    ensures { OnOk result (string_bytes out.new ≡ string_bytes out.old ++ leaf_node plan.now port.now service.now facts) }
+    ensures { OnOk result (string_bytes out.new ≡ string_bytes out.old
+        ++ leaf_node plan.now port.now service.now facts) }
 {
     put_leaf_head(out, port.name.as_str(), service, facts)?;
     put_port_words(out, plan, port, service)?;
@@ -282,8 +286,8 @@ fn put_parts(alloc: Global, out: &mut String, plan: &Plan, scene: &Scene) -> Res
 
 /// Puts a scene of a plan behind a text, as a graph in the language DOT of Graphviz.
 ///
-/// Bridges are boxes, customer ports ellipses in the colour of their service, links edges between bridges. A port that is
-/// Discarding ends in a square, one that is Learning in a ring; a link that is not active is dashed and grey. The
+/// Bridges are boxes, customer ports ellipses in the colour of their service, links edges between bridges. A port that
+/// is Discarding ends in a square, one that is Learning in a ring; a link that is not active is dashed and grey. The
 /// places are Graphviz's own.
 ///
 /// `Memory` is answered where memory ran out, and then a part of the graph may stand there.

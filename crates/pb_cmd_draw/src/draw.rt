@@ -54,7 +54,8 @@ fn put_picture(
     format: Format,
 ) -> Result<(), Memory>
     requires { IsSound plan.now }
-    ensures { OnOk result ((text : List ℕ) × (string_bytes out.new ≡ string_bytes out.old ++ text) × IsPictureOf plan.now shape.now chosen format text) }
+    ensures { OnOk result ((text : List ℕ) × (string_bytes out.new ≡ string_bytes out.old ++ text)
+        × IsPictureOf plan.now shape.now chosen format text) }
 {
     let scene = scene_of(alloc, plan, shape, chosen)?;
     match format {
@@ -73,7 +74,8 @@ fn put_last(
     format: Format,
 ) -> Result<(), Memory>
     requires { IsSound plan.now }
-    ensures { OnOk result ((text : List ℕ) × (string_bytes out.new ≡ string_bytes out.old ++ text) × IsPictureOf plan.now (last_shape plan.now rec.now) chosen format text) }
+    ensures { OnOk result ((text : List ℕ) × (string_bytes out.new ≡ string_bytes out.old ++ text)
+        × IsPictureOf plan.now (last_shape plan.now rec.now) chosen format text) }
 {
     let shape = shape_of(alloc, plan, rec)?;
     put_picture(alloc, out, plan, &shape, chosen, format)
@@ -89,7 +91,8 @@ fn put_rested(
 ) -> Result<Rest, CommandFault>
     requires sound { IsSound plan.now }
     requires plan { net.plan ≡ plan.now }
-    ensures { IfOk result (λ rest. (text : List ℕ) × (string_bytes out.new ≡ string_bytes out.old ++ text) × IsDrawingFrom plan.now asked.now net rest text) }
+    ensures { IfOk result (λ rest. (text : List ℕ) × (string_bytes out.new ≡ string_bytes out.old ++ text)
+        × IsDrawingFrom plan.now asked.now net rest text) }
 {
     let rest = rests(alloc, &mut net, plan, asked.ticks)?;
     let chosen = chosen_of(plan, asked.service);
@@ -107,7 +110,8 @@ fn put_fallen(
 ) -> Result<DrawEnd, CommandFault>
     requires sound { IsSound plan.now }
     requires found { is_found plan.now asked.now.service ≡ true }
-    ensures { IfOk result (λ end. (text : List ℕ) × (string_bytes out.new ≡ string_bytes out.old ++ text) × HasDrawn plan.now asked.now end text) }
+    ensures { IfOk result (λ end. (text : List ℕ) × (string_bytes out.new ≡ string_bytes out.old ++ text)
+        × HasDrawn plan.now asked.now end text) }
 {
     let mut net = fresh(alloc, plan)?;
     match falls(alloc, &mut net, plan, asked.downs)? {
@@ -127,7 +131,8 @@ fn put_drawing(
     asked: &Asked<'_>,
 ) -> Result<DrawEnd, CommandFault>
     requires { IsSound plan.now }
-    ensures { IfOk result (λ end. (text : List ℕ) × (string_bytes out.new ≡ string_bytes out.old ++ text) × HasDrawn plan.now asked.now end text) }
+    ensures { IfOk result (λ end. (text : List ℕ) × (string_bytes out.new ≡ string_bytes out.old ++ text)
+        × HasDrawn plan.now asked.now end text) }
 {
     if is_found(plan, asked.service) {
         put_fallen(alloc, out, plan, asked)
@@ -144,7 +149,8 @@ fn draw<W: Write>(
     writer: &mut W,
 ) -> Result<DrawEnd, CommandFault>
     requires { IsSound plan.now }
-    ensures ok { IfOk result (λ end. (text : List ℕ) × Appends (W.contents writer.old) (W.contents writer.new) text × HasDrawn plan.now asked.now end text) }
+    ensures ok { IfOk result (λ end. (text : List ℕ) × Appends (W.contents writer.old) (W.contents writer.new) text
+        × HasDrawn plan.now asked.now end text) }
     ensures none { IfErr result (λ e. e ≢ CommandFault.Write → Keeps (W.contents writer.old) (W.contents writer.new)) }
 {
     let mut out = String::new(alloc);
@@ -158,14 +164,15 @@ fn draw<W: Write>(
 /// Reads a plan file, sets ports to other bridges down, lets the bridges settle, and writes a picture of the network.
 ///
 /// Each of `downs` names a port to another bridge by `BRIDGE:PORT`, the bridge's name and its local port. That end of
-/// its link goes down, and its neighbour isn't told. Where the bridges decide the states of their ports (IEEE 802.1D-2004
-/// clause 17), each ticks at most `ticks` times; the picture is drawn as they stand then, at rest or not, and `Drawn` says
-/// which. [`scene_of`] says what is drawn, and [`put_svg`] how.
+/// its link goes down, and its neighbour isn't told. Where the bridges decide the states of their ports (IEEE
+/// 802.1D-2004 clause 17), each ticks at most `ticks` times; the picture is drawn as they stand then, at rest or not,
+/// and `Drawn` says which. [`scene_of`] says what is drawn, and [`put_svg`] how.
 ///
-/// Of a file that is no plan the rule is written that it breaks, as `check` does. `NoService` is answered where the plan
-/// lacks the service, and else `NoPort` where words name no port to another bridge; nothing is written then. `Memory` is
-/// answered where memory ran out, `Steps` where a place was to take more steps than the plan allows; nothing was written
-/// then. `Write` is answered where a write failed, and then nothing is said of what was written. No other fault comes.
+/// Of a file that is no plan the rule is written that it breaks, as `check` does. `NoService` is answered where the
+/// plan lacks the service, and else `NoPort` where words name no port to another bridge; nothing is written then.
+/// `Memory` is answered where memory ran out, `Steps` where a place was to take more steps than the plan allows;
+/// nothing was written then. `Write` is answered where a write failed, and then nothing is said of what was written. No
+/// other fault comes.
 pub fn run_draw<W: Write>(
     alloc: Global,
     file: &[u8],

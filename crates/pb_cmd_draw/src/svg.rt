@@ -1,7 +1,8 @@
 //! A scene as an SVG picture.
 
 ghost use Rattle.std.specs.Prelude.{◌≡◌, ◌++◌, flat_map, string_bytes, OnOk};
-ghost use Rattle.pb_cmd_draw.specs.Svg.{opening_text, counts_text, ground_text, group_text, head_text, elements_text, svg_text};
+ghost use Rattle.pb_cmd_draw.specs.Svg.{opening_text, counts_text, ground_text, group_text, head_text, elements_text};
+ghost use Rattle.pb_cmd_draw.specs.Svg.{svg_text};
 ghost use Rattle.pb_cmd_draw.specs.SvgBoxes.{bridge_element, port_element, service_element};
 ghost use Rattle.pb_cmd_draw.specs.SvgLinks.{link_element, ends_element};
 
@@ -31,7 +32,8 @@ fn put_bridges(
     plan: &Plan,
     marks: &[BridgeMark],
 ) -> Result<(), Memory>
-    ensures { OnOk result (string_bytes out.new ≡ string_bytes out.old ++ flat_map (bridge_element plan.now) marks.now) }
+    ensures { OnOk result (string_bytes out.new ≡ string_bytes out.old
+        ++ flat_map (bridge_element plan.now) marks.now) }
 {
     for mark in marks {
         put_bridge(alloc, out, plan, mark)?;
@@ -61,7 +63,8 @@ fn put_all_ends(out: &mut String, plan: &Plan, marks: &[LinkMark]) -> Result<(),
 
 /// The legend.
 fn put_services(out: &mut String, plan: &Plan, marks: &[ServiceMark]) -> Result<(), Memory>
-    ensures { OnOk result (string_bytes out.new ≡ string_bytes out.old ++ flat_map (service_element plan.now) marks.now) }
+    ensures { OnOk result (string_bytes out.new ≡ string_bytes out.old
+        ++ flat_map (service_element plan.now) marks.now) }
 {
     for mark in marks {
         put_service(out, plan, mark)?;
@@ -76,7 +79,8 @@ fn put_opening(out: &mut String, size: Point) -> Result<(), Memory>
     let (width, height) = (size.x, size.y);
     write!(
         out,
-        "<svg xmlns=\"http://www.w3.org/2000/svg\" width=\"{width}\" height=\"{height}\" viewBox=\"0 0 {width} {height}\">\n"
+        "<svg xmlns=\"http://www.w3.org/2000/svg\" width=\"{width}\" height=\"{height}\" \
+        viewBox=\"0 0 {width} {height}\">\n"
     )?;
     Ok(())
 }
@@ -141,9 +145,9 @@ fn put_elements(alloc: Global, out: &mut String, plan: &Plan, scene: &Scene) -> 
 
 /// Puts a scene of a plan behind a text, as an SVG picture that stands alone.
 ///
-/// Each bridge, link, customer port and service has an element with a `<title>` that names it: a bridge with its address
-/// and priority, a link with its ends and their states, a port with its service and VID. Links come first, so that no
-/// line hides a box, and their names come after the boxes.
+/// Each bridge, link, customer port and service has an element with a `<title>` that names it: a bridge with its
+/// address and priority, a link with its ends and their states, a port with its service and VID. Links come first, so
+/// that no line hides a box, and their names come after the boxes.
 ///
 /// `Memory` is answered where memory ran out, and then a part of the picture may stand there.
 pub fn put_svg(alloc: Global, out: &mut String, plan: &Plan, scene: &Scene) -> Result<(), Memory>

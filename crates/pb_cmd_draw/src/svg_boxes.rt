@@ -2,7 +2,9 @@
 
 ghost use Rattle.std.specs.Prelude.{◌≡◌, ◌++◌, string_bytes, OnOk};
 ghost use Rattle.std.specs.Fmt.{decimal};
-ghost use Rattle.pb_cmd_draw.specs.SvgBoxes.{box_text, stand_text, box_group, bridge_title, known_bridge, bridge_element, bar_class, bar_group, bar_text, port_title, port_of, known_port, port_element, service_title, known_service, service_element};
+ghost use Rattle.pb_cmd_draw.specs.SvgBoxes.{box_text, stand_text, box_group, bridge_title, known_bridge};
+ghost use Rattle.pb_cmd_draw.specs.SvgBoxes.{bridge_element, bar_class, bar_group, bar_text, port_title, port_of};
+ghost use Rattle.pb_cmd_draw.specs.SvgBoxes.{known_port, port_element, service_title, known_service, service_element};
 
 use crate::titles::{put_bridge_words, put_port_words};
 use crate::words::{colour_of, dashes_of, tone_word};
@@ -141,7 +143,8 @@ fn put_port_of(
     mark: &PortMark,
     service: &str,
 ) -> Result<(), Memory>
-    ensures { OnOk result (string_bytes out.new ≡ string_bytes out.old ++ port_of plan.now port.now mark.now service.now) }
+    ensures { OnOk result (string_bytes out.new ≡ string_bytes out.old
+        ++ port_of plan.now port.now mark.now service.now) }
 {
     put_bar_group(
         out,
@@ -194,7 +197,8 @@ fn put_service_title(out: &mut String, service: &ServicePlan) -> Result<(), Memo
 
 /// The bar of a service, its name and its VID.
 fn put_service_bar(out: &mut String, service: &ServicePlan) -> Result<(), Memory>
-    ensures { OnOk result (string_bytes out.new ≡ string_bytes out.old ++ bar_text service.now.name (decimal service.now.vid)) }
+    ensures { OnOk result (string_bytes out.new ≡ string_bytes out.old
+        ++ bar_text service.now.name (decimal service.now.vid)) }
 {
     let name = service.name.as_str();
     let vid = service.vid;

@@ -1,7 +1,9 @@
 //! Links in an SVG picture.
 
 ghost use Rattle.std.specs.Prelude.{◌≡◌, ◌++◌, string_bytes, OnOk};
-ghost use Rattle.pb_cmd_draw.specs.SvgLinks.{curve_text, route_text, link_class, known_link, link_element, mark_of, number_text, mark_text, end_text, both_ends, plate_text, name_text, label_text, known_ends, ends_element};
+ghost use Rattle.pb_cmd_draw.specs.SvgLinks.{curve_text, route_text, link_class, known_link, link_element, mark_of};
+ghost use Rattle.pb_cmd_draw.specs.SvgLinks.{number_text, mark_text, end_text, both_ends, plate_text, name_text};
+ghost use Rattle.pb_cmd_draw.specs.SvgLinks.{label_text, known_ends, ends_element};
 
 use crate::titles::put_link_words;
 use crate::words::{active_word, losing_word, tone_word};

@@ -30,7 +30,8 @@ pub(crate) fn read_frame_line<'a>(
     ensures some { IfOk result (λ o. IfSome o (λ h. IsFrameLine limit ports line.now h.port h.frame)) }
     ensures first { IfOk result (λ o. IfSome o (λ h. 1 ≤ h.port)) }
     ensures digits { IfOk result (λ o. IfSome o (λ h. IsHex h.digits.now h.frame)) }
-    ensures none { IfOk result (λ o. IfNone o ((port : ℕ) (frame : List ℕ) → IsFrameLine limit ports line.now port frame → ⊥)) }
+    ensures none { IfOk result (λ o. IfNone o ((port : ℕ) (frame : List ℕ) →
+        IsFrameLine limit ports line.now port frame → ⊥)) }
 {
     if line.len() > limit || !line.starts_with(b"in ") {
         return Ok(None);

@@ -1,6 +1,7 @@
 //! One bridge, driven by lines of text.
 
-ghost use Rattle.std.specs.Prelude.{◌≡◌, ◌≢◌, ◌<◌, ◌≤◌, ◌-◌, ◌^◌, ◌++◌, [], ℕ, List, length, true, IsErrOf, OnOk, IfErr};
+ghost use Rattle.std.specs.Prelude.{◌≡◌, ◌≢◌, ◌<◌, ◌≤◌, ◌-◌, ◌^◌, ◌++◌, [], ℕ, List, length, true, IsErrOf, OnOk};
+ghost use Rattle.std.specs.Prelude.{IfErr};
 ghost use Rattle.std.specs.Io.KnownBytes.{Keeps};
 ghost use Rattle.pb_lines.specs.Reader.{held, limit_of};
 ghost use Rattle.pb_messages.specs.BadLines.{longest_line};
@@ -77,7 +78,8 @@ fn answer_lines<R: Read, W: Write>(
     requires ports { switch.old.ports ≡ ports }
     requires ready { switch.old.is_ready ≡ true }
     requires fresh { switch.old.steps ≡ [] }
-    ensures ok { OnOk result (Prints limit ports (R.remaining reader.old) (W.contents writer.old) (W.contents writer.new)) }
+    ensures ok { OnOk result (Prints limit ports (R.remaining reader.old) (W.contents writer.old)
+        (W.contents writer.new)) }
     ensures part { IfErr result (λ e. e ≢ CommandFault.Write →
         PrintsBeginning e limit ports (R.remaining reader.old) (W.contents writer.old) (W.contents writer.new)) }
 {
@@ -114,9 +116,11 @@ pub fn run_flat_on<R: Read, W: Write>(
 ) -> Result<(), CommandFault>
     requires ready { switch.old.is_ready ≡ true }
     requires fresh { switch.old.steps ≡ [] }
-    ensures ok { OnOk result (Prints longest_line switch.old.ports (R.remaining reader.old) (W.contents writer.old) (W.contents writer.new)) }
+    ensures ok { OnOk result (Prints longest_line switch.old.ports (R.remaining reader.old) (W.contents writer.old)
+        (W.contents writer.new)) }
     ensures part { IfErr result (λ e. e ≢ CommandFault.Write →
-        PrintsBeginning e longest_line switch.old.ports (R.remaining reader.old) (W.contents writer.old) (W.contents writer.new)) }
+        PrintsBeginning e longest_line switch.old.ports (R.remaining reader.old) (W.contents writer.old)
+        (W.contents writer.new)) }
 {
     let mut lines = LineReader::new(alloc, MAX_LINE)?;
     let ports = switch.ports();
@@ -141,7 +145,8 @@ pub fn run_flat<R: Read, W: Write>(
     writer: &mut W,
 ) -> Result<(), CommandFault>
     requires { (2 ≤ ports) × (ports ≤ 16) }
-    ensures ok { OnOk result (Prints longest_line ports (R.remaining reader.old) (W.contents writer.old) (W.contents writer.new)) }
+    ensures ok { OnOk result (Prints longest_line ports (R.remaining reader.old) (W.contents writer.old)
+        (W.contents writer.new)) }
     ensures part { IfErr result (λ e. e ≢ CommandFault.Write →
         PrintsBeginning e longest_line ports (R.remaining reader.old) (W.contents writer.old) (W.contents writer.new)) }
 {

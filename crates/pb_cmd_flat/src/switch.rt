@@ -1,6 +1,7 @@
 //! One bridge that stands alone.
 
-ghost use Rattle.std.specs.Prelude.{◌≡◌, ◌≤◌, ◌<◌, ◌+◌, ◌-◌, ◌^◌, ◌⊎◌, [], true, false, length, IfErr, OnOk, IsErrOf, IfOk};
+ghost use Rattle.std.specs.Prelude.{◌≡◌, ◌≤◌, ◌<◌, ◌+◌, ◌-◌, ◌^◌, ◌⊎◌, [], true, false, length, IfErr, OnOk, IsErrOf};
+ghost use Rattle.std.specs.Prelude.{IfOk};
 ghost use Rattle.pb_frame.specs.Hex.{IsHex};
 ghost use Rattle.pb_lan.specs.BridgeLists.{IsLawfulBridge};
 ghost use Rattle.pb_lan.specs.Ports.{port_at, is_used};

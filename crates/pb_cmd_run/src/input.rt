@@ -57,8 +57,8 @@ fn open_pipe<R: Files<File = File>>(rt: &R, path: &str, is_standard: bool) -> io
     Ok(Input { file, writer })
 }
 
-/// Opens a file to be read, or standard input where the path is `-`. No read of it waits. A named pipe is at its end once
-/// something has come from it and no writer is left; standard input that is a pipe, once no writer is left.
+/// Opens a file to be read, or standard input where the path is `-`. No read of it waits. A named pipe is at its end
+/// once something has come from it and no writer is left; standard input that is a pipe, once no writer is left.
 pub(crate) fn open_input<R: Files<File = File>>(rt: &R, path: &str) -> io::Result<Input> {
     let is_standard = path == "-";
     let path = input_path(path);

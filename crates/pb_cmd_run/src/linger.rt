@@ -85,8 +85,8 @@ fn write_on<R: Clock>(rt: &R, ports: &mut [Held], lingering: Lingering<'_>) {
     }
 }
 
-/// Gives the ports of a run a while to write what waits in them, and ends before where nothing waits that could leave. What is
-/// told of the run stays.
+/// Gives the ports of a run a while to write what waits in them, and ends before where nothing waits that could leave.
+/// What is told of the run stays.
 pub(crate) fn lingered<R: Clock>(rt: &R, ran: Ran, lingering: Lingering<'_>) -> Ran
     ensures counts { result.counts ≡ ran.counts }
     ensures last { result.last ≡ ran.last }

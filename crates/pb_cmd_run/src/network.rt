@@ -56,7 +56,8 @@ fn refuse<W: Write>(alloc: Global, fault: &PlanFault, writer: &mut W) -> Result<
     Ok(REFUSED)
 }
 
-/// What a run lost. Where there is no memory to tell it, a lenient run tells nothing, and a strict one answers `Memory`.
+/// What a run lost. Where there is no memory to tell it, a lenient run tells nothing, and a strict one answers
+/// `Memory`.
 fn lost_under(
     alloc: Global,
     strictness: Strictness,
@@ -68,7 +69,8 @@ fn lost_under(
     requires ports { length ports.now ≡ length plan.now.customers }
     requires lists { length counts.now.customers ≡ length plan.now.customers }
     ensures err { IfErr result (λ e. e ≡ NetworkFault.Memory) }
-    ensures ok { IfOk result (λ text. strictness ≡ strict → string_bytes text ≡ lost_text plan.now counts.now settled.now (map (λ b. waiting b) ports.now)) }
+    ensures ok { IfOk result (λ text. strictness ≡ strict →
+        string_bytes text ≡ lost_text plan.now counts.now settled.now (map (λ b. waiting b) ports.now)) }
 {
     match lost_of(alloc, plan, ports, counts, settled) {
         Ok(lost) => Ok(lost),
@@ -92,8 +94,8 @@ fn show_unmade<E: Write>(alloc: Global, path: &str, error: &io::Error, errors: &
     }
 }
 
-/// Makes the control socket of a run, where one is asked for. `Path` is answered where it can't be made, and told on the
-/// error writer.
+/// Makes the control socket of a run, where one is asked for. `Path` is answered where it can't be made, and told on
+/// the error writer.
 fn plug<R: Files + Net, G, E: Write>(
     rt: &R,
     alloc: Global,
@@ -118,8 +120,8 @@ fn plug<R: Files + Net, G, E: Write>(
     }
 }
 
-/// Whether frames wait until the bridges have settled: where that is asked for, and the bridges decide the states of their
-/// ports, by clocks that tick.
+/// Whether frames wait until the bridges have settled: where that is asked for, and the bridges decide the states of
+/// their ports, by clocks that tick.
 fn waits_for(options: &RunOptions<'_>, plan: &Plan, limits: Limits) -> bool {
     let has_clock = limits.tick_every > 0 || limits.tick_ms > 0;
     options.settles && has_clock && plan.spanning == Spanning::Rstp
@@ -156,7 +158,8 @@ fn tell<W: Write, E: Write>(
     requires lasts { length ran.now.last.items ≡ length plan.now.customers }
     requires ports { length ran.now.ports.items ≡ length plan.now.customers }
     requires lists { length ran.now.counts.customers ≡ length plan.now.customers }
-    ensures ok { IfOk result (λ status. PrintsReport strictness plan.now ran.now.counts ran.now.ended ran.now.settled ran.now.last.items status
+    ensures ok { IfOk result (λ status. PrintsReport strictness plan.now ran.now.counts ran.now.ended ran.now.settled
+        ran.now.last.items status
         (W.contents writer.old) (W.contents writer.new)) }
     ensures kinds { IfErr result (λ e. (e ≡ NetworkFault.Write) ⊎ (e ≡ NetworkFault.Memory)) }
     ensures none { IfErr result (λ e. e ≢ NetworkFault.Write → Keeps (W.contents writer.old) (W.contents writer.new)) }
@@ -192,7 +195,8 @@ where
     R: Files + Threads + Wait + Clock + Sync,
     requires sound { IsSound plan.now }
     requires count { vec_len ports ≡ length plan.now.customers }
-    ensures ok { IfOk result (λ status. (specs : List PortSpec) → map (λ w. script_at w.port) ports.items ≡ map script_in specs
+    ensures ok { IfOk result (λ status. (specs : List PortSpec) →
+        map (λ w. script_at w.port) ports.items ≡ map script_in specs
         → PrintsRan strictness plan.now specs status (W.contents writer.old) (W.contents writer.new)) }
     ensures err { IfErr result (λ e. e ≡ NetworkFault.Ports → ⊥) }
     ensures none { IfErr result (λ e. e ≢ NetworkFault.Write → Keeps (W.contents writer.old) (W.contents writer.new)) }
@@ -238,7 +242,8 @@ where
     R: Files<File = File> + Net + Threads + Wait + Clock + Sync,
     requires sound { IsSound plan.now }
     requires count { vec_len specs ≡ length plan.now.customers }
-    ensures ok { IfOk result (λ status. PrintsRan strictness plan.now specs.items status (W.contents writer.old) (W.contents writer.new)) }
+    ensures ok { IfOk result (λ status. PrintsRan strictness plan.now specs.items status (W.contents writer.old)
+        (W.contents writer.new)) }
     ensures err { IfErr result (λ e. e ≡ NetworkFault.Ports → ⊥) }
     ensures none { IfErr result (λ e. e ≢ NetworkFault.Write → Keeps (W.contents writer.old) (W.contents writer.new)) }
 {
@@ -262,31 +267,30 @@ where
 }
 
 /// Runs the network of a plan file, whose ports lead to the files and sockets that it names, each bridge, each
-/// direction of a link and each customer port in a thread of its own, within the limits of the file, and
-/// reports on the run as [`write_report`] does. The exit status is answered. The frames that enter and leave, the copies that
-/// find no room and the ticks are counted in `traffic` meanwhile, and each worker passes the gate before each of its turns.
-/// Ports between bridges are set up and down as the file's events say: each when the clock of its bridge has ticked so often,
-/// if the run goes on till then, and `errors` is told how many events have not come. Whoever connects to the control socket,
-/// where one is asked for, sets ports so too, sees what was counted, and stops the run. Where it is asked for, and the bridges
-/// decide the states of their ports by clocks that tick, no frame enters before they seem settled or have ticked 200 times,
-/// and the gate is told which. What
-/// [`lost_of`] tells goes to `errors`, behind the report; a strict run that has something of it to tell, or that did not
-/// end drained, has the status 4 in place of 0.
+/// direction of a link and each customer port in a thread of its own, within the limits of the file, and reports on the
+/// run as [`write_report`] does. The exit status is answered. The frames that enter and leave, the copies that find no
+/// room and the ticks are counted in `traffic` meanwhile, and each worker passes the gate before each of its turns.
+/// Ports between bridges are set up and down as the file's events say: each when the clock of its bridge has ticked so
+/// often, if the run goes on till then, and `errors` is told how many events have not come. Whoever connects to the
+/// control socket, where one is asked for, sets ports so too, sees what was counted, and stops the run. Where it is
+/// asked for, and the bridges decide the states of their ports by clocks that tick, no frame enters before they seem
+/// settled or have ticked 200 times, and the gate is told which. What [`lost_of`] tells goes to `errors`, behind the
+/// report; a strict run that has something of it to tell, or that did not end drained, has the status 4 in place of 0.
 ///
 /// Where the file is no plan, the rule that it breaks is written as `check` does, and
 /// the answer is 1.
 ///
-/// Once a run is over, its ports have a while to write what still waits in them, as the options say. A file to which nothing
-/// left is made a capture without records then, or `errors` is told why it can't be; sockets that ports have made are
-/// removed; and `errors` is told which inputs are pcapng.
+/// Once a run is over, its ports have a while to write what still waits in them, as the options say. A file to which
+/// nothing left is made a capture without records then, or `errors` is told why it can't be; sockets that ports have
+/// made are removed; and `errors` is told which inputs are pcapng.
 ///
-/// `Path` is answered where a file can't be opened, made or emptied, a socket not be connected to or made, or a file has two
-/// uses, and `errors` is told which: the control socket is made first, and then files and sockets are opened as [`open_all`]
-/// says, so that no file is emptied before all are open. `Memory` is answered where there was none for the ports or
-/// the workers, and where there was none for the text to be written; `Spawn` where a worker could not be started;
-/// `Write` where a write to `writer` failed. Nothing has run after `Path` and `Spawn`, and they come only where the
-/// file is a plan. After any fault but `Write`, nothing was written to `writer`; after `Write` nothing is said of
-/// what was. `Ports` is never answered, since a plan file has as many ports as its plan.
+/// `Path` is answered where a file can't be opened, made or emptied, a socket not be connected to or made, or a file
+/// has two uses, and `errors` is told which: the control socket is made first, and then files and sockets are opened as
+/// [`open_all`] says, so that no file is emptied before all are open. `Memory` is answered where there was none for the
+/// ports or the workers, and where there was none for the text to be written; `Spawn` where a worker could not be
+/// started; `Write` where a write to `writer` failed. Nothing has run after `Path` and `Spawn`, and they come only
+/// where the file is a plan. After any fault but `Write`, nothing was written to `writer`; after `Write` nothing is
+/// said of what was. `Ports` is never answered, since a plan file has as many ports as its plan.
 pub fn run_network<R, G: Watch, W: Write, E: Write>(
     rt: &R,
     alloc: Global,
@@ -300,7 +304,8 @@ pub fn run_network<R, G: Watch, W: Write, E: Write>(
 ) -> Result<u8, NetworkFault>
 where
     R: Files<File = File> + Net + Threads + Wait + Clock + Sync,
-    ensures ok { IfOk result (λ status. PrintsNetwork strictness file.now status (W.contents writer.old) (W.contents writer.new)) }
+    ensures ok { IfOk result (λ status. PrintsNetwork strictness file.now status (W.contents writer.old)
+        (W.contents writer.new)) }
     ensures err { IfErr result (λ e. e ≡ NetworkFault.Ports → ⊥) }
     ensures due { IfErr result (ComesOf file.now) }
     ensures none { IfErr result (λ e. e ≢ NetworkFault.Write → Keeps (W.contents writer.old) (W.contents writer.new)) }

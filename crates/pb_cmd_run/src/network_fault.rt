@@ -2,7 +2,8 @@
 
 ghost use Rattle.std.specs.Prelude.{◌≡◌, ◌⊎◌};
 ghost use Rattle.pb_cmd_run.specs.Faults.{of_cause, of_command};
-ghost use Rattle.pb_cmd_run.specs.declared.network_fault.NetworkFault.TheVariants.{Memory as memory_fault, Path as path_fault};
+ghost use Rattle.pb_cmd_run.specs.declared.network_fault.NetworkFault.TheVariants.{Memory as memory_fault};
+ghost use Rattle.pb_cmd_run.specs.declared.network_fault.NetworkFault.TheVariants.{Path as path_fault};
 
 use pb_frame::Memory;
 use pb_messages::CommandFault;

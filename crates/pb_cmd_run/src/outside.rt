@@ -65,8 +65,8 @@ fn script_of(alloc: Global, frames: Seq<Bytes>) -> Result<VecDeque<Bytes>, Alloc
 /// The most microseconds at tick 0.
 const LATEST: u64 = 4_611_686_018_427_387_903;
 
-/// The scale that tells the time of day after so many ticks of so many milliseconds, beginning now. Where the clock can't
-/// be read, it begins in 1970.
+/// The scale that tells the time of day after so many ticks of so many milliseconds, beginning now. Where the clock
+/// can't be read, it begins in 1970.
 fn day_scale<R: Clock>(rt: &R, tick_ms: u64) -> Timescale {
     let start = match rt.since_1970() {
         Ok(time) => time
@@ -159,7 +159,8 @@ fn ports_of(
     requires sound { IsSound plan.now }
     requires count { vec_len opened ≡ length plan.now.customers }
     ensures count { IfOk result (λ ports. vec_len ports ≡ length plan.now.customers) }
-    ensures scripts { IfOk result (λ ports. map (λ w. script_at w.port) ports.items ≡ map (λ port. (shown port).0) opened.items) }
+    ensures scripts { IfOk result (λ ports. map (λ w. script_at w.port) ports.items
+        ≡ map (λ port. (shown port).0) opened.items) }
 {
     let mut ports = Vec::new(alloc);
     for port in opened {
@@ -177,8 +178,8 @@ fn ports_of(
     Ok(ports)
 }
 
-/// Opens the files and sockets of a plan, as [`open_all`] does, and tells on the error writer what could not be
-/// opened. `Path` is answered then, and `Memory` where memory ran out, and no socket that was made is left. No other fault
+/// Opens the files and sockets of a plan, as [`open_all`] does, and tells on the error writer what could not be opened.
+/// `Path` is answered then, and `Memory` where memory ran out, and no socket that was made is left. No other fault
 /// comes.
 fn open_system<R: Files<File = File> + Net, E: Write>(
     rt: &R,
@@ -189,7 +190,8 @@ fn open_system<R: Files<File = File> + Net, E: Write>(
     errors: &mut E,
 ) -> Result<OpenSystem, NetworkFault>
     ensures count { IfOk result (λ system. vec_len system.opened ≡ vec_len specs) }
-    ensures scripts { IfOk result (λ system. map (λ port. (shown port).0) system.opened.items ≡ map script_in specs.items) }
+    ensures scripts { IfOk result (λ system. map (λ port. (shown port).0) system.opened.items
+        ≡ map script_in specs.items) }
     ensures err { IfErr result (λ e. (e ≡ NetworkFault.Path) ⊎ (e ≡ NetworkFault.Memory)) }
 {
     let mut system = System {
@@ -210,9 +212,9 @@ fn open_system<R: Files<File = File> + Net, E: Write>(
     }
 }
 
-/// Opens the ports of a plan, which was read at a path. Their frames are counted. `Path` is answered where a file or socket
-/// can't be opened, or a file has two uses, and told on the error writer; `Memory` where memory ran out. No other fault
-/// comes, and after one no socket that was made is left.
+/// Opens the ports of a plan, which was read at a path. Their frames are counted. `Path` is answered where a file or
+/// socket can't be opened, or a file has two uses, and told on the error writer; `Memory` where memory ran out. No
+/// other fault comes, and after one no socket that was made is left.
 pub(crate) fn open_ports<R: Files<File = File> + Net + Clock, E: Write>(
     rt: &R,
     alloc: Global,
@@ -226,7 +228,8 @@ pub(crate) fn open_ports<R: Files<File = File> + Net + Clock, E: Write>(
     requires sound { IsSound plan.now }
     requires count { vec_len specs ≡ length plan.now.customers }
     ensures count { IfOk result (λ outside. vec_len outside.ports ≡ length plan.now.customers) }
-    ensures scripts { IfOk result (λ outside. map (λ w. script_at w.port) outside.ports.items ≡ map script_in specs.items) }
+    ensures scripts { IfOk result (λ outside. map (λ w. script_at w.port) outside.ports.items
+        ≡ map script_in specs.items) }
     ensures err { IfErr result (λ e. (e ≡ NetworkFault.Path) ⊎ (e ≡ NetworkFault.Memory)) }
 {
     let system = open_system(rt, alloc, plan_path, plan, specs, errors)?;

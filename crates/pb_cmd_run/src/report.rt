@@ -4,7 +4,8 @@ ghost use Rattle.std.specs.Prelude.{◌≡◌, ◌≢◌, ◌⊎◌, ◌++◌, L
 ghost use Rattle.std.specs.Io.KnownBytes.{Appends, Keeps};
 ghost use Rattle.pb_lan.specs.Plans.{IsSound};
 ghost use Rattle.pb_relay.specs.Settled.{TellsSettled};
-ghost use Rattle.pb_cmd_run.specs.Reports.{ended_line, fault_at, fault_lines, memory_line, settled_lines, status_of, IsRunReport};
+ghost use Rattle.pb_cmd_run.specs.Reports.{ended_line, fault_at, fault_lines, memory_line, settled_lines, status_of};
+ghost use Rattle.pb_cmd_run.specs.Reports.{IsRunReport};
 ghost use Rattle.pb_report.specs.RecordTexts.{IsRecordText};
 
 use pb_frame::Memory;
@@ -88,8 +89,10 @@ fn put_faults(
     settled: &Result<Option<bool>, Memory>,
 ) -> Result<u8, Memory>
     requires { length lasts.now ≡ length customers.now }
-    ensures text { OnOk result (string_bytes out.new ≡ string_bytes out.old ++ (fault_lines customers.now lasts.now ++ memory_line settled.now)) }
-    ensures status { IfOk result (λ status. status ≡ status_of (fault_lines customers.now lasts.now ++ memory_line settled.now)) }
+    ensures text { OnOk result (string_bytes out.new ≡ string_bytes out.old
+        ++ (fault_lines customers.now lasts.now ++ memory_line settled.now)) }
+    ensures status { IfOk result (λ status. status
+        ≡ status_of (fault_lines customers.now lasts.now ++ memory_line settled.now)) }
 {
     let before = out.as_bytes().len();
     put_port_faults(out, customers, lasts)?;

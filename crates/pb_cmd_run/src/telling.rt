@@ -37,7 +37,8 @@ fn word_of(verb: Verb) -> &'static str
 
 /// Puts a line on a path behind a text.
 fn put_line(out: &mut String, name: &str, word: &str, path: &str, why: &str) -> Result<(), Memory>
-    ensures { OnOk result (string_bytes out.new ≡ string_bytes out.old ++ path_line name.now word.now path.now why.now) }
+    ensures { OnOk result (string_bytes out.new ≡ string_bytes out.old
+        ++ path_line name.now word.now path.now why.now) }
 {
     writeln!(out, "port {name}: {word} {path}: {why}")?;
     Ok(())
@@ -53,7 +54,8 @@ fn write_line<W: Write>(
     why: &str,
     writer: &mut W,
 ) -> Result<(), CommandFault>
-    ensures { OnOk result (Appends (W.contents writer.old) (W.contents writer.new) (path_line name.now word.now path.now why.now)) }
+    ensures { OnOk result (Appends (W.contents writer.old) (W.contents writer.new)
+        (path_line name.now word.now path.now why.now)) }
 {
     let mut out = String::new(alloc);
     put_line(&mut out, name, word, path, why)?;
@@ -72,7 +74,8 @@ pub(crate) fn write_path_fault<W: Write>(
     error: &Error,
     writer: &mut W,
 ) -> Result<(), CommandFault>
-    ensures { OnOk result ((why : List ℕ) × Appends (W.contents writer.old) (W.contents writer.new) (path_line name.now (word_of verb) path.now why)) }
+    ensures { OnOk result ((why : List ℕ) × Appends (W.contents writer.old) (W.contents writer.new)
+        (path_line name.now (word_of verb) path.now why)) }
 {
     let why = format!(in alloc; "{error}")?;
     write_line(alloc, name, word_of(verb), path, why.as_str(), writer)

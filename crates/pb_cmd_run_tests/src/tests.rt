@@ -108,7 +108,8 @@ fn no_traffic(alloc: Global) -> Result<Arc<Traffic, Global>, AllocError> {
     Ok(Arc::new(alloc, Traffic::new(alloc)?)?)
 }
 
-/// Runs the network of a plan file. What a caller may take from a strict run with the exit status 0: the network has carried all.
+/// Runs the network of a plan file. What a caller may take from a strict run with the exit status 0: the network has
+/// carried all.
 fn carry<R, W: Write, E: Write>(
     rt: &R,
     alloc: Global,
@@ -120,7 +121,8 @@ fn carry<R, W: Write, E: Write>(
 ) -> Result<Told, AllocError>
 where
     R: Files<File = File> + Net + Threads + Wait + Clock + Sync,
-    ensures { IfOk result (λ told. manner.strictness ≡ strict → IfOk told.result (λ status. status ≡ 0 → HasCarriedAll file.now)) }
+    ensures { IfOk result (λ told. manner.strictness ≡ strict →
+        IfOk told.result (λ status. status ≡ 0 → HasCarriedAll file.now)) }
 {
     let traffic = no_traffic(alloc)?;
     let file = file.as_bytes();

@@ -34,7 +34,8 @@ pub fn run_script<R: Read, W: Write>(
     reader: &mut R,
     writer: &mut W,
 ) -> Result<u8, CommandFault>
-    ensures ok { IfOk result (λ status. PrintsScript file.now status (R.remaining reader.old) (W.contents writer.old) (W.contents writer.new)) }
+    ensures ok { IfOk result (λ status. PrintsScript file.now status (R.remaining reader.old) (W.contents writer.old)
+        (W.contents writer.new)) }
     ensures part { IfErr result (λ e. e ≢ CommandFault.Write →
         PrintsScriptBeginning e file.now (R.remaining reader.old) (W.contents writer.old) (W.contents writer.new)) }
 {

@@ -1,6 +1,7 @@
 //! A network, driven by lines of text.
 
-ghost use Rattle.std.specs.Prelude.{◌≡◌, ◌≢◌, ◌<◌, ◌^◌, ◌++◌, ◌∷◌, [], ℕ, List, true, Some, string_bytes, IsErrOf, OnOk, IfOk, IfErr};
+ghost use Rattle.std.specs.Prelude.{◌≡◌, ◌≢◌, ◌<◌, ◌^◌, ◌++◌, ◌∷◌, [], ℕ, List, true, Some, string_bytes, IsErrOf};
+ghost use Rattle.std.specs.Prelude.{OnOk, IfOk, IfErr};
 ghost use Rattle.std.specs.Io.KnownBytes.{Appends, Keeps};
 ghost use Rattle.pb_lan.specs.Events.{has_place};
 ghost use Rattle.pb_lan.specs.Plans.{IsSound};
@@ -9,7 +10,8 @@ ghost use Rattle.pb_relay.specs.Protocol.{spanning_tree};
 ghost use Rattle.pb_lines.specs.Reader.{held, limit_of};
 ghost use Rattle.pb_messages.specs.BadLines.{longest_line};
 ghost use Rattle.pb_relay.specs.Settled.{TellsSettled};
-ghost use Rattle.pb_cmd_step.specs.Steps.{newest_at, HasGrown, StepAnswer, IsReport, IsAtLimit, PrintsSteps, HaveAnswered, PrintsStepsBeginning, start_of};
+ghost use Rattle.pb_cmd_step.specs.Steps.{newest_at, HasGrown, StepAnswer, IsReport, IsAtLimit, PrintsSteps};
+ghost use Rattle.pb_cmd_step.specs.Steps.{HaveAnswered, PrintsStepsBeginning, start_of};
 ghost use Rattle.pb_report.specs.RecordTexts.{settled_line, IsRecordText};
 
 use pb_frame::Memory;
@@ -49,7 +51,8 @@ fn answer_step(
     requires sound { IsSound names.now.plan.now }
     requires plan { net.old.plan ≡ names.now.plan.now }
     ensures plan { OnOk result (net.new.plan ≡ names.now.plan.now) }
-    ensures ok { OnOk result ((text : List ℕ) × (string_bytes out.new ≡ string_bytes out.old ++ text) × StepAnswer limit number line.now net.old net.new text) }
+    ensures ok { OnOk result ((text : List ℕ) × (string_bytes out.new ≡ string_bytes out.old ++ text)
+        × StepAnswer limit number line.now net.old net.new text) }
     ensures steps { IsErrOf result CommandFault.Steps → IsAtLimit limit net.old (line.now ∷ []) }
 {
     let Some(event) = read_line(alloc, limit, names, line)? else {
@@ -90,9 +93,11 @@ fn answer_steps<R: Read, W: Write>(
     requires sound { IsSound names.now.plan.now }
     requires fresh { net.old ≡ start_of names.now.plan.now }
     ensures plan { OnOk result (net.new.plan ≡ names.now.plan.now) }
-    ensures ok { OnOk result (HaveAnswered limit names.now.plan.now (R.remaining reader.old) (W.contents writer.old) (W.contents writer.new) net.new) }
+    ensures ok { OnOk result (HaveAnswered limit names.now.plan.now (R.remaining reader.old) (W.contents writer.old)
+        (W.contents writer.new) net.new) }
     ensures part { IfErr result (λ e. e ≢ CommandFault.Write →
-        PrintsStepsBeginning e limit names.now.plan.now (R.remaining reader.old) (W.contents writer.old) (W.contents writer.new)) }
+        PrintsStepsBeginning e limit names.now.plan.now (R.remaining reader.old) (W.contents writer.old)
+        (W.contents writer.new)) }
 {
     let mut out = String::new(alloc);
     for number in 1..u64::MAX {
@@ -124,7 +129,8 @@ fn put_report(
 ) -> Result<(), Memory>
     requires sound { IsSound plan.now }
     requires settled { TellsSettled plan.now tallies.now settled }
-    ensures { OnOk result ((text : List ℕ) × (string_bytes out.new ≡ string_bytes out.old ++ text) × IsReport plan.now tallies.now text) }
+    ensures { OnOk result ((text : List ℕ) × (string_bytes out.new ≡ string_bytes out.old ++ text)
+        × IsReport plan.now tallies.now text) }
 {
     put_record(alloc, out, plan, tallies)?;
     put_settled(out, settled)
@@ -140,7 +146,8 @@ fn write_report<W: Write>(
 ) -> Result<(), CommandFault>
     requires sound { IsSound plan.now }
     requires settled { TellsSettled plan.now rec.now settled }
-    ensures ok { OnOk result ((text : List ℕ) × Appends (W.contents writer.old) (W.contents writer.new) text × IsReport plan.now rec.now text) }
+    ensures ok { OnOk result ((text : List ℕ) × Appends (W.contents writer.old) (W.contents writer.new) text
+        × IsReport plan.now rec.now text) }
     ensures steps { IfErr result (λ e. e ≢ CommandFault.Steps) }
     ensures part { IfErr result (λ e. e ≢ CommandFault.Write → Keeps (W.contents writer.old) (W.contents writer.new)) }
 {
@@ -162,7 +169,8 @@ fn write_record<W: Write>(
     writer: &mut W,
 ) -> Result<(), CommandFault>
     requires { IsSound plan.now }
-    ensures ok { OnOk result ((text : List ℕ) × Appends (W.contents writer.old) (W.contents writer.new) text × IsRecordText plan.now rec.now text) }
+    ensures ok { OnOk result ((text : List ℕ) × Appends (W.contents writer.old) (W.contents writer.new) text
+        × IsRecordText plan.now rec.now text) }
     ensures steps { IfErr result (λ e. e ≢ CommandFault.Steps) }
     ensures part { IfErr result (λ e. e ≢ CommandFault.Write → Keeps (W.contents writer.old) (W.contents writer.new)) }
 {
@@ -200,9 +208,11 @@ fn drive<R: Read, W: Write>(
     requires limit { limit < 2 ^ 32 }
     requires sound { IsSound plan.now }
     requires fresh { net ≡ start_of plan.now }
-    ensures ok { OnOk result (PrintsSteps limit plan.now (R.remaining reader.old) (W.contents writer.old) (W.contents writer.new)) }
+    ensures ok { OnOk result (PrintsSteps limit plan.now (R.remaining reader.old) (W.contents writer.old)
+        (W.contents writer.new)) }
     ensures part { IfErr result (λ e. e ≢ CommandFault.Write →
-        PrintsStepsBeginning e limit plan.now (R.remaining reader.old) (W.contents writer.old) (W.contents writer.new)) }
+        PrintsStepsBeginning e limit plan.now (R.remaining reader.old) (W.contents writer.old)
+        (W.contents writer.new)) }
 {
     let names = Names::new(alloc, plan)?;
     let mut lines = LineReader::new(alloc, limit)?;
@@ -244,9 +254,11 @@ pub fn run_steps<R: Read, W: Write>(
     writer: &mut W,
 ) -> Result<(), CommandFault>
     requires sound { IsSound plan }
-    ensures ok { OnOk result (PrintsSteps longest_line plan (R.remaining reader.old) (W.contents writer.old) (W.contents writer.new)) }
+    ensures ok { OnOk result (PrintsSteps longest_line plan (R.remaining reader.old) (W.contents writer.old)
+        (W.contents writer.new)) }
     ensures part { IfErr result (λ e. e ≢ CommandFault.Write →
-        PrintsStepsBeginning e longest_line plan (R.remaining reader.old) (W.contents writer.old) (W.contents writer.new)) }
+        PrintsStepsBeginning e longest_line plan (R.remaining reader.old) (W.contents writer.old)
+        (W.contents writer.new)) }
 {
     let net = Net::new(alloc, plan.clone()?)?;
     drive(alloc, MAX_LINE, &plan, net, reader, writer)

@@ -3,7 +3,8 @@
 ghost use Rattle.std.specs.Prelude.{◌≡◌, ◌++◌, ◌==◌, OnOk};
 ghost use Rattle.std.specs.List.{list_any};
 ghost use Rattle.pb_lan.specs.Plans.{IsSound};
-ghost use Rattle.pb_cmd_trace.specs.Onwards.{arrival, copied, copies_of, fetch, follows, handed_on, is_lost, landings, sendings, sent_on};
+ghost use Rattle.pb_cmd_trace.specs.Onwards.{arrival, copied, copies_of, fetch, follows, handed_on, is_lost, landings};
+ghost use Rattle.pb_cmd_trace.specs.Onwards.{sendings, sent_on};
 
 use crate::onward::Onward;
 use crate::places::{customer_there, lane_from};

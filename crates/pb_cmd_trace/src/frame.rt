@@ -69,7 +69,8 @@ fn tell_entry(
 ) -> Result<u64, Memory>
     requires has { has_place net.now.plan (Customer port) ≡ true }
     requires grown { HasGrown net.now.rec (Customer port) }
-    ensures { IfOk result (λ number. (text : List ℕ) × (string_bytes out.new ≡ string_bytes out.old ++ text) × IsEntry plan.now port number net.now text) }
+    ensures { IfOk result (λ number. (text : List ℕ) × (string_bytes out.new ≡ string_bytes out.old ++ text)
+        × IsEntry plan.now port number net.now text) }
 {
     let (_, step) = newest(net, Place::Customer(port));
     put_entry(alloc, out, plan, port, step)?;
@@ -81,7 +82,8 @@ fn finish(out: &mut String, plan: &Plan, net: &mut Net) -> Result<(), CommandFau
     requires sound { IsSound plan.now }
     requires plan { net.old.plan ≡ plan.now }
     ensures plan { net.new.plan ≡ plan.now }
-    ensures ok { OnOk result ((others : ℕ) × HasDrained others net.old net.new × (string_bytes out.new ≡ string_bytes out.old ++ others_line others)) }
+    ensures ok { OnOk result ((others : ℕ) × HasDrained others net.old net.new
+        × (string_bytes out.new ≡ string_bytes out.old ++ others_line others)) }
 {
     match drain(net, plan, MOST_OTHERS) {
         Ok(others) => Ok(put_others(out, others)?),
@@ -100,7 +102,8 @@ fn conclude(
     requires sound { IsSound plan.now }
     requires plan { net.old.plan ≡ plan.now }
     ensures plan { net.new.plan ≡ plan.now }
-    ensures ok { IfOk result (λ fate. (text : List ℕ) × (string_bytes out.new ≡ string_bytes out.old ++ text) × IsConclusion course fate number net.old net.new text) }
+    ensures ok { IfOk result (λ fate. (text : List ℕ) × (string_bytes out.new ≡ string_bytes out.old ++ text)
+        × IsConclusion course fate number net.old net.new text) }
 {
     match course {
         Course::GoesRound => Ok(Fate::GoesRound(number)),
@@ -124,7 +127,8 @@ fn follow(
     requires has { has_place net.old.plan (Customer port) ≡ true }
     requires grown { HasGrown net.old.rec (Customer port) }
     ensures plan { net.new.plan ≡ plan.now }
-    ensures ok { IfOk result (λ fate. (text : List ℕ) × (string_bytes out.new ≡ string_bytes out.old ++ text) × IsFollowed plan.now port fate net.old net.new text) }
+    ensures ok { IfOk result (λ fate. (text : List ℕ) × (string_bytes out.new ≡ string_bytes out.old ++ text)
+        × IsFollowed plan.now port fate net.old net.new text) }
 {
     let number = tell_entry(alloc, out, plan, net, port)?;
     let course = walk(alloc, out, plan, net, port)?;
@@ -143,7 +147,8 @@ pub(crate) fn trace_frame(
     requires sound { IsSound plan.now }
     requires plan { net.old.plan ≡ plan.now }
     ensures plan { net.new.plan ≡ plan.now }
-    ensures ok { IfOk result (λ fate. (text : List ℕ) × (string_bytes out.new ≡ string_bytes out.old ++ text) × AnswersFrame plan.now port frame fate net.old net.new text) }
+    ensures ok { IfOk result (λ fate. (text : List ℕ) × (string_bytes out.new ≡ string_bytes out.old ++ text)
+        × AnswersFrame plan.now port frame fate net.old net.new text) }
 {
     match net.step(Event::Poll { port, frame }) {
         Ok(Did::Done(_)) => follow(alloc, out, plan, net, port),

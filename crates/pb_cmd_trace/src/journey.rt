@@ -36,7 +36,8 @@ fn trace_entry(
     requires sound { IsSound plan.now }
     requires plan { net.old.plan ≡ plan.now }
     ensures plan { net.new.plan ≡ plan.now }
-    ensures ok { IfOk result (λ fate. (text : List ℕ) × (string_bytes out.new ≡ string_bytes out.old ++ text) × AnswersEntry plan.now entry.now fate net.old net.new text) }
+    ensures ok { IfOk result (λ fate. (text : List ℕ) × (string_bytes out.new ≡ string_bytes out.old ++ text)
+        × AnswersEntry plan.now entry.now fate net.old net.new text) }
 {
     let port = port_named(plan, entry.port.as_str());
     match read_frame(alloc, entry.hex.as_bytes())? {
@@ -56,7 +57,8 @@ pub(crate) fn travel(
     requires sound { IsSound plan.now }
     requires plan { net.old.plan ≡ plan.now }
     ensures plan { net.new.plan ≡ plan.now }
-    ensures ok { IfOk result (λ journey. (text : List ℕ) × (string_bytes out.new ≡ string_bytes out.old ++ text) × HasJourneyed plan.now entries.now journey net.old net.new text) }
+    ensures ok { IfOk result (λ journey. (text : List ℕ) × (string_bytes out.new ≡ string_bytes out.old ++ text)
+        × HasJourneyed plan.now entries.now journey net.old net.new text) }
 {
     for (index, entry) in entries.iter().enumerate() {
         match trace_entry(alloc, out, plan, net, entry)? {

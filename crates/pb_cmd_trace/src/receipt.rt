@@ -2,7 +2,8 @@
 
 ghost use Rattle.std.specs.Prelude.{◌≡◌, ◌≤◌, ◌++◌, take, drop, length, string_bytes, true, OnOk, IfOk};
 ghost use Rattle.pb_frame.specs.Tags.{has_priority_tag, has_service_tag};
-ghost use Rattle.pb_cmd_trace.specs.Tellings.{class_words, customer_words, learnt_words, receipt_words, service_words, tag_text as text_of_tag, tagged_words, way_word, way_words};
+ghost use Rattle.pb_cmd_trace.specs.Tellings.{class_words, customer_words, learnt_words, receipt_words, service_words};
+ghost use Rattle.pb_cmd_trace.specs.Tellings.{tag_text as text_of_tag, tagged_words, way_word, way_words};
 
 use crate::names::{name_of_vid, neighbour};
 use crate::stations::{has_service_tag, is_known};
@@ -37,7 +38,8 @@ fn put_customer(
     customer: &CustomerPlan,
     wire: &[u8],
 ) -> Result<(), Memory>
-    ensures { OnOk result (string_bytes out.new ≡ string_bytes out.old ++ customer_words plan.now customer.now wire.now) }
+    ensures { OnOk result (string_bytes out.new ≡ string_bytes out.old
+        ++ customer_words plan.now customer.now wire.now) }
 {
     let vid = vid_numbered(plan, customer.service);
     if !has_priority_tag(wire) {
@@ -143,7 +145,8 @@ pub(crate) fn put_receipt(
     steps: &[Step],
     step: &Step,
 ) -> Result<(), Memory>
-    ensures { OnOk result (string_bytes out.new ≡ string_bytes out.old ++ receipt_words plan.now bridge port steps.now step.now) }
+    ensures { OnOk result (string_bytes out.new ≡ string_bytes out.old
+        ++ receipt_words plan.now bridge port steps.now step.now) }
 {
     let Step::Receive {
         item,

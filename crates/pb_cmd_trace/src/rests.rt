@@ -24,7 +24,8 @@ pub(crate) fn begin(
     requires sound { IsSound plan.now }
     requires plan { net.old.plan ≡ plan.now }
     ensures plan { net.new.plan ≡ plan.now }
-    ensures ok { OnOk result ((text : List ℕ) × (string_bytes out.new ≡ string_bytes out.old ++ text) × HasBegun settles net.old net.new text) }
+    ensures ok { OnOk result ((text : List ℕ) × (string_bytes out.new ≡ string_bytes out.old ++ text)
+        × HasBegun settles net.old net.new text) }
 {
     if !settles {
         return Ok(());

@@ -4,7 +4,8 @@ ghost use Rattle.std.specs.Prelude.{◌≡◌, ◌≤◌, ◌*◌, ◌^◌, ◌+
 ghost use Rattle.std.specs.List.{list_any};
 ghost use Rattle.pb_lan.specs.Plans.{IsSound};
 ghost use Rattle.pb_lan.specs.Records.{steps_of};
-ghost use Rattle.pb_cmd_trace.specs.Summaries.{counts_text, is_delivery, left_text, left_word, left_words, losses, lost, refusals, refused, refused_by, summary_line};
+ghost use Rattle.pb_cmd_trace.specs.Summaries.{counts_text, is_delivery, left_text, left_word, left_words, losses};
+ghost use Rattle.pb_cmd_trace.specs.Summaries.{lost, refusals, refused, refused_by, summary_line};
 
 use crate::round::steps_of;
 use pb_frame::{Memory, Seq};
@@ -150,8 +151,8 @@ fn put_counts(out: &mut String, refused: u128, lost: u128) -> Result<(), Memory>
     Ok(())
 }
 
-/// Puts what became of the frames behind a text: the customer ports at which they left, how many of them or of their copies
-/// went nowhere, and how many were lost.
+/// Puts what became of the frames behind a text: the customer ports at which they left, how many of them or of their
+/// copies went nowhere, and how many were lost.
 pub(crate) fn put_summary(
     alloc: Global,
     out: &mut String,

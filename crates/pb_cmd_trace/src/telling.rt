@@ -1,7 +1,9 @@
 //! What is told of a step of a frame that is under way.
 
 ghost use Rattle.std.specs.Prelude.{◌≡◌, ◌++◌, string_bytes, OnOk};
-ghost use Rattle.pb_cmd_trace.specs.Tellings.{delivery_line, direction_word, entry_line, hops_of, indent, lane_words, put_on_words, receiving_line, sending_words, spaces, tag_by, tag_words, taking_line, told, transmission_line};
+ghost use Rattle.pb_cmd_trace.specs.Tellings.{delivery_line, direction_word, entry_line, hops_of, indent, lane_words};
+ghost use Rattle.pb_cmd_trace.specs.Tellings.{put_on_words, receiving_line, sending_words, spaces, tag_by, tag_words};
+ghost use Rattle.pb_cmd_trace.specs.Tellings.{taking_line, told, transmission_line};
 
 use crate::names::neighbour;
 use crate::onward::Onward;
@@ -137,7 +139,8 @@ fn put_receiving(
     steps: &[Step],
     step: &Step,
 ) -> Result<(), Memory>
-    ensures { OnOk result (string_bytes out.new ≡ string_bytes out.old ++ receiving_line plan.now bridge port steps.now step.now) }
+    ensures { OnOk result (string_bytes out.new ≡ string_bytes out.old
+        ++ receiving_line plan.now bridge port steps.now step.now) }
 {
     put_indent(out, step)?;
     put_receipt(alloc, out, plan, bridge, port, steps, step)?;
@@ -154,7 +157,8 @@ fn put_transmission(
     port: u8,
     step: &Step,
 ) -> Result<(), Memory>
-    ensures { OnOk result (string_bytes out.new ≡ string_bytes out.old ++ transmission_line plan.now bridge port step.now) }
+    ensures { OnOk result (string_bytes out.new ≡ string_bytes out.old
+        ++ transmission_line plan.now bridge port step.now) }
 {
     put_indent(out, step)?;
     put_sending(alloc, out, plan, bridge, port, step)?;

@@ -19,8 +19,9 @@ use std::alloc::Global;
 
 /// The most events that are done for a frame besides its coming in.
 ///
-/// A plan uses at most 256 ports, 128 of them at links. Where no ring is closed a frame leaves each of them once at most
-/// (IEEE 802.1Q clause 8.6), which takes two events, and four at a link. So a frame that takes more than 1,000 goes round.
+/// A plan uses at most 256 ports, 128 of them at links. Where no ring is closed a frame leaves each of them once at
+/// most (IEEE 802.1Q clause 8.6), which takes two events, and four at a link. So a frame that takes more than 1,000
+/// goes round.
 const MOST_EVENTS: u32 = 1_000;
 
 /// How far a frame and its copies went.
@@ -47,8 +48,8 @@ pub(crate) fn newest(net: &Net, place: Place) -> (&[Step], &Step)
     (steps, step)
 }
 
-/// Does what is to be done, where it is due: tells the step, and puts what follows it behind what is to be done. Answers
-/// whether it was due.
+/// Does what is to be done, where it is due: tells the step, and puts what follows it behind what is to be done.
+/// Answers whether it was due.
 fn go_on(
     alloc: Global,
     out: &mut String,
@@ -60,7 +61,8 @@ fn go_on(
     requires sound { IsSound plan.now }
     requires plan { net.old.plan ≡ plan.now }
     ensures plan { net.new.plan ≡ plan.now }
-    ensures ok { IfOk result (λ went. GoesOn went plan.now onward net.old net.new todo.old.items todo.new.items (string_bytes out.old) (string_bytes out.new)) }
+    ensures ok { IfOk result (λ went. GoesOn went plan.now onward net.old net.new todo.old.items todo.new.items
+        (string_bytes out.old) (string_bytes out.new)) }
 {
     match net.step(event_of(onward)) {
         Ok(Did::Done(place)) => {
@@ -86,7 +88,8 @@ fn walk_on(
     requires sound { IsSound plan.now }
     requires plan { net.old.plan ≡ plan.now }
     ensures plan { net.new.plan ≡ plan.now }
-    ensures ok { IfOk result (λ course. (text : List ℕ) × (string_bytes out.new ≡ string_bytes out.old ++ text) × HasWalked plan.now todo.old.items course net.old net.new text) }
+    ensures ok { IfOk result (λ course. (text : List ℕ) × (string_bytes out.new ≡ string_bytes out.old ++ text)
+        × HasWalked plan.now todo.old.items course net.old net.new text) }
 {
     for _ in 0..MOST_EVENTS {
         let Some(onward) = todo.pop() else {
@@ -101,7 +104,8 @@ fn walk_on(
 
 /// Follows the frame that a customer port holds, with its copies, and puts each step behind a text.
 ///
-/// A copy is followed to its end before the next one: of the copies that a bridge makes first the one at the lowest port.
+/// A copy is followed to its end before the next one: of the copies that a bridge makes first the one at the lowest
+/// port.
 pub(crate) fn walk(
     alloc: Global,
     out: &mut String,
@@ -112,7 +116,8 @@ pub(crate) fn walk(
     requires sound { IsSound plan.now }
     requires plan { net.old.plan ≡ plan.now }
     ensures plan { net.new.plan ≡ plan.now }
-    ensures ok { IfOk result (λ course. (text : List ℕ) × (string_bytes out.new ≡ string_bytes out.old ++ text) × HasWalked plan.now (Feed port ∷ []) course net.old net.new text) }
+    ensures ok { IfOk result (λ course. (text : List ℕ) × (string_bytes out.new ≡ string_bytes out.old ++ text)
+        × HasWalked plan.now (Feed port ∷ []) course net.old net.new text) }
 {
     let mut todo = Vec::new(alloc);
     todo.push(Onward::Feed(port))?;

@@ -3,7 +3,8 @@
 ghost use Rattle.std.specs.Prelude.{◌≡◌, ◌≤◌, true, IfOk, IfErr};
 ghost use Rattle.pb_lan.specs.Plans.{IsSound};
 ghost use Rattle.pb_converge.specs.Drives.{is_onward, HasDrained, HasStopped};
-ghost use Rattle.pb_converge.specs.Sweeps.{HaveTried, IsThis, IsAtCustomer, IsAtCustomers, IsAtPort, IsAtPorts, IsAtBridges, IsAtLane, IsAtLanes, IsAnywhere};
+ghost use Rattle.pb_converge.specs.Sweeps.{HaveTried, IsThis, IsAtCustomer, IsAtCustomers, IsAtPort, IsAtPorts};
+ghost use Rattle.pb_converge.specs.Sweeps.{IsAtBridges, IsAtLane, IsAtLanes, IsAnywhere};
 
 use crate::fault::DriveFault;
 use pb_lan::{Event, Plan};

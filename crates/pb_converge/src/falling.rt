@@ -55,9 +55,9 @@ fn fall(net: &mut Net, bridge: u8, port: u8) -> Result<(), CommandFault>
 
 /// Sets down the ends of links that words name, in order, in a network that has taken no step.
 ///
-/// Each of `words` names a port to another bridge by `BRIDGE:PORT`, the bridge's name and its local port. That end of its
-/// link goes down, and its neighbour isn't told. Where words name no end of a link, their index is answered, from 0; the
-/// ends that the words before them name are down then.
+/// Each of `words` names a port to another bridge by `BRIDGE:PORT`, the bridge's name and its local port. That end of
+/// its link goes down, and its neighbour isn't told. Where words name no end of a link, their index is answered, from
+/// 0; the ends that the words before them name are down then.
 ///
 /// `Memory` is answered where memory ran out, and `Steps` where a bridge was to take more steps than the plan allows.
 pub fn falls(

@@ -45,8 +45,8 @@ pub fn rests(alloc: Global, net: &mut Net, plan: &Plan, ticks: u32) -> Result<Re
     }
 }
 
-/// Puts whether the bridges are settled behind a text, and after how many ticks of each; nothing where the plan gives the
-/// states. `Memory` is answered where there was none for the text.
+/// Puts whether the bridges are settled behind a text, and after how many ticks of each; nothing where the plan gives
+/// the states. `Memory` is answered where there was none for the text.
 pub fn put_rest(out: &mut String, rest: Rest) -> Result<(), Memory>
     ensures { OnOk result (string_bytes out.new ≡ string_bytes out.old ++ rest_line rest) }
 {

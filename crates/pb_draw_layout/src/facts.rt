@@ -1,7 +1,9 @@
 //! What is drawn of each part of a plan's network.
 
 ghost use Rattle.std.specs.Prelude.{◌≡◌};
-ghost use Rattle.pb_draw_layout.specs.Facts.{shade, service_tone, bridge_tone, link_tone, carries_some, is_active_link, is_link_of, is_port_of, has_port, has_link, is_in_tree, bridge_facts, known_facts, link_facts, port_facts, service_facts};
+ghost use Rattle.pb_draw_layout.specs.Facts.{shade, service_tone, bridge_tone, link_tone, carries_some, is_active_link};
+ghost use Rattle.pb_draw_layout.specs.Facts.{is_link_of, is_port_of, has_port, has_link, is_in_tree, bridge_facts};
+ghost use Rattle.pb_draw_layout.specs.Facts.{known_facts, link_facts, port_facts, service_facts};
 
 use pb_forest::{are_ends_forwarding, is_active, numbered, state_in, vid_numbered};
 use pb_lan::{CustomerPlan, LinkPlan, Plan, PortState, Shape};
@@ -36,8 +38,8 @@ pub struct LinkFacts {
     pub a: PortState,
     /// The state of the port at its end `b`.
     pub b: PortState,
-    /// Whether both ends are Forwarding and members of one service at least. In a plan without services: whether both are
-    /// Forwarding.
+    /// Whether both ends are Forwarding and members of one service at least. In a plan without services: whether both
+    /// are Forwarding.
     pub active: bool,
     /// Lit where it is active for the service.
     pub tone: Tone,

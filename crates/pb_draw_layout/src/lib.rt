@@ -1,5 +1,5 @@
-//! What is drawn of a plan's network, and where: each bridge, link, customer port and service once, with its state, and a layout
-//! by levels.
+//! What is drawn of a plan's network, and where: each bridge, link, customer port and service once, with its state, and
+//! a layout by levels.
 #![tactic(auto)]
 
 mod facts;

@@ -22,7 +22,8 @@ fn bridge_marks(
     layout: &Layout,
 ) -> Result<Seq<BridgeMark>, Memory>
     requires { IsSound plan.now }
-    ensures { IfOk result (λ marks. map (λ m. m.facts) marks ≡ map (bridge_facts plan.now shape.now chosen) (numbers_from 1 plan.now.bridges)) }
+    ensures { IfOk result (λ marks. map (λ m. m.facts) marks
+        ≡ map (bridge_facts plan.now shape.now chosen) (numbers_from 1 plan.now.bridges)) }
 {
     let mut marks = Vec::new(alloc);
     for place in 0..plan.bridges.len() {
@@ -45,7 +46,8 @@ fn link_marks(
     layout: &Layout,
 ) -> Result<Seq<LinkMark>, Memory>
     requires { IsSound plan.now }
-    ensures { IfOk result (λ marks. map (λ m. m.facts) marks ≡ map (link_facts plan.now shape.now chosen) (numbers_from 1 plan.now.links)) }
+    ensures { IfOk result (λ marks. map (λ m. m.facts) marks
+        ≡ map (link_facts plan.now shape.now chosen) (numbers_from 1 plan.now.links)) }
 {
     let mut marks = Vec::new(alloc);
     for place in 0..plan.links.len() {
@@ -66,7 +68,8 @@ fn port_marks(
     layout: &Layout,
 ) -> Result<Seq<PortMark>, Memory>
     requires { IsSound plan.now }
-    ensures { IfOk result (λ marks. map (λ m. m.facts) marks ≡ map (port_facts plan.now chosen) (numbers_from 1 plan.now.customers)) }
+    ensures { IfOk result (λ marks. map (λ m. m.facts) marks
+        ≡ map (port_facts plan.now chosen) (numbers_from 1 plan.now.customers)) }
 {
     let mut marks = Vec::new(alloc);
     for place in 0..plan.customers.len() {
@@ -87,7 +90,8 @@ fn service_marks(
     layout: &Layout,
 ) -> Result<Seq<ServiceMark>, Memory>
     requires { IsSound plan.now }
-    ensures { IfOk result (λ marks. map (λ m. m.facts) marks ≡ map (service_facts chosen) (numbers_from 1 plan.now.services)) }
+    ensures { IfOk result (λ marks. map (λ m. m.facts) marks
+        ≡ map (service_facts chosen) (numbers_from 1 plan.now.services)) }
 {
     let mut marks = Vec::new(alloc);
     for place in 0..plan.services.len() {
@@ -102,12 +106,12 @@ fn service_marks(
 
 /// The scene of a sound plan's network, with the ports in these states.
 ///
-/// Each bridge, link, customer port and service of the plan stands there once, in the plan's order. A link is active where
-/// both its ends are Forwarding and members of one service at least (802.1D-2004 clause 7.4, 802.1Q clause 8.8). Where a
-/// service is chosen by its number, its customer ports, its active links and the bridges at these are lit, and all else
-/// is faint. Bridges stand by levels: how many links lead up to the root of their tree. The root is the bridge with the
-/// lowest identifier where the bridges decide the states (802.1D-2004 clause 9.2.5), and that with the lowest number where
-/// the plan gives them. No two boxes, and no two names of links, stand in one place; no contract says so.
+/// Each bridge, link, customer port and service of the plan stands there once, in the plan's order. A link is active
+/// where both its ends are Forwarding and members of one service at least (802.1D-2004 clause 7.4, 802.1Q clause 8.8).
+/// Where a service is chosen by its number, its customer ports, its active links and the bridges at these are lit, and
+/// all else is faint. Bridges stand by levels: how many links lead up to the root of their tree. The root is the bridge
+/// with the lowest identifier where the bridges decide the states (802.1D-2004 clause 9.2.5), and that with the lowest
+/// number where the plan gives them. No two boxes, and no two names of links, stand in one place; no contract says so.
 ///
 /// `Memory` is answered where there was none for the scene, and nothing else is refused.
 pub fn scene_of(

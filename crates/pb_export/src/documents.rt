@@ -4,7 +4,9 @@ ghost use Rattle.std.specs.Prelude.{◌≡◌, [], map, option_map, IfOk, OnOk};
 ghost use Rattle.std.specs.List.{list_any};
 ghost use Rattle.serde_json.specs.Data.{null};
 ghost use Rattle.serde_json.specs.View.{view, members_view};
-ghost use Rattle.pb_export.specs.Documents.{document_of, first_data, first_item, inner_items, is_at, is_in, item_data, list_data, list_entry, objects_of, put_some, row_data, some_list, values_of, with_fields, with_inner, with_lists, with_top};
+ghost use Rattle.pb_export.specs.Documents.{document_of, first_data, first_item, inner_items, is_at, is_in, item_data};
+ghost use Rattle.pb_export.specs.Documents.{list_data, list_entry, objects_of, put_some, row_data, some_list};
+ghost use Rattle.pb_export.specs.Documents.{values_of, with_fields, with_inner, with_lists, with_top};
 
 use crate::rows::{Filled, Row};
 use crate::templates::{Form, ListForm, ListShape};
@@ -19,7 +21,8 @@ fn put_value(
     key: &str,
     value: Option<Value>,
 ) -> Result<(), AllocError>
-    ensures { OnOk result (members_view map.new.entries ≡ put_some key.now (option_map view value) (members_view map.old.entries)) }
+    ensures { OnOk result (members_view map.new.entries
+        ≡ put_some key.now (option_map view value) (members_view map.old.entries)) }
 {
     match value {
         Some(value) => put(map, alloc, key, value),
@@ -98,7 +101,8 @@ fn put_inner(
     keys: &[&str],
     rows: &[Row<'_>],
 ) -> Result<(), AllocError>
-    ensures { OnOk result (members_view map.new.entries ≡ with_inner keys.now keys.now rows.now (members_view map.old.entries)) }
+    ensures { OnOk result (members_view map.new.entries
+        ≡ with_inner keys.now keys.now rows.now (members_view map.old.entries)) }
 {
     for key in keys {
         let inner = inner_value(alloc, key, keys, rows)?;
@@ -219,7 +223,8 @@ fn put_lists(
     lists: &[ListForm],
     rows: &[Row<'_>],
 ) -> Result<(), AllocError>
-    ensures { OnOk result (members_view map.new.entries ≡ with_lists lists.now rows.now (members_view map.old.entries)) }
+    ensures { OnOk result (members_view map.new.entries
+        ≡ with_lists lists.now rows.now (members_view map.old.entries)) }
 {
     for list in lists {
         let value = list_value(alloc, list, rows)?;

@@ -1,7 +1,8 @@
 //! Lines, read by templates.
 
 ghost use Rattle.std.specs.Prelude.{◌≡◌, ◌++◌, List, map, Contains, All, IfOk, IfSome};
-ghost use Rattle.pb_export.specs.Rows.{field_text, fields_text, filled_text, report_text, row_text, Fits, IsFilled, AreFilled, IsRow, IsRowOf, AreRows};
+ghost use Rattle.pb_export.specs.Rows.{field_text, fields_text, filled_text, report_text, row_text, Fits, IsFilled};
+ghost use Rattle.pb_export.specs.Rows.{AreFilled, IsRow, IsRowOf, AreRows};
 
 use crate::faults::FormatFault;
 use crate::parts::{around, before, behind, depth_at, number_at};
@@ -55,7 +56,8 @@ fn words_field<'a>(
     text: &'a str,
     until: &str,
 ) -> Result<Option<(Field<'a>, &'a str)>, AllocError>
-    ensures { IfOk result (λ o. IfSome o (λ parts. (text.now ≡ field_text parts.0 ++ parts.1.now) × Fits Kind.Words parts.0)) }
+    ensures { IfOk result (λ o. IfSome o (λ parts. (text.now ≡ field_text parts.0 ++ parts.1.now)
+        × Fits Kind.Words parts.0)) }
 {
     let Some((front, rest)) = before(text, until) else {
         return Ok(None);
@@ -71,7 +73,8 @@ fn numbers_field<'a>(
     alloc: Global,
     text: &'a str,
 ) -> Result<Option<(Field<'a>, &'a str)>, AllocError>
-    ensures { IfOk result (λ o. IfSome o (λ parts. (text.now ≡ field_text parts.0 ++ parts.1.now) × Fits Kind.Numbers parts.0)) }
+    ensures { IfOk result (λ o. IfSome o (λ parts. (text.now ≡ field_text parts.0 ++ parts.1.now)
+        × Fits Kind.Numbers parts.0)) }
 {
     let (numbers, rest) = numbers_at(alloc, text)?;
     Ok(Some((Field::Numbers(numbers), rest)))
@@ -82,7 +85,8 @@ fn groups_field<'a>(
     alloc: Global,
     text: &'a str,
 ) -> Result<Option<(Field<'a>, &'a str)>, AllocError>
-    ensures { IfOk result (λ o. IfSome o (λ parts. (text.now ≡ field_text parts.0 ++ parts.1.now) × Fits Kind.Groups parts.0)) }
+    ensures { IfOk result (λ o. IfSome o (λ parts. (text.now ≡ field_text parts.0 ++ parts.1.now)
+        × Fits Kind.Groups parts.0)) }
 {
     match groups_in(alloc, text)? {
         Some((groups, last)) => Ok(Some((Field::Groups(groups, last), ""))),
@@ -90,13 +94,15 @@ fn groups_field<'a>(
     }
 }
 
-/// What a slot holds at the front of a text, and what stands behind it. None where nothing that it may hold stands there.
+/// What a slot holds at the front of a text, and what stands behind it. None where nothing that it may hold stands
+/// there.
 fn field_at<'a>(
     alloc: Global,
     slot: &Slot,
     text: &'a str,
 ) -> Result<Option<(Field<'a>, &'a str)>, AllocError>
-    ensures { IfOk result (λ o. IfSome o (λ parts. (text.now ≡ field_text parts.0 ++ parts.1.now) × Fits slot.now.kind parts.0)) }
+    ensures { IfOk result (λ o. IfSome o (λ parts. (text.now ≡ field_text parts.0 ++ parts.1.now)
+        × Fits slot.now.kind parts.0)) }
 {
     match slot.kind {
         Kind::Words => words_field(alloc, text, slot.until),
@@ -106,13 +112,15 @@ fn field_at<'a>(
     }
 }
 
-/// A slot that is filled by what stands at the front of a text, with the fixed text behind it, and what stands behind that.
+/// A slot that is filled by what stands at the front of a text, with the fixed text behind it, and what stands behind
+/// that.
 fn filled_at<'a>(
     alloc: Global,
     slot: &Slot,
     text: &'a str,
 ) -> Result<Option<(Filled<'a>, &'a str)>, AllocError>
-    ensures { IfOk result (λ o. IfSome o (λ parts. IsFilled slot.now parts.0 × (text.now ≡ filled_text parts.0 ++ parts.1.now))) }
+    ensures { IfOk result (λ o. IfSome o (λ parts. IsFilled slot.now parts.0
+        × (text.now ≡ filled_text parts.0 ++ parts.1.now))) }
 {
     let Some((field, rest)) = field_at(alloc, slot, text)? else {
         return Ok(None);
@@ -129,7 +137,8 @@ fn fields_of<'a>(
     slots: &[Slot],
     text: &'a str,
 ) -> Result<Option<Vec<Filled<'a>>>, AllocError>
-    ensures { IfOk result (λ o. IfSome o (λ fields. AreFilled slots.now fields.items × (text.now ≡ fields_text fields.items))) }
+    ensures { IfOk result (λ o. IfSome o (λ fields. AreFilled slots.now fields.items
+        × (text.now ≡ fields_text fields.items))) }
 {
     let mut fields = Vec::with_capacity(alloc, slots.len())?;
     let mut rest = text;

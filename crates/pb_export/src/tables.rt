@@ -3,7 +3,8 @@
 ghost use Rattle.std.specs.Prelude.{◌≡◌, ◌++◌, List, map, string_bytes, IfOk, OnOk};
 ghost use Rattle.csv.specs.Writing.{row_text as csv_line};
 ghost use Rattle.pb_export.specs.Rows.{AreRows};
-ghost use Rattle.pb_export.specs.Tables.{cell_at, cell_text, field_cell, line_of, lines_of, rows_text, said_cell, table_text, writer};
+ghost use Rattle.pb_export.specs.Tables.{cell_at, cell_text, field_cell, line_of, lines_of, rows_text, said_cell};
+ghost use Rattle.pb_export.specs.Tables.{table_text, writer};
 ghost use Rattle.pb_export.specs.declared.rows.Row.{Row};
 
 use crate::documents::is_at;
@@ -192,13 +193,14 @@ fn put_rows(
     Ok(())
 }
 
-/// A report of a form as CSV (RFC 4180): a line of titles, and behind it for each row of the report, in its order, the lines
-/// that its list has in the table. Other rows have none, and lists inside a row have no cell.
+/// A report of a form as CSV (RFC 4180): a line of titles, and behind it for each row of the report, in its order, the
+/// lines that its list has in the table. Other rows have none, and lists inside a row have no cell.
 ///
-/// `Unread` is answered where the last line of the text has no end, or a line has none of the form's templates; `Memory`
-/// where memory ran out.
+/// `Unread` is answered where the last line of the text has no end, or a line has none of the form's templates;
+/// `Memory` where memory ran out.
 pub fn csv_of(alloc: Global, form: &Form, table: &Table, text: &str) -> Result<Vec<u8>, FormatFault>
-    ensures { IfOk result (λ csv. (rows : List Row) × AreRows form.now.templates.now text.now rows × (csv.items ≡ table_text table.now rows)) }
+    ensures { IfOk result (λ csv. (rows : List Row) × AreRows form.now.templates.now text.now rows
+        × (csv.items ≡ table_text table.now rows)) }
 {
     let rows = read_report(alloc, form.templates, text)?;
     let mut out = Vec::new(alloc);

@@ -83,8 +83,8 @@ pub struct ListForm {
     pub key: &'static str,
     /// How its lines stand there.
     pub shape: ListShape,
-    /// The lists inside each of its objects: each has the lines of that home that follow the object's own line, up to the
-    /// first line that belongs to none of them.
+    /// The lists inside each of its objects: each has the lines of that home that follow the object's own line, up to
+    /// the first line that belongs to none of them.
     pub inner: &'static [&'static str],
 }
 

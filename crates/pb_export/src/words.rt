@@ -59,7 +59,8 @@ pub(crate) fn groups_in(
     alloc: Global,
     text: &str,
 ) -> Result<Option<(Vec<Vec<&str>>, Vec<&str>)>, AllocError>
-    ensures { IfOk result (λ o. IfSome o (λ groups. text.now ≡ groups_text groups.0.items ++ words_text groups.1.items)) }
+    ensures { IfOk result (λ o. IfSome o (λ groups.
+        text.now ≡ groups_text groups.0.items ++ words_text groups.1.items)) }
 {
     let mut groups = Vec::new(alloc);
     let mut rest = text;

@@ -35,7 +35,12 @@ impl Model for CustomerPlace {
 
     ghost Value = { PlaceView };
 
-    ghost view = { λ p. record { number = p.number; steps = p.steps.steps; is_kept = p.steps.is_kept; is_reserved = p.steps.is_reserved } };
+    ghost view = { λ p. record {
+      number = p.number;
+      steps = p.steps.steps;
+      is_kept = p.steps.is_kept;
+      is_reserved = p.steps.is_reserved;
+    } };
 
     ghost invariant = { λ p. IsPortKept p.number p.steps.steps p.steps.is_kept p.hand p.polls
         × HasRoom p.steps.steps p.steps.is_reserved };

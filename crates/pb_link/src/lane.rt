@@ -39,7 +39,12 @@ impl Model for Lane {
 
     ghost Value = { LaneView };
 
-    ghost view = { λ l. record { losses = l.losses.numbers; steps = l.steps.steps; is_kept = l.steps.is_kept; is_reserved = l.steps.is_reserved } };
+    ghost view = { λ l. record {
+      losses = l.losses.numbers;
+      steps = l.steps.steps;
+      is_kept = l.steps.is_kept;
+      is_reserved = l.steps.is_reserved;
+    } };
 
     ghost invariant = { λ l. IsLaneKept l.losses.numbers l.steps.steps l.steps.is_kept l.hand l.losses.taken
         × HasRoom l.steps.steps l.steps.is_reserved };
@@ -196,7 +201,8 @@ impl Lane {
     /// `false` is answered where there is nothing to do; the other end of the ring may send an item at any
     /// time. `Memory` is answered where there is no room for the step. Nothing has changed after either.
     pub fn take(&mut self, from: &mut Consumer<Item>) -> Result<bool, Memory>
-        ensures taken { HasTaken result self.old (received from.old) (known_items from.new) self.new (received from.new) }
+        ensures taken { HasTaken result self.old (received from.old)
+            (known_items from.new) self.new (received from.new) }
         ensures ring { SameConsumer from.old from.new }
         ensures reserved { self.old.is_reserved ≡ true → IsOk result }
         ensures lawful { IsLawfulLane self.new.losses self.new.steps }

@@ -48,7 +48,8 @@ impl Model for Net {
 
     ghost invariant = { λ n. IsSoundPlan n.plan
         × ArePlaced n.plan n.bridges.items n.lanes.items n.customers.items
-        × IsKept n.plan (record_of n.bridges.items n.lanes.items n.customers.items) (map (λ q. q.items) n.inboxes.items) (map (λ q. q.items) n.outboxes.items)
+        × IsKept n.plan (record_of n.bridges.items n.lanes.items n.customers.items)
+        (map (λ q. q.items) n.inboxes.items) (map (λ q. q.items) n.outboxes.items)
         × AreTables n.plan n.slots
         × HasNumbers n.plan n.limit n.ring
         × AreEmpty (length n.plan.bridges) (2 * length n.plan.links) (length n.plan.customers) n.lists };

@@ -8,7 +8,8 @@ ghost use Rattle.pb_frame.specs.Lists.{Rises};
 ghost use Rattle.pb_lan.specs.Ports.{is_customer_at, is_end_at, port_at};
 ghost use Rattle.pb_net.specs.Lists.{AreEmpty};
 ghost use Rattle.pb_net.specs.Slots.{use_of, AreTables};
-ghost use Rattle.pb_net.specs.Starts.{fresh_lane, AreFreshBridges, AreFreshLanes, AreFreshCustomers, AreEmptyBoxes, AreUses, AreLaneSlots, AreCustomerSlots};
+ghost use Rattle.pb_net.specs.Starts.{fresh_lane, AreFreshBridges, AreFreshLanes, AreFreshCustomers, AreEmptyBoxes};
+ghost use Rattle.pb_net.specs.Starts.{AreUses, AreLaneSlots, AreCustomerSlots};
 
 use crate::lists::Lists;
 use crate::net::Net;

@@ -52,13 +52,13 @@ fn key_spot(file: &[u8], path: &Text) -> Option<Spot>
 ///
 /// - `Utf8`: the first octet that is no UTF-8.
 /// - `Toml`: where the toml reader stops.
-/// - A key with its place: the line that is the header of its table, as `[network]` or `[[bridge]]`, but for blanks and a
-///   comment; of a key at the top the first such line with the key itself.
+/// - A key with its place: the line that is the header of its table, as `[network]` or `[[bridge]]`, but for blanks and
+/// a comment; of a key at the top the first such line with the key itself.
 ///
-/// None is answered of any other fault, and where memory ran out as the text was read again. It is answered of a key too
-/// where there are not so many headers, as with inline tables and dotted keys, and where a line that looks like a header
-/// need not be one or a header may look otherwise: there are texts of several lines or quoted keys. A wrong line would be
-/// worse than none.
+/// None is answered of any other fault, and where memory ran out as the text was read again. It is answered of a key
+/// too where there are not so many headers, as with inline tables and dotted keys, and where a line that looks like a
+/// header need not be one or a header may look otherwise: there are texts of several lines or quoted keys. A wrong line
+/// would be worse than none.
 pub fn spot_of(alloc: Global, file: &[u8], fault: &PlanFault) -> Option<Spot>
     ensures { IsSpotOf file.now fault.now result }
 {

@@ -43,7 +43,8 @@ fn put_loops(out: &mut String, names: &[&str]) -> Result<(), Memory>
 /// ran out.
 pub fn put_forest(alloc: Global, out: &mut String, plan: &Plan, shape: &Shape) -> Result<(), Memory>
     requires { IsSound plan.now }
-    ensures { OnOk result ((text : List ℕ) × (string_bytes out.new ≡ string_bytes out.old ++ text) × IsForestText plan.now shape.now text) }
+    ensures { OnOk result ((text : List ℕ) × (string_bytes out.new ≡ string_bytes out.old ++ text)
+        × IsForestText plan.now shape.now text) }
 {
     let mut names = looping(alloc, plan, shape)?;
     names.sort_unstable();

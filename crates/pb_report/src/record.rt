@@ -21,7 +21,8 @@ pub fn put_record(
     tallies: &Tallies,
 ) -> Result<(), Memory>
     requires { IsSound plan.now }
-    ensures { OnOk result ((text : List ℕ) × (string_bytes out.new ≡ string_bytes out.old ++ text) × IsRecordText plan.now tallies.now text) }
+    ensures { OnOk result ((text : List ℕ) × (string_bytes out.new ≡ string_bytes out.old ++ text)
+        × IsRecordText plan.now tallies.now text) }
 {
     put_counts(alloc, out, plan, tallies)?;
     let shape = last_shape(alloc, plan, tallies)?;

@@ -1,5 +1,5 @@
-//! Opening the files and sockets of a plan's customer ports: first what is read and the sockets, then what is written, and no
-//! file is emptied before all are open. A file that a port would write has no other use.
+//! Opening the files and sockets of a plan's customer ports: first what is read and the sockets, then what is written,
+//! and no file is emptied before all are open. A file that a port would write has no other use.
 #![tactic(auto)]
 
 mod deed;

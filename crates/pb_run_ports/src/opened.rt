@@ -5,7 +5,8 @@ ghost use Rattle.std.specs.Prelude.{◌≡◌, true, [], map, IfSome, IfOk, IfEr
 ghost use Rattle.std.specs.List.{flat_map};
 ghost use Rattle.pb_run_ports.specs.Deeds.{Adds, HasBegun};
 ghost use Rattle.pb_run_ports.specs.OpenFaults.{IsUnopened, IsUnemptied};
-ghost use Rattle.pb_run_ports.specs.Opened.{asked, deeds_of, emptied, emptying, entering, opening, shown, written, HasStopped, StopsAt};
+ghost use Rattle.pb_run_ports.specs.Opened.{asked, deeds_of, emptied, emptying, entering, opening, shown, written};
+ghost use Rattle.pb_run_ports.specs.Opened.{HasStopped, StopsAt};
 ghost use Rattle.pb_run_ports.specs.Uses.{are_apart};
 
 use crate::open_fault::{OpenFault, SharedFile, Verb, unemptied, unopened};
@@ -66,7 +67,8 @@ fn open_in<O: Openings>(
     place: usize,
     spec: PortSpec,
 ) -> Result<Opened<O::Input, (), O::Stream>, OpenFault>
-    ensures ok { IfOk result (λ port. Adds (O.done opener.old) (O.done opener.new) (entering spec) × (shown port ≡ asked spec)) }
+    ensures ok { IfOk result (λ port. Adds (O.done opener.old) (O.done opener.new) (entering spec)
+        × (shown port ≡ asked spec)) }
     ensures err { IfErr result (λ e. IsUnopened e × (O.done opener.new ≡ O.done opener.old)) }
 {
     match spec {
@@ -101,7 +103,8 @@ fn open_ins<O: Openings>(
 ) -> Result<Vec<Opened<O::Input, (), O::Stream>>, OpenFault>
     ensures ok { IfOk result (λ ports. Adds (O.done opener.old) (O.done opener.new) (flat_map entering specs.items)
         × (map shown ports.items ≡ map asked specs.items)) }
-    ensures err { IfErr result (λ e. IsUnopened e × HasBegun (O.done opener.old) (O.done opener.new) (flat_map entering specs.items)) }
+    ensures err { IfErr result (λ e. IsUnopened e
+        × HasBegun (O.done opener.old) (O.done opener.new) (flat_map entering specs.items)) }
 {
     let mut ports = Vec::new(alloc);
     for spec in specs {
@@ -118,7 +121,8 @@ fn open_out<O: Openings>(
     place: usize,
     port: Opened<O::Input, (), O::Stream>,
 ) -> Result<Opened<O::Input, O::Output, O::Stream>, OpenFault>
-    ensures ok { IfOk result (λ whole. Adds (O.done opener.old) (O.done opener.new) (opening (shown port).1) × (shown whole ≡ shown port)) }
+    ensures ok { IfOk result (λ whole. Adds (O.done opener.old) (O.done opener.new) (opening (shown port).1)
+        × (shown whole ≡ shown port)) }
     ensures err { IfErr result (λ e. IsUnopened e × (O.done opener.new ≡ O.done opener.old)) }
 {
     match port {
@@ -152,7 +156,8 @@ fn open_outs<O: Openings>(
     requires { whole.old.items ≡ [] }
     ensures ok { OnOk result (Adds (O.done opener.old) (O.done opener.new) (written (map shown ports.items))
         × (map shown whole.new.items ≡ map shown ports.items)) }
-    ensures err { IfErr result (λ e. IsUnopened e × HasBegun (O.done opener.old) (O.done opener.new) (written (map shown ports.items))) }
+    ensures err { IfErr result (λ e. IsUnopened e
+        × HasBegun (O.done opener.old) (O.done opener.new) (written (map shown ports.items))) }
 {
     for port in ports {
         let place = whole.len();
@@ -198,7 +203,8 @@ fn open_all_outs<O: Openings>(
 ) -> Result<Vec<Opened<O::Input, O::Output, O::Stream>>, OpenFault>
     ensures ok { IfOk result (λ whole. Adds (O.done opener.old) (O.done opener.new) (written (map shown ports.items))
         × (map shown whole.items ≡ map shown ports.items)) }
-    ensures err { IfErr result (λ e. IsUnopened e × HasBegun (O.done opener.old) (O.done opener.new) (written (map shown ports.items))) }
+    ensures err { IfErr result (λ e. IsUnopened e
+        × HasBegun (O.done opener.old) (O.done opener.new) (written (map shown ports.items))) }
 {
     let mut whole = Vec::new(alloc);
     match open_outs(opener, ports, &mut whole) {
@@ -236,7 +242,8 @@ fn empty_outs<O: Openings>(
     ports: &[Opened<O::Input, O::Output, O::Stream>],
 ) -> Result<(), OpenFault>
     ensures ok { OnOk result (Adds (O.done opener.old) (O.done opener.new) (emptied (map shown ports.now))) }
-    ensures err { IfErr result (λ e. IsUnemptied e × HasBegun (O.done opener.old) (O.done opener.new) (emptied (map shown ports.now))) }
+    ensures err { IfErr result (λ e. IsUnemptied e
+        × HasBegun (O.done opener.old) (O.done opener.new) (emptied (map shown ports.now))) }
 {
     for (place, port) in ports.iter().enumerate() {
         empty_out(alloc, opener, place, port)?;
@@ -277,11 +284,11 @@ fn shared(alloc: Global, specs: &[PortSpec], clash: Clash) -> Result<SharedFile,
 /// Opens the ports of a plan, as their rows of the plan file say, which was read at a path.
 ///
 /// No file has two uses: `Shared` is answered where one would be written by two ports, written and read, or is the plan
-/// file itself and written, and then nothing was opened. Then every file to read is opened and every socket connected to
-/// or made, in the plan's order, then every file to write, which keeps what stands in it and is made where it is missing;
-/// and once all are open, those to write are emptied. `Unopened` is answered where one can't be opened, and then none was emptied, and those that
-/// were made are removed. `Unemptied` is answered where one can't be emptied. `Memory` is answered where memory ran
-/// out, and then none was emptied.
+/// file itself and written, and then nothing was opened. Then every file to read is opened and every socket connected
+/// to or made, in the plan's order, then every file to write, which keeps what stands in it and is made where it is
+/// missing; and once all are open, those to write are emptied. `Unopened` is answered where one can't be opened, and
+/// then none was emptied, and those that were made are removed. `Unemptied` is answered where one can't be emptied.
+/// `Memory` is answered where memory ran out, and then none was emptied.
 pub fn open_all<O: Openings>(
     alloc: Global,
     opener: &mut O,
@@ -290,8 +297,10 @@ pub fn open_all<O: Openings>(
 ) -> Result<Vec<Opened<O::Input, O::Output, O::Stream>>, OpenFault>
     ensures ok { IfOk result (λ ports. Adds (O.done opener.old) (O.done opener.new) (deeds_of specs.items)
         × (map shown ports.items ≡ map asked specs.items)) }
-    ensures apart { OnOk result (IfSome (O.named opener.old) (λ name. are_apart name plan_path.now specs.items ≡ true)) }
-    ensures err { IfErr result (λ e. StopsAt e (O.named opener.old) plan_path.now (O.done opener.old) (O.done opener.new) specs.items) }
+    ensures apart { OnOk result (IfSome (O.named opener.old) (λ name. are_apart name plan_path.now specs.items
+        ≡ true)) }
+    ensures err { IfErr result (λ e. StopsAt e (O.named opener.old) plan_path.now (O.done opener.old)
+        (O.done opener.new) specs.items) }
 {
     match find_clash(alloc, opener, plan_path, specs.as_slice())? {
         None => open_apart(alloc, opener, specs),

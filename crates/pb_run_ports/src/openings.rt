@@ -3,7 +3,9 @@
 ghost use Rattle.std.specs.Prelude.{◌≡◌, ℕ, List, [], ◌∷◌, Option, None, IfSome, IfOk, OnOk, OnErr};
 ghost use Rattle.pb_run_ports.specs.Deeds.{Adds};
 ghost use Rattle.pb_run_ports.specs.declared.deed.Deed.{Deed};
-ghost use Rattle.pb_run_ports.specs.declared.deed.Deed.TheVariants.{Read as reads, Connect as connects, Listen as listens, Write as writes, Empty as empties};
+ghost use Rattle.pb_run_ports.specs.declared.deed.Deed.TheVariants.{Read as reads, Connect as connects};
+ghost use Rattle.pb_run_ports.specs.declared.deed.Deed.TheVariants.{Listen as listens, Write as writes};
+ghost use Rattle.pb_run_ports.specs.declared.deed.Deed.TheVariants.{Empty as empties};
 
 use pb_frame::{Memory, Text};
 use std::alloc::Global;

@@ -100,7 +100,8 @@ fn put_use<O: Openings>(
     user: FileUser,
     path: &str,
 ) -> Result<(), Memory>
-    ensures { OnOk result (IfSome (O.named opener.now) (λ name. uses.new.items ≡ uses.old.items ++ use_of user (name path.now))) }
+    ensures { OnOk result (IfSome (O.named opener.now) (λ name. uses.new.items ≡ uses.old.items
+        ++ use_of user (name path.now))) }
 {
     if let Some(file) = opener.file_at(alloc, path)? {
         uses.push(FileUse { file, user })?;
@@ -116,7 +117,8 @@ fn put_uses<O: Openings>(
     place: usize,
     spec: &PortSpec,
 ) -> Result<(), Memory>
-    ensures { OnOk result (IfSome (O.named opener.now) (λ name. uses.new.items ≡ uses.old.items ++ uses_at name place spec.now)) }
+    ensures { OnOk result (IfSome (O.named opener.now) (λ name. uses.new.items ≡ uses.old.items
+        ++ uses_at name place spec.now)) }
 {
     if let PortSpec::Capture { read, write, .. } = spec {
         put_use(alloc, opener, uses, FileUser::Reader(place), read.as_str())?;
@@ -132,7 +134,8 @@ pub(crate) fn find_clash<O: Openings>(
     plan_path: &str,
     specs: &[PortSpec],
 ) -> Result<Option<Clash>, Memory>
-    ensures { IfOk result (λ clash. IfSome (O.named opener.now) (λ name. is_none clash ≡ are_apart name plan_path.now specs.now)) }
+    ensures { IfOk result (λ clash. IfSome (O.named opener.now) (λ name.
+        is_none clash ≡ are_apart name plan_path.now specs.now)) }
 {
     let mut uses = Vec::new(alloc);
     put_use(alloc, opener, &mut uses, FileUser::Plan, plan_path)?;

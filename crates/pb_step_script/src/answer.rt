@@ -3,7 +3,8 @@
 ghost use Rattle.std.specs.Prelude.{◌≡◌, ◌++◌, ◌==◌, not, string_bytes, OnOk};
 ghost use Rattle.std.specs.List.{list_any};
 ghost use Rattle.pb_frame.specs.Hex.{hex_text as hex_of};
-ghost use Rattle.pb_step_script.specs.Answers.{copied, idle_line, no_such_line, outcome_words, place_name, port_words, refused_words, step_line, step_words};
+ghost use Rattle.pb_step_script.specs.Answers.{copied, idle_line, no_such_line, outcome_words, place_name, port_words};
+ghost use Rattle.pb_step_script.specs.Answers.{refused_words, step_line, step_words};
 
 use pb_frame::{Memory, hex_text};
 use pb_lan::{NoRoom, Outcome, Place, Plan, Step};

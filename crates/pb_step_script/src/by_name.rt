@@ -10,7 +10,8 @@ use std::alloc::Global;
 /// The names of the customer ports, with their numbers.
 fn numbered_ports<'a>(alloc: Global, plan: &'a Plan) -> Result<Vec<(&'a str, u8)>, Memory>
     requires { length plan.now.customers ≤ 128 }
-    ensures { IfOk result (λ ports. map (λ n. (n.0.now, n.1)) ports.items ≡ with_numbers 1 (map (λ c. c.name) plan.now.customers)) }
+    ensures { IfOk result (λ ports. map (λ n. (n.0.now, n.1)) ports.items
+        ≡ with_numbers 1 (map (λ c. c.name) plan.now.customers)) }
 {
     let mut ports = Vec::new(alloc);
     for (place, customer) in plan.customers.as_slice().iter().enumerate() {
@@ -22,7 +23,8 @@ fn numbered_ports<'a>(alloc: Global, plan: &'a Plan) -> Result<Vec<(&'a str, u8)
 /// The names of the links, with their numbers.
 fn numbered_links<'a>(alloc: Global, plan: &'a Plan) -> Result<Vec<(&'a str, u8)>, Memory>
     requires { length plan.now.links ≤ 64 }
-    ensures { IfOk result (λ links. map (λ n. (n.0.now, n.1)) links.items ≡ with_numbers 1 (map (λ l. l.name) plan.now.links)) }
+    ensures { IfOk result (λ links. map (λ n. (n.0.now, n.1)) links.items
+        ≡ with_numbers 1 (map (λ l. l.name) plan.now.links)) }
 {
     let mut links = Vec::new(alloc);
     for (place, link) in plan.links.as_slice().iter().enumerate() {
@@ -34,7 +36,8 @@ fn numbered_links<'a>(alloc: Global, plan: &'a Plan) -> Result<Vec<(&'a str, u8)
 /// The names of the bridges, with their numbers.
 fn numbered_bridges<'a>(alloc: Global, plan: &'a Plan) -> Result<Vec<(&'a str, u8)>, Memory>
     requires { length plan.now.bridges ≤ 32 }
-    ensures { IfOk result (λ bridges. map (λ n. (n.0.now, n.1)) bridges.items ≡ with_numbers 1 (map (λ b. b.name) plan.now.bridges)) }
+    ensures { IfOk result (λ bridges. map (λ n. (n.0.now, n.1)) bridges.items
+        ≡ with_numbers 1 (map (λ b. b.name) plan.now.bridges)) }
 {
     let mut bridges = Vec::new(alloc);
     for (place, bridge) in plan.bridges.as_slice().iter().enumerate() {
@@ -55,7 +58,8 @@ fn sort(things: &mut Vec<(&str, u8)>)
 /// `Memory` is answered where there was none for them.
 pub fn ports_by_name<'a>(alloc: Global, plan: &'a Plan) -> Result<Vec<(&'a str, u8)>, Memory>
     requires { length plan.now.customers ≤ 128 }
-    ensures { IfOk result (λ ports. AreByName (map (λ c. c.name) plan.now.customers) (map (λ n. (n.0.now, n.1)) ports.items)) }
+    ensures { IfOk result (λ ports. AreByName (map (λ c. c.name) plan.now.customers)
+        (map (λ n. (n.0.now, n.1)) ports.items)) }
 {
     let mut ports = numbered_ports(alloc, plan)?;
     sort(&mut ports);
@@ -65,7 +69,8 @@ pub fn ports_by_name<'a>(alloc: Global, plan: &'a Plan) -> Result<Vec<(&'a str, 
 /// The names of a plan's links, as [`ports_by_name`] gives those of customer ports.
 pub fn links_by_name<'a>(alloc: Global, plan: &'a Plan) -> Result<Vec<(&'a str, u8)>, Memory>
     requires { length plan.now.links ≤ 64 }
-    ensures { IfOk result (λ links. AreByName (map (λ l. l.name) plan.now.links) (map (λ n. (n.0.now, n.1)) links.items)) }
+    ensures { IfOk result (λ links. AreByName (map (λ l. l.name) plan.now.links)
+        (map (λ n. (n.0.now, n.1)) links.items)) }
 {
     let mut links = numbered_links(alloc, plan)?;
     sort(&mut links);
@@ -75,7 +80,8 @@ pub fn links_by_name<'a>(alloc: Global, plan: &'a Plan) -> Result<Vec<(&'a str, 
 /// The names of a plan's bridges, as [`ports_by_name`] gives those of customer ports.
 pub fn bridges_by_name<'a>(alloc: Global, plan: &'a Plan) -> Result<Vec<(&'a str, u8)>, Memory>
     requires { length plan.now.bridges ≤ 32 }
-    ensures { IfOk result (λ bridges. AreByName (map (λ b. b.name) plan.now.bridges) (map (λ n. (n.0.now, n.1)) bridges.items)) }
+    ensures { IfOk result (λ bridges. AreByName (map (λ b. b.name) plan.now.bridges)
+        (map (λ n. (n.0.now, n.1)) bridges.items)) }
 {
     let mut bridges = numbered_bridges(alloc, plan)?;
     sort(&mut bridges);

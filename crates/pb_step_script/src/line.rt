@@ -16,8 +16,8 @@ use std::alloc::Global;
 
 /// A frame of one octet at least, from pairs of hexadecimal digits in either case.
 ///
-/// None is answered of no digits, an odd number of them, and another octet among them; `Memory` where memory ran out for
-/// the frame.
+/// None is answered of no digits, an odd number of them, and another octet among them; `Memory` where memory ran out
+/// for the frame.
 pub fn read_frame(alloc: Global, hex: &[u8]) -> Result<Option<Bytes>, Memory>
     ensures some { IfOk result (λ o. IfSome o (λ frame. IsHex hex.now frame)) }
     ensures filled { IfOk result (λ o. IfSome o (λ frame. 0 < length frame)) }
@@ -41,7 +41,8 @@ fn read_frame_at(
     words: &[u8],
 ) -> Result<Option<(u8, Bytes)>, Memory>
     ensures some { IfOk result (λ o. IfSome o (λ e. IsFrameAt names.now.plan.now words.now e.0 e.1)) }
-    ensures none { IfOk result (λ o. IfNone o ((port : ℕ) (frame : List ℕ) → IsFrameAt names.now.plan.now words.now port frame → ⊥)) }
+    ensures none { IfOk result (λ o. IfNone o ((port : ℕ) (frame : List ℕ) →
+        IsFrameAt names.now.plan.now words.now port frame → ⊥)) }
 {
     let Some((name, hex)) = cut(words) else {
         return Ok(None);
@@ -94,7 +95,8 @@ struct PortSetting {
 /// The port that is to be set, and whether up, of the words `BRIDGE PORT WAY`.
 fn read_bridge_way(names: &Names<'_>, words: &[u8]) -> Option<PortSetting>
     ensures some { IfSome result (λ at. IsBridgeWay names.now.plan.now words.now at.bridge at.port at.up) }
-    ensures none { IfNone result ((bridge port : ℕ) (up : Bool) → IsBridgeWay names.now.plan.now words.now bridge port up → ⊥) }
+    ensures none { IfNone result ((bridge port : ℕ) (up : Bool) →
+        IsBridgeWay names.now.plan.now words.now bridge port up → ⊥) }
 {
     let (name, rest) = cut(words)?;
     let (digits, way) = cut(rest)?;

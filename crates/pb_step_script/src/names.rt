@@ -14,7 +14,8 @@ use std::collections::HashMap;
 /// The number of each name, counted from 1.
 fn numbers<'a>(alloc: Global, names: &[&'a [u8]]) -> Result<HashMap<&'a [u8], u8>, Memory>
     requires { length names.now < 256 }
-    ensures { IfOk result (λ numbers. (q : List ℕ) → unwrap_or (get_by (λ k. bytes_eq q k.now) numbers) 0 ≡ named (map (λ n. n.now) names.now) q) }
+    ensures { IfOk result (λ numbers. (q : List ℕ) → unwrap_or (get_by (λ k. bytes_eq q k.now) numbers) 0
+        ≡ named (map (λ n. n.now) names.now) q) }
 {
     let mut numbers = HashMap::new(alloc);
     for place in (0..names.len()).rev() {
@@ -59,7 +60,8 @@ fn customer_names<'a>(alloc: Global, plan: &'a Plan) -> Result<Vec<&'a [u8]>, Me
 /// The number of the name of each of the plan's bridges.
 fn bridge_numbers<'a>(alloc: Global, plan: &'a Plan) -> Result<HashMap<&'a [u8], u8>, Memory>
     requires { IsSound plan.now }
-    ensures { IfOk result (λ numbers. (q : List ℕ) → unwrap_or (get_by (λ k. bytes_eq q k.now) numbers) 0 ≡ bridge_named plan.now q) }
+    ensures { IfOk result (λ numbers. (q : List ℕ) → unwrap_or (get_by (λ k. bytes_eq q k.now) numbers) 0
+        ≡ bridge_named plan.now q) }
 {
     let names = bridge_names(alloc, plan)?;
     numbers(alloc, names.as_slice())
@@ -68,7 +70,8 @@ fn bridge_numbers<'a>(alloc: Global, plan: &'a Plan) -> Result<HashMap<&'a [u8],
 /// The number of the name of each of the plan's links.
 fn link_numbers<'a>(alloc: Global, plan: &'a Plan) -> Result<HashMap<&'a [u8], u8>, Memory>
     requires { IsSound plan.now }
-    ensures { IfOk result (λ numbers. (q : List ℕ) → unwrap_or (get_by (λ k. bytes_eq q k.now) numbers) 0 ≡ link_named plan.now q) }
+    ensures { IfOk result (λ numbers. (q : List ℕ) → unwrap_or (get_by (λ k. bytes_eq q k.now) numbers) 0
+        ≡ link_named plan.now q) }
 {
     let names = link_names(alloc, plan)?;
     numbers(alloc, names.as_slice())
@@ -77,7 +80,8 @@ fn link_numbers<'a>(alloc: Global, plan: &'a Plan) -> Result<HashMap<&'a [u8], u
 /// The number of the name of each of the plan's customer ports.
 fn customer_numbers<'a>(alloc: Global, plan: &'a Plan) -> Result<HashMap<&'a [u8], u8>, Memory>
     requires { IsSound plan.now }
-    ensures { IfOk result (λ numbers. (q : List ℕ) → unwrap_or (get_by (λ k. bytes_eq q k.now) numbers) 0 ≡ customer_named plan.now q) }
+    ensures { IfOk result (λ numbers. (q : List ℕ) → unwrap_or (get_by (λ k. bytes_eq q k.now) numbers) 0
+        ≡ customer_named plan.now q) }
 {
     let names = customer_names(alloc, plan)?;
     numbers(alloc, names.as_slice())
@@ -99,9 +103,11 @@ pub struct Names<'a> {
     links: HashMap<&'a [u8], u8>,
     customers: HashMap<&'a [u8], u8>,
     ghost few_links: { length plan.now.links ≤ 64 },
-    ghost bridges_found: { (q : List ℕ) → unwrap_or (get_by (λ k. bytes_eq q k.now) bridges) 0 ≡ bridge_named plan.now q },
+    ghost bridges_found: { (q : List ℕ) → unwrap_or (get_by (λ k. bytes_eq q k.now) bridges) 0
+        ≡ bridge_named plan.now q },
     ghost links_found: { (q : List ℕ) → unwrap_or (get_by (λ k. bytes_eq q k.now) links) 0 ≡ link_named plan.now q },
-    ghost customers_found: { (q : List ℕ) → unwrap_or (get_by (λ k. bytes_eq q k.now) customers) 0 ≡ customer_named plan.now q },
+    ghost customers_found: { (q : List ℕ) → unwrap_or (get_by (λ k. bytes_eq q k.now) customers) 0
+        ≡ customer_named plan.now q },
 }
 
 impl<'a> Names<'a> {

@@ -20,7 +20,10 @@ fn put_port(
     number: u8,
 ) -> Result<(), Memory>
     requires { IsSound plan.now }
-    ensures { OnOk result (string_bytes out.new ≡ string_bytes out.old ++ port_line plan.now tallies.now (name.now, number)) }
+    ensures { OnOk result (string_bytes out.new ≡ string_bytes out.old ++ port_line plan.now tallies.now (
+      name.now,
+      number,
+    )) }
 {
     let (came, left) = passed(tallies, number);
     let refused = filtered_at(plan, tallies, number);
@@ -51,7 +54,8 @@ fn put_ports(
     ports: &[(&str, u8)],
 ) -> Result<(), Memory>
     requires { IsSound plan.now }
-    ensures { OnOk result (string_bytes out.new ≡ string_bytes out.old ++ flat_map (port_line plan.now tallies.now) (map (λ n. (n.0.now, n.1)) ports.now)) }
+    ensures { OnOk result (string_bytes out.new ≡ string_bytes out.old
+        ++ flat_map (port_line plan.now tallies.now) (map (λ n. (n.0.now, n.1)) ports.now)) }
 {
     for (name, number) in ports {
         put_port(out, plan, tallies, name, *number)?;
@@ -61,7 +65,8 @@ fn put_ports(
 
 /// The lines of links.
 fn put_links(out: &mut String, tallies: &Tallies, links: &[(&str, u8)]) -> Result<(), Memory>
-    ensures { OnOk result (string_bytes out.new ≡ string_bytes out.old ++ flat_map (link_line tallies.now) (map (λ n. (n.0.now, n.1)) links.now)) }
+    ensures { OnOk result (string_bytes out.new ≡ string_bytes out.old
+        ++ flat_map (link_line tallies.now) (map (λ n. (n.0.now, n.1)) links.now)) }
 {
     for (name, number) in links {
         put_link(out, tallies, name, *number)?;
@@ -81,7 +86,8 @@ pub fn put_counts(
     tallies: &Tallies,
 ) -> Result<(), Memory>
     requires { IsSound plan.now }
-    ensures { OnOk result ((text : List ℕ) × (string_bytes out.new ≡ string_bytes out.old ++ text) × IsCountsText plan.now tallies.now text) }
+    ensures { OnOk result ((text : List ℕ) × (string_bytes out.new ≡ string_bytes out.old ++ text)
+        × IsCountsText plan.now tallies.now text) }
 {
     let ports = ports_by_name(alloc, plan)?;
     let links = links_by_name(alloc, plan)?;

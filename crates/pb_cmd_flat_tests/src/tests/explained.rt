@@ -15,8 +15,8 @@ use pb_messages::CommandFault;
 use std::alloc::Global;
 use std::io::{Read, Write};
 
-/// What a caller may take from `run_flat`: one past of a bridge with so many ports explains all that was printed, line by line, or,
-/// after a fault, all that was printed before it.
+/// What a caller may take from `run_flat`: one past of a bridge with so many ports explains all that was printed, line
+/// by line, or, after a fault, all that was printed before it.
 pub(super) fn explained<R: Read, W: Write>(
     alloc: Global,
     ports: u8,
@@ -24,11 +24,16 @@ pub(super) fn explained<R: Read, W: Write>(
     writer: &mut W,
 ) -> Result<(), CommandFault>
     requires { (2 ≤ ports) × (ports ≤ 16) }
-    ensures whole { OnOk result (IfSome (R.remaining reader.old) (λ octets. (text : List ℕ) × Appends (W.contents writer.old) (W.contents writer.new) text
-        × (steps : List Step) × IsFlatPast ports steps × Answers longest_line ports 1 (lines_of octets) [] (receipts steps) text)) }
-    ensures part { IfErr result (λ e. e ≢ CommandFault.Write → IfSome (R.remaining reader.old) (λ octets. (text : List ℕ) × Appends (W.contents writer.old) (W.contents writer.new) text
+    ensures whole { OnOk result (IfSome (R.remaining reader.old) (λ octets. (text : List ℕ)
+        × Appends (W.contents writer.old) (W.contents writer.new) text
+        × (steps : List Step) × IsFlatPast ports steps
+        × Answers longest_line ports 1 (lines_of octets) [] (receipts steps) text)) }
+    ensures part { IfErr result (λ e. e ≢ CommandFault.Write →
+        IfSome (R.remaining reader.old) (λ octets. (text : List ℕ)
+        × Appends (W.contents writer.old) (W.contents writer.new) text
         × (front : List (List ℕ)) × (back : List (List ℕ)) × (lines_of octets ≡ front ++ back)
-        × (steps : List Step) × IsFlatPast ports steps × Answers longest_line ports 1 front [] (receipts steps) text × (least_frames e ≤ length (receipts steps)))) }
+        × (steps : List Step) × IsFlatPast ports steps × Answers longest_line ports 1 front [] (receipts steps) text
+        × (least_frames e ≤ length (receipts steps)))) }
 {
     run_flat(alloc, ports, reader, writer)
 }

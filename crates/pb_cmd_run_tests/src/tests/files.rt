@@ -30,7 +30,8 @@ const CAPTURE_ROWS: &[Captures] = &[
                 traffic: (1, 2),
                 closed: 1,
             },
-            report: "ended drained\nport P1 entered 0 left 1 filtered 0\nport P2 entered 1 left 0 filtered 0\nport P3 entered 0 left 1 filtered 0\nforest yes\n",
+            report: "ended drained\nport P1 entered 0 left 1 filtered 0\nport P2 entered 1 left 0 filtered 0\n\
+                port P3 entered 0 left 1 filtered 0\nforest yes\n",
         },
         wrote: ONE_FRAME,
     },
@@ -43,7 +44,8 @@ const CAPTURE_ROWS: &[Captures] = &[
                 traffic: (0, 0),
                 closed: 1,
             },
-            report: "ended stopped\nport P1 entered 0 left 0 filtered 0\nport P2 entered 0 left 0 filtered 0\nport P3 entered 0 left 0 filtered 0\nforest yes\nfault: port P2 4\nfault: port P1 1\n",
+            report: "ended stopped\nport P1 entered 0 left 0 filtered 0\nport P2 entered 0 left 0 filtered 0\n\
+                port P3 entered 0 left 0 filtered 0\nforest yes\nfault: port P2 4\nfault: port P1 1\n",
         },
         wrote: NO_FRAMES,
     },
@@ -56,7 +58,8 @@ const CAPTURE_ROWS: &[Captures] = &[
                 traffic: (1, 2),
                 closed: 1,
             },
-            report: "ended stopped\nport P1 entered 0 left 1 filtered 0\nport P2 entered 1 left 0 filtered 0\nport P3 entered 0 left 1 filtered 0\nforest yes\nfault: port P1 4\n",
+            report: "ended stopped\nport P1 entered 0 left 1 filtered 0\nport P2 entered 1 left 0 filtered 0\n\
+                port P3 entered 0 left 1 filtered 0\nforest yes\nfault: port P1 4\n",
         },
         wrote: ONE_FRAME,
     },
@@ -87,7 +90,8 @@ const PCAPNG: Row = Row {
         traffic: (0, 0),
         closed: 1,
     },
-    report: "ended stopped\nport P1 entered 0 left 0 filtered 0\nport P2 entered 0 left 0 filtered 0\nport P3 entered 0 left 0 filtered 0\nforest yes\nfault: port P2 1\nfault: port P1 1\n",
+    report: "ended stopped\nport P1 entered 0 left 0 filtered 0\nport P2 entered 0 left 0 filtered 0\n\
+        port P3 entered 0 left 0 filtered 0\nforest yes\nfault: port P2 1\nfault: port P1 1\n",
 };
 
 const PCAPNG_FILES: Contents = &[
@@ -170,8 +174,8 @@ struct Refused {
     missing: &'static str,
 }
 
-/// Where the first of these is run, `paths.in` and `paths.out` hold one frame, `again.in` is another name of `paths.in`, and
-/// `paths.again` leads to `paths.out`.
+/// Where the first of these is run, `paths.in` and `paths.out` hold one frame, `again.in` is another name of
+/// `paths.in`, and `paths.again` leads to `paths.out`.
 const REFUSED: &[Refused] = &[
     // A socket behind a capture is missing: the capture was emptied before.
     Refused {

@@ -56,8 +56,8 @@ fn count(alloc: Global, stream: &mut UnixStream) -> io::Result<usize> {
     Ok(heard.len())
 }
 
-/// Lets the port in and says that no frame comes. Takes nothing until the run is over, and then all that comes; answers how
-/// many octets came.
+/// Lets the port in and says that no frame comes. Takes nothing until the run is over, and then all that comes; answers
+/// how many octets came.
 fn take_late<R: Clock>(
     rt: &R,
     alloc: Global,

@@ -197,7 +197,8 @@ fn is_end(outcome: &Result<Vec<Opened<(), (), ()>>, OpenFault>, end: End) -> boo
     }
 }
 
-/// Ports of a plan that was read at `plan`, what can't be opened and what can't be emptied, what is done, what comes of it, and how many outputs are given up.
+/// Ports of a plan that was read at `plan`, what can't be opened and what can't be emptied, what is done, what comes of
+/// it, and how many outputs are given up.
 struct Row {
     kinds: &'static [Kind],
     missing: &'static str,
@@ -371,8 +372,8 @@ const ROWS: &[Row] = &[
     },
 ];
 
-/// What is seen of a row: how many of its deeds were done, how many were done at all, whether the end is the row's, and how many
-/// outputs were given up.
+/// What is seen of a row: how many of its deeds were done, how many were done at all, whether the end is the row's, and
+/// how many outputs were given up.
 fn seen(alloc: Global, row: &Row) -> Result<(usize, usize, bool, usize), AllocError> {
     let specs = specs_of(alloc, row.kinds)?;
     let mut desk = Desk {

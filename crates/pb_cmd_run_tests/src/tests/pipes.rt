@@ -12,7 +12,8 @@ use std::time::{Clock, Duration};
 use std::{io, thread};
 
 const REPORT: &[u8] =
-    b"ended drained\nport P1 entered 0 left 1 filtered 0\nport P2 entered 1 left 0 filtered 0\nport P3 entered 0 left 1 filtered 0\nforest yes\n";
+    b"ended drained\nport P1 entered 0 left 1 filtered 0\nport P2 entered 1 left 0 filtered 0\n\
+    port P3 entered 0 left 1 filtered 0\nforest yes\n";
 
 /// What the network tells.
 const TOLD: Told = Told {

@@ -425,7 +425,8 @@ pub(super) const NO_FRAMES: &[u8] =
 
 /// A capture of one frame.
 pub(super) const ONE_FRAME: &[u8] =
-    b"\xd4\xc3\xb2\xa1\x02\0\x04\0\0\0\0\0\0\0\0\0\xff\xff\0\0\x01\0\0\0\0\0\0\0\0\0\0\0\x10\0\0\0\x10\0\0\0\xff\xff\xff\xff\xff\xff\x02\0\0\0\x01\x01\x08\0AB";
+    b"\xd4\xc3\xb2\xa1\x02\0\x04\0\0\0\0\0\0\0\0\0\xff\xff\0\0\x01\0\0\0\0\0\0\0\0\0\0\0\x10\0\0\0\x10\0\0\0\xff\xff\
+    \xff\xff\xff\xff\x02\0\0\0\x01\x01\x08\0AB";
 
 /// Port 1 of B1 is set down before the first turn, and once more long after.
 pub(super) const SET_DOWN: &str = r#"

@@ -16,7 +16,8 @@ const ROWS: &[(Row, u8)] = &[
                 traffic: (3, 4),
                 closed: 1,
             },
-            report: "ended drained\nport C1 entered 3 left 0 filtered 0\nport C2 entered 0 left 2 filtered 0\nport C3 entered 0 left 2 filtered 0\nlink L1 ab taken 3 lost 1 ba taken 0 lost 0\nforest yes\n",
+            report: "ended drained\nport C1 entered 3 left 0 filtered 0\nport C2 entered 0 left 2 filtered 0\n\
+                port C3 entered 0 left 2 filtered 0\nlink L1 ab taken 3 lost 1 ba taken 0 lost 0\nforest yes\n",
         },
         0,
     ),
@@ -28,7 +29,8 @@ const ROWS: &[(Row, u8)] = &[
                 traffic: (0, 0),
                 closed: 1,
             },
-            report: "ended drained\nport C1 entered 0 left 0 filtered 0\nport C2 entered 0 left 0 filtered 0\nlink L1 ab taken 0 lost 0 ba taken 0 lost 0\nforest yes\n",
+            report: "ended drained\nport C1 entered 0 left 0 filtered 0\nport C2 entered 0 left 0 filtered 0\n\
+                link L1 ab taken 0 lost 0 ba taken 0 lost 0\nforest yes\n",
         },
         0,
     ),
@@ -40,7 +42,8 @@ const ROWS: &[(Row, u8)] = &[
                 traffic: (1, 0),
                 closed: 1,
             },
-            report: "ended limit\nport C1 entered 1 left 0 filtered 0\nport C2 entered 0 left 0 filtered 0\nport C3 entered 0 left 0 filtered 0\nlink L1 ab taken 0 lost 0 ba taken 0 lost 0\nforest yes\n",
+            report: "ended limit\nport C1 entered 1 left 0 filtered 0\nport C2 entered 0 left 0 filtered 0\n\
+                port C3 entered 0 left 0 filtered 0\nlink L1 ab taken 0 lost 0 ba taken 0 lost 0\nforest yes\n",
         },
         4,
     ),
@@ -76,7 +79,8 @@ const EVENTS: &[(Row, &str)] = &[
                 traffic: (3, 0),
                 closed: 1,
             },
-            report: "ended drained\nport C1 entered 3 left 0 filtered 0\nport C2 entered 0 left 0 filtered 0\nport C3 entered 0 left 0 filtered 0\nlink L1 ab taken 0 lost 0 ba taken 0 lost 0\nforest yes\n",
+            report: "ended drained\nport C1 entered 3 left 0 filtered 0\nport C2 entered 0 left 0 filtered 0\n\
+                port C3 entered 0 left 0 filtered 0\nlink L1 ab taken 0 lost 0 ba taken 0 lost 0\nforest yes\n",
         },
         "1 event has not come\n",
     ),
@@ -88,7 +92,8 @@ const EVENTS: &[(Row, &str)] = &[
                 traffic: (3, 4),
                 closed: 1,
             },
-            report: "ended drained\nport C1 entered 3 left 0 filtered 0\nport C2 entered 0 left 2 filtered 0\nport C3 entered 0 left 2 filtered 0\nlink L1 ab taken 3 lost 1 ba taken 0 lost 0\nforest yes\n",
+            report: "ended drained\nport C1 entered 3 left 0 filtered 0\nport C2 entered 0 left 2 filtered 0\n\
+                port C3 entered 0 left 2 filtered 0\nlink L1 ab taken 3 lost 1 ba taken 0 lost 0\nforest yes\n",
         },
         "2 events have not come\n",
     ),
@@ -110,7 +115,8 @@ const UNSETTLED: Row = Row {
         traffic: (3, 0),
         closed: 1,
     },
-    report: "ended drained\nport C1 entered 3 left 0 filtered 0\nport C2 entered 0 left 0 filtered 0\nport C3 entered 0 left 0 filtered 0\nlink L1 ab taken 0 lost 0 ba taken 0 lost 0\nforest yes\nsettled no\n",
+    report: "ended drained\nport C1 entered 3 left 0 filtered 0\nport C2 entered 0 left 0 filtered 0\n\
+        port C3 entered 0 left 0 filtered 0\nlink L1 ab taken 0 lost 0 ba taken 0 lost 0\nforest yes\nsettled no\n",
 };
 
 #[test]

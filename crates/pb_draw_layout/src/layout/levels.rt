@@ -8,8 +8,8 @@ use pb_names::bridge_id;
 /// The level of a bridge that has none yet.
 pub(crate) const NOWHERE: u32 = u32::MAX;
 
-/// What tells which bridge of a tree is its root: the lowest. Where the bridges decide the states it is their identifier
-/// (IEEE 802.1D-2004 clause 9.2.5).
+/// What tells which bridge of a tree is its root: the lowest. Where the bridges decide the states it is their
+/// identifier (IEEE 802.1D-2004 clause 9.2.5).
 fn rank(plan: &Plan, place: usize, bridge: &BridgePlan) -> u64 {
     match plan.spanning {
         Spanning::Fixed => place as u64,

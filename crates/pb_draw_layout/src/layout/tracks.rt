@@ -74,8 +74,8 @@ pub(crate) fn long_before(columns: &Columns, plan: &Plan, number: u32) -> u32 {
     count
 }
 
-/// When a part gets its depth, by where it leaves its upper bridge and where it goes. Of links that go to the same side the
-/// outer ones bend first, so that they do not cross.
+/// When a part gets its depth, by where it leaves its upper bridge and where it goes. Of links that go to the same side
+/// the outer ones bend first, so that they do not cross.
 fn turn_of(from: u32, to: u32) -> u32 {
     if from <= to {
         FIRST_DOWN
