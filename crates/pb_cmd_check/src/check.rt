@@ -7,7 +7,7 @@ ghost use Rattle.pb_cmd_check.specs.Checks.{IsCheckText, plan_line};
 
 use pb_frame::Memory;
 use pb_lan::{Plan, start_shape};
-use pb_messages::CommandFault;
+use pb_messages::{CommandFault, write_whole};
 use pb_report::{put_forest, put_refusal};
 use pb_service::read_plan;
 use std::alloc::Global;
@@ -70,8 +70,6 @@ pub fn run_check<W: Write>(alloc: Global, file: &[u8], writer: &mut W) -> Result
 {
     let mut out = String::new(alloc);
     let status = put_check(alloc, &mut out, file)?;
-    if writer.write_all(out.as_bytes()).is_err() || writer.flush().is_err() {
-        return Err(CommandFault::Write);
-    }
+    write_whole(writer, out.as_bytes())?;
     Ok(status)
 }

@@ -4,7 +4,7 @@ ghost use Rattle.std.specs.Prelude.{◌≡◌, OnOk, IfErr};
 ghost use Rattle.std.specs.Io.KnownBytes.{Appends};
 ghost use Rattle.pb_cmd_check.specs.Shows.{fate_lines};
 
-use pb_messages::CommandFault;
+use pb_messages::{CommandFault, write_whole};
 use std::io::Write;
 
 /// The address and the fate of each.
@@ -33,8 +33,5 @@ pub fn run_show<W: Write>(writer: &mut W) -> Result<(), CommandFault>
     ensures ok { OnOk result (Appends (W.contents writer.old) (W.contents writer.new) fate_lines) }
     ensures err { IfErr result (λ e. e ≡ CommandFault.Write) }
 {
-    if writer.write_all(FATES.as_bytes()).is_err() || writer.flush().is_err() {
-        return Err(CommandFault::Write);
-    }
-    Ok(())
+    write_whole(writer, FATES.as_bytes())
 }

@@ -14,7 +14,7 @@ use pb_converge::{Rest, falls, fresh, rests, shape_of};
 use pb_draw_layout::scene_of;
 use pb_frame::Memory;
 use pb_lan::{Plan, Record, Shape};
-use pb_messages::CommandFault;
+use pb_messages::{CommandFault, write_whole};
 use pb_names::service_named;
 use pb_net::Net;
 use pb_report::write_refusal;
@@ -155,9 +155,7 @@ fn draw<W: Write>(
 {
     let mut out = String::new(alloc);
     let end = put_drawing(alloc, &mut out, plan, asked)?;
-    if writer.write_all(out.as_bytes()).is_err() || writer.flush().is_err() {
-        return Err(CommandFault::Write);
-    }
+    write_whole(writer, out.as_bytes())?;
     Ok(end)
 }
 

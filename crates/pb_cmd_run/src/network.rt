@@ -27,6 +27,7 @@ use pb_control_socket::Control;
 use pb_frame::Memory;
 use pb_history::Tallies;
 use pb_lan::{Limits, Plan, Spanning};
+use pb_messages::write_whole;
 use pb_report::write_refusal;
 use pb_run::{Held, Ran, run_set};
 use pb_run_control::{Steering, Traffic, Watch};
@@ -82,8 +83,7 @@ fn lost_under(
 /// Writes a text, where there is one. It isn't told where that fails.
 fn show<E: Write>(text: &str, errors: &mut E) {
     if !text.is_empty() {
-        let _ = errors.write_all(text.as_bytes());
-        let _ = errors.flush();
+        let _ = write_whole(errors, text.as_bytes());
     }
 }
 

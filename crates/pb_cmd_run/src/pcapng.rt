@@ -4,6 +4,7 @@ use crate::completing::CaptureFiles;
 use crate::input::input_path;
 use crate::telling::name_at;
 use pb_lan::CustomerPlan;
+use pb_messages::write_whole;
 use pb_run::Last;
 use std::alloc::Global;
 use std::fs::Files;
@@ -51,8 +52,7 @@ pub(crate) fn show_pcapng<E: Write>(
         if let Ok(line) = format!(in alloc;
             "port {name}: {path} is pcapng: editcap -F pcap writes what is read here\n"
         ) {
-            let _ = errors.write_all(line.as_bytes());
-            let _ = errors.flush();
+            let _ = write_whole(errors, line.as_bytes());
         }
     }
 }

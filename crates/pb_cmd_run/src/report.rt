@@ -10,7 +10,7 @@ ghost use Rattle.pb_report.specs.RecordTexts.{IsRecordText};
 
 use pb_frame::Memory;
 use pb_lan::{CustomerPlan, Plan};
-use pb_messages::CommandFault;
+use pb_messages::{CommandFault, write_whole};
 use pb_report::{put_record, put_settled};
 use pb_run::{Ended, Last, Ran};
 use std::alloc::Global;
@@ -149,8 +149,6 @@ pub fn write_report<W: Write>(
 {
     let mut out = String::new(alloc);
     let status = put_run(alloc, &mut out, plan, ran)?;
-    if writer.write_all(out.as_bytes()).is_err() || writer.flush().is_err() {
-        return Err(CommandFault::Write);
-    }
+    write_whole(writer, out.as_bytes())?;
     Ok(status)
 }

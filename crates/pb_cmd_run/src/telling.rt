@@ -6,7 +6,7 @@ ghost use Rattle.pb_cmd_run.specs.Telling.{name_at, word_of, path_line, sharing,
 
 use pb_frame::Memory;
 use pb_lan::CustomerPlan;
-use pb_messages::CommandFault;
+use pb_messages::{CommandFault, write_whole};
 use pb_run_ports::{FileUser, OpenFault, Verb};
 use std::alloc::{AllocError, Global};
 use std::io::{Error, Write};
@@ -59,10 +59,7 @@ fn write_line<W: Write>(
 {
     let mut out = String::new(alloc);
     put_line(&mut out, name, word, path, why)?;
-    if writer.write_all(out.as_bytes()).is_err() || writer.flush().is_err() {
-        return Err(CommandFault::Write);
-    }
-    Ok(())
+    write_whole(writer, out.as_bytes())
 }
 
 /// Writes `port NAME: VERB PATH: WHY`, for a path that a port could not use, with what the system says of it.

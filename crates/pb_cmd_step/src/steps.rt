@@ -18,7 +18,7 @@ use pb_frame::Memory;
 use pb_history::Tallies;
 use pb_lan::{Place, Plan, Record, Spanning, Step};
 use pb_lines::{Found, LineReader};
-use pb_messages::{CommandFault, MAX_LINE, put_bad};
+use pb_messages::{CommandFault, MAX_LINE, put_bad, write_whole};
 use pb_net::{Did, Net, NetFault};
 use pb_report::{put_record, put_settled};
 use pb_step_script::{Names, put_done, put_idle, put_no_such, read_line};
@@ -154,10 +154,7 @@ fn write_report<W: Write>(
     let mut out = String::new(alloc);
     let tallies = Tallies::of(alloc, rec)?;
     put_report(alloc, &mut out, plan, &tallies, settled)?;
-    if writer.write_all(out.as_bytes()).is_err() || writer.flush().is_err() {
-        return Err(CommandFault::Write);
-    }
-    Ok(())
+    write_whole(writer, out.as_bytes())
 }
 
 /// Writes what a record tells but for whether its bridges are settled. `Write` is answered where a write failed,
@@ -177,10 +174,7 @@ fn write_record<W: Write>(
     let mut out = String::new(alloc);
     let tallies = Tallies::of(alloc, rec)?;
     put_record(alloc, &mut out, plan, &tallies)?;
-    if writer.write_all(out.as_bytes()).is_err() || writer.flush().is_err() {
-        return Err(CommandFault::Write);
-    }
-    Ok(())
+    write_whole(writer, out.as_bytes())
 }
 
 /// Whether the bridges of a network are settled, or None where its plan gives the states of ports. `Memory` is

@@ -15,7 +15,7 @@ use crate::scope::{Scope, from_of, is_found, put_no_such, services_of};
 use crate::watch::Watch;
 use pb_converge::{DriveFault, fault_of};
 use pb_lan::Plan;
-use pb_messages::CommandFault;
+use pb_messages::{CommandFault, write_whole};
 use pb_report::put_refusal;
 use pb_service::read_plan;
 use std::alloc::Global;
@@ -163,8 +163,6 @@ pub fn run_survive<R: Threads + Sync, V: Watch, W: Write>(
     let told = put_survive(rt, alloc, &mut out, file, asked, watch);
     watch.close();
     let status = told?;
-    if writer.write_all(out.as_bytes()).is_err() || writer.flush().is_err() {
-        return Err(CommandFault::Write);
-    }
+    write_whole(writer, out.as_bytes())?;
     Ok(status)
 }

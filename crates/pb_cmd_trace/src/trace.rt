@@ -14,7 +14,7 @@ use crate::summary::put_summary;
 use pb_converge::fresh;
 use pb_frame::Memory;
 use pb_lan::Plan;
-use pb_messages::CommandFault;
+use pb_messages::{CommandFault, write_whole};
 use pb_net::Net;
 use pb_report::write_refusal;
 use pb_service::read_plan;
@@ -79,17 +79,6 @@ fn put_trace(
     put_stories(alloc, out, plan, net, entries, settles)
 }
 
-/// Writes a text. `Write` is answered where a write failed.
-fn write_text<W: Write>(text: &str, writer: &mut W) -> Result<(), CommandFault>
-    ensures ok { OnOk result (Appends (W.contents writer.old) (W.contents writer.new) text.now) }
-    ensures err { IfErr result (λ e. e ≡ CommandFault.Write) }
-{
-    if writer.write_all(text.as_bytes()).is_err() || writer.flush().is_err() {
-        return Err(CommandFault::Write);
-    }
-    Ok(())
-}
-
 /// Writes what becomes of frames in the network of a plan. Where it can't be told, nothing is written.
 fn write_trace<W: Write>(
     alloc: Global,
@@ -106,7 +95,7 @@ fn write_trace<W: Write>(
     let mut out = String::new(alloc);
     match put_trace(alloc, &mut out, plan, entries, settles)? {
         TraceEnd::Told => {
-            write_text(out.as_str(), writer)?;
+            write_whole(writer, out.as_bytes())?;
             Ok(TraceEnd::Told)
         }
         TraceEnd::Refused => Ok(TraceEnd::Refused),

@@ -16,7 +16,7 @@ use crate::services::put_services;
 use pb_converge::{Rest, falls, fresh, put_rest, rests, shape_of};
 use pb_frame::Memory;
 use pb_lan::{Plan, Record, Spanning};
-use pb_messages::CommandFault;
+use pb_messages::{CommandFault, write_whole};
 use pb_net::Net;
 use pb_report::{put_forest, write_refusal};
 use pb_service::read_plan;
@@ -122,9 +122,7 @@ fn draw<W: Write>(
     if lacking.is_some() {
         return Ok(lacking);
     }
-    if writer.write_all(out.as_bytes()).is_err() || writer.flush().is_err() {
-        return Err(CommandFault::Write);
-    }
+    write_whole(writer, out.as_bytes())?;
     Ok(None)
 }
 

@@ -5,7 +5,7 @@ ghost use Rattle.std.specs.Io.KnownBytes.{Appends, Keeps};
 ghost use Rattle.pb_report.specs.Refusals.{fault_words, refusal_line};
 
 use pb_frame::Memory;
-use pb_messages::CommandFault;
+use pb_messages::{CommandFault, write_whole};
 use pb_service::PlanFault;
 use std::alloc::Global;
 use std::io::Write;
@@ -56,8 +56,5 @@ pub fn write_refusal<W: Write>(
 {
     let mut out = String::new(alloc);
     put_refusal(&mut out, fault)?;
-    if writer.write_all(out.as_bytes()).is_err() || writer.flush().is_err() {
-        return Err(CommandFault::Write);
-    }
-    Ok(())
+    write_whole(writer, out.as_bytes())
 }
