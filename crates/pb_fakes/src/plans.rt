@@ -1,5 +1,40 @@
 //! Plan files that tests of several commands read.
 
+/// Two bridges B1 and B2, joined by the link L1 at their ports 1. The customer ports C1 and C2 of the service red are their
+/// ports 2, and no frames come in.
+pub const PAIR: &str = r#"
+[[bridge]]
+name = "B1"
+address = "02-00-00-00-00-01"
+
+[[bridge]]
+name = "B2"
+address = "02-00-00-00-00-02"
+
+[[link]]
+name = "L1"
+a = "B1"
+a_port = 1
+b = "B2"
+b_port = 1
+
+[[service]]
+name = "red"
+vid = 100
+
+[[port]]
+name = "C1"
+bridge = "B1"
+port = 2
+service = "red"
+
+[[port]]
+name = "C2"
+bridge = "B2"
+port = 2
+service = "red"
+"#;
+
 /// A link that loses a frame, the example `losses`.
 pub const LOSSES: &str =
     r#"# A link that loses the second frame from Near to Far. Nothing is sent again, and the frames that are not
