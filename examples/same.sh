@@ -18,21 +18,29 @@ constant() {
 status=0
 count=0
 
-# Whether the constant of this name in the test file of this crate is the file.
-is_copied() {
-    local test=../crates/$3/src/tests/$2.rt
+# Whether the constant of this name in this file is the example.
+is_constant() {
     count=$((count + 1))
-    if ! [ -f "$test" ] || ! constant "$1" "$test" | cmp -s - "$4"; then
-        echo "examples: $4 is not what $1 of ${test#../} has" >&2
+    if ! [ -f "$2" ] || ! constant "$1" "$2" | cmp -s - "$3"; then
+        echo "examples: $3 is not what $1 of ${2#../} has" >&2
         status=1
     fi
 }
 
-# step: each script with its plan and its whole output.
+# Whether the constant of this name in the test file of this crate is the example.
+is_copied() {
+    is_constant "$1" "../crates/$3/src/tests/$2.rt" "$4"
+}
+
+# step: each script with its plan and its whole output. A plan that other tests read too is in pb_fakes.
 for script in *.steps; do
     name=${script%.steps}
     for part in PLAN:toml STEPS:steps EXPECTED:expected; do
-        is_copied "${part%:*}" "step/${name//-/_}" pb_commands_tests "$name.${part#*:}"
+        if [ "$part" = PLAN:toml ] && grep -q "pub const ${name^^}:" ../crates/pb_fakes/src/plans.rt; then
+            is_constant "${name^^}" ../crates/pb_fakes/src/plans.rt "$name.toml"
+        else
+            is_copied "${part%:*}" "step/${name//-/_}" pb_commands_tests "$name.${part#*:}"
+        fi
     done
 done
 

@@ -15,6 +15,10 @@ pub record SwitchView : Type 0 where
   pub steps : List Step
   pub is_ready : Bool
 
+-- the bridge has so many ports, and is ready for a frame
+abbrev pub IsReadyAt : ℕ → SwitchView → Type 0
+IsReadyAt ports switch = (switch.is_ready ≡ true) × (switch.ports ≡ ports)
+
 -- the steps are a lawful past of the bridge, with no want of memory
 pub record IsFlatPast (ports : ℕ) (steps : List Step) : Type 0 where
   pub lawful : IsLawfulBridge spanning_tree (flat_plan ports) 1 steps

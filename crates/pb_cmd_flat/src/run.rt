@@ -7,7 +7,7 @@ ghost use Rattle.pb_lines.specs.Reader.{held, limit_of};
 ghost use Rattle.pb_messages.specs.BadLines.{longest_line};
 ghost use Rattle.pb_cmd_flat.specs.Answers.{Answer};
 ghost use Rattle.pb_cmd_flat.specs.Receipts.{receipts};
-ghost use Rattle.pb_cmd_flat.specs.Switches.{IsFlatPast};
+ghost use Rattle.pb_cmd_flat.specs.Switches.{IsFlatPast, IsReadyAt};
 ghost use Rattle.pb_cmd_flat.specs.Progress.{Prints, PrintsBeginning};
 
 use crate::line::read_frame_line;
@@ -33,9 +33,8 @@ fn answer(
     requires ports { ports ≡ switch.old.ports }
     requires ready { switch.old.is_ready ≡ true }
     ensures frames { frames.new.items ≡ [] }
-    ensures ready { OnOk result (switch.new.is_ready ≡ true) }
+    ensures ready { OnOk result (IsReadyAt ports switch.new) }
     ensures steps { IsErrOf result CommandFault.Steps → 2 ^ 60 - 1 ≤ length (receipts switch.old.steps) }
-    ensures ports { OnOk result (switch.new.ports ≡ ports) }
     ensures past { OnOk result (IsFlatPast ports switch.old.steps → IsFlatPast ports switch.new.steps) }
     ensures ok { OnOk result ((text : List ℕ) × (out.new.items ≡ out.old.items ++ text)
         × Answer limit ports number line.now (receipts switch.old.steps) (receipts switch.new.steps) text) }

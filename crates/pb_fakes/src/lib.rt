@@ -1,5 +1,7 @@
-//! Readers and writers that fail, for tests.
+//! What tests of several crates share: readers and writers that fail, and plan files.
 #![tactic(auto)]
+
+pub mod plans;
 
 use std::io;
 use std::io::{Error, ErrorKind, Read, Write};

@@ -26,6 +26,10 @@ pub record HasDelivered (old : PlaceView) (outbox : List Item) (new : PlaceView)
   pub steps : new.steps ≡ old.steps ++ Deliver item false ∷ []
   pub taken : outbox ≡ item ∷ outbox'
 
+-- a step that failed has left the bridge's steps and the queue as they were
+abbrev pub IsUnmoved : BridgeView → List Item → BridgeView → List Item → Type 0
+IsUnmoved old queue new queue' = (new.steps ≡ old.steps) × (queue' ≡ queue)
+
 -- the front of the inbox was received, lawfully
 pub record HasReceivedFrom (old : BridgeView) (port : ℕ) (inbox : List Item) (new : BridgeView) (inbox' : List Item) : Type 0 where
   pub item : Item

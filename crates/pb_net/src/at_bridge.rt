@@ -3,7 +3,7 @@
 ghost use Rattle.std.specs.Prelude.{◌≡◌, ◌<◌, ◌↔◌, length, true, OnOk, OnErr, IsErrOf};
 ghost use Rattle.pb_lan.specs.Ports.{is_used, port_at};
 ghost use Rattle.pb_lan.specs.Queues.{waiting};
-ghost use Rattle.pb_net.specs.Moves.{HasReceivedFrom, HasTransmittedTo};
+ghost use Rattle.pb_net.specs.Moves.{HasReceivedFrom, HasTransmittedTo, IsUnmoved};
 
 use pb_lan::Item;
 use pb_relay::{Bridge, BridgeFault};
@@ -22,8 +22,7 @@ pub(crate) fn receive_at(
     ensures kept { bridge.new.is_kept ≡ bridge.old.is_kept }
     ensures ok { OnOk result (HasReceivedFrom bridge.old port inbox.old.items bridge.new inbox.new.items) }
     ensures limit { IsErrOf result BridgeFault.StepLimit ↔ (length bridge.old.steps ≡ bridge.old.plan.steps) }
-    ensures err { OnErr result (bridge.new.steps ≡ bridge.old.steps) }
-    ensures err_inbox { OnErr result (inbox.new.items ≡ inbox.old.items) }
+    ensures err { OnErr result (IsUnmoved bridge.old inbox.old.items bridge.new inbox.new.items) }
 {
     let Some(item) = inbox.pop_front() else {
         unreachable!();
@@ -50,8 +49,7 @@ pub(crate) fn transmit_at(
     ensures kept { bridge.new.is_kept ≡ bridge.old.is_kept }
     ensures ok { OnOk result (HasTransmittedTo bridge.old port outbox.old.items bridge.new outbox.new.items) }
     ensures limit { IsErrOf result BridgeFault.StepLimit ↔ (length bridge.old.steps ≡ bridge.old.plan.steps) }
-    ensures err { OnErr result (bridge.new.steps ≡ bridge.old.steps) }
-    ensures err_outbox { OnErr result (outbox.new.items ≡ outbox.old.items) }
+    ensures err { OnErr result (IsUnmoved bridge.old outbox.old.items bridge.new outbox.new.items) }
 {
     bridge.reserve_step()?;
     outbox.reserve(1)?;

@@ -42,40 +42,6 @@ port = 3
 service = "red"
 "#;
 
-/// Two bridges, a link, and two ports of one service. No frames come in.
-pub(super) const QUIET: &str = r#"
-[[bridge]]
-name = "B1"
-address = "02-00-00-00-00-01"
-
-[[bridge]]
-name = "B2"
-address = "02-00-00-00-00-02"
-
-[[link]]
-name = "L1"
-a = "B1"
-a_port = 1
-b = "B2"
-b_port = 1
-
-[[service]]
-name = "red"
-vid = 100
-
-[[port]]
-name = "C1"
-bridge = "B1"
-port = 2
-service = "red"
-
-[[port]]
-name = "C2"
-bridge = "B2"
-port = 2
-service = "red"
-"#;
-
 /// One bridge with a memory port between two captures.
 pub(super) const CAPTURES: &str = r#"
 [[bridge]]

@@ -1,8 +1,9 @@
 //! What is reported of runs over memory.
 
-use super::plans::{LOSSY, NEVER, NO_TURN, ONE_STEP, QUIET, RSTP, SET_DOWN};
+use super::plans::{LOSSY, NEVER, NO_TURN, ONE_STEP, RSTP, SET_DOWN};
 use super::{PLAIN, Row, Told, check, check_under, run};
 use pb_cmd_run::{NetworkFault, Strictness};
+use pb_fakes::plans::PAIR;
 use pb_fakes::{Full, Unflushed};
 use std::test::Fail;
 
@@ -23,7 +24,7 @@ const ROWS: &[(Row, u8)] = &[
     ),
     (
         Row {
-            parts: ["", QUIET],
+            parts: ["", PAIR],
             told: Told {
                 result: Ok(0),
                 traffic: (0, 0),

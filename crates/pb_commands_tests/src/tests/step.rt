@@ -15,7 +15,7 @@ mod settling;
 mod two_bridges;
 
 use pb_cmd_step::run_script;
-use pb_fakes::{Full, Slow, Unflushed};
+use pb_fakes::{Full, Slow, Unflushed, plans};
 use pb_messages::CommandFault;
 use std::alloc::Global;
 use std::io::{ErrorKind, Read, Write};
@@ -67,13 +67,13 @@ fn the_examples_run(rt: HostRuntime) {
     let alloc = rt.alloc();
     for (plan, script, want) in [
         (two_bridges::PLAN, two_bridges::STEPS, two_bridges::EXPECTED),
-        (metro::PLAN, metro::STEPS, metro::EXPECTED),
+        (plans::METRO, metro::STEPS, metro::EXPECTED),
         (e_line::PLAN, e_line::STEPS, e_line::EXPECTED),
         (e_lan::PLAN, e_lan::STEPS, e_lan::EXPECTED),
         (parallel::PLAN, parallel::STEPS, parallel::EXPECTED),
-        (losses::PLAN, losses::STEPS, losses::EXPECTED),
+        (plans::LOSSES, losses::STEPS, losses::EXPECTED),
         (settling::PLAN, settling::STEPS, settling::EXPECTED),
-        (failover::PLAN, failover::STEPS, failover::EXPECTED),
+        (plans::FAILOVER, failover::STEPS, failover::EXPECTED),
     ] {
         drives(&rt, alloc, plan, script, want);
     }

@@ -226,7 +226,7 @@ fn frames_are_told_hop_by_hop(rt: HostRuntime) -> Result<(), Fail> {
             UNSERVED,
         ),
         (
-            plans::LOSSES,
+            pb_fakes::plans::LOSSES,
             &[("sender", BROADCAST), ("sender", BROADCAST)],
             false,
             TraceEnd::Told,
@@ -240,21 +240,21 @@ fn frames_are_told_hop_by_hop(rt: HostRuntime) -> Result<(), Fail> {
             ONE_BRIDGE,
         ),
         (
-            plans::METRO,
+            pb_fakes::plans::METRO,
             &[("provider", "ffffffffffff02000000010108000001")],
             false,
             TraceEnd::Told,
             METRO,
         ),
         (
-            plans::FAILOVER,
+            pb_fakes::plans::FAILOVER,
             &[("C1", BROADCAST)],
             true,
             TraceEnd::Told,
             SETTLED,
         ),
         (
-            plans::FAILOVER,
+            pb_fakes::plans::FAILOVER,
             &[("C1", BROADCAST)],
             false,
             TraceEnd::Told,

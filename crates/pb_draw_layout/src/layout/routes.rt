@@ -58,51 +58,53 @@ impl Layout {
         }
     }
 
-    /// How a link runs that passes levels.
+    /// Returns the bends of a link that passes levels: the one below its upper bridge, then the one above its lower
+    /// bridge.
+    fn bends(&self, link: &LinkPlan, number: u8) -> (u32, u32) {
+        let levels = &self.columns.levels;
+        let stretches = self.stretches.as_slice();
+        let above = lower_level(levels, link).saturating_sub(1);
+        let first = track_of(stretches, number as u32, false);
+        let last = track_of(stretches, number as u32, true);
+        (
+            self.rows.bend(upper_level(levels, link), first),
+            self.rows.bend(above, last),
+        )
+    }
+
+    /// Returns the upper end of the lane of a link that passes levels.
+    fn lane_top(&self, plan: &Plan, link: &LinkPlan, number: u8) -> Point {
+        let before = long_before(&self.columns, plan, number as u32);
+        Point {
+            x: lane(&self.columns, plan, before),
+            y: self.rows.next(upper_level(&self.columns.levels, link)),
+        }
+    }
+
+    /// Returns the route of a link that passes levels.
     fn around(&self, plan: &Plan, link: &LinkPlan, number: u8, a: Point, b: Point) -> Route {
         let levels = &self.columns.levels;
-        let upper = upper_level(levels, link);
-        let above = lower_level(levels, link).saturating_sub(1);
-        let x = lane(
-            &self.columns,
-            plan,
-            long_before(&self.columns, plan, number as u32),
-        );
-        let stretches = self.stretches.as_slice();
-        let upper_bend = self
-            .rows
-            .bend(upper, track_of(stretches, number as u32, false));
-        let lower_bend = self
-            .rows
-            .bend(above, track_of(stretches, number as u32, true));
-        let enters = Point {
-            x,
-            y: self.rows.next(upper),
-        };
-        let leaves = self.rows.floor(above);
-        let (bend, lane, end) = if levels.at(link.a.bridge as u32) == upper {
-            let lane = Lane {
-                x,
-                bend: lower_bend,
-                from_a: enters.y,
-                to_b: leaves,
-            };
-            (upper_bend, lane, a)
+        let (upper_bend, lower_bend) = self.bends(link, number);
+        let top = self.lane_top(plan, link, number);
+        let bottom = self.rows.floor(lower_level(levels, link).saturating_sub(1));
+        let begins_above = levels.at(link.a.bridge as u32) == upper_level(levels, link);
+        let (bends, ends, upper_end) = if begins_above {
+            ((upper_bend, lower_bend), (top.y, bottom), a)
         } else {
-            let lane = Lane {
-                x,
-                bend: upper_bend,
-                from_a: leaves,
-                to_b: enters.y,
-            };
-            (lower_bend, lane, b)
+            ((lower_bend, upper_bend), (bottom, top.y), b)
+        };
+        let lane = Lane {
+            x: top.x,
+            bend: bends.1,
+            from_a: ends.0,
+            to_b: ends.1,
         };
         Route {
             a,
             b,
-            bend,
+            bend: bends.0,
             lane: Some(lane),
-            label: middle(end, enters, upper_bend),
+            label: middle(upper_end, top, upper_bend),
             label_half: label_half(link),
             a_port: self.port_number(link, Side::A, a),
             b_port: self.port_number(link, Side::B, b),

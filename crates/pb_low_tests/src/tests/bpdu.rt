@@ -26,7 +26,7 @@ fn proposal() -> Bpdu {
     Bpdu {
         change: false,
         proposal: true,
-        kind: 3,
+        role: 3,
         learning: false,
         forwarding: false,
         agreement: false,
@@ -45,7 +45,7 @@ fn answer() -> Bpdu {
     Bpdu {
         change: true,
         proposal: false,
-        kind: 2,
+        role: 2,
         learning: true,
         forwarding: true,
         agreement: true,

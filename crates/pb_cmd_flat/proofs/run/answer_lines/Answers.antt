@@ -27,8 +27,8 @@ loop-number-preserved g c =
           (receipts c.loop-number.switch.steps) (receipts c.answer.new.switch.steps)
           c.loop-number.invariant.progress gives (rw c.line-line.ensures at a.2) (rw e at w);
       limit = c.next.ensures.limit ∙ c.loop-number.invariant.limit;
-      ports = c.in_ok-answer.ensures.ports;
-      ready = c.in_ok-answer.ensures.ready;
+      ports = c.in_ok-answer.ensures.ready.1;
+      ready = c.in_ok-answer.ensures.ready.0;
       past = c.in_ok-answer.ensures.past c.loop-number.invariant.past;
       frames = c.answer.ensures.frames;
     }

@@ -1,42 +1,4 @@
-//! The example `losses`, as its three files have it.
-
-/// The plan file.
-pub(super) const PLAN: &str =
-    r#"# A link that loses the second frame from Near to Far. Nothing is sent again, and the frames that are not
-# lost arrive in order.
-
-[[bridge]]
-name = "Near"
-address = "02-00-00-00-00-01"
-
-[[bridge]]
-name = "Far"
-address = "02-00-00-00-00-02"
-
-[[link]]
-name = "fibre"
-a = "Near"
-a_port = 1
-b = "Far"
-b_port = 1
-lost_ab = [1]
-
-[[service]]
-name = "line"
-vid = 100
-
-[[port]]
-name = "sender"
-bridge = "Near"
-port = 2
-service = "line"
-
-[[port]]
-name = "receiver"
-bridge = "Far"
-port = 2
-service = "line"
-"#;
+//! The script of the example `losses`, and the output.
 
 /// The script.
 pub(super) const STEPS: &str = r#"poll sender ffffffffffff020000000101080000

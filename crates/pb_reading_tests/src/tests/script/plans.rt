@@ -1,43 +1,10 @@
 //! A network with names.
 
+use pb_fakes::plans::PAIR;
 use pb_lan::Plan;
 use pb_service::read_plan;
 use std::alloc::Global;
 use std::test::Fail;
-
-/// Bridges B1 and B2, joined by L1 from port 1 to port 1; customer ports C1 and C2 at ports 2.
-const NETWORK: &str = r#"
-[[bridge]]
-name = "B1"
-address = "02-00-00-00-00-01"
-
-[[bridge]]
-name = "B2"
-address = "02-00-00-00-00-02"
-
-[[link]]
-name = "L1"
-a = "B1"
-a_port = 1
-b = "B2"
-b_port = 1
-
-[[service]]
-name = "red"
-vid = 100
-
-[[port]]
-name = "C1"
-bridge = "B1"
-port = 2
-service = "red"
-
-[[port]]
-name = "C2"
-bridge = "B2"
-port = 2
-service = "red"
-"#;
 
 /// Bridges, links and customer ports whose names do not come in the order of their octets.
 const UNORDERED: &str = r#"
@@ -89,7 +56,7 @@ service = "red"
 
 /// The network.
 pub(super) fn network(alloc: Global) -> Result<Plan, Fail> {
-    let (plan, _) = read_plan(alloc, NETWORK.as_bytes())?;
+    let (plan, _) = read_plan(alloc, PAIR.as_bytes())?;
     Ok(plan)
 }
 

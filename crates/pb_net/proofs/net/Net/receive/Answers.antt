@@ -24,15 +24,15 @@ pub invariant_of-self : goal.invariant_of-self
 invariant_of-self c =
     let h = at (goal.at.invariant_of-self c).After-index_mut in
     let e = c.in_err-receive_at.ensures in
-    rw (inbox_kept h c.receive_at.new.inbox c.index_mut.ensures.value e.err_inbox)
-    (bridge_failed c.receive_at.new.bridge h e.plan e.number e.kept e.err).0
+    rw (inbox_kept h c.receive_at.new.inbox c.index_mut.ensures.value e.err.1)
+    (bridge_failed c.receive_at.new.bridge h e.plan e.number e.kept e.err.0).0
 
 pub returns-in_err-receive_at : goal.returns-in_err-receive_at
 returns-in_err-receive_at c =
     let h = (goal.at.returns-in_err-receive_at c).After-index_mut in
     let e = c.in_err-receive_at.ensures in
     answers_fault (Receive c.args.bridge c.args.port) c.in_err-receive_at.field-0.0 (at h) c.self.view_is
-    (bridge_failed c.receive_at.new.bridge (at h) e.plan e.number e.kept e.err).1 (due h).named (due h).busy refl
+    (bridge_failed c.receive_at.new.bridge (at h) e.plan e.number e.kept e.err.0).1 (due h).named (due h).busy refl
     e.limit (err_from_is_err_and _ c.from_residual-in_err-receive_at.ensures.1)
 
 pub invariant_of-self-2 : goal.invariant_of-self-2

@@ -19,4 +19,5 @@ returns c =
     let within : n - 1 < length s.bridges.items = omega (arith, known.0, known.1, c.self.invariant.1.bridge_count) in
     subst (λ (v : NetView). option_copied c.rstp.result ≡ machine_in v.plan n (steps_of v.rec.bridges n))
     c.self.view_is
-    (c.rstp.ensures ∙ machine_at s (n - 1) n c.index.result.now c.self.invariant number within c.index.ensures)
+    (c.rstp.ensures ∙ machine_at s (n - 1) n c.index.result.now c.self.invariant number within
+    (rw c.index_of.ensures at c.index.ensures))

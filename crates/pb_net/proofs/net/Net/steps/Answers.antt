@@ -15,7 +15,7 @@ returns-in-Bridge-clause-steps c =
     let there = subst (λ (v : NetView). has_place v.plan (Bridge n) ≡ true) (sym c.self.view_is)
     (rw c.in-Bridge.is at c.requires) in
     let is = known_steps (λ (b : BridgeView). b.steps) (λ b. b.is_kept) s.bridges.items n _ c.index.result.now
-    c.self.invariant.1.bridge_count (known_number s.plan.bridges n there) c.index.ensures
+    c.self.invariant.1.bridge_count (known_number s.plan.bridges n there) (rw c.index_of.ensures at c.index.ensures)
     c.self.invariant.1.kept_bridges in
     rw c.in-Bridge.is (c.steps.ensures.steps is.0 ∙ is.1 ∙ ap (λ (v : NetView). steps_at v.rec (Bridge n))
     c.self.view_is)
@@ -30,7 +30,8 @@ returns-in-Lane-clause-steps c =
     let there = subst (λ (v : NetView). has_place v.plan (Lane n) ≡ true) (sym c.self.view_is)
     (rw c.in-Lane.is at c.requires) in
     let is = known_steps (λ (l : LaneView). l.steps) (λ l. l.is_kept) s.lanes.items n _ c.index-in-Lane.result.now
-    c.self.invariant.1.lane_count (known_lane n (2 * length s.plan.links) there) c.index-in-Lane.ensures
+    c.self.invariant.1.lane_count (known_lane n (2 * length s.plan.links) there)
+    (rw c.index_of-in-Lane.ensures at c.index-in-Lane.ensures)
     c.self.invariant.1.kept_lanes in
     rw c.in-Lane.is (c.steps-in-Lane.ensures.steps is.0 ∙ is.1 ∙ ap (λ (v : NetView). steps_at v.rec (Lane n))
     c.self.view_is)
@@ -46,7 +47,8 @@ returns-in-Customer-clause-steps c =
     (rw c.in-Customer.is at c.requires) in
     let is = known_steps (λ (p : PlaceView). p.steps) (λ p. p.is_kept) s.customers.items n _
     c.index-in-Customer.result.now
-    c.self.invariant.1.customer_count (known_number s.plan.customers n there) c.index-in-Customer.ensures
+    c.self.invariant.1.customer_count (known_number s.plan.customers n there)
+    (rw c.index_of-in-Customer.ensures at c.index-in-Customer.ensures)
     c.self.invariant.1.kept_customers in
     rw c.in-Customer.is (c.steps-in-Customer.ensures.steps is.0 ∙ is.1 ∙ ap
     (λ (v : NetView). steps_at v.rec (Customer n)) c.self.view_is)

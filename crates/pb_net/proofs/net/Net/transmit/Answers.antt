@@ -31,15 +31,15 @@ pub invariant_of-self : goal.invariant_of-self
 invariant_of-self c =
     let h = at (goal.at.invariant_of-self c).After-index_mut in
     let e = c.in_err-transmit_at.ensures in
-    rw (outbox_kept h c.transmit_at.new.outbox c.index_mut.ensures.value e.err_outbox)
-    (bridge_failed c.transmit_at.new.bridge h e.plan e.number e.kept e.err).0
+    rw (outbox_kept h c.transmit_at.new.outbox c.index_mut.ensures.value e.err.1)
+    (bridge_failed c.transmit_at.new.bridge h e.plan e.number e.kept e.err.0).0
 
 pub returns-in_err-transmit_at : goal.returns-in_err-transmit_at
 returns-in_err-transmit_at c =
     let h = (goal.at.returns-in_err-transmit_at c).After-index_mut in
     let e = c.in_err-transmit_at.ensures in
     answers_fault (Transmit c.args.bridge c.args.port) c.in_err-transmit_at.field-0.0 (at h) c.self.view_is
-    (bridge_failed c.transmit_at.new.bridge (at h) e.plan e.number e.kept e.err).1 (due h).named (due h).busy refl
+    (bridge_failed c.transmit_at.new.bridge (at h) e.plan e.number e.kept e.err.0).1 (due h).named (due h).busy refl
     e.limit (err_from_is_err_and _ c.from_residual-in_err-transmit_at.ensures.1)
 
 pub invariant_of-self-2 : goal.invariant_of-self-2
