@@ -10,7 +10,7 @@ ghost use Rattle.pb_relay.specs.Backlogs.{KeepsBacklog};
 use crate::backlog::Backlog;
 use crate::copies::note;
 use pb_bpdu::Bpdu;
-use pb_frame::{Mac, Memory};
+use pb_frame::{Mac, Memory, index_of};
 use pb_lan::{Item, NoRoom};
 use std::alloc::Global;
 
@@ -116,7 +116,7 @@ pub fn queue_bpdus(backlog: &mut Backlog, room: &mut BpduRoom, sends: &[(u8, Bpd
     ensures queued { room.new.queued.items ≡ own_queued room.new.dropped.items (frames_of address.0 sends.now) }
 {
     for (port, bpdu) in sends {
-        let place = *port as usize - 1;
+        let place = index_of(*port);
         let answer = send(room.alloc, backlog, place, address, bpdu);
         note_sent(&mut room.queued, &mut room.dropped, *port, answer);
     }

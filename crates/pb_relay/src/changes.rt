@@ -14,7 +14,7 @@ use crate::bridge::{Bridge, append};
 use crate::fault::BridgeFault;
 use crate::ports::Local;
 use pb_fdb::Fdb;
-use pb_frame::{Memory, Seq};
+use pb_frame::{Memory, Seq, index_of};
 use pb_lan::{Moved, PortState, Spanning, Step};
 use std::alloc::Global;
 
@@ -96,7 +96,7 @@ impl Bridge {
         ensures { IfOk result (λ moved. moved ≡ moved_by_setting self.now.plan self.now.number self.now.steps port up) }
     {
         let ports = &self.ports;
-        let place = port as usize - 1;
+        let place = index_of(port);
         let next = state_set(ports.at(place), up);
         moved_to(self.alloc, port, up, self.forwarding.states[place], next)
     }
@@ -110,7 +110,7 @@ impl Bridge {
         ensures { HasSet self.old port up self.new }
     {
         let ports = &self.ports;
-        let place = port as usize - 1;
+        let place = index_of(port);
         let next = state_set(ports.at(place), up);
         flush_unless(&mut self.forwarding.table, up, port);
         self.forwarding.states[place] = next;

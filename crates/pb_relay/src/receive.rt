@@ -25,7 +25,7 @@ use crate::load::Load;
 use crate::outcomes::newest_outcome;
 use crate::verdict::{Verdict, rule};
 use pb_fdb::Fdb;
-use pb_frame::{Learnt, destination_of, source_of};
+use pb_frame::{Learnt, destination_of, index_of, source_of};
 use pb_history::Steps;
 use pb_lan::{Item, Outcome, Reason, Step};
 
@@ -111,7 +111,7 @@ impl Bridge {
         ensures { as_ruling result ≡ ruling spanning_tree self.now.plan self.now.number self.now.steps port item.now }
     {
         let ports = &self.ports;
-        let place = port as usize - 1;
+        let place = index_of(port);
         rule(ports, place, self.forwarding.states[place], item)
     }
 
@@ -156,7 +156,7 @@ impl Bridge {
         ensures { HasTaken self.old port item result self.new }
     {
         let ports = &self.ports;
-        let local = ports.at(port as usize - 1);
+        let local = ports.at(index_of(port));
         match Load::new(self.alloc, ports, local, &item.wire) {
             Ok(load) => self.carry(port, item, vid, load),
             Err(_) => self.give_up(port, item),

@@ -5,32 +5,33 @@ use Rattle.pb_relay.proofs.BpduLemmas.{place_of, one_bpdu, sent_count, sent_keep
 use Rattle.pb_relay.proofs.CopyLemmas.{named-few}
 use Rattle.pb_relay.proofs.bpdus.queue_bpdus.Goals as goal
 
-pub overflow_sub-place : goal.overflow_sub-place
-overflow_sub-place c = (place_of c.args.address.0 c.args.sends.now c.loop-port.port-index c.loop-port-item.result
+pub index_of-place-requires : goal.index_of-place-requires
+index_of-place-requires c = (place_of c.args.address.0 c.args.sends.now c.loop-port.port-index c.loop-port-item.result
     c.loop-port-test.true c.loop-port-item.is c.requires.separate).0
 
 pub send-answer-requires : goal.send-answer-requires
 send-answer-requires c =
     let l = place_of c.args.address.0 c.args.sends.now c.loop-port.port-index c.loop-port-item.result
     c.loop-port-test.true c.loop-port-item.is c.requires.separate in
-    omega (arith, l.0, l.1, c.loop-port.invariant.count)
+    omega (arith, l.0, l.1, c.index_of-place.ensures, c.loop-port.invariant.count)
 
 pub loop-port-preserved : goal.loop-port-preserved
 loop-port-preserved c =
     let x = c.loop-port-item.result in
     let answer = c.send-answer.result in
+    let sent = rw c.index_of-place.ensures at c.send-answer.ensures in
     let more = one_bpdu c.args.backlog.now c.loop-port.backlog c.send-answer.new.backlog c.args.address.0
     c.args.sends.now c.loop-port.port-index x
     c.loop-port.room.dropped.items answer c.loop-port.room.queued.items c.loop-port-test.true c.loop-port-item.is
     c.requires.separate
     c.loop-port.invariant.copied c.loop-port.invariant.count c.loop-port.invariant.kept c.loop-port.invariant.queued
-    c.send-answer.ensures in
+    sent in
     let rooms = c.note_sent.ensures in
     record {
       copied = rw rooms.dropped more.0;
       queued = rw (rooms.dropped, rooms.queued) more.1;
-      count = sent_count _ _ _ _ answer c.send-answer.ensures ∙ c.loop-port.invariant.count;
-      kept = sent_keeps _ _ _ _ _ answer c.loop-port.invariant.kept c.send-answer.ensures;
+      count = sent_count _ _ _ _ answer sent ∙ c.loop-port.invariant.count;
+      kept = sent_keeps _ _ _ _ _ answer c.loop-port.invariant.kept sent;
       few = omega (
         arith,
         ap length rooms.dropped,

@@ -14,18 +14,18 @@ use Rattle.pb_relay.specs.declared.ports.Local.{Local}
 use Rattle.pb_relay.proofs.LoadLemmas.{kept_here}
 use Rattle.pb_relay.proofs.bridge.Bridge.moved_by_setting.Goals as goal
 
-pub overflow_sub-place : goal.overflow_sub-place
-overflow_sub-place c = (linked_there c.self.inside c.args.port c.self.invariant c.self.view_is c.requires).0
+pub index_of-place-requires : goal.index_of-place-requires
+index_of-place-requires c = (linked_there c.self.inside c.args.port c.self.invariant c.self.view_is c.requires).0
 
 pub at-requires : goal.at-requires
 at-requires c =
     let l = linked_there c.self.inside c.args.port c.self.invariant c.self.view_is c.requires in
-    omega (arith, l.0, l.1)
+    omega (arith, l.0, l.1, c.index_of-place.ensures)
 
 pub bounds-self-inside-place : goal.bounds-self-inside-place
 bounds-self-inside-place c =
     let l = linked_there c.self.inside c.args.port c.self.invariant c.self.view_is c.requires in
-    omega (arith, l.0, l.1)
+    omega (arith, l.0, l.1, c.index_of-place.ensures)
 
 pub returns : goal.returns
 returns c =
@@ -39,9 +39,10 @@ returns c =
     (ap (λ (ss : List PortState). get_or ss (c.args.port - 1) Discarding) c.self.invariant.1.kept_states
     ∙ at_port (state_after s.plan s.number s.steps.steps) c.args.port Discarding l.0 l.1)
     ∙ ap (λ (z : PortState). moved_to c.args.port c.args.up (state_after s.plan s.number s.steps.steps c.args.port) z)
-    (c.state_set-next.ensures ∙ ap (λ (z : Local). state_set z c.args.up) c.at.ensures
+    (c.state_set-next.ensures ∙ ap (λ (z : Local). state_set z c.args.up) (rw c.index_of-place.ensures at c.at.ensures)
     ∙ state_set_is s.plan s.number c.args.port (get_or s.ports (c.args.port - 1) ToNobody) c.args.up p
     (kept_here s.plan _ _ _ _ c.args.port c.self.invariant.0 l))
     ∙ moved_is s.plan s.number s.steps.steps c.args.port c.args.up
     ∙ ap (λ (v : BridgeView). moved_by_setting v.plan v.number v.steps c.args.port c.args.up) c.self.view_is in
-    subst (λ (m : Moved). IfOk c.moved_to.result (λ moved. moved ≡ m)) e c.moved_to.ensures
+    subst (λ (m : Moved). IfOk c.moved_to.result (λ moved. moved ≡ m)) e
+    (rw c.index_of-place.ensures at c.moved_to.ensures)

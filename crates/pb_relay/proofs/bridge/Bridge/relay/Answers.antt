@@ -17,18 +17,18 @@ use Rattle.pb_relay.proofs.Keeping.{used_there}
 use Rattle.pb_relay.proofs.LoadLemmas.{loaded, kept_here}
 use Rattle.pb_relay.proofs.bridge.Bridge.relay.Goals as goal
 
-pub overflow_sub-port : goal.overflow_sub-port
-overflow_sub-port c = (used_there c.self.inside c.args.port c.self.invariant c.self.view_is c.requires.used).0
+pub index_of-requires : goal.index_of-requires
+index_of-requires c = (used_there c.self.inside c.args.port c.self.invariant c.self.view_is c.requires.used).0
 
 pub at-local-requires : goal.at-local-requires
 at-local-requires c =
     let l = used_there c.self.inside c.args.port c.self.invariant c.self.view_is c.requires.used in
-    omega (arith, l.0, l.1)
+    omega (arith, l.0, l.1, c.index_of.ensures)
 
 pub new-requires : goal.new-requires
 new-requires c =
     let l = used_there c.self.inside c.args.port c.self.invariant c.self.view_is c.requires.used in
-    subst (λ (z : Local). IsLoadable z c.args.item.wire) (sym c.at-local.ensures)
+    subst (λ (z : Local). IsLoadable z c.args.item.wire) (sym (rw c.index_of.ensures at c.at-local.ensures))
     (loadable c.self.inside.plan (port_at c.self.inside.plan c.self.inside.number c.args.port)
     (get_or c.self.inside.ports (c.args.port - 1) ToNobody) _ c.args.item _ c.self.invariant.0.sound
     (sound_port c.self.inside.plan c.self.inside.number c.args.port c.self.invariant.0.sound)
@@ -45,8 +45,8 @@ carry-requires-clause-load c =
     (get_or c.self.inside.ports (c.args.port - 1) ToNobody) c.args.item.wire c.in-Ok.load c.self.invariant.0
     (kept_here c.self.inside.plan _ _ _ _ c.args.port c.self.invariant.0 l)
     (subst (λ (z : Local). IsLoad (list_any is_to_customer c.self.inside.ports)
-    (list_any is_to_bridge c.self.inside.ports) z c.args.item.wire c.in-Ok.load) c.at-local.ensures
-    c.in-Ok.ensures))
+    (list_any is_to_bridge c.self.inside.ports) z c.args.item.wire c.in-Ok.load)
+    (rw c.index_of.ensures at c.at-local.ensures) c.in-Ok.ensures))
 
 pub give_up-requires-clause-fits : goal.give_up-requires-clause-fits
 give_up-requires-clause-fits c =

@@ -17,18 +17,18 @@ use Rattle.pb_relay.proofs.TableLemmas.{table_flushed_or}
 use Rattle.pb_history.specs.StepLists.{with_step as steps_with}
 use Rattle.pb_relay.proofs.bridge.Bridge.set.Goals as goal
 
-pub overflow_sub-place : goal.overflow_sub-place
-overflow_sub-place c = (linked_there c.self.inside c.args.port c.self.invariant c.self.view_is c.requires.provider).0
+pub index_of-place-requires : goal.index_of-place-requires
+index_of-place-requires c = (linked_there c.self.inside c.args.port c.self.invariant c.self.view_is c.requires.provider).0
 
 pub at-requires : goal.at-requires
 at-requires c =
     let l = linked_there c.self.inside c.args.port c.self.invariant c.self.view_is c.requires.provider in
-    omega (arith, l.0, l.1)
+    omega (arith, l.0, l.1, c.index_of-place.ensures)
 
 pub bounds-self-inside-place : goal.bounds-self-inside-place
 bounds-self-inside-place c =
     let l = linked_there c.self.inside c.args.port c.self.invariant c.self.view_is c.requires.provider in
-    omega (arith, l.0, l.1)
+    omega (arith, l.0, l.1, c.index_of-place.ensures)
 
 pub invariant_of-self : goal.invariant_of-self
 invariant_of-self c =
@@ -39,7 +39,8 @@ invariant_of-self c =
     let l = linked_there s c.args.port c.self.invariant c.self.view_is c.requires.provider in
     let step : Step = Admin c.args.port c.args.up
     (moved_by_setting s.plan s.number s.steps.steps c.args.port c.args.up) in
-    grown s
+    rw c.index_of-place.ensures
+    (grown s
     (record s.forwarding {
       states = set s.forwarding.states (c.args.port - 1) c.state_set-next.result;
       table = c.flush_unless.new.table;
@@ -50,13 +51,13 @@ invariant_of-self c =
     (sym c.self.view_is))) refl refl
     (after_set s.plan s.number s.steps.steps s.forwarding.states s.forwarding.backlog.ports s.clock s.forwarding.table
     c.flush_unless.new.table c.args.port c.args.up c.state_set-next.result c.self.invariant.1 fixed p l
-    (c.state_set-next.ensures ∙ ap (λ (z : Local). state_set z c.args.up) c.at.ensures
+    (c.state_set-next.ensures ∙ ap (λ (z : Local). state_set z c.args.up) (rw c.index_of-place.ensures at c.at.ensures)
     ∙ state_set_is s.plan s.number c.args.port (get_or s.ports (c.args.port - 1) ToNobody) c.args.up p
     (kept_here s.plan _ _ _ _ c.args.port c.self.invariant.0 l))
     c.flush_unless.ensures)
     (rw c.flush_unless.ensures (table_flushed_or s.plan s.clock c.args.port c.args.up s.forwarding.table
     c.self.invariant.3))
-    (spanning_fixed _ _ _ _ _ step fixed c.self.invariant.4)
+    (spanning_fixed _ _ _ _ _ step fixed c.self.invariant.4))
 
 pub returns : goal.returns
 returns c =
