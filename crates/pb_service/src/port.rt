@@ -171,12 +171,10 @@ pub(crate) fn read_customers(
     limits: Limits,
     used: Vec<LocalPort>,
 ) -> Result<Customers, PlanFault>
-    requires limits { limits ≡ network_limits (table_view document.now) }
-    requires bridges { HasTables (table_view document.now) bridge_section }
-    requires services { HasTables (table_view document.now) service_section }
-    requires used { used.items ≡ flat_map (link_ports (names_of (table_view document.now) bridge_section))
-        (rows_of (table_view document.now) link_section) }
-    requires once { AreUsedOnce used.items }
+    requires document { (limits ≡ network_limits (table_view document.now))
+        × HasTables (table_view document.now) bridge_section × HasTables (table_view document.now) service_section }
+    requires used { (used.items ≡ flat_map (link_ports (names_of (table_view document.now) bridge_section))
+        (rows_of (table_view document.now) link_section)) × AreUsedOnce used.items }
     ensures ok { IfOk result (λ r. AllZip (IsReadPort (IsCustomerOf (names_of (table_view document.now) bridge_section)
         (names_of (table_view document.now) service_section)))
         (rows_of (table_view document.now) port_section) r.customers.items) }

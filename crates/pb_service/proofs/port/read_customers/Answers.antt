@@ -36,7 +36,7 @@ pub returns-in_err-spec-clause-err : goal.returns-in_err-spec-clause-err
 returns-in_err-spec-clause-err c =
     let rows = ap (map (λ t. table_view t.now)) c.as_slice-rows.ensures.value ∙ c.in_ok-rows.ensures.ok in
     let at = row_at (table_view c.args.document.now) Port _ _ _ _ rows c.loop-index-test.true c.index-rows-index.is in
-    stamp_passed (table_view c.args.document.now) _ c.args.limits c.loop-index.index _ _ c.requires.limits at
+    stamp_passed (table_view c.args.document.now) _ c.args.limits c.loop-index.index _ _ c.requires.document.0 at
     (err_from_is_err_and _ c.from_residual-in_err-spec.ensures.1) c.in_err-spec.ensures.err
 
 pub returns-in_err-check_row-clause-err : goal.returns-in_err-check_row-clause-err
@@ -50,7 +50,7 @@ returns-in_err-check_row-clause-err c =
 pub customer_of-requires-clause-bridges : goal.customer_of-requires-clause-bridges
 customer_of-requires-clause-bridges c =
     let names = ap (map (λ n. n.now)) c.as_slice-bridges.ensures.value ∙ c.in_ok-bridge_names.ensures.ok in
-    omega (arith, few_names _ Bridge _ c.requires.bridges names)
+    omega (arith, few_names _ Bridge _ c.requires.document.1.0 names)
 
 pub customer_of-requires-clause-services : goal.customer_of-requires-clause-services
 customer_of-requires-clause-services c =
@@ -58,7 +58,7 @@ customer_of-requires-clause-services c =
     omega (
       arith,
       few_names (table_view c.args.document.now) Service c.as_slice-services.result.now
-          c.requires.services names,
+          c.requires.document.1.1 names,
     )
 
 pub returns-in_err-customer-clause-err : goal.returns-in_err-customer-clause-err
@@ -79,7 +79,7 @@ returns-in_err-use_port-clause-err c =
     ∙ ap (λ z. c.args.used.items ++ flat_map (customer_ports (map (λ n. n.now) c.as_slice-bridges.result.now)) z)
     (first_rows (table_view c.args.document.now) Port c.as_slice-rows.result.now c.loop-index.index rows) in
     port_passed (table_view c.args.document.now) _ _ _ c.loop-index.index c.in_ok-customer.customer c.args.used.items
-    c.loop-index.used.items _ _ bridges at c.in_ok-customer.ensures.ok c.requires.used before
+    c.loop-index.used.items _ _ bridges at c.in_ok-customer.ensures.ok c.requires.used.0 before
     (err_from_is_err_and _ c.from_residual-in_err-use_port.ensures.1) c.in_err-use_port.ensures.err
 
 pub loop-index-init : goal.loop-index-init
@@ -88,7 +88,7 @@ loop-index-init c = record {
   specs = rw c.new-specs.ensures.items tt;
   used = sym (append-nil c.args.used.items);
   names = distinct_none same;
-  once = c.requires.once;
+  once = c.requires.used.1;
 }
 
 pub loop-index-preserved : goal.loop-index-preserved
@@ -126,7 +126,7 @@ returns-clause-ok c =
 pub returns-clause-specs : goal.returns-clause-specs
 returns-clause-specs c =
     let rows = ap (map (λ t. table_view t.now)) c.as_slice-rows.ensures.value ∙ c.in_ok-rows.ensures.ok in
-    specs_whole (table_view c.args.document.now) c.args.limits _ c.requires.limits
+    specs_whole (table_view c.args.document.now) c.args.limits _ c.requires.document.0
     (zip_all (IsPortSpecOf c.args.limits) (table_view c.args.document.now) Port c.as_slice-rows.result.now
     c.loop-index.index _ (omega arith) rows c.loop-index.invariant.specs)
 
@@ -141,5 +141,5 @@ returns-clause-once c =
     let rows = ap (map (λ t. table_view t.now)) c.as_slice-rows.ensures.value ∙ c.in_ok-rows.ensures.ok in
     let bridges = ap (map (λ n. n.now)) c.as_slice-bridges.ensures.value ∙ c.in_ok-bridge_names.ensures.ok in
     ports_all (table_view c.args.document.now) c.as_slice-rows.result.now c.loop-index.index _ c.args.used.items
-    c.loop-index.used.items (omega arith) rows bridges c.requires.used c.loop-index.invariant.used
+    c.loop-index.used.items (omega arith) rows bridges c.requires.used.0 c.loop-index.invariant.used
     c.loop-index.invariant.once
