@@ -50,7 +50,7 @@ returns-in_err-check_row-clause-err c =
 pub customer_of-requires-clause-bridges : goal.customer_of-requires-clause-bridges
 customer_of-requires-clause-bridges c =
     let names = ap (map (λ n. n.now)) c.as_slice-bridges.ensures.value ∙ c.in_ok-bridge_names.ensures.ok in
-    omega (arith, few_names _ Bridge _ c.requires.document.1.0 names)
+    omega (arith, few_names _ Bridge _ c.requires.document.1 names)
 
 pub customer_of-requires-clause-services : goal.customer_of-requires-clause-services
 customer_of-requires-clause-services c =
@@ -58,7 +58,7 @@ customer_of-requires-clause-services c =
     omega (
       arith,
       few_names (table_view c.args.document.now) Service c.as_slice-services.result.now
-          c.requires.document.1.1 names,
+          c.requires.document.2 names,
     )
 
 pub returns-in_err-customer-clause-err : goal.returns-in_err-customer-clause-err
