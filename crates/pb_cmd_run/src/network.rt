@@ -291,7 +291,7 @@ where
 /// started; `Write` where a write to `writer` failed. Nothing has run after `Path` and `Spawn`, and they come only
 /// where the file is a plan. After any fault but `Write`, nothing was written to `writer`; after `Write` nothing is
 /// said of what was. `Ports` is never answered, since a plan file has as many ports as its plan.
-pub fn run_network<R, G: Watch, W: Write, E: Write>(
+pub fn run_network<R, G: RunProgress, W: Write, E: Write>(
     rt: &R,
     alloc: Global,
     file: &[u8],

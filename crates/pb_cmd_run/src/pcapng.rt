@@ -45,7 +45,10 @@ pub(crate) fn show_pcapng<E: Write>(
 ) {
     for capture in files {
         let path = capture.read.as_str();
-        let is_refused = matches!(lasts.get(capture.place), Some(Last::Fault(PortFault::Magic)));
+        let is_refused = matches!(
+            lasts.get(capture.place),
+            Some(Last::Fault(PortFault::Magic))
+        );
         if !is_refused || !is_pcapng(rt, input_path(path)) {
             continue;
         }
