@@ -315,35 +315,32 @@ head -n 1 out/still.all >out/still.report
 says out/still.report "ended stopped"
 has_line out/errors '0 frames entered, 0 left, 0 copies refused, tick 0'
 
-# The client of a control socket, with a run whose port waits for a peer. Port 1 of the bridge is a customer's.
+# The client of a control socket, with a run whose port waits for a peer. Port 2 of West is a customer's.
 begin "control"
-rm -f out/wait.control
-plan 'kind = "socket"\nlisten = "out/wait.sock"' >out/wait.toml
-timeout 60 "$program" run --control out/wait.control out/wait.toml >out/wait.report &
+rm -f out/net.control
+timeout 60 "$program" run --control out/net.control examples/control.toml >out/wait.report &
 until [ -S out/wait.sock ] || ! kill -0 $! 2>/dev/null; do sleep 0.05; done
-runs out/wait.answer control out/wait.control counts -- down B1 1 -- tree
-ended 4
-says out/wait.answer "port C1 entered 0 left 0
-bridge B1 refused 0 ticks 0
-ok
-no such
-ok"
-printf 'stop\n' >out/wait.commands
-runs out/wait.answer control out/wait.control - <out/wait.commands
+printf 'counts\n' >out/wait.commands
+runs out/wait.answer control out/net.control - <out/wait.commands
 ended 0
-says out/wait.answer ok
+has_line out/wait.answer 'bridge West refused 0 ticks 0'
+runs out/control.expected control out/net.control counts -- down West 1 -- up West 2 -- stop
+ended 4
+same out/control.expected examples/control.expected
 wait
 says out/wait.report "ended stopped
-port C1 entered 0 left 0 filtered 0
+port east entered 0 left 0 filtered 0
+port west entered 0 left 0 filtered 0
+link trunk ab taken 0 lost 0 ba taken 0 lost 0
 forest yes"
-missing out/wait.control
+missing out/net.control
 missing out/wait.sock
 
 begin "control without a run"
-runs out/wait.answer control out/wait.control stop
+runs out/wait.answer control out/net.control stop
 ended 3
 says out/wait.answer "fault: path"
-says out/errors "out/wait.control: no run listens there: start one by \`pbnet run --control out/wait.control\`"
+says out/errors "out/net.control: no run listens there: start one by \`pbnet run --control out/net.control\`"
 
 begin "run sockets.toml"
 peer out/peer python3 examples/peer.py
