@@ -1,11 +1,19 @@
-use Rattle.std.proofs.Common.{◌≡◌, ◌<◌, ◌+◌, true, false, Some, refl, sym, ap, subst, ◌∙◌, slice_get, length, arith}
+use Rattle.std.proofs.Common.{◌≡◌, ◌<◌, ◌+◌, ◌-◌, ℕ, List, true, false, Some, refl, sym, ap, subst, ◌∙◌, slice_get}
+use Rattle.std.proofs.Common.{slice_index, length, arith}
 use Rattle.pb_lan.specs.Shapes.{is_active}
 use Rattle.pb_cmd_survive.proofs.WalkLemmas.{own_marks_join, own_marks_below, joins_after, closes_after, closes_past}
 use Rattle.pb_cmd_survive.proofs.WalkLemmas.{below_after, joined_by, end_number, link_there, tells_joined, MarkJoined}
-use Rattle.pb_cmd_survive.proofs.WalkLemmas.{CloseFirst}
+use Rattle.pb_cmd_survive.proofs.WalkLemmas.{CloseFirst, replaced_in}
 use Rattle.pb_cmd_survive.specs.Reach.{mark_at}
 use Rattle.pb_cmd_survive.proofs.marks.marks.Goals as goal
 use Rattle.pb_cmd_survive.proofs.marks.marks.Goals.{then-is_active, else-is_active}
+
+-- marks at equal indexes are replaced alike
+replaced_alike : (marks : List ℕ) (i j a b : ℕ) → i ≡ a - 1 → j ≡ b - 1
+    → replaced_in marks (slice_index marks j) (slice_index marks i)
+    ≡ replaced_in marks (mark_at marks b) (mark_at marks a)
+replaced_alike marks i j a b e f = ap (λ k. replaced_in marks (slice_index marks j) (slice_index marks k)) e
+    ∙ ap (λ k. replaced_in marks (slice_index marks k) (mark_at marks a)) f
 
 pub loop-link-init : goal.loop-link-init
 loop-link-init c = record {
@@ -48,7 +56,8 @@ loop-link-preserved c =
       | then-is_active w ↦
           let active : is_active plan shape vid link ≡ true = sym c.is_active.ensures ∙ w.if-is_active.true in
           let few = end_number plan c.requires i link here in
-          let is = w.marks-is ∙ w.join.ensures in
+          let is = w.marks-is ∙ w.join.ensures
+          ∙ replaced_alike marks _ _ link.a.bridge link.b.bridge w.index_of-into.ensures w.index_of-from.ensures in
           record {
             sound = subst (MarkJoined plan shape vid) (sym is)
                 (joins_after plan shape vid marks link.a.bridge link.b.bridge many few.0 few.1
