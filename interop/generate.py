@@ -41,6 +41,7 @@ def network_table(chance):
     sometimes(chance, 0.1, table, "tick_every", lambda: chance.choice([0, 7]))
     sometimes(chance, 0.05, table, "tick_ms", lambda: chance.choice([0, 5, 60000]))
     sometimes(chance, 0.03, table, "hold", lambda: chance.choice([0, 1, 1000000]))
+    sometimes(chance, 0.6 if table.get("spanning") == "rstp" else 0.02, table, "prompt", lambda: chance.random() < 0.7)
     return table
 
 
@@ -126,13 +127,15 @@ def plan(chance):
 
 
 def step_plan(chance):
-    """A plan that `step` accepts: with one clock at most, and a hold only beside a clock."""
+    """A plan that `step` accepts: one clock at most, a hold only beside a clock, prompt ports only under rstp."""
     document = plan(chance)
     network = document["network"]
     if network.get("tick_every"):
         network.pop("tick_ms", None)
     if not network.get("tick_every") and not network.get("tick_ms"):
         network.pop("hold", None)
+    if network.get("spanning") != "rstp":
+        network.pop("prompt", None)
     return document
 
 

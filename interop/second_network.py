@@ -108,14 +108,14 @@ class LocalPort:
 class Bridge(Place):
     def __init__(self, plan, row):
         super().__init__(plan.steps)
-        self.row, self.ring, self.tree = row, plan.ring, None
+        self.row, self.ring, self.tree, self.prompt = row, plan.ring, None, plan.prompt
         self.address = bytes.fromhex(row["address"].replace("-", ""))
         self.stations = Stations(plan.ageing)
         self.ports = {}
 
     def add_tree(self):
         ends = [(n, p.end.cost, p.end.priority) for n, p in self.ports.items() if p.link is not None]
-        self.tree = Tree(self.row["priority"], int.from_bytes(self.address, "big"), ends)
+        self.tree = Tree(self.row["priority"], int.from_bytes(self.address, "big"), ends, self.prompt)
         for port in self.ports.values():
             if port.link is not None:
                 port.state = DISCARDING

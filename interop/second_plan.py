@@ -34,6 +34,7 @@ class End:
 @dataclass
 class Plan:
     rstp: bool = False
+    prompt: bool = False
     ageing: int = 300
     ring: int = 64
     steps: int = UNLIMITED
@@ -104,6 +105,7 @@ KEYS = {
         ("tick_every", number(0, 1000000), 0),
         ("tick_ms", number(0, 60000), 0),
         ("hold", number(0, 1000000), 0),
+        ("prompt", (is_truth, lambda _: True), False),
     ],
     "bridge": [
         ("name", text(NAME), NONE),
@@ -182,12 +184,14 @@ def read_table(table, place, array):
     return values
 
 
-def look_at_clocks(row):
-    """Bridges tick by turns or by time, and frames are held back only where they tick."""
+def check_network(row):
+    """Bridges tick by turns or by time, frames are held back only if bridges tick, and ports are prompt only under rstp."""
     if row["tick_every"] and row["tick_ms"]:
         raise Fault("5 range network.tick_ms")
     if row["hold"] and not (row["tick_every"] or row["tick_ms"]):
         raise Fault("5 range network.hold")
+    if row["prompt"] and row["spanning"] != "rstp":
+        raise Fault("5 range network.prompt")
 
 
 def tables_of(document, array):
@@ -323,8 +327,8 @@ def read_plan(octets):
     if not isinstance(network, dict):
         raise Fault("4 kind network")
     row = read_table(network, "network", "network")
-    look_at_clocks(row)
-    plan = Plan(row["spanning"] == "rstp", row["ageing"], row["ring"], row["steps"])
+    check_network(row)
+    plan = Plan(row["spanning"] == "rstp", row["prompt"], row["ageing"], row["ring"], row["steps"])
     used = set()
     plan.bridges = read_bridges(document)
     plan.links = read_links(document, plan.bridges, used)

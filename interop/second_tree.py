@@ -61,8 +61,9 @@ class Change:
 
 
 class Tree:
-    def __init__(self, priority, address, ends):
+    def __init__(self, priority, address, ends, prompt=False):
         self.id = priority * 2**48 + address
+        self.prompt = prompt
         self.ports = {number: TreePort(number, cost, at) for number, cost, at in sorted(ends)}
         self.hello = 2
         self.root = self.root_vector()
@@ -161,10 +162,11 @@ class Tree:
     # Bringing into line
 
     def before(self):
-        return self.root, {number: (port.role, port.state) for number, port in self.ports.items()}
+        offer = self.root[:2], self.times()
+        return self.root, offer, {number: (port.role, port.state) for number, port in self.ports.items()}
 
     def settle(self, before, heard_at=None, message=None, stored=False):
-        old_root, old = before
+        old_root, old_offer, old = before
         change = Change()
         self.find_roles(old_root)
         wait = self.new_wait()
@@ -175,6 +177,10 @@ class Tree:
         for number, port in self.ports.items():
             if port.state != old[number][1]:
                 change.states[number] = port.state
+        if self.prompt and (self.root[:2], self.times()) != old_offer:
+            for number, port in self.ports.items():
+                if port.role == DESIGNATED and old[number][0] == DESIGNATED:
+                    port.due = True
         self.send(change)
         return change
 
@@ -233,15 +239,17 @@ class Tree:
                 port.sent, port.due = port.sent + 1, False
                 change.messages.append((number, self.message(port)))
 
-    def message(self, port):
+    def times(self):
         told = self.root_port()
-        times = (0, MAX_AGE, HELLO, FORWARD_DELAY)
-        if told:
-            info = told.info
-            times = (min(info.age + 256, 65535), info.max_age, info.hello, info.delay)
+        if not told:
+            return 0, MAX_AGE, HELLO, FORWARD_DELAY
+        info = told.info
+        return min(info.age + 256, 65535), info.max_age, info.hello, info.delay
+
+    def message(self, port):
         return Message(
             *self.designated(port),
-            *times,
+            *self.times(),
             role=ROLE_BITS[port.role],
             change=port.changing > 0,
             proposal=port.role == DESIGNATED and port.state != FORWARDING,

@@ -84,6 +84,7 @@ pub fn line_of(alloc: Global, bridges: u8) -> Result<Plan, Memory>
         services: Seq::from_vec(vec![in alloc; service]?),
         customers: Seq::from_vec(customers),
         spanning: Spanning::Fixed,
+        prompt: false,
         ageing: DEFAULT_AGEING,
         ring: 64,
         steps: 1_000_000,

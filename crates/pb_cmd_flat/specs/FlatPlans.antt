@@ -34,6 +34,7 @@ flat_plan ports = record {
   services = flat_service ∷ [];
   customers = flat_customers ports;
   spanning = Fixed;
+  prompt = false;
   ageing = default_ageing;
   ring = 64;
   steps = 18446744073709551615;

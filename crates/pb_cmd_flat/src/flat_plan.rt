@@ -78,6 +78,7 @@ pub(crate) fn flat_plan(alloc: Global, ports: u8) -> Result<Plan, Memory>
         services: Seq::from_vec(vec![in alloc; flat_service(alloc)?]?),
         customers: Seq::from_vec(flat_customers(alloc, ports)?),
         spanning: Spanning::Fixed,
+        prompt: false,
         ageing: DEFAULT_AGEING,
         ring: 64,
         steps: u64::MAX,

@@ -64,6 +64,7 @@ plan_with links = record {
   services = record { name = 114 ∷ []; vid = 100 } ∷ record { name = 98 ∷ []; vid = 200 } ∷ [];
   customers = customer_of 1 1 2 1 ∷ customer_of 2 2 2 1 ∷ customer_of 3 2 3 2 ∷ [];
   spanning = Fixed;
+  prompt = false;
   ageing = 300;
   ring = 64;
   steps = 1000000;
@@ -212,6 +213,7 @@ small = record {
   services = record { name = 114 ∷ []; vid = 100 } ∷ [];
   customers = customer_of 1 1 1 1 ∷ customer_of 2 1 2 1 ∷ customer_of 3 1 3 1 ∷ [];
   spanning = Fixed;
+  prompt = false;
   ageing = 300;
   ring = 64;
   steps = 1000000;

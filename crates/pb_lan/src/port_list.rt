@@ -1,6 +1,6 @@
 //! Local ports of a bridge, in an order.
 
-ghost use Rattle.std.specs.Prelude.{◌≡◌, ◌≤◌, ◌<◌, ◌++◌, ◌∷◌, [], length, nat_eq};
+ghost use Rattle.std.specs.Prelude.{◌≡◌, ◌≤◌, ◌<◌, ◌++◌, ◌∷◌, [], length, nat_eq, if◌then◌else◌};
 ghost use Rattle.std.specs.Cmp.Lexicographic.{pointwise, nat_list_eq_equiv};
 ghost use Rattle.std.specs.Cmp.{partial_equiv_from_equiv};
 
@@ -45,6 +45,16 @@ impl PortList {
     {
         self.ports[usize::from(self.count)] = port;
         self.count += 1;
+    }
+
+    /// Appends a port if it is wanted. Its place is written either way, which spares a branch that no processor can
+    /// foresee.
+    pub(crate) fn push_if(&mut self, port: u8, is_wanted: bool)
+        requires { length self.old < 16 }
+        ensures { self.new ≡ self.old ++ (if is_wanted then port ∷ [] else []) }
+    {
+        self.ports[usize::from(self.count)] = port;
+        self.count += u8::from(is_wanted);
     }
 
     /// The ports, in their order.

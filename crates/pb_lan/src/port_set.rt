@@ -91,9 +91,7 @@ impl PortSet {
             if rest == 0 {
                 return list;
             }
-            if rest % 2 == 1 {
-                list.push(port);
-            }
+            list.push_if(port, rest % 2 == 1);
             rest /= 2;
         }
         list

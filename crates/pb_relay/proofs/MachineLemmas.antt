@@ -50,9 +50,11 @@ id_is plan b =
     [ Some x ↦ refl | None ↦ refl ]
 
 -- a machine of these parts is the bridge's at its start
-pub starts : (plan : Plan) (b priority : ℕ) (address : List ℕ) (ports : List RstpPort) → priority ≡ priority_in plan b
-    → address ≡ address_in plan b → ports ≡ rstp_ports plan b
-    → start (bridge_id priority address) ports ≡ machine_at_start plan b
-starts plan b priority address ports p a r =
-    ap (λ n. start (bridge_id n address) ports) p ∙ ap (λ w. start (bridge_id (priority_in plan b) w) ports) a
-    ∙ ap (λ n. start n ports) (id_is plan b) ∙ ap (start (id_in plan b)) r
+pub starts : (plan : Plan) (b : ℕ) (prompt : Bool) (config : Config) → plan.prompt ≡ prompt
+    → config.priority ≡ priority_in plan b → config.address.0 ≡ address_in plan b → config.ports ≡ rstp_ports plan b
+    → start prompt (bridge_id config.priority config.address.0) config.ports ≡ machine_at_start plan b
+starts plan b prompt config is p a r =
+    ap (λ t. start t (bridge_id config.priority config.address.0) config.ports) (sym is)
+    ∙ ap (λ n. start plan.prompt (bridge_id n config.address.0) config.ports) p
+    ∙ ap (λ w. start plan.prompt (bridge_id (priority_in plan b) w) config.ports) a
+    ∙ ap (λ n. start plan.prompt n config.ports) (id_is plan b) ∙ ap (start plan.prompt (id_in plan b)) r

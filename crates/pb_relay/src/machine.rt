@@ -65,20 +65,32 @@ fn rstp_ports(alloc: Global, plan: &Plan, number: u8) -> Result<Vec<RstpPort>, M
     Ok(ports)
 }
 
-/// The spanning tree at its start.
+/// Returns the configuration of the bridge's spanning tree.
+fn config(alloc: Global, plan: &Plan, number: u8) -> Result<Config, Memory>
+    requires { IsNumber number (length plan.now.bridges) }
+    ensures priority { IfOk result (λ config. config.priority ≡ priority_in plan.now number) }
+    ensures address { IfOk result (λ config. config.address.0 ≡ address_in plan.now number) }
+    ensures ports { IfOk result (λ config. config.ports ≡ rstp_ports plan.now number) }
+{
+    let ports = rstp_ports(alloc, plan, number)?;
+    Ok(Config {
+        address: address(plan, number),
+        priority: priority(plan, number),
+        ports: Seq::from_vec(ports),
+    })
+}
+
+/// Returns the spanning tree at its start, prompt if the plan says so.
 fn started(alloc: Global, plan: &Plan, number: u8) -> Result<Rstp, Memory>
     requires { IsNumber number (length plan.now.bridges) }
     ensures { IfOk result (λ rstp. rstp ≡ machine_at_start plan.now number) }
 {
-    let ports = rstp_ports(alloc, plan, number)?;
-    Rstp::new(
-        alloc,
-        Config {
-            address: address(plan, number),
-            priority: priority(plan, number),
-            ports: Seq::from_vec(ports),
-        },
-    )
+    let config = config(alloc, plan, number)?;
+    if plan.prompt {
+        Rstp::prompt(alloc, config)
+    } else {
+        Rstp::new(alloc, config)
+    }
 }
 
 /// The spanning tree at its start, where the protocol decides the states.

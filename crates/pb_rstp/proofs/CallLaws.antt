@@ -26,12 +26,12 @@ pub hears : (old now : Machine) (port : ℕ) (m : Bpdu) (p : Port) (heard : Hear
     → old ≡ now → port_of old.ports port ≡ Some p → p.port_enabled ≡ true → heard ≡ heard_at m p
     → root ≡ root_vector old.id old.ports
     → ports ≡ moved_by (hearing root p.number m) old.ports
-    → settle now.id old.hello_when (Some heard) ports ≡ after_hear now port m
+    → settle now.prompt now.id old.hello_when (Some heard) ports ≡ after_hear now port m
 hears old now port m p heard root ports same found enabled h r e =
-    ap (λ x. settle now.id old.hello_when (Some x) ports) h
-    ∙ ap (λ ps. settle now.id old.hello_when (Some (heard_at m p)) ps)
+    ap (λ x. settle now.prompt now.id old.hello_when (Some x) ports) h
+    ∙ ap (λ ps. settle now.prompt now.id old.hello_when (Some (heard_at m p)) ps)
     (e ∙ ap (λ x. moved_by (hearing x p.number m) old.ports) r)
-    ∙ ap (λ (x : Machine). settle now.id x.hello_when (Some (heard_at m p))
+    ∙ ap (λ (x : Machine). settle now.prompt now.id x.hello_when (Some (heard_at m p))
     (moved_by (hearing (root_vector x.id x.ports) p.number m) x.ports)) same
     ∙ ap (λ b. if b then hear_at now m p else unchanged now) (sym enabled)
     ∙ ap (λ o. hear_by now m o) (sym (ap (λ (x : Machine). port_of x.ports port) (sym same) ∙ found))
@@ -40,30 +40,30 @@ hears old now port m p heard root ports same found enabled h r e =
 pub ticks : (old now : Machine) (fwd_delay : ℕ) (hello : Bool) (hello_when : ℕ) (ports : List Moving)
     → old ≡ now → fwd_delay ≡ fwd_delay_of old.ports → hello ≡ is_hello_tick old → hello_when ≡ hello_when_after old
     → ports ≡ moved_by (ticking fwd_delay hello) old.ports
-    → settle now.id hello_when None ports ≡ after_tick now
+    → settle now.prompt now.id hello_when None ports ≡ after_tick now
 ticks old now fwd_delay hello hello_when ports same d h l e =
-    ap (λ n. settle now.id n None ports) l
-    ∙ ap (λ ps. settle now.id (hello_when_after old) None ps)
+    ap (λ n. settle now.prompt now.id n None ports) l
+    ∙ ap (λ ps. settle now.prompt now.id (hello_when_after old) None ps)
     (e ∙ ap (λ x. moved_by (ticking x hello) old.ports) d ∙ ap
     (λ b. moved_by (ticking (fwd_delay_of old.ports) b) old.ports) h)
-    ∙ ap (λ (x : Machine). settle now.id (hello_when_after x) None
+    ∙ ap (λ (x : Machine). settle now.prompt now.id (hello_when_after x) None
     (moved_by (ticking (fwd_delay_of x.ports) (is_hello_tick x)) x.ports)) same
 
 -- a port is set otherwise than it was
 pub sets : (old now : Machine) (port : ℕ) (up : Bool) (p : Port) (ports : List Moving)
     → old ≡ now → port_of old.ports port ≡ Some p → is_same_setting p.port_enabled up ≡ false
     → ports ≡ moved_by (setting port up) old.ports
-    → settle now.id old.hello_when None ports ≡ after_admin now port up
+    → settle now.prompt now.id old.hello_when None ports ≡ after_admin now port up
 sets old now port up p ports same found other e =
-    ap (λ ps. settle now.id old.hello_when None ps) e
-    ∙ ap (λ (x : Machine). settle now.id x.hello_when None (moved_by (setting port up) x.ports)) same
+    ap (λ ps. settle now.prompt now.id old.hello_when None ps) e
+    ∙ ap (λ (x : Machine). settle now.prompt now.id x.hello_when None (moved_by (setting port up) x.ports)) same
     ∙ ap (λ b. if b then unchanged now else admin_at now port up) (sym other)
     ∙ ap (λ o. admin_by now port up o) (sym (ap (λ (x : Machine). port_of x.ports port) (sym same) ∙ found))
 
 -- what holds of a machine as it is, and of each call that changes its ports, holds after every cause
 pub after-each : (P : After → Type 0) (machine : Machine) → P (unchanged machine)
     → ((hello_when : ℕ) (heard : Option Heard) (change : Port → Port) → ((p : Port) → IsSamePort p (change p))
-    → P (settle machine.id hello_when heard (moved_by change machine.ports)))
+    → P (settle machine.prompt machine.id hello_when heard (moved_by change machine.ports)))
     → (cause : Cause) → P (after machine cause)
 after-each P machine same each Ticks =
     each (hello_when_after machine) None (ticking (fwd_delay_of machine.ports) (is_hello_tick machine))

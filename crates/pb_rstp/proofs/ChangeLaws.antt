@@ -183,14 +183,14 @@ state_sent k (x ∷ xs) = by_test (is_sending x.now) refl (state_sent k xs)
         by_number false et = state_of-cons k x.now (nows (with_sent xs)) false et ∙ rest
             ∙ sym (state_of-cons k x.now (nows xs) false et)
 
-pub settle_named : (id hello_when hello_when_now : ℕ) (heard : Option Heard) (ps : List Port) (ms : List Moving)
-    → AreMoving ps ms
+pub settle_named : (prompt : Bool) (id hello_when hello_when_now : ℕ) (heard : Option Heard) (ps : List Port)
+    (ms : List Moving) → AreMoving ps ms
     → AreRising 0 (map (λ p. p.number) ps)
-    → NamesChanges (record { id = id; ports = ps; hello_when = hello_when }) (settle id hello_when_now heard ms).machine
-    (settle id hello_when_now heard ms).change
-settle_named id hello_when hello_when_now heard ps ms h r =
-    let all = settled id heard ms in
-    let moving = moving_settled id heard ps ms h in
+    → NamesChanges (record { id = id; prompt = prompt; ports = ps; hello_when = hello_when })
+    (settle prompt id hello_when_now heard ms).machine (settle prompt id hello_when_now heard ms).change
+settle_named prompt id hello_when hello_when_now heard ps ms h r =
+    let all = settled prompt id heard ms in
+    let moving = moving_settled prompt id heard ps ms h in
     record {
       states = λ k. told k 0 ps all moving r ∙ ap (λ o. new_state (state_of ps k) o) (sym (state_sent k all));
       states_rise = rising-states 0 0 (omega arith) ps all moving r;

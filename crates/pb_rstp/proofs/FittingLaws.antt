@@ -63,17 +63,17 @@ sent-of P id all (p ∷ ps) (x ∷ xs) h a = by_test (is_sending x.now) (sent-of
     by_test false rest = rest
 sent-of _ id all _ _ h a = absurd h
 
-settle_of : (P : ℕ → Type 0) (id hello_when : ℕ) (heard : Option Heard) (ps : List Port) (ms : List Moving)
-    → AreMoving ps ms
+settle_of : (P : ℕ → Type 0) (prompt : Bool) (id hello_when : ℕ) (heard : Option Heard) (ps : List Port)
+    (ms : List Moving) → AreMoving ps ms
     → AllByRecursion (λ (p : Port). P p.number) ps → AreRising 0 (map (λ p. p.number) ps)
-    → IsOf P (settle id hello_when heard ms).change
-settle_of P id hello_when heard ps ms h a r =
-    let all = settled id heard ms in
-    let moving = moving_settled id heard ps ms h in
+    → IsOf P (settle prompt id hello_when heard ms).change
+settle_of P prompt id hello_when heard ps ms h a r =
+    let all = settled prompt id heard ms in
+    let moving = moving_settled prompt id heard ps ms h in
     record {
       states = states-of P ps all moving a;
       send = sent-of P id (nows all) ps all moving a;
-      rises = (settle_named id hello_when hello_when heard ps ms h r).send_rises;
+      rises = (settle_named prompt id hello_when hello_when heard ps ms h r).send_rises;
     }
 
 -- so it is of every cause
@@ -82,7 +82,7 @@ after_of : (P : ℕ → Type 0) (machine : Machine) (cause : Cause)
     → IsOf P (after machine cause).change
 after_of P machine cause a r =
     after-each (λ z. IsOf P z.change) machine (record { states = tt; send = tt; rises = (tt, tt) })
-    (λ hello_when heard change same. settle_of P machine.id hello_when heard machine.ports
+    (λ hello_when heard change same. settle_of P machine.prompt machine.id hello_when heard machine.ports
     (moved_by change machine.ports)
     (moving_by change same machine.ports) a r) cause
 

@@ -13,7 +13,9 @@ use Rattle.pb_rstp.specs.Roles.{offers, best, root_vector}
 use Rattle.pb_rstp.specs.Settling.{nows, each, with_roles, with_agreements, with_infos, held_back, state_by}
 use Rattle.pb_rstp.specs.Settling.{with_state, synced, agreeing, with_agreement_at, with_proposal, is_proposed}
 use Rattle.pb_rstp.specs.Settling.{is_root_agreeing, is_agreeing, with_tc_while, is_telling, is_sending}
-use Rattle.pb_rstp.specs.Settling.{after_sending, with_sent, in_line, settled}
+use Rattle.pb_rstp.specs.Settling.{after_sending, with_sent, in_line, settled, with_topology, befores, offer_by}
+use Rattle.pb_rstp.specs.Settling.{is_updated, with_update}
+use Rattle.pb_rstp.specs.declared.message.Offer.{Offer}
 use Rattle.pb_rstp.specs.declared.moving.Moving.{Moving}
 use Rattle.pb_rstp.specs.declared.moving.Heard.{Heard}
 use Rattle.pb_rstp.specs.Machine.{settle, moved_by}
@@ -73,6 +75,11 @@ quiet_tc_while : (heard : Option Heard) (ports : List Moving) (was now : Port) �
 quiet_tc_while heard ports was now h =
     quiet-if (is_telling heard ports now) (record now { tc_while = 3; new_info = true }) now h h
 
+quiet_update : (id : ℕ) (before after : Offer) (was now : Port) → IsQuiet now
+    → IsQuiet (with_update id before after was now)
+quiet_update id before after was now h =
+    quiet-if (is_updated id before after was now) (record now { new_info = true }) now h h
+
 quiet_sending : (was now : Port) → IsQuiet now → IsQuiet (after_sending was now)
 quiet_sending was now h =
     quiet-if (is_sending now) (record now { new_info = false; tx_count = now.tx_count + 1 }) now h h
@@ -87,32 +94,39 @@ quiet_proposal (Some heard) ports h =
     (each (synced (fwd_delay_of (nows ports))) ports) ports
     (quiet-each (synced (fwd_delay_of (nows ports))) (quiet_synced (fwd_delay_of (nows ports))) ports h) h)) h
 
-quiet_settled : (id : ℕ) (heard : Option Heard) (ports : List Moving)
-    → AllByRecursion IsQuiet (nows (with_sent (settled id heard ports)))
-quiet_settled id heard ports =
+quiet_settled : (prompt : Bool) (id : ℕ) (heard : Option Heard) (ports : List Moving)
+    → AllByRecursion IsQuiet (nows (with_sent (settled prompt id heard ports)))
+quiet_settled prompt id heard ports =
     let infos = with_infos (with_agreements id (with_roles id ports)) in
     let fourth : AllByRecursion IsQuiet (nows (in_line id ports)) = quiet_states (fwd_delay_of (nows infos)) infos in
     let proposed = with_proposal heard (in_line id ports) in
-    quiet-each after_sending quiet_sending (settled id heard ports)
-    (quiet-each (with_tc_while heard proposed) (quiet_tc_while heard proposed) proposed
-    (quiet_proposal heard (in_line id ports) fourth))
+    let reported = with_topology heard proposed in
+    let sixth : AllByRecursion IsQuiet (nows reported) =
+    quiet-each (with_tc_while heard proposed) (quiet_tc_while heard proposed) proposed
+    (quiet_proposal heard (in_line id ports) fourth) in
+    let before = offer_by id (befores reported) in
+    let after = offer_by id (nows reported) in
+    let seventh : AllByRecursion IsQuiet (nows (settled prompt id heard ports)) =
+    quiet-or prompt (each (with_update id before after) reported) reported
+    (quiet-each (with_update id before after) (quiet_update id before after) reported sixth) sixth in
+    quiet-each after_sending quiet_sending (settled prompt id heard ports) seventh
 
 -- Calls.
 
-pub settled_in_line : (id hello_when : ℕ) (heard : Option Heard) (ports : List Moving)
-    → IsInLine (settle id hello_when heard ports).machine
-settled_in_line id hello_when heard ports =
-    let h = roles_settled id heard ports in
+pub settled_in_line : (prompt : Bool) (id hello_when : ℕ) (heard : Option Heard) (ports : List Moving)
+    → IsInLine (settle prompt id hello_when heard ports).machine
+settled_in_line prompt id hello_when heard ports =
+    let h = roles_settled prompt id heard ports in
     record {
-      roles = roles_related id (root_vector id (nows ports)) (nows (with_sent (settled id heard ports)))
-          (nows (with_sent (settled id heard ports))) h.0 h.1;
-      states = quiet_settled id heard ports;
+      roles = roles_related id (root_vector id (nows ports)) (nows (with_sent (settled prompt id heard ports)))
+          (nows (with_sent (settled prompt id heard ports))) h.0 h.1;
+      states = quiet_settled prompt id heard ports;
     }
 
 pub calls_keep_line : (machine : Machine) (cause : Cause) → IsInLine machine → IsInLine (after machine cause).machine
 calls_keep_line machine cause h =
     after-each (λ a. IsInLine a.machine) machine h
-    (λ hello_when heard change same. settled_in_line machine.id hello_when heard (moved_by change machine.ports)) cause
+    (λ hello_when heard change same. settled_in_line machine.prompt machine.id hello_when heard (moved_by change machine.ports)) cause
 
 -- The start.
 
@@ -141,9 +155,9 @@ fresh_quiet : (ports : List RstpPort) → AllByRecursion IsQuiet (map fresh port
 fresh_quiet [] = tt
 fresh_quiet (p ∷ ps) = (λ none. refl, fresh_quiet ps)
 
-pub start_is_in_line : (id : ℕ) (ports : List RstpPort) → AllByRecursion (λ p. 1 ≤ p.port) ports
-    → IsInLine (start id ports)
-start_is_in_line id ports above = record {
+pub start_is_in_line : (prompt : Bool) (id : ℕ) (ports : List RstpPort) → AllByRecursion (λ p. 1 ≤ p.port) ports
+    → IsInLine (start prompt id ports)
+start_is_in_line prompt id ports above = record {
   roles = roles_related id (own_vector id) (map fresh ports) (map fresh ports) (own_root id ports)
       (fresh_roles id ports above);
   states = fresh_quiet ports;

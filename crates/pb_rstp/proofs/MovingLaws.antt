@@ -23,13 +23,14 @@ use Rattle.pb_rstp.specs.Vectors.{is_same_vector}
 use Rattle.pb_rstp.specs.Settling.{befores, nows, each, with_role, with_roles, without_agreement, with_agreements}
 use Rattle.pb_rstp.specs.Settling.{without_info, with_infos, with_state, with_states, synced, agreeing}
 use Rattle.pb_rstp.specs.Settling.{with_agreement_at, with_proposal, is_proposed, is_root_agreeing, with_tc_while}
-use Rattle.pb_rstp.specs.Settling.{with_topology, after_sending, with_sent, in_line, settled}
+use Rattle.pb_rstp.specs.Settling.{with_topology, after_sending, with_sent, in_line, settled, with_update}
+use Rattle.pb_rstp.specs.Settling.{with_updates, offer_by}
 use Rattle.pb_rstp.specs.declared.moving.Heard.{Heard}
 use Rattle.pb_rstp.specs.declared.moving.Moving.{Moving}
 use Rattle.pb_rstp.specs.declared.port.Port.{Port}
 use Rattle.pb_rstp.specs.declared.vector.Vector.{Vector}
 use Rattle.pb_rstp.proofs.RoleLaws.{Keeps, keeps-agreement, keeps-state, keeps-synced, keeps-agreeing, keeps-tc_while}
-use Rattle.pb_rstp.proofs.RoleLaws.{keeps-sending}
+use Rattle.pb_rstp.proofs.RoleLaws.{keeps-sending, keeps-update}
 
 pub is_same_port : (p : Port) → IsSamePort p p
 is_same_port p = record { number = refl; cost = refl; priority = refl }
@@ -129,11 +130,21 @@ pub moving_sixth : (heard : Option Heard) (ps : List Port) (ms : List Moving) �
 moving_sixth heard ps ms h =
     moving-each (with_tc_while heard ms) (λ was now. of_keeps now _ (keeps-tc_while heard ms was now)) ps ms h
 
-pub moving_settled : (id : ℕ) (heard : Option Heard) (ps : List Port) (ms : List Moving) → AreMoving ps ms
-    → AreMoving ps (settled id heard ms)
-moving_settled id heard ps ms h =
-    moving_sixth heard ps (with_proposal heard (in_line id ms))
-    (moving_fifth heard ps (in_line id ms) (moving_in_line id ps ms h))
+pub moving_seventh : (prompt : Bool) (id : ℕ) (ps : List Port) (ms : List Moving) → AreMoving ps ms
+    → AreMoving ps (with_updates prompt id ms)
+moving_seventh prompt id ps ms h =
+    let before = offer_by id (befores ms) in
+    let after = offer_by id (nows ms) in
+    moving-if prompt ps (each (with_update id before after) ms) ms
+    (moving-each (with_update id before after) (λ was now. of_keeps now _ (keeps-update id before after was now)) ps ms
+    h) h
+
+pub moving_settled : (prompt : Bool) (id : ℕ) (heard : Option Heard) (ps : List Port) (ms : List Moving)
+    → AreMoving ps ms → AreMoving ps (settled prompt id heard ms)
+moving_settled prompt id heard ps ms h =
+    moving_seventh prompt id ps (with_topology heard (with_proposal heard (in_line id ms)))
+    (moving_sixth heard ps (with_proposal heard (in_line id ms))
+    (moving_fifth heard ps (in_line id ms) (moving_in_line id ps ms h)))
 
 pub moving_sent : (ps : List Port) (ms : List Moving) → AreMoving ps ms → AreMoving ps (with_sent ms)
 moving_sent ps ms h = moving-each after_sending (λ was now. of_keeps now _ (keeps-sending was now)) ps ms h
@@ -188,22 +199,28 @@ found_pair _ k _ _ h all p q ep eq = absurd h
 
 -- The machine after a call.
 
-pub settle_same : (id hello_when hello_when_now : ℕ) (heard : Option Heard) (ps : List Port) (ms : List Moving)
-    → AreMoving ps ms
-    → IsSameBridge (record { id = id; ports = ps; hello_when = hello_when }) (settle id hello_when_now heard ms).machine
-settle_same id hello_when hello_when_now heard ps ms h =
-    let all = settled id heard ms in
-    record { id = refl; ports = moving_now ps (with_sent all) (moving_sent ps all (moving_settled id heard ps ms h)) }
+pub settle_same : (prompt : Bool) (id hello_when hello_when_now : ℕ) (heard : Option Heard) (ps : List Port)
+    (ms : List Moving) → AreMoving ps ms
+    → IsSameBridge (record { id = id; prompt = prompt; ports = ps; hello_when = hello_when })
+    (settle prompt id hello_when_now heard ms).machine
+settle_same prompt id hello_when hello_when_now heard ps ms h =
+    let all = settled prompt id heard ms in
+    record {
+      id = refl;
+      prompt = refl;
+      ports = moving_now ps (with_sent all) (moving_sent ps all (moving_settled prompt id heard ps ms h));
+    }
 
-pub settle_rising : (id : ℕ) (heard : Option Heard) (ps : List Port) (ms : List Moving) → AreMoving ps ms
-    → AreRising 0 (map (λ p. p.number) ps) → AreRising 0 (map (λ p. p.number) (nows (with_sent (settled id heard ms))))
-settle_rising id heard ps ms h r =
-    let all = settled id heard ms in
+pub settle_rising : (prompt : Bool) (id : ℕ) (heard : Option Heard) (ps : List Port) (ms : List Moving)
+    → AreMoving ps ms → AreRising 0 (map (λ p. p.number) ps)
+    → AreRising 0 (map (λ p. p.number) (nows (with_sent (settled prompt id heard ms))))
+settle_rising prompt id heard ps ms h r =
+    let all = settled prompt id heard ms in
     rising-same 0 0 refl ps (nows (with_sent all))
-    (moving_now ps (with_sent all) (moving_sent ps all (moving_settled id heard ps ms h))) r
+    (moving_now ps (with_sent all) (moving_sent ps all (moving_settled prompt id heard ps ms h))) r
 
 pub is_same_bridge : (m : Machine) → IsSameBridge m m
-is_same_bridge m = record { id = refl; ports = same_ports m.ports }
+is_same_bridge m = record { id = refl; prompt = refl; ports = same_ports m.ports }
 
 -- What each call does to a port at first.
 

@@ -15,7 +15,8 @@ use Rattle.pb_rstp.specs.Settling.{befores, nows, each, with_role, with_roles, w
 use Rattle.pb_rstp.specs.Settling.{without_info, with_infos, held_back, forwarding_if_agreed, designated_state}
 use Rattle.pb_rstp.specs.Settling.{state_by, with_state, synced, agreeing, with_agreement_at, with_proposal}
 use Rattle.pb_rstp.specs.Settling.{is_proposed, is_root_agreeing, is_agreeing, with_tc_while, is_telling}
-use Rattle.pb_rstp.specs.Settling.{after_sending, is_sending, with_sent, in_line, settled}
+use Rattle.pb_rstp.specs.Settling.{after_sending, is_sending, with_sent, in_line, settled, with_topology}
+use Rattle.pb_rstp.specs.Settling.{offer_by, is_updated, with_update}
 use Rattle.pb_rstp.specs.declared.moving.Heard.{Heard}
 use Rattle.pb_rstp.specs.declared.moving.Moving.{Moving}
 use Rattle.pb_rstp.specs.declared.port.Port.{Port}
@@ -171,10 +172,10 @@ held-fifth (Some heard) ms h =
     (held_back (fwd_delay_of (nows ms)) now) now (λ _ _. refl) f) ms h)
     h)) h
 
-held_settled : (id : ℕ) (heard : Option Heard) (ps : List Port) (ms : List Moving) → AreMoving ps ms
+held_settled : (prompt : Bool) (id : ℕ) (heard : Option Heard) (ps : List Port) (ms : List Moving) → AreMoving ps ms
     → AllByRecursion (λ p. (v : Vector) → IsRootVector id ps v → HasRole id v p p.role) ps
-    → AllByRecursion (λ m. IsHeld m.was m.now) (with_sent (settled id heard ms))
-held_settled id heard ps ms h roles =
+    → AllByRecursion (λ m. IsHeld m.was m.now) (with_sent (settled prompt id heard ms))
+held_settled prompt id heard ps ms h roles =
     let infos = with_infos (with_agreements id (with_roles id ms)) in
     let third : AllByRecursion (λ m. IsFree m.was m.now) infos = free-third (with_agreements id (with_roles id ms))
     (free-second id ps ms h roles) in
@@ -183,20 +184,28 @@ held_settled id heard ps ms h roles =
     (held-state (fwd_delay_of (nows infos))) infos third in
     let proposed = with_proposal heard (in_line id ms) in
     let fifth : AllByRecursion (λ m. IsHeld m.was m.now) proposed = held-fifth heard (in_line id ms) fourth in
-    let sixth : AllByRecursion (λ m. IsHeld m.was m.now) (settled id heard ms) =
+    let reported = with_topology heard proposed in
+    let sixth : AllByRecursion (λ m. IsHeld m.was m.now) reported =
     moved-all IsHeld IsHeld (with_tc_while heard proposed)
     (λ was now f. held-if (is_telling heard proposed now) was (record now { tc_while = 3; new_info = true }) now f f)
     proposed fifth in
+    let before = offer_by id (befores reported) in
+    let after = offer_by id (nows reported) in
+    let seventh : AllByRecursion (λ m. IsHeld m.was m.now) (settled prompt id heard ms) =
+    held-or prompt (each (with_update id before after) reported) reported
+    (moved-all IsHeld IsHeld (with_update id before after)
+    (λ was now f. held-if (is_updated id before after was now) was (record now { new_info = true }) now f f)
+    reported sixth) sixth in
     moved-all IsHeld IsHeld after_sending
     (λ was now f. held-if (is_sending now) was (record now { new_info = false; tx_count = now.tx_count + 1 }) now f f)
-    (settled id heard ms) sixth
+    (settled prompt id heard ms) seventh
 
-pub settle_old_roots : (id hello_when hello_when_now : ℕ) (heard : Option Heard) (ps : List Port) (ms : List Moving)
+pub settle_old_roots : (prompt : Bool) (id hello_when hello_when_now : ℕ) (heard : Option Heard) (ps : List Port) (ms : List Moving)
     → AreMoving ps ms
-    → IsInLine (record { id = id; ports = ps; hello_when = hello_when })
-    → HoldsOldRoots (record { id = id; ports = ps; hello_when = hello_when })
-    (settle id hello_when_now heard ms).machine
-settle_old_roots id hello_when hello_when_now heard ps ms h line number was is before after =
-    found_pair IsHeld number ps (with_sent (settled id heard ms))
-    (moving_sent ps (settled id heard ms) (moving_settled id heard ps ms h))
-    (held_settled id heard ps ms h line.roles) was is before after
+    → IsInLine (record { id = id; prompt = prompt; ports = ps; hello_when = hello_when })
+    → HoldsOldRoots (record { id = id; prompt = prompt; ports = ps; hello_when = hello_when })
+    (settle prompt id hello_when_now heard ms).machine
+settle_old_roots prompt id hello_when hello_when_now heard ps ms h line number was is before after =
+    found_pair IsHeld number ps (with_sent (settled prompt id heard ms))
+    (moving_sent ps (settled prompt id heard ms) (moving_settled prompt id heard ps ms h))
+    (held_settled prompt id heard ps ms h line.roles) was is before after

@@ -34,7 +34,8 @@ use Rattle.pb_rstp.proofs.MovingLaws.{rising-same, port_of-cons}
 pub calls_keep_bridges : CallsKeepBridges
 calls_keep_bridges machine cause =
     after-each (λ a. IsSameBridge machine a.machine) machine (is_same_bridge machine)
-    (λ hello_when heard change same. settle_same machine.id machine.hello_when hello_when heard machine.ports
+    (λ hello_when heard change same. settle_same machine.prompt machine.id machine.hello_when hello_when heard
+    machine.ports
     (moved_by change machine.ports) (moving_by change same machine.ports)) cause
 
 same_ports-trans : (ps qs rs : List Port) → AreSamePorts ps qs → AreSamePorts qs rs → AreSamePorts ps rs

@@ -14,6 +14,8 @@ use Rattle.pb_rstp.specs.Settling.{nows, each, with_role, with_roles, without_ag
 use Rattle.pb_rstp.specs.Settling.{without_info, with_infos, held_back, forwarding_if_agreed, state_by, with_state}
 use Rattle.pb_rstp.specs.Settling.{synced, agreeing, with_proposal, is_proposed, is_root_agreeing, is_agreeing}
 use Rattle.pb_rstp.specs.Settling.{with_tc_while, is_telling, is_sending, after_sending, with_sent, in_line, settled}
+use Rattle.pb_rstp.specs.Settling.{with_topology, befores, offer_by, is_updated, with_update}
+use Rattle.pb_rstp.specs.declared.message.Offer.{Offer}
 use Rattle.pb_rstp.specs.declared.moving.Moving.{Moving}
 use Rattle.pb_rstp.specs.declared.moving.Heard.{Heard}
 use Rattle.pb_rstp.specs.declared.vector.Vector.{Vector}
@@ -322,11 +324,20 @@ roles-fifth id root (Some heard) ports h =
     (roles-if id root (list_any (is_root_agreeing heard.port) (nows ports)) _ ports
     (roles-each id root (synced (fwd_delay_of (nows ports))) (keeps-synced (fwd_delay_of (nows ports))) ports h) h)) h
 
--- sixth and seventh
+-- sixth to eighth
 pub keeps-tc_while : (heard : Option Heard) (ports : List Moving) (was now : Port)
     → Keeps now (with_tc_while heard ports was now)
 keeps-tc_while heard ports was now =
     keeps-if (is_telling heard ports now) now _ now
+    (record {
+      seen = record { number = refl; cost = refl; priority = refl; port_enabled = refl; info = refl };
+      role = refl;
+    })
+    (keeps_all now)
+
+pub keeps-update : (id : ℕ) (before after : Offer) (was now : Port) → Keeps now (with_update id before after was now)
+keeps-update id before after was now =
+    keeps-if (is_updated id before after was now) now _ now
     (record {
       seen = record { number = refl; cost = refl; priority = refl; port_enabled = refl; info = refl };
       role = refl;
@@ -342,10 +353,10 @@ keeps-sending was now =
     })
     (keeps_all now)
 
--- all seven
-pub roles_settled : (id : ℕ) (heard : Option Heard) (ports : List Moving)
-    → HaveRoles id (root_vector id (nows ports)) (with_sent (settled id heard ports))
-roles_settled id heard ports =
+-- all eight
+pub roles_settled : (prompt : Bool) (id : ℕ) (heard : Option Heard) (ports : List Moving)
+    → HaveRoles id (root_vector id (nows ports)) (with_sent (settled prompt id heard ports))
+roles_settled prompt id heard ports =
     let root = root_vector id (nows ports) in
     let first = roles-first id ports in
     let second = roles-second id root (with_roles id ports) first in
@@ -355,9 +366,15 @@ roles_settled id heard ports =
     roles-each id root (with_state (fwd_delay_of (nows infos))) (keeps-state (fwd_delay_of (nows infos))) infos third in
     let fifth = roles-fifth id root heard (in_line id ports) fourth in
     let proposed = with_proposal heard (in_line id ports) in
-    let sixth : HaveRoles id root (settled id heard ports) =
+    let reported = with_topology heard proposed in
+    let sixth : HaveRoles id root reported =
     roles-each id root (with_tc_while heard proposed) (keeps-tc_while heard proposed) proposed fifth in
-    roles-each id root after_sending keeps-sending (settled id heard ports) sixth
+    let before = offer_by id (befores reported) in
+    let after = offer_by id (nows reported) in
+    let seventh : HaveRoles id root (settled prompt id heard ports) =
+    roles-if id root prompt _ reported
+    (roles-each id root (with_update id before after) (keeps-update id before after) reported sixth) sixth in
+    roles-each id root after_sending keeps-sending (settled prompt id heard ports) seventh
 
 -- Roles as a relation.
 

@@ -23,7 +23,7 @@ address : ℕ → List ℕ
 address n = 2 ∷ 0 ∷ 0 ∷ 0 ∷ 0 ∷ n ∷ []
 
 bridge : ℕ → Machine
-bridge n = start (bridge_id 32768 (address n)) (record { port = 1; cost = 20000; priority = 128 } ∷ [])
+bridge n = start false (bridge_id 32768 (address n)) (record { port = 1; cost = 20000; priority = 128 } ∷ [])
 
 -- the octets of each BPDU of a change, by port
 wires : ℕ → Change → List (List ℕ)
@@ -155,6 +155,7 @@ plan = record {
   services = [];
   customers = [];
   spanning = Rstp;
+  prompt = false;
   ageing = 300;
   ring = 64;
   steps = 1000000;

@@ -32,9 +32,10 @@ AreMoving [] (m ∷ ms) = ⊥
 AreMoving (p ∷ ps) [] = ⊥
 AreMoving (p ∷ ps) (m ∷ ms) = ((m.was ≡ p) × IsSamePort p m.now) × AreMoving ps ms
 
--- a call changes no bridge, and no port's number, cost or priority
+-- a call changes no bridge's identifier, nor whether it is prompt, and no port's number, cost or priority
 pub record IsSameBridge (before after : Machine) : Type 0 where
   pub id : after.id ≡ before.id
+  pub prompt : after.prompt ≡ before.prompt
   pub ports : AreSamePorts before.ports after.ports
 
 -- a port that was the Root port and isn't any more is Discarding

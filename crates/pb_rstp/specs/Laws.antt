@@ -1,5 +1,5 @@
 -- Statements about the machine.
-use Rattle.std.specs.Prelude.{◌≡◌, ℕ, ◌≤◌, List, true, false}
+use Rattle.std.specs.Prelude.{◌≡◌, ℕ, ◌≤◌, Bool, List, true, false}
 use Rattle.std.specs.List.{AllByRecursion}
 use Rattle.pb_lan.specs.Rules.{Cause}
 use Rattle.pb_rstp.specs.Ports.{Machine, start, is_root_or_designated, is_discarding}
@@ -19,7 +19,9 @@ pub record IsInLine (machine : Machine) : Type 0 where
 
 -- so it is at the start
 abbrev pub StartIsInLine : Type 0
-StartIsInLine = (id : ℕ) (ports : List RstpPort) → AllByRecursion (λ p. 1 ≤ p.port) ports → IsInLine (start id ports)
+StartIsInLine =
+    (prompt : Bool) (id : ℕ) (ports : List RstpPort) → AllByRecursion (λ p. 1 ≤ p.port) ports
+    → IsInLine (start prompt id ports)
 
 -- and after every call
 abbrev pub CallsKeepLine : Type 0

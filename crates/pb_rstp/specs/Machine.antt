@@ -32,15 +32,15 @@ abbrev pub moved_by : (Port → Port) → List Port → List Moving
 moved_by change ports = map (moving change) ports
 
 -- each port with new_info sends
-abbrev pub finished : ℕ → ℕ → Option Heard → List Moving → After
-finished id hello_when heard ports = record {
-  machine = record { id = id; ports = nows (with_sent ports); hello_when = hello_when };
+abbrev pub finished : Bool → ℕ → ℕ → Option Heard → List Moving → After
+finished prompt id hello_when heard ports = record {
+  machine = record { id = id; prompt = prompt; ports = nows (with_sent ports); hello_when = hello_when };
   change = change_of id heard ports;
 }
 
 -- all is brought into line, and each port with new_info sends
-abbrev pub settle : ℕ → ℕ → Option Heard → List Moving → After
-settle id hello_when heard ports = finished id hello_when heard (settled id heard ports)
+abbrev pub settle : Bool → ℕ → ℕ → Option Heard → List Moving → After
+settle prompt id hello_when heard ports = finished prompt id hello_when heard (settled prompt id heard ports)
 
 -- A BPDU is heard.
 
@@ -70,7 +70,7 @@ heard_at m p = record { port = p.number; bpdu = m; stored = is_stored m p }
 
 abbrev pub hear_at : Machine → Bpdu → Port → After
 hear_at machine m p =
-    settle machine.id machine.hello_when (Some (heard_at m p))
+    settle machine.prompt machine.id machine.hello_when (Some (heard_at m p))
     (moved_by (hearing (root_vector machine.id machine.ports) p.number m) machine.ports)
 
 -- nothing changes and nothing is sent
@@ -131,7 +131,7 @@ hello_when_after machine = if is_hello_tick machine then 2 else machine.hello_wh
 
 abbrev pub after_tick : Machine → After
 after_tick machine =
-    settle machine.id (hello_when_after machine) None
+    settle machine.prompt machine.id (hello_when_after machine) None
     (moved_by (ticking (fwd_delay_of machine.ports) (is_hello_tick machine)) machine.ports)
 
 -- A port is enabled or disabled.
@@ -152,7 +152,8 @@ abbrev pub setting : ℕ → Bool → Port → Port
 setting port up p = if p.number == port then with_admin up p else p
 
 abbrev pub admin_at : Machine → ℕ → Bool → After
-admin_at machine port up = settle machine.id machine.hello_when None (moved_by (setting port up) machine.ports)
+admin_at machine port up =
+    settle machine.prompt machine.id machine.hello_when None (moved_by (setting port up) machine.ports)
 
 abbrev pub is_same_setting : Bool → Bool → Bool
 is_same_setting true up = up

@@ -39,6 +39,12 @@ times_by (Some info) = record {
   forward_delay = info.forward_delay;
 }
 
+-- the times are the same
+abbrev pub is_same_times : Times → Times → Bool
+is_same_times s t =
+    s.message_age == t.message_age && s.max_age == t.max_age && s.hello_time == t.hello_time
+    && s.forward_delay == t.forward_delay
+
 -- the BPDU of a port, by the bridge, its root vector and its times (clause 17.21.20)
 abbrev pub message : ℕ → Vector → Times → Port → Bpdu
 message id root times p = record {

@@ -15,6 +15,7 @@ use Rattle.pb_rstp.specs.declared.role.Role.TheVariants.{Disabled, Root, Designa
 
 pub record Machine : Type 0 where
   pub id : ℕ
+  pub prompt : Bool
   pub ports : List Port
   pub hello_when : ℕ
 
@@ -96,6 +97,6 @@ fresh p = record {
   new_info = true;
 }
 
--- the machine at the start
-abbrev pub start : ℕ → List RstpPort → Machine
-start id ports = record { id = id; ports = map fresh ports; hello_when = 2 }
+-- the machine at the start: prompt, or not
+abbrev pub start : Bool → ℕ → List RstpPort → Machine
+start prompt id ports = record { id = id; prompt = prompt; ports = map fresh ports; hello_when = 2 }

@@ -71,7 +71,7 @@ abbrev pub address_in : Plan → ℕ → List ℕ
 address_in plan bridge = unwrap_or (option_map (λ b. b.address.0) (numbered plan.bridges bridge)) []
 
 abbrev pub machine_at_start : Plan → ℕ → Machine
-machine_at_start plan bridge = start (id_in plan bridge) (rstp_ports plan bridge)
+machine_at_start plan bridge = start plan.prompt (id_in plan bridge) (rstp_ports plan bridge)
 
 -- the machine of a bridge of the plan after the bridge's steps
 abbrev pub machine_of : Plan → ℕ → List Step → Machine

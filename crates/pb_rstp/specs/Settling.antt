@@ -7,11 +7,13 @@ use Rattle.pb_lan.specs.Rules.{from_to}
 use Rattle.pb_lan.specs.declared.shape.PortState.{PortState}
 use Rattle.pb_lan.specs.declared.shape.PortState.TheVariants.{Discarding, Forwarding}
 use Rattle.pb_rstp.specs.Vectors.{is_same_vector}
-use Rattle.pb_rstp.specs.Ports.{is_root, is_designated, is_root_or_designated, is_discarding, fwd_delay_of}
+use Rattle.pb_rstp.specs.Ports.{is_root, is_designated, is_root_or_designated, is_discarding, fwd_delay_of, root_info}
+use Rattle.pb_rstp.specs.Ports.{designated_vector}
 use Rattle.pb_lan.specs.Shapes.{is_forwarding}
 use Rattle.pb_rstp.specs.declared.port.Port.{Port}
 use Rattle.pb_rstp.specs.Roles.{root_vector, role_by}
-use Rattle.pb_rstp.specs.Messages.{message_of}
+use Rattle.pb_rstp.specs.Messages.{message_of, times_by, is_same_times}
+use Rattle.pb_rstp.specs.declared.message.Offer.{Offer}
 use Rattle.pb_rstp.specs.declared.change.Change.{Change}
 use Rattle.pb_rstp.specs.declared.moving.Heard.{Heard}
 use Rattle.pb_rstp.specs.declared.moving.Moving.{Moving}
@@ -151,7 +153,32 @@ with_tc_while heard ports was now =
 abbrev pub with_topology : Option Heard → List Moving → List Moving
 with_topology heard ports = each (with_tc_while heard ports) ports
 
--- seventh: each enabled port with new_info sends a BPDU, if tx_count is below TxHoldCount (clauses 17.13.12 and 17.26)
+-- seventh, at a prompt bridge: a port that stays Designated sends if its vector or its times are not what they were
+-- before the call (updtRolesTree, clause 17.21.25, and state UPDATE of clause 17.27)
+
+-- the root vector and the times of a bridge's BPDUs
+abbrev pub offer_by : ℕ → List Port → Offer
+offer_by id ports = record { root = root_vector id ports; times = times_by (root_info ports) }
+
+-- the port's vector is the same, and so are the times
+abbrev pub is_same_offer : ℕ → Offer → Port → Offer → Port → Bool
+is_same_offer id before was after now =
+    is_same_vector (designated_vector id before.root was) (designated_vector id after.root now)
+    && is_same_times before.times after.times
+
+abbrev pub is_updated : ℕ → Offer → Offer → Port → Port → Bool
+is_updated id before after was now =
+    is_designated was.role && is_designated now.role && not (is_same_offer id before was after now)
+
+abbrev pub with_update : ℕ → Offer → Offer → Port → Port → Port
+with_update id before after was now =
+    if is_updated id before after was now then record now { new_info = true } else now
+
+abbrev pub with_updates : Bool → ℕ → List Moving → List Moving
+with_updates prompt id ports =
+    if prompt then each (with_update id (offer_by id (befores ports)) (offer_by id (nows ports))) ports else ports
+
+-- eighth: each enabled port with new_info sends a BPDU, if tx_count is below TxHoldCount (clauses 17.13.12 and 17.26)
 abbrev pub is_sending : Port → Bool
 is_sending now = now.port_enabled && now.new_info && nat_lt now.tx_count 6
 
@@ -166,8 +193,8 @@ abbrev pub in_line : ℕ → List Moving → List Moving
 in_line id ports = with_states (with_infos (with_agreements id (with_roles id ports)))
 
 -- before the BPDUs are sent
-abbrev pub settled : ℕ → Option Heard → List Moving → List Moving
-settled id heard ports = with_topology heard (with_proposal heard (in_line id ports))
+abbrev pub settled : Bool → ℕ → Option Heard → List Moving → List Moving
+settled prompt id heard ports = with_updates prompt id (with_topology heard (with_proposal heard (in_line id ports)))
 
 -- what the call tells, of the ports before the BPDUs are sent
 abbrev pub state_changes : List Moving → List (ℕ × PortState)

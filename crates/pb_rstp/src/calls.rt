@@ -35,14 +35,15 @@ struct Settled {
 /// Returns the ports after all is brought into line and the BPDUs are sent, and the changes.
 fn sent(
     alloc: Global,
+    prompt: bool,
     id: u64,
     heard: Option<Heard>,
     ports: &[Moving],
 ) -> Result<(Vec<Port>, Change), Memory>
-    ensures ports { IfOk result (λ s. s.0.items ≡ nows (with_sent (settled id heard ports.now))) }
-    ensures change { IfOk result (λ s. s.1 ≡ change_of id heard (settled id heard ports.now)) }
+    ensures ports { IfOk result (λ s. s.0.items ≡ nows (with_sent (settled prompt id heard ports.now))) }
+    ensures change { IfOk result (λ s. s.1 ≡ change_of id heard (settled prompt id heard ports.now)) }
 {
-    let settled = settled(alloc, id, heard, ports)?;
+    let settled = settled(alloc, prompt, id, heard, ports)?;
     let sent = with_sent(alloc, &settled)?;
     let ports = nows(alloc, &sent)?;
     Ok((ports, change_of(alloc, id, heard, &settled)?))
@@ -58,13 +59,19 @@ fn told_of(alloc: Global, ports: &[Port]) -> Result<(Vec<(u8, Role)>, Vec<(u8, P
 }
 
 /// Brings all into line.
-fn settle(alloc: Global, id: u64, heard: Option<Heard>, ports: &[Moving]) -> Result<Settled, Memory>
-    ensures ports { IfOk result (λ s. s.ports.items ≡ nows (with_sent (settled id heard ports.now))) }
+fn settle(
+    alloc: Global,
+    prompt: bool,
+    id: u64,
+    heard: Option<Heard>,
+    ports: &[Moving],
+) -> Result<Settled, Memory>
+    ensures ports { IfOk result (λ s. s.ports.items ≡ nows (with_sent (settled prompt id heard ports.now))) }
     ensures roles { IfOk result (λ s. s.roles.items ≡ roles_of s.ports.items) }
     ensures states { IfOk result (λ s. s.states.items ≡ states_of s.ports.items) }
-    ensures change { IfOk result (λ s. s.change ≡ change_of id heard (settled id heard ports.now)) }
+    ensures change { IfOk result (λ s. s.change ≡ change_of id heard (settled prompt id heard ports.now)) }
 {
-    let (ports, change) = sent(alloc, id, heard, ports)?;
+    let (ports, change) = sent(alloc, prompt, id, heard, ports)?;
     let (roles, states) = told_of(alloc, &ports)?;
     Ok(Settled {
         ports,
@@ -104,15 +111,15 @@ impl Rstp {
         ports: &[Moving],
     ) -> Result<Change, Memory>
         requires { AreMoving self.old.ports ports.now }
-        ensures ok { OnOk result (self.new ≡ (settle self.old.id hello_when heard ports.now).machine) }
-        ensures change { IfOk result (λ change. change ≡ (settle self.old.id hello_when heard ports.now).change) }
+        ensures ok { OnOk result (self.new ≡ (settle self.old.prompt self.old.id hello_when heard ports.now).machine) }
+        ensures change { IfOk result (λ change. change ≡ (settle self.old.prompt self.old.id hello_when heard ports.now).change) }
         ensures same { OnOk result (IsSameBridge self.old self.new) }
         ensures old_roots { OnOk result (HoldsOldRoots self.old self.new) }
         ensures named { IfOk result (λ change. NamesChanges self.old self.new change) }
         ensures in_line { IsInLine self.new }
         ensures err { OnErr result (self.new ≡ self.old) }
     {
-        let settled = settle(self.alloc, self.id, heard, ports)?;
+        let settled = settle(self.alloc, self.prompt, self.id, heard, ports)?;
         self.ports = settled.ports;
         self.roles = settled.roles;
         self.states = settled.states;

@@ -2,7 +2,8 @@
 
 ghost use Rattle.std.specs.Prelude.{◌≡◌};
 ghost use Rattle.pb_rstp.specs.Messages.{times_by, message, message_of, is_from_designated, is_agreement, told, known};
-ghost use Rattle.pb_rstp.specs.Messages.{is_superior, is_young, info_of};
+ghost use Rattle.pb_rstp.specs.Messages.{is_superior, is_young, info_of, is_same_times};
+ghost use Rattle.pb_rstp.specs.Settling.{offer_by, is_same_offer};
 ghost use Rattle.pb_rstp.specs.Vectors.{is_before};
 
 use crate::port::{Info, Port, is_discarding, is_forwarding, root_info};
@@ -17,6 +18,50 @@ pub(crate) struct Times {
     pub(crate) max_age: u16,
     pub(crate) hello_time: u16,
     pub(crate) forward_delay: u16,
+}
+
+impl Times {
+    /// Returns whether no time differs.
+    fn is_same(&self, other: &Times) -> bool
+        ensures { result ≡ is_same_times self.now other.now }
+    {
+        self.message_age == other.message_age
+            && self.max_age == other.max_age
+            && self.hello_time == other.hello_time
+            && self.forward_delay == other.forward_delay
+    }
+}
+
+/// What the Designated ports of a bridge offer: the root vector and the times of their BPDUs.
+#[derive(Clone, Copy, PartialEq, Eq, Debug)]
+pub(crate) struct Offer {
+    pub(crate) root: Vector,
+    pub(crate) times: Times,
+}
+
+/// Returns what the Designated ports of a bridge with these ports offer.
+pub(crate) fn offer_by(id: u64, ports: &[Port]) -> Offer
+    ensures { result ≡ offer_by id ports.now }
+{
+    Offer {
+        root: root_vector(id, ports),
+        times: times_by(root_info(ports)),
+    }
+}
+
+/// Returns whether a port offers the same vector and the same times before and after a call.
+pub(crate) fn is_same_offer(
+    id: u64,
+    before: &Offer,
+    was: &Port,
+    after: &Offer,
+    now: &Port,
+) -> bool
+    ensures { result ≡ is_same_offer id before.now was.now after.now now.now }
+{
+    let old = was.designated_vector(id, &before.root);
+    let new = now.designated_vector(id, &after.root);
+    old.is_same(&new) && before.times.is_same(&after.times)
 }
 
 /// Returns the root's own times, or the stored times with a Message Age one second higher (IEEE 802.1D-2004 clause

@@ -96,7 +96,7 @@ fn with_agreement_at(alloc: Global, number: u8, ports: &[Moving]) -> Result<Vec<
     }
 }
 
-/// Agrees to a stored proposal: step 5 of 7.
+/// Agrees to a stored proposal: step 5 of 8.
 pub(crate) fn with_proposal(
     alloc: Global,
     heard: Option<Heard>,

@@ -20,13 +20,15 @@ use std::marker::Model;
 
 /// The rapid spanning tree protocol at one bridge (IEEE 802.1D-2004 clause 17, in a profile).
 ///
-/// Contracts see the bridge's identifier, the variables of each port, and `hello_when`. Each port always has the role
+/// Contracts see the bridge's identifier, whether it is prompt, the variables of each port, and `hello_when`. Each port always has the role
 /// that follows from the root vector, and only Root and Designated ports do more than discard.
 #[derive(Drop)]
 pub struct Rstp {
     pub(crate) alloc: Global,
     /// The bridge's identifier.
     pub(crate) id: u64,
+    /// A port that stays Designated sends as soon as what it offers changes.
+    pub(crate) prompt: bool,
     pub(crate) ports: Vec<Port>,
     /// Ticks until the next periodic BPDUs: helloWhen (IEEE 802.1D-2004 clause 17.17.3), one for all ports.
     pub(crate) hello_when: u8,
@@ -42,10 +44,10 @@ impl Model for Rstp {
 
     ghost Value = { Machine };
 
-    ghost view = { λ r. record { id = r.id; ports = r.ports.items; hello_when = r.hello_when } };
+    ghost view = { λ r. record { id = r.id; prompt = r.prompt; ports = r.ports.items; hello_when = r.hello_when } };
 
-    ghost invariant = { λ r. IsTold (record { id = r.id; ports = r.ports.items; hello_when = r.hello_when })
-        r.roles.items r.states.items };
+    ghost invariant = { λ r. IsTold (record { id = r.id; prompt = r.prompt; ports = r.ports.items;
+        hello_when = r.hello_when }) r.roles.items r.states.items };
 }
 
 /// Returns the ports with their values at start.
@@ -71,13 +73,36 @@ pub(crate) fn states_of(alloc: Global, ports: &[Port]) -> Result<Vec<(u8, PortSt
 
 impl Rstp {
     /// Returns a bridge with its values at start: all ports are enabled, Designated and Discarding, and store nothing.
+    /// A port that stays Designated sends what has changed with the next periodic BPDUs.
     ///
     /// # Errors
     ///
     /// `Memory` if an allocation failed.
     pub fn new(alloc: Global, config: Config) -> Result<Rstp, Memory>
         requires { AreAbove 0 config.ports }
-        ensures { IfOk result (λ rstp. rstp ≡ start (bridge_id config.priority config.address.0) config.ports) }
+        ensures { IfOk result (λ rstp. rstp ≡ start false (bridge_id config.priority config.address.0) config.ports) }
+    {
+        Rstp::start(alloc, false, config)
+    }
+
+    /// Returns a bridge as [`Rstp::new`] does, but prompt: a port that stays Designated sends in the call in which its
+    /// vector or the times of its BPDUs change, if its hold count permits (IEEE 802.1D-2004 clauses 17.21.25,
+    /// updtRolesTree, and 17.27).
+    ///
+    /// # Errors
+    ///
+    /// `Memory` if an allocation failed.
+    pub fn prompt(alloc: Global, config: Config) -> Result<Rstp, Memory>
+        requires { AreAbove 0 config.ports }
+        ensures { IfOk result (λ rstp. rstp ≡ start true (bridge_id config.priority config.address.0) config.ports) }
+    {
+        Rstp::start(alloc, true, config)
+    }
+
+    /// Returns a bridge with its values at start, prompt or not.
+    fn start(alloc: Global, prompt: bool, config: Config) -> Result<Rstp, Memory>
+        requires { AreAbove 0 config.ports }
+        ensures { IfOk result (λ rstp. rstp ≡ start prompt (bridge_id config.priority config.address.0) config.ports) }
     {
         let id = bridge_id(config.priority, config.address);
         let ports = fresh_ports(alloc, config.ports.as_slice())?;
@@ -86,6 +111,7 @@ impl Rstp {
         Ok(Rstp {
             alloc,
             id,
+            prompt,
             ports,
             hello_when: 2,
             roles,

@@ -3,14 +3,15 @@
 ghost use Rattle.std.specs.Prelude.{◌≡◌, ◌++◌, IfOk, OnOk};
 ghost use Rattle.pb_lan.specs.Rules.{from_to, is_same};
 ghost use Rattle.pb_rstp.specs.Settling.{nows, moved_on, is_sending, after_sending, with_sent, state_changes};
-ghost use Rattle.pb_rstp.specs.Settling.{flushed, sent, change_of, settled};
+ghost use Rattle.pb_rstp.specs.Settling.{flushed, sent, change_of, settled, is_updated, with_update, with_updates};
+ghost use Rattle.pb_rstp.specs.Settling.{each};
 
 use crate::change::Change;
-use crate::message::message_of;
+use crate::message::{Offer, is_same_offer, message_of, offer_by};
 use crate::moving::{Heard, Moving};
 use crate::port::Port;
 use crate::proposal::with_proposal;
-use crate::settle::{in_line, nows};
+use crate::settle::{befores, in_line, nows};
 use crate::topology::{is_flushed, with_topology};
 use pb_bpdu::Bpdu;
 use pb_frame::{Memory, Seq};
@@ -43,25 +44,85 @@ fn after_sending(p: &Moving) -> Moving
     }
 }
 
-/// Sends the BPDUs: step 7 of 7.
+/// Sends the BPDUs: step 8 of 8.
 pub(crate) fn with_sent(alloc: Global, ports: &[Moving]) -> Result<Vec<Moving>, Memory>
     ensures { IfOk result (λ moved. moved.items ≡ with_sent ports.now) }
 {
     Ok(ports.iter().map(|p| after_sending(p)).collect(alloc)?)
 }
 
-/// Returns the ports after steps 1 to 6, before BPDUs are sent.
+/// Returns whether the port stays Designated and offers another vector or other times than before the call.
+fn is_updated(id: u64, before: &Offer, after: &Offer, p: &Moving) -> bool
+    ensures { result ≡ is_updated id before.now after.now p.entry.now.was p.entry.now.now }
+{
+    p.was.role.is_designated()
+        && p.now.role.is_designated()
+        && !is_same_offer(id, before, &p.was, after, &p.now)
+}
+
+/// Returns the port with `new_info` set, if its offer is another.
+fn with_update(id: u64, before: &Offer, after: &Offer, p: &Moving) -> Moving
+    ensures { result ≡ moved_on (with_update id before.now after.now) p.entry.now }
+{
+    if is_updated(id, before, after, p) {
+        p.becomes(Port {
+            new_info: true,
+            ..p.now
+        })
+    } else {
+        *p
+    }
+}
+
+fn with_all_updates(
+    alloc: Global,
+    id: u64,
+    before: &Offer,
+    after: &Offer,
+    ports: &[Moving],
+) -> Result<Vec<Moving>, Memory>
+    ensures { IfOk result (λ moved. moved.items ≡ each (with_update id before.now after.now) ports.now) }
+{
+    Ok(
+        ports
+            .iter()
+            .map(|p| with_update(id, before, after, p))
+            .collect(alloc)?,
+    )
+}
+
+/// Has each port of a prompt bridge send that stays Designated and offers another vector or other times than before the
+/// call: step 7 of 8 (IEEE 802.1D-2004 clauses 17.21.25, updtRolesTree, and 17.27).
+fn with_updates(
+    alloc: Global,
+    prompt: bool,
+    id: u64,
+    ports: Vec<Moving>,
+) -> Result<Vec<Moving>, Memory>
+    ensures { IfOk result (λ moved. moved.items ≡ with_updates prompt id ports.items) }
+{
+    if !prompt {
+        return Ok(ports);
+    }
+    let before = offer_by(id, &befores(alloc, &ports)?);
+    let after = offer_by(id, &nows(alloc, &ports)?);
+    Ok(with_all_updates(alloc, id, &before, &after, &ports)?)
+}
+
+/// Returns the ports after steps 1 to 7, before BPDUs are sent.
 pub(crate) fn settled(
     alloc: Global,
+    prompt: bool,
     id: u64,
     heard: Option<Heard>,
     ports: &[Moving],
 ) -> Result<Vec<Moving>, Memory>
-    ensures { IfOk result (λ moved. moved.items ≡ settled id heard ports.now) }
+    ensures { IfOk result (λ moved. moved.items ≡ settled prompt id heard ports.now) }
 {
     let in_line = in_line(alloc, id, ports)?;
     let with_proposal = with_proposal(alloc, heard, in_line)?;
-    Ok(with_topology(alloc, heard, &with_proposal)?)
+    let with_topology = with_topology(alloc, heard, &with_proposal)?;
+    Ok(with_updates(alloc, prompt, id, with_topology)?)
 }
 
 /// Returns whether the states are the same.

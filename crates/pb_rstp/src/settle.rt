@@ -49,7 +49,7 @@ fn with_role(id: u64, root: &Vector, p: &Moving) -> Moving
     })
 }
 
-/// Gives each port its role: step 1 of 7 (IEEE 802.1D-2004 clause 17.21.25, updtRolesTree).
+/// Gives each port its role: step 1 of 8 (IEEE 802.1D-2004 clause 17.21.25, updtRolesTree).
 fn with_roles(alloc: Global, id: u64, ports: &[Moving]) -> Result<Vec<Moving>, Memory>
     ensures { IfOk result (λ moved. moved.items ≡ with_roles id ports.now) }
 {
@@ -89,7 +89,7 @@ fn without_agreements(alloc: Global, ports: &[Moving]) -> Result<Vec<Moving>, Me
     Ok(ports.iter().map(|p| without_agreement(p)).collect(alloc)?)
 }
 
-/// Clears all agreements if the root vector changed: step 2 of 7 (IEEE 802.1D-2004 clause 17.27).
+/// Clears all agreements if the root vector changed: step 2 of 8 (IEEE 802.1D-2004 clause 17.27).
 fn with_agreements(alloc: Global, id: u64, ports: Vec<Moving>) -> Result<Vec<Moving>, Memory>
     ensures { IfOk result (λ moved. moved.items ≡ with_agreements id ports.items) }
 {
@@ -115,7 +115,7 @@ fn without_info(p: &Moving) -> Moving
     }
 }
 
-/// Drops the information that Designated ports store: step 3 of 7 (IEEE 802.1D-2004 clause 17.27).
+/// Drops the information that Designated ports store: step 3 of 8 (IEEE 802.1D-2004 clause 17.27).
 fn with_infos(alloc: Global, ports: &[Moving]) -> Result<Vec<Moving>, Memory>
     ensures { IfOk result (λ moved. moved.items ≡ with_infos ports.now) }
 {
@@ -182,7 +182,7 @@ fn with_state(fwd_delay: u16, p: &Moving) -> Moving
     p.becomes(state_by(fwd_delay, p.now.role, &p.was, &p.now))
 }
 
-/// Gives each port the state of its role: step 4 of 7 (IEEE 802.1D-2004 clause 17.29).
+/// Gives each port the state of its role: step 4 of 8 (IEEE 802.1D-2004 clause 17.29).
 fn with_states(alloc: Global, ports: &[Moving]) -> Result<Vec<Moving>, Memory>
     ensures { IfOk result (λ moved. moved.items ≡ with_states ports.now) }
 {

@@ -116,7 +116,7 @@ fn with_tc_while(heard: Option<Heard>, ports: &[Moving], p: &Moving) -> Moving
     }
 }
 
-/// Starts the reports of topology changes: step 6 of 7 (IEEE 802.1D-2004 clause 17.31).
+/// Starts the reports of topology changes: step 6 of 8 (IEEE 802.1D-2004 clause 17.31).
 pub(crate) fn with_topology(
     alloc: Global,
     heard: Option<Heard>,

@@ -1,13 +1,14 @@
 //! Runs with ample memory, of bridges with priority 32768 and the addresses 02-00-00-00-00-01 and on.
 
 mod alone;
+mod prompt;
 mod refused;
 mod rings;
 mod settling;
 mod two;
 mod walk;
 
-ghost use Rattle.std.specs.Prelude.{◌≡◌};
+ghost use Rattle.std.specs.Prelude.{◌≡◌, IfOk};
 ghost use Rattle.pb_rstp.specs.Readings.{AreAbove};
 
 use pb_bpdu::{Bpdu, read, write};
@@ -50,18 +51,22 @@ fn address(last: u8) -> Mac {
     Mac([2, 0, 0, 0, 0, last])
 }
 
+/// The configuration of the bridge with the address that ends in this octet.
+fn config(alloc: Global, last: u8, ports: &[RstpPort]) -> Result<Config, Memory>
+    ensures { IfOk result (λ config. config.ports ≡ ports.now) }
+{
+    Ok(Config {
+        address: address(last),
+        priority: 32768,
+        ports: Seq::from_vec(Vec::from_slice(alloc, ports)?),
+    })
+}
+
 /// The bridge with the address that ends in this octet.
 fn bridge(alloc: Global, last: u8, ports: &[RstpPort]) -> Result<Rstp, Memory>
     requires { AreAbove 0 ports.now }
 {
-    Rstp::new(
-        alloc,
-        Config {
-            address: address(last),
-            priority: 32768,
-            ports: Seq::from_vec(Vec::from_slice(alloc, ports)?),
-        },
-    )
+    Rstp::new(alloc, config(alloc, last, ports)?)
 }
 
 /// A bridge with port 1.
@@ -72,6 +77,11 @@ fn with_one_port(alloc: Global, last: u8) -> Result<Rstp, Memory> {
 /// A bridge with ports 1 and 2.
 fn with_two_ports(alloc: Global, last: u8) -> Result<Rstp, Memory> {
     bridge(alloc, last, &[port(1), port(2)])
+}
+
+/// A prompt bridge with ports 1 and 2.
+fn prompt_with_two_ports(alloc: Global, last: u8) -> Result<Rstp, Memory> {
+    Rstp::prompt(alloc, config(alloc, last, &[port(1), port(2)])?)
 }
 
 /// The bridge with this address sends just this frame, on port 1.

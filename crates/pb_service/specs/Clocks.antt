@@ -1,7 +1,9 @@
--- Whether the limits of a run go together.
+-- Whether the keys of the network go together.
 use Rattle.std.specs.Prelude.{◌≡◌, ◌⊎◌, ℕ, List, codes, nat_lt, ◌==◌, Bool, true, false, ◌&&◌}
 use Rattle.pb_frame.specs.Admission.{same}
 use Rattle.pb_lan.specs.declared.limits.Limits.{Limits}
+use Rattle.pb_lan.specs.declared.plan.Spanning.{Spanning}
+use Rattle.pb_lan.specs.declared.plan.Spanning.TheVariants.{Fixed, Rstp}
 use Rattle.pb_service.specs.declared.fault.PlanFault.{PlanFault}
 use Rattle.pb_service.specs.declared.fault.PlanFault.TheVariants.{Range, Memory}
 use Rattle.pb_service.specs.declared.section.KeyTable.TheVariants.{Network}
@@ -18,6 +20,18 @@ holds_forever limits = nat_lt 0 limits.hold && (limits.tick_every == 0 && limits
 -- a capture's records would tell the time of day by a clock, and none ticks by time
 abbrev pub lacks_time : Limits → List ℕ → Bool
 lacks_time limits stamp = same stamp (codes "time") && limits.tick_ms == 0
+
+-- ports would be prompt where the plan gives their states
+abbrev pub is_vainly_prompt : Spanning → Bool → Bool
+is_vainly_prompt Fixed prompt = prompt
+is_vainly_prompt Rstp prompt = false
+
+-- ports are to be prompt where no protocol decides their states
+abbrev pub RefusesPrompt : Spanning → Bool → PlanFault → Type 0
+RefusesPrompt spanning prompt (Range path) =
+    (is_vainly_prompt spanning prompt ≡ true) × (path ≡ path_at Network (codes "prompt"))
+RefusesPrompt spanning prompt Memory = Unit {0}
+RefusesPrompt spanning prompt other = ⊥
 
 -- the limits don't go together, in the way that the fault tells
 abbrev pub RefusesClocks : Limits → PlanFault → Type 0

@@ -23,6 +23,7 @@ network_keys =
     ∷ with_default (codes "tick_every") (Number 0 1000000)
     ∷ with_default (codes "tick_ms") (Number 0 60000)
     ∷ with_default (codes "hold") (Number 0 1000000)
+    ∷ with_default (codes "prompt") Flag
     ∷ []
 
 -- of a bridge

@@ -16,8 +16,8 @@ use Rattle.pb_service.specs.Keys.{IsAccepted, first_unknown}
 use Rattle.pb_service.specs.Formats.{top_keys, network_keys, bridge_keys, link_keys, service_keys, event_keys}
 use Rattle.pb_service.specs.Told.{rows_of, table_told, spanning_of}
 use Rattle.pb_service.specs.Events.{IsEventOf}
-use Rattle.pb_service.specs.Clocks.{has_two_clocks, holds_forever}
-use Rattle.pb_service.specs.Tables.{number_at, text_at, limits_told, IsRead, IsReadPort, IsBridgeOf, IsLinkOf, IsServiceOf, IsCustomerOf, IsPortSpecOf}
+use Rattle.pb_service.specs.Clocks.{has_two_clocks, holds_forever, is_vainly_prompt}
+use Rattle.pb_service.specs.Tables.{number_at, text_at, prompt_told, limits_told, IsRead, IsReadPort, IsBridgeOf, IsLinkOf, IsServiceOf, IsCustomerOf, IsPortSpecOf}
 use Rattle.pb_service.specs.Refusals.{Refuses, HasTables, ends_told, is_table, names_of}
 
 -- the table of the network; an empty one where there is none
@@ -31,6 +31,8 @@ HasNetworkTable document = is_table (get_member (codes "network") document) ≡ 
 pub record TellsNetwork (row : Members) (plan : Plan) : Type 0 where
   pub keys : IsAccepted network_keys row
   pub spanning : plan.spanning ≡ spanning_of (text_at row (codes "spanning"))
+  pub prompt : plan.prompt ≡ prompt_told row
+  pub not_vain : is_vainly_prompt plan.spanning plan.prompt ≡ false
   pub ageing : plan.ageing ≡ number_at row (codes "ageing") default_ageing 1000000
   pub ring : plan.ring ≡ number_at row (codes "ring") 64 4096
   pub steps : plan.steps ≡ number_at row (codes "steps") 18446744073709551615 18446744073709551615

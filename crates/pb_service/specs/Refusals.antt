@@ -19,9 +19,9 @@ use Rattle.pb_service.specs.Sections.{word_of, most_of, path_at}
 use Rattle.pb_service.specs.Values.{all_items, any_item, is_list, text_in}
 use Rattle.pb_service.specs.Keys.{RefusesRow, SomeOf, first_unknown}
 use Rattle.pb_service.specs.Formats.{top_keys, network_keys, event_keys, keys_of}
-use Rattle.pb_service.specs.Told.{rows_of, names_in, number_from, table_told}
-use Rattle.pb_service.specs.Clocks.{lacks_time, RefusesClocks}
-use Rattle.pb_service.specs.Tables.{number_at, text_at, items_at, is_one_of, limits_told}
+use Rattle.pb_service.specs.Told.{rows_of, names_in, number_from, table_told, spanning_of}
+use Rattle.pb_service.specs.Clocks.{lacks_time, RefusesClocks, RefusesPrompt}
+use Rattle.pb_service.specs.Tables.{number_at, text_at, items_at, is_one_of, limits_told, prompt_told}
 
 -- nothing, or a table
 abbrev pub is_table : Option Data → Bool
@@ -88,9 +88,11 @@ pub record UsesTwice (ports : List LocalPort) (port : LocalPort) : Type 0 where
   pub again : is_used before port ≡ true
   pub bridge : 1 ≤ port.bridge
 
--- the table of the network breaks a rule of its keys, or its limits don't go together
+-- the table of the network breaks a rule of its keys, or its keys don't go together
 abbrev pub RefusesNetwork : Members → PlanFault → Type 0
-RefusesNetwork row fault = RefusesRow network_keys Network row fault ⊎ RefusesClocks (limits_told row) fault
+RefusesNetwork row fault =
+    RefusesRow network_keys Network row fault
+    ⊎ (RefusesClocks (limits_told row) fault ⊎ RefusesPrompt (spanning_of (text_at row (codes "spanning"))) (prompt_told row) fault)
 
 -- the limits of a run that the document tells
 abbrev pub network_limits : Members → Limits

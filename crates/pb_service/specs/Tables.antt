@@ -17,10 +17,10 @@ use Rattle.pb_service.specs.declared.network.Network.{Network}
 use Rattle.pb_service.specs.declared.port_spec.PortSpec.{PortSpec}
 use Rattle.pb_service.specs.declared.port_spec.PortSpec.TheVariants.{Memory, Capture, Socket}
 use Rattle.pb_service.specs.Values.{text_in, all_items}
-use Rattle.pb_service.specs.Clocks.{has_two_clocks, holds_forever, lacks_time}
+use Rattle.pb_service.specs.Clocks.{has_two_clocks, holds_forever, is_vainly_prompt, lacks_time}
 use Rattle.pb_service.specs.Keys.{KeyRule, IsAccepted}
 use Rattle.pb_service.specs.Formats.{network_keys, port_keys}
-use Rattle.pb_service.specs.Told.{has_key, number_told, text_told, items_told, stamp_of, state_of, spanning_of, naturals_in, number_from, listed_from}
+use Rattle.pb_service.specs.Told.{has_key, number_told, text_told, items_told, stamp_of, state_of, spanning_of, flag_told, naturals_in, number_from, listed_from}
 
 -- the number, and the text, at a key of a table
 abbrev pub number_at : Members → List ℕ → ℕ → ℕ → ℕ
@@ -41,15 +41,21 @@ limits_told row = record {
   hold = number_at row (codes "hold") 0 1000000;
 }
 
+-- ports that stay Designated send as soon as what they offer changes
+abbrev pub prompt_told : Members → Bool
+prompt_told row = flag_told (get_member (codes "prompt") row)
+
 pub record IsNetworkOf (row : Members) (n : Network) : Type 0 where
   pub keys : IsAccepted network_keys row
   pub spanning : n.spanning ≡ spanning_of (text_at row (codes "spanning"))
+  pub prompt : n.prompt ≡ prompt_told row
   pub ageing : n.ageing ≡ number_at row (codes "ageing") default_ageing 1000000
   pub ring : n.ring ≡ number_at row (codes "ring") 64 4096
   pub steps : n.steps ≡ number_at row (codes "steps") 18446744073709551615 18446744073709551615
   pub limits : n.limits ≡ limits_told row
   pub one_clock : has_two_clocks n.limits ≡ false
   pub some_clock : holds_forever n.limits ≡ false
+  pub not_vain : is_vainly_prompt n.spanning n.prompt ≡ false
 
 pub record IsBridgeOf (row : Members) (b : BridgePlan) : Type 0 where
   pub name : b.name ≡ text_at row (codes "name")

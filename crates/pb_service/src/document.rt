@@ -54,6 +54,7 @@ fn file_of(alloc: Global, document: &Table) -> Result<PlanFile, PlanFault>
         services: Seq::from_vec(services),
         customers: Seq::from_vec(customers),
         spanning: network.spanning,
+        prompt: network.prompt,
         ageing: network.ageing,
         ring: network.ring,
         steps: network.steps,

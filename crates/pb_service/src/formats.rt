@@ -47,7 +47,7 @@ macro_rules! port_keys {
 }
 
 /// The keys of the network.
-static NETWORK: [Key; 8] = [
+static NETWORK: [Key; 9] = [
     optional!("spanning", Rule::Spanning),
     optional!("ageing", 10..=1_000_000),
     optional!("ring", 1..=4096),
@@ -56,6 +56,7 @@ static NETWORK: [Key; 8] = [
     optional!("tick_every", 0..=1_000_000),
     optional!("tick_ms", 0..=60_000),
     optional!("hold", 0..=1_000_000),
+    optional!("prompt", Rule::Flag),
 ];
 
 /// The keys of a bridge.

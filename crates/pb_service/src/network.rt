@@ -3,7 +3,8 @@
 ghost use Rattle.std.specs.Prelude.{◌≡◌, ◌⊎◌, false, codes, IfOk, IfErr, OnOk};
 ghost use Rattle.toml.specs.Data.{get_member};
 ghost use Rattle.toml.specs.View.{table_view};
-ghost use Rattle.pb_service.specs.Clocks.{has_two_clocks, holds_forever, RefusesClocks};
+ghost use Rattle.pb_service.specs.Clocks.{has_two_clocks, holds_forever, is_vainly_prompt, RefusesClocks};
+ghost use Rattle.pb_service.specs.Clocks.{RefusesPrompt};
 ghost use Rattle.pb_service.specs.Told.{table_told};
 ghost use Rattle.pb_service.specs.Tables.{limits_told, IsNetworkOf};
 ghost use Rattle.pb_service.specs.Refusals.{Refuses, RefusesNetwork};
@@ -15,7 +16,7 @@ use crate::formats::network_keys;
 use crate::key_fault::KeyFault;
 use crate::row::{check_keys, told};
 use crate::section::KeyTable;
-use crate::told::{number_at, spanning_of, text_at, value_at};
+use crate::told::{flag_at, number_at, spanning_of, text_at, value_at};
 use pb_frame::Text;
 use pb_lan::{DEFAULT_AGEING, Limits, Spanning};
 use std::alloc::Global;
@@ -25,6 +26,7 @@ use toml::Table;
 #[derive(Clone, Copy)]
 pub(crate) struct Network {
     pub spanning: Spanning,
+    pub prompt: bool,
     pub ageing: u32,
     pub ring: u16,
     pub steps: u64,
@@ -72,6 +74,27 @@ fn check_clocks(alloc: Global, limits: Limits) -> Result<(), PlanFault>
     Ok(())
 }
 
+/// Returns whether ports would be prompt although the plan gives their states.
+fn is_vainly_prompt(spanning: Spanning, prompt: bool) -> bool
+    ensures { result ≡ is_vainly_prompt spanning prompt }
+{
+    match spanning {
+        Spanning::Fixed => prompt,
+        Spanning::Rstp => false,
+    }
+}
+
+/// Checks that ports are prompt only under the Rapid Spanning Tree Protocol.
+fn check_prompt(alloc: Global, spanning: Spanning, prompt: bool) -> Result<(), PlanFault>
+    ensures ok { OnOk result (is_vainly_prompt spanning prompt ≡ false) }
+    ensures err { IfErr result (RefusesPrompt spanning prompt) }
+{
+    if is_vainly_prompt(spanning, prompt) {
+        return Err(told(alloc, KeyTable::Network, "prompt", KeyFault::Range));
+    }
+    Ok(())
+}
+
 /// What a table tells of the network.
 fn network_of(alloc: Global, row: &Table) -> Result<Network, PlanFault>
     ensures ok { IfOk result (IsNetworkOf (table_view row.now)) }
@@ -80,8 +103,12 @@ fn network_of(alloc: Global, row: &Table) -> Result<Network, PlanFault>
     check_keys(alloc, KeyTable::Network, network_keys(), row)?;
     let limits = limits_of(row);
     check_clocks(alloc, limits)?;
+    let spanning = spanning_of(text_at(row, "spanning"));
+    let prompt = flag_at(row, "prompt");
+    check_prompt(alloc, spanning, prompt)?;
     Ok(Network {
-        spanning: spanning_of(text_at(row, "spanning")),
+        spanning,
+        prompt,
         ageing: number_at(row, "ageing", DEFAULT_AGEING as u64, 1_000_000) as u32,
         ring: number_at(row, "ring", 64, 4096) as u16,
         steps: number_at(row, "steps", u64::MAX, u64::MAX),

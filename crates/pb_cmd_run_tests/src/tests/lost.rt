@@ -31,6 +31,7 @@ fn alone(alloc: Global) -> Result<Plan, Memory>
         services: Seq::from_vec(Vec::new(alloc)),
         customers: Seq::from_vec(Vec::new(alloc)),
         spanning: Spanning::Rstp,
+        prompt: false,
         ageing: 300,
         ring: 64,
         steps: 1_000,

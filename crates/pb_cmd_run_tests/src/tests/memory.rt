@@ -20,6 +20,7 @@ fn nothing(alloc: Global) -> Plan
         services: Seq::from_vec(Vec::new(alloc)),
         customers: Seq::from_vec(Vec::new(alloc)),
         spanning: Spanning::Rstp,
+        prompt: false,
         ageing: 300,
         ring: 64,
         steps: 1,

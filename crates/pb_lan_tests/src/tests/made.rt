@@ -122,6 +122,7 @@ pub(super) fn plan_of(alloc: Global, draft: &Draft) -> Result<Plan, AllocError> 
         services: services(alloc, draft)?,
         customers: customers(alloc, draft)?,
         spanning: draft.spanning,
+        prompt: false,
         ageing: draft.ageing,
         ring: draft.ring,
         steps: draft.steps,

@@ -135,6 +135,7 @@ fn bare(alloc: Global, draft: &Draft) -> Plan {
         services: Seq::from_vec(Vec::new(alloc)),
         customers: Seq::from_vec(Vec::new(alloc)),
         spanning: draft.spanning,
+        prompt: false,
         ageing: 300,
         ring: draft.ring,
         steps: draft.steps,

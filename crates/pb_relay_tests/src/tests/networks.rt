@@ -120,6 +120,7 @@ impl Layout {
             services: services(alloc)?,
             customers: self.customer_plans(alloc)?,
             spanning: self.spanning,
+            prompt: false,
             ageing: self.ageing,
             ring: 64,
             steps: self.steps,

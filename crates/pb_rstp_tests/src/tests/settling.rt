@@ -71,6 +71,7 @@ pub(crate) fn plan(alloc: Global, joints: &[Joint]) -> Result<Plan, AllocError> 
         services: Seq::from_vec(Vec::new(alloc)),
         customers: Seq::from_vec(Vec::new(alloc)),
         spanning: Spanning::Rstp,
+        prompt: false,
         ageing: 300,
         ring: 64,
         steps: 1_000_000,

@@ -170,7 +170,7 @@ fn frame_of(speech: Speech) -> (u8, [u8; 53]) {
 }
 
 /// What a frame tells.
-fn bpdu_of(speech: Speech) -> Result<Bpdu, Fail> {
+pub(super) fn bpdu_of(speech: Speech) -> Result<Bpdu, Fail> {
     let mut bpdu = heard(&frame_of(speech).1)?;
     match speech {
         Speech::FirstOnPort2(_) => bpdu.port = 0x8002,

@@ -106,6 +106,7 @@ pub(super) fn plan_of(alloc: Global, draft: &Draft) -> Result<Plan, Memory> {
         services: services(alloc)?,
         customers: customers(alloc, draft)?,
         spanning: draft.spanning,
+        prompt: false,
         ageing: 300,
         ring: draft.ring,
         steps: draft.steps,

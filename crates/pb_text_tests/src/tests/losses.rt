@@ -302,6 +302,7 @@ fn plan_of(alloc: Global) -> Result<Plan, Memory> {
         services: Seq::from_vec(Vec::new(alloc)),
         customers: Seq::from_vec(Vec::new(alloc)),
         spanning: Spanning::Fixed,
+        prompt: false,
         ageing: 300,
         ring: 1,
         steps: 1000,

@@ -1,9 +1,13 @@
-use Rattle.std.proofs.Common.{◌-◌, ◌∷◌, ◌++◌, [], true, false, length, ap, sym, ◌∙◌, arith, append-nil, length-append}
-use Rattle.std.proofs.Common.{eq-eqb}
+use Rattle.std.proofs.Common.{◌≡◌, ◌≤◌, ◌+◌, ◌-◌, ◌%◌, ◌==◌, ◌∷◌, ◌++◌, [], ℕ, Bool, true, false, List, length, cond, refl, ap}
+use Rattle.std.proofs.Common.{sym, ◌∙◌, arith, append-nil, length-append}
 use Rattle.pb_lan.specs.PortSets.{ports_in}
-use Rattle.pb_lan.proofs.PortBits.{ports_end, no_ports, port_listed, unequal}
+use Rattle.pb_lan.proofs.PortBits.{ports_end, no_ports, port_listed}
 use Rattle.pb_lan.proofs.port_set.PortSet.list.Goals as goal
-use Rattle.pb_lan.proofs.port_set.PortSet.list.Goals.{then-rest-eq1, else-rest-eq1}
+
+-- at most one port more is listed
+one_more : (list : List ℕ) (port : ℕ) (is_set : Bool) → length (list ++ cond is_set (port ∷ []) []) ≤ length list + 1
+one_more list port true = omega (arith, length-append list (port ∷ []))
+one_more list port false = omega (arith, ap length (append-nil list))
 
 pub returns-then-rest-eq0-clause-ports : goal.returns-then-rest-eq0-clause-ports
 returns-then-rest-eq0-clause-ports c =
@@ -14,26 +18,17 @@ returns-then-rest-eq0-clause-ports c =
 
 pub loop-port-preserved : goal.loop-port-preserved
 loop-port-preserved c =
-    elim c.if-rest-eq1.branch [
-      | then-rest-eq1 w ↦ record {
-        listed = port_listed c.loop-port.port c.loop-port.rest c.loop-port.list c.if-rest-eq1.list c.args.self.now
-            true (omega (arith, c.loop-port-test.true)) c.loop-port.invariant.listed
-            (eq-eqb _ _ w.if-rest-eq1.true) (w.list-is ∙ w.push.ensures);
-        few = omega (
-          arith,
-          ap length (w.list-is ∙ w.push.ensures),
-          length-append c.loop-port.list
-              (c.loop-port.port ∷ []),
-          c.loop-port.invariant.few,
-        );
-      }
-      | else-rest-eq1 w ↦ record {
-        listed = port_listed c.loop-port.port c.loop-port.rest c.loop-port.list c.if-rest-eq1.list c.args.self.now
-            false (omega (arith, c.loop-port-test.true)) c.loop-port.invariant.listed
-            (unequal _ _ w.if-rest-eq1.false) (w.list-is ∙ sym (append-nil c.loop-port.list));
-        few = omega (arith, ap length w.list-is, c.loop-port.invariant.few);
-      }
-    ]
+    let is_set : Bool = c.loop-port.rest % 2 == 1 in
+    record {
+      listed = port_listed c.loop-port.port c.loop-port.rest c.loop-port.list c.push_if.new.self c.args.self.now is_set
+          (omega (arith, c.loop-port-test.true)) c.loop-port.invariant.listed refl c.push_if.ensures;
+      few = omega (
+        arith,
+        ap length c.push_if.ensures,
+        one_more c.loop-port.list c.loop-port.port is_set,
+        c.loop-port.invariant.few,
+      );
+    }
 
 pub returns-clause-ports : goal.returns-clause-ports
 returns-clause-ports c =

@@ -5,7 +5,7 @@ use Rattle.pb_rstp.specs.Readings.{roles_of, states_of}
 use Rattle.pb_rstp.specs.declared.port.Port.{Port}
 use Rattle.pb_rstp.specs.Rising.{AreRising}
 use Rattle.pb_rstp.proofs.LineLaws.{start_is_in_line, above_zero, fresh_rising}
-use Rattle.pb_rstp.proofs.rstp.Rstp.new.Goals as goal
+use Rattle.pb_rstp.proofs.rstp.Rstp.start.Goals as goal
 
 pub invariant_of-result : goal.invariant_of-result
 invariant_of-result c = record {
@@ -17,9 +17,10 @@ invariant_of-result c = record {
   in_line = subst
       (λ (ports : List Port). let machine : Machine = record {
         id = c.bridge_id-id.result;
+        prompt = c.args.prompt;
         ports = ports;
         hello_when = 2;
       } in IsInLine machine)
       (sym (c.in_ok-ports.ensures ∙ ap (λ ports. map fresh ports) c.as_slice.ensures))
-      (start_is_in_line c.bridge_id-id.result c.args.config.ports (above_zero 0 c.args.config.ports c.requires));
+      (start_is_in_line c.args.prompt c.bridge_id-id.result c.args.config.ports (above_zero 0 c.args.config.ports c.requires));
 }
