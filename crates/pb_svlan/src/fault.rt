@@ -1,4 +1,4 @@
-//! Why services or ports are refused.
+//! Faults of adding services and ports.
 
 ghost use Rattle.std.specs.Prelude.{◌≡◌};
 ghost use Rattle.pb_svlan.specs.declared.fault.AddFault.{AddFault};
@@ -9,7 +9,7 @@ ghost use Rattle.pb_svlan.specs.declared.fault.JoinFault.TheVariants.{Memory as 
 use std::alloc::{AllocError, AllocFailed};
 use thiserror::Error;
 
-/// Why a service was not added: the first that fits.
+/// The fault of a service that was not added: the first that applies.
 #[derive(Clone, Copy, Debug, PartialEq, Eq, Error)]
 pub enum AddFault {
     #[error("another service has the name")]
@@ -38,7 +38,7 @@ impl<T: Drop> From<AllocFailed<T>> for AddFault {
     }
 }
 
-/// Why a port was not made a member: the first that fits.
+/// The fault of a port that was not made a member: the first that applies.
 #[derive(Clone, Copy, Debug, PartialEq, Eq, Error)]
 pub enum JoinFault {
     #[error("no service has the number")]
