@@ -1,4 +1,4 @@
-//! BPDUs of the rapid spanning tree protocol in Ethernet frames (IEEE 802.1D-2004 clause 9.3.3). It stands on
+//! BPDUs of the rapid spanning tree protocol in Ethernet frames (IEEE 802.1D-2004 clause 9.3.3). It builds on
 //! pb_frame.
 //!
 //! A frame is its octets from the destination address on, without preamble and check sequence. In an untagged frame

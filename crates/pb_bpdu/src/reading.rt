@@ -72,7 +72,11 @@ fn fields(frame: &[u8]) -> Bpdu
     }
 }
 
-/// Returns the fields of a BPDU, or the first fault of the frame.
+/// Returns the fields of a BPDU.
+///
+/// # Errors
+///
+/// The first fault of the frame.
 fn decode(frame: &[u8]) -> Result<Bpdu, BpduFault>
     ensures { result ≡ reading frame.now }
 {

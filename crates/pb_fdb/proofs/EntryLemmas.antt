@@ -43,7 +43,7 @@ pub overrides-is_sighted : (s t : Sighting) → overrides t (Seen s) ≡ is_sigh
 overrides-is_sighted s t = ap (λ b. b && same s.mac t.mac) (eqb-symm s.vid t.vid)
     ∙ ap (λ b. (t.vid == s.vid) && b) (same-symm s.mac t.mac)
 
--- a filtered list fits where the list fits
+-- a filtered list is shorter than n if the list is
 pub filter_fits : {X : Type 0} (p : X → Bool) (xs : List X) (n : ℕ) → length xs < n → length (filter p xs) < n
 filter_fits p xs n h = omega (arith, filter-shorter p xs)
 

@@ -1,4 +1,4 @@
-//! Forests of the active links of a service, paths in them, and whether a record has drained. It stands on
+//! Forests of the active links of a service, paths in them, and whether a record has drained. It builds on
 //! pb_history.
 //!
 //! A service whose active links are no forest has a forwarding loop. Begin with [`forest`], [`check_rooted`],

@@ -23,8 +23,10 @@ pub const LONGEST_UNTAGGED: usize = 1_992;
 /// The fault of octets that are not a frame of a provider's network.
 #[derive(Clone, Copy, Debug, PartialEq, Eq, Error)]
 pub enum FrameFault {
+    /// A frame of fewer than 14 octets.
     #[error("fewer than 14 octets")]
     Short,
+    /// A frame of more than 1,996 octets.
     #[error("more than 1,996 octets")]
     Long,
 }

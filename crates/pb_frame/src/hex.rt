@@ -16,10 +16,13 @@ use thiserror::Error;
 /// The fault of a text that is not octets in hexadecimal.
 #[derive(Clone, Copy, Debug, PartialEq, Eq, Error)]
 pub enum HexFault {
+    /// A character that is not a hexadecimal digit.
     #[error("not a hexadecimal digit")]
     Digit,
+    /// An odd number of digits.
     #[error("an odd number of digits")]
     Odd,
+    /// An allocation that failed.
     #[error("out of memory")]
     Memory,
 }

@@ -1,4 +1,4 @@
-//! Ethernet frames, station addresses, service tags and hexadecimal texts. It stands on bytes alone.
+//! Ethernet frames, station addresses, service tags and hexadecimal texts. It builds on bytes.
 //!
 //! A frame is its octets from the destination address on, without preamble and check sequence (IEEE 802.3 clause 3).
 //! Nothing here pads a frame or computes a checksum. Begin with [`view`], [`push_s`] and [`pop_s`].

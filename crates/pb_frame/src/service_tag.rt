@@ -17,10 +17,13 @@ use thiserror::Error;
 /// The fault of a frame whose service tag cannot be removed.
 #[derive(Clone, Copy, Debug, PartialEq, Eq, Error)]
 pub enum TagFault {
+    /// A frame without 88 A8 after its addresses.
     #[error("no S-tag")]
     NoTag,
+    /// A frame of fewer than 18 octets, which ends inside its tag or the type after it.
     #[error("the S-tag is cut off")]
     Cut,
+    /// An allocation that failed.
     #[error("out of memory")]
     Memory,
 }

@@ -1,4 +1,4 @@
-//! The steps of a place as contracts see them, and the counts that reports print of them. It stands on pb_lan.
+//! The steps of a place as contracts see them, and the counts that reports print of them. It builds on pb_lan.
 //!
 //! The laws are about the list of all steps that a place took. A [`Tally`] has that list for contracts only, and the
 //! counts in memory. A place can run without end. [`Steps`] has a tally, and also keeps each step if that is asked

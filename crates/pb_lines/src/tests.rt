@@ -23,6 +23,7 @@ impl Read for Same {
     }
 }
 
+/// Checks that the buffer of a line of 50,000,000 octets stays below 5,000 octets.
 #[test]
 fn holds_little_of_a_long_line(rt: HostRuntime) -> Result<(), Fail> {
     let mut reader = Same {

@@ -180,7 +180,7 @@ passes_same Lengths Lengths (Records o) m n xs ys rest rest' a b stop stop' e = 
 passes_same Lengths Header q' m n xs ys rest rest' a b stop stop' e = absurd a
 passes_same Lengths (Records o) q' m n xs ys rest rest' a b stop stop' e = absurd a
 
--- one reading cannot end where the other has a frame
+-- one reading cannot end at a position at which the other has a frame
 end_or_frame : (p q q' : StreamPosition) (m n : ℕ) (xs ys rest part rest' f : List ℕ) (fault : Option PortFault) → Passes p xs q m
     → Passes p ys q' n
     → Ends q rest fault → IsFrame q' part f → xs ++ rest ≡ ys ++ (part ++ rest') → ⊥

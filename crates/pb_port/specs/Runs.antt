@@ -19,7 +19,7 @@ frames_in (End ∷ answers) = []
 frames_in (Fault Memory ∷ answers) = frames_in answers
 frames_in (Fault k ∷ answers) = []
 
--- each poll continues where the one before stopped, and one of them returns the end, or this fault of the octets
+-- each poll continues at the position of the one before, and one of them returns the end, or this fault of the octets
 abbrev pub IsRun : List Polled → StreamPosition → List ℕ → ℕ → ℕ → Option PortFault → Type 0
 IsRun [] position octets skipped skipped' fault = ⊥
 IsRun (Frame f ∷ answers) position octets skipped skipped' fault =

@@ -129,7 +129,7 @@ impl Services {
         Some(*vid)
     }
 
-    /// Checks that each of the numbers is that of a service. No numbers at all are in order too.
+    /// Checks that each of the numbers is that of a service. `None` is accepted too.
     fn are_known(&self, services: Option<&[u8]>) -> bool
         ensures { result ≡ are_known self.now (option_copied services.entry) }
     {

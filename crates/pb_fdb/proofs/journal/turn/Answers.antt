@@ -45,7 +45,7 @@ first-of c = record {
   here = sym c.if-seen-at.false;
 }
 
--- if the entry is removed, the index loses its station and nothing else
+-- if the entry is removed, the index loses its station only
 gone : (c : After-swap_remove_index) → IsIndexWith c.in-Some.place.station None (get is_same c.args.index.now)
     (get is_same c.swap_remove_index.new.self)
     × (index_map_len c.swap_remove_index.new.self + 1 ≡ index_map_len c.args.index.now)
