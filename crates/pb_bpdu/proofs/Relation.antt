@@ -1,4 +1,4 @@
--- What is read of a frame, against the relation of frames and BPDUs.
+-- The result of `read` against the relation `IsBpduFrame`.
 use Rattle.std.proofs.Common.{◌≡◌, ℕ, ◌<◌, ◌≤◌, ◌+◌, ◌*◌, ◌/◌, ◌%◌, List, [], ◌∷◌, ◌++◌, refl, sym, ap, ◌∙◌, length}
 use Rattle.std.proofs.Common.{take, drop, slice_index, arith, Bool, true, false, Some, None, nat_lt, ◌==◌, ◌&&◌, ◌||◌}
 use Rattle.std.proofs.Common.{not, append_assoc, Ok, Err, length-drop, ap₂, subst, IfOk, IfErr, OnOk, is_ok, is_none}
@@ -22,7 +22,7 @@ use Rattle.pb_bpdu.proofs.Equal.{bpdu_eq}
 
 -- Tests.
 
--- where no case holds
+-- none of six conditions is true
 record NoneOf (a b c d e f : Bool) : Type 0 where
   first : a ≡ false
   second : b ≡ false
@@ -47,7 +47,7 @@ none_holds : (a b c d e f : Bool) → NoneOf a b c d e f
     → first_of_cases ((a, Llc) ∷ (b, Short) ∷ (c, Protocol) ∷ (d, Kind) ∷ (e, Old) ∷ (f, Short) ∷ []) ≡ None
 none_holds a b c d e f n = rw (n.first, n.second, n.third, n.fourth, n.fifth, n.sixth) refl
 
--- what a frame has in which no fault is found
+-- the properties of a frame without a fault
 record Sound (x : List ℕ) : Type 0 where
   within : 14 + kind_of x ≤ length x
   long : 39 ≤ kind_of x
@@ -56,7 +56,7 @@ record Sound (x : List ℕ) : Type 0 where
   recent : 2 ≤ slice_index x 19
   kind : slice_index x 20 ≡ 2
 
--- the six tests
+-- the six conditions of a frame without a fault
 tests : (x : List ℕ) → first_fault x ≡ None
     → NoneOf (has_no_llc x) (has_fewer 4 x) (not (slice_index x 17 == 0 && slice_index x 18 == 0))
     (not (slice_index x 20 == 2))
@@ -65,7 +65,7 @@ tests x none = none_of (has_no_llc x) (has_fewer 4 x) (not (slice_index x 17 == 
     (not (slice_index x 20 == 2))
     (nat_lt (slice_index x 19) 2) (has_fewer 36 x) none
 
--- the four parts of the first test
+-- the four parts of the first condition
 record HasLlc (x : List ℕ) : Type 0 where
   enough : nat_lt (length x) 17 ≡ false
   counts : nat_lt (kind_of x) 3 ≡ false
@@ -102,7 +102,7 @@ sound x none =
       kind = eqb-true (slice_index x 20) 2 (not-false (slice_index x 20 == 2) t.fourth);
     }
 
--- the flags that are read are those that stand there
+-- the flags that are read are those of the octet
 flag_sum : (c c' p p' r l l' w w' a a' h : ℕ) → c ≡ c' → p ≡ p' → l ≡ l' → w ≡ w' → a ≡ a'
     → c + 2 * p + 4 * r + 16 * l + 32 * w + 64 * a + 128 * h ≡ c' + 2 * p' + 4 * r + 16 * l' + 32 * w' + 64 * a' + 128
     * h
@@ -151,7 +151,7 @@ read_head x s octets long =
     ∙ ap (λ r. 2 ∷ r) (cell_is x 21 _ (omega arith) (read_flags x octets)
     ∙ ap (λ r. (flags (fields_of x) + 128 * (flags_at x / 128)) ∷ r) (read_last x octets long))))))))))
 
--- what is read of octets stands there
+-- the fields that are read are those of a BPDU in the frame, for `read`
 pub found : (x : List ℕ) → AreOctets x → first_fault x ≡ None → IsBpduFrame x (fields_of x)
 found x octets none =
     let s = sound x none in
@@ -186,7 +186,7 @@ found x octets none =
           ∙ ap (λ r. take 6 x ++ r) (part x 6 6 ∙ ap (λ r. take 6 (drop 6 x) ++ r) (read_head x s octets long));
     }
 
--- a list of six is its six items
+-- a list of six octets is its six elements
 record IsSix (x : List ℕ) : Type 0 where
   a : ℕ
   b : ℕ
@@ -211,7 +211,7 @@ abbrev framed : (dst src : List ℕ) → ℕ → ℕ → ℕ → ℕ → Bpdu �
 framed dst src high low version highest m last rest =
     dst ++ (src ++ (high ∷ low ∷ 66 ∷ 66 ∷ 3 ∷ (body version (flags m + 128 * highest) m last ++ rest)))
 
--- it reads as what it tells
+-- the parts of a frame that has the BPDU m
 record Tells (x : List ℕ) (high low version : ℕ) (m : Bpdu) (highest : ℕ) (rest : List ℕ) : Type 0 where
   size : length x ≡ 53 + length rest
   counts : kind_of x ≡ high * 256 + low
@@ -257,7 +257,7 @@ bit-below false = omega arith
 no_llc_false : (a b c d : Bool) → a ≡ false → b ≡ false → c ≡ false → d ≡ true → (a || b || c || not d) ≡ false
 no_llc_false a b c d ea eb ec ed = rw (ea, eb, ec, ed) refl
 
--- so no fault is found
+-- a frame that has a BPDU has no fault
 no_fault : (x : List ℕ) (high low version : ℕ) (m : Bpdu) (highest : ℕ) (rest : List ℕ)
     → Tells x high low version m highest rest
     → 39 ≤ high * 256 + low → high * 256 + low ≤ 39 + length rest → 2 ≤ version → first_fault x ≡ None
@@ -281,7 +281,7 @@ no_fault x high low version m highest rest t enough within recent =
       sixth = le-ltb (kind_of x) 39 (omega arith);
     })
 
--- and what is read is what it tells
+-- the fields that are read are those of the BPDU
 fields_told : (x : List ℕ) (high low version : ℕ) (m : Bpdu) (highest : ℕ) (rest : List ℕ)
     → Tells x high low version m highest rest
     → highest < 2 → fields_of x ≡ m
@@ -297,7 +297,7 @@ fields_told x high low version m highest rest t one =
     (odd-bit (flags_at x / 64) m.agreement apart.5)
     t.root t.cost t.bridge t.port t.age t.max_age t.hello t.delay
 
--- what stands in a frame is read of it
+-- a BPDU in a frame is read from it, for `read`
 pub only : (x : List ℕ) (m : Bpdu) → IsBpduFrame x m → reading x ≡ Ok m
 only x m b =
     let dst = six b.dst b.dst_length in
@@ -313,7 +313,7 @@ only x m b =
     (no_fault _ b.high b.low b.version m b.highest b.rest t b.long_enough b.within b.recent)
     (fields_told _ b.high b.low b.version m b.highest b.rest t b.one_flag)
 
--- what is written is a frame of the BPDU
+-- the written frame has the BPDU, for `write`
 pub written_frame : (src : List ℕ) (m : Bpdu) → length src ≡ 6 → Fits m → IsBpduFrame (written src m) m
 written_frame src m l fits = record {
   dst = provider_address;
@@ -337,11 +337,11 @@ written_frame src m l fits = record {
     none : (n : ℕ) → n ≡ n + 128 * 0
     none n = omega arith
 
--- what is written is read again
+-- the written frame is read as the BPDU, for `what_is_written_is_read`
 pub read_again : (src : List ℕ) (m : Bpdu) → length src ≡ 6 → Fits m → reading (written src m) ≡ Ok m
 read_again src m l fits = only (written src m) m (written_frame src m l fits)
 
--- each fault is the first
+-- a fault is the first of the frame, for `read`
 pub fault_is_first : (x : List ℕ) (f : BpduFault) → reading x ≡ Err f → first_fault x ≡ Some f
 fault_is_first x f e = by_fault (first_fault x) (fields_of x) f e
   where
@@ -349,7 +349,7 @@ fault_is_first x f e = by_fault (first_fault x) (fields_of x) f e
     by_fault None m f e = cc
     by_fault (Some g) m f e = cc
 
--- where a frame is read, what is read stands there
+-- a BPDU that is read is in the frame, for `read`
 pub read_stands : (x : List ℕ) (m : Bpdu) → AreOctets x → reading x ≡ Ok m → IsBpduFrame x m
 read_stands x m octets e = by_fault (first_fault x) refl e
   where
@@ -373,7 +373,7 @@ stands src m (Ok x) l fits e = let P : List ℕ
     → Type 0 = λ z. IsBpduFrame z m in subst P (sym e) (written_frame src m l fits)
 stands src m (Err e) l fits h = tt
 
--- the test says what is read
+-- a frame is read exactly if `is_readable` holds, for `read`
 pub read_readable : (x : List ℕ) (r : Result Bpdu BpduFault) → r ≡ reading x → is_ok r ≡ is_readable x
 read_readable x r e = ap is_ok e ∙ by_fault (first_fault x) (fields_of x)
   where

@@ -4,7 +4,7 @@ use Rattle.byteorder.specs.Endian.{big_bytes}
 use Rattle.pb_frame.specs.Admission.{provider_address}
 use Rattle.pb_bpdu.specs.declared.bpdu.Bpdu.{Bpdu}
 
--- a flag, as a number
+-- the value of a flag, 0 or 1
 abbrev pub bit : Bool → ℕ
 bit b = if b then 1 else 0
 
@@ -13,18 +13,18 @@ abbrev pub flags : Bpdu → ℕ
 flags m =
     bit m.change + 2 * bit m.proposal + 4 * m.role + 16 * bit m.learning + 32 * bit m.forwarding + 64 * bit m.agreement
 
--- what follows the flags: the four parts of a vector and the four times
+-- the octets after the flags: the four parts of a priority vector and the four times
 abbrev pub numbers : Bpdu → List ℕ
 numbers m =
     big_bytes 8 m.root ++ (big_bytes 4 m.cost ++ (big_bytes 8 m.bridge ++ (big_bytes 2 m.port
     ++ (big_bytes 2 m.age ++ (big_bytes 2 m.max_age ++ (big_bytes 2 m.hello ++ big_bytes 2 m.delay))))))
 
--- protocol 0, the version, type 2, the octet of flags, the numbers and the length of a version 1 part
+-- the octets of a BPDU: protocol 0, version, type 2, flags, numbers, and the length of a version 1 part
 abbrev pub body : ℕ → ℕ → Bpdu → ℕ → List ℕ
 body version octet m last =
     0 ∷ 0 ∷ version ∷ 2 ∷ octet ∷ (numbers m ++ last ∷ [])
 
--- each number has room
+-- each number fits in its field
 pub record Fits (m : Bpdu) : Type 0 where
   pub root : m.root < 256 ^ 8
   pub cost : m.cost < 256 ^ 4
@@ -35,8 +35,8 @@ pub record Fits (m : Bpdu) : Type 0 where
   pub hello : m.hello < 256 ^ 2
   pub delay : m.delay < 256 ^ 2
 
--- the frame is two addresses, a length, the octets 42-42-03 of logical link control and a BPDU that tells
--- m; the version from 2 on, the highest flag, the last octet and what follows may be anything
+-- the frame is two addresses, a length, the octets 42-42-03 of logical link control and the BPDU m; any version from
+-- 2 on, highest flag, last octet and octets after it are allowed
 pub record IsBpduFrame (frame : List ℕ) (m : Bpdu) : Type 0 where
   pub dst : List ℕ
   pub src : List ℕ

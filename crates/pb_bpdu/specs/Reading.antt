@@ -1,4 +1,4 @@
--- What is read of a frame, and why it may be no BPDU.
+-- The BPDU of a frame, and the faults of frames that are not BPDUs.
 use Rattle.std.specs.Prelude.{ℕ, ◌+◌, ◌/◌, ◌%◌, Bool, List, [], ◌∷◌, Some, None, Ok, Err, length, drop, slice_index, nat_lt, ◌==◌, ◌&&◌, ◌||◌, not, is_none, if◌then◌else◌}
 use Rattle.std.specs.declared.option.Option.{Option}
 use Rattle.std.specs.declared.result.Result.{Result}
@@ -10,11 +10,11 @@ use Rattle.pb_bpdu.specs.declared.bpdu.Bpdu.{Bpdu}
 use Rattle.pb_bpdu.specs.declared.fault.BpduFault.{BpduFault}
 use Rattle.pb_bpdu.specs.declared.fault.BpduFault.TheVariants.{Llc, Short, Protocol, Kind, Old}
 
--- the number of n octets at a place
+-- the big-endian number of n octets at an offset
 abbrev pub number_at : ℕ → ℕ → List ℕ → ℕ
 number_at place n x = big_number n (drop place x)
 
--- octets 12 and 13 are the length of what follows them and counts
+-- the octets of logical link control follow the length
 abbrev pub has_llc : List ℕ → Bool
 has_llc x = slice_index x 14 == 66 && slice_index x 15 == 66 && slice_index x 16 == 3
 
@@ -22,11 +22,11 @@ abbrev pub has_no_llc : List ℕ → Bool
 has_no_llc x =
     nat_lt (length x) 17 || nat_lt (kind_of x) 3 || nat_lt (length x) (14 + kind_of x) || not (has_llc x)
 
--- fewer BPDU octets stand within the length
+-- fewer than n octets of a BPDU are within the length
 abbrev pub has_fewer : ℕ → List ℕ → Bool
 has_fewer n x = nat_lt (kind_of x) (3 + n)
 
--- the faults, in order
+-- the faults with their conditions, in the order of checking
 abbrev pub fault_cases : List ℕ → List (Bool × BpduFault)
 fault_cases x =
     (has_no_llc x, Llc)
@@ -37,7 +37,7 @@ fault_cases x =
     ∷ (has_fewer 36 x, Short)
     ∷ []
 
--- the first case that holds
+-- the fault of the first condition that is true
 abbrev pub first_of_cases : List (Bool × BpduFault) → Option BpduFault
 first_of_cases [] = None
 first_of_cases (c ∷ cs) = if c.0 then Some c.1 else first_of_cases cs
@@ -56,7 +56,7 @@ is_odd n = n % 2 == 1
 abbrev pub flags_at : List ℕ → ℕ
 flags_at x = slice_index x 21
 
--- what stands in the fields
+-- the fields of a BPDU
 abbrev pub fields_of : List ℕ → Bpdu
 fields_of x = record {
   change = is_odd (flags_at x);
@@ -76,7 +76,7 @@ fields_of x = record {
   role_fits = mod-lt (flags_at x / 4) (lit< tt);
 }
 
--- what reading a frame gives: the first fault, or else the fields
+-- the result of reading a frame: the first fault, otherwise the fields
 abbrev pub reading_by : Option BpduFault → Bpdu → Result Bpdu BpduFault
 reading_by (Some fault) m = Err fault
 reading_by None m = Ok m

@@ -2,7 +2,7 @@
 
 ghost use Rattle.pb_bpdu.specs.Laws.{WrittenIsRead};
 
-/// What is written of a BPDU is read as the same BPDU.
+/// Shows that a written BPDU is read as the same BPDU.
 pub fn what_is_written_is_read()
     ensures { WrittenIsRead }
 {}

@@ -1,9 +1,9 @@
-//! BPDUs of the rapid spanning tree protocol in Ethernet frames (IEEE 802.1D-2004 clause 9.3.3).
+//! BPDUs of the rapid spanning tree protocol in Ethernet frames (IEEE 802.1D-2004 clause 9.3.3). It builds on
+//! pb_frame.
 //!
-//! A frame is its octets from the destination address on, without preamble and check sequence. A BPDU
-//! stands in an untagged frame behind its length and the three octets of logical link control; what
-//! stands behind that length is padding and means nothing. [`read`] takes a frame apart, [`write`] puts
-//! one together, and what is written is read again.
+//! A frame is its octets from the destination address on, without preamble and check sequence. In an untagged frame
+//! the length, three octets of logical link control and the BPDU follow the addresses. Octets after that length are
+//! padding. Begin with [`read`] and [`write`].
 #![tactic(auto)]
 
 mod bpdu;

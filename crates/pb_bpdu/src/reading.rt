@@ -1,4 +1,4 @@
-//! Takes frames with BPDUs apart.
+//! Reading BPDUs from frames.
 
 ghost use Rattle.std.specs.Prelude.{◌≡◌, ◌≤◌, length, IfOk, IfErr, is_ok};
 ghost use Rattle.pb_bpdu.specs.Layout.{IsBpduFrame};
@@ -9,7 +9,7 @@ use crate::bpdu::Bpdu;
 use crate::fault::BpduFault;
 use byteorder::{BigEndian, ByteOrder};
 
-/// Whether the length or the octets of logical link control are missing or wrong.
+/// Checks whether the length or the octets of logical link control are missing or wrong.
 fn has_no_llc(frame: &[u8]) -> bool
     ensures { result ≡ has_no_llc frame.now }
 {
@@ -22,7 +22,7 @@ fn has_no_llc(frame: &[u8]) -> bool
         || !(frame[14] == 0x42 && frame[15] == 0x42 && frame[16] == 0x03)
 }
 
-/// The first reason why the frame is no BPDU, if there is one.
+/// Returns the first fault of the frame, or `None` if it is a BPDU.
 fn first_fault(frame: &[u8]) -> Option<BpduFault>
     ensures { result ≡ first_fault frame.now }
 {
@@ -48,7 +48,7 @@ fn first_fault(frame: &[u8]) -> Option<BpduFault>
     None
 }
 
-/// What stands in the fields of a BPDU.
+/// Returns the fields of a BPDU.
 fn fields(frame: &[u8]) -> Bpdu
     requires { 53 ≤ length frame.now }
     ensures { result ≡ fields_of frame.now }
@@ -72,7 +72,11 @@ fn fields(frame: &[u8]) -> Bpdu
     }
 }
 
-/// The fields, or the first fault.
+/// Returns the fields of a BPDU.
+///
+/// # Errors
+///
+/// The first fault of the frame.
 fn decode(frame: &[u8]) -> Result<Bpdu, BpduFault>
     ensures { result ≡ reading frame.now }
 {
@@ -82,25 +86,27 @@ fn decode(frame: &[u8]) -> Result<Bpdu, BpduFault>
     }
 }
 
-/// What a whole untagged frame tells as a BPDU (IEEE 802.1D-2004 clauses 9.3.3 and 9.3.4).
+/// Reads the BPDU of a complete untagged frame (IEEE 802.1D-2004 clauses 9.3.3 and 9.3.4). Allocates nothing.
 ///
-/// The frame has any number of octets, and the answer takes no memory. The destination address is the
-/// caller's matter. The highest flag, a version above 2, the last of the 36 octets of the BPDU and all
-/// behind them mean nothing. Else the first fault that the frame has is answered, in this order: `Llc`
-/// where it has fewer than 17 octets, its length is below 3 or above the octets that follow it, or the
-/// octets of logical link control differ; `Short` where fewer than 4 octets of a BPDU stand within the
-/// length; `Protocol` where the protocol is not 0; `Kind` where the type is not 2; `Old` where the
-/// version is below 2; `Short` where fewer than 36 octets stand within the length.
+/// The frame has any number of octets. The destination address is not checked. The highest flag, a version above 2,
+/// the last of the 36 octets of the BPDU and all octets after them are ignored.
+///
+/// # Errors
+///
+/// The first fault of the frame, in this order: `Llc` if it has fewer than 17 octets, its length is below 3 or above
+/// the number of octets that follow it, or the octets of logical link control differ from 42-42-03; `Short` if fewer
+/// than 4 octets of a BPDU are within the length; `Protocol` if the protocol is not 0; `Kind` if the type is not 2;
+/// `Old` if the version is below 2; `Short` if fewer than 36 octets of a BPDU are within the length.
 pub fn read(frame: &[u8]) -> Result<Bpdu, BpduFault>
-    // What is read stands in the frame.
+    // The BPDU that is read is in the frame.
     ensures found { IfOk result (λ m. IsBpduFrame frame.now m) }
-    // What stands in the frame is read.
+    // A BPDU that is in the frame is read.
     ensures only { (m : Bpdu) → IsBpduFrame frame.now m → result ≡ Ok m }
     // A fault is the first that the frame has.
     ensures fault { IfErr result (λ f. first_fault frame.now ≡ Some f) }
-    // The test says exactly which frames are read.
+    // `is_readable` holds of exactly the frames that are read.
     ensures readable { is_ok result ≡ is_readable frame.now }
-    // The answer is told by the octets alone.
+    // The result depends on the octets alone.
     ensures exact { result ≡ reading frame.now }
 {
     decode(frame)

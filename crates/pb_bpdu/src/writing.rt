@@ -1,4 +1,4 @@
-//! Puts frames with BPDUs together.
+//! Writing BPDUs to frames.
 
 ghost use Rattle.std.specs.Prelude.{◌≡◌, ◌<◌, ◌^◌, ◌++◌, length, IfOk, OnOk};
 ghost use Rattle.byteorder.specs.Endian.{big_bytes};
@@ -9,7 +9,7 @@ use bytes::Bytes;
 use pb_frame::{Mac, Memory};
 use std::alloc::{AllocError, Global};
 
-/// The flags as one octet.
+/// Returns the flags as one octet.
 fn flags(m: &Bpdu) -> u8
     ensures { result ≡ flags m.now }
 {
@@ -21,6 +21,11 @@ fn flags(m: &Bpdu) -> u8
         + 64 * (m.agreement as u8)
 }
 
+/// Appends a number, big-endian.
+///
+/// # Errors
+///
+/// `AllocError` if an allocation failed.
 fn push_u16(frame: &mut Vec<u8>, n: u16) -> Result<(), AllocError>
     ensures fits { n < 256 ^ 2 }
     ensures ok { OnOk result (frame.new.items ≡ frame.old.items ++ big_bytes 2 n) }
@@ -28,6 +33,11 @@ fn push_u16(frame: &mut Vec<u8>, n: u16) -> Result<(), AllocError>
     frame.extend_from_slice(&n.to_be_bytes())
 }
 
+/// Appends a number, big-endian.
+///
+/// # Errors
+///
+/// `AllocError` if an allocation failed.
 fn push_u32(frame: &mut Vec<u8>, n: u32) -> Result<(), AllocError>
     ensures fits { n < 256 ^ 4 }
     ensures ok { OnOk result (frame.new.items ≡ frame.old.items ++ big_bytes 4 n) }
@@ -35,6 +45,11 @@ fn push_u32(frame: &mut Vec<u8>, n: u32) -> Result<(), AllocError>
     frame.extend_from_slice(&n.to_be_bytes())
 }
 
+/// Appends a number, big-endian.
+///
+/// # Errors
+///
+/// `AllocError` if an allocation failed.
 fn push_u64(frame: &mut Vec<u8>, n: u64) -> Result<(), AllocError>
     ensures fits { n < 256 ^ 8 }
     ensures ok { OnOk result (frame.new.items ≡ frame.old.items ++ big_bytes 8 n) }
@@ -42,7 +57,11 @@ fn push_u64(frame: &mut Vec<u8>, n: u64) -> Result<(), AllocError>
     frame.extend_from_slice(&n.to_be_bytes())
 }
 
-/// Appends what follows the flags.
+/// Appends the fields that follow the flags.
+///
+/// # Errors
+///
+/// `AllocError` if an allocation failed.
 fn push_numbers(frame: &mut Vec<u8>, m: &Bpdu) -> Result<(), AllocError>
     ensures fits { OnOk result (Fits m.now) }
     ensures ok { OnOk result (frame.new.items ≡ frame.old.items ++ numbers m.now) }
@@ -58,7 +77,11 @@ fn push_numbers(frame: &mut Vec<u8>, m: &Bpdu) -> Result<(), AllocError>
     Ok(())
 }
 
-/// The frame, octet by octet.
+/// Returns the frame, built field by field.
+///
+/// # Errors
+///
+/// `Memory` if an allocation failed.
 fn encode(alloc: Global, src: Mac, m: &Bpdu) -> Result<Bytes, Memory>
     ensures fits { OnOk result (Fits m.now) }
     ensures exact { IfOk result (λ frame. frame ≡ written src.0 m.now) }
@@ -72,12 +95,16 @@ fn encode(alloc: Global, src: Mac, m: &Bpdu) -> Result<Bytes, Memory>
     Ok(Bytes::from_vec(frame)?)
 }
 
-/// The frame of 53 octets in which a bridge of this address sends the BPDU to 01-80-C2-00-00-08.
+/// Returns the frame of 53 octets in which a bridge with this address sends the BPDU to 01-80-C2-00-00-08.
 ///
-/// Its length is 39: three octets of logical link control and the 36 of the BPDU, of version 2 and type 2
-/// (IEEE 802.1D-2004 clause 9.3.3). The highest flag is 0. The only fault is want of memory.
+/// Its length is 39: three octets of logical link control and the 36 of the BPDU, of version 2 and type 2 (IEEE
+/// 802.1D-2004 clause 9.3.3). The highest flag is 0.
+///
+/// # Errors
+///
+/// `Memory` if an allocation failed.
 pub fn write(alloc: Global, src: Mac, m: &Bpdu) -> Result<Bytes, Memory>
-    // The BPDU stands in the frame.
+    // The BPDU is in the frame.
     ensures stands { IfOk result (λ frame. IsBpduFrame frame m.now) }
     ensures length { IfOk result (λ frame. length frame ≡ 53) }
     ensures exact { IfOk result (λ frame. frame ≡ written src.0 m.now) }

@@ -1,4 +1,4 @@
--- What a table keeps and is live is what stands, by all the news.
+-- The live sightings of a table are those in force by all events: the law of `law`.
 use Rattle.std.proofs.Common.{◌≡◌, ℕ, ◌-◌, ◌<◌, ◌≤◌, Bool, true, false, cond, nat_lt, nat_le, not, ◌&&◌, List, []}
 use Rattle.std.proofs.Common.{◌∷◌, ◌++◌, length, refl, sym, ap, ◌∙◌, append_assoc, append-nil, arith}
 use Rattle.std.proofs.Math.Bool.{and_comm}
@@ -13,12 +13,12 @@ use Rattle.pb_fdb.specs.Laws.{Deed, news_of, done, IsInTime, Leads, TellsWhatSta
 use Rattle.pb_fdb.specs.Laws.Deed.{Learns, Flushes, Expires}
 use Rattle.pb_fdb.specs.Tables.{Table, live, with_room}
 
--- two tests, one of them twice
+-- a conjunction with one test twice
 and-twice : (a b : Bool) → (a && (b && a)) ≡ (b && a)
 and-twice true b = refl
 and-twice false b = and_comm false b
 
--- what passes a test after news is told by what passes it before
+-- a filter after an event is the event after the filter
 passed-after : (p : Sighting → Bool) (table : List Sighting) (n : News)
     → filter p (after table n) ≡ filter p (after (filter p table) n)
 passed-after p table n =
@@ -37,13 +37,13 @@ passed-after p table n =
         (λ t. and-twice (p t) (not (overrides t n))) table)
         ∙ sym (filter-twice p (λ t. not (overrides t n)) (λ t. not (overrides t n) && p t) (λ t. refl) (filter p table))
 
--- one more piece of news
+-- the table after one more event
 after_all-more : (table : List Sighting) (news : List News) (n : News)
     → after_all table (news ++ n ∷ []) ≡ after (after_all table news) n
 after_all-more table [] n = refl
 after_all-more table (m ∷ news) n = after_all-more (after table m) news n
 
--- sightings that tell what stands do so after one more piece of news
+-- a table of the sightings in force remains one after one more event
 pub stands-more : (ageing now : ℕ) (table : List Sighting) (news : List News) (n : News)
     → filter (is_fresh ageing now) table ≡ standing ageing now news
     → filter (is_fresh ageing now) (after table n) ≡ standing ageing now (news ++ n ∷ [])
@@ -54,7 +54,7 @@ stands-more ageing now table news n h =
     ∙ ap (filter (is_fresh ageing now)) (sym (after_all-more [] news n))
     ∙ table_tells_what_stands ageing now (news ++ n ∷ [])
 
--- what is fresh later is fresh now
+-- a sighting that is fresh later is fresh at each moment before
 fresh_before : (ageing now later moment : ℕ) → now ≤ later
     → (nat_lt (now - moment) ageing && nat_lt (later - moment) ageing) ≡ nat_lt (later - moment) ageing
 fresh_before ageing now later moment h =
@@ -67,13 +67,13 @@ fresh_before ageing now later moment h =
     less : nat_lt (later - moment) ageing ≡ true → now - moment < ageing
     less e = let l : later - moment < ageing = grind (arith, nat_tests) in omega arith
 
--- so nothing live later is dropped now
+-- dropping aged sightings changes no later set of live sightings
 pub live-dropped : (ageing now later : ℕ) (table : List Sighting) → now ≤ later
     → filter (is_fresh ageing later) (filter (is_fresh ageing now) table) ≡ filter (is_fresh ageing later) table
 live-dropped ageing now later table h = filter-twice (is_fresh ageing later) (is_fresh ageing now)
     (is_fresh ageing later) (λ s. fresh_before ageing now later s.moment h) table
 
--- nor where room is made
+-- freeing space changes no later set of live sightings
 pub live-with_room : (table : Table) (now later : ℕ) → now ≤ later
     → filter (is_fresh table.ageing later) (with_room table now) ≡ live table later
 live-with_room table now later h =
@@ -81,7 +81,7 @@ live-with_room table now later h =
     (λ b. filter (is_fresh table.ageing later) (cond b (live table now) table.sightings) ≡ live table later)
     [ true ↦ live-dropped table.ageing now later table.sightings h | false ↦ refl ]
 
--- a table that tells what stands does so after a deed
+-- an operation preserves `TellsWhatStands`
 pub done-tells : (table : Table) (news : List News) (d : Deed) → IsInTime table d → TellsWhatStands table news
     → TellsWhatStands (done table d) (news ++ news_of d)
 done-tells table news (Flushes port) t h now l = stands-more table.ageing now table.sightings news (Flushed port)
@@ -103,7 +103,7 @@ done-tells table news (Learns s Group) t h now l = h now (omega arith)
 done-tells table news (Learns s Memory) t h now l = h now (omega arith)
     ∙ ap (standing table.ageing now) (sym (append-nil news))
 
--- and after any number of them
+-- any number of operations preserve `TellsWhatStands`
 from-table : (table : Table) (earlier : List News) (deeds : List Deed) (last : Table) (news : List News)
     → TellsWhatStands table earlier → Leads table deeds last news → TellsWhatStands last (earlier ++ news)
 from-table table earlier [] last news h l = rw (l.0, l.1, append-nil) h
@@ -111,6 +111,6 @@ from-table table earlier (d ∷ deeds) last news h l =
     rw (l.1.2) (rw (← append_assoc earlier (news_of d) l.1.0)
     (from-table (done table d) (earlier ++ news_of d) deeds last l.1.0 (done-tells table earlier d l.0 h) l.1.1))
 
--- from the empty one
+-- the law, from the empty table
 pub tables_tell_what_stands : TablesTellWhatStands
 tables_tell_what_stands limit ageing deeds table news l = from-table _ [] deeds table news (λ now t. refl) l

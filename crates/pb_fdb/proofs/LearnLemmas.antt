@@ -1,4 +1,4 @@
--- What a table answers of a station, and keeps, by the station's entry.
+-- The result of `learn`, and the entries after it, by the station's entry.
 use Rattle.std.proofs.Common.{◌≡◌, ℕ, ◌<◌, ◌≤◌, Bool, true, false, cond, not, nat_le, Some, None, List, [], ◌∷◌, ◌++◌}
 use Rattle.std.proofs.Common.{length, slice_get, refl, sym, ap, ◌∙◌, subst, arith}
 use Rattle.std.proofs.lemmas.Bool.Decides.{nat_tests}
@@ -12,18 +12,18 @@ use Rattle.pb_fdb.specs.declared.entry.Entry.{Entry}
 use Rattle.pb_fdb.specs.Entries.{sighting_of, table_of, without_station, fresh_entries, entries_with_room, IsKept}
 use Rattle.pb_fdb.specs.Tables.{where_in, is_full}
 
--- as many are live as may be kept
+-- the table is full exactly if its fresh entries reach the limit
 pub full-table_of : (limit ageing clock now : ℕ) (es : List Entry)
     → is_full (table_of limit ageing clock es) now ≡ nat_le limit (length (fresh_entries ageing now es))
 full-table_of limit ageing clock now es = ap (nat_le limit) (filter-map-length (is_fresh ageing now) es)
 
--- a station that has no entry is found nowhere
+-- a station without an entry is not found
 pub where-none : (limit ageing clock now vid : ℕ) (mac : List ℕ) (es : List Entry)
     → filter (λ e. is_sighted vid mac (sighting_of e)) es ≡ []
     → where_in (table_of limit ageing clock es) now vid mac ≡ None
 where-none limit ageing clock now vid mac es h = where-found limit ageing clock now vid mac es None h
 
--- nor one whose entry is old
+-- a station whose entry has aged out is not found
 pub where-old : (limit ageing clock now vid : ℕ) (mac : List ℕ) (es : List Entry) (old : Entry)
     → filter (λ e. is_sighted vid mac (sighting_of e)) es ≡ old ∷ []
     → is_fresh ageing now (sighting_of old) ≡ false → where_in (table_of limit ageing clock es) now vid mac ≡ None
@@ -31,7 +31,7 @@ where-old limit ageing clock now vid mac es old h f =
     where-found limit ageing clock now vid mac es (Some old) h
     ∙ ap (λ b. option_map (λ s. s.port) (slice_get (cond b (sighting_of old ∷ []) []) 0)) f
 
--- one whose entry is fresh is found at its port
+-- a station whose entry is fresh is found at its port
 pub where-fresh : (limit ageing clock now vid : ℕ) (mac : List ℕ) (es : List Entry) (old : Entry)
     → filter (λ e. is_sighted vid mac (sighting_of e)) es ≡ old ∷ []
     → is_fresh ageing now (sighting_of old) ≡ true
@@ -40,7 +40,7 @@ where-fresh limit ageing clock now vid mac es old h f =
     where-found limit ageing clock now vid mac es (Some old) h
     ∙ ap (λ b. option_map (λ s. s.port) (slice_get (cond b (sighting_of old ∷ []) []) 0)) f
 
--- where one passes a test, fewer don't
+-- if one element passes a test, fewer fail it
 passed-fewer : {X : Type 0} (p : X → Bool) (xs : List X) (x : X) (ys : List X) → filter p xs ≡ x ∷ ys
     → length (filter (λ x. not (p x)) xs) < length xs
 passed-fewer p [] x ys h = cc
@@ -51,7 +51,7 @@ passed-fewer p (z ∷ xs) x ys h =
       | false ↦ λ e. omega (arith, passed-fewer p xs x ys e)
     ] h
 
--- an old entry of a station isn't among the live ones
+-- an entry that has aged out is not among the live ones
 old-fewer : (ageing now : ℕ) (p : Entry → Bool) (es : List Entry) (old : Entry) → filter p es ≡ old ∷ []
     → is_fresh ageing now (sighting_of old) ≡ false
     → length (fresh_entries ageing now es) < length es
@@ -72,13 +72,13 @@ old-fewer ageing now p (e ∷ es) old h f =
           [ true ↦ omega (arith, fewer) | false ↦ omega (arith, fewer) ]
     ] h
 
--- so there is room
+-- if a station's entry has aged out, fewer stations are live than the limit allows
 pub old-room : (limit ageing now : ℕ) (p : Entry → Bool) (es : List Entry) (old : Entry) → length es ≤ limit
     → filter p es ≡ old ∷ [] → is_fresh ageing now (sighting_of old) ≡ false
     → nat_le limit (length (fresh_entries ageing now es)) ≡ false
 old-room limit ageing now p es old fits h f = let fewer = old-fewer ageing now p es old h f in grind (arith, nat_tests)
 
--- a station's entry leaves room for the next one
+-- without a station's entry, the table has space for the next one
 pub replaced-fewer : (e : Entry) (es : List Entry) (old : Entry)
     → filter (λ f. is_sighted e.vid e.mac.0 (sighting_of f)) es ≡ old ∷ [] → length (without_station e es) < length es
 replaced-fewer e es old h =
@@ -86,7 +86,7 @@ replaced-fewer e es old h =
     (λ f. ap not (overrides-is_sighted (sighting_of e) (sighting_of f))) es)
     (passed-fewer (λ f. is_sighted e.vid e.mac.0 (sighting_of f)) es old [] h)
 
--- so the table keeps the entries with that one
+-- the invariant of the table holds after an entry is renewed
 pub kept-renewed : (limit ageing clock : ℕ) (e : Entry) (es js : List Entry) (old : Entry) → clock ≤ e.learnt
     → IsKept limit ageing clock es
     → filter (λ f. is_sighted e.vid e.mac.0 (sighting_of f)) es ≡ old ∷ [] → js ≡ without_station e es ++ e ∷ []
@@ -98,7 +98,7 @@ kept-renewed limit ageing clock e es js old in_time kept h is =
     (IsKept-push limit ageing (without_station e es) e
     (IsKept-filter limit ageing e.learnt _ es (IsKept-later limit ageing clock e.learnt es in_time kept)) room)
 
--- old ones go after it comes as they would before
+-- removing aged entries after a renewal gives the same entries as removing them before it
 pub swept-renewed : (full : Bool) (limit ageing : ℕ) (e : Entry) (es js : List Entry)
     → full ≡ nat_le limit (length es) → 0 < ageing → js ≡ without_station e es ++ e ∷ []
     → cond full (fresh_entries ageing e.learnt js) js ≡ without_station e (entries_with_room limit ageing e.learnt es)
@@ -111,7 +111,7 @@ swept-renewed full limit ageing e es js is h r =
     [ true ↦ fresh-replaced ageing es e h | false ↦ refl ]
     ∙ ap (λ b. without_station e (cond b (fresh_entries ageing e.learnt es) es) ++ e ∷ []) is
 
--- and those that are left are kept
+-- the invariant of the table holds after aged entries are removed
 pub kept-swept : (full : Bool) (limit ageing now : ℕ) (js : List Entry) → IsKept limit ageing now js
     → IsKept limit ageing now (cond full (fresh_entries ageing now js) js)
 kept-swept true limit ageing now js k = IsKept-filter limit ageing now (λ e. is_fresh ageing now (sighting_of e)) js k

@@ -1,4 +1,4 @@
--- The entries of a log, as its index changes.
+-- The entries of a log, as its index changes, for the functions of `journal`.
 use Rattle.std.proofs.Common.{◌≡◌, ℕ, zero, suc, ◌+◌, ◌-◌, ◌^◌, ◌<◌, ◌≤◌, ◌%◌, ◌==◌, Bool, true, false, cond, not}
 use Rattle.std.proofs.Common.{is_some, Some, None, List, [], ◌∷◌, ◌++◌, length, drop, slice_get, refl, sym, ap, ◌∙◌}
 use Rattle.std.proofs.Common.{subst, arith, append-nil, append_assoc, length-append}
@@ -18,7 +18,7 @@ use Rattle.pb_fdb.specs.Journals.{HasEach, stays}
 use Rattle.pb_fdb.proofs.StationLemmas.{same_station, itself, other-way, of-one, none-left, none-pass, parted}
 use Rattle.pb_fdb.proofs.StationLemmas.{sighted-of}
 
--- an entry passes a test as all of its station do, or does not
+-- an entry passes a test if every entry of its station does, and fails it if every one does
 entry-kept : (p : Entry → Bool) (s : Station) → ((seen : LastSeen) → p (entry_of s seen) ≡ true)
     → (at : ℕ) (o : Option LastSeen) → filter p (entry_at at s o) ≡ entry_at at s o
 entry-kept p s passes at None = refl
@@ -33,7 +33,7 @@ entry-dropped p s fails at (Some seen) =
     elim (at == seen.at) as (λ b. filter p (cond b (entry_of s seen ∷ []) []) ≡ [])
     [ true ↦ ap (λ b. cond b (entry_of s seen ∷ []) []) (fails seen) | false ↦ refl ]
 
--- places
+-- the place 0 places on is the place itself
 place-none : (at : ℕ) → at < 2 ^ 64 → place_after at 0 ≡ at
 place-none at below = omega arith
 
@@ -43,7 +43,7 @@ place-more at n = omega arith
 pub place-below : (at n : ℕ) → place_after at n < 2 ^ 64
 place-below at n = omega arith
 
--- none of so many places is where a station was seen last
+-- none of the next `n` places is where the station was last seen
 abbrev pub Misses : Option LastSeen → ℕ → ℕ → Type 0
 Misses None at n = zero ≡ zero
 Misses (Some seen) at zero = zero ≡ zero
@@ -57,7 +57,7 @@ missed-more : (w : Option LastSeen) (at n : ℕ) → Misses w at (suc n) → Mis
 missed-more None at n m = m
 missed-more (Some seen) at n m = m.1
 
--- the place behind them is not
+-- the place after them is not one of them
 pub misses-behind : (seen : LastSeen) (at k n : ℕ) → at < 2 ^ 64 → k ≤ n → n < 2 ^ 64 → seen.at ≡ place_after at n
     → Misses (Some seen) at k
 misses-behind seen at zero n a l b is = refl
@@ -68,7 +68,7 @@ misses-behind seen at (suc k) n a l b is =
       misses-behind seen (place_after at 1) k (n - 1) (place-below at 1) (omega arith) (omega arith) (is ∙ shift),
     )
 
--- once a station was seen last at none of a log's places, the other entries stand there
+-- if a station was last seen at none of a log's places, the entries are those of the other stations
 pub entries-with : (f g : Index) (s0 : Station) (w : Option LastSeen) → IsIndexWith s0 w f g
     → (at : ℕ) (xs : List Station) → Misses w at (length xs)
     → entries_from g at xs ≡ filter (λ e. not (is_of s0 e)) (entries_from f at xs)
@@ -91,7 +91,7 @@ entries-with f g s0 w is at (s ∷ ss) m =
           (entry-kept p s (λ seen. ap not h) at (f s)))
     ] refl
 
--- the entries of two logs, one behind the other
+-- the entries of two logs joined are the entries of both
 pub entries-append : (f : Index) (at : ℕ) (xs ys : List Station) → at < 2 ^ 64
     → entries_from f at (xs ++ ys) ≡ entries_from f at xs ++ entries_from f (place_after at (length xs)) ys
 entries-append f at [] ys below = ap (λ n. entries_from f n ys) (sym (place-none at below))
@@ -101,17 +101,17 @@ entries-append f at (x ∷ xs) ys below =
     ∙ sym (append_assoc (entry_at at x (f x)) (entries_from f (place_after at 1) xs)
     (entries_from f (place_after at (suc (length xs))) ys))
 
--- the entry at a last place
+-- the latest place of a station has its entry
 pub entry-here : (s : Station) (seen : LastSeen) (at : ℕ) (o : Option LastSeen) → o ≡ Some seen → at ≡ seen.at
     → entry_at at s o ≡ entry_of s seen ∷ []
 entry-here s seen at o is place = ap (entry_at at s) is ∙ ap (λ n. cond (n == seen.at) (entry_of s seen ∷ []) [])
     place ∙ ap (λ b. cond b (entry_of s seen ∷ []) []) (eqb-refl seen.at)
 
--- what an index says of the station with which it is
+-- the value of the changed index at the changed station
 with-itself : (f g : Index) (s : Station) (w : Option LastSeen) → IsIndexWith s w f g → g s ≡ w
 with-itself f g s w is = is s ∙ ap (λ b. cond b w (f s)) (itself s)
 
--- a station that is seen last behind a log has its entry last
+-- a station that is last seen after a log has its entry last
 pub entries-put : (f g : Index) (s : Station) (seen : LastSeen) (at : ℕ) (xs : List Station)
     → IsIndexWith s (Some seen) f g → at < 2 ^ 64 → length xs < 2 ^ 64 → seen.at ≡ place_after at (length xs)
     → entries_from g at (xs ++ s ∷ []) ≡ filter (λ e. not (is_of s e)) (entries_from f at xs) ++ entry_of s seen ∷ []
@@ -123,7 +123,7 @@ entries-put f g s seen at xs is below fits place =
     (entries-with f g s (Some seen) is at xs
     (misses-behind seen at (length xs) (length xs) below (omega arith) fits place))
 
--- each station keeps its one entry, where one is put last
+-- each station keeps exactly one entry, if one is moved to the end
 pub each-with : (f g : Index) (s0 : Station) (seen : LastSeen) → IsIndexWith s0 (Some seen) f g → (es : List Entry)
     → HasEach f es → HasEach g (filter (λ e. not (is_of s0 e)) es ++ entry_of s0 seen ∷ [])
 each-with f g s0 seen is es each s seen_now at_s =
@@ -144,7 +144,7 @@ each-with f g s0 seen is es each s seen_now at_s =
           ∙ each s seen_now (sym (is s ∙ ap (λ b. cond b (Some seen) (f s)) h) ∙ at_s)
     ] refl
 
--- and where one goes
+-- each station keeps exactly one entry, if one is removed
 pub each-without : (f g : Index) (s0 : Station) → IsIndexWith s0 None f g → (es : List Entry) → HasEach f es
     → HasEach g (filter (λ e. not (is_of s0 e)) es)
 each-without f g s0 is es each s seen_now at_s =
@@ -156,7 +156,7 @@ each-without f g s0 is es each s seen_now at_s =
           ∙ each s seen_now (sym (is s ∙ ap (λ b. cond b None (f s)) h) ∙ at_s)
     ] refl
 
--- a station that the index lacks has no entry
+-- a station that is not in the index has no entry
 pub of-none : (f : Index) (s0 : Station) → f s0 ≡ None → (at : ℕ) (xs : List Station)
     → filter (is_of s0) (entries_from f at xs) ≡ []
 of-none f s0 none at [] = refl
@@ -169,7 +169,7 @@ of-none f s0 none at (s ∷ ss) =
     ] refl)
     ∙ of-none f s0 none (place_after at 1) ss
 
--- so what the index says of a station is its entries
+-- the entries of a station are the one that the index has
 pub entries-of : (f : Index) (at : ℕ) (xs : List Station) → HasEach f (entries_from f at xs) → (s : Station)
     → filter (is_of s) (entries_from f at xs) ≡ option_to_list (option_map (entry_of s) (f s))
 entries-of f at xs each s =
@@ -179,7 +179,7 @@ entries-of f at xs each s =
       | Some seen ↦ λ h. each s seen h
     ] refl
 
--- how many there are without a station that has one, and with one more
+-- the number of entries without those of a station, and with one more
 pub one-less : (f : Index) (s : Station) (seen : LastSeen) (es : List Entry) → HasEach f es → f s ≡ Some seen
     → length (filter (λ e. not (is_of s e)) es) + 1 ≡ length es
 one-less f s seen es each is = omega (arith, parted (is_of s) es, ap length (each s seen is))
@@ -207,16 +207,16 @@ one-more f at xs s e each =
       )
     ] refl
 
--- the first of a list
+-- equal lists have equal first elements
 pub first-part : {X : Type 0} {a b : X} {xs ys : List X} → a ∷ xs ≡ b ∷ ys → a ≡ b
 first-part k = Some-injective (ap (λ zs. slice_get zs 0) k)
 
--- where no port is named, all stay
+-- without a port, all entries stay
 pub all_stay : (es : List Entry) → filter (stays None) es ≡ es
 all_stay [] = refl
 all_stay (e ∷ es) = ap (λ zs. e ∷ zs) (all_stay es)
 
--- the entries that are sighted are those that the index tells of
+-- the sighted entries of a station are the one that the index has
 pub found-sighted : (f : Index) (at : ℕ) (xs : List Station) → HasEach f (entries_from f at xs) → (vid : ℕ) (mac : Mac)
     → filter (λ e. is_sighted vid mac.0 (sighting_of e)) (entries_from f at xs) ≡ option_to_list
     (option_map (entry_of (record { vid = vid; mac = mac })) (f (record { vid = vid; mac = mac })))
@@ -227,7 +227,7 @@ found-sighted f at xs each vid mac = sighted-of vid mac.0 (entries_from f at xs)
 abbrev pub station_in : Entry → Station
 station_in e = record { vid = e.vid; mac = e.mac }
 
--- the index knows the station of the first entry
+-- the index has the station of the first entry
 head-known : (f : Index) (at : ℕ) (xs : List Station) (e : Entry) (es : List Entry) → entries_from f at xs ≡ e ∷ es
     → (seen : LastSeen) × (f (station_in e) ≡ Some seen)
 head-known f at [] e es h = let n : 0 ≡ suc (length es) = ap length h in cc
@@ -247,7 +247,7 @@ first-rest : {X : Type 0} (xs : List X) (x : X) → Some x ≡ slice_get xs 0 �
 first-rest [] x h = cc
 first-rest (y ∷ ys) x h = ap (λ z. z ∷ ys) (sym (Some-injective h))
 
--- the entries less the first one
+-- removing the first entry's station from the index drops the first entry
 pub first-known : (f : Index) (at : ℕ) (xs : List Station) (e : Entry) → Some e ≡ slice_get (entries_from f at xs) 0
     → (seen : LastSeen) × (f (station_in e) ≡ Some seen)
 first-known f at xs e h = head-known f at xs e (drop 1 (entries_from f at xs)) (first-rest (entries_from f at xs) e h)
@@ -269,7 +269,7 @@ less-first f at xs e each h =
     (filter (λ x. not (is_of s x)) (drop 1 es))) mine
     ∙ none-pass (is_of s) (drop 1 es) none
 
--- whatever the index knew, it knows of one station more at most
+-- a change at one station adds at most one station to the index
 pub one_at_most : (o : Option LastSeen) → cond {A = ℕ} (is_some o) 0 1 ≤ 1
 one_at_most None = omega arith
 one_at_most (Some seen) = omega arith

@@ -14,7 +14,7 @@ use Rattle.pb_fdb.specs.Entries.{sighting_of, sightings, fresh_entries, entries_
 use Rattle.pb_fdb.specs.Entries.{IsKept, table_of}
 use Rattle.pb_fdb.specs.Tables.{where_in}
 
--- what passes a test stays in order
+-- a filtered list is in order
 pub InOrder-filter : (p : Entry → Bool) (es : List Entry) → InOrder es → InOrder (filter p es)
 InOrder-filter p [] o = tt
 InOrder-filter p (e ∷ es) o =
@@ -23,19 +23,19 @@ InOrder-filter p (e ∷ es) o =
       | false ↦ InOrder-filter p es o.1
     ]
 
--- and so do entries with a later one behind them
+-- a list with a later entry appended is in order
 pub InOrder-push : (es : List Entry) (e : Entry) → InOrder es → AllByRecursion (λ f. f.learnt ≤ e.learnt) es
     → InOrder (es ++ e ∷ [])
 InOrder-push [] e o a = (tt, tt)
 InOrder-push (f ∷ es) e o a =
     (All-append (λ g. f.learnt ≤ g.learnt) es (e ∷ []) o.0 (a.0, tt), InOrder-push es e o.1 a.1)
 
--- a later clock
+-- the bound by the clock holds at a later clock
 pub before-later : (clock now : ℕ) (es : List Entry) → clock ≤ now → AllByRecursion (λ e. e.learnt ≤ clock) es
     → AllByRecursion (λ e. e.learnt ≤ now) es
 before-later clock now es h = All-imply (λ e. e.learnt ≤ clock) (λ e. e.learnt ≤ now) (λ e l. omega (arith, h, l)) es
 
--- where one is fresh, so is any that was learnt later
+-- an entry that was learnt later than a fresh one is fresh
 fresh-later : (ageing now first later : ℕ) → first ≤ later → nat_lt (now - first) ageing ≡ true
     → nat_lt (now - later) ageing ≡ true
 fresh-later ageing now first later h f = let l : now - first < ageing = grind (arith, nat_tests) in grind
@@ -47,7 +47,7 @@ all-fresh ageing now [] a = refl
 all-fresh ageing now (e ∷ es) a = ap (λ b. cond b (e ∷ fresh_entries ageing now es) (fresh_entries ageing now es)) a.0
     ∙ ap (λ zs. e ∷ zs) (all-fresh ageing now es a.1)
 
--- where the oldest is fresh, all are
+-- if the oldest entry is fresh, all are
 pub oldest-fresh : (ageing now : ℕ) (es : List Entry) (e : Entry) → InOrder es → Some e ≡ slice_get es 0
     → is_fresh ageing now (sighting_of e) ≡ true → fresh_entries ageing now es ≡ es
 oldest-fresh ageing now [] e o is h = cc
@@ -60,7 +60,7 @@ oldest-fresh ageing now (f ∷ es) e o is h =
           (λ g l. fresh-later ageing now f.learnt g.learnt l fresh) es o.0,
     )
 
--- where it isn't, the others are left
+-- if the oldest entry has aged out, the fresh ones are among the others
 pub oldest-old : (ageing now : ℕ) (es : List Entry) (e : Entry) → Some e ≡ slice_get es 0
     → is_fresh ageing now (sighting_of e) ≡ false
     → fresh_entries ageing now es ≡ fresh_entries ageing now (drop 1 es)
@@ -69,7 +69,7 @@ oldest-old ageing now (f ∷ es) e is h =
     ap (λ b. cond b (f ∷ fresh_entries ageing now es) (fresh_entries ageing now es))
     (ap (λ g. is_fresh ageing now (sighting_of g)) (sym (Some-injective is)) ∙ h)
 
--- so that there are fewer
+-- if the oldest entry has aged out, fewer are fresh
 pub oldest-old-fewer : (ageing now : ℕ) (es : List Entry) (e : Entry) → Some e ≡ slice_get es 0
     → is_fresh ageing now (sighting_of e) ≡ false
     → length (fresh_entries ageing now es) < length es
@@ -78,12 +78,12 @@ oldest-old-fewer ageing now (f ∷ es) e is h =
     rw (oldest-old ageing now (f ∷ es) e is h)
     (omega (arith, filter-shorter (λ g. is_fresh ageing now (sighting_of g)) es))
 
--- no first entry, none
+-- a list without a first element is empty
 pub oldest-none : (es : List Entry) → None ≡ slice_get es 0 → es ≡ []
 oldest-none [] is = refl
 oldest-none (e ∷ es) is = cc
 
--- old entries may go before or after a new one comes
+-- aged entries may be removed before or after a new entry is added
 pub fresh-replaced : (ageing : ℕ) (es : List Entry) (e : Entry) → 0 < ageing
     → fresh_entries ageing e.learnt (without_station e es ++ e ∷ []) ≡ without_station e
     (fresh_entries ageing e.learnt es) ++ e ∷ []
@@ -93,14 +93,14 @@ fresh-replaced ageing es e h =
     ∙ ap (λ b. fresh_entries ageing e.learnt (without_station e es) ++ cond b (e ∷ []) []) fresh
     ∙ ap (λ zs. zs ++ e ∷ []) (filter-swap (λ f. is_fresh ageing e.learnt (sighting_of f)) _ es)
 
--- the first that passes is the first of those that pass
+-- the first element that passes is the first of the filtered list
 first-head : {X : Type 0} (p : X → Bool) (xs : List X) → first p xs ≡ slice_get (filter p xs) 0
 first-head p [] = refl
 first-head p (x ∷ xs) = elim (p x) as
     (λ b. cond b (Some x) (first p xs) ≡ slice_get (cond b (x ∷ filter p xs) (filter p xs)) 0)
     [ true ↦ refl | false ↦ first-head p xs ]
 
--- the station's entry, if it is fresh, tells where the station is
+-- the station's fresh entry gives its port
 pub where-found : (limit ageing clock now vid : ℕ) (mac : List ℕ) (es : List Entry) (o : Option Entry)
     → filter (λ e. is_sighted vid mac (sighting_of e)) es ≡ option_to_list o
     → where_in (table_of limit ageing clock es) now vid mac ≡ option_map (λ s. s.port)
@@ -112,7 +112,7 @@ where-found limit ageing clock now vid mac es o h =
     ∙ ap (λ xs. slice_get (filter (is_fresh ageing now) xs) 0) (filter-map (is_sighted vid mac) es ∙ ap sightings h)
     )
 
--- a table keeps what passes a test
+-- a filter preserves the invariant of the table
 pub IsKept-filter : (limit ageing clock : ℕ) (p : Entry → Bool) (es : List Entry) → IsKept limit ageing clock es
     → IsKept limit ageing clock (filter p es)
 IsKept-filter limit ageing clock p es k = record {
@@ -122,13 +122,13 @@ IsKept-filter limit ageing clock p es k = record {
   before = All-passed (λ e. e.learnt ≤ clock) p es k.before;
 }
 
--- at a later clock it keeps the same
+-- a later clock preserves the invariant of the table
 pub IsKept-later : (limit ageing clock now : ℕ) (es : List Entry) → clock ≤ now → IsKept limit ageing clock es
     → IsKept limit ageing now es
 IsKept-later limit ageing clock now es h k =
     record { ageing_is = k.ageing_is; fits = k.fits; order = k.order; before = before-later clock now es h k.before }
 
--- and one more, that is learnt by the clock, where there is room
+-- an entry that is learnt at the clock preserves the invariant, if there is space for it
 pub IsKept-push : (limit ageing : ℕ) (es : List Entry) (e : Entry) → IsKept limit ageing e.learnt es
     → length es < limit → IsKept limit ageing e.learnt (es ++ e ∷ [])
 IsKept-push limit ageing es e k room = record {
@@ -138,14 +138,14 @@ IsKept-push limit ageing es e k room = record {
   before = All-append (λ f. f.learnt ≤ e.learnt) es (e ∷ []) k.before (omega arith, tt);
 }
 
--- it keeps the entries that stay where one more is to come
+-- the entries that remain when one is added keep the invariant
 pub IsKept-room : (limit ageing now : ℕ) (es : List Entry) → IsKept limit ageing now es
     → IsKept limit ageing now (entries_with_room limit ageing now es)
 IsKept-room limit ageing now es k =
     elim (nat_le limit (length es)) as (λ b. IsKept limit ageing now (cond b (fresh_entries ageing now es) es))
     [ true ↦ IsKept-filter limit ageing now (λ e. is_fresh ageing now (sighting_of e)) es k | false ↦ k ]
 
--- there is room for it unless as many are live as may be kept
+-- there is space for one more entry, unless as many are live as the limit allows
 pub room-left : (limit ageing now : ℕ) (es : List Entry) → nat_le limit (length (fresh_entries ageing now es)) ≡ false
     → length (entries_with_room limit ageing now es) < limit
 room-left limit ageing now es h =
@@ -153,7 +153,7 @@ room-left limit ageing now es h =
     (λ b. nat_le limit (length es) ≡ b → length (cond b (fresh_entries ageing now es) es) < limit)
     [ true ↦ λ f. grind (arith, nat_tests) | false ↦ λ f. grind (arith, nat_tests) ] refl
 
--- where as many are kept as may be, as many are live if the oldest is
+-- if the limit is reached and the oldest entry is live, as many are live as the limit allows
 pub full-fresh : (limit ageing now : ℕ) (es : List Entry) (e : Entry) → InOrder es → length es ≤ limit
     → limit ≤ length es → Some e ≡ slice_get es 0
     → is_fresh ageing now (sighting_of e) ≡ nat_le limit (length (fresh_entries ageing now es))

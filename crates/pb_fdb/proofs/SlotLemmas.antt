@@ -35,7 +35,7 @@ found-station ss s (Some i) h =
     ∙ ap Some (sym (same_station s (get_or ss i s) p.1))
 
 module _ {S : Type 0} (m : IndexMap Station LastSeen S) (i : ℕ) where
-  -- what stands at a slot
+  -- the station and its value at a slot
   pub station-at : (s : Station) (seen : LastSeen) → slice_get m.entries i ≡ Some (s, seen)
       → slice_get (keys m) i ≡ Some s
   station-at s seen h = slice_get-map (λ e. e.0) m.entries i ∙ ap (option_map (λ e. e.0)) h
@@ -44,7 +44,7 @@ module _ {S : Type 0} (m : IndexMap Station LastSeen S) (i : ℕ) where
       → slice_get (values m) i ≡ Some seen
   seen-at s seen h = slice_get-map (λ e. e.1) m.entries i ∙ ap (option_map (λ e. e.1)) h
 
-  -- the index once another place is noted at a slot
+  -- the index after a new value is set at a slot
   pub noted-at : (s t : Station) (old new : LastSeen) → IsUnique is_same m → slice_get m.entries i ≡ Some (t, old)
       → slice_get (keys m) i ≡ Some s
       → IsIndexWith s (Some new) (get is_same m) (get is_same (with_value_at m i new))
@@ -53,7 +53,7 @@ module _ {S : Type 0} (m : IndexMap Station LastSeen S) (i : ℕ) where
       (Some-injective (sym (station-at t old here) ∙ is))
       (updates-with_value_at m i new same_is_equivalence unique t old here).0
 
-  -- and once what stands at a slot is taken out
+  -- the index after a slot is removed
   pub taken-at : (n : IndexMap Station LastSeen S) (s : Station) (r : Option (Station × LastSeen))
       → r ≡ slice_get m.entries i → slice_get (keys m) i ≡ Some s
       → IfSome r (λ p. Updates is_same m n p.0 None) → IsIndexWith s None (get is_same m) (get is_same n)

@@ -1,4 +1,4 @@
--- Stations, and the entries that are theirs.
+-- Stations, and their entries.
 use Rattle.std.proofs.Common.{◌≡◌, ℕ, suc, ◌+◌, ◌==◌, ◌&&◌, Bool, true, false, cond, not, List, [], ◌∷◌, length, refl}
 use Rattle.std.proofs.Common.{sym, ap, ◌∙◌, arith}
 use Rattle.std.proofs.lemmas.Bool.{eqb-true}
@@ -15,11 +15,11 @@ use Rattle.pb_fdb.specs.declared.station.Station.{Station}
 use Rattle.pb_fdb.specs.Entries.{sighting_of}
 use Rattle.pb_fdb.specs.Journals.{is_same, is_of}
 
--- the station of these parts
+-- the station with these parts
 abbrev pub station_of : ℕ → List ℕ → Station
 station_of vid mac = record { vid = vid; mac = record { 0 = mac } }
 
--- stations of the same parts are one
+-- stations with the same parts are equal
 pub same_station : (a b : Station) → is_same a b ≡ true → a ≡ b
 same_station a b h =
     ap (λ v. station_of v a.mac.0) (eqb-true a.vid b.vid (and-left _ _ h))
@@ -28,12 +28,12 @@ same_station a b h =
 pub itself : (s : Station) → is_same s s ≡ true
 itself s = both_true (eqb-refl s.vid) (same-self s.mac.0)
 
--- others are so both ways
+-- the order of the operands does not matter to different stations
 pub other-way : (a b : Station) → is_same a b ≡ false → is_same b a ≡ false
 other-way a b h = false-unless (is_same b a)
     (λ e. true-false (is_same a b) (ap (is_same a) (same_station b a e) ∙ itself a) h)
 
--- an entry is of one station alone
+-- an entry belongs to one station only
 pub of-one : (a b : Station) → is_same a b ≡ false → (e : Entry) → (not (is_of a e) && is_of b e) ≡ is_of b e
 of-one a b h e =
     elim (is_of a e) as (λ t. is_of a e ≡ t → (not t && is_of b e) ≡ is_of b e) [
@@ -44,7 +44,7 @@ of-one a b h e =
       | false ↦ λ not_mine. refl
     ] refl
 
--- the entries of a station are those that are sighted
+-- the entries of a station are those that `is_sighted` finds
 pub sighted-of : (vid : ℕ) (mac : List ℕ) (es : List Entry)
     → filter (λ e. is_sighted vid mac (sighting_of e)) es ≡ filter (is_of (station_of vid mac)) es
 sighted-of vid mac es = filter-same (λ e. is_sighted vid mac (sighting_of e)) (is_of (station_of vid mac)) agree es
@@ -53,7 +53,7 @@ sighted-of vid mac es = filter-same (λ e. is_sighted vid mac (sighting_of e)) (
     agree e = ap (λ b. b && same e.mac.0 mac) (eqb-symm e.vid vid)
         ∙ ap (λ b. (vid == e.vid) && b) (same-symm e.mac.0 mac)
 
--- what passes a test and what does not are all
+-- the elements that pass a test and those that fail it are all elements
 pub parted : {X : Type 0} (p : X → Bool) (xs : List X)
     → length (filter p xs) + length (filter (λ x. not (p x)) xs) ≡ length xs
 parted p [] = refl
@@ -62,7 +62,7 @@ parted p (x ∷ xs) =
     (cond (not b) (x ∷ filter (λ x. not (p x)) xs) (filter (λ x. not (p x)) xs)) ≡ suc (length xs))
     [ true ↦ omega (arith, parted p xs) | false ↦ omega (arith, parted p xs) ]
 
--- where none passes, all do not
+-- if no element passes, all fail
 pub none-pass : {X : Type 0} (p : X → Bool) (xs : List X) → filter p xs ≡ [] → filter (λ x. not (p x)) xs ≡ xs
 none-pass p [] h = refl
 none-pass p (x ∷ xs) h =
@@ -73,7 +73,7 @@ none-pass p (x ∷ xs) h =
           (none-pass p xs e)
     ] h
 
--- and none of those that do not pass does
+-- no element that fails passes
 pub none-left : {X : Type 0} (p : X → Bool) (xs : List X) → filter p (filter (λ x. not (p x)) xs) ≡ []
 none-left p [] = refl
 none-left p (x ∷ xs) =

@@ -1,4 +1,4 @@
--- The entries of a log once its first place had its turn.
+-- The entries of a log after its first place had its turn, for `turn` and `rotate`.
 use Rattle.std.proofs.Common.{◌≡◌, ℕ, zero, suc, ◌^◌, ◌<◌, ◌≤◌, Bool, true, false, cond, not, nat_eq, Some, None}
 use Rattle.std.proofs.Common.{List, [], ◌∷◌, ◌++◌, length, drop, refl, sym, ap, ◌∙◌, subst, arith, append-nil}
 use Rattle.std.proofs.Common.{append_assoc, length-append}
@@ -16,7 +16,7 @@ use Rattle.pb_fdb.specs.Journals.{is_of, entry_of, Index, IsIndexWith, place_aft
 use Rattle.pb_fdb.specs.Journals.{HasTurned, stays}
 use Rattle.pb_fdb.proofs.StationLemmas.{itself, none-pass}
 
--- once a station's entry stands at the first place, none of its stands in any beginning of the rest
+-- if a station's latest place is the first, it has no entry in any beginning of the remaining places
 rest-none : (f : Index) (at : ℕ) (s : Station) (seen : LastSeen) (rest : List Station)
     → HasEach f (entries_from f at (s ∷ rest)) → f s ≡ Some seen → at ≡ seen.at
     → filter (is_of s) (entries_from f (place_after at 1) rest) ≡ []
@@ -36,7 +36,7 @@ front-none f at s front back below h =
     sym (filter-append (is_of s) (entries_from f at front) (entries_from f (place_after at (length front)) back))
     ∙ ap (filter (is_of s)) (sym (entries-append f at front back below)) ∙ h)
 
--- what stood there went
+-- the case of an entry that is removed
 pub turned-gone : (keep : Entry → Bool) (f g : Index) (at : ℕ) (s : Station) (seen : LastSeen) (rest : List Station)
     → HasEach f (entries_from f at (s ∷ rest)) → f s ≡ Some seen → at ≡ seen.at
     → keep (entry_of s seen) ≡ false → IsIndexWith s None f g → HasTurned keep f g at s rest rest
@@ -59,7 +59,7 @@ turned-gone keep f g at s seen rest each is place goes without =
           (ap (λ zs. filter (is_of s) (entries_from f next zs)) (sym parts) ∙ rest_none));
     }
 
--- what stood there went last
+-- the case of an entry that is moved to the end
 pub turned-last : (keep : Entry → Bool) (f g : Index) (at : ℕ) (s : Station) (seen new : LastSeen)
     (rest : List Station) → HasEach f (entries_from f at (s ∷ rest)) → f s ≡ Some seen → at ≡ seen.at
     → keep (entry_of s seen) ≡ true → IsIndexWith s (Some new) f g → entry_of s new ≡ entry_of s seen
@@ -88,7 +88,7 @@ turned-last keep f g at s seen new rest each is place stay with_new same_entry b
           ∙ none-pass (is_of s) (entries_from f next front) none;
     }
 
--- without its station, the entries are those behind the first place
+-- without its station, the entries are those after the first place
 past-first : (f : Index) (at : ℕ) (s : Station) (rest : List Station)
     → filter (λ e. not (is_of s e)) (entries_from f at (s ∷ rest)) ≡ filter (λ e. not (is_of s e))
     (entries_from f (place_after at 1) rest)
@@ -97,14 +97,14 @@ past-first f at s rest =
     ∙ ap (λ zs. zs ++ filter (λ e. not (is_of s e)) (entries_from f (place_after at 1) rest))
     (entry-dropped (λ e. not (is_of s e)) s (λ any. ap not (itself s)) at (f s))
 
--- the entries once the first place had its turn, where its station goes
+-- the entries after the turn of the first place, if its entry is removed
 pub gone-entries : (f g : Index) (at : ℕ) (s : Station) (seen : LastSeen) (rest : List Station)
     → HasEach f (entries_from f at (s ∷ rest)) → f s ≡ Some seen → at ≡ seen.at → IsIndexWith s None f g
     → entries_from g (place_after at 1) rest ≡ filter (λ e. not (is_of s e)) (entries_from f at (s ∷ rest))
 gone-entries f g at s seen rest each is place without =
     entries-with f g s None without (place_after at 1) rest refl ∙ sym (past-first f at s rest)
 
--- and where it goes last
+-- the entries after the turn of the first place, if its entry is moved to the end
 pub last-entries : (f g : Index) (at : ℕ) (s : Station) (seen new : LastSeen) (rest : List Station) → f s ≡ Some seen
     → at ≡ seen.at → IsIndexWith s (Some new) f g
     → new.at ≡ place_after (place_after at 1) (length rest) → length rest < 2 ^ 64
@@ -114,13 +114,13 @@ last-entries f g at s seen new rest is place with_new behind fits =
     entries-put f g s new (place_after at 1) rest with_new (place-below at 1) fits behind
     ∙ ap (λ zs. zs ++ entry_of s new ∷ []) (sym (past-first f at s rest))
 
--- the place that had its turn, and those behind it, by another name
+-- the same statement under other names of the first place and the remaining ones
 pub turned-as : (keep : Entry → Bool) (f g : Index) (at : ℕ) (a b : Station) (xs ys log : List Station)
     → HasTurned keep f g at a xs log → a ∷ xs ≡ b ∷ ys → HasTurned keep f g at b ys log
 turned-as keep f g at a b xs ys log t k = subst (λ x. HasTurned keep f g at x ys log) (first-part k)
     (subst (λ zs. HasTurned keep f g at a zs log) (ap (drop 1) k) t)
 
--- what goes and what stays
+-- an entry at the port is removed, and any other stays
 pub goes-at : (port : Option ℕ) (e : Entry) → option_eq nat_eq port (Some e.port) ≡ true → stays port e ≡ false
 goes-at None e h = cc
 goes-at (Some p) e h = ap not h
@@ -129,18 +129,18 @@ pub stays-at : (port : Option ℕ) (e : Entry) → option_eq nat_eq port (Some e
 stays-at None e h = refl
 stays-at (Some p) e h = ap not h
 
--- a list with one more in front of both of two
+-- cancelling a common front of two lists
 append-cancel : {X : Type 0} (xs ys zs : List X) → xs ++ ys ≡ xs ++ zs → ys ≡ zs
 append-cancel [] ys zs h = h
 append-cancel (x ∷ xs) ys zs h = append-cancel xs ys zs (ap (drop 1) h)
 
--- a place parts a list
+-- an index splits a list
 pub split : {X : Type 0} (xs : List X) (i : ℕ) → i < length xs → (x : X) × (drop i xs ≡ x ∷ drop (suc i) xs)
 split [] i h = absurd (omega arith)
 split (x ∷ xs) zero h = (x, refl)
 split (x ∷ xs) (suc i) h = let r = split xs i (omega arith) in (r.0, r.1)
 
--- after so many turns one more: what had its turn is told apart from what has not
+-- one more turn of the loop in `rotate`: places that had their turn are followed by those that did not
 pub turned-on : (keep : Entry → Bool) (f g : Index) (at : ℕ) (s : Station) (rest behind log : List Station)
     (gone all : List Entry) (t : HasTurned keep f g at s (rest ++ behind) log)
     → all ≡ gone ++ entries_from f at (s ∷ rest)

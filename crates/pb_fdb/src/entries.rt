@@ -1,4 +1,4 @@
-//! The table's entries, one by one.
+//! Iteration over the entries of the table.
 
 ghost use Rattle.indexmap.specs.IndexMap.{get};
 ghost use Rattle.std.specs.Iterator.{YieldsFirstBy, item_count};
@@ -13,8 +13,7 @@ use crate::station::LogEntry;
 use std::collections::vec_deque::Iter;
 use std::marker::Model;
 
-/// The entries of a table that are left to come, the oldest learning first. Contracts see the
-/// sightings that they tell.
+/// The remaining entries of a table, in the order of last learning, oldest first. Contracts see them as sightings.
 #[derive(Drop)]
 pub struct Entries<'a> {
     index: &'a Index,
@@ -36,7 +35,7 @@ impl<'a> Model for Entries<'a> {
 }
 
 impl<'a> Entries<'a> {
-    /// The entries of a log that begins at this place.
+    /// Iterates over the entries of a log that begins at this place.
     pub(crate) fn of(index: &'a Index, log: Iter<'a, LogEntry>, at: u64) -> Entries<'a>
         ensures { result ≡ sightings (entries_from (get is_same index.now) at (stations (deque_iter_rest log.entry))) }
     {

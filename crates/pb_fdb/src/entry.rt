@@ -1,16 +1,16 @@
-//! What the table keeps of a station.
+//! An entry of the table.
 
 use pb_frame::Mac;
 
-/// A station seen in a service at a port.
+/// A station that was seen in a service at a port.
 #[derive(Clone, Copy, Debug, PartialEq, Eq)]
 pub struct Entry {
     /// The service: the VID of its S-VLAN.
     pub vid: u16,
     /// The station's address.
     pub mac: Mac,
-    /// The port at which the station was seen last.
+    /// The port at which the station was last seen.
     pub port: u8,
-    /// The moment of that, in ticks.
+    /// The moment at which the station was last seen, in ticks.
     pub learnt: u64,
 }

@@ -1,4 +1,4 @@
-//! Entries in the order of last learning, found by their stations.
+//! Entries in the order of last learning, with an index by station.
 
 ghost use Rattle.indexmap.specs.IndexMap.{get, keys, values, index_map_len};
 ghost use Rattle.std.specs.List.{filter};
@@ -21,17 +21,17 @@ use std::alloc::{AllocError, Global};
 use std::collections::VecDeque;
 use std::marker::Model;
 
-/// Where each station was seen last. A look-up takes constant time. Its hashes are without secret: whoever
-/// picks the addresses can make look-ups as slow as a search among all stations, and no slower.
+/// An index of stations: where each was last seen. A look-up takes constant time. The hash has no secret key.
+/// Somebody who chooses the addresses can make a look-up as slow as a search through all stations, but no slower.
 pub(crate) type Index = IndexMap<Station, LastSeen>;
 
-/// Entries in the order of last learning, the oldest first, each found by its station in constant time.
-/// Contracts see the entries. An empty journal takes no memory.
+/// Entries in the order of last learning, oldest first. Each is found by its station in constant time. Contracts see
+/// the list of entries. An empty journal allocates nothing.
 ///
-/// The log has each station at every place where it was learnt, and the index the last of these places, at
-/// which alone it counts. So a station that is learnt again is put last without a search for where it stood.
-/// Once the log is full it is gone through, and the places that count no more are dropped. Each place tells at
-/// which slot the index had its station, so that only stations that the index has moved since are looked up.
+/// The log has a place for each time that a station was learnt. The index has the latest place of each station, and
+/// only that place counts. A station that is learnt again gets a place at the end of the log, without a search for
+/// its old one. When the log is full, the places that no longer count are dropped. Each place keeps the slot at which
+/// the index had its station. The station is looked up only if the index has moved it to another slot.
 #[derive(Drop)]
 pub struct Journal {
     index: Index,
@@ -54,8 +54,7 @@ impl Model for Journal {
         (entries_from (get is_same j.index) j.first (stations j.log.items)) };
 }
 
-/// The slot at which the index has a station, by a look-up. It stays a call of its own, so that `slot_of`, which
-/// seldom makes it, is short.
+/// Looks up the slot at which the index has a station. It is never inlined, which keeps its caller `slot_of` short.
 #[inline(never)]
 fn find_slot(index: &Index, station: &Station) -> Option<usize>
     ensures station { IfSome result (λ slot. slice_get (keys index.now) slot ≡ Some station.now) }
@@ -66,8 +65,8 @@ fn find_slot(index: &Index, station: &Station) -> Option<usize>
     index.get_index_of(station)
 }
 
-/// The slot at which the index has the station of a place: mostly the one that the place tells, and else a
-/// look-up finds it.
+/// Returns the slot at which the index has the station of a place. Mostly it is the slot that the place keeps.
+/// Otherwise it looks the station up.
 fn slot_of(index: &Index, place: &LogEntry) -> Option<usize>
     ensures station { IfSome result (λ slot. slice_get (keys index.now) slot ≡ Some place.now.station) }
     ensures seen { IfSome result (λ slot. slice_get (values index.now) slot ≡ get is_same index.now place.now.station) }
@@ -81,7 +80,7 @@ fn slot_of(index: &Index, place: &LogEntry) -> Option<usize>
     }
 }
 
-/// The entry that stands at a place of the log, if the station's last place is this one.
+/// Returns the entry of a place of the log, if this is the latest place of its station.
 pub(crate) fn entry_there(index: &Index, at: u64, place: &LogEntry) -> Option<Entry>
     ensures { entry_at at place.now.station (get is_same index.now place.now.station) ≡ option_to_list result }
 {
@@ -98,7 +97,7 @@ pub(crate) fn entry_there(index: &Index, at: u64, place: &LogEntry) -> Option<En
     })
 }
 
-/// Notes where the station at a slot of the index was seen last, and answers where that was before.
+/// Sets where the station at a slot of the index was last seen, and returns where it was last seen before.
 fn note(index: &mut Index, slot: usize, seen: LastSeen) -> LastSeen
     requires { slot < index_map_len index.old }
     ensures old { slice_get (values index.old) slot ≡ Some result }
@@ -112,7 +111,7 @@ fn note(index: &mut Index, slot: usize, seen: LastSeen) -> LastSeen
     old
 }
 
-/// Drops the places at the front of a log that count no more, and answers the entry at the first that does.
+/// Drops the places at the front of a log that do not count, and returns the entry of the first that does.
 fn front(index: &Index, log: &mut VecDeque<LogEntry>, first: &mut u64) -> Option<Entry>
     ensures entries { entries_from (get is_same index.now) first.new (stations log.new.items)
         ≡ entries_from (get is_same index.now) first.old (stations log.old.items) }
@@ -130,7 +129,8 @@ fn front(index: &Index, log: &mut VecDeque<LogEntry>, first: &mut u64) -> Option
     None
 }
 
-/// Drops the first place of a log, and where it counts and is at another port, has its entry stand last.
+/// Drops the first place of a log. If the place counts, its entry is removed if it is at `port`, and otherwise moved
+/// to the end of the log.
 fn turn(index: &mut Index, log: &mut VecDeque<LogEntry>, first: &mut u64, port: Option<u8>)
     requires some { 0 < deque_len log.old }
     requires each { HasEach (get is_same index.old)
@@ -170,7 +170,8 @@ fn turn(index: &mut Index, log: &mut VecDeque<LogEntry>, first: &mut u64, port: 
     log.push_back_reserved(LogEntry::new(place.station, slot));
 }
 
-/// Drops the places of a log that count no more, and the entries at a port: each in turn goes, or goes last.
+/// Drops the places of a log that do not count, and the entries at `port`. It takes each place once, and moves those
+/// that remain to the end in their order.
 fn rotate(index: &mut Index, log: &mut VecDeque<LogEntry>, first: &mut u64, port: Option<u8>)
     requires each { HasEach (get is_same index.old)
         (entries_from (get is_same index.old) first.old (stations log.old.items)) }
@@ -190,7 +191,7 @@ fn rotate(index: &mut Index, log: &mut VecDeque<LogEntry>, first: &mut u64, port
     }
 }
 
-/// Has a log that is full take one more place, by dropping those that count no more, where any do.
+/// Frees places of a full log by dropping those that do not count, if there are any.
 #[tactic(auto, using(crate::proofs::LogLemmas::all_stay))]
 fn free_place(index: &mut Index, log: &mut VecDeque<LogEntry>, first: &mut u64)
     requires each { HasEach (get is_same index.old)
@@ -210,7 +211,11 @@ fn free_place(index: &mut Index, log: &mut VecDeque<LogEntry>, first: &mut u64)
     }
 }
 
-/// Has a log take one more place, and twice as many as a station more than these.
+/// Grows a log to at least two places for each of `count + 1` stations, and to at least one free place.
+///
+/// # Errors
+///
+/// `AllocError` if an allocation failed. The log is unchanged then.
 fn make_room(log: &mut VecDeque<LogEntry>, count: usize) -> Result<(), AllocError>
     requires { count < 2 ^ 63 }
     ensures items { log.new.items ≡ log.old.items }
@@ -226,7 +231,7 @@ fn make_room(log: &mut VecDeque<LogEntry>, count: usize) -> Result<(), AllocErro
 }
 
 impl Journal {
-    /// No entries. Takes no memory.
+    /// Returns a journal without entries. Allocates nothing.
     pub fn new(alloc: Global) -> Journal
         ensures { result ≡ [] }
     {
@@ -237,14 +242,14 @@ impl Journal {
         }
     }
 
-    /// How many entries there are.
+    /// Returns the number of entries.
     pub fn len(&self) -> usize
         ensures { result ≡ length self.now }
     {
         self.index.len()
     }
 
-    /// The station's entry: it has one at most. One look-up.
+    /// Returns the entry of the station, which has at most one. It makes one look-up.
     pub fn find(&self, vid: u16, mac: Mac) -> Option<Entry>
         ensures { filter (λ e. is_sighted vid mac.0 (sighting_of e)) self.now ≡ option_to_list result }
     {
@@ -257,7 +262,7 @@ impl Journal {
         })
     }
 
-    /// The entry whose learning is oldest.
+    /// Returns the entry that was learnt longest ago.
     pub fn oldest(&mut self) -> Option<Entry>
         ensures entries { self.new ≡ self.old }
         ensures oldest { result ≡ slice_get self.old 0 }
@@ -265,7 +270,7 @@ impl Journal {
         front(&self.index, &mut self.log, &mut self.first)
     }
 
-    /// Forgets the entry whose learning is oldest.
+    /// Removes the entry that was learnt longest ago.
     pub fn forget_oldest(&mut self)
         ensures { self.new ≡ drop 1 self.old }
     {
@@ -278,8 +283,8 @@ impl Journal {
         });
     }
 
-    /// Puts an entry last in place of its station's, which is answered, and else leaves all as it was.
-    /// Takes no memory, and one look-up.
+    /// Replaces the entry of the same station by `new`, at the end, and returns the old entry. If the station has no
+    /// entry, nothing changes and it returns `None`. It makes one look-up and allocates nothing.
     pub fn renew(&mut self, new: Entry) -> Option<Entry>
         ensures old { filter (λ e. is_sighted new.vid new.mac.0 (sighting_of e)) self.old ≡ option_to_list result }
         ensures renewed { OnSome result (self.new ≡ without_station new self.old ++ new ∷ []) }
@@ -306,7 +311,11 @@ impl Journal {
         })
     }
 
-    /// Puts an entry last, in place of those of its station. Where memory is short, nothing changes.
+    /// Appends an entry at the end, and removes the one of the same station if there is one.
+    ///
+    /// # Errors
+    ///
+    /// `AllocError` if an allocation failed. The entries are unchanged then.
     pub fn replace(&mut self, entry: Entry) -> Result<(), AllocError>
         ensures ok { OnOk result (self.new ≡ without_station entry self.old ++ entry ∷ []) }
         ensures err { OnErr result (self.new ≡ self.old) }
@@ -326,14 +335,14 @@ impl Journal {
         Ok(())
     }
 
-    /// Forgets the entries at a port.
+    /// Removes the entries at a port.
     pub fn flush(&mut self, port: u8)
         ensures { self.new ≡ filter (λ e. not (port == e.port)) self.old }
     {
         rotate(&mut self.index, &mut self.log, &mut self.first, Some(port));
     }
 
-    /// The entries, the oldest learning first.
+    /// Iterates over the entries in the order of last learning, oldest first.
     pub fn entries(&self) -> Entries<'_>
         ensures { result ≡ sightings self.now }
     {

@@ -1,9 +1,9 @@
-//! What tables tell of the past.
+//! The law that connects tables with the events that they recorded.
 
 ghost use Rattle.pb_fdb.specs.Laws.{TablesTellWhatStands};
 
-/// Whatever a table was told, and however it answered, the entries that are not too old are where the past
-/// says that stations are.
+/// Shows that after any calls, whatever `learn` returned, the live entries of a table are the sightings in force by
+/// the recorded events.
 pub fn tables_tell_what_stands()
     ensures { TablesTellWhatStands }
 {}

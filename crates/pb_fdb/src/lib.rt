@@ -1,5 +1,5 @@
-//! The filtering database of a bridge (IEEE 802.1Q clause 8, the learning process and ageing): where
-//! stations were seen last, by service and address.
+//! The filtering database of a bridge (IEEE 802.1Q clause 8, the learning process and ageing): where stations were
+//! last seen, by service and address. It builds on pb_frame and indexmap. Begin with [`Fdb`].
 #![tactic(auto)]
 
 mod entries;

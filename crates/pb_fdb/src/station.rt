@@ -1,4 +1,4 @@
-//! Stations, where each was seen last, and the places of a log.
+//! Stations, where each was last seen, and the places of a log.
 
 ghost use Rattle.std.specs.Hash as fed;
 ghost use Rattle.std.specs.Prelude.{◌≡◌, ◌%◌, ◌^◌, ◌++◌, ◌∷◌, []};
@@ -22,14 +22,14 @@ impl Hash for Station {
 
     ghost respects_eq = { Prim.search (hashing, rules) };
 
-    /// Two writes, where a derived one makes eight.
+    /// Feeds the station to the hasher in two writes. A derived implementation makes eight.
     fn hash<H: Hasher>(&self, state: &mut H) {
         state.write_u16(self.vid);
         state.write(&self.mac.0);
     }
 }
 
-/// Where and when a station was seen last, and the place of that in a log.
+/// Where and when a station was last seen, and the place of that in a log.
 #[derive(Clone, Copy, Debug, PartialEq, Eq)]
 pub struct LastSeen {
     /// The place in the log.
@@ -40,18 +40,18 @@ pub struct LastSeen {
     pub port: u8,
 }
 
-/// An entry of a log.
+/// A place of a log.
 #[derive(Clone, Copy, Debug)]
 pub struct LogEntry {
     /// The station.
     pub station: Station,
-    /// The slot at which the index had the station when the entry was made. It is only a hint: the index may have moved
-    /// the station since.
+    /// The slot at which the index had the station when the place was made. It is only a hint: the index may move the
+    /// station.
     pub slot: u32,
 }
 
 impl LogEntry {
-    /// Returns the entry of a station that the index has at this slot. Only the lower bits of the slot are kept, which
+    /// Returns the place of a station that the index has at this slot. It keeps the lower 32 bits of the slot, which
     /// is enough for a hint.
     pub fn new(station: Station, slot: usize) -> LogEntry
         ensures station { result.station ≡ station }

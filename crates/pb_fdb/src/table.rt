@@ -1,4 +1,4 @@
-//! Where stations were seen.
+//! The filtering database.
 
 ghost use Rattle.std.specs.List.{AllByRecursion};
 ghost use Rattle.std.specs.Prelude.{◌≡◌, ◌<◌, ◌≤◌, ◌++◌, ◌∷◌, [], length, nat_le, OnOk, OnErr, if◌then◌else◌};
@@ -14,8 +14,8 @@ use pb_frame::{Learnt, Mac};
 use std::alloc::{AllocError, Global};
 use std::marker::Model;
 
-/// The filtering database: where stations were seen last, by service and address, the oldest learning
-/// first (IEEE 802.1Q clause 8). Moments are ticks.
+/// The filtering database: where stations were last seen, by service and address, in the order of last learning,
+/// oldest first (IEEE 802.1Q clause 8). Moments are in ticks.
 #[derive(Drop)]
 pub struct Fdb {
     limit: usize,
@@ -36,14 +36,14 @@ impl Model for Fdb {
     ghost invariant = { λ f. IsKept f.limit f.ageing f.clock f.journal };
 }
 
-/// The entry is no older than the ageing time allows.
+/// Checks whether the entry is younger than the ageing time.
 fn is_fresh(entry: &Entry, ageing: u32, now: u64) -> bool
     ensures { result ≡ is_fresh ageing now (sighting_of entry.now) }
 {
     now.saturating_sub(entry.learnt) < u64::from(ageing)
 }
 
-/// Forgets the stations that weren't seen for the ageing time: they come first.
+/// Removes the entries that have aged out. They come first.
 fn forget_old(journal: &mut Journal, ageing: u32, now: u64)
     requires { InOrder journal.old }
     ensures { journal.new ≡ fresh_entries ageing now journal.old }
@@ -56,7 +56,7 @@ fn forget_old(journal: &mut Journal, ageing: u32, now: u64)
     }
 }
 
-/// Forgets the old ones where there were as many entries as may be.
+/// Removes the entries that have aged out, if `full` is set.
 fn sweep(journal: &mut Journal, full: bool, ageing: u32, now: u64)
     requires { InOrder journal.old }
     ensures { journal.new ≡ (if full then fresh_entries ageing now journal.old else journal.old) }
@@ -66,7 +66,8 @@ fn sweep(journal: &mut Journal, full: bool, ageing: u32, now: u64)
     }
 }
 
-/// As many stations are live as may be kept. They all are where the oldest is.
+/// Checks whether as many stations are live as the limit allows. If the journal has as many entries as that, all of
+/// them are live exactly if the oldest is.
 fn is_full(journal: &mut Journal, limit: usize, ageing: u32, now: u64) -> bool
     requires order { InOrder journal.old }
     requires fits { length journal.old ≤ limit }
@@ -82,8 +83,12 @@ fn is_full(journal: &mut Journal, limit: usize, ageing: u32, now: u64) -> bool
     }
 }
 
-/// Puts an entry last, in place of those of its station, and forgets the old ones where there were as
-/// many entries as may be. Memory is asked for first, so that nothing is forgotten where it is short.
+/// Appends an entry, and removes the one of the same station if there is one. If there were as many entries as the
+/// limit allows, it also removes those that have aged out. It allocates first.
+///
+/// # Errors
+///
+/// `AllocError` if an allocation failed. The entries are unchanged then.
 fn add(journal: &mut Journal, entry: Entry, limit: usize, ageing: u32) -> Result<(), AllocError>
     requires order { InOrder journal.old }
     requires before { AllByRecursion (λ e. e.learnt ≤ entry.learnt) journal.old }
@@ -99,8 +104,8 @@ fn add(journal: &mut Journal, entry: Entry, limit: usize, ageing: u32) -> Result
 }
 
 impl Fdb {
-    /// A table that keeps at most `limit` stations, each for fewer than `ageing` ticks after it was seen
-    /// last. Takes no memory.
+    /// Returns an empty table. It keeps at most `limit` stations, each for fewer than `ageing` ticks after it was
+    /// last seen. Allocates nothing.
     pub fn new(alloc: Global, limit: usize, ageing: u32) -> Fdb
         requires { 0 < ageing }
         ensures { result ≡ empty_table limit ageing }
@@ -113,7 +118,7 @@ impl Fdb {
         }
     }
 
-    /// The port at which the station was seen last in the service, if that is fewer than `ageing` ticks ago.
+    /// Returns the port at which the station was last seen in the service, if that is fewer than `ageing` ticks ago.
     pub fn find(&self, vid: u16, mac: Mac, now: u64) -> Option<u8>
         ensures { result ≡ where_in self.now now vid mac.0 }
     {
@@ -124,13 +129,13 @@ impl Fdb {
         None
     }
 
-    /// Takes note of a station that is seen in a service at a port. The moment is no earlier than any
-    /// that the table was told before.
+    /// Records that a station was seen in a service at a port, at the moment `now`. `now` is not before the moment of
+    /// any earlier call.
     ///
-    /// `Group` is answered exactly for a group address, and `Full` exactly where `limit` others are live and this
-    /// station is not; `Kept` and `Moved` where it is live, and they take no memory; `New` otherwise, unless
-    /// `Memory` ran out. Where the table holds its limit and the station is not live, those that are
-    /// too old go first. `Full`, `Group` and `Memory` leave the entries as they were.
+    /// Returns `Group` exactly for a group address, and `Full` exactly if `limit` other stations are live and this
+    /// one is not. Returns `Kept` or `Moved` if the station is live, without an allocation. Otherwise it returns
+    /// `New`, or `Memory` if an allocation failed. If the table has `limit` entries and the station is added, entries
+    /// that have aged out are removed. `Full`, `Group` and `Memory` leave the entries unchanged.
     pub fn learn(&mut self, vid: u16, mac: Mac, port: u8, now: u64) -> Learnt
         requires { self.old.clock ≤ now }
         ensures answer { IsLearnt (is_group mac.0) (where_in self.old now vid mac.0) (is_full self.old now) port
@@ -168,15 +173,15 @@ impl Fdb {
         }
     }
 
-    /// Forgets the stations that were seen last at a port.
+    /// Removes the entries of stations that were last seen at a port.
     pub fn flush(&mut self, port: u8)
         ensures { self.new ≡ flushed self.old port }
     {
         self.journal.flush(port);
     }
 
-    /// Forgets the stations that were not seen for the ageing time. The moment is no earlier than any
-    /// that the table was told before.
+    /// Removes the entries that have aged out at the moment `now`. `now` is not before the moment of any earlier
+    /// call.
     pub fn expire(&mut self, now: u64)
         requires { self.old.clock ≤ now }
         ensures { self.new ≡ expired self.old now }
@@ -185,7 +190,8 @@ impl Fdb {
         forget_old(&mut self.journal, self.ageing, now);
     }
 
-    /// The entries that are kept, those too old but not yet dropped among them, the oldest learning first.
+    /// Iterates over the entries in the order of last learning, oldest first. Entries that have aged out and are not
+    /// removed yet are among them.
     pub fn entries(&self) -> Entries<'_>
         ensures { result ≡ self.now.sightings }
     {

@@ -1,5 +1,5 @@
--- The record of the worked examples, in which a broadcast goes over one link and leaves another port of its service,
--- meets all that the laws ask. So they say something of it.
+-- The record of the worked examples meets all conditions of the laws: a broadcast goes over one link and leaves
+-- another port of its service. This shows that the laws are not empty.
 use Rattle.std.proofs.Common.{false, ◌≡◌, ℕ, subst, zero, suc, [], ◌∷◌, refl, true, Some, None, inr, arith, inl}
 use Rattle.std.specs.List.{AllByRecursion, IsDistinct}
 use Rattle.pb_forest.proofs.DrainedBalance.{tells-drained}

@@ -1,4 +1,4 @@
--- The parts of a certificate make it whole.
+-- The parts of a certificate make it complete, for the functions of `certificate`.
 use Rattle.std.proofs.Common.{◌≡◌, ◌≢◌, ◌⊎◌, inl, inr, ℕ, zero, suc, ◌+◌, ◌<◌, ◌≤◌, ◌==◌, Some, None, Option, List}
 use Rattle.std.proofs.Common.{slice_get, length, refl, sym, ◌∙◌, ap, subst, Bool, true, false, arith, get_or}
 use Rattle.std.proofs.Common.{slice_index_or, slice_set, get_or-set_other, get_or-set_same, below_more, add-one}
@@ -19,17 +19,17 @@ use Rattle.pb_lan.specs.declared.shape.Shape.{Shape}
 use Rattle.pb_lan.specs.declared.shape.Rooted.{Rooted}
 use Rattle.pb_forest.specs.Certificates.{AllStand, AreApart, AllLeadUp, Stands, IsWayUp, AreMarked, MarksOne}
 
--- the entries below an index are true
+-- the entries below an index are right
 abbrev pub StandTo : Plan → Shape → ℕ → Rooted → ℕ → Type 0
 StandTo plan shape vid rooted n = (i : ℕ) → i < n → (up : Option ℕ) → slice_get rooted.up i ≡ Some up
     → Stands plan shape vid rooted (suc i) up
 
--- the active links below an index are ways up
+-- the active links below an index lead up
 abbrev pub LeadTo : Plan → Shape → ℕ → List (Option ℕ) → ℕ → Type 0
 LeadTo plan shape vid ups n = (i : ℕ) → i < n → (link : LinkPlan) → slice_get plan.links i ≡ Some link
     → is_active plan shape vid link ≡ true → IsWayUp ups (suc i)
 
--- the ways up below an index are apart and marked
+-- the links that lead up, below an index, are distinct and marked
 pub record MarkedTo (ups : List (Option ℕ)) (n : ℕ) (marks : List Bool) : Type 0 where
   pub room : length marks ≡ 256
   pub apart : (i j number : ℕ) → i < n → j < n → slice_get ups i ≡ Some (Some number)
@@ -38,7 +38,7 @@ pub record MarkedTo (ups : List (Option ℕ)) (n : ℕ) (marks : List Bool) : Ty
   pub found : (number : ℕ) → slice_index_or marks number false ≡ true
       → (i : ℕ) × (i < n) × (slice_get ups i ≡ Some (Some number))
 
--- two bridges with one way up are one
+-- two bridges with the same link up are one
 one-child : (ups : List (Option ℕ)) → AreApart ups → (x y number : ℕ) → numbered ups x ≡ Some (Some number)
     → numbered ups y ≡ Some (Some number) → x ≡ y
 one-child ups apart (suc x) (suc y) number h k = ap (λ n. suc n) (apart x y number h k)
@@ -62,13 +62,13 @@ shows-parts plan shape vid rooted p d stand apart lead = record {
       };
 }
 
--- a certificate's entries are true
+-- a certificate's entries are right
 pub stand-of : (plan : Plan) (shape : Shape) (vid : ℕ) (rooted : Rooted) → Shows plan shape vid rooted
     → AllStand plan shape vid rooted
 stand-of plan shape vid rooted s bridge None h = s.roots bridge h
 stand-of plan shape vid rooted s bridge (Some number) h = s.ways_up bridge number h
 
--- its ways up are apart
+-- the links that lead up in a certificate are distinct
 pub apart-of : (plan : Plan) (shape : Shape) (vid : ℕ) (rooted : Rooted) → Shows plan shape vid rooted
     → AreApart rooted.up
 apart-of plan shape vid rooted s i j number h k =
@@ -77,7 +77,7 @@ apart-of plan shape vid rooted s i j number h k =
     let e : suc i ≡ suc j = child.only (suc i) h ∙ sym (child.only (suc j) k) in
     omega (arith, e)
 
--- and each active link is one
+-- each active link leads up in a certificate
 pub lead-of : (plan : Plan) (shape : Shape) (vid : ℕ) (rooted : Rooted) → Shows plan shape vid rooted
     → AllLeadUp plan shape vid rooted.up
 lead-of plan shape vid rooted s number link h a =
@@ -85,12 +85,12 @@ lead-of plan shape vid rooted s number link h a =
     let place = numbered-place rooted.up child.child (Some number) child.up in
     (place.0, place.2)
 
--- so the parts are a certificate's
+-- a certificate has all parts
 pub parts-of : (plan : Plan) (shape : Shape) (vid : ℕ) (rooted : Rooted) → Shows plan shape vid rooted
     → AreApart rooted.up × AllLeadUp plan shape vid rooted.up
 parts-of plan shape vid rooted s = (apart-of plan shape vid rooted s, lead-of plan shape vid rooted s)
 
--- one entry more
+-- one more entry, for the loop of `all_stand`
 pub stand_next : (plan : Plan) (shape : Shape) (vid : ℕ) (rooted : Rooted) (items : List (Option ℕ)) (n : ℕ)
     → items ≡ rooted.up → n < length items
     → Stands plan shape vid rooted (n + 1) (get_or items n None) → StandTo plan shape vid rooted n
@@ -103,7 +103,7 @@ stand_next plan shape vid rooted items n e less here below =
     Some-injective (sym (slice_get-get_or items n None less) ∙ ap (λ xs. slice_get xs n) e ∙ h) in
     subst (λ k. Stands plan shape vid rooted k up) (add-one n) (subst (Stands plan shape vid rooted (n + 1)) one here))
 
--- an entry that is not true
+-- an entry that is not right
 pub stand_fails : (plan : Plan) (shape : Shape) (vid : ℕ) (rooted : Rooted) (items : List (Option ℕ)) (n : ℕ)
     → items ≡ rooted.up → n < length items
     → AllStand plan shape vid rooted → Stands plan shape vid rooted (n + 1) (get_or items n None)
@@ -111,7 +111,7 @@ stand_fails plan shape vid rooted items n e less all =
     subst (λ k. Stands plan shape vid rooted k (get_or items n None)) (sym (add-one n))
     (all (suc n) (get_or items n None) (ap (λ xs. slice_get xs n) (sym e) ∙ slice_get-get_or items n None less))
 
--- all of them
+-- all entries, at the end of the loop of `all_stand`
 pub stand_all : (plan : Plan) (shape : Shape) (vid : ℕ) (rooted : Rooted) (items : List (Option ℕ)) (n : ℕ)
     → items ≡ rooted.up → length items ≤ n
     → StandTo plan shape vid rooted n → AllStand plan shape vid rooted
@@ -121,7 +121,7 @@ stand_all plan shape vid rooted items n e most below (suc i) up h =
     let one : length items ≡ length rooted.up = ap length e in
     below i (omega (arith, within, most, one)) up h
 
--- one link more
+-- one more link, for the loop of `all_lead_up`
 pub lead_next : (plan : Plan) (shape : Shape) (vid : ℕ) (ups : List (Option ℕ)) (items : List LinkPlan) (n : ℕ)
     (link : LinkPlan) → items ≡ plan.links → n < length items
     → link ≡ get_or items n link → (is_active plan shape vid link ≡ true → IsWayUp ups (n + 1))
@@ -134,7 +134,7 @@ lead_next plan shape vid ups items n link e less is here below =
     ∙ h) in
     subst (IsWayUp ups) (add-one n) (here (ap (is_active plan shape vid) one ∙ a)))
 
--- each active link is a way up
+-- an active link leads up if its mark says so
 pub lead_at : (plan : Plan) (shape : Shape) (vid : ℕ) (ups : List (Option ℕ)) (items : List LinkPlan) (n : ℕ)
     (link : LinkPlan) → items ≡ plan.links → n < length items
     → link ≡ get_or items n link → AllLeadUp plan shape vid ups → is_active plan shape vid link ≡ true
@@ -144,7 +144,7 @@ lead_at plan shape vid ups items n link e less is all a =
     ∙ slice_get-get_or items n link less ∙ ap (λ l. Some l) (sym is) in
     subst (IsWayUp ups) (sym (add-one n)) (all (suc n) link at a)
 
--- all of them
+-- all links, at the end of the loop of `all_lead_up`
 pub lead_all : (plan : Plan) (shape : Shape) (vid : ℕ) (ups : List (Option ℕ)) (items : List LinkPlan) (n : ℕ)
     → items ≡ plan.links → length items ≤ n
     → LeadTo plan shape vid ups n → AllLeadUp plan shape vid ups
@@ -154,7 +154,7 @@ lead_all plan shape vid ups items n e most below (suc i) link h a =
     let one : length items ≡ length plan.links = ap length e in
     below i (omega (arith, within, most, one)) link h a
 
--- of marks that are all false
+-- marks that are all false, at the start of `ways_up`
 pub marked_none : (ups : List (Option ℕ)) → MarkedTo ups 0 (replicate 256 false)
 marked_none ups = record {
   room = length-replicate 256 false;
@@ -169,7 +169,7 @@ marked_none ups = record {
       | false ↦ λ e. get_or_past (replicate n false) k false (let l = length-replicate n false in grind (arith, e, l))
     ] refl
 
--- a bridge without link
+-- an entry without a link
 marked_root : (ups : List (Option ℕ)) (n : ℕ) (marks : List Bool) → slice_get ups n ≡ Some None → MarkedTo ups n marks
     → MarkedTo ups (n + 1) marks
 marked_root ups n marks at m = record {
@@ -184,7 +184,7 @@ marked_root ups n marks at m = record {
         let differ : i ≢ n = λ e. let g : slice_get ups n ≡ Some (Some number) = ap (slice_get ups) (sym e) ∙ h in cc in
         omega (arith, l, differ)
 
--- a bridge whose link is new
+-- an entry whose link was not marked
 marked_up : (ups : List (Option ℕ)) (n k : ℕ) (marks : List Bool) → slice_get ups n ≡ Some (Some k) → k < length marks
     → get_or marks k false ≡ false
     → MarkedTo ups n marks → MarkedTo ups (n + 1) (slice_set marks k true)
@@ -231,7 +231,7 @@ marked_up ups n k marks at room new m = record {
               let f = m.found number old in (f.0, omega (arith, f.1), f.2)
         ] refl
 
--- one bridge more
+-- one more entry, for the loop of `ways_up`
 pub marked_next : (ups : List (Option ℕ)) (n : ℕ) (up : Option ℕ) (marks new : List Bool) (fresh : Bool)
     → slice_get ups n ≡ Some up → MarksOne up marks new fresh → fresh ≡ true
     → MarkedTo ups n marks → MarkedTo ups (n + 1) new
@@ -241,7 +241,7 @@ marked_next ups n (Some k) marks new fresh at one t m =
     let free : get_or marks k false ≡ false = not-true (get_or marks k false) (sym one.1 ∙ t) in
     subst (MarkedTo ups (n + 1)) (sym one.0) (marked_up ups n k marks at one.2 free m)
 
--- a link that was marked
+-- an entry whose link was marked already
 pub marked_twice : (ups : List (Option ℕ)) (n : ℕ) (up : Option ℕ) (marks new : List Bool) (fresh : Bool)
     → slice_get ups n ≡ Some up → MarksOne up marks new fresh → fresh ≡ false
     → MarkedTo ups n marks → AreApart ups → ⊥
@@ -253,7 +253,7 @@ marked_twice ups n (Some k) marks new fresh at one t m apart =
     let l = f.1 in
     omega (arith, e, l)
 
--- all of them
+-- all entries, at the end of the loop of `ways_up`
 pub marked_all : (ups : List (Option ℕ)) (n : ℕ) (marks : List Bool) → length ups ≤ n → MarkedTo ups n marks
     → AreApart ups × AreMarked ups marks
 marked_all ups n marks most m = (

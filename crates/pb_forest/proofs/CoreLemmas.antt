@@ -1,4 +1,4 @@
--- Where links are left, and at each bridge none or more than one, there is no forest.
+-- If links remain and no bridge has exactly one of them, there is no forest, for `forest`.
 use Rattle.std.proofs.Common.{◌≡◌, ◌≢◌, ◌⊎◌, inl, inr, ℕ, zero, suc, ◌+◌, ◌<◌, ◌≤◌, true, Some, None, Option, List}
 use Rattle.std.proofs.Common.{[], ◌∷◌, slice_get, length, refl, sym, ◌∙◌, subst, unwrap_or, arith}
 use Rattle.std.specs.List.{list_any}
@@ -27,7 +27,7 @@ pub record HasLink (links : List (Option Ends)) (x : ℕ) : Type 0 where
   pub other : ℕ
   pub meets : Meets links link x other
 
--- two links, or one with both ends there
+-- two links at the bridge, or one with both ends there
 pub data HasTwo (links : List (Option Ends)) (x : ℕ) : Type 0 where
   Two : (a b : HasLink links x) → a.link ≢ b.link → HasTwo links x
   Loop : (k : ℕ) → Meets links k x x → HasTwo links x
@@ -46,7 +46,7 @@ two-later e xs x (Loop k m) = Loop (suc k) (record { ends = m.ends; there = m.th
 abbrev here : (ends : Ends) (xs : List (Option Ends)) (x y : ℕ) → Joins ends x y → HasLink (Some ends ∷ xs) x
 here ends xs x y j = record { link = 0; other = y; meets = record { ends = ends; there = refl; joins = j } }
 
--- where an end is at a bridge, a link is
+-- if an end of a link is at a bridge, the bridge has a link
 pub one-link : (xs : List (Option Ends)) (x : ℕ) → 1 ≤ degree xs x → HasLink xs x
 one-link [] x h = absurd (omega (arith, h))
 one-link (None ∷ ys) x h = later None ys x (one-link ys x (omega (arith, h)))
@@ -59,7 +59,7 @@ one-link (Some ends ∷ ys) x h =
           here ends ys x j.1 (subst (λ z. Joins z x j.1) (sym i) j.3)
     ] refl
 
--- and where two are, two links are, or one with both ends
+-- if two ends are at a bridge, it has two links, or one with both ends there
 two-links : (xs : List (Option Ends)) (x : ℕ) → 2 ≤ degree xs x → HasTwo xs x
 two-links [] x h = absurd (omega (arith, h))
 two-links (None ∷ ys) x h = two-later None ys x (two-links ys x (omega (arith, h)))
@@ -85,7 +85,7 @@ two-links (Some ends ∷ ys) x h =
           joins = inl (at-is ends.a x 1 (omega (arith, e, p, q)), at-is ends.b x 1 (omega (arith, e, p, q)));
         })
 
--- a deeper bridge at which links are left
+-- a deeper bridge with remaining links
 pub record HasDeeper (links : List (Option Ends)) (rooted : Rooted) (x : ℕ) : Type 0 where
   pub below : ℕ
   pub degree_there : 1 ≤ degree links below
@@ -129,12 +129,12 @@ two-down plan shape vid rooted s es links edges of x (Loop k m) =
     by (inl u) = let d = u.deeper in omega (arith, d)
     by (inr u) = let d = u.deeper in omega (arith, d)
 
--- no depth is above the sum of all
+-- a depth is at most the sum of all depths
 depth-most : (ds : List ℕ) (x : ℕ) → unwrap_or (numbered ds (suc x)) 0 ≤ total (λ d. d) ds
 depth-most (d ∷ ds) (suc x) = let r = depth-most ds x in omega (arith, r)
 depth-most _ _ = omega arith
 
--- so it cannot go on
+-- a chain of ever deeper bridges contradicts that bound
 descends : (plan : Plan) (shape : Shape) (vid : ℕ) (rooted : Rooted) → Shows plan shape vid rooted
     → (es links : List (Option Ends)) → AreEdges plan shape vid plan.links es
     → ((k x y : ℕ) → Meets links k x y → Meets es k x y) → ((x : ℕ) → degree links x ≢ 1) → (n x : ℕ)
@@ -147,20 +147,20 @@ descends plan shape vid rooted s es links edges of none (suc n) x h l =
     let e = d.deeper in
     descends plan shape vid rooted s es links edges of none n d.below d.degree_there (omega (arith, l, e))
 
--- what is left was there
+-- a link that remains was there before
 taken-meets : (old : List (Option Ends)) (bs : List Branch) (new : List (Option Ends)) → AreTakenOff old bs new
     → (k x y : ℕ) → Meets new k x y → Meets old k x y
 taken-meets old [] new t k x y m = subst (λ xs. Meets xs k x y) (sym t) m
 taken-meets old (b ∷ bs) new t k x y m = off-meets old b.link k x y (taken-meets _ bs new t.1 k x y m)
 
--- some link is left
+-- if some link remains, it has an index
 some-left : (xs : List (Option Ends)) → list_any is_some xs ≡ true → (k : ℕ) × (ends : Ends)
     × (slice_get xs k ≡ Some (Some ends))
 some-left [] h = cc
 some-left (Some ends ∷ xs) h = (0, ends, refl)
 some-left (None ∷ xs) h = let r = some-left xs h in (suc r.0, r.1, r.2)
 
--- then there is no forest
+-- if the search ends with remaining links, there is no forest
 pub core-none : (plan : Plan) (shape : Shape) (vid : ℕ) (es : List (Option Ends)) (bs : List Branch) (g : Graph)
     → AreEdges plan shape vid plan.links es → AreTakenOff es bs g.links.items → IsCounted g
     → IsCleared (length g.degrees.items) g → list_any is_some g.links.items ≡ true → IsForest plan shape vid → ⊥

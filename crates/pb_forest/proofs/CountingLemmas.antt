@@ -1,4 +1,4 @@
--- What a graph keeps of its links stays true as links are added and taken off.
+-- The counts of a graph stay right as links are added and removed, for the functions of `graph`.
 use Rattle.std.proofs.Common.{◌≡◌, ◌≢◌, ◌⊎◌, inl, inr, ℕ, zero, suc, ◌+◌, ◌<◌, ◌≤◌, Some, None, Option, List, [], ◌∷◌}
 use Rattle.std.proofs.Common.{◌++◌, slice_get, slice_set, slice_index, get_or, length, sym, ◌∙◌, ap, subst, arith}
 use Rattle.std.proofs.lemmas.List.{length_push, get_or_read}
@@ -13,7 +13,7 @@ use Rattle.pb_forest.specs.declared.graph.Branch.{Branch}
 use Rattle.pb_forest.specs.declared.graph.Ends.{Ends}
 use Rattle.pb_forest.specs.declared.graph.Graph.{Graph}
 
--- a degree and a sum, and their share of one link more, are small
+-- a degree or a sum, with the share of one more link, fits in 32 bits
 pub degree-fits : (g : Graph) → IsCounted g → (e : Option Ends) (x : ℕ)
     → slice_index g.degrees.items x + share e x 1 < 4294967296
 degree-fits g c e x =
@@ -34,7 +34,7 @@ sum-fits g c e x n h =
     let t = share-most e x in
     omega (arith, d, m, k, s, t, f)
 
--- one link more
+-- after a link is added, each link is an earlier one or the new one
 push-there : (xs : List (Option Ends)) (e : Option Ends) (k : ℕ) (ends : Ends)
     → slice_get (xs ++ e ∷ []) k ≡ Some (Some ends) → (slice_get xs k ≡ Some (Some ends)) ⊎ (e ≡ Some ends)
 push-there [] e zero ends h = inr (Some-injective h)
@@ -86,7 +86,7 @@ counted-push old new e c room b l d s degrees sums = record { counted = counted;
           omega (arith, p, q, r, t, u);
     }
 
--- what a branch takes off is there
+-- the counts that removing a branch subtracts are there
 pub branch-degree : (g : Graph) → IsCounted g → (b : Branch) → IsLast g.links.items b → (ends : Ends)
     → ends.a ≡ b.bridge → ends.b ≡ b.above → (x : ℕ) → share (Some ends) x 1 ≤ slice_index g.degrees.items x
 branch-degree g c b l ends h k x =
@@ -108,7 +108,7 @@ branch-sum g c b l ends h k x =
     let t = joins-share ends b.bridge b.above x b.link (inl (h, k)) in
     omega (arith, d, o, u, s, t)
 
--- and then it is gone
+-- the counts are right after a branch is removed
 pub counted-off : (old new : Graph) (b : Branch) (ends : Ends) → ends.a ≡ b.bridge → ends.b ≡ b.above → IsCounted old
     → IsLast old.links.items b
     → new.links.items ≡ slice_set old.links.items b.link None → length new.degrees.items ≡ length old.degrees.items
@@ -150,7 +150,7 @@ counted-off old new b ends h k c last l d s degrees sums = record { counted = co
           omega (arith, p, q, r, o, v, u, t);
     }
 
--- where one link is left at a bridge, its sum is that link's index
+-- if one link remains at a bridge, its sum is that link's index
 pub link-there : (g : Graph) → IsCounted g → (x d k : ℕ) → x < length g.degrees.items → d ≡ get_or g.degrees.items x d
     → d ≡ 1 → k ≡ get_or g.sums.items x k
     → (ends : Ends) × (y : ℕ) × (slice_get g.links.items k ≡ Some (Some ends)) × Joins ends x y
@@ -162,17 +162,17 @@ link-there g c x d k less read h sum =
     let e : one.0 ≡ k = omega (arith, s, q, r) in
     (one.3.ends, one.1, subst (λ n. slice_get g.links.items n ≡ Some (Some one.3.ends)) e one.3.there, one.3.joins)
 
--- what is read at its place
+-- the link that is read at its index
 pub link-read : (xs : List (Option Ends)) (k : ℕ) (ends : Ends) (r : Option Ends) → slice_get xs k ≡ Some (Some ends)
     → r ≡ get_or xs k r → r ≡ Some ends
 link-read xs k ends r h read = read ∙ get_or_from_slice_get xs k (Some ends) r h
 
--- the link's end that is not the first is the second
+-- the end of a link that is not the first is the second
 pub second-end : (ends : Ends) (x y : ℕ) → Joins ends x y → ends.a ≢ x → ends.b ≡ x
 second-end ends x y (inl h) n = absurd (n h.0)
 second-end ends x y (inr h) n = h.0
 
--- the bridge that is taken off with the link
+-- the bridge and its link are a branch that can be removed
 pub is-last : (g : Graph) → IsCounted g → (x d k y : ℕ) → x < length g.degrees.items → d ≡ get_or g.degrees.items x d
     → d ≡ 1 → (ends : Ends) → slice_get g.links.items k ≡ Some (Some ends) → Joins ends x y
     → IsLast g.links.items (record { bridge = x; above = y; link = k })

@@ -1,4 +1,4 @@
--- A record is drained where all that was added was taken away.
+-- A record has drained exactly if as much was added as was removed, for `is_drained`.
 use Rattle.std.proofs.Common.{◌≡◌, ℕ, suc, ◌+◌, ◌-◌, ◌*◌, ◌↔◌, List, [], ◌∷◌, map, slice_get, unwrap_or, refl, sym}
 use Rattle.std.proofs.Common.{◌∙◌, ap, arith}
 use Rattle.std.specs.List.{count_by, flat_map, sum_by}
@@ -28,14 +28,14 @@ use Rattle.pb_lan.specs.declared.record.Record.{Record}
 use Rattle.pb_lan.specs.declared.step.Mark.{Mark}
 use Rattle.pb_lan.specs.declared.step.Step.{Step}
 
--- what a bridge sent at a port, and what it received there
+-- the customers' frames that a bridge sent at a port
 abbrev sent_at : Record → (ℕ × ℕ) → ℕ
 sent_at rec p = count_by is_marked (transmitted p.1 (steps_of rec.bridges p.0))
 
 abbrev got_at : Record → (ℕ × ℕ) → ℕ
 got_at rec p = count_by is_marked (received p.1 (steps_of rec.bridges p.0))
 
--- what is sent over a lane is received, lost or left
+-- the frames sent over a lane are received, lost or remaining
 lane-balance : (rec : Record) (lane : ℕ) (lost : List ℕ) (from to : End) → IsLawfulLane lost (steps_of rec.lanes lane)
     → MeetsOver rec lane from to
     → sent_at rec (from.bridge, from.port) ≡ got_at rec (to.bridge, to.port) + total loss (steps_of rec.lanes lane)
@@ -48,7 +48,7 @@ lane-balance rec lane lost from to lawful meets =
     let d = meets-count (put steps) (received to.port (steps_of rec.bridges to.bridge)) meets.off in
     omega (arith, a, b, c, d)
 
--- what a customer port polls is received or left
+-- the frames that a customer port polls are received or remaining
 before-balance : (rec : Record) (n : ℕ) (c : CustomerPlan) → IsLawfulPort (suc n) (steps_of rec.customers (suc n))
     → MeetsCustomer rec (suc n) c
     → total gain (steps_of rec.customers (suc n)) ≡ got_at rec (c.bridge, c.port) + left_before rec n c
@@ -59,7 +59,7 @@ before-balance rec n c lawful meets =
     let b = meets-count (fed steps) (received c.port (steps_of rec.bridges c.bridge)) meets.into in
     omega (arith, g, a, b)
 
--- what is sent to it is delivered or left
+-- the frames sent to a customer port are delivered or remaining
 after-balance : (rec : Record) (n : ℕ) (c : CustomerPlan) → IsLawfulPort (suc n) (steps_of rec.customers (suc n))
     → MeetsCustomer rec (suc n) c
     → sent_at rec (c.bridge, c.port) ≡ total loss (steps_of rec.customers (suc n)) + left_after rec n c
@@ -69,7 +69,7 @@ after-balance rec n c lawful meets =
     let a = meets-count (transmitted c.port (steps_of rec.bridges c.bridge)) (delivered steps) meets.out in
     omega (arith, l, a)
 
--- over the ends of links, and over the customer ports
+-- the sum over the ends of links, and over the used ports
 ends-total : (f : End → ℕ) (links : List LinkPlan) → total f (flat_map ends_of links) ≡ total (λ l. f l.a + f l.b) links
 ends-total f [] = refl
 ends-total f (l ∷ links) = let r = ends-total f links in omega (arith, r)
@@ -87,13 +87,13 @@ used-split f plan =
     ∙ total-at (λ (c : CustomerPlan). f (c.bridge, c.port)) plan.customers in
     omega (arith, a, b, c)
 
--- sums of the program are sums from the right
+-- the sums of the program are sums from the right
 sums-total : (f : Step → ℕ) (places : List (List Step))
     → sum_by (λ steps. sum_by f steps) places ≡ total (total f) places
 sums-total f places = sum_by-total (λ steps. sum_by f steps) places ∙ total-agree (λ steps. sum_by f steps) (total f)
     (sum_by-total f) places
 
--- the lanes of the link at a place
+-- the lane from a to b of the link at an index
 ab-at : (lanes : List (List Step)) (n : ℕ) → steps_of lanes (lane_ab (suc n)) ≡ unwrap_or (slice_get lanes (2 * n)) []
 ab-at lanes n = let e : 2 * suc n - 1 ≡ suc (2 * n) = omega arith in ap (steps_of lanes) e
 
@@ -101,12 +101,12 @@ ba-at : (lanes : List (List Step)) (n : ℕ)
     → steps_of lanes (lane_ba (suc n)) ≡ unwrap_or (slice_get lanes (suc (2 * n))) []
 ba-at lanes n = let e : 2 * suc n ≡ suc (suc (2 * n)) = omega arith in ap (steps_of lanes) e
 
--- what both lanes of a link give
+-- the sum over both lanes of a link
 abbrev of_lanes : (Step → ℕ) → Record → ℕ → LinkPlan → ℕ
 of_lanes f rec n l = total f (unwrap_or (slice_get rec.lanes (2 * n)) []) + total f
     (unwrap_or (slice_get rec.lanes (suc (2 * n))) [])
 
--- what is sent over links is received, lost or left
+-- the frames sent over all links are received, lost or remaining
 links-balance : (rules : Rules) (plan : Plan) (rec : Record) → IsLawfulRecord rules plan rec
     → total_at (λ n (l : LinkPlan). sent_at rec (l.a.bridge, l.a.port) + sent_at rec (l.b.bridge, l.b.port)) plan.links
     ≡ total_at (λ n (l : LinkPlan). got_at rec (l.a.bridge, l.a.port) + got_at rec (l.b.bridge, l.b.port)) plan.links
@@ -128,7 +128,7 @@ links-balance rules plan rec lawful =
     let r = total-pairs (total loss) rec.lanes plan.links lawful.lane_count in
     omega (arith, e, p, q, r)
 
--- lanes add nothing
+-- lanes add no frames
 lanes-gain : (rules : Rules) (plan : Plan) (rec : Record) → IsLawfulRecord rules plan rec
     → total (total gain) rec.lanes ≡ 0
 lanes-gain rules plan rec lawful =
@@ -142,7 +142,7 @@ lanes-gain rules plan rec lawful =
     omega (arith, a, b, c, d))
     ∙ total_at-none plan.links
 
--- what customers poll is received or left
+-- the frames that all customer ports poll are received or remaining
 before-total : (rules : Rules) (plan : Plan) (rec : Record) → IsLawfulRecord rules plan rec
     → total (total gain) rec.customers ≡ total_at (λ n (c : CustomerPlan). got_at rec (c.bridge, c.port))
     plan.customers + total_at (left_before rec) plan.customers
@@ -154,7 +154,7 @@ before-total rules plan rec lawful =
     let p = total_at-plus (λ n (c : CustomerPlan). got_at rec (c.bridge, c.port)) (left_before rec) plan.customers in
     omega (arith, e, s, p)
 
--- what is sent to them is delivered or left
+-- the frames sent to all customer ports are delivered or remaining
 after-total : (rules : Rules) (plan : Plan) (rec : Record) → IsLawfulRecord rules plan rec
     → total_at (λ n (c : CustomerPlan). sent_at rec (c.bridge, c.port)) plan.customers ≡ total (total loss)
     rec.customers + total_at (left_after rec) plan.customers
@@ -167,7 +167,7 @@ after-total rules plan rec lawful =
     (left_after rec) plan.customers in
     omega (arith, e, s, p)
 
--- what bridges add was sent or waits
+-- the frames that bridges add were sent or wait
 bridges-gain : (rules : Rules) (plan : Plan) → IsSound plan → (rec : Record) → IsLawfulRecord rules plan rec
     → total (total gain) rec.bridges ≡ total (sent_at rec) (used_ports plan) + total (left_at plan rec)
     (used_ports plan)
@@ -179,7 +179,7 @@ bridges-gain rules plan sound rec lawful =
     (steps_of rec.bridges p.0) (lawful.bridges p.0)) (used_ports plan)
     ∙ total-plus (sent_at rec) (left_at plan rec) (used_ports plan)
 
--- and what they take away was received
+-- the frames that bridges remove were received
 bridges-loss : (rules : Rules) (plan : Plan) → IsSound plan → (rec : Record) → IsLawfulRecord rules plan rec
     → total (total loss) rec.bridges ≡ total (got_at rec) (used_ports plan)
 bridges-loss rules plan sound rec lawful =
@@ -187,7 +187,7 @@ bridges-loss rules plan sound rec lawful =
     ∙ total-agree (λ p. total (receives p.0 p.1) (steps_of rec.bridges p.0)) (got_at rec)
     (λ p. sym (received-total p.0 p.1 (steps_of rec.bridges p.0))) (used_ports plan)
 
--- what is added is taken away or left
+-- the frames that are added are removed or remaining
 all-balance : (rules : Rules) (plan : Plan) → IsSound plan → (rec : Record) → IsLawfulRecord rules plan rec
     → gains rec.bridges + gains rec.lanes + gains rec.customers ≡ losses rec.bridges + losses rec.lanes + losses
     rec.customers + all_left plan rec
@@ -208,7 +208,7 @@ all-balance rules plan sound rec lawful =
     let h = after-total rules plan rec lawful in
     omega (arith, gb, gl, gc, lb, ll, lc, a, b, c, d, e, f, g, h)
 
--- so the balance tells
+-- the balance decides whether a record has drained
 pub tells-drained : (rules : Rules) (plan : Plan) → IsSound plan → (rec : Record) → IsLawfulRecord rules plan rec
     → Balances rec ↔ ((mark : Mark) → IsDrained plan rec mark)
 tells-drained rules plan sound rec lawful =

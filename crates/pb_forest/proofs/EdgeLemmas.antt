@@ -1,4 +1,4 @@
--- The active links of a plan as a graph.
+-- The active links of a plan as a graph, for `graph_of` and the certificate.
 use Rattle.std.proofs.Common.{◌≡◌, ◌⊎◌, inl, inr, ℕ, zero, suc, ◌+◌, ◌<◌, true, Some, Option, List, [], ◌∷◌, ◌++◌}
 use Rattle.std.proofs.Common.{slice_get, length, take, get_or, refl, sym, ◌∙◌, ap, subst, arith, add-one}
 use Rattle.std.proofs.lemmas.List.{take_more}
@@ -24,7 +24,7 @@ edges-length plan shape vid [] [] h = refl
 edges-length plan shape vid (l ∷ ls) (e ∷ es) h = ap (λ n. suc n) (edges-length plan shape vid ls es h.1)
 edges-length plan shape vid _ _ h = absurd h
 
--- what a link joins
+-- the edge of a link of the plan
 pub edges-at : (plan : Plan) (shape : Shape) (vid : ℕ) (ls : List LinkPlan) (es : List (Option Ends)) (k : ℕ)
     (link : LinkPlan) → AreEdges plan shape vid ls es → slice_get ls k ≡ Some link
     → (e : Option Ends) × (slice_get es k ≡ Some e) × IsEdge plan shape vid link e
@@ -34,7 +34,7 @@ edges-at plan shape vid (l ∷ ls) (e ∷ es) zero link h g =
     (e, refl, subst (λ x. IsEdge plan shape vid x e) (Some-injective g) h.0)
 edges-at plan shape vid (l ∷ ls) (e ∷ es) (suc k) link h g = edges-at plan shape vid ls es k link h.1 g
 
--- and the link that joins it
+-- the link of an edge
 pub edges-back : (plan : Plan) (shape : Shape) (vid : ℕ) (ls : List LinkPlan) (es : List (Option Ends)) (k : ℕ)
     (e : Option Ends) → AreEdges plan shape vid ls es → slice_get es k ≡ Some e
     → (link : LinkPlan) × (slice_get ls k ≡ Some link) × IsEdge plan shape vid link e
@@ -51,7 +51,7 @@ edges-push plan shape vid [] [] l e h g = (g, tt)
 edges-push plan shape vid (k ∷ ls) (d ∷ es) l e h g = (h.0, edges-push plan shape vid ls es l e h.1 g)
 edges-push plan shape vid _ _ l e h g = absurd h
 
--- one link more
+-- one more link, for the loop of `graph_of`
 pub edges-more : (plan : Plan) (shape : Shape) (vid : ℕ) (items : List LinkPlan) (i : ℕ) (es new : List (Option Ends))
     (l : LinkPlan) (e : Option Ends) → i < length items → l ≡ get_or items i l
     → AreEdges plan shape vid (take i items) es → IsEdge plan shape vid l e → new ≡ es ++ e ∷ []
@@ -98,7 +98,7 @@ crosses-at plan shape vid es h k x y m = by m.joins
       to = a ∙ ap (λ n. suc n) j.1;
     }
 
--- in a forest it leads up from one of them
+-- in a forest, a link leads up from one of its bridges
 pub edge-up : (plan : Plan) (shape : Shape) (vid : ℕ) (rooted : Rooted) → Shows plan shape vid rooted
     → (es : List (Option Ends)) → AreEdges plan shape vid plan.links es → (k x y : ℕ) → Meets es k x y
     → IsUp plan rooted (suc x) (suc k) (suc y) ⊎ IsUp plan rooted (suc y) (suc k) (suc x)
@@ -114,12 +114,12 @@ edge-up plan shape vid rooted s es h k x y m = by (cross-up plan shape vid roote
     by (inr u) = inr (subst (λ a. IsUp plan rooted a (suc k) (suc x)) c.to
         (subst (λ b. IsUp plan rooted c.far.bridge (suc k) b) c.from u))
 
--- what has an entry for a bridge is as long as its number
+-- a list with an entry for a bridge has at least as many entries as the bridge's number
 entry-number : (ds : List ℕ) (b d : ℕ) → numbered ds b ≡ Some d → IsNumber b (length ds)
 entry-number ds zero d h = cc
 entry-number ds (suc n) d h = let w = slice_get_within ds n d h in (omega arith, omega (arith, w))
 
--- in a forest each active link joins bridges of the plan
+-- in a forest, each active link joins bridges of the plan
 pub ends-there : (plan : Plan) (shape : Shape) (vid : ℕ) (rooted : Rooted) → Shows plan shape vid rooted
     → (items : List LinkPlan) (i : ℕ) (link : LinkPlan) → items ≡ plan.links → i < length items
     → link ≡ get_or items i link

@@ -1,4 +1,4 @@
--- What bridges, lanes and customer ports add and take away.
+-- The customers' frames that bridges, lanes and customer ports add and remove.
 use Rattle.std.proofs.Common.{◌≡◌, ℕ, suc, ◌+◌, Bool, true, false, cond, not, ◌&&◌, ◌==◌, List, [], ◌∷◌, ◌++◌, map}
 use Rattle.std.proofs.Common.{drop, length, unwrap_or, refl, sym, ◌∙◌, ap, subst, arith}
 use Rattle.std.proofs.lemmas.Bool.{eqb-true}
@@ -34,14 +34,14 @@ use Rattle.pb_lan.specs.declared.step.Step.{Step}
 use Rattle.pb_lan.specs.declared.step.Step.TheVariants.{Poll, Feed, Deliver, Receive, Transmit, Tick, Admin, Take}
 use Rattle.pb_lan.specs.declared.step.Step.TheVariants.{Put}
 
--- the marked items that a step receives at a port, and those that it queues there
+-- the marked items that a step receives at a port
 abbrev pub receives : ℕ → ℕ → Step → ℕ
 receives b r step = count_by is_marked (received_by r step)
 
 abbrev pub queues : Plan → ℕ → ℕ → Step → ℕ
 queues plan b r step = count_waiting is_marked (queued_by plan b r step)
 
--- by the steps
+-- the count over all steps is the sum over the steps
 pub received-total : (b r : ℕ) (steps : List Step) → count_by is_marked (received r steps) ≡ total (receives b r) steps
 received-total b r [] = refl
 received-total b r (s ∷ ss) = let a = count_by-append is_marked (received_by r s) (received r ss) in let x =
@@ -52,7 +52,7 @@ pub queued-total : (plan : Plan) (b r : ℕ) (steps : List Step)
 queued-total plan b r [] = refl
 queued-total plan b r (s ∷ ss) = ap (λ n. queues plan b r s + n) (queued-total plan b r ss)
 
--- a test and what always holds, or never
+-- a conjunction with a constant, as a number
 and-true : (b : Bool) → given (b && true) 1 ≡ given b 1
 and-true true = refl
 and-true false = refl
@@ -61,12 +61,12 @@ and-false : (b : Bool) → given (b && false) 1 ≡ 0
 and-false true = refl
 and-false false = refl
 
--- the ports at which a step leaves marked copies
+-- the ports at which a step queues marked copies
 abbrev gives : Step → ℕ → Bool
 gives (Receive q item learnt outcome moved) r = is_marked item && gets_copy outcome r
 gives _ r = false
 
--- of a received item
+-- the marked copies of a received item at a port
 copies-one : (plan : Plan) (b r q : ℕ) (item : Item) (outcome : Outcome)
     → count_waiting is_marked (copies plan b q item outcome r) ≡ cond (is_marked item && gets_copy outcome r) 1 0
 copies-one plan b r q item (Relayed chosen refused) = by (list_any (λ p. p == r) chosen && not (is_refused refused r))
@@ -88,7 +88,7 @@ relayed-is : (plan : Plan) (b r : ℕ) (step : Step)
 relayed-is plan b r (Receive q item learnt outcome moved) = copies-one plan b r q item outcome
 relayed-is plan b r _ = refl
 
--- a bridge's own items are not marked
+-- the marked items that a step queues are copies, as a bridge's own items have no mark
 queues-is : (rules : Rules) (plan : Plan) (b r : ℕ) (earlier : List Step) (step : Step)
     → Fits rules plan b earlier step → queues plan b r step ≡ cond (gives step r) 1 0
 queues-is rules plan b r earlier step fits =
@@ -99,13 +99,13 @@ queues-is rules plan b r earlier step fits =
     let c = relayed-is plan b r step in
     omega (arith, own, a, c)
 
--- where nothing stands there is no port of choice
+-- a port that is not used is never chosen
 no-choice : (plan : Plan) (b : ℕ) (steps : List Step) (q v r : ℕ) → IsChoice plan b steps q v r
     → port_at plan b r ≡ Unused → ⊥
 no-choice plan b steps q v r choice u = let m : is_member plan v Unused ≡ true =
     subst (λ port. is_member plan v port ≡ true) u choice.member in cc
 
--- copies go to ports where something stands
+-- copies go to used ports only
 gives-used : (rules : Rules) (plan : Plan) (b r : ℕ) (earlier : List Step) (step : Step)
     → Fits rules plan b earlier step → gives step r ≡ true → port_at plan b r ≡ Unused → ⊥
 gives-used rules plan b r earlier (Receive q item learnt (Relayed chosen refused) moved) fits h u =
@@ -117,7 +117,7 @@ gives-used rules plan b r earlier (Receive q item learnt Heard moved) fits h u =
     and-right (is_marked item) _ h in cc
 gives-used rules plan b r earlier _ fits h u = cc
 
--- over the local ports they are what the step adds
+-- the copies at all local ports are what the step adds
 gives-gain : (rules : Rules) (plan : Plan) (b : ℕ) (earlier : List Step) (step : Step)
     → Fits rules plan b earlier step → total (λ r. cond (gives step r) 1 0) local_ports ≡ gain step
 gives-gain rules plan b earlier (Receive q item learnt outcome moved) fits =
@@ -129,12 +129,12 @@ gives-gain rules plan b earlier (Tick now moved) fits = total-none local_ports
 gives-gain rules plan b earlier (Admin q up moved) fits = total-none local_ports
 gives-gain rules plan b earlier _ fits = absurd fits
 
--- a number that is another
+-- a value at a bridge's number is a value at an equal number
 at-same : (b k : ℕ) (f : ℕ → ℕ) → cond (b == k) (f k) 0 ≡ cond (b == k) (f b) 0
 at-same b k f = elim (b == k) as (λ t. (b == k) ≡ t → cond t (f k) 0 ≡ cond t (f b) 0)
     [ true ↦ λ e. ap f (sym (eqb-true b k e)) | false ↦ λ e. refl ] refl
 
--- over the used ports of its bridge, what a step queues is what it adds
+-- over the used ports of its bridge, the items that a step queues are what it adds
 pub step-queues : (rules : Rules) (plan : Plan) → IsSound plan → (b : ℕ) (earlier : List Step) (step : Step)
     → Fits rules plan b earlier step
     → total (λ p. cond (b == p.0) (queues plan p.0 p.1 step) 0) (used_ports plan) ≡ gain step
@@ -145,12 +145,12 @@ step-queues rules plan sound b earlier step fits =
     ∙ used-total plan sound b (gives step) (λ q h. gives-used rules plan b q earlier step fits h)
     ∙ gives-gain rules plan b earlier step fits
 
--- one item or none
+-- the count of one item or none
 one-item : (t : Bool) (item : Item) → count_by is_marked (cond t (item ∷ []) []) ≡ cond t (cond (is_marked item) 1 0) 0
 one-item true item = let c = count_by-cons is_marked item [] in omega (arith, c)
 one-item false item = refl
 
--- nothing, whatever the test
+-- a sum of zeros
 no-part : (ps : List (ℕ × ℕ)) (b : ℕ) → total (λ p. cond (b == p.0) 0 0) ps ≡ 0
 no-part ps b = total-agree (λ p. cond (b == p.0) 0 0) (λ p. 0) (λ p. none (b == p.0)) ps ∙ total-none ps
   where
@@ -158,7 +158,7 @@ no-part ps b = total-agree (λ p. cond (b == p.0) 0 0) (λ p. 0) (λ p. none (b 
     none true = refl
     none false = refl
 
--- and what it receives is what it takes away
+-- over the used ports of its bridge, the items that a step receives are what it removes
 pub step-receives : (rules : Rules) (plan : Plan) → IsSound plan → (b : ℕ) (earlier : List Step) (step : Step)
     → Fits rules plan b earlier step
     → total (λ p. cond (b == p.0) (receives p.0 p.1 step) 0) (used_ports plan) ≡ loss step
@@ -174,13 +174,13 @@ step-receives rules plan sound b earlier (Tick now moved) fits = no-part (used_p
 step-receives rules plan sound b earlier (Admin q up moved) fits = no-part (used_ports plan) b
 step-receives rules plan sound b earlier _ fits = absurd fits
 
--- what holds of each step of a bridge
+-- for each step of a bridge, the sum of the parts over the used ports is the whole
 abbrev pub EachStep : Rules → Plan → (ℕ → ℕ → Step → ℕ) → (Step → ℕ) → Type 0
 EachStep rules plan part whole =
     (b : ℕ) (earlier : List Step) (step : Step) → Fits rules plan b earlier step
     → total (λ p. cond (b == p.0) (part p.0 p.1 step) 0) (used_ports plan) ≡ whole step
 
--- holds of all its steps
+-- the same for all steps of a bridge
 steps-total : (rules : Rules) (plan : Plan) (part : ℕ → ℕ → Step → ℕ) (whole : Step → ℕ)
     → EachStep rules plan part whole
     → (b : ℕ) (earlier steps : List Step) → LawfulAfter rules plan b earlier steps
@@ -200,7 +200,7 @@ steps-total rules plan part whole each b earlier (step ∷ steps) lawful =
     both true m n = refl
     both false m n = refl
 
--- and of all bridges
+-- the same for all bridges
 pub bridges-total : (rules : Rules) (plan : Plan) (part : ℕ → ℕ → Step → ℕ) (whole : Step → ℕ)
     → EachStep rules plan part whole
     → (lists : List (List Step)) → ((number : ℕ) → IsLawfulBridge rules plan number (steps_of lists number))
@@ -218,7 +218,7 @@ bridges-total rules plan part whole each lists lawful =
     (subst (IsLawfulBridge rules plan (suc n)) e (lawful (suc n))))
     ∙ sym (total-at (total whole) lists)
 
--- where nothing stands, nothing is queued
+-- no item is queued at a port that is not used
 pub none-queued : (rules : Rules) (plan : Plan) (b r : ℕ) (earlier steps : List Step)
     → LawfulAfter rules plan b earlier steps
     → list_any (is_same_port (b, r)) (used_ports plan) ≡ false → total (queues plan b r) steps ≡ 0
@@ -234,7 +234,7 @@ none-queued rules plan b r earlier (step ∷ steps) lawful none =
     let rest = none-queued rules plan b r (earlier ++ step ∷ []) steps lawful.1 none in
     omega (arith, q, z, rest)
 
--- a lane adds nothing
+-- a lane adds no frames
 pub lane-gain : (steps : List Step) → AllByRecursion IsLaneStep steps → total gain steps ≡ 0
 lane-gain steps kinds = total-same gain (λ s. 0) steps (All-imply IsLaneStep (λ s. gain s ≡ 0) one steps kinds)
     ∙ total-none steps
@@ -244,7 +244,7 @@ lane-gain steps kinds = total-same gain (λ s. 0) steps (All-imply IsLaneStep (�
     one (Put item) k = refl
     one _ k = absurd k
 
--- and takes away what it loses
+-- a lane removes the frames that it loses
 pub lane-loss : (steps : List Step) → AllByRecursion IsLaneStep steps
     → count_by is_marked (taken steps) ≡ count_by is_marked (carried steps) + total loss steps
 lane-loss [] k = refl
@@ -263,7 +263,7 @@ lane-loss (Take number item lost ∷ steps) k =
 lane-loss (Put item ∷ steps) k = let r = lane-loss steps k.1 in omega (arith, r)
 lane-loss (_ ∷ steps) k = absurd k.0
 
--- a customer port adds what it polls
+-- a customer port adds the frames that it polls
 pub port-gain : (steps : List Step) → AllByRecursion IsPortStep steps
     → total gain steps ≡ count_by is_marked (polled steps)
 port-gain [] k = refl
@@ -273,7 +273,7 @@ port-gain (Feed item ∷ steps) k = let r = port-gain steps k.1 in omega (arith,
 port-gain (Deliver item gone ∷ steps) k = let r = port-gain steps k.1 in omega (arith, r)
 port-gain (_ ∷ steps) k = absurd k.0
 
--- and takes away what is delivered to it
+-- a customer port removes the frames that are delivered to it
 pub port-loss : (steps : List Step) → AllByRecursion IsPortStep steps
     → total loss steps ≡ count_by is_marked (delivered steps)
 port-loss [] k = refl
@@ -283,7 +283,7 @@ port-loss (Deliver item gone ∷ steps) k = let r = port-loss steps k.1 in let c
     (delivered steps) in omega (arith, r, c)
 port-loss (_ ∷ steps) k = absurd k.0
 
--- what was sent was received or is pending
+-- the frames that were sent are received or pending
 pub meets-count : (sent got : List Item) → IsBeginning got sent
     → count_by is_marked sent ≡ count_by is_marked got + count_by is_marked (pending sent got)
 meets-count sent got (rest, e) =

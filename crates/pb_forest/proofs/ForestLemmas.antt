@@ -1,4 +1,4 @@
--- Where all links are taken off, the branches show a forest.
+-- If all links are removed, the branches give a certificate, for `forest`.
 use Rattle.std.proofs.Common.{◌≡◌, ◌≢◌, ◌⊎◌, inl, inr, ℕ, zero, suc, ◌+◌, ◌<◌, ◌≤◌, ◌==◌, true, false, cond, Some}
 use Rattle.std.proofs.Common.{None, Option, List, [], ◌∷◌, slice_get, slice_set, length, refl, sym, ◌∙◌, ap, subst}
 use Rattle.std.proofs.Common.{arith, add-one}
@@ -26,18 +26,18 @@ use Rattle.pb_lan.specs.declared.plan.LinkPlan.{LinkPlan}
 use Rattle.pb_lan.specs.declared.shape.Shape.{Shape}
 use Rattle.pb_lan.specs.declared.shape.Rooted.{Rooted}
 
--- a later branch has nothing of an earlier one's bridge and link
+-- a later branch has neither the bridge nor the link of an earlier one
 pub record IsApart (b c : Branch) : Type 0 where
   pub bridge : c.bridge ≢ b.bridge
   pub above : c.above ≢ b.bridge
   pub link : c.link ≢ b.link
 
--- so it is for each of the branches
+-- each branch is apart from all later ones
 abbrev pub Unwinds : List Branch → Type 0
 Unwinds [] = Unit {0}
 Unwinds (b ∷ bs) = AllByRecursion (IsApart b) bs × (b.above ≢ b.bridge) × Unwinds bs
 
--- where nothing is left at a bridge, no branch has to do with it
+-- if no link remains at a bridge, no branch concerns it
 untouched : (old : List (Option Ends)) (bs : List Branch) (new : List (Option Ends)) (x : ℕ) → degree old x ≡ 0
     → AreTakenOff old bs new → AllByRecursion (λ c. (c.bridge ≢ x) × (c.above ≢ x)) bs
 untouched old [] new x z t = tt
@@ -56,7 +56,7 @@ untouched old (b ∷ bs) new x z t = ((near, far), untouched (slice_set old b.li
     rest : degree (slice_set old b.link None) x ≡ 0
     rest = let o = degree-off old b.link (Some t.0.link.ends) x t.0.link.there in omega (arith, o, z)
 
--- a link that was taken off is no later branch's
+-- a removed link is not that of a later branch
 unlinked : (old : List (Option Ends)) (bs : List Branch) (new : List (Option Ends)) (k : ℕ)
     → slice_get old k ≡ Some None → AreTakenOff old bs new → AllByRecursion (λ c. c.link ≢ k) bs
 unlinked old [] new k h t = tt
@@ -104,7 +104,7 @@ taken-unwinds old (b ∷ bs) new t = (apart, apart_above, taken-unwinds (slice_s
         (untouched (slice_set old b.link None) bs new b.bridge nothing t.1)
         (unlinked (slice_set old b.link None) bs new b.link gone t.1)
 
--- each branch was a link
+-- each branch was a link of the graph
 pub taken-met : (old : List (Option Ends)) (bs : List Branch) (new : List (Option Ends)) → AreTakenOff old bs new
     → AllByRecursion (λ c. Meets old c.link c.bridge c.above) bs
 taken-met old [] new t = tt
@@ -115,18 +115,18 @@ taken-met old (b ∷ bs) new t = (
       (taken-met (slice_set old b.link None) bs new t.1),
 )
 
--- a branch of the list
+-- the branch is in the list
 pub record IsBranch (bs : List Branch) (c : Branch) : Type 0 where
   pub place : ℕ
   pub there : slice_get bs place ≡ Some c
 
--- it was a link
+-- a branch in the list was a link of the graph
 branch-met : (old : List (Option Ends)) (bs : List Branch) (new : List (Option Ends)) → AreTakenOff old bs new
     → (c : Branch) → IsBranch bs c → Meets old c.link c.bridge c.above
 branch-met old bs new t c i = All-at (λ d. Meets old d.link d.bridge d.above) bs i.place c i.there
     (taken-met old bs new t)
 
--- each link is left, or a branch's
+-- each link remains, or is that of a branch
 pub taken-covers : (old : List (Option Ends)) (bs : List Branch) (new : List (Option Ends)) (k : ℕ) (ends : Ends)
     → AreTakenOff old bs new → slice_get old k ≡ Some (Some ends)
     → (slice_get new k ≡ Some (Some ends)) ⊎ ((c : Branch) × IsBranch bs c × (c.link ≡ k))
@@ -145,14 +145,14 @@ taken-covers old (b ∷ bs) new k ends t h =
     by (inl n) = inl n
     by (inr w) = inr (w.0, record { place = suc w.1.place; there = w.1.there }, w.2)
 
--- where none is left, it is a branch's
+-- if no link remains, each link is that of a branch
 none-left : (xs : List (Option Ends)) (k : ℕ) (ends : Ends) → list_any is_some xs ≡ false
     → slice_get xs k ≡ Some (Some ends) → ⊥
 none-left (None ∷ xs) zero ends h g = let e : None ≡ Some ends = Some-injective g in cc
 none-left (None ∷ xs) (suc k) ends h g = none-left xs k ends h g
 none-left _ k ends h g = cc
 
--- what an entry of the ways up says
+-- the branch of a link that leads up from a bridge
 pub record HasBranch (bs : List Branch) (x number : ℕ) : Type 0 where
   pub branch : Branch
   pub there : IsBranch bs branch
@@ -160,7 +160,7 @@ pub record HasBranch (bs : List Branch) (x number : ℕ) : Type 0 where
   pub link : branch.link + 1 ≡ number
   pub deeper : depth_below bs x ≡ depth_below bs branch.above + 1
 
--- beside an earlier branch
+-- the way up of a bridge that is not that of the first branch
 past-bridge : (b : Branch) (bs : List Branch) (x : ℕ) → b.bridge ≢ x → (way_up (b ∷ bs) x ≡ way_up bs x)
     × (depth_below (b ∷ bs) x ≡ depth_below bs x)
 past-bridge b bs x n =
@@ -170,7 +170,7 @@ past-bridge b bs x n =
       | false ↦ λ t. (refl, refl)
     ] refl
 
--- and at it
+-- the way up of the first branch's bridge
 at-bridge : (b : Branch) (bs : List Branch) → (way_up (b ∷ bs) b.bridge ≡ Some (b.link + 1))
     × (depth_below (b ∷ bs) b.bridge ≡ depth_below bs b.above + 1)
 at-bridge b bs = (
@@ -209,7 +209,7 @@ way-branch (b ∷ bs) x number u h =
           (λ i. (All-at (IsApart b) bs w.there.place w.branch w.there.there u.0).above (sym i))).1);
     }
 
--- a bridge without way up has depth 0
+-- a bridge without a link that leads up has depth 0
 pub root-depth : (bs : List Branch) (x : ℕ) → way_up bs x ≡ None → depth_below bs x ≡ 0
 root-depth [] x h = refl
 root-depth (b ∷ bs) x h =
@@ -219,7 +219,7 @@ root-depth (b ∷ bs) x h =
       | false ↦ λ k. root-depth bs x k
     ] h
 
--- a branch's link is its bridge's way up
+-- a branch's link leads up from its bridge
 pub branch-way : (bs : List Branch) (c : Branch) → Unwinds bs → IsBranch bs c → way_up bs c.bridge ≡ Some (c.link + 1)
 branch-way bs c u i = at_place bs i.place u i.there
   where
@@ -231,7 +231,7 @@ branch-way bs c u i = at_place bs i.place u i.there
     at_place (b ∷ bs) (suc n) u h =
         (past-bridge b bs c.bridge (λ i. (All-at (IsApart b) bs n c h u.0).bridge (sym i))).0 ∙ at_place bs n u.2 h
 
--- two branches with one link are one
+-- two branches with the same link are one
 pub branch-once : (bs : List Branch) (c d : Branch) → Unwinds bs → IsBranch bs c → IsBranch bs d → c.link ≡ d.link
     → c ≡ d
 branch-once bs c d u i j e = at_places bs i.place j.place u i.there j.there
@@ -256,12 +256,12 @@ taken-near n old bs new w few t =
       link = let l = slice_get_within old c.link (Some m.ends) m.there in omega (arith, l, few);
     }) bs (taken-met old bs new t)
 
--- and they are few
+-- there are at most 255 branches
 pub taken-few : (old : List (Option Ends)) (bs : List Branch) (new : List (Option Ends)) → length old ≤ 255
     → AreTakenOff old bs new → length bs ≤ 255
 taken-few old bs new few t = let c = taken-count old bs new t in let m = left-most old in omega (arith, c, m, few)
 
--- the links of a shape were taken off until none was left, and parents and depths are by the branches
+-- the links of a shape were all removed, and parents and depths are by the branches
 record IsPeeled (plan : Plan) (shape : Shape) (vid : ℕ) (es : List (Option Ends)) (bs : List Branch)
     (new : List (Option Ends)) (rooted : Rooted) : Type 0 where
   edges : AreEdges plan shape vid plan.links es
@@ -270,18 +270,18 @@ record IsPeeled (plan : Plan) (shape : Shape) (vid : ℕ) (es : List (Option End
   none : list_any is_some new ≡ false
   by : IsRootedBy (length plan.bridges) bs rooted
 
--- what the ways up say then
+-- the entries of the result
 module _ {plan : Plan} {shape : Shape} {vid : ℕ} {es : List (Option Ends)} {bs : List Branch}
     {new : List (Option Ends)} {rooted : Rooted} (p : IsPeeled plan shape vid es bs new rooted) where
   -- an entry is of one of the bridges
   entry-inside : (x : ℕ) (up : Option ℕ) → slice_get rooted.up x ≡ Some up → x < length plan.bridges
   entry-inside x up h = let w = slice_get_within rooted.up x up h in let l = p.by.ups in omega (arith, w, l)
 
-  -- it is the way up by the branches
+  -- an entry is the way up by the branches
   entry-way : (x : ℕ) (up : Option ℕ) → slice_get rooted.up x ≡ Some up → way_up bs x ≡ up
   entry-way x up h = Some-injective (sym (p.by.up x (entry-inside x up h)) ∙ h)
 
-  -- it leads to a bridge that is one less deep
+  -- an entry leads to a bridge whose depth is one less
   entry-leads : (x number : ℕ) → slice_get rooted.up x ≡ Some (Some number)
       → LeadsUp plan shape vid rooted (suc x) number
   entry-leads x number h = record {
@@ -305,10 +305,10 @@ module _ {plan : Plan} {shape : Shape} {vid : ℕ} {es : List (Option Ends)} {bs
       at = crosses-at plan shape vid es p.edges w.branch.link w.branch.bridge w.branch.above
           (branch-met es bs new p.taken w.branch w.there)
 
--- which bridges have a link as way up
+-- the bridges from which a link leads up
 module _ {plan : Plan} {shape : Shape} {vid : ℕ} {es : List (Option Ends)} {bs : List Branch}
     {new : List (Option Ends)} {rooted : Rooted} (p : IsPeeled plan shape vid es bs new rooted) where
-  -- a branch's link is the way up of its bridge alone
+  -- a branch's link leads up from its bridge alone
   branch-child : (c : Branch) → IsBranch bs c → HasOneChild rooted (suc c.link)
   branch-child c i = record {
     child = suc c.bridge;
@@ -338,7 +338,7 @@ module _ {plan : Plan} {shape : Shape} {vid : ℕ} {es : List (Option Ends)} {bs
         | inr w ↦ subst (λ n. HasOneChild rooted (suc n)) w.2 (branch-child w.0 w.1)
       ]
 
--- parents and depths by the branches
+-- parents and depths by the branches are a certificate
 pub shows-taken : (plan : Plan) (shape : Shape) (vid : ℕ) (es : List (Option Ends)) (bs : List Branch)
     (new : List (Option Ends)) (rooted : Rooted) → AreEdges plan shape vid plan.links es
     → AreWithin (length plan.bridges) es

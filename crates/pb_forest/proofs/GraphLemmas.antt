@@ -1,4 +1,4 @@
--- What is at the bridges of a graph, as links are added and taken off.
+-- The counts at the bridges of a graph, as links are added and removed.
 use Rattle.std.proofs.Common.{◌≡◌, ◌≢◌, inl, inr, ℕ, zero, suc, ◌+◌, ◌*◌, ◌≤◌, ◌==◌, Some, None, Option, true}
 use Rattle.std.proofs.Common.{false, cond, List, [], ◌∷◌, ◌++◌, slice_get, slice_set, length, refl, ap, arith}
 use Rattle.pb_frame.proofs.Lists.{Some-injective, eqb-refl}
@@ -7,16 +7,16 @@ use Rattle.std.proofs.lemmas.Bool.{eqb-true}
 use Rattle.pb_forest.specs.Graphs.{at, share, degree, index_sum, Joins, Meets}
 use Rattle.pb_forest.specs.declared.graph.Ends.{Ends}
 
--- at the bridge itself
+-- the value at the bridge itself
 pub at-same : (b n : ℕ) → at b b n ≡ n
 at-same b n = ap (λ t. cond t n 0) (eqb-refl b)
 
--- at another one
+-- the value at another bridge
 pub at-other : (b x n : ℕ) → b ≢ x → at b x n ≡ 0
 at-other b x n h = elim (b == x) as (λ t. (b == x) ≡ t → cond t n 0 ≡ 0)
     [ true ↦ λ e. absurd (h (eqb-true b x e)) | false ↦ λ e. refl ] refl
 
--- where something is at a bridge, it is that one
+-- a value of at least one is at the bridge itself
 pub at-is : (b x n : ℕ) → 1 ≤ at b x n → b ≡ x
 at-is b x n h = elim (b == x) as (λ t. (b == x) ≡ t → 1 ≤ cond t n 0 → b ≡ x)
     [ true ↦ λ e k. eqb-true b x e | false ↦ λ e k. absurd (omega (arith, k)) ] refl h
@@ -24,7 +24,7 @@ at-is b x n h = elim (b == x) as (λ t. (b == x) ≡ t → 1 ≤ cond t n 0 → 
 pub at-most : (b x n : ℕ) → at b x n ≤ n
 at-most b x n = elim (b == x) as (λ t. cond t n 0 ≤ n) [ true ↦ omega arith | false ↦ omega arith ]
 
--- an end more or less
+-- a value n is at most m times the value one, if n is at most m
 pub at-times : (b x n m : ℕ) → n ≤ m → at b x n ≤ m * at b x 1
 at-times b x n m h = elim (b == x) as (λ t. cond t n 0 ≤ m * cond t 1 0)
     [ true ↦ omega (arith, h) | false ↦ omega arith ]
@@ -38,7 +38,7 @@ share-times None x n m h = omega arith
 share-times (Some ends) x n m h = let a = at-times ends.a x n m h in let b = at-times ends.b x n m h in omega
     (arith, a, b)
 
--- a share of n is n shares of one
+-- a value n is n times the value one
 at-scaled : (b x n : ℕ) → at b x n ≡ n * at b x 1
 at-scaled b x n = elim (b == x) as (λ t. cond t n 0 ≡ n * cond t 1 0) [ true ↦ omega arith | false ↦ omega arith ]
 
@@ -50,14 +50,14 @@ share-scaled (Some ends) x n m h =
     let c : n * (at ends.a x 1 + at ends.b x 1) ≡ n * m = ap (λ k. n * k) h in
     omega (arith, a, b, c)
 
--- a share of a link that joins two bridges
+-- the share of a link that joins two bridges
 pub joins-share : (ends : Ends) (x y z n : ℕ) → Joins ends x y → share (Some ends) z n ≡ at x z n + at y z n
 joins-share ends x y z n (inl h) = let a = ap (λ b. at b z n) h.0 in let b = ap (λ b. at b z n) h.1 in omega
     (arith, a, b)
 joins-share ends x y z n (inr h) = let a = ap (λ b. at b z n) h.0 in let b = ap (λ b. at b z n) h.1 in omega
     (arith, a, b)
 
--- a link more
+-- the degree with one more link
 pub degree-append : (xs : List (Option Ends)) (e : Option Ends) (x : ℕ)
     → degree (xs ++ e ∷ []) x ≡ degree xs x + share e x 1
 degree-append [] e x = omega arith
@@ -73,7 +73,7 @@ sum-append n (y ∷ ys) e x =
     let s : share e x ((n + 1) + length ys) ≡ share e x (n + suc (length ys)) = ap (share e x) h in
     omega (arith, r, s)
 
--- bounds
+-- a degree is at most twice the number of links
 pub degree-most : (xs : List (Option Ends)) (x : ℕ) → degree xs x ≤ 2 * length xs
 degree-most [] x = omega arith
 degree-most (y ∷ ys) x = let r = degree-most ys x in let s = share-most y x in omega (arith, r, s)
@@ -85,7 +85,7 @@ sum-most n m (y ∷ ys) x h =
     let s = share-times y x n m (omega (arith, h)) in
     omega (arith, r, s)
 
--- a link that is taken off
+-- the degree without a removed link
 pub degree-off : (xs : List (Option Ends)) (k : ℕ) (e : Option Ends) (x : ℕ) → slice_get xs k ≡ Some e
     → degree (slice_set xs k None) x + share e x 1 ≡ degree xs x
 degree-off [] k e x h = cc
@@ -110,7 +110,7 @@ sum-off n (y ∷ ys) (suc k) e x h =
 pub off-meets : (xs : List (Option Ends)) (k j x y : ℕ) → Meets (slice_set xs k None) j x y → Meets xs j x y
 off-meets xs k j x y m = record { ends = m.ends; there = others_stay xs k j m.ends m.there; joins = m.joins }
 
--- the other way round
+-- a link joins its bridges in both directions
 pub meets-back : (xs : List (Option Ends)) (k x y : ℕ) → Meets xs k x y → Meets xs k y x
 meets-back xs k x y m = record { ends = m.ends; there = m.there; joins = turn m.joins }
   where
@@ -126,7 +126,7 @@ meets-degree xs k x y m =
     let a = at-same x 1 in
     omega (arith, d, s, a)
 
--- a link with both ends at one bridge is there twice
+-- a link with both ends at one bridge counts twice there
 pub loop-degree : (xs : List (Option Ends)) (k x : ℕ) → Meets xs k x x → 2 ≤ degree xs x
 loop-degree xs k x m =
     let d = degree-off xs k (Some m.ends) x m.there in
@@ -134,7 +134,7 @@ loop-degree xs k x m =
     let a = at-same x 1 in
     omega (arith, d, s, a)
 
--- where nothing is at a bridge, its sum is nothing
+-- if a bridge has no link, its sum is 0
 sum-none : (n : ℕ) (xs : List (Option Ends)) (x : ℕ) → degree xs x ≡ 0 → index_sum n xs x ≡ 0
 sum-none n [] x h = refl
 sum-none n (y ∷ ys) x h =
@@ -142,7 +142,7 @@ sum-none n (y ∷ ys) x h =
     let s = share-scaled y x n 0 (omega (arith, h)) in
     omega (arith, r, s)
 
--- an end of a link that has one
+-- a link with a share at a bridge joins it to another
 pub share-joins : (e : Option Ends) (x : ℕ) → 1 ≤ share e x 1 → (ends : Ends) × (y : ℕ) × (e ≡ Some ends)
     × Joins ends x y
 share-joins None x h = absurd (omega (arith, h))
@@ -154,11 +154,11 @@ share-joins (Some ends) x h =
           (ends, ends.a, refl, inr (at-is ends.b x 1 (omega (arith, h, z)), refl))
     ] refl
 
--- a link one place on
+-- a link at the next index
 meets-later : (e : Option Ends) (xs : List (Option Ends)) (k x y : ℕ) → Meets xs k x y → Meets (e ∷ xs) (suc k) x y
 meets-later e xs k x y m = record { ends = m.ends; there = m.there; joins = m.joins }
 
--- where there is one end at a bridge, the sum names its link
+-- if a bridge has exactly one end of a link, its sum is that link's index
 pub only-link : (n : ℕ) (xs : List (Option Ends)) (x : ℕ) → degree xs x ≡ 1
     → (k : ℕ) × (y : ℕ) × (index_sum n xs x ≡ n + k) × Meets xs k x y
 only-link n [] x h = absurd (omega (arith, h))

@@ -1,4 +1,4 @@
--- What is left of marked items in a record: none, where each mark is drained.
+-- No marked items remain in a record exactly if each frame has drained.
 use Rattle.std.proofs.Common.{◌≡◌, ℕ, zero, suc, ◌+◌, Some, None, Option, true, false, ◌&&◌, ◌==◌, List, [], ◌∷◌, map}
 use Rattle.std.proofs.Common.{slice_get, refl, sym, ◌∙◌, subst, arith}
 use Rattle.std.proofs.lemmas.Bool.{eqb-true}
@@ -27,26 +27,26 @@ use Rattle.pb_lan.specs.declared.record.Record.{Record}
 use Rattle.pb_lan.specs.declared.step.Item.{Item}
 use Rattle.pb_lan.specs.declared.step.Mark.{Mark}
 
--- marked items that were sent and not received
+-- the marked items that were sent and not received
 abbrev pub left_between : List Item → List Item → ℕ
 left_between sent got = count_by is_marked (pending sent got)
 
--- that wait at a port
+-- the marked items that wait at a port
 abbrev pub left_at : Plan → Record → (ℕ × ℕ) → ℕ
 left_at plan rec p = count_waiting is_marked (waiting plan p.0 p.1 (steps_of rec.bridges p.0))
 
--- that are on their way over a lane
+-- the marked items on their way over a lane
 abbrev pub left_on : Record → ℕ → End → End → ℕ
 left_on rec lane from to =
     left_between (transmitted from.port (steps_of rec.bridges from.bridge)) (taken (steps_of rec.lanes lane))
     + left_between (carried (steps_of rec.lanes lane)) (put (steps_of rec.lanes lane))
     + left_between (put (steps_of rec.lanes lane)) (received to.port (steps_of rec.bridges to.bridge))
 
--- over both lanes of the link at a place
+-- the marked items on their way over both lanes of the link at an index
 abbrev pub left_over : Record → ℕ → LinkPlan → ℕ
 left_over rec n l = left_on rec (lane_ab (suc n)) l.a l.b + left_on rec (lane_ba (suc n)) l.b l.a
 
--- that are on their way from a customer to its bridge, and back
+-- the marked items on their way from a customer to its bridge
 abbrev pub left_before : Record → ℕ → CustomerPlan → ℕ
 left_before rec n c =
     left_between (polled (steps_of rec.customers (suc n))) (fed (steps_of rec.customers (suc n)))
@@ -56,13 +56,13 @@ abbrev pub left_after : Record → ℕ → CustomerPlan → ℕ
 left_after rec n c = left_between (transmitted c.port (steps_of rec.bridges c.bridge))
     (delivered (steps_of rec.customers (suc n)))
 
--- all that is left
+-- all marked items that remain
 abbrev pub all_left : Plan → Record → ℕ
 all_left plan rec =
     total (left_at plan rec) (used_ports plan) + total_at (left_over rec) plan.links
     + total_at (left_before rec) plan.customers + total_at (left_after rec) plan.customers
 
--- where none is marked, none is of a mark
+-- if no item is marked, none has this mark
 none-of : (mark : Mark) (items : List Item) → count_by is_marked items ≡ 0 → HasNone mark items
 none-of mark items h =
     All-imply (λ item. given (is_marked item) 1 ≡ 0) (λ item. is_of mark item ≡ false) (λ item z. one item.mark z) items
@@ -73,7 +73,7 @@ none-of mark items h =
     one None z = refl
     one (Some m) z = absurd (omega (arith, z))
 
--- and where none is of any mark, none is marked
+-- if no item has any mark, none is marked
 none-marked : (items : List Item) → ((mark : Mark) → HasNone mark items) → count_by is_marked items ≡ 0
 none-marked items h = count-none is_marked items (each items h)
   where
@@ -87,7 +87,7 @@ none-marked items h = count-none is_marked items (each items h)
     each [] h = tt
     each (item ∷ items) h = (one item.mark (λ m. (h m).0), each items (λ m. (h m).1))
 
--- where nothing waits at the used ports, nothing waits
+-- if nothing waits at the used ports, nothing waits at any port
 none-waits : (rules : Rules) (plan : Plan) (rec : Record) → IsLawfulRecord rules plan rec
     → total (left_at plan rec) (used_ports plan) ≡ 0 → (b r : ℕ) → left_at plan rec (b, r) ≡ 0
 none-waits rules plan rec lawful h b r =
@@ -107,7 +107,7 @@ none-waits rules plan rec lawful h b r =
           omega (arith, n, q, w)
     ] refl
 
--- a lane on which nothing is left
+-- if nothing remains on a lane, it has drained
 lane-drained : (rec : Record) (mark : Mark) (lane : ℕ) (from to : End) → left_on rec lane from to ≡ 0
     → IsLaneDrained rec mark lane from to
 lane-drained rec mark lane from to h = record {
@@ -116,7 +116,7 @@ lane-drained rec mark lane from to h = record {
   off = none-of mark _ (omega (arith, h));
 }
 
--- a customer port at which nothing is left
+-- if nothing remains at a customer port, it has drained
 port-drained : (rec : Record) (mark : Mark) (n : ℕ) (c : CustomerPlan) → left_before rec n c ≡ 0
     → left_after rec n c ≡ 0 → IsPortDrained rec mark (suc n) c
 port-drained rec mark n c h g = record {
@@ -125,7 +125,7 @@ port-drained rec mark n c h g = record {
   out = none-of mark _ g;
 }
 
--- where nothing is left, each mark is drained
+-- if nothing remains, each frame has drained
 pub left-drained : (rules : Rules) (plan : Plan) (rec : Record) → IsLawfulRecord rules plan rec
     → all_left plan rec ≡ 0 → (mark : Mark) → IsDrained plan rec mark
 left-drained rules plan rec lawful h mark = record {
@@ -165,7 +165,7 @@ left-drained rules plan rec lawful h mark = record {
     at_port (suc n) c at = port-drained rec mark n c (total_at-zero (left_before rec) plan.customers before n c at)
         (total_at-zero (left_after rec) plan.customers after n c at)
 
--- on a lane where each mark is drained, nothing is left
+-- if each frame has drained on a lane, nothing remains there
 lane-empty : (rec : Record) (lane : ℕ) (from to : End) → ((mark : Mark) → IsLaneDrained rec mark lane from to)
     → left_on rec lane from to ≡ 0
 lane-empty rec lane from to d =
@@ -177,7 +177,7 @@ lane-empty rec lane from to d =
     (λ m. (d m).off) in
     omega (arith, a, b, c)
 
--- and where each mark is drained, nothing is left
+-- if each frame has drained, nothing remains
 pub drained-left : (plan : Plan) (rec : Record) → ((mark : Mark) → IsDrained plan rec mark) → all_left plan rec ≡ 0
 drained-left plan rec d =
     let w = total-agree (left_at plan rec) (λ p. 0) wait (used_ports plan) ∙ total-none (used_ports plan) in

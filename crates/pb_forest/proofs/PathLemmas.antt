@@ -1,4 +1,4 @@
--- Climbing from both sides of a path.
+-- Climbing from both ends of a path, for `path`.
 use Rattle.std.proofs.Common.{◌≡◌, ◌≢◌, ◌⊎◌, inl, inr, ℕ, zero, suc, ◌+◌, ◌<◌, ◌≤◌, Some, None, Option, true, false}
 use Rattle.std.proofs.Common.{List, [], ◌∷◌, ◌++◌, reverse, refl, sym, ◌∙◌, ap, subst, unwrap_or, arith, add-one}
 use Rattle.std.proofs.Common.{append_assoc, nat_eq}
@@ -23,7 +23,7 @@ pub record IsUp (plan : Plan) (rooted : Rooted) (x k p : ℕ) : Type 0 where
   pub above : across x (numbered plan.links k) ≡ p
   pub deeper : depth_of rooted x ≡ depth_of rooted p + 1
 
--- a certificate's way up does
+-- a link that leads up in a certificate leads to the parent
 lead-up : (plan : Plan) (shape : Shape) (vid : ℕ) (rooted : Rooted) (x k : ℕ) → HasUp rooted x k
     → (way : LeadsUp plan shape vid rooted x k) → IsUp plan rooted x k way.far.bridge
 lead-up plan shape vid rooted x k h way = record {
@@ -34,7 +34,7 @@ lead-up plan shape vid rooted x k h way = record {
       (arith, a, b);
 }
 
--- each active link leads up, from one end or the other
+-- each active link leads up from one of its ends
 pub cross-up : (plan : Plan) (shape : Shape) (vid : ℕ) (rooted : Rooted) → Shows plan shape vid rooted
     → (k : ℕ) (near far : End) → Crosses plan shape vid k near far
     → IsUp plan rooted near.bridge k far.bridge ⊎ IsUp plan rooted far.bridge k near.bridge
@@ -57,13 +57,13 @@ cross-up plan shape vid rooted s k near far c = by way.ends
     by (inl h) = inl (turn near far h.0 h.1)
     by (inr h) = inr (turn far near h.1 h.0)
 
--- the bridge above
+-- the parent of a bridge, or the bridge itself if it has none
 abbrev parent_by : Plan → ℕ → Option (Option ℕ) → ℕ
 parent_by plan x None = x
 parent_by plan x (Some None) = x
 parent_by plan x (Some (Some k)) = across x (numbered plan.links k)
 
--- so many bridges above
+-- the bridge n links above
 abbrev top : Plan → Rooted → ℕ → ℕ → ℕ
 top plan rooted zero x = x
 top plan rooted (suc n) x = top plan rooted n (parent_by plan x (numbered rooted.up x))
@@ -71,7 +71,7 @@ top plan rooted (suc n) x = top plan rooted n (parent_by plan x (numbered rooted
 abbrev root_of : Plan → Rooted → ℕ → ℕ
 root_of plan rooted x = top plan rooted (depth_of rooted x) x
 
--- a bridge has its parent's root
+-- a bridge and its parent have the same root
 up-root : (plan : Plan) (rooted : Rooted) (x k p : ℕ) → IsUp plan rooted x k p
     → root_of plan rooted x ≡ root_of plan rooted p
 up-root plan rooted x k p u =
@@ -79,7 +79,7 @@ up-root plan rooted x k p u =
     let e : parent_by plan x (numbered rooted.up x) ≡ p = ap (parent_by plan x) u.up ∙ u.above in
     ap (λ n. top plan rooted n x) d ∙ ap (top plan rooted (depth_of rooted p)) e
 
--- bridges that are joined have one root
+-- joined bridges have the same root
 walk-root : (plan : Plan) (shape : Shape) (vid : ℕ) (rooted : Rooted) → Shows plan shape vid rooted
     → (here : ℕ) (ks : List ℕ) (there : ℕ)
     → IsWalk plan shape vid here ks there → root_of plan rooted here ≡ root_of plan rooted there
@@ -93,7 +93,7 @@ walk-root plan shape vid rooted s here (k ∷ ks) there (near, far, c, n, w) =
     step (inl u) = up-root plan rooted near.bridge k far.bridge u
     step (inr u) = sym (up-root plan rooted far.bridge k near.bridge u)
 
--- a bridge without way up has depth 0
+-- a bridge without a link that leads up has depth 0
 no-up : (plan : Plan) (shape : Shape) (vid : ℕ) (rooted : Rooted) → Shows plan shape vid rooted → (x : ℕ)
     → ((k : ℕ) → HasUp rooted x k → ⊥) → depth_of rooted x ≡ 0
 no-up plan shape vid rooted s x none = by (numbered rooted.up x) refl
@@ -103,17 +103,18 @@ no-up plan shape vid rooted s x none = by (numbered rooted.up x) refl
     by (Some None) h = ap (λ o. unwrap_or o 0) (s.roots x h)
     by (Some (Some k)) h = absurd (none k h)
 
--- what is passed on the one side: lower than where both sides stand, or as low as the other and not there
+-- a link of the first side: it leads up from a bridge deeper than the first side's and as deep as the second's, and
+-- not from that one
 abbrev IsPassed : Rooted → ℕ → ℕ → ℕ → Type 0
 IsPassed rooted x y k = (u : ℕ) → HasUp rooted u k → (depth_of rooted x < depth_of rooted u)
     × (depth_of rooted y ≤ depth_of rooted u) × (u ≢ y)
 
--- and on the other: lower than both
+-- a link of the second side: it leads up from a bridge deeper than both sides' bridges
 abbrev IsBelow : Rooted → ℕ → ℕ → ℕ → Type 0
 IsBelow rooted x y k = (v : ℕ) → HasUp rooted v k → (depth_of rooted x < depth_of rooted v)
     × (depth_of rooted y < depth_of rooted v)
 
--- both sides have climbed, by different links
+-- both sides have climbed, over different links
 pub record Goes (plan : Plan) (shape : Shape) (vid : ℕ) (rooted : Rooted) (a b x : ℕ) (xs : List ℕ) (y : ℕ)
     (ys : List ℕ) : Type 0 where
   pub walk_a : IsWalk plan shape vid a xs x
@@ -127,7 +128,7 @@ pub goes-start : (plan : Plan) (shape : Shape) (vid : ℕ) (rooted : Rooted) (a 
 unfolding IsDistinct
 goes-start plan shape vid rooted a b = record { walk_a = refl; walk_b = refl; distinct = tt; passed = tt; below = tt }
 
--- one link more, in the midst
+-- inserting a new link into distinct ones
 distinct-insert : (k : ℕ) (xs ys : List ℕ) → AllByRecursion (λ z. k ≢ z) xs → AllByRecursion (λ z. k ≢ z) ys
     → IsDistinct nat_eq (xs ++ ys) → IsDistinct nat_eq (xs ++ k ∷ ys)
 unfolding IsDistinct
@@ -139,7 +140,7 @@ distinct-insert k (x ∷ xs) ys a b d = (insert xs d.0, distinct-insert k xs ys 
     insert [] h = (let ne = a.0 in grind (arith, ne), h)
     insert (z ∷ zs) h = (h.0, insert zs h.1)
 
--- a walk goes on
+-- two walks joined are a walk
 pub walk-append : (plan : Plan) (shape : Shape) (vid here : ℕ) (ks : List ℕ) (there : ℕ) (ls : List ℕ) (last : ℕ)
     → IsWalk plan shape vid here ks there → IsWalk plan shape vid there ls last
     → IsWalk plan shape vid here (ks ++ ls) last
@@ -147,7 +148,7 @@ walk-append plan shape vid here [] there ls last w v = subst (λ z. IsWalk plan 
 walk-append plan shape vid here (k ∷ ks) there ls last (near, far, c, n, w) v =
     (near, far, c, n, walk-append plan shape vid far.bridge ks there ls last w v)
 
--- the link is the way up of that bridge alone
+-- a link leads up from one bridge alone
 only-child : (plan : Plan) (shape : Shape) (vid : ℕ) (rooted : Rooted) → Shows plan shape vid rooted → (x k : ℕ)
     → HasUp rooted x k → (u : ℕ) → HasUp rooted u k → u ≡ x
 only-child plan shape vid rooted s x k h u g =
@@ -169,7 +170,7 @@ climb-one plan shape vid rooted s x k p h e =
     let to : way.far.bridge ≡ p = sym is_up.above ∙ sym e in
     record { way = way; to = to; deeper = subst (λ z. depth_of rooted x ≡ depth_of rooted z + 1) to is_up.deeper }
 
--- the one side climbs
+-- a climb of the first side
 climb-a : (plan : Plan) (shape : Shape) (vid : ℕ) (rooted : Rooted) → Shows plan shape vid rooted
     → (a b x : ℕ) (xs : List ℕ) (y : ℕ) (ys : List ℕ) → Goes plan shape vid rooted a b x xs y ys
     → x ≢ y → depth_of rooted y ≤ depth_of rooted x → (k p : ℕ) → HasUp rooted x k
@@ -211,7 +212,7 @@ climb-a plan shape vid rooted s a b x xs y ys g ne le k p h e = (made, up.deeper
           (λ z q v i. let r = q v i in let l = r.0 in (omega (arith, l, up.deeper), r.1)) (reverse ys) g.below;
     }
 
--- the other side climbs
+-- a climb of the second side
 climb-b : (plan : Plan) (shape : Shape) (vid : ℕ) (rooted : Rooted) → Shows plan shape vid rooted
     → (a b x : ℕ) (xs : List ℕ) (y : ℕ) (ys : List ℕ) → Goes plan shape vid rooted a b x xs y ys
     → depth_of rooted x < depth_of rooted y → (k p : ℕ) → HasUp rooted y k → p ≡ across y (numbered plan.links k)
@@ -267,11 +268,11 @@ climb-b plan shape vid rooted s a b x xs y ys g lt k p h e = (made, up.deeper)
       );
     }
 
--- which side is deeper
+-- the first number is at least the second, or less
 order : (m n : ℕ) → (n ≤ m) ⊎ (m < n)
 order m n = grind arith
 
--- what a climb at the deeper side keeps
+-- a climb at the deeper side keeps `Goes`, for the loop of `path`
 pub goes-on : (plan : Plan) (shape : Shape) (vid : ℕ) (rooted : Rooted) → Shows plan shape vid rooted
     → (a b : ℕ) (i j m n : Side)
     → Goes plan shape vid rooted a b i.bridge i.links.items j.bridge j.links.items → i.bridge ≢ j.bridge
@@ -304,7 +305,7 @@ goes-on plan shape vid rooted s a b i j m n g ne c = by (order (depth_of rooted 
           omega (arith, d, stays),
         )
 
--- where the deeper side cannot climb, both are roots
+-- if the deeper side cannot climb, the bridges are not joined
 pub goes-nowhere : (plan : Plan) (shape : Shape) (vid : ℕ) (rooted : Rooted) → Shows plan shape vid rooted
     → (a b : ℕ) (i j m n : Side)
     → Goes plan shape vid rooted a b i.bridge i.links.items j.bridge j.links.items → i.bridge ≢ j.bridge
@@ -326,7 +327,7 @@ goes-nowhere plan shape vid rooted s a b i j m n g ne c joined =
         let both = walk-root plan shape vid rooted s a joined.0 b joined.1 in
         ne (sym root_i ∙ sym from_a ∙ both ∙ sym from_b ∙ root_j)
 
--- where both sides meet, the way is a path
+-- if both sides meet, the links are a path
 pub goes-there : (plan : Plan) (shape : Shape) (vid : ℕ) (rooted : Rooted) (a b x : ℕ) (xs : List ℕ) (y : ℕ)
     (ys : List ℕ) → Goes plan shape vid rooted a b x xs y ys
     → x ≡ y → IsPath plan shape vid a (xs ++ reverse ys) b

@@ -1,4 +1,4 @@
--- Bridges are taken off one after the other.
+-- Bridges are removed one after the other, for `climb` and `peel`.
 use Rattle.std.proofs.Common.{◌≡◌, ◌≢◌, ℕ, zero, suc, ◌+◌, ◌≤◌, ◌==◌, true, false, Some, None, Option, List, [], ◌∷◌}
 use Rattle.std.proofs.Common.{◌++◌, slice_get, slice_set, length, refl, sym, ◌∙◌, ap, subst, arith, append_assoc}
 use Rattle.std.proofs.Common.{append-nil}
@@ -11,7 +11,7 @@ use Rattle.pb_forest.specs.declared.graph.Branch.{Branch}
 use Rattle.pb_forest.specs.declared.graph.Ends.{Ends}
 use Rattle.pb_forest.specs.declared.graph.Graph.{Graph}
 
--- how many links are left
+-- the number of links that remain
 abbrev pub left : List (Option Ends) → ℕ
 left [] = 0
 left (None ∷ xs) = left xs
@@ -30,7 +30,7 @@ left-off (Some es ∷ xs) zero ends h = refl
 left-off (None ∷ xs) (suc k) ends h = left-off xs k ends h
 left-off (Some es ∷ xs) (suc k) ends h = let r = left-off xs k ends h in omega (arith, r)
 
--- each branch takes one
+-- each branch removes one link
 pub taken-count : (old : List (Option Ends)) (bs : List Branch) (new : List (Option Ends)) → AreTakenOff old bs new
     → length bs + left new ≡ left old
 taken-count old [] new t = let e = ap left t in omega (arith, e)
@@ -39,7 +39,7 @@ taken-count old (b ∷ bs) new t =
     let o = left-off old b.link t.0.link.ends t.0.link.there in
     omega (arith, r, o)
 
--- one branch more
+-- one more branch
 taken-append : (old : List (Option Ends)) (bs : List Branch) (mid : List (Option Ends)) (b : Branch)
     → AreTakenOff old bs mid → IsLast mid b
     → AreTakenOff old (bs ++ b ∷ []) (slice_set mid b.link None)
@@ -61,7 +61,7 @@ takes-more old mid new before after b t l n = record {
       (taken-append old.links.items t.more mid.links.items b t.taken l);
 }
 
--- some branches, and then some more
+-- two lists of branches, one after the other
 taken-both : (old : List (Option Ends)) (bs : List Branch) (mid : List (Option Ends)) (cs : List Branch)
     (new : List (Option Ends)) → AreTakenOff old bs mid → AreTakenOff mid cs new → AreTakenOff old (bs ++ cs) new
 taken-both old [] mid cs new t u = subst (λ xs. AreTakenOff xs cs new) (sym t) u
@@ -77,7 +77,7 @@ takes-both old mid new before midst after t u = record {
   taken = taken-both old.links.items t.more mid.links.items u.more new.links.items t.taken u.taken;
 }
 
--- a step up leaves more than one link, or none, at all that were left so, but perhaps at the bridge above
+-- removing a branch gives no bridge exactly one remaining link, except perhaps the one above
 pub step-clears : (xs new : List (Option Ends)) (b : Branch) → IsLast xs b → new ≡ slice_set xs b.link None → (x : ℕ)
     → (x ≢ b.bridge → degree xs x ≢ 1) → x ≢ b.above → degree new x ≢ 1
 step-clears xs new b l e x h n one =

@@ -1,4 +1,4 @@
--- Parents and depths are set from the branch that was taken off last to the first.
+-- Parents and depths are set from the last removed branch to the first, for `rooted_by`.
 use Rattle.std.proofs.Common.{◌≡◌, ◌≢◌, ℕ, suc, ◌+◌, ◌<◌, ◌≤◌, ◌==◌, true, false, cond, Some, None, Option, List, []}
 use Rattle.std.proofs.Common.{◌∷◌, ◌++◌, slice_get, slice_set, length, replicate, refl, sym, ◌∙◌, ap, subst, arith}
 use Rattle.std.proofs.Common.{append_assoc, length-append}
@@ -13,7 +13,7 @@ use Rattle.pb_forest.specs.Rooting.{way_up, depth_below, IsNear, IsRootedBy}
 use Rattle.pb_forest.specs.declared.graph.Branch.{Branch}
 use Rattle.pb_lan.specs.declared.shape.Rooted.{Rooted}
 
--- no bridge is deeper than there are branches
+-- a depth is at most the number of branches
 pub depth-few : (bs : List Branch) (x : ℕ) → depth_below bs x ≤ length bs
 depth-few [] x = omega arith
 depth-few (b ∷ bs) x =
@@ -31,7 +31,7 @@ pub record RootsTo (bridges : ℕ) (all rest : List Branch) (up : List (Option �
   pub up_at : (x : ℕ) → x < bridges → slice_get up x ≡ Some (way_up later x)
   pub depth_at : (x : ℕ) → x < bridges → slice_get depth x ≡ Some (depth_below later x)
 
--- without branches, each is a root
+-- without branches, each bridge is a root
 get-replicate : {X : Type 0} (n x : ℕ) (v : X) → x < n → slice_get (replicate n v) x ≡ Some v
 get-replicate n x v h = slice_get-get_or (replicate n v) x v (let e = length-replicate n v in omega (arith, e, h))
     ∙ ap (λ y. Some y) (get_or-replicate n x v v h)
@@ -51,7 +51,7 @@ roots-none n all up depth u d = record {
     nil [] = refl
     nil (b ∷ bs) = ap (λ (cs : List Branch). b ∷ cs) (nil bs)
 
--- the branch that comes next
+-- the next branch
 pub split-next : (all rest new later : List Branch) (b : Branch) → rest ++ later ≡ all → rest ≡ new ++ b ∷ []
     → new ++ b ∷ later ≡ all
 split-next all rest new later b s e = sym (append_assoc new (b ∷ []) later)
@@ -62,7 +62,7 @@ pub near-next : (n : ℕ) (all rest new : List Branch) (up : List (Option ℕ)) 
 near-next n all rest new up depth b r e near = All-midst (IsNear n) new b r.later
     (subst (AllByRecursion (IsNear n)) (sym (split-next all rest new r.later b r.split e)) near)
 
--- its depth
+-- the depth of the next branch's bridge
 pub depth-next : (n : ℕ) (all rest new : List Branch) (up : List (Option ℕ)) (depth : List ℕ) (b : Branch) (d : ℕ)
     → (r : RootsTo n all rest up depth) → rest ≡ new ++ b ∷ [] → IsNear n b → slice_get depth b.above ≡ Some d
     → (d ≡ depth_below r.later b.above) × (d + 1 ≤ length all)
@@ -73,7 +73,7 @@ depth-next n all rest new up depth b d r e near h =
     let k = length-append new (b ∷ r.later) in
     (is, omega (arith, is, few, l, k))
 
--- one branch more
+-- one more branch, for the loop of `rooted_by`
 pub roots-more : (n : ℕ) (all rest new : List Branch) (up : List (Option ℕ)) (depth : List ℕ) (b : Branch) (d : ℕ)
     → (r : RootsTo n all rest up depth) → rest ≡ new ++ b ∷ [] → IsNear n b → d ≡ depth_below r.later b.above
     → RootsTo n all new (slice_set up b.bridge (Some (b.link + 1))) (slice_set depth b.bridge (d + 1))
@@ -98,7 +98,7 @@ roots-more n all rest new up depth b d r e near is = record {
           | false ↦ λ t. let ne : x ≢ b.bridge = grind (arith, t) in put_elsewhere xs b.bridge x v ne ∙ h
         ] refl
 
--- all of them
+-- all branches, at the end of `rooted_by`
 pub roots-all : (n : ℕ) (all : List Branch) (up : List (Option ℕ)) (depth : List ℕ) (rooted : Rooted)
     → RootsTo n all [] up depth → rooted.up ≡ up → rooted.depth ≡ depth → IsRootedBy n all rooted
 roots-all n all up depth rooted r u d = record {

@@ -8,7 +8,7 @@ use Rattle.pb_frame.proofs.Lists.{All-imply}
 use Rattle.pb_frame.proofs.Things.{suc-test}
 use Rattle.pb_lan.specs.Numbering.{numbered}
 
--- a number where a test holds
+-- a number if a test holds, otherwise 0
 abbrev pub given : Bool → ℕ → ℕ
 given b n = cond b n 0
 
@@ -17,7 +17,7 @@ abbrev pub total : {X : Type 0} → (X → ℕ) → List X → ℕ
 total f [] = 0
 total f (x ∷ xs) = f x + total f xs
 
--- it is the sum from the left
+-- the sum from the right is the sum from the left
 pub sum_by-total : {X : Type 0} (f : X → ℕ) (xs : List X) → sum_by f xs ≡ total f xs
 sum_by-total f [] = refl
 sum_by-total f (x ∷ xs) =
@@ -33,12 +33,12 @@ pub total-plus : {X : Type 0} (f g : X → ℕ) (xs : List X) → total (λ x. f
 total-plus f g [] = refl
 total-plus f g (x ∷ xs) = let r = total-plus f g xs in omega (arith, r)
 
--- of functions that agree on the list
+-- functions that agree on the list have the same sum
 pub total-same : {X : Type 0} (f g : X → ℕ) (xs : List X) → AllByRecursion (λ x. f x ≡ g x) xs → total f xs ≡ total g xs
 total-same f g [] a = refl
 total-same f g (x ∷ xs) a = let r = total-same f g xs a.1 in let h = a.0 in omega (arith, r, h)
 
--- and of those that agree anywhere
+-- functions that agree everywhere have the same sum
 pub total-agree : {X : Type 0} (f g : X → ℕ) → ((x : X) → f x ≡ g x) → (xs : List X) → total f xs ≡ total g xs
 total-agree f g h [] = refl
 total-agree f g h (x ∷ xs) = let r = total-agree f g h xs in let e = h x in omega (arith, r, e)
@@ -47,7 +47,7 @@ pub total-none : {X : Type 0} (xs : List X) → total (λ x. 0) xs ≡ 0
 total-none [] = refl
 total-none (x ∷ xs) = let r = total-none xs in omega (arith, r)
 
--- rows and columns
+-- a double sum may be swapped
 pub total-swap : {X Y : Type 0} (f : X → Y → ℕ) (xs : List X) (ys : List Y)
     → total (λ x. total (f x) ys) xs ≡ total (λ y. total (λ x. f x y) xs) ys
 total-swap f [] ys = sym (total-none ys)
@@ -60,12 +60,12 @@ pub total-map : {X Y : Type 0} (f : Y → ℕ) (g : X → Y) (xs : List X) → t
 total-map f g [] = refl
 total-map f g (x ∷ xs) = let r = total-map f g xs in omega (arith, r)
 
--- a sum of nothing is of nothings
+-- a sum of 0 has terms of 0 only
 pub total-zero : {X : Type 0} (f : X → ℕ) (xs : List X) → total f xs ≡ 0 → AllByRecursion (λ x. f x ≡ 0) xs
 total-zero f [] h = tt
 total-zero f (x ∷ xs) h = (omega (arith, h), total-zero f xs (omega (arith, h)))
 
--- a sum by place
+-- a sum whose terms depend on the index
 abbrev pub total_at : {X : Type 0} → (ℕ → X → ℕ) → List X → ℕ
 total_at f [] = 0
 total_at f (x ∷ xs) = f 0 x + total_at (λ n. f (suc n)) xs
@@ -98,7 +98,7 @@ total_at-zero f (y ∷ ys) h zero x e = let one : f 0 y ≡ 0 = omega (arith, h)
     ∙ one
 total_at-zero f (y ∷ ys) h (suc n) x e = total_at-zero (λ n. f (suc n)) ys (omega (arith, h)) n x e
 
--- rows and columns
+-- a double sum with an index may be swapped
 pub total_at-swap : {X Y : Type 0} (f : X → ℕ → Y → ℕ) (xs : List X) (ys : List Y)
     → total (λ x. total_at (f x) ys) xs ≡ total_at (λ n y. total (λ x. f x n y) xs) ys
 total_at-swap f xs [] = total-none xs
@@ -107,14 +107,14 @@ total_at-swap f xs (y ∷ ys) =
     let p = total-plus (λ x. f x 0 y) (λ x. total_at (λ n. f x (suc n)) ys) xs in
     omega (arith, r, p)
 
--- lists beside a list of as many things
+-- a sum over a list as one over another list of the same length
 pub total-lists : {X Y : Type 0} (f : List X → ℕ) (ls : List (List X)) (bs : List Y) → length ls ≡ length bs
     → total f ls ≡ total_at (λ n b. f (unwrap_or (slice_get ls n) [])) bs
 total-lists f [] [] e = refl
 total-lists f (a ∷ ls) (b ∷ bs) e = let r = total-lists f ls bs (omega (arith, e)) in omega (arith, r)
 total-lists f _ _ e = absurd (omega (arith, e))
 
--- and beside a list of half as many
+-- a sum over a list as one over another list of half the length
 pub total-pairs : {X Y : Type 0} (f : List X → ℕ) (ls : List (List X)) (bs : List Y) → length ls ≡ 2 * length bs
     → total f ls ≡ total_at (λ n b. f (unwrap_or (slice_get ls (2 * n)) []) + f
     (unwrap_or (slice_get ls (suc (2 * n))) [])) bs
@@ -134,7 +134,7 @@ total-pairs {Y = Y} f (a ∷ c ∷ ls) (b ∷ bs) e =
     ap (λ k. f (unwrap_or (slice_get (a ∷ c ∷ ls) k) []) + f (unwrap_or (slice_get (a ∷ c ∷ ls) (suc k)) [])) d) in
     omega (arith, r, s)
 
--- of the thing of a number, as a sum over all
+-- the value of the element with a number, as a sum over all elements
 pub total-numbered : {X : Type 0} (h : X → ℕ) (d : X) → h d ≡ 0 → (k : ℕ) (xs : List X)
     → h (unwrap_or (numbered xs k) d) ≡ total_at (λ n x. cond (suc n == k) (h x) 0) xs
 total-numbered {X = X} h d e zero xs =
@@ -166,7 +166,7 @@ total-numbered {X = X} h d e (suc k) xs = at k xs
         let z : cond (1 == suc (suc k)) (h x) 0 ≡ 0 = ap (λ b. cond b (h x) 0) (first k) in
         omega (arith, r, s, z)
 
--- one number stands once in a list of distinct ones
+-- one number in a list of distinct numbers has one term in a sum
 pub total-once : (h : ℕ → ℕ) (k : ℕ) (xs : List ℕ) → IsDistinct nat_eq xs → list_any (λ x. x == k) xs ≡ true
     → total (λ x. cond (x == k) (h x) 0) xs ≡ h k
 unfolding IsDistinct

@@ -1,4 +1,4 @@
--- Each port that is used is used once.
+-- Each used port is used once.
 use Rattle.std.proofs.Common.{◌≡◌, ℕ, ◌+◌, Some, None, Option, Bool, true, false, cond, ◌&&◌, ◌||◌, ◌==◌, List, []}
 use Rattle.std.proofs.Common.{◌∷◌, map, refl, sym, ◌∙◌, ap, subst, arith, nat_eq}
 use Rattle.std.proofs.lemmas.Bool.{eqb-true}
@@ -16,7 +16,7 @@ use Rattle.pb_lan.specs.declared.plan.Plan.{Plan}
 use Rattle.pb_lan.specs.declared.plan.End.{End}
 use Rattle.pb_lan.specs.declared.plan.CustomerPlan.{CustomerPlan}
 
--- a test of images
+-- a test of the images is a test of the elements
 list_any-map : {X Y : Type 0} (test : Y → Bool) (f : X → Y) (xs : List X) → list_any (λ x. test (f x)) xs ≡ true
     → list_any test (map f xs) ≡ true
 list_any-map test f [] h = cc
@@ -24,7 +24,7 @@ list_any-map test f (x ∷ xs) h =
     elim (test (f x)) as (λ b. (b || list_any (λ x. test (f x)) xs) ≡ true → (b || list_any test (map f xs)) ≡ true)
     [ true ↦ λ e. refl | false ↦ λ e. list_any-map test f xs e ] h
 
--- a port where something stands is used
+-- a port that is not unused is among the used ports
 pub used-at : (plan : Plan) (b q : ℕ) → (port_at plan b q ≡ Unused → ⊥)
     → list_any (is_same_port (b, q)) (used_ports plan) ≡ true
 used-at plan b q used = by_customer (first (is_customer_at b q) plan.customers) refl
@@ -56,7 +56,7 @@ used-at plan b q used = by_customer (first (is_customer_at b q) plan.customers) 
         (list_any-at (λ (c : CustomerPlan). is_same_port (b, q) (c.bridge, c.port)) plan.customers p.0 c p.1
         (turned c.bridge c.port p.2)))
 
--- used ports are local
+-- used ports are local ports
 used-numbers : (plan : Plan) → IsSound plan → AllByRecursion (λ p. IsNumber p.1 16) (used_ports plan)
 used-numbers plan sound =
     All-append (λ p. IsNumber p.1 16) (map (λ (e : End). (e.bridge, e.port)) (all_ends plan))
@@ -66,7 +66,7 @@ used-numbers plan sound =
     (All-map (λ p. IsNumber p.1 16) (λ (c : CustomerPlan). (c.bridge, c.port)) plan.customers
     (All-imply (IsSoundCustomer plan) (λ c. IsNumber c.port 16) (λ c s. s.port) plan.customers sound.customers))
 
--- in a list of distinct ports one stands once
+-- a port in a list of distinct ports has one term in a sum
 port-once : (b q v : ℕ) (ps : List (ℕ × ℕ)) → IsDistinct is_same_port ps → list_any (is_same_port (b, q)) ps ≡ true
     → total (λ p. cond (is_same_port (b, q) p) v 0) ps ≡ v
 unfolding IsDistinct
@@ -90,12 +90,12 @@ port-once b q v (p ∷ ps) d f =
         let j : q ≡ p.1 = eqb-true q p.1 (and-right (b == p.0) _ e) in
         subst (λ x. (x == y.0 && q == y.1) ≡ false) (sym i) (subst (λ x. (p.0 == y.0 && x == y.1) ≡ false) (sym j) a)
 
--- two tests, one in the other
+-- two nested conditions are one
 both-tests : (s t : Bool) (v : ℕ) → cond s (cond t v 0) 0 ≡ cond (s && t) v 0
 both-tests true t v = refl
 both-tests false t v = refl
 
--- the ports where something stands, each once
+-- a port that is not unused has one term in a sum over the used ports
 pub used-once : (plan : Plan) → IsSound plan → (b q v : ℕ) → (port_at plan b q ≡ Unused → ⊥)
     → total (λ p. cond (b == p.0) (cond (q == p.1) v 0) 0) (used_ports plan) ≡ v
 used-once plan sound b q v used =
@@ -103,7 +103,7 @@ used-once plan sound b q v used =
     (λ p. both-tests (b == p.0) (q == p.1) v) (used_ports plan)
     ∙ port-once b q v (used_ports plan) sound.ports (used-at plan b q used)
 
--- the local ports differ
+-- the local ports are distinct
 local-distinct : IsDistinct nat_eq local_ports
 unfolding IsDistinct
 local-distinct = (
@@ -162,7 +162,7 @@ local-distinct = (
   ),
 )
 
--- what is given to ports where something stands is given to used ports
+-- a sum over the local ports that are used is a sum over the used ports
 pub used-total : (plan : Plan) → IsSound plan → (b : ℕ) (gives : ℕ → Bool)
     → ((q : ℕ) → gives q ≡ true → port_at plan b q ≡ Unused → ⊥)
     → total (λ p. cond (b == p.0) (cond (gives p.1) 1 0) 0) (used_ports plan) ≡ total (λ q. cond (gives q) 1 0)

@@ -1,4 +1,4 @@
--- What a test bench is told of a finished record.
+-- Statements about a finished record, for test benches.
 use Rattle.std.specs.Prelude.{◌≡◌, ℕ, Bool, List, [], ◌∷◌, Some, IsTrue}
 use Rattle.pb_lan.specs.Counts.{IsDrained, IsHandledUnder, IsUnhindered}
 use Rattle.pb_lan.specs.Laws.{IsTraced, IsReached, IsDelivered}
@@ -13,20 +13,20 @@ use Rattle.pb_lan.specs.declared.record.Record.{Record}
 use Rattle.pb_lan.specs.declared.shape.Shape.{Shape}
 use Rattle.pb_lan.specs.declared.step.Mark.{Mark}
 
--- a mark of a customer port of the service was handled under the shape, and neither refused nor lost
+-- a frame of a customer port of the service was handled under the shape, and neither refused nor lost
 pub record IsCarried (plan : Plan) (shape : Shape) (rec : Record) (service : ℕ) (mark : Mark) (entry : CustomerPlan) : Type 0 where
   pub planned : numbered plan.customers mark.port ≡ Some entry
   pub of_service : entry.service ≡ service
   pub handled : IsHandledUnder plan shape rec mark
   pub unhindered : IsUnhindered plan shape (vid_at plan entry) rec mark
 
--- where the bench says so, each such mark left each other port of its tree as often as it should
+-- if the bench reports it, each such frame left each other port of its tree as often as it should
 abbrev pub TellsDelivered : Plan → Shape → Record → ℕ → Bool → Type 0
 TellsDelivered plan shape rec service told =
     IsTrue told → (rules : Rules) (mark : Mark) (entry : CustomerPlan) → IsLawfulRecord rules plan rec → IsCarried plan shape rec service mark entry
     → (number : ℕ) (c : CustomerPlan) (path : List ℕ) → IsReached plan shape mark entry number c path → IsDelivered plan shape rec mark entry number c path
 
--- some record of a network with a link meets all that the law of exact delivery asks
+-- some record of a network with a link meets all conditions of the law of exact delivery
 pub record CanArrive : Type 0 where
   pub rules : Rules
   pub plan : Plan

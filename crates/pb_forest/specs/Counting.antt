@@ -1,4 +1,4 @@
--- What a graph keeps of its links, and how it changes as bridges are taken off.
+-- The counts of a graph, and how they change as bridges are removed.
 use Rattle.std.specs.Prelude.{◌≡◌, ℕ, ◌<◌, ◌≤◌, ◌≢◌, List, ◌++◌, length, slice_index}
 use Rattle.std.specs.declared.option.Option.{Option}
 use Rattle.pb_forest.specs.Graphs.{degree, index_sum, AreWithin, AreTakenOff}
@@ -6,7 +6,7 @@ use Rattle.pb_forest.specs.declared.graph.Branch.{Branch}
 use Rattle.pb_forest.specs.declared.graph.Ends.{Ends}
 use Rattle.pb_forest.specs.declared.graph.Graph.{Graph}
 
--- degrees and sums are those of the links, which are few
+-- degrees and sums are those of the links, of which there are at most 255
 pub record IsCounted (g : Graph) : Type 0 where
   pub same : length g.sums.items ≡ length g.degrees.items
   pub few : length g.links.items ≤ 255
@@ -14,17 +14,17 @@ pub record IsCounted (g : Graph) : Type 0 where
   pub degrees : (x : ℕ) → slice_index g.degrees.items x ≡ degree g.links.items x
   pub sums : (x : ℕ) → slice_index g.sums.items x ≡ index_sum 0 g.links.items x
 
--- a graph of these links, between as many bridges as before
+-- a graph of these links, with the same number of bridges
 pub record IsNext (old new : Graph) (links : List (Option Ends)) : Type 0 where
   pub counted : IsCounted new
   pub bridges : length new.degrees.items ≡ length old.degrees.items
   pub joined : new.links.items ≡ links
 
--- at none of the first bridges just one link is left
+-- none of the first bridges has exactly one remaining link
 abbrev pub IsCleared : ℕ → Graph → Type 0
 IsCleared bridges g = (x : ℕ) → x < bridges → degree g.links.items x ≢ 1
 
--- branches more are taken off
+-- more branches are removed
 pub record TakesOff (old new : Graph) (before after : List Branch) : Type 0 where
   pub counted : IsCounted new
   pub bridges : length new.degrees.items ≡ length old.degrees.items

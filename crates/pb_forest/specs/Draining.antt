@@ -1,4 +1,4 @@
--- Customers' frames that come in, are copied and go.
+-- Customers' frames that enter, are copied, and leave.
 use Rattle.std.specs.Prelude.{◌≡◌, ℕ, ◌+◌, Bool, List, ◌↔◌, IsTrue}
 use Rattle.std.specs.List.{sum_by}
 use Rattle.pb_lan.specs.Counts.{IsDrained}
@@ -11,18 +11,18 @@ use Rattle.pb_lan.specs.declared.step.Mark.{Mark}
 use Rattle.pb_lan.specs.declared.step.Step.{Step}
 use Rattle.pb_history.specs.Draining.{gain, loss}
 
--- in the steps of all places of a kind
+-- the numbers of customers' frames that all places of a kind add
 abbrev pub gains : List (List Step) → ℕ
 gains places = sum_by (λ steps. sum_by gain steps) places
 
 abbrev pub losses : List (List Step) → ℕ
 losses places = sum_by (λ steps. sum_by loss steps) places
 
--- as many marked items were added as were taken away
+-- as many customers' frames were added as were removed
 abbrev pub Balances : Record → Type 0
 Balances rec = gains rec.bridges + gains rec.lanes + gains rec.customers ≡ losses rec.bridges + losses rec.lanes + losses rec.customers
 
--- of a lawful record of a sound plan the answer is true just where every mark is drained
+-- for a lawful record of a sound plan the result is true exactly if every frame has drained
 abbrev pub TellsDrained : Record → Bool → Type 0
 TellsDrained rec result =
     (rules : Rules) (plan : Plan) → IsSound plan → IsLawfulRecord rules plan rec → IsTrue result ↔ ((mark : Mark) → IsDrained plan rec mark)

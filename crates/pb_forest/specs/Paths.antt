@@ -8,34 +8,34 @@ use Rattle.pb_lan.specs.declared.plan.LinkPlan.{LinkPlan}
 use Rattle.pb_lan.specs.declared.shape.Shape.{Shape}
 use Rattle.pb_lan.specs.declared.shape.Rooted.{Rooted}
 
--- the number of links up to the bridge's root
+-- the number of links between the bridge and its root
 abbrev pub depth_of : Rooted → ℕ → ℕ
 depth_of rooted bridge = unwrap_or (numbered rooted.depth bridge) 0
 
--- the bridge at the other end of the link; the same one, where there is no such link
+-- the bridge at the other end of the link, or the same bridge if there is no such link
 abbrev pub across : ℕ → Option LinkPlan → ℕ
 across bridge None = bridge
 across bridge (Some link) = if link.a.bridge == bridge then link.b.bridge else link.a.bridge
 
--- the link is the bridge's way up
+-- the link leads up from the bridge
 abbrev pub HasUp : Rooted → ℕ → ℕ → Type 0
 HasUp rooted bridge number = numbered rooted.up bridge ≡ Some (Some number)
 
--- a climb from a bridge takes its way up, where there is one
+-- a climb from a bridge takes the link that leads up, if there is one
 abbrev pub Climbs : Plan → Rooted → ℕ → List ℕ → ℕ → List ℕ → Bool → Type 0
 Climbs plan rooted bridge links above more true =
     (number : ℕ) × HasUp rooted bridge number × (above ≡ across bridge (numbered plan.links number)) × (more ≡ links ++ number ∷ [])
 Climbs plan rooted bridge links above more false = (number : ℕ) → HasUp rooted bridge number → ⊥
 
--- the answer is the path, or that there is none
+-- the result is the path, or `None` if there is no path
 abbrev pub IsWayBetween : Plan → Shape → ℕ → ℕ → ℕ → Option (List ℕ) → Type 0
 IsWayBetween plan shape vid a b None = AreJoined plan shape vid a b → ⊥
 IsWayBetween plan shape vid a b (Some numbers) = IsPath plan shape vid a numbers b
 
--- so it is for each shape that the certificate shows to be a forest
+-- the same for each shape that the certificate shows to be a forest
 abbrev pub AnswersPath : Plan → Rooted → ℕ → ℕ → Option (List ℕ) → Type 0
 AnswersPath plan rooted a b answer = (shape : Shape) (vid : ℕ) → Shows plan shape vid rooted → IsWayBetween plan shape vid a b answer
 
--- the certificate shows some shape to be a forest for some service
+-- the certificate shows that some shape is a forest for some service
 abbrev pub ShowsSome : Plan → Rooted → Type 0
 ShowsSome plan rooted = (shape : Shape) × (vid : ℕ) × Shows plan shape vid rooted

@@ -1,4 +1,4 @@
-//! Look-ups in plans and shapes, and which links are active.
+//! Look-ups in plans and shapes, and the active links.
 
 ghost use Rattle.std.specs.Prelude.{◌≡◌, ◌==◌};
 ghost use Rattle.std.specs.List.{list_any};
@@ -11,7 +11,7 @@ ghost use Rattle.pb_lan.specs.Shapes.{is_active};
 
 use pb_lan::{End, LinkPlan, Plan, PortState, ServicePlan, Shape};
 
-/// The thing of this number, if there is one. The first has number 1, and none has number 0.
+/// Returns the element with this number, or `None` if there is none. The first has number 1, and none has number 0.
 pub fn numbered<T>(things: &[T], number: usize) -> Option<&T>
     ensures { option_copied result ≡ numbered things.now number }
 {
@@ -21,7 +21,8 @@ pub fn numbered<T>(things: &[T], number: usize) -> Option<&T>
     things.get(number - 1)
 }
 
-/// The VID of the service of this number, from 1; 0, which no service of a sound plan has, where there is none.
+/// Returns the VID of the service with this number, counted from 1, or 0 if there is none. No service of a sound plan
+/// has VID 0.
 pub fn vid_numbered(plan: &Plan, service: u8) -> u16
     ensures { result ≡ vid_numbered plan.now service }
 {
@@ -31,7 +32,7 @@ pub fn vid_numbered(plan: &Plan, service: u8) -> u16
     }
 }
 
-/// Whether the service of this number goes by this VID.
+/// Checks whether the service with this number has this VID.
 fn has_vid(plan: &Plan, vid: u16, service: u8) -> bool
     ensures { result ≡ has_vid plan.now vid service }
 {
@@ -41,21 +42,21 @@ fn has_vid(plan: &Plan, vid: u16, service: u8) -> bool
     }
 }
 
-/// Whether some service goes by this VID.
+/// Checks whether some service has this VID.
 fn is_vid_of_some(services: &[ServicePlan], vid: u16) -> bool
     ensures { result ≡ list_any (λ s. s.vid == vid) services.now }
 {
     services.iter().any(|service| service.vid == vid)
 }
 
-/// Whether one of the services of these numbers goes by this VID.
+/// Checks whether one of the services with these numbers has this VID.
 fn is_vid_of_listed(plan: &Plan, vid: u16, numbers: &[u8]) -> bool
     ensures { result ≡ list_any (has_vid plan.now vid) numbers.now }
 {
     numbers.iter().any(|number| has_vid(plan, vid, *number))
 }
 
-/// Whether the end is a member of a service with this VID.
+/// Checks whether the end is a member of a service with this VID.
 fn serves(plan: &Plan, vid: u16, end: &End) -> bool
     ensures { result ≡ serves plan.now vid end.now }
 {
@@ -65,9 +66,10 @@ fn serves(plan: &Plan, vid: u16, end: &End) -> bool
     }
 }
 
-/// The state of a bridge's port in a shape: Discarding where the shape has no such bridge, or the bridge no such port.
+/// Returns the state of a bridge's port in a shape, or Discarding if the shape has no such bridge, or the bridge no
+/// such port.
 ///
-/// `bridge` is a bridge's number and `port` a local port, both from 1.
+/// `bridge` is a bridge's number and `port` a local port, both counted from 1.
 pub fn state_in(shape: &Shape, bridge: u8, port: u8) -> PortState
     ensures { result ≡ state_in shape.now bridge port }
 {
@@ -80,7 +82,7 @@ pub fn state_in(shape: &Shape, bridge: u8, port: u8) -> PortState
     }
 }
 
-/// Whether the port forwards.
+/// Checks whether the state is Forwarding.
 fn is_forwarding(state: PortState) -> bool
     ensures { result ≡ is_forwarding state }
 {
@@ -90,29 +92,29 @@ fn is_forwarding(state: PortState) -> bool
     }
 }
 
-/// Whether the end is Forwarding.
+/// Checks whether the end is Forwarding.
 fn is_end_forwarding(shape: &Shape, end: &End) -> bool
     ensures { result ≡ is_end_forwarding shape.now end.now }
 {
     is_forwarding(state_in(shape, end.bridge, end.port))
 }
 
-/// Whether both ends of a link are Forwarding in a shape.
+/// Checks whether both ends of a link are Forwarding in a shape.
 pub fn are_ends_forwarding(shape: &Shape, link: &LinkPlan) -> bool
     ensures { result ≡ are_ends_forwarding shape.now link.now }
 {
     is_end_forwarding(shape, &link.a) && is_end_forwarding(shape, &link.b)
 }
 
-/// Whether the end is Forwarding, and a member of the service.
+/// Checks whether the end is Forwarding, and a member of the service.
 fn is_open(plan: &Plan, shape: &Shape, vid: u16, end: &End) -> bool
     ensures { result ≡ is_open plan.now shape.now vid end.now }
 {
     is_end_forwarding(shape, end) && serves(plan, vid, end)
 }
 
-/// Whether a link carries the service of a VID in a shape: both its ends are Forwarding and members of the service
-/// (802.1Q clause 8.8).
+/// Checks whether a link carries the service with this VID in a shape: both its ends are Forwarding and members of
+/// the service (IEEE 802.1Q clause 8.8).
 pub fn is_active(plan: &Plan, shape: &Shape, vid: u16, link: &LinkPlan) -> bool
     ensures { result ≡ is_active plan.now shape.now vid link.now }
 {

@@ -1,4 +1,4 @@
-//! Whether parents and depths show a forest.
+//! The check of a certificate of a forest.
 
 ghost use Rattle.std.specs.Prelude.{◌≡◌, ◌↔◌, ℕ, IsTrue, MatchOption, length, slice_index_or, true, false};
 ghost use Rattle.pb_forest.specs.Certificates.{IsBelow, Stands, AllStand, AreApart, AreMarked, MarksOne, AllLeadUp};
@@ -9,7 +9,7 @@ ghost use Rattle.pb_lan.specs.Shapes.{is_active};
 use crate::active::{is_active, numbered, vid_numbered};
 use pb_lan::{End, LinkPlan, Plan, Rooted, Shape};
 
-/// Whether the near end is at the bridge, and the far end's bridge one less deep.
+/// Checks whether the near end is at the bridge, and the far end's bridge has a depth that is one less.
 fn is_below(depths: &[u8], near: &End, far: &End, bridge: usize) -> bool
     ensures { IsTrue result ↔ IsBelow depths.now near.now far.now bridge }
 {
@@ -25,7 +25,7 @@ fn is_below(depths: &[u8], near: &End, far: &End, bridge: usize) -> bool
     }
 }
 
-/// Whether the link leads from the bridge to one that is one less deep.
+/// Checks whether the link is active and joins the bridge to one whose depth is one less.
 fn leads_up(
     plan: &Plan,
     shape: &Shape,
@@ -47,7 +47,7 @@ fn leads_up(
     }
 }
 
-/// Whether the bridge's entry is true.
+/// Checks whether the bridge's entry is right.
 fn stands(
     plan: &Plan,
     shape: &Shape,
@@ -67,7 +67,7 @@ fn stands(
     }
 }
 
-/// Whether all entries are true.
+/// Checks whether all entries are right.
 fn all_stand(plan: &Plan, shape: &Shape, vid: u16, rooted: &Rooted) -> bool
     ensures { IsTrue result ↔ AllStand plan.now shape.now vid rooted.now }
 {
@@ -79,7 +79,7 @@ fn all_stand(plan: &Plan, shape: &Shape, vid: u16, rooted: &Rooted) -> bool
     true
 }
 
-/// Marks the link, and tells whether it was not marked.
+/// Marks the link of an entry, and returns whether it was not marked. An entry without a link returns `true`.
 fn mark(marks: &mut [bool; 256], up: Option<u8>) -> bool
     ensures { MarksOne up marks.old marks.new result }
 {
@@ -93,7 +93,7 @@ fn mark(marks: &mut [bool; 256], up: Option<u8>) -> bool
     }
 }
 
-/// The links that are ways up, if none is one twice.
+/// Returns marks of the links that lead up from a bridge, or `None` if a link does so for two bridges.
 fn ways_up(ups: &[Option<u8>]) -> Option<[bool; 256]>
     ensures { MatchOption result (AreApart ups.now → ⊥) (λ marks. AreApart ups.now × AreMarked ups.now marks) }
 {
@@ -106,7 +106,7 @@ fn ways_up(ups: &[Option<u8>]) -> Option<[bool; 256]>
     Some(marks)
 }
 
-/// Whether the link is marked, if it is active.
+/// Checks whether the link is marked, if it is active.
 fn is_marked_if_active(
     plan: &Plan,
     shape: &Shape,
@@ -121,7 +121,7 @@ fn is_marked_if_active(
     !is_active(plan, shape, vid, link) || (number < 256 && marks[number])
 }
 
-/// Whether each active link is marked.
+/// Checks whether each active link is marked.
 fn all_lead_up(
     plan: &Plan,
     shape: &Shape,
@@ -140,7 +140,7 @@ fn all_lead_up(
     true
 }
 
-/// Whether no link is the way up of two bridges, and each active link is the way up of one.
+/// Checks whether no link leads up from two bridges, and each active link leads up from one.
 fn have_one_child(plan: &Plan, shape: &Shape, vid: u16, ups: &[Option<u8>]) -> bool
     ensures { IsTrue result ↔ (AreApart ups.now × AllLeadUp plan.now shape.now vid ups.now) }
 {
@@ -150,7 +150,7 @@ fn have_one_child(plan: &Plan, shape: &Shape, vid: u16, ups: &[Option<u8>]) -> b
     }
 }
 
-/// Whether both lists have one entry a bridge.
+/// Checks whether both lists have one entry for each bridge.
 fn has_all_entries(plan: &Plan, rooted: &Rooted) -> bool
     ensures { IsTrue result ↔ (length rooted.now.up ≡ length plan.now.bridges
         × (length rooted.now.depth ≡ length plan.now.bridges)) }
@@ -158,7 +158,7 @@ fn has_all_entries(plan: &Plan, rooted: &Rooted) -> bool
     rooted.up.len() == plan.bridges.len() && rooted.depth.len() == plan.bridges.len()
 }
 
-/// Whether all entries are true, and each active link is the way up of just one bridge.
+/// Checks whether all entries are right, and each active link leads up from exactly one bridge.
 fn entries_show(plan: &Plan, shape: &Shape, vid: u16, rooted: &Rooted) -> bool
     ensures { IsTrue result ↔ (AllStand plan.now shape.now vid rooted.now
         × (AreApart rooted.now.up × AllLeadUp plan.now shape.now vid rooted.now.up)) }
@@ -166,18 +166,18 @@ fn entries_show(plan: &Plan, shape: &Shape, vid: u16, rooted: &Rooted) -> bool
     all_stand(plan, shape, vid, rooted) && have_one_child(plan, shape, vid, rooted.up.as_slice())
 }
 
-/// Whether parents and depths show that the active links of a service join no bridges in a ring.
-/// Takes no memory.
+/// Checks whether parents and depths show that the active links of a service form no loop. Allocates nothing.
 ///
 /// They do if and only if
-/// - both lists have one entry a bridge;
-/// - each link of `up` is active and joins its bridge to one whose depth is one less;
-/// - a bridge without link in `up` has depth 0;
-/// - each active link stands in `up` just once.
 ///
-/// A link is active for a service if both its ends are Forwarding and members of the service
-/// (802.1Q clause 8.8). `service` is a service's number, from 1. A number that names no service
-/// stands for VID 0, which no service of a sound plan has, so that no link is active.
+/// - both lists have one entry for each bridge;
+/// - each link of `up` is active and joins its bridge to one whose depth is one less;
+/// - a bridge without a link in `up` has depth 0;
+/// - each active link is in `up` exactly once.
+///
+/// A link is active for a service if both its ends are Forwarding and members of the service (IEEE 802.1Q clause
+/// 8.8). `service` is a service's number, counted from 1. A number without a service means VID 0, which no service of
+/// a sound plan has. No link is active then.
 pub fn check_rooted(shape: &Shape, plan: &Plan, service: u8, rooted: &Rooted) -> bool
     ensures { IsTrue result ↔ Shows plan.now shape.now (vid_numbered plan.now service) rooted.now }
 {

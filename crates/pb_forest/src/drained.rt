@@ -1,14 +1,14 @@
-//! Whether customers' frames are left in a network.
+//! Whether customers' frames remain in a network.
 
 ghost use Rattle.std.specs.Prelude.{◌≡◌, ◌↔◌, ◌≤◌, ◌*◌, ◌^◌, IsTrue, length};
 ghost use Rattle.pb_forest.specs.Draining.{gains, losses, Balances, TellsDrained};
 
 use pb_history::{Tallies, Tally};
 
-/// The most places of one kind that a record of a sound plan has.
+/// The most places of one kind in a record of a sound plan.
 const MOST_PLACES: usize = 128;
 
-/// How many customers' frames the places add.
+/// Returns how many customers' frames the steps of the places add.
 fn gains(places: &[Tally]) -> u128
     requires { length places.now ≤ 128 }
     ensures exact { result ≡ gains places.now }
@@ -21,7 +21,7 @@ fn gains(places: &[Tally]) -> u128
     sum
 }
 
-/// How many they take away.
+/// Returns how many customers' frames the steps of the places remove.
 fn losses(places: &[Tally]) -> u128
     requires { length places.now ≤ 128 }
     ensures exact { result ≡ losses places.now }
@@ -34,14 +34,14 @@ fn losses(places: &[Tally]) -> u128
     sum
 }
 
-/// Whether there are no more places of a kind than in a sound plan.
+/// Checks whether there are no more places of a kind than a sound plan has.
 fn has_few(places: &[Tally]) -> bool
     ensures { IsTrue result ↔ length places.now ≤ 128 }
 {
     places.len() <= MOST_PLACES
 }
 
-/// Whether the places add as many customers' frames as they take away.
+/// Checks whether the places add as many customers' frames as they remove.
 fn balances(tallies: &Tallies) -> bool
     requires bridges { length tallies.now.bridges ≤ 128 }
     requires lanes { length tallies.now.lanes ≤ 128 }
@@ -54,14 +54,13 @@ fn balances(tallies: &Tallies) -> bool
         == losses(bridges) + losses(lanes) + losses(customers)
 }
 
-/// Whether no queue, meeting place or hand of a network holds a customer's frame, by what its places
-/// did. Takes no memory. The time is linear in the places; no contract
-/// says so.
+/// Checks whether no queue, meeting place or hand of a network holds a customer's frame, by the steps of its places.
+/// Allocates nothing. The time is linear in the places, which no contract states.
 ///
-/// It is true if and only if no such frame is left, for every record that the places of a network of
-/// a sound plan can show: then each queue holds what was queued there and not sent, each meeting
-/// place what was sent and not received, and each hand what was taken and not put. The frames that
-/// the bridges made themselves are not looked at. Of other lists of steps nothing is said.
+/// For a record that the places of a network of a sound plan can have, it is true if and only if no such frame
+/// remains. Then each queue holds what was queued there and not sent, each meeting place what was sent and not
+/// received, and each hand what was taken and not put. Frames that the bridges made themselves do not count. Nothing
+/// is guaranteed for any other record.
 pub fn is_drained(tallies: &Tallies) -> bool
     ensures { TellsDrained tallies.now result }
 {

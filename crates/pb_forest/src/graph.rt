@@ -1,4 +1,4 @@
-//! The active links of a service, as bridges are taken off.
+//! The active links of a service, as bridges are removed.
 
 ghost use Rattle.std.specs.Prelude.{◌≡◌, ◌≢◌, ◌++◌, ◌+◌, ◌<◌, ◌≤◌, ◌^◌, ℕ, [], ◌∷◌, Some, None, MatchOption, OnOk};
 ghost use Rattle.std.specs.Prelude.{IfOk, length, slice_set, slice_index};
@@ -10,14 +10,14 @@ ghost use Rattle.pb_forest.specs.Counting.{IsCounted, IsNext};
 use pb_frame::Memory;
 use std::alloc::Global;
 
-/// The bridges that a link joins, by their indexes from 0 on.
+/// The indexes of the bridges that a link joins, counted from 0.
 #[derive(Clone, Copy)]
 pub(crate) struct Ends {
     pub(crate) a: usize,
     pub(crate) b: usize,
 }
 
-/// A bridge that is taken off with the last link that is left at it.
+/// A bridge that is removed with its last remaining link.
 #[derive(Clone, Copy)]
 pub(crate) struct Branch {
     /// The bridge's index.
@@ -28,14 +28,14 @@ pub(crate) struct Branch {
     pub(crate) link: usize,
 }
 
-/// The links that are left, and what of them is at each bridge.
+/// The remaining links, and the numbers and indexes of those at each bridge.
 #[derive(Drop)]
 pub(crate) struct Graph {
-    /// By link, what it joins; None where it is not active, or was taken off.
+    /// The bridges that each link joins, or `None` if it is not active or was removed.
     links: Vec<Option<Ends>>,
-    /// By bridge, how many ends of links that are left are at it.
+    /// The number of ends of remaining links at each bridge.
     degrees: Vec<u32>,
-    /// By bridge, the sum of the indexes of these ends' links.
+    /// The sum of the indexes of these ends' links at each bridge.
     sums: Vec<u32>,
 }
 
@@ -48,7 +48,7 @@ fn add_at(counts: &mut [u32], bridge: usize, n: u32)
     counts[bridge] += n;
 }
 
-/// Takes from one of the counts.
+/// Subtracts from one of the counts.
 fn take_at(counts: &mut [u32], bridge: usize, n: u32)
     requires there { bridge < length counts.old }
     requires fits { n ≤ slice_index counts.old bridge }
@@ -67,7 +67,7 @@ fn add_ends(counts: &mut [u32], ends: Ends, n: u32)
     add_at(counts, ends.b, n);
 }
 
-/// Takes from the counts of both ends.
+/// Subtracts from the counts of both ends.
 fn take_ends(counts: &mut [u32], ends: Ends, n: u32)
     requires there { IsBetween (length counts.old) (Some ends) }
     requires fits { (x : ℕ) → share (Some ends) x n ≤ slice_index counts.old x }
@@ -78,7 +78,11 @@ fn take_ends(counts: &mut [u32], ends: Ends, n: u32)
 }
 
 impl Graph {
-    /// No links between so many bridges.
+    /// Returns a graph of bridges without links.
+    ///
+    /// # Errors
+    ///
+    /// `Memory` if an allocation failed.
     pub(crate) fn new(alloc: Global, bridges: usize) -> Result<Graph, Memory>
         ensures { IfOk result (λ g. IsCounted g × (length g.degrees.items ≡ bridges) × (g.links.items ≡ [])) }
     {
@@ -89,14 +93,18 @@ impl Graph {
         })
     }
 
-    /// The number of bridges.
+    /// Returns the number of bridges.
     pub(crate) fn bridges(&self) -> usize
         ensures { result ≡ length self.now.degrees.items }
     {
         self.degrees.len()
     }
 
-    /// Adds the next link: what it joins, or None where it is not active.
+    /// Appends the next link with the bridges that it joins, or `None` if it is not active.
+    ///
+    /// # Errors
+    ///
+    /// `Memory` if an allocation failed.
     pub(crate) fn push(&mut self, joined: Option<Ends>) -> Result<(), Memory>
         requires counted { IsCounted self.old }
         requires room { length self.old.links.items < 255 }
@@ -112,14 +120,14 @@ impl Graph {
         Ok(())
     }
 
-    /// Whether a link is left.
+    /// Checks whether a link remains.
     pub(crate) fn has_links(&self) -> bool
         ensures { result ≡ list_any is_some self.now.links.items }
     {
         self.links.iter().any(|link| link.is_some())
     }
 
-    /// What is taken off with the bridge, where just one link is left at it.
+    /// Returns the bridge with its link, if exactly one link remains at it, otherwise `None`.
     pub(crate) fn last_branch(&self, bridge: usize) -> Option<Branch>
         requires counted { IsCounted self.now }
         requires there { bridge < length self.now.degrees.items }
@@ -141,7 +149,7 @@ impl Graph {
         })
     }
 
-    /// Takes the bridge off, with its link.
+    /// Removes the bridge's link.
     pub(crate) fn take_off(&mut self, branch: Branch)
         requires counted { IsCounted self.old }
         requires last { IsLast self.old.links.items branch }

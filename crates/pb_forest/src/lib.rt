@@ -1,11 +1,8 @@
-//! Forests of the active links of a service, and paths in them.
+//! Forests of the active links of a service, paths in them, and whether a record has drained. It builds on
+//! pb_history.
 //!
-//! ```text
-//! let shape = start_shape(alloc, &plan)?;                     // of pb_lan
-//! if let Some(rooted) = forest(alloc, &shape, &plan, 1)? {    // service 1 has no ring
-//!     let links = path(alloc, &rooted, &plan, 1, 4)?;         // the links from bridge 1 to bridge 4, if joined
-//! }
-//! ```
+//! A service whose active links are no forest has a forwarding loop. Begin with [`forest`], [`check_rooted`],
+//! [`path`] and [`is_drained`].
 #![tactic(auto)]
 
 mod active;

@@ -1,4 +1,4 @@
-//! Bridges are taken off, each with the last link that is left at it.
+//! Removing bridges, each with its last remaining link.
 
 ghost use Rattle.std.specs.Prelude.{◌+◌, ◌<◌, [], IfOk, OnOk, length};
 ghost use Rattle.pb_forest.specs.Counting.{IsCounted, IsCleared, TakesOff};
@@ -7,7 +7,11 @@ use crate::graph::{Branch, Graph};
 use pb_frame::Memory;
 use std::alloc::Global;
 
-/// Takes the first bridge off if one link is left at it, then the bridge that it was joined to, and so on.
+/// Removes the first bridge if one link remains at it, then the bridge at that link's other end, and so on.
+///
+/// # Errors
+///
+/// `Memory` if an allocation failed.
 fn climb(graph: &mut Graph, first: usize, branches: &mut Vec<Branch>) -> Result<(), Memory>
     requires counted { IsCounted graph.old }
     requires there { first < length graph.old.degrees.items }
@@ -23,7 +27,11 @@ fn climb(graph: &mut Graph, first: usize, branches: &mut Vec<Branch>) -> Result<
     Ok(())
 }
 
-/// Takes bridges off until there is none at which just one link is left.
+/// Removes bridges until none has exactly one remaining link, and returns them in order.
+///
+/// # Errors
+///
+/// `Memory` if an allocation failed.
 pub(crate) fn peel(alloc: Global, graph: &mut Graph) -> Result<Vec<Branch>, Memory>
     requires { IsCounted graph.old }
     ensures taken { IfOk result (λ branches. TakesOff graph.old graph.new [] branches.items) }

@@ -1,4 +1,4 @@
-//! Parents and depths by the branches that were taken off.
+//! Parents and depths from the removed bridges.
 
 ghost use Rattle.std.specs.Prelude.{◌≤◌, IfOk, length};
 ghost use Rattle.std.specs.List.{AllByRecursion};
@@ -9,7 +9,11 @@ use pb_frame::Memory;
 use pb_lan::{Rooted, Seq};
 use std::alloc::Global;
 
-/// Parents and depths of so many bridges, of which these were taken off; each of the others is a root.
+/// Returns the parents and depths of bridges of which these were removed. Each of the others is a root.
+///
+/// # Errors
+///
+/// `Memory` if an allocation failed.
 pub(crate) fn rooted_by(
     alloc: Global,
     bridges: usize,

@@ -1,4 +1,4 @@
-//! Searches for a certificate of a forest.
+//! The search for a certificate of a forest.
 
 ghost use Rattle.std.specs.Prelude.{◌≡◌, ◌<◌, ◌≤◌, ◌+◌, Some, IfOk, MatchOption, length};
 ghost use Rattle.pb_forest.specs.Counting.{IsCounted};
@@ -16,7 +16,7 @@ use pb_frame::Memory;
 use pb_lan::{End, LinkPlan, Plan, Rooted, Shape};
 use std::alloc::Global;
 
-/// The index of the end's bridge among so many.
+/// Returns the index of the end's bridge, or `None` if there is no such bridge.
 fn index_of(end: &End, bridges: usize) -> Option<usize>
     ensures { MatchOption result (IsNumber end.now.bridge bridges → ⊥) (λ i. (i < bridges) × (end.now.bridge ≡ i + 1)) }
 {
@@ -27,7 +27,7 @@ fn index_of(end: &End, bridges: usize) -> Option<usize>
     Some(number - 1)
 }
 
-/// What the link joins, if both its ends are at one of so many bridges.
+/// Returns the bridges that the link joins, or `None` if one of its ends is at no bridge.
 fn ends_of(link: &LinkPlan, bridges: usize) -> Option<Ends>
     ensures { MatchOption result (IsNumber link.now.a.bridge bridges × IsNumber link.now.b.bridge bridges → ⊥)
         (λ ends. IsBetween bridges (Some ends) × HasIndexes link.now ends) }
@@ -37,7 +37,11 @@ fn ends_of(link: &LinkPlan, bridges: usize) -> Option<Ends>
     Some(Ends { a, b })
 }
 
-/// The active links; None where one has an end at no bridge.
+/// Returns the graph of the active links, or `None` if one of them has an end at no bridge.
+///
+/// # Errors
+///
+/// `Memory` if an allocation failed.
 fn graph_of(alloc: Global, plan: &Plan, shape: &Shape, vid: u16) -> Result<Option<Graph>, Memory>
     requires { length plan.now.links ≤ 255 }
     ensures { IfOk result (λ graph. MatchOption graph (IsForest plan.now shape.now vid → ⊥)
@@ -59,21 +63,23 @@ fn graph_of(alloc: Global, plan: &Plan, shape: &Shape, vid: u16) -> Result<Optio
     Ok(Some(graph))
 }
 
-/// Parents and depths that show the active links of a service to join no bridges in a ring. None is answered if
-/// and only if no parents and depths show that.
+/// Returns parents and depths which show that the active links of a service form no loop, or `None` if and only if
+/// there are none.
 ///
-/// [`check_rooted`](crate::check_rooted) accepts what is answered, and says what it is. A link with
-/// both ends on one bridge is a ring, and so are two links between the same bridges. There is no
-/// answer either where an active link has an end at a bridge that the plan lacks.
+/// [`check_rooted`](crate::check_rooted) accepts the result, and its documentation says what that means. A link with
+/// both ends on one bridge is a loop, and so are two links between the same bridges. The result is also `None` if an
+/// active link has an end at a bridge that the plan lacks.
 ///
-/// A link is active for a service if both its ends are Forwarding and members of the service
-/// (802.1Q clause 8.8). `service` is a service's number, from 1. A number that names no service
-/// stands for VID 0, which no service of a sound plan has, so that no link is active and each bridge
-/// is a root.
+/// A link is active for a service if both its ends are Forwarding and members of the service (IEEE 802.1Q clause
+/// 8.8). `service` is a service's number, counted from 1. A number without a service means VID 0, which no service of
+/// a sound plan has. No link is active then, and each bridge is a root.
 ///
-/// There must be at most 255 links, so that a number of eight bits names each; a sound plan has at
-/// most 64. `Memory` is answered where there was none for the lists. The time is linear in the bridges, and in the
-/// links, each of which costs a look at its services; no contract says so.
+/// There must be at most 255 links, because link numbers have eight bits. A sound plan has at most 64. The time is
+/// linear in the bridges, and in the links with their services, which no contract states.
+///
+/// # Errors
+///
+/// `Memory` if an allocation failed.
 pub fn forest(
     alloc: Global,
     shape: &Shape,

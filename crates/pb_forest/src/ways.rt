@@ -11,16 +11,16 @@ use pb_frame::Memory;
 use pb_lan::{Plan, Rooted};
 use std::alloc::Global;
 
-/// How far one end of a path has climbed.
+/// One end of a path, and its climb so far.
 #[derive(Drop)]
 struct Side {
-    /// The bridge that it has come to.
+    /// The bridge that it has reached.
     bridge: u8,
-    /// The links by which it came there.
+    /// The links of the climb, in order.
     links: Vec<u8>,
 }
 
-/// The number of links up to the bridge's root.
+/// Returns the number of links between the bridge and its root.
 fn depth_of(rooted: &Rooted, bridge: u8) -> u8
     ensures { result ≡ depth_of rooted.now bridge }
 {
@@ -30,7 +30,7 @@ fn depth_of(rooted: &Rooted, bridge: u8) -> u8
     }
 }
 
-/// The bridge at the other end of the link.
+/// Returns the bridge at the other end of the link, or the same bridge if there is no such link.
 fn across(plan: &Plan, bridge: u8, number: u8) -> u8
     ensures { result ≡ across bridge (numbered plan.now.links number) }
 {
@@ -41,7 +41,7 @@ fn across(plan: &Plan, bridge: u8, number: u8) -> u8
     }
 }
 
-/// The link up from the bridge.
+/// Returns the link that leads up from the bridge, if there is one.
 fn up_of(rooted: &Rooted, bridge: u8) -> Option<u8>
     ensures { MatchOption result ((number : ℕ) → HasUp rooted.now bridge number
         → ⊥) (λ number. HasUp rooted.now bridge number) }
@@ -52,7 +52,11 @@ fn up_of(rooted: &Rooted, bridge: u8) -> Option<u8>
     }
 }
 
-/// Climbs over the link up, if there is one.
+/// Climbs over the link that leads up, and returns whether there is one.
+///
+/// # Errors
+///
+/// `Memory` if an allocation failed.
 fn climb(plan: &Plan, rooted: &Rooted, side: &mut Side) -> Result<bool, Memory>
     ensures { IfOk result (λ climbs. Climbs plan.now rooted.now side.old.bridge side.old.links.items side.new.bridge
         side.new.links.items climbs) }
@@ -65,7 +69,11 @@ fn climb(plan: &Plan, rooted: &Rooted, side: &mut Side) -> Result<bool, Memory>
     Ok(true)
 }
 
-/// Climbs at the side that is deeper.
+/// Climbs at the side that is deeper, at the first if both are as deep, and returns whether it could.
+///
+/// # Errors
+///
+/// `Memory` if an allocation failed.
 fn climb_deeper(plan: &Plan, rooted: &Rooted, a: &mut Side, b: &mut Side) -> Result<bool, Memory>
     ensures { IfOk result (λ climbs. ClimbsDeeper plan.now rooted.now a.old b.old a.new b.new climbs) }
 {
@@ -75,7 +83,11 @@ fn climb_deeper(plan: &Plan, rooted: &Rooted, a: &mut Side, b: &mut Side) -> Res
     climb(plan, rooted, b)
 }
 
-/// The links of the one side, and then those of the other backwards.
+/// Returns the links of the first side, followed by those of the second backwards.
+///
+/// # Errors
+///
+/// `Memory` if an allocation failed.
 fn joined(a: Side, b: Side) -> Result<Vec<u8>, Memory>
     ensures { IfOk result (λ links. links.items ≡ a.links.items ++ reverse b.links.items) }
 {
@@ -94,14 +106,18 @@ fn joined(a: Side, b: Side) -> Result<Vec<u8>, Memory>
     Ok(path)
 }
 
-/// The path between two bridges in a forest: the numbers of the links between them, from `a` to `b`.
-/// It is the empty list for one and the same bridge, and None where the two stand in two trees.
+/// Returns the path between two bridges in a forest: the numbers of the links between them, from `a` to `b`. The path
+/// from a bridge to itself is empty. The result is `None` if the bridges are in different trees.
 ///
-/// The parents and depths must show the active links of some service, in some shape, to be a forest,
-/// as [`check_rooted`](crate::check_rooted) finds out. Then the answer holds for each such shape and
-/// service. Bridges are numbered from 1; a number that names none is joined to no other.
+/// The parents and depths must show that the active links of some service, in some shape, are a forest, as
+/// [`check_rooted`](crate::check_rooted) checks. The result holds for each such shape and service. Bridges are
+/// numbered from 1. A number without a bridge is joined to no other.
 ///
-/// `Memory` is answered where there was none for the list. The time is linear in the depths; no contract says so.
+/// The time is linear in the depths, which no contract states.
+///
+/// # Errors
+///
+/// `Memory` if an allocation failed.
 pub fn path(
     alloc: Global,
     rooted: &Rooted,

@@ -1,4 +1,4 @@
-//! Taking a frame apart.
+//! The parts of a frame: addresses, length or type, and the remaining octets.
 
 ghost use Rattle.std.specs.Prelude.{◌≡◌, ◌+◌, ◌*◌, ◌<◌, ◌≤◌, ◌↔◌, length, IfOk, IsErrOf};
 ghost use Rattle.pb_frame.specs.Frames.{shortest_frame, longest_frame, dst_of, src_of};
@@ -17,14 +17,16 @@ pub const SHORTEST_TAGGED: usize = 18;
 /// The most octets of a frame in a provider's network: 2,000 with the check sequence (IEEE 802.3 clause 3).
 pub const LONGEST_FRAME: usize = 1_996;
 
-/// The most octets of a frame that comes from a customer without a priority tag, so that it has room for a service tag.
+/// The most octets of a customer's frame without a priority tag. A service tag of four octets fits on top.
 pub const LONGEST_UNTAGGED: usize = 1_992;
 
-/// Why octets are no frame of a provider's network.
+/// The fault of octets that are not a frame of a provider's network.
 #[derive(Clone, Copy, Debug, PartialEq, Eq, Error)]
 pub enum FrameFault {
+    /// A frame of fewer than 14 octets.
     #[error("fewer than 14 octets")]
     Short,
+    /// A frame of more than 1,996 octets.
     #[error("more than 1,996 octets")]
     Long,
 }
@@ -51,9 +53,11 @@ pub fn source_of(frame: &[u8]) -> Mac
     Mac(octets)
 }
 
-/// Takes a frame of 14 to 1,996 octets apart (IEEE 802.3 clause 3). Takes no memory.
+/// Returns the parts of a frame of 14 to 1,996 octets (IEEE 802.3 clause 3). Allocates nothing.
 ///
-/// `Short` is answered under 14 octets, `Long` over 1,996.
+/// # Errors
+///
+/// `Short` if the frame has fewer than 14 octets, `Long` if it has more than 1,996.
 pub fn view(frame: &[u8]) -> Result<View<'_>, FrameFault>
     ensures parts { IfOk result (IsView frame.now) }
     ensures short { IsErrOf result FrameFault.Short ↔ (length frame.now < shortest_frame) }

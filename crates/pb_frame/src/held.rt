@@ -6,7 +6,7 @@ use crate::memory::Memory;
 use std::alloc::{AllocError, Global};
 use std::marker::Model;
 
-/// A value in memory of its own, so that what holds it stays small. Contracts see it as the value.
+/// A value in an allocation of its own, which keeps its holder small. Contracts see it as the value.
 #[derive(Debug, Drop)]
 pub struct Held<T> {
     place: Box<T>,
@@ -21,7 +21,11 @@ impl<T> Model for Held<T> {
 }
 
 impl<T: Drop> Held<T> {
-    /// The value, on the heap. `Memory` is answered where there is none; the value is gone then.
+    /// Puts the value on the heap.
+    ///
+    /// # Errors
+    ///
+    /// `Memory` if the allocation failed. The value is dropped then.
     pub fn new(alloc: Global, value: T) -> Result<Held<T>, Memory>
         ensures { IfOk result (λ h. h ≡ value) }
     {
@@ -30,7 +34,7 @@ impl<T: Drop> Held<T> {
         })
     }
 
-    /// Puts another value in its place. Takes no memory.
+    /// Replaces the value. Allocates nothing.
     pub fn set(&mut self, value: T)
         ensures { self.new ≡ value }
     {
@@ -39,14 +43,14 @@ impl<T: Drop> Held<T> {
 }
 
 impl<T> Held<T> {
-    /// The value.
+    /// Returns the value, borrowed.
     pub fn get(&self) -> &T
         ensures { result.now ≡ self.now }
     {
         &self.place
     }
 
-    /// The value, off the heap.
+    /// Takes the value off the heap and returns it.
     pub fn into_inner(self) -> T
         ensures { result ≡ self }
     {

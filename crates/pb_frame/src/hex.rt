@@ -13,13 +13,16 @@ use bytes::{Bytes, BytesMut};
 use std::alloc::{AllocError, AllocFailed, Global};
 use thiserror::Error;
 
-/// Why a text isn't octets in hexadecimal.
+/// The fault of a text that is not octets in hexadecimal.
 #[derive(Clone, Copy, Debug, PartialEq, Eq, Error)]
 pub enum HexFault {
+    /// A character that is not a hexadecimal digit.
     #[error("not a hexadecimal digit")]
     Digit,
+    /// An odd number of digits.
     #[error("an odd number of digits")]
     Odd,
+    /// An allocation that failed.
     #[error("out of memory")]
     Memory,
 }
@@ -40,10 +43,10 @@ impl<T: Drop> From<AllocFailed<T>> for HexFault {
     }
 }
 
-/// How much memory a buffer of octets takes at least.
+/// The least number of octets that a buffer grows by.
 const BLOCK: usize = 65_536;
 
-/// What a digit stands for, in either case, and 255 for what is none.
+/// Returns the value of a digit in either case, 0 to 15, or 255 if the character is not a digit.
 fn value(c: u8) -> u8
     ensures digit { result < 16 → digit_value c ≡ Some result }
     ensures none { 16 ≤ result → digit_value c ≡ None }
@@ -56,7 +59,7 @@ fn value(c: u8) -> u8
     }
 }
 
-/// The octet of two digits.
+/// Returns the octet of two digits, or `None` if one of them is not a digit.
 pub(crate) fn octet(high: u8, low: u8) -> Option<u8>
     ensures pair { IfSome result (λ b. IsPair high low b) }
     ensures none { IfNone result ((b : ℕ) → IsPair high low b → ⊥) }
@@ -71,8 +74,8 @@ pub(crate) fn octet(high: u8, low: u8) -> Option<u8>
     }
 }
 
-/// Whether all are digits. Each is looked at, and none takes a branch, so that a processor looks at many
-/// at once.
+/// Checks that all characters are digits. It inspects each of them without a branch, which lets the compiler
+/// vectorise the loop.
 fn all_digits(text: &[u8]) -> bool
     ensures { result ≡ list_all is_digit text.now }
 {
@@ -88,8 +91,10 @@ fn all_digits(text: &[u8]) -> bool
 
 /// Reads pairs of hexadecimal digits, in either case.
 ///
-/// `Digit` is answered where something else than a digit stands, else `Odd` where their number is
-/// odd, else `Memory` where memory ran out.
+/// # Errors
+///
+/// `Digit` if a character is not a hexadecimal digit, otherwise `Odd` if the number of digits is odd, otherwise
+/// `Memory` if an allocation failed.
 pub fn hex_read(alloc: Global, text: &str) -> Result<Bytes, HexFault>
     ensures ok { IfOk result (λ b. IsHex text.now b) }
     ensures digit { IsErrOf result HexFault.Digit ↔ (list_all is_digit text.now ≡ false) }
@@ -98,8 +103,11 @@ pub fn hex_read(alloc: Global, text: &str) -> Result<Bytes, HexFault>
     hex_octets(alloc, text.as_bytes())
 }
 
-/// Reads pairs of hexadecimal digits, in either case, from the bytes of a text, with the faults of
-/// [`hex_read`].
+/// Reads pairs of hexadecimal digits, in either case, from the bytes of a text.
+///
+/// # Errors
+///
+/// Those of [`hex_read`].
 pub fn hex_octets(alloc: Global, digits: &[u8]) -> Result<Bytes, HexFault>
     ensures ok { IfOk result (λ b. IsHex digits.now b) }
     ensures digit { IsErrOf result HexFault.Digit ↔ (list_all is_digit digits.now ≡ false) }
@@ -111,9 +119,13 @@ pub fn hex_octets(alloc: Global, digits: &[u8]) -> Result<Bytes, HexFault>
     Ok(Bytes::from_vec(octets)?)
 }
 
-/// Reads pairs of hexadecimal digits as [`hex_octets`] does, with its faults, into the room of a buffer
-/// in which nothing stands. The octets share the buffer's memory, which is taken some 64 KiB at a time,
-/// and given back when the last of them is gone.
+/// Reads pairs of hexadecimal digits, in either case, into an empty buffer, and splits the octets off it. They share
+/// the buffer's memory. The buffer grows by at least 64 KiB at a time, and frees a block when the last of its octets
+/// is dropped. The buffer is empty again afterwards.
+///
+/// # Errors
+///
+/// Those of [`hex_read`]. The buffer is empty then.
 pub fn hex_octets_in(buffer: &mut BytesMut, digits: &[u8]) -> Result<Bytes, HexFault>
     requires { buffer.old.items ≡ [] }
     ensures ok { IfOk result (λ b. IsHex digits.now b) }
@@ -137,7 +149,11 @@ pub fn hex_octets_in(buffer: &mut BytesMut, digits: &[u8]) -> Result<Bytes, HexF
     }
 }
 
-/// `Digit` where something else than a digit stands, else `Odd` where their number is odd.
+/// Checks that the text is pairs of digits.
+///
+/// # Errors
+///
+/// `Digit` if a character is not a hexadecimal digit, otherwise `Odd` if the number of digits is odd.
 fn check_pairs(digits: &[u8]) -> Result<(), HexFault>
     ensures digits { OnOk result (list_all is_digit digits.now ≡ true) }
     ensures even { OnOk result (length digits.now % 2 ≡ 0) }
@@ -153,8 +169,8 @@ fn check_pairs(digits: &[u8]) -> Result<(), HexFault>
     Ok(())
 }
 
-/// Puts the octets of the digits in place. Both digits of an octet are read at once: the low four bits of a
-/// decimal digit are what it stands for, and a letter, which has bit 6, stands for nine more.
+/// Writes the octets of the digits into `octets`. It reads both digits of an octet at once. The low four bits of a
+/// decimal digit are its value. A letter has bit 6 set, and its value is nine more than its low four bits.
 fn read_pairs(digits: &[u8], octets: &mut [u8])
     requires long { length digits.now ≡ 2 * length octets.old }
     requires digits { list_all is_digit digits.now ≡ true }
@@ -167,8 +183,8 @@ fn read_pairs(digits: &[u8], octets: &mut [u8])
     }
 }
 
-/// Whether a digit among them is a letter in upper case. Digits without any are the very text of their
-/// octets, as [`hex_text`] writes it.
+/// Checks whether a digit is a letter in upper case. Digits without one are the text that [`hex_text`] writes for
+/// their octets.
 pub fn has_upper_case(digits: &[u8]) -> bool
     ensures { result ≡ list_any is_upper digits.now }
 {
@@ -179,7 +195,7 @@ pub fn has_upper_case(digits: &[u8]) -> bool
     found
 }
 
-/// The lower case digit of a number below 16.
+/// Returns the lower case digit of a number below 16.
 fn lower(n: u8) -> char
     requires { n < 16 }
     ensures { result ≡ lower_digit n }
@@ -187,7 +203,7 @@ fn lower(n: u8) -> char
     char::from(if n <= 9 { n + 48 } else { n + 87 })
 }
 
-/// The upper case digit of a number below 16.
+/// Returns the upper case digit of a number below 16.
 fn upper(n: u8) -> char
     requires { n < 16 }
     ensures { result ≡ upper_digit n }
@@ -195,7 +211,11 @@ fn upper(n: u8) -> char
     char::from(if n <= 9 { n + 48 } else { n + 55 })
 }
 
-/// Puts the two digits of an octet behind a text, in lower case.
+/// Appends the two digits of an octet to a text, in lower case.
+///
+/// # Errors
+///
+/// `Memory` if an allocation failed.
 fn put_lower(text: &mut String, octet: u8) -> Result<(), Memory>
     ensures { OnOk result (string_bytes text.new ≡ string_bytes text.old
         ++ lower_digit (octet / 16) ∷ lower_digit (octet % 16) ∷ []) }
@@ -205,7 +225,11 @@ fn put_lower(text: &mut String, octet: u8) -> Result<(), Memory>
     Ok(())
 }
 
-/// Puts the two digits of an octet behind a text, in upper case.
+/// Appends the two digits of an octet to a text, in upper case.
+///
+/// # Errors
+///
+/// `Memory` if an allocation failed.
 pub(crate) fn put_upper(text: &mut String, octet: u8) -> Result<(), Memory>
     ensures { OnOk result (string_bytes text.new ≡ string_bytes text.old
         ++ upper_digit (octet / 16) ∷ upper_digit (octet % 16) ∷ []) }
@@ -215,7 +239,11 @@ pub(crate) fn put_upper(text: &mut String, octet: u8) -> Result<(), Memory>
     Ok(())
 }
 
-/// Two hexadecimal digits for each octet, in lower case.
+/// Returns two hexadecimal digits for each octet, in lower case.
+///
+/// # Errors
+///
+/// `Memory` if an allocation failed.
 pub fn hex_text(alloc: Global, octets: &[u8]) -> Result<String, Memory>
     ensures { IfOk result (λ text. string_bytes text ≡ text_of octets.now) }
 {

@@ -1,19 +1,18 @@
-//! What a learning table answers when it is told where a station was seen.
+//! The result of learning the source address of a frame.
 
-/// What became of the source address of a frame in the learning table
-/// (IEEE 802.1Q clause 8, the learning process).
+/// The result of learning the source address of a frame (IEEE 802.1Q clause 8, the learning process).
 #[derive(Clone, Copy, PartialEq, Eq, Debug)]
 pub enum Learnt {
-    /// No entry was live: one was made.
+    /// A new entry: no entry of the station was live.
     New,
-    /// The live entry has the same port.
+    /// A live entry with the same port, renewed.
     Kept,
-    /// The live entry had another port.
+    /// A live entry with another port, moved to this one.
     Moved,
-    /// No entry was live, and the table holds its limit of live ones.
+    /// No entry: none was live, and the table holds its limit of live entries.
     Full,
-    /// The source is a group address.
+    /// No entry: the source is a group address.
     Group,
-    /// There was no memory for an entry.
+    /// No entry: an allocation failed.
     Memory,
 }

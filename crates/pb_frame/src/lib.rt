@@ -1,13 +1,7 @@
-//! Ethernet frames, station addresses, service tags and hexadecimal texts.
+//! Ethernet frames, station addresses, service tags and hexadecimal texts. It builds on bytes.
 //!
-//! A frame is its octets from the destination address on, without preamble and check sequence
-//! (IEEE 802.3 clause 3). Nothing here pads a frame or computes a checksum.
-//!
-//! ```text
-//! let view = view(frame.as_slice())?;                         // dst, src, kind, rest
-//! let tagged = push_s(alloc, &frame, tci)?;                   // with an S-tag
-//! let (tci, frame) = pop_s(alloc, &tagged)?;                  // and without it again
-//! ```
+//! A frame is its octets from the destination address on, without preamble and check sequence (IEEE 802.3 clause 3).
+//! Nothing here pads a frame or computes a checksum. Begin with [`view`], [`push_s`] and [`pop_s`].
 #![tactic(auto)]
 
 mod frame;

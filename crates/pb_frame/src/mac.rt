@@ -8,13 +8,13 @@ use crate::hex::{octet, put_upper};
 use crate::memory::Memory;
 use std::alloc::Global;
 
-/// The address of a station, or of a group of stations (IEEE 802.3 clause 3).
+/// The address of a station or of a group of stations (IEEE 802.3 clause 3).
 #[derive(Clone, Copy, Debug, PartialEq, Eq, PartialOrd, Ord, Hash)]
 pub struct Mac(pub [u8; 6]);
 
 impl Mac {
-    /// Reads six pairs of hexadecimal digits, in either case, parted by hyphens. None is answered
-    /// for any other text. Takes no memory.
+    /// Reads six pairs of hexadecimal digits, in either case, with hyphens between them. Returns `None` for any other
+    /// text. Allocates nothing.
     pub fn read(text: &str) -> Option<Mac>
         ensures found { IfSome result (λ m. IsMacText text.now m.0) }
         ensures none { IfNone result ((octets : List ℕ) → IsMacText text.now octets → ⊥) }
@@ -35,8 +35,8 @@ impl Mac {
         Some(Mac(octets))
     }
 
-    /// Returns whether it is the address of a group: whether the lowest bit of its first octet is set (IEEE 802.3
-    /// clause 3.2.3).
+    /// Checks whether it is a group address: whether the lowest bit of its first octet is set (IEEE 802.3 clause
+    /// 3.2.3).
     #[inline(always)]
     pub fn is_group(&self) -> bool
         ensures { result ≡ is_group self.now.0 }
@@ -44,7 +44,11 @@ impl Mac {
         self.0[0] % 2 == 1
     }
 
-    /// Six pairs of hexadecimal digits in upper case, parted by hyphens.
+    /// Returns six pairs of hexadecimal digits in upper case, with hyphens between them.
+    ///
+    /// # Errors
+    ///
+    /// `Memory` if an allocation failed.
     pub fn text(&self, alloc: Global) -> Result<String, Memory>
         ensures { IfOk result (λ text. string_bytes text ≡ mac_text self.now.0) }
     {

@@ -1,9 +1,9 @@
-//! Want of memory.
+//! The fault of a failed allocation.
 
 use std::alloc::{AllocError, AllocFailed};
 use thiserror::Error;
 
-/// Memory ran out: a growth was really refused.
+/// Out of memory: an allocation failed.
 #[derive(Clone, Copy, Debug, PartialEq, Eq, Error)]
 #[error("out of memory")]
 pub struct Memory;

@@ -1,25 +1,24 @@
-//! Why a received frame goes nowhere.
+//! Drop reasons of received frames.
 
-/// Why a received frame went nowhere.
+/// The reason why a received frame was dropped.
 #[derive(Clone, Copy, PartialEq, Eq, Debug)]
 pub enum Reason {
-    /// The receiving port was not Forwarding (802.1Q clause 8.6.1).
+    /// A receiving port that was not Forwarding (IEEE 802.1Q clause 8.6.1).
     NotForwarding,
-    /// Its VID names no service of which the receiving port is a member (802.1Q clause 8.6.2).
+    /// A VID of no service of which the receiving port is a member (IEEE 802.1Q clause 8.6.2).
     NotMember,
-    /// It came to a provider port without an S-tag.
+    /// A frame without an S-tag at a provider port.
     Untagged,
-    /// Its destination is an address that bridges do not relay, 01-80-C2-00-00-XX with this last
-    /// octet (802.1Q clause 8.6.3).
+    /// A destination that bridges do not relay, 01-80-C2-00-00-XX, with its last octet (IEEE 802.1Q clause 8.6.3).
     Reserved(u8),
-    /// It is shorter than its parts, or a BPDU that cannot be read.
+    /// A frame that is shorter than its parts, or a BPDU that cannot be read.
     Malformed,
-    /// It was relayed 4,294,967,295 times.
+    /// A frame that was relayed 4,294,967,295 times.
     Worn,
-    /// There was no memory to relay it.
+    /// An allocation that failed while the frame was relayed.
     Memory,
-    /// It came to a customer port with an S-tag that names a VLAN.
+    /// A frame at a customer port with an S-tag that names a VLAN.
     STagged,
-    /// It is longer than a frame of its kind may be.
+    /// A frame that is longer than its kind may be.
     Long,
 }

@@ -14,13 +14,16 @@ use bytes::Bytes;
 use std::alloc::Global;
 use thiserror::Error;
 
-/// Why no service tag was taken off.
+/// The fault of a frame whose service tag cannot be removed.
 #[derive(Clone, Copy, Debug, PartialEq, Eq, Error)]
 pub enum TagFault {
+    /// A frame without 88 A8 after its addresses.
     #[error("no S-tag")]
     NoTag,
+    /// A frame of fewer than 18 octets, which ends inside its tag or the type after it.
     #[error("the S-tag is cut off")]
     Cut,
+    /// An allocation that failed.
     #[error("out of memory")]
     Memory,
 }
@@ -33,7 +36,11 @@ impl From<Memory> for TagFault {
     }
 }
 
-/// Puts a service tag in behind the addresses of a frame (IEEE 802.1ad clause 9).
+/// Inserts a service tag after the addresses of a frame (IEEE 802.1ad clause 9).
+///
+/// # Errors
+///
+/// `Memory` if an allocation failed.
 pub fn push_s(alloc: Global, frame: &Bytes, tci: Tci) -> Result<Bytes, Memory>
     requires { 14 ≤ length frame.now }
     ensures { IfOk result (λ b. b ≡ tagged frame.now tci.pcp tci.dei tci.vid) }
@@ -48,10 +55,12 @@ pub fn push_s(alloc: Global, frame: &Bytes, tci: Tci) -> Result<Bytes, Memory>
     Ok(Bytes::from_vec(out)?)
 }
 
-/// Takes the service tag off (IEEE 802.1ad clause 9).
+/// Removes the service tag, and returns it and the frame without it (IEEE 802.1ad clause 9).
 ///
-/// `NoTag` is answered where 88 A8 does not stand behind the addresses, `Cut` where it does and
-/// fewer than 18 octets are there, `Memory` where memory ran out.
+/// # Errors
+///
+/// `NoTag` if 88 A8 does not follow the addresses, `Cut` if it does but the frame has fewer than 18 octets, `Memory`
+/// if an allocation failed.
 pub fn pop_s(alloc: Global, frame: &Bytes) -> Result<(Tci, Bytes), TagFault>
     ensures ok { IfOk result (λ p. frame.now ≡ tagged p.1 p.0.pcp p.0.dei p.0.vid) }
     ensures no_tag { IsErrOf result TagFault.NoTag ↔ (has_service_type frame.now ≡ false) }
@@ -69,7 +78,11 @@ pub fn pop_s(alloc: Global, frame: &Bytes) -> Result<(Tci, Bytes), TagFault>
     Ok((tci, without_tag(alloc, frame)?))
 }
 
-/// The frame without the four octets behind its addresses.
+/// Returns the frame without the four octets after its addresses.
+///
+/// # Errors
+///
+/// `Memory` if an allocation failed.
 pub fn without_tag(alloc: Global, frame: &Bytes) -> Result<Bytes, Memory>
     requires { 18 ≤ length frame.now }
     ensures { IfOk result (λ b. b ≡ untagged frame.now) }
@@ -81,8 +94,12 @@ pub fn without_tag(alloc: Global, frame: &Bytes) -> Result<Bytes, Memory>
     Ok(Bytes::from_vec(out)?)
 }
 
-/// A customer's frame without its priority tag, and the priority that the tag told: a service tag
-/// whose VID is 0 names no service (IEEE 802.1ad clause 9). A frame without one is given back.
+/// Returns the priority of a customer's frame, if it has a priority tag, and the frame without that tag. A service
+/// tag whose VID is 0 names no service (IEEE 802.1ad clause 9). A frame without such a tag is returned unchanged.
+///
+/// # Errors
+///
+/// `Memory` if an allocation failed.
 pub fn pop_priority(alloc: Global, frame: &Bytes) -> Result<(Option<u8>, Bytes), Memory>
     requires { 14 ≤ length frame.now }
     ensures priority { IfOk result (λ p. p.0 ≡ priority_tag_of frame.now) }
@@ -96,7 +113,7 @@ pub fn pop_priority(alloc: Global, frame: &Bytes) -> Result<(Option<u8>, Bytes),
     }
 }
 
-/// Shows the customer tag (81 00 behind the addresses), where there is a whole one. Takes no memory.
+/// Returns the customer tag, if 81 00 follows the addresses and the tag is complete. Allocates nothing.
 pub fn look_c(frame: &[u8]) -> Option<Tci>
     ensures found { IsSome result ↔ (has_customer_tag frame.now ≡ true) }
     ensures value { IfSome result (λ t. control t.pcp t.dei t.vid ≡ control_of frame.now) }
@@ -107,14 +124,14 @@ pub fn look_c(frame: &[u8]) -> Option<Tci>
     Some(Tci::of(u16::from(frame[14]) * 256 + u16::from(frame[15])))
 }
 
-/// 88 A8 stands behind the addresses.
+/// Checks whether 88 A8 follows the addresses.
 pub fn has_service_type(frame: &[u8]) -> bool
     ensures { result ≡ has_service_type frame.now }
 {
     frame.len() >= SHORTEST_FRAME && frame[12] == 0x88 && frame[13] == 0xa8
 }
 
-/// The VID of the tag behind the addresses, 0 to 4095.
+/// Returns the VID of the tag after the addresses, 0 to 4095.
 pub fn vid_of(frame: &[u8]) -> u16
     requires { 16 ≤ length frame.now }
     ensures { result ≡ vid_of frame.now }
@@ -122,7 +139,7 @@ pub fn vid_of(frame: &[u8]) -> u16
     (u16::from(frame[14]) * 256 + u16::from(frame[15])) % 4096
 }
 
-/// The priority of the tag behind the addresses, 0 to 7.
+/// Returns the priority of the tag after the addresses, 0 to 7.
 pub fn priority_of(frame: &[u8]) -> u8
     requires { 16 ≤ length frame.now }
     ensures { result ≡ priority_of frame.now }
@@ -130,16 +147,16 @@ pub fn priority_of(frame: &[u8]) -> u8
     ((u16::from(frame[14]) * 256 + u16::from(frame[15])) / 8192 % 8) as u8
 }
 
-/// A whole service tag stands there that names no service: its VID is 0.
+/// Checks whether the frame has a complete service tag that names no service: its VID is 0.
 pub fn has_priority_tag(frame: &[u8]) -> bool
     ensures { result ≡ has_priority_tag frame.now }
 {
     has_service_type(frame) && frame.len() >= SHORTEST_TAGGED && vid_of(frame) == 0
 }
 
-/// A tagged frame shows the frame without its tag, and the tag: putting one in and taking it off undo each other.
-/// Of two equal tagged frames, the frames without their tags are equal, and so are the tags' controls; and where
-/// priority, drop eligibility and identifier are within their 3, 1 and 12 bits, these are equal one by one.
+/// Shows that inserting a tag and removing it undo each other. If two tagged frames are equal, the frames without
+/// their tags are equal, and the tags' controls too. If priority, drop eligibility and identifier are within their 3,
+/// 1 and 12 bits, each of them is equal as well.
 pub fn tags_undo_each_other()
     ensures control { (x y : List ℕ) (p d v q e w : ℕ) → 14 ≤ length x → 14 ≤ length y
         → tagged x p d v ≡ tagged y q e w → (x ≡ y) × (control p d v ≡ control q e w) }

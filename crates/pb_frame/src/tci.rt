@@ -2,12 +2,12 @@
 
 ghost use Rattle.std.specs.Prelude.{◌≡◌, ◌+◌, ◌*◌, ◌<◌, ◌≤◌, ◌^◌};
 
-/// Tag control information: what a tag says of its frame (IEEE 802.1ad clause 9).
+/// Tag control information (IEEE 802.1ad clause 9).
 #[derive(Clone, Copy, Debug, PartialEq, Eq)]
 pub struct Tci {
     /// The priority, 0 to 7.
     pub pcp: u8,
-    /// Whether the frame may be dropped first: 0 or 1.
+    /// The drop eligibility, 0 or 1.
     pub dei: u8,
     /// The identifier of the VLAN, 0 to 4095.
     pub vid: u16,
@@ -19,14 +19,14 @@ pub struct Tci {
 impl Tci {
     ghost use Rattle.pb_frame.specs.Tags.{control};
 
-    /// The two octets as one number.
+    /// Returns the two octets of the tag as one number.
     pub fn value(&self) -> u16
         ensures { result ≡ control self.now.pcp self.now.dei self.now.vid }
     {
         u16::from(self.pcp) * 8192 + u16::from(self.dei) * 4096 + self.vid
     }
 
-    /// Takes the number of two octets apart.
+    /// Reads the tag from the number of its two octets.
     pub fn of(value: u16) -> Tci
         ensures { control result.pcp result.dei result.vid ≡ value }
     {

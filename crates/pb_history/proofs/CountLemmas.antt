@@ -1,4 +1,4 @@
--- What was noted is counted.
+-- Recorded losses are counted, for `PortCounts` and `SourceCounts`.
 use Rattle.std.proofs.Common.{◌≡◌, ℕ, ◌+◌, ◌==◌, ◌&&◌, Bool, true, false, cond, List, [], ◌∷◌, ◌++◌, length, get_or}
 use Rattle.std.proofs.Common.{refl, sym, ap, ◌∙◌, subst, arith, ⊎_elim, add-zero, eq-eqb}
 use Rattle.std.proofs.lemmas.Bool.{cases_eq}
@@ -17,7 +17,7 @@ same_counts : (f g m n : ℕ) → f ≡ g → m ≡ n
     → ◌≡◌ {A = CauseCounts} (record { full = f; memory = m }) (record { full = g; memory = n })
 same_counts f g m n e d = cc
 
--- a port and a cause more, as a count sees it by whether the ports are one
+-- a count of one more loss, by whether it is at the counted port
 noted_more : (noted : List (ℕ × NoRoom)) (port at : ℕ) (cause counted : NoRoom) (is : Bool) → (at == port) ≡ is
     → count_by (is_at port counted) (noted ++ (at, cause) ∷ []) ≡ count_by (is_at port counted) noted + cond
     (is && is_cause counted cause) 1 0
@@ -25,7 +25,7 @@ noted_more noted port at cause counted is e =
     sum_by_push (λ x. cond (is_at port counted x) 1 0) noted (at, cause)
     ∙ ap (λ b. count_by (is_at port counted) noted + cond (b && is_cause counted cause) 1 0) e
 
--- one more at this port
+-- one more loss at this port
 counted_here : (noted : List (ℕ × NoRoom)) (port : ℕ) (cause : NoRoom)
     → counts_at port (noted ++ (port, cause) ∷ []) ≡ one_more (counts_at port noted) cause
 counted_here noted port Full =
@@ -35,14 +35,14 @@ counted_here noted port Memory =
     same_counts _ _ _ _ (noted_more noted port port Memory Full true (eq-eqb port port refl) ∙ add-zero _)
     (noted_more noted port port Memory Memory true (eq-eqb port port refl))
 
--- and none at another
+-- one more loss at another port
 counted_elsewhere : (noted : List (ℕ × NoRoom)) (port at : ℕ) (cause : NoRoom) → (at == port) ≡ false
     → counts_at port (noted ++ (at, cause) ∷ []) ≡ counts_at port noted
 counted_elsewhere noted port at cause apart =
     same_counts _ _ _ _ (noted_more noted port at cause Full false apart ∙ add-zero _)
     (noted_more noted port at cause Memory false apart ∙ add-zero _)
 
--- the counts are those of one more
+-- the counts after one more loss, for `PortCounts::note`
 pub counted : (noted : List (ℕ × NoRoom)) (counts : List CauseCounts) (at : ℕ) (cause : NoRoom) → length counts ≡ 17
     → AreCounts noted counts → AreCounts (noted ++ (at, cause) ∷ []) (one_more_at counts at cause)
 counted noted counts at cause long are port within =

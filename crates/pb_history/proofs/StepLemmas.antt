@@ -1,4 +1,4 @@
--- One step more, as counts see it.
+-- The counts after one more step, for the functions that record steps.
 use Rattle.std.proofs.Common.{◌≡◌, ℕ, suc, ◌+◌, ◌<◌, ◌≤◌, ◌==◌, ◌&&◌, not, Bool, true, false, cond, Some, None}
 use Rattle.std.proofs.Common.{unwrap_or, List, [], ◌∷◌, ◌++◌, flat_map, get_or, slice_set, take, length}
 use Rattle.std.proofs.Common.{if◌then◌else◌, refl, sym, ap, subst, ◌∙◌, arith, ⊎_elim, append-nil, add-zero, eq-eqb}
@@ -25,7 +25,7 @@ pub count_more : {X : Type 0} (p : X → Bool) (xs : List X) (x : X)
     → count_by p (xs ++ x ∷ []) ≡ count_by p xs + cond (p x) 1 0
 count_more p xs x = sum_by_push (λ y. cond (p y) 1 0) xs x
 
--- where a test says of each what another does, they count alike
+-- tests that agree count the same
 count_alike : {X : Type 0} (f g : X → Bool) → ((x : X) → f x ≡ g x) → (xs : List X) → count_by f xs ≡ count_by g xs
 count_alike f g same [] = refl
 count_alike f g same (x ∷ xs) =
@@ -33,7 +33,7 @@ count_alike f g same (x ∷ xs) =
     ∙ ap (λ n. cond (g x) 1 0 + n) (count_alike f g same xs)
     ∙ sym (sum_by-cons (λ y. cond (g y) 1 0) x xs)
 
--- where no port was refused, each that was chosen got a copy
+-- if no port was refused, each chosen port got a copy, for `copies`
 pub none_refused : (chosen : List ℕ) (refused : List (ℕ × NoRoom)) (ports : List ℕ) → (length refused == 0) ≡ true
     → count_by (λ port. list_any (λ p. p == port) chosen && not (is_refused refused port)) ports ≡ count_by
     (λ port. list_any (λ p. p == port) chosen) ports
@@ -43,7 +43,7 @@ none_refused chosen [] ports e =
 none_refused chosen (r ∷ rs) ports e = let same : suc (length rs) ≡ 0 = eqb-true (suc (length rs)) 0 e in absurd
     (omega (arith, same))
 
--- a step is filtered at a port where it tells that port
+-- the option is this port: a step filters at a port exactly if `filtered_by` is that port
 abbrev tells : ℕ → Option ℕ → Bool
 tells port None = false
 tells port (Some at) = at == port
@@ -89,7 +89,7 @@ pub filtered_none : (steps : List Step) (step : Step) (counts : List ℕ) → Ar
 filtered_none steps step counts are by port within = are port within
     ∙ sym (filtered_count port steps step None by ∙ add-zero _)
 
--- one change more is noted
+-- one more change of a state
 next_change : (changes : List (ℕ × PortState)) (i : ℕ) (d : ℕ × PortState) (port : ℕ) (before : PortState)
     → i < length changes
     → changed port before (take (i + 1) changes) ≡ (if (get_or changes i d).0 == port then (get_or changes i d).1
@@ -131,7 +131,7 @@ set_none old new changes i d at less here far set port within start =
 abbrev states_of : Moved → List (ℕ × PortState)
 states_of moved = moved.states
 
--- the changes of one step more are noted
+-- the states after one more step, for `Newest::note`
 pub newest_more : (steps : List Step) (step : Step) (old new : List (Option PortState)) (moved : Moved)
     → moved_of step ≡ moved ∷ [] → HaveSet old new moved.states → AreNewest steps old
     → AreNewest (steps ++ step ∷ []) new

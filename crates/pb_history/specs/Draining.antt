@@ -1,4 +1,4 @@
--- Customers' frames that come in, are copied and go.
+-- Customers' frames that enter, are copied, and leave.
 use Rattle.std.specs.Prelude.{◌≡◌, ◌≤◌, ◌<◌, ◌*◌, ◌^◌, ℕ, Bool, true, false, List, Some, None, ◌==◌, ◌&&◌, not, length, if◌then◌else◌}
 use Rattle.std.specs.declared.option.Option.{Option}
 use Rattle.std.specs.List.{count_by, list_any, sum_by}
@@ -19,26 +19,26 @@ is_some_mark (Some mark) = true
 abbrev pub is_marked : Item → Bool
 is_marked item = is_some_mark item.mark
 
--- a received frame left a copy at the port
+-- a copy of the received frame was queued at the port
 abbrev pub gets_copy : Outcome → ℕ → Bool
 gets_copy (Relayed chosen refused) port = list_any (λ p. p == port) chosen && not (is_refused refused port)
 gets_copy (Filtered reason) port = false
 gets_copy Heard port = false
 
--- how many marked items a step adds: one that was polled, or the copies of one that was received
+-- the number of customers' frames that a step adds: one that entered, or the copies of one that was received
 abbrev pub gain : Step → ℕ
 gain (Poll item) = if is_marked item then 1 else 0
 gain (Receive port item learnt outcome moved) = if is_marked item then count_by (gets_copy outcome) local_ports else 0
 gain _ = 0
 
--- how many it takes away: one that was received, lost or delivered
+-- the number of customers' frames that a step removes: one that was received, lost or delivered
 abbrev pub loss : Step → ℕ
 loss (Receive port item learnt outcome moved) = if is_marked item then 1 else 0
 loss (Take number item lost) = if is_marked item && lost then 1 else 0
 loss (Deliver item gone) = if is_marked item then 1 else 0
 loss _ = 0
 
--- how many the steps add and take away, of which each has at most sixteen
+-- the counts of added and removed frames are right and within their bounds
 pub record AreBalanced (items : List Step) (gained parted : ℕ) : Type 0 where
   pub gains : gained ≡ sum_by gain items
   pub losses : parted ≡ sum_by loss items

@@ -1,4 +1,4 @@
--- Copies, BPDUs and sources for which a bridge had no room.
+-- Copies, BPDUs and sources that a bridge lost.
 use Rattle.std.specs.Prelude.{◌≡◌, ◌≤◌, ◌*◌, ◌^◌, ℕ, Bool, true, false, ◌==◌, ◌&&◌, List, [], ◌∷◌, Some, flat_map, length}
 use Rattle.std.specs.List.{count_by}
 use Rattle.pb_frame.specs.declared.learnt.Learnt.TheVariants.{Full as table_full, Memory as no_entry}
@@ -14,14 +14,14 @@ abbrev pub refused_by : Step → List (ℕ × NoRoom)
 refused_by (Receive port item learnt (Relayed chosen refused) moved) = refused
 refused_by _ = []
 
--- the ports at which a BPDU of the bridge's own found no room, each with the cause
+-- the ports at which a BPDU of the bridge's own was not queued, each with the cause
 abbrev pub dropped_by : Step → List (ℕ × NoRoom)
 dropped_by (Receive port item learnt outcome (Some moved)) = moved.dropped
 dropped_by (Tick now moved) = moved.dropped
 dropped_by (Admin port up moved) = moved.dropped
 dropped_by _ = []
 
--- why the learning table got no entry for a source
+-- the cause for which the learning table got no entry for a source
 abbrev pub unlearnt_by : Step → List NoRoom
 unlearnt_by (Receive port item (Some table_full) outcome moved) = Full ∷ []
 unlearnt_by (Receive port item (Some no_entry) outcome moved) = Memory ∷ []
@@ -32,7 +32,7 @@ is_cause Full Full = true
 is_cause Memory Memory = true
 is_cause _ _ = false
 
--- how often each cause stands in a list; and how often it does with a port
+-- the number of losses for each cause
 abbrev pub counts_of : List NoRoom → CauseCounts
 counts_of causes = record { full = count_by (is_cause Full) causes; memory = count_by (is_cause Memory) causes }
 
@@ -42,7 +42,7 @@ is_at port cause loss = loss.0 == port && is_cause cause loss.1
 abbrev pub counts_at : ℕ → List (ℕ × NoRoom) → CauseCounts
 counts_at port losses = record { full = count_by (is_at port Full) losses; memory = count_by (is_at port Memory) losses }
 
--- what the steps had no room for was noted, of which a step has at most 2^64
+-- the losses of the steps are recorded, and are at most 2^64 of a kind for each step
 pub record AreNoted (items : List Step) (copies bpdus : List (ℕ × NoRoom)) (sources : List NoRoom) : Type 0 where
   pub refused : copies ≡ flat_map refused_by items
   pub dropped : bpdus ≡ flat_map dropped_by items

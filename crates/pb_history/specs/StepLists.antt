@@ -3,21 +3,21 @@ use Rattle.std.specs.Prelude.{◌≡◌, ℕ, ◌-◌, ◌<◌, ◌^◌, Bool, t
 use Rattle.std.specs.declared.option.Option.{Option}
 use Rattle.pb_lan.specs.declared.step.Step.{Step}
 
--- what callers see: the steps, whether each is kept in memory, and whether there is room for one more
+-- the steps, whether each is kept in memory, and whether space for one more is reserved
 pub record StepsView : Type 0 where
   pub steps : List Step
   pub is_kept : Bool
   pub is_reserved : Bool
 
--- one step more, which uses the room
+-- the list with one more step, which uses the reserved space
 abbrev pub with_step : StepsView → Step → StepsView
 with_step s step = record { steps = s.steps ++ step ∷ []; is_kept = s.is_kept; is_reserved = false }
 
--- a step that is only counted is given back
+-- a step that is only counted is returned
 abbrev pub given_back : Bool → Step → Option Step
 given_back is_kept step = if is_kept then None else Some step
 
--- where steps are kept each of them is, and there is the room that is reserved
+-- if steps are kept, each of them is, and the reserved space is there
 pub record AreTold (steps kept : List Step) (capacity : ℕ) (is_kept is_reserved : Bool) : Type 0 where
   pub held : is_kept ≡ true → kept ≡ steps
   pub few : is_reserved ≡ true → length steps < 2 ^ 64 - 1

@@ -1,4 +1,4 @@
-//! How many customers' frames steps add to a network, and how many they take away.
+//! The customers' frames that steps add to a network and remove from it.
 
 ghost use Rattle.std.specs.Prelude.{◌≡◌, ◌≤◌, ◌<◌, ◌*◌, ◌==◌, ◌&&◌, ◌^◌, not, [], ◌∷◌, ◌++◌, length};
 ghost use Rattle.std.specs.List.{count_by, sum_by, list_any};
@@ -12,7 +12,7 @@ use std::marker::Model;
 /// The numbers of a bridge's local ports.
 const LOCAL_PORTS: [u8; 16] = [1, 2, 3, 4, 5, 6, 7, 8, 9, 10, 11, 12, 13, 14, 15, 16];
 
-/// How many customers' frames steps added and took away. Contracts see the list of the steps that were noted.
+/// The numbers of customers' frames that steps added and removed. Contracts see the list of recorded steps.
 #[derive(Drop)]
 pub(crate) struct Balance {
     past: Past<Step>,
@@ -32,7 +32,7 @@ impl Model for Balance {
     ghost invariant = { λ b. AreBalanced b.past.items b.gained b.parted };
 }
 
-/// Whether the item is a customer's frame.
+/// Checks whether the item is a customer's frame.
 #[inline(always)]
 fn is_marked(item: &Item) -> bool
     ensures { result ≡ is_marked item.now }
@@ -40,21 +40,21 @@ fn is_marked(item: &Item) -> bool
     item.mark.is_some()
 }
 
-/// Whether the port stands among those that got no copy.
+/// Checks whether the port is among those that got no copy.
 fn is_refused(refused: &[(u8, NoRoom)], port: u8) -> bool
     ensures { result ≡ is_refused refused.now port }
 {
     refused.iter().any(|r| r.0 == port)
 }
 
-/// Whether the port stands in the list.
+/// Checks whether the port is in the list.
 fn is_chosen(chosen: &[u8], port: u8) -> bool
     ensures { result ≡ list_any (λ p. p == port) chosen.now }
 {
     chosen.iter().any(|p| *p == port)
 }
 
-/// How many of the chosen ports got a copy, where some got none.
+/// Returns how many of the chosen ports got a copy, if some got none.
 fn copies_but(chosen: &[u8], refused: &[(u8, NoRoom)]) -> u128
     ensures exact { result ≡ count_by (λ port. list_any (λ p. p == port) chosen.now
         && not (is_refused refused.now port)) local_ports }
@@ -66,7 +66,7 @@ fn copies_but(chosen: &[u8], refused: &[(u8, NoRoom)]) -> u128
         .count() as u128
 }
 
-/// How many of the chosen ports got a copy.
+/// Returns how many of the chosen ports got a copy, at most 16.
 #[inline(always)]
 fn copies(chosen: &PortSet, refused: &Refusals) -> u128
     ensures exact { result ≡ count_by (λ port. list_any (λ p. p == port) chosen.now
@@ -79,7 +79,7 @@ fn copies(chosen: &PortSet, refused: &Refusals) -> u128
     copies_but(chosen.list().as_slice(), refused.list().as_slice())
 }
 
-/// How many copies a received frame left.
+/// Returns how many copies of a received frame were queued, at most 16.
 #[inline(always)]
 fn copies_of(outcome: &Outcome) -> u128
     ensures exact { result ≡ count_by (gets_copy outcome.now) local_ports }
@@ -91,7 +91,7 @@ fn copies_of(outcome: &Outcome) -> u128
     }
 }
 
-/// How many customers' frames a step adds.
+/// Returns how many customers' frames a step adds, at most 16.
 #[inline(always)]
 fn gain(step: &Step) -> u128
     ensures exact { result ≡ gain step.now }
@@ -104,7 +104,7 @@ fn gain(step: &Step) -> u128
     }
 }
 
-/// How many customers' frames a step takes away.
+/// Returns how many customers' frames a step removes, at most one.
 #[inline(always)]
 fn loss(step: &Step) -> u128
     ensures exact { result ≡ loss step.now }
@@ -119,7 +119,7 @@ fn loss(step: &Step) -> u128
 }
 
 impl Balance {
-    /// No steps.
+    /// Returns the balance of no steps.
     pub(crate) fn new() -> Balance
         ensures { result ≡ [] }
     {
@@ -130,7 +130,7 @@ impl Balance {
         }
     }
 
-    /// Notes one step more.
+    /// Records one more step.
     #[inline(always)]
     pub(crate) fn note(&mut self, step: &Step)
         requires { length self.old < u64.MAX }
@@ -141,7 +141,7 @@ impl Balance {
         self.past.note(step);
     }
 
-    /// How many customers' frames the steps add.
+    /// Returns how many customers' frames the steps add.
     pub(crate) fn gained(&self) -> u128
         ensures exact { result ≡ sum_by gain self.now }
         ensures few { result ≤ 16 * 2 ^ 64 }
@@ -149,7 +149,7 @@ impl Balance {
         self.gained
     }
 
-    /// How many they take away.
+    /// Returns how many customers' frames the steps remove.
     pub(crate) fn parted(&self) -> u128
         ensures exact { result ≡ sum_by loss self.now }
         ensures few { result ≤ 2 ^ 64 }

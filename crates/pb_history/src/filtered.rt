@@ -1,4 +1,4 @@
-//! How many frames went nowhere, by the port to which they came.
+//! Counts of filtered frames by the port that received them.
 
 ghost use Rattle.std.specs.Prelude.{◌≡◌, ◌≤◌, ◌<◌, ◌+◌, [], ◌∷◌, ◌++◌, length, slice_index_or, slice_set};
 ghost use Rattle.std.specs.Prelude.{option_to_list};
@@ -8,10 +8,10 @@ ghost use Rattle.pb_history.specs.Passages.{is_filtered, filtered_by};
 use pb_lan::{Outcome, Past, Step};
 use std::marker::Model;
 
-/// One place for each local port by its number, 1 to 16. No port has number 0.
+/// The number of counts: one for each local port by its number, 1 to 16. No port has number 0.
 const PLACES: usize = 17;
 
-/// How many frames went nowhere, by local port. Contracts see the list of the steps that were noted.
+/// The number of filtered frames by local port. Contracts see the list of recorded steps.
 #[derive(Drop)]
 pub(crate) struct Filtered {
     past: Past<Step>,
@@ -30,7 +30,7 @@ impl Model for Filtered {
     ghost invariant = { λ f. AreFiltered f.past.items f.counts };
 }
 
-/// The port at which a frame was filtered.
+/// Returns the port at which a step filtered a frame.
 #[inline(always)]
 fn filtered_by(step: &Step) -> Option<u8>
     ensures { result ≡ filtered_by step.now }
@@ -45,7 +45,7 @@ fn filtered_by(step: &Step) -> Option<u8>
     }
 }
 
-/// Counts one more at a port; nothing changes where there is no such port.
+/// Counts one more frame at a port. Nothing changes if there is no such port.
 fn count_one(counts: &mut [u64; PLACES], port: u8)
     requires { port < PLACES → slice_index_or counts.old port 0 < u64.MAX }
     ensures one { counts.new ≡ slice_set counts.old port (slice_index_or counts.old port 0 + 1) }
@@ -58,7 +58,7 @@ fn count_one(counts: &mut [u64; PLACES], port: u8)
 }
 
 impl Filtered {
-    /// No steps.
+    /// Returns the counts of no steps.
     pub(crate) fn new() -> Filtered
         ensures { result ≡ [] }
     {
@@ -68,7 +68,7 @@ impl Filtered {
         }
     }
 
-    /// Notes one step more.
+    /// Records one more step.
     #[inline(always)]
     pub(crate) fn note(&mut self, step: &Step)
         requires { length self.old < u64.MAX }
@@ -80,7 +80,7 @@ impl Filtered {
         self.past.note(step);
     }
 
-    /// How many frames that came to a port went nowhere.
+    /// Returns how many frames that a port received were filtered.
     pub(crate) fn at(&self, port: u8) -> u64
         requires { port ≤ 16 }
         ensures { result ≡ count_by (is_filtered port) self.now }

@@ -1,8 +1,8 @@
-//! The steps of a place as contracts see them, and what is counted of them.
+//! The steps of a place as contracts see them, and the counts that reports print of them. It builds on pb_lan.
 //!
-//! The laws speak of the list of all steps that a place ever took. A [`Tally`] has that list for contracts alone, and
-//! in memory what reports tell of it: so a place can run without end. [`Steps`] has a tally, and keeps each step
-//! besides where that is asked for.
+//! The laws are about the list of all steps that a place took. A [`Tally`] has that list for contracts only, and the
+//! counts in memory. A place can run without end. [`Steps`] has a tally, and also keeps each step if that is asked
+//! for. Begin with [`Steps`].
 #![tactic(auto)]
 
 mod balance;

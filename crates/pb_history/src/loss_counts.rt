@@ -1,4 +1,4 @@
-//! What a bridge had no room for.
+//! Counts of what a bridge lost.
 
 ghost use Rattle.std.specs.Prelude.{◌≡◌, ◌≤◌, ◌<◌, ◌+◌, ◌*◌, ◌^◌, ◌++◌, ◌∷◌, [], length, flat_map};
 ghost use Rattle.pb_history.specs.Losses.{refused_by, dropped_by, unlearnt_by, counts_at, counts_of};
@@ -10,7 +10,7 @@ use pb_frame::Learnt;
 use pb_lan::{NoRoom, Outcome, Past, Step};
 use std::marker::Model;
 
-/// What a bridge had no room for. Contracts see the list of the steps that were noted.
+/// The copies, BPDUs and sources that a bridge lost. Contracts see the list of recorded steps.
 #[derive(Drop)]
 pub(crate) struct LossCounts {
     past: Past<Step>,
@@ -31,7 +31,7 @@ impl Model for LossCounts {
     ghost invariant = { λ c. AreNoted c.past.items c.copies c.bpdus c.sources };
 }
 
-/// Notes the ports that got no copy of a frame.
+/// Records the ports that got no copy of a frame.
 #[inline(always)]
 fn note_copies(copies: &mut PortCounts, step: &Step)
     requires { length copies.old + 2 ^ 64 ≤ u128.MAX }
@@ -49,7 +49,7 @@ fn note_copies(copies: &mut PortCounts, step: &Step)
     }
 }
 
-/// The ports at which a BPDU found no room.
+/// Returns the ports at which a BPDU was not queued, with the causes.
 #[inline(always)]
 fn dropped_by(step: &Step) -> &[(u8, NoRoom)]
     ensures { result.now ≡ dropped_by step.now }
@@ -65,7 +65,7 @@ fn dropped_by(step: &Step) -> &[(u8, NoRoom)]
     }
 }
 
-/// Notes the ports at which a BPDU found no room.
+/// Records the ports at which a BPDU was not queued.
 #[inline(always)]
 fn note_bpdus(bpdus: &mut PortCounts, step: &Step)
     requires { length bpdus.old + 2 ^ 64 ≤ u128.MAX }
@@ -78,7 +78,7 @@ fn note_bpdus(bpdus: &mut PortCounts, step: &Step)
     }
 }
 
-/// Notes a source that the table got no entry for.
+/// Records a source for which the learning table got no entry.
 #[inline(always)]
 fn note_source(sources: &mut SourceCounts, step: &Step)
     requires { length sources.old ≤ 2 ^ 64 }
@@ -99,7 +99,7 @@ fn note_source(sources: &mut SourceCounts, step: &Step)
 }
 
 impl LossCounts {
-    /// No steps.
+    /// Returns the counts of no steps.
     pub(crate) fn new() -> LossCounts
         ensures { result ≡ [] }
     {
@@ -111,7 +111,7 @@ impl LossCounts {
         }
     }
 
-    /// Notes one step more.
+    /// Records one more step.
     #[inline(always)]
     pub(crate) fn note(&mut self, step: &Step)
         requires { length self.old < u64.MAX }
@@ -123,7 +123,7 @@ impl LossCounts {
         self.past.note(step);
     }
 
-    /// How many copies of frames found no room at a port.
+    /// Returns how many copies of frames were not queued at a port, by cause.
     pub(crate) fn copies(&self, port: u8) -> CauseCounts
         requires { port ≤ 16 }
         ensures { result ≡ counts_at port (flat_map refused_by self.now) }
@@ -131,7 +131,7 @@ impl LossCounts {
         self.copies.at(port)
     }
 
-    /// How many BPDUs of the bridge's own found no room at a port.
+    /// Returns how many BPDUs of the bridge's own were not queued at a port, by cause.
     pub(crate) fn bpdus(&self, port: u8) -> CauseCounts
         requires { port ≤ 16 }
         ensures { result ≡ counts_at port (flat_map dropped_by self.now) }
@@ -139,7 +139,7 @@ impl LossCounts {
         self.bpdus.at(port)
     }
 
-    /// How many sources the learning table had no room for.
+    /// Returns for how many sources the learning table got no entry, by cause.
     pub(crate) fn sources(&self) -> CauseCounts
         ensures { result ≡ counts_of (flat_map unlearnt_by self.now) }
     {

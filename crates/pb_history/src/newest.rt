@@ -1,4 +1,4 @@
-//! The newest state to which the steps of a bridge set each of its ports.
+//! The newest states of a bridge's ports.
 
 ghost use Rattle.std.specs.Option.{option_copied};
 ghost use Rattle.std.specs.Prelude.{◌≡◌, ◌≤◌, [], ◌∷◌, ◌++◌, unwrap_or, option_to_list};
@@ -9,10 +9,10 @@ ghost use Rattle.pb_history.specs.Newest.{HaveSet};
 use pb_lan::{Moved, Past, PortState, Step};
 use std::marker::Model;
 
-/// One place for each local port by its number, 1 to 16. No port has number 0.
+/// The number of states: one for each local port by its number, 1 to 16. No port has number 0.
 const PLACES: usize = 17;
 
-/// The newest state to which steps set each local port. Contracts see the list of the steps that were noted.
+/// The newest state to which steps set each local port. Contracts see the list of recorded steps.
 #[derive(Drop)]
 pub(crate) struct Newest {
     past: Past<Step>,
@@ -31,7 +31,7 @@ impl Model for Newest {
     ghost invariant = { λ n. AreNewest n.past.items n.states };
 }
 
-/// What a step says of its bridge's ports.
+/// Returns what the spanning tree did to the bridge's ports in a step, if it ran.
 #[inline(always)]
 fn moved_by(step: &Step) -> Option<&Moved>
     ensures { option_to_list (option_copied result) ≡ moved_of step.now }
@@ -46,7 +46,7 @@ fn moved_by(step: &Step) -> Option<&Moved>
     }
 }
 
-/// Notes changes of states, of which those of no local port change nothing.
+/// Applies changes of states. A change at a number that no local port has is ignored.
 fn set_all(states: &mut [Option<PortState>; PLACES], changes: &[(u8, PortState)])
     ensures { HaveSet states.old states.new changes.now }
 {
@@ -60,7 +60,7 @@ fn set_all(states: &mut [Option<PortState>; PLACES], changes: &[(u8, PortState)]
 }
 
 impl Newest {
-    /// No steps.
+    /// Returns the states of no steps.
     pub(crate) fn new() -> Newest
         ensures { result ≡ [] }
     {
@@ -70,7 +70,7 @@ impl Newest {
         }
     }
 
-    /// Notes one step more.
+    /// Records one more step.
     #[inline(always)]
     pub(crate) fn note(&mut self, step: &Step)
         ensures { self.new ≡ self.old ++ step.now ∷ [] }
@@ -81,7 +81,7 @@ impl Newest {
         self.past.note(step);
     }
 
-    /// The newest state of a port; None where no step set it.
+    /// Returns the newest state of a port, or `None` if no step set it.
     pub(crate) fn at(&self, port: u8) -> Option<PortState>
         requires { port ≤ 16 }
         ensures { (start : PortState) → unwrap_or result start ≡ changed port start (changes_of self.now) }

@@ -1,4 +1,4 @@
-//! How many frames came in at a customer port and left by it, and how many items a lane took and lost.
+//! Counts of frames through a customer port, and of items through a lane.
 
 ghost use Rattle.std.specs.Prelude.{◌≡◌, ◌<◌, [], ◌∷◌, ◌++◌, length};
 ghost use Rattle.std.specs.List.{count_by};
@@ -7,7 +7,7 @@ ghost use Rattle.pb_history.specs.Passages.{is_poll, is_departure, is_gone, is_t
 use pb_lan::{Past, Step};
 use std::marker::Model;
 
-/// How many steps there were, and how many of them were of each kind. Contracts see the list of the steps.
+/// The numbers of steps of each kind. Contracts see the list of recorded steps.
 #[derive(Drop)]
 pub(crate) struct Passages {
     past: Past<Step>,
@@ -31,7 +31,7 @@ impl Model for Passages {
     ghost invariant = { λ p. ArePassages p.past.items p.steps p.entered p.left p.gone p.taken p.lost };
 }
 
-/// A frame came in at a customer port.
+/// Checks whether a frame entered through a customer port.
 #[inline(always)]
 fn is_poll(step: &Step) -> bool
     ensures { result ≡ is_poll step.now }
@@ -39,7 +39,7 @@ fn is_poll(step: &Step) -> bool
     matches!(step, Step::Poll { .. })
 }
 
-/// A frame left by a customer port.
+/// Checks whether a frame left through a customer port.
 #[inline(always)]
 fn is_departure(step: &Step) -> bool
     ensures { result ≡ is_departure step.now }
@@ -50,7 +50,7 @@ fn is_departure(step: &Step) -> bool
     }
 }
 
-/// A frame came to a customer port that takes none any more.
+/// Checks whether a frame was lost at a customer port that takes no more frames.
 #[inline(always)]
 fn is_gone(step: &Step) -> bool
     ensures { result ≡ is_gone step.now }
@@ -61,7 +61,7 @@ fn is_gone(step: &Step) -> bool
     }
 }
 
-/// A lane took an item.
+/// Checks whether a lane took an item.
 #[inline(always)]
 fn is_take(step: &Step) -> bool
     ensures { result ≡ is_take step.now }
@@ -69,7 +69,7 @@ fn is_take(step: &Step) -> bool
     matches!(step, Step::Take { .. })
 }
 
-/// A lane lost an item.
+/// Checks whether a lane lost an item.
 #[inline(always)]
 fn is_loss(step: &Step) -> bool
     ensures { result ≡ is_loss step.now }
@@ -81,7 +81,7 @@ fn is_loss(step: &Step) -> bool
 }
 
 impl Passages {
-    /// No steps.
+    /// Returns the counts of no steps.
     pub(crate) fn new() -> Passages
         ensures { result ≡ [] }
     {
@@ -96,7 +96,7 @@ impl Passages {
         }
     }
 
-    /// Notes one step more.
+    /// Records one more step.
     #[inline(always)]
     pub(crate) fn note(&mut self, step: &Step)
         requires { length self.old < u64.MAX }
@@ -111,7 +111,7 @@ impl Passages {
         self.past.note(step);
     }
 
-    /// The number of steps.
+    /// Returns the number of steps.
     #[inline(always)]
     pub(crate) fn len(&self) -> u64
         ensures { result ≡ length self.now }
@@ -119,35 +119,35 @@ impl Passages {
         self.steps
     }
 
-    /// How many frames came in.
+    /// Returns how many frames entered.
     pub(crate) fn entered(&self) -> u64
         ensures { result ≡ count_by is_poll self.now }
     {
         self.entered
     }
 
-    /// How many frames left.
+    /// Returns how many frames left.
     pub(crate) fn left(&self) -> u64
         ensures { result ≡ count_by is_departure self.now }
     {
         self.left
     }
 
-    /// How many frames came to a port that takes none any more.
+    /// Returns how many frames were lost at a port that takes no more frames.
     pub(crate) fn gone(&self) -> u64
         ensures { result ≡ count_by is_gone self.now }
     {
         self.gone
     }
 
-    /// How many items were taken.
+    /// Returns how many items were taken.
     pub(crate) fn taken(&self) -> u64
         ensures { result ≡ count_by is_take self.now }
     {
         self.taken
     }
 
-    /// How many items were lost.
+    /// Returns how many items were lost.
     pub(crate) fn lost(&self) -> u64
         ensures { result ≡ count_by is_loss self.now }
     {

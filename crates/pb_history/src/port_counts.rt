@@ -1,4 +1,4 @@
-//! How often there was no room at each port.
+//! Counts of losses by port and cause.
 
 ghost use Rattle.std.specs.Prelude.{◌≡◌, ◌≤◌, ◌<◌, ◌+◌, [], ◌∷◌, ◌++◌, length, slice_index_or};
 ghost use Rattle.pb_history.specs.Losses.{counts_at};
@@ -8,11 +8,10 @@ use crate::cause_counts::CauseCounts;
 use pb_lan::{NoRoom, Past};
 use std::marker::Model;
 
-/// One place for each local port by its number, 1 to 16. No port has number 0.
+/// The number of counts: one for each local port by its number, 1 to 16. No port has number 0.
 const PLACES: usize = 17;
 
-/// How often there was no room at each local port, by cause. Contracts see the list of the ports and causes that were
-/// noted.
+/// The number of losses at each local port, by cause. Contracts see the list of recorded ports and causes.
 #[derive(Drop)]
 pub(crate) struct PortCounts {
     noted: Past<(u8, NoRoom)>,
@@ -31,7 +30,7 @@ impl Model for PortCounts {
     ghost invariant = { λ c. AreCounts c.noted.items c.counts };
 }
 
-/// Counts one more at a port; nothing changes where there is no such port.
+/// Counts one more loss at a port. Nothing changes if there is no such port.
 fn count_one(counts: &mut [CauseCounts; PLACES], port: u8, cause: NoRoom)
     requires { port < PLACES → count_of (slice_index_or counts.old port no_counts) cause < u128.MAX }
     ensures one { counts.new ≡ one_more_at counts.old port cause }
@@ -44,7 +43,7 @@ fn count_one(counts: &mut [CauseCounts; PLACES], port: u8, cause: NoRoom)
 }
 
 impl PortCounts {
-    /// Nothing was noted yet.
+    /// Returns counts of zero.
     pub(crate) fn new() -> PortCounts
         ensures { result ≡ [] }
     {
@@ -54,7 +53,7 @@ impl PortCounts {
         }
     }
 
-    /// Notes that there was no room at a port.
+    /// Records a loss at a port.
     fn note(&mut self, port: u8, cause: NoRoom)
         requires { length self.old < u128.MAX }
         ensures { self.new ≡ self.old ++ (port, cause) ∷ [] }
@@ -63,7 +62,7 @@ impl PortCounts {
         self.noted.note(&(port, cause));
     }
 
-    /// Notes that there was no room at each of these ports.
+    /// Records a loss at each of these ports.
     pub(crate) fn note_all(&mut self, losses: &[(u8, NoRoom)])
         requires { length self.old + length losses.now ≤ u128.MAX }
         ensures { self.new ≡ self.old ++ losses.now }
@@ -74,7 +73,7 @@ impl PortCounts {
         }
     }
 
-    /// How often there was no room at a port.
+    /// Returns how many losses a port had, by cause.
     pub(crate) fn at(&self, port: u8) -> CauseCounts
         requires { port ≤ 16 }
         ensures { result ≡ counts_at port self.now }

@@ -12,7 +12,7 @@ use pb_frame::{Memory, Seq};
 use pb_lan::{Plan, PortState, Shape, port_state};
 use std::alloc::Global;
 
-/// The state of a bridge's port after the bridge's steps.
+/// Returns the state of a bridge's port after the bridge's steps.
 fn state_after(plan: &Plan, bridge: u8, tally: &Tally, port: u8) -> PortState
     requires { port ≤ 16 }
     ensures { result ≡ state_after plan.now bridge tally.now port }
@@ -20,7 +20,11 @@ fn state_after(plan: &Plan, bridge: u8, tally: &Tally, port: u8) -> PortState
     port_state(plan, bridge, port, tally.newest_state(port))
 }
 
-/// The states of a bridge's ports after its steps.
+/// Returns the states of a bridge's ports after its steps.
+///
+/// # Errors
+///
+/// `Memory` if an allocation failed.
 fn states_after(
     alloc: Global,
     plan: &Plan,
@@ -36,7 +40,7 @@ fn states_after(
     Ok(Seq::from_vec(states))
 }
 
-/// What was counted at the bridge at this place; of no steps where there is none.
+/// Returns the tally of the bridge at this index, or `none` if there is no such bridge.
 fn tally_at<'a>(bridges: &'a [Tally], place: usize, none: &'a Tally) -> &'a Tally
     requires { none.now ≡ [] }
     ensures { result.now ≡ steps_of bridges.now (place + 1) }
@@ -47,10 +51,12 @@ fn tally_at<'a>(bridges: &'a [Tally], place: usize, none: &'a Tally) -> &'a Tall
     }
 }
 
-/// The states of the ports of a network at the end of its record: those of the start, changed in
-/// order as the steps of each bridge say.
+/// Returns the states of the ports of a network at the end of its record: those of the start, changed in order by the
+/// steps of each bridge.
 ///
-/// Memory is answered where there was none for the shape, and nothing else is refused.
+/// # Errors
+///
+/// `Memory` if an allocation failed.
 pub fn last_shape(alloc: Global, plan: &Plan, tallies: &Tallies) -> Result<Shape, Memory>
     requires { IsSound plan.now }
     ensures { IfOk result (λ shape. shape ≡ last_shape plan.now tallies.now) }

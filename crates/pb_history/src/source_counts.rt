@@ -1,4 +1,4 @@
-//! How often a learning table had no room for a source.
+//! Counts of sources that a learning table did not learn.
 
 ghost use Rattle.std.specs.Prelude.{◌≡◌, ◌<◌, [], ◌∷◌, ◌++◌, length};
 ghost use Rattle.pb_history.specs.Losses.{counts_of};
@@ -7,7 +7,7 @@ use crate::cause_counts::CauseCounts;
 use pb_lan::{NoRoom, Past};
 use std::marker::Model;
 
-/// How often there was no room for a source, by cause. Contracts see the list of the causes that were noted.
+/// The number of sources that were not learnt, by cause. Contracts see the list of recorded causes.
 #[derive(Drop)]
 pub(crate) struct SourceCounts {
     noted: Past<NoRoom>,
@@ -27,7 +27,7 @@ impl Model for SourceCounts {
 }
 
 impl SourceCounts {
-    /// Nothing was noted yet.
+    /// Returns counts of zero.
     pub(crate) fn new() -> SourceCounts
         ensures { result ≡ [] }
     {
@@ -37,7 +37,7 @@ impl SourceCounts {
         }
     }
 
-    /// Notes that there was no room for a source.
+    /// Records a source that was not learnt.
     pub(crate) fn note(&mut self, cause: NoRoom)
         requires { length self.old < u128.MAX }
         ensures { self.new ≡ self.old ++ cause ∷ [] }
@@ -46,7 +46,7 @@ impl SourceCounts {
         self.noted.note(&cause);
     }
 
-    /// How often there was no room.
+    /// Returns how many sources were not learnt, by cause.
     pub(crate) fn counts(&self) -> CauseCounts
         ensures { result ≡ counts_of self.now }
     {

@@ -9,10 +9,10 @@ use pb_lan::Step;
 use std::alloc::Global;
 use std::marker::Model;
 
-/// The steps that a place has taken, in order, with what is counted of them. Either each of them is kept in memory,
-/// or they are only counted: then contracts see the list, and the program has no octet of it.
+/// The steps that a place has taken, in order, with their tally. Either each step is kept in memory, or the steps are
+/// only counted. Contracts see the list in both cases.
 ///
-/// Contracts see the steps, whether they are kept, and whether there is room for one more.
+/// Contracts see the steps, whether they are kept, and whether space for one more step is reserved.
 #[derive(Drop)]
 pub struct Steps {
     tally: Tally,
@@ -33,21 +33,21 @@ impl Model for Steps {
 }
 
 impl Steps {
-    /// No steps, each of which will be kept. Takes no memory.
+    /// Returns a list without steps that will keep each step. Allocates nothing.
     pub fn kept(alloc: Global) -> Steps
         ensures { result ≡ record { steps = []; is_kept = true; is_reserved = false } }
     {
         Steps::none(alloc, true)
     }
 
-    /// No steps, which will only be counted. Takes no memory.
+    /// Returns a list without steps that will only count steps. Allocates nothing.
     pub fn counted(alloc: Global) -> Steps
         ensures { result ≡ record { steps = []; is_kept = false; is_reserved = false } }
     {
         Steps::none(alloc, false)
     }
 
-    /// No steps.
+    /// Returns a list without steps.
     fn none(alloc: Global, is_kept: bool) -> Steps
         ensures { result ≡ record { steps = []; is_kept = is_kept; is_reserved = false } }
     {
@@ -59,7 +59,7 @@ impl Steps {
         }
     }
 
-    /// The number of steps.
+    /// Returns the number of steps.
     #[inline(always)]
     pub fn len(&self) -> u64
         ensures { result ≡ length self.now.steps }
@@ -67,7 +67,7 @@ impl Steps {
         self.tally.len()
     }
 
-    /// Whether each step is kept.
+    /// Checks whether each step is kept.
     #[inline(always)]
     pub fn are_kept(&self) -> bool
         ensures { result ≡ self.now.is_kept }
@@ -75,11 +75,12 @@ impl Steps {
         self.is_kept
     }
 
-    /// Makes room for one step, which the next step uses up.
+    /// Reserves space for one step, which the next step uses. If space is reserved already, nothing changes. It never
+    /// fails then, nor if steps are only counted and fewer than 2^64-1 were taken.
     ///
-    /// `Memory` is answered where there is none for one more, or 2^64-1 steps were taken; nothing has changed
-    /// then. Where there is room already, the answer is `Ok`, and where steps are only counted and fewer were
-    /// taken.
+    /// # Errors
+    ///
+    /// `Memory` if the allocation for a step failed, or 2^64-1 steps were taken. Nothing has changed then.
     #[inline(always)]
     pub fn reserve(&mut self) -> Result<(), Memory>
         ensures ok { OnOk result (self.new ≡ record self.old { is_reserved = true }) }
@@ -100,7 +101,7 @@ impl Steps {
         Ok(())
     }
 
-    /// Whether there is room for one step.
+    /// Checks whether space for one step is reserved.
     #[inline(always)]
     pub fn has_room(&self) -> bool
         ensures { result ≡ self.now.is_reserved }
@@ -108,7 +109,7 @@ impl Steps {
         self.is_reserved
     }
 
-    /// The room for one step is there no longer, unless it is to be kept.
+    /// Gives up the reserved space for one step, unless `is_kept` is set.
     #[inline(always)]
     pub fn keep_room(&mut self, is_kept: bool)
         ensures { self.new ≡ record self.old { is_reserved = self.old.is_reserved && is_kept } }
@@ -116,7 +117,7 @@ impl Steps {
         self.is_reserved = self.is_reserved && is_kept;
     }
 
-    /// Puts a step behind the others, and gives it back where it is only counted. Takes no memory.
+    /// Appends a step, which uses the reserved space. It returns the step if it is only counted. Allocates nothing.
     #[inline(always)]
     pub fn append(&mut self, step: Step) -> Option<Step>
         requires { self.old.is_reserved ≡ true }
@@ -132,21 +133,21 @@ impl Steps {
         None
     }
 
-    /// What is counted of the steps.
+    /// Returns the tally of the steps.
     pub fn tally(&self) -> &Tally
         ensures { result.now ≡ self.now.steps }
     {
         &self.tally
     }
 
-    /// The steps where they are kept, and else none.
+    /// Returns the steps if they are kept, otherwise none.
     pub fn as_slice(&self) -> &[Step]
         ensures kept { self.now.is_kept ≡ true → result.now ≡ self.now.steps }
     {
         self.kept.as_slice()
     }
 
-    /// The steps where they are kept, and else none. Takes no memory.
+    /// Returns the steps if they are kept, otherwise none. Allocates nothing.
     pub fn into_vec(self) -> Vec<Step>
         ensures kept { self.is_kept ≡ true → result.items ≡ self.steps }
     {
@@ -159,7 +160,7 @@ impl Steps {
         kept
     }
 
-    /// What is counted of the steps, and the steps where they are kept, and else none. Takes no memory.
+    /// Returns the tally, and the steps if they are kept, otherwise none. Allocates nothing.
     pub fn into_parts(self) -> (Tally, Vec<Step>)
         ensures tally { result.0 ≡ self.steps }
         ensures kept { self.is_kept ≡ true → result.1.items ≡ self.steps }

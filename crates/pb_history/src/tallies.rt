@@ -1,4 +1,4 @@
-//! What is counted of the steps of all places of a network.
+//! The tallies of all places of a network.
 
 ghost use Rattle.std.specs.Prelude.{◌≡◌, IfOk};
 ghost use Rattle.pb_history.specs.Tallied.{record_of};
@@ -9,7 +9,7 @@ use pb_lan::{Record, Step};
 use std::alloc::Global;
 use std::marker::Model;
 
-/// What reports tell of a record: a tally for each of its places. Contracts see the record.
+/// The tallies of all places of a network, from which reports are computed. Contracts see the record.
 #[derive(Drop)]
 pub struct Tallies {
     bridges: Vec<Tally>,
@@ -26,7 +26,11 @@ impl Model for Tallies {
     ghost view = { λ t. record_of t.bridges.items t.lanes.items t.customers.items };
 }
 
-/// A tally for each of these lists.
+/// Returns a tally for each of these lists of steps.
+///
+/// # Errors
+///
+/// `Memory` if an allocation failed.
 fn tallies_of(alloc: Global, places: &[Seq<Step>]) -> Result<Vec<Tally>, Memory>
     ensures { IfOk result (λ tallies. tallies.items ≡ places.now) }
 {
@@ -38,7 +42,7 @@ fn tallies_of(alloc: Global, places: &[Seq<Step>]) -> Result<Vec<Tally>, Memory>
 }
 
 impl Tallies {
-    /// Of these tallies of bridges, lanes and customer ports, each in the order of a record. Takes no memory.
+    /// Combines these tallies of bridges, lanes and customer ports, each in the order of a record. Allocates nothing.
     pub fn new(bridges: Vec<Tally>, lanes: Vec<Tally>, customers: Vec<Tally>) -> Tallies
         ensures { result ≡ record_of bridges.items lanes.items customers.items }
     {
@@ -49,8 +53,11 @@ impl Tallies {
         }
     }
 
-    /// Of a record. `Memory` is answered where there was none for the tallies. The time is linear in the record; no
-    /// contract says so.
+    /// Returns the tallies of a record. The time is linear in the record, which no contract states.
+    ///
+    /// # Errors
+    ///
+    /// `Memory` if an allocation failed.
     pub fn of(alloc: Global, rec: &Record) -> Result<Tallies, Memory>
         ensures { IfOk result (λ tallies. tallies ≡ rec.now) }
     {
@@ -60,21 +67,21 @@ impl Tallies {
         Ok(Tallies::new(bridges, lanes, customers))
     }
 
-    /// Those of the bridges.
+    /// Returns the tallies of the bridges.
     pub fn bridges(&self) -> &[Tally]
         ensures { result.now ≡ self.now.bridges }
     {
         self.bridges.as_slice()
     }
 
-    /// Those of the lanes: of link j the lanes 2j-1 (from a to b) and 2j (from b to a).
+    /// Returns the tallies of the lanes. Link j has lane 2j-1 from a to b and lane 2j from b to a.
     pub fn lanes(&self) -> &[Tally]
         ensures { result.now ≡ self.now.lanes }
     {
         self.lanes.as_slice()
     }
 
-    /// Those of the customer ports.
+    /// Returns the tallies of the customer ports.
     pub fn customers(&self) -> &[Tally]
         ensures { result.now ≡ self.now.customers }
     {

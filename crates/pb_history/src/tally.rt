@@ -1,4 +1,4 @@
-//! What is counted of the steps of a place.
+//! The counts of the steps of a place.
 
 ghost use Rattle.std.specs.Prelude.{◌≡◌, ◌≤◌, ◌<◌, ◌*◌, ◌^◌, [], ◌∷◌, ◌++◌, length, flat_map, unwrap_or};
 ghost use Rattle.std.specs.List.{count_by, sum_by};
@@ -17,7 +17,7 @@ use crate::passages::Passages;
 use pb_lan::{PortState, Step};
 use std::marker::Model;
 
-/// What reports tell of the steps of a place, whatever their number: some 1,300 octets, and no step.
+/// The counts of the steps of a place. It has some 1,300 octets for any number of steps, and keeps no step.
 ///
 /// Contracts see the list of the steps.
 #[derive(Drop)]
@@ -42,7 +42,7 @@ impl Model for Tally {
 }
 
 impl Tally {
-    /// Of no steps. Takes no memory.
+    /// Returns the tally of no steps. Allocates nothing.
     pub fn new() -> Tally
         ensures { result ≡ [] }
     {
@@ -55,7 +55,7 @@ impl Tally {
         }
     }
 
-    /// Of these steps. Takes no memory. The time is linear in them; no contract says so.
+    /// Returns the tally of these steps. Allocates nothing. The time is linear in them, which no contract states.
     pub fn of(steps: &[Step]) -> Tally
         ensures { result ≡ steps.now }
     {
@@ -66,7 +66,7 @@ impl Tally {
         tally
     }
 
-    /// Of one step more. Takes no memory.
+    /// Records one more step. Allocates nothing.
     #[inline(always)]
     pub fn note(&mut self, step: &Step)
         requires { length self.old < u64.MAX }
@@ -79,7 +79,7 @@ impl Tally {
         self.losses.note(step);
     }
 
-    /// The number of steps.
+    /// Returns the number of steps.
     #[inline(always)]
     pub fn len(&self) -> u64
         ensures { result ≡ length self.now }
@@ -87,42 +87,42 @@ impl Tally {
         self.passages.len()
     }
 
-    /// How many frames came in at a customer port.
+    /// Returns how many frames entered through a customer port.
     pub fn entered(&self) -> u64
         ensures { result ≡ count_by is_poll self.now }
     {
         self.passages.entered()
     }
 
-    /// How many frames left by a customer port, of those that its customer took.
+    /// Returns how many frames left through a customer port.
     pub fn left(&self) -> u64
         ensures { result ≡ count_by is_departure self.now }
     {
         self.passages.left()
     }
 
-    /// How many frames came to a customer port that takes none any more, and were lost.
+    /// Returns how many frames were lost at a customer port that takes no more frames.
     pub fn gone(&self) -> u64
         ensures { result ≡ count_by is_gone self.now }
     {
         self.passages.gone()
     }
 
-    /// How many items a lane took, those among them that it lost.
+    /// Returns how many items a lane took, including those that it lost.
     pub fn taken(&self) -> u64
         ensures { result ≡ count_by is_take self.now }
     {
         self.passages.taken()
     }
 
-    /// How many items a lane lost.
+    /// Returns how many items a lane lost.
     pub fn lost(&self) -> u64
         ensures { result ≡ count_by is_loss self.now }
     {
         self.passages.lost()
     }
 
-    /// How many frames that came to a bridge's local port, 1 to 16, went nowhere.
+    /// Returns how many frames that a bridge's local port, 1 to 16, received were filtered.
     pub fn filtered(&self, port: u8) -> u64
         requires { port ≤ 16 }
         ensures { result ≡ count_by (is_filtered port) self.now }
@@ -130,7 +130,7 @@ impl Tally {
         self.filtered.at(port)
     }
 
-    /// The newest state to which a step set a bridge's local port, 1 to 16; None where none did.
+    /// Returns the newest state to which a step set a bridge's local port, 1 to 16, or `None` if no step set it.
     pub fn newest_state(&self, port: u8) -> Option<PortState>
         requires { port ≤ 16 }
         ensures { (start : PortState) → unwrap_or result start ≡ changed port start (changes_of self.now) }
@@ -138,7 +138,8 @@ impl Tally {
         self.newest.at(port)
     }
 
-    /// How many customers' frames the steps add to the network: each that came in, and each copy that a bridge queued.
+    /// Returns how many customers' frames the steps add to the network: each that entered, and each copy that a
+    /// bridge queued.
     pub fn gained(&self) -> u128
         ensures exact { result ≡ sum_by gain self.now }
         ensures few { result ≤ 16 * 2 ^ 64 }
@@ -146,8 +147,8 @@ impl Tally {
         self.balance.gained()
     }
 
-    /// How many customers' frames the steps take out of the network: each that a bridge received, and each that was
-    /// delivered or lost.
+    /// Returns how many customers' frames the steps remove from the network: each that a bridge received, and each
+    /// that was delivered or lost.
     pub fn parted(&self) -> u128
         ensures exact { result ≡ sum_by loss self.now }
         ensures few { result ≤ 2 ^ 64 }
@@ -155,8 +156,8 @@ impl Tally {
         self.balance.parted()
     }
 
-    /// How many copies of relayed frames were not queued at a bridge's local port, 1 to 16, by cause (802.1Q clauses
-    /// 8.6.6 and 8.6.7).
+    /// Returns how many copies of relayed frames were not queued at a bridge's local port, 1 to 16, by cause (IEEE
+    /// 802.1Q clauses 8.6.6 and 8.6.7).
     pub fn copies_not_queued(&self, port: u8) -> CauseCounts
         requires { port ≤ 16 }
         ensures { result ≡ counts_at port (flat_map refused_by self.now) }
@@ -164,7 +165,7 @@ impl Tally {
         self.losses.copies(port)
     }
 
-    /// How many BPDUs of a bridge's own were not queued at its local port, 1 to 16, by cause.
+    /// Returns how many BPDUs of a bridge's own were not queued at its local port, 1 to 16, by cause.
     pub fn bpdus_not_queued(&self, port: u8) -> CauseCounts
         requires { port ≤ 16 }
         ensures { result ≡ counts_at port (flat_map dropped_by self.now) }
@@ -172,7 +173,7 @@ impl Tally {
         self.losses.bpdus(port)
     }
 
-    /// How many sources a bridge's learning table got no entry for, by cause (802.1Q clause 8.8).
+    /// Returns for how many sources a bridge's learning table got no entry, by cause (IEEE 802.1Q clause 8.8).
     pub fn sources_not_learnt(&self) -> CauseCounts
         ensures { result ≡ counts_of (flat_map unlearnt_by self.now) }
     {

@@ -1,11 +1,11 @@
-//! What a reader of lines holds, which no public call tells.
+//! Tests of how much memory a reader of lines takes, which no public call shows.
 
 use super::*;
 use std::io;
 use std::io::Read;
 use std::test::Fail;
 
-/// Gives one octet over and over.
+/// A reader that repeats one octet.
 #[derive(Drop)]
 struct Same {
     octet: u8,
@@ -23,6 +23,7 @@ impl Read for Same {
     }
 }
 
+/// Checks that the buffer of a line of 50,000,000 octets stays below 5,000 octets.
 #[test]
 fn holds_little_of_a_long_line(rt: HostRuntime) -> Result<(), Fail> {
     let mut reader = Same {

@@ -1,4 +1,4 @@
--- How octets that are put into a run add up.
+-- Octets that are copied into a run add up, for `put_part` and `Sender::stage`.
 use Rattle.std.proofs.Common.{◌≡◌, ℕ, zero, suc, ◌-◌, ◌≤◌, List, [], ◌∷◌, ◌++◌, length, take, drop, refl, sym, ap}
 use Rattle.std.proofs.Common.{◌∙◌, append_assoc, arith, ◌+◌, ◌<◌, Bool, length-drop, take-append-drop, slice_index_or}
 use Rattle.std.proofs.Math.Seq.{drop-append-add}
@@ -6,12 +6,12 @@ use Rattle.std.proofs.lemmas.List.{drop-append-le}
 use Rattle.pb_port.specs.declared.framing.Framing.{Framing}
 use Rattle.pb_port.specs.Spelling.{spelled, first_of, stream_of, stream_behind}
 
--- all elements
+-- taking all elements
 pub take_all : (n : ℕ) (xs : List ℕ) → n ≡ length xs → take n xs ≡ xs
 take_all n [] e = rw e refl
 take_all n (x ∷ xs) e = rw e (ap (λ z. x ∷ z) (take_all (length xs) xs refl))
 
--- the first of two lists' elements
+-- taking the first elements of two lists
 pub take_two : (n : ℕ) (xs ys : List ℕ) → take n (xs ++ ys) ≡ take n xs ++ take (n - length xs) ys
 take_two zero [] ys = refl
 take_two (suc n) [] ys =
@@ -24,7 +24,7 @@ take_two (suc n) (x ∷ xs) ys =
     let less : suc n - suc (length xs) ≡ n - length xs = omega arith in
     rw less (ap (λ z. x ∷ z) (take_two n xs ys))
 
--- a head, and then the frame in the room that is left
+-- a head, and then the frame in the remaining space
 pub head_then_frame : (front out head frame : List ℕ) (room left done : ℕ) → done ≤ length head
     → left ≡ room - length (drop done head)
     → out ≡ (front ++ take room (drop done head)) ++ take left frame
@@ -35,7 +35,7 @@ head_then_frame front out head frame room left done within less is =
     ∙ ap (λ k. take room (drop done head) ++ take k frame) (sym less) in
     is ∙ append_assoc front (take room (drop done head)) (take left frame) ∙ ap (λ z. front ++ z) (sym both)
 
--- what is left of a frame behind the whole head
+-- the remaining octets of a frame after the complete head
 pub frame_only : (head frame : List ℕ) (done : ℕ) → length head ≤ done
     → take (length frame - (done - length head)) (drop (done - length head) frame) ≡ drop done (head ++ frame)
 frame_only head frame done h =
@@ -45,7 +45,7 @@ frame_only head frame done h =
     take_all (length frame - (done - length head)) (drop (done - length head) frame)
     (sym (length-drop (done - length head) frame)) ∙ rest
 
--- what a frame and its head put behind the front is the next of the stream
+-- the copied octets of a head and a frame continue the stream
 pub put_next : (framing : Framing) (fresh : Bool) (stamp now done room : ℕ) (frames : List (List ℕ))
     (front out : List ℕ)
     → done ≤ length (spelled framing fresh stamp (first_of frames)) → 0 < length frames
@@ -62,7 +62,7 @@ put_next framing fresh stamp now done room (f ∷ fs) front out within some is =
     (take-append-drop room left)
     ∙ sym (drop-append-le done (spelled framing fresh stamp f) behind within))
 
--- the same behind what was written of the first frame
+-- the same after the written part of the first frame
 pub staged : (framing : Framing) (fresh : Bool) (stamp now done room : ℕ) (frames : List (List ℕ))
     (begun front out part total : List ℕ)
     → part ≡ spelled framing fresh stamp (first_of frames)
@@ -75,7 +75,7 @@ staged framing fresh stamp now done room frames begun front out part total spell
     ap (λ z. begun ++ z) (put_next framing fresh stamp now done room frames front out within some
     (is ∙ ap (λ z. front ++ take room (drop done z)) spells)) ∙ e
 
--- the frame at a position is the first from there on
+-- the frame at an index is the first from there on
 pub first_at : (frames : List (List ℕ)) (i : ℕ) (x : List ℕ) → i < length frames → x ≡ slice_index_or frames i x
     → first_of (drop i frames) ≡ x
 first_at [] i x h e = absurd (omega arith)

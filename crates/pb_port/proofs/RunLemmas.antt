@@ -1,4 +1,4 @@
--- The answers of successive polls are the reading of the input.
+-- The results of successive polls are the reading of the input, for `polls_spell_the_reading`.
 use Rattle.std.proofs.Common.{◌≡◌, ℕ, ◌+◌, List, [], ◌∷◌, ◌++◌, refl, sym, ap, ◌∙◌}
 use Rattle.std.proofs.Common.{subst, append_assoc, arith, Option}
 use Rattle.pb_port.specs.declared.fault.PortFault.{PortFault}
@@ -13,7 +13,7 @@ use Rattle.pb_port.specs.Whole.{Ends, IsStream}
 use Rattle.pb_port.specs.Runs.{IsRun, frames_in}
 use Rattle.pb_port.proofs.ReadingLemmas.{Passes-append, held_sum-twice}
 
--- parts for no frame in front of a reading
+-- parts without frames before a reading
 stream_behind_parts : (p q : StreamPosition) (m n : ℕ) (front ys : List ℕ) (fs : Frames) (fault : Option PortFault)
     → Passes p front q m → IsStream q ys fs n fault
     → IsStream p (front ++ ys) fs (m + n) fault

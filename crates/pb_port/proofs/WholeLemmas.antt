@@ -1,4 +1,4 @@
--- A stream has one reading: its parts are told by their lengths.
+-- A stream has one reading, because its parts are decided by their lengths: for `streams_have_one_reading`.
 use Rattle.std.proofs.Common.{◌≡◌, ℕ, zero, suc, ◌+◌, ◌<◌, ◌≤◌, false, nat_lt, List, [], ◌∷◌, ◌++◌, length, take}
 use Rattle.std.proofs.Common.{drop, refl, sym, ap, ◌∙◌, subst, append_assoc, arith, length-append, Option, Some, None}
 use Rattle.std.proofs.Common.{ne_eqb, eqb}
@@ -43,7 +43,7 @@ frame_same Lengths a b f g x y is is' e =
     let parts = append_parts a b x y (omega arith) e in
     (is.content ∙ ap (λ z. drop 2 z) parts.0 ∙ sym is'.content, parts.1)
 
--- a whole part has no fault
+-- a complete part has no fault
 header_sound : (order : ByteOrder) (a x : List ℕ) → IsHeader order a → fault_at Header (a ++ x) ≡ None
 header_sound order a x is =
     let long : nat_lt (length (a ++ x)) 24 ≡ false = le-ltb (length (a ++ x)) 24 (omega (arith, length-append a x)) in
@@ -78,7 +78,7 @@ frame_long Header a f is = absurd is
 frame_long (Records order) a f is = omega (arith, is.whole)
 frame_long Lengths a f is = omega arith
 
--- where the input ends or has a fault, no whole part stands
+-- if the input ends or has a fault, no complete part is at its front
 ends_short : (p : StreamPosition) (rest a x : List ℕ) (fault : Option PortFault) → Ends p rest fault → rest ≡ a ++ x → 0 < length a
     → fault_at p (a ++ x) ≡ None → ⊥
 ends_short p rest a x fault (here, none) e long sound =
@@ -86,7 +86,7 @@ ends_short p rest a x fault (here, none) e long sound =
     let empty : a ++ x ≡ [] = sym e ∙ none is_none in
     omega (arith, length-append a x, ap length empty)
 
--- no part for no frame stands at the front
+-- no part without a frame is at the front
 abbrev Stops : StreamPosition → List ℕ → Type 0
 Stops Header rest = (order : ByteOrder) (header more : List ℕ) → IsHeader order header → rest ≡ header ++ more → ⊥
 Stops (Records order) rest = (first more : List ℕ) → IsSkipped order first → rest ≡ first ++ more → ⊥
@@ -129,7 +129,7 @@ skips_same order (suc m) (suc n) xs ys rest rest' (first, more, is, left, parts)
     let next = skips_same order m n more more' rest rest' left left' stop stop' both.1 in
     (ap suc next.0, next.1)
 
--- two headers at one front, and the records behind them
+-- two headers at one front are the same, and so are the records after them
 headers_same : (o o' : ByteOrder) (m n : ℕ) (header header' xs ys rest rest' : List ℕ) → IsHeader o header
     → IsHeader o' header'
     → AreSkipped o m xs → AreSkipped o' n ys → Stops (Records o) rest → Stops (Records o') rest'
@@ -180,7 +180,7 @@ passes_same Lengths Lengths (Records o) m n xs ys rest rest' a b stop stop' e = 
 passes_same Lengths Header q' m n xs ys rest rest' a b stop stop' e = absurd a
 passes_same Lengths (Records o) q' m n xs ys rest rest' a b stop stop' e = absurd a
 
--- no frame stands where the other reading ends
+-- one reading cannot end at a position at which the other has a frame
 end_or_frame : (p q q' : StreamPosition) (m n : ℕ) (xs ys rest part rest' f : List ℕ) (fault : Option PortFault) → Passes p xs q m
     → Passes p ys q' n
     → Ends q rest fault → IsFrame q' part f → xs ++ rest ≡ ys ++ (part ++ rest') → ⊥

@@ -1,4 +1,4 @@
--- What is written is read as the same frames.
+-- What is written is read as the same frames, for `what_is_written_is_read`.
 use Rattle.std.proofs.Common.{◌≡◌, ℕ, ◌+◌, ◌<◌, true, false, List, [], ◌∷◌, ◌++◌, length, refl, arith, length-append}
 use Rattle.std.proofs.Common.{None}
 use Rattle.byteorder.specs.Endian.{big_number, big_bytes, little_bytes}
@@ -36,7 +36,7 @@ frame_written f short =
     omega (arith, length-append (big_bytes 2 (length f)) f) in
     record { long = omega arith; content = refl }
 
--- a frame with no part for none in front of it, and more behind
+-- a frame at the front, followed by more
 frame_first : (p q : StreamPosition) (front part rest f : List ℕ) (fs : Frames) → Passes p front q 0 → IsFrame q part f
     → IsStream q rest fs 0 None → IsStream p (front ++ (part ++ rest)) (f ∷ fs) 0 None
 frame_first p q front part rest f fs pass is left = (q, front, part, rest, 0, 0, pass, is, refl, left, refl)

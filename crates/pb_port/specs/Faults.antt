@@ -14,7 +14,7 @@ fault_number Read = 6
 fault_number Write = 7
 fault_number Memory = 8
 
--- a fault of the octets of an input: no call and no allocation failed
+-- a fault of the octets of an input, without a failed call or a failed allocation
 abbrev pub IsOfOctets : PortFault → Type 0
 IsOfOctets Read = ⊥
 IsOfOctets Write = ⊥

@@ -10,7 +10,7 @@ use Rattle.pb_port.specs.Ports.{Frames}
 use Rattle.pb_port.specs.Reading.{Polls, held_sum}
 use Rattle.pb_port.specs.Whole.{IsStream}
 
--- the frames among the answers, up to the end or a fault but a failed allocation
+-- the frames among the results, up to the end or a fault other than a failed allocation
 abbrev pub frames_in : List Polled → Frames
 frames_in [] = []
 frames_in (Frame f ∷ answers) = f ∷ frames_in answers
@@ -19,7 +19,7 @@ frames_in (End ∷ answers) = []
 frames_in (Fault Memory ∷ answers) = frames_in answers
 frames_in (Fault k ∷ answers) = []
 
--- each poll goes on where the one before stopped, and one of them tells the end, or this fault of the octets
+-- each poll continues at the position of the one before, and one of them returns the end, or this fault of the octets
 abbrev pub IsRun : List Polled → StreamPosition → List ℕ → ℕ → ℕ → Option PortFault → Type 0
 IsRun [] position octets skipped skipped' fault = ⊥
 IsRun (Frame f ∷ answers) position octets skipped skipped' fault =
@@ -37,7 +37,7 @@ IsRun (Fault k ∷ answers) position octets skipped skipped' fault =
     (p : StreamPosition) × (rest : List ℕ) × Polls (Fault k) position (Some octets) p (Some rest) skipped skipped'
     × IsOfOctets k × (fault ≡ Some k)
 
--- the answers of a run are the reading of its input
+-- the results of a run are the reading of its input
 abbrev pub RunsReadStreams : Type 0
 RunsReadStreams =
     (answers : List Polled) (position : StreamPosition) (octets : List ℕ) (skipped skipped' : ℕ) (fault : Option PortFault)

@@ -1,4 +1,4 @@
--- What times captures tell of frames.
+-- The times of frames in captures.
 use Rattle.std.specs.Prelude.{ℕ, ◌+◌, ◌*◌}
 use Rattle.pb_port.specs.declared.timescale.Timescale.{Timescale}
 

@@ -1,15 +1,15 @@
--- The reading of a whole input.
+-- The reading of a complete input.
 use Rattle.std.specs.Prelude.{◌≡◌, ℕ, ◌+◌, List, [], ◌∷◌, ◌++◌, Option, None}
 use Rattle.pb_port.specs.declared.fault.PortFault.{PortFault}
 use Rattle.pb_port.specs.declared.stream_position.StreamPosition.{StreamPosition}
 use Rattle.pb_port.specs.Ports.{Frames}
 use Rattle.pb_port.specs.Streams.{Passes, IsFrame, fault_at}
 
--- from this position on, the rest of the input is its end, or begins with this fault
+-- at this position the input ends, or the remaining octets have this fault
 abbrev pub Ends : StreamPosition → List ℕ → Option PortFault → Type 0
 Ends position rest fault = (fault_at position rest ≡ fault) × (fault ≡ None → rest ≡ [])
 
--- the input from a position on: its frames, in order, how many records are skipped in it, and its fault, or none at its end
+-- the reading of an input: its frames in order, the number of its skipped records, and its fault or its end
 abbrev pub IsStream : StreamPosition → List ℕ → Frames → ℕ → Option PortFault → Type 0
 IsStream position octets [] skipped fault =
     (position' : StreamPosition) × (front : List ℕ) × (rest : List ℕ) × Passes position front position' skipped

@@ -9,7 +9,7 @@ use Rattle.pb_port.specs.Ports.{Frames}
 use Rattle.pb_port.specs.Spelling.{spelled}
 use Rattle.pb_port.specs.Whole.{IsStream}
 
--- where a stream is read on, before its first frame was written and after
+-- the position of a reader, before the first frame was written and after it
 abbrev pub position_of : Framing → Bool → StreamPosition
 position_of Capture true = Header
 position_of Capture false = Records Little
@@ -29,7 +29,7 @@ abbrev pub AreShort : List (ℕ × List ℕ) → Type 0
 AreShort [] = ⊤
 AreShort ((micros, f) ∷ more) = (length f < 65536) × AreShort more
 
--- at least one frame as it is written is read as the same frames, with nothing skipped and no fault
+-- at least one frame that is written is read as the same frames, with nothing skipped and no fault
 abbrev pub WrittenIsRead : Type 0
 WrittenIsRead =
     (framing : Framing) (micros : ℕ) (f : List ℕ) (more : List (ℕ × List ℕ)) → AreShort ((micros, f) ∷ more)

@@ -2,31 +2,31 @@
 ghost use Rattle.std.specs.Prelude.{◌≡◌};
 ghost use Rattle.pb_port.specs.Faults.{fault_number};
 
-/// Names what is wrong with a port's input or output.
+/// A fault of a port's input or output.
 ///
-/// A poll returns each fault but `Write`, and a pump returns `Write` and `Memory` alone.
+/// A poll returns each fault but `Write`, and a pump returns only `Write` and `Memory`.
 #[derive(Clone, Copy, PartialEq, Eq, Debug)]
 pub enum PortFault {
-    /// A capture begins with no known magic number.
+    /// A capture without a known magic number.
     Magic,
-    /// A capture has another version than 2.4.
+    /// A capture of another version than 2.4.
     Version,
-    /// A capture has another link type than 1, Ethernet.
+    /// A capture of another link type than 1, Ethernet.
     LinkType,
-    /// The input ends inside a header, a record or a frame.
+    /// An input that ends inside a header, a record or a frame.
     Truncated,
-    /// A record has more than 262,144 captured octets.
+    /// A record of more than 262,144 captured octets.
     Oversize,
-    /// A read failed.
+    /// A read that failed.
     Read,
-    /// A write failed.
+    /// A write that failed.
     Write,
-    /// An allocation failed. The next call tries again, and no octet is lost.
+    /// An allocation that failed. The next call tries again, and no octet is lost.
     Memory,
 }
 
 impl PortFault {
-    /// Returns the number that names the fault in reports, 1 to 8.
+    /// Returns the number of the fault in reports, 1 to 8.
     pub fn number(self) -> u8
         ensures { result ≡ fault_number self }
     {

@@ -1,7 +1,8 @@
-//! Runs of octets that are gathered for one write.
+//! Octets that are gathered for one write.
 ghost use Rattle.std.specs.Prelude.{◌≡◌, ◌+◌, ◌-◌, ◌≤◌, ◌++◌, ℕ, List, length, take, drop, min};
 
-/// Puts octets into a run from an index on, as many as it has space for, and returns the index at which they end.
+/// Copies octets into a run from the index `at` on, as many as it has space for, and returns the index at which they
+/// end.
 fn put(run: &mut [u8], at: usize, octets: &[u8]) -> usize
     requires { at ≤ length run.old }
     ensures end { result ≡ at + min (length octets.now) (length run.old - at) }
@@ -12,8 +13,8 @@ fn put(run: &mut [u8], at: usize, octets: &[u8]) -> usize
     at + count
 }
 
-/// Puts a frame and its head into a run from an index on, without the octets that are done, as many as it has space
-/// for, and returns the index at which they end.
+/// Copies a head and a frame into a run from the index `at` on, without their first `done` octets, as many as it has
+/// space for, and returns the index at which they end.
 pub(crate) fn put_part(run: &mut [u8], at: usize, head: &[u8], frame: &[u8], done: usize) -> usize
     requires at { at ≤ length run.old }
     requires done { done ≤ length head.now + length frame.now }

@@ -1,4 +1,4 @@
-//! Which part begins at the front of a capture file's or a socket stream's octets.
+//! The part at the front of the octets of a capture file or a socket stream.
 ghost use Rattle.std.specs.Prelude.{◌≡◌, ◌+◌, ◌<◌, ◌≤◌, ◌^◌, ℕ, List, length, take, drop, MatchResult, Some, None};
 ghost use Rattle.pb_port.specs.Streams.{number, byte_order_of, captured, original, header_fault, fault_at, unfinished};
 ghost use Rattle.pb_port.specs.Streams.{Shows};
@@ -8,42 +8,42 @@ ghost use Rattle.byteorder.specs.Endian.{big_number};
 use crate::fault::PortFault;
 use byteorder::{BigEndian, ByteOrder as _, LittleEndian};
 
-/// Orders the octets of a number.
+/// The order of the octets of a number.
 #[derive(Clone, Copy, Debug, PartialEq, Eq)]
 pub enum ByteOrder {
-    /// The highest octet comes first.
+    /// Big-endian: the highest octet comes first.
     Big,
-    /// The lowest octet comes first.
+    /// Little-endian: the lowest octet comes first.
     Little,
 }
 
-/// Locates a reader in its stream, between whole parts.
+/// The position of a reader in its stream, between complete parts.
 #[derive(Clone, Copy, Debug, PartialEq, Eq)]
 pub enum StreamPosition {
-    /// Before a capture's header.
+    /// The position before a capture's header.
     Header,
-    /// Before a record of a capture.
+    /// The position before a record of a capture.
     Records(ByteOrder),
-    /// Before a frame of a socket.
+    /// The position before a frame of a socket.
     Lengths,
 }
 
-/// Describes the part at the front of some octets.
+/// The part at the front of some octets.
 #[derive(Clone, Copy, Debug, PartialEq, Eq)]
 pub(crate) enum Look {
-    /// No whole part.
+    /// No complete part.
     Short,
     /// A capture's header.
     Header(ByteOrder),
-    /// A record that is skipped, of so many octets.
+    /// A record that is skipped, with its number of octets.
     Skipped(usize),
-    /// A frame after a head of so many octets, and the octets of both.
+    /// A frame: the octets of its head, and those of head and frame.
     Frame(usize, usize),
-    /// No part, whatever follows.
+    /// A fault, whatever follows.
     Fault(PortFault),
 }
 
-/// Reads the number in the four octets from an index on.
+/// Reads the number in the four octets from the index `at` on.
 fn number_at(order: ByteOrder, octets: &[u8], at: usize) -> u32
     requires { at + 4 ≤ length octets.now }
     ensures { result ≡ number order 4 (drop at octets.now) }
@@ -55,7 +55,7 @@ fn number_at(order: ByteOrder, octets: &[u8], at: usize) -> u32
     }
 }
 
-/// Reads the number in the two octets from an index on.
+/// Reads the number in the two octets from the index `at` on.
 fn half_at(order: ByteOrder, octets: &[u8], at: usize) -> u16
     requires { at + 2 ≤ length octets.now }
     ensures { result ≡ number order 2 (drop at octets.now) }
@@ -67,7 +67,7 @@ fn half_at(order: ByteOrder, octets: &[u8], at: usize) -> u16
     }
 }
 
-/// Returns the byte order that a magic gives, read the highest octet first.
+/// Returns the byte order of a magic number, which is read big-endian, if it is known.
 fn read_byte_order(magic: u32) -> Option<ByteOrder>
     ensures { result ≡ byte_order_of magic }
 {
@@ -78,7 +78,12 @@ fn read_byte_order(magic: u32) -> Option<ByteOrder>
     }
 }
 
-/// Returns the byte order of a header, or what is wrong with it.
+/// Returns the byte order of a header.
+///
+/// # Errors
+///
+/// `Magic` if the magic number is not known, otherwise `Version` if the version is not 2.4, otherwise `LinkType` if
+/// the link type is not 1.
 fn read_header(octets: &[u8]) -> Result<ByteOrder, PortFault>
     requires { 24 ≤ length octets.now }
     ensures { MatchResult result
@@ -97,7 +102,7 @@ fn read_header(octets: &[u8]) -> Result<ByteOrder, PortFault>
     Ok(order)
 }
 
-/// Checks the front for a capture's header.
+/// Checks for a capture's header at the front of the octets.
 fn look_header(octets: &[u8]) -> Look
     ensures { Shows StreamPosition.Header octets.now result }
 {
@@ -110,7 +115,7 @@ fn look_header(octets: &[u8]) -> Look
     }
 }
 
-/// Checks the front for a record of a capture.
+/// Checks for a record of a capture at the front of the octets.
 fn look_record(order: ByteOrder, octets: &[u8]) -> Look
     ensures { Shows (StreamPosition.Records order) octets.now result }
 {
@@ -131,7 +136,7 @@ fn look_record(order: ByteOrder, octets: &[u8]) -> Look
     Look::Frame(16, whole)
 }
 
-/// Checks the front for a frame of a socket.
+/// Checks for a frame of a socket at the front of the octets.
 fn look_length(octets: &[u8]) -> Look
     ensures { Shows StreamPosition.Lengths octets.now result }
 {
@@ -145,7 +150,7 @@ fn look_length(octets: &[u8]) -> Look
     Look::Frame(2, whole)
 }
 
-/// Checks which part begins at the front.
+/// Checks which part is at the front of the octets.
 pub(crate) fn look_at(position: StreamPosition, octets: &[u8]) -> Look
     ensures { Shows position octets.now result }
 {

@@ -1,8 +1,8 @@
-//! The times that captures give of frames.
+//! The times of frames in captures.
 
 ghost use Rattle.std.specs.Prelude.{◌≡◌, ◌≤◌, ◌<◌, ◌^◌};
 
-/// Converts ticks to times: the microseconds at tick 0, and those of a tick.
+/// The relation of ticks and times: the microseconds at tick 0, and those of a tick.
 #[derive(Clone, Copy)]
 pub struct Timescale {
     /// The microseconds at tick 0, less than 2^62.
@@ -16,7 +16,7 @@ pub struct Timescale {
 impl Timescale {
     ghost use Rattle.pb_port.specs.Timescales.{micros_at};
 
-    /// Creates the scale on which a tick is a second, and tick 0 is second 0.
+    /// Returns the scale on which a tick is a second, and tick 0 is second 0.
     pub fn ticks() -> Timescale
         ensures { (result.start ≡ 0) × (result.tick ≡ 1000000) }
     {
@@ -26,7 +26,7 @@ impl Timescale {
         }
     }
 
-    /// Returns the microseconds after so many ticks.
+    /// Returns the microseconds after `ticks` ticks.
     pub fn micros(self, ticks: u32) -> u64
         ensures { result ≡ micros_at self ticks }
     {

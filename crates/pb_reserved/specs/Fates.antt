@@ -1,10 +1,10 @@
--- The fate of a destination address.
+-- Handling of a frame by its destination address.
 use Rattle.std.specs.Prelude.{ℕ, List, slice_index, if◌then◌else◌}
 use Rattle.pb_frame.specs.Admission.{same, is_reserved, provider_address}
 use Rattle.pb_reserved.specs.declared.kinds.Fate.{Fate}
 use Rattle.pb_reserved.specs.declared.kinds.Fate.TheVariants.{Carry, Provider, Filter}
 
--- frames for the provider's bridges are theirs, and those for another reserved address go nowhere
+-- the provider address is for the bridges themselves, any other reserved address is filtered, all others are relayed
 abbrev pub fate_of : List ℕ → Fate
 fate_of mac =
     if same mac provider_address then Provider

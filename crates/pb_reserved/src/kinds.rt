@@ -1,12 +1,12 @@
-//! The fates of a frame.
+//! What a bridge does with a frame by its destination.
 
-/// What becomes of a frame at a port of a provider bridge, by its destination address.
+/// What a port of a provider bridge does with a frame, by its destination address.
 #[derive(Clone, Copy, Debug, PartialEq, Eq)]
 pub enum Fate {
-    /// It is carried, as customer data or as any other frame.
+    /// A frame that is relayed, as customer data or as any other frame.
     Carry,
-    /// It is for the provider bridges themselves: 01-80-C2-00-00-08, the provider bridge group address.
+    /// A frame for the provider bridges themselves, to the provider bridge group address 01-80-C2-00-00-08.
     Provider,
-    /// No provider bridge carries it: the address is another reserved one, 01-80-C2-00-00 with this last octet.
+    /// A frame that no provider bridge relays, to another reserved address 01-80-C2-00-00-XX, with its last octet.
     Filter(u8),
 }

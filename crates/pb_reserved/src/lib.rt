@@ -1,5 +1,5 @@
-//! What becomes of a frame at a port of a provider bridge by its destination alone: the reserved
-//! addresses 01-80-C2-00-00-00 to -0F (IEEE 802.1Q clause 8, reserved addresses of an S-VLAN component).
+//! How a provider bridge handles a frame by its destination alone: the reserved addresses 01-80-C2-00-00-00 to -0F
+//! (IEEE 802.1Q clause 8, reserved addresses of an S-VLAN component). It builds on pb_frame. Begin with [`fate`].
 #![tactic(auto)]
 
 mod kinds;

@@ -1,4 +1,4 @@
-//! The fate of a destination.
+//! Handling by destination address.
 
 ghost use Rattle.std.specs.Prelude.{◌≡◌};
 ghost use Rattle.pb_reserved.specs.Fates.{fate_of};
@@ -6,8 +6,8 @@ ghost use Rattle.pb_reserved.specs.Fates.{fate_of};
 use crate::kinds::Fate;
 use pb_frame::Mac;
 
-/// The fate of a frame with this destination (IEEE 802.1Q clause 8, reserved addresses of an S-VLAN
-/// component). Takes no memory and refuses nothing.
+/// Returns what a provider bridge does with a frame to this destination (IEEE 802.1Q clause 8, reserved addresses of
+/// an S-VLAN component). Allocates nothing.
 pub fn fate(destination: Mac) -> Fate
     ensures { result ≡ fate_of destination.0 }
 {

@@ -11,8 +11,8 @@ use pb_lan::Item;
 use rtrb::{Consumer, Producer};
 use std::marker::{Brand, PhantomData};
 
-/// The rings of a run, by number, whether the places between them keep their steps, and whether ports may be set up and
-/// down meanwhile. Who makes the rings picks all three.
+/// The wiring of a run as a type: its rings by number, whether the places between them keep their steps, and whether
+/// ports may be disabled and enabled during the run. The maker of the rings decides all three.
 pub trait Wiring {
     ghost rings: { List (RingName Global) };
 
@@ -32,7 +32,7 @@ impl Wiring for Brand {
 /// The end of a ring through which items are sent.
 #[derive(Drop)]
 pub struct Outlet<W: Wiring> {
-    /// The end itself.
+    /// The sending end.
     pub end: Producer<Item>,
     /// The number of the ring.
     pub number: usize,
@@ -43,7 +43,7 @@ pub struct Outlet<W: Wiring> {
 /// The end of a ring through which items are received.
 #[derive(Drop)]
 pub struct Inlet<W: Wiring> {
-    /// The end itself.
+    /// The receiving end.
     pub end: Consumer<Item>,
     /// The number of the ring.
     pub number: usize,
@@ -52,7 +52,7 @@ pub struct Inlet<W: Wiring> {
 }
 
 impl<W: Wiring> Outlet<W> {
-    /// The sending end of the ring of this number. Takes no memory.
+    /// Wraps the sending end of the ring with this number. Allocates nothing.
     pub fn new(end: Producer<Item>, number: usize) -> Outlet<W>
         requires { slice_get W.rings number ≡ Some (writer_name end) }
         ensures end { result.end ≡ end }
@@ -65,7 +65,7 @@ impl<W: Wiring> Outlet<W> {
         }
     }
 
-    /// Whether there is room for one more item. The other end may make more at any time.
+    /// Checks whether the ring has space for one more item. The other end may free space at any time.
     pub fn has_room(&mut self) -> bool
         ensures room { IsTrue result ↔ (0 < known_free self.new.end) }
         ensures sent { sent self.new.end ≡ sent self.old.end }
@@ -74,7 +74,7 @@ impl<W: Wiring> Outlet<W> {
         !self.end.is_full()
     }
 
-    /// Sends an item into the room that is there for it. Takes no memory.
+    /// Sends an item, for which the ring has space. Allocates nothing.
     pub fn push(&mut self, item: Item)
         requires { 0 < known_free self.old.end }
         ensures sent { sent self.new.end ≡ sent self.old.end ++ item ∷ [] }
@@ -85,7 +85,7 @@ impl<W: Wiring> Outlet<W> {
 }
 
 impl<W: Wiring> Inlet<W> {
-    /// The receiving end of the ring of this number. Takes no memory.
+    /// Wraps the receiving end of the ring with this number. Allocates nothing.
     pub fn new(end: Consumer<Item>, number: usize) -> Inlet<W>
         requires { slice_get W.rings number ≡ Some (reader_name end) }
         ensures end { result.end ≡ end }
@@ -98,7 +98,7 @@ impl<W: Wiring> Inlet<W> {
         }
     }
 
-    /// Whether an item was sent and not yet received. The other end may send one at any time.
+    /// Checks whether an item was sent and not yet received. The other end may send one at any time.
     pub fn has_item(&mut self) -> bool
         ensures item { IsTrue result ↔ (0 < length (known_items self.new.end)) }
         ensures received { received self.new.end ≡ received self.old.end }
@@ -107,8 +107,8 @@ impl<W: Wiring> Inlet<W> {
         !self.end.is_empty()
     }
 
-    /// The oldest item that was sent and not yet received. `None` is answered where there is none; the
-    /// other end may send one at any time.
+    /// Receives the oldest item that was sent and not yet received, or `None` if there is none. The other end may
+    /// send one at any time.
     pub fn pop(&mut self) -> Option<Item>
         ensures received { received self.new.end ≡ received self.old.end ++ option_to_list result }
         ensures none { result ≡ None → known_items self.new.end ≡ [] }
@@ -119,8 +119,8 @@ impl<W: Wiring> Inlet<W> {
     }
 }
 
-/// Both ends of one ring in one thread: what was received is a beginning of what was sent. Nothing is
-/// received or sent here.
+/// Shows for both ends of one ring in one thread that the received items are a beginning of the sent ones. It sends
+/// and receives nothing.
 pub fn meet<W: Wiring>(inlet: &mut Inlet<W>, outlet: &mut Outlet<W>)
     requires { inlet.old.number ≡ outlet.old.number }
     ensures begins { IsBeginning (received inlet.old.end) (sent outlet.old.end) }

@@ -1,8 +1,8 @@
-//! The rings between the places of a network whose workers run in threads of their own.
+//! The rings between the places of a network whose workers run in threads. It builds on pb_lan and rtrb.
 //!
-//! A place owns ends of rings and nothing else that another place sees. Each end knows by its type which
-//! ring it belongs to, so that the two ends of a ring may go to two threads and come back by any way:
-//! where they meet again, what came out is known to be a beginning of what went in.
+//! A place owns ends of rings, and shares nothing else with other places. The type of an end and its number determine
+//! the ring. The two ends of a ring may move between threads. If they meet again in one thread, the received items
+//! are a beginning of the sent ones. Begin with [`Outlet`], [`Inlet`] and [`meet`].
 #![tactic(auto)]
 
 mod ends;

@@ -1,4 +1,4 @@
-//! The many ring ends of a bridge, by place.
+//! The ring ends of a bridge, by index.
 
 ghost use Rattle.std.specs.Prelude.{◌≡◌, ◌<◌, ◌++◌, ◌∷◌, [], ◌↔◌, ◌==◌, ℕ, IsTrue, None, if◌then◌else◌};
 ghost use Rattle.std.specs.Prelude.{length, map, vec_len, slice_index_or, option_to_list};
@@ -9,22 +9,23 @@ ghost use Rattle.pb_ring.specs.Rings.{shown_at};
 use crate::ends::{Inlet, Outlet, Wiring, meet};
 use pb_lan::Item;
 
-/// The ends through which a bridge receives, by place. The first place is 0.
+/// The ends through which a bridge receives, by index.
 #[derive(Drop)]
 pub struct Inlets<W: Wiring> {
-    /// The ends.
+    /// The receiving ends. The first index is 0.
     pub ends: Vec<Inlet<W>>,
 }
 
-/// The ends through which a bridge sends, by place. The first place is 0.
+/// The ends through which a bridge sends, by index.
 #[derive(Drop)]
 pub struct Outlets<W: Wiring> {
-    /// The ends.
+    /// The sending ends. The first index is 0.
     pub ends: Vec<Outlet<W>>,
 }
 
 impl<W: Wiring> Inlets<W> {
-    /// Whether an item was sent to a place and not yet received. The other end may send one at any time.
+    /// Checks whether an item was sent to the end at index `place` and not yet received. The other end may send one
+    /// at any time.
     pub fn has_item(&mut self, place: usize) -> bool
         requires { place < vec_len self.old.ends }
         ensures item { IsTrue result ↔ (0 < length (shown_at (λ i. known_items i.end) self.new.ends.items place)) }
@@ -36,8 +37,8 @@ impl<W: Wiring> Inlets<W> {
         self.ends[place].has_item()
     }
 
-    /// The oldest item that was sent to a place and not yet received. `None` is answered where there is
-    /// none; the other end may send one at any time.
+    /// Receives the oldest item that was sent to the end at index `place` and not yet received, or `None` if there is
+    /// none. The other end may send one at any time.
     pub fn pop(&mut self, place: usize) -> Option<Item>
         requires { place < vec_len self.old.ends }
         ensures received { (p : ℕ) → shown_at (λ i. received i.end) self.new.ends.items p
@@ -50,8 +51,8 @@ impl<W: Wiring> Inlets<W> {
         self.ends[place].pop()
     }
 
-    /// Both ends of one ring in one thread, the receiving one at a place: what was received there is a
-    /// beginning of what was sent. Nothing is received or sent here.
+    /// Shows for both ends of one ring in one thread, the receiving one at index `place`, that the received items are
+    /// a beginning of the sent ones. It sends and receives nothing.
     pub fn meet(&mut self, place: usize, outlet: &mut Outlet<W>)
         requires place { place < vec_len self.old.ends }
         requires same { slice_index_or (map (λ i. i.number) self.old.ends.items) place 0 ≡ outlet.old.number }
@@ -68,7 +69,8 @@ impl<W: Wiring> Inlets<W> {
 }
 
 impl<W: Wiring> Outlets<W> {
-    /// Whether there is room for one more item at a place. The other end may make more at any time.
+    /// Checks whether the ring of the end at index `place` has space for one more item. The other end may free space
+    /// at any time.
     pub fn has_room(&mut self, place: usize) -> bool
         requires { place < vec_len self.old.ends }
         ensures room { IsTrue result ↔ (0 < slice_index_or (map (λ o. known_free o.end) self.new.ends.items) place 0) }
@@ -79,7 +81,7 @@ impl<W: Wiring> Outlets<W> {
         self.ends[place].has_room()
     }
 
-    /// Sends an item at a place, into the room that is there for it. Takes no memory.
+    /// Sends an item through the end at index `place`, whose ring has space for it. Allocates nothing.
     pub fn push(&mut self, place: usize, item: Item)
         requires place { place < vec_len self.old.ends }
         requires room { 0 < slice_index_or (map (λ o. known_free o.end) self.old.ends.items) place 0 }
@@ -91,8 +93,8 @@ impl<W: Wiring> Outlets<W> {
         self.ends[place].push(item);
     }
 
-    /// Both ends of one ring in one thread, the sending one at a place: what was received is a beginning
-    /// of what was sent there. Nothing is received or sent here.
+    /// Shows for both ends of one ring in one thread, the sending one at index `place`, that the received items are a
+    /// beginning of the sent ones. It sends and receives nothing.
     pub fn meet(&mut self, place: usize, inlet: &mut Inlet<W>)
         requires place { place < vec_len self.old.ends }
         requires same { slice_index_or (map (λ o. o.number) self.old.ends.items) place 0 ≡ inlet.old.number }

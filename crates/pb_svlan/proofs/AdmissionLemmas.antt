@@ -1,10 +1,10 @@
--- What is refused is what is not admitted.
+-- A frame is refused exactly if it is not admitted, for `enter`.
 use Rattle.std.proofs.Common.{◌≡◌, ℕ, Bool, true, false, not, List, [], ◌∷◌, None, refl, ap}
 use Rattle.std.specs.List.{list_any}
 use Rattle.pb_frame.specs.Admission.{is_admitted, refusal, admission_cases, first_reason}
 use Rattle.pb_frame.specs.declared.reason.Reason.{Reason}
 
--- no case has a reason where none holds
+-- `first_reason` finds no reason only if no condition is true
 none-first : (cs : List (Bool × Reason)) → first_reason cs ≡ None → list_any (λ c. c.0) cs ≡ false
 none-first [] h = refl
 none-first ((true, r) ∷ cs) h = cc

@@ -1,4 +1,4 @@
--- Services and ports as lists.
+-- Services and ports as lists, for the functions of `services`.
 use Rattle.std.proofs.lemmas.Bool.{ne_eqb, or_parts}
 use Rattle.std.proofs.lemmas.Bool.Decides.{nat_tests}
 use Rattle.std.specs.Option.{option_map}
@@ -14,7 +14,7 @@ use Rattle.std.proofs.Common.{refl, sym, ap, ◌∙◌, arith}
 use Rattle.std.specs.List.{list_any, filter, AllByRecursion}
 use Rattle.std.specs.Map.{keys_of, values_of}
 
--- a test of keys is a test of pairs
+-- a test of the keys of a map is a test of its entries
 pub list_any-keys : {K X : Type 0} (p : K → Bool) (es : List (K × X))
     → list_any p (keys_of es) ≡ list_any (λ e. p e.0) es
 list_any-keys p [] = refl
@@ -25,7 +25,7 @@ pub list_any-values : {K X : Type 0} (p : X → Bool) (es : List (K × X))
 list_any-values p [] = refl
 list_any-values p (e ∷ es) = ap (λ b. p e.1 || b) (list_any-values p es)
 
--- a service with a new VID goes last
+-- a service with a new VID is inserted last
 pub insert_entry-last : {X : Type 0} (eq : ℕ → ℕ → Bool) → ((a b : ℕ) → eq a b ≡ (b == a))
     → (es : List (ℕ × X)) (k : ℕ) (v : X)
     → list_any (λ e. e.0 == k) es ≡ false → insert_entry eq es k v ≡ es ++ (k, v) ∷ []
@@ -34,14 +34,14 @@ insert_entry-last eq same (e ∷ es) k v h =
     ap (λ b. cond b ((e.0, v) ∷ es) (e ∷ insert_entry eq es k v)) (same k e.0 ∙ (or_parts (e.0 == k) _ h).0)
     ∙ ap (λ zs. e ∷ zs) (insert_entry-last eq same es k v (or_parts (e.0 == k) _ h).1)
 
--- a port's place is one of its list's
+-- the index of insertion is within the list
 pub place_of-within : (port : ℕ) (ports : List Attachment) → place_of port ports ≤ length ports
 place_of-within port [] = omega arith
 place_of-within port (a ∷ others) =
     elim (nat_lt a.port port) as (λ b. cond b (suc (place_of port others)) 0 ≤ suc (length others))
     [ true ↦ omega (arith, place_of-within port others) | false ↦ omega arith ]
 
--- what all ports keep, and one more, all keep where it goes
+-- what holds for all ports and for one more holds for all after it is inserted
 All-placed : (P : ℕ → Type 0) (ports : List Attachment) (a : Attachment) → AllByRecursion P (map (λ a. a.port) ports)
     → P a.port
     → AllByRecursion P (map (λ a. a.port) (insert ports (place_of a.port ports) a))
@@ -51,7 +51,7 @@ All-placed P (b ∷ others) a all h =
     (λ t. AllByRecursion P (map (λ a. a.port) (insert (b ∷ others) (cond t (suc (place_of a.port others)) 0) a)))
     [ true ↦ (all.0, All-placed P others a all.1 h) | false ↦ (h, all) ]
 
--- ports that are ascending stay so
+-- ascending ports are ascending after an insertion
 pub ascending-placed : (ports : List Attachment) (a : Attachment) → Rises (map (λ a. a.port) ports)
     → kind_in ports a.port ≡ None
     → Rises (map (λ a. a.port) (insert ports (place_of a.port ports) a))
@@ -88,7 +88,7 @@ ascending-placed (b ∷ others) a rise none =
     above : (m n : ℕ) → nat_lt m n ≡ false → (m == n) ≡ false → n < m
     above m n h k = grind (arith, nat_tests)
 
--- and so do some of them
+-- what holds for all ports holds for those that a filter keeps
 All-some : (P : ℕ → Type 0) (p : Attachment → Bool) (ports : List Attachment)
     → AllByRecursion P (map (λ a. a.port) ports) → AllByRecursion P (map (λ a. a.port) (filter p ports))
 All-some P p [] all = tt
@@ -106,14 +106,14 @@ ascending-some p (a ∷ others) rise =
           others rise.1
     ]
 
--- ports with one more in its place
+-- ports with one more at its place are ascending, for `attach`
 pub ascending-attached : (ports others : List Attachment) (a : Attachment) → Rises (map (λ a. a.port) ports)
     → is_some (kind_in ports a.port) ≡ false
     → others ≡ insert ports (place_of a.port ports) a → Rises (map (λ a. a.port) others)
 ascending-attached ports others a rise free h =
     rw h (ascending-placed ports a rise (none_from (kind_in ports a.port) free))
 
--- where a port stands in its place among ascending ones, it is what is found
+-- the port at its own index among ascending ports is the one that a search finds, for `kind_at`
 pub found-there : (ports : List Attachment) (i port : ℕ) (a : Attachment) → Rises (map (λ a. a.port) ports)
     → i < length ports → a ≡ get_or ports i a → a.port ≡ port
     → kind_in ports port ≡ Some a.kind

@@ -1,4 +1,4 @@
--- The services of a bridge, and what its ports are in them.
+-- The services of a bridge, and the roles of its ports in them.
 use Rattle.std.specs.Prelude.{ℕ, zero, suc, Bool, true, false, List, [], ◌∷◌, Some, None, slice_get, insert, map, is_some, unwrap_or, nat_lt, ◌==◌, if◌then◌else◌}
 use Rattle.std.specs.declared.option.Option.{Option}
 use Rattle.std.specs.List.{filter, list_any, list_all}
@@ -14,26 +14,26 @@ pub record ServiceTable : Type 0 where
   pub services : List (ℕ × List ℕ)
   pub ports : List Attachment
 
--- the service of this number: services are numbered from 1
+-- the service with this number, counted from 1
 abbrev pub numbered : ServiceTable → ℕ → Option (ℕ × List ℕ)
 numbered table zero = None
 numbered table (suc n) = slice_get table.services n
 
--- its VID
+-- the VID of the service with this number
 abbrev pub vid_of : ServiceTable → ℕ → Option ℕ
 vid_of table number = option_map (λ s. s.0) (numbered table number)
 
 abbrev pub is_known : ServiceTable → ℕ → Bool
 is_known table number = is_some (vid_of table number)
 
--- a service has this name, or this VID
+-- a service has this name
 abbrev pub has_name : ServiceTable → List ℕ → Bool
 has_name table name = list_any (λ s. same s.1 name) table.services
 
 abbrev pub has_vid : ServiceTable → ℕ → Bool
 has_vid table vid = list_any (λ s. s.0 == vid) table.services
 
--- what the port is: a customer port of one service, a port to other bridges, or nothing
+-- the role of the port, if it has one: a customer port of one service, or a port to other bridges
 abbrev pub kind_in : List Attachment → ℕ → Option PortKind
 kind_in ports port = option_map (λ a. a.kind) (first (λ a. a.port == port) ports)
 
@@ -43,12 +43,12 @@ kind_at table port = kind_in table.ports port
 abbrev pub is_taken : ServiceTable → ℕ → Bool
 is_taken table port = is_some (kind_at table port)
 
--- a port to other bridges carries these services, or each one
+-- a port to other bridges carries the service with this VID: `None` is all services
 abbrev pub carries : ServiceTable → ℕ → Option (List ℕ) → Bool
 carries table vid None = has_vid table vid
 carries table vid (Some vids) = list_any (λ v. v == vid) vids
 
--- a port of this kind is a member of the service with this VID
+-- a port with this role is a member of the service with this VID
 abbrev pub is_member_as : ServiceTable → ℕ → PortKind → Bool
 is_member_as table vid (Customer join) = join.vid == vid
 is_member_as table vid (Trunk vids) = carries table vid vids
@@ -56,7 +56,7 @@ is_member_as table vid (Trunk vids) = carries table vid vids
 abbrev pub is_member : ServiceTable → ℕ → ℕ → Bool
 is_member table port vid = unwrap_or (option_map (is_member_as table vid) (kind_at table port)) false
 
--- the members of the service, ascending
+-- the ports that are members of the service, ascending
 abbrev pub ports_of : ServiceTable → ℕ → List ℕ
 ports_of table vid = map (λ a. a.port) (filter (λ a. is_member_as table vid a.kind) table.ports)
 
@@ -84,25 +84,25 @@ vid_in (Some kind) = vid_as kind
 abbrev pub vid_at : ServiceTable → ℕ → Option ℕ
 vid_at table port = vid_in (kind_at table port)
 
--- the VIDs of the services of these numbers
+-- the VIDs of the services with these numbers
 abbrev pub vids_of : ServiceTable → List ℕ → List ℕ
 vids_of table numbers = map (λ n. unwrap_or (vid_of table n) 0) numbers
 
--- and those that a port to other bridges carries
+-- the VIDs that a port to other bridges carries
 abbrev pub carried : ServiceTable → Option (List ℕ) → Option (List ℕ)
 carried table None = None
 carried table (Some numbers) = Some (vids_of table numbers)
 
--- each number is a service's
+-- each of the numbers is that of a service
 abbrev pub are_known : ServiceTable → Option (List ℕ) → Bool
 are_known table None = true
 are_known table (Some numbers) = list_all (is_known table) numbers
 
--- where a port goes, so that the ports stay ascending
+-- the index at which a port is inserted to keep the ports ascending
 abbrev pub place_of : ℕ → List Attachment → ℕ
 place_of port [] = 0
 place_of port (a ∷ others) = if nat_lt a.port port then suc (place_of port others) else 0
 
--- the table with one port more
+-- the table with one more port
 abbrev pub attached : ServiceTable → ℕ → PortKind → ServiceTable
 attached table port kind = record table { ports = insert table.ports (place_of port table.ports) (record { port = port; kind = kind }) }

@@ -1,4 +1,4 @@
-//! Frames from customers.
+//! Admission of customers' frames.
 
 ghost use Rattle.std.specs.Prelude.{◌≡◌, ◌≤◌, length};
 ghost use Rattle.pb_frame.specs.Admission.{most_octets, refusal};
@@ -12,7 +12,7 @@ use pb_frame::{
 };
 use pb_reserved::{Fate, fate};
 
-/// The most octets of a frame from a customer.
+/// Returns the most octets of this customer's frame: 1,996 with a priority tag, 1,992 without.
 fn most_octets(frame: &[u8]) -> usize
     ensures { result ≡ most_octets frame.now }
 {
@@ -23,7 +23,7 @@ fn most_octets(frame: &[u8]) -> usize
     }
 }
 
-/// A service tag's type stands in the frame less its priority tag.
+/// Checks whether the frame, without its priority tag, has the type of a service tag.
 fn has_inner_type(frame: &[u8]) -> bool
     ensures { result ≡ has_service_type (bare frame.now) }
 {
@@ -34,7 +34,7 @@ fn has_inner_type(frame: &[u8]) -> bool
     }
 }
 
-/// The last octet of a reserved destination.
+/// Returns the last octet of the destination, if it is reserved.
 fn reserved_octet(frame: &[u8]) -> Option<u8>
     requires { shortest_frame ≤ length frame.now }
     ensures { result ≡ reserved_octet frame.now }
@@ -46,12 +46,12 @@ fn reserved_octet(frame: &[u8]) -> Option<u8>
     }
 }
 
-/// Why a customer's frame is refused, if it is (IEEE 802.1ad clause 9): the first that fits. Takes no
-/// memory.
+/// Returns the first reason to refuse a customer's frame, or `None` if it is admitted (IEEE 802.1ad clause 9).
+/// Allocates nothing.
 ///
-/// `Malformed` is answered under 14 octets, else `Long` over 1,992 (1,996 with a priority tag), else
-/// `Reserved` for a reserved destination, else `STagged` where a service tag's type stands behind the
-/// addresses of the frame without its priority tag.
+/// `Malformed` if the frame has fewer than 14 octets, otherwise `Long` if it has more than 1,992 (1,996 with a
+/// priority tag), otherwise `Reserved` if its destination is reserved, otherwise `STagged` if the type of a service
+/// tag follows the addresses of the frame without its priority tag.
 pub fn refusal(frame: &[u8]) -> Option<Reason>
     ensures { result ≡ refusal frame.now }
 {

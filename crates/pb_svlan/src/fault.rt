@@ -1,4 +1,4 @@
-//! Why services or ports are refused.
+//! Faults of adding services and ports.
 
 ghost use Rattle.std.specs.Prelude.{◌≡◌};
 ghost use Rattle.pb_svlan.specs.declared.fault.AddFault.{AddFault};
@@ -9,15 +9,19 @@ ghost use Rattle.pb_svlan.specs.declared.fault.JoinFault.TheVariants.{Memory as 
 use std::alloc::{AllocError, AllocFailed};
 use thiserror::Error;
 
-/// Why a service was not added: the first that fits.
+/// The fault of a service that was not added: the first that applies.
 #[derive(Clone, Copy, Debug, PartialEq, Eq, Error)]
 pub enum AddFault {
+    /// A name that another service has.
     #[error("another service has the name")]
     TakenName,
+    /// A VID that another service has.
     #[error("another service has the VID")]
     TakenVid,
+    /// One more service than the 64 that a bridge may have.
     #[error("there are 64 services")]
     TooMany,
+    /// An allocation that failed.
     #[error("out of memory")]
     Memory,
 }
@@ -38,13 +42,16 @@ impl<T: Drop> From<AllocFailed<T>> for AddFault {
     }
 }
 
-/// Why a port was not made a member: the first that fits.
+/// The fault of a port that was not made a member: the first that applies.
 #[derive(Clone, Copy, Debug, PartialEq, Eq, Error)]
 pub enum JoinFault {
+    /// A number that no service has.
     #[error("no service has the number")]
     NoService,
+    /// A port that has a role already.
     #[error("the port is something already")]
     Taken,
+    /// An allocation that failed.
     #[error("out of memory")]
     Memory,
 }

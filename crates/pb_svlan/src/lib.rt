@@ -1,5 +1,6 @@
-//! The services of a provider bridge: their VIDs, the ports that are their members, and the frames that
-//! a customer port lets in (IEEE 802.1Q clause 15, port-based service interfaces; IEEE 802.1ad).
+//! The services of a provider bridge: their VIDs, the ports that are their members, and the admission of customers'
+//! frames (IEEE 802.1Q clause 15, port-based service interfaces; IEEE 802.1ad). It builds on pb_frame and
+//! pb_reserved. Begin with [`Services`].
 #![tactic(auto)]
 
 mod enter;

@@ -1,11 +1,11 @@
-//! What ports are in the services.
+//! Ports as members of services.
 
 ghost use Rattle.std.specs.Prelude.{◌≤◌};
 
 use crate::vid::Vid;
 use pb_frame::Seq;
 
-/// A customer port's part: one service, and the priority of frames that come in without a priority tag.
+/// The service of a customer port, and the priority of frames that arrive there without a priority tag.
 #[derive(Clone, Copy, Debug, PartialEq, Eq)]
 pub struct Join {
     /// The VID of the service.
@@ -15,21 +15,21 @@ pub struct Join {
     ghost pcp_fits: { pcp ≤ 7 },
 }
 
-/// What a port is.
+/// The role of a port in the services.
 #[derive(Debug, Drop)]
 pub enum PortKind {
     /// A customer port of one service.
     Customer(Join),
-    /// A port to other bridges. It carries the services with these VIDs; None is every service, those
-    /// added later too.
+    /// A port to other bridges, a trunk, with the VIDs of the services that it carries. `None` is every service, also
+    /// one that is added later.
     Trunk(Option<Seq<Vid>>),
 }
 
-/// A port that is something.
+/// A port with a role.
 #[derive(Debug, Drop)]
 pub struct Attachment {
     /// The port's number.
     pub port: u8,
-    /// What it is.
+    /// The role of the port.
     pub kind: PortKind,
 }

@@ -1,4 +1,4 @@
-//! Services and their members.
+//! The services of a bridge and the ports that are their members.
 
 ghost use Rattle.std.specs.Prelude.{◌≡◌, ◌+◌, ◌≤◌, ◌↔◌, ◌++◌, ◌∷◌, [], ◌==◌, true, false, length, insert, map};
 ghost use Rattle.std.specs.Prelude.{unwrap_or, IsTrue, IsOk, IfOk, IfErr, IsSome, OnOk, OnErr, IsErrOf, Some};
@@ -23,7 +23,7 @@ use pb_frame::{Memory, Reason, Seq, Text, has_priority_tag, index_of, priority_o
 use std::alloc::{AllocError, Global};
 use std::marker::Model;
 
-/// The most services.
+/// The most services of a bridge.
 const MOST: usize = 64;
 
 /// The services of a bridge, numbered from 1 in the order in which they were added, and the ports that
@@ -47,7 +47,7 @@ impl Model for Services {
 }
 
 impl Services {
-    /// No services and no ports. Takes no memory.
+    /// Returns a table without services and ports. Allocates nothing.
     pub fn new(alloc: Global) -> Services
         ensures services { result.services ≡ [] }
         ensures ports { result.ports ≡ [] }
@@ -58,38 +58,40 @@ impl Services {
         }
     }
 
-    /// The number of services.
+    /// Returns the number of services.
     pub fn len(&self) -> usize
         ensures { result ≡ length self.now.services }
     {
         self.services.len()
     }
 
-    /// There is no service.
+    /// Checks whether there is no service.
     pub fn is_empty(&self) -> bool
         ensures { IsTrue result ↔ (self.now.services ≡ []) }
     {
         self.services.is_empty()
     }
 
-    /// A service has the name.
+    /// Checks whether a service has the name.
     fn has_name(&self, name: &str) -> bool
         ensures { result ≡ has_name self.now name.now }
     {
         contains_name(self.services.values().as_slice(), name)
     }
 
-    /// A service has the VID.
+    /// Checks whether a service has the VID.
     fn has_vid(&self, vid: u16) -> bool
         ensures { result ≡ has_vid self.now vid }
     {
         contains_vid(self.services.keys().as_slice(), vid)
     }
 
-    /// Adds a service (IEEE 802.1Q clause 9.6) and answers its number.
+    /// Adds a service (IEEE 802.1Q clause 9.6) and returns its number, counted from 1.
     ///
-    /// `TakenName` is answered where a service has the name, else `TakenVid` where one has the VID, else
-    /// `TooMany` where there are 64, else `Memory` where memory ran out. All leave the services as they were.
+    /// # Errors
+    ///
+    /// `TakenName` if a service has the name, otherwise `TakenVid` if a service has the VID, otherwise `TooMany` if
+    /// there are 64 services, otherwise `Memory` if an allocation failed. The services are unchanged then.
     pub fn add(&mut self, alloc: Global, name: &str, vid: Vid) -> Result<u8, AddFault>
         ensures ok { OnOk result (self.new ≡ record self.old { services = self.old.services ++ (vid, name.now) ∷ [] }) }
         ensures number { IfOk result (λ n. n ≡ length self.old.services + 1) }
@@ -116,7 +118,7 @@ impl Services {
         Ok(number as u8 + 1)
     }
 
-    /// The VID of the service of this number.
+    /// Returns the VID of the service with this number, if there is one. Numbers begin at 1.
     fn vid_of(&self, number: u8) -> Option<Vid>
         ensures { result ≡ vid_of self.now number }
     {
@@ -127,7 +129,7 @@ impl Services {
         Some(*vid)
     }
 
-    /// Each of the numbers is that of a service.
+    /// Checks that each of the numbers is that of a service. `None` is accepted too.
     fn are_known(&self, services: Option<&[u8]>) -> bool
         ensures { result ≡ are_known self.now (option_copied services.entry) }
     {
@@ -141,7 +143,11 @@ impl Services {
         true
     }
 
-    /// The VIDs of the services of these numbers.
+    /// Returns the VIDs of the services with these numbers.
+    ///
+    /// # Errors
+    ///
+    /// `AllocError` if an allocation failed.
     fn vids_of(&self, alloc: Global, numbers: &[u8]) -> Result<Seq<Vid>, AllocError>
         requires { list_all (is_known self.now) numbers.now ≡ true }
         ensures { IfOk result (λ vids. vids ≡ vids_of self.now numbers.now) }
@@ -155,25 +161,27 @@ impl Services {
         Ok(Seq::from_vec(vids))
     }
 
-    /// What the port is. None is answered for a port that is nothing.
+    /// Returns the role of the port, or `None` if it has none.
     pub fn kind(&self, port: u8) -> Option<&PortKind>
         ensures { option_copied result ≡ kind_at self.now port }
     {
         kind_at(&self.ports, port)
     }
 
-    /// The port is something already.
+    /// Checks whether the port has a role.
     pub fn is_taken(&self, port: u8) -> bool
         ensures { result ≡ is_taken self.now port }
     {
         kind_at(&self.ports, port).is_some()
     }
 
-    /// Makes a port a customer port of the service of this number, where frames without a priority tag have
-    /// the priority (IEEE 802.1Q clause 6.9).
+    /// Makes a port a customer port of the service with this number. Frames that arrive there without a priority tag
+    /// get the priority `pcp`, 0 to 7 (IEEE 802.1Q clause 6.9).
     ///
-    /// `NoService` is answered where no service has the number, else `Taken` where the port is something
-    /// already, else `Memory` where memory ran out. All leave the ports as they were.
+    /// # Errors
+    ///
+    /// `NoService` if no service has the number, otherwise `Taken` if the port has a role, otherwise `Memory` if an
+    /// allocation failed. The table is unchanged then.
     pub fn join(&mut self, port: u8, service: u8, pcp: u8) -> Result<(), JoinFault>
         requires { pcp ≤ 7 }
         ensures ok { OnOk result ((join : Join) × (vid_of self.old service ≡ Some join.vid) × (join.pcp ≡ pcp)
@@ -195,11 +203,13 @@ impl Services {
         Ok(())
     }
 
-    /// Makes a port one to other bridges, which carries the services of these numbers; None is every
-    /// service, those added later too.
+    /// Makes a port a trunk, a port to other bridges. It carries the services with these numbers. `None` is every
+    /// service, also one that is added later.
     ///
-    /// `NoService` is answered where no service has one of the numbers, else `Taken` where the port is
-    /// something already, else `Memory` where memory ran out. All leave the ports as they were.
+    /// # Errors
+    ///
+    /// `NoService` if one of the numbers is not that of a service, otherwise `Taken` if the port has a role,
+    /// otherwise `Memory` if an allocation failed. The table is unchanged then.
     pub fn trunk(
         &mut self,
         alloc: Global,
@@ -229,7 +239,11 @@ impl Services {
         Ok(())
     }
 
-    /// The ports that are members of the service with this VID, ascending.
+    /// Returns the ports that are members of the service with this VID, ascending.
+    ///
+    /// # Errors
+    ///
+    /// `Memory` if an allocation failed.
     pub fn ports_of(&self, alloc: Global, vid: u16) -> Result<Vec<u8>, Memory>
         ensures ports { IfOk result (λ ports. ports.items ≡ ports_of self.now vid) }
         ensures ascending { IfOk result (λ ports. Rises ports.items) }
@@ -239,7 +253,11 @@ impl Services {
         Ok(members)
     }
 
-    /// The ports that are members of the service with this VID.
+    /// Returns the ports that are members of the service with this VID.
+    ///
+    /// # Errors
+    ///
+    /// `Memory` if an allocation failed.
     fn members_of(&self, alloc: Global, vid: u16) -> Result<Vec<u8>, Memory>
         ensures { IfOk result (λ ports. ports.items ≡ ports_of self.now vid) }
     {
@@ -252,7 +270,7 @@ impl Services {
         Ok(members)
     }
 
-    /// The port is a member of the service with this VID. A port that is nothing is a member of none.
+    /// Checks whether the port is a member of the service with this VID. A port without a role is a member of none.
     pub fn is_member(&self, port: u8, vid: u16) -> bool
         ensures { result ≡ is_member self.now port vid }
     {
@@ -262,7 +280,7 @@ impl Services {
         }
     }
 
-    /// A port of this kind is a member of the service with this VID.
+    /// Checks whether a port with this role is a member of the service with this VID.
     fn is_member_as(&self, vid: u16, kind: &PortKind) -> bool
         ensures { result ≡ is_member_as self.now vid kind.now }
     {
@@ -273,8 +291,8 @@ impl Services {
         }
     }
 
-    /// The priority of frames that come in at a customer port without a priority tag, 0 to 7. None is
-    /// answered for any other port.
+    /// Returns the priority of frames that arrive at a customer port without a priority tag, 0 to 7, or `None` for
+    /// any other port.
     pub fn pcp_of(&self, port: u8) -> Option<u8>
         ensures { result ≡ pcp_of self.now port }
     {
@@ -284,7 +302,7 @@ impl Services {
         }
     }
 
-    /// The VID of a customer port's service. None is answered for any other port.
+    /// Returns the VID of a customer port's service, or `None` for any other port.
     pub fn vid_at(&self, port: u8) -> Option<Vid>
         ensures { result ≡ vid_at self.now port }
     {
@@ -294,12 +312,14 @@ impl Services {
         }
     }
 
-    /// What a customer port makes of a frame (IEEE 802.1ad clause 9): the service, the priority, and
-    /// whether a priority tag is to be cut out, or why the frame is refused. Takes no memory.
+    /// Admits a frame at a customer port (IEEE 802.1ad clause 9). It returns the service, the priority, and whether a
+    /// priority tag is to be removed. Allocates nothing.
     ///
-    /// `Malformed` is answered under 14 octets, else `Long` over 1,992 (1,996 with a priority tag), else
-    /// `Reserved` for a reserved destination, else `STagged` where a service tag's type stands behind the
-    /// addresses of the frame without its priority tag.
+    /// # Errors
+    ///
+    /// `Malformed` if the frame has fewer than 14 octets, otherwise `Long` if it has more than 1,992 (1,996 with a
+    /// priority tag), otherwise `Reserved` if its destination is reserved, otherwise `STagged` if the type of a
+    /// service tag follows the addresses of the frame without its priority tag.
     pub fn enter(&self, port: u8, frame: &[u8]) -> Result<Entered, Reason>
         requires { IsSome (vid_at self.now port) }
         ensures entered { IfOk result (IsEntered self.now port frame.now) }
@@ -320,7 +340,7 @@ impl Services {
     }
 }
 
-/// What the port is. Where the first ports all are something, a port's place is found at once.
+/// Returns the role of the port. If the ports from 1 to it all have roles, it is found without a search.
 fn kind_at(ports: &[Attachment], port: u8) -> Option<&PortKind>
     requires { Rises (map (λ a. a.port) ports.now) }
     ensures { option_copied result ≡ kind_in ports.now port }
@@ -331,7 +351,7 @@ fn kind_at(ports: &[Attachment], port: u8) -> Option<&PortKind>
     }
 }
 
-/// What the port is, of those that are something.
+/// Searches the ports for this one and returns its role.
 fn searched(ports: &[Attachment], port: u8) -> Option<&PortKind>
     ensures { option_copied result ≡ kind_in ports.now port }
 {
@@ -343,7 +363,7 @@ fn searched(ports: &[Attachment], port: u8) -> Option<&PortKind>
     None
 }
 
-/// A customer port's part.
+/// Returns the membership of a customer port.
 fn customer(vid: Vid, pcp: u8) -> Join
     requires { pcp ≤ 7 }
     ensures vid { result.vid ≡ vid }
@@ -352,7 +372,11 @@ fn customer(vid: Vid, pcp: u8) -> Join
     Join { vid, pcp }
 }
 
-/// Puts a port in its place.
+/// Inserts a port at its place among the ascending ports.
+///
+/// # Errors
+///
+/// `AllocError` if an allocation failed. The ports are unchanged then.
 fn attach(ports: &mut Vec<Attachment>, attachment: Attachment) -> Result<(), AllocError>
     ensures ok { OnOk result (ports.new.items
         ≡ insert ports.old.items (place_of attachment.port ports.old.items) attachment) }
@@ -363,7 +387,7 @@ fn attach(ports: &mut Vec<Attachment>, attachment: Attachment) -> Result<(), All
     Ok(())
 }
 
-/// Where a port goes, so that the ports stay ascending.
+/// Returns the index at which a port is inserted to keep the ports ascending.
 fn place_of(ports: &[Attachment], port: u8) -> usize
     ensures { result ≡ place_of port ports.now }
 {
@@ -377,7 +401,7 @@ fn place_of(ports: &[Attachment], port: u8) -> usize
     place
 }
 
-/// One of the VIDs is this number.
+/// Checks whether one of the VIDs is this number.
 fn contains_vid(vids: &[Vid], vid: u16) -> bool
     ensures { result ≡ list_any (λ v. v == vid) vids.now }
 {
@@ -389,7 +413,7 @@ fn contains_vid(vids: &[Vid], vid: u16) -> bool
     false
 }
 
-/// One of the names is this text.
+/// Checks whether one of the names is this text.
 fn contains_name(names: &[Text], name: &str) -> bool
     ensures { result ≡ list_any (λ n. same n name.now) names.now }
 {

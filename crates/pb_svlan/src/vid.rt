@@ -23,7 +23,7 @@ impl Model for Vid {
 }
 
 impl Vid {
-    /// The VID of this number. None is answered exactly for 0 and from 4,095 on.
+    /// Returns the VID with this number, or `None` if it is 0 or above 4,094.
     pub fn new(number: u16) -> Option<Vid>
         ensures some { IsSome result ↔ ((1 ≤ number) × (number ≤ 4094)) }
         ensures value { IfSome result (λ v. v ≡ number) }
@@ -34,7 +34,7 @@ impl Vid {
         Some(Vid { number })
     }
 
-    /// The number, 1 to 4,094.
+    /// Returns the number, 1 to 4,094.
     pub fn number(self) -> u16
         ensures value { result ≡ self }
         ensures low { 1 ≤ result }

@@ -15,7 +15,7 @@ use Rattle.pb_fdb.proofs.journal.turn.Goals.{Else-seen-at, After-swap_remove_ind
 use Rattle.pb_fdb.specs.declared.station.Station.{Station}
 use Rattle.pb_fdb.proofs.journal.turn.Goals as goal
 
--- the first place of a log counts: its station was seen last there
+-- the first place of a log counts: its station was last seen there
 record First : Type 0 where
   f : Index
   at : ℕ
@@ -26,7 +26,7 @@ record First : Type 0 where
   known : f s ≡ Some seen
   here : at ≡ seen.at
 
--- the log is its first place and the rest
+-- the log is its first place and the remaining ones
 whole : (c : Else-seen-at) → stations c.args.log.now.items ≡ c.in-Some.place.station
     ∷ stations c.pop_front.new.self.items
 whole c = ap stations (c.pop_front.ensures.items ∙ ap (λ o. option_to_list o ++ c.pop_front.new.self.items)
@@ -45,7 +45,7 @@ first-of c = record {
   here = sym c.if-seen-at.false;
 }
 
--- where the station goes, the index loses it, and nothing else
+-- if the entry is removed, the index loses its station only
 gone : (c : After-swap_remove_index) → IsIndexWith c.in-Some.place.station None (get is_same c.args.index.now)
     (get is_same c.swap_remove_index.new.self)
     × (index_map_len c.swap_remove_index.new.self + 1 ≡ index_map_len c.args.index.now)
@@ -86,7 +86,7 @@ returns-then-eq-clause-count c counted =
     let after = (gone c).1 in
     omega (arith, entries, less, before, after)
 
--- how a station was seen last whose place goes last
+-- where the station is last seen if its place moves to the end
 abbrev seen-last : After-push_back_reserved → LastSeen
 seen-last c = record {
   at = place_after (place_after c.args.first.now 1) c.len.result;
@@ -94,7 +94,7 @@ seen-last c = record {
   port = c.index-seen.result.now.port;
 }
 
--- where the station stays, its place goes last
+-- if the entry stays, its place moves to the end
 record GoesLast (f g : Index) (at : ℕ) (s : Station) (new : LastSeen) (log after : List Station) : Type 0 where
   noted : IsIndexWith s (Some new) f g
   put : after ≡ log ++ s ∷ []
@@ -121,7 +121,7 @@ goes-last c =
       );
     }
 
--- the entries are then those of the other stations, and its own last
+-- the entries are then those of the other stations, with its own last
 last-all : (c : After-push_back_reserved) (p : First) → GoesLast p.f (get is_same c.note.new.index) p.at p.s
     (seen-last c) p.log (stations c.push_back_reserved.new.self.items)
     → entries_from (get is_same c.note.new.index) (place_after p.at 1) (stations c.push_back_reserved.new.self.items)

@@ -12,13 +12,13 @@ loop-branch-init c =
     (c.in_ok-up.ensures.items_if_clones_equal (search rules))
     (c.in_ok-depth.ensures.items_if_clones_equal (λ y h. h))
 
--- the branch that is taken is of the bridges
+-- the branch that is taken is of these bridges
 branch-near : (c : In-Some) → IsNear c.args.bridges c.in-Some.branch
 branch-near c = near-next c.args.bridges c.args.branches.items c.loop-branch.branches.items c.pop.new.self.items
     c.loop-branch.up.items c.loop-branch.depth.items c.in-Some.branch c.loop-branch.invariant c.in-Some.ensures.items
     c.requires.near
 
--- and the depth above it was read
+-- the depth above the branch was read
 depth-above : (c : After-index) → IsNear c.args.bridges c.in-Some.branch
     → (c.index.result.now ≡ depth_below c.loop-branch.invariant.later c.in-Some.branch.above)
     × (c.index.result.now + 1 ≤ length c.args.branches.items)

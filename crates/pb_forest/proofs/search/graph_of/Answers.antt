@@ -5,7 +5,7 @@ use Rattle.pb_forest.specs.Searching.{AreEdges}
 use Rattle.pb_forest.proofs.search.graph_of.Goals.{After-link-item}
 use Rattle.pb_forest.proofs.search.graph_of.Goals as goal
 
--- there is room for one link more
+-- there is space for one more link
 room : (c : After-link-item) → length c.loop-link.graph.links.items < 255
 room c =
     let items = c.as_slice-link-items.result.now in

@@ -37,7 +37,7 @@ returns-clause-old c =
     c.args.new.vid c.args.new.mac
     ∙ ap (λ o. option_to_list (option_map (entry_of key) o)) found
 
--- how the station is seen last then
+-- where the station is last seen after the call
 abbrev seen-now : After-push_back_reserved → LastSeen
 seen-now c = record {
   at = place_after c.free_place.new.first c.len.result;
@@ -45,7 +45,7 @@ seen-now c = record {
   port = c.args.new.port;
 }
 
--- the index tells of it, and of the others as before
+-- the index has the new value at this station, and the others are unchanged
 now-noted : (c : After-push_back_reserved)
     → IsIndexWith (record { vid = c.args.new.vid; mac = c.args.new.mac }) (Some (seen-now c))
     (get is_same c.free_place.new.index) (get is_same c.note-old.new.index)
@@ -54,7 +54,7 @@ now-noted c =
     c.note-old.ensures.noted key
     (found-station (keys c.free_place.new.index) key (Some c.in_ok-slot.slot) c.in_ok-slot.ensures.index)
 
--- its entry stands last, behind those of the others
+-- the new entry is last, after those of the other stations
 now-last : (c : After-push_back_reserved)
     → entries_from (get is_same c.note-old.new.index) c.free_place.new.first
     (stations c.push_back_reserved.new.self.items)

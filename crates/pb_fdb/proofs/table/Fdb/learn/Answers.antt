@@ -15,7 +15,7 @@ use Rattle.pb_fdb.proofs.OrderLemmas.{IsKept-filter, IsKept-later, IsKept-push, 
 use Rattle.pb_fdb.proofs.table.Fdb.learn.Goals.{After-is_full, In-Some}
 use Rattle.pb_fdb.proofs.table.Fdb.learn.Goals as goal
 
--- what is told of a station that has no entry
+-- the result for a station without an entry
 none-told : (c : After-is_full) (full : Bool) → c.is_full.result ≡ full
     → (is_group c.args.mac.0 ≡ false)
     × (where_in (table_of c.self.inside.limit c.self.inside.ageing c.self.inside.clock c.self.inside.journal)
@@ -32,7 +32,7 @@ none-told c full is =
           ∙ sym c.is_full.ensures.full ∙ is,
     )
 
--- what is kept of the entries then
+-- the invariant of the table for a station without an entry
 none-kept : (c : After-is_full) → IsKept c.self.inside.limit c.self.inside.ageing c.args.now c.is_full.new.journal
 none-kept c =
     let f = c.self.inside in
@@ -40,7 +40,7 @@ none-kept c =
     (IsKept-later f.limit f.ageing f.clock c.args.now f.journal
     (subst (λ (t : Table). t.clock ≤ c.args.now) (sym c.self.view_is) c.requires) c.self.invariant)
 
--- and where the station's entry was renewed
+-- the invariant of the table after the station's entry was renewed
 renewed-kept : (c : In-Some) → IsKept c.self.inside.limit c.self.inside.ageing c.args.now c.renew.new.self
 renewed-kept c =
     let f = c.self.inside in
