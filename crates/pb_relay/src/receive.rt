@@ -33,8 +33,8 @@ impl Bridge {
     /// Receives an item at a port, and returns its outcome.
     ///
     /// The bridge rules on the item, learns its source, queues its copies and appends the Receive step that reports
-    /// this. An allocation that fails after the step is reserved appears in the step: the outcome is Filtered for
-    /// Memory, or names the ports that got no copy, or the changes name the BPDUs that were dropped.
+    /// this. The step also reports each allocation that fails after its own: the frame is filtered for
+    /// [`Reason::Memory`], a chosen port gets no copy, a BPDU is dropped, or the source is not learnt.
     ///
     /// # Errors
     ///
