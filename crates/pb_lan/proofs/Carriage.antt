@@ -1,4 +1,4 @@
--- What spreads from polled frames over bridges and links, by induction on hops.
+-- Properties of items that spread from polled frames over bridges and links, by induction on hops. All laws use them.
 use Rattle.std.proofs.Common.{◌≡◌, ◌⊎◌, inl, inr, ℕ, zero, suc, ◌+◌, ◌<◌, Some, Option, true, false, cond, not, ◌&&◌}
 use Rattle.std.proofs.Common.{◌==◌, List, [], ◌∷◌, ◌++◌, refl, ◌∙◌, subst, arith, add-one, append_assoc}
 use Rattle.std.proofs.lemmas.Bool.{eqb-true}
@@ -34,7 +34,8 @@ use Rattle.pb_lan.specs.declared.step.Outcome.TheVariants.{Relayed}
 use Rattle.pb_lan.specs.declared.step.Step.{Step}
 use Rattle.pb_lan.specs.declared.step.Step.TheVariants.{Receive, Tick, Admin}
 
--- K holds of what is received at a bridge's port and Q of what is queued there, where each of these leads on to the next
+-- K is a property of the items received at a bridge's port and Q one of the items queued there, and each leads to the
+-- next: entry to K, K to Q over a bridge, and Q to K over a link
 pub record Spreads (rules : Rules) (plan : Plan) (rec : Record) (K Q : ℕ → ℕ → Item → Type 0) : Type 0 where
   pub enters : (k : ℕ) (c : CustomerPlan) → numbered plan.customers k ≡ Some c → (item : Item) → IsEntry rec k item
       → K c.bridge c.port item
@@ -49,16 +50,16 @@ pub record Spreads (rules : Rules) (plan : Plan) (rec : Record) (K Q : ℕ → �
       → list_any (λ p. p == r) chosen ≡ true → K b q item
       → Q b r (copy_of plan (port_at plan b q) (port_at plan b r) item)
 
--- what holds of items with few hops
+-- the property, for items with fewer hops
 abbrev pub Below : ℕ → (Item → Type 0) → Item → Type 0
 Below n P item = item.hops < n → P item
 
--- of what the step receives
+-- the property, for the item with fewer hops that a step receives
 abbrev pub StepBelow : ℕ → (ℕ → ℕ → Item → Type 0) → ℕ → Step → Type 0
 StepBelow n K b (Receive q item learnt outcome moved) = Below n (K b q) item
 StepBelow n K b _ = Unit {0}
 
--- what a bridge queues of its own is for other bridges
+-- the items that a lawful step queues as the bridge's own are for other bridges
 pub step-own : (rules : Rules) (plan : Plan) (b : ℕ) (earlier : List Step) (step : Step)
     → Fits rules plan b earlier step
     → AllByRecursion (λ m. AllByRecursion (IsOwn plan b) m.queued) (moved_of step)
@@ -68,7 +69,7 @@ step-own rules plan b earlier (Tick now moved) fits = (fits.1.own, tt)
 step-own rules plan b earlier (Admin port up moved) fits = (fits.1.own, tt)
 step-own rules plan b earlier _ fits = tt
 
--- what its own items have, what it queues of its own at a port has
+-- a property of all of a bridge's own items holds of those that a step queues at a port
 pub own-All : (P : Waiting → Type 0) (plan : Plan) (b r : ℕ) (step : Step)
     → ((item : Item) → IsOwn plan b (r, item) → P (record { class = 7; item = item }))
     → AllByRecursion (λ m. AllByRecursion (IsOwn plan b) m.queued) (moved_of step) → AllByRecursion P (own_by r step)
@@ -79,10 +80,10 @@ own-All P plan b r step h own =
     (λ q k. h q.1 (subst (λ x. IsOwn plan b (x, q.1)) (eqb-true q.0 r k.1) k.0)) (filter (λ q. q.0 == r) all)
     (All-filter (IsOwn plan b) (λ q. q.0 == r) all (All-flat_map (IsOwn plan b) (λ m. m.queued) (moved_of step) own)))
 
--- where K and Q spread, from what a bridge receives to what it queues
+-- how K and Q spread over a bridge
 module _ (rules : Rules) (plan : Plan) (rec : Record) (K Q : ℕ → ℕ → Item → Type 0)
     (s : Spreads rules plan rec K Q) where
-  -- from a received item to its copy
+  -- from a received item to its copy at a port
   copies-spread : (n b r : ℕ) (earlier later : List Step) (q : ℕ) (item : Item) (learnt : Option Learnt)
       (outcome : Outcome) (moved : Option Moved)
       → earlier ++ Receive q item learnt outcome moved ∷ later ≡ steps_of rec.bridges b
@@ -105,7 +106,7 @@ module _ (rules : Rules) (plan : Plan) (rec : Record) (K Q : ℕ → ℕ → Ite
       ] refl
   copies-spread n b r earlier later q item learnt _ moved at follows known = tt
 
-  -- from what a step receives to what it relays
+  -- from the item that a step receives to the one that it relays
   step-spread : (n b r : ℕ) (earlier later : List Step) (step : Step) → earlier ++ step ∷ later ≡ steps_of rec.bridges b
       → Fits rules plan b earlier step → StepBelow n K b step
       → AllWaiting (Below (n + 1) (Q b r)) (relayed_by plan b r step)
@@ -113,7 +114,7 @@ module _ (rules : Rules) (plan : Plan) (rec : Record) (K Q : ℕ → ℕ → Ite
       copies-spread n b r earlier later q item learnt outcome moved at fits known
   step-spread n b r earlier later _ at fits known = tt
 
-  -- from what the steps receive to what they queue, also of their own
+  -- from the items that steps receive to those that they queue, including the bridge's own
   steps-spread : (n b r : ℕ) (earlier steps : List Step) → earlier ++ steps ≡ steps_of rec.bridges b
       → LawfulAfter rules plan b earlier steps
       → AllByRecursion (StepBelow n K b) steps → AllQueued (Below (n + 1) (Q b r)) plan b r steps
@@ -126,7 +127,7 @@ module _ (rules : Rules) (plan : Plan) (rec : Record) (K Q : ℕ → ℕ → Ite
     steps-spread n b r (earlier ++ step ∷ []) steps (append_assoc earlier (step ∷ []) steps ∙ at) lawful.1 known.1,
   )
 
--- what is received at any port is received by some step
+-- a property of all items received at each port holds of each step that receives
 received-steps : (n : ℕ) (K : ℕ → ℕ → Item → Type 0) (b : ℕ) (steps : List Step)
     → ((q : ℕ) → AllByRecursion (Below n (K b q)) (received q steps)) → AllByRecursion (StepBelow n K b) steps
 received-steps n K b [] h = tt
@@ -140,11 +141,11 @@ received-steps n K b (step ∷ steps) h = (
         (subst (λ t. AllByRecursion (Below n (K b q)) (cond t (item ∷ []) [])) (eqb-refl q) (k q)).0
     at_step _ k = tt
 
--- of what is queued anywhere
+-- the property of all queued items with fewer hops, at all bridges and ports
 abbrev AllBelow : ℕ → (ℕ → ℕ → Item → Type 0) → Plan → Record → Type 0
 AllBelow n Q plan rec = (b r : ℕ) → AllQueued (Below n (Q b r)) plan b r (steps_of rec.bridges b)
 
--- what follows from a property of all that is queued
+-- a property of all queued items gives each property that it implies
 pub queued-imply : (P R : Item → Type 0) → ((item : Item) → P item → R item)
     → (plan : Plan) (b r : ℕ) (steps : List Step)
     → AllQueued P plan b r steps → AllQueued R plan b r steps
@@ -152,7 +153,7 @@ queued-imply P R h plan b r steps a =
     All-imply (λ step. AllWaiting P (queued_by plan b r step)) (λ step. AllWaiting R (queued_by plan b r step))
     (λ step ws. All-imply (λ w. P w.item) (λ w. R w.item) (λ w p. h w.item p) (queued_by plan b r step) ws) steps a
 
--- from what is queued with few hops to what is received with as few
+-- Q of all queued items with fewer hops gives K of all received ones
 pub received-spread : (rules : Rules) (plan : Plan) (rec : Record) (K Q : ℕ → ℕ → Item → Type 0)
     → Spreads rules plan rec K Q → IsLawfulRecord rules plan rec
     → (n : ℕ) → AllBelow n Q plan rec → (b q : ℕ)
@@ -196,7 +197,7 @@ received-spread rules plan rec K Q s lawful n all b q =
     by_port Unused h = All-every (Below n (K b q)) (λ item. λ few. s.unused b q h item)
         (received q (steps_of rec.bridges b))
 
--- by induction on hops
+-- Q holds of all queued items with fewer hops, by induction on their number
 pub all-below : (rules : Rules) (plan : Plan) (rec : Record) (K Q : ℕ → ℕ → Item → Type 0)
     → Spreads rules plan rec K Q → IsLawfulRecord rules plan rec → (n : ℕ) → AllBelow n Q plan rec
 all-below rules plan rec K Q s lawful zero b r =
@@ -209,12 +210,12 @@ all-below rules plan rec K Q s lawful (suc n) b r =
     (received-steps n K b (steps_of rec.bridges b)
     (received-spread rules plan rec K Q s lawful n (all-below rules plan rec K Q s lawful n) b)))
 
--- each item has some number of hops
+-- a property of items with fewer hops, for each number of hops, holds of all
 of_waiting : (P : Item → Type 0) (ws : List Waiting) → ((n : ℕ) → AllWaiting (Below n P) ws) → AllWaiting P ws
 of_waiting P [] h = tt
 of_waiting P (w ∷ ws) h = ((h (w.item.hops + 1)).0 (omega arith), of_waiting P ws (λ n. (h n).1))
 
--- what is queued anywhere
+-- Q holds of all queued items of a lawful record
 pub queued-all : (rules : Rules) (plan : Plan) (rec : Record) (K Q : ℕ → ℕ → Item → Type 0)
     → Spreads rules plan rec K Q → IsLawfulRecord rules plan rec
     → (b r : ℕ) → AllQueued (Q b r) plan b r (steps_of rec.bridges b)
@@ -227,7 +228,7 @@ queued-all rules plan rec K Q s lawful b r = of_steps (steps_of rec.bridges b)
     of_steps (step ∷ steps) h =
         (of_waiting (Q b r) (queued_by plan b r step) (λ n. (h n).0), of_steps steps (λ n. (h n).1))
 
--- what is received anywhere
+-- K holds of all received items of a lawful record
 pub received-all : (rules : Rules) (plan : Plan) (rec : Record) (K Q : ℕ → ℕ → Item → Type 0)
     → Spreads rules plan rec K Q → IsLawfulRecord rules plan rec
     → (b q : ℕ) → AllByRecursion (K b q) (received q (steps_of rec.bridges b))

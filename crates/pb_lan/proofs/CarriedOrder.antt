@@ -1,4 +1,4 @@
--- The order in which the steps of a bridge carry two marks.
+-- The order in which the steps of a bridge carry two marks, for the law that frames keep their order.
 use Rattle.std.proofs.Common.{◌≡◌, ℕ, ◌+◌, ◌<◌, Some, None, Option, true, false, cond, ◌&&◌, ◌==◌, List, [], ◌∷◌}
 use Rattle.std.proofs.Common.{◌++◌, refl, sym, ◌∙◌, subst, arith, not, Bool}
 use Rattle.std.proofs.lemmas.Bool.{eqb-true}
@@ -29,7 +29,7 @@ use Rattle.pb_lan.specs.declared.step.Step.{Step}
 use Rattle.pb_lan.specs.declared.step.Outcome.TheVariants.{Relayed}
 use Rattle.pb_lan.specs.declared.step.Step.TheVariants.{Receive}
 
--- a port polls in the order of its numbers
+-- a customer port polls frames in the order of their numbers
 pub polled-order : (one two : Mark) → one.number < two.number → (n port k : ℕ) (items : List Item)
     → AreMarked port k items → InOrder (is_after one n) (is_after two n) items
 polled-order one two less n port k [] a = tt
@@ -42,7 +42,7 @@ polled-order one two less n port k (item ∷ items) a = (
   polled-order one two less n port (k + 1) items a.2,
 )
 
--- what a step queues after one hop more, it carried
+-- what a step queues with one more hop it carried
 pub queued-carried : (mark : Mark) (n : ℕ) (plan : Plan) (b r : ℕ) (step : Step)
     → AllByRecursion (λ m. AllByRecursion (IsOwn plan b) m.queued) (moved_of step)
     → AllByRecursion (λ w. is_after mark (n + 1) w.item ≡ true → is_carry mark n r step ≡ true)
@@ -76,7 +76,7 @@ queued-carried mark n plan b r step own =
         by false u = tt
     relayed _ = tt
 
--- what a step carried, it received
+-- a step that carries an item to a port received it, at the given port
 carry-at : (mark : Mark) (n r q : ℕ) (step : Step) → (is_carry mark n r step ≡ true → IsAt q step)
     → is_carry mark n r step ≡ true → list_any (is_after mark n) (received_by q step) ≡ true
 carry-at mark n r q (Receive at item learnt (Relayed chosen refused) moved) h c =
@@ -85,7 +85,7 @@ carry-at mark n r q (Receive at item learnt (Relayed chosen refused) moved) h c 
     (or-left (is_after mark n item) false (and-left (is_after mark n item) _ c))
 carry-at mark n r q _ h c = cc
 
--- where a walk came in, what the steps carried they received there
+-- if a walk leads to a port of a bridge, the items that the bridge's steps carried they received there
 pub carried-received : (rules : Rules) (plan : Plan) (rec : Record) (shape : Shape) (entry : CustomerPlan)
     (mark : Mark) (rooted : Rooted) → IsFollowed rules plan rec shape entry mark rooted → (n b r q : ℕ)
     → CameIn plan shape entry b q
@@ -97,7 +97,7 @@ carried-received rules plan rec shape entry mark rooted followed n b r q came =
     (carry-at mark n r q) (steps_of rec.bridges b)
     (carried-at rules plan rec shape entry mark rooted followed n b r q came)
 
--- no item is of both marks
+-- no item has both marks
 pub marks-apart : (one two : Mark) → one.number < two.number → (item : Item) → is_of one item ≡ true
     → is_of two item ≡ true → ⊥
 marks-apart one two less item a b = by item.mark a b
@@ -109,7 +109,7 @@ marks-apart one two less item a b = by item.mark a b
         let f : two.number ≡ m.number = eqb-true two.number m.number (and-right (two.port == m.port) _ b) in
         absurd (omega (arith, less, e, f))
 
--- no step carries both
+-- no step carries both marks
 pub carries-apart : (one two : Mark) → one.number < two.number → (n r : ℕ) (step : Step) → is_carry one n r step ≡ true
     → is_carry two n r step ≡ true → ⊥
 carries-apart one two less n r (Receive q item learnt (Relayed chosen refused) moved) a b =
@@ -117,7 +117,7 @@ carries-apart one two less n r (Receive q item learnt (Relayed chosen refused) m
     (and-left (is_of two item) _ (and-left (is_after two n item) _ b))
 carries-apart one two less n r _ a b = cc
 
--- what the steps queue of the bridge's own
+-- the items that lawful steps queue as the bridge's own are for other bridges
 pub steps-own : (rules : Rules) (plan : Plan) (b : ℕ) (earlier steps : List Step)
     → LawfulAfter rules plan b earlier steps
     → AllByRecursion (λ step. AllByRecursion (λ m. AllByRecursion (IsOwn plan b) m.queued) (moved_of step)) steps

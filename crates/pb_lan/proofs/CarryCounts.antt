@@ -1,4 +1,5 @@
--- Under a forest a frame is queued at each port at most once.
+-- Counts of a mark at one bridge: what is queued at a port is no more than what was carried, and that no more than what
+-- was received. For the law that frames leave at most once.
 use Rattle.std.proofs.Common.{◌≡◌, ℕ, ◌+◌, ◌≤◌, None, Option, Bool, true, false, cond, not, ◌&&◌, ◌==◌, List, [], ◌∷◌}
 use Rattle.std.proofs.Common.{◌++◌, refl, sym, ap, subst, arith}
 use Rattle.std.proofs.lemmas.Bool.{eqb-true}
@@ -24,22 +25,22 @@ use Rattle.pb_lan.specs.declared.step.Outcome.TheVariants.{Relayed}
 use Rattle.pb_lan.specs.declared.step.Step.{Step}
 use Rattle.pb_lan.specs.declared.step.Step.TheVariants.{Receive}
 
--- an item of the mark after so many hops
+-- the item has the mark and this number of hops
 abbrev pub is_after : Mark → ℕ → Item → Bool
 is_after mark n item = is_of mark item && item.hops == n
 
--- the step received such an item, and chose the port
+-- the step received such an item, and chose this port for it
 abbrev pub is_carry : Mark → ℕ → ℕ → Step → Bool
 is_carry mark n r (Receive q item learnt (Relayed chosen refused) moved) = is_after mark n item && list_any
     (λ p. p == r) chosen
 is_carry mark n r _ = false
 
--- one more on both sides
+-- adding one to both numbers keeps whether they are equal
 pub suc-eqb : (m n : ℕ) → (m + 1 == n + 1) ≡ (m == n)
 suc-eqb m n = elim (m == n) as (λ b. (m == n) ≡ b → (m + 1 == n + 1) ≡ b)
     [ true ↦ λ h. let e = eqb-true m n h in grind (arith, e) | false ↦ λ h. grind (arith, h) ] refl
 
--- of a received item
+-- the copies of a received item at a port count at most one, and none if the step did not carry it there
 copies-count : (mark : Mark) (n : ℕ) (plan : Plan) (b r q : ℕ) (item : Item) (learnt : Option Learnt)
     (outcome : Outcome) (moved : Option Moved)
     → count_waiting (is_after mark (n + 1)) (copies plan b q item outcome r) ≤ cond
@@ -70,11 +71,11 @@ copies-count mark n plan b r q item learnt (Relayed chosen refused) moved = by (
     by _ _ = omega arith
 copies-count mark n plan b r q item learnt _ moved = omega arith
 
--- a bridge's own item has no mark
+-- a bridge's own item, which has no mark, does not count
 pub unmarked : (mark : Mark) (n : ℕ) (item : Item) → item.mark ≡ None → is_after mark n item ≡ false
 unmarked mark n item h = subst (λ o. (has_mark mark o && item.hops == n) ≡ false) (sym h) refl
 
--- so none of those counts
+-- the bridge's own items that a step queues do not count
 own-count : (mark : Mark) (n : ℕ) (plan : Plan) (b r : ℕ) (step : Step)
     → AllByRecursion (λ m. AllByRecursion (IsOwn plan b) m.queued) (moved_of step)
     → count_waiting (is_after mark n) (own_by r step) ≡ 0
@@ -82,14 +83,14 @@ own-count mark n plan b r step own =
     count-none (λ w. is_after mark n w.item) (own_by r step)
     (own-All (λ w. is_after mark n w.item ≡ false) plan b r step (λ item o. unmarked mark n item o.0) own)
 
--- of a step
+-- the items that a step relays count at most one, and none if the step did not carry
 relayed-count : (mark : Mark) (n : ℕ) (plan : Plan) (b r : ℕ) (step : Step)
     → count_waiting (is_after mark (n + 1)) (relayed_by plan b r step) ≤ cond (is_carry mark n r step) 1 0
 relayed-count mark n plan b r (Receive q item learnt outcome moved) = copies-count mark n plan b r q item learnt
     outcome moved
 relayed-count mark n plan b r _ = omega arith
 
--- what is queued after one hop more is no more than the steps that carried it
+-- the items of the mark with one more hop that steps queue are at most as many as the steps that carried it
 pub carry-count : (mark : Mark) (n : ℕ) (rules : Rules) (plan : Plan) (b r : ℕ) (earlier steps : List Step)
     → LawfulAfter rules plan b earlier steps
     → count_queued (is_after mark (n + 1)) plan b r steps ≤ count_by (is_carry mark n r) steps
@@ -102,12 +103,12 @@ carry-count mark n rules plan b r earlier (step ∷ steps) lawful =
     let rest = carry-count mark n rules plan b r (earlier ++ step ∷ []) steps lawful.1 in
     omega (arith, a, o, c, d, rest)
 
--- the step received at the port
+-- the step received at this port, if it received
 abbrev pub IsAt : ℕ → Step → Type 0
 IsAt q (Receive at item learnt outcome moved) = at ≡ q
 IsAt q _ = Unit {0}
 
--- a step that carried at the port received there
+-- a step that carried at this port received an item of the mark there
 carry-received : (mark : Mark) (n r q : ℕ) (step : Step) → (is_carry mark n r step ≡ true → IsAt q step)
     → cond (is_carry mark n r step) 1 0 ≤ count_by (is_after mark n) (received_by q step)
 carry-received mark n r q (Receive at item learnt (Relayed chosen refused) moved) h =
@@ -123,7 +124,7 @@ carry-received mark n r q (Receive at item learnt (Relayed chosen refused) moved
     ] refl
 carry-received mark n r q _ h = omega arith
 
--- where all that carry received at one port, they are no more than what was received there
+-- if all steps that carried received at one port, they are at most as many as the items of the mark received there
 pub carries-received : (mark : Mark) (n r q : ℕ) (steps : List Step)
     → AllByRecursion (λ step. is_carry mark n r step ≡ true → IsAt q step) steps
     → count_by (is_carry mark n r) steps ≤ count_by (is_after mark n) (received q steps)

@@ -1,4 +1,4 @@
--- What is known of the cases of a ruling, whatever their number and order.
+-- Rulings by a list of cases, whatever the number and order of the cases.
 use Rattle.std.proofs.Common.{◌≡◌, Bool, true, false, cond, ◌&&◌, ◌||◌, List, [], ◌∷◌, map, refl}
 use Rattle.std.specs.List.{list_any, list_all}
 use Rattle.pb_frame.proofs.Lists.{and-right}
@@ -7,7 +7,7 @@ use Rattle.pb_lan.specs.BridgeLists.Ruling.{Refuses, Listens, LearnsOnly, Carrie
 use Rattle.pb_frame.specs.declared.reason.Reason.{Reason}
 use Rattle.pb_frame.specs.declared.reason.Reason.TheVariants.{Malformed, NotMember, Reserved, Worn}
 
--- the frame goes no further than the bridge
+-- the ruling refuses the frame or passes it to the bridge
 abbrev pub stops : Ruling → Bool
 stops (Refuses reason) = true
 stops Listens = true
@@ -15,7 +15,7 @@ stops (LearnsOnly vid) = false
 stops (Carries vid) = false
 stops Closed = false
 
--- kinds of rulings
+-- the ruling passes a BPDU to the bridge
 abbrev pub is_listening : Ruling → Bool
 is_listening Listens = true
 is_listening _ = false
@@ -36,11 +36,11 @@ abbrev pub is_wearing : Ruling → Bool
 is_wearing (Refuses Worn) = true
 is_wearing _ = false
 
--- some case for a ruling of this kind holds
+-- some case with a ruling of this kind holds
 abbrev pub holds : (Ruling → Bool) → List (Bool × Ruling) → Bool
 holds kind cs = list_any (λ c. kind c.1 && c.0) cs
 
--- of two tests that both fail, each does
+-- of two tests that both fail, the first fails
 pub neither-left : (a b : Bool) → (a || b) ≡ false → a ≡ false
 neither-left true b h = cc
 neither-left false b h = refl
@@ -53,7 +53,7 @@ passed : (a b : Bool) → b ≡ false → ((a && false) || b) ≡ false
 passed true b h = h
 passed false b h = h
 
--- where each case stops the frame and yet it goes on, none of them holds
+-- if each case stops the frame and the ruling does not, no case holds and the ruling is the one without a case
 pub none-holds : (cs : List (Bool × Ruling)) (rest target : Ruling) → list_all (λ c. stops c.1) cs ≡ true
     → stops target ≡ false → first_case cs rest ≡ target → ((kind : Ruling → Bool) → holds kind cs ≡ false)
     × (rest ≡ target)
@@ -71,7 +71,7 @@ none-holds ((false, g) ∷ cs) rest target all on h =
     let r = none-holds cs rest target (and-right (stops g) _ all) on h in
     (λ kind. passed (kind g) _ (r.0 kind), r.1)
 
--- what each refusal is and what is left is, the ruling is
+-- a property of all refusals and of the ruling without a case holds of the ruling
 pub refusing-is : (P : Ruling → Type 0) (cs : List (Bool × Reason)) (rest : Ruling)
     → ((r : Reason) → P (Refuses r)) → P rest → P (first_case (map refusing cs) rest)
 refusing-is P [] rest refused left = left
@@ -81,12 +81,12 @@ refusing-is P (c ∷ cs) rest refused left =
       | false ↦ refusing-is P cs rest refused left
     ]
 
--- the cases that are judged before one that listens
+-- the cases that come before one that passes a BPDU to the bridge
 abbrev pub before_listening : List (Bool × Ruling) → List (Bool × Ruling)
 before_listening [] = []
 before_listening (c ∷ cs) = cond (is_listening c.1) [] (c ∷ before_listening cs)
 
--- where a BPDU is heard a case that listens holds, and none of those before it
+-- if a BPDU is passed to the bridge, a case that does so holds, and none of the cases before such a one
 pub heard : (cs : List (Bool × Ruling)) (rest : Ruling) → is_listening rest ≡ false → first_case cs rest ≡ Listens
     → (holds is_listening cs ≡ true) × ((kind : Ruling → Bool) → holds kind (before_listening cs) ≡ false)
 heard ((true, Listens) ∷ cs) rest n h = (refl, λ kind. refl)

@@ -1,4 +1,4 @@
--- What holds of each element, by place and by recursion.
+-- Properties of each end of each link.
 use Rattle.std.proofs.Common.{List, [], ◌∷◌, IsTrue, Bool, ◌↔◌, flat_map}
 use Rattle.std.proofs.lemmas.List.Elements.{All-from_recursion, recursion_from_All}
 use Rattle.std.specs.List.{All, AllByRecursion}
@@ -10,7 +10,7 @@ pub by_recursion : {X : Type 0} (P : X → Type 0) (xs : List X) {r : Bool} → 
     → IsTrue r ↔ AllByRecursion P xs
 by_recursion P xs h = ((λ t. recursion_from_All P xs (h.0 t)), (λ a. h.1 (All-from_recursion P xs a)))
 
--- of each end of each link
+-- a property of both ends of each link holds of all ends
 ends_on : (P : End → Type 0) (links : List LinkPlan) → AllByRecursion (λ l. P l.a × P l.b) links
     → AllByRecursion P (flat_map ends_of links)
 ends_on P [] h = tt

@@ -1,5 +1,5 @@
--- A frame to a group, handled under a forest, unhindered and drained, is chosen at each bridge for the
--- next port of each path.
+-- A group frame that was handled under a forest, is unhindered and has drained is chosen at each bridge for the next
+-- port of each path.
 use Rattle.std.proofs.Common.{◌≡◌, inl, inr, ℕ, Some, None, Option, Bool, true, false, cond, not, ◌&&◌, ◌||◌, ◌==◌}
 use Rattle.std.proofs.Common.{List, [], ◌∷◌, ◌++◌, refl, sym, ◌∙◌, ap, subst, slice_get, take, append_assoc}
 use Rattle.std.proofs.Common.{append-nil}
@@ -50,7 +50,7 @@ use Rattle.pb_frame.specs.declared.reason.Reason.{Reason}
 use Rattle.pb_lan.specs.declared.step.Step.{Step}
 use Rattle.pb_lan.specs.declared.step.Step.TheVariants.{Receive}
 
--- a step that received at the port an item that passes, and its place in the list
+-- a step in the list received at this port an item that passes the test
 pub record IsReceived (test : Item → Bool) (q : ℕ) (steps : List Step) : Type 0 where
   pub earlier : List Step
   pub later : List Step
@@ -61,7 +61,7 @@ pub record IsReceived (test : Item → Bool) (q : ℕ) (steps : List Step) : Typ
   pub place : earlier ++ Receive q item learnt outcome moved ∷ later ≡ steps
   pub passes : test item ≡ true
 
--- what is received at a port some step received
+-- if an item that passes the test was received at a port, some step received it
 pub received-step : (test : Item → Bool) (q : ℕ) (before steps : List Step) → list_any test (received q steps) ≡ true
     → IsReceived test q (before ++ steps)
 received-step test q before [] h = cc
@@ -96,7 +96,7 @@ received-step test q before (step ∷ steps) h =
         ] refl e
     here _ e = cc
 
--- each step in its place fits those before it
+-- each step of a lawful list may come after those before it
 pub lawful-at : (rules : Rules) (plan : Plan) (b : ℕ) (start earlier later : List Step) (step : Step)
     → LawfulAfter rules plan b start (earlier ++ step ∷ later) → Fits rules plan b (start ++ earlier) step
 lawful-at rules plan b start [] later step h = subst (λ xs. Fits rules plan b xs step) (sym (append-nil start)) h.0
@@ -104,25 +104,25 @@ lawful-at rules plan b start (s ∷ earlier) later step h =
     subst (λ xs. Fits rules plan b xs step) (append_assoc start (s ∷ []) earlier)
     (lawful-at rules plan b (start ++ s ∷ []) earlier later step h.1)
 
--- the ruling is not that of a BPDU
+-- the ruling does not pass a BPDU to the bridge
 abbrev IsNotHeard : Ruling → Type 0
 IsNotHeard g = g ≡ Listens → ⊥
 
--- a refusal is not
+-- a refusal does not
 refused-not-heard : (r : Reason) → IsNotHeard (Refuses r)
 refused-not-heard r h = cc
 
--- nor is carrying
+-- relaying does not
 carried-not-heard : (v : ℕ) → IsNotHeard (Carries v)
 carried-not-heard v h = cc
 
--- nothing is heard at a customer port
+-- no frame at a customer port is passed to the bridge as a BPDU
 customer-not-heard : (plan : Plan) (c : CustomerPlan) (item : Item)
     → IsNotHeard (first_case (customer_cases item) (Carries (vid_at plan c)))
 customer-not-heard plan c item =
     refusing-is IsNotHeard (customer_reasons item) (Carries (vid_at plan c)) refused-not-heard (carried-not-heard _)
 
--- a frame with a service tag is no BPDU
+-- no frame with a service tag is passed to the bridge as a BPDU
 provider-not-heard : (rules : Rules) (plan : Plan) (e : End) (state : PortState) (item : Item)
     → has_service_type item.wire ≡ true
     → IsNotHeard (first_case (provider_cases rules plan e item) (ruling_in state (vid_of item.wire)))
@@ -141,7 +141,7 @@ provider-not-heard rules plan e state item tag h =
     in_state Learning = refl
     in_state Forwarding = refl
 
--- what is heard was ruled to be a BPDU
+-- a step with the outcome Heard had the ruling to read a BPDU
 follows-heard : (rules : Rules) (plan : Plan) (b : ℕ) (earlier : List Step) (q : ℕ) (item : Item)
     (learnt : Option Learnt) (moved : Option Moved) (g : Ruling)
     → Follows rules plan b earlier q item learnt Heard moved g → g ≡ Listens
@@ -152,7 +152,7 @@ follows-heard rules plan b earlier q item learnt moved (Carries v) (inl h) = let
 follows-heard rules plan b earlier q item learnt moved (Carries v) (inr h) = absurd h.1
 follows-heard rules plan b earlier q item learnt moved Closed h = absurd h
 
--- a priority tag stands after the addresses
+-- the destination address is the same without the priority tag
 take-bare : (x : List ℕ) → take 6 (bare x) ≡ take 6 x
 take-bare x = elim (has_priority_tag x) as (λ b. take 6 (cond b (untagged x) x) ≡ take 6 x)
     [ true ↦ of_untagged x | false ↦ refl ]
@@ -166,7 +166,7 @@ take-bare x = elim (has_priority_tag x) as (λ b. take 6 (cond b (untagged x) x)
     of_untagged (a ∷ b ∷ c ∷ d ∷ e ∷ []) = refl
     of_untagged (a ∷ b ∷ c ∷ d ∷ e ∷ f ∷ rest) = refl
 
--- a group frame is flooded, to each other Forwarding port of the service
+-- a group frame is flooded to each other Forwarding port of the service
 flooded : (plan : Plan) (b : ℕ) (steps : List Step) (q v r : ℕ) (wire : List ℕ)
     → is_forwarding (state_after plan b steps q) ≡ true → is_group (dst_of wire) ≡ true
     → IsNumber r 16 → (r == q) ≡ false → is_forwarding (state_after plan b steps r) ≡ true
@@ -182,7 +182,7 @@ flooded plan b steps q v r wire opened group number other forwarding member =
     (port_at plan b p))) r local_ports
     (both_true (ap not other) (both_true forwarding member)) (local-listed r number)))
 
--- a group frame of a mark, followed under a forest, drained and unhindered
+-- a group frame of this mark, handled under a forest, drained and unhindered
 pub record IsGroupFrame (rules : Rules) (plan : Plan) (rec : Record) (shape : Shape) (entry : CustomerPlan)
     (rooted : Rooted) (mark : Mark) (arrived : Item) : Type 0 where
   pub followed : IsFollowed rules plan rec shape entry mark rooted
@@ -191,7 +191,7 @@ pub record IsGroupFrame (rules : Rules) (plan : Plan) (rec : Record) (shape : Sh
   pub polled_there : slice_get (polled (steps_of rec.customers mark.port)) mark.number ≡ Some arrived
   pub group : is_group (dst_of arrived.wire) ≡ true
 
--- wherever it comes in, it is for a group, and no BPDU
+-- at each port at which it may be received it is a group frame and no BPDU
 comes-as-group : (rules : Rules) (plan : Plan) (rec : Record) (mark : Mark) (arrived : Item)
     → slice_get (polled (steps_of rec.customers mark.port)) mark.number ≡ Some arrived
     → is_group (dst_of arrived.wire) ≡ true → (port : Port) (state : PortState) (item : Item)
@@ -218,7 +218,7 @@ comes-as-group rules plan rec mark arrived at group (Provider e) state item (inr
 )
 comes-as-group rules plan rec mark arrived at group Unused state item known m = (λ h. cc, λ v h. cc)
 
--- a port by which a frame was carried in is Forwarding
+-- a port at which a frame is relayed is Forwarding
 carried-forwarding : (rules : Rules) (plan : Plan) (b : ℕ) (earlier : List Step) (q : ℕ) (item : Item) (v : ℕ)
     → ruling rules plan b earlier q item ≡ Carries v → is_forwarding (state_after plan b earlier q) ≡ true
 carried-forwarding rules plan b earlier q item v h = by (port_at plan b q) refl h
@@ -230,30 +230,30 @@ carried-forwarding rules plan b earlier q item v h = by (port_at plan b q) refl 
     by (Provider e) at h = (carried-open rules plan e (state_after plan b earlier q) item v h).0
     by Unused at h = cc
 
--- what is known of the step by which it came in at a port
+-- the step that received a group frame at a port of a bridge
 module _ {rules : Rules} {plan : Plan} {rec : Record} {shape : Shape} {entry : CustomerPlan} {rooted : Rooted}
     {mark : Mark} {arrived : Item} (frame : IsGroupFrame rules plan rec shape entry rooted mark arrived) (b : ℕ)
     {q : ℕ} (here : IsReceived (is_of mark) q (steps_of rec.bridges b)) where
-  -- the step, with this outcome
+  -- the step, with another outcome
   abbrev step_with : Outcome → Step
   step_with outcome = Receive q here.item here.learnt outcome here.moved
 
-  -- what it may tell, with this outcome
+  -- what the step may report, with another outcome
   abbrev Told : Outcome → Type 0
   Told outcome = Follows rules plan b here.earlier q here.item here.learnt outcome here.moved
       (ruling rules plan b here.earlier q here.item)
 
-  -- it fits the steps before it
+  -- the step may come after those before it
   here-told : Told here.outcome
   here-told = lawful-at rules plan b [] here.earlier here.later (step_with here.outcome)
       (subst (LawfulAfter rules plan b []) (sym here.place) (frame.followed.lawful.bridges b))
 
-  -- it was handled under the shape
+  -- the frame was handled under the shape
   here-handled : numbered shape.states b ≡ Some (states_after plan b here.earlier)
   here-handled = handled-at plan shape mark b [] here.earlier here.later (step_with here.outcome)
       (subst (HandledAfter plan shape mark b []) (sym here.place) (frame.followed.handled b)) here.passes
 
-  -- the item may come in
+  -- the item may be received there
   here-known : MayComeIn plan rec (port_at plan b q) here.item
   here-known =
       let all = All-unflat_map (ComesIn plan rec shape (vid_at plan entry) entry mark b q) (received_by q)
@@ -266,13 +266,13 @@ module _ {rules : Rules} {plan : Plan} {rec : Record} {shape : Shape} {entry : C
       (subst (λ t. AllByRecursion (ComesIn plan rec shape (vid_at plan entry) entry mark b q)
       (cond t (here.item ∷ []) [])) (eqb-refl q) one).0.0
 
-  -- it is for a group, and no BPDU
+  -- the item is for a group, and no BPDU
   here-group : IsNotHeard (ruling rules plan b here.earlier q here.item)
       × ((w : ℕ) → ruling rules plan b here.earlier q here.item ≡ Carries w → is_group (dst_of here.item.wire) ≡ true)
   here-group = comes-as-group rules plan rec mark arrived frame.polled_there frame.group (port_at plan b q)
       (state_after plan b here.earlier q) here.item here-known here.passes
 
-  -- on the tree it is not filtered
+  -- on the tree the frame is not filtered
   not-filtered : is_on_tree plan shape (vid_at plan entry) b q ≡ true → (reason : Reason)
       → here.outcome ≡ Filtered reason → ⊥
   not-filtered on_tree reason e = true-false (hinders plan shape (vid_at plan entry) mark b
@@ -283,7 +283,7 @@ module _ {rules : Rules} {plan : Plan} {rec : Record} {shape : Shape} {entry : C
       (subst (AllByRecursion (λ step. hinders plan shape (vid_at plan entry) mark b step ≡ false)) (sym here.place)
       (frame.free.bridges b))))
 
--- where it came in on the tree, it is chosen for each other port of the service that is Forwarding
+-- a group frame that is received on the tree is chosen for each other Forwarding port of the service
 pub choose-on : (rules : Rules) (plan : Plan) (rec : Record) (shape : Shape) (entry : CustomerPlan) (rooted : Rooted)
     (mark : Mark) (arrived : Item) → IsGroupFrame rules plan rec shape entry rooted mark arrived
     → (b q r : ℕ) → IsReceived (is_of mark) q (steps_of rec.bridges b)

@@ -1,4 +1,5 @@
--- One step of a bridge that was handled under a shape: the states there, and the service of what it carried.
+-- One step of a bridge that was handled under a shape: the states of its ports, and the service of the frame that it
+-- carried.
 use Rattle.std.proofs.Common.{◌≡◌, inl, inr, ℕ, Some, true, List, [], ◌∷◌, ◌++◌, sym, ◌∙◌, ap, subst, unwrap_or}
 use Rattle.std.proofs.Common.{append-nil, append_assoc}
 use Rattle.std.proofs.lemmas.Bool.{eqb-true}
@@ -25,12 +26,12 @@ use Rattle.pb_lan.specs.declared.step.Item.{Item}
 use Rattle.pb_lan.specs.declared.step.Mark.{Mark}
 use Rattle.pb_lan.specs.declared.step.Step.{Step}
 
--- a mark is that of one port
+-- an item of this mark has the mark's port
 pub marked-port : (mark : Mark) (item : Item) (port number : ℕ)
     → item.mark ≡ Some (record { port = port; number = number }) → is_of mark item ≡ true → mark.port ≡ port
 marked-port mark item port number h m = eqb-true mark.port port (and-left _ _ (subst (λ o. has_mark mark o ≡ true) h m))
 
--- each step in its place was handled under the shape
+-- each step of the list was handled under the shape
 pub handled-at : (plan : Plan) (shape : Shape) (mark : Mark) (b : ℕ) (start earlier later : List Step) (step : Step)
     → HandledAfter plan shape mark b start (earlier ++ step ∷ later)
     → IsHandled plan shape mark b (start ++ earlier) step
@@ -40,7 +41,7 @@ handled-at plan shape mark b start (s ∷ earlier) later step h =
     subst (λ xs. IsHandled plan shape mark b xs step) (append_assoc start (s ∷ []) earlier)
     (handled-at plan shape mark b (start ++ s ∷ []) earlier later step h.1)
 
--- a step that moves nothing changes no state
+-- a step that reports no changes changes no state
 pub unmoved : (plan : Plan) (b : ℕ) (earlier : List Step) (step : Step) → moved_of step ≡ [] → (p : ℕ)
     → state_after plan b (earlier ++ step ∷ []) p ≡ state_after plan b earlier p
 unmoved plan b earlier step h p = ap (λ ms. state_by plan.spanning (port_at plan b p) p (flat_map (λ m. m.states) ms))
@@ -50,7 +51,7 @@ unmoved plan b earlier step h p = ap (λ ms. state_by plan.spanning (port_at pla
     same_moves [] = ap (λ ms. ms ++ []) h
     same_moves (x ∷ xs) = ap (λ ms. moved_of x ++ ms) (same_moves xs)
 
--- the shape gives the states
+-- the shape has the state of each local port of a bridge that handled a step under it
 pub state-of : (plan : Plan) (shape : Shape) (b : ℕ) (earlier : List Step) (p : ℕ)
     → numbered shape.states b ≡ Some (states_after plan b earlier) → IsLocal p
     → state_in shape b p ≡ state_after plan b earlier p
@@ -58,7 +59,7 @@ state-of plan shape b earlier p h local =
     ap (λ o. unwrap_or (numbered (unwrap_or o []) p) Discarding) h
     ∙ ap (λ o. unwrap_or o Discarding) (local (state_after plan b earlier))
 
--- the VID of a carried frame of the mark is that of its port's service
+-- a frame of the mark is carried in the service of the port at which it entered
 pub carried-vid : (rules : Rules) (plan : Plan) (rec : Record) (entry : CustomerPlan) (mark : Mark) → IsSound plan
     → numbered plan.customers mark.port ≡ Some entry
     → (port : Port) (state : PortState) (item : Item) (v : ℕ) → MayComeIn plan rec port item

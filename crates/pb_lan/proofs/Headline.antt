@@ -1,4 +1,4 @@
--- The laws of lawful records, at one record.
+-- The laws of lawful records, for one record.
 use Rattle.pb_lan.proofs.Arrivals.{every_departure_is_an_arrival}
 use Rattle.pb_lan.proofs.AtMostOnce.{each_leaves_at_most_once}
 use Rattle.pb_lan.proofs.ExactlyOnce.{each_arrives_exactly_once}

@@ -1,4 +1,4 @@
--- What a bridge sends on of a mark has come by a walk from its entry that never turns back.
+-- What a bridge sends of a mark came by a walk from its entry that never turns back.
 use Rattle.std.proofs.Common.{◌≡◌, inl, inr, ℕ, suc, ◌+◌, Some, true, false, ◌&&◌, ◌==◌, List, [], ◌∷◌, refl, sym}
 use Rattle.std.proofs.Common.{◌∙◌, ap, subst, arith, length}
 use Rattle.std.proofs.lemmas.Bool.{eqb-true, eq-eqb}
@@ -31,7 +31,7 @@ use Rattle.pb_lan.specs.declared.step.Item.{Item}
 use Rattle.pb_lan.specs.declared.step.Mark.{Mark}
 use Rattle.pb_lan.specs.declared.step.Step.{Step}
 
--- the port is not where the walk came in
+-- the port is not the one at which the walk reached the bridge
 abbrev pub NotBack : Plan → CustomerPlan → ℕ → ℕ → List ℕ → Type 0
 NotBack plan entry b r [] = r ≡ entry.port → ⊥
 NotBack plan entry b r (k ∷ ks) = (link : LinkPlan) → numbered plan.links k ≡ Some link
@@ -41,7 +41,7 @@ NotBack plan entry b r (k ∷ ks) = (link : LinkPlan) → numbered plan.links k 
 abbrev pub IsExit : Plan → Shape → ℕ → ℕ → ℕ → Type 0
 IsExit plan shape vid b r = (is_forwarding (state_in shape b r) ≡ true) × (is_member plan vid (port_at plan b r) ≡ true)
 
--- each bridge on the walk chose the next port for the mark, and the last one this port
+-- each bridge on the walk chose the next port for the mark, and the last bridge chose this port
 abbrev pub ChosenBack : Plan → Shape → Record → Mark → ℕ → CustomerPlan → ℕ → ℕ → List ℕ → Type 0
 ChosenBack plan shape rec mark vid entry b r [] = (entry.bridge ≡ b) × (chose rec mark b r ≡ true)
 ChosenBack plan shape rec mark vid entry b r (k ∷ ks) =
@@ -58,7 +58,7 @@ pub record IsSent (plan : Plan) (shape : Shape) (rec : Record) (mark : Mark) (vi
   pub exit : IsExit plan shape vid b r
   pub chosen : ChosenBack plan shape rec mark vid entry b r way
 
--- the item came in over a link, from a port where it was sent
+-- the item was received over a link, from a port where it was queued after a walk
 pub record IsCome (plan : Plan) (shape : Shape) (rec : Record) (mark : Mark) (vid : ℕ) (entry : CustomerPlan)
     (b q : ℕ) (item : Item) : Type 0 where
   pub number : ℕ
@@ -71,22 +71,22 @@ pub record IsCome (plan : Plan) (shape : Shape) (rec : Record) (mark : Mark) (vi
   pub port : far.port ≡ q
   pub sent : IsSent plan shape rec mark vid entry near.bridge near.port item
 
--- an item came in at its entry, or over a link
+-- the item was received at its entry, or over a link
 abbrev pub ComesBy : Plan → Shape → Record → Mark → ℕ → CustomerPlan → Port → ℕ → ℕ → Item → Type 0
 ComesBy plan shape rec mark vid entry (Customer c) b q item = (b ≡ entry.bridge) × (q ≡ entry.port) × (item.hops ≡ 0)
 ComesBy plan shape rec mark vid entry (Provider e) b q item = IsCome plan shape rec mark vid entry b q item
 ComesBy plan shape rec mark vid entry Unused b q item = Unit {0}
 
--- a port other than an end's is not at that end
+-- a port with another number than an end's is not at that end
 not-at : (b q r : ℕ) (e : End) → e.port ≡ q → (r == q) ≡ false → is_end_at b r e ≡ false
 not-at b q r e h n = grind (arith, h, n)
 
--- a port of another bridge is not at an end
+-- a port of another bridge than an end's is not at that end
 not-there : (b r : ℕ) (e : End) → (e.bridge ≡ b → ⊥) → is_end_at b r e ≡ false
 not-there b r e n = elim (e.bridge == b) as (λ t. (e.bridge == b) ≡ t → (t && e.port == r) ≡ false)
     [ true ↦ λ h. absurd (n (eqb-true e.bridge b h)) | false ↦ λ h. refl ] refl
 
--- an edge joins two bridges
+-- an edge joins two different bridges
 edge-apart : (plan : Plan) (shape : Shape) (vid : ℕ) (rooted : Rooted) → Shows plan shape vid rooted → (k x : ℕ)
     → Edge plan shape vid k x x → ⊥
 edge-apart plan shape vid rooted shows k x e =
@@ -107,14 +107,14 @@ is-active : (plan : Plan) (shape : Shape) (vid : ℕ) (link : LinkPlan) (near fa
 is-active plan shape vid link near far ends p q =
     let b = both-ends (λ e. is_open plan shape vid e ≡ true) link near far ends p q in both_true b.0 b.1
 
--- the walk came in at this port
+-- the walk reached the bridge at this port
 abbrev pub Origin : Plan → CustomerPlan → ℕ → ℕ → List ℕ → Type 0
 Origin plan entry b q [] = (b ≡ entry.bridge) × (q ≡ entry.port)
 Origin plan entry b q (k ∷ ks) =
     (link : LinkPlan) × (near : End) × (far : End) × (numbered plan.links k ≡ Some link) × HasEnds link near far
     × (far.bridge ≡ b) × (far.port ≡ q) × (near.bridge ≡ b → ⊥)
 
--- an end of a link stands where one of the link's two does
+-- an end of a link is at one of the two ports of the link
 not-elsewhere : (link : LinkPlan) (e : End) → IsEndOf link e
     → (is_end_at e.bridge e.port link.a ≡ false) × (is_end_at e.bridge e.port link.b ≡ false) → ⊥
 not-elsewhere link e (inl h) n = true-false (is_end_at e.bridge e.port link.a)
@@ -122,7 +122,7 @@ not-elsewhere link e (inl h) n = true-false (is_end_at e.bridge e.port link.a)
 not-elsewhere link e (inr h) n = true-false (is_end_at e.bridge e.port link.b)
     (subst (λ f. is_end_at e.bridge e.port f ≡ true) (sym h) (end-is-at e)) n.1
 
--- the walk did not come by the link over which it goes on
+-- the walk did not use the link over which it goes on
 came-anew : {plan : Plan} {shape : Shape} {rec : Record} {mark : Mark} {vid : ℕ} {entry : CustomerPlan} {b q : ℕ}
     {item : Item} (come : IsCome plan shape rec mark vid entry b q item) → NotFirst come.number come.sent.way
 came-anew {plan} {entry = entry} come = by come.sent.way come.sent.onward
@@ -132,7 +132,7 @@ came-anew {plan} {entry = entry} come = by come.sent.way come.sent.onward
     by (l ∷ ls) n = λ h. not-elsewhere come.link come.near (end-of-near come.link come.near come.far come.ends)
         (n come.link (ap (numbered plan.links) (sym h) ∙ come.numbered_so))
 
--- the near end of the link by which it came is open
+-- the near end of the link by which the item was received is open
 near-open : {plan : Plan} {shape : Shape} {rec : Record} {mark : Mark} {vid : ℕ} {entry : CustomerPlan} {b q : ℕ}
     {item : Item} → IsSound plan → (come : IsCome plan shape rec mark vid entry b q item)
     → is_open plan shape vid come.near ≡ true
@@ -140,7 +140,8 @@ near-open {plan} {vid = vid} sound come = both_true come.sent.exit.0 (subst (λ 
     (port_at-end plan sound come.number come.link come.near come.numbered_so
     (end-of-near come.link come.near come.far come.ends)) come.sent.exit.1)
 
--- under a forest with this certificate a bridge carried an item from one port, and chose another for the mark
+-- under a forest with this certificate a bridge carried an item of the mark from one port, and chose another port for
+-- it
 pub record IsCarriedOn (rules : Rules) (plan : Plan) (rec : Record) (shape : Shape) (entry : CustomerPlan)
     (mark : Mark) (rooted : Rooted) (b q r : ℕ) (item : Item) : Type 0 where
   pub sound : IsSound plan
@@ -155,7 +156,7 @@ pub record IsCarriedOn (rules : Rules) (plan : Plan) (rec : Record) (shape : Sha
   pub chosen : chose rec mark b r ≡ true
   pub carried : ruling rules plan b earlier q item ≡ Carries vid
 
--- the port of choice is an exit
+-- the chosen port is Forwarding, and a member of the service
 carried-exit : {rules : Rules} {plan : Plan} {rec : Record} {shape : Shape} {entry : CustomerPlan} {mark : Mark}
     {rooted : Rooted} {b q r : ℕ} {item : Item} → IsCarriedOn rules plan rec shape entry mark rooted b q r item
     → IsExit plan shape (vid_at plan entry) b r
@@ -165,11 +166,11 @@ carried-exit {plan = plan} {shape = shape} {b = b} {r = r} k = (
   subst (λ v. is_member plan v (port_at plan b r) ≡ true) k.vid_is k.choice.member,
 )
 
--- what is carried on that came in over a link
+-- what is known of a carried item that was received over a link
 module _ {rules : Rules} {plan : Plan} {rec : Record} {shape : Shape} {entry : CustomerPlan} {mark : Mark}
     {rooted : Rooted} {b q r : ℕ} {item : Item} (k : IsCarriedOn rules plan rec shape entry mark rooted b q r item)
     (come : IsCome plan shape rec mark (vid_at plan entry) entry b q item) where
-  -- the link's far end is open
+  -- the far end of the link is open
   far-open : is_open plan shape (vid_at plan entry) come.far ≡ true
   far-open =
       let which : IsEndOf come.link come.far = end-of-far come.link come.near come.far come.ends in
@@ -187,7 +188,7 @@ module _ {rules : Rules} {plan : Plan} {rec : Record} {shape : Shape} {entry : C
       (ap is_forwarding (state-of plan shape b k.earlier q k.handled local) ∙ opened.0)))
       (subst (λ n. serves plan n come.far ≡ true) k.vid_is opened.1)
 
-  -- so it crossed an active link
+  -- the item crossed an active link
   crossed : Crosses plan shape (vid_at plan entry) come.number come.near come.far
   crossed = record {
     link = come.link;
@@ -197,21 +198,21 @@ module _ {rules : Rules} {plan : Plan} {rec : Record} {shape : Shape} {entry : C
     ends = come.ends;
   }
 
-  -- by an edge
+  -- the link is an edge to this bridge
   crossed-edge : Edge plan shape (vid_at plan entry) come.number come.near.bridge b
   crossed-edge = (come.near, come.far, crossed, refl, come.bridge)
 
-  -- from another bridge
+  -- the edge is from another bridge
   came-afar : come.near.bridge ≡ b → ⊥
   came-afar s = edge-apart plan shape (vid_at plan entry) rooted k.shows come.number b
       (subst (λ x. Edge plan shape (vid_at plan entry) come.number x b) s crossed-edge)
 
-  -- the port of choice is at neither of its ends
+  -- the chosen port is at neither end of the link
   goes-elsewhere : (is_end_at b r come.link.a ≡ false) × (is_end_at b r come.link.b ≡ false)
   goes-elsewhere = both-ends (λ f. is_end_at b r f ≡ false) come.link come.near come.far come.ends
       (not-there b r come.near came-afar) (not-at b q r come.far come.port k.choice.other)
 
--- what is relayed on goes on with the walk
+-- what is relayed goes on with the walk
 pub relayed-on : {rules : Rules} {plan : Plan} {rec : Record} {shape : Shape} {entry : CustomerPlan} {mark : Mark}
     {rooted : Rooted} {b q r : ℕ} {item : Item} (k : IsCarriedOn rules plan rec shape entry mark rooted b q r item)
     (port : Port) → port_at plan b q ≡ port → ComesBy plan shape rec mark (vid_at plan entry) entry port b q item

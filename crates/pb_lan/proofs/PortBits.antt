@@ -1,4 +1,4 @@
--- Ports in a few bits.
+-- Sets of ports as bits, for `PortSet` and `Refusals`.
 use Rattle.std.proofs.Common.{◌≡◌, zero, suc, ℕ, ◌+◌, ◌-◌, ◌*◌, ◌/◌, ◌%◌, ◌^◌, ◌<◌, ◌≤◌, ◌==◌, Bool, true, false}
 use Rattle.std.proofs.Common.{cond, List, [], ◌∷◌, ◌++◌, map, get_or, length, refl, sym, ap, ◌∙◌, subst, arith}
 use Rattle.std.proofs.Common.{append_assoc, append-nil}
@@ -11,13 +11,13 @@ use Rattle.pb_lan.specs.PortSets.{ports_in, refusals_in, word_in}
 use Rattle.pb_lan.specs.declared.step.NoRoom.{NoRoom}
 use Rattle.pb_lan.specs.declared.step.NoRoom.TheVariants.{Memory}
 
--- without bits there are no ports
+-- no bits mean no ports
 pub no_ports : (n p : ℕ) → ports_in n p 0 ≡ []
 unfolding ports_in
 no_ports zero p = refl
 no_ports (suc n) p = no_ports n (p + 1)
 
--- the next bit is one more port, behind those that are there
+-- a bit above all others adds one port at the end of the list
 pub port_more : (k n p bits : ℕ) → k < n → bits < 2 ^ k → ports_in n p (bits + 2 ^ k) ≡ ports_in n p bits
     ++ (p + k) ∷ []
 unfolding ports_in
@@ -42,7 +42,7 @@ port_more (suc k) (suc n) p bits l b =
     ∙ sym (append_assoc (cond (bits % 2 == 1) (p ∷ []) []) (ports_in n (p + 1) (bits / 2)) ((p + 1 + k) ∷ []))
     ∙ ap (λ x. ports_in (suc n) p bits ++ x ∷ []) s
 
--- what is below a power from the next place on is below it from this place on, where one step keeps that
+-- a bound on the bits from the next port on gives one on the bits from this port on, if one port keeps the bound
 lower_power : (pow : ℕ → ℕ) (p b rest all : ℕ) → ((m : ℕ) → rest < pow m → all < pow (suc m))
     → (b ≤ p → rest < pow 0 → all < pow 0) → rest < pow (b - (p + 1)) → all < pow (b - p)
 lower_power pow p b rest all step none r = by (b - p) refl
@@ -55,7 +55,7 @@ lower_power pow p b rest all step none r = by (b - p) refl
         let f : b - (p + 1) ≡ m = omega (arith, e) in
         subst (λ (k : ℕ). all < pow k) (sym e) (step m (subst (λ (k : ℕ). rest < pow k) f r))
 
--- where all ports are below one, so are the bits below its own
+-- if all ports are below one, the bits are below that port's
 pub low_bits : (n p b bits : ℕ) → bits < 2 ^ n → AllByRecursion (λ q. q < b) (ports_in n p bits) → bits < 2 ^ (b - p)
 unfolding ports_in
 low_bits zero p b bits h a = let o : 0 < 2 ^ (b - p) = pow_pos (b - p) in omega (arith, h, o)
@@ -74,7 +74,7 @@ low_bits (suc n) p b bits h a =
     step : (m : ℕ) → bits / 2 < 2 ^ m → bits < 2 ^ suc m
     step m r = let w : 2 ^ suc m ≡ 2 * 2 ^ m = pow-succ' 2 m in omega (arith, w, r)
 
--- the ports from one on are this one, if its bit is set, and those behind it
+-- the ports from one on are this port, if its bit is set, and then the later ones
 port_first : (p bits : ℕ) → p < 17 → ports_in (17 - p) p bits ≡ cond (bits % 2 == 1) (p ∷ []) []
     ++ ports_in (17 - (p + 1)) (p + 1) (bits / 2)
 unfolding ports_in
@@ -82,12 +82,12 @@ port_first p bits l =
     let f : 17 - p ≡ suc (17 - (p + 1)) = omega (arith, l) in
     ap (λ n. ports_in n p bits) f
 
--- numbers that differ are not the same
+-- two different numbers compare as not equal
 pub unequal : (a b : ℕ) → (a ≡ b → ⊥) → (a == b) ≡ false
 unequal a b n = elim (a == b) as (λ t. (a == b) ≡ t → t ≡ false)
     [ true ↦ λ e. absurd (n (eqb-true a b e)) | false ↦ λ e. refl ] refl
 
--- one more port has been listed, or passed over
+-- one step of the listing loop: one more port has been added or skipped
 pub port_listed : (p bits : ℕ) (list more all : List ℕ) (is_set : Bool) → p < 17
     → list ++ ports_in (17 - p) p bits ≡ all
     → (bits % 2 == 1) ≡ is_set → more ≡ list ++ cond is_set (p ∷ []) []
@@ -97,7 +97,7 @@ port_listed p bits list more all is_set l e b m =
     ∙ append_assoc list (cond (bits % 2 == 1) (p ∷ []) []) (ports_in (17 - (p + 1)) (p + 1) (bits / 2))
     ∙ ap (λ ps. list ++ ps) (sym (port_first p bits l)) ∙ e
 
--- without words no port is named
+-- no bits mean no refused ports
 pub no_refusals : (n p : ℕ) → refusals_in n p 0 ≡ []
 unfolding refusals_in
 no_refusals zero p = refl
@@ -110,7 +110,7 @@ quad k =
     let b : 2 ^ suc (2 * k) ≡ 2 * 2 ^ (2 * k) = pow-succ' 2 (2 * k) in
     ap (λ i. 2 ^ i) e ∙ omega (arith, a, b)
 
--- the next two bits are one more port, behind those that are there
+-- two bits above all others add one refused port at the end of the list
 pub refusal_more : (k n p words d : ℕ) → k < n → words < 2 ^ (2 * k) → d < 4
     → refusals_in n p (words + d * 2 ^ (2 * k)) ≡ refusals_in n p words ++ word_in (p + k) d
 unfolding refusals_in
@@ -143,7 +143,7 @@ refusal_more (suc k) (suc n) p words d l b h =
     ∙ sym (append_assoc (word_in p (words % 4)) (refusals_in n (p + 1) (words / 4)) (word_in (p + 1 + k) d))
     ∙ ap (λ i. refusals_in (suc n) p words ++ word_in i d) s
 
--- where all named ports are below one, so are the words below its own
+-- if all refused ports are below one, the bits are below that port's
 pub low_words : (n p b words : ℕ) → words < 2 ^ (2 * n)
     → AllByRecursion (λ q. q < b) (map (λ r. r.0) (refusals_in n p words)) → words < 2 ^ (2 * (b - p))
 unfolding refusals_in
@@ -174,7 +174,7 @@ refusal_first p words l =
     let f : 17 - p ≡ suc (17 - (p + 1)) = omega (arith, l) in
     ap (λ n. refusals_in n p words) f
 
--- one more port has been listed, or passed over
+-- one step of the listing loop: one more refused port has been added or skipped
 pub refusal_listed : (p words d : ℕ) (list more all : List (ℕ × NoRoom)) → p < 17
     → list ++ refusals_in (17 - p) p words ≡ all
     → words % 4 ≡ d → more ≡ list ++ word_in p d → more ++ refusals_in (17 - (p + 1)) (p + 1) (words / 4) ≡ all
@@ -183,13 +183,13 @@ refusal_listed p words d list more all l e b m =
     ∙ append_assoc list (word_in p (words % 4)) (refusals_in (17 - (p + 1)) (p + 1) (words / 4))
     ∙ ap (λ rs. list ++ rs) (sym (refusal_first p words l)) ∙ e
 
--- what is neither of the first two words is the third
+-- two bits that are neither 0 nor 1 mean out of memory
 pub other_word : (p d : ℕ) → (d ≡ 0 → ⊥) → (d ≡ 1 → ⊥) → word_in p d ≡ (p, Memory) ∷ []
 other_word p zero a b = absurd (a refl)
 other_word p (suc zero) a b = absurd (b refl)
 other_word p (suc (suc d)) a b = refl
 
--- no port is named just where there are no words
+-- no port is refused if and only if no bit is set
 pub empty_words : (words : ℕ) → words < 4294967296 → (words == 0) ≡ (length (refusals_in 16 1 words) == 0)
 empty_words zero h = ap (λ rs. length rs == 0) (sym (no_refusals 16 1))
 empty_words (suc w) h = go (refusals_in 16 1 (suc w)) (low_words 16 1 1 (suc w) h)
@@ -199,7 +199,7 @@ empty_words (suc w) h = go (refusals_in 16 1 (suc w)) (low_words 16 1 1 (suc w) 
     go [] f = let l : suc w < 1 = f tt in absurd (omega (arith, l))
     go (r ∷ rs) f = unequal (suc w) 0 (λ e. cc) ∙ sym (unequal (suc (length rs)) 0 (λ e. cc))
 
--- behind the last port is none
+-- no port comes after the last one
 pub ports_end : (p bits : ℕ) → 17 ≤ p → ports_in (17 - p) p bits ≡ []
 unfolding ports_in
 ports_end p bits l = let z : 17 - p ≡ 0 = omega (arith, l) in ap (λ n. ports_in n p bits) z
@@ -208,7 +208,7 @@ pub refusals_end : (p words : ℕ) → 17 ≤ p → refusals_in (17 - p) p words
 unfolding refusals_in
 refusals_end p words l = let z : 17 - p ≡ 0 = omega (arith, l) in ap (λ n. refusals_in n p words) z
 
--- all named ports are of those that were looked at
+-- all refused ports are among those that the bits cover
 refusals_before : (n p words : ℕ) → AllByRecursion (λ r. r.0 < p + n) (refusals_in n p words)
 unfolding refusals_in
 refusals_before zero p words = tt
@@ -232,7 +232,7 @@ refusals_within words rs e = subst (λ (rs : List (ℕ × NoRoom)). AllByRecursi
     below [] a = tt
     below (r ∷ rs) a = let h : r.0 < 17 = a.0 in (omega (arith, h), below rs a.1)
 
--- and so is each of them
+-- each refused port of the list is at most 16
 pub within_at : (rs : List (ℕ × NoRoom)) (i : ℕ) (d : ℕ × NoRoom) → i < length rs → AllByRecursion (λ r. r.0 ≤ 16) rs
     → (get_or rs i d).0 ≤ 16
 within_at [] i d l a = absurd (omega (arith, l))

@@ -1,4 +1,4 @@
--- As many of the local ports stand in a list of ports as the list has, and as its bits have ones.
+-- The number of local ports that a set contains is the length of its list, and the number of its bits that are set.
 use Rattle.std.proofs.Common.{◌≡◌, zero, suc, ℕ, ◌+◌, ◌*◌, ◌/◌, ◌%◌, ◌^◌, ◌<◌, ◌==◌, Bool, true, false, cond, ◌||◌}
 use Rattle.std.proofs.Common.{List, [], ◌∷◌, ◌++◌, length, count_ones, refl, sym, ap, ◌∙◌, arith, eq-eqb}
 use Rattle.std.proofs.Math.Nat.{pow-succ'}
@@ -11,7 +11,7 @@ use lib.Count.{ones_step, ones-le}
 abbrev stands : List ℕ → ℕ → Bool
 stands ports q = list_any (λ p. p == q) ports
 
--- no earlier port stands among those from one on
+-- a port below the first one is not in the list
 none_before : (n p q bits : ℕ) → q < p → stands (ports_in n p bits) q ≡ false
 unfolding ports_in
 none_before zero p q bits l = refl
@@ -23,7 +23,7 @@ none_before (suc n) p q bits l = by (bits % 2 == 1) (none_before n (p + 1) q (bi
         (unequal p q (λ e. absurd (omega (arith, e, l)))) ∙ rest
     by false rest = rest
 
--- what tests say alike of all later numbers they count alike
+-- tests that agree on all later numbers count them alike
 count_same : (f g : ℕ → Bool) (p n k : ℕ) → p < k → ((q : ℕ) → p < q → f q ≡ g q)
     → count_by f (range_with_len k n) ≡ count_by g (range_with_len k n)
 count_same f g p zero k l same = refl
@@ -55,7 +55,7 @@ all_stand (suc n) p bits = by (bits % 2 == 1) (all_stand n (p + 1) (bits / 2))
         let none = ap {B = ℕ} (λ b. cond b 1 0) (none_before n (p + 1) p (bits / 2) (omega arith)) in
         omega (arith, here, none, later)
 
--- the ones of the bits
+-- the number of bits that are set is the length of the list
 pub ones_are : (n p bits : ℕ) → bits < 2 ^ n → length (ports_in n p bits) ≡ count_ones bits
 unfolding ports_in
 ones_are zero p bits l = let few = ones-le 0 bits (omega (arith, l)) in omega (arith, few)

@@ -1,9 +1,9 @@
--- Numbers that rise strictly, tested one against the next.
+-- Numbers in strictly ascending order, each compared with the next. For the loops of the check of plans.
 use Rattle.std.proofs.Common.{◌≡◌, ℕ, ◌<◌, ◌≤◌, List, [], ◌∷◌, length, get_or, arith, suc, zero, ◌-◌}
 use Rattle.pb_frame.specs.Lists.{Rises}
 use Rattle.pb_frame.proofs.Lists.{All-imply}
 
--- the numbers before the place n rise
+-- the numbers at the first n places ascend strictly
 abbrev pub RisesBelow : List ℕ → ℕ → Type 0
 RisesBelow xs n = (k : ℕ) → suc k < n → get_or xs k 0 < get_or xs (suc k) 0
 
@@ -20,7 +20,7 @@ rises_at (n ∷ m ∷ ns) zero h r = r.0.0
 rises_at (n ∷ m ∷ ns) (suc k) h r = rises_at (m ∷ ns) k (omega arith) r.1
 rises_at _ k h r = absurd (omega arith)
 
--- a number that is not above the one before it
+-- numbers do not ascend if one is not above the one before it
 pub falls_at : (xs : List ℕ) (k : ℕ) → 1 ≤ k → k < length xs → get_or xs k 0 ≤ get_or xs (k - 1) 0 → Rises xs → ⊥
 falls_at xs zero some within falls r = omega (arith, some)
 falls_at xs (suc k) some within falls r =

@@ -13,7 +13,7 @@ use Rattle.pb_lan.specs.declared.step.Outcome.TheVariants.{Relayed}
 use Rattle.pb_lan.specs.declared.step.Step.TheVariants.{Poll, Feed, Deliver, Receive, Transmit, Take, Put}
 use Rattle.pb_frame.specs.declared.learnt.Learnt.TheVariants.{New}
 
--- a broadcast at customer port 1 leaves by customer port 2
+-- a broadcast that enters at customer port 1 leaves by customer port 2
 abbrev pub rec : Record
 rec = record {
   bridges = (Receive 2 into_1 (Some New) (Relayed (1 ∷ []) []) None ∷ Transmit 1 over ∷ [])

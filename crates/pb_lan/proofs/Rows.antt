@@ -1,6 +1,5 @@
--- Worked examples of the definitions: two bridges, joined by a link from port 1 to port 1. Red (VID
--- 100) has customer port 1 (bridge 1, port 2) and 2 (bridge 2, port 2), blue (VID 200) has 3 (bridge
--- 2, port 3).
+-- Worked examples of the definitions. Two bridges have a link from port 1 to port 1. Service red (VID 100) has customer
+-- port 1 (bridge 1, port 2) and 2 (bridge 2, port 2), and service blue (VID 200) has 3 (bridge 2, port 3).
 use Rattle.std.proofs.Common.{◌≡◌, ℕ, ◌+◌, List, [], ◌∷◌, ◌++◌, refl, true, false, Some, None, replicate, inr, ap}
 use Rattle.std.proofs.Common.{arith, slice_index, inl}
 use Rattle.pb_lan.proofs.ForestEdges.{Edge, trees_of}
@@ -85,7 +84,7 @@ item_of number hops wire = record { mark = Some (record { port = 1; number = num
 abbrev pub to : List ℕ → Item
 to address = item_of 0 0 (address ++ 2 ∷ 0 ∷ 0 ∷ 0 ∷ 1 ∷ 1 ∷ 0 ∷ 7 ∷ 66 ∷ 66 ∷ 3 ∷ 0 ∷ 0 ∷ 0 ∷ 128 ∷ [])
 
--- what is done with frames at customer port 1
+-- the rulings on frames at customer port 1
 carried : ruling no_bpdus plan 1 [] 2 (to (block 0)) ≡ Carries 100
 carried = refl
 
@@ -109,7 +108,7 @@ service_tagged : ruling no_bpdus plan 1 [] 2 (item_of 0 0 (addresses ++ 136 ∷ 
     STagged
 service_tagged = refl
 
--- a C-tag is data
+-- a C-tag is part of the data
 on_link : (copy_of plan (port_at plan 1 2) (port_at plan 1 1)
     (item_of 0 0 (addresses ++ 129 ∷ 0 ∷ 32 ∷ 5 ∷ 8 ∷ 0 ∷ 65 ∷ 66 ∷ []))).wire
     ≡ addresses ++ 136 ∷ 168 ∷ 0 ∷ 100 ∷ 129 ∷ 0 ∷ 32 ∷ 5 ∷ 8 ∷ 0 ∷ 65 ∷ 66 ∷ []
@@ -125,7 +124,7 @@ over = item_of 0 1 (addresses ++ 136 ∷ 168 ∷ 0 ∷ 100 ∷ 8 ∷ 0 ∷ 65 �
 abbrev pub out_2 : Item
 out_2 = item_of 0 2 broadcast
 
--- a station of blue is unknown in red: its frame is flooded
+-- a station of blue is unknown in red, and a frame to it is flooded
 abbrev pub station : List ℕ
 station = 2 ∷ 0 ∷ 0 ∷ 0 ∷ 3 ∷ 3 ∷ []
 
@@ -194,7 +193,7 @@ no_forest (rooted, shows) =
     let same_link : slice_index by_one 0 ≡ slice_index by_two 0 = ap (λ xs. slice_index xs 0) same_walk in
     omega (arith, same_link)
 
--- where the plan decides: down is Discarding and flushed
+-- if the plan gives the states, a disabled port is Discarding and flushed
 abbrev pub down : Step
 down = Admin 1 false (record { states = (1, Discarding) ∷ []; flushed = 1 ∷ []; queued = []; dropped = [] })
 
@@ -205,7 +204,7 @@ after_down : (chosen_ports plan 1 (down ∷ []) 2 100 broadcast ≡ [])
     × (ruling no_bpdus plan 1 (down ∷ []) 1 over ≡ Refuses NotForwarding)
 after_down = (refl, refl)
 
--- one bridge, three customer ports of a service, room for one item a port
+-- one bridge with three customer ports of a service and queues of one item
 abbrev pub small : Plan
 small = record {
   bridges = bridge_of 1 1 ∷ [];

@@ -1,4 +1,4 @@
--- What is known of a frame that is carried, and where it goes.
+-- What a ruling to relay a frame says of the frame, its port and the ports to which it goes.
 use Rattle.std.proofs.Common.{map, ◌≡◌, inl, inr, ℕ, ◌<◌, ◌≤◌, Some, None, Option, Bool, true, false, cond, not, ◌&&◌}
 use Rattle.std.proofs.Common.{◌==◌, List, [], ◌∷◌, ◌++◌, refl, sym, subst, unwrap_or, arith, nat_lt, length, suc}
 use Rattle.std.proofs.Common.{zero}
@@ -34,11 +34,11 @@ use Rattle.pb_lan.specs.declared.step.Outcome.TheVariants.{Relayed}
 use Rattle.pb_lan.specs.declared.step.Step.{Step}
 use Rattle.pb_lan.specs.declared.step.Step.TheVariants.{Receive}
 
--- a ruling to carry names one service
+-- rulings to relay in two services are the same only if the services are
 carries-injective : (a b : ℕ) → Carries a ≡ Carries b → a ≡ b
 carries-injective a b h = cc
 
--- a frame carried from a customer port is long enough, and goes in its service
+-- a frame that is relayed from a customer port has at least 14 octets, and goes in the port's service
 pub carried-customer : (plan : Plan) (c : CustomerPlan) (item : Item) (v : ℕ)
     → first_case (customer_cases item) (Carries (vid_at plan c)) ≡ Carries v
     → (14 ≤ length item.wire) × (vid_at plan c ≡ v)
@@ -49,7 +49,7 @@ carried-customer plan c item v h =
     long : (n : ℕ) → nat_lt n 14 ≡ false → 14 ≤ n
     long n h = grind (arith, h)
 
--- a frame carried from a provider port is not for bridges, and goes in its tag's service
+-- a frame that is relayed from a provider port is not for bridges, and goes in its tag's service
 pub carried-provider : (rules : Rules) (plan : Plan) (e : End) (state : PortState) (item : Item) (v : ℕ)
     → first_case (provider_cases rules plan e item) (ruling_in state (vid_of item.wire)) ≡ Carries v
     → (is_for_bridges item.wire ≡ false) × (vid_of item.wire ≡ v)
@@ -62,13 +62,13 @@ carried-provider rules plan e state item v h =
     in_state Forwarding h = carries-injective _ v h
     in_state _ h = cc
 
--- a step that moves nothing queues nothing of its own
+-- a step that reports no changes queues no BPDU
 none-own : (plan : Plan) (b : ℕ) (moved : Option Moved) → moved ≡ None
     → AllByRecursion (λ m. AllByRecursion (IsOwn plan b) m.queued) (moved_part moved)
 none-own plan b moved e = subst (λ o. AllByRecursion (λ m. AllByRecursion (IsOwn plan b) m.queued) (moved_part o))
     (sym e) tt
 
--- what a bridge queues of its own is for other bridges
+-- what a step of receiving queues as the bridge's own is for other bridges
 pub follows-own : (rules : Rules) (plan : Plan) (b : ℕ) (earlier : List Step) (q : ℕ) (item : Item)
     (learnt : Option Learnt)
     (outcome : Outcome) (moved : Option Moved) (g : Ruling)
@@ -83,7 +83,7 @@ follows-own rules plan b earlier q item learnt outcome moved (Carries v) (inl h)
 follows-own rules plan b earlier q item learnt outcome moved (Carries v) (inr h) = none-own plan b moved h.2
 follows-own rules plan b earlier q item learnt outcome moved Closed h = absurd h
 
--- the VID of a customer port's service is one of the plan's, or 0
+-- the VID of a customer port's service is below 4,096
 pub vid_at-small : (plan : Plan) (c : CustomerPlan) → IsSound plan → vid_at plan c < 4096
 vid_at-small plan c sound = by_service (numbered plan.services c.service) refl
   where
@@ -93,7 +93,7 @@ vid_at-small plan c sound = by_service (numbered plan.services c.service) refl
     by_service (Some s) e = let n = numbered-All (λ s. IsNumber s.vid 4094) plan.services c.service s e sound.vids
         in omega (arith, n.1)
 
--- a frame that is carried in at a provider port found it Forwarding, and a member of the frame's service
+-- a frame is relayed from a provider port only if the port is Forwarding and a member of the frame's service
 pub carried-open : (rules : Rules) (plan : Plan) (e : End) (state : PortState) (item : Item) (v : ℕ)
     → first_case (provider_cases rules plan e item) (ruling_in state (vid_of item.wire)) ≡ Carries v
     → (is_forwarding state ≡ true) × (serves plan v e ≡ true)
@@ -110,7 +110,7 @@ carried-open rules plan e state item v h =
     in_state Forwarding h = refl
     in_state _ h = cc
 
--- what is relayed changes no state, and its ports were chosen with the step itself in mind
+-- a step of relaying was ruled to relay, changes no state, and has the ports that the definition gives after the step
 pub follows-relayed : (rules : Rules) (plan : Plan) (b : ℕ) (earlier : List Step) (q : ℕ) (item : Item)
     (learnt : Option Learnt)
     (chosen : List ℕ) (refused : List (ℕ × NoRoom)) (moved : Option Moved) (g : Ruling)
@@ -126,11 +126,11 @@ follows-relayed rules plan b earlier q item learnt chosen refused moved (Carries
 follows-relayed rules plan b earlier q item learnt chosen refused moved (Carries v) (inr h) = (v, refl, h.1.0, h.2)
 follows-relayed rules plan b earlier q item learnt chosen refused moved Closed h = absurd h
 
--- the number is one of a local port: a list by local port has an entry for it
+-- the number is that of a local port: a list by local port has its entry
 abbrev pub IsLocal : ℕ → Type 0
 IsLocal p = (f : ℕ → PortState) → numbered (map f local_ports) p ≡ Some (f p)
 
--- the local ports are local
+-- all local ports are such numbers
 pub all-local : AllByRecursion IsLocal local_ports
 all-local = (
   λ f. refl,
@@ -167,7 +167,7 @@ all-local = (
   ),
 )
 
--- the ports from 1 to 16 are the local ports
+-- the numbers 1 to 16 are the local ports
 pub local-listed : (n : ℕ) → IsNumber n 16 → list_any (λ p. p == n) local_ports ≡ true
 local-listed zero h = absurd (omega (arith, h.0))
 local-listed (suc (suc (suc (suc (suc (suc (suc (suc (suc (suc (suc (suc (suc (suc (suc (suc zero)))))))))))))))) h =
@@ -176,19 +176,19 @@ local-listed (suc (suc (suc (suc (suc (suc (suc (suc (suc (suc (suc (suc (suc (s
     = absurd (omega (arith, h.1))
 local-listed _ h = refl
 
--- so they are local
+-- each number 1 to 16 is that of a local port
 pub number-local : (p : ℕ) → IsNumber p 16 → IsLocal p
 number-local p h = let found = list_any-found IsLocal (λ x. x == p) local_ports (local-listed p h) all-local in subst
     IsLocal (eqb-true found.0 p found.2) found.1
 
--- a port of choice is another one, Forwarding, and a member of the service
+-- the chosen port is another local port, Forwarding, and a member of the service
 pub record IsChoice (plan : Plan) (b : ℕ) (steps : List Step) (q v p : ℕ) : Type 0 where
   pub other : (p == q) ≡ false
   pub forwarding : is_forwarding (state_after plan b steps p) ≡ true
   pub member : is_member plan v (port_at plan b p) ≡ true
   pub local : IsLocal p
 
--- each chosen port is a choice
+-- each chosen port is such a port
 pub chosen-choice : (plan : Plan) (b : ℕ) (steps : List Step) (q v : ℕ) (wire : List ℕ)
     → AllByRecursion (IsChoice plan b steps q v) (chosen_ports plan b steps q v wire)
 chosen-choice plan b steps q v wire =
@@ -222,7 +222,7 @@ chosen-choice plan b steps q v wire =
         (filter (λ p. p == at) (flood plan b steps q v))
         (All-filter (IsChoice plan b steps q v) (λ p. p == at) (flood plan b steps q v) a)
 
--- each port to which a frame was relayed was a choice, with the step itself in mind
+-- each port to which a frame was relayed is such a port after the step
 pub chosen-there : (rules : Rules) (plan : Plan) (b r : ℕ) (earlier : List Step) (q : ℕ) (item : Item)
     (learnt : Option Learnt)
     (chosen : List ℕ) (refused : List (ℕ × NoRoom)) (moved : Option Moved)

@@ -1,4 +1,4 @@
--- The states of ports, by what stands at them, and lists of them.
+-- The states of ports by their kind, and the loops that list them. For `port_state` and `start_shape`.
 use Rattle.std.proofs.Common.{◌≡◌, ℕ, zero, suc, ◌+◌, ◌<◌, Bool, true, false, if◌then◌else◌, ◌||◌, ◌==◌, flat_map}
 use Rattle.std.proofs.Common.{List, [], ◌∷◌, ◌++◌, Some, None, is_some, map, take, length, refl, sym, ap, ◌∙◌, arith}
 use Rattle.std.proofs.Common.{add-one, append-nil, unwrap_or}
@@ -24,7 +24,7 @@ use Rattle.pb_lan.specs.declared.step.Moved.{Moved}
 use Rattle.pb_lan.specs.declared.step.Step.{Step}
 use Rattle.pb_lan.specs.Ports.Port.{Provider}
 
--- something passes the test where a first one does
+-- a first entry that passes the test exists if and only if some entry passes
 pub is_some-first : {X : Type 0} (test : X → Bool) (xs : List X) → is_some (first test xs) ≡ list_any test xs
 is_some-first test [] = refl
 is_some-first {X} test (x ∷ xs) = by (test x) (is_some-first test xs)
@@ -34,7 +34,7 @@ is_some-first {X} test (x ∷ xs) = by (test x) (is_some-first test xs)
     by true rest = refl
     by false rest = rest
 
--- an end passes the test where one of a link's two does
+-- a first end that passes the test exists if and only if an end of some link passes
 pub is_some-ends : (test : End → Bool) (links : List LinkPlan)
     → is_some (first test (flat_map ends_of links)) ≡ list_any (λ l. test l.a || test l.b) links
 is_some-ends test [] = refl
@@ -47,7 +47,7 @@ is_some-ends test (l ∷ links) = by (test l.a) (test l.b) (is_some-ends test li
     by false true e = refl
     by false false e = e
 
--- states that the test holds for one are one
+-- two states that compare as equal are the same
 pub same_state : (a b : PortState) → is_same a b ≡ true → a ≡ b
 same_state Discarding Discarding h = refl
 same_state Learning Learning h = refl
@@ -74,7 +74,7 @@ other_first : (spanning : Spanning) (other : Port) (newest : Option PortState) (
 other_first spanning other newest None e = refl
 other_first spanning other newest (Some c) e = cc
 
--- else what stands there is an end of a link, or nothing
+-- without a customer port the state is that of an end or of an unused port
 pub newest-other : (plan : Plan) (b q : ℕ) (newest : Option PortState) (o : Option End)
     → list_any (is_customer_at b q) plan.customers ≡ false → o ≡ first (is_end_at b q) (all_ends plan)
     → newest_state plan b q newest ≡ newest_by plan.spanning (provider_or_unused o) newest
@@ -84,7 +84,7 @@ newest-other plan b q newest o e found =
     (is_some-first (is_customer_at b q) plan.customers ∙ e)
     ∙ ap (λ (p : Option End). newest_by plan.spanning (provider_or_unused p) newest) (sym found)
 
--- a port has the state to which changes led, where that is the newest state, whatever the port started with
+-- if the newest state is the one to which the changes led, whatever the start, it gives the state after the changes
 newest-by : (spanning : Spanning) (p : Port) (port : ℕ) (newest : Option PortState) (changes : List (ℕ × PortState))
     → ((start : PortState) → unwrap_or newest start ≡ changed port start changes)
     → newest_by spanning p newest ≡ state_by spanning p port changes
@@ -96,11 +96,11 @@ pub newest-after : (plan : Plan) (b q : ℕ) (newest : Option PortState) (steps 
     → newest_state plan b q newest ≡ state_after plan b steps q
 newest-after plan b q newest steps led = newest-by plan.spanning (port_at plan b q) q newest (changes_of steps) led
 
--- where no step set it, that is the state in which it starts
+-- without a newest state the state is that at the start
 pub start_newest : (plan : Plan) (b q : ℕ) → newest_state plan b q None ≡ state_after plan b [] q
 start_newest plan b q = newest-after plan b q None [] (λ start. refl)
 
--- changes one after the other
+-- changes after others
 changed-append : (q : ℕ) (s : PortState) (front bs : List (ℕ × PortState))
     → changed q s (front ++ bs) ≡ changed q (changed q s front) bs
 changed-append q s [] bs = refl
@@ -109,7 +109,7 @@ changed-append q s (a ∷ front) bs = changed-append q (if a.0 == q then a.1 els
 abbrev states_of : Moved → List (ℕ × PortState)
 states_of moved = moved.states
 
--- one step more
+-- the changes of one more step
 pub changed-push : (q : ℕ) (s : PortState) (steps : List Step) (step : Step)
     → changed q s (changes_of (steps ++ step ∷ [])) ≡ changed q (changed q s (changes_of steps))
     (flat_map (λ moved. moved.states) (moved_of step))
@@ -120,12 +120,12 @@ changed-push q s steps step =
     ∙ flat_map-append states_of (flat_map moved_of steps) (moved_of step))
     ∙ changed-append q s (changes_of steps) (flat_map states_of (moved_of step))
 
--- one change more
+-- one more change
 pub changed-next : (q : ℕ) (s : PortState) (changes : List (ℕ × PortState)) (change : ℕ × PortState)
     → changed q s (changes ++ change ∷ []) ≡ (if change.0 == q then change.1 else changed q s changes)
 changed-next q s changes change = changed-append q s changes (change ∷ [])
 
--- one number more
+-- the values of one more number
 numbers-suc : {X Y : Type 0} (f : ℕ → Y) (j k : ℕ) (xs : List X) → k < length xs
     → map f (take (suc k) (numbers_from j xs)) ≡ map f (take k (numbers_from j xs)) ++ f (j + k) ∷ []
 numbers-suc f j k [] h = absurd (omega arith)
@@ -142,7 +142,7 @@ numbers-more f j k xs h =
     ap (λ n. map f (take n (numbers_from j xs))) (add-one k) ∙ numbers-suc f j k xs h
     ∙ ap (λ n. map f (take k (numbers_from j xs)) ++ f n ∷ []) e
 
--- all of them
+-- the values of all numbers
 pub numbers-all : {X Y : Type 0} (f : ℕ → Y) (j k : ℕ) (xs : List X) → k ≡ length xs
     → map f (take k (numbers_from j xs)) ≡ map f (numbers_from j xs)
 numbers-all f j zero (x ∷ xs) h = absurd (omega (arith, h))

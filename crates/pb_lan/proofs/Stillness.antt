@@ -1,4 +1,4 @@
--- Where no step changes the state of a port, each frame is handled under the shape at the start.
+-- If no step changes the state of a port, each frame is handled under the shape at the start.
 use Rattle.std.proofs.lemmas.Bool.{or_parts}
 use Rattle.std.proofs.Common.{add-zero, ◌≡◌, inl, inr, ℕ, zero, suc, ◌+◌, false, Some, None, Option, List, [], ◌∷◌}
 use Rattle.std.proofs.Common.{◌++◌, refl, sym, ◌∙◌, ap, subst, map, slice_get, unwrap_or, arith, append_assoc}
@@ -37,7 +37,7 @@ changes-append : (a b : List Step) → changes_of (a ++ b) ≡ changes_of a ++ c
 changes-append a b = ap (flat_map states_in) (flat_map-append moved_of a b)
     ∙ flat_map-append states_in (flat_map moved_of a) (flat_map moved_of b)
 
--- no change, and the states are those at the start
+-- without changes the states are those at the start
 unchanged : (plan : Plan) (b : ℕ) (earlier : List Step) → changes_of earlier ≡ []
     → states_after plan b [] ≡ states_after plan b earlier
 unchanged plan b earlier e =
@@ -61,7 +61,7 @@ all-still plan shape mark b start earlier (step ∷ steps) e =
           (ap changes_of (append_assoc earlier (step ∷ []) steps) ∙ e),
     )
 
--- what all lists have, the list of each number has
+-- a property of all lists, and of the empty one, holds of the list of each number
 list-of : (P : List Step → Type 0) (lists : List (List Step)) → P [] → AllByRecursion P lists → (n : ℕ)
     → P (steps_of lists n)
 list-of P lists none all zero = none
@@ -103,9 +103,9 @@ still_frames_are_traced rules plan rec lawful still mark entry planned forest = 
         all-still plan (start_shape plan) mark b (start-at plan b x e) [] (steps_of rec.bridges b)
         (list-of (λ steps. changes_of steps ≡ []) rec.bridges refl still b)
 
--- Where the plan gives the states.
+-- If the plan gives the states.
 
--- what a step names changes nothing
+-- a step reports no change of state if its cause changes none
 named-nothing : (rules : Rules) (plan : Plan) (b : ℕ) (earlier : List Step) (cause : Cause) (moved : Moved)
     → (change_of rules plan b earlier cause).states ≡ []
     → Names rules plan b earlier cause moved → moved.states ≡ []

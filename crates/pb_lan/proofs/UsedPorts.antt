@@ -1,4 +1,4 @@
--- Local ports in use, link by link.
+-- Local ports in use, link by link. For the loop of the check of plans.
 use Rattle.std.proofs.Common.{◌≡◌, ◌≤◌, ◌<◌, ℕ, Bool, false, List, [], ◌∷◌, map, ◌||◌, ◌↔◌, length, get_or, arith}
 use Rattle.std.proofs.Common.{refl}
 use Rattle.std.specs.List.{list_any, IsDistinct}
@@ -8,7 +8,7 @@ use Rattle.pb_lan.specs.UsedPorts.{HasFreeEnds}
 use Rattle.pb_lan.specs.declared.plan.LinkPlan.{LinkPlan}
 use Rattle.pb_lan.specs.declared.plan.CustomerPlan.{CustomerPlan}
 
--- a test of the ports in use
+-- a test of the ports in use is a test of links or of customer ports
 pub list_any-ports_in : (p : (ℕ × ℕ) → Bool) (links : List LinkPlan) (customers : List CustomerPlan)
     → list_any p (ports_in links customers)
     ≡ (list_any (λ l. p (l.a.bridge, l.a.port) || p (l.b.bridge, l.b.port)) links || list_any
@@ -21,7 +21,7 @@ list_any-ports_in p (l ∷ links) customers =
     by_first false false n c e = e
     by_first _ _ n c e = refl
 
--- one more link, whose ends are free
+-- if the first link's ends are free, the ports in use are distinct if and only if the others are
 pub ports_rest : (links : List LinkPlan) (customers : List CustomerPlan) (link : LinkPlan)
     → 1 ≤ length links → link ≡ get_or links 0 link → HasFreeEnds link (ports_in (after_first links) customers)
     → IsDistinct is_same_port (ports_in links customers) ↔ IsDistinct is_same_port
@@ -38,7 +38,7 @@ ports_rest (l ∷ links) customers link some is free =
       )),
     )
 
--- a link whose ends are not free
+-- if the first link's ends are not free, the ports in use are not distinct
 pub ports_twice : (links : List LinkPlan) (customers : List CustomerPlan) (link : LinkPlan)
     → 1 ≤ length links → link ≡ get_or links 0 link → (HasFreeEnds link (ports_in (after_first links) customers) → ⊥)
     → IsDistinct is_same_port (ports_in links customers) → ⊥

@@ -1,5 +1,4 @@
--- Where the frames of one mark are, when all are handled under a forest: each has come by a walk that
--- never turns back.
+-- The items of one mark that was handled under a forest: each came by a walk that never turns back.
 use Rattle.std.proofs.Common.{◌≡◌, ℕ, Some, None, Option, true, ◌==◌, List, [], ◌∷◌, ◌++◌, refl, sym, ◌∙◌, ap, subst}
 use Rattle.std.proofs.Common.{◌+◌, length}
 use Rattle.std.specs.Cmp.Derive.{both_true}
@@ -42,18 +41,18 @@ use Rattle.pb_lan.specs.declared.step.Outcome.TheVariants.{Relayed}
 use Rattle.pb_lan.specs.declared.step.Step.{Step}
 use Rattle.pb_lan.specs.declared.step.Step.TheVariants.{Receive}
 
--- what is received: it may come in there, and if it is of the mark it came by a walk
+-- the item may be received at the port, and came by a walk if it has the mark
 abbrev pub ComesIn : Plan → Record → Shape → ℕ → CustomerPlan → Mark → ℕ → ℕ → Item → Type 0
 ComesIn plan rec shape vid entry mark b q item = MayComeIn plan rec (port_at plan b q) item
     × (is_of mark item ≡ true → ComesBy plan shape rec mark vid entry (port_at plan b q) b q item)
 
--- what is queued: it may go out there, and if it is of the mark it goes on from a walk
+-- the item may be queued at the port, and goes on from a walk if it has the mark
 abbrev pub GoesOut : Plan → Record → Shape → ℕ → CustomerPlan → Mark → ℕ → ℕ → Item → Type 0
 GoesOut plan rec shape vid entry mark b r item = MayGoOut plan rec (port_at plan b r) item
     × (is_of mark item ≡ true → IsSent plan shape rec mark vid entry b r item)
 
--- a mark is followed in a lawful record of a sound plan: it came in at the entry, and was handled under
--- a forest with this certificate
+-- the mark entered at this customer port of a sound plan, and was handled under a forest with this certificate in a
+-- lawful record
 pub record IsFollowed (rules : Rules) (plan : Plan) (rec : Record) (shape : Shape) (entry : CustomerPlan)
     (mark : Mark) (rooted : Rooted) : Type 0 where
   pub sound : IsSound plan
@@ -62,7 +61,7 @@ pub record IsFollowed (rules : Rules) (plan : Plan) (rec : Record) (shape : Shap
   pub planned : numbered plan.customers mark.port ≡ Some entry
   pub handled : IsHandledUnder plan shape rec mark
 
--- a traced mark is followed, under any forest of the shape
+-- a mark that was handled under a forest is one for each certificate of the forest
 pub traced-followed : (rules : Rules) (plan : Plan) (rec : Record) → IsSound plan → IsLawfulRecord rules plan rec
     → (shape : Shape) (mark : Mark) (entry : CustomerPlan) → IsTraced plan shape rec mark entry
     → (forest : IsForest plan shape (vid_at plan entry)) → IsFollowed rules plan rec shape entry mark forest.0
@@ -74,7 +73,7 @@ traced-followed rules plan rec sound lawful shape mark entry traced forest = rec
   handled = traced.handled;
 }
 
--- what a relayed frame of the mark has come by
+-- a relayed item of the mark goes on from a walk
 pub relays-sent : (rules : Rules) (plan : Plan) (rec : Record) (shape : Shape) (entry : CustomerPlan) (mark : Mark)
     (rooted : Rooted)
     → IsFollowed rules plan rec shape entry mark rooted
@@ -113,7 +112,7 @@ relays-sent rules plan rec shape entry mark rooted followed b r earlier later q 
           relayed-on k (port_at plan b q) refl (known.1 m),
     )
 
--- the walks spread over the record
+-- the two properties spread over the record
 walks : (rules : Rules) (plan : Plan) (rec : Record) (shape : Shape) (entry : CustomerPlan) (mark : Mark)
     (rooted : Rooted)
     → IsFollowed rules plan rec shape entry mark rooted
@@ -167,29 +166,29 @@ walks rules plan rec shape entry mark rooted followed = record {
         (λ b r. MayGoOut plan rec (port_at plan b r))
     arrivals = arrivals-spread rules plan rec followed.sound
 
--- if it is of the mark, the item was sent to the customer port after a walk
+-- the item was sent to the customer port after a walk, if it has the mark
 abbrev pub IsSentTo : Plan → Shape → Record → Mark → CustomerPlan → CustomerPlan → Item → Type 0
 IsSentTo plan shape rec mark entry c item =
     is_of mark item ≡ true → IsSent plan shape rec mark (vid_at plan entry) entry c.bridge c.port item
 
--- where a followed mark is
+-- where items of such a mark are
 module _ (rules : Rules) (plan : Plan) (rec : Record) (shape : Shape) (entry : CustomerPlan) (mark : Mark)
     (rooted : Rooted) (followed : IsFollowed rules plan rec shape entry mark rooted) where
-  -- what is queued anywhere goes on from a walk
+  -- each queued item of the mark goes on from a walk
   pub queued-walks : (b r : ℕ) → AllQueued (GoesOut plan rec shape (vid_at plan entry) entry mark b r) plan b r
       (steps_of rec.bridges b)
   queued-walks = queued-all rules plan rec (ComesIn plan rec shape (vid_at plan entry) entry mark)
       (GoesOut plan rec shape (vid_at plan entry) entry mark)
       (walks rules plan rec shape entry mark rooted followed) followed.lawful
 
-  -- and what is received anywhere came by one
+  -- each received item of the mark came by a walk
   pub received-walks : (b q : ℕ) → AllByRecursion (ComesIn plan rec shape (vid_at plan entry) entry mark b q)
       (received q (steps_of rec.bridges b))
   received-walks = received-all rules plan rec (ComesIn plan rec shape (vid_at plan entry) entry mark)
       (GoesOut plan rec shape (vid_at plan entry) entry mark)
       (walks rules plan rec shape entry mark rooted followed) followed.lawful
 
-  -- what is delivered of the mark came by such a walk
+  -- each delivered item of the mark was sent after a walk
   pub delivered-sent : (number : ℕ) (c : CustomerPlan) → numbered plan.customers number ≡ Some c
       → AllByRecursion (λ item. is_of mark item ≡ true → IsSent plan shape rec mark (vid_at plan entry) entry c.bridge
       c.port item) (delivered (steps_of rec.customers number))
@@ -203,7 +202,7 @@ module _ (rules : Rules) (plan : Plan) (rec : Record) (shape : Shape) (entry : C
       c.port [] (steps_of rec.bridges c.bridge) (followed.lawful.bridges c.bridge) tt
       (queued-walks c.bridge c.port)))
 
-  -- and so did what left of it
+  -- each item of the mark that left was sent after a walk
   pub departed-sent : (number : ℕ) (c : CustomerPlan) → numbered plan.customers number ≡ Some c
       → AllByRecursion (IsSentTo plan shape rec mark entry c) (departed (steps_of rec.customers number))
   departed-sent number c at =
@@ -211,7 +210,7 @@ module _ (rules : Rules) (plan : Plan) (rec : Record) (shape : Shape) (entry : C
       (delivered (steps_of rec.customers number)) (departed-part (steps_of rec.customers number))
       (delivered-sent number c at)
 
-  -- all of the mark that is delivered at a port has made as many hops as any item that was sent there
+  -- all items of the mark that are delivered at a port have as many hops as any item that was sent there
   pub delivered-hops : (number : ℕ) (c : CustomerPlan) → numbered plan.customers number ≡ Some c
       → (other : Mark) (sent : Item) → IsSent plan shape rec other (vid_at plan entry) entry c.bridge c.port sent
       → AllByRecursion (λ item. is_of mark item ≡ true → item.hops ≡ sent.hops)
@@ -223,7 +222,7 @@ module _ (rules : Rules) (plan : Plan) (rec : Record) (shape : Shape) (entry : C
       c.bridge (h m).walk s.walk) ∙ sym s.hops)
       (delivered (steps_of rec.customers number)) (delivered-sent number c at)
 
-  -- none comes back to its own port
+  -- no item of the mark is delivered at its own port
   pub none-back : AllByRecursion (λ item. is_of mark item ≡ true → ⊥) (delivered (steps_of rec.customers mark.port))
   none-back =
       All-imply (IsSentTo plan shape rec mark entry entry) (λ item. is_of mark item ≡ true → ⊥)

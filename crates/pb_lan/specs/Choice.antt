@@ -1,5 +1,5 @@
--- Where a bridge's past says that stations are, and the ports that a frame goes to (IEEE 802.1Q clauses
--- 8.6 to 8.8).
+-- Where stations are according to a bridge's steps, and the ports to which a frame is relayed (IEEE 802.1Q clauses 8.6
+-- to 8.8).
 use Rattle.std.specs.Prelude.{ℕ, ◌+◌, Bool, true, false, List, [], ◌∷◌, ◌++◌, Some, None, map, length, nat_le, ◌==◌, ◌&&◌, not, if◌then◌else◌}
 use Rattle.std.specs.declared.option.Option.{Option}
 use Rattle.std.specs.List.{filter, flat_map}
@@ -15,7 +15,7 @@ use Rattle.pb_lan.specs.declared.plan.Plan.{Plan}
 use Rattle.pb_lan.specs.declared.step.Step.{Step}
 use Rattle.pb_lan.specs.declared.step.Step.TheVariants.{Receive, Tick}
 
--- the step is a tick, as 1 or 0
+-- 1 if the step is a tick, and 0 if it is not
 abbrev pub ticked : Step → ℕ
 ticked (Tick now moved) = 1
 ticked _ = 0
@@ -25,7 +25,7 @@ abbrev pub now_after : List Step → ℕ
 now_after [] = 0
 now_after (step ∷ steps) = ticked step + now_after steps
 
--- the table has the source at this port from this step on
+-- the learning table has the source at this port from this step on
 abbrev pub is_noted : Option Learnt → Bool
 is_noted None = false
 is_noted (Some New) = true
@@ -35,32 +35,35 @@ is_noted (Some Full) = false
 is_noted (Some Group) = false
 is_noted (Some Memory) = false
 
--- what a received frame says of its source
+-- the station that a received frame shows at a port, at this moment of the bridge's clock
 abbrev pub sighting : Plan → ℕ → ℕ → ℕ → List ℕ → Sighting
 sighting plan bridge moment port wire = record { vid = vid_in plan (port_at plan bridge port) wire; mac = src_of wire; port = port; moment = moment }
 
+-- the station that a step notes in the learning table, if it notes one
 abbrev pub sightings : Plan → ℕ → ℕ → Step → List News
 sightings plan bridge moment (Receive port item learnt outcome moved) =
     if is_noted learnt then Seen (sighting plan bridge moment port item.wire) ∷ [] else []
 sightings plan bridge moment _ = []
 
+-- the ports whose stations a step flushes
 abbrev pub flushes : Step → List News
 flushes step = map (λ port. Flushed port) (flat_map (λ moved. moved.flushed) (moved_of step))
 
+-- what steps report about stations, with the bridge's clock at this moment before them
 abbrev pub news_from : Plan → ℕ → ℕ → List Step → List News
 news_from plan bridge moment [] = []
 news_from plan bridge moment (step ∷ steps) =
     sightings plan bridge moment step ++ flushes step ++ news_from plan bridge (moment + ticked step) steps
 
--- all that a bridge's steps say of stations
+-- what a bridge's steps report about stations
 abbrev pub news_of : Plan → ℕ → List Step → List News
 news_of plan bridge steps = news_from plan bridge 0 steps
 
--- where the steps say that the station is
+-- the port at which the learning table has the station after these steps
 abbrev pub found : Plan → ℕ → List Step → ℕ → List ℕ → Option ℕ
 found plan bridge steps vid mac = where_is plan.ageing (now_after steps) (news_of plan bridge steps) vid mac
 
--- most stations that a bridge knows
+-- the most stations that a bridge knows
 abbrev pub table_limit : ℕ
 table_limit = 4096
 
@@ -68,6 +71,7 @@ table_limit = 4096
 abbrev pub is_table_full : Plan → ℕ → List Step → Bool
 is_table_full plan bridge steps = nat_le table_limit (length (standing plan.ageing (now_after steps) (news_of plan bridge steps)))
 
+-- what the learning table may report about the source of a frame
 abbrev pub Learns : Plan → ℕ → List Step → ℕ → List ℕ → Learnt → Type 0
 Learns plan bridge earlier port wire learnt =
     IsLearnt (is_group (src_of wire))
@@ -80,12 +84,12 @@ flood plan bridge steps port vid =
     filter (λ other. not (other == port) && (is_forwarding (state_after plan bridge steps other) && is_member plan vid (port_at plan bridge other)))
     local_ports
 
--- the one where the station is, if it is found (IEEE 802.1Q clause 8.6.3)
+-- of these ports the one at which the station is, or all if the station is unknown (IEEE 802.1Q clause 8.6.3)
 abbrev pub narrowed : List ℕ → Option ℕ → List ℕ
 narrowed ports None = ports
 narrowed ports (Some at) = filter (λ port. port == at) ports
 
--- the ports for a frame of a service that came in at a port, after the bridge's steps, ascending
+-- the ports, ascending, to which a bridge relays a frame of a service that arrived at a port
 abbrev pub chosen_ports : Plan → ℕ → List Step → ℕ → ℕ → List ℕ → List ℕ
 chosen_ports plan bridge steps port vid wire =
     if is_forwarding (state_after plan bridge steps port)

@@ -1,30 +1,31 @@
-//! What may be asked of the places of a network.
+//! Events: requests for one step of one place of a network.
 
 use crate::step::Place;
 use bytes::Bytes;
 
-/// A wish for one step of one place. Bridges, lanes and customer ports are numbered from 1 in the
-/// order of the plan; link j has lanes 2j-1 (a to b) and 2j (b to a); `port` beside `bridge` is one
-/// of the bridge's local ports, 1 to 16.
+/// A request for one step of one place.
+///
+/// Bridges, lanes and customer ports are numbered from 1 in the order of the plan. Link j has the lanes 2j-1 (from a to
+/// b) and 2j (from b to a). A `port` next to `bridge` is one of the bridge's local ports, 1 to 16.
 #[derive(PartialEq, Eq, Debug, Drop)]
 pub enum Event {
-    /// A frame comes in at a customer port.
+    /// A frame enters at a customer port.
     Poll { port: u8, frame: Bytes },
-    /// A customer port hands the frame that it holds to its bridge.
+    /// A customer port passes the frame that it holds to its bridge.
     Feed { port: u8 },
     /// A customer port takes the oldest frame that its bridge sent to it.
     Deliver { port: u8 },
-    /// A bridge takes the oldest item that came to one of its ports.
+    /// A bridge receives the oldest item that arrived at one of its ports.
     Receive { bridge: u8, port: u8 },
     /// A bridge sends the next item of one of its ports.
     Transmit { bridge: u8, port: u8 },
-    /// A bridge's clock goes on by one.
+    /// A bridge's clock advances by one tick.
     Tick { bridge: u8 },
-    /// A provider port is set up or down.
+    /// A provider port is enabled or disabled.
     Admin { bridge: u8, port: u8, up: bool },
     /// A lane takes the oldest item that was sent to it.
     Take { lane: u8 },
-    /// A lane puts the item that it holds in front of the far bridge.
+    /// A lane passes the item that it holds to the far bridge.
     Put { lane: u8 },
 }
 
@@ -32,7 +33,7 @@ impl Event {
     ghost use Rattle.std.specs.Prelude.{◌≡◌};
     ghost use Rattle.pb_lan.specs.Events.{place_of};
 
-    /// The place whose step it asks for.
+    /// Returns the place that the event asks for a step.
     pub fn place(&self) -> Place
         ensures { result ≡ place_of self.now }
     {

@@ -6,8 +6,9 @@ ghost use Rattle.std.specs.Cmp.{nat_eq_equiv, partial_equiv_from_equiv};
 use std::fmt;
 use std::marker::Model;
 
-/// The number of a frame among those of its customer port; the first is 0. It stands in eight octets at any
-/// place, so that an item needs no gaps for it. Contracts see the number.
+/// The number of a frame among those of its customer port. The first is 0.
+///
+/// The eight octets need no alignment, which avoids padding in an item. Contracts see the number.
 #[derive(Clone, Copy)]
 pub struct FrameNumber([u8; 8]);
 
@@ -30,14 +31,14 @@ impl Model for FrameNumber {
 }
 
 impl FrameNumber {
-    /// The number of a frame.
+    /// Returns a frame number of this value.
     pub fn new(number: u64) -> FrameNumber
         ensures { result ≡ number }
     {
         FrameNumber(number.to_le_bytes())
     }
 
-    /// The number, as one to reckon with.
+    /// Returns the value as an integer.
     pub fn get(self) -> u64
         ensures { result ≡ self }
     {
@@ -45,7 +46,7 @@ impl FrameNumber {
     }
 }
 
-/// The same number.
+/// Compares the values.
 impl PartialEq for FrameNumber {
     ghost eq = { nat_eq };
 
@@ -60,7 +61,7 @@ impl Eq for FrameNumber {
     ghost laws = { nat_eq_equiv };
 }
 
-/// Shows the number.
+/// Formats the value.
 impl fmt::Debug for FrameNumber {
     fn fmt<W: fmt::Write>(&self, f: &mut fmt::Formatter<W>) -> fmt::Result {
         fmt::Debug::fmt(&self.get(), f)

@@ -5,7 +5,7 @@ ghost use Rattle.std.specs.Borrow.{ftrue};
 
 use std::marker::{Model, PhantomData};
 
-/// A list of what was noted. Contracts see the list as its `items`, and the program has no octet of it.
+/// A list of entries that only contracts see, as its `items`. The program holds no octet of it.
 #[derive(Drop)]
 pub struct Past<T> {
     of: PhantomData<T>,
@@ -16,18 +16,18 @@ impl<T> Model for Past<T> {
     ghost also_owns = { λ _. ftrue };
 }
 
-// It owns nothing.
+// It owns no value of type T.
 unsafe impl<T> Send for Past<T> {}
 
 impl<T> Past<T> {
-    /// The list of nothing. Takes no memory.
+    /// Returns an empty list. Allocates nothing.
     pub fn new() -> Past<T>
         ensures { result.items ≡ [] }
     {
         Past { of: PhantomData }
     }
 
-    /// The list with one more entry. Takes no memory.
+    /// Returns the list with one more entry at its end. Allocates nothing.
     #[inline(always)]
     fn with(&self, entry: &T) -> Past<T>
         ensures { result.items ≡ self.now.items ++ entry.now ∷ [] }
@@ -35,7 +35,7 @@ impl<T> Past<T> {
         Past { of: PhantomData }
     }
 
-    /// Notes one more entry. Takes no memory.
+    /// Appends one entry. Allocates nothing.
     #[inline(always)]
     pub fn note(&mut self, entry: &T)
         ensures { self.new.items ≡ self.old.items ++ entry.now ∷ [] }

@@ -1,4 +1,4 @@
-//! Local ports of a bridge, in an order.
+//! Lists of local ports of a bridge, in any order.
 
 ghost use Rattle.std.specs.Prelude.{◌≡◌, ◌≤◌, ◌<◌, ◌++◌, ◌∷◌, [], length, nat_eq, if◌then◌else◌};
 ghost use Rattle.std.specs.Cmp.Lexicographic.{pointwise, nat_list_eq_equiv};
@@ -9,8 +9,8 @@ use std::marker::Model;
 /// The most ports of a bridge.
 const PORTS: usize = 16;
 
-/// Up to sixteen local ports of a bridge, in an order. They stand in the value itself, and take no other
-/// memory. Contracts see the list of the ports.
+/// Up to sixteen local ports of a bridge, in any order. The value holds them itself and allocates nothing. Contracts
+/// see the list of the ports.
 #[derive(Debug, Drop)]
 pub struct PortList {
     ports: [u8; PORTS],
@@ -28,7 +28,7 @@ impl Model for PortList {
 }
 
 impl PortList {
-    /// No ports.
+    /// Returns an empty list.
     pub fn new() -> PortList
         ensures { result ≡ [] }
     {
@@ -38,7 +38,7 @@ impl PortList {
         }
     }
 
-    /// Puts a port behind the others.
+    /// Appends a port.
     pub fn push(&mut self, port: u8)
         requires { length self.old < 16 }
         ensures { self.new ≡ self.old ++ port ∷ [] }
@@ -57,7 +57,7 @@ impl PortList {
         self.count += u8::from(is_wanted);
     }
 
-    /// The ports, in their order.
+    /// Returns the ports, in their order.
     pub fn as_slice(&self) -> &[u8]
         ensures ports { result.now ≡ self.now }
         ensures few { length result.now ≤ 16 }
@@ -66,7 +66,7 @@ impl PortList {
     }
 }
 
-/// The same ports in the same order.
+/// Compares the ports and their order.
 impl PartialEq for PortList {
     ghost eq = { pointwise nat_eq };
 

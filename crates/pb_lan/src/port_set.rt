@@ -1,4 +1,4 @@
-//! Local ports of a bridge, each once and ascending.
+//! Sets of local ports of a bridge.
 
 ghost use Rattle.std.specs.Prelude.{◌≡◌, ◌≤◌, ◌<◌, ◌==◌, ◌++◌, ◌∷◌, [], length, nat_eq, IfSome, IfNone};
 ghost use Rattle.std.specs.Cmp.Lexicographic.{pointwise, nat_list_eq_equiv};
@@ -14,8 +14,8 @@ use std::marker::Model;
 /// The most ports of a bridge.
 const PORTS: usize = 16;
 
-/// Local ports of a bridge, 1 to 16, each once and ascending. They take two octets. Contracts see the list of
-/// the ports.
+/// A set of local ports of a bridge, 1 to 16, in two octets. Contracts see the list of the ports, each once and
+/// ascending.
 #[derive(Debug, Drop)]
 pub struct PortSet {
     /// A bit for each port, the lowest for port 1.
@@ -32,14 +32,14 @@ impl Model for PortSet {
 }
 
 impl PortSet {
-    /// No ports.
+    /// Returns the empty set.
     pub fn new() -> PortSet
         ensures { result ≡ [] }
     {
         PortSet { bits: 0 }
     }
 
-    /// The ports of a slice. None where they aren't local ports that ascend.
+    /// Returns the set of the ports of a slice, or None if they are not local ports in strictly ascending order.
     pub fn from_slice(ports: &[u8]) -> Option<PortSet>
         ensures some { IfSome result (λ set. set ≡ ports.now) }
         ensures none { IfNone result (AreAscending 0 ports.now → ⊥) }
@@ -56,7 +56,7 @@ impl PortSet {
         Some(set)
     }
 
-    /// Puts a port behind those before it.
+    /// Adds a port that is higher than all others in the set.
     pub fn push(&mut self, port: u8)
         requires { ComesAfter self.old port }
         ensures { self.new ≡ self.old ++ port ∷ [] }
@@ -64,14 +64,14 @@ impl PortSet {
         self.bits += 1 << (port - 1);
     }
 
-    /// The same ports. Takes no memory.
+    /// Returns a copy. Allocates nothing.
     pub fn copied(&self) -> PortSet
         ensures { result ≡ self.now }
     {
         PortSet { bits: self.bits }
     }
 
-    /// How many ports there are.
+    /// Returns the number of ports.
     pub fn len(&self) -> u8
         ensures exact { result ≡ length self.now }
         ensures few { result ≤ 16 }
@@ -80,7 +80,7 @@ impl PortSet {
         self.bits.count_ones() as u8
     }
 
-    /// The ports, one by one.
+    /// Returns the ports as a list, ascending.
     pub fn list(&self) -> PortList
         ensures ports { result ≡ self.now }
         ensures few { length result ≤ 16 }
@@ -98,7 +98,7 @@ impl PortSet {
     }
 }
 
-/// The same ports.
+/// Compares the ports.
 impl PartialEq for PortSet {
     ghost eq = { pointwise nat_eq };
 

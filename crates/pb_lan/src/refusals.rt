@@ -1,4 +1,4 @@
-//! Local ports that got no copy of a frame.
+//! Sets of local ports that got no copy of a frame.
 
 ghost use Rattle.std.specs.Prelude.{ℕ, ◌≡◌, ◌<◌, ◌≤◌, ◌==◌, ◌++◌, ◌∷◌, [], map, length, nat_eq, IfSome, IfNone};
 ghost use Rattle.std.specs.Cmp.Lexicographic.{pointwise, nat_list_eq_equiv};
@@ -15,11 +15,11 @@ use std::marker::Model;
 /// The most ports of a bridge.
 const PORTS: usize = 16;
 
-/// Local ports of a bridge that got no copy of a frame, each with the cause, ascending. They take four octets.
-/// Contracts see the list of them.
+/// A set of local ports of a bridge that got no copy of a frame, each with the cause, in four octets. Contracts see the
+/// list of ports and causes, each port once and ascending.
 #[derive(Debug, Drop)]
 pub struct Refusals {
-    /// Two bits for each port, the lowest for port 1: 0 where it isn't named, 1 for Full, 2 for Memory.
+    /// Two bits for each port, the lowest for port 1: 0 if it is not in the set, 1 for Full, 2 for Memory.
     words: u32,
 }
 
@@ -33,7 +33,8 @@ impl Model for Refusals {
     ghost view = { λ r. refusals_in 16 1 r.words };
 }
 
-/// Local ports that got no copy, one by one. They stand in the value itself.
+/// Up to sixteen local ports that got no copy, each with the cause. The value holds them itself and allocates nothing.
+/// Contracts see the list of them.
 #[derive(Debug, Drop)]
 pub struct RefusalList {
     refusals: [(u8, NoRoom); PORTS],
@@ -51,7 +52,7 @@ impl Model for RefusalList {
     ghost invariant = { λ r. r.count ≤ 16 };
 }
 
-/// The two bits of a cause.
+/// Returns the two bits of a cause.
 fn bits_of(word: NoRoom) -> u32
     ensures word { (port : ℕ) → word_in port result ≡ (port, word) ∷ [] }
     ensures few { result < 4 }
@@ -62,7 +63,7 @@ fn bits_of(word: NoRoom) -> u32
     }
 }
 
-/// A number for a port with its cause, another for each.
+/// Returns a number that is different for each port and cause.
 fn code_of(port: u8, word: NoRoom) -> u8
     requires { port ≤ 16 }
     ensures { result ≡ refusal_code (port, word) }
@@ -74,14 +75,15 @@ fn code_of(port: u8, word: NoRoom) -> u8
 }
 
 impl Refusals {
-    /// No ports.
+    /// Returns the empty set.
     pub fn new() -> Refusals
         ensures { result ≡ [] }
     {
         Refusals { words: 0 }
     }
 
-    /// The ports and causes of a slice. None where they aren't local ports that ascend.
+    /// Returns the set of the ports and causes of a slice, or None if the ports are not local ports in strictly
+    /// ascending order.
     pub fn from_slice(refusals: &[(u8, NoRoom)]) -> Option<Refusals>
         ensures some { IfSome result (λ set. set ≡ refusals.now) }
         ensures none { IfNone result (AreAscending 0 (map (λ r. r.0) refusals.now) → ⊥) }
@@ -99,14 +101,14 @@ impl Refusals {
         Some(set)
     }
 
-    /// Whether no port is named.
+    /// Checks whether the set is empty.
     pub fn is_empty(&self) -> bool
         ensures { result ≡ (length self.now == 0) }
     {
         self.words == 0
     }
 
-    /// Names a port behind those before it.
+    /// Adds a port that is higher than all others in the set, with its cause.
     pub fn push(&mut self, port: u8, word: NoRoom)
         requires { ComesAfter (map (λ r. r.0) self.old) port }
         ensures { self.new ≡ self.old ++ (port, word) ∷ [] }
@@ -114,14 +116,14 @@ impl Refusals {
         self.words += bits_of(word) << (2 * (port - 1));
     }
 
-    /// The same. Takes no memory.
+    /// Returns a copy. Allocates nothing.
     pub fn copied(&self) -> Refusals
         ensures { result ≡ self.now }
     {
         Refusals { words: self.words }
     }
 
-    /// A number for each port with its cause.
+    /// Returns a number for each port and its cause, in the order of the ports.
     fn codes(&self) -> PortList
         ensures { result ≡ map refusal_code self.now }
     {
@@ -134,7 +136,7 @@ impl Refusals {
         codes
     }
 
-    /// The ports and causes, one by one.
+    /// Returns the ports and causes as a list, ascending.
     pub fn list(&self) -> RefusalList
         ensures refusals { result ≡ self.now }
         ensures few { length result ≤ 16 }
@@ -158,7 +160,7 @@ impl Refusals {
 }
 
 impl RefusalList {
-    /// No ports.
+    /// Returns an empty list.
     fn new() -> RefusalList
         ensures { result ≡ [] }
     {
@@ -168,7 +170,7 @@ impl RefusalList {
         }
     }
 
-    /// Puts a port behind the others.
+    /// Appends a port with its cause.
     fn push(&mut self, port: u8, word: NoRoom)
         requires { length self.old < 16 }
         ensures { self.new ≡ self.old ++ (port, word) ∷ [] }
@@ -177,7 +179,7 @@ impl RefusalList {
         self.count += 1;
     }
 
-    /// The ports and causes, in their order.
+    /// Returns the ports and causes, in their order.
     pub fn as_slice(&self) -> &[(u8, NoRoom)]
         ensures { result.now ≡ self.now }
     {
@@ -185,7 +187,7 @@ impl RefusalList {
     }
 }
 
-/// The same ports with the same causes.
+/// Compares the ports and their causes.
 impl PartialEq for Refusals {
     ghost eq = { on (map refusal_code) (pointwise nat_eq) };
 

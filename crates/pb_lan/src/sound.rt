@@ -1,4 +1,4 @@
-//! Whether a plan is sound.
+//! The check of plans.
 
 mod distinct;
 mod ports;
@@ -15,7 +15,7 @@ use records::{
     is_number,
 };
 
-/// Whether the plan keeps the limits of a network.
+/// Checks whether the plan keeps the limits of its lists and of its own numbers.
 fn is_within_limits(plan: &Plan) -> bool
     ensures { IsTrue result ↔ IsWithinLimits plan.now }
 {
@@ -29,7 +29,7 @@ fn is_within_limits(plan: &Plan) -> bool
         && plan.ageing <= 1_000_000
 }
 
-/// Whether names are distinct within each kind.
+/// Checks whether the names are distinct within each kind.
 fn has_distinct_names(plan: &Plan) -> bool
     ensures { IsTrue result ↔ HasDistinctNames plan.now }
 {
@@ -39,17 +39,16 @@ fn has_distinct_names(plan: &Plan) -> bool
         && names_differ(plan.customers.as_slice())
 }
 
-/// Whether a plan is sound. Takes no memory.
+/// Checks whether a plan is sound. Allocates nothing.
 ///
 /// It is sound if and only if
 /// - its lists and numbers keep the limits given at the parts of [`Plan`];
-/// - names are distinct within each kind, addresses of bridges, and VIDs of services;
+/// - names are distinct within each kind, and so are the addresses of bridges and the VIDs of services;
 /// - each number of a bridge or service names one of the plan;
 /// - no local port of a bridge is used twice, by ends of links and customer ports;
-/// - bridge addresses are individual (802.3 clause 3.2.3), VIDs are 1 to 4,094 (802.1Q clause 9.6),
-///   bridge priorities multiples of 4,096 and port priorities multiples of 16
-///   (802.1D-2004 clauses 9.2.5 and 9.2.7);
-/// - the lost items of each direction and the services of each end rise strictly.
+/// - bridge addresses are individual (IEEE 802.3 clause 3.2.3), VIDs are 1 to 4,094 (IEEE 802.1Q clause 9.6), bridge
+///   priorities multiples of 4,096 and port priorities multiples of 16 (IEEE 802.1D-2004 clauses 9.2.5 and 9.2.7);
+/// - the lost items of each direction and the services of each end ascend strictly.
 pub fn plan_is_sound(plan: &Plan) -> bool
     ensures { IsTrue result ↔ IsSound plan.now }
 {

@@ -1,4 +1,4 @@
-//! The states of ports, at the start and as steps set them.
+//! The states of ports, at the start and after steps.
 
 ghost use Rattle.std.specs.Option.{option_copied};
 ghost use Rattle.std.specs.Prelude.{◌≡◌, [], IfOk, length};
@@ -14,14 +14,14 @@ use crate::shape::{PortState, Shape};
 use pb_frame::{Memory, Seq};
 use std::alloc::Global;
 
-/// Whether a customer port stands at a bridge's port.
+/// Checks whether a customer port is at this local port of the bridge.
 fn is_customer_there(customers: &[CustomerPlan], bridge: u8, port: u8) -> bool
     ensures { result ≡ list_any (is_customer_at bridge port) customers.now }
 {
     customers.iter().any(|customer| customer.bridge == bridge && customer.port == port)
 }
 
-/// The end of a link that stands at a bridge's port.
+/// Returns the end of a link that is at this local port of the bridge, or None.
 fn end_there(links: &[LinkPlan], bridge: u8, port: u8) -> Option<&End>
     ensures { option_copied result ≡ first (is_end_at bridge port) (flat_map ends_of links.now) }
 {
@@ -36,7 +36,7 @@ fn end_there(links: &[LinkPlan], bridge: u8, port: u8) -> Option<&End>
     None
 }
 
-/// The state in which the port of an end starts.
+/// Returns the state in which the port of an end starts.
 fn start_by(spanning: Spanning, planned: PortState) -> PortState
     ensures { result ≡ start_by spanning planned }
 {
@@ -46,9 +46,10 @@ fn start_by(spanning: Spanning, planned: PortState) -> PortState
     }
 }
 
-/// The state of a bridge's local port to which the steps of the bridge last set it; None where none did. A customer
-/// port is always Forwarding, an unused one Discarding, and a provider port that no step set has the state in which it
-/// starts.
+/// Returns the state of a bridge's local port.
+///
+/// `newest` is the state to which a step of the bridge last set the port, or None if no step did. A customer port is
+/// always Forwarding, an unused one is Discarding, and a provider port that no step set has its start state.
 pub fn port_state(plan: &Plan, bridge: u8, port: u8, newest: Option<PortState>) -> PortState
     ensures { result ≡ newest_state plan.now bridge port newest }
 {
@@ -61,7 +62,7 @@ pub fn port_state(plan: &Plan, bridge: u8, port: u8, newest: Option<PortState>) 
     }
 }
 
-/// The states in which a bridge's ports start.
+/// Returns the states in which the local ports of a bridge start.
 fn start_states(alloc: Global, plan: &Plan, bridge: u8) -> Result<Seq<PortState>, Memory>
     ensures { IfOk result (λ states. states ≡ states_after plan.now bridge []) }
 {
@@ -72,11 +73,14 @@ fn start_states(alloc: Global, plan: &Plan, bridge: u8) -> Result<Seq<PortState>
     Ok(Seq::from_vec(states))
 }
 
-/// The states in which the ports of a network start: of a customer port Forwarding, of an unused
-/// port Discarding, and of a provider port the state that the plan gives it, or Discarding where the
-/// spanning tree decides (802.1D-2004 clause 17.30).
+/// Returns the states in which the ports of a network start.
 ///
-/// Memory is answered where there was none for the shape, and nothing else is refused.
+/// A customer port starts Forwarding and an unused port Discarding. A provider port starts in the state that the plan
+/// gives it, or Discarding if the spanning tree decides the states (IEEE 802.1D-2004 clause 17.30).
+///
+/// # Errors
+///
+/// `Memory` if an allocation failed.
 pub fn start_shape(alloc: Global, plan: &Plan) -> Result<Shape, Memory>
     requires { IsSound plan.now }
     ensures { IfOk result (λ shape. shape ≡ start_shape plan.now) }

@@ -1,4 +1,4 @@
--- What a local port becomes.
+-- The configuration of local ports, one by one. For `attach` and `local_ports`.
 use Rattle.pb_svlan.specs.ServiceTables.{ServiceTable, vid_of, are_known, is_taken, kind_at, attached, carried}
 use Rattle.std.proofs.Common.{◌≢◌, length-set, get_or-set_same, get_or-set_other, ◌≡◌, ℕ, ◌+◌, ◌-◌, ◌<◌, true, false}
 use Rattle.std.proofs.Common.{cond, ◌==◌, Some, None, List, map, length, get_or, set, unwrap_or, eq-eqb}
@@ -30,7 +30,7 @@ use Rattle.pb_relay.specs.PortKinds.{local_as, local_of, locals, serves_of, vids
 use Rattle.pb_relay.specs.PortKinds.LocalPort.{ToCustomer, ToBridge}
 use Rattle.pb_relay.specs.Starts.{HasServices, HasAttached, KeepsPorts}
 
--- a port that is attached is what it is attached as, and the others are what they were
+-- a port that is attached has the kind as which it is attached
 pub kind-here : (table : ServiceTable) (port : ℕ) (kind : PortKind) → is_taken table port ≡ false
     → kind_at (attached table port kind) port ≡ Some kind
 kind-here table port kind free =
@@ -43,7 +43,7 @@ kind-elsewhere table port q kind free other =
     kind-attached table.ports (record { port = port; kind = kind }) q (none_from (kind_at table port) free)
     ∙ ap (λ b. cond b (Some kind) (kind_at table q)) (eqb-symm port q ∙ other)
 
--- the services of an end are known
+-- the services that an end lists are services of the plan
 listed-sound : (plan : Plan) (e : End) (services : Option (List ℕ)) → e.services ≡ services → IsSoundEnd plan e
     → (numbers : List ℕ) → services ≡ Some numbers → AllByRecursion (λ n. IsNumber n (length plan.services)) numbers
 listed-sound plan e services h s numbers k =
@@ -59,7 +59,7 @@ end_known plan table e h s = by_list e.services refl
     by_list None k = refl
     by_list (Some numbers) k = all-known plan table numbers h (listed-sound plan e (Some numbers) k s numbers refl)
 
--- a customer port is kept with the VID of its service
+-- a customer port is configured with the VID of its service
 pub customer_kept : (plan : Plan) (number port : ℕ) (table new : ServiceTable) (join : Join) (start : PortState)
     (c : CustomerPlan) → IsSound plan → HasServices plan table
     → Some c ≡ first (is_customer_at number port) plan.customers → is_taken table port ≡ false
@@ -83,7 +83,7 @@ customer_kept plan number port table new join start c sound h found free vid pcp
     (ToCustomer join.vid join.pcp)) found (one, pcp, all) in
     subst (λ (o : Option PortKind). IsKept plan (port_at plan number port) (local_as new start o)) (sym here) kept
 
--- a port to another bridge is kept with the services of its end
+-- a port to another bridge is configured with the services of its end
 pub end_kept : (plan : Plan) (number port : ℕ) (table new : ServiceTable) (e : End) → IsSound plan
     → HasServices plan table
     → None ≡ first (is_customer_at number port) plan.customers
@@ -105,13 +105,13 @@ end_kept plan number port table new e sound h nobody found free a =
     (subst (λ o. IsKept plan (provider_or_unused o) (local_as new e.start (Some (Trunk (carried table e.services)))))
     found (refl, carries)))
 
--- where the services are the same, so is what a kind makes of a port
+-- with the same services a kind gives the same local port
 as-same : (t u : ServiceTable) (start : PortState) (kind : Option PortKind) → t.services ≡ u.services
     → local_as t start kind ≡ local_as u start kind
 as-same t u start (Some (Trunk None)) e = ap (λ ss. ToBridge start (map (λ s. s.0) ss)) e
 as-same t u start _ e = refl
 
--- one port more
+-- one more local port is in the services
 pub attached_more : (plan : Plan) (number : ℕ) (old new : ServiceTable) (starts : List PortState) (r : ℕ)
     (start : PortState) → r < 16 → HasAttached plan number old starts r
     → new.services ≡ old.services → ((p : ℕ) → (p == r + 1) ≡ false → kind_at new p ≡ kind_at old p)
@@ -154,7 +154,7 @@ attached_more plan number old new starts r start few h e others here = record {
         (others (k + 1) (ne_eqb (k + 1) (r + 1) (λ e. omega (arith, l, e))))
         ∙ as-same new old (get_or starts (k + 1 - 1) Discarding) (kind_at old (k + 1)) e
 
--- all ports were asked
+-- after all sixteen ports the configuration is the plan's
 pub attached_all : (plan : Plan) (number : ℕ) (table : ServiceTable) (starts : List PortState) (n : ℕ) → n ≡ 16
     → HasAttached plan number table starts n → KeepsPorts plan number (locals table starts) 16
 attached_all plan number table starts n e h = record {

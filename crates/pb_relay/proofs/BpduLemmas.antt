@@ -1,4 +1,4 @@
--- BPDUs that are queued one by one.
+-- BPDUs that are queued one by one. For the loop of `queue_bpdus`.
 use Rattle.std.proofs.Common.{ne_eqb, ◌≡◌, ◌≢◌, ℕ, zero, suc, ◌+◌, ◌-◌, ◌<◌, ◌≤◌, Bool, false, cond, not, is_some}
 use Rattle.std.proofs.Common.{None, Ok, Err, List, [], ◌∷◌, ◌++◌, map, length, take, get_or, refl, sym, ap, ◌∙◌}
 use Rattle.std.proofs.Common.{subst, arith, eq-eqb}
@@ -19,11 +19,11 @@ use Rattle.pb_relay.specs.Backlogs.{BacklogView, HasEnqueued, KeepsBacklog}
 use Rattle.pb_relay.proofs.CopyLemmas.{IsOther, refused-other, refused-own, none_refused, separate_at}
 use Rattle.pb_relay.proofs.CopyLemmas.{separate_before, copied_more, answered-keeps, answered-count}
 
--- a frame and its port
+-- a port and its frame
 abbrev Send : Type 0
 Send = ℕ × List ℕ
 
--- the frame of a port that stands among others is the port's
+-- the frame for a port does not depend on frames for other ports
 own_at-other : (p : ℕ) (fs : List Send) (f : Send) → f.0 ≢ p → own_at (f ∷ fs) p ≡ own_at fs p
 own_at-other p fs f n = ap (λ b. cond b (item_with None 0 f.1) (own_at fs p)) (ne_eqb f.0 p n)
 
@@ -41,7 +41,7 @@ own_at-here (f ∷ fs) (suc i) d l a =
     let b : i < length fs = omega arith in
     own_at-other (get_or fs i d).0 fs f (λ e. other-place f.0 fs i d b a.1 (sym e)) ∙ own_at-here fs i d b a.2
 
--- tests that agree on other ports keep the same frames of other ports
+-- tests that agree on other ports keep the same frames for other ports
 filter-others : (p : ℕ) (g h : ℕ → Bool) → ((q : ℕ) → q ≢ p → g q ≡ h q) → (fs : List Send)
     → AllByRecursion (IsOther p) (places_of fs)
     → filter (λ (s : Send). g s.0) fs ≡ filter (λ (s : Send). h s.0) fs
@@ -50,7 +50,7 @@ filter-others p g h e (f ∷ fs) a =
     ap (λ b. cond b (f ∷ filter (λ (s : Send). g s.0) fs) (filter (λ (s : Send). g s.0) fs)) (e f.0 a.0)
     ∙ ap (λ zs. cond (h f.0) (f ∷ zs) zs) (filter-others p g h e fs a.1)
 
--- one frame more
+-- the queued frames after one more frame
 queued_more : (p : ℕ) (wire : List ℕ) (old new : BacklogView) (place : ℕ) (answer : Result Item NoRoom)
     (rs : List (ℕ × NoRoom)) (done : List Send)
     → HasSent old place wire answer new → is_refused rs p ≡ false → AllByRecursion (IsOther p) (places_of done)
@@ -73,19 +73,19 @@ queued_more p wire old new place answer rs done h n a =
     by_answer (Ok item) k = ap (λ (x : Item). (p, x) ∷ []) (sym k.0)
     by_answer (Err word) k = refl
 
--- what was answered, as a word
+-- a BPDU that was queued or refused is an item that was queued or refused
 has_enqueued : (wire : List ℕ) (old new : BacklogView) (place : ℕ) (answer : Result Item NoRoom)
     → HasSent old place wire answer new
     → HasEnqueued old place 7 (item_with None 0 wire) (word_of answer) new
 has_enqueued wire old new place (Ok item) h = h.1
 has_enqueued wire old new place (Err word) h = h
 
--- at most one item is told of a port
+-- at most one item is reported of a port
 pub told-few : (p : ℕ) (answer : Result Item NoRoom) → length (told_queued p answer) ≤ 1
 told-few p (Ok item) = omega arith
 told-few p (Err word) = omega arith
 
--- a BPDU and its port
+-- a port and its BPDU
 abbrev Sent : Type 0
 Sent = ℕ × Bpdu
 
@@ -108,7 +108,7 @@ place-at address sends i d l =
     get_or-map (λ (s : Send). s.0) (frames_of address sends) i (d.0, written address d.1) 0 (omega arith)
     ∙ ap (λ (s : Send). s.0) (frame-at address sends i d l)
 
--- the port of a BPDU is one of 16
+-- the port of a BPDU is 1 to 16
 pub bpdu_place : (address : List ℕ) (sends : List Sent) (i : ℕ) (d : Sent) → i < length sends
     → AreSeparate (places_of (frames_of address sends))
     → (1 ≤ (get_or sends i d).0) × ((get_or sends i d).0 ≤ 16)
@@ -118,7 +118,7 @@ bpdu_place address sends i d l a =
     subst (λ (p : ℕ). (1 ≤ p) × (p ≤ 16)) (place-at address sends i d l)
     (separate_at (places_of (frames_of address sends)) i (omega arith) a)
 
--- one BPDU more
+-- one step of the loop: one more BPDU is queued or refused, and is reported
 bpdu_more : (first from to : BacklogView) (address : List ℕ) (sends : List Sent) (i : ℕ) (d : Sent)
     (rs : List (ℕ × NoRoom))
     (answer : Result Item NoRoom) (queued : List (ℕ × Item))
@@ -162,7 +162,7 @@ bpdu_more first from to address sends i d rs answer queued l a copied count keep
           (sym (take_more fs i (d.0, written address d.1) few ∙ ap (λ (s : Send). take i fs ++ s ∷ []) f-at)),
     )
 
--- and so for the BPDU that stands there
+-- the port of the BPDU at this place is 1 to 16
 pub place_of : (address : List ℕ) (sends : List Sent) (i : ℕ) (x : Sent) → i < length sends → x ≡ get_or sends i x
     → AreSeparate (places_of (frames_of address sends)) → (1 ≤ x.0) × (x.0 ≤ 16)
 place_of address sends i x l e a = subst (λ (y : Sent). (1 ≤ y.0) × (y.0 ≤ 16)) (sym e)
@@ -190,7 +190,7 @@ one_bpdu first from to address sends i x rs answer queued l e a copied count kee
     (take (i + 1) (frames_of address sends))))
     (sym e) (bpdu_more first from to address sends i x rs answer queued l a copied count keeps told) h
 
--- the backlog is the same but for what waits, and has as many ports
+-- queueing one more BPDU changes only the waiting items
 pub sent_keeps : (first from to : BacklogView) (place : ℕ) (wire : List ℕ) (answer : Result Item NoRoom)
     → KeepsBacklog first from
     → HasSent from place wire answer to → KeepsBacklog first to

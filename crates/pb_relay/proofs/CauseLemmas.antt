@@ -1,4 +1,4 @@
--- What a cause does to a bridge that has a machine.
+-- What a cause changes at a bridge that has a spanning tree machine.
 use Rattle.std.proofs.Common.{◌≡◌, ◌≢◌, ℕ, ◌-◌, ◌<◌, ◌≤◌, Bool, true, false, not, cond, Some, None, List, [], ◌∷◌}
 use Rattle.std.proofs.Common.{◌++◌, map, length, refl, sym, ap, ◌∙◌, subst, arith, append-nil}
 use Rattle.std.specs.List.{AllByRecursion, filter, flat_map}
@@ -48,14 +48,14 @@ machine-more plan b steps step =
     (append-nil (causes_of step)))
     ∙ machine_after-append (machine_at_start plan b) (flat_map causes_of steps) (causes_of step)
 
--- a step that is no cause leaves the machine
+-- a step that is no cause leaves the machine unchanged
 pub machine_stays : (plan : Plan) (b : ℕ) (steps : List Step) (step : Step) → causes_of step ≡ []
     → machine_in plan b (steps ++ step ∷ []) ≡ machine_in plan b steps
 unfolding machine_in
 machine_stays plan b steps step e = ap (machine_by plan.spanning)
     (machine-more plan b steps step ∙ ap (machine_after (machine_of plan b steps)) e)
 
--- a cause moves it on
+-- a step with a cause changes the machine as the cause does
 pub machine_moves : (plan : Plan) (b : ℕ) (steps : List Step) (step : Step) (cause : Cause)
     → causes_of step ≡ cause ∷ []
     → machine_in plan b (steps ++ step ∷ []) ≡ machine_next (machine_in plan b steps) cause
@@ -69,25 +69,25 @@ machine_moves plan b steps step cause e =
     by_plan Fixed = refl
     by_plan Rstp = refl
 
--- where the plan gives the states, there is no machine
+-- there is no machine if the plan gives the states
 pub no_machine : (plan : Plan) (b : ℕ) (steps : List Step) → plan.spanning ≡ Fixed → machine_in plan b steps ≡ None
 unfolding machine_in
 no_machine plan b steps fixed = ap (λ z. machine_by z (machine_of plan b steps)) fixed
 
--- where the protocol decides them, there is one
+-- there is a machine if the protocol decides the states
 pub a_machine : (plan : Plan) (b : ℕ) (steps : List Step) → plan.spanning ≡ Rstp
     → machine_in plan b steps ≡ Some (machine_of plan b steps)
 unfolding machine_in
 a_machine plan b steps rstp = ap (λ z. machine_by z (machine_of plan b steps)) rstp
 
--- a bridge's spanning tree, after a step that is no cause
+-- a step that is no cause leaves a bridge's spanning tree the one that its steps determine
 pub spanning_stays : (plan : Plan) (b : ℕ) (steps : List Step) (machine : Option Machine) (address : List ℕ)
     (step : Step) → causes_of step ≡ []
     → IsSpanning plan b steps machine address → IsSpanning plan b (steps ++ step ∷ []) machine address
 spanning_stays plan b steps machine address step e s =
     record { kept_machine = s.kept_machine ∙ sym (machine_stays plan b steps step e); kept_address = s.kept_address }
 
--- where the plan gives the states, after any step
+-- if the plan gives the states, each step does
 pub spanning_fixed : (plan : Plan) (b : ℕ) (steps : List Step) (machine : Option Machine) (address : List ℕ)
     (step : Step) → plan.spanning ≡ Fixed
     → IsSpanning plan b steps machine address → IsSpanning plan b (steps ++ step ∷ []) machine address
@@ -96,7 +96,7 @@ spanning_fixed plan b steps machine address step fixed s = record {
   kept_address = s.kept_address;
 }
 
--- after a cause
+-- a step with a cause does if the spanning tree changes as the cause does
 pub spanning_moves : (plan : Plan) (b : ℕ) (steps : List Step) (machine later : Option Machine) (address : List ℕ)
     (step : Step) (cause : Cause) → causes_of step ≡ cause ∷ []
     → later ≡ machine_next machine cause → IsSpanning plan b steps machine address
@@ -106,7 +106,7 @@ spanning_moves plan b steps machine later address step cause e l s = record {
   kept_address = s.kept_address;
 }
 
--- who has no machine has the states from the plan
+-- a bridge without a machine has its states from the plan
 pub is_fixed : (plan : Plan) (b : ℕ) (steps : List Step) (machine : Option Machine) (address : List ℕ) (cause : Cause)
     → IsSpanning plan b steps machine address
     → change_next machine cause ≡ None → plan.spanning ≡ Fixed
@@ -119,14 +119,14 @@ is_fixed plan b steps machine address cause s none =
     by_plan Fixed e = refl
     by_plan Rstp e = cc
 
--- and it stays as it is
+-- a bridge without a machine has none after a cause
 pub stays_none : (machine : Option Machine) (cause : Cause) → change_next machine cause ≡ None
     → machine_next machine cause ≡ machine
 unfolding machine_next change_next
 stays_none None cause e = refl
 stays_none (Some m) cause e = cc
 
--- who has one runs the protocol, and the change is the machine's
+-- a bridge with a machine runs the protocol, and the change is the machine's
 pub is_running : (plan : Plan) (b : ℕ) (steps : List Step) (machine : Option Machine) (address : List ℕ)
     (cause : Cause) (change : Change) → IsSpanning plan b steps machine address
     → change_next machine cause ≡ Some change → (plan.spanning ≡ Rstp)
@@ -140,7 +140,7 @@ is_running plan b steps machine address cause change s some =
     by_plan Fixed e = cc
     by_plan Rstp e = (refl, let same : (after (machine_of plan b steps) cause).change ≡ change = cc in sym same)
 
--- What is told.
+-- The report.
 
 tree_change : (plan : Plan) (b : ℕ) (steps : List Step) (cause : Cause) → plan.spanning ≡ Rstp
     → change_of spanning_tree plan b steps cause ≡ lan_change (address_in plan b)
@@ -151,7 +151,7 @@ tree_change plan b steps cause rstp = ap (λ (z : Spanning). change_by z spannin
 for_bridges : (address : List ℕ) (m : Bpdu) → dst_of (written address m) ≡ provider_address
 for_bridges address m = refl
 
--- a bridge's own items are its own
+-- the items that a bridge queues for its BPDUs are the bridge's own
 all_own : (plan : Plan) (b : ℕ) (address : List ℕ) (dropped : List (ℕ × NoRoom)) (send : List (ℕ × Bpdu))
     → AllByRecursion (λ (s : ℕ × Bpdu). GoesToBridge (port_at plan b) s.0) send
     → AllByRecursion (IsOwn plan b) (own_queued dropped (frames_of address send))
@@ -167,7 +167,7 @@ all_own plan b address dropped (s ∷ ss) h = by_test (is_refused dropped s.0) (
     by_test true rest = rest
     by_test false rest = ((refl, refl, for_bridges address s.1, h.0.0), rest)
 
--- the step names what the machine changes
+-- a step that reports what the machine changes reports what its cause changes
 pub names_change : (plan : Plan) (b : ℕ) (steps : List Step) (cause : Cause) (change : Change) (moved : Moved)
     (sends : List (ℕ × List ℕ))
     → plan.spanning ≡ Rstp → change ≡ (after (machine_of plan b steps) cause).change
@@ -192,7 +192,7 @@ names_change plan b steps cause change moved sends rstp c f told flushed q r = r
     sent : sends ≡ (change_of spanning_tree plan b steps cause).sent
     sent = f ∙ ap (λ (x : LanChange). x.sent) same
 
--- Where the BPDUs go.
+-- The ports of the BPDUs.
 
 rising-separate : (n : ℕ) (address : List ℕ) (send : List (ℕ × Bpdu))
     → AllByRecursion (λ (s : ℕ × Bpdu). (1 ≤ s.0) × (s.0 ≤ 16)) send → AreRising n (map (λ s. s.0) send)
@@ -217,7 +217,7 @@ bridge-places : (plan : Plan) (b : ℕ) (send : List (ℕ × Bpdu))
 bridge-places plan b [] h = tt
 bridge-places plan b (s ∷ ss) h = ((h.0.1, h.0.2), bridge-places plan b ss h.1)
 
--- the ports where a machine's BPDUs go
+-- a machine sends at most one BPDU at each local port
 pub sends_apart : (plan : Plan) (b : ℕ) (steps : List Step) (cause : Cause) (change : Change) (address : List ℕ)
     → change ≡ (after (machine_of plan b steps) cause).change
     → AreSeparate (places_of (frames_of address change.send)) × (length change.send ≤ 16)
@@ -226,7 +226,7 @@ sends_apart plan b steps cause change address c =
     let r = rising-separate 0 address change.send (bridge-places plan b change.send of.send) of.rises in
     (r.0, omega (arith, r.1))
 
--- the ports whose states a machine changes
+-- a machine changes the states of ports to other bridges only
 pub states_placed : (plan : Plan) (b : ℕ) (steps : List Step) (cause : Cause) (change : Change)
     → change ≡ (after (machine_of plan b steps) cause).change
     → AllByRecursion (λ (c : ℕ × PortState). IsBridgePort plan b c.0) change.states

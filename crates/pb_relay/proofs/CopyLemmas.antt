@@ -1,4 +1,4 @@
--- One more port has got its copy or is refused.
+-- Copies that are queued port by port. For the loops of `queue_copies` and `queue_bpdus`.
 use Rattle.std.proofs.Common.{◌≡◌, ◌≢◌, ℕ, zero, suc, ◌+◌, ◌-◌, ◌<◌, ◌≤◌, Bool, true, false, cond, not, ◌&&◌, ◌||◌}
 use Rattle.std.proofs.Common.{is_some, Some, None, List, [], ◌∷◌, ◌++◌, map, length, take, get_or, set, nat_le, ◌==◌}
 use Rattle.std.proofs.Common.{inl, inr, if◌then◌else◌, refl, sym, ap, ◌∙◌, subst, arith, eq-eqb}
@@ -30,21 +30,21 @@ any-names : (p : ℕ) (rs : List (ℕ × NoRoom)) → is_refused rs p ≡ list_a
 any-names p [] = refl
 any-names p (r ∷ rs) = ap (λ b. (r.0 == p) || b) (any-names p rs)
 
--- no port is refused that wasn't tried
+-- a port that was not tried is not refused
 pub none_refused : (p : ℕ) (done : List ℕ) (rs : List (ℕ × NoRoom)) → map (λ r. r.0) rs ≡ filter (is_refused rs) done
     → AllByRecursion (IsOther p) done → is_refused rs p ≡ false
 none_refused p done rs e a =
     any-names p rs ∙ ap (list_any (λ q. q == p)) e
     ∙ others-none p (filter (is_refused rs) done) (All-passed (IsOther p) (is_refused rs) done a)
 
--- a port that is not named is not named full
+-- a port that is not refused is not named full
 pub none_full : (p : ℕ) (rs : List (ℕ × NoRoom)) → is_refused rs p ≡ false → is_named_full rs p ≡ false
 none_full p [] h = refl
 none_full p (r ∷ rs) h =
     elim (r.0 == p) as (λ b. (b || is_refused rs p) ≡ false → ((b && is_full_word r.1) || is_named_full rs p) ≡ false)
     [ true ↦ λ e. cc | false ↦ λ e. none_full p rs e ] h
 
--- what is named of a port says nothing of others
+-- one more entry for a port says nothing of other ports
 pub refused-other : (p q : ℕ) (word : Option NoRoom) (rs : List (ℕ × NoRoom)) → q ≢ p
     → is_refused (rs ++ named p word) q ≡ is_refused rs q
 refused-other p q None rs n = list_any-append (λ r. r.0 == q) rs [] ∙ or-false (is_refused rs q)
@@ -121,7 +121,7 @@ answered-full from to place class item None h = h.0
 answered-full from to place class item (Some Full) h = h.0
 answered-full from to place class item (Some Memory) h = h.0
 
--- the items of a port with the copy that was answered, if one was
+-- the items of a port with the copy, if it was queued
 abbrev with_answer : ℕ → Item → Option NoRoom → List (List Item) → List (List Item)
 with_answer class item word qs = if not (is_some word) then put_in class item qs else qs
 
@@ -143,13 +143,13 @@ answered-keeps first from to place class item None k h = record {
 answered-keeps first from to place class item (Some Full) k h = subst (KeepsBacklog first) (sym h.1) k
 answered-keeps first from to place class item (Some Memory) k h = subst (KeepsBacklog first) (sym h.1) k
 
--- there are as many ports
+-- queueing a copy keeps the number of ports
 pub answered-count : (from to : BacklogView) (place class : ℕ) (item : Item) (word : Option NoRoom)
     → HasEnqueued from place class item word to → length to.ports ≡ length from.ports
 answered-count from to place class item word h =
     ap length (answered-copy from to place class item word h) ∙ length-set _ _ _
 
--- a port that has not been tried has what it had
+-- a port that was not tried has the items that it had
 uncopied : (capacity class : ℕ) (item_at : ℕ → Item) (old : List (List (List Item))) (done : List ℕ)
     (rs : List (ℕ × NoRoom)) (new : List (List (List Item))) (p : ℕ)
     → AreCopied capacity class item_at old done rs new → AllByRecursion (IsOther p) done → (1 ≤ p) × (p ≤ 16)
@@ -164,7 +164,7 @@ uncopied capacity class item_at old done rs new p h a l =
     ∙ ap (λ b. cond (b && not (is_refused rs (p - 1 + 1)))
     (put_in class (item_at (p - 1 + 1)) (get_or old (p - 1) [])) (get_or old (p - 1) [])) none
 
--- one port more
+-- one step of the loop: one more port has its copy or is refused
 copied_at : (capacity class : ℕ) (item_at : ℕ → Item) (old : List (List (List Item))) (done : List ℕ)
     (rs : List (ℕ × NoRoom)) (new : List (List (List Item))) (p : ℕ) (word : Option NoRoom)
     → AreCopied capacity class item_at old done rs new → AllByRecursion (IsOther p) done → (1 ≤ p) × (p ≤ 16)
@@ -237,7 +237,7 @@ copied_more first from to class item_at done rs p word h a l n k w =
     (ap (λ c. nat_le c (number_in (at_place from (p - 1)))) (sym k.capacity)
     ∙ answered-full from to (p - 1) class (item_at p) word w))
 
--- each of the ports is one of 16
+-- each of the ports is 1 to 16
 pub separate_at : (ps : List ℕ) (i : ℕ) → i < length ps → AreSeparate ps → (1 ≤ get_or ps i 0) × (get_or ps i 0 ≤ 16)
 separate_at [] i l a = absurd (omega arith)
 separate_at (p ∷ ps) zero l a = a.0
@@ -255,7 +255,7 @@ separate_before [] i l a = absurd (omega arith)
 separate_before (p ∷ ps) zero l a = tt
 separate_before (p ∷ ps) (suc i) l a = (other-at p ps i (omega arith) a.1, separate_before ps i (omega arith) a.2)
 
--- ports that ascend are separate
+-- a port is none of those that ascend from it
 apart : (p low : ℕ) (ps : List ℕ) → p ≤ low → AreAscending low ps → AllByRecursion (λ q. q ≢ p) ps
 apart p low [] l a = tt
 apart p low (q ∷ ps) l a = let above : low < q =
@@ -266,7 +266,7 @@ separate_of low [] a = tt
 separate_of low (p ∷ ps) a = let above : low < p =
     a.0 in ((omega (arith, above), a.1), apart p p ps (omega arith) a.2, separate_of p ps a.2)
 
--- and each is above those before it
+-- each of the ports that ascend is above the lower bound
 above-at : (low : ℕ) (ps : List ℕ) (i : ℕ) → i < length ps → AreAscending low ps → low < get_or ps i 0
 above-at low [] i l a = absurd (omega (arith, l))
 above-at low (p ∷ ps) zero l a = a.0
@@ -282,7 +282,7 @@ ascending_before low (p ∷ ps) zero l a = tt
 ascending_before low (p ∷ ps) (suc i) l a =
     (above-at p ps i (omega (arith, l)) a.2, ascending_before p ps i (omega (arith, l)) a.2)
 
--- at most one word is named of a port
+-- a port has at most one entry
 pub named-few : (p : ℕ) (word : Option NoRoom) → length (named p word) ≤ 1
 named-few p None = omega arith
 named-few p (Some word) = omega arith

@@ -1,4 +1,4 @@
--- What the rulings leave of a received frame, and what a sound plan says of its port.
+-- What the rulings guarantee of a received frame, and what a sound plan guarantees of its port.
 use Rattle.std.proofs.Common.{◌≡◌, ◌≢◌, ℕ, ◌≤◌, Bool, true, false, nat_lt, ◌==◌, List, Some, None, length, refl}
 use Rattle.std.proofs.Common.{arith, eq-eqb}
 use Rattle.pb_frame.proofs.Lists.{first-found}
@@ -32,13 +32,13 @@ at-least m n h = grind (arith, h)
 unworn : (n : ℕ) → (n == most_hops) ≡ false → n ≢ most_hops
 unworn n h e = let t = eq-eqb n most_hops e in cc
 
--- what is known of a frame that is learnt or relayed in a service
+-- what is known of a frame whose source is learnt in a service
 pub record IsAdmitted (plan : Plan) (port : Port) (item : Item) (vid : ℕ) : Type 0 where
   pub long : shortest_frame ≤ length item.wire
   pub unworn : item.hops ≢ most_hops
   pub service : vid_in plan port item.wire ≡ vid
 
--- at a customer port
+-- a frame at a customer port that is not refused
 from_customer : (item : Item) (rest target : Ruling) → stops target ≡ false
     → first_case (customer_cases item) rest ≡ target
     → (shortest_frame ≤ length item.wire) × (item.hops ≢ most_hops) × (rest ≡ target)
@@ -50,7 +50,7 @@ from_customer item rest target on h =
       a.1,
     )
 
--- at a port to a bridge
+-- a frame at a port to a bridge that is neither refused nor read as a BPDU
 from_bridge : (services : ℕ → Bool) (item : Item) (rest target : Ruling) → stops target ≡ false
     → first_case (bridge_cases spanning_tree.is_readable services item) rest ≡ target
     → (shortest_tagged ≤ length item.wire) × (item.hops ≢ most_hops) × (rest ≡ target)
@@ -68,7 +68,7 @@ learns_in Discarding w v h = cc
 learns_in Learning w v h = cc
 learns_in Forwarding w v h = cc
 
--- a frame that is relayed
+-- a frame that is relayed has been admitted
 pub carried : (plan : Plan) (port : Port) (state : PortState) (item : Item) (v : ℕ)
     → ruling_by spanning_tree plan port state item ≡ Carries v → IsAdmitted plan port item v
 carried plan (Customer c) state item v h =
@@ -79,7 +79,7 @@ carried plan (Provider e) state item v h =
     record { long = omega (arith, a.0); unworn = a.1; service = (carries_in state (vid_of item.wire) v a.2).0 }
 carried plan Unused state item v h = cc
 
--- came in where frames are forwarded
+-- the port at which a relayed frame arrived is Forwarding
 pub forwards : (plan : Plan) (port : Port) (p : ℕ) (changes : List (ℕ × PortState)) (item : Item) (v : ℕ)
     → ruling_by spanning_tree plan port (state_by plan.spanning port p changes) item ≡ Carries v
     → is_forwarding (state_by plan.spanning port p changes) ≡ true
@@ -90,7 +90,7 @@ forwards plan (Provider e) p changes item v h =
     (carries_in state (vid_of item.wire) v a.2).1
 forwards plan Unused p changes item v h = cc
 
--- a frame whose source alone is learnt
+-- a frame whose source is learnt and that is filtered has been admitted
 pub overheard : (plan : Plan) (port : Port) (state : PortState) (item : Item) (v : ℕ)
     → ruling_by spanning_tree plan port state item ≡ LearnsOnly v → IsAdmitted plan port item v
 overheard plan (Customer c) state item v h =
@@ -101,13 +101,13 @@ overheard plan (Provider e) state item v h =
     record { long = omega (arith, a.0); unworn = a.1; service = learns_in state (vid_of item.wire) v a.2 }
 overheard plan Unused state item v h = cc
 
--- what stands at a port of a sound plan is sound
+-- what a sound plan has at a port is sound
 abbrev pub IsSoundPort : Plan → Port → Type 0
 IsSoundPort plan (Customer c) = IsSoundCustomer plan c
 IsSoundPort plan (Provider e) = IsSoundEnd plan e
 IsSoundPort plan Unused = Unit {0}
 
--- so it is at each port
+-- each port of a sound plan is sound
 pub sound_port : (plan : Plan) (b p : ℕ) → IsSound plan → IsSoundPort plan (port_at plan b p)
 sound_port plan b p s =
     elim (first (is_customer_at b p) plan.customers)
@@ -121,7 +121,7 @@ sound_port plan b p s =
           ] refl
     ] refl
 
--- such a frame can be made ready for other ports
+-- the forms of a relayed frame can be made
 pub loadable : (plan : Plan) (port : Port) (local : LocalPort) (state : PortState) (item : Item) (v : ℕ)
     → IsSound plan → IsSoundPort plan port → IsKept plan port local
     → ruling_by spanning_tree plan port state item ≡ Carries v → IsLoadable (told local) item.wire

@@ -1,4 +1,4 @@
--- A bridge that has followed its spanning tree.
+-- A bridge that has applied the changes of its spanning tree.
 use Rattle.std.proofs.Common.{true, arith, inr, ◌≡◌, ℕ, ◌+◌, Some, None, List, [], ◌∷◌, ◌++◌, map, refl, sym, ap, ◌∙◌}
 use Rattle.std.proofs.Common.{subst}
 use Rattle.std.specs.List.{AllByRecursion, filter}
@@ -42,7 +42,7 @@ use Rattle.pb_history.specs.StepLists.{StepsView, with_step as steps_with}
 use Rattle.pb_rstp.specs.Profile.{causes_of}
 use Rattle.pb_relay.proofs.TableLemmas.{live_expired, table_expired}
 
--- a table of which ports were flushed is still the bridge's
+-- a learning table stays the bridge's when ports are flushed
 table_all_flushed : (plan : Plan) (now : ℕ) (old : Table) (ports : List ℕ) → IsTableOf plan now old
     → IsTableOf plan now (all_flushed old ports)
 table_all_flushed plan now old [] t = t
@@ -61,7 +61,7 @@ of_ports s cause change k some =
       few = apart.1;
     }
 
--- the BPDUs that get no room are named, where the ports are full
+-- a BPDU is dropped as full if and only if the queue of its port is full
 unsent_are : (s : Inside) (cause : Cause) (change : Change) (moved : Moved) (table : Table) (new : Forwarding) → Keeps s
     → change_next s.rstp cause ≡ Some change
     → HasFollowed s.address.0 change (record s.forwarding { table = table }) moved new
@@ -71,7 +71,7 @@ unsent_are s cause change moved table new k some f =
     s.forwarding.table.sightings s.forwarding.backlog.capacity (places_of (frames_of s.address.0 change.send))
     moved.dropped k.1 k.0.most (of_ports s cause change k some).separate f.copied.refusals
 
--- the step names what the machine changes
+-- the step reports what the machine changes
 pub followed_names : (s : Inside) (cause : Cause) (change : Change) (moved : Moved) (table : Table) (new : Forwarding)
     → Keeps s → change_next s.rstp cause ≡ Some change
     → HasFollowed s.address.0 change (record s.forwarding { table = table }) moved new
@@ -82,7 +82,7 @@ followed_names s cause change moved table new k some f =
     running.1 (ap (λ a. frames_of a change.send) k.4.kept_address) f.told f.flushed f.queued
     (unsent_are s cause change moved table new k some f)
 
--- and what is kept is kept
+-- the bridge's state follows from its steps after it has applied a change
 pub after_followed : {v : BridgeView} (s : Inside) (cause : Cause) (change : Change) (moved : Moved) (table : Table)
     (new : Forwarding) (later : ℕ) (rstp : Option Machine) (steps : StepsView) (step : Step)
     → Keeps s → shown s ≡ v → v.is_reserved ≡ true → change_next s.rstp cause ≡ Some change
@@ -126,7 +126,7 @@ after_followed s cause change moved table new later rstp steps step k view room 
     (subst (IsTableOf s.plan later) (sym f.flushed_table) (table_all_flushed s.plan later table change.flush of_plan))
     (spanning_moves s.plan s.number s.steps.steps s.rstp rstp s.address.0 step cause causes machine k.4)
 
--- what stands a tick later is fresh in the table a tick later
+-- the live entries of a table one tick later are those of the news one tick later
 pub expired_later : (s : Inside) (new : Table) → Keeps s → new ≡ expired s.forwarding.table (s.clock + 1)
     → IsTableOf s.plan (s.clock + 1) new
     × (filter (is_fresh s.plan.ageing (s.clock + 1)) new.sightings ≡ standing s.plan.ageing (s.clock + 1)

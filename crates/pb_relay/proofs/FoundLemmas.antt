@@ -1,4 +1,4 @@
--- What a table tells is what the steps tell.
+-- What the learning table reports is what the steps determine.
 use Rattle.std.proofs.Common.{◌≡◌, ℕ, Bool, List, length, nat_le, ap, subst, ◌∙◌}
 use Rattle.std.specs.Option.{option_map}
 use Rattle.std.specs.declared.option.Option.{Option}
@@ -15,7 +15,7 @@ use Rattle.pb_lan.specs.declared.step.Item.{Item}
 use Rattle.pb_lan.specs.declared.step.Step.{Step}
 use Rattle.pb_relay.specs.Standing.{IsStanding}
 
--- where the table has a station, it is found
+-- the port at which the table has a station is the one that the steps give
 pub found_is : (plan : Plan) (b : ℕ) (steps : List Step) (states : List PortState) (queues : List (List (List Item)))
     (now : ℕ) (table : List Sighting) (vid : ℕ) (mac : List ℕ)
     → IsStanding plan b steps states queues now table
@@ -25,7 +25,7 @@ found_is plan b steps states queues now table vid mac s =
     ∙ ap (λ n. option_map (λ x. x.port) (first (is_sighted vid mac) (standing plan.ageing n (news_of plan b steps))))
     s.clock
 
--- what the table answers of a source is what the step may tell
+-- what the table reports about a source is what the step may report
 pub learns_is : (plan : Plan) (b : ℕ) (steps : List Step) (states : List PortState) (queues : List (List (List Item)))
     (now : ℕ) (table : List Sighting) (port : ℕ) (wire : List ℕ) (learnt : Learnt)
     → IsStanding plan b steps states queues now table

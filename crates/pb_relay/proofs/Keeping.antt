@@ -1,4 +1,4 @@
--- What always holds of the parts inside a bridge, and still does once its list has one step more.
+-- The invariant of a bridge, and that it holds after one more step.
 use Rattle.std.proofs.Common.{◌≡◌, ℕ, ◌+◌, ◌<◌, ◌≤◌, ◌^◌, true, [], ◌∷◌, ◌++◌, None, refl, sym, ap, ◌∙◌, subst, arith}
 use Rattle.std.proofs.Common.{length-append}
 use Rattle.std.specs.declared.option.Option.{Option}
@@ -26,7 +26,7 @@ use Rattle.pb_relay.proofs.CauseLemmas.{spanning_stays}
 use Rattle.pb_relay.proofs.SettingLemmas.{provider_used}
 use Rattle.pb_relay.proofs.StandingLemmas.{used_port, now_few, after_quiet}
 
--- what callers see of it
+-- what callers see of the bridge
 abbrev pub shown : Inside → BridgeView
 shown s = record {
   plan = s.plan;
@@ -36,7 +36,7 @@ shown s = record {
   is_reserved = s.steps.is_reserved;
 }
 
--- what always holds
+-- the invariant
 abbrev pub Keeps : Inside → Type 0
 Keeps s =
     IsConfigured s.plan s.number s.ports s.forwarding.backlog.capacity s.limit
@@ -47,19 +47,19 @@ Keeps s =
     × IsSpanning s.plan s.number s.steps.steps s.rstp s.address.0
     × (s.forwarding.backlog.is_kept ≡ s.steps.is_kept)
 
--- a port that is used is one of the sixteen
+-- a used port is 1 to 16
 pub used_there : {v : BridgeView} (s : Inside) (p : ℕ) → Keeps s → shown s ≡ v
     → is_used (port_at v.plan v.number p) ≡ true → (1 ≤ p) × (p ≤ 16)
 used_there s p k view used = used_port s.plan s.number p k.0.sound
     (ap (λ (v : BridgeView). is_used (port_at v.plan v.number p)) view ∙ used)
 
--- and so is one to another bridge
+-- a port to another bridge is 1 to 16
 pub linked_there : {v : BridgeView} (s : Inside) (p : ℕ) → Keeps s → shown s ≡ v
     → is_provider (port_at v.plan v.number p) ≡ true → (1 ≤ p) × (p ≤ 16)
 linked_there s p k view linked =
     used_there s p k view (provider_used _ linked)
 
--- one more tick can be counted where there is room for its step
+-- the clock does not overflow if a step is reserved
 pub clock_small : {v : BridgeView} (s : Inside) → Keeps s → shown s ≡ v → v.is_reserved ≡ true → s.clock + 1 < 2 ^ 64
 clock_small s k view room = omega (
   arith,
@@ -70,7 +70,7 @@ clock_small s k view room = omega (
   now_few s.steps.steps,
 )
 
--- one step more, for which there was room
+-- the invariant holds after one more step that was reserved, if the bridge's state follows from its steps
 pub grown : {v : BridgeView} (s : Inside) (f : Forwarding) (clock : ℕ) (rstp : Option Machine) (steps : StepsView)
     (step : Step) → Keeps s → shown s ≡ v → v.is_reserved ≡ true → steps ≡ steps_with s.steps step
     → f.backlog.capacity ≡ s.forwarding.backlog.capacity → f.backlog.is_kept ≡ s.forwarding.backlog.is_kept
@@ -94,7 +94,7 @@ grown s f clock rstp steps step k view room e capacity kept standing table spann
       kept ∙ k.5,
     )
 
--- the step of a frame that goes nowhere
+-- the invariant holds after the step of a frame that is filtered
 pub filtered : {v : BridgeView} (s : Inside) (steps : StepsView) (port : ℕ) (item : Item) (reason : Reason) → Keeps s
     → shown s ≡ v → v.is_reserved ≡ true → steps ≡ steps_with s.steps (Receive port item None (Filtered reason) None)
     → Fits spanning_tree s.plan s.number s.steps.steps (Receive port item None (Filtered reason) None)
@@ -111,7 +111,7 @@ pub seen : {v : BridgeView} (s : Inside) (steps : StepsView) (step : Step) → s
 seen s steps step e view =
     ap (λ (z : StepsView). shown (record s { steps = z })) e ∙ ap (λ (v : BridgeView). with_step v step) view
 
--- and where it tells of a frame that came in, they get it back if the bridge only counts
+-- callers see the step of a received frame, and get it if the bridge only counts its steps
 pub taken : {v : BridgeView} (s : Inside) (steps : StepsView) (port : ℕ) (item : Item) (learnt : Option Learnt)
     (outcome : Outcome) (moved : Option Moved) (told : Option Step) → shown s ≡ v
     → Fits spanning_tree s.plan s.number s.steps.steps (Receive port item learnt outcome moved)

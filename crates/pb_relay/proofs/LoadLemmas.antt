@@ -1,4 +1,4 @@
--- What a frame brings to the ports of a bridge.
+-- The forms of a frame are those that the definition gives for each port of a bridge.
 use Rattle.std.proofs.Common.{◌≡◌, ℕ, zero, suc, ◌+◌, ◌-◌, ◌<◌, ◌≤◌, Bool, true, false, cond, ◌||◌, List, [], ◌∷◌}
 use Rattle.std.proofs.Common.{get_or, unwrap_or, refl, sym, ap, ◌∙◌, subst, arith}
 use Rattle.std.specs.List.{list_any}
@@ -15,7 +15,7 @@ use Rattle.pb_relay.specs.Kinds.{is_to_customer, is_to_bridge}
 use Rattle.pb_relay.specs.Loads.{IsLoad, IsLoadedAt, brought, is_member_of}
 use Rattle.pb_relay.specs.LocalPorts.{IsKept, IsConfigured}
 
--- what is kept of a local port
+-- the configuration of a local port is the plan's
 pub kept_here : (plan : Plan) (b : ℕ) (ports : List LocalPort) (capacity limit p : ℕ)
     → IsConfigured plan b ports capacity limit → (1 ≤ p) × (p ≤ 16)
     → IsKept plan (port_at plan b p) (get_or ports (p - 1) ToNobody)
@@ -26,7 +26,7 @@ kept_here plan b ports capacity limit p k l =
     subst (λ (r : ℕ). IsKept plan (port_at plan b r) (get_or ports (p - 1) ToNobody)) h
     (k.kept_ports (p - 1) (omega arith))
 
--- what one of the ports is, some port is
+-- if one port passes a test, some port does
 some_port : (q : LocalPort → Bool) (ports : List LocalPort) (i : ℕ) → q ToNobody ≡ false
     → q (get_or ports i ToNobody) ≡ true → list_any q ports ≡ true
 some_port q [] i n h = let t : false ≡ true = sym n ∙ h in cc
@@ -34,7 +34,7 @@ some_port q (x ∷ ports) zero n h = ap (λ b. b || list_any q ports) h
 some_port q (x ∷ ports) (suc i) n h =
     elim (q x) as (λ b. (b || list_any q ports) ≡ true) [ true ↦ refl | false ↦ some_port q ports i n h ]
 
--- a customer's frame brings this
+-- the forms of a customer's frame
 customer_brings : (plan : Plan) (vid pcp : ℕ) (wire : List ℕ) (load : Load) (customers bridges : Bool)
     (entry exit : Port) (local : LocalPort)
     → IsKept plan entry (ToCustomer vid pcp) → IsLoad customers bridges (told (ToCustomer vid pcp)) wire load
@@ -49,7 +49,7 @@ customer_brings plan vid pcp wire load customers bridges (Provider f) exit local
 customer_brings plan vid pcp wire load customers bridges Unused exit local k l q b u = absurd k
 customer_brings plan vid pcp wire load customers bridges _ _ _ k l q b u = absurd q
 
--- a bridge's frame brings this
+-- the forms of a bridge's frame
 bridge_brings : (plan : Plan) (start : PortState) (vids : List ℕ) (wire : List ℕ) (load : Load)
     (customers bridges : Bool) (entry exit : Port) (local : LocalPort)
     → IsKept plan entry (ToBridge start vids) → IsLoad customers bridges (told (ToBridge start vids)) wire load
@@ -63,7 +63,7 @@ bridge_brings plan start vids wire load customers bridges (Customer d) exit loca
 bridge_brings plan start vids wire load customers bridges Unused exit local k l q c u = absurd k
 bridge_brings plan start vids wire load customers bridges _ _ _ k l q c u = absurd q
 
--- so at every kind of port
+-- the forms of a frame from any kind of port
 brings : (plan : Plan) (entry : Port) (here : LocalPort) (wire : List ℕ) (load : Load) (customers bridges : Bool)
     (exit : Port) (local : LocalPort)
     → IsKept plan entry here → IsLoad customers bridges (told here) wire load → IsKept plan exit local
@@ -76,7 +76,7 @@ brings plan entry (ToBridge start vids) wire load customers bridges exit local k
     bridge_brings plan start vids wire load customers bridges entry exit local k l q c u
 brings plan entry ToNobody wire load customers bridges exit local k l q c b u = absurd l
 
--- and so is the class
+-- the traffic class of a frame
 class_is : (plan : Plan) (entry : Port) (here : LocalPort) (wire : List ℕ) (load : Load) (customers bridges : Bool)
     → IsKept plan entry here → IsLoad customers bridges (told here) wire load
     → (load.class ≡ class_of (priority_in entry wire)) × (load.class < 8)
@@ -86,7 +86,7 @@ class_is plan (Provider f) (ToBridge start vids) wire load customers bridges k l
 class_is plan entry ToNobody wire load customers bridges k l = absurd l
 class_is plan _ _ wire load customers bridges k l = absurd k
 
--- what is made of a frame by the port where it came in and by the kinds of ports is what it brings to each
+-- the forms that are made by the kinds of all ports are right for each port
 pub loaded : (plan : Plan) (b : ℕ) (ports : List LocalPort) (capacity limit : ℕ) (entry : Port) (here : LocalPort)
     (wire : List ℕ) (load : Load)
     → IsConfigured plan b ports capacity limit → IsKept plan entry here
@@ -103,7 +103,7 @@ loaded plan b ports capacity limit entry here wire load k e l =
       eight = class.1;
     }
 
--- a member is used
+-- a member of a service is a used port
 pub member_used : (plan : Plan) (port : Port) (local : LocalPort) (service : ℕ) → IsKept plan port local
     → is_member_of local service ≡ true → is_used port ≡ true
 member_used plan Unused ToNobody service k m = cc
@@ -111,7 +111,7 @@ member_used plan Unused (ToCustomer vid pcp) service k m = absurd k
 member_used plan Unused (ToBridge start vids) service k m = absurd k
 member_used plan _ local service k m = refl
 
--- and is sent its own of what the frame brings
+-- the form that the code takes for a port is that of the definition
 pub sent_is : (plan : Plan) (port : Port) (local : LocalPort) (service : ℕ) (wire : List ℕ) (load : Load)
     → IsKept plan port local → is_member_of local service ≡ true
     → cond (is_to_customer local) (unwrap_or load.bare wire) (unwrap_or load.tagged wire) ≡ brought port wire load

@@ -21,13 +21,13 @@ use Rattle.pb_lan.specs.Records.{steps_of}
 use Rattle.pb_lan.specs.Plans.{IsSound}
 use Rattle.pb_relay.proofs.VerdictLemmas.{get_up}
 
--- whatever their steps were, the machines of a record are the plan's own
+-- the machines of a record are the plan's, whatever their steps are
 pub are_machines : (plan : Plan) (rec : Record) → IsSound plan → PlannedAreMachines
     → AreMachines plan (machines_in plan rec)
 unfolding machines_in
 are_machines plan rec sound planned = planned plan (steps_of rec.bridges) sound
 
--- what the next local port adds
+-- one step of the loop: the ports of the spanning tree with one more local port
 pub rstp_ports_more : (plan : Plan) (b r : ℕ) (ports port new : List RstpPort) → r < 16
     → ports ≡ flat_map (λ p. rstp_port p (port_at plan b p)) (take r local_ports)
     → port ≡ rstp_port (r + 1) (port_at plan b (r + 1)) → new ≡ ports ++ port
@@ -41,7 +41,7 @@ rstp_ports_more plan b r ports port new l before here after =
     ∙ sym (flat_map-append (λ p. rstp_port p (port_at plan b p)) (take r local_ports) (get_or local_ports r 0 ∷ []))
     ∙ ap (flat_map (λ p. rstp_port p (port_at plan b p))) (sym (take_more local_ports r 0 l))
 
--- the identifier of a bridge, by its priority and its address
+-- the identifier of a bridge, by its priority and address
 pub id_is : (plan : Plan) (b : ℕ) → bridge_id (priority_in plan b) (address_in plan b) ≡ id_in plan b
 id_is plan b =
     elim (numbered plan.bridges b)

@@ -1,4 +1,4 @@
--- What a bridge keeps, after a step that tells what its spanning tree changed.
+-- The state of a bridge after a step that reports the changes of its spanning tree.
 use Rattle.std.proofs.Common.{◌≡◌, ◌≢◌, ℕ, ◌+◌, ◌-◌, ◌≤◌, Bool, true, false, cond, not, ◌&&◌, ◌||◌, List, [], ◌∷◌}
 use Rattle.std.proofs.Common.{◌++◌, map, length, set, ◌==◌, refl, sym, ap, ◌∙◌, subst, arith, append-nil}
 use Rattle.std.proofs.Common.{append_assoc, eq-eqb, ne_eqb}
@@ -33,7 +33,7 @@ use Rattle.pb_relay.proofs.WaitingLemmas.{at_one}
 
 -- States.
 
--- one change sets the state of its port
+-- a change sets the state of its port
 state-changed : (plan : Plan) (port : Port) (p : ℕ) (changes : List (ℕ × PortState)) (new : PortState)
     → is_provider port ≡ true
     → state_by plan.spanning port p (changes ++ (p, new) ∷ []) ≡ new
@@ -42,7 +42,7 @@ state-changed plan (Provider e) p changes new h =
     (eq-eqb p p refl)
 state-changed plan _ p changes new h = cc
 
--- and leaves that of the others
+-- a change leaves the states of other ports
 state-left : (plan : Plan) (port : Port) (p q : ℕ) (changes : List (ℕ × PortState)) (new : PortState) → q ≢ p
     → state_by plan.spanning port q (changes ++ (p, new) ∷ []) ≡ state_by plan.spanning port q changes
 state-left plan (Provider e) p q changes new n =
@@ -65,7 +65,7 @@ state-set plan b changes p new h =
     (λ q n. state-left plan (port_at plan b q) p q changes new n) 16 1 (p - 1) at (omega arith)
     ∙ ap (set (states_by plan b changes) (p - 1)) (state-changed plan (port_at plan b p) p changes new h.0))
 
--- changes of ports to other bridges, each made in turn
+-- changes of ports to other bridges, applied in order
 states-changed : (plan : Plan) (b : ℕ) (before changes : List (ℕ × PortState))
     → AllByRecursion (λ (c : ℕ × PortState). IsBridgePort plan b c.0) changes
     → states_changed (states_by plan b before) changes ≡ states_by plan b (before ++ changes)
@@ -77,7 +77,7 @@ states-changed plan b before (c ∷ cs) h =
 
 -- Tables.
 
--- what stands, once ports are flushed
+-- the live stations after ports are flushed
 pub stations_flushed : (ageing now : ℕ) (news : List News) (table : Table) (ports : List ℕ)
     → filter (is_fresh ageing now) table.sightings ≡ standing ageing now news
     → filter (is_fresh ageing now) (all_flushed table ports).sightings ≡ standing ageing now
@@ -93,15 +93,15 @@ stations_flushed ageing now news table (p ∷ ps) h =
 abbrev in_highest : Item → Waiting
 in_highest item = record { class = 7; item = item }
 
--- a bridge's own items that wait at a port
+-- the bridge's own items that wait at a port
 abbrev own_waiting : List (ℕ × NoRoom) → List (ℕ × List ℕ) → ℕ → List Waiting
 own_waiting dropped sends r = map (λ q. in_highest q.1) (filter (λ q. q.0 == r) (own_queued dropped sends))
 
--- the one of a port, where it got room
+-- the bridge's own item at a port, if it was queued
 abbrev own_there : List (ℕ × NoRoom) → List (ℕ × List ℕ) → ℕ → List Waiting
 own_there dropped sends r = copy_for 7 (own_at sends) (places_of sends) dropped r
 
--- the frames that got room, where the first one did or not
+-- the frames that were queued, with or without the first one
 abbrev kept_of : List (ℕ × NoRoom) → (ℕ × List ℕ) → List (ℕ × List ℕ) → Bool → List (ℕ × List ℕ)
 kept_of dropped s ss k = cond k (s ∷ filter (λ z. not (is_refused dropped z.0)) ss)
     (filter (λ z. not (is_refused dropped z.0)) ss)
@@ -149,7 +149,7 @@ own-one dropped (s ∷ ss) r a = by_tests (s.0 == r) (not (is_refused dropped s.
         ∙ sym (ap (λ b. cond ((b || list_any (λ p. p == r) (places_of ss)) && not (is_refused dropped r))
         (in_highest (cond b (own_item s).1 (own_at ss r)) ∷ []) []) et)
 
--- a step that moves, and does nothing else
+-- a step that only reports changes
 pub record IsMove (plan : Plan) (b : ℕ) (steps : List Step) (step : Step) (m : Moved) (sends : List (ℕ × List ℕ)) :
     Type 0 where
   pub told : moved_of step ≡ m ∷ []
@@ -161,7 +161,7 @@ pub record IsMove (plan : Plan) (b : ℕ) (steps : List Step) (step : Step) (m :
   pub separate : AreSeparate (places_of sends)
   pub bridges : AllByRecursion (λ (c : ℕ × PortState). IsBridgePort plan b c.0) m.states
 
--- a bridge's spanning tree has changed something: what is kept is kept
+-- the bridge's state follows from its steps after its spanning tree has changed something
 pub after_moved : (plan : Plan) (b : ℕ) (steps : List Step) (states : List PortState)
     (queues new : List (List (List Item))) (now later : ℕ) (table : List Sighting) (newer : List Sighting)
     (step : Step) (m : Moved) (sends : List (ℕ × List ℕ)) (capacity : ℕ)
@@ -206,7 +206,7 @@ after_moved plan b steps states queues new now later table newer step m sends ca
         ∙ ap (λ ws. waiting plan b r steps ++ (ws ++ own_by r step)) (move.unrelayed r)
         ∙ ap (λ ws. waiting plan b r steps ++ ws) (own r)
 
--- the same, where nothing was to be sent
+-- the bridge's state follows from its steps after a change that sends nothing
 pub after_unsent : (plan : Plan) (b : ℕ) (steps : List Step) (states : List PortState)
     (queues : List (List (List Item))) (now later : ℕ) (table newer : List Sighting) (step : Step)
     (changes : List (ℕ × PortState)) (ports : List ℕ)

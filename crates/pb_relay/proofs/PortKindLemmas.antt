@@ -1,4 +1,4 @@
--- What the services say of local ports.
+-- The local ports that the services give.
 use Rattle.std.proofs.Common.{◌≡◌, ℕ, suc, ◌+◌, ◌-◌, ◌<◌, ◌==◌, Bool, true, false, ◌||◌, Some, None, List, drop}
 use Rattle.std.proofs.Common.{length, get_or, unwrap_or, refl, sym, ap, ◌∙◌, arith}
 use Rattle.std.proofs.Math.Seq.{drop-cons, drop-length}
@@ -16,12 +16,12 @@ use Rattle.pb_relay.specs.PortKinds.{LocalPort, local_as, local_of, locals, told
 use Rattle.pb_relay.specs.PortKinds.LocalPort.{ToNobody}
 use Rattle.pb_relay.proofs.VerdictLemmas.{get_up}
 
--- there are sixteen
+-- there are sixteen local ports
 pub locals-length : (table : ServiceTable) (starts : List PortState) → length (locals table starts) ≡ 16
 unfolding locals
 locals-length table starts = refl
 
--- what stands at a place
+-- the local port at a place
 pub local_here : (table : ServiceTable) (starts : List PortState) (place : ℕ) → place < 16
     → get_or (locals table starts) place ToNobody ≡ local_as table (get_or starts place Discarding)
     (kind_at table (place + 1))
@@ -43,7 +43,7 @@ pub told_kind : (table : ServiceTable) (start : PortState) (kind : PortKind)
 told_kind table start (Customer join) = refl
 told_kind table start (Trunk vids) = refl
 
--- its membership
+-- the membership of a local port is the one in the services
 member_as : (table : ServiceTable) (start : PortState) (vid : ℕ) (kind : Option PortKind)
     → unwrap_or (option_map (is_member_as table vid) kind) false ≡ is_member_of (local_as table start kind) vid
 member_as table start vid (Some (Trunk None)) = sym (list_any-map (λ w. w == vid) (λ s. s.0) table.services)
@@ -55,7 +55,7 @@ member_here table starts place vid l =
     member_as table (get_or starts place Discarding) vid (kind_at table (place + 1))
     ∙ ap (λ z. is_member_of z vid) (sym (local_here table starts place l))
 
--- some one from a place on: it, or one after it
+-- some port from a place on passes the test if that port does, or some later one
 pub any_from : (q : LocalPort → Bool) (ports : List LocalPort) (i : ℕ) → i < length ports
     → list_any q (drop i ports) ≡ (q (get_or ports i ToNobody) || list_any q (drop (i + 1) ports))
 any_from q ports i l =

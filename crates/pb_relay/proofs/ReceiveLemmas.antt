@@ -1,4 +1,4 @@
--- A frame that is relayed, and a frame whose source alone is learnt.
+-- The steps of a frame that is relayed, and of one whose source alone is learnt.
 use Rattle.std.proofs.Common.{inl, inr, ◌≡◌, ℕ, ◌+◌, ◌-◌, ◌<◌, ◌≤◌, true, cond, ◌==◌, Some, None, List, [], ◌∷◌, ◌++◌}
 use Rattle.std.proofs.Common.{length, get_or, refl, sym, ap, ◌∙◌, subst, arith}
 use Rattle.std.specs.List.{AllByRecursion, filter, list_any}
@@ -46,11 +46,11 @@ use Rattle.pb_relay.proofs.TableLemmas.{has_learnt, table_learnt}
 use Rattle.pb_relay.proofs.StandingLemmas.{after_still}
 use Rattle.pb_relay.proofs.StepLemmas.{states_stay, state_stays, now_more}
 
--- the step of a frame that is learnt
+-- the step of a frame whose source is learnt
 abbrev learnt_step : ℕ → Item → Learnt → Outcome → Step
 learnt_step port item learnt outcome = Receive port item (Some learnt) outcome None
 
--- the table was told of the source in the service of its port
+-- the table learnt the source in the service of its port
 told : (plan : Plan) (b now port : ℕ) (item : Item) (vid : ℕ) (table newer : List Sighting) (learnt : Learnt)
     → IsAdmitted plan (port_at plan b port) item vid
     → HasLearnt plan.ageing now vid port (src_of item.wire) table learnt newer
@@ -58,7 +58,7 @@ told : (plan : Plan) (b now port : ℕ) (item : Item) (vid : ℕ) (table newer :
 told plan b now port item vid table newer learnt a h =
     subst (λ (v : ℕ). HasLearnt plan.ageing now v port (src_of item.wire) table learnt newer) (sym a.service) h
 
--- where the newer table has the destination, it is found once the source is learnt
+-- the port of the destination in the table after the source is learnt is the one after the step
 found_after : (plan : Plan) (b : ℕ) (steps : List Step) (states : List PortState) (queues : List (List (List Item)))
     (now : ℕ) (table newer : List Sighting) (port : ℕ) (item : Item)
     (learnt : Learnt) (outcome : Outcome) (vid : ℕ) (mac : List ℕ)
@@ -73,7 +73,7 @@ found_after plan b steps states queues now table newer port item learnt outcome 
     ∙ ap (λ n. option_map (λ x. x.port) (first (is_sighted vid mac) (standing plan.ageing n (news_of plan b more))))
     (s.clock ∙ sym (now_more steps (learnt_step port item learnt outcome) ∙ zero))
 
--- a step that relays fits
+-- a step of relaying may come after the earlier ones
 relayed_fits : (plan : Plan) (b : ℕ) (steps : List Step) (states : List PortState)
     (queues : List (List (List Item))) (now : ℕ) (table newer : List Sighting)
     (ports : List LocalPort) (capacity limit port vid : ℕ) (item : Item) (learnt : Learnt) (at : Option ℕ)
@@ -109,20 +109,20 @@ relayed_fits plan b steps states queues now table newer ports capacity limit por
       refl,
     ))
 
--- a port of choice is a member of the service
+-- a chosen port is a member of the service
 chosen_member : (ports : List LocalPort) (states : List PortState) (port vid : ℕ) (at : Option ℕ) (p : ℕ)
     → is_choice ports states port vid at p ≡ true
     → is_member_of (get_or ports (p - 1) ToNobody) vid ≡ true
 chosen_member ports states port vid at p h = and-right _ _ (and-right _ _ (and-left _ _ h))
 
--- the local ports are 1 to 16
+-- the number is that of a local port
 abbrev IsPlace : ℕ → Type 0
 IsPlace p = (1 ≤ p) × (p ≤ 16)
 
 places : AllByRecursion IsPlace local_ports
 places = all_up IsPlace 16 1 (λ j a c. (a, omega arith))
 
--- each chosen port gets the copy of the definitions
+-- each chosen port gets the copy that the definition gives
 copies_are : (plan : Plan) (b : ℕ) (ports : List LocalPort) (states : List PortState) (capacity limit port vid : ℕ)
     (at : Option ℕ) (item : Item) (load : Load) (p : ℕ)
     → IsConfigured plan b ports capacity limit → IsLoadedAt plan b (port_at plan b port) item.wire load
@@ -141,7 +141,7 @@ copies_are plan b ports states capacity limit port vid at item load p k h c =
     ∙ h.wires p known.0.0 known.0.1 (member_used plan (port_at plan b p) (get_or ports (p - 1) ToNobody) vid
     (kept_here plan b ports capacity limit p k known.0) member))
 
--- the table was told of a source, and has answered
+-- the table was given a source, and reported what it did
 pub learnt_there : (s : Inside) (vid port : ℕ) (mac source : List ℕ) (newer : Table) (learnt : Learnt) → Keeps s
     → mac ≡ source
     → IsLearnt (is_group mac) (place_in s.forwarding.table s.clock vid mac)
@@ -157,7 +157,7 @@ learnt_there s vid port mac source newer learnt k same answer table = (
   table_learnt s.plan s.clock s.forwarding.table newer (sighting_at vid mac port s.clock) learnt k.3 refl table,
 )
 
--- a frame has been relayed: the step fits, and what is kept is kept
+-- the step of a relayed frame may come there, and the invariant holds after it
 pub relayed : (s : Inside) (new : List (List (List Item))) (newer : List Sighting) (port vid : ℕ) (item : Item)
     (load : Load) (learnt : Learnt) (at : Option ℕ) (chosen : List ℕ) (refused : List (ℕ × NoRoom)) → Keeps s
     → ruling spanning_tree s.plan s.number s.steps.steps port item ≡ Carries vid
@@ -189,7 +189,7 @@ relayed s new newer port vid item load learnt at chosen refused k r q h e c z f 
           ageing (told s.plan s.number s.clock port item vid old.table.sightings newer learnt a h),
     )
 
--- a frame that was to be relayed is given up: the step fits
+-- the step of a frame that is filtered because an allocation failed may come there
 pub given_up : (plan : Plan) (b : ℕ) (steps : List Step) (port : ℕ) (item : Item) (vid : ℕ)
     → ruling spanning_tree plan b steps port item ≡ Carries vid
     → Fits spanning_tree plan b steps (Receive port item None (Filtered WantOfMemory) None)
@@ -197,7 +197,7 @@ given_up plan b steps port item vid r =
     subst (λ (g : Ruling). Follows spanning_tree plan b steps port item None (Filtered WantOfMemory) None g) (sym r)
     (inl (refl, refl, refl))
 
--- a source has been learnt, and its frame goes nowhere: the step fits, and what is kept is kept
+-- the step of a frame whose source alone is learnt may come there, and the invariant holds after it
 pub learnt_alone : (s : Inside) (newer : List Sighting) (port vid : ℕ) (item : Item) (learnt : Learnt) → Keeps s
     → ruling spanning_tree s.plan s.number s.steps.steps port item ≡ LearnsOnly vid
     → HasLearnt s.plan.ageing s.clock vid port (src_of item.wire) s.forwarding.table.sightings learnt newer

@@ -1,4 +1,4 @@
--- The outcome of what was received, from the step that was given back or is kept.
+-- The outcome of a received item, read from the step that was given back or kept. For `receive`.
 use Rattle.std.proofs.Common.{◌≡◌, ◌-◌, ℕ, Bool, true, false, List, [], ◌∷◌, ◌++◌, Some, Option, length}
 use Rattle.std.proofs.Common.{ap, refl, ◌∙◌, slice_get}
 use Rattle.pb_frame.proofs.Things.{last_is}

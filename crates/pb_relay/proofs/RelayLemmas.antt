@@ -1,4 +1,4 @@
--- What a bridge keeps, after it has relayed a frame.
+-- The state of a bridge after it has relayed a frame.
 use Rattle.std.proofs.Common.{◌≡◌, ℕ, ◌<◌, ◌≤◌, Bool, true, false, cond, not, ◌&&◌, Some, None, List, [], ◌∷◌, ◌++◌}
 use Rattle.std.proofs.Common.{length, get_or, nat_le, ◌==◌, refl, sym, ap, ◌∙◌, arith, append-nil, ◌-◌}
 use Rattle.std.specs.List.{AllByRecursion, list_any}
@@ -32,7 +32,7 @@ use Rattle.pb_relay.proofs.TableLemmas.{fresh_now, seen_live}
 use Rattle.pb_relay.proofs.WaitingLemmas.{number_by_class}
 use Rattle.pb_relay.proofs.StepLemmas.{states_stay, news_more}
 
--- fullness by class is fullness
+-- two tests of full queues that agree on the chosen ports refuse the same
 refused-same : (f g : ℕ → Bool) (chosen : List ℕ) (refused : List (ℕ × NoRoom))
     → AllByRecursion (λ p. f p ≡ g p) chosen → AreRefused f chosen refused → AreRefused g chosen refused
 refused-same f g chosen refused e h = (h.0, go chosen e h.1)
@@ -42,7 +42,7 @@ refused-same f g chosen refused e h = (h.0, go chosen e h.1)
     go [] a b = tt
     go (p ∷ ps) a b = (sym a.0 ∙ b.0, go ps a.1 b.1)
 
--- a step that relays: what waits is what waited, and the copy
+-- after a step of relaying, what waits is what waited before and the copy
 waiting-relayed : (plan : Plan) (b r port : ℕ) (steps : List Step) (item : Item) (learnt : Option Learnt)
     (chosen : List ℕ) (refused : List (ℕ × NoRoom))
     → waiting plan b r (steps ++ Receive port item learnt (Relayed chosen refused) None ∷ [])
@@ -51,7 +51,7 @@ waiting-relayed plan b r port steps item learnt chosen refused =
     waiting_from-append plan b r [] steps (Receive port item learnt (Relayed chosen refused) None)
     ∙ ap (λ ws. waiting plan b r steps ++ ws) (append-nil (copies plan b port item (Relayed chosen refused) r))
 
--- once a station is seen, or not, the table tells what stands
+-- the live stations after a station is learnt, or is not
 newer_by : (ageing now : ℕ) (noted : Bool) (s : Sighting) (table newer : List Sighting) (news : List News)
     → is_fresh ageing now s ≡ true
     → live ageing now newer ≡ cond noted (seen_anew s (live ageing now table)) (live ageing now table)
@@ -88,7 +88,7 @@ same_copy : (a c : Bool) (class : ℕ) (i j : Item) → (a ≡ true → i ≡ j)
 same_copy true c class i j e = ap (λ (z : Item). cond (not c) (one class z) []) (e refl)
 same_copy false c class i j e = refl
 
--- a frame has been relayed
+-- the bridge's state follows from its steps after it has relayed a frame
 pub after_relayed : (plan : Plan) (b : ℕ) (steps : List Step) (states : List PortState)
     (queues new : List (List (List Item))) (now : ℕ) (table newer : List Sighting) (port : ℕ) (item : Item)
     (learnt : Learnt) (chosen : List ℕ) (refused : List (ℕ × NoRoom)) (capacity class : ℕ) (item_at : ℕ → Item)
@@ -120,7 +120,7 @@ after_relayed plan b steps states queues new now table newer port item learnt ch
         (same_copy (list_any (λ p. p == r) chosen) (is_refused refused r) class
         (copy_of plan (port_at plan b port) (port_at plan b r) item) (item_at r) (λ t. sym (at r t)))
 
--- what is refused by the number of items kept is refused by what waits
+-- ports that are refused by the number of queued items are refused by the number of waiting items
 pub refusals_are : (plan : Plan) (b : ℕ) (steps : List Step) (states : List PortState)
     (queues : List (List (List Item))) (now : ℕ) (table : List Sighting) (capacity : ℕ)
     (chosen : List ℕ) (refused : List (ℕ × NoRoom))

@@ -1,4 +1,4 @@
--- The plan's services, one after another.
+-- The plan's services, one by one. For `services_of` and `attach`.
 use Rattle.std.proofs.Common.{◌≡◌, ℕ, zero, suc, ◌<◌, Bool, true, false, cond, ◌==◌, ◌||◌, ◌&&◌, nat_eq, nat_lt, Some}
 use Rattle.std.proofs.Common.{None, is_some, List, [], ◌∷◌, map, insert, take, length, get_or, slice_get, unwrap_or}
 use Rattle.std.proofs.Common.{eq-eqb, refl, sym, ap, ◌∙◌, arith}
@@ -26,14 +26,14 @@ use Rattle.pb_relay.specs.Starts.{HasServices}
 abbrev pub pair_of : ServicePlan → ℕ × List ℕ
 pair_of s = (s.vid, s.name)
 
--- what all of a list have, the one at a place has
+-- a property of all images holds of the one at a place
 all-get : {X K : Type 0} (P : K → Type 0) (f : X → K) (xs : List X) (i : ℕ) (d : X) → i < length xs
     → AllByRecursion P (map f xs) → P (f (get_or xs i d))
 all-get P f [] i d l a = absurd (omega arith)
 all-get P f (x ∷ xs) zero d l a = a.0
 all-get P f (x ∷ xs) (suc i) d l a = all-get P f xs i d (omega arith) a.1
 
--- none before a place has its key
+-- if keys are distinct, none before a place has the key at that place
 distinct-before : {X K : Type 0} (e : K → K → Bool) (f : X → K) (xs : List X) (i : ℕ) (d : X) → i < length xs
     → IsDistinct e (map f xs)
     → list_any (λ y. e (f y) (f (get_or xs i d))) (take i xs) ≡ false
@@ -45,7 +45,7 @@ distinct-before e f (x ∷ xs) (suc i) d l h =
     (all-get (λ k. e (f x) k ≡ false) f xs i d (omega arith) h.0)
     ∙ distinct-before e f xs i d (omega arith) h.1
 
--- so none of the services so far has the next one's name, or its VID
+-- none of the services so far has the next one's name or VID
 pub new_service : (plan : Plan) (table : ServiceTable) (items : List ServicePlan) (i : ℕ) (s : ServicePlan)
     → IsSound plan → items ≡ plan.services → i < length items → s ≡ get_or items i s
     → table.services ≡ map pair_of (take i plan.services)
@@ -65,7 +65,7 @@ new_service plan table items i s sound all l e t = (
     within : i < length plan.services
     within = omega (arith, l, ap length all)
 
--- the VID of a service of the plan
+-- the VID of a service in the table is that in the plan
 pub vid-known : (plan : Plan) (table : ServiceTable) (n : ℕ) → HasServices plan table
     → vid_of table n ≡ option_map (λ s. s.vid) (numbered plan.services n)
 vid-known plan table zero h = refl
@@ -89,7 +89,7 @@ all-known plan table [] h a = refl
 all-known plan table (n ∷ numbers) h a = ap (λ b. b && list_all (is_known table) numbers) (known plan table n h a.0)
     ∙ all-known plan table numbers h a.1
 
--- what a port to another bridge carries is what its end lists
+-- the VIDs of a port to another bridge are those of the services that its end lists
 carried-listed : (plan : Plan) (table : ServiceTable) (numbers : List ℕ) (v : ℕ) → HasServices plan table
     → AllByRecursion (λ n. IsNumber n (length plan.services)) numbers
     → list_any (λ w. w == v) (vids_numbered table numbers) ≡ list_any (has_vid_of plan v) numbers
@@ -112,7 +112,7 @@ carried-serves plan old new None v h e a =
     ∙ list_any-map (λ s. s.0 == v) pair_of plan.services
 carried-serves plan old new (Some numbers) v h e a = carried-listed plan old numbers v h (a numbers refl)
 
--- ports with one more that was nothing
+-- the kinds of ports with one more port that had none
 pub kind-attached : (ports : List Attachment) (a : Attachment) (q : ℕ) → kind_in ports a.port ≡ None
     → kind_in (insert ports (place_of a.port ports) a) q ≡ cond (a.port == q) (Some a.kind) (kind_in ports q)
 kind-attached [] a q none = elim (a.port == q) as (λ t. option_map (λ z. z.kind) (cond t (Some a) None) ≡ cond t

@@ -1,4 +1,4 @@
--- A port that is set up or down.
+-- A port that is enabled or disabled, if the plan gives the states.
 use Rattle.std.proofs.Common.{if◌then◌else◌, ◌≡◌, ℕ, ◌-◌, ◌≤◌, Bool, true, false, cond, not, List, [], get_or, ◌∷◌}
 use Rattle.std.proofs.Common.{◌++◌, map, set, refl, sym, ap, ◌∙◌, subst, arith}
 use Rattle.std.specs.List.{AllByRecursion, filter}
@@ -33,7 +33,7 @@ use Rattle.pb_relay.specs.Moves.{IsBridgePort, all_flushed, states_changed}
 use Rattle.pb_relay.proofs.MovedLemmas.{after_unsent, stations_flushed}
 use Rattle.pb_relay.proofs.VerdictLemmas.{at_port}
 
--- the state to which a port is set
+-- the state that the port gets
 abbrev pub goal_of : Plan → ℕ → ℕ → Bool → PortState
 goal_of plan b p up = if up then start_of Fixed (port_at plan b p) else Discarding
 
@@ -42,7 +42,7 @@ pub provider_used : (port : Port) → is_provider port ≡ true → is_used port
 provider_used (Provider e) h = refl
 provider_used _ h = cc
 
--- what is kept of a port tells that state
+-- the configuration of a port gives that state
 pub state_set_is : (plan : Plan) (b p : ℕ) (local : LocalPort) (up : Bool) → is_provider (port_at plan b p) ≡ true
     → IsKept plan (port_at plan b p) local → state_set (told local) up ≡ goal_of plan b p up
 state_set_is plan b p local up h k = by_port (port_at plan b p) local up h k
@@ -55,7 +55,7 @@ state_set_is plan b p local up h k = by_port (port_at plan b p) local up h k
     by_port Unused local up h k = cc
     by_port _ _ up h k = absurd k
 
--- the move that tells it
+-- the report of the change
 abbrev pub setting : Plan → ℕ → List Step → ℕ → Bool → Moved
 setting plan b steps p up = moved_to p up (state_after plan b steps p) (goal_of plan b p up)
 
@@ -64,7 +64,7 @@ pub moved_is : (plan : Plan) (b : ℕ) (steps : List Step) (p : ℕ) (up : Bool)
 moved_is plan b steps p true = refl
 moved_is plan b steps p false = refl
 
--- the step fits
+-- the step may come after the earlier ones
 pub set_fits : (plan : Plan) (b : ℕ) (steps : List Step) (p : ℕ) (up : Bool) → plan.spanning ≡ Fixed
     → is_provider (port_at plan b p) ≡ true
     → Fits spanning_tree plan b steps (Admin p up (moved_by_setting plan b steps p up))
@@ -90,7 +90,7 @@ set_fits plan b steps p up fixed provider = (provider, names)
       own = tt;
     }
 
--- a port has been set: what is kept is kept
+-- the bridge's state follows from its steps after a port was enabled or disabled
 pub after_set : (plan : Plan) (b : ℕ) (steps : List Step) (states : List PortState) (queues : List (List (List Item)))
     (now : ℕ) (old new : Table) (p : ℕ) (up : Bool) (goal : PortState)
     → IsStanding plan b steps states queues now old.sightings → plan.spanning ≡ Fixed

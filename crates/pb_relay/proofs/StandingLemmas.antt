@@ -1,4 +1,4 @@
--- What a bridge keeps, after one more step.
+-- The state of a bridge after one more step. All calls use these.
 use Rattle.std.proofs.Common.{not, ◌≡◌, ℕ, zero, suc, slice_get, unwrap_or, ◌+◌, ◌-◌, ◌<◌, ◌≤◌, ◌≢◌, Bool, true}
 use Rattle.std.proofs.Common.{false, cond, ◌&&◌, Some, None, List, [], ◌∷◌, ◌++◌, map, length, get_or, set, ◌==◌}
 use Rattle.std.proofs.Common.{refl, sym, ap, ◌∙◌, subst, arith, append-nil, eq-eqb, add-zero, ◌||◌, nat_le}
@@ -44,7 +44,7 @@ use Rattle.pb_relay.proofs.WaitingLemmas.{next_by_class, rest_by_class, number_b
 use Rattle.pb_relay.proofs.StepLemmas.{lawful_more, states_stay, now_more, news_stay}
 use Rattle.pb_relay.proofs.ClassLemmas.{no_first}
 
--- the customer that stands at a port is sound, and has the port
+-- the customer port at a local port is sound, and has that port
 pub customer_there : (plan : Plan) (number port : ℕ) (c : CustomerPlan) → IsSound plan
     → Some c ≡ first (is_customer_at number port) plan.customers
     → IsSoundCustomer plan c × (c.port ≡ port)
@@ -60,7 +60,7 @@ end_there plan number port e sound found =
     let there = first-found (IsSoundEnd plan) (is_end_at number port) (all_ends plan) e (sym found) sound.ends in
     (there.0, eqb-true e.port port (and-right _ _ there.1))
 
--- a port that the plan uses is one of 16
+-- a port that the plan uses is 1 to 16
 pub used_port : (plan : Plan) (b p : ℕ) → IsSound plan → is_used (port_at plan b p) ≡ true → (1 ≤ p) × (p ≤ 16)
 used_port plan b p s u =
     elim (first (is_customer_at b p) plan.customers)
@@ -77,7 +77,7 @@ used_port plan b p s u =
           ] refl v
     ] refl u
 
--- what waits at a port is what is kept there
+-- the queues of a port hold what waits there, by class
 pub kept_at : (plan : Plan) (b : ℕ) (steps : List Step) (states : List PortState) (queues : List (List (List Item)))
     (now : ℕ) (table : List Sighting) (p : ℕ)
     → IsStanding plan b steps states queues now table → (1 ≤ p) × (p ≤ 16)
@@ -92,7 +92,7 @@ without-fewer h (w ∷ ws) =
     elim (w.class == h) as (λ b. length (cond b ws (w ∷ without h ws)) ≤ length (w ∷ ws))
     [ true ↦ omega arith | false ↦ omega (arith, without-fewer h ws) ]
 
--- a frame leaves
+-- what waits after an item was transmitted
 pub waiting-sent : (plan : Plan) (b r p : ℕ) (steps : List Step) (item : Item)
     → waiting plan b r (steps ++ Transmit p item ∷ []) ≡ cond (p == r)
     (without (highest (waiting plan b r steps)) (waiting plan b r steps)) (waiting plan b r steps)
@@ -100,7 +100,7 @@ waiting-sent plan b r p steps item =
     waiting_from-append plan b r [] steps (Transmit p item)
     ∙ ap (λ ws. cond (p == r) (without (highest ws) ws) ws) (append-nil (waiting plan b r steps))
 
--- once a frame has left, what is kept is kept
+-- the bridge's state follows from its steps after an item was transmitted
 pub after_transmit : (plan : Plan) (b : ℕ) (steps : List Step) (states : List PortState)
     (queues : List (List (List Item))) (now : ℕ) (table : List Sighting) (p : ℕ) (item : Item)
     → IsStanding plan b steps states queues now table → (1 ≤ p) × (p ≤ 16)
@@ -162,7 +162,7 @@ after_transmit plan b steps states queues now table p item s l n = record {
         ] refl
         ∙ ap by_class (sym (waiting-sent plan b (r + 1) p steps item))
 
--- a capacity is no more than 4,096
+-- a capacity is at most 4,096
 pub capacity-small : (plan : Plan) (b : ℕ) → IsSound plan → capacity_of plan b ≤ 4096
 capacity-small plan zero s = omega arith
 capacity-small plan (suc b) s =
@@ -170,7 +170,7 @@ capacity-small plan (suc b) s =
     as (λ o. slice_get plan.bridges b ≡ o → unwrap_or (option_map (λ x. x.queue) o) 0 ≤ 4096)
     [ None ↦ λ e. omega arith | Some x ↦ λ e. (All-at IsSoundBridge plan.bridges b x e s.bridges).queue.1 ] refl
 
--- the first that is kept at a port goes out next
+-- the first item of the queues leaves next
 pub next_at : (plan : Plan) (b : ℕ) (steps : List Step) (states : List PortState) (queues : List (List (List Item)))
     (now : ℕ) (table : List Sighting) (p : ℕ)
     → IsStanding plan b steps states queues now table → (1 ≤ p) × (p ≤ 16) → first_out (get_or queues (p - 1) [])
@@ -179,7 +179,7 @@ next_at plan b steps states queues now table p s l =
     ap first_out (kept_at plan b steps states queues now table p s l)
     ∙ next_by_class (waiting plan b p steps) (s.classes p)
 
--- as many are kept at a port as wait there
+-- the queues of a port hold as many items as wait there
 pub number_at : (plan : Plan) (b : ℕ) (steps : List Step) (states : List PortState) (queues : List (List (List Item)))
     (now : ℕ) (table : List Sighting) (p : ℕ)
     → IsStanding plan b steps states queues now table → (1 ≤ p) × (p ≤ 16) → number_in (get_or queues (p - 1) [])
@@ -188,14 +188,14 @@ number_at plan b steps states queues now table p s l =
     ap number_in (kept_at plan b steps states queues now table p s l)
     ∙ number_by_class (waiting plan b p steps) (s.classes p)
 
--- where nothing goes out next, nothing waits
+-- if no item leaves next, no item waits
 pub none_waits : (qs : List (List Item)) → first_out qs ≡ None → number_in qs ≡ 0
 none_waits [] e = refl
 none_waits (q ∷ qs) e =
     elim (first_out qs) as (λ o. first_out qs ≡ o → or_else o (slice_get q 0) ≡ None → number_in (q ∷ qs) ≡ 0)
     [ None ↦ λ n h. let r = none_waits qs n in omega (arith, no_first q h) | Some x ↦ λ n h. cc ] refl e
 
--- a frame has left
+-- the step of an item that is taken from the queues may come there, and the bridge's state follows from its steps
 pub transmitted : (plan : Plan) (b : ℕ) (steps : List Step) (states : List PortState)
     (queues new : List (List (List Item))) (now : ℕ) (table : List Sighting) (p : ℕ)
     → IsStanding plan b steps states queues now table → (1 ≤ p) × (p ≤ 16) → new
@@ -208,21 +208,21 @@ transmitted plan b steps states queues new now table p s l e item n =
     (after_transmit plan b steps states queues now table p item s l
     (sym (n ∙ next_at plan b steps states queues now table p s l)))
 
--- what all have that are among the ports
+-- a property of all of the ports holds of one of them
 among : (P : ℕ → Type 0) (ports : List ℕ) (r : ℕ) → list_any (λ p. p == r) ports ≡ true → AllByRecursion P ports → P r
 among P [] r h a = cc
 among P (p ∷ ports) r h a =
     elim (p == r) as (λ b. (p == r) ≡ b → (b || list_any (λ p. p == r) ports) ≡ true → P r)
     [ true ↦ λ e g. subst P (eqb-true p r e) a.0 | false ↦ λ e g. among P ports r g a.1 ] refl h
 
--- a port that gets a copy isn't full
+-- the queue of a port that gets a copy is not full
 not_full : (full : ℕ → Bool) (chosen : List ℕ) (refused : List (ℕ × NoRoom)) (r : ℕ)
     → AreRefused full chosen refused
     → list_any (λ p. p == r) chosen ≡ true → is_refused refused r ≡ false → full r ≡ false
 not_full full chosen refused r h c n = among (λ p. full p ≡ is_named_full refused p) chosen r c h.1
     ∙ none_full r refused n
 
--- the queues of a port with one item more, or not
+-- the queues of a port with one more item, or without
 queue_relayed : (b : Bool) (class : ℕ) (item : Item) (ws : List Waiting) → class < 8
     → by_class (ws ++ cond b (record { class = class; item = item } ∷ []) []) ≡ cond b
     (put_in class item (by_class ws)) (by_class ws)
@@ -245,7 +245,7 @@ and-true : (a c : Bool) → (a && not c) ≡ true → (a ≡ true) × (c ≡ fal
 and-true true false h = (refl, refl)
 and-true _ _ h = cc
 
--- a port of some is named, and gets its item, as it isn't refused
+-- the port is one of those chosen, and is not refused
 abbrev pub gets_copy : List ℕ → List (ℕ × NoRoom) → ℕ → Bool
 gets_copy chosen refused r = list_any (λ p. p == r) chosen && not (is_refused refused r)
 
@@ -253,7 +253,8 @@ abbrev pub copy_for : ℕ → (ℕ → Item) → List ℕ → List (ℕ × NoRoo
 copy_for class item_at chosen refused r =
     cond (gets_copy chosen refused r) (record { class = class; item = item_at r } ∷ []) []
 
--- one step more, by which each of some ports gets an item more or is refused
+-- the bridge's state follows from its steps after a step that queues an item at some ports, each of which gets it or is
+-- refused
 pub after_step : (plan : Plan) (b : ℕ) (steps : List Step) (states new_states : List PortState)
     (queues new : List (List (List Item))) (now later : ℕ) (table newer : List Sighting) (step : Step)
     (capacity class : ℕ) (item_at : ℕ → Item) (chosen : List ℕ) (refused : List (ℕ × NoRoom))
@@ -290,7 +291,7 @@ after_step plan b steps states new_states queues new now later table newer step 
     room r t = let f = and-true (list_any (λ p. p == r) chosen) (is_refused refused r) t in not_full
         (is_full plan b steps) chosen refused r full f.0 f.1
 
--- a step that queues nothing and moves nothing leaves all that is kept but the table
+-- a step that queues nothing and reports no change leaves all but the learning table
 pub after_still : (plan : Plan) (b : ℕ) (steps : List Step) (states : List PortState)
     (queues : List (List (List Item))) (now : ℕ) (table newer : List Sighting) (step : Step)
     → IsStanding plan b steps states queues now table → Fits spanning_tree plan b steps step
@@ -307,7 +308,7 @@ after_still plan b steps states queues now table newer step s f m n t q a =
     ∙ ap (λ ws. waiting plan b r steps ++ ws) (q r))
     (omega (arith, t)) n
 
--- and the table too, where it tells nothing of stations
+-- a step that also reports no station leaves the learning table too
 pub after_quiet : (plan : Plan) (b : ℕ) (steps : List Step) (states : List PortState)
     (queues : List (List (List Item))) (now : ℕ) (table : List Sighting) (step : Step)
     → IsStanding plan b steps states queues now table → Fits spanning_tree plan b steps step
@@ -318,7 +319,7 @@ after_quiet plan b steps states queues now table step s f m n t q a =
     after_still plan b steps states queues now table table step s f m
     (s.stations ∙ ap (λ ns. standing plan.ageing now ns) (sym (news_stay plan b steps step n m))) t q a
 
--- what stands a second later
+-- the live stations one tick later
 pub standing_later : (ageing now : ℕ) (news : List News)
     → filter (is_fresh ageing (now + 1)) (standing ageing now news) ≡ standing ageing (now + 1) news
 standing_later ageing now news =
@@ -326,7 +327,7 @@ standing_later ageing now news =
     ∙ live-dropped ageing now (now + 1) (after_all [] news) (omega arith)
     ∙ table_tells_what_stands ageing (now + 1) news
 
--- where the plan gives the states, a cause that changes nothing is told by no move
+-- if the plan gives the states, a report of no change is right for a cause that changes nothing
 pub fixed_names : (plan : Plan) (b : ℕ) (steps : List Step) (cause : Cause) → plan.spanning ≡ Fixed
     → planned_change plan b steps cause ≡ nothing
     → Names spanning_tree plan b steps cause unmoved
@@ -349,7 +350,7 @@ ticked-few : (step : Step) → ticked step ≤ 1
 ticked-few (Tick now moved) = omega arith
 ticked-few _ = omega arith
 
--- there are no more ticks than steps
+-- there are at most as many ticks as steps
 pub now_few : (steps : List Step) → now_after steps ≤ length steps
 now_few [] = omega arith
 now_few (s ∷ steps) = omega (arith, ticked-few s, now_few steps)

@@ -1,4 +1,4 @@
--- What a bridge keeps at its start.
+-- The state of a bridge at its start.
 use Rattle.std.proofs.Common.{◌≡◌, ◌≢◌, ◌==◌, true, false, eq-eqb, ap, subst, ℕ, ◌+◌, ◌-◌, ◌<◌, List, [], map, length}
 use Rattle.std.proofs.Common.{get_or, set, replicate, refl, sym, ◌∙◌, arith}
 use Rattle.std.proofs.lemmas.Bool.{eqb-true}
@@ -21,7 +21,7 @@ use Rattle.pb_relay.specs.Starts.{first_state, KeepsPorts}
 use Rattle.pb_relay.specs.PortKinds.{LocalPort, told}
 use Rattle.pb_relay.specs.PortKinds.LocalPort.{ToCustomer, ToBridge, ToNobody}
 
--- one more state
+-- one step of the loop: one more state
 pub states_more : (spanning : Spanning) (states : List PortState) (ports : List LocalPort) (r : ℕ) (s : PortState)
     → r < length states
     → ((k : ℕ) → k < r → get_or states k Discarding ≡ first_state spanning (told (get_or ports k ToNobody)))
@@ -54,7 +54,7 @@ start_kept plan (Provider e) (ToBridge start vids) p k = ap (start_by plan.spann
 start_kept plan Unused ToNobody p k = refl
 start_kept plan _ _ p k = absurd k
 
--- at its start a bridge keeps what its empty list of steps says
+-- the bridge's state at its start follows from its empty list of steps
 pub started : (plan : Plan) (number : ℕ) (ports : List LocalPort) (states : List PortState)
     (queues : List (List (List Item))) (table : List Sighting)
     → KeepsPorts plan number ports 16 → states ≡ map (λ l. first_state plan.spanning (told l)) ports

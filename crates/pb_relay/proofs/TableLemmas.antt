@@ -18,14 +18,14 @@ use Rattle.pb_lan.specs.Choice.{is_noted}
 use Rattle.pb_lan.specs.declared.plan.Plan.{Plan}
 use Rattle.pb_relay.specs.Tables.{seen_anew, HasLearnt, IsTableOf}
 
--- what is seen now is fresh
+-- an entry that is made at this moment is fresh
 pub fresh_now : (ageing now vid port : ℕ) (mac : List ℕ) → 0 < ageing
     → is_fresh ageing now (sighting_at vid mac port now) ≡ true
 fresh_now ageing now vid port mac h =
     let z : now - now ≡ 0 = omega arith in
     rw z (grind (arith, nat_tests))
 
--- the live ones, once a station is seen anew
+-- the live entries after a station is seen
 live_after : (ageing now : ℕ) (s : Sighting) (table : List Sighting) → is_fresh ageing now s ≡ true
     → live ageing now (filter (λ t. not (is_sighted s.vid s.mac t)) table ++ s ∷ []) ≡ seen_anew s
     (live ageing now table)
@@ -34,19 +34,19 @@ live_after ageing now s table f =
     ∙ ap (λ b. live ageing now (filter (λ t. not (is_sighted s.vid s.mac t)) table) ++ cond b (s ∷ []) []) f
     ∙ ap (λ zs. zs ++ s ∷ []) (filter-swap (is_fresh ageing now) (λ t. not (is_sighted s.vid s.mac t)) table)
 
--- a table once a station is seen, as the news tell it
+-- a table after a station is seen, as news
 after_seen : (s : Sighting) (table : List Sighting) → after table (Seen s) ≡ seen_anew s table
 after_seen s table =
     ap (λ zs. zs ++ s ∷ [])
     (filter-same (λ t. not (overrides t (Seen s))) (λ t. not (is_sighted s.vid s.mac t))
     (λ t. ap not (overrides-is_sighted s t)) table)
 
--- the live ones once a station is seen, as the news tell it
+-- the live entries after a station is seen, as news
 pub seen_live : (ageing now : ℕ) (s : Sighting) (table : List Sighting) → is_fresh ageing now s ≡ true
     → live ageing now (after table (Seen s)) ≡ seen_anew s (live ageing now table)
 seen_live ageing now s table f = ap (live ageing now) (after_seen s table) ∙ live_after ageing now s table f
 
--- what is live once the table was told and has answered
+-- the live entries after the table was given a station
 live_learnt : (old : Table) (s : Sighting) (learnt : Learnt) → is_fresh old.ageing s.moment s ≡ true
     → live old.ageing s.moment (learnt_sightings old s learnt) ≡ cond (is_noted (Some learnt))
     (seen_anew s (live old.ageing s.moment old.sightings)) (live old.ageing s.moment old.sightings)
@@ -57,7 +57,7 @@ live_learnt old s Kept f = seen_live old.ageing s.moment s old.sightings f
 live_learnt old s Moved f = seen_live old.ageing s.moment s old.sightings f
 live_learnt old s _ f = refl
 
--- a table that was told of a station and has answered
+-- a table that was given a station, and reported what it did
 pub has_learnt : (plan : Plan) (now vid port : ℕ) (mac : List ℕ) (old new : Table) (learnt : Learnt) → 0 < plan.ageing
     → IsTableOf plan now old
     → IsLearnt (is_group mac) (where_in old now vid mac) (is_full old now) port learnt
@@ -72,18 +72,18 @@ has_learnt plan now vid port mac old new learnt h t a e =
           (fresh_now old.ageing now vid port mac (subst (λ (n : ℕ). 0 < n) (sym t.ageing) h));
     })
 
--- it is still the bridge's
+-- a table that was given a station is still one of the bridge
 pub table_learnt : (plan : Plan) (now : ℕ) (old new : Table) (s : Sighting) (learnt : Learnt) → IsTableOf plan now old
     → s.moment ≡ now → new ≡ learnt_table old s learnt → IsTableOf plan now new
 table_learnt plan now old new s learnt t m e =
     rw e (record { limit = t.limit; ageing = t.ageing; in_time = rw m (omega arith) })
 
--- where the table finds a station
+-- the port at which the table has a station is the one in its list of entries
 pub found_in : (plan : Plan) (now vid : ℕ) (mac : List ℕ) (old : Table) → old.ageing ≡ plan.ageing
     → where_in old now vid mac ≡ list_where plan.ageing now vid mac old.sightings
 found_in plan now vid mac old e = ap (λ ageing. list_where ageing now vid mac old.sightings) e
 
--- a table whose sightings that are too old were dropped
+-- a table without its expired entries is still one of the bridge, one tick later
 pub table_expired : (plan : Plan) (now : ℕ) (old : Table) → IsTableOf plan now old
     → IsTableOf plan (now + 1) (expired old (now + 1))
 table_expired plan now old t = record { limit = t.limit; ageing = t.ageing; in_time = omega arith }
@@ -93,7 +93,7 @@ pub live_expired : (plan : Plan) (now : ℕ) (old : Table) → IsTableOf plan no
 live_expired plan now old t =
     rw (sym t.ageing) (live-dropped old.ageing (now + 1) (now + 1) old.sightings (omega arith))
 
--- a table of which a port was flushed
+-- a table of which a port was flushed, or not, is still one of the bridge
 pub table_flushed_or : (plan : Plan) (now port : ℕ) (up : Bool) (old : Table) → IsTableOf plan now old
     → IsTableOf plan now (cond up old (flushed old port))
 table_flushed_or plan now port true old t = t

@@ -1,4 +1,4 @@
--- What waits, by class, is what waits.
+-- The waiting items by class are the waiting items. For the queues of a port.
 use Rattle.std.proofs.Common.{◌≡◌, ◌≢◌, ℕ, zero, suc, ◌+◌, ◌<◌, ◌≤◌, Bool, true, false, cond, Some, None, List, []}
 use Rattle.std.proofs.Common.{◌∷◌, ◌++◌, map, length, get_or, set, drop, slice_get, ◌==◌, refl, sym, ap, ◌∙◌, subst}
 use Rattle.std.proofs.Common.{arith, eq-eqb, append-nil}
@@ -15,14 +15,14 @@ abbrev pub count_up : ℕ → ℕ → List ℕ
 count_up k zero = []
 count_up k (suc n) = k ∷ count_up (k + 1) n
 
--- lists by class that differ in one class alone
+-- lists by class that differ only in a class below these are the same
 pub at_none : {X : Type 0} (F G : ℕ → X) (c : ℕ) → ((j : ℕ) → j ≢ c → G j ≡ F j) → (n k : ℕ) → c < k
     → map G (count_up k n) ≡ map F (count_up k n)
 at_none F G c h zero k l = refl
 at_none F G c h (suc n) k l = ap (λ q. q ∷ map G (count_up (k + 1) n)) (h k (omega arith))
     ∙ ap (λ qs. F k ∷ qs) (at_none F G c h n (k + 1) (omega arith))
 
--- so only one place of the lists changes
+-- lists by class that differ in one class differ at one place
 pub at_one : {X : Type 0} (F G : ℕ → X) (c : ℕ) → ((j : ℕ) → j ≢ c → G j ≡ F j) → (n k i : ℕ) → c ≡ k + i → i < n
     → map G (count_up k n) ≡ set (map F (count_up k n)) i (G c)
 at_one F G c h zero k i e l = absurd (omega arith)
@@ -33,14 +33,14 @@ at_one F G c h (suc n) k (suc i) e l =
     ap (λ q. q ∷ map G (count_up (k + 1) n)) (h k (omega arith))
     ∙ ap (λ qs. F k ∷ qs) (at_one F G c h n (k + 1) i (omega arith) (omega arith))
 
--- what the lists have at a class
+-- the items at a class of the lists
 pub get_class : (F : ℕ → List Item) (n k i : ℕ) → i < n → get_or (map F (count_up k n)) i [] ≡ F (k + i)
 get_class F zero k i l = absurd (omega arith)
 get_class F (suc n) k zero l = let s : k ≡ k + 0 = omega arith in ap F s
 get_class F (suc n) k (suc i) l = let s : (k + 1) + i ≡ k + suc i = omega arith in get_class F n (k + 1) i
     (omega arith) ∙ ap F s
 
--- empty lists have nothing to send
+-- if all classes from one on are empty, none of them has a next item
 pub none_above : (F : ℕ → List Item) (n k m : ℕ) → ((j : ℕ) → k + m ≤ j → F j ≡ [])
     → first_out (drop m (map F (count_up k n))) ≡ None
 none_above F zero k zero h = refl
@@ -50,7 +50,7 @@ none_above F (suc n) k zero h =
     ∙ ap (λ q. slice_get q 0) (h k (omega arith))
 none_above F (suc n) k (suc m) h = none_above F n (k + 1) m (λ j l. h j (omega arith))
 
--- one more item
+-- the items of a class with one more item that waits
 of_class-push : (j : ℕ) (ws : List Waiting) (w : Waiting) → of_class j (ws ++ w ∷ []) ≡ of_class j ws
     ++ of_class j (w ∷ [])
 of_class-push j [] w = refl
@@ -72,7 +72,7 @@ of_class-other j w ws n =
     (cond b (w ∷ filter (λ w. w.class == j) ws) (filter (λ w. w.class == j) ws)) ≡ of_class j ws)
     [ true ↦ λ e. absurd (n (sym (eqb-true w.class j e))) | false ↦ λ e. refl ] refl
 
--- one more that waits goes into the list of its class
+-- one more item that waits is appended to its class
 pub by_class-push : (ws : List Waiting) (w : Waiting) → w.class < 8
     → by_class (ws ++ w ∷ []) ≡ put_in w.class w.item (by_class ws)
 by_class-push ws w l =
@@ -88,7 +88,7 @@ by_class-push ws w l =
     zero-plus : 0 + w.class ≡ w.class
     zero-plus = omega arith
 
--- the highest class
+-- the highest class is at least that of each item
 highest-cons : (w : Waiting) (ws : List Waiting) → (w.class ≤ highest (w ∷ ws)) × (highest ws ≤ highest (w ∷ ws))
 highest-cons w ws = (omega arith, omega arith)
 
@@ -156,7 +156,7 @@ without-other j h (w ∷ ws) n =
     keep true ih = ap (λ zs. w.item ∷ zs) ih
     keep false ih = ih
 
--- the highest list of the classes that isn't empty has the items of the highest class
+-- the highest class that is not empty is the highest class of an item
 highest_class : (w : Waiting) (ws : List Waiting) → AllByRecursion (λ w. w.class < 8) (w ∷ ws)
     → IsHighest (by_class (w ∷ ws)) (Some (highest (w ∷ ws)))
 highest_class w ws a =
@@ -169,7 +169,7 @@ highest_class w ws a =
     (subst (λ (q : List Item). 0 < length q) (sym g) (highest-some w ws))
     (none_above (λ j. of_class j (w ∷ ws)) 8 0 (suc h) (λ j b. above_highest j (w ∷ ws) (omega arith)))
 
--- what goes out next by class goes out next
+-- the next item by class is the next item
 pub next_by_class : (ws : List Waiting) → AllByRecursion (λ w. w.class < 8) ws → first_out (by_class ws) ≡ next_out ws
 next_by_class [] a = refl
 next_by_class (w ∷ ws) a =
@@ -180,7 +180,7 @@ next_by_class (w ∷ ws) a =
     ∙ ap (λ j. of_class j (w ∷ ws)) z in
     (highest_class w ws a).2 ∙ ap (λ q. slice_get q 0) g ∙ first_of_class h (w ∷ ws)
 
--- and so does what is left
+-- the items by class without the next one are the items without the next one, by class
 pub rest_by_class : (ws : List Waiting) → AllByRecursion (λ w. w.class < 8) ws
     → by_class (without (highest ws) ws) ≡ after_first (by_class ws)
 rest_by_class [] a = refl
@@ -195,7 +195,7 @@ rest_by_class (w ∷ ws) a =
     ∙ ap (set (by_class (w ∷ ws)) h) (without-own h (w ∷ ws) ∙ ap (drop 1) (sym g))
     ∙ sym (highest_class w ws a).3
 
--- and as many wait
+-- the items by class are as many as the items
 pub number_by_class : (ws : List Waiting) → AllByRecursion (λ w. w.class < 8) ws → number_in (by_class ws) ≡ length ws
 number_by_class [] a = refl
 number_by_class (w ∷ ws) a =
@@ -214,7 +214,7 @@ number_by_class (w ∷ ws) a =
       number_by_class ws a.1,
     )
 
--- taking one away leaves the others in their classes
+-- removing one item leaves the classes of the others in range
 pub without-below : (n h : ℕ) (ws : List Waiting) → AllByRecursion (λ w. w.class < n) ws
     → AllByRecursion (λ w. w.class < n) (without h ws)
 without-below n h [] a = tt

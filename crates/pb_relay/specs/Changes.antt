@@ -1,4 +1,4 @@
--- What changes a bridge's ports, and its clock.
+-- Ticks of a bridge's clock, and ports that are enabled or disabled.
 use Rattle.std.specs.Prelude.{◌≡◌, ℕ, ◌+◌, Bool, true, false, List, [], ◌∷◌}
 use Rattle.pb_lan.specs.Rules.{planned_change, from_to}
 use Rattle.pb_relay.specs.Protocol.{spanning_tree}
@@ -15,17 +15,17 @@ use Rattle.pb_relay.specs.Standing.{BridgeView, with_step}
 use Rattle.pb_relay.specs.declared.ports.Local.{Local}
 use Rattle.pb_relay.specs.declared.ports.Local.TheVariants.{Customer as customer_there, Bridge as bridge_there, Nobody as nobody_there}
 
--- nothing moved
+-- a report of no change
 abbrev pub unmoved : Moved
 unmoved = record { states = []; flushed = []; queued = []; dropped = [] }
 
--- the bridge has appended one tick, and the step is lawful there
+-- the bridge has appended one Tick step, which may come there
 abbrev pub HasTicked : BridgeView → BridgeView → Type 0
 HasTicked old new =
     (moved : Moved) × (new ≡ with_step old (Tick (now_after old.steps + 1) moved))
     × Fits spanning_tree old.plan old.number old.steps (Tick (now_after old.steps + 1) moved)
 
--- what moves where a port is set up or down, and the plan gives the states
+-- the changes of a port that is enabled or disabled, if the plan gives the states
 abbrev pub moved_by_setting : Plan → ℕ → List Step → ℕ → Bool → Moved
 moved_by_setting plan number steps port up = record {
   states = (planned_change plan number steps (Sets port up)).states;
@@ -34,24 +34,24 @@ moved_by_setting plan number steps port up = record {
   dropped = [];
 }
 
--- the bridge has appended the one step of the port that is set up or down, and the step is lawful there
+-- the bridge has appended the Admin step of the port that is enabled or disabled, which may come there
 abbrev pub HasSet : BridgeView → ℕ → Bool → BridgeView → Type 0
 HasSet old port up new =
     (moved : Moved) × (new ≡ with_step old (Admin port up moved))
     × Fits spanning_tree old.plan old.number old.steps (Admin port up moved)
 
--- the state of a port that is set up or down
+-- the state of a port after it is enabled or disabled
 abbrev pub state_set : Local → Bool → PortState
 state_set (bridge_there start) true = start
 state_set (bridge_there start) false = Discarding
 state_set (customer_there vid pcp) up = Discarding
 state_set nobody_there up = Discarding
 
--- a port that is set down is flushed
+-- a port that is disabled is flushed
 abbrev pub ports_flushed : ℕ → Bool → List ℕ
 ports_flushed port true = []
 ports_flushed port false = port ∷ []
 
--- what moves where a port goes from one state to another
+-- the changes of a port that is enabled or disabled and goes from one state to another
 abbrev pub moved_to : ℕ → Bool → PortState → PortState → Moved
 moved_to port up old new = record { states = from_to port old new; flushed = ports_flushed port up; queued = []; dropped = [] }

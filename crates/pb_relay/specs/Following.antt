@@ -1,4 +1,4 @@
--- What a bridge does that its spanning tree tells.
+-- How a bridge applies the changes of its spanning tree.
 use Rattle.std.specs.Prelude.{◌≡◌, ◌≤◌, ℕ, List, length}
 use Rattle.std.specs.List.{AllByRecursion}
 use Rattle.pb_lan.specs.declared.shape.PortState.{PortState}
@@ -10,13 +10,13 @@ use Rattle.pb_relay.specs.Backlogs.{KeepsBacklog}
 use Rattle.pb_relay.specs.declared.forwarding.Forwarding.{Forwarding}
 use Rattle.pb_relay.specs.Moves.{all_flushed, own_at, own_queued, places_of, states_changed}
 
--- the change is of local ports, and each sends one BPDU at most
+-- the change is of local ports, and sends at most one BPDU at each
 pub record IsOfPorts (address : List ℕ) (change : Change) : Type 0 where
   pub within : AllByRecursion (λ (c : ℕ × PortState). (1 ≤ c.0) × (c.0 ≤ 16)) change.states
   pub separate : AreSeparate (places_of (frames_of address change.send))
   pub few : length change.send ≤ 16
 
--- the states are set, the ports flushed, the BPDUs queued or dropped, and all that is told
+-- the states are set, the ports flushed, the BPDUs queued or dropped, and all of this is reported
 pub record HasFollowed (address : List ℕ) (change : Change) (old : Forwarding) (moved : Moved)
     (new : Forwarding) : Type 0 where
   pub set_states : new.states ≡ states_changed old.states change.states

@@ -1,4 +1,4 @@
--- What a bridge keeps of its own ports.
+-- The configuration of a bridge's local ports.
 use Rattle.std.specs.Prelude.{◌≡◌, ℕ, ◌+◌, ◌<◌, List, length, slice_index_or, ◌==◌}
 use Rattle.pb_lan.specs.Ports.{Port, port_at, vid_at, has_vid, serves}
 use Rattle.pb_lan.specs.Ports.Port.{Customer, Provider, Unused}
@@ -8,14 +8,14 @@ use Rattle.pb_lan.specs.Queues.{capacity_of}
 use Rattle.pb_relay.specs.PortKinds.{LocalPort, serves_of}
 use Rattle.pb_relay.specs.PortKinds.LocalPort.{ToCustomer, ToBridge, ToNobody}
 
--- what is kept is what the plan says
+-- the port is configured as the plan has it
 abbrev pub IsKept : Plan → Port → LocalPort → Type 0
 IsKept plan (Customer c) (ToCustomer vid pcp) = (vid ≡ vid_at plan c) × (pcp ≡ c.pcp) × ((v : ℕ) → (vid == v) ≡ has_vid plan v c.service)
 IsKept plan (Provider e) (ToBridge start vids) = (start ≡ e.start) × ((v : ℕ) → serves_of vids v ≡ serves plan v e)
 IsKept plan Unused ToNobody = Unit {0}
 IsKept plan _ _ = ⊥
 
--- what a bridge keeps of a plan is so
+-- the bridge is configured as the plan has it: its ports, the most items at a port and the most steps
 pub record IsConfigured (plan : Plan) (number : ℕ) (ports : List LocalPort) (capacity limit : ℕ) : Type 0 where
   pub sound : IsSound plan
   pub count : length ports ≡ 16

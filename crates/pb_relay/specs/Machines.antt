@@ -13,7 +13,7 @@ use Rattle.pb_rstp.specs.Profile.{after, machine_of, address_in}
 use Rattle.pb_rstp.specs.declared.change.Change.{Change}
 use Rattle.pb_rstp.specs.declared.config.RstpPort.{RstpPort}
 
--- a bridge has a machine where the protocol decides the states
+-- a bridge has a machine if and only if the protocol decides the states
 abbrev pub machine_by : Spanning → Machine → Option Machine
 machine_by Fixed machine = None
 machine_by Rstp machine = Some machine
@@ -22,19 +22,20 @@ machine_by Rstp machine = Some machine
 unfoldable pub machine_in : Plan → ℕ → List Step → Option Machine
 machine_in plan number steps = machine_by plan.spanning (machine_of plan number steps)
 
--- the machine after a cause, and what the cause changes
+-- the machine after a cause
 unfoldable pub machine_next : Option Machine → Cause → Option Machine
 machine_next machine cause = option_map (λ m. (after m cause).machine) machine
 
+-- what a cause changes, if the bridge has a machine
 unfoldable pub change_next : Option Machine → Cause → Option Change
 change_next machine cause = option_map (λ m. (after m cause).change) machine
 
--- what a bridge keeps of its spanning tree is what its steps have made of it
+-- the bridge's machine is the one that its steps determine, and its address is the plan's
 pub record IsSpanning (plan : Plan) (number : ℕ) (steps : List Step) (machine : Option Machine) (address : List ℕ) : Type 0 where
   pub kept_machine : machine ≡ machine_in plan number steps
   pub kept_address : address ≡ address_in plan number
 
--- a port, if there is one, as a list
+-- the port as a list, which is empty if there is none
 abbrev pub listed : Option RstpPort → List RstpPort
 listed None = []
 listed (Some port) = port ∷ []

@@ -1,4 +1,4 @@
--- What a bridge's spanning tree changes.
+-- The changes of a bridge's spanning tree.
 use Rattle.std.specs.Prelude.{◌≡◌, ℕ, ◌-◌, ◌≤◌, true, List, [], ◌∷◌, None, map, slice_set, ◌==◌, not, if◌then◌else◌}
 use Rattle.std.specs.List.{filter}
 use Rattle.pb_fdb.specs.Tables.{Table, flushed}
@@ -11,17 +11,17 @@ use Rattle.pb_lan.specs.declared.step.Item.{Item}
 use Rattle.pb_lan.specs.declared.step.NoRoom.{NoRoom}
 use Rattle.pb_relay.specs.Copies.{item_with}
 
--- the states of the local ports, once each change is made in turn
+-- the states of the local ports after these changes, in order
 abbrev pub states_changed : List PortState → List (ℕ × PortState) → List PortState
 states_changed states [] = states
 states_changed states (c ∷ cs) = states_changed (slice_set states (c.0 - 1) c.1) cs
 
--- the table, once each of the ports is flushed in turn
+-- the learning table after each of these ports is flushed, in order
 abbrev pub all_flushed : Table → List ℕ → Table
 all_flushed table [] = table
 all_flushed table (port ∷ ports) = all_flushed (flushed table port) ports
 
--- the frame that is to be sent at a port, as an item of the bridge's own
+-- the frame to be sent at a port, as an item of the bridge's own
 abbrev pub own_at : List (ℕ × List ℕ) → ℕ → Item
 own_at [] port = item_with None 0 []
 own_at (s ∷ ss) port = if s.0 == port then item_with None 0 s.1 else own_at ss port
@@ -30,10 +30,10 @@ own_at (s ∷ ss) port = if s.0 == port then item_with None 0 s.1 else own_at ss
 abbrev pub places_of : List (ℕ × List ℕ) → List ℕ
 places_of sends = map (λ s. s.0) sends
 
--- those that got room, as items of the bridge's own
+-- the frames that were queued, as items of the bridge's own
 abbrev pub own_queued : List (ℕ × NoRoom) → List (ℕ × List ℕ) → List (ℕ × Item)
 own_queued dropped sends = map own_item (filter (λ s. not (is_refused dropped s.0)) sends)
 
--- the port goes to another bridge
+-- the port is a local port that goes to another bridge
 abbrev pub IsBridgePort : Plan → ℕ → ℕ → Type 0
 IsBridgePort plan number port = (is_provider (port_at plan number port) ≡ true) × (1 ≤ port) × (port ≤ 16)

@@ -2,7 +2,6 @@
 use Rattle.pb_lan.specs.Rules.{Rules}
 use Rattle.pb_rstp.specs.Profile.{rules}
 
--- which frames bridges read as its BPDUs, and what a cause changes at a bridge after the bridge's earlier
--- steps, by what these steps have made of its machine
+-- which frames bridges read as BPDUs, and what a cause changes at a bridge whose earlier steps determine its machine
 unfoldable pub spanning_tree : Rules
 spanning_tree = rules

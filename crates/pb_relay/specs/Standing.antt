@@ -1,4 +1,4 @@
--- What a bridge keeps of its steps.
+-- How a bridge's state follows from its steps.
 use Rattle.std.specs.Prelude.{◌≡◌, ℕ, ◌+◌, ◌<◌, ◌≤◌, Bool, true, false, List, [], ◌∷◌, ◌++◌, length, slice_index_or}
 use Rattle.std.specs.List.{AllByRecursion, filter}
 use Rattle.pb_frame.specs.Stations.{Sighting, is_fresh, standing}
@@ -19,8 +19,8 @@ use Rattle.pb_lan.specs.declared.step.Step.TheVariants.{Receive}
 use Rattle.pb_relay.specs.Classes.{by_class}
 use Rattle.pb_lan.specs.Queues.{capacity_of}
 
--- what callers see of a bridge: the plan, its number there, its steps, whether each is kept in memory, and whether
--- there is room for one more
+-- what callers see of a bridge: the plan, its number there, its steps, whether each is kept in memory, and whether a
+-- step is reserved
 pub record BridgeView : Type 0 where
   pub plan : Plan
   pub number : ℕ
@@ -28,11 +28,11 @@ pub record BridgeView : Type 0 where
   pub is_kept : Bool
   pub is_reserved : Bool
 
--- the class of each that waits is one of eight
+-- the class of each waiting item is 0 to 7
 abbrev pub AreClassed : List Waiting → Type 0
 AreClassed ws = AllByRecursion (λ w. w.class < 8) ws
 
--- the steps are lawful, and what is kept of them is so
+-- the steps are lawful, and the states, the queues, the clock and the learning table are those that the steps determine
 pub record IsStanding (plan : Plan) (number : ℕ) (steps : List Step) (states : List PortState) (queues : List (List (List Item))) (now : ℕ) (table : List Sighting) : Type 0 where
   pub lawful : IsLawfulBridge spanning_tree plan number steps
   pub kept_states : states ≡ states_after plan number steps
@@ -43,7 +43,7 @@ pub record IsStanding (plan : Plan) (number : ℕ) (steps : List Step) (states :
   pub clock : now ≡ now_after steps
   pub stations : filter (is_fresh plan.ageing now) table ≡ standing plan.ageing now (news_of plan number steps)
 
--- the room for steps
+-- the steps are at most as many as the limit, and fewer if a step is reserved
 pub record HasRoom (steps : List Step) (limit : ℕ) (is_reserved : Bool) : Type 0 where
   pub within : length steps ≤ limit
   pub reserved : is_reserved ≡ true → length steps < limit
@@ -52,18 +52,18 @@ pub record HasRoom (steps : List Step) (limit : ℕ) (is_reserved : Bool) : Type
 abbrev pub at_start : Plan → ℕ → Bool → BridgeView
 at_start plan number is_kept = record { plan = plan; number = number; steps = []; is_kept = is_kept; is_reserved = false }
 
--- the step that a bridge appends
+-- the bridge with one more step, and none reserved
 abbrev pub with_step : BridgeView → Step → BridgeView
 with_step b step = record b { steps = b.steps ++ step ∷ []; is_reserved = false }
 
--- the bridge has appended the one step of the item received at the port, with this outcome, and the step is lawful there
+-- the bridge has appended the one step of the item received at the port, with this outcome, and the step may come there
 abbrev pub HasReceived : BridgeView → ℕ → Item → Outcome → BridgeView → Type 0
 HasReceived old port item outcome new =
     (learnt : Option Learnt) × (moved : Option Moved)
     × (new ≡ with_step old (Receive port item learnt outcome moved))
     × Fits spanning_tree old.plan old.number old.steps (Receive port item learnt outcome moved)
 
--- and this was the step
+-- the bridge has appended this one step of the item received at the port, and the step may come there
 abbrev pub HasCounted : BridgeView → ℕ → Item → Step → BridgeView → Type 0
 HasCounted old port item step new =
     (learnt : Option Learnt) × (outcome : Outcome) × (moved : Option Moved)

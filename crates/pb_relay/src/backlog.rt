@@ -1,4 +1,4 @@
-//! What waits at the local ports of a bridge.
+//! The queues at the local ports of a bridge.
 
 ghost use Rattle.std.specs.Option.{option_copied};
 ghost use Rattle.std.specs.Prelude.{◌≡◌, ◌<◌, ◌≤◌, length, IfOk, OnOk, OnErr, replicate};
@@ -15,14 +15,14 @@ use pb_lan::{Item, Mark, NoRoom};
 use std::alloc::Global;
 use std::marker::Model;
 
-/// What waits at the local ports of a bridge. Where the bridge keeps its steps, all of it is there twice, so that
-/// the step that tells of an item takes no memory when the item leaves.
+/// The queues at the local ports of a bridge.
 ///
-/// Contracts see what waits at each port, the most items that wait at one, and whether all is there twice.
+/// If the bridge keeps its steps, each item is queued twice. The Transmit step then needs no allocation when the item
+/// leaves. Contracts see the items at each port, the most items that wait at one, and whether each is queued twice.
 #[derive(Drop)]
 pub struct Backlog {
     queues: Vec<PortQueues>,
-    /// As many, where steps are kept, and else none.
+    /// The copies of all items, with as many queues, if steps are kept, and no queues otherwise.
     copies: Vec<PortQueues>,
     capacity: usize,
     is_kept: bool,
@@ -40,7 +40,11 @@ impl Model for Backlog {
 }
 
 impl Backlog {
-    /// Nothing waits at any of the local ports. `Memory` is answered where there was none for the lists.
+    /// Returns empty queues for the local ports.
+    ///
+    /// # Errors
+    ///
+    /// `Memory` if an allocation failed.
     pub fn new(alloc: Global, capacity: usize, is_kept: bool) -> Result<Backlog, Memory>
         requires { capacity ≤ 4096 }
         ensures { IfOk result (λ backlog. backlog ≡ empty_backlog capacity is_kept) }
@@ -59,7 +63,7 @@ impl Backlog {
         })
     }
 
-    /// The number of items that wait at the port of a place: the first is at 0.
+    /// Returns the number of items that wait at a port. `place` is the index of the port, 0 to 15.
     #[inline(always)]
     pub fn waiting(&self, place: usize) -> usize
         requires { place < length self.now.ports }
@@ -68,7 +72,7 @@ impl Backlog {
         self.queues[place].len()
     }
 
-    /// As many items wait at the port as may.
+    /// Checks whether the queue of a port is full.
     #[inline(always)]
     pub fn is_full(&self, place: usize) -> bool
         requires { place < length self.now.ports }
@@ -77,7 +81,7 @@ impl Backlog {
         self.waiting(place) >= self.capacity
     }
 
-    /// The item that leaves the port next.
+    /// Returns the item that leaves a port next, or None if nothing waits.
     pub fn first(&self, place: usize) -> Option<&Item>
         requires { place < length self.now.ports }
         ensures { option_copied result ≡ first_out (at_place self.now place) }
@@ -86,7 +90,10 @@ impl Backlog {
         queues.first()
     }
 
-    /// Queues an item of these parts at a port, if there is room and memory.
+    /// Queues an item of these parts at a port.
+    ///
+    /// Returns None if it is queued, and the cause if the queue is full or an allocation failed. The queues are
+    /// unchanged then.
     #[inline(always)]
     pub fn enqueue(
         &mut self,
@@ -114,7 +121,8 @@ impl Backlog {
         word_for(queues.push(class, item))
     }
 
-    /// Takes the item that leaves the port next, with its copy where there is one. Takes no memory.
+    /// Takes the item that leaves a port next, and its copy if steps are kept. Returns None if nothing waits. Allocates
+    /// nothing.
     #[inline(always)]
     pub fn pop(&mut self, place: usize) -> Option<Departure>
         requires { place < length self.old.ports }
@@ -130,7 +138,7 @@ impl Backlog {
     }
 }
 
-/// Queues for the local ports, with nothing in them.
+/// Returns empty queues for the sixteen local ports.
 fn empty_queues(alloc: Global) -> Result<Vec<PortQueues>, Memory>
     ensures { IfOk result (λ queues. queues.items ≡ replicate 16 no_items) }
 {
@@ -141,7 +149,7 @@ fn empty_queues(alloc: Global) -> Result<Vec<PortQueues>, Memory>
     Ok(queues)
 }
 
-/// An item of these parts.
+/// Returns an item of these parts, whose octets are a copy of `wire`.
 fn item_of(mark: Option<Mark>, hops: u32, wire: &Bytes) -> Result<Item, Memory>
     ensures { IfOk result (λ item. item ≡ item_with mark hops wire.now) }
 {
@@ -152,7 +160,7 @@ fn item_of(mark: Option<Mark>, hops: u32, wire: &Bytes) -> Result<Item, Memory>
     })
 }
 
-/// Puts an item behind those of its class, and a copy of it behind the copies, or neither.
+/// Appends an item to its class and a copy of it to the copies, or neither if an allocation failed.
 fn push_twice(
     queues: &mut PortQueues,
     copies: &mut PortQueues,
@@ -175,7 +183,7 @@ fn push_twice(
     Ok(())
 }
 
-/// The word for an item that found no memory, if it found none.
+/// Returns Memory as the cause if the item was not queued, and None if it was.
 #[inline(always)]
 fn word_for(pushed: Result<(), Memory>) -> Option<NoRoom>
     ensures { result ≡ word_for pushed }

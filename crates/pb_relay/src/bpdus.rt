@@ -1,4 +1,4 @@
-//! BPDUs of a bridge's own, queued at its ports.
+//! A bridge's own BPDUs, and how they are queued.
 
 ghost use Rattle.std.specs.Prelude.{◌≡◌, ◌<◌, ◌≤◌, ◌++◌, ◌∷◌, [], length, vec_len, vec_capacity, None, IfOk};
 ghost use Rattle.pb_bpdu.specs.Layout.{written};
@@ -20,18 +20,22 @@ const HIGHEST: u8 = 7;
 /// The number of local ports of a bridge.
 const PORTS: usize = 16;
 
-/// Where the memory of a bridge's own BPDUs comes from, and lists for what a step tells of them.
+/// The allocator for a bridge's own BPDUs, and lists for the report of a step.
 #[derive(Drop)]
 pub struct BpduRoom {
     pub alloc: Global,
-    /// The ports where one was queued, with the item.
+    /// The ports at which a BPDU was queued, each with the item.
     pub queued: Vec<(u8, Item)>,
-    /// The ports where one got no room, with the reason.
+    /// The ports at which a BPDU was dropped, each with the cause.
     pub dropped: Vec<(u8, NoRoom)>,
 }
 
 impl BpduRoom {
-    /// Two empty lists with room for a word of each local port.
+    /// Returns two empty lists, each with capacity for one entry of each local port.
+    ///
+    /// # Errors
+    ///
+    /// `Memory` if an allocation failed.
     pub fn new(alloc: Global) -> Result<BpduRoom, Memory>
         ensures queued { IfOk result (λ room. room.queued.items ≡ []) }
         ensures dropped { IfOk result (λ room. room.dropped.items ≡ []) }
@@ -46,7 +50,9 @@ impl BpduRoom {
     }
 }
 
-/// Queues a BPDU at a port, if there is room and memory, and gives the item for the step that tells of it.
+/// Queues a BPDU at a port in the highest class, and returns the item for the report of the step.
+///
+/// Returns the cause if the queue is full or an allocation failed. The queues are unchanged then.
 fn send(
     alloc: Global,
     backlog: &mut Backlog,
@@ -73,7 +79,7 @@ fn send(
     }
 }
 
-/// Notes an item that was queued at a port.
+/// Appends an item that was queued at a port. Allocates nothing.
 fn note_item(queued: &mut Vec<(u8, Item)>, port: u8, item: Item)
     requires { vec_len queued.old < vec_capacity queued.old }
     ensures items { queued.new.items ≡ queued.old.items ++ (port, item) ∷ [] }
@@ -82,7 +88,7 @@ fn note_item(queued: &mut Vec<(u8, Item)>, port: u8, item: Item)
     let _ = queued.push((port, item));
 }
 
-/// Notes what became of a BPDU.
+/// Appends a BPDU to the list of queued or of dropped ones. Allocates nothing.
 fn note_sent(
     queued: &mut Vec<(u8, Item)>,
     dropped: &mut Vec<(u8, NoRoom)>,
@@ -102,7 +108,7 @@ fn note_sent(
     }
 }
 
-/// Queues each BPDU at its port in the highest class, and notes where one was queued and where not.
+/// Queues each BPDU at its port in the highest class, and reports which were queued and which were dropped.
 pub fn queue_bpdus(backlog: &mut Backlog, room: &mut BpduRoom, sends: &[(u8, Bpdu)], address: Mac)
     requires backlog { length backlog.old.ports ≡ 16 }
     requires empty { (room.old.queued.items ≡ []) × (room.old.dropped.items ≡ []) }

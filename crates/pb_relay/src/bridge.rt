@@ -1,4 +1,4 @@
-//! A bridge, its list of steps and its queues.
+//! A bridge: its ports, its steps and what it sends.
 
 ghost use Rattle.std.specs.Option.{option_copied};
 ghost use Rattle.std.specs.Prelude.{◌≡◌, ◌<◌, ◌↔◌, length, true, OnOk, OnErr, IsErrOf, IsOk};
@@ -23,30 +23,29 @@ use pb_rstp::Rstp;
 use std::alloc::Global;
 use std::marker::Model;
 
-/// A bridge of a sound plan. The plan gives the states of its ports itself, or the Rapid Spanning Tree
-/// Protocol decides them.
+/// A bridge of a sound plan. The plan or the Rapid Spanning Tree Protocol decides the states of its ports.
 ///
-/// Contracts see the plan, the bridge's number there, the list of its steps, whether each of these is kept in
-/// memory or they are only counted, and whether there is room for one more step. The list is always lawful. All
-/// else that is kept, the states, the queues, the learning table and the spanning tree, follows from it.
+/// Contracts see the plan, the bridge's number there, the list of its steps, whether the steps are kept or only
+/// counted, and whether a step is reserved. The list is always lawful. The states, the queues, the learning table and
+/// the spanning tree follow from it.
 #[derive(Drop)]
 pub struct Bridge {
     pub(crate) alloc: Global,
-    /// The whole plan, by which contracts tell what the bridge does.
+    /// The whole plan, to which contracts refer.
     pub(crate) plan: Plan,
-    /// The bridge's number in the plan, from 1.
+    /// The number of the bridge in the plan, from 1.
     pub(crate) number: u8,
-    /// What the plan has at the local ports 1 to 16.
+    /// The kinds of the local ports 1 to 16.
     pub(crate) ports: LocalPorts,
-    /// The states of the local ports, where stations were seen, and what waits.
+    /// The states of the local ports, the learning table and the queues.
     pub(crate) forwarding: Forwarding,
-    /// The most steps.
+    /// The most steps that the bridge takes.
     pub(crate) limit: u64,
     /// The number of ticks.
     pub(crate) clock: u64,
-    /// The bridge's address, from which its BPDUs come.
+    /// The address of the bridge, the source address of its BPDUs.
     pub(crate) address: Mac,
-    /// The spanning tree, where the protocol decides the states.
+    /// The spanning tree, if the protocol decides the states.
     pub(crate) rstp: Option<Rstp>,
     pub(crate) steps: Steps,
 }
@@ -77,7 +76,7 @@ impl Model for Bridge {
         × (b.forwarding.backlog.is_kept ≡ b.steps.is_kept) };
 }
 
-/// Puts a step behind the others. Where it is only counted, it is let go.
+/// Appends a step. A step that is only counted is dropped.
 #[inline(always)]
 pub(crate) fn append(steps: &mut Steps, step: Step)
     requires { steps.old.is_reserved ≡ true }
@@ -87,7 +86,7 @@ pub(crate) fn append(steps: &mut Steps, step: Step)
 }
 
 impl Bridge {
-    /// The steps so far, where they are kept. Where they are only counted, there is none to be seen.
+    /// Returns the steps if they are kept, and none if they are only counted.
     pub fn steps(&self) -> &[Step]
         ensures steps { self.now.is_kept ≡ true → result.now ≡ self.now.steps }
         ensures lawful { IsLawfulBridge spanning_tree self.now.plan self.now.number self.now.steps }
@@ -95,7 +94,7 @@ impl Bridge {
         self.steps.as_slice()
     }
 
-    /// The number of steps so far.
+    /// Returns the number of steps.
     #[inline(always)]
     pub fn step_count(&self) -> u64
         ensures { result ≡ length self.now.steps }
@@ -103,7 +102,7 @@ impl Bridge {
         self.steps.len()
     }
 
-    /// The steps, kept or counted as they are, and no bridge any more. Takes no memory.
+    /// Returns the steps, kept or counted, and drops the rest of the bridge. Allocates nothing.
     pub fn into_steps(self) -> Steps
         ensures steps { result.steps ≡ self.steps }
         ensures kept { result.is_kept ≡ self.is_kept }
@@ -124,11 +123,14 @@ impl Bridge {
         steps
     }
 
-    /// Makes room for one step, so that `pop_out` needs no memory.
+    /// Reserves memory for one step. After that `pop_out` allocates nothing.
     ///
-    /// `StepLimit` is answered exactly where the list holds the plan's number of steps, `Memory`
-    /// where there is none for one more. Then nothing has changed. Where there is room already, the
-    /// answer is `Ok`.
+    /// Succeeds if a step is reserved already.
+    ///
+    /// # Errors
+    ///
+    /// `StepLimit` if and only if the list has as many steps as the plan allows. `Memory` if an allocation failed. The
+    /// bridge is unchanged then.
     pub fn reserve_step(&mut self) -> Result<(), BridgeFault>
         ensures ok { OnOk result (self.new ≡ record self.old { is_reserved = true }) }
         ensures err { OnErr result (self.new ≡ self.old) }
@@ -142,7 +144,7 @@ impl Bridge {
         Ok(())
     }
 
-    /// Whether the bridge uses the port of this number, for a customer or for another bridge.
+    /// Checks whether the bridge uses this local port, for a customer or for another bridge. Any number is allowed.
     pub fn has_port(&self, port: u8) -> bool
         ensures { result ≡ is_used (port_at self.now.plan self.now.number port) }
     {
@@ -154,7 +156,7 @@ impl Bridge {
         is_customer(local) | is_bridge(local)
     }
 
-    /// Whether the port of this number goes to another bridge.
+    /// Checks whether this local port goes to another bridge. Any number is allowed.
     pub fn has_link(&self, port: u8) -> bool
         ensures { result ≡ is_provider (port_at self.now.plan self.now.number port) }
     {
@@ -165,7 +167,7 @@ impl Bridge {
         is_bridge(ports.at(index_of(port)))
     }
 
-    /// The number of items that wait at a port, in all traffic classes.
+    /// Returns the number of items that wait at a port, in all traffic classes together.
     pub fn waiting(&self, port: u8) -> u16
         requires { is_used (port_at self.now.plan self.now.number port) ≡ true }
         ensures { result ≡ length (waiting self.now.plan self.now.number port self.now.steps) }
@@ -173,8 +175,8 @@ impl Bridge {
         self.forwarding.backlog.waiting(index_of(port)) as u16
     }
 
-    /// The item that leaves a port next: the oldest of the highest class (IEEE 802.1Q clause 8,
-    /// strict priority).
+    /// Returns the item that leaves a port next, or None if nothing waits: the oldest of the highest class (IEEE 802.1Q
+    /// clause 8, strict priority).
     pub fn peek_out(&self, port: u8) -> Option<&Item>
         requires { is_used (port_at self.now.plan self.now.number port) ≡ true }
         ensures { option_copied result ≡ next_out (waiting self.now.plan self.now.number port self.now.steps) }
@@ -182,8 +184,9 @@ impl Bridge {
         self.forwarding.backlog.first(index_of(port))
     }
 
-    /// Takes the item that leaves a port next, and appends the Transmit step that tells of it. Takes
-    /// no memory.
+    /// Takes the item that leaves a port next, appends its Transmit step and returns it. Allocates nothing.
+    ///
+    /// A step must be reserved, and an item must wait at the port.
     #[inline(always)]
     pub fn pop_out(&mut self, port: u8) -> Item
         requires used { is_used (port_at self.old.plan self.old.number port) ≡ true }
@@ -198,15 +201,15 @@ impl Bridge {
         depart(&mut self.steps, port, departure)
     }
 
-    /// The spanning tree of the bridge, where the protocol decides the states of its ports, and None where
-    /// the plan gives them. Takes no memory.
+    /// Returns the spanning tree of the bridge if the protocol decides the states of its ports, and None if the plan
+    /// does. Allocates nothing.
     pub fn rstp(&self) -> Option<&Rstp>
         ensures { option_copied result ≡ machine_in self.now.plan self.now.number self.now.steps }
     {
         self.rstp.as_ref()
     }
 
-    /// The states of the local ports 1 to 16.
+    /// Returns the states of the local ports 1 to 16.
     pub fn shape(&self) -> [PortState; 16]
         ensures { result ≡ states_after self.now.plan self.now.number self.now.steps }
     {

@@ -1,4 +1,4 @@
-//! What changes a bridge's ports, and its clock.
+//! Ticks of a bridge's clock, and ports that are enabled or disabled.
 
 ghost use Rattle.std.specs.Prelude.{◌≡◌, ◌↔◌, ◌<◌, length, true, false, if◌then◌else◌, IfOk, OnOk, OnErr, IsErrOf};
 ghost use Rattle.std.specs.Prelude.{IsOk};
@@ -19,13 +19,15 @@ use pb_lan::{Moved, PortState, Spanning, Step};
 use std::alloc::Global;
 
 impl Bridge {
-    /// The clock ticks: a second has gone by.
+    /// Advances the clock by one tick, which is one second, and appends the Tick step.
     ///
-    /// Where the protocol decides the states, its timers go on, and ports may change and BPDUs be queued.
+    /// If the protocol decides the states, its timers advance too, ports may change and BPDUs may be queued.
     ///
-    /// `StepLimit` is answered exactly where the list holds the plan's number of steps, `Memory`
-    /// where there is no room for one more, or none for what the protocol tells. Then nothing has
-    /// changed. Where the plan gives the states, it is never answered after `reserve_step`.
+    /// # Errors
+    ///
+    /// `StepLimit` if and only if the list has as many steps as the plan allows. `Memory` if an allocation for the step
+    /// or for the protocol failed. The bridge is unchanged then. After `reserve_step` the call cannot fail if the plan
+    /// gives the states.
     pub fn tick(&mut self) -> Result<(), BridgeFault>
         ensures ok { OnOk result (HasTicked self.old self.new) }
         ensures err { OnErr result (self.new ≡ self.old) }
@@ -40,14 +42,14 @@ impl Bridge {
         Ok(())
     }
 
-    /// The protocol decides the states.
+    /// Checks whether the protocol decides the states.
     fn is_spanning(&self) -> bool
         ensures { result ≡ is_by_protocol self.now.plan.spanning }
     {
         matches!(self.plan.spanning, Spanning::Rstp)
     }
 
-    /// Appends a tick, where the plan gives the states.
+    /// Advances the clock and appends the Tick step, if the plan gives the states.
     fn advance(&mut self)
         requires reserved { self.old.is_reserved ≡ true }
         requires fixed { self.old.plan.spanning ≡ Fixed }
@@ -64,12 +66,16 @@ impl Bridge {
         );
     }
 
-    /// Sets a port to another bridge down, which makes it Discarding and forgets its stations, or up
-    /// again, in the state in which it started. Where the protocol decides the states, the port is up or
-    /// down for it from now on, and what it tells is done; setting what already holds changes nothing.
+    /// Enables or disables a port to another bridge, and appends the Admin step.
     ///
-    /// `StepLimit` is answered exactly where the list holds the plan's number of steps, `Memory`
-    /// where there is none for the step. Then nothing has changed.
+    /// If the plan gives the states, a disabled port becomes Discarding and its stations are flushed, and an enabled
+    /// port gets its start state. If the protocol decides the states, the call sets portEnabled, and the bridge applies
+    /// what the protocol changes. The protocol changes nothing if the port has that value already.
+    ///
+    /// # Errors
+    ///
+    /// `StepLimit` if and only if the list has as many steps as the plan allows. `Memory` if an allocation failed. The
+    /// bridge is unchanged then.
     pub fn admin(&mut self, port: u8, up: bool) -> Result<(), BridgeFault>
         requires { is_provider (port_at self.old.plan self.old.number port) ≡ true }
         ensures ok { OnOk result (HasSet self.old port up self.new) }
@@ -90,7 +96,7 @@ impl Bridge {
         Ok(())
     }
 
-    /// What moves where a port is set up or down.
+    /// Returns the changes of a port that is enabled or disabled, if the plan gives the states.
     fn moved_by_setting(&self, port: u8, up: bool) -> Result<Moved, Memory>
         requires { is_provider (port_at self.now.plan self.now.number port) ≡ true }
         ensures { IfOk result (λ moved. moved ≡ moved_by_setting self.now.plan self.now.number self.now.steps port up) }
@@ -101,7 +107,7 @@ impl Bridge {
         moved_to(self.alloc, port, up, self.forwarding.states[place], next)
     }
 
-    /// Sets a port up or down, and appends the step that tells of it.
+    /// Enables or disables a port, and appends the step that reports these changes.
     fn set(&mut self, port: u8, up: bool, moved: Moved)
         requires provider { is_provider (port_at self.old.plan self.old.number port) ≡ true }
         requires fixed { self.old.plan.spanning ≡ Fixed }
@@ -118,7 +124,7 @@ impl Bridge {
     }
 }
 
-/// No change.
+/// Returns a report of no change. Allocates nothing.
 pub(crate) fn nothing_moved(alloc: Global) -> Moved
     ensures { result ≡ unmoved }
 {
@@ -130,7 +136,7 @@ pub(crate) fn nothing_moved(alloc: Global) -> Moved
     }
 }
 
-/// What moves where a port is set up or down, from one state to another.
+/// Returns the changes of a port that is enabled or disabled and goes from one state to another.
 fn moved_to(
     alloc: Global,
     port: u8,
@@ -148,7 +154,7 @@ fn moved_to(
     })
 }
 
-/// The state of a port that is set up or down.
+/// Returns the state of a port after it is enabled or disabled.
 fn state_set(local: Local, up: bool) -> PortState
     ensures { result ≡ state_set local up }
 {
@@ -158,14 +164,14 @@ fn state_set(local: Local, up: bool) -> PortState
     }
 }
 
-/// The states are one.
+/// Checks whether two states are equal.
 fn is_same(a: PortState, b: PortState) -> bool
     ensures { result ≡ is_same a b }
 {
     a == b
 }
 
-/// The change of a port from one state to another, if they differ.
+/// Returns the change of a port from one state to another, or no change if they are equal.
 fn change(
     alloc: Global,
     port: u8,
@@ -181,7 +187,7 @@ fn change(
     Ok(changes)
 }
 
-/// A port that is set down is flushed.
+/// Returns the port as one to flush if it is disabled, and no port if it is enabled.
 fn flushed(alloc: Global, port: u8, up: bool) -> Result<Vec<u8>, Memory>
     ensures { IfOk result (λ ports. ports.items ≡ ports_flushed port up) }
 {
@@ -192,7 +198,7 @@ fn flushed(alloc: Global, port: u8, up: bool) -> Result<Vec<u8>, Memory>
     Ok(ports)
 }
 
-/// Forgets the stations of a port that is set down.
+/// Flushes the stations of a port that is disabled.
 fn flush_unless(table: &mut Fdb, up: bool, port: u8)
     ensures { table.new ≡ (if up then table.old else flushed table.old port) }
 {

@@ -1,4 +1,4 @@
-//! How an item leaves a bridge.
+//! The departure of an item from a bridge.
 
 ghost use Rattle.std.specs.Prelude.{◌≡◌, true, false};
 ghost use Rattle.pb_history.specs.StepLists.{with_step};
@@ -9,14 +9,16 @@ use crate::bridge::append;
 use pb_history::Steps;
 use pb_lan::{Item, Step};
 
-/// An item that leaves a port, and its copy for the step that tells of it, where steps are kept.
+/// An item that leaves a port.
 #[derive(Drop)]
 pub struct Departure {
+    /// The item that leaves.
     pub item: Item,
+    /// Its copy for the Transmit step, if steps are kept.
     pub copy: Option<Item>,
 }
 
-/// Puts the Transmit step of an item behind the others, and gives the item. Takes no memory.
+/// Appends the Transmit step of an item, and returns the item. Allocates nothing.
 #[inline(always)]
 pub fn depart(steps: &mut Steps, port: u8, departure: Departure) -> Item
     requires reserved { steps.old.is_reserved ≡ true }

@@ -1,4 +1,4 @@
-//! What a bridge does that its spanning tree tells.
+//! How a bridge applies the changes of its spanning tree.
 
 ghost use Rattle.std.specs.Prelude.{◌≡◌, ◌≤◌, [], length, vec_capacity};
 ghost use Rattle.std.specs.List.{AllByRecursion};
@@ -12,7 +12,7 @@ use pb_frame::{Mac, Seq, index_of};
 use pb_lan::{Moved, PortState};
 use pb_rstp::Change;
 
-/// Sets the states of ports.
+/// Sets the states of ports, one change after the other.
 fn set_states(states: &mut [PortState; 16], changes: &[(u8, PortState)])
     requires { AllByRecursion (λ change. (1 ≤ change.0) × (change.0 ≤ 16)) changes.now }
     ensures { states.new ≡ states_changed states.old changes.now }
@@ -22,7 +22,7 @@ fn set_states(states: &mut [PortState; 16], changes: &[(u8, PortState)])
     }
 }
 
-/// Forgets the stations of ports.
+/// Flushes the stations of each of the ports.
 fn flush_all(table: &mut Fdb, ports: &[u8])
     ensures { table.new ≡ all_flushed table.old ports.now }
 {
@@ -31,8 +31,8 @@ fn flush_all(table: &mut Fdb, ports: &[u8])
     }
 }
 
-/// Sets the states, forgets the stations and queues the BPDUs that a change of the spanning tree tells,
-/// and gives what the bridge's step tells of it.
+/// Sets the states, flushes the stations and queues the BPDUs of a change of the spanning tree, and returns the report
+/// for the step. Allocation failures appear in the report.
 pub fn follow(
     forwarding: &mut Forwarding,
     change: Change,

@@ -1,16 +1,16 @@
-//! What a bridge forwards frames by.
+//! The forwarding state of a bridge.
 
 use crate::backlog::Backlog;
 use pb_fdb::Fdb;
 use pb_lan::PortState;
 
-/// What a bridge forwards frames by, all of which its spanning tree changes.
+/// The forwarding state of a bridge, all of which its spanning tree changes.
 #[derive(Drop)]
 pub struct Forwarding {
     /// The states of the local ports.
     pub states: [PortState; 16],
-    /// Where stations were seen.
+    /// The learning table.
     pub table: Fdb,
-    /// What waits at the local ports.
+    /// The queues at the local ports.
     pub backlog: Backlog,
 }

@@ -1,4 +1,4 @@
-//! A BPDU that a bridge hears.
+//! How a bridge reads a BPDU.
 
 ghost use Rattle.std.specs.Prelude.{◌≡◌, true, Some, None};
 ghost use Rattle.pb_lan.specs.BridgeLists.{ruling};
@@ -18,8 +18,8 @@ use pb_frame::Held;
 use pb_lan::{Item, Moved, Outcome, Step};
 
 impl Bridge {
-    /// Hears a BPDU, and does what the spanning tree tells. Where there is no memory for that, the frame goes
-    /// nowhere, and nothing changes.
+    /// Reads a BPDU, applies what the spanning tree changes and appends the Receive step. If an allocation failed, the
+    /// frame is filtered and nothing changes.
     pub(crate) fn hear(&mut self, port: u8, item: Item) -> Option<Step>
         requires reserved { self.old.is_reserved ≡ true }
         requires ruling { ruling spanning_tree self.old.plan self.old.number self.old.steps port item ≡ Listens }
@@ -41,7 +41,7 @@ impl Bridge {
         self.steps.append(heard_step(port, item, told, moved))
     }
 
-    /// Hears a BPDU where the plan gives the states of the ports: nothing changes.
+    /// Appends the Receive step of a BPDU if the plan gives the states of the ports. Nothing changes.
     fn overhear(&mut self, port: u8, item: Item, told: Held<Moved>) -> Option<Step>
         requires reserved { self.old.is_reserved ≡ true }
         requires fixed { self.old.plan.spanning ≡ Fixed }
@@ -53,7 +53,7 @@ impl Bridge {
     }
 }
 
-/// The step of a BPDU that was heard, with what it changed in the place that is there for it.
+/// Returns the Receive step of a BPDU that was read. The changes are put into the memory that `told` holds.
 fn heard_step(port: u8, item: Item, mut told: Held<Moved>, moved: Moved) -> Step
     ensures { result ≡ Receive port item None Heard (Some moved) }
 {

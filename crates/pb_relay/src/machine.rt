@@ -13,7 +13,7 @@ use pb_lan::{Plan, Spanning};
 use pb_rstp::{Config, Rstp, RstpPort};
 use std::alloc::Global;
 
-/// The address of the bridge.
+/// Returns the address of the bridge.
 pub fn address(plan: &Plan, number: u8) -> Mac
     requires { IsNumber number (length plan.now.bridges) }
     ensures { result.0 ≡ address_in plan.now number }
@@ -21,7 +21,7 @@ pub fn address(plan: &Plan, number: u8) -> Mac
     plan.bridges.as_slice()[index_of(number)].address
 }
 
-/// The priority of the bridge.
+/// Returns the priority of the bridge.
 fn priority(plan: &Plan, number: u8) -> u16
     requires { IsNumber number (length plan.now.bridges) }
     ensures { result ≡ priority_in plan.now number }
@@ -29,7 +29,7 @@ fn priority(plan: &Plan, number: u8) -> u16
     plan.bridges.as_slice()[index_of(number)].priority
 }
 
-/// The local port, if it goes to another bridge.
+/// Returns the local port as one of the spanning tree, or None if it does not go to another bridge.
 fn rstp_port(plan: &Plan, number: u8, port: u8) -> Option<RstpPort>
     ensures { listed result ≡ rstp_port port (port_at plan.now number port) }
 {
@@ -54,7 +54,7 @@ fn add(ports: &mut Vec<RstpPort>, port: Option<RstpPort>) -> Result<(), Memory>
     Ok(())
 }
 
-/// The local ports that go to other bridges.
+/// Returns the local ports that go to other bridges.
 fn rstp_ports(alloc: Global, plan: &Plan, number: u8) -> Result<Vec<RstpPort>, Memory>
     ensures { IfOk result (λ ports. ports.items ≡ rstp_ports plan.now number) }
 {
@@ -93,7 +93,11 @@ fn started(alloc: Global, plan: &Plan, number: u8) -> Result<Rstp, Memory>
     }
 }
 
-/// The spanning tree at its start, where the protocol decides the states.
+/// Returns the spanning tree at its start if the protocol decides the states, and None if the plan does.
+///
+/// # Errors
+///
+/// `Memory` if an allocation failed.
 pub fn machine(alloc: Global, plan: &Plan, number: u8) -> Result<Option<Rstp>, Memory>
     requires { IsNumber number (length plan.now.bridges) }
     ensures { IfOk result (λ rstp. rstp ≡ machine_in plan.now number []) }

@@ -1,11 +1,11 @@
-//! What became of items that were received, as steps tell it.
+//! Outcomes of received items, as steps report them.
 
 ghost use Rattle.std.specs.Prelude.{◌≡◌, true, is_some, Some};
 ghost use Rattle.pb_relay.specs.Receptions.{outcome_in, newest_outcome};
 
 use pb_lan::{Outcome, Step};
 
-/// The same outcome. Takes no memory.
+/// Returns a copy of an outcome. Allocates nothing.
 fn copied(outcome: &Outcome) -> Outcome
     ensures { result ≡ outcome.now }
 {
@@ -19,7 +19,7 @@ fn copied(outcome: &Outcome) -> Outcome
     }
 }
 
-/// The outcome of a step in which an item was received.
+/// Returns the outcome of a Receive step.
 fn outcome_of(step: &Step) -> Outcome
     requires { is_some (outcome_in step.now) ≡ true }
     ensures { outcome_in step.now ≡ Some result }
@@ -30,7 +30,8 @@ fn outcome_of(step: &Step) -> Outcome
     }
 }
 
-/// The outcome of a step in which an item was received: the one that was given back, or else the last of the kept ones.
+/// Returns the outcome of the newest step, a Receive step: the one that was given back, or the last of the kept ones if
+/// none was.
 pub(crate) fn newest_outcome(given: &Option<Step>, kept: &[Step]) -> Outcome
     requires { is_some (newest_outcome given.now kept.now) ≡ true }
     ensures { newest_outcome given.now kept.now ≡ Some result }

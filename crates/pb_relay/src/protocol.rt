@@ -1,4 +1,4 @@
-//! What a bridge asks of its spanning tree.
+//! Calls of a bridge's spanning tree.
 
 ghost use Rattle.std.specs.Prelude.{◌≡◌, IfOk, OnOk, OnErr};
 ghost use Rattle.pb_lan.specs.Rules.Cause.{Hears, Ticks, Sets};
@@ -10,7 +10,7 @@ use pb_frame::{Memory, Seq};
 use pb_rstp::{Change, Rstp};
 use std::alloc::Global;
 
-/// Nothing changes and nothing is sent.
+/// Returns a change of nothing. Allocates nothing.
 fn nothing_changes(alloc: Global) -> Change
     ensures { result ≡ nothing }
 {
@@ -21,7 +21,7 @@ fn nothing_changes(alloc: Global) -> Change
     }
 }
 
-/// The machine hears what a frame tells.
+/// Passes a frame to the spanning tree, and returns the changes. A frame that is not a readable BPDU changes nothing.
 fn hear_frame(alloc: Global, rstp: &mut Rstp, port: u8, frame: &[u8]) -> Result<Change, Memory>
     ensures ok { OnOk result (rstp.new ≡ (after rstp.old (Hears port frame.now)).machine) }
     ensures change { IfOk result (λ change. change ≡ (after rstp.old (Hears port frame.now)).change) }
@@ -33,7 +33,11 @@ fn hear_frame(alloc: Global, rstp: &mut Rstp, port: u8, frame: &[u8]) -> Result<
     rstp.hear(port, &bpdu)
 }
 
-/// The machine, if there is one, hears what a frame tells.
+/// Passes a frame to the spanning tree, if there is one, and returns the changes.
+///
+/// # Errors
+///
+/// `Memory` if an allocation failed. The spanning tree is unchanged then.
 #[tactic(auto, unfolding(crate::specs::Machines::machine_next, crate::specs::Machines::change_next))]
 pub fn hear(
     alloc: Global,
@@ -52,7 +56,11 @@ pub fn hear(
     Ok(Some(change))
 }
 
-/// A second passes for the machine, if there is one.
+/// Advances the spanning tree by one second, if there is one, and returns the changes.
+///
+/// # Errors
+///
+/// `Memory` if an allocation failed. The spanning tree is unchanged then.
 #[tactic(auto, unfolding(crate::specs::Machines::machine_next, crate::specs::Machines::change_next))]
 pub fn tick(rstp: &mut Option<Rstp>) -> Result<Option<Change>, Memory>
     ensures ok { OnOk result (rstp.new ≡ machine_next rstp.old Ticks) }
@@ -66,7 +74,11 @@ pub fn tick(rstp: &mut Option<Rstp>) -> Result<Option<Change>, Memory>
     Ok(Some(change))
 }
 
-/// A port of the machine, if there is one, is set up or down.
+/// Enables or disables a port of the spanning tree, if there is one, and returns the changes.
+///
+/// # Errors
+///
+/// `Memory` if an allocation failed. The spanning tree is unchanged then.
 #[tactic(auto, unfolding(crate::specs::Machines::machine_next, crate::specs::Machines::change_next))]
 pub fn admin(rstp: &mut Option<Rstp>, port: u8, up: bool) -> Result<Option<Change>, Memory>
     ensures ok { OnOk result (rstp.new ≡ machine_next rstp.old (Sets port up)) }

@@ -1,4 +1,4 @@
-//! What a bridge does with a frame that comes in at a port (IEEE 802.1Q clause 8).
+//! How a bridge receives a frame at a port (IEEE 802.1Q clause 8).
 
 ghost use Rattle.std.specs.Prelude.{◌≡◌, ◌≤◌, ◌↔◌, length, true, false, IfOk, IfErr, OnOk, OnErr, IsErrOf, IsOk};
 ghost use Rattle.std.specs.Prelude.{if◌then◌else◌, None};
@@ -30,12 +30,16 @@ use pb_history::Steps;
 use pb_lan::{Item, Outcome, Reason, Step};
 
 impl Bridge {
-    /// Rules on an item that comes in at a port, learns its source, queues its copies and appends
-    /// the Receive step that tells of it, whose outcome it answers too.
+    /// Receives an item at a port, and returns its outcome.
     ///
-    /// `StepLimit` is answered exactly where the list holds the plan's number of steps, `Memory`
-    /// where there is no room for one more: never after `reserve_step`. Then nothing has changed,
-    /// and the item is handed back. Any other want of memory is told by the step.
+    /// The bridge rules on the item, learns its source, queues its copies and appends the Receive step that reports
+    /// this. The step also reports each allocation that fails after its own: the frame is filtered for
+    /// [`Reason::Memory`], a chosen port gets no copy, a BPDU is dropped, or the source is not learnt.
+    ///
+    /// # Errors
+    ///
+    /// `StepLimit` if and only if the list has as many steps as the plan allows. `Memory` if the allocation for the
+    /// step failed, which cannot happen after `reserve_step`. The bridge is unchanged then, and the item is returned.
     pub fn receive(&mut self, port: u8, item: Item) -> Result<Outcome, (BridgeFault, Item)>
         requires { is_used (port_at self.old.plan self.old.number port) ≡ true }
         ensures ok { IfOk result (λ outcome. HasReceived self.old port item outcome self.new) }
@@ -45,13 +49,18 @@ impl Bridge {
         ensures reserved { self.old.is_reserved ≡ true → IsOk result }
     {
         let given = self.admit(port, item)?;
-        // The step owns the outcome, since it is part of the record. It is read back here, two words, for the one
-        // caller that asks for it: handed up through `relay` and `carry`, it would be moved twice for every caller.
+        // The step owns the outcome, which is part of the record. It is read back here, as a copy of a few octets: the
+        // worker of a run (pb_workers) uses it, and pb_net drops it. Returned through `relay` and `carry`, it would be
+        // moved twice for every caller.
         let outcome = newest_outcome(&given, self.steps.as_slice());
         Ok(outcome)
     }
 
-    /// Does as [`Bridge::receive`], with its faults, and answers no outcome: the step tells of it.
+    /// Receives an item as [`Bridge::receive`] does, without the outcome. The step reports it.
+    ///
+    /// # Errors
+    ///
+    /// `StepLimit` and `Memory`, with the item, as for [`Bridge::receive`].
     #[inline(always)]
     pub fn take_in(&mut self, port: u8, item: Item) -> Result<(), (BridgeFault, Item)>
         requires { is_used (port_at self.old.plan self.old.number port) ≡ true }
@@ -65,8 +74,11 @@ impl Bridge {
         Ok(())
     }
 
-    /// Does as [`Bridge::receive`], with its faults, where the bridge only counts its steps, and hands out the step
-    /// that tells of the item.
+    /// Receives an item as [`Bridge::receive`] does, and returns the step. The bridge must only count its steps.
+    ///
+    /// # Errors
+    ///
+    /// `StepLimit` and `Memory`, with the item, as for [`Bridge::receive`].
     #[inline(always)]
     pub fn receive_counted(&mut self, port: u8, item: Item) -> Result<Step, (BridgeFault, Item)>
         requires used { is_used (port_at self.old.plan self.old.number port) ≡ true }
@@ -83,8 +95,7 @@ impl Bridge {
         }
     }
 
-    /// Receives an item, as [`Bridge::receive`] tells, and gives back the step that tells of it where steps are only
-    /// counted.
+    /// Receives an item as [`Bridge::receive`] does, and returns the step if steps are only counted.
     #[inline(always)]
     fn admit(&mut self, port: u8, item: Item) -> Result<Option<Step>, (BridgeFault, Item)>
         requires { is_used (port_at self.old.plan self.old.number port) ≡ true }
@@ -105,7 +116,7 @@ impl Bridge {
         }
     }
 
-    /// What is to be done with an item that comes in at a port.
+    /// Returns what to do with an item that arrives at a port.
     fn rule(&self, port: u8, item: &Item) -> Verdict
         requires { is_used (port_at self.now.plan self.now.number port) ≡ true }
         ensures { as_ruling result ≡ ruling spanning_tree self.now.plan self.now.number self.now.steps port item.now }
@@ -115,7 +126,7 @@ impl Bridge {
         rule(ports, place, self.forwarding.states[place], item)
     }
 
-    /// Appends a step that tells that the item goes nowhere.
+    /// Appends the step of an item that is filtered.
     fn refuse(&mut self, port: u8, item: Item, reason: Reason) -> Option<Step>
         requires reserved { self.old.is_reserved ≡ true }
         requires ruling { ruling spanning_tree self.old.plan self.old.number self.old.steps port item ≡ Refuses reason }
@@ -125,7 +136,7 @@ impl Bridge {
         append_receive(&mut self.steps, port, item, None, outcome)
     }
 
-    /// Appends a step that tells that there is no memory to relay or to hear the item.
+    /// Appends the step of an item that is filtered because an allocation failed.
     pub(crate) fn give_up(&mut self, port: u8, item: Item) -> Option<Step>
         requires reserved { self.old.is_reserved ≡ true }
         requires fits { Fits spanning_tree self.old.plan self.old.number self.old.steps
@@ -136,7 +147,7 @@ impl Bridge {
         append_receive(&mut self.steps, port, item, None, outcome)
     }
 
-    /// Learns the source of an item that goes nowhere, at a port that is Learning.
+    /// Learns the source of an item that is filtered, at a port that is Learning.
     fn learn_only(&mut self, port: u8, item: Item, vid: u16) -> Option<Step>
         requires reserved { self.old.is_reserved ≡ true }
         requires ruling { ruling spanning_tree self.old.plan self.old.number self.old.steps port item ≡ LearnsOnly vid }
@@ -148,7 +159,7 @@ impl Bridge {
         append_receive(&mut self.steps, port, item, Some(learnt), outcome)
     }
 
-    /// Relays an item in its service, or gives it up where there is no memory to begin.
+    /// Relays an item in its service, or filters it if an allocation for its forms failed.
     fn relay(&mut self, port: u8, item: Item, vid: u16) -> Option<Step>
         requires used { is_used (port_at self.old.plan self.old.number port) ≡ true }
         requires reserved { self.old.is_reserved ≡ true }
@@ -184,7 +195,7 @@ impl Bridge {
     }
 }
 
-/// Puts the step of an item that came in at a port behind the others, and gives it back where it is only counted.
+/// Appends the Receive step of an item, and returns the step if steps are only counted.
 #[inline(always)]
 fn append_receive(
     steps: &mut Steps,
@@ -206,7 +217,7 @@ fn append_receive(
     })
 }
 
-/// The port at which the destination of a frame was seen. Groups are never sought.
+/// Returns the port at which the destination of a frame was seen, or None. A group address has no port.
 fn sought(table: &Fdb, vid: u16, frame: &[u8], now: u64) -> Option<u8>
     requires { shortest_frame ≤ length frame.now }
     ensures { result ≡ (if is_group (dst_of frame.now) then None else where_in table.now now vid (dst_of frame.now)) }

@@ -1,4 +1,4 @@
-//! Ticks and settings of ports, where the protocol decides the states.
+//! Ticks and enabling of ports, if the protocol decides the states.
 
 ghost use Rattle.std.specs.Prelude.{◌≡◌, ◌↔◌, length, true, OnOk, OnErr, IsErrOf};
 ghost use Rattle.pb_lan.specs.Ports.{port_at, is_provider};
@@ -14,7 +14,7 @@ use pb_frame::Memory;
 use pb_lan::Step;
 
 impl Bridge {
-    /// The clock ticks.
+    /// Advances the clock and the spanning tree by one tick. The bridge is unchanged after a fault.
     pub(crate) fn tick_tree(&mut self) -> Result<(), BridgeFault>
         requires { self.old.plan.spanning ≡ Rstp }
         ensures ok { OnOk result (HasTicked self.old self.new) }
@@ -30,7 +30,7 @@ impl Bridge {
         Ok(())
     }
 
-    /// Appends a tick, and does what the spanning tree tells.
+    /// Advances the clock, applies what the spanning tree changes and appends the Tick step.
     fn advance_tree(&mut self) -> Result<(), Memory>
         requires reserved { self.old.is_reserved ≡ true }
         requires rstp { self.old.plan.spanning ≡ Rstp }
@@ -54,7 +54,7 @@ impl Bridge {
         Ok(())
     }
 
-    /// A port to another bridge is set up or down.
+    /// Enables or disables a port to another bridge. The bridge is unchanged after a fault.
     pub(crate) fn admin_tree(&mut self, port: u8, up: bool) -> Result<(), BridgeFault>
         requires rstp { self.old.plan.spanning ≡ Rstp }
         requires provider { is_provider (port_at self.old.plan self.old.number port) ≡ true }
@@ -71,7 +71,7 @@ impl Bridge {
         Ok(())
     }
 
-    /// Sets a port up or down, does what the spanning tree tells, and appends the step.
+    /// Enables or disables a port, applies what the spanning tree changes and appends the Admin step.
     fn set_tree(&mut self, port: u8, up: bool) -> Result<(), Memory>
         requires reserved { self.old.is_reserved ≡ true }
         requires rstp { self.old.plan.spanning ≡ Rstp }

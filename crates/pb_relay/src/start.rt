@@ -1,4 +1,4 @@
-//! A bridge at its start.
+//! The start of a bridge.
 
 ghost use Rattle.std.specs.Prelude.{◌≡◌, ℕ, ◌+◌, ◌<◌, ◌≤◌, ◌==◌, ◌++◌, ◌∷◌, [], map, length, true, false, IfOk, OnOk};
 ghost use Rattle.std.specs.List.{flat_map};
@@ -34,7 +34,7 @@ use std::alloc::Global;
 /// The most stations that a bridge knows.
 const STATIONS: usize = 4096;
 
-/// Adds a service of the plan to those before it.
+/// Adds a service of the plan to the services.
 fn add(alloc: Global, services: &mut Services, service: &ServicePlan) -> Result<(), Memory>
     requires vid { IsNumber service.now.vid 4094 }
     requires name { has_name services.old service.now.name ≡ false }
@@ -55,7 +55,7 @@ fn add(alloc: Global, services: &mut Services, service: &ServicePlan) -> Result<
     }
 }
 
-/// The services of the plan. No port is anything in them.
+/// Returns the services of the plan, with no ports.
 fn services_of(alloc: Global, plan: &Plan) -> Result<Services, Memory>
     requires { IsSound plan.now }
     ensures services { IfOk result (HasServices plan.now) }
@@ -68,7 +68,7 @@ fn services_of(alloc: Global, plan: &Plan) -> Result<Services, Memory>
     Ok(services)
 }
 
-/// The customer port that stands there.
+/// Returns the customer port at this local port of the bridge, or None.
 pub(crate) fn customer_at(customers: &[CustomerPlan], bridge: u8, port: u8) -> Option<&CustomerPlan>
     ensures { option_copied result ≡ first (is_customer_at bridge port) customers.now }
 {
@@ -80,7 +80,7 @@ pub(crate) fn customer_at(customers: &[CustomerPlan], bridge: u8, port: u8) -> O
     None
 }
 
-/// The end of a link that stands there.
+/// Returns the end of a link at this local port of the bridge, or None.
 pub(crate) fn end_at(links: &[LinkPlan], bridge: u8, port: u8) -> Option<&End>
     ensures { option_copied result ≡ first (is_end_at bridge port) (flat_map ends_of links.now) }
 {
@@ -95,7 +95,7 @@ pub(crate) fn end_at(links: &[LinkPlan], bridge: u8, port: u8) -> Option<&End>
     None
 }
 
-/// Makes a local port a customer's.
+/// Joins the local port of a customer to the customer's service.
 fn join(services: &mut Services, customer: &CustomerPlan) -> Result<(), Memory>
     requires priority { customer.now.pcp ≤ 7 }
     requires known { is_known services.old customer.now.service ≡ true }
@@ -109,7 +109,7 @@ fn join(services: &mut Services, customer: &CustomerPlan) -> Result<(), Memory>
     }
 }
 
-/// Makes a local port one to another bridge.
+/// Makes a local port one to another bridge, with the services that the end lists.
 fn trunk(alloc: Global, services: &mut Services, end: &End) -> Result<(), Memory>
     requires known { are_known services.old end.now.services ≡ true }
     requires free { is_taken services.old end.now.port ≡ false }
@@ -124,7 +124,7 @@ fn trunk(alloc: Global, services: &mut Services, end: &End) -> Result<(), Memory
     }
 }
 
-/// Makes a local port in the services what it is in the plan, and gives the state in which it starts.
+/// Adds a local port to the services as the plan has it, and returns its start state in the plan.
 fn attach(
     alloc: Global,
     services: &mut Services,
@@ -151,7 +151,7 @@ fn attach(
     Ok(end.start)
 }
 
-/// What a bridge keeps of its local ports.
+/// Returns the kinds and services of the local ports.
 fn local_ports(alloc: Global, plan: &Plan, number: u8) -> Result<LocalPorts, Memory>
     requires { IsSound plan.now }
     ensures { IfOk result (λ ports. KeepsPorts plan.now number ports 16) }
@@ -164,8 +164,8 @@ fn local_ports(alloc: Global, plan: &Plan, number: u8) -> Result<LocalPorts, Mem
     Ok(LocalPorts::of(services, starts))
 }
 
-/// The state in which a port to another bridge starts: that of the plan, or Discarding where the protocol
-/// decides the states.
+/// Returns the state in which a port to another bridge starts: that of the plan, or Discarding if the protocol decides
+/// the states.
 fn start_by(spanning: Spanning, start: PortState) -> PortState
     ensures { result ≡ start_by spanning start }
 {
@@ -175,7 +175,7 @@ fn start_by(spanning: Spanning, start: PortState) -> PortState
     }
 }
 
-/// The state in which a port starts.
+/// Returns the state in which a port starts.
 fn start_state(spanning: Spanning, port: Local) -> PortState
     ensures { result ≡ first_state spanning port }
 {
@@ -186,7 +186,7 @@ fn start_state(spanning: Spanning, port: Local) -> PortState
     }
 }
 
-/// The states in which the local ports start.
+/// Returns the states in which the local ports start.
 fn start_states(spanning: Spanning, ports: &LocalPorts) -> [PortState; 16]
     requires { length ports.now ≡ 16 }
     ensures { result ≡ map (λ port. first_state spanning (told port)) ports.now }
@@ -198,7 +198,7 @@ fn start_states(spanning: Spanning, ports: &LocalPorts) -> [PortState; 16]
     states
 }
 
-/// The most items that wait at each port of the bridge.
+/// Returns the most items that wait at each port of the bridge.
 fn capacity(plan: &Plan, number: u8) -> usize
     requires { IsNumber number (length plan.now.bridges) }
     ensures { result ≡ capacity_of plan.now number }
@@ -206,7 +206,7 @@ fn capacity(plan: &Plan, number: u8) -> usize
     plan.bridges.as_slice()[index_of(number)].queue as usize
 }
 
-/// The plan, and what it has at the local ports.
+/// Returns a copy of the plan, and the kinds and services of the local ports.
 fn placed(alloc: Global, plan: &Plan, number: u8) -> Result<(Plan, LocalPorts), Memory>
     requires { IsSound plan.now }
     ensures plan { IfOk result (λ kept. kept.0 ≡ plan.now) }
@@ -216,7 +216,7 @@ fn placed(alloc: Global, plan: &Plan, number: u8) -> Result<(Plan, LocalPorts), 
     Ok((plan.clone()?, ports))
 }
 
-/// Nothing that waits, and the spanning tree at its start, where the protocol decides the states.
+/// Returns empty queues, and the spanning tree at its start if the protocol decides the states.
 fn sending(
     alloc: Global,
     plan: &Plan,
@@ -232,7 +232,7 @@ fn sending(
     Ok((Backlog::new(alloc, capacity(plan, number), is_kept)?, rstp))
 }
 
-/// The bridge of this number, at its start, with this list of steps.
+/// Returns the bridge of this number at its start, with this empty list of steps.
 fn started(alloc: Global, plan: &Plan, number: u8, steps: Steps) -> Result<Bridge, Memory>
     requires sound { IsSound plan.now }
     requires bridge { IsNumber number (length plan.now.bridges) }
@@ -262,12 +262,15 @@ fn started(alloc: Global, plan: &Plan, number: u8, steps: Steps) -> Result<Bridg
 }
 
 impl Bridge {
-    /// The bridge of this number, at its start: no step is in its list, nothing waits, no station is
-    /// known, and each local port has the state that the plan gives it. Where the protocol decides the
-    /// states, ports to other bridges are Discarding, and their spanning tree is at its start. Each step
-    /// will be kept.
+    /// Returns the bridge of this number at its start. It will keep each step.
     ///
-    /// `Memory` is answered where there was none for what the bridge keeps of the plan.
+    /// The list of steps is empty, nothing waits, no station is known, and each local port has the state that the plan
+    /// gives it. If the protocol decides the states, ports to other bridges are Discarding, and the spanning tree is at
+    /// its start.
+    ///
+    /// # Errors
+    ///
+    /// `Memory` if an allocation failed.
     pub fn new(alloc: Global, plan: &Plan, number: u8) -> Result<Bridge, Memory>
         requires sound { IsSound plan.now }
         requires bridge { IsNumber number (length plan.now.bridges) }
@@ -276,8 +279,13 @@ impl Bridge {
         started(alloc, plan, number, Steps::kept(alloc))
     }
 
-    /// The same, but that steps are only counted: the bridge takes as many as the plan allows in memory that
-    /// does not grow with them.
+    /// Returns the bridge of this number at its start, as [`Bridge::new`] does. It will only count its steps.
+    ///
+    /// The memory of such a bridge does not grow with its steps.
+    ///
+    /// # Errors
+    ///
+    /// `Memory` if an allocation failed.
     pub fn counting(alloc: Global, plan: &Plan, number: u8) -> Result<Bridge, Memory>
         requires sound { IsSound plan.now }
         requires bridge { IsNumber number (length plan.now.bridges) }

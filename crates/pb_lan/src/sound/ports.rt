@@ -1,4 +1,4 @@
-//! Whether no local port is used twice.
+//! The check that no local port is used twice.
 
 ghost use Rattle.std.specs.Prelude.{◌≡◌, ◌↔◌, ◌||◌, IsTrue, map};
 ghost use Rattle.std.specs.List.{list_any, IsDistinct};
@@ -7,17 +7,17 @@ ghost use Rattle.pb_lan.specs.UsedPorts.{HasFreeEnds};
 
 use crate::plan::{CustomerPlan, End, LinkPlan};
 
-/// A bridge, and one of its local ports.
+/// The number of a bridge, and one of its local ports.
 type LocalPort = (u8, u8);
 
-/// Whether two are one.
+/// Checks whether two local ports are the same.
 fn is_same(a: LocalPort, b: LocalPort) -> bool
     ensures { result ≡ is_same_port a b }
 {
     a.0 == b.0 && a.1 == b.1
 }
 
-/// Whether a link has an end at the port.
+/// Checks whether a link has an end at the port.
 fn is_link_port(port: LocalPort, links: &[LinkPlan]) -> bool
     ensures { result ≡ list_any (λ l. is_same_port port (l.a.bridge, l.a.port)
         || is_same_port port (l.b.bridge, l.b.port)) links.now }
@@ -27,7 +27,7 @@ fn is_link_port(port: LocalPort, links: &[LinkPlan]) -> bool
     })
 }
 
-/// Whether a customer port is the port.
+/// Checks whether a customer port is at the port.
 fn is_customer_port(port: LocalPort, customers: &[CustomerPlan]) -> bool
     ensures { result ≡ list_any (λ c. is_same_port port (c.bridge, c.port)) customers.now }
 {
@@ -36,14 +36,14 @@ fn is_customer_port(port: LocalPort, customers: &[CustomerPlan]) -> bool
         .any(|customer| is_same(port, (customer.bridge, customer.port)))
 }
 
-/// Whether links or customer ports use the port.
+/// Checks whether a link or a customer port uses the port.
 fn is_used(port: LocalPort, links: &[LinkPlan], customers: &[CustomerPlan]) -> bool
     ensures { result ≡ list_any (is_same_port port) (ports_in links.now customers.now) }
 {
     is_link_port(port, links) || is_customer_port(port, customers)
 }
 
-/// Whether the ends of a link are two ports that the others leave free.
+/// Checks whether the ends of a link are at two ports that no other link and no customer port uses.
 fn has_free_ends(link: &LinkPlan, others: &[LinkPlan], customers: &[CustomerPlan]) -> bool
     ensures { IsTrue result ↔ HasFreeEnds link.now (ports_in others.now customers.now) }
 {
@@ -52,7 +52,7 @@ fn has_free_ends(link: &LinkPlan, others: &[LinkPlan], customers: &[CustomerPlan
     !is_same(a, b) && !is_used(a, others, customers) && !is_used(b, others, customers)
 }
 
-/// Whether no two customer ports are one.
+/// Checks whether no two customer ports are at the same local port.
 fn customer_ports_differ(customers: &[CustomerPlan]) -> bool
     ensures { IsTrue result ↔ IsDistinct is_same_port (map (λ c. (c.bridge, c.port)) customers.now) }
 {
@@ -66,7 +66,7 @@ fn customer_ports_differ(customers: &[CustomerPlan]) -> bool
     true
 }
 
-/// Whether no local port is used twice, by links or customer ports.
+/// Checks whether no local port is used twice, by links or customer ports.
 pub(crate) fn ports_differ(links: &[LinkPlan], customers: &[CustomerPlan]) -> bool
     ensures { IsTrue result ↔ IsDistinct is_same_port (ports_in links.now customers.now) }
 {

@@ -1,4 +1,4 @@
-//! Whether the parts of a plan are sound, one by one.
+//! Checks of the parts of a plan, one by one.
 
 ghost use Rattle.std.specs.Prelude.{◌↔◌, IsTrue, IfSome, length};
 ghost use Rattle.std.specs.List.{AllByRecursion};
@@ -9,21 +9,21 @@ ghost use Rattle.pb_frame.specs.Lists.{Rises};
 use crate::plan::{BridgePlan, CustomerPlan, End, LinkPlan, Plan, ServicePlan};
 use pb_frame::Seq;
 
-/// Whether a number is from 1 to the highest one.
+/// Checks whether a number is 1 to the highest one.
 pub(crate) fn is_number(n: u64, highest: u64) -> bool
     ensures { IsTrue result ↔ IsNumber n highest }
 {
     1 <= n && n <= highest
 }
 
-/// Whether the list has something of this number.
+/// Checks whether the list has an entry of this number, counted from 1.
 fn numbers_one_of<T>(n: u8, list: &[T]) -> bool
     ensures { IsTrue result ↔ IsNumber n (length list.now) }
 {
     1 <= n && n as usize <= list.len()
 }
 
-/// Whether the numbers of items rise strictly.
+/// Checks whether the numbers of items ascend strictly.
 fn rises(numbers: &[u64]) -> bool
     ensures { IsTrue result ↔ Rises numbers.now }
 {
@@ -35,7 +35,7 @@ fn rises(numbers: &[u64]) -> bool
     true
 }
 
-/// Whether the numbers of services rise strictly.
+/// Checks whether the numbers of services ascend strictly.
 fn services_rise(numbers: &[u8]) -> bool
     ensures { IsTrue result ↔ Rises numbers.now }
 {
@@ -47,7 +47,7 @@ fn services_rise(numbers: &[u8]) -> bool
     true
 }
 
-/// Whether the bridge's address, priority and capacity are allowed ones.
+/// Checks whether a bridge's address, priority and queue size are allowed.
 fn is_sound_bridge(bridge: &BridgePlan) -> bool
     ensures { IsTrue result ↔ IsSoundBridge bridge.now }
 {
@@ -57,14 +57,14 @@ fn is_sound_bridge(bridge: &BridgePlan) -> bool
         && is_number(bridge.queue as u64, 4096)
 }
 
-/// Whether each bridge is sound.
+/// Checks whether each bridge is sound.
 pub(crate) fn are_sound_bridges(bridges: &[BridgePlan]) -> bool
     ensures { IsTrue result ↔ AllByRecursion IsSoundBridge bridges.now }
 {
     bridges.iter().all(|bridge| is_sound_bridge(bridge))
 }
 
-/// Whether each number is a service's.
+/// Checks whether each number is that of a service.
 fn number_services(numbers: &[u8], services: &[ServicePlan]) -> bool
     ensures { IsTrue result ↔ AllByRecursion (λ s. IsNumber s (length services.now)) numbers.now }
 {
@@ -73,7 +73,7 @@ fn number_services(numbers: &[u8], services: &[ServicePlan]) -> bool
         .all(|number| numbers_one_of(*number, services))
 }
 
-/// Whether the services of an end are all of them, or a rising list.
+/// Checks whether the services of an end are all of them, or a strictly ascending list of service numbers.
 fn are_end_services(numbers: &Option<Seq<u8>>, services: &[ServicePlan]) -> bool
     ensures { IsTrue result ↔ IfSome numbers.now (λ numbers. Rises numbers
         × AllByRecursion (λ s. IsNumber s (length services.now)) numbers) }
@@ -86,7 +86,7 @@ fn are_end_services(numbers: &Option<Seq<u8>>, services: &[ServicePlan]) -> bool
     }
 }
 
-/// Whether the end names what exists, with an allowed cost and priority.
+/// Checks whether an end names a bridge, a port and services of the plan, with an allowed cost and priority.
 fn is_sound_end(plan: &Plan, end: &End) -> bool
     ensures { IsTrue result ↔ IsSoundEnd plan.now end.now }
 {
@@ -98,7 +98,7 @@ fn is_sound_end(plan: &Plan, end: &End) -> bool
         && are_end_services(&end.services, plan.services.as_slice())
 }
 
-/// Whether both ends of each link are sound.
+/// Checks whether both ends of each link are sound.
 pub(crate) fn are_sound_ends(plan: &Plan) -> bool
     ensures { IsTrue result ↔ AllByRecursion (IsSoundEnd plan.now) (all_ends plan.now) }
 {
@@ -106,14 +106,14 @@ pub(crate) fn are_sound_ends(plan: &Plan) -> bool
         && is_sound_end(plan, &link.b))
 }
 
-/// Whether the losses of each link rise.
+/// Checks whether the losses of each link ascend strictly.
 pub(crate) fn are_sound_losses(links: &[LinkPlan]) -> bool
     ensures { IsTrue result ↔ AllByRecursion (λ l. Rises l.lost_ab × Rises l.lost_ba) links.now }
 {
     links.iter().all(|link| rises(link.lost_ab.as_slice()) && rises(link.lost_ba.as_slice()))
 }
 
-/// Whether each VID is one that names a VLAN.
+/// Checks whether each VID is 1 to 4,094.
 pub(crate) fn are_sound_vids(services: &[ServicePlan]) -> bool
     ensures { IsTrue result ↔ AllByRecursion (λ s. IsNumber s.vid 4094) services.now }
 {
@@ -122,7 +122,8 @@ pub(crate) fn are_sound_vids(services: &[ServicePlan]) -> bool
         .all(|service| is_number(service.vid as u64, 4094))
 }
 
-/// Whether the customer port names what exists, with an allowed priority and capacity.
+/// Checks whether a customer port names a bridge, a port and a service of the plan, with an allowed priority and queue
+/// size.
 fn is_sound_customer(plan: &Plan, customer: &CustomerPlan) -> bool
     ensures { IsTrue result ↔ IsSoundCustomer plan.now customer.now }
 {
@@ -133,7 +134,7 @@ fn is_sound_customer(plan: &Plan, customer: &CustomerPlan) -> bool
         && is_number(customer.queue as u64, 4096)
 }
 
-/// Whether each customer port is sound.
+/// Checks whether each customer port is sound.
 pub(crate) fn are_sound_customers(plan: &Plan) -> bool
     ensures { IsTrue result ↔ AllByRecursion (IsSoundCustomer plan.now) plan.now.customers }
 {

@@ -10,11 +10,11 @@ use Rattle.pb_lan.specs.declared.step.Item.{Item}
 use Rattle.pb_relay.proofs.VerdictLemmas.{first-refuses, first-passes}
 use Rattle.pb_relay.proofs.verdict.customer_verdict.Goals as goal
 
--- the cases that stand behind those of the octets
+-- the cases after those of the octets
 abbrev late : Item → List (Bool × Reason)
 late item = (is_worn item, Worn) ∷ []
 
--- the ruling on a frame whose octets are let in
+-- the ruling on a frame that no case of the octets refuses
 admitted : (item : Item) (rest : Ruling) (worn : Bool) → refusal item.wire ≡ None → is_worn item ≡ worn
     → first_case (customer_cases item) rest ≡ cond worn (Refuses Worn) rest
 admitted item rest worn h w = first-passes (admission_cases item.wire) (late item) rest h

@@ -1,4 +1,4 @@
--- A list that only contracts see owns nothing, so it may go to another thread.
+-- A list that only contracts see owns nothing, and may go to another thread.
 use denote.RattleType.{RattleType}
 use denote.Param.Send.{IsSend, owning_send, sendable}
 use Rattle.pb_lan.specs.contracts.past.Past.{the_row, the_type}

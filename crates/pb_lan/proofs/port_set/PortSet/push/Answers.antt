@@ -6,13 +6,13 @@ use Rattle.pb_lan.specs.PortSets.{ports_in, ComesAfter}
 use Rattle.pb_lan.proofs.PortBits.{low_bits, port_more}
 use Rattle.pb_lan.proofs.port_set.PortSet.push.Goals as goal
 
--- the port's bit is above all that are set
+-- all bits that are set are below the port's
 below : (bits port : ℕ) (ports : List ℕ) → bits < 65536 → ports_in 16 1 bits ≡ ports → ComesAfter ports port
     → bits < 2 ^ (port - 1)
 below bits port ports h v r = low_bits 16 1 port bits h
     (subst (λ (ps : List ℕ). AllByRecursion (λ p. p < port) ps) (sym v) r.after)
 
--- and is one of sixteen
+-- the port's bit is one of sixteen
 least : (port : ℕ) → port ≤ 16 → 2 ^ (port - 1) ≤ 32768
 least port l = pow_mono {i = port - 1} {j = 15} (omega arith)
 

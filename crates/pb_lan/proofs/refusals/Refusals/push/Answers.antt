@@ -7,18 +7,18 @@ use Rattle.pb_lan.specs.declared.step.NoRoom.{NoRoom}
 use Rattle.pb_lan.proofs.PortBits.{low_words, refusal_more}
 use Rattle.pb_lan.proofs.refusals.Refusals.push.Goals as goal
 
--- the port's two bits are above all that are set
+-- all bits that are set are below the port's two
 below : (words port : ℕ) (refusals : List (ℕ × NoRoom)) → words < 4294967296 → refusals_in 16 1 words ≡ refusals
     → ComesAfter (map (λ r. r.0) refusals) port
     → words < 2 ^ (2 * (port - 1))
 below words port refusals h v r = low_words 16 1 port words h
     (subst (λ (rs : List (ℕ × NoRoom)). AllByRecursion (λ p. p < port) (map (λ r. r.0) rs)) (sym v) r.after)
 
--- and are two of 32
+-- the port's two bits are among 32
 least : (port : ℕ) → port ≤ 16 → 2 ^ (2 * (port - 1)) ≤ 1073741824
 least port l = pow_mono {i = 2 * (port - 1)} {j = 30} (omega arith)
 
--- a number below four, times that, and that once more
+-- two bits at a place, and all bits below, fit in 32 bits
 small : (d x : ℕ) → d < 4 → x ≤ 1073741824 → d * x + x ≤ 4294967296
 small zero x l m = omega (arith, m)
 small (suc zero) x l m = omega (arith, m)

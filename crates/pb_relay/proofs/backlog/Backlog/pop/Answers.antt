@@ -3,7 +3,7 @@ use Rattle.std.proofs.lemmas.List.{set-get_or}
 use Rattle.pb_relay.proofs.ClassLemmas.{none_taken}
 use Rattle.pb_relay.proofs.backlog.Backlog.pop.Goals as goal
 
--- where nothing waits, nothing is taken away
+-- if nothing waits, nothing is taken away
 pub invariant_of-self : goal.invariant_of-self
 invariant_of-self c =
     let items = c.self.inside.queues.items in

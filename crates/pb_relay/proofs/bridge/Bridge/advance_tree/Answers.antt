@@ -29,7 +29,7 @@ pub follow-moved-requires-clause-change : goal.follow-moved-requires-clause-chan
 follow-moved-requires-clause-change c =
     of_ports c.self.inside Ticks c.in-Some.change c.self.invariant (sym c.in_ok-change.ensures.change ∙ c.in-Some.is)
 
--- the step fits
+-- the step may come there
 fits : (c : goal.After-append) → Fits spanning_tree c.self.inside.plan c.self.inside.number c.self.inside.steps.steps
     (Tick (c.self.inside.clock + 1) c.follow-moved.result)
 fits c =

@@ -45,7 +45,7 @@ queue_copies-refused-requires-clause-hops c =
     let a = admitted _ _ c.self.view_is c.args.port c.args.item c.args.vid c.requires.ruling in
     omega (arith, a.unworn)
 
--- the step fits, and what is kept is kept
+-- the step may come there, and the invariant holds after it
 whole : (c : goal.Joined-load-3)
     → Fits spanning_tree c.self.inside.plan c.self.inside.number c.self.inside.steps.steps
     (Receive c.args.port c.args.item (Some c.learn-learnt.result)

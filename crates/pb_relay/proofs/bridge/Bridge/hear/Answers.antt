@@ -54,7 +54,7 @@ follow-moved-requires-clause-change c =
     (ap (λ w. change_next c.self.inside.rstp (Hears c.args.port w)) (sym c.as_slice.ensures)
     ∙ sym c.in-Ok-hear.ensures.change ∙ c.in-Some.is)
 
--- the step fits
+-- the step may come there
 fits : (c : goal.After-append) → Fits spanning_tree c.self.inside.plan c.self.inside.number c.self.inside.steps.steps
     (Receive c.args.port c.args.item None Heard (Some c.follow-moved.result))
 fits c =

@@ -13,7 +13,7 @@ use Rattle.pb_relay.proofs.CauseLemmas.{spanning_stays}
 use Rattle.pb_relay.proofs.Keeping.{grown, taken}
 use Rattle.pb_relay.proofs.bridge.Bridge.learn_only.Goals as goal
 
--- the step fits, and what is kept is kept
+-- the step may come there, and the invariant holds after it
 whole : (c : goal.After-append_receive)
     → Fits spanning_tree c.self.inside.plan c.self.inside.number c.self.inside.steps.steps
     (Receive c.args.port c.args.item (Some c.learn-learnt.result) (Filtered NotForwarding) None)

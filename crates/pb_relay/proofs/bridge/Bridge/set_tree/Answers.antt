@@ -25,7 +25,7 @@ follow-moved-requires-clause-change c =
     of_ports c.self.inside (Sets c.args.port c.args.up) c.in-Some.change c.self.invariant
     (sym c.in_ok-change.ensures.change ∙ c.in-Some.is)
 
--- the step fits
+-- the step may come there
 fits : (c : goal.After-append) → Fits spanning_tree c.self.inside.plan c.self.inside.number c.self.inside.steps.steps
     (Admin c.args.port c.args.up c.follow-moved.result)
 fits c = (

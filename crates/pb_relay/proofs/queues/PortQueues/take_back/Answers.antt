@@ -35,7 +35,7 @@ returns-then-is_some c =
     (omega arith) c.index_mut-queue.ensures.value queue.ok.0 c.pop_back.ensures.rest
     ∙ ap (without_last c.args.class) c.self.view_is
 
--- a class with no item stays as it is
+-- an empty class stays empty
 none_taken : (taken : Option Item) (old new : List Item) → is_some taken ≡ false → old ≡ new ++ option_to_list taken
     → new ≡ old
 none_taken None old new n e = sym (e ∙ append-nil new)
