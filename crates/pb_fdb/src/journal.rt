@@ -284,7 +284,8 @@ impl Journal {
     }
 
     /// Replaces the entry of the same station by `new`, at the end, and returns the old entry. If the station has no
-    /// entry, nothing changes and it returns `None`. It makes one look-up and allocates nothing.
+    /// entry, the entries are unchanged and it returns `None`. It makes one look-up, or more if the log is full.
+    /// Allocates nothing.
     pub fn renew(&mut self, new: Entry) -> Option<Entry>
         ensures old { filter (λ e. is_sighted new.vid new.mac.0 (sighting_of e)) self.old ≡ option_to_list result }
         ensures renewed { OnSome result (self.new ≡ without_station new self.old ++ new ∷ []) }

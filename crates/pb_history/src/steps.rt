@@ -10,9 +10,9 @@ use std::alloc::Global;
 use std::marker::Model;
 
 /// The steps that a place has taken, in order, with their tally. Either each step is kept in memory, or the steps are
-/// only counted. Contracts see the list in both cases.
+/// only counted.
 ///
-/// Contracts see the steps, whether they are kept, and whether space for one more step is reserved.
+/// In both cases contracts see the list of steps, whether they are kept, and whether space for one more is reserved.
 #[derive(Drop)]
 pub struct Steps {
     tally: Tally,

@@ -17,7 +17,7 @@ use crate::passages::Passages;
 use pb_lan::{PortState, Step};
 use std::marker::Model;
 
-/// The counts of the steps of a place. It has some 1,300 octets for any number of steps, and keeps no step.
+/// The counts of the steps of a place. It has less than 1,400 octets for any number of steps, and keeps no step.
 ///
 /// Contracts see the list of the steps.
 #[derive(Drop)]
