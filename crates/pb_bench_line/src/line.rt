@@ -9,11 +9,20 @@ use pb_lan::{
 };
 use std::alloc::Global;
 
-/// A name with a number.
+/// Returns a name with a number.
+///
+/// # Errors
+///
+/// `Memory` if an allocation failed.
 fn name(alloc: Global, word: &str, number: u8) -> Result<Text, Memory> {
     Ok(Text::from_string(format!(in alloc; "{word}{number}")?))
 }
 
+/// Returns the bridge of this number.
+///
+/// # Errors
+///
+/// `Memory` if an allocation failed.
 fn bridge(alloc: Global, number: u8) -> Result<BridgePlan, Memory> {
     Ok(BridgePlan {
         name: name(alloc, "B", number)?,
@@ -23,7 +32,7 @@ fn bridge(alloc: Global, number: u8) -> Result<BridgePlan, Memory> {
     })
 }
 
-/// An end that is Forwarding, for all services.
+/// Returns an end that is Forwarding, for all services.
 fn end(bridge: u8, port: u8) -> End {
     End {
         bridge,
@@ -35,7 +44,11 @@ fn end(bridge: u8, port: u8) -> End {
     }
 }
 
-/// The link from a bridge's port 3 to the next bridge's port 2.
+/// Returns the link from a bridge's port 3 to the next bridge's port 2.
+///
+/// # Errors
+///
+/// `Memory` if an allocation failed.
 fn link(alloc: Global, number: u8) -> Result<LinkPlan, Memory>
     requires { number ≤ 32 }
 {
@@ -48,7 +61,11 @@ fn link(alloc: Global, number: u8) -> Result<LinkPlan, Memory>
     })
 }
 
-/// The customer port at a bridge's port 1.
+/// Returns the customer port at a bridge's port 1.
+///
+/// # Errors
+///
+/// `Memory` if an allocation failed.
 fn customer(alloc: Global, number: u8) -> Result<CustomerPlan, Memory> {
     Ok(CustomerPlan {
         name: name(alloc, "C", number)?,
@@ -60,7 +77,11 @@ fn customer(alloc: Global, number: u8) -> Result<CustomerPlan, Memory> {
     })
 }
 
-/// So many bridges in a line, each with a customer port of one service.
+/// Returns the plan of `bridges` bridges in a line, each with a customer port of one service.
+///
+/// # Errors
+///
+/// `Memory` if an allocation failed.
 pub fn line_of(alloc: Global, bridges: u8) -> Result<Plan, Memory>
     requires { bridges ≤ 32 }
 {

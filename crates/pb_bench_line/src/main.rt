@@ -1,9 +1,7 @@
-//! Drives a line of bridges event by event, to be timed by `bench/line.sh`.
-//!
-//! `pb_bench_line BRIDGES FRAMES` builds a line of so many bridges, 2 to 32, with one customer port
-//! each, sends so many broadcasts of 64 octets from the first customer port, asks all places for their
-//! steps in a round until nothing is left to do, and prints how many frames were delivered. The exit
-//! status is 1 where an argument is none of these, a place's list of steps is full, or memory runs out.
+//! Drives a line of bridges event by event, for `bench/line.sh`. `pb_bench_line BRIDGES FRAMES` builds a line of 2 to
+//! 32 bridges with one customer port each, polls FRAMES broadcasts of 64 octets at the first port, visits all places in
+//! rounds until nothing is to do, and prints how many frames were delivered. The exit status is 1 if an argument is
+//! invalid, a list of steps is full, or an allocation failed.
 #![tactic(auto)]
 
 ghost use Rattle.std.specs.Prelude.{◌≤◌};
@@ -35,7 +33,11 @@ fn main(rt: HostRuntime) -> Result<()> {
     Ok(())
 }
 
-/// The network of a plan.
+/// Returns the network of a plan.
+///
+/// # Errors
+///
+/// A message if the plan is not sound or has a spanning tree, or if an allocation failed.
 fn network(alloc: Global, plan: Plan) -> Result<Net> {
     if !plan_is_sound(&plan) {
         bail!("the plan is not sound");
@@ -46,7 +48,11 @@ fn network(alloc: Global, plan: Plan) -> Result<Net> {
     Ok(Net::new(alloc, plan)?)
 }
 
-/// A broadcast of 64 octets from 02-00-00-00-00-01.
+/// Returns a broadcast of 64 octets from 02-00-00-00-00-01.
+///
+/// # Errors
+///
+/// A message if an allocation failed.
 fn broadcast(alloc: Global) -> Result<Bytes> {
     let mut octets = vec![in alloc; 0u8; 64]?;
     octets[..6].fill(0xff);
@@ -56,7 +62,12 @@ fn broadcast(alloc: Global) -> Result<Bytes> {
     Ok(Bytes::from_vec(octets)?)
 }
 
-/// Sends the frames in, and goes round the places until nothing is left to do.
+/// Polls the frames at the first customer port, and visits the places in rounds until nothing is to do. Returns how
+/// many frames were delivered.
+///
+/// # Errors
+///
+/// A message if a list of steps is full or an allocation failed.
 fn drive(alloc: Global, net: &mut Net, bridges: u8, frames: u32) -> Result<u64>
     requires { bridges ≤ 32 }
 {
@@ -79,7 +90,11 @@ fn drive(alloc: Global, net: &mut Net, bridges: u8, frames: u32) -> Result<u64>
     bail!("too many rounds")
 }
 
-/// Asks every place once, counts the frames that were delivered, and says whether a step was taken.
+/// Visits every place once, and counts the frames that were delivered. Returns whether a step was taken.
+///
+/// # Errors
+///
+/// A message if a list of steps is full or an allocation failed.
 fn round(net: &mut Net, bridges: u8, delivered: &mut u64) -> Result<bool>
     requires { bridges ≤ 32 }
 {
@@ -102,14 +117,22 @@ fn round(net: &mut Net, bridges: u8, delivered: &mut u64) -> Result<bool>
     Ok(moved)
 }
 
-/// Asks a bridge to receive and to send at a port.
+/// Receives and transmits at a bridge's port. Returns whether a step was taken.
+///
+/// # Errors
+///
+/// A message if a list of steps is full or an allocation failed.
 fn switch(net: &mut Net, bridge: u8, port: u8) -> Result<bool> {
     let received = done(net, Event::Receive { bridge, port })?;
     let sent = done(net, Event::Transmit { bridge, port })?;
     Ok(received || sent)
 }
 
-/// Asks the lanes of the link behind a bridge.
+/// Takes and puts at the lanes of the link after a bridge. Returns whether a step was taken.
+///
+/// # Errors
+///
+/// A message if a list of steps is full or an allocation failed.
 fn cross(net: &mut Net, number: u8) -> Result<bool>
     requires from { 1 ≤ number }
     requires to { number ≤ 32 }
@@ -122,7 +145,11 @@ fn cross(net: &mut Net, number: u8) -> Result<bool>
     Ok(moved)
 }
 
-/// Whether a step was taken.
+/// Performs an event. Returns whether a step was taken.
+///
+/// # Errors
+///
+/// A message if a list of steps is full or an allocation failed.
 fn done(net: &mut Net, event: Event) -> Result<bool> {
     Ok(net.step(event)? != Did::Idle)
 }

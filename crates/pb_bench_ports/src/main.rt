@@ -1,8 +1,6 @@
-//! Copies a capture frame by frame through a port, to be timed by `bench/ports.sh`.
-//!
-//! `pb_bench_ports IN OUT` reads the capture IN, writes its frames to the capture OUT, begun at second
-//! 0, and prints how many they are. The exit status is 1 where a file can't be opened, a fault ends the
-//! reading or the writing, or memory runs out.
+//! Copies a capture frame by frame through a port, for `bench/ports.sh`. `pb_bench_ports IN OUT` reads the capture IN,
+//! writes its frames to the capture OUT, begun at second 0, and prints how many they are. The exit status is 1 if a
+//! file can't be opened, a fault ends the reading or the writing, or an allocation failed.
 #![tactic(auto)]
 
 ghost use Rattle.std.specs.Prelude.{◌<◌, length};
@@ -13,7 +11,7 @@ use pb_port::{CapturePort, Offered, Over, Polled, Port, Pumped};
 use std::env;
 use std::fs::File;
 
-/// How many frames wait before they are written.
+/// The number of frames that wait before they are written.
 const CAPACITY: u16 = 4_096;
 
 fn main(rt: HostRuntime) -> Result<()> {
@@ -29,7 +27,11 @@ fn main(rt: HostRuntime) -> Result<()> {
     Ok(())
 }
 
-/// Sends each frame that comes, up to the end, and says how many came.
+/// Copies each frame that comes, up to the end. Returns how many came.
+///
+/// # Errors
+///
+/// A message if the input or the output has a fault, or an allocation failed.
 fn copy<P: Port>(port: &mut P) -> Result<u64> {
     let mut count: u64 = 0;
     for polls in 0..u64::MAX {
@@ -50,7 +52,11 @@ fn copy<P: Port>(port: &mut P) -> Result<u64> {
     bail!("too many polls")
 }
 
-/// Offers a frame, after those that wait were written where there is no room for it.
+/// Offers a frame. If the port is full, the frames that wait are written first.
+///
+/// # Errors
+///
+/// A message if the output has a fault, or an allocation failed.
 fn send<P: Port>(port: &mut P, frame: &Bytes) -> Result<()>
     requires { length frame.now < 65536 }
 {
@@ -67,6 +73,10 @@ fn send<P: Port>(port: &mut P, frame: &Bytes) -> Result<()>
 }
 
 /// Writes the frames that wait.
+///
+/// # Errors
+///
+/// A message if the output has a fault.
 fn drain<P: Port>(port: &mut P) -> Result<()> {
     for pumps in 0..u64::MAX {
         if port.unsent().is_empty() {

@@ -1,16 +1,16 @@
--- What a buffer of lines gives and keeps, by what was taken of its octets.
+-- What a buffer of lines returns and keeps, by what was taken of its octets.
 use Rattle.std.proofs.Common.{◌≡◌, ℕ, ◌+◌, ◌-◌, ◌≤◌, List, [], ◌∷◌, ◌++◌, length, take, drop, sym, ap, subst, ◌∙◌}
 use Rattle.std.proofs.Common.{append-nil}
 use Rattle.std.proofs.lemmas.List.{drop-drop, take_rest}
 use Rattle.pb_lines.specs.Lines.{cut_lines, HasNoLf}
 use Rattle.pb_control_socket.specs.Lines.{GivesLine, KeepsLine}
 
--- the octets from a place on
+-- the octets from an index on
 pub rest_is : (xs ys : List ℕ) (start : ℕ) → xs ≡ ys → take (length xs - start) (drop start xs) ≡ drop start ys
 rest_is xs ys start e =
     take_rest xs start ∙ ap (λ z. drop start z) e
 
--- the octets behind a line are left
+-- the octets after a returned line are held
 pub gives : (limit : ℕ) (line waiting line' part given left : List ℕ) (start place : ℕ) → part ≡ drop start waiting
     → given ≡ line' → left ≡ []
     → ((more : List ℕ) → cut_lines limit (line ++ part ++ more) ≡ line' ∷ cut_lines limit
@@ -23,7 +23,7 @@ gives limit line waiting line' part given left start place is given_is none foun
     ∙ ap (λ z. z ∷ cut_lines limit (drop (start + (place + 1)) waiting ++ more)) (sym given_is)
     ∙ ap (λ z. given ∷ cut_lines limit (z ++ drop (start + (place + 1)) waiting ++ more)) (sym none)
 
--- all octets are part of a line that hasn't ended
+-- all octets are part of a line that has not ended
 pub keeps : (limit : ℕ) (line waiting line' part left : List ℕ) (start : ℕ) → part ≡ drop start waiting → left ≡ []
     → HasNoLf line' → length line' ≤ limit + 1
     → ((more : List ℕ) → cut_lines limit (line ++ part ++ more) ≡ cut_lines limit (line' ++ more))

@@ -1,4 +1,4 @@
--- The lines of several things, one behind the other.
+-- The lines of several items, one after the other.
 use Rattle.std.proofs.Common.{◌≡◌, ℕ, List, [], ◌∷◌, ◌++◌, Bor, refl, sym, ap, subst, ◌∙◌, append_assoc, append-nil}
 use Rattle.pb_control_socket.specs.Texts.{AreLines}
 
@@ -6,18 +6,18 @@ use Rattle.pb_control_socket.specs.Texts.{AreLines}
 abbrev pub seen : Bor (List ℕ) × ℕ → List ℕ × ℕ
 seen n = (n.0.now, n.1)
 
--- what `get_or` reads past the end of a list of names
+-- the value of `get_or` past the end of a list of names
 abbrev pub no_name : Bor (List ℕ) × ℕ
 no_name = (record { ref_ptr = (0, 0); now = [] }, 0)
 
--- a text so far: whatever lines those that are left have, they complete it with the lines of all
+-- the text so far: the lines of the remaining items complete it to the lines of all
 abbrev pub SoFar : {A : Type 0} → (List ℕ → A → List ℕ) → (ℕ → A → Type 0) → (old now : List ℕ)
     → (all left : List (List ℕ × ℕ)) → Type 0
 SoFar line told old now all left =
     (done : List ℕ) × (now ≡ old ++ done)
     × ((others : List ℕ) → AreLines line told left others → AreLines line told all (done ++ others))
 
--- one line more
+-- the text so far, extended by one line
 pub line_more : {A : Type 0} (line : List ℕ → A → List ℕ) (told : ℕ → A → Type 0) (old now new : List ℕ)
     (all left later : List (List ℕ × ℕ)) (thing : List ℕ × ℕ) (fact : A)
     → left ≡ thing ∷ later → told thing.1 fact → new ≡ now ++ line thing.0 fact
@@ -33,7 +33,7 @@ line_more line told old now new all left later thing fact split told_is grown be
           (before.2 (here ++ others) next),
     )
 
--- where none is left the text has all lines
+-- if no item remains, the text has all lines
 pub lines_end : {A : Type 0} (line : List ℕ → A → List ℕ) (told : ℕ → A → Type 0) (old now : List ℕ)
     (all left : List (List ℕ × ℕ))
     → left ≡ [] → SoFar line told old now all left → (text : List ℕ) × (now ≡ old ++ text) × AreLines line told all text

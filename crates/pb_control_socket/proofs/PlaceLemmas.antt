@@ -1,4 +1,4 @@
--- What stands at a bridge's port, by links and by their ends.
+-- The neighbour at a bridge's port, by links and by their ends.
 use Rattle.std.proofs.Common.{◌≡◌, ◌||◌, ℕ, Bool, true, false, List, [], ◌∷◌, Option, Some, None, is_some, cond}
 use Rattle.std.proofs.Common.{flat_map, Bor, refl, ap, ◌∙◌}
 use Rattle.std.specs.Option.{option_copied}
@@ -9,7 +9,7 @@ use Rattle.pb_lan.specs.declared.plan.End.{End}
 use Rattle.pb_lan.specs.declared.plan.LinkPlan.{LinkPlan}
 use Rattle.pb_names.specs.Places.{customer_at, has_end, link_at}
 
--- the first of the ends is there where the link is
+-- the first end at the port exists exactly if the first link at it does
 first_end : (one other : Bool) (link : LinkPlan) (later : Option LinkPlan) (end : Option End)
     → is_some later ≡ is_provider (provider_or_unused end)
     → is_some (cond (one || other) (Some link) later)
@@ -18,7 +18,7 @@ first_end true other link later end e = refl
 first_end false true link later end e = refl
 first_end false false link later end e = e
 
--- a link ends at the port just where the port leads to another bridge
+-- a link ends at the port exactly if the port leads to another bridge
 link_leads_on : (bridge port : ℕ) (links : List LinkPlan)
     → is_some (first (has_end bridge port) links)
     ≡ is_provider (provider_or_unused (first (is_end_at bridge port) (flat_map ends_of links)))
@@ -33,7 +33,7 @@ provider_there plan bridge port none =
     let end = first (is_end_at bridge port) (flat_map ends_of plan.links) in
     link_leads_on bridge port plan.links ∙ ap (λ c. is_provider (customer_or_else c (provider_or_unused end))) none
 
--- what is seen is there where the reference is
+-- a copied value exists exactly if its reference does
 pub copied_there : {A : Type 0} (o : Option (Bor A)) → is_some o ≡ is_some (option_copied o)
 copied_there None = refl
 copied_there (Some x) = refl

@@ -1,4 +1,4 @@
--- Lines that ask for nothing.
+-- Lines that are no request.
 use Rattle.std.proofs.Common.{◌≡◌, ◌≢◌, ℕ, Bool, List, codes, Some, Result, Ok, Err, refl, sym}
 use Rattle.std.proofs.Common.{subst, ◌∙◌}
 use Rattle.pb_frame.proofs.Things.{same_parts}
@@ -11,14 +11,14 @@ use Rattle.pb_control_socket.specs.declared.request.Request.TheVariants.{Stop, C
 use Rattle.pb_control_socket.specs.declared.request.Refused.{Refused}
 use Rattle.pb_control_socket.specs.declared.request.Refused.TheVariants.{NoSuch, Bad}
 
--- the first word is neither `up` nor `down`
+-- the first argument is neither `up` nor `down`
 pub no_way : (plan : Plan) (line word words : List ℕ) → cut line ≡ Some (word, words)
     → ((up : Bool) → word ≡ way_word up → ⊥)
     → (bridge port : ℕ) (up : Bool) → AsksToSet plan line bridge port up → ⊥
 no_way plan line word words parts none bridge port up w =
     none up (sym (same_parts (way_word up) w.words word words (sym w.parts ∙ parts)).0)
 
--- the words behind it are no name and port
+-- the arguments after it are no name and port
 pub no_port : (plan : Plan) (line word words : List ℕ) → cut line ≡ Some (word, words)
     → ((bridge port : ℕ) → IsBridgePort plan words bridge port → ⊥)
     → (bridge port : ℕ) (up : Bool) → AsksToSet plan line bridge port up → ⊥
@@ -26,7 +26,7 @@ no_port plan line word words parts none bridge port up w =
     none bridge port (subst (λ t. IsBridgePort plan t bridge port)
     (same_parts (way_word up) w.words word words (sym w.parts ∙ parts)).1 w.at)
 
--- what is no word and no setting is no request
+-- a line that is no single argument and no setting is no request
 no_request : (plan : Plan) (line : List ℕ) → line ≢ codes "stop" → line ≢ codes "counts" → line ≢ codes "tree"
     → ((bridge port : ℕ) (up : Bool) → AsksToSet plan line bridge port up → ⊥)
     → (request : Request) → Asks plan line request → ⊥
@@ -35,7 +35,7 @@ no_request plan line no_stop no_counts no_tree no_set Counts asks = no_counts as
 no_request plan line no_stop no_counts no_tree no_set Tree asks = no_tree asks
 no_request plan line no_stop no_counts no_tree no_set (Set bridge port up) asks = no_set bridge port up asks
 
--- what is read of a line that is no word
+-- what is read of a line that is no single argument
 pub reads_set : (plan : Plan) (line : List ℕ) (r : Result Request Refused) → line ≢ codes "stop"
     → line ≢ codes "counts" → line ≢ codes "tree" → (r ≢ Err Bad → Reads plan line r)
     → (r ≡ Err Bad → (bridge port : ℕ) (up : Bool) → AsksToSet plan line bridge port up → ⊥) → Reads plan line r

@@ -1,4 +1,4 @@
--- What is done for a line, and what is answered.
+-- The effect of a line, and the reply to it.
 use Rattle.std.specs.Prelude.{◌≡◌, ℕ, List, [], ◌++◌, Result, Ok, Err}
 use Rattle.std.specs.declared.option.Option.{Option}
 use Rattle.pb_lan.specs.declared.plan.Plan.{Plan}
@@ -11,21 +11,21 @@ use Rattle.pb_control_socket.specs.declared.request.Request.TheVariants.{Stop, C
 use Rattle.pb_control_socket.specs.declared.request.Refused.{Refused}
 use Rattle.pb_control_socket.specs.declared.request.Refused.TheVariants.{NoSuch, Bad}
 
--- the board was asked to do what is to be done
+-- the board was asked to do what the request changes
 abbrev pub IsDone : (Request → Type 0) → Request → Type 0
 IsDone was_asked Stop = was_asked Stop
 IsDone was_asked Counts = Unit {0}
 IsDone was_asked Tree = Unit {0}
 IsDone was_asked (Set bridge port up) = was_asked (Set bridge port up)
 
--- what is told before `ok`
+-- the lines before `ok` of the reply to a request
 abbrev pub IsTold : Plan → (told_port told_bridge : ℕ → ℕ × ℕ → Type 0) → (told_views : ℕ → List (Option PortView) → Type 0) → Request → List ℕ → Type 0
 IsTold plan told_port told_bridge told_views Stop text = text ≡ []
 IsTold plan told_port told_bridge told_views Counts text = IsCountsText plan told_port told_bridge text
 IsTold plan told_port told_bridge told_views Tree text = IsTreeText plan told_views text
 IsTold plan told_port told_bridge told_views (Set bridge port up) text = text ≡ []
 
--- what is done and answered, by what is read of the line
+-- the effect and the reply, by what was read of the line
 abbrev pub Becomes : Plan → (Request → Type 0) → (told_port told_bridge : ℕ → ℕ × ℕ → Type 0)
     → (told_views : ℕ → List (Option PortView) → Type 0) → Result Request Refused → List ℕ → Type 0
 Becomes plan was_asked told_port told_bridge told_views (Ok request) text =
@@ -33,7 +33,7 @@ Becomes plan was_asked told_port told_bridge told_views (Ok request) text =
 Becomes plan was_asked told_port told_bridge told_views (Err NoSuch) text = text ≡ no_such_line
 Becomes plan was_asked told_port told_bridge told_views (Err Bad) text = text ≡ bad_line
 
--- the line was answered, behind an old text
+-- the line was performed, and its reply was appended to the text
 pub record HasAnswered (plan : Plan) (was_asked : Request → Type 0) (told_port told_bridge : ℕ → ℕ × ℕ → Type 0)
     (told_views : ℕ → List (Option PortView) → Type 0) (line old new : List ℕ) : Type 0 where
   pub outcome : Result Request Refused

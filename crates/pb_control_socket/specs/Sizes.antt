@@ -1,4 +1,4 @@
--- How large a network may be.
+-- The size of a network.
 use Rattle.std.specs.Prelude.{◌≤◌, length}
 use Rattle.pb_lan.specs.declared.plan.Plan.{Plan}
 

@@ -1,4 +1,4 @@
--- The lines of answers.
+-- The lines of replies.
 use Rattle.std.specs.Prelude.{◌≡◌, ℕ, List, [], ◌∷◌, ◌++◌, Some, None, map, flat_map, unwrap_or, codes}
 use Rattle.std.specs.declared.option.Option.{Option}
 use Rattle.std.specs.Fmt.{decimal}
@@ -16,37 +16,37 @@ ok_line = codes "ok" ++ 10 ∷ []
 abbrev pub bad_line : List ℕ
 bad_line = codes "bad" ++ 10 ∷ []
 
--- the line of a customer port, and that of a bridge, by its name and two counts
+-- the line of a customer port, and that of a bridge, from its name and two counts
 abbrev pub port_line : List ℕ → ℕ × ℕ → List ℕ
 port_line name counts = codes "port " ++ name ++ codes " entered " ++ decimal counts.0 ++ codes " left " ++ decimal counts.1 ++ 10 ∷ []
 
 abbrev pub bridge_line : List ℕ → ℕ × ℕ → List ℕ
 bridge_line name counts = codes "bridge " ++ name ++ codes " refused " ++ decimal counts.0 ++ codes " ticks " ++ decimal counts.1 ++ 10 ∷ []
 
--- the word for a role and a space, where there is a role
+-- the name of a role and a space, if there is a role
 abbrev pub role_words : Option Role → List ℕ
 role_words None = []
 role_words (Some role) = role_word role ++ codes " "
 
--- the line of a bridge's port, of which this view was told, if one was
+-- the line of a bridge's port with this view, if it has one
 abbrev pub view_line : List ℕ → ℕ → Option PortView → List ℕ
 view_line name port None = []
 view_line name port (Some view) = codes "port " ++ name ++ 32 ∷ decimal port ++ 32 ∷ role_words view.role ++ state_word view.state ++ 10 ∷ []
 
--- the line of one of a bridge's ports, and those of all, by these views
+-- the line of one of a bridge's ports, and those of all, with these views
 abbrev pub line_among : List ℕ → List (Option PortView) → ℕ → List ℕ
 line_among name views port = view_line name port (unwrap_or (numbered views port) None)
 
 abbrev pub view_lines : List ℕ → List (Option PortView) → List ℕ
 view_lines name views = flat_map (line_among name views) local_ports
 
--- the lines of each of these names and numbers, by what was told of the number
+-- the lines of each of these names and numbers, with the values that were returned for the number
 abbrev pub AreLines : {A : Type 0} → (List ℕ → A → List ℕ) → (ℕ → A → Type 0) → List (List ℕ × ℕ) → List ℕ → Type 0
 AreLines line told [] text = text ≡ []
 AreLines {A} line told (thing ∷ things) text =
     (fact : A) × (others : List ℕ) × told thing.1 fact × (text ≡ line thing.0 fact ++ others) × AreLines line told things others
 
--- the same, by the octets of the names
+-- the lines of these names, in the order of the octets of the names
 pub record AreLinesByName {A : Type 0} (line : List ℕ → A → List ℕ) (told : ℕ → A → Type 0) (names : List (List ℕ)) (text : List ℕ) : Type 0 where
   pub things : List (List ℕ × ℕ)
   pub by_name : AreByName names things

@@ -1,4 +1,4 @@
-//! What a run shows and takes.
+//! The part of a run that its control socket reads and sets.
 
 ghost use Rattle.std.specs.Prelude.{ℕ, List};
 ghost use Rattle.std.specs.declared.option.Option.{Option};
@@ -8,46 +8,47 @@ ghost use Rattle.pb_threads.specs.declared.view.PortView.{PortView};
 
 use pb_threads::PortView;
 
-/// What a run shows and takes while it goes on. Workers and the control socket share it, so no call waits.
+/// The part of a run that its control socket reads and sets while the run goes on. Workers and the socket share it, and
+/// no call waits.
 ///
-/// The ghost members let contracts say which calls are made: one that is allowed, and no other; and which numbers were
-/// told. A board of which nothing of that kind is to be said leaves them out.
+/// The ghost members let contracts say which calls are made (an allowed one, and no other) and which values were
+/// returned. A board without such statements leaves them out.
 pub trait Board {
-    /// The board may be asked for this.
+    /// The socket may make this request of the board.
     ghost allows: { Self → Request → Type 0 } = { λ _ _. Unit {0} };
 
-    /// The board was asked for this.
+    /// The socket made this request of the board.
     ghost was_asked: { Self → Request → Type 0 } = { λ _ _. Unit {0} };
 
-    /// Of the customer port of this number, these two counts were told.
+    /// These two counts were returned for the customer port of this number.
     ghost told_port: { Self → ℕ → ℕ × ℕ → Type 0 } = { λ _ _ _. Unit {0} };
 
-    /// Of the bridge of this number, these two counts were told.
+    /// These two counts were returned for the bridge of this number.
     ghost told_bridge: { Self → ℕ → ℕ × ℕ → Type 0 } = { λ _ _ _. Unit {0} };
 
-    /// Of the ports of the bridge of this number, these views were told.
+    /// These views were returned for the ports of the bridge of this number.
     ghost told_views: { Self → ℕ → List (Option PortView) → Type 0 } = { λ _ _ _. Unit {0} };
 
-    /// The run is to end.
+    /// Ends the run.
     fn stop(&self)
         requires { allows self.now stops }
         ensures { was_asked self.now stops };
 
-    /// The bridge is to set its port up or down before its next turn.
+    /// Enables or disables the bridge's port before the bridge's next turn.
     fn set(&self, bridge: u8, port: u8, up: bool)
         requires { allows self.now (sets bridge port up) }
         ensures { was_asked self.now (sets bridge port up) };
 
-    /// How many frames entered at the customer port (from 1), and how many left there, so far.
+    /// Returns how many frames have entered at the customer port (from 1), and how many have left there.
     fn traffic(&self, port: u8) -> (u64, u64)
         ensures { told_port self.now port result };
 
-    /// How many copies and frames the bridge (from 1) had to refuse so far, and how often its clock ticked.
+    /// Returns how many copies and frames the bridge (from 1) had to refuse, and how often its clock ticked.
     fn bridge(&self, bridge: u8) -> (u64, u64)
         ensures { told_bridge self.now bridge result };
 
-    /// What the local ports 1 to 16 of the bridge (from 1) are like. None of a port that leads to no other bridge, and
-    /// of all before the bridge has begun.
+    /// Returns the views of the local ports 1 to 16 of the bridge (from 1). `None` for a port that leads to no other
+    /// bridge, and for all ports before the bridge has begun.
     fn views(&self, bridge: u8) -> [Option<PortView>; 16]
         ensures { told_views self.now bridge result };
 }

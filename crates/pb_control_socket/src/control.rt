@@ -16,13 +16,13 @@ use std::fs::Files;
 use std::net::Net;
 use std::{fs, io};
 
-/// The most steps of a turn, so that a peer that never stops sending can't keep the caller.
+/// The greatest number of steps of a turn. A peer that never stops sending can't keep the caller.
 const STEPS: u32 = 256;
 
-/// A Unix socket on which one peer at a time sends lines and gets answers.
+/// A Unix socket on which one peer at a time sends lines and gets replies.
 ///
-/// No call waits. At most one answer is held, which for the largest plan is less than 16 KiB, and of a peer that
-/// doesn't take it nothing more is read. A second peer waits until the first hangs up.
+/// No call waits. The socket holds at most one reply, which is less than 16 KiB for the largest plan, and reads nothing
+/// more from a peer that doesn't take it. A second peer waits until the first disconnects.
 #[derive(Drop)]
 pub struct Control {
     alloc: Global,
@@ -33,12 +33,15 @@ pub struct Control {
 }
 
 impl Control {
-    /// Makes the socket at a path, with mode 600. The system sets a mode only once a socket is there: it is set at once
-    /// then, and whoever connected in between is hung up on.
+    /// Opens the socket at a path, with mode 600. The system sets a mode only once a socket is there: the mode is set
+    /// at once then, and peers that connected in between are disconnected.
     ///
-    /// A file that stands there is replaced only where it is a socket on which nobody listens. Else the error is
-    /// `AddrInUse` where somebody does, or may, and `AlreadyExists` for any other file, a symbolic link among them; all
-    /// other errors are the system's. After an error no socket of ours is left.
+    /// A file at the path is replaced only if it is a socket on which nobody listens.
+    ///
+    /// # Errors
+    ///
+    /// `AddrInUse` if somebody listens on the socket at the path, or may. `AlreadyExists` if any other file is there, a
+    /// symbolic link among them. Any other error is the system's. No socket of ours remains after an error.
     pub fn open<R: Files + Net>(rt: &R, alloc: Global, path: &str) -> io::Result<Control>
         ensures { IfOk result (λ control. path_of control ≡ path.now) }
     {
@@ -53,7 +56,7 @@ impl Control {
         })
     }
 
-    /// Lets the next peer in, where one waits.
+    /// Accepts the next peer, if one waits.
     fn accept(&mut self) -> Progress
         ensures { path_of self.new ≡ path_of self.old }
     {
@@ -66,6 +69,7 @@ impl Control {
         }
     }
 
+    /// Takes one step: with the peer if there is one, else accepts the next.
     fn step<B: Board>(&mut self, plan: &Plan, board: &B) -> Progress
         requires few { IsFew plan.now }
         requires allowed { (request : Request) → is_there plan.now request ≡ true → B.allows board.now request }
@@ -77,9 +81,9 @@ impl Control {
         }
     }
 
-    /// Takes a turn, and says whether anything was done: lets a peer in where there is none, reads what it has sent,
-    /// answers its whole lines, and writes what it takes, until there is nothing to do or many steps were taken. A peer
-    /// that hangs up, or for which there is no memory, makes room for the next.
+    /// Takes a turn, and returns whether anything was done. It accepts a peer if there is none, reads what the peer has
+    /// sent, performs its whole lines, and writes the replies, until nothing is to do or 256 steps were taken. A peer
+    /// that disconnects, or for which an allocation failed, is dropped, and the next may connect.
     pub fn turn<B: Board>(&mut self, plan: &Plan, board: &B) -> bool
         requires few { IsFew plan.now }
         requires allowed { (request : Request) → is_there plan.now request ≡ true → B.allows board.now request }
@@ -97,7 +101,7 @@ impl Control {
         has_moved
     }
 
-    /// Closes the socket, and removes its file where it still stands at the path.
+    /// Closes the socket, and removes its file if it is still at the path.
     pub fn close<R: Files>(self, rt: &R) {
         let path = self.path.as_str();
         if self.node.is_some() && node_at(rt, path) == self.node {

@@ -1,4 +1,4 @@
-//! What went through a network so far.
+//! The reply to `counts`.
 
 ghost use Rattle.std.specs.Prelude.{◌≡◌, ◌++◌, List, ℕ, map, string_bytes, OnOk};
 ghost use Rattle.pb_control_socket.specs.Sizes.{IsFew};
@@ -10,7 +10,11 @@ use pb_lan::Plan;
 use pb_step_script::{bridges_by_name, ports_by_name};
 use std::alloc::Global;
 
-/// Puts the line of a customer port behind a text.
+/// Appends the line of a customer port.
+///
+/// # Errors
+///
+/// `Memory` if an allocation failed.
 fn put_port(out: &mut String, name: &str, counts: (u64, u64)) -> Result<(), Memory>
     ensures { OnOk result (string_bytes out.new ≡ string_bytes out.old ++ port_line name.now counts) }
 {
@@ -19,7 +23,11 @@ fn put_port(out: &mut String, name: &str, counts: (u64, u64)) -> Result<(), Memo
     Ok(())
 }
 
-/// Puts the line of a bridge behind a text.
+/// Appends the line of a bridge.
+///
+/// # Errors
+///
+/// `Memory` if an allocation failed.
 fn put_bridge(out: &mut String, name: &str, counts: (u64, u64)) -> Result<(), Memory>
     ensures { OnOk result (string_bytes out.new ≡ string_bytes out.old ++ bridge_line name.now counts) }
 {
@@ -28,7 +36,11 @@ fn put_bridge(out: &mut String, name: &str, counts: (u64, u64)) -> Result<(), Me
     Ok(())
 }
 
-/// Puts the lines of customer ports behind a text.
+/// Appends the lines of customer ports.
+///
+/// # Errors
+///
+/// `Memory` if an allocation failed.
 fn put_ports<B: Board>(board: &B, ports: &[(&str, u8)], out: &mut String) -> Result<(), Memory>
     ensures { OnOk result ((text : List ℕ) × (string_bytes out.new ≡ string_bytes out.old ++ text)
         × AreLines port_line (B.told_port board.now) (map (λ n. (n.0.now, n.1)) ports.now) text) }
@@ -40,7 +52,11 @@ fn put_ports<B: Board>(board: &B, ports: &[(&str, u8)], out: &mut String) -> Res
     Ok(())
 }
 
-/// Puts the lines of bridges behind a text.
+/// Appends the lines of bridges.
+///
+/// # Errors
+///
+/// `Memory` if an allocation failed.
 fn put_bridges<B: Board>(board: &B, bridges: &[(&str, u8)], out: &mut String) -> Result<(), Memory>
     ensures { OnOk result ((text : List ℕ) × (string_bytes out.new ≡ string_bytes out.old ++ text)
         × AreLines bridge_line (B.told_bridge board.now) (map (λ n. (n.0.now, n.1)) bridges.now) text) }
@@ -52,7 +68,11 @@ fn put_bridges<B: Board>(board: &B, bridges: &[(&str, u8)], out: &mut String) ->
     Ok(())
 }
 
-/// Puts the lines of all customer ports behind a text, by name.
+/// Appends the lines of all customer ports, in the order of their names.
+///
+/// # Errors
+///
+/// `Memory` if an allocation failed.
 fn put_all_ports<B: Board>(
     alloc: Global,
     plan: &Plan,
@@ -67,7 +87,11 @@ fn put_all_ports<B: Board>(
     put_ports(board, ports.as_slice(), out)
 }
 
-/// Puts the lines of all bridges behind a text, by name.
+/// Appends the lines of all bridges, in the order of their names.
+///
+/// # Errors
+///
+/// `Memory` if an allocation failed.
 fn put_all_bridges<B: Board>(
     alloc: Global,
     plan: &Plan,
@@ -82,7 +106,11 @@ fn put_all_bridges<B: Board>(
     put_bridges(board, bridges.as_slice(), out)
 }
 
-/// Puts the counts of all customer ports and of all bridges behind a text.
+/// Appends the counts of all customer ports and of all bridges.
+///
+/// # Errors
+///
+/// `Memory` if an allocation failed.
 pub(crate) fn put_counts<B: Board>(
     alloc: Global,
     plan: &Plan,

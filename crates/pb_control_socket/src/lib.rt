@@ -1,8 +1,8 @@
-//! The control socket of a run: what its lines ask for, and what is answered.
+//! The control socket of a run, over pb_lines, pb_step_script, pb_names and pb_threads. One peer at a time sends lines,
+//! and gets a reply to each.
 //!
-//! One peer at a time sends lines, and gets an answer to each. What a line asks for is a value ([`Request`]), which
-//! [`read_request`] reads; [`answer`] does it at a [`Board`], which a run shares with its socket, and tells the answer.
-//! [`Control`] is the socket itself.
+//! [`read_request`] reads the [`Request`] of a line. [`answer`] performs it at a [`Board`], which a run shares with its
+//! socket, and appends the reply. [`Control`] is the socket itself. Begin reading at [`answer`].
 #![tactic(auto)]
 
 mod board;

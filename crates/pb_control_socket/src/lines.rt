@@ -1,4 +1,4 @@
-//! Octets that come in pieces, and the lines in them.
+//! A buffer of octets that arrive in pieces, and the lines in them.
 
 ghost use Rattle.std.specs.Prelude.{◌≡◌, ◌+◌, ◌<◌, ◌≤◌, ◌^◌, ◌++◌, [], vec_len, IfOk, IfSome, IfNone, OnOk, OnErr};
 ghost use Rattle.pb_lines.specs.Lines.{HasNoLf};
@@ -8,19 +8,19 @@ use pb_lines::take_part;
 use std::alloc::Global;
 use std::mem;
 
-/// Octets that came in pieces, cut into lines at each LF.
+/// A buffer of octets that arrive in pieces, cut into lines at each LF.
 ///
-/// Of a line that has not ended it holds one octet more than its limit at most, which tells that the line is longer.
-/// Besides these it holds no more than was put since it last gave no line.
+/// It keeps at most one octet more than its limit of a line that has not ended. That octet shows that the line is too
+/// long. Besides these it holds no more than was put after the last call that returned no line.
 #[derive(Drop)]
 pub struct LineBuffer {
     alloc: Global,
     limit: usize,
     /// The line that has no end yet.
     line: Vec<u8>,
-    /// What came behind it.
+    /// The octets after it.
     waiting: Vec<u8>,
-    /// How much of that is done with.
+    /// The number of these octets that are used up.
     start: usize,
     ghost has_room: { limit < 4294967296 },
     ghost short: { vec_len line ≤ limit + 1 },
@@ -31,7 +31,7 @@ pub struct LineBuffer {
 impl LineBuffer {
     ghost use Rattle.pb_control_socket.specs.Lines.{held, limit_of, GivesLine, KeepsLine};
 
-    /// A buffer that holds nothing, and gives at most one octet more than `limit` octets of a line.
+    /// Returns an empty buffer, which returns at most `limit + 1` octets of a line.
     pub fn new(alloc: Global, limit: usize) -> LineBuffer
         requires { limit < 2 ^ 32 }
         ensures held { held result ≡ [] }
@@ -46,7 +46,11 @@ impl LineBuffer {
         }
     }
 
-    /// Puts octets behind those that it holds. `Memory` is answered where there was none; then nothing has changed.
+    /// Appends octets.
+    ///
+    /// # Errors
+    ///
+    /// `Memory` if an allocation failed. The buffer is unchanged then.
     pub fn put(&mut self, octets: &[u8]) -> Result<(), Memory>
         ensures ok { OnOk result (held self.new ≡ held self.old ++ octets.now) }
         ensures err { OnErr result (held self.new ≡ held self.old) }
@@ -56,8 +60,11 @@ impl LineBuffer {
         Ok(())
     }
 
-    /// Takes the first whole line, without its LF, and without what stands past one octet more than the limit; None
-    /// where no LF came yet. `Memory` is answered where there was none for the line; then nothing has changed.
+    /// Takes the first whole line, without its LF and cut after `limit + 1` octets. Returns `None` if no LF came yet.
+    ///
+    /// # Errors
+    ///
+    /// `Memory` if an allocation for the line failed. What the buffer holds is unchanged then.
     pub fn next_line(&mut self) -> Result<Option<Vec<u8>>, Memory>
         ensures some { IfOk result (λ found.
             IfSome found (λ line. GivesLine (limit_of self.old) (held self.old) line.items (held self.new))) }

@@ -7,14 +7,14 @@ use std::net::Net;
 use std::os::unix::fs::{FileTypeExt, MetadataExt, PermissionsExt};
 use std::{fs, io};
 
-/// Only the owner may connect.
+/// The mode of the socket: only the owner may connect.
 const MODE: u32 = 0o600;
 
-/// More than the peers that the system lets wait.
+/// A number greater than that of the peers that the system lets wait.
 const MOST_WAITING: u32 = 10_000;
 
-/// The device and the number of the file that stands at a path, itself and not what it leads to. None is answered where
-/// none stands there, or it can't be looked at.
+/// Returns the device and the number of the file at a path. A symbolic link is not followed. `None` if no file is
+/// there, or its metadata can't be read.
 pub fn node_at(rt: &impl Files, path: &str) -> Option<(u64, u64)> {
     match fs::symlink_metadata(rt, path) {
         Ok(metadata) => Some((metadata.dev(), metadata.ino())),
@@ -22,7 +22,7 @@ pub fn node_at(rt: &impl Files, path: &str) -> Option<(u64, u64)> {
     }
 }
 
-/// Whether nobody listens on the socket at a path.
+/// Checks whether nobody listens on the socket at a path.
 fn is_forsaken(net: &impl Net, path: &str) -> bool {
     match UnixStream::connect(net, path) {
         Ok(_) => false,
@@ -31,6 +31,11 @@ fn is_forsaken(net: &impl Net, path: &str) -> bool {
 }
 
 /// Removes a socket on which nobody listens, and no other file.
+///
+/// # Errors
+///
+/// `AlreadyExists` if the file is no socket, `AddrInUse` if somebody listens on it or may. Any other error is the
+/// system's.
 fn make_room<R: Files + Net>(rt: &R, path: &str) -> io::Result<()> {
     let metadata = fs::symlink_metadata(rt, path)?;
     if !metadata.file_type().is_socket() {
@@ -42,7 +47,11 @@ fn make_room<R: Files + Net>(rt: &R, path: &str) -> io::Result<()> {
     fs::remove_file(rt, path)
 }
 
-/// Makes the socket, in place of one on which nobody listens.
+/// Binds a listener to the path, in place of a socket on which nobody listens.
+///
+/// # Errors
+///
+/// Those of [`make_room`], or the system's.
 fn bind<R: Files + Net>(rt: &R, path: &str) -> io::Result<UnixListener> {
     match UnixListener::bind(rt, path) {
         Ok(listener) => Ok(listener),
@@ -54,7 +63,7 @@ fn bind<R: Files + Net>(rt: &R, path: &str) -> io::Result<UnixListener> {
     }
 }
 
-/// Hangs up on all who have connected so far.
+/// Disconnects all peers that have connected so far.
 fn turn_away(listener: &UnixListener) {
     for _ in 0..MOST_WAITING {
         match listener.accept() {
@@ -64,12 +73,15 @@ fn turn_away(listener: &UnixListener) {
     }
 }
 
-/// Makes a Unix socket at a path, to which only its owner may connect, and of which no call waits. The system sets a
-/// mode once the socket is there, so those are turned away who connected before.
+/// Opens a Unix socket at a path, to which only its owner may connect. No call of it waits. The system sets a mode once
+/// the socket is there: peers that connected before are disconnected.
 ///
-/// A file that stands there is replaced only where it is a socket on which nobody listens. Else the error is
-/// `AddrInUse` where somebody does, or may, and `AlreadyExists` for any other file, a symbolic link among them; all
-/// other errors are the system's. After an error no socket of ours is left.
+/// A file at the path is replaced only if it is a socket on which nobody listens.
+///
+/// # Errors
+///
+/// `AddrInUse` if somebody listens on the socket at the path, or may. `AlreadyExists` if any other file is there, a
+/// symbolic link among them. Any other error is the system's. No socket of ours remains after an error.
 pub fn listen<R: Files + Net>(rt: &R, path: &str) -> io::Result<UnixListener> {
     let listener = bind(rt, path)?;
     match fs::set_permissions(rt, path, Permissions::from_mode(MODE)) {

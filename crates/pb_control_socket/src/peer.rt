@@ -13,10 +13,10 @@ use pb_lan::Plan;
 use std::alloc::Global;
 use std::io::{Error, ErrorKind, Read, Write};
 
-/// The most octets of a line, but for one that tells of more.
+/// The greatest number of octets of a line, except for one that shows that it is too long.
 const LONGEST: usize = 256;
 
-/// How many octets are read at a time.
+/// The number of octets that are read at a time.
 const CHUNK: usize = 512;
 
 /// The progress that one call made with a peer.
@@ -24,13 +24,13 @@ const CHUNK: usize = 512;
 pub(crate) enum Progress {
     /// Something was done.
     Moved,
-    /// There was nothing to do.
+    /// Nothing was to do.
     Idle,
-    /// The peer has hung up, or is to be hung up on.
+    /// The peer has disconnected, or has to be disconnected.
     Gone,
 }
 
-/// Returns the progress of a call of a stream that failed.
+/// Returns the progress of a stream's call that failed.
 fn progress_of(error: &Error) -> Progress {
     match error.kind() {
         ErrorKind::Interrupted | ErrorKind::WouldBlock => Progress::Idle,
@@ -38,9 +38,9 @@ fn progress_of(error: &Error) -> Progress {
     }
 }
 
-/// A peer, what it has sent, and the answer that it is to get.
+/// A peer, the lines that it has sent, and the reply that it is to get.
 ///
-/// One answer at a time is held. While it waits no line is looked at, and while a line waits nothing is read.
+/// One reply at a time is held. While it waits no line is taken, and while a line waits nothing is read.
 #[derive(Drop)]
 pub(crate) struct Peer<S> {
     stream: S,
@@ -51,7 +51,7 @@ pub(crate) struct Peer<S> {
 }
 
 impl<S: Read + Write> Peer<S> {
-    /// A peer that has sent nothing yet.
+    /// Returns a peer that has sent nothing yet.
     pub(crate) fn new(alloc: Global, stream: S) -> Peer<S> {
         Peer {
             stream,
@@ -61,7 +61,7 @@ impl<S: Read + Write> Peer<S> {
         }
     }
 
-    /// Writes what it takes of the answer.
+    /// Writes as much of the reply as the peer takes.
     fn write_on(&mut self) -> Progress {
         match self.stream.write(&self.answer.as_bytes()[self.sent..]) {
             Ok(0) => Progress::Gone,
@@ -73,7 +73,7 @@ impl<S: Read + Write> Peer<S> {
         }
     }
 
-    /// Reads what it has sent.
+    /// Reads what the peer has sent.
     fn read_on(&mut self) -> Progress {
         let mut octets = [0u8; CHUNK];
         match self.stream.read(&mut octets) {
@@ -86,7 +86,7 @@ impl<S: Read + Write> Peer<S> {
         }
     }
 
-    /// Makes the answer to a line.
+    /// Performs a line, and makes its reply.
     fn answer<B: Board>(&mut self, alloc: Global, plan: &Plan, board: &B, line: &[u8]) -> Progress
         requires few { IsFew plan.now }
         requires allowed { (request : Request) → is_there plan.now request ≡ true → B.allows board.now request }
@@ -99,7 +99,7 @@ impl<S: Read + Write> Peer<S> {
         }
     }
 
-    /// Writes on; where all was written answers the next line; where there is none reads on.
+    /// Takes one step: writes the reply if some of it remains, else performs the next line if there is one, else reads.
     pub(crate) fn step<B: Board>(&mut self, alloc: Global, plan: &Plan, board: &B) -> Progress
         requires few { IsFew plan.now }
         requires allowed { (request : Request) → is_there plan.now request ≡ true → B.allows board.now request }

@@ -8,7 +8,7 @@ ghost use Rattle.pb_step_script.specs.Named.{bridge_named};
 use pb_lan::Plan;
 use pb_names::{customer_at, link_at};
 
-/// The number of the bridge of a name, or 0 where the plan has none.
+/// Returns the number of the bridge with this name, or 0 if the plan has none.
 pub(crate) fn bridge_named(plan: &Plan, name: &[u8]) -> u8
     requires { IsFew plan.now }
     ensures { result ≡ bridge_named plan.now name.now }
@@ -21,7 +21,7 @@ pub(crate) fn bridge_named(plan: &Plan, name: &[u8]) -> u8
     0
 }
 
-/// Whether a bridge's port leads to another bridge.
+/// Checks whether a bridge's port leads to another bridge.
 pub(crate) fn leads_on(plan: &Plan, bridge: u8, port: u8) -> bool
     ensures { result ≡ is_provider (port_at plan.now bridge port) }
 {

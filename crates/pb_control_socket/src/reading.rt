@@ -1,4 +1,4 @@
-//! Reads what a line asks for.
+//! Reads the request of a line.
 
 ghost use Rattle.std.specs.Prelude.{◌≡◌, ◌≢◌, ℕ, Bool, IfSome, IfNone, codes};
 ghost use Rattle.pb_control_socket.specs.Sizes.{IsFew};
@@ -11,7 +11,8 @@ use crate::request::{Refused, Request};
 use pb_lan::{Plan, is_name};
 use pb_messages::{cut, local_port, read_port};
 
-/// The bridge and its local port, of the words `BRIDGE PORT`. What the plan lacks is 0.
+/// Returns the bridge and its local port from the arguments `BRIDGE PORT`. Each is 0 if the plan or the bridge lacks
+/// it. `None` if the arguments do not read so.
 fn read_bridge_port(plan: &Plan, words: &[u8]) -> Option<(u8, u8)>
     requires { IsFew plan.now }
     ensures some { IfSome result (λ at. IsBridgePort plan.now words.now at.0 at.1) }
@@ -25,7 +26,7 @@ fn read_bridge_port(plan: &Plan, words: &[u8]) -> Option<(u8, u8)>
     Some((bridge_named(plan, name), local_port(number)))
 }
 
-/// Whether a port is set up, of the word `up` or `down`.
+/// Returns whether a port is to be enabled, from the argument `up` or `down`.
 fn read_way(word: &[u8]) -> Option<bool>
     ensures some { IfSome result (λ up. word.now ≡ way_word up) }
     ensures none { IfNone result ((up : Bool) → word.now ≡ way_word up → ⊥) }
@@ -37,7 +38,7 @@ fn read_way(word: &[u8]) -> Option<bool>
     }
 }
 
-/// What a port is to be set to: its bridge, its number and whether it goes up.
+/// The setting of a port: its bridge, its number, and whether it is to be enabled.
 #[derive(Clone, Copy)]
 struct Setting {
     bridge: u8,
@@ -45,7 +46,7 @@ struct Setting {
     up: bool,
 }
 
-/// The setting that a line asks for.
+/// Returns the setting that a line requests.
 fn read_setting(plan: &Plan, line: &[u8]) -> Option<Setting>
     requires { IsFew plan.now }
     ensures some { IfSome result (λ s. AsksToSet plan.now line.now s.bridge s.port s.up) }
@@ -57,7 +58,7 @@ fn read_setting(plan: &Plan, line: &[u8]) -> Option<Setting>
     Some(Setting { bridge, port, up })
 }
 
-/// The request that is a single word.
+/// Returns the request that is a single argument: `stop`, `counts` or `tree`.
 fn read_word(line: &[u8]) -> Option<Request>
     ensures some { IfSome result (λ request. (plan : Plan) → Reads plan line.now (Ok request)) }
     ensures none { IfNone result ((line.now ≢ codes "stop") × (line.now ≢ codes "counts") × (line.now ≢ codes "tree")) }
@@ -70,7 +71,11 @@ fn read_word(line: &[u8]) -> Option<Request>
     }
 }
 
-/// The request to set a port.
+/// Returns the request to set a port.
+///
+/// # Errors
+///
+/// `NoSuch` if the plan has no such bridge, or its port leads to no other bridge. `Bad` if the line does not read so.
 fn read_set(plan: &Plan, line: &[u8]) -> Result<Request, Refused>
     requires { IsFew plan.now }
     ensures read { result ≢ Err Refused.Bad → Reads plan.now line.now result }
@@ -87,12 +92,14 @@ fn read_set(plan: &Plan, line: &[u8]) -> Result<Request, Refused>
     }
 }
 
-/// What a line asks for, which is one of the lines `stop`, `counts`, `tree`, `up BRIDGE PORT` and `down BRIDGE PORT`,
-/// without its LF. BRIDGE is the name of a bridge, PORT one to three digits, the first not 0, and one space stands
-/// between the words. No such line has more than 41 octets, so of a longer one only the first 42 matter.
+/// Reads the request of a line: one of `stop`, `counts`, `tree`, `up BRIDGE PORT` and `down BRIDGE PORT`, without its
+/// LF. BRIDGE is the name of a bridge, PORT is one to three digits, the first not 0, and one space is between two
+/// arguments. No such line has more than 41 octets: of a longer one only the first 42 matter.
 ///
-/// `NoSuch` is answered where a line reads so and the plan lacks its bridge, or its port is none that leads to another
-/// bridge; `Bad` where no line reads so. A carriage return is no part of a word, and makes the line `Bad`.
+/// # Errors
+///
+/// `NoSuch` if a line reads so but the plan has no such bridge, or its port leads to no other bridge. `Bad` if the line
+/// does not read so. A carriage return is part of no argument, and makes the line `Bad`.
 pub fn read_request(plan: &Plan, line: &[u8]) -> Result<Request, Refused>
     requires { IsFew plan.now }
     ensures { Reads plan.now line.now result }

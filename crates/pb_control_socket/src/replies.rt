@@ -1,4 +1,4 @@
-//! Answers lines.
+//! Performs lines and makes their replies.
 
 ghost use Rattle.std.specs.Prelude.{◌≡◌, ◌++◌, List, ℕ, true, string_bytes, OnOk};
 ghost use Rattle.pb_control_socket.specs.Sizes.{IsFew};
@@ -17,7 +17,11 @@ use pb_lan::Plan;
 use pb_step_script::put_no_such;
 use std::alloc::Global;
 
-/// Puts `ok` behind a text.
+/// Appends the line `ok`.
+///
+/// # Errors
+///
+/// `Memory` if an allocation failed.
 fn put_ok(out: &mut String) -> Result<(), Memory>
     ensures { OnOk result (string_bytes out.new ≡ string_bytes out.old ++ ok_line) }
 {
@@ -25,7 +29,11 @@ fn put_ok(out: &mut String) -> Result<(), Memory>
     Ok(())
 }
 
-/// Puts `bad` behind a text.
+/// Appends the line `bad`.
+///
+/// # Errors
+///
+/// `Memory` if an allocation failed.
 fn put_bad(out: &mut String) -> Result<(), Memory>
     ensures { OnOk result (string_bytes out.new ≡ string_bytes out.old ++ bad_line) }
 {
@@ -33,7 +41,11 @@ fn put_bad(out: &mut String) -> Result<(), Memory>
     Ok(())
 }
 
-/// Puts what a request wants to be told behind a text.
+/// Appends the lines that a request wants before `ok`.
+///
+/// # Errors
+///
+/// `Memory` if an allocation failed.
 fn put_told<B: Board>(
     alloc: Global,
     plan: &Plan,
@@ -52,7 +64,7 @@ fn put_told<B: Board>(
     }
 }
 
-/// Does what a request asks for.
+/// Performs a request at the board, if it changes the run.
 fn perform<B: Board>(board: &B, request: Request)
     requires { B.allows board.now request }
     ensures { IsDone (B.was_asked board.now) request }
@@ -64,17 +76,18 @@ fn perform<B: Board>(board: &B, request: Request)
     }
 }
 
-/// Answers one line, which stands without its LF and may be cut behind 256 octets: does what it asks for at the board,
-/// and puts the answer behind a text.
+/// Performs one line, without its LF, at the board, and appends the reply. A line of more than 256 octets may be cut.
 ///
-/// An answer is lines, the last of which is `ok`, `no such` or `bad`, as [`read_request`] says. Before `ok` stand, for
-/// `counts`, a line `port NAME entered N left N` for each customer port and a line `bridge NAME refused N ticks N` for
-/// each bridge, both by the octets of the names, and for `tree` a line `port BRIDGE N ROLE STATE` for each port to
-/// another bridge, by the octets of the bridges' names and by number, without the role where the plan gives the states.
-/// Nothing is done but what the line asks for.
+/// A reply is lines, the last of which is `ok`, `no such` or `bad`, as [`read_request`] decides. Before `ok`, the reply
+/// to `counts` has a line `port NAME entered N left N` for each customer port and a line `bridge NAME refused N ticks
+/// N` for each bridge, both by the octets of the names. The reply to `tree` has a line `port BRIDGE N ROLE STATE` for
+/// each port to another bridge, by the octets of the bridges' names and by number, without the role if the plan gives
+/// the states. Nothing is done except what the line requests.
 ///
-/// `Memory` is answered where there was none for the answer. Then the board was not asked to do anything, and a part of
-/// the answer may stand behind the text.
+/// # Errors
+///
+/// `Memory` if an allocation for the reply failed. The request was not performed then, and a part of the reply may be
+/// at the end of the text.
 pub fn answer<B: Board>(
     alloc: Global,
     plan: &Plan,

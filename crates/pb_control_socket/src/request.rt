@@ -1,34 +1,34 @@
-//! What a line of the control socket asks for.
+//! The request of a line of the control socket.
 
 use thiserror::Error;
 
-/// What a line asks for.
+/// The request of a line.
 #[derive(Clone, Copy, Debug, PartialEq, Eq)]
 pub enum Request {
-    /// `stop`: the run is to end.
+    /// `stop`: end the run.
     Stop,
-    /// `counts`: what went through the customer ports so far, and what the bridges had to refuse.
+    /// `counts`: the frames that entered and left at the customer ports, and those that bridges refused.
     Counts,
     /// `tree`: the roles and states of the ports between bridges.
     Tree,
-    /// `up BRIDGE PORT` or `down BRIDGE PORT`: a port to another bridge is to be set up or down.
+    /// `up BRIDGE PORT` or `down BRIDGE PORT`: enable or disable a port to another bridge.
     Set {
         /// The number of the bridge, from 1.
         bridge: u8,
         /// The number of its local port.
         port: u8,
-        /// Up, or down.
+        /// Whether the port is to be enabled.
         up: bool,
     },
 }
 
-/// Why nothing is done for a line.
+/// The reason why nothing is done for a line.
 #[derive(Clone, Copy, Debug, PartialEq, Eq, Error)]
 pub enum Refused {
-    /// The plan lacks the bridge, or the bridge has no port of that number that leads to another bridge.
+    /// The plan has no such bridge, or the bridge has no port of that number that leads to another bridge.
     #[error("no such")]
     NoSuch,
-    /// No request reads so.
+    /// The line is no request.
     #[error("bad")]
     Bad,
 }

@@ -1,4 +1,4 @@
-//! What the ports between bridges are like.
+//! The reply to `tree`.
 
 ghost use Rattle.std.specs.Prelude.{◌≡◌, ◌++◌, List, ℕ, None, map, flat_map, unwrap_or, string_bytes, OnOk};
 ghost use Rattle.pb_control_socket.specs.Sizes.{IsFew};
@@ -17,7 +17,11 @@ use std::alloc::Global;
 /// The numbers of a bridge's local ports.
 const PORTS: &[u8] = &[1, 2, 3, 4, 5, 6, 7, 8, 9, 10, 11, 12, 13, 14, 15, 16];
 
-/// Puts the word for a role and a space behind a text, where there is a role.
+/// Appends the name of a role and a space, if there is a role.
+///
+/// # Errors
+///
+/// `Memory` if an allocation failed.
 fn put_role(out: &mut String, role: Option<Role>) -> Result<(), Memory>
     ensures { OnOk result (string_bytes out.new ≡ string_bytes out.old ++ role_words role) }
 {
@@ -28,7 +32,11 @@ fn put_role(out: &mut String, role: Option<Role>) -> Result<(), Memory>
     Ok(())
 }
 
-/// Puts the line of a bridge's port behind a text, where a view is told.
+/// Appends the line of a bridge's port, if it has a view.
+///
+/// # Errors
+///
+/// `Memory` if an allocation failed.
 fn put_view(out: &mut String, name: &str, port: u8, view: Option<PortView>) -> Result<(), Memory>
     ensures { OnOk result (string_bytes out.new ≡ string_bytes out.old ++ view_line name.now port view) }
 {
@@ -42,7 +50,7 @@ fn put_view(out: &mut String, name: &str, port: u8, view: Option<PortView>) -> R
     Ok(())
 }
 
-/// The view of the port of this number, from 1.
+/// Returns the view of the port of this number, from 1.
 fn view_at(views: &[Option<PortView>], port: u8) -> Option<PortView>
     ensures { result ≡ unwrap_or (numbered views.now port) None }
 {
@@ -55,7 +63,11 @@ fn view_at(views: &[Option<PortView>], port: u8) -> Option<PortView>
     }
 }
 
-/// Puts the lines of these ports of a bridge behind a text.
+/// Appends the lines of these ports of a bridge.
+///
+/// # Errors
+///
+/// `Memory` if an allocation failed.
 fn put_views(
     out: &mut String,
     name: &str,
@@ -71,14 +83,22 @@ fn put_views(
     Ok(())
 }
 
-/// Puts the lines of all ports of a bridge behind a text.
+/// Appends the lines of all ports of a bridge.
+///
+/// # Errors
+///
+/// `Memory` if an allocation failed.
 fn put_bridge(out: &mut String, name: &str, views: &[Option<PortView>]) -> Result<(), Memory>
     ensures { OnOk result (string_bytes out.new ≡ string_bytes out.old ++ view_lines name.now views.now) }
 {
     put_views(out, name, views, PORTS)
 }
 
-/// Puts the lines of the ports of bridges behind a text.
+/// Appends the lines of the ports of bridges.
+///
+/// # Errors
+///
+/// `Memory` if an allocation failed.
 fn put_bridges<B: Board>(board: &B, bridges: &[(&str, u8)], out: &mut String) -> Result<(), Memory>
     ensures { OnOk result ((text : List ℕ) × (string_bytes out.new ≡ string_bytes out.old ++ text)
         × AreLines view_lines (B.told_views board.now) (map (λ n. (n.0.now, n.1)) bridges.now) text) }
@@ -90,7 +110,11 @@ fn put_bridges<B: Board>(board: &B, bridges: &[(&str, u8)], out: &mut String) ->
     Ok(())
 }
 
-/// Puts the lines of all ports between bridges behind a text, by the names of the bridges.
+/// Appends the lines of all ports between bridges, by the names of the bridges.
+///
+/// # Errors
+///
+/// `Memory` if an allocation failed.
 pub(crate) fn put_tree<B: Board>(
     alloc: Global,
     plan: &Plan,

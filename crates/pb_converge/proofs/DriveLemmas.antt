@@ -1,4 +1,4 @@
--- Events that were done one after the other.
+-- Events that were performed one after the other.
 use Rattle.std.proofs.Common.{◌≡◌, ◌≤◌, ◌+◌, ◌-◌, ℕ, Bool, true, List, [], ◌∷◌, ◌++◌, length, Ok, Err, refl, ap}
 use Rattle.std.proofs.Common.{subst, ◌∙◌, arith, length-append}
 use Rattle.pb_frame.proofs.Lists.{All-append, All-imply}
@@ -16,19 +16,19 @@ use Rattle.pb_converge.specs.Drives.{is_onward, is_onward_or_tick, HaveDone, Hav
 use Rattle.pb_converge.specs.declared.fault.DriveFault.{DriveFault}
 use Rattle.pb_converge.specs.declared.fault.DriveFault.TheVariants.{Events}
 
--- some, and then others
+-- two runs of events in a row are one
 pub done-append : (old mid new : NetView) (front back : List Event) → HaveDone old front mid → HaveDone mid back new
     → HaveDone old (front ++ back) new
 done-append old mid new [] back e h = subst (λ v. HaveDone v back new) e h
 done-append old mid new (event ∷ front) back (between, answer, rest) h =
     (between, answer, done-append between mid new front back rest h)
 
--- one event was done
+-- a single event that was performed
 pub done-one : (old new : NetView) (event : Event) (place : Place) → IsAnswer old event (Ok (Done place)) new
     → HaveDone old (event ∷ []) new
 done-one old new event place h = (new, subst (λ p. IsAnswer old event (Ok (Done p)) new) h.1 h, refl)
 
--- the plan stays
+-- events leave the plan unchanged
 pub done-plan : (old new : NetView) (events : List Event) → HaveDone old events new → new.plan ≡ old.plan
 done-plan old new [] e = ap (λ v. v.plan) e
 done-plan old new (event ∷ events) (between, answer, rest) = done-plan between new events rest ∙ answer.2
@@ -41,7 +41,7 @@ answer-plan old new event (Err Memory) h = ap (λ v. v.plan) h.1
 answer-plan old new event (Ok Idle) h = ap (λ v. v.plan) h.2
 answer-plan old new event (Ok (Done place)) h = h.2
 
--- nothing was done
+-- no event leaves the network unchanged
 done-nothing : (old new : NetView) (events : List Event) → length events ≡ 0 → HaveDone old events new → new ≡ old
 done-nothing old new [] n e = e
 done-nothing old new (event ∷ events) n h = absurd (omega (arith, n))
@@ -87,7 +87,7 @@ stopped-later most a fault old mid new g within s = record {
   within = λ other. omega (arith, s.within other, within);
 }
 
--- with ticks
+-- an event that carries on what is on its way is one of the wider kind with ticks
 is_wider : (event : Event) → is_onward event ≡ true → is_onward_or_tick event ≡ true
 is_wider (Poll port frame) h = h
 is_wider (Feed port) h = refl

@@ -1,4 +1,4 @@
--- Ends of links that words name.
+-- The ends of links that texts name.
 use Rattle.std.proofs.Common.{◌≡◌, ◌<◌, ◌⊎◌, ◌+◌, ◌↔◌, IsTrue, nat_eq, ℕ, suc, Bool, true, false, List, [], ◌∷◌, ◌++◌}
 use Rattle.std.proofs.Common.{take, length, slice_get, get_or, Some, string_bytes, refl, sym, ap, subst, ◌∙◌}
 use Rattle.std.proofs.lemmas.List.{take_more}
@@ -20,7 +20,7 @@ use Rattle.pb_converge.specs.Drives.{HaveDone}
 use Rattle.pb_converge.specs.Falls.{end_words}
 use Rattle.pb_converge.specs.Falls.{Names, NamesNone, LacksEnd, AreFalls, fresh}
 
--- an end of the link at this index
+-- the text names an end of the link at this index
 pub named_at : (plan : Plan) (words : List ℕ) (items : List LinkPlan) (r : ℕ) (link : LinkPlan) (e : End)
     → items ≡ plan.links → r < length items → link ≡ get_or items r link
     → (link.a ≡ e) ⊎ (link.b ≡ e) → words ≡ end_words plan e → Names plan words e
@@ -32,7 +32,7 @@ named_at plan words items r link e all within is which told = record {
   words_are = told;
 }
 
--- a port to another bridge stands there
+-- a port to another bridge is at the named end
 pub provider_at : (plan : Plan) → IsSound plan → (words : List ℕ) (e : End) (events : List Event) (net : NetView)
     → Names plan words e → HaveDone (fresh plan) events net
     → is_provider (port_at net.plan e.bridge e.port) ≡ true
@@ -40,7 +40,7 @@ provider_at plan sound words e events net names done =
     subst (λ p. is_provider (port_at p e.bridge e.port) ≡ true) (sym (done-plan (fresh plan) net events done))
     (ap is_provider (port_at-end plan sound names.number names.link e names.there names.end))
 
--- one end more
+-- one more end was disabled
 falls-more : (plan : Plan) (ws : List (String Global)) (es : List Event) (w : String Global) (e : End)
     → AreFalls plan ws es → Names plan (string_bytes w) e
     → AreFalls plan (ws ++ w ∷ []) (es ++ Admin e.bridge e.port false ∷ [])
@@ -62,13 +62,13 @@ fallen_more plan words k w e events mid new within is are done names one = (
   done-append (fresh plan) mid new events (Admin e.bridge e.port false ∷ []) done one,
 )
 
--- these words name none
+-- the text at this index names no end
 pub lacks_at : (plan : Plan) (words : List (String Global)) (k : ℕ) (w : String Global) (text : List ℕ)
     → k < length words → w ≡ get_or words k w → text ≡ string_bytes w → NamesNone plan text → LacksEnd plan words k
 lacks_at plan words k w text within is t none =
     record { w = w; there = here_is words k w within is; none = subst (λ z. NamesNone plan z) t none }
 
--- what a test of two texts tells
+-- what the comparison of two texts shows
 pub text_tells : (xs ys : List ℕ) (r : Bool) → r ≡ pointwise nat_eq xs ys → IsTrue r ↔ (xs ≡ ys)
 text_tells xs ys true e = (λ t. same_text xs ys e, λ same. refl)
 text_tells xs ys false e = (λ t. let f : false ≡ true = t in cc, λ same. absurd (other_text xs ys e same))

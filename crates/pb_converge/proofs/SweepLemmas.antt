@@ -1,4 +1,4 @@
--- What sweeps have tried.
+-- The events that sweeps have tried.
 use Rattle.std.proofs.Common.{◌≡◌, ◌+◌, ◌*◌, ◌⊎◌, inl, inr, ℕ, true, length, Ok, refl}
 use Rattle.std.proofs.Common.{sym, subst, arith}
 use Rattle.std.proofs.lemmas.Bool.{cases_eq}
@@ -17,7 +17,7 @@ use Rattle.pb_converge.proofs.DriveLemmas.{gone-none, gone-nothing, gone-one, go
 use Rattle.pb_converge.specs.Drives.{is_onward, HaveGone, IsNotDue, HasDrained}
 use Rattle.pb_converge.specs.Sweeps.{HaveTried, IsThis, IsAtOneOf, IsAnywhere}
 
--- one event was tried
+-- an event that was tried and is not due
 still : (event : Event) (old new : NetView) → new ≡ old → IsNotDue old event → HaveTried (IsThis event) 0 old new
 still event old new e not = record {
   gone = gone-none is_onward old new e;
@@ -29,7 +29,7 @@ pub tried-done : (event : Event) (place : Place) (old new : NetView) → is_onwa
 tried-done event place old new is h =
     record { gone = gone-one is_onward old new event place is h; none_due = λ z. absurd (omega (arith, z)) }
 
--- some were tried, and then others
+-- two groups of tried events in a row are one
 pub tried-join : (some others all : Event → Type 0) (a b : ℕ) (old mid new : NetView)
     → ((event : Event) → all event → some event ⊎ others event)
     → HaveTried some a old mid → HaveTried others b mid new → HaveTried all (a + b) old new
@@ -60,7 +60,7 @@ pub tried-more : (at : ℕ → Event → Type 0) (k a b : ℕ) (old mid new : Ne
 tried-more at k a b old mid new f s = tried-join (IsAtOneOf at k) (at (k + 1)) (IsAtOneOf at (k + 1)) a b old mid new
     (one_of_more at k) f s
 
--- a sweep tries every event by which what is under way goes on
+-- a sweep tries every event that carries on what is on its way
 pub anywhere : (plan : Plan) → IsSound plan → (event : Event) → is_onward event ≡ true
     → names_something plan event ≡ true → IsAnywhere plan event
 anywhere plan sound (Poll port frame) is named = cc
@@ -83,7 +83,7 @@ anywhere plan sound (Admin bridge port up) is named = cc
 anywhere plan sound (Take lane) is named = inr (inr (lane, known_lane lane (2 * length plan.links) named, inl refl))
 anywhere plan sound (Put lane) is named = inr (inr (lane, known_lane lane (2 * length plan.links) named, inr refl))
 
--- the sweep that finds nothing is the last one
+-- after a sweep that performs nothing the network has drained
 pub drained : (plan : Plan) (done more : ℕ) (old mid new : NetView) → IsSound plan → new.plan ≡ plan
     → HaveGone is_onward done old mid → HaveTried (IsAnywhere plan) more mid new → more ≡ 0
     → HasDrained done old new

@@ -35,7 +35,7 @@ ticks_from n (x ∷ xs) =
     ∙ ap (λ z. z ++ map (λ k. Tick k) (numbers_from ((n + 1) + 1) xs)) (ticks_to-more n)
     ∙ append_assoc (ticks_to n) (Tick (n + 1) ∷ []) (map (λ k. Tick k) (numbers_from ((n + 1) + 1) xs))
 
--- those of all
+-- the ticks of all bridges
 pub ticks_to-all : {X : Type 0} (xs : List X) → ticks_to (length xs) ≡ map (λ k. Tick k) (numbers_from 1 xs)
 ticks_to-all xs =
     let e : 0 + length xs ≡ length xs = omega arith in
@@ -59,7 +59,7 @@ driven-ticks n old new h =
       };
     }
 
--- one bridge more has ticked
+-- one more bridge has ticked
 pub ticked-more : (n : ℕ) (old mid new : NetView) → HaveDone old (ticks_to n) mid
     → HaveDone mid (Tick (n + 1) ∷ []) new → HaveDone old (ticks_to (n + 1)) new
 ticked-more n old mid new h one = subst (λ es. HaveDone old es new) (sym (ticks_to-more n))
@@ -79,7 +79,7 @@ bridge_is xs k count e h = let n : suc k ≡ k + 1 = omega arith in subst (λ m.
     there (x ∷ xs) zero h = refl
     there (x ∷ xs) (suc k) h = there xs k (omega (arith, h))
 
--- after the last one
+-- after the tick of the last bridge each has ticked once
 pub has_ticked : (n : ℕ) (old new : NetView) → n ≡ length old.plan.bridges → HaveDone old (ticks_to n) new
     → HasTicked old new
 has_ticked n old new e h = subst (λ es. HaveDone old es new) (ap ticks_to e ∙ ticks_to-all old.plan.bridges) h
@@ -92,19 +92,19 @@ pub driven-round : (count : ℕ) (old new : NetView) → IsRound count old new �
 driven-round count old new r = driven-append old r.ticked new (driven-ticked old r.ticked r.ticks)
     (driven-gone count r.ticked new r.drained.gone)
 
--- driving ended behind the ticks
+-- an error after the ticks of a round
 pub driven-stopped : (most : ℕ) (fault : DriveFault) (old mid new : NetView) → HasTicked old mid
     → HasStopped most fault mid new → HasBeenDriven old new
 driven-stopped most fault old mid new t s = driven-append old mid new (driven-ticked old mid t)
     (driven-gone s.count mid new s.gone)
 
--- what holds of each error
+-- what every error implies
 pub on_error : {A E : Type 0} {P : E → Type 0} {Q : Type 0} (r : Result A E) → ((e : E) → P e → Q) → IfErr r P
     → IfErr r (λ _. Q)
 on_error (Ok x) f h = h
 on_error (Err e) f h = f e h
 
--- rounds
+-- one more round
 pub rounds-more : (ticks a b : ℕ) (old mid new : NetView) → AreRounds ticks a old mid → IsRound b mid new
     → AreRounds (ticks + 1) (a + b) old new
 rounds-more ticks a b old mid new rs r = let e : suc ticks ≡ ticks + 1 =

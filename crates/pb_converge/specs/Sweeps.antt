@@ -1,4 +1,4 @@
--- What a sweep over the places of a network has tried.
+-- The events that a sweep over the places of a network has tried.
 use Rattle.std.specs.Prelude.{◌≡◌, ◌*◌, ◌⊎◌, ℕ, length}
 use Rattle.pb_lan.specs.Plans.{IsNumber}
 use Rattle.pb_lan.specs.declared.event.Event.{Event}
@@ -7,7 +7,7 @@ use Rattle.pb_lan.specs.declared.plan.Plan.{Plan}
 use Rattle.pb_net.specs.Answers.{NetView}
 use Rattle.pb_converge.specs.Drives.{is_onward, HaveGone, IsNotDue}
 
--- so many events were done; and where there was none, none of those that were tried is due
+-- this many events were performed, and if none was, none of those that were tried is due
 pub record HaveTried (tried : Event → Type 0) (count : ℕ) (old new : NetView) : Type 0 where
   pub gone : HaveGone is_onward count old new
   pub none_due : count ≡ 0 → (event : Event) → tried event → IsNotDue new event
@@ -26,7 +26,7 @@ IsAtPort bridge port event = (event ≡ Receive bridge port) ⊎ (event ≡ Tran
 abbrev pub IsAtLane : ℕ → Event → Type 0
 IsAtLane lane event = (event ≡ Take lane) ⊎ (event ≡ Put lane)
 
--- it is one of the things with the numbers from 1 to a highest one
+-- the event is one of an item with a number from 1 to `highest`
 abbrev pub IsAtOneOf : (ℕ → Event → Type 0) → ℕ → Event → Type 0
 IsAtOneOf at highest event = (n : ℕ) × IsNumber n highest × at n event
 

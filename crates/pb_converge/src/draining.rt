@@ -1,4 +1,4 @@
-//! Doing what is due, until nothing is.
+//! Performs what is due, until nothing is.
 
 ghost use Rattle.std.specs.Prelude.{◌≡◌, ◌≤◌, true, IfOk, IfErr};
 ghost use Rattle.pb_lan.specs.Plans.{IsSound};
@@ -10,7 +10,12 @@ use crate::fault::DriveFault;
 use pb_lan::{Event, Plan};
 use pb_net::{Did, Net, NetFault};
 
-/// Does an event where it is due, and answers how many were done, none or one.
+/// Performs an event if it is due. Returns how many were performed, 0 or 1.
+///
+/// # Errors
+///
+/// `Events` if the event was performed and `left` is 0. `Steps` if the place has taken the plan's number of steps,
+/// `Memory` if an allocation failed: the event was not performed then.
 fn attempt(net: &mut Net, event: Event, left: u64) -> Result<u64, DriveFault>
     requires { is_onward event ≡ true }
     ensures plan { net.new.plan ≡ net.old.plan }
@@ -27,7 +32,8 @@ fn attempt(net: &mut Net, event: Event, left: u64) -> Result<u64, DriveFault>
     }
 }
 
-/// A customer port takes what its bridge sent to it, and hands on what it holds.
+/// Delivers at a customer port, and feeds its bridge, as far as these are due. Returns how many events were performed.
+/// Fails as [`attempt`] does.
 fn at_customer(net: &mut Net, port: u8, left: u64) -> Result<u64, DriveFault>
     ensures plan { net.new.plan ≡ net.old.plan }
     ensures within { IfOk result (λ done. done ≤ left) }
@@ -39,7 +45,8 @@ fn at_customer(net: &mut Net, port: u8, left: u64) -> Result<u64, DriveFault>
     Ok(done + more)
 }
 
-/// A bridge's port takes what came to it, and sends the next item.
+/// Receives at a bridge's port, and transmits there, as far as these are due. Returns how many events were performed.
+/// Fails as [`attempt`] does.
 fn at_port(net: &mut Net, bridge: u8, port: u8, left: u64) -> Result<u64, DriveFault>
     ensures plan { net.new.plan ≡ net.old.plan }
     ensures within { IfOk result (λ done. done ≤ left) }
@@ -51,7 +58,8 @@ fn at_port(net: &mut Net, bridge: u8, port: u8, left: u64) -> Result<u64, DriveF
     Ok(done + more)
 }
 
-/// A lane takes the next item, and puts down what it holds.
+/// Takes an item at a lane, and puts the one in its hand, as far as these are due. Returns how many events were
+/// performed. Fails as [`attempt`] does.
 fn at_lane(net: &mut Net, lane: u8, left: u64) -> Result<u64, DriveFault>
     ensures plan { net.new.plan ≡ net.old.plan }
     ensures within { IfOk result (λ done. done ≤ left) }
@@ -63,7 +71,7 @@ fn at_lane(net: &mut Net, lane: u8, left: u64) -> Result<u64, DriveFault>
     Ok(done + more)
 }
 
-/// Each customer port, in order.
+/// Visits each customer port, in order. Returns how many events were performed. Fails as [`attempt`] does.
 fn sweep_customers(net: &mut Net, plan: &Plan, left: u64) -> Result<u64, DriveFault>
     requires { IsSound plan.now }
     ensures plan { net.new.plan ≡ net.old.plan }
@@ -78,7 +86,7 @@ fn sweep_customers(net: &mut Net, plan: &Plan, left: u64) -> Result<u64, DriveFa
     Ok(done)
 }
 
-/// Each port of a bridge, in order.
+/// Visits each port of a bridge, in order. Returns how many events were performed. Fails as [`attempt`] does.
 fn sweep_ports(net: &mut Net, bridge: u8, left: u64) -> Result<u64, DriveFault>
     ensures plan { net.new.plan ≡ net.old.plan }
     ensures within { IfOk result (λ done. done ≤ left) }
@@ -92,7 +100,7 @@ fn sweep_ports(net: &mut Net, bridge: u8, left: u64) -> Result<u64, DriveFault>
     Ok(done)
 }
 
-/// Each bridge, in order.
+/// Visits each bridge, in order. Returns how many events were performed. Fails as [`attempt`] does.
 fn sweep_bridges(net: &mut Net, plan: &Plan, left: u64) -> Result<u64, DriveFault>
     requires { IsSound plan.now }
     ensures plan { net.new.plan ≡ net.old.plan }
@@ -107,7 +115,7 @@ fn sweep_bridges(net: &mut Net, plan: &Plan, left: u64) -> Result<u64, DriveFaul
     Ok(done)
 }
 
-/// Each lane, in order.
+/// Visits each lane, in order. Returns how many events were performed. Fails as [`attempt`] does.
 fn sweep_lanes(net: &mut Net, plan: &Plan, left: u64) -> Result<u64, DriveFault>
     requires { IsSound plan.now }
     ensures plan { net.new.plan ≡ net.old.plan }
@@ -122,7 +130,8 @@ fn sweep_lanes(net: &mut Net, plan: &Plan, left: u64) -> Result<u64, DriveFault>
     Ok(done)
 }
 
-/// Each place, in order: customer ports, bridges with their ports, lanes.
+/// Visits each place once, in order: customer ports, bridges with their ports, lanes. Returns how many events were
+/// performed. Fails as [`attempt`] does.
 fn sweep(net: &mut Net, plan: &Plan, left: u64) -> Result<u64, DriveFault>
     requires { IsSound plan.now }
     ensures plan { net.new.plan ≡ net.old.plan }
@@ -136,16 +145,18 @@ fn sweep(net: &mut Net, plan: &Plan, left: u64) -> Result<u64, DriveFault>
     Ok(ports + bridges + lanes)
 }
 
-/// Does what is due until nothing is, and answers how many events were done.
+/// Performs what is due until nothing is, and returns how many events were performed.
 ///
-/// These are the events by which what is under way goes on: Deliver, Feed, Receive, Transmit, Take and Put. No
-/// frame comes in, no clock goes on, no port is set up or down. Each sweep asks every place once, in a fixed order:
-/// the customer ports, the ports of each bridge, the lanes, each in the plan's order. The first sweep that finds
-/// nothing due is the last one. So the answer and the record are the same each time.
+/// The events are Deliver, Feed, Receive, Transmit, Take and Put: they carry on what is on its way. No frame is polled,
+/// no clock ticks, no port is enabled or disabled. Each sweep visits every place once, in a fixed order: the customer
+/// ports, the ports of each bridge, the lanes, each in the plan's order. The sweep that finds nothing due is the last.
+/// The result and the record are therefore the same each time.
 ///
-/// `Events` is answered where more than `most` events were due, one after the other; the one that was too many was
-/// done. `Steps` is answered where a place was to take more steps than the plan allows, and `Memory` where memory
-/// ran out.
+/// # Errors
+///
+/// `Events` if more than `most` events were due, one after the other: the one that was too many was performed. `Steps`
+/// if a place had to take more steps than the plan allows. `Memory` if an allocation failed. The events performed
+/// before keep their effect.
 pub fn drain(net: &mut Net, plan: &Plan, most: u64) -> Result<u64, DriveFault>
     requires sound { IsSound plan.now }
     requires plan { net.old.plan ≡ plan.now }

@@ -1,4 +1,4 @@
-//! Ends of links that go down.
+//! Disables the ends of links that arguments name.
 
 ghost use Rattle.std.specs.Option.{option_copied};
 ghost use Rattle.std.specs.Prelude.{◌≡◌, ◌↔◌, ◌∷◌, [], true, false, string_bytes, IsTrue, OnOk, IfOk};
@@ -14,7 +14,11 @@ use pb_names::bridge_name;
 use pb_net::{Net, NetFault};
 use std::alloc::Global;
 
-/// Whether words name an end of a link.
+/// Checks whether a text names an end of a link.
+///
+/// # Errors
+///
+/// `Memory` if the allocation of a text failed.
 fn is_named(alloc: Global, plan: &Plan, end: &End, words: &str) -> Result<bool, Memory>
     ensures { IfOk result (λ yes. IsTrue yes ↔ (words.now ≡ end_words plan.now end.now)) }
 {
@@ -24,7 +28,11 @@ fn is_named(alloc: Global, plan: &Plan, end: &End, words: &str) -> Result<bool, 
     Ok(words == text.as_str())
 }
 
-/// The end of a link that words name.
+/// Returns the end of a link that a text names, if there is one.
+///
+/// # Errors
+///
+/// `Memory` if the allocation of a text failed.
 fn named_end<'a>(alloc: Global, plan: &'a Plan, words: &str) -> Result<Option<&'a End>, Memory>
     ensures { IfOk result (λ end. AnswersEnd plan.now words.now (option_copied end)) }
 {
@@ -39,7 +47,11 @@ fn named_end<'a>(alloc: Global, plan: &'a Plan, words: &str) -> Result<Option<&'
     Ok(None)
 }
 
-/// A port to another bridge goes down.
+/// Disables a port to another bridge.
+///
+/// # Errors
+///
+/// `Steps` if the bridge has taken the plan's number of steps, `Memory` if an allocation failed.
 fn fall(net: &mut Net, bridge: u8, port: u8) -> Result<(), CommandFault>
     requires { is_provider (port_at net.old.plan bridge port) ≡ true }
     ensures { OnOk result (HaveDone net.old (Event.Admin bridge port false ∷ []) net.new) }
@@ -53,13 +65,15 @@ fn fall(net: &mut Net, bridge: u8, port: u8) -> Result<(), CommandFault>
     }
 }
 
-/// Sets down the ends of links that words name, in order, in a network that has taken no step.
+/// Disables the ends of links that texts name, in order, in a network that has taken no step.
 ///
 /// Each of `words` names a port to another bridge by `BRIDGE:PORT`, the bridge's name and its local port. That end of
-/// its link goes down, and its neighbour isn't told. Where words name no end of a link, their index is answered, from
-/// 0; the ends that the words before them name are down then.
+/// its link is disabled, and the neighbour's end stays enabled. Returns the index, from 0, of the first text that names
+/// no end of a link. The ends that the texts before it name are disabled then.
 ///
-/// `Memory` is answered where memory ran out, and `Steps` where a bridge was to take more steps than the plan allows.
+/// # Errors
+///
+/// `Memory` if an allocation failed, `Steps` if a bridge had to take more steps than the plan allows.
 pub fn falls(
     alloc: Global,
     net: &mut Net,

@@ -1,4 +1,4 @@
-//! Why driving ended early.
+//! The reason why driving a network ended early.
 
 ghost use Rattle.std.specs.Prelude.{◌≡◌};
 ghost use Rattle.pb_converge.specs.declared.fault.DriveFault.TheVariants.{Memory as memory_fault};
@@ -6,13 +6,13 @@ ghost use Rattle.pb_converge.specs.declared.fault.DriveFault.TheVariants.{Memory
 use pb_frame::Memory;
 use thiserror::Error;
 
-/// Why driving ended early. What was done before stays done.
+/// The reason why driving a network ended early. The events performed before keep their effect.
 #[derive(Clone, Copy, Debug, PartialEq, Eq, Error)]
 pub enum DriveFault {
-    /// Memory ran out.
+    /// An allocation failed.
     #[error("out of memory")]
     Memory,
-    /// A place holds as many steps as the plan allows, and one more was due there.
+    /// A place has taken as many steps as the plan allows, and one more was due.
     #[error("the list holds the plan's number of steps")]
     Steps,
     /// More events were due than were allowed.

@@ -11,7 +11,11 @@ use pb_lan::{Plan, Record, Shape};
 use pb_net::Net;
 use std::alloc::Global;
 
-/// The network of a plan, in which nothing was done. `Memory` is answered where there was none for it.
+/// Returns the network of a plan, in which no place has taken a step.
+///
+/// # Errors
+///
+/// `Memory` if an allocation failed.
 pub fn fresh(alloc: Global, plan: &Plan) -> Result<Net, Memory>
     requires { IsSound plan.now }
     ensures { IfOk result (λ net. net ≡ fresh plan.now) }
@@ -19,7 +23,11 @@ pub fn fresh(alloc: Global, plan: &Plan) -> Result<Net, Memory>
     Net::new(alloc, plan.clone()?)
 }
 
-/// The states of all ports after the steps of a record. `Memory` is answered where there was none for the lists.
+/// Returns the states of all ports after the steps of a record.
+///
+/// # Errors
+///
+/// `Memory` if the allocation of the lists failed.
 pub fn shape_of(alloc: Global, plan: &Plan, rec: &Record) -> Result<Shape, Memory>
     requires { IsSound plan.now }
     ensures { IfOk result (λ shape. shape ≡ last_shape plan.now rec.now) }

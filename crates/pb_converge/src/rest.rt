@@ -1,12 +1,13 @@
-//! What became of letting the bridges settle.
+//! The outcome of driving bridges to convergence.
 
-/// What became of letting the bridges settle.
+/// The outcome of driving bridges to convergence.
 #[derive(Clone, Copy, Debug, PartialEq, Eq)]
 pub enum Rest {
     /// The plan gives the states of the ports: nothing was done.
     Given,
-    /// The bridges were settled twice in a row, the second time after so many ticks of each.
+    /// The bridges were settled after two rounds in a row, the second after this many ticks of each bridge.
     Settled(u32),
-    /// Each bridge ticked as often as was allowed, so many times, and they were not settled twice in a row.
+    /// Each bridge ticked as often as was allowed, this many times, and they were not settled after two rounds in a
+    /// row.
     Unsettled(u32),
 }

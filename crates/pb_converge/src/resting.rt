@@ -1,4 +1,4 @@
-//! Networks that are let rest.
+//! Convergence for commands that analyse a network.
 
 ghost use Rattle.std.specs.Prelude.{◌≡◌, ◌++◌, string_bytes, IfOk, OnOk};
 ghost use Rattle.pb_lan.specs.Plans.{IsSound};
@@ -14,11 +14,11 @@ use pb_messages::CommandFault;
 use pb_net::Net;
 use std::alloc::Global;
 
-/// The most events that are done besides ticks: more than the places of a plan file take steps.
+/// The greatest number of events besides ticks: more than the places of a plan file take steps.
 const MOST_EVENTS: u64 = 1_000_000_000;
 
-/// Why a command ends where a network could not be driven: `Memory`, or `Steps` where it was to take too many steps or
-/// too many events were due.
+/// Returns the command's fault for a network that could not be driven: `Memory`, or `Steps` if a place had to take too
+/// many steps or too many events were due.
 pub fn fault_of(fault: DriveFault) -> CommandFault
     ensures { result ≡ fault_of fault }
 {
@@ -28,10 +28,13 @@ pub fn fault_of(fault: DriveFault) -> CommandFault
     }
 }
 
-/// Lets the bridges of a network settle, each by `ticks` ticks at most, and by 1,000,000,000 other events.
+/// Drives the bridges of a network to convergence, with at most `ticks` ticks of each and 1,000,000,000 other events.
+/// Returns `Given`, and does nothing, if the plan gives the states of the ports.
 ///
-/// Where the plan gives the states of the ports nothing is done, and `Given` is answered. `Memory` is answered where
-/// memory ran out, and `Steps` where a place was to take more steps than the plan allows, or more events were due.
+/// # Errors
+///
+/// `Memory` if an allocation failed, `Steps` if a place had to take more steps than the plan allows or more events were
+/// due.
 pub fn rests(alloc: Global, net: &mut Net, plan: &Plan, ticks: u32) -> Result<Rest, CommandFault>
     requires sound { IsSound plan.now }
     requires plan { net.old.plan ≡ plan.now }
@@ -45,8 +48,12 @@ pub fn rests(alloc: Global, net: &mut Net, plan: &Plan, ticks: u32) -> Result<Re
     }
 }
 
-/// Puts whether the bridges are settled behind a text, and after how many ticks of each; nothing where the plan gives
-/// the states. `Memory` is answered where there was none for the text.
+/// Appends the line that reports whether the bridges are settled, and after how many ticks of each. Appends nothing if
+/// the plan gives the states of the ports.
+///
+/// # Errors
+///
+/// `Memory` if an allocation failed.
 pub fn put_rest(out: &mut String, rest: Rest) -> Result<(), Memory>
     ensures { OnOk result (string_bytes out.new ≡ string_bytes out.old ++ rest_line rest) }
 {

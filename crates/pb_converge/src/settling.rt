@@ -1,4 +1,4 @@
-//! Letting the bridges settle.
+//! Drives bridges to convergence.
 
 ghost use Rattle.std.specs.Prelude.{◌≡◌, ◌≤◌, ◌∷◌, [], true, OnOk, IfOk, IfErr, Some};
 ghost use Rattle.pb_lan.specs.Events.{has_place};
@@ -15,7 +15,12 @@ use pb_lan::{Event, Plan, Spanning};
 use pb_net::{Net, NetFault};
 use std::alloc::Global;
 
-/// A bridge's clock goes on by one.
+/// Ticks a bridge's clock.
+///
+/// # Errors
+///
+/// `Steps` if the bridge has taken the plan's number of steps, `Memory` if an allocation failed. The network is
+/// unchanged then.
 fn tick(net: &mut Net, bridge: u8) -> Result<(), DriveFault>
     requires { has_place net.old.plan (Bridge bridge) ≡ true }
     ensures plan { net.new.plan ≡ net.old.plan }
@@ -30,7 +35,7 @@ fn tick(net: &mut Net, bridge: u8) -> Result<(), DriveFault>
     }
 }
 
-/// Each bridge ticks once, in order.
+/// Ticks each bridge once, in the plan's order. Fails as [`tick`] does.
 fn tick_all(net: &mut Net, plan: &Plan) -> Result<(), DriveFault>
     requires sound { IsSound plan.now }
     requires plan { net.old.plan ≡ plan.now }
@@ -44,7 +49,8 @@ fn tick_all(net: &mut Net, plan: &Plan) -> Result<(), DriveFault>
     Ok(())
 }
 
-/// Each bridge ticks once, and what is due then is done. Answers how many events were due.
+/// Ticks each bridge once, and performs what is due then. Returns how many events were due. Fails as [`tick`] and
+/// [`drain`] do.
 fn round(net: &mut Net, plan: &Plan, left: u64) -> Result<u64, DriveFault>
     requires sound { IsSound plan.now }
     requires plan { net.old.plan ≡ plan.now }
@@ -57,7 +63,11 @@ fn round(net: &mut Net, plan: &Plan, left: u64) -> Result<u64, DriveFault>
     drain(net, plan, left)
 }
 
-/// Whether the bridges are settled.
+/// Checks whether the bridges are settled.
+///
+/// # Errors
+///
+/// `Memory` if an allocation failed.
 fn look(alloc: Global, net: &Net) -> Result<bool, DriveFault>
     requires { net.now.plan.spanning ≡ by_protocol }
     ensures { IfOk result (λ yes. TellsSettled net.now.plan net.now.rec (Some yes)) }
@@ -68,7 +78,7 @@ fn look(alloc: Global, net: &Net) -> Result<bool, DriveFault>
     Ok(settled)
 }
 
-/// Lets bridges settle that decide the states of their ports.
+/// Drives bridges that run the spanning tree to convergence. Fails as [`settle`] does.
 fn rounds(
     alloc: Global,
     net: &mut Net,
@@ -96,14 +106,25 @@ fn rounds(
     Ok(Rest::Unsettled(most))
 }
 
-/// Lets the bridges of a network settle (IEEE 802.1D-2004 clause 17), where they decide the states of their ports.
+/// Drives the bridges of a network to convergence (IEEE 802.1D-2004 clause 17).
 ///
-/// Each bridge ticks once, in the plan's order, and [`drain`] does all that is due then; so they go on, until the
-/// bridges are settled after two ticks in a row, or have ticked `most` times. Where the plan gives the states of the
-/// ports, `Given` is answered and nothing is done. `Unsettled` is answered for each `most` below 2.
+/// In each round every bridge ticks once, in the plan's order, and [`drain`] performs all that is due then. The rounds
+/// end when the bridges are settled after two in a row, or after `most` of them. The result is `Given`, and nothing is
+/// done, if the plan gives the states of the ports. It is `Unsettled` for each `most` below 2.
 ///
-/// At most `events` events are done besides the ticks: `Events` is answered where more are due. `Steps` is
-/// answered where a place was to take more steps than the plan allows, and `Memory` where memory ran out.
+/// # Examples
+///
+/// ```text
+/// let mut net = Net::new(alloc, plan.clone()?)?;              // of pb_net
+/// settle(alloc, &mut net, &plan, 200, 1_000_000)?;            // the bridges tick until they are settled
+/// net.step(Event::Poll { port: 1, frame })?;                  // a frame is polled
+/// drain(&mut net, &plan, 1_000_000)?;                         // it and its copies go as far as they go
+/// ```
+///
+/// # Errors
+///
+/// `Events` if more than `events` events besides the ticks are due. `Steps` if a place had to take more steps than the
+/// plan allows. `Memory` if an allocation failed. The events performed before keep their effect.
 pub fn settle(
     alloc: Global,
     net: &mut Net,

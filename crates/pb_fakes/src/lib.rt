@@ -1,4 +1,4 @@
-//! What tests of several crates share: readers and writers that fail, and plan files.
+//! Fakes that tests of several crates share: readers and writers that fail, and plan files.
 #![tactic(auto)]
 
 pub mod plans;
@@ -6,18 +6,18 @@ pub mod plans;
 use std::io;
 use std::io::{Error, ErrorKind, Read, Write};
 
-/// Gives a few octets a call, and an error at one of its calls.
+/// A reader that returns a few octets per call, and fails at one of its calls.
 #[derive(Drop)]
 pub struct Slow<'a> {
-    /// What is still to be given.
+    /// The octets that remain.
     pub rest: &'a [u8],
-    /// The most octets a call.
+    /// The greatest number of octets per call.
     pub most: usize,
-    /// How many calls were made.
+    /// The number of calls so far.
     pub calls: u64,
-    /// The call, from 0, that is answered with an error.
+    /// The call, from 0, that fails.
     pub fails_at: u64,
-    /// The kind of that error.
+    /// The kind of the error.
     pub kind: ErrorKind,
 }
 
@@ -35,10 +35,10 @@ impl Read for Slow<'_> {
     }
 }
 
-/// Takes some octets, and then fails.
+/// A writer that takes some octets and then fails.
 #[derive(Drop)]
 pub struct Full {
-    /// How many octets it still takes.
+    /// The number of octets that it still takes.
     pub room: usize,
 }
 
@@ -57,7 +57,7 @@ impl Write for Full {
     }
 }
 
-/// Takes everything, and can't be flushed.
+/// A writer that takes everything and can't be flushed.
 #[derive(Drop)]
 pub struct Unflushed;
 

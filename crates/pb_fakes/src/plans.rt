@@ -1,7 +1,7 @@
 //! Plan files that tests of several commands read.
 
-/// Two bridges B1 and B2, joined by the link L1 at their ports 1. The customer ports C1 and C2 of the service red are their
-/// ports 2, and no frames come in.
+/// The plan of two bridges B1 and B2, joined by the link L1 at their ports 1. The customer ports C1 and C2 of the
+/// service red are at their ports 2, and no frames come in.
 pub const PAIR: &str = r#"
 [[bridge]]
 name = "B1"
@@ -35,7 +35,7 @@ port = 2
 service = "red"
 "#;
 
-/// A link that loses a frame, the example `losses`.
+/// A plan with a link that loses a frame: the example `losses`.
 pub const LOSSES: &str =
     r#"# A link that loses the second frame from Near to Far. Nothing is sent again, and the frames that are not
 # lost arrive in order.
@@ -73,7 +73,7 @@ port = 2
 service = "line"
 "#;
 
-/// Two bridges with two links that run the spanning tree, the example `failover`.
+/// A plan of two bridges with two links that run the spanning tree: the example `failover`.
 pub const FAILOVER: &str =
     r#"# Two bridges with two links, which decide their own spanning tree: one link stands by until the other is
 # set down.
@@ -120,7 +120,7 @@ port = 2
 service = "red"
 "#;
 
-/// A metro ring of six bridges with three services, the example `metro`.
+/// A plan of a metro ring of six bridges with three services: the example `metro`.
 pub const METRO: &str =
     r#"# A metro ring of six bridges with three services. The ring is open between Lakeside and Station: a frame
 # goes both ways round from where it enters, and is filtered at the end that is discarding.

@@ -1,6 +1,4 @@
-//! Runs of pb_lan with ample memory.
-//!
-//! The library itself has nothing: all stands in its tests. Plans and records stand there in short, in tables, and a
+//! Tests of pb_lan with ample memory. The library is empty. Plans and records are short tables in the tests, and a
 //! harness makes each for its row.
 #![tactic(auto)]
 

@@ -12,18 +12,18 @@ use Rattle.pb_link.specs.Holdings.{brought_by, brought_at, held, this_of, holdin
 use Rattle.pb_link.specs.declared.holding.Holding.{Holding}
 use Rattle.pb_link.specs.declared.holding.Holding.TheVariants.{Nothing, At, This}
 
--- what a step brought stands there still when more follows
+-- the item of a step is found at its index when more steps follow
 brought-front : (steps more : List Step) (place : ℕ) (item : Item) → brought_at (slice_get steps place) ≡ Some item
     → brought_at (slice_get (steps ++ more) place) ≡ Some item
 brought-front [] more place item e = cc
 brought-front (step ∷ steps) more zero item e = e
 brought-front (step ∷ steps) more (suc place) item e = brought-front steps more place item e
 
--- not all that came has gone
+-- if an item has not gone, then not every item that came has gone
 one-left : (gone come : List Item) (item : Item) → gone ++ item ∷ [] ≡ come → is_all_fetched come gone ≡ false
 one-left gone come item e = grind (arith, ap length e, length-append gone (item ∷ []))
 
--- nothing is in hand where all that came has gone
+-- the hand is empty if every item that came has gone
 pub nothing_in_hand : (steps : List Step) (is_kept : Bool) (gone come : List Item) (hand : Holding)
     → IsHand steps is_kept gone come hand
     → is_all_fetched come gone ≡ true → hand ≡ Nothing
@@ -31,7 +31,7 @@ nothing_in_hand steps is_kept gone come Nothing h e = refl
 nothing_in_hand steps is_kept gone come (At place) h e = let one = one-left gone come h.1 h.3 in cc
 nothing_in_hand steps is_kept gone come (This item) h e = let one = one-left gone come item h.1 in cc
 
--- the item in hand is the one that came and has not gone
+-- the item in hand by value is the one that came and has not gone
 pub whole_by : (steps : List Step) (is_kept : Bool) (gone come : List Item) (hand : Holding) (item : Item)
     → IsHand steps is_kept gone come hand
     → held steps hand ≡ Some item → gone ++ item ∷ [] ≡ come
@@ -40,7 +40,7 @@ whole_by steps is_kept gone come (At place) item h e = let same : h.1 ≡ item =
     (← same) h.3
 whole_by steps is_kept gone come (This other) item h e = let same : other ≡ item = Some-injective e in rw (← same) h.1
 
--- after a step that neither brings an item nor lets one go
+-- `IsHand` is kept by a step that neither brings an item nor lets one go
 pub hand-kept : (steps : List Step) (step : Step) (is_kept : Bool) (gone come : List Item) (hand : Holding)
     → IsHand steps is_kept gone come hand
     → IsHand (steps ++ step ∷ []) is_kept gone come hand
@@ -48,7 +48,7 @@ hand-kept steps step is_kept gone come Nothing h = h
 hand-kept steps step is_kept gone come (At place) h = (h.0, h.1, brought-front steps (step ∷ []) place h.1 h.2, h.3)
 hand-kept steps step is_kept gone come (This item) h = h
 
--- after a step that brings an item
+-- `IsHand` holds after a step that brings an item
 pub hand-new : (steps : List Step) (step : Step) (is_kept : Bool) (gone come : List Item) (item : Item)
     → brought_by step ≡ Some item → gone ++ item ∷ [] ≡ come
     → IsHand (steps ++ step ∷ []) is_kept gone come (holding_of (length steps) (given_back is_kept step))
@@ -57,6 +57,6 @@ hand-new steps step true gone come item e whole =
 hand-new steps step false gone come item e whole =
     subst (λ (o : Option Item). IsHand (steps ++ step ∷ []) false gone come (this_of o)) (sym e) (refl, whole)
 
--- a step uses the room up
+-- `HasRoom` holds after a step, which uses up the reservation
 pub unreserved : (s new : StepsView) (step : Step) → new ≡ with_step s step → HasRoom new.steps new.is_reserved
 unreserved s new step e = λ reserved. let no : new.is_reserved ≡ false = ap (λ (v : StepsView). v.is_reserved) e in cc

@@ -18,7 +18,7 @@ use Rattle.pb_link.specs.declared.holding.Holding.TheVariants.{Nothing, At, This
 use Rattle.pb_link.proofs.HandLemmas.{nothing_in_hand, hand-new}
 use Rattle.pb_link.proofs.HandLemmas.{whole_by}
 
--- items that are counted, and one more with the next number
+-- items with rising numbers stay so with one more item of the next number
 counted-more : (losses : List ℕ) (n : ℕ) (ts : List Taken) (t : Taken) → AreCounted losses n ts
     → t.number ≡ n + length ts → t.lost ≡ list_any (λ k. k == n + length ts) losses
     → AreCounted losses n (ts ++ t ∷ [])
@@ -27,18 +27,18 @@ counted-more losses n (x ∷ ts) t counted number lost =
     let e : n + suc (length ts) ≡ (n + 1) + length ts = omega arith in
     (counted.0, counted.1, counted-more losses (n + 1) ts t counted.2 (rw e at number) (rw e at lost))
 
--- each step takes at most one item
+-- a lane's items are at most its steps, for the bound of the counter
 pub length-taken : (steps : List Step) → length (taken steps) ≤ length steps
 length-taken [] = omega arith
 length-taken (Take number item lost ∷ steps) = omega (arith, length-taken steps)
 length-taken (_ ∷ steps) = omega (arith, length-taken steps)
 
--- nothing stands behind a list
+-- there is nothing at the index after the last
 none-behind : {X : Type 0} (xs : List X) → slice_get xs (length xs) ≡ None
 none-behind [] = refl
 none-behind (x ∷ xs) = none-behind xs
 
--- what the lists say of the item in hand
+-- no item is in hand if every carried item was put
 pub none_in_hand : (steps : List Step) → put steps ≡ carried steps → in_hand steps ≡ None
 none_in_hand steps held = ap (λ (items : List Item). slice_get (carried steps) (length items)) held
     ∙ none-behind (carried steps)
@@ -48,7 +48,7 @@ pub one_in_hand : (steps : List Step) (item : Item) → put steps ++ item ∷ []
 one_in_hand steps item whole = ap (λ (items : List Item). slice_get items (length (put steps))) (sym whole)
     ∙ slice_get-next (put steps) [] item
 
--- the hand has the item that the lists tell
+-- the hand holds the item that the lists of carried and put items give
 pub hand-item : (steps : List Step) (is_kept : Bool) (hand : Holding)
     → IsHand steps is_kept (put steps) (carried steps) hand → held steps hand ≡ in_hand steps
 hand-item steps is_kept Nothing h = sym (none_in_hand steps h)
@@ -61,7 +61,7 @@ items_of ts = map (λ (t : Taken). t.item) ts
 abbrev kept_of : List Taken → List Taken
 kept_of ts = filter (λ (t : Taken). not t.lost) ts
 
--- what a Take adds to the lists
+-- what a Take step adds to the lists of taken and carried items
 carried-take : (steps : List Step) (number : ℕ) (item : Item) (lost : Bool)
     → carried (steps ++ Take number item lost ∷ []) ≡ carried steps
     ++ items_of (kept_of (record { number = number; item = item; lost = lost } ∷ []))
@@ -71,7 +71,7 @@ carried-take steps number item lost =
     ∙ ap items_of (filter-append (λ (t : Taken). not t.lost) (all_taken steps) one)
     ∙ map-append (λ (t : Taken). t.item) (kept_of (all_taken steps)) (kept_of one)
 
--- the lists of a lane that took one more are counted
+-- the items of a lane are counted after one more Take step
 counted-take : (losses : List ℕ) (steps : List Step) (count : ℕ) (item : Item) (lost : Bool)
     → AreCounted losses 0 (all_taken steps) → count ≡ length (taken steps)
     → lost ≡ list_any (λ k. k == count) losses → AreCounted losses 0 (all_taken (steps ++ Take count item lost ∷ []))
@@ -90,7 +90,7 @@ length-take steps count item lost e =
     ∙ map-append (λ (t : Taken). t.item) (all_taken steps) (taken_by step) in
     omega (arith, e, ap length more, length-append (taken steps) (item ∷ []))
 
--- after a Take
+-- the lane's invariant after a Take step
 after_take : (losses : List ℕ) (steps : List Step) (is_kept : Bool) (count : ℕ) (item : Item) (lost : Bool)
     → IsLaneKept losses steps is_kept Nothing count
     → lost ≡ list_any (λ k. k == count) losses
@@ -124,7 +124,7 @@ after_take losses steps is_kept count item false kept e =
       counted = length-take steps count item false kept.counted;
     }
 
--- after the Take of the next item, where the hand was empty
+-- the lane's invariant after the Take step of the next item, if the hand was empty
 pub after_coming : (losses : List ℕ) (s : StepsView) (hand : Holding) (count : ℕ) (item : Item) (lost : Bool)
     → IsLaneKept losses s.steps s.is_kept hand count
     → is_hand_empty s.steps ≡ true → lost ≡ list_any (λ k. k == count) losses
@@ -136,14 +136,14 @@ after_coming losses s hand count item lost kept empty e =
     after_take losses s.steps s.is_kept count item lost
     (subst (λ (h : Holding). IsLaneKept losses s.steps s.is_kept h count) none kept) e
 
--- the item that is in hand is the next to be put
+-- the item in hand is the next to be put
 next_put : (steps : List Step) (is_kept : Bool) (hand : Holding) (item : Item)
     → IsHand steps is_kept (put steps) (carried steps) hand → in_hand steps ≡ Some item
     → put steps ++ item ∷ [] ≡ carried steps
 next_put steps is_kept hand item h e = whole_by steps is_kept (put steps) (carried steps) hand item h
     (hand-item steps is_kept hand h ∙ e)
 
--- after a Put
+-- the lane's invariant after a Put step
 pub after_put : (losses : List ℕ) (steps : List Step) (is_kept : Bool) (hand : Holding) (count : ℕ) (item : Item)
     → IsLaneKept losses steps is_kept hand count
     → in_hand steps ≡ Some item → IsLaneKept losses (steps ++ Put item ∷ []) is_kept Nothing count

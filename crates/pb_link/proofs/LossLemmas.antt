@@ -7,13 +7,13 @@ use Rattle.pb_frame.proofs.Lists.{All-imply}
 use Rattle.pb_frame.specs.Lists.{Rises}
 use Rattle.pb_link.specs.Losses.{is_first, IsNext}
 
--- no number above this one is it
+-- a number below all numbers of a list is not in the list
 none-above : (n : ℕ) (ks : List ℕ) → AllByRecursion (λ m. n < m) ks → list_any (λ k. k == n) ks ≡ false
 none-above n [] a = refl
 none-above n (k ∷ ks) (a, rest) = let ne : (k == n) ≡ false = ne_eqb k n (λ e. absurd (omega arith)) in rw ne
     (none-above n ks rest)
 
--- of rising numbers the first alone can be the next
+-- a number that is at most the first of rising numbers is in the list exactly if it is the first
 first-any : (ks : List ℕ) (n : ℕ) → Rises ks → AllByRecursion (λ k. n ≤ k) ks
     → is_first ks n ≡ list_any (λ k. k == n) ks
 first-any [] n rising coming = refl
@@ -22,13 +22,13 @@ first-any (k ∷ ks) n rising coming =
     let none = none-above n ks (All-imply (λ m. k < m) (λ m. n < m) (λ m h. omega arith) ks rising.0) in
     sym (ap (λ b. (k == n) || b) none ∙ or-false (k == n))
 
--- the next item is lost where its number comes first
+-- `is_first` says whether the next item is lost
 pub lost_is : (numbers : List ℕ) (next taken : ℕ) → IsNext numbers next taken
     → is_first (drop next numbers) taken ≡ list_any (λ k. k == taken) numbers
 lost_is numbers next taken at = first-any (drop next numbers) taken at.rising at.coming
     ∙ sym (at.gone taken (omega arith))
 
--- the same of the numbers that are still to come, as a list
+-- `IsNext` for the remaining numbers as a list
 record IsRest (numbers rest : List ℕ) (taken : ℕ) : Type 0 where
   pub rising : Rises rest
   pub coming : AllByRecursion (λ k. taken ≤ k) rest
@@ -71,7 +71,7 @@ drop-if : (b : Bool) (n : ℕ) (xs : List ℕ)
 drop-if true n xs = ap (λ k. drop k xs) (add-one n) ∙ drop-more n xs
 drop-if false n xs = refl
 
--- after one item more
+-- `IsNext` holds after one more item
 pub next-more : (numbers : List ℕ) (next taken : ℕ) → IsNext numbers next taken
     → IsNext numbers (if is_first (drop next numbers) taken then next + 1 else next) (taken + 1)
 next-more numbers next taken at =

@@ -17,7 +17,7 @@ use Rattle.pb_link.specs.declared.holding.Holding.{Holding}
 use Rattle.pb_link.specs.declared.holding.Holding.TheVariants.{Nothing}
 use Rattle.pb_link.proofs.HandLemmas.{nothing_in_hand, hand-kept, hand-new}
 
--- items that are marked, and one more with the next mark
+-- marked items stay so with one more item of the next mark
 marked-more : (port n : ℕ) (items : List Item) (item : Item) → AreMarked port n items
     → item.mark ≡ Some (record { port = port; number = n + length items }) → item.hops ≡ 0
     → AreMarked port n (items ++ item ∷ [])
@@ -26,13 +26,13 @@ marked-more port n (i ∷ items) item marked mark hops =
     let e : n + suc (length items) ≡ (n + 1) + length items = omega arith in
     (marked.0, marked.1, marked-more port (n + 1) items item marked.2 (rw e at mark) hops)
 
--- each step polls at most one frame
+-- a port's frames are at most its steps, for the bound of the counter
 pub length-polled : (steps : List Step) → length (polled steps) ≤ length steps
 length-polled [] = omega arith
 length-polled (Poll item ∷ steps) = omega (arith, length-polled steps)
 length-polled (_ ∷ steps) = omega (arith, length-polled steps)
 
--- after a Deliver
+-- the port's invariant after a Deliver step
 pub after_deliver : (number : ℕ) (steps : List Step) (is_kept : Bool) (hand : Holding) (polls : ℕ) (item : Item)
     (gone : Bool)
     → IsPortKept number steps is_kept hand polls
@@ -51,7 +51,7 @@ after_deliver number steps is_kept hand polls item gone kept =
       count = rw polls_so kept.count;
     }
 
--- after a Poll
+-- the port's invariant after a Poll step
 after_poll : (number : ℕ) (steps : List Step) (is_kept : Bool) (polls : ℕ) (item : Item)
     → IsPortKept number steps is_kept Nothing polls
     → item.mark ≡ Some (record { port = number; number = length (polled steps) }) → item.hops ≡ 0
@@ -76,11 +76,11 @@ after_poll number steps is_kept polls item kept mark hops =
 abbrev mark_of : ℕ → ℕ → Mark
 mark_of port number = record { port = port; number = number }
 
--- the frame of this number of a customer port
+-- the item of a port's frame of this number
 abbrev pub frame_of : ℕ → ℕ → List ℕ → Item
 frame_of port number frame = record { mark = Some (record { port = port; number = number }); hops = 0; wire = frame }
 
--- after the Poll of the next frame, where the hand was empty
+-- the port's invariant after the Poll step of the next frame, if the hand was empty
 pub after_arrival : (number : ℕ) (s : StepsView) (hand : Holding) (polls next : ℕ) (frame : List ℕ)
     → IsPortKept number s.steps s.is_kept hand polls
     → is_hand_empty s.steps ≡ true → next ≡ polls

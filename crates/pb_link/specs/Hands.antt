@@ -7,8 +7,8 @@ use Rattle.pb_lan.specs.declared.step.Step.TheVariants.{Feed}
 use Rattle.pb_link.specs.Holdings.{IsHand}
 use Rattle.pb_link.specs.declared.holding.Holding.{Holding}
 
--- what callers see of a place: its number, its steps, whether each is kept in memory, and whether there is room for
--- one more
+-- what callers see of a customer port: its number, its steps, whether they are kept in memory, and whether one more is
+-- reserved
 pub record PlaceView : Type 0 where
   pub number : ℕ
   pub steps : List Step
@@ -19,11 +19,11 @@ pub record PlaceView : Type 0 where
 abbrev pub at_start : ℕ → Bool → PlaceView
 at_start number is_kept = record { number = number; steps = []; is_kept = is_kept; is_reserved = false }
 
--- one step more, which uses the room
+-- the place after one more step, which uses up the reservation
 abbrev pub with_step : PlaceView → Step → PlaceView
 with_step place step = record place { steps = place.steps ++ step ∷ []; is_reserved = false }
 
--- the item of the next frame that comes in
+-- the item of the next polled frame
 abbrev pub arrival : PlaceView → List ℕ → Item
 arrival place frame = record { mark = Some (record { port = place.number; number = length (polled place.steps) }); hops = 0; wire = frame }
 
@@ -31,11 +31,11 @@ arrival place frame = record { mark = Some (record { port = place.number; number
 abbrev pub IsInHand : List Step → Item → Type 0
 IsInHand steps item = fed steps ++ item ∷ [] ≡ polled steps
 
--- the item is the one in hand, and it was fed
+-- the item is the one in hand, and the step that feeds it was appended
 abbrev pub HasFed : PlaceView → Item → PlaceView → Type 0
 HasFed old item new = IsInHand old.steps item × (new ≡ with_step old (Feed item))
 
--- the steps are lawful, and what is kept of them is so
+-- the steps are lawful, and the hand and the count of polls follow from them
 pub record IsPortKept (number : ℕ) (steps : List Step) (is_kept : Bool) (hand : Holding) (polls : ℕ) : Type 0 where
   pub lawful : IsLawfulPort number steps
   pub held : IsHand steps is_kept (fed steps) (polled steps) hand

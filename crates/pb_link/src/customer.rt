@@ -15,12 +15,11 @@ use pb_lan::{FrameNumber, Item, Mark, Step};
 use std::alloc::Global;
 use std::marker::Model;
 
-/// A customer port of a plan (802.1Q clause 15.3): it polls frames, feeds them to its bridge one
-/// after the other, and delivers what its bridge sent to it. It holds at most one frame, polled and
-/// not yet fed.
+/// A customer port of a plan (IEEE 802.1Q clause 15.3). It polls frames, feeds them to its bridge one after the other,
+/// and delivers what its bridge sends to it. It holds at most one frame, polled and not yet fed.
 ///
-/// Contracts see its number, the list of its steps, whether each of these is kept in memory or they are only
-/// counted, and whether there is room for one more step.
+/// Contracts see its number, the list of its steps, whether the steps are kept in memory or only counted, and whether
+/// one more step is reserved.
 #[derive(Drop)]
 pub struct CustomerPlace {
     number: u8,
@@ -46,7 +45,7 @@ impl Model for CustomerPlace {
         × HasRoom p.steps.steps p.steps.is_reserved };
 }
 
-/// The customer port of this number, with this list of steps.
+/// Returns the customer port of this number with this empty list of steps.
 fn started(number: u8, steps: Steps) -> CustomerPlace
     requires none { steps.steps ≡ [] }
     requires unreserved { steps.is_reserved ≡ false }
@@ -61,21 +60,22 @@ fn started(number: u8, steps: Steps) -> CustomerPlace
 }
 
 impl CustomerPlace {
-    /// The customer port of this number, which has taken no step. Each step will be kept. Takes no memory.
+    /// Returns the customer port of this number, which has taken no step. It keeps each step. Allocates nothing.
     pub fn new(alloc: Global, number: u8) -> CustomerPlace
         ensures { result ≡ at_start number true }
     {
         started(number, Steps::kept(alloc))
     }
 
-    /// The same, but that steps are only counted: the memory of the port does not grow with them.
+    /// Returns the customer port of this number, which has taken no step. It only counts its steps: its memory does not
+    /// grow with them. Allocates nothing.
     pub fn counting(alloc: Global, number: u8) -> CustomerPlace
         ensures { result ≡ at_start number false }
     {
         started(number, Steps::counted(alloc))
     }
 
-    /// The steps so far, where they are kept. Where they are only counted, there is none to be seen.
+    /// Returns the steps that are kept. The slice is empty if steps are only counted.
     pub fn steps(&self) -> &[Step]
         ensures steps { self.now.is_kept ≡ true → result.now ≡ self.now.steps }
         ensures lawful { IsLawfulPort self.now.number self.now.steps }
@@ -83,7 +83,7 @@ impl CustomerPlace {
         self.steps.as_slice()
     }
 
-    /// The number of steps so far.
+    /// Returns the number of steps, kept or counted.
     #[inline(always)]
     pub fn step_count(&self) -> u64
         ensures { result ≡ length self.now.steps }
@@ -91,7 +91,7 @@ impl CustomerPlace {
         self.steps.len()
     }
 
-    /// The steps, kept or counted as they are, and no customer port any more. Takes no memory.
+    /// Returns the steps, kept or counted, and drops the rest of the port. Allocates nothing.
     pub fn into_steps(self) -> Steps
         ensures steps { result.steps ≡ self.steps }
         ensures kept { result.is_kept ≡ self.is_kept }
@@ -106,11 +106,12 @@ impl CustomerPlace {
         steps
     }
 
-    /// Makes room for one step, which the next step uses up.
+    /// Reserves one step, which the next step uses up. Returns `Ok` at once if one is reserved.
     ///
-    /// `Memory` is answered where there is none for one more, or 2^64-1 steps were taken; nothing has
-    /// changed then. Where there is room already, the answer is `Ok`, and where steps are only counted and fewer
-    /// were taken.
+    /// # Errors
+    ///
+    /// `Memory` if the allocation failed, or if 2^64-1 steps were taken. The port is unchanged then. A port that only
+    /// counts its steps fails in the second case alone.
     pub fn reserve_step(&mut self) -> Result<(), Memory>
         ensures ok { OnOk result (self.new ≡ record self.old { is_reserved = true }) }
         ensures err { OnErr result (self.new ≡ self.old) }
@@ -123,14 +124,14 @@ impl CustomerPlace {
         self.steps.reserve()
     }
 
-    /// No frame is in hand.
+    /// Checks whether no frame is in hand.
     pub fn is_hand_empty(&self) -> bool
         ensures { result ≡ is_hand_empty self.now.steps }
     {
         self.hand.is_nothing()
     }
 
-    /// A frame comes in: it gets the port's next mark, and is in hand. Takes no memory.
+    /// Takes a frame in from outside. It gets the port's next mark and is in hand then. Allocates nothing.
     pub fn poll(&mut self, frame: Bytes)
         requires reserved { self.old.is_reserved ≡ true }
         requires empty { is_hand_empty self.old.steps ≡ true }
@@ -151,10 +152,13 @@ impl CustomerPlace {
         self.polls += 1;
     }
 
-    /// Gives the frame in hand, for the bridge.
+    /// Returns the frame in hand, for the bridge, and appends a Feed step. The hand is empty then. Allocates nothing if
+    /// steps are only counted.
     ///
-    /// `Memory` is answered where steps are kept and there is none for the frame's two copies, which share its
-    /// octets. It is then still in hand. Where steps are only counted, no memory is taken.
+    /// # Errors
+    ///
+    /// `Memory` if steps are kept and an allocation for the frame's two copies, which share its octets, failed. The
+    /// frame is still in hand then.
     pub fn feed(&mut self) -> Result<Item, Memory>
         requires reserved { self.old.is_reserved ≡ true }
         requires full { is_hand_empty self.old.steps ≡ false }
@@ -172,8 +176,8 @@ impl CustomerPlace {
         Ok(given)
     }
 
-    /// An item from the bridge was offered outside. `gone` says that the port takes no more frames.
-    /// Takes no memory.
+    /// Appends the step of an item from the bridge that was offered outside. `gone` says that the port takes no more
+    /// frames. Allocates nothing.
     pub fn deliver(&mut self, item: Item, gone: bool)
         requires { self.old.is_reserved ≡ true }
         ensures step { self.new ≡ with_step self.old (Deliver item gone) }
@@ -182,7 +186,7 @@ impl CustomerPlace {
         append(&mut self.steps, Step::Deliver { item, gone });
     }
 
-    /// A copy of the frame in hand, which shares its octets.
+    /// Returns a copy of the frame in hand. It shares the octets of the frame.
     fn copy_in_hand(&self) -> Result<Item, Memory>
         requires { is_hand_empty self.now.steps ≡ false }
         ensures { IfOk result (IsInHand self.now.steps) }
@@ -193,7 +197,7 @@ impl CustomerPlace {
         Ok(item.clone()?)
     }
 
-    /// Appends the step that feeds the frame in hand.
+    /// Appends the step that feeds the frame in hand, and empties the hand.
     fn note_feed(&mut self, item: Item)
         requires reserved { self.old.is_reserved ≡ true }
         requires held { IsInHand self.old.steps item }
@@ -204,7 +208,7 @@ impl CustomerPlace {
         append(&mut self.steps, Step::Feed { item });
     }
 
-    /// Gives the frame in hand, where steps are only counted. Takes no memory.
+    /// Returns the frame in hand and appends its Feed step, if steps are only counted. Allocates nothing.
     fn feed_held(&mut self) -> Item
         requires reserved { self.old.is_reserved ≡ true }
         requires full { is_hand_empty self.old.steps ≡ false }

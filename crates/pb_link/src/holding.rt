@@ -9,16 +9,19 @@ use std::mem::replace;
 
 /// The item that came to a place and has not gone on.
 #[derive(Drop)]
+/// No item.
 pub(crate) enum Holding {
     /// None.
+    /// The item of the step at this index of the list. Steps are kept.
     Nothing,
     /// That of the step at this place of the list, where steps are kept.
+    /// This item, held by value. Steps are only counted.
     At(usize),
     /// This one, where steps are only counted.
     This(Item),
 }
 
-/// The item that a step brought, if it is of a kind that brings one.
+/// Returns the item that a step brought, if it is a Poll or a Take.
 fn brought_by(step: &Step) -> Option<&Item>
     ensures { option_copied result ≡ brought_by step.now }
 {
@@ -30,7 +33,8 @@ fn brought_by(step: &Step) -> Option<&Item>
 }
 
 impl Holding {
-    /// The item of a step that was appended at a place, or that was given back since it is only counted.
+    /// Returns the item of a step that was appended at index `place`, or that was given back because it is only
+    /// counted.
     pub(crate) fn of(place: usize, back: Option<Step>) -> Holding
         ensures { result ≡ holding_of place back }
     {
@@ -42,7 +46,7 @@ impl Holding {
         }
     }
 
-    /// No item is in hand.
+    /// Checks whether no item is in hand.
     pub(crate) fn is_nothing(&self) -> bool
         ensures { result ≡ is_nothing self.now }
     {
@@ -52,7 +56,7 @@ impl Holding {
         }
     }
 
-    /// The item in hand, where these are the steps.
+    /// Returns the item in hand of a place that took these steps.
     pub(crate) fn item<'a>(&'a self, steps: &'a [Step]) -> Option<&'a Item>
         ensures { option_copied result ≡ held steps.now self.now }
     {

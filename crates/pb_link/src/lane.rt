@@ -19,13 +19,12 @@ use rtrb::{Consumer, Producer};
 use std::alloc::Global;
 use std::marker::Model;
 
-/// A lane of a plan: one direction of a link, which is a point-to-point LAN between two bridges
-/// (802.1D-2004 clause 6.4.3). It takes items from the bridge at its beginning, loses those that the
-/// plan loses, and puts the others in front of the bridge at its end. It holds at most one item,
-/// taken and not yet put.
+/// A lane of a plan: one direction of a link, which is a point-to-point LAN between two bridges (IEEE 802.1D-2004
+/// clause 6.4.3). It takes items from the bridge at its beginning, loses those that the plan loses, and puts the others
+/// before the bridge at its end. It holds at most one item, taken and not yet put.
 ///
-/// Contracts see the numbers of the items that it loses, the list of its steps, whether each of these is kept in
-/// memory or they are only counted, and whether there is room for one more step.
+/// Contracts see the numbers of the items that it loses, the list of its steps, whether the steps are kept in memory or
+/// only counted, and whether one more step is reserved.
 #[derive(Drop)]
 pub struct Lane {
     losses: Losses,
@@ -50,7 +49,7 @@ impl Model for Lane {
         × HasRoom l.steps.steps l.steps.is_reserved };
 }
 
-/// What is in hand once an item was taken by a step at a place, or by one that was given back.
+/// Returns what is in hand after a Take step at index `place`, or after one that was given back.
 fn hand_of(is_lost: bool, place: usize, back: Option<Step>) -> Holding
     ensures { result ≡ (if is_lost then Holding.Nothing else holding_of place back) }
 {
@@ -60,7 +59,7 @@ fn hand_of(is_lost: bool, place: usize, back: Option<Step>) -> Holding
     Holding::of(place, back)
 }
 
-/// The lane that loses the items of these numbers, with this list of steps.
+/// Returns the lane that loses the items of these numbers, with this empty list of steps.
 fn started(losses: Seq<u64>, steps: Steps) -> Lane
     requires rising { Rises losses }
     requires none { steps.steps ≡ [] }
@@ -75,8 +74,8 @@ fn started(losses: Seq<u64>, steps: Steps) -> Lane
 }
 
 impl Lane {
-    /// The lane that loses the items of these numbers, and has taken no step. The numbers rise; the
-    /// first item that the lane takes has number 0. Each step will be kept. Takes no memory.
+    /// Returns the lane that loses the items of these numbers, and has taken no step. The numbers rise, and the first
+    /// item that the lane takes has number 0. It keeps each step. Allocates nothing.
     pub fn new(alloc: Global, losses: Seq<u64>) -> Lane
         requires { Rises losses }
         ensures { result ≡ at_start losses true }
@@ -84,7 +83,8 @@ impl Lane {
         started(losses, Steps::kept(alloc))
     }
 
-    /// The same, but that steps are only counted: the memory of the lane does not grow with them.
+    /// Returns the lane that loses the items of these numbers, and has taken no step. It only counts its steps: its
+    /// memory does not grow with them. Allocates nothing.
     pub fn counting(alloc: Global, losses: Seq<u64>) -> Lane
         requires { Rises losses }
         ensures { result ≡ at_start losses false }
@@ -92,7 +92,7 @@ impl Lane {
         started(losses, Steps::counted(alloc))
     }
 
-    /// The steps so far, where they are kept. Where they are only counted, there is none to be seen.
+    /// Returns the steps that are kept. The slice is empty if steps are only counted.
     pub fn steps(&self) -> &[Step]
         ensures steps { self.now.is_kept ≡ true → result.now ≡ self.now.steps }
         ensures lawful { IsLawfulLane self.now.losses self.now.steps }
@@ -100,14 +100,14 @@ impl Lane {
         self.steps.as_slice()
     }
 
-    /// What is counted of the steps so far.
+    /// Returns the counts of the steps.
     pub fn tally(&self) -> &Tally
         ensures { result.now ≡ self.now.steps }
     {
         self.steps.tally()
     }
 
-    /// The number of steps so far.
+    /// Returns the number of steps, kept or counted.
     #[inline(always)]
     pub fn step_count(&self) -> u64
         ensures { result ≡ length self.now.steps }
@@ -115,7 +115,7 @@ impl Lane {
         self.steps.len()
     }
 
-    /// The steps, kept or counted as they are, and no lane any more. Takes no memory.
+    /// Returns the steps, kept or counted, and drops the rest of the lane. Allocates nothing.
     pub fn into_steps(self) -> Steps
         ensures steps { result.steps ≡ self.steps }
         ensures kept { result.is_kept ≡ self.is_kept }
@@ -129,11 +129,12 @@ impl Lane {
         steps
     }
 
-    /// Makes room for one step, which the next step uses up.
+    /// Reserves one step, which the next step uses up. Returns `Ok` at once if one is reserved.
     ///
-    /// `Memory` is answered where there is none for one more, or 2^64-1 steps were taken; nothing has
-    /// changed then. Where there is room already, the answer is `Ok`, and where steps are only counted and fewer
-    /// were taken.
+    /// # Errors
+    ///
+    /// `Memory` if the allocation failed, or if 2^64-1 steps were taken. The lane is unchanged then. A lane that only
+    /// counts its steps fails in the second case alone.
     pub fn reserve(&mut self) -> Result<(), Memory>
         ensures ok { OnOk result (self.new ≡ record self.old { is_reserved = true }) }
         ensures err { OnErr result (self.new ≡ self.old) }
@@ -146,21 +147,21 @@ impl Lane {
         self.steps.reserve()
     }
 
-    /// No item is in hand.
+    /// Checks whether no item is in hand.
     pub fn is_hand_empty(&self) -> bool
         ensures { result ≡ is_hand_empty self.now.steps }
     {
         self.hand.is_nothing()
     }
 
-    /// The item in hand: taken, not lost, and not yet put.
+    /// Returns the item in hand: taken, not lost, and not yet put.
     pub fn hand(&self) -> Option<&Item>
         ensures { option_copied result ≡ in_hand self.now.steps }
     {
         self.hand.item(self.steps.as_slice())
     }
 
-    /// Takes an item. It is in hand then, unless the plan loses it. Takes no memory.
+    /// Takes an item. It is in hand then, unless the plan loses it. Allocates nothing.
     pub fn accept(&mut self, item: Item)
         requires reserved { self.old.is_reserved ≡ true }
         requires empty { is_hand_empty self.old.steps ≡ true }
@@ -174,10 +175,12 @@ impl Lane {
         self.hand = hand_of(lost, place, back);
     }
 
-    /// Puts the item in hand in front of the bridge at the end.
+    /// Returns the item in hand, for the bridge at the end, and appends a Put step. The hand is empty then.
     ///
-    /// `Memory` is answered where there is no room for the step, or where steps are kept and there is none for the
-    /// item's two copies, which share its octets. It is still in hand then.
+    /// # Errors
+    ///
+    /// `Memory` if no step could be reserved, or if steps are kept and an allocation for the item's two copies, which
+    /// share its octets, failed. The item is still in hand then.
     pub fn release(&mut self) -> Result<Item, Memory>
         requires { is_hand_empty self.old.steps ≡ false }
         ensures ok { IfOk result (λ item. HasPut self.old item self.new) }
@@ -196,10 +199,12 @@ impl Lane {
         Ok(given)
     }
 
-    /// Takes the oldest item off a ring, unless one is in hand or the ring is empty.
+    /// Takes the oldest item off a ring. Returns `false`, and changes nothing, if an item is in hand or the ring is
+    /// empty. The other end of the ring may send an item at any time.
     ///
-    /// `false` is answered where there is nothing to do; the other end of the ring may send an item at any
-    /// time. `Memory` is answered where there is no room for the step. Nothing has changed after either.
+    /// # Errors
+    ///
+    /// `Memory` if no step could be reserved. Nothing is changed then.
     pub fn take(&mut self, from: &mut Consumer<Item>) -> Result<bool, Memory>
         ensures taken { HasTaken result self.old (received from.old)
             (known_items from.new) self.new (received from.new) }
@@ -216,11 +221,13 @@ impl Lane {
         Ok(true)
     }
 
-    /// Puts the item in hand onto a ring, unless none is in hand or the ring is full.
+    /// Puts the item in hand onto a ring. Returns `false`, and changes nothing, if no item is in hand or the ring is
+    /// full. The other end of the ring may free a slot at any time.
     ///
-    /// `false` is answered where there is nothing to do; the other end of the ring may make room at any
-    /// time. `Memory` is answered where there is no room for the step, or where steps are kept and there is none
-    /// for the item's two copies, which share its octets. Nothing has changed after either.
+    /// # Errors
+    ///
+    /// `Memory` if no step could be reserved, or if steps are kept and an allocation for the item's two copies, which
+    /// share its octets, failed. Nothing is changed then.
     pub fn put(&mut self, to: &mut Producer<Item>) -> Result<bool, Memory>
         ensures put { HasSent result self.old (sent to.old) (known_free to.new) self.new (sent to.new) }
         ensures ring { SameProducer to.old to.new }
@@ -235,7 +242,7 @@ impl Lane {
         Ok(true)
     }
 
-    /// A copy of the item in hand.
+    /// Returns a copy of the item in hand. It shares the octets of the item.
     fn copy_in_hand(&self) -> Result<Item, Memory>
         requires { is_hand_empty self.now.steps ≡ false }
         ensures { IfOk result (λ item. in_hand self.now.steps ≡ Some item) }
@@ -246,7 +253,7 @@ impl Lane {
         Ok(item.clone()?)
     }
 
-    /// Appends the step that puts the item in hand.
+    /// Appends the step that puts the item in hand, and empties the hand.
     fn note_put(&mut self, item: Item)
         requires reserved { self.old.is_reserved ≡ true }
         requires held { in_hand self.old.steps ≡ Some item }
@@ -257,7 +264,7 @@ impl Lane {
         append(&mut self.steps, Step::Put { item });
     }
 
-    /// Puts the item in hand, where steps are only counted. Takes no memory.
+    /// Returns the item in hand and appends its Put step, if steps are only counted. Allocates nothing.
     fn put_held(&mut self) -> Item
         requires reserved { self.old.is_reserved ≡ true }
         requires full { is_hand_empty self.old.steps ≡ false }

@@ -1,9 +1,8 @@
-//! The places between bridges and at the edge of a network, which have one item in hand: lanes and
-//! customer ports.
+//! Lanes and customer ports: the places between bridges and at the edge of a network, over pb_frame and pb_history.
 //!
-//! A place keeps the list of its steps, or only counts them. Contracts see the list either way, and it is lawful
-//! whatever is called in which order. A place knows nothing of the queues or rings through which its items come and
-//! go: who owns those takes an item off one and hands it in, or is handed an item and puts it on.
+//! A place holds at most one item, and keeps or counts its steps. Contracts see the list of steps either way, and it is
+//! lawful whatever calls were made. The owner of a place moves items between its queues or rings and the place. Begin
+//! reading at `CustomerPlace` and `Lane`.
 #![tactic(auto)]
 
 mod customer;

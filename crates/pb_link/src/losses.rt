@@ -1,4 +1,4 @@
-//! Which items a lane loses.
+//! The items that a lane loses.
 
 ghost use Rattle.std.specs.Prelude.{◌≡◌, ◌+◌, ◌<◌, ◌==◌, ◌^◌, true, drop, if◌then◌else◌};
 ghost use Rattle.std.specs.List.{list_any};
@@ -8,10 +8,10 @@ ghost use Rattle.pb_link.specs.Losses.{is_first};
 use pb_frame::Seq;
 use std::marker::Model;
 
-/// The numbers of the items that are lost, and how many items were taken. Each item is told in its
-/// turn whether it is lost, at one look: the numbers rise, and the next one is known.
+/// The numbers of the items that a lane loses, and the count of items that it took. The numbers rise, and the index of
+/// the next one is kept. One comparison decides whether an item is lost.
 ///
-/// Contracts see the numbers, and how many items were taken.
+/// Contracts see the numbers and the count.
 #[derive(Drop)]
 pub(crate) struct Losses {
     numbers: Seq<u64>,
@@ -30,7 +30,7 @@ impl Model for Losses {
 }
 
 impl Losses {
-    /// The items of these numbers will be lost. The first item has number 0. Takes no memory.
+    /// Returns the losses of a lane that took no item. The first item has number 0. Allocates nothing.
     pub(crate) fn new(numbers: Seq<u64>) -> Losses
         requires { Rises numbers }
         ensures { result ≡ record { numbers = numbers; taken = 0 } }
@@ -42,14 +42,14 @@ impl Losses {
         }
     }
 
-    /// The number of the next item.
+    /// Returns the number of the next item.
     pub(crate) fn number(&self) -> u64
         ensures { result ≡ self.now.taken }
     {
         self.taken
     }
 
-    /// Whether the next item is lost. It is taken.
+    /// Counts the next item, and returns whether it is lost.
     pub(crate) fn take(&mut self) -> bool
         requires { self.old.taken + 1 < 2 ^ 64 }
         ensures lost { result ≡ list_any (λ k. k == self.old.taken) self.old.numbers }
@@ -62,7 +62,7 @@ impl Losses {
     }
 }
 
-/// Whether the first of the numbers that are still to come is this one.
+/// Checks whether `number` is the first of the numbers from index `next` on.
 fn is_next(numbers: &[u64], next: usize, number: u64) -> bool
     ensures first { result ≡ is_first (drop next numbers.now) number }
     ensures within { result ≡ true → next + 1 < 2 ^ 64 }
@@ -70,7 +70,7 @@ fn is_next(numbers: &[u64], next: usize, number: u64) -> bool
     next < numbers.len() && numbers[next] == number
 }
 
-/// The place of the first number that is still to come, after an item that was lost or not.
+/// Returns the index of the next number, after an item that was lost or not.
 fn after_item(next: usize, is_lost: bool) -> usize
     requires { is_lost ≡ true → next + 1 < 2 ^ 64 }
     ensures { result ≡ (if is_lost then next + 1 else next) }

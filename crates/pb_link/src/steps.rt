@@ -6,7 +6,7 @@ ghost use Rattle.pb_history.specs.StepLists.{with_step};
 use pb_history::Steps;
 use pb_lan::Step;
 
-/// Puts a step behind the others. Where it is only counted, it is let go.
+/// Appends a step. If steps are only counted, the step is dropped.
 #[inline(always)]
 pub(crate) fn append(steps: &mut Steps, step: Step)
     requires { steps.old.is_reserved ≡ true }

@@ -23,18 +23,18 @@ use Rattle.pb_net.specs.Slots.{IsSlot, bridge_of, port_of, items_at}
 use Rattle.pb_net.proofs.Keeping.{after_bridge, one_slot}
 use Rattle.pb_net.proofs.OneMore.{items_at-set_other, moved_on, moved_in}
 
--- at the port, or at another
+-- the items at the port itself
 at_port : (at port : ℕ) (items : List Item) → at ≡ port → (if at == port then items else []) ≡ items
 at_port at port items e = ap (λ (b : Bool). if b then items else []) (eq-eqb at port e)
 
 elsewhere : (at port : ℕ) (items : List Item) → (at ≡ port → ⊥) → (if at == port then items else []) ≡ []
 elsewhere at port items ne = ap (λ (b : Bool). if b then items else []) (ne_eqb at port ne)
 
--- the slot of a port of another bridge is another
+-- two ports of different bridges have different slots
 other_slot : (plan : Plan) (r port s t : ℕ) → IsSlot plan (suc r) port s → (bridge_of t ≡ suc r → ⊥) → t ≡ s → ⊥
 other_slot plan r port s t at ne e = ne (ap bridge_of e ∙ at.of_bridge)
 
--- after a Receive
+-- the network's invariant after a Receive step
 pub after_receive : (plan : Plan) (rec : Record) (ins outs : List (List Item)) (r s port : ℕ) (item : Item)
     (learnt : Option Learnt) (outcome : Outcome) (moved : Option Moved) (inbox : List Item)
     → IsKept plan rec ins outs → r < length plan.bridges → IsSlot plan (suc r) port s
@@ -58,7 +58,7 @@ after_receive plan rec ins outs r s port item learnt outcome moved inbox kept wi
     ])
     (λ t e front w. w ∙ sym (flat_map-none (transmitted_by (port_of t)) step refl steps))
 
--- after a Transmit
+-- the network's invariant after a Transmit step
 pub after_transmit : (plan : Plan) (rec : Record) (ins outs : List (List Item)) (r s port : ℕ) (item : Item)
     (outbox : List Item)
     → IsKept plan rec ins outs → r < length plan.bridges → IsSlot plan (suc r) port s → slice_get outs s ≡ Some outbox
@@ -81,7 +81,7 @@ after_transmit plan rec ins outs r s port item outbox kept within at box lawful 
           (elsewhere port (port_of t) (item ∷ []) (λ p. ne (one_slot plan (suc r) port s t at e (sym p)))) steps)
     ])
 
--- after a step that neither receives nor transmits
+-- the network's invariant after a step that neither receives nor transmits
 pub after_quiet : (plan : Plan) (rec : Record) (ins outs : List (List Item)) (r : ℕ) (step : Step)
     → IsKept plan rec ins outs → r < length plan.bridges → ((port : ℕ) → received_by port step ≡ [])
     → ((port : ℕ) → transmitted_by port step ≡ [])

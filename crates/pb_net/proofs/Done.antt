@@ -1,4 +1,4 @@
--- What a network keeps and answers after an event was done, and after one that met want of memory.
+-- The invariant and the outcome of a network after an event was performed, and after one that failed.
 use Rattle.std.proofs.Common.{◌≡◌, ℕ, suc, ◌+◌, ◌<◌, Bool, true, false, ◌==◌, ◌↔◌, List, [], ◌∷◌, ◌++◌}
 use Rattle.std.proofs.Common.{Some, Ok, Err, map, length, get_or, refl, sym, ap, subst, ◌∙◌, arith, Global}
 use Rattle.std.proofs.lemmas.Bool.{eq-eqb}
@@ -57,7 +57,7 @@ use Rattle.pb_net.proofs.PortMoves.{after_poll, after_feed, after_deliver}
 abbrev pub net_with : Plan → Record → NetView
 net_with plan rec = record { plan = plan; rec = rec }
 
--- a fault is answered where nothing changed
+-- `IsAnswer` of a fault after which nothing changed
 answers_err : {net : NetView} {rec : Record} {result : Result Did NetFault} (s : Inside) (event : Event)
     (told : NetFault)
     → shown s ≡ net → rec ≡ rec_in s → (fault : NetFault) × (result ≡ Err fault) × (fault ≡ told)
@@ -68,13 +68,13 @@ answers_err {net} {rec} {result} s event told view same met answer =
     (subst (λ (x : Result Did NetFault). IsAnswer (shown s) event x (net_with s.plan rec))
     (sym (met.1 ∙ ap (λ z. Err z) met.2)) (answer (ap (net_with s.plan) same)))
 
--- want of memory, where the event was due
+-- `IsAnswer` of an event that was due when an allocation failed
 pub answers_memory : {net : NetView} {rec : Record} {result : Result Did NetFault} (s : Inside) (event : Event)
     → shown s ≡ net → IsDue (shown s) event → rec ≡ rec_in s
     → (fault : NetFault) × (result ≡ Err fault) × (fault ≡ Memory) → IsAnswer net event result (net_with s.plan rec)
 answers_memory s event view due same met = answers_err s event Memory view same met (λ e. (due, e))
 
--- and a bridge's fault: the limit where its list is full, else want of memory
+-- `IsAnswer` of a bridge's fault: the step limit if its list is full, else out of memory
 pub answers_fault : {net : NetView} {rec : Record} {result : Result Did NetFault} {s : Inside} {bridge port : ℕ}
     {spot : Spot} {b : BridgeView} {T : Type 0} (event : Event) (fault : BridgeFault)
     → BridgeAt s bridge port spot b → shown s ≡ net → rec ≡ rec_in s → names_something s.plan event ≡ true
@@ -88,7 +88,7 @@ answers_fault {s = s} event bridge_limit at view same named busy limit_so limit 
 answers_fault {s = s} event bridge_memory at view same named busy limit_so limit met =
     answers_memory s event view (due_within at event named busy limit_so (λ l. let wrong = limit.1 l in cc)) same met
 
--- and what was done
+-- `IsAnswer` of an event that was performed
 pub answers_done : {net : NetView} {rec : Record} (s : Inside) (event : Event)
     → shown s ≡ net → IsDue (shown s) event → HasDone (rec_in s) event rec
     → IsAnswer net event (Ok (Done (place_of event))) (net_with s.plan rec)
@@ -96,15 +96,15 @@ answers_done {rec = rec} s event view due done =
     subst (λ (v : NetView). IsAnswer v event (Ok (Done (place_of event))) (net_with s.plan rec)) view
     (due, refl, refl, done)
 
--- something is there
+-- a length that is not zero is positive
 pub some_there : (n : ℕ) → (n == 0) ≡ false → 0 < n
 some_there n e = grind (arith, nat_tests)
 
--- whether a Poll is due does not rest on its frame
+-- whether a Poll is due does not depend on its frame
 pub with_frame : (net : NetView) (port : ℕ) (frame : List ℕ) → IsDue net (Poll port []) → IsDue net (Poll port frame)
 with_frame net port frame due = record { named = due.named; busy = due.busy; within = due.within }
 
--- a place that stands at a spot has not changed its steps
+-- the record is unchanged if the place at a spot has unchanged steps, as after a failed step
 pub customer_failed : {s : Inside} {port : ℕ} {spot : Spot} {old : PlaceView} (new : PlaceView)
     → CustomerAt s port spot old
     → new.number ≡ old.number → new.is_kept ≡ old.is_kept → new.steps ≡ old.steps
@@ -127,7 +127,7 @@ lane_failed {s} {lane} {IsSpot} {spot} {old} new at losses is_kept same =
     (map-set_kept (λ (l : LaneView). l.steps) s.lanes.items spot.place old new at.here same) in
     ((k.0, placed_lane s spot.place old new k at.here losses is_kept, rw e k.2, k.3, k.4, k.5), e)
 
--- a bridge's steps are those of the record still
+-- the steps of an unchanged bridge are those of the record
 pub bridge_kept : {s : Inside} {bridge port : ℕ} {spot : Spot} {old : BridgeView} (new : BridgeView)
     → BridgeAt s bridge port spot old → new.steps ≡ old.steps
     → record_of (set s.bridges.items spot.place new) s.lanes.items s.customers.items ≡ rec_in s
@@ -145,14 +145,13 @@ bridge_failed {s} {bridge} {port} {spot} {old} new at of_plan number is_kept sam
     let e = bridge_kept new at same in
     ((k.0, placed_bridge s spot.place old new k at.here of_plan number is_kept, rw e k.2, k.3, k.4, k.5), e)
 
--- an event was done: this is kept now, and its place has taken its step
+-- an event was performed: the invariant holds of these parts, and the place has taken its step
 abbrev IsDoneAs : Inside → Event → List BridgeView → List LaneView → List PlaceView → List (List Item)
     → List (List Item) → Type 0
 IsDoneAs s event bridges lanes customers ins outs =
     KeepsAs s bridges lanes customers ins outs × HasDone (rec_in s) event (record_of bridges lanes customers)
 
--- An event of a place was done, which has taken this step: its list is lawful with it, and what its meeting place holds
--- now goes with that.
+-- A customer port took this step: its list is lawful with it, and its queue changed accordingly.
 customer_done : {s : Inside} {port : ℕ} {spot : Spot} {old : PlaceView} {ins outs : List (List Item)}
     (new : PlaceView) (event : Event) (step : Step)
     → CustomerAt s port spot old
@@ -338,7 +337,7 @@ put_done {s} {lane} {spot} {old} {box} new box' at value losses is_kept lawful m
     (after_put s.plan (rec_in s) (ins_of s) (outs_of s) spot.place spot.slot moved.item end.link box.items
     at.keeps.0.sound at.keeps.2 at.known.there end.planned end.to (inbox_at at value)))
 
--- the same at no meeting place, of a bridge that appended the step
+-- `IsDoneAs` for a bridge's step that changes no queue
 quiet_done : {s : Inside} {bridge port : ℕ} {spot : Spot} {old : BridgeView} (new : BridgeView) (event : Event)
     (step : Step)
     → BridgeAt s bridge port spot old

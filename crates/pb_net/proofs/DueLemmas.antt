@@ -1,4 +1,4 @@
--- Whether an event is due, told from what the network keeps.
+-- Shows that the tests of an event on the network's fields decide whether it is due.
 use Rattle.std.proofs.Common.{◌≡◌, ℕ, ◌+◌, ◌<◌, Bool, true, false, not, ◌||◌, ◌&&◌, ◌==◌, nat_le, List}
 use Rattle.std.proofs.Common.{◌++◌, Some, None, Ok, Err, map, length, get_or, sym, ap, ap₂, subst, ◌∙◌, arith}
 use Rattle.std.proofs.Common.{length-append, Global, is_some, ne_eqb}
@@ -39,15 +39,15 @@ use Rattle.pb_net.proofs.KnownSpots.{inbox_at, outbox_at}
 use Rattle.pb_net.proofs.Meetings.{sent_to-customer, fetched_from-customer, sent_to-lane, fetched_from-lane}
 use Rattle.pb_net.proofs.OneMore.{items_at-here}
 
--- the same added to both sides
+-- `≤` is unchanged by a number added to both sides
 le_shifted : (a b c : ℕ) → nat_le (a + b) (a + c) ≡ nat_le b c
 le_shifted a b c = grind (arith, nat_tests)
 
--- nothing is there
+-- a length at most 0 is 0
 none_there : (n : ℕ) → nat_le n 0 ≡ (n == 0)
 none_there n = grind (arith, nat_tests)
 
--- what was got and what is left is what was sent: how much is left tells the rest
+-- the record says that a ring is full exactly if the length of the queue is at least the size of the ring
 ring_full_is : (plan : Plan) (sent got left box : List Item) (ring : ℕ) → got ++ left ≡ sent → left ≡ box
     → ring ≡ plan.ring
     → is_ring_full plan sent got ≡ nat_le ring (length box)
@@ -64,7 +64,7 @@ all_fetched_is sent got left box e here =
     ap₂ nat_le n all ∙ le_shifted (length got) (length left) 0
     ∙ ap (λ (z : List Item). nat_le (length z) 0) here ∙ none_there (length box)
 
--- what was sifted is due, where the tests are those of the event
+-- `IsSifted` for the tests of an event gives `IsDueOr`
 sifted : {X : Type 0} (net : NetView) (event : Event) (idle limit : Bool) (place : X)
     (result : Result (Option X) NetFault)
     → names_something net.plan event ≡ true → is_idle net.plan net.rec event ≡ idle
@@ -77,8 +77,8 @@ sifted net event idle limit place (Err StepLimit) named idle_so limit_so h = (na
 sifted net event idle limit place (Err Memory) named idle_so limit_so h = h
 sifted net event idle limit place (Err NoSuch) named idle_so limit_so h = absurd h
 
--- what stands at a slot is what was sent to its port and not received, and what was transmitted there
--- and not fetched
+-- the inbox of a slot is what was sent to its port and not received, the outbox what was transmitted there and not
+-- fetched
 pub into_at : (plan : Plan) (rec : Record) (ins outs : List (List Item)) (b q s : ℕ) → IsKept plan rec ins outs
     → IsSlot plan b q s
     → received q (steps_of rec.bridges b) ++ items_at ins s ≡ sent_to plan rec b q
@@ -89,11 +89,11 @@ pub out_at : (plan : Plan) (rec : Record) (ins outs : List (List Item)) (b q s :
     → fetched_from plan rec b q ++ items_at outs s ≡ transmitted q (steps_of rec.bridges b)
 out_at plan rec ins outs b q s kept at = rw (sym at.of_bridge, sym at.of_port) (kept.out s)
 
--- an event that is due of what callers see is due of what is kept
+-- an event that is due in the view is due in the network's fields
 pub due_here : {net : NetView} {event : Event} (s : Inside) → shown s ≡ net → IsDue net event → IsDue (shown s) event
 due_here {event = event} s view due = subst (λ (v : NetView). IsDue v event) (sym view) due
 
--- an event of a place that stands at a spot is due, where the tests are those of the event
+-- an event of a place at a spot is due exactly if the tests are those of the event
 pub due_is : {X : Type 0} {net : NetView} {s : Inside} {steps : X → List Step} {places : List X} {number : ℕ}
     {IsSpot : Spot → Type 0} {spot : Spot} {x : X} {idle : Bool}
     → StandsAt s steps places number IsSpot spot x → (event : Event) (result : Result (Option Spot) NetFault)
@@ -106,12 +106,12 @@ due_is {s = s} {steps = steps} {spot = spot} {x = x} {idle = idle} at event resu
     subst (λ (v : NetView). IsDueOr v event result) view
     (sifted (shown s) event idle (length (steps x) == s.limit) spot result here idle_so (limit_so ∙ limit) sift)
 
--- a Poll
+-- the idle test of a Poll
 pub idle_poll_is : {s : Inside} {port : ℕ} {spot : Spot} {p : PlaceView} → CustomerAt s port spot p → (frame : List ℕ)
     → is_idle s.plan (rec_in s) (Poll port frame) ≡ not (is_hand_empty p.steps)
 idle_poll_is at frame = ap (λ (ms : List Step). not (is_hand_empty ms)) at.mine
 
--- a Feed
+-- the idle test of a Feed
 pub idle_feed_is : {s : Inside} {port : ℕ} {spot : Spot} {p : PlaceView} {box : VecDeque Item Global}
     → CustomerAt s port spot p → box ≡ get_or s.inboxes.items spot.slot box
     → is_idle s.plan (rec_in s) (Feed port) ≡ (is_hand_empty p.steps || nat_le s.ring (length box.items))
@@ -127,7 +127,7 @@ idle_feed_is {s} {port} {spot} {p} {box} at value =
     (items_at (ins_of s) spot.slot) box.items s.ring whole
     (items_at-here (ins_of s) spot.slot box.items (inbox_at at value)) at.keeps.4.places)
 
--- a Deliver
+-- the idle test of a Deliver
 pub idle_deliver_is : {s : Inside} {port : ℕ} {spot : Spot} {p : PlaceView} {box : VecDeque Item Global}
     → CustomerAt s port spot p → box ≡ get_or s.outboxes.items spot.slot box
     → is_idle s.plan (rec_in s) (Deliver port) ≡ (length box.items == 0)
@@ -143,7 +143,7 @@ idle_deliver_is {s} {port} {spot} {p} {box} at value =
     (items_at (outs_of s) spot.slot) box.items whole
     (items_at-here (outs_of s) spot.slot box.items (outbox_at at value))
 
--- a Receive
+-- the idle test of a Receive
 pub idle_receive_is : {s : Inside} {bridge port : ℕ} {spot : Spot} {b : BridgeView} {box : VecDeque Item Global}
     → BridgeAt s bridge port spot b → box ≡ get_or s.inboxes.items spot.slot box
     → is_idle s.plan (rec_in s) (Receive bridge port) ≡ (length box.items == 0)
@@ -154,13 +154,13 @@ idle_receive_is {s} {bridge} {port} {spot} {b} {box} at value =
     (into_at s.plan rec (ins_of s) (outs_of s) bridge port spot.slot at.keeps.2 at.known.slot)
     (items_at-here (ins_of s) spot.slot box.items (inbox_at at value))
 
--- a bridge that stands there has the plan and its number
+-- a bridge at a spot has the network's plan and its number
 pub bridge_is : {s : Inside} {bridge port : ℕ} {spot : Spot} {b : BridgeView} → BridgeAt s bridge port spot b
     → (b.plan ≡ s.plan) × (b.number ≡ bridge)
 bridge_is {s} {bridge} {port} {spot} {b} at =
     (at.keeps.1.planned spot.place b at.here, at.keeps.1.bridge_numbers spot.place b at.here ∙ at.known.place)
 
--- a Transmit
+-- the idle test of a Transmit
 pub idle_transmit_is : {s : Inside} {bridge port : ℕ} {spot : Spot} {b : BridgeView} {box : VecDeque Item Global}
     → BridgeAt s bridge port spot b → box ≡ get_or s.outboxes.items spot.slot box
     → is_idle s.plan (rec_in s)
@@ -178,12 +178,12 @@ idle_transmit_is {s} {bridge} {port} {spot} {b} {box} at value =
     (out_at s.plan rec (ins_of s) (outs_of s) bridge port spot.slot at.keeps.2 at.known.slot)
     (items_at-here (outs_of s) spot.slot box.items (outbox_at at value)) at.keeps.4.places)
 
--- a lane whose index is in range is one of so many
+-- a lane whose index is in range is a lane of the plan
 pub named_lane : (lane place lanes : ℕ) → place + 1 ≡ lane → place < lanes
     → (nat_le 1 lane && nat_le lane lanes) ≡ true
 named_lane lane place lanes e within = grind (arith, nat_tests, e, within)
 
--- a Take
+-- the idle test of a Take
 pub idle_take_is : {s : Inside} {lane : ℕ} {spot : Spot} {l : LaneView} {box : VecDeque Item Global}
     → StartAt s lane spot l → box ≡ get_or s.outboxes.items spot.slot box
     → is_idle s.plan (rec_in s) (Take lane) ≡ (not (is_lane_empty l.steps) || (length box.items == 0))
@@ -199,7 +199,7 @@ idle_take_is {s} {lane} {spot} {l} {box} at value =
     (items_at (outs_of s) spot.slot) box.items whole
     (items_at-here (outs_of s) spot.slot box.items (outbox_at at value)))
 
--- a Put
+-- the idle test of a Put
 pub idle_put_is : {s : Inside} {lane : ℕ} {spot : Spot} {l : LaneView} {box : VecDeque Item Global}
     → EndAt s lane spot l → box ≡ get_or s.inboxes.items spot.slot box
     → is_idle s.plan (rec_in s) (Put lane) ≡ (is_lane_empty l.steps || nat_le s.ring (length box.items))
@@ -214,7 +214,7 @@ idle_put_is {s} {lane} {spot} {l} {box} at value =
     (items_at (ins_of s) spot.slot) box.items s.ring whole
     (items_at-here (ins_of s) spot.slot box.items (inbox_at at value)) at.keeps.4.places)
 
--- a bridge that stands there has its number in the plan
+-- a bridge at a spot has a number of the plan
 pub named_bridge : {s : Inside} {bridge port : ℕ} {spot : Spot} {b : BridgeView} → BridgeAt s bridge port spot b
     → is_some (numbered s.plan.bridges bridge) ≡ true
 named_bridge {s} {bridge} {port} {spot} at = ap is_some (numbered-exists s.plan.bridges bridge
@@ -225,7 +225,7 @@ pub limit_is : {s : Inside} {bridge port : ℕ} {spot : Spot} {b : BridgeView} �
     → (length (steps_of (rec_in s).bridges bridge) == s.plan.steps) ≡ (length b.steps == b.plan.steps)
 limit_is at = ap₂ (λ (ms : List Step) (p : Plan). length ms == p.steps) at.mine (sym (bridge_is at).0)
 
--- an event of a bridge that isn't at its limit is due, where nothing else hinders it
+-- an event of a bridge below its limit is due if it is not idle
 pub due_within : {s : Inside} {bridge port : ℕ} {spot : Spot} {b : BridgeView} → BridgeAt s bridge port spot b
     → (event : Event) → names_something s.plan event ≡ true → is_idle s.plan (rec_in s) event ≡ false
     → is_at_limit s.plan (rec_in s) event ≡ (length (steps_of (rec_in s).bridges bridge) == s.plan.steps)

@@ -1,10 +1,10 @@
--- The number of the first thing that passes a test.
+-- The number of the first item that passes a test.
 use Rattle.std.proofs.Common.{◌≡◌, ℕ, suc, ◌+◌, ◌⊎◌, inl, inr, Bool, true, false, if◌then◌else◌, List, [], ◌∷◌, Some}
 use Rattle.std.proofs.Common.{None, slice_get, refl, ◌∙◌, arith}
 use Rattle.pb_frame.specs.Lists.{first}
 use Rattle.pb_lan.specs.Events.{number_of}
 
--- the first thing that passes a test has its number
+-- the first item that passes a test has its number
 pub number_of-cases : {X : Type 0} (test : X → Bool) (k : ℕ) (xs : List X)
     → ((number_of test k xs ≡ 0) × (first test xs ≡ None))
     ⊎ ((i : ℕ) × (x : X) × (number_of test k xs ≡ k + i) × (slice_get xs i ≡ Some x) × (first test xs ≡ Some x)

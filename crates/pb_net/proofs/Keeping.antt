@@ -1,4 +1,4 @@
--- A network's lists and meeting places, with one step more.
+-- The lists and queues of a network, with one more step.
 use Rattle.std.proofs.Common.{◌≡◌, ℕ, suc, ◌*◌, ◌<◌, ◌/◌, ◌%◌, inl, inr, List, [], ◌∷◌, ◌++◌, length, refl, sym, ap}
 use Rattle.std.proofs.Common.{subst, ◌∙◌, arith, length-set}
 use Rattle.std.proofs.Math.ListN.{set}
@@ -27,7 +27,7 @@ one_slot plan bridge port s t is b q =
     let columns : t % 16 ≡ s % 16 = omega (arith, is.of_port, q) in
     omega arith
 
--- what was sent to slots, and fetched from them, as the meeting places changed
+-- each inbox gained exactly what was sent to its slot
 abbrev pub Sends : Plan → Record → Record → List (List Item) → List (List Item) → Type 0
 Sends plan rec rec' ins ins' =
     (s : ℕ) (front : List Item) → front ++ items_at ins s ≡ sent_to plan rec (bridge_of s) (port_of s)
@@ -38,7 +38,7 @@ Fetches plan rec rec' outs outs' =
     (s : ℕ) (whole : List Item) → fetched_from plan rec (bridge_of s) (port_of s) ++ items_at outs s ≡ whole
     → fetched_from plan rec' (bridge_of s) (port_of s) ++ items_at outs' s ≡ whole
 
--- what holds of each list of steps by its number holds of each with one changed
+-- a property of each list of steps, by number, holds after one list has grown
 each_set : (P : ℕ → List Step → Type 0) (lists : List (List Step)) (r : ℕ) (grown : List Step) → r < length lists
     → P (suc r) grown → ((n : ℕ) → P n (steps_of lists n)) → (n : ℕ) → P n (steps_of (set lists r grown) n)
 each_set P lists r grown within changed each n = elim (cases_eq n (suc r)) [
@@ -47,7 +47,7 @@ each_set P lists r grown within changed each n = elim (cases_eq n (suc r)) [
   | inr ne ↦ subst (P n) (sym (steps_of-set_other lists r n grown ne)) (each n)
 ]
 
--- a customer port has taken a step
+-- the invariant after a step of a customer port
 pub after_port : (plan : Plan) (rec : Record) (ins outs ins' outs' : List (List Item)) (r : ℕ) (step : Step)
     → IsKept plan rec ins outs → r < length plan.customers
     → IsLawfulPort (suc r) (steps_of rec.customers (suc r) ++ step ∷ [])
@@ -71,7 +71,7 @@ after_port plan rec ins outs ins' outs' r step kept within lawful ins_so outs_so
       out = λ s. fetches s (transmitted (port_of s) (steps_of rec.bridges (bridge_of s))) (kept.out s);
     }
 
--- a lane has
+-- the invariant after a step of a lane
 pub after_lane : (plan : Plan) (rec : Record) (ins outs ins' outs' : List (List Item)) (r : ℕ) (step : Step)
     → IsKept plan rec ins outs → r < 2 * length plan.links
     → IsLawfulLane (losses_of plan (suc r)) (steps_of rec.lanes (suc r) ++ step ∷ [])
@@ -95,7 +95,7 @@ after_lane plan rec ins outs ins' outs' r step kept within lawful ins_so outs_so
       out = λ s. fetches s (transmitted (port_of s) (steps_of rec.bridges (bridge_of s))) (kept.out s);
     }
 
--- a bridge has
+-- the invariant after a step of a bridge
 pub after_bridge : (plan : Plan) (rec : Record) (ins outs ins' outs' : List (List Item)) (r : ℕ) (step : Step)
     → IsKept plan rec ins outs → r < length plan.bridges
     → IsLawfulBridge spanning_tree plan (suc r) (steps_of rec.bridges (suc r) ++ step ∷ [])

@@ -1,4 +1,4 @@
--- What a network keeps, by its fields, and what is known of a spot among them.
+-- The invariant of a network by its fields, and what is known of a spot among them.
 use Rattle.std.proofs.Common.{◌≡◌, ℕ, suc, ◌+◌, ◌*◌, ◌<◌, List, Some, map, length, slice_get, get_or, sym, ap, subst}
 use Rattle.std.proofs.Common.{◌∙◌, arith, Global}
 use Rattle.std.proofs.lemmas.List.{length-map}
@@ -20,11 +20,11 @@ use Rattle.pb_net.specs.declared.net.Net.TheInside.{Inside}
 use Rattle.pb_net.specs.declared.slots.Spot.{Spot}
 use Rattle.pb_net.proofs.OneMore.{steps_of-map, map-set_kept}
 
--- what stands in a queue
+-- the items of a queue
 abbrev pub items_in : VecDeque Item Global → List Item
 items_in q = q.items
 
--- what stands at the meeting places of a network
+-- the items of a network's inboxes and outboxes
 abbrev pub ins_of : Inside → List (List Item)
 ins_of s = map items_in s.inboxes.items
 
@@ -34,14 +34,14 @@ outs_of s = map items_in s.outboxes.items
 abbrev pub rec_of : List (List Step) → List (List Step) → List (List Step) → Record
 rec_of bridges lanes customers = record { bridges = bridges; lanes = lanes; customers = customers }
 
--- the record of its places, and what callers see
+-- the record of its places, and the view that callers see
 abbrev pub rec_in : Inside → Record
 rec_in s = record_of s.bridges.items s.lanes.items s.customers.items
 
 abbrev pub shown : Inside → NetView
 shown s = record { plan = s.plan; rec = rec_in s }
 
--- what is kept, were these the places and what stands at the meeting places
+-- the invariant, with these places and queues
 abbrev pub KeepsAs : Inside → List BridgeView → List LaneView → List PlaceView → List (List Item) → List (List Item)
     → Type 0
 KeepsAs s bridges lanes customers ins outs =
@@ -55,8 +55,8 @@ KeepsAs s bridges lanes customers ins outs =
 abbrev pub Keeps : Inside → Type 0
 Keeps s = KeepsAs s s.bridges.items s.lanes.items s.customers.items (ins_of s) (outs_of s)
 
--- A place stands at a spot: the spot is the one that was asked for, its slot is in range, and the place that is found there
--- is that of this number, with its steps in the record.
+-- A place is at a spot: the spot is the one that was searched, its slot is in range, and the place found at its index
+-- has this number, with its steps in the record.
 pub record StandsAt {X : Type 0} (s : Inside) (steps : X → List Step) (places : List X) (number : ℕ)
     (IsSpot : Spot → Type 0) (spot : Spot) (x : X) : Type 0 where
   pub keeps : Keeps s
@@ -79,7 +79,7 @@ StartAt s lane = StandsAt s (λ (l : LaneView). l.steps) s.lanes.items lane (IsL
 abbrev pub EndAt : Inside → ℕ → Spot → LaneView → Type 0
 EndAt s lane = StandsAt s (λ (l : LaneView). l.steps) s.lanes.items lane (IsLaneEnd s.plan lane)
 
--- what was found at an index in range stands there
+-- the place found at an index in range is at its spot
 stands_at : {X : Type 0} (s : Inside) (steps : X → List Step) (places : List X) (number count : ℕ)
     (IsSpot : Spot → Type 0) (spot : Spot) (x : X)
     → Keeps s → IsSpot spot → spot.slot < 16 * length s.plan.bridges → length places ≡ count → spot.place < count
@@ -90,7 +90,7 @@ stands_at s steps places number count IsSpot spot x keeps known within counted t
     let mine = ap (λ n. steps_of (map steps places) n) (sym numbered) ∙ steps_of-map steps places spot.place x here in
     record { keeps = keeps; known = known; within = within; numbered = numbered; here = here; mine = mine }
 
--- the same of each kind of spot, from what callers were told of it
+-- `StandsAt` for each kind of spot, from the contract of the function that found it
 pub bridge_at : {net : NetView} {bridge port : ℕ} {spot : Spot} {b : BridgeView} (s : Inside)
     → Keeps s → shown s ≡ net → IsBridgeSpot net.plan bridge port spot → b ≡ get_or s.bridges.items spot.place b
     → BridgeAt s bridge port spot b
@@ -123,7 +123,7 @@ end_at {net} {lane} {spot} {l} s keeps view told value =
     stands_at s _ s.lanes.items lane _ (IsLaneEnd s.plan lane) spot l keeps known known.to.within keeps.1.lane_count
     known.there known.place value
 
--- a meeting place that was found by its slot
+-- a queue that was found by its slot
 box_at : (boxes : List (VecDeque Item Global)) (r n : ℕ) (box : VecDeque Item Global)
     → length (map items_in boxes) ≡ n → r < n → box ≡ get_or boxes r box → slice_get boxes r ≡ Some box
 box_at boxes r n box count within e = here_is boxes r box (omega (arith, length-map boxes items_in)) e
@@ -141,7 +141,7 @@ module _ {X : Type 0} {s : Inside} {steps : X → List Step} {places : List X} {
   outbox_at {box} value = part_at items_in s.outboxes.items spot.slot box
       (box_at s.outboxes.items spot.slot _ box at.keeps.2.outbox_count at.within value)
 
-  -- one that holds what it held
+  -- an inbox that holds the same items as before
   pub inbox_kept : {old : VecDeque Item Global} (new : VecDeque Item Global)
       → old ≡ get_or s.inboxes.items spot.slot old → new.items ≡ old.items
       → map items_in (set s.inboxes.items spot.slot new) ≡ ins_of s

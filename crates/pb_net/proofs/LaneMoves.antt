@@ -29,7 +29,7 @@ use Rattle.pb_net.proofs.PortMoves.{sends-nothing, fetches-nothing, sends-one, f
 abbrev items_in : List Taken → List Item
 items_in ts = map (λ t. t.item) ts
 
--- after a Take
+-- the network's invariant after a Take step
 pub after_take : (plan : Plan) (rec : Record) (ins outs : List (List Item)) (r s number : ℕ) (item : Item)
     (lost : Bool) (link : LinkPlan) (outbox : List Item)
     → IsSound plan → IsKept plan rec ins outs → r < 2 * length plan.links
@@ -59,7 +59,7 @@ after_take plan rec ins outs r s number item lost link outbox sound kept within 
     (λ e h. ap taken (steps_of-set_other rec.lanes r (lane_from plan b q) (steps ++ step ∷ [])
     (λ leads. ne (lane_from-back plan sound b q (suc r) e link h leads planned))))))
 
--- after a Put
+-- the network's invariant after a Put step
 pub after_put : (plan : Plan) (rec : Record) (ins outs : List (List Item)) (r s : ℕ) (item : Item) (link : LinkPlan)
     (inbox : List Item)
     → IsSound plan → IsKept plan rec ins outs → r < 2 * length plan.links

@@ -1,4 +1,4 @@
--- The lanes of a sound plan, and the ports where they begin and end.
+-- The lanes of a sound plan, and the ports at which they begin and end.
 use Rattle.std.proofs.Common.{◌≡◌, ℕ, zero, suc, ◌%◌, ◌<◌, inl, inr, Bool, true, false, if◌then◌else◌, nat_lt, ◌==◌}
 use Rattle.std.proofs.Common.{List, [], ◌∷◌, Some, map, slice_get, flat_map, refl, sym, ap, ap₂, subst, ◌∙◌, arith}
 use Rattle.std.proofs.Common.{eqb-true}
@@ -19,7 +19,7 @@ use Rattle.pb_lan.specs.declared.plan.LinkPlan.{LinkPlan}
 use Rattle.pb_net.specs.Slots.{link_of}
 use Rattle.pb_net.proofs.Found.{number_of-cases}
 
--- two ends of links at one port are one
+-- two ends of links at one port are the same end
 one_end : (plan : Plan) → IsSound plan → (k l : ℕ) (one other : LinkPlan) (d e : End)
     → numbered plan.links k ≡ Some one → numbered plan.links l ≡ Some other
     → IsEndOf one d → IsEndOf other e → d.bridge ≡ e.bridge → d.port ≡ e.port → d ≡ e
@@ -30,7 +30,7 @@ one_end plan sound k l one other d e h g x y b q =
     ∙ ap (λ n. port_at plan e.bridge n) q ∙ r in
     cc
 
--- the two ends of a link are two ports
+-- the two ends of a link are at two ports
 two_ends : (plan : Plan) → IsSound plan → (n : ℕ) (link : LinkPlan) → numbered plan.links n ≡ Some link
     → link.a.bridge ≡ link.b.bridge → link.a.port ≡ link.b.port → ⊥
 unfolding IsDistinct
@@ -54,7 +54,7 @@ two_ends plan sound (suc k) link at b q =
     there (l ∷ links) zero h d = clash l (Some-injective h) d.0.0
     there (l ∷ links) (suc i) h d = there links i h d.1.1
 
--- the link that has an end on this side is found by it
+-- the link with an end on this side is found by that end
 number_of-end : (plan : Plan) → IsSound plan → (side : LinkPlan → End) → ((l : LinkPlan) → IsEndOf l (side l))
     → (n : ℕ) (link : LinkPlan) → numbered plan.links n ≡ Some link
     → number_of (λ l. is_end_at (side link).bridge (side link).port (side l)) 1 plan.links ≡ n
@@ -73,7 +73,7 @@ number_of-end plan sound side is (suc k) link at =
           n ∙ omega (arith, same)
     ]
 
--- and no link has its first end at another's second
+-- no link has its first end at another's second end
 link_a-b : (plan : Plan) → IsSound plan → (n : ℕ) (link : LinkPlan) → numbered plan.links n ≡ Some link
     → link_a plan link.b.bridge link.b.port ≡ 0
 link_a-b plan sound zero link at = cc
@@ -92,11 +92,11 @@ link_a-b plan sound (suc k) link at =
           (ap (λ (e : End). e.port) both))
     ]
 
--- what leads from a port or to it: the lane of the link with its first end there, or of the one with its second
+-- the lane to or from a port: that of the link with its first end there, or of the link with its second end there
 abbrev leads : (ℕ → ℕ) → (ℕ → ℕ) → Plan → ℕ → ℕ → ℕ
 leads f g plan b q = if nat_lt 0 (link_a plan b q) then f (link_a plan b q) else g (link_b plan b q)
 
--- where a link with this number has its first end, and where it has its second
+-- the lane at the first end of a link with this number, and at its second end
 leads-a : (f g : ℕ → ℕ) (plan : Plan) → IsSound plan → (n : ℕ) (link : LinkPlan) → numbered plan.links n ≡ Some link
     → leads f g plan link.a.bridge link.a.port ≡ f n
 leads-a f g plan sound zero link at = cc
@@ -110,7 +110,7 @@ leads-b f g plan sound n link at =
     ap (λ (m : ℕ). if nat_lt 0 m then f m else g (link_b plan link.b.bridge link.b.port))
     (link_a-b plan sound n link at) ∙ ap g (number_of-end plan sound (λ l. l.b) (λ l. inr refl) n link at)
 
--- a lane is one of its link's two
+-- a lane is one of the two lanes of its link
 odd : (k : ℕ) → (k % 2 == 1) ≡ true → lane_ab (link_of k) ≡ k
 odd k e = let one : k % 2 ≡ 1 = eqb-true (k % 2) 1 e in omega arith
 
@@ -120,7 +120,7 @@ even k e = let small : k % 2 < 2 = omega arith in let less : k % 2 ≡ 0 = not_o
     not_one : (m : ℕ) → m < 2 → (m == 1) ≡ false → m ≡ 0
     not_one m h e = grind (arith, h, e)
 
--- the port at a lane's end is led to by it, and the one at its beginning leads to it
+-- the lane found at the port of a lane's end is that lane, and also at the port of its beginning
 pub lane_to-is : (plan : Plan) → IsSound plan → (k : ℕ) (link : LinkPlan)
     → numbered plan.links (link_of k) ≡ Some link → lane_to plan (ends_at k link).bridge (ends_at k link).port ≡ k
 lane_to-is plan sound k link at =
@@ -140,7 +140,7 @@ lane_from-is plan sound k link at =
       | false ↦ λ e. leads-b lane_ab lane_ba plan sound (link_of k) link at ∙ even k e
     ] refl
 
--- both are ends of the link
+-- both ports of a lane are ends of its link
 pub ends_at-end : (k : ℕ) (link : LinkPlan) → IsEndOf link (ends_at k link)
 ends_at-end k link = elim (k % 2 == 1) as (λ b. IsEndOf link (if b then link.b else link.a))
     [ true ↦ inr refl | false ↦ inl refl ]
@@ -149,7 +149,7 @@ pub begins_at-end : (k : ℕ) (link : LinkPlan) → IsEndOf link (begins_at k li
 begins_at-end k link = elim (k % 2 == 1) as (λ b. IsEndOf link (if b then link.a else link.b))
     [ true ↦ inl refl | false ↦ inr refl ]
 
--- the lanes of the link of a number
+-- the lanes of the link with this number
 pub ab_link : (n : ℕ) → link_of (lane_ab (suc n)) ≡ suc n
 ab_link n = omega arith
 
@@ -162,8 +162,8 @@ ab_odd n = let one : lane_ab (suc n) % 2 ≡ 1 = omega arith in ap (λ m. m == 1
 pub ba_even : (n : ℕ) → (lane_ba (suc n) % 2 == 1) ≡ false
 ba_even n = let none : lane_ba (suc n) % 2 ≡ 0 = omega arith in ap (λ m. m == 1) none
 
--- The lanes that lead one way from a port, f of a link's number at its first end and g at its second, stand there by
--- `end`.
+-- The lanes that `leads` finds at a port, f of a link's number at its first end and g at its second, have their `end`
+-- there.
 lane-back : (f g : ℕ → ℕ) (end : ℕ → LinkPlan → End)
     → ((n : ℕ) → link_of (f (suc n)) ≡ suc n) → ((n : ℕ) → link_of (g (suc n)) ≡ suc n)
     → ((n : ℕ) (l : LinkPlan) → end (f (suc n)) l ≡ l.a) → ((n : ℕ) (l : LinkPlan) → end (g (suc n)) l ≡ l.b)
@@ -189,7 +189,7 @@ lane-back f g end of_f of_g end_f end_g plan sound b q k e link here to at =
     by j l h (inr a) leads_on = of_lane j (g (suc j)) l h (sym (leads-b f g plan sound (suc j) l h)
         ∙ ap (λ (d : End). leads f g plan d.bridge d.port) a ∙ leads_on) (of_g j) (end_g j l ∙ a)
 
--- where a lane leads to a port it ends there
+-- a lane that leads to a port ends there
 pub lane_to-back : (plan : Plan) → IsSound plan → (b q k : ℕ) (e : End) (link : LinkPlan)
     → port_at plan b q ≡ Provider e → lane_to plan b q ≡ k → numbered plan.links (link_of k) ≡ Some link
     → ((ends_at k link).bridge ≡ b) × ((ends_at k link).port ≡ q)
@@ -197,7 +197,7 @@ lane_to-back = lane-back lane_ba lane_ab ends_at ba_link ab_link
     (λ n l. ap (λ (t : Bool). if t then l.b else l.a) (ba_even n))
     (λ n l. ap (λ (t : Bool). if t then l.b else l.a) (ab_odd n))
 
--- and where it leads from one, it begins there
+-- a lane that leads from a port begins there
 pub lane_from-back : (plan : Plan) → IsSound plan → (b q k : ℕ) (e : End) (link : LinkPlan)
     → port_at plan b q ≡ Provider e → lane_from plan b q ≡ k → numbered plan.links (link_of k) ≡ Some link
     → ((begins_at k link).bridge ≡ b) × ((begins_at k link).port ≡ q)

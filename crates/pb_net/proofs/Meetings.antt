@@ -1,5 +1,4 @@
--- What was sent to a bridge's port, and what was fetched from it, as a customer port or a lane takes
--- steps.
+-- What was sent to a bridge's port, and what was fetched from it, as a customer port or a lane takes steps.
 use Rattle.std.proofs.Common.{◌≡◌, ℕ, suc, inl, inr, [], ◌∷◌, ◌++◌, Some, slice_get, refl, sym, ap}
 use Rattle.std.proofs.Common.{◌∙◌, arith, eqb-true}
 use Rattle.std.specs.Cmp.Derive.{both_true}
@@ -27,7 +26,7 @@ use Rattle.pb_net.proofs.Found.{number_of-cases}
 use Rattle.pb_net.proofs.Lanes.{lane_to-is, lane_from-is, ends_at-end, begins_at-end}
 use Rattle.pb_net.proofs.OneMore.{steps_of-set_other}
 
--- a customer port has its number where it stands
+-- the customer port found at a port of the plan is the one planned there
 pub customer_there-is : (plan : Plan) → IsSound plan → (n : ℕ) (c : CustomerPlan) → numbered plan.customers n ≡ Some c
     → customer_there plan c.bridge c.port ≡ n
 customer_there-is plan sound n c at =
@@ -41,7 +40,7 @@ customer_there-is plan sound n c at =
           m ∙ omega (arith, same)
     ]
 
--- and one that has a number stands where its plan says
+-- a customer port that was found by a bridge's port is planned there
 customer_there-back : (plan : Plan) (b q r : ℕ) (c : CustomerPlan) → customer_there plan b q ≡ suc r
     → numbered plan.customers (suc r) ≡ Some c → (c.bridge ≡ b) × (c.port ≡ q)
 customer_there-back plan b q r c there at =
@@ -56,7 +55,7 @@ customer_there-back plan b q r c there at =
           )
     ]
 
--- at a customer port
+-- what is sent to and fetched from the bridge's port of a customer port
 pub sent_to-customer : (plan : Plan) → IsSound plan → (rec : Record) (n : ℕ) (c : CustomerPlan)
     → numbered plan.customers n ≡ Some c
     → sent_to plan rec c.bridge c.port ≡ fed (steps_of rec.customers n)
@@ -71,7 +70,7 @@ fetched_from-customer plan sound rec n c at =
     ap (fetched_by plan rec c.bridge c.port) (port_at-customer plan sound n c at)
     ∙ ap (λ k. delivered (steps_of rec.customers k)) (customer_there-is plan sound n c at)
 
--- at the ends of a lane
+-- what is sent and fetched at the two ends of a lane
 pub sent_to-lane : (plan : Plan) → IsSound plan → (rec : Record) (k : ℕ) (link : LinkPlan)
     → numbered plan.links (link_of k) ≡ Some link
     → sent_to plan rec (ends_at k link).bridge (ends_at k link).port ≡ put (steps_of rec.lanes k)
@@ -88,7 +87,7 @@ fetched_from-lane plan sound rec k link at =
     (port_at-end plan sound (link_of k) link (begins_at k link) at (begins_at-end k link))
     ∙ ap (λ m. taken (steps_of rec.lanes m)) (lane_from-is plan sound k link at)
 
--- Two records that have the same at the place that stands at a port have the same sent to it, and fetched from it.
+-- Two records with the same steps of the neighbour at a port agree on what was sent to the port and fetched from it.
 pub sent_to-same : (plan : Plan) (rec rec' : Record) (b q : ℕ)
     → fed (steps_of rec'.customers (customer_there plan b q)) ≡ fed (steps_of rec.customers (customer_there plan b q))
     → ((e : End) → port_at plan b q ≡ Provider e
@@ -114,7 +113,7 @@ fetched_from-same plan rec rec' b q customer lane = by (port_at plan b q) refl
     by (Provider e) h = lane e h
     by Unused h = refl
 
--- a step of another customer port
+-- a step of another customer port changes nothing at a port
 pub elsewhere : (plan : Plan) (rec : Record) (r : ℕ) (c : CustomerPlan) (step : Step)
     → numbered plan.customers (suc r) ≡ Some c → (b q : ℕ) → ((c.bridge ≡ b) × (c.port ≡ q) → ⊥)
     → steps_of (with_step rec (CustomerPort (suc r)) step).customers (customer_there plan b q)

@@ -13,7 +13,7 @@ use Rattle.pb_lan.specs.declared.step.Item.{Item}
 use Rattle.pb_lan.specs.declared.step.Step.{Step}
 use Rattle.pb_net.specs.Slots.{items_at}
 
--- the steps of the place that took a step, and of another
+-- the steps of the place that took a step, and those of another place
 pub steps_of-set_same : (lists : List (List Step)) (r : ℕ) (steps : List Step) → r < length lists
     → steps_of (set lists r steps) (suc r) ≡ steps
 steps_of-set_same lists r steps h = ap (λ o. unwrap_or o []) (put_there lists r steps h)
@@ -24,7 +24,7 @@ steps_of-set_other lists r zero steps ne = refl
 steps_of-set_other lists r (suc s) steps ne = ap (λ o. unwrap_or o [])
     (put_elsewhere lists r s steps (λ e. ne (ap (λ n. suc n) e)))
 
--- what is read of a place's steps, where the step adds nothing to it
+-- what is read of a place's steps stays if the step adds nothing to it
 pub one_more-kept : {X : Type 0} (f : List Step → X) (step : Step) → ((ms : List Step) → f (ms ++ step ∷ []) ≡ f ms)
     → (lists : List (List Step)) (r m : ℕ) → r < length lists
     → f (steps_of (set lists r (steps_of lists (suc r) ++ step ∷ [])) m) ≡ f (steps_of lists m)
@@ -36,7 +36,7 @@ one_more-kept f step each lists r m within =
       | inr ne ↦ ap f (steps_of-set_other lists r m grown ne)
     ]
 
--- the items of the meeting place that changed, and of another
+-- the items of the queue that changed, and those of another queue
 pub items_at-set_same : (lists : List (List Item)) (s : ℕ) (items : List Item) → s < length lists
     → items_at (set lists s items) s ≡ items
 items_at-set_same lists s items h = ap (λ o. unwrap_or o []) (put_there lists s items h)
@@ -53,7 +53,7 @@ pub items_at-here : (lists : List (List Item)) (s : ℕ) (items : List Item) →
     → items_at lists s ≡ items
 items_at-here lists s items e = ap (λ o. unwrap_or o []) e
 
--- one thing has taken a step: so have the lists
+-- the lists of steps grow by the step of one place
 pub one_more-map : {X : Type 0} (f : X → List Step) (xs : List X) (r : ℕ) (old new : X) (step : Step)
     → slice_get xs r ≡ Some old
     → f new ≡ f old ++ step ∷ [] → map f (set xs r new) ≡ one_more (map f xs) (suc r) step
@@ -61,13 +61,13 @@ one_more-map f xs r old new step here grown =
     map-set f xs r new ∙ ap (λ z. set (map f xs) r z)
     (grown ∙ ap (λ z. z ++ step ∷ []) (sym (steps_of-map f xs r old here)))
 
--- one thing has changed, and shows what it showed
+-- a change of one item that keeps its image keeps the images of all
 pub map-set_kept : {X Y : Type 0} (f : X → Y) (xs : List X) (r : ℕ) (old new : X) → slice_get xs r ≡ Some old
     → f new ≡ f old → map f (set xs r new) ≡ map f xs
 map-set_kept f xs r old new here same = map-set_same f xs r new old
     (same ∙ ap f (sym (get_or_from_slice_get xs r old old here)))
 
--- the front of a meeting place went on to what was got there
+-- the front of a queue moved on to what was received from it
 pub moved_on : {got' whole : List Item} (got : List Item) (lists : List (List Item)) (s t : ℕ) (item : Item)
     (rest : List Item)
     → t ≡ s → slice_get lists s ≡ Some (item ∷ rest) → got' ≡ got ++ item ∷ [] → got ++ items_at lists t ≡ whole
@@ -78,7 +78,7 @@ moved_on got lists s t item rest here box grown e =
     ∙ append_assoc got (item ∷ []) rest
     ∙ ap (λ z. got ++ z) (sym (ap (items_at lists) here ∙ items_at-here lists s (item ∷ rest) box)) ∙ e
 
--- what was sent there came to its back
+-- what was sent to a queue is at its back
 pub moved_in : {sent sent' : List Item} (got : List Item) (lists : List (List Item)) (s t : ℕ) (item : Item)
     (items : List Item)
     → t ≡ s → slice_get lists s ≡ Some items → sent' ≡ sent ++ item ∷ [] → got ++ items_at lists t ≡ sent

@@ -15,7 +15,7 @@ use Rattle.pb_net.specs.Slots.{losses_of}
 use Rattle.pb_net.specs.declared.net.Net.TheInside.{Inside}
 use Rattle.pb_net.proofs.KnownSpots.{Keeps}
 
--- what holds of each place at its index holds of each where one has changed
+-- a property of each place, by index, holds after one place has changed
 each_set : {X : Type 0} (P : ℕ → X → Type 0) (xs : List X) (r : ℕ) (old new : X) → slice_get xs r ≡ Some old
     → ((s : ℕ) (x : X) → slice_get xs s ≡ Some x → P s x)
     → (P r old → P r new) → (s : ℕ) (x : X) → slice_get (set xs r new) s ≡ Some x → P s x
@@ -27,14 +27,14 @@ each_set P xs r old new here each changed s x h = elim (cases_eq s r) [
   | inr ne ↦ each s x (sym (put_elsewhere xs r s new ne) ∙ h)
 ]
 
--- and what holds of all still does
+-- a property of all places holds after one place has changed
 all_set : {X : Type 0} (P : X → Type 0) (xs : List X) (r : ℕ) (old new : X) → slice_get xs r ≡ Some old
     → AllByRecursion P xs → (P old → P new) → AllByRecursion P (set xs r new)
 all_set P [] r old new here all changed = tt
 all_set P (x ∷ xs) zero old new here all changed = (changed (subst P (Some-injective here) all.0), all.1)
 all_set P (x ∷ xs) (suc r) old new here all changed = (all.0, all_set P xs r old new here all.1 changed)
 
--- the places are those of the plan still, where one has kept what the plan says of it
+-- the places are those of the plan after one has changed, if it keeps what the plan says of it
 pub placed_bridge : (s : Inside) (r : ℕ) (old new : BridgeView) → Keeps s → slice_get s.bridges.items r ≡ Some old
     → new.plan ≡ old.plan → new.number ≡ old.number → new.is_kept ≡ old.is_kept
     → ArePlaced s.plan (set s.bridges.items r new) s.lanes.items s.customers.items

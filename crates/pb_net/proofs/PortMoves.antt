@@ -24,7 +24,7 @@ use Rattle.pb_net.proofs.Meetings.{elsewhere}
 use Rattle.pb_net.proofs.OneMore.{items_at-set_other, steps_of-set_same}
 use Rattle.pb_net.proofs.OneMore.{one_more-kept, moved_on, moved_in}
 
--- nothing sent, and nothing fetched
+-- `Sends` if nothing was sent and nothing fetched
 pub sends-nothing : (plan : Plan) (rec rec' : Record) (ins : List (List Item))
     → ((m : ℕ) → fed (steps_of rec'.customers m) ≡ fed (steps_of rec.customers m))
     → ((m : ℕ) → put (steps_of rec'.lanes m) ≡ put (steps_of rec.lanes m)) → Sends plan rec rec' ins ins
@@ -40,7 +40,7 @@ fetches-nothing plan rec rec' outs customers lanes = λ s whole e. ap (λ z. z +
     (customers (customer_there plan (bridge_of s) (port_of s)))
     (λ _ _. lanes (lane_from plan (bridge_of s) (port_of s)))) ∙ e
 
--- one item more sent to one port, or fetched from one
+-- `Sends` if one item was sent to one port, or fetched from one
 pub sends-one : (plan : Plan) (rec rec' : Record) (ins : List (List Item)) (s b q : ℕ) (item : Item)
     (inbox : List Item)
     → IsSlot plan b q s → slice_get ins s ≡ Some inbox → sent_to plan rec' b q ≡ sent_to plan rec b q ++ item ∷ []
@@ -75,12 +75,12 @@ fetches-one plan rec rec' outs s b q item outbox at box grown others = λ t whol
 abbrev items_in : List Delivered → List Item
 items_in ds = map (λ d. d.item) ds
 
--- a step with which nothing leaves
+-- a step that delivers nothing adds nothing to what was delivered
 delivers-nothing : (step : Step) → delivered_by step ≡ [] → (ms : List Step)
     → delivered (ms ++ step ∷ []) ≡ delivered ms
 delivers-nothing step e ms = ap items_in (flat_map-none delivered_by step e ms)
 
--- after a Poll
+-- the network's invariant after a Poll step
 pub after_poll : (plan : Plan) (rec : Record) (ins outs : List (List Item)) (r : ℕ) (item : Item)
     → IsKept plan rec ins outs → r < length plan.customers
     → IsLawfulPort (suc r) (steps_of rec.customers (suc r) ++ Poll item ∷ [])
@@ -95,7 +95,7 @@ after_poll plan rec ins outs r item kept within lawful =
     (fetches-nothing plan rec rec' outs
     (λ m. one_more-kept delivered step (delivers-nothing step refl) rec.customers r m room) (λ m. refl))
 
--- after a Feed
+-- the network's invariant after a Feed step
 pub after_feed : (plan : Plan) (rec : Record) (ins outs : List (List Item)) (r s : ℕ) (item : Item)
     (inbox : List Item)
     → IsSound plan → IsKept plan rec ins outs → r < length plan.customers → MeetsSlot plan (suc r) s
@@ -120,7 +120,7 @@ after_feed plan rec ins outs r s item inbox sound kept within meets box lawful =
     (fetches-nothing plan rec rec' outs
     (λ m. one_more-kept delivered step (delivers-nothing step refl) rec.customers r m room) (λ m. refl))
 
--- after a Deliver
+-- the network's invariant after a Deliver step
 pub after_deliver : (plan : Plan) (rec : Record) (ins outs : List (List Item)) (r s : ℕ) (item : Item)
     (outbox : List Item)
     → IsSound plan → IsKept plan rec ins outs → r < length plan.customers → MeetsSlot plan (suc r) s

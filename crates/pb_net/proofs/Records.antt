@@ -1,4 +1,4 @@
--- What a network keeps makes its record lawful, and what it answers makes a run.
+-- The invariant of a network makes its record lawful, and the outcomes of its events make a run.
 use Rattle.std.proofs.Common.{◌≡◌, ℕ, zero, suc, ◌-◌, ◌%◌, ◌≤◌, Bool, true, false, if◌then◌else◌, nat_le, ◌==◌, ◌&&◌}
 use Rattle.std.proofs.Common.{List, [], ◌∷◌, ◌++◌, Some, Ok, Err, is_some, unwrap_or, map, length, take, slice_get}
 use Rattle.std.proofs.Common.{get_or, refl, sym, ap, subst, ◌∙◌, arith}
@@ -51,8 +51,8 @@ out_port : (plan : Plan) (rec : Record) (ins outs : List (List Item)) (b q : ℕ
 out_port plan rec ins outs b q got kept of_bridge of_port e = ap (λ (z : List Item). z ++ items_at outs (slot_at b q))
     (sym e) ∙ out_at plan rec ins outs b q (slot_at b q) kept (slot_there plan b q of_bridge of_port)
 
--- Over one lane of a link what was received is a beginning of what was sent, and its list is lawful for the link. The
--- odd one begins at the link's first end.
+-- Over one lane of a link what was received is a beginning of what was sent, and the lane's list is lawful for the
+-- link. The odd lane begins at the link's first end.
 lane_lawful : (plan : Plan) (rec : Record) (ins outs : List (List Item)) (lane : ℕ) (link : LinkPlan) (odd : Bool)
     → IsSound plan → IsKept plan rec ins outs → numbered plan.links (link_of lane) ≡ Some link
     → (lane % 2 == 1) ≡ odd
@@ -81,7 +81,7 @@ lane_lawful plan rec ins outs lane link odd sound kept at is =
       },
     )
 
--- and so over both
+-- a link is lawful: both its lanes are
 link_lawful : (plan : Plan) (rec : Record) (ins outs : List (List Item)) (n : ℕ) (link : LinkPlan) → IsSound plan
     → IsKept plan rec ins outs → numbered plan.links n ≡ Some link → IsLawfulLink rec n link
 link_lawful plan rec ins outs zero link sound kept at = cc
@@ -125,7 +125,7 @@ pub lawful_inside : {net : NetView} (s : Inside) → Keeps s → shown s ≡ net
 lawful_inside s keeps view = subst (λ (v : NetView). IsLawfulRecord spanning_tree v.plan v.rec) view
     (kept_lawful s.plan (rec_in s) (ins_of s) (outs_of s) keeps.0 keeps.2)
 
--- one event more was answered
+-- a run extended by one event
 pub run_more : (old mid new : NetView) (events : List Event) (event : Event) (did : Did) → HaveRun old events mid
     → IsAnswer mid event (Ok did) new → HaveRun old (events ++ event ∷ []) new
 run_more old mid new [] event did e answer =
@@ -133,13 +133,13 @@ run_more old mid new [] event did e answer =
 run_more old mid new (first ∷ events) event did (between, other, head, rest) answer =
     (between, other, head, run_more between mid new events event did rest answer)
 
--- the steps of the place of a number
+-- the steps of the place with a number
 pub steps_at_number : {X : Type 0} (f : X → List Step) (xs : List X) (n : ℕ) (x : X) → 1 ≤ n
     → slice_get xs (n - 1) ≡ Some x → steps_of (map f xs) n ≡ f x
 steps_at_number f xs n x one here = let e : suc (n - 1) ≡ n = omega arith in ap (λ k. steps_of (map f xs) k) (sym e)
     ∙ steps_of-map f xs (n - 1) x here
 
--- the place of a number is kept, and its steps are those of the record
+-- the place with a number keeps its steps, and they are those of the record
 pub known_steps : {X : Type 0} (f : X → List Step) (is_kept : X → Bool) (xs : List X) (n count : ℕ) (x : X)
     → length xs ≡ count → (1 ≤ n) × (n ≤ count) → x ≡ get_or xs (n - 1) x
     → AllByRecursion (λ y. is_kept y ≡ true) xs → (is_kept x ≡ true) × (f x ≡ steps_of (map f xs) n)
@@ -147,7 +147,7 @@ known_steps f is_kept xs n count x counted known value all =
     let here = here_is xs (n - 1) x (omega (arith, known.0, known.1, counted)) value in
     (All-at (λ y. is_kept y ≡ true) xs (n - 1) x here all, sym (steps_at_number f xs n x known.0 here))
 
--- the numbers of a list's things are those from 1 to its length
+-- the numbers of a list's items are those from 1 to its length
 pub number_is_named : {X : Type 0} (xs : List X) (n : ℕ)
     → (nat_le 1 n && nat_le n (length xs)) ≡ is_some (numbered xs n)
 number_is_named xs zero = refl
@@ -158,7 +158,7 @@ number_is_named xs (suc r) = ap (λ b. b && nat_le (suc r) (length xs)) (leb-suc
     there (x ∷ xs) zero = leb-suc-suc 0 (length xs) ∙ leb-zero (length xs)
     there (x ∷ xs) (suc r) = leb-suc-suc (suc r) (length xs) ∙ there xs r
 
--- the plan knows a lane that has a place
+-- a lane that has a place has a number of the plan
 pub known_lane : (n lanes : ℕ) → (nat_le 1 n && nat_le n lanes) ≡ true → (1 ≤ n) × (n ≤ lanes)
 known_lane n lanes h = (
   leb-true 1 n (and-left (nat_le 1 n) (nat_le n lanes) h),
@@ -166,18 +166,18 @@ known_lane n lanes h = (
       (and-right (nat_le 1 n) (nat_le n lanes) h),
 )
 
--- a number that a plan knows is one of its things'
+-- a number that a plan knows is that of one of its items
 pub known_number : {X : Type 0} (xs : List X) (n : ℕ) → is_some (numbered xs n) ≡ true → (1 ≤ n) × (n ≤ length xs)
 known_number xs n h = known_lane n (length xs) (number_is_named xs n ∙ h)
 
--- a fault leaves the network as it was
+-- a fault leaves the network unchanged
 pub fault_keeps : (old new : NetView) (event : Event) (fault : NetFault) → IsAnswer old event (Err fault) new
     → new ≡ old
 fault_keeps old new event NoSuch a = a.1
 fault_keeps old new event StepLimit a = a.3
 fault_keeps old new event Memory a = a.1
 
--- and ends a run
+-- a run ends at a fault
 pub run_stopped : (old mid new : NetView) (events : List Event) (count : ℕ) (event : Event) (fault : NetFault)
     → slice_get events count ≡ Some event
     → HaveRun old (take count events) mid → IsAnswer mid event (Err fault) new → HasStopped old events count fault new

@@ -32,7 +32,7 @@ numbers-at k zero (x ∷ xs) l = omega arith
 numbers-at k (suc i) (x ∷ xs) l = let s : k + 1 + i ≡ k + suc i = omega arith in numbers-at (k + 1) i xs (omega arith)
     ∙ s
 
--- the machine of the bridge of a number, if it has one
+-- the machine of the bridge with a number, if it has one
 pub machine_at : (s : Inside) (r n : ℕ) (b : BridgeView) → Keeps s → r + 1 ≡ n → r < length s.bridges.items
     → b ≡ get_or s.bridges.items r b
     → machine_in b.plan b.number b.steps ≡ machine_in s.plan n (steps_of (rec_in s).bridges n)
@@ -44,7 +44,7 @@ machine_at s r n b keeps number within value =
     ∙ ap (machine_in s.plan n) (sym (steps_of-map (λ (x : BridgeView). x.steps) s.bridges.items r b here)
     ∙ ap (steps_of (rec_in s).bridges) one)
 
--- the machine of the bridge at a place of the list that is walked
+-- the machine of the bridge at an index of the list that is iterated
 pub machine_there : {net : NetView} (s : Inside) (walked : List BridgeView) (r : ℕ) (b : BridgeView) → Keeps s
     → shown s ≡ net → net.plan.spanning ≡ Rstp → walked ≡ s.bridges.items → r < length walked
     → b ≡ get_or walked r b → (r < length s.bridges.items)
@@ -58,7 +58,7 @@ machine_there s walked r b keeps view rstp e within value =
           ∙ a_machine s.plan (r + 1) (steps_of (rec_in s).bridges (r + 1)) planned,
     )
 
--- one machine more
+-- the list of machines extended by one
 pub machines_more : (s : Inside) (r : ℕ) (before : List Machine) (m : Machine) → Keeps s → r < length s.bridges.items
     → Some m ≡ Some (machine_of s.plan (r + 1) (steps_of (rec_in s).bridges (r + 1)))
     → before ≡ take r (machines_in s.plan (rec_in s))
@@ -77,7 +77,7 @@ machines_more s r before m keeps within there kept =
     ap (λ zs. zs ++ m ∷ []) kept ∙ ap (λ z. take r (map f numbers) ++ z ∷ []) (same ∙ sym at)
     ∙ sym (take_more (map f numbers) r m (omega arith))
 
--- and all of them
+-- the list of all machines
 pub machines_all : (s : Inside) → Keeps s
     → take (length s.bridges.items) (machines_in s.plan (rec_in s)) ≡ machines_in s.plan (rec_in s)
 unfolding machines_in
@@ -87,7 +87,7 @@ machines_all s keeps =
     let k = length-map (numbers_from 1 s.plan.bridges) f in
     take_all (length s.bridges.items) (map f (numbers_from 1 s.plan.bridges)) (omega (arith, keeps.1.bridge_count))
 
--- what the answer tells of a network's own machines
+-- the contract of `settled`, from the machines of the network's bridges
 pub tells : (plan : Plan) (rec : Record) (machines : List Machine) (answer : Bool) → machines ≡ machines_in plan rec
     → IsSound plan → PlannedAreMachines
     → (IsTrue answer ↔ IsSettled plan machines)

@@ -1,4 +1,4 @@
--- Where the tables of a network have its places.
+-- The entries of a network's tables for its places.
 use Rattle.std.proofs.Common.{◌≡◌, ℕ, suc, ◌+◌, ◌-◌, ◌*◌, ◌<◌, ◌⊎◌, inl, inr, length, get_or, refl, subst, arith, sym}
 use Rattle.std.proofs.Common.{zero, true, false, ap, ◌∙◌}
 use Rattle.pb_frame.proofs.Things.{here_is}
@@ -46,7 +46,7 @@ first_spot plan bridge r number there = record {
   slot = record { of_bridge = omega (arith, number); of_port = omega arith; within = omega (arith, there) };
 }
 
--- nothing stands out of range: where a port is used its numbers are in range
+-- a used port has numbers in range
 used_in_range : (plan : Plan) → IsSound plan → (b q : ℕ) → (IsNumber b (length plan.bridges) → IsNumber q 16 → ⊥)
     → port_at plan b q ≡ Unused
 used_in_range plan sound b q out = by (port_at plan b q) refl
@@ -73,7 +73,7 @@ pub port_out_of_range : (plan : Plan) → IsSound plan → (b q : ℕ) → (q �
 port_out_of_range plan sound b q (inl z) = used_in_range plan sound b q (λ _ n. omega (arith, z, n.0))
 port_out_of_range plan sound b q (inr past) = used_in_range plan sound b q (λ _ n. omega (arith, past, n.1))
 
--- a number from 1 to a highest one, or not
+-- a number is in the range from 1 to `highest`, or below or above it
 in_range : (n highest : ℕ) → ((n ≡ 0) ⊎ (highest < n)) ⊎ IsNumber n highest
 in_range zero highest = inl (inl refl)
 in_range (suc n) zero = inl (inr (omega arith))
@@ -85,7 +85,7 @@ in_range (suc n) (suc highest) = elim (in_range n highest) [
 unused_is_not : (p : Port) → p ≡ Unused → is_used p ≡ true → ⊥
 unused_is_not p e u = let f : false ≡ true = sym (ap is_used e) ∙ u in cc
 
--- a port that a sound plan uses stands at one of its bridges, and is one of 16 there
+-- a port that a sound plan uses is at one of its bridges, and is one of 16 there
 pub bridge_there : (plan : Plan) → IsSound plan → (b q : ℕ) → is_used (port_at plan b q) ≡ true
     → IsNumber b (length plan.bridges)
 bridge_there plan sound b q u = elim (in_range b (length plan.bridges)) [

@@ -60,7 +60,7 @@ fresh_customers-more n customers p are e = record {
   fresh = each_more (λ r x. x ≡ fresh_customer (r + 1)) customers p are.fresh (rw are.counted e);
 }
 
--- and of two lanes more
+-- a property by index holds of a list extended by two lanes
 lanes-more : {X : Type 0} (P : ℕ → X → Type 0) (xs : List X) (k : ℕ) (a b : X) → length xs ≡ 2 * k
     → ((r : ℕ) (x : X) → slice_get xs r ≡ Some x → P (r + 1) x) → P (lane_ab (suc k)) a → P (lane_ba (suc k)) b
     → (length ((xs ++ a ∷ []) ++ b ∷ []) ≡ 2 * (k + 1))
@@ -92,7 +92,7 @@ fresh_lanes-more plan k link lanes a b at are is_a is_b =
     (is_b ∙ ap fresh_lane (sym (lane_losses plan k (lane_ba (suc k)) link false at (ba_link k) (ba_even k)))) in
     record { counted = more.0; fresh = more.1 }
 
--- its ends have numbers
+-- the ends of a link have numbers in range
 pub ends_numbered : (plan : Plan) (k : ℕ) (link : LinkPlan) → IsSound plan → slice_get plan.links k ≡ Some link
     → (0 < link.a.bridge) × (0 < link.a.port) × (0 < link.b.bridge) × (0 < link.b.port)
 ends_numbered plan k link sound at =
@@ -100,7 +100,7 @@ ends_numbered plan k link sound at =
     let b = sound-end plan sound (suc k) link link.b at (inr refl) in
     (omega (arith, a.bridge), omega (arith, a.port), omega (arith, b.bridge), omega (arith, b.port))
 
--- the slots of a link's lane, of which the odd one begins at its first end
+-- the slots of a link's lane, of which the odd one begins at the first end
 abbrev slots_by : LinkPlan → Bool → LaneSlots
 slots_by link odd =
     record { from = slot_of (if odd then link.a else link.b); to = slot_of (if odd then link.b else link.a) }
@@ -132,7 +132,7 @@ lane_slots-more plan k link slots a b sound at are is_a is_b =
     (lane_joins plan k (lane_ba (suc k)) link false b sound at (ba_link k) (ba_even k) is_b) in
     record { counted = more.0; joined = more.1 }
 
--- one slot more
+-- the table of neighbours extended by one slot
 pub uses-more : (plan : Plan) (s : ℕ) (uses : List PortUse) (who : PortUse) → AreUses plan s uses
     → who ≡ use_of (port_at plan (bridge_of s) (port_of s)) → AreUses plan (s + 1) (uses ++ who ∷ [])
 uses-more plan s uses who are is_use = record {
@@ -141,7 +141,7 @@ uses-more plan s uses who are is_use = record {
       (is_use ∙ ap (λ n. use_of (port_at plan (bridge_of n) (port_of n))) (sym are.counted));
 }
 
--- who is at a port
+-- the neighbour at a port
 use_by : (c : Option CustomerPlan) (e : Option End)
     → use_of (customer_or_else c (provider_or_unused e))
     ≡ (if is_some c then ToCustomer else (if is_some e then ToBridge else ToNobody))
@@ -158,7 +158,7 @@ use_told plan b q customer end is_customer is_end =
     (is_some-first (is_customer_at b q) plan.customers ∙ is_customer)
     (is_some-ends (is_end_at b q) plan.links ∙ is_end))
 
--- lists that are all empty
+-- the lists of places without steps are all empty
 unstepped-map : {X Y : Type 0} (f : X → List Step) (xs : List X) (ys : List Y) → length xs ≡ length ys
     → ((r : ℕ) (x : X) → slice_get xs r ≡ Some x → f x ≡ []) → map f xs ≡ unstepped ys
 unstepped-map f [] [] e each = refl
@@ -185,13 +185,13 @@ unstepped-append : {X : Type 0} (xs ys : List X) → unstepped (xs ++ ys) ≡ un
 unstepped-append [] ys = refl
 unstepped-append (x ∷ xs) ys = ap (λ (z : List (List Step)). [] ∷ z) (unstepped-append xs ys)
 
--- what holds of each holds of all
+-- a property that holds at each index holds of all
 all_by_each : {X : Type 0} (P : X → Type 0) (xs : List X) → ((r : ℕ) (x : X) → slice_get xs r ≡ Some x → P x)
     → AllByRecursion P xs
 all_by_each P [] each = tt
 all_by_each P (x ∷ xs) each = (each 0 x refl, all_by_each P xs (λ r y h. each (suc r) y h))
 
--- the places are those of the plan
+-- the places of a new network are those of the plan
 pub fresh_placed : (plan : Plan) (bridges : List BridgeView) (lanes : List LaneView) (customers : List PlaceView)
     → AreFreshBridges plan (length plan.bridges) bridges → AreFreshLanes plan (2 * length plan.links) lanes
     → AreFreshCustomers (length plan.customers) customers
@@ -211,7 +211,7 @@ fresh_placed plan bridges lanes customers bs ls cs = record {
   customer_numbers = λ r p h. ap (λ (x : PlaceView). x.number) (cs.fresh r p h);
 }
 
--- nothing is sent and nothing fetched where no place has taken a step
+-- nothing is sent and nothing fetched if no place has taken a step
 no_sent : (plan : Plan) (rec : Record) (b q : ℕ) → ((n : ℕ) → steps_of rec.customers n ≡ [])
     → ((n : ℕ) → steps_of rec.lanes n ≡ []) → sent_to plan rec b q ≡ []
 no_sent plan rec b q customers lanes = by (port_at plan b q)
@@ -230,7 +230,7 @@ no_fetched plan rec b q customers lanes = by (port_at plan b q)
     by (Provider e) = ap taken (lanes (lane_from plan b q))
     by Unused = refl
 
--- no place has taken a step, and nothing stands anywhere
+-- the invariant of a new network: no steps, and empty queues
 pub fresh_kept : (plan : Plan) (bridges : List BridgeView) (lanes : List LaneView) (customers : List PlaceView)
     (ins outs : List (VecDeque Item Global))
     → AreFreshBridges plan (length plan.bridges) bridges → AreFreshLanes plan (2 * length plan.links) lanes

@@ -1,4 +1,4 @@
--- What a network answers to events.
+-- The outcomes of a network's events.
 use Rattle.std.specs.Prelude.{◌≡◌, ℕ, true, false, List, [], ◌∷◌, Some, Ok, Err, take, slice_get}
 use Rattle.std.specs.declared.result.Result.{Result}
 use Rattle.pb_lan.specs.Events.{place_of, names_something, is_idle, is_at_limit, HasDone}
@@ -15,14 +15,14 @@ pub record NetView : Type 0 where
   pub plan : Plan
   pub rec : Record
 
--- the event names something, and there is something to do, and room in the list for the step
+-- the event names a place, there is something to do, and the place's list may take one more step
 pub record IsDue (net : NetView) (event : Event) : Type 0 where
   pub named : names_something net.plan event ≡ true
   pub busy : is_idle net.plan net.rec event ≡ false
   pub within : is_at_limit net.plan net.rec event ≡ false
 
--- the first that holds is answered: no such place, nothing to do, no step left, no memory; else the
--- event's place has taken one step of the event's kind
+-- the outcome is the first that holds: no such place, nothing to do, step limit, out of memory; otherwise the event's
+-- place took one step of the event's kind
 abbrev pub IsAnswer : NetView → Event → Result Did NetFault → NetView → Type 0
 IsAnswer old event (Err NoSuch) new = (names_something old.plan event ≡ false) × (new ≡ old)
 IsAnswer old event (Ok Idle) new = (names_something old.plan event ≡ true) × (is_idle old.plan old.rec event ≡ true) × (new ≡ old)
@@ -32,13 +32,13 @@ IsAnswer old event (Err Memory) new = IsDue old event × (new ≡ old)
 IsAnswer old event (Ok (Done place)) new =
     IsDue old event × (place ≡ place_of event) × (new.plan ≡ old.plan) × HasDone old.rec event new.rec
 
--- the events were answered one after the other, none with a fault
+-- the events were performed one after the other, none with a fault
 abbrev pub HaveRun : NetView → List Event → NetView → Type 0
 HaveRun old [] new = new ≡ old
 HaveRun old (event ∷ events) new =
     (between : NetView) × (did : Did) × IsAnswer old event (Ok did) between × HaveRun between events new
 
--- those before this one were, and this one met the fault
+-- the events before this index were performed, and the event at it met the fault
 pub record HasStopped (old : NetView) (events : List Event) (count : ℕ) (fault : NetFault) (new : NetView) : Type 0 where
   pub event : Event
   pub next : slice_get events count ≡ Some event

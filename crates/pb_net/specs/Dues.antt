@@ -8,7 +8,7 @@ use Rattle.pb_net.specs.Answers.{NetView, IsDue}
 use Rattle.pb_net.specs.declared.fault.NetFault.{NetFault}
 use Rattle.pb_net.specs.declared.fault.NetFault.TheVariants.{StepLimit, Memory, NoSuch}
 
--- the place where there is something to do and room for the step
+-- the place, if there is something to do and its list may take one more step
 abbrev pub IsSifted : {X : Type 0} → Bool → Bool → X → Result (Option X) NetFault → Type 0
 IsSifted idle limit place (Ok None) = idle ≡ true
 IsSifted idle limit place (Ok (Some r)) = (idle ≡ false) × (limit ≡ false) × (r ≡ place)

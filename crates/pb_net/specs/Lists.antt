@@ -2,7 +2,7 @@
 use Rattle.std.specs.Prelude.{◌≡◌, ℕ, ◌≤◌, [], vec_capacity}
 use Rattle.pb_net.specs.declared.lists.Lists.{Lists}
 
--- they are empty, and there is room for so many bridges, lanes and customer ports
+-- the lists are empty, with capacity for this many bridges, lanes and customer ports
 pub record AreEmpty (bridges lanes customers : ℕ) (lists : Lists) : Type 0 where
   pub no_bridges : lists.bridges.items ≡ []
   pub no_lanes : lists.lanes.items ≡ []

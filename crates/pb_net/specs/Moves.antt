@@ -1,4 +1,4 @@
--- An item goes from a place to a meeting place, or comes from one.
+-- Moves of an item from a place to a queue, or from a queue to a place.
 use Rattle.std.specs.Prelude.{◌≡◌, ℕ, false, List, [], ◌∷◌, ◌++◌}
 use Rattle.std.specs.declared.option.Option.{Option}
 use Rattle.pb_frame.specs.declared.learnt.Learnt.{Learnt}
@@ -13,7 +13,7 @@ use Rattle.pb_link.specs.Hands.{PlaceView}
 use Rattle.pb_link.specs.Lanes.{LaneView, taking}
 use Rattle.pb_relay.specs.Standing.{BridgeView}
 
--- the frame in hand went to the back of the inbox
+-- the frame in hand moved to the back of the inbox
 pub record HasFedInto (old : PlaceView) (inbox : List Item) (new : PlaceView) (inbox' : List Item) : Type 0 where
   pub item : Item
   pub held : fed old.steps ++ item ∷ [] ≡ polled old.steps
@@ -26,7 +26,7 @@ pub record HasDelivered (old : PlaceView) (outbox : List Item) (new : PlaceView)
   pub steps : new.steps ≡ old.steps ++ Deliver item false ∷ []
   pub taken : outbox ≡ item ∷ outbox'
 
--- a step that failed has left the bridge's steps and the queue as they were
+-- a step that failed left the bridge's steps and the queue unchanged
 abbrev pub IsUnmoved : BridgeView → List Item → BridgeView → List Item → Type 0
 IsUnmoved old queue new queue' = (new.steps ≡ old.steps) × (queue' ≡ queue)
 
@@ -40,7 +40,7 @@ pub record HasReceivedFrom (old : BridgeView) (port : ℕ) (inbox : List Item) (
   pub fits : Fits spanning_tree old.plan old.number old.steps (Receive port item learnt outcome moved)
   pub taken : inbox ≡ item ∷ inbox'
 
--- what waits first at the port went to the back of the outbox
+-- the next item of the port moved to the back of the outbox
 pub record HasTransmittedTo (old : BridgeView) (port : ℕ) (outbox : List Item) (new : BridgeView) (outbox' : List Item) : Type 0 where
   pub item : Item
   pub steps : new.steps ≡ old.steps ++ Transmit port item ∷ []
@@ -53,7 +53,7 @@ pub record HasTakenFrom (old : LaneView) (outbox : List Item) (new : LaneView) (
   pub steps : new.steps ≡ old.steps ++ taking old item ∷ []
   pub taken : outbox ≡ item ∷ outbox'
 
--- the item in a lane's hand went to the back of the inbox
+-- the item in a lane's hand moved to the back of the inbox
 pub record HasPutInto (old : LaneView) (inbox : List Item) (new : LaneView) (inbox' : List Item) : Type 0 where
   pub item : Item
   pub steps : new.steps ≡ old.steps ++ Put item ∷ []

@@ -1,4 +1,4 @@
--- What a network keeps of its steps.
+-- The invariant of a network.
 use Rattle.std.specs.Prelude.{◌≡◌, ℕ, ◌+◌, ◌*◌, true, List, ◌++◌, Some, map, length, slice_get}
 use Rattle.std.specs.List.{AllByRecursion}
 use Rattle.pb_lan.specs.BridgeLists.{IsLawfulBridge}
@@ -37,7 +37,7 @@ pub record ArePlaced (plan : Plan) (bridges : List BridgeView) (lanes : List Lan
   pub lane_losses : (r : ℕ) (l : LaneView) → slice_get lanes r ≡ Some l → l.losses ≡ losses_of plan (r + 1)
   pub customer_numbers : (r : ℕ) (p : PlaceView) → slice_get customers r ≡ Some p → p.number ≡ r + 1
 
--- every list is lawful, and what was sent is what was received and what stands at the meeting place
+-- every list is lawful, and what was sent to a port is what was received there, followed by the items of its queue
 pub record IsKept (plan : Plan) (rec : Record) (inboxes outboxes : List (List Item)) : Type 0 where
   pub bridge_count : length rec.bridges ≡ length plan.bridges
   pub lane_count : length rec.lanes ≡ 2 * length plan.links
@@ -50,7 +50,7 @@ pub record IsKept (plan : Plan) (rec : Record) (inboxes outboxes : List (List It
   pub into : (s : ℕ) → received (port_of s) (steps_of rec.bridges (bridge_of s)) ++ items_at inboxes s ≡ sent_to plan rec (bridge_of s) (port_of s)
   pub out : (s : ℕ) → fetched_from plan rec (bridge_of s) (port_of s) ++ items_at outboxes s ≡ transmitted (port_of s) (steps_of rec.bridges (bridge_of s))
 
--- the numbers of the plan that the network goes by
+-- the numbers of the plan that the network uses
 pub record HasNumbers (plan : Plan) (limit ring : ℕ) : Type 0 where
   pub steps : limit ≡ plan.steps
   pub places : ring ≡ plan.ring

@@ -1,5 +1,5 @@
--- The meeting places at the bridges' ports, by slot: sixteen slots to a bridge, one for each local
--- port. Each slot has an inbox, of what was sent to the port, and an outbox, of what it transmitted.
+-- The queues at the bridges' ports, by slot: sixteen slots to a bridge, one for each local port. Each slot has an inbox
+-- of the items that were sent to the port, and an outbox of the items that the port transmitted.
 use Rattle.std.specs.Prelude.{◌≡◌, ℕ, ◌+◌, ◌*◌, ◌/◌, ◌%◌, ◌<◌, List, [], Some, length, unwrap_or, slice_get, ◌==◌, if◌then◌else◌}
 use Rattle.std.specs.Option.{option_map}
 use Rattle.pb_lan.specs.Events.{begins_at, ends_at}
@@ -29,11 +29,11 @@ pub record IsSlot (plan : Plan) (bridge port slot : ℕ) : Type 0 where
   pub of_port : port_of slot ≡ port
   pub within : slot < 16 * length plan.bridges
 
--- the items at the meeting place of this slot
+-- the items of the queue at this slot
 abbrev pub items_at : List (List Item) → ℕ → List Item
 items_at lists slot = unwrap_or (slice_get lists slot) []
 
--- who is at a port
+-- the neighbour at a port
 abbrev pub use_of : Port → PortUse
 use_of (Customer c) = ToCustomer
 use_of (Provider e) = ToBridge
@@ -50,14 +50,14 @@ losses_at lane link = if lane % 2 == 1 then link.lost_ab else link.lost_ba
 abbrev pub losses_of : Plan → ℕ → List ℕ
 losses_of plan lane = unwrap_or (option_map (losses_at lane) (numbered plan.links (link_of lane))) []
 
--- the slots where a lane begins and ends
+-- the slots at which a lane begins and ends
 pub record JoinsSlots (plan : Plan) (lane : ℕ) (slots : LaneSlots) : Type 0 where
   pub link : LinkPlan
   pub planned : numbered plan.links (link_of lane) ≡ Some link
   pub from : IsSlot plan (begins_at lane link).bridge (begins_at lane link).port slots.from
   pub to : IsSlot plan (ends_at lane link).bridge (ends_at lane link).port slots.to
 
--- the slot where a customer port stands
+-- the slot of a customer port
 pub record MeetsSlot (plan : Plan) (number slot : ℕ) : Type 0 where
   pub customer : CustomerPlan
   pub planned : numbered plan.customers number ≡ Some customer
@@ -84,7 +84,7 @@ pub record IsCustomerSpot (plan : Plan) (number : ℕ) (spot : Spot) : Type 0 wh
   pub there : spot.place < length plan.customers
   pub slot : MeetsSlot plan number spot.slot
 
--- the index of a lane, and the slot where it begins
+-- the index of a lane, and the slot at which it begins
 pub record IsLaneStart (plan : Plan) (lane : ℕ) (spot : Spot) : Type 0 where
   pub place : spot.place + 1 ≡ lane
   pub there : spot.place < 2 * length plan.links
@@ -92,7 +92,7 @@ pub record IsLaneStart (plan : Plan) (lane : ℕ) (spot : Spot) : Type 0 where
   pub planned : numbered plan.links (link_of lane) ≡ Some link
   pub from : IsSlot plan (begins_at lane link).bridge (begins_at lane link).port spot.slot
 
--- the index of a lane, and the slot where it ends
+-- the index of a lane, and the slot at which it ends
 pub record IsLaneEnd (plan : Plan) (lane : ℕ) (spot : Spot) : Type 0 where
   pub place : spot.place + 1 ≡ lane
   pub there : spot.place < 2 * length plan.links

@@ -21,7 +21,7 @@ fresh_customer number = place_at_start number true
 abbrev pub fresh_lane : List ℕ → LaneView
 fresh_lane losses = lane_at_start losses true
 
--- the first so many bridges of the plan
+-- the first bridges of the plan, this many, without steps
 pub record AreFreshBridges (plan : Plan) (count : ℕ) (bridges : List BridgeView) : Type 0 where
   pub counted : length bridges ≡ count
   pub fresh : (r : ℕ) (b : BridgeView) → slice_get bridges r ≡ Some b → b ≡ fresh_bridge plan (r + 1)
@@ -38,17 +38,17 @@ pub record AreEmptyBoxes (count : ℕ) (boxes : List (VecDeque Item Global)) : T
   pub counted : length boxes ≡ count
   pub empty : (r : ℕ) (q : VecDeque Item Global) → slice_get boxes r ≡ Some q → q.items ≡ []
 
--- who is at the first so many slots
+-- the neighbours at the first slots, this many
 pub record AreUses (plan : Plan) (count : ℕ) (uses : List PortUse) : Type 0 where
   pub counted : length uses ≡ count
   pub told : (s : ℕ) (here : PortUse) → slice_get uses s ≡ Some here → here ≡ use_of (port_at plan (bridge_of s) (port_of s))
 
--- the slots of the first so many lanes
+-- the slots of the first lanes, this many
 pub record AreLaneSlots (plan : Plan) (count : ℕ) (slots : List LaneSlots) : Type 0 where
   pub counted : length slots ≡ count
   pub joined : (r : ℕ) (at : LaneSlots) → slice_get slots r ≡ Some at → JoinsSlots plan (r + 1) at
 
--- the slots of the first so many customer ports
+-- the slots of the first customer ports, this many
 pub record AreCustomerSlots (plan : Plan) (count : ℕ) (slots : List ℕ) : Type 0 where
   pub counted : length slots ≡ count
   pub met : (r s : ℕ) → slice_get slots r ≡ Some s → MeetsSlot plan (r + 1) s

@@ -1,4 +1,4 @@
-//! Steps of a bridge, with the meeting places beside it.
+//! Steps of a bridge, with the queues at its ports.
 
 ghost use Rattle.std.specs.Prelude.{◌≡◌, ◌<◌, ◌↔◌, length, true, OnOk, OnErr, IsErrOf};
 ghost use Rattle.pb_lan.specs.Ports.{is_used, port_at};
@@ -9,7 +9,11 @@ use pb_lan::Item;
 use pb_relay::{Bridge, BridgeFault};
 use std::collections::VecDeque;
 
-/// The oldest item that came to a port is received.
+/// Receives the oldest item of the port's inbox.
+///
+/// # Errors
+///
+/// The bridge's fault. The bridge and the inbox are unchanged then.
 pub(crate) fn receive_at(
     bridge: &mut Bridge,
     port: u8,
@@ -36,7 +40,12 @@ pub(crate) fn receive_at(
     }
 }
 
-/// The item that leaves a port next is sent.
+/// Transmits the next item of the port to its outbox.
+///
+/// # Errors
+///
+/// `StepLimit` if the bridge has taken the plan's number of steps, `Memory` if an allocation failed. The bridge and the
+/// outbox are unchanged then.
 pub(crate) fn transmit_at(
     bridge: &mut Bridge,
     port: u8,

@@ -1,4 +1,4 @@
-//! Steps of a lane, with the meeting places beside it.
+//! Steps of a lane, with the queues at its ends.
 
 ghost use Rattle.std.specs.Prelude.{◌≡◌, ◌<◌, length, true, false, OnOk, OnErr};
 ghost use Rattle.pb_lan.specs.LaneLists.{IsLawfulLane};
@@ -10,7 +10,11 @@ use pb_lan::Item;
 use pb_link::Lane;
 use std::collections::VecDeque;
 
-/// The oldest item that was sent to a lane is taken.
+/// Takes the oldest item of the outbox at the lane's beginning.
+///
+/// # Errors
+///
+/// `Memory` if an allocation failed. The steps and the outbox are unchanged then.
 pub(crate) fn take_at(lane: &mut Lane, outbox: &mut VecDeque<Item>) -> Result<(), Memory>
     requires empty { is_hand_empty lane.old.steps ≡ true }
     requires some { 0 < length outbox.old.items }
@@ -29,7 +33,11 @@ pub(crate) fn take_at(lane: &mut Lane, outbox: &mut VecDeque<Item>) -> Result<()
     Ok(())
 }
 
-/// The item in a lane's hand is put in front of the bridge at its end.
+/// Puts the item in the lane's hand into the inbox of the bridge at its end.
+///
+/// # Errors
+///
+/// `Memory` if an allocation failed. The steps and the inbox are unchanged then.
 pub(crate) fn put_at(lane: &mut Lane, inbox: &mut VecDeque<Item>) -> Result<(), Memory>
     requires { is_hand_empty lane.old.steps ≡ false }
     ensures losses { lane.new.losses ≡ lane.old.losses }

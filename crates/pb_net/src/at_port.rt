@@ -1,4 +1,4 @@
-//! Steps of a customer port, with the meeting places beside it.
+//! Steps of a customer port, with the queues between it and its bridge.
 
 ghost use Rattle.std.specs.Prelude.{◌≡◌, ◌<◌, ◌++◌, ◌∷◌, [], length, true, false, OnOk, OnErr};
 ghost use Rattle.pb_lan.specs.Events.{is_hand_empty};
@@ -13,7 +13,11 @@ use pb_lan::Item;
 use pb_link::CustomerPlace;
 use std::collections::VecDeque;
 
-/// A frame comes in.
+/// Polls a frame from outside.
+///
+/// # Errors
+///
+/// `Memory` if an allocation failed. The steps are unchanged then.
 pub(crate) fn poll_at(place: &mut CustomerPlace, frame: Bytes) -> Result<(), Memory>
     requires { is_hand_empty place.old.steps ≡ true }
     ensures number { place.new.number ≡ place.old.number }
@@ -27,7 +31,11 @@ pub(crate) fn poll_at(place: &mut CustomerPlace, frame: Bytes) -> Result<(), Mem
     Ok(())
 }
 
-/// The frame in hand goes to the bridge.
+/// Feeds the frame in hand into the bridge's inbox.
+///
+/// # Errors
+///
+/// `Memory` if an allocation failed. The steps and the inbox are unchanged then.
 pub(crate) fn feed_at(place: &mut CustomerPlace, inbox: &mut VecDeque<Item>) -> Result<(), Memory>
     requires { is_hand_empty place.old.steps ≡ false }
     ensures number { place.new.number ≡ place.old.number }
@@ -44,7 +52,11 @@ pub(crate) fn feed_at(place: &mut CustomerPlace, inbox: &mut VecDeque<Item>) -> 
     Ok(())
 }
 
-/// The oldest item from the bridge leaves.
+/// Delivers the oldest item of the bridge's outbox.
+///
+/// # Errors
+///
+/// `Memory` if an allocation failed. The steps and the outbox are unchanged then.
 pub(crate) fn deliver_at(
     place: &mut CustomerPlace,
     outbox: &mut VecDeque<Item>,

@@ -1,4 +1,4 @@
-//! Whether an event is due, and where.
+//! Checks whether an event is due, and finds its place.
 
 ghost use Rattle.std.specs.Prelude.{◌≡◌, [], IfOk, IfSome};
 ghost use Rattle.pb_net.specs.Dues.{IsSifted, IsDueOr};
@@ -9,7 +9,11 @@ use crate::net::Net;
 use crate::slots::Spot;
 use pb_lan::Event;
 
-/// Where there is something to do, and room in the list for its step, the place.
+/// Returns the place if there is something to do and its list may take one more step.
+///
+/// # Errors
+///
+/// `StepLimit` if there is something to do and the list holds the plan's number of steps.
 pub(crate) fn sift<P: Copy>(
     is_idle: bool,
     is_at_limit: bool,
@@ -27,7 +31,11 @@ pub(crate) fn sift<P: Copy>(
 }
 
 impl Net {
-    /// The customer port of a Poll that is due.
+    /// Returns the customer port of a Poll that is due: its hand is empty.
+    ///
+    /// # Errors
+    ///
+    /// `NoSuch` if there is no such port, `StepLimit` as for [`sift`].
     pub(crate) fn due_poll(&self, port: u8) -> Result<Option<Spot>, NetFault>
         ensures due { IsDueOr self.now (Event.Poll port []) result }
         ensures spot { IfOk result (λ o. IfSome o (IsCustomerSpot self.now.plan port)) }
@@ -40,7 +48,11 @@ impl Net {
         sift(is_idle, customer.step_count() == self.limit, spot)
     }
 
-    /// The customer port of a Feed that is due.
+    /// Returns the customer port of a Feed that is due: a frame is in hand, and the bridge's inbox is not full.
+    ///
+    /// # Errors
+    ///
+    /// `NoSuch` if there is no such port, `StepLimit` as for [`sift`].
     pub(crate) fn due_feed(&self, port: u8) -> Result<Option<Spot>, NetFault>
         ensures due { IsDueOr self.now (Event.Feed port) result }
         ensures spot { IfOk result (λ o. IfSome o (IsCustomerSpot self.now.plan port)) }
@@ -54,7 +66,11 @@ impl Net {
         sift(is_idle, customer.step_count() == self.limit, spot)
     }
 
-    /// The customer port of a Deliver that is due.
+    /// Returns the customer port of a Deliver that is due: the bridge's outbox is not empty.
+    ///
+    /// # Errors
+    ///
+    /// `NoSuch` if there is no such port, `StepLimit` as for [`sift`].
     pub(crate) fn due_deliver(&self, port: u8) -> Result<Option<Spot>, NetFault>
         ensures due { IsDueOr self.now (Event.Deliver port) result }
         ensures spot { IfOk result (λ o. IfSome o (IsCustomerSpot self.now.plan port)) }
@@ -67,7 +83,11 @@ impl Net {
         sift(outbox.is_empty(), customer.step_count() == self.limit, spot)
     }
 
-    /// Where a Receive is due.
+    /// Returns the bridge and port of a Receive that is due: the port's inbox is not empty.
+    ///
+    /// # Errors
+    ///
+    /// `NoSuch` if the plan uses no such port, `StepLimit` as for [`sift`].
     pub(crate) fn due_receive(&self, bridge: u8, port: u8) -> Result<Option<Spot>, NetFault>
         ensures due { IsDueOr self.now (Event.Receive bridge port) result }
         ensures spot { IfOk result (λ o. IfSome o (IsBridgeSpot self.now.plan bridge port)) }
@@ -80,7 +100,11 @@ impl Net {
         sift(inbox.is_empty(), at.step_count() == self.limit, spot)
     }
 
-    /// Where a Transmit is due.
+    /// Returns the bridge and port of a Transmit that is due: an item waits at the port, and its outbox is not full.
+    ///
+    /// # Errors
+    ///
+    /// `NoSuch` if the plan uses no such port, `StepLimit` as for [`sift`].
     pub(crate) fn due_transmit(&self, bridge: u8, port: u8) -> Result<Option<Spot>, NetFault>
         ensures due { IsDueOr self.now (Event.Transmit bridge port) result }
         ensures spot { IfOk result (λ o. IfSome o (IsBridgeSpot self.now.plan bridge port)) }
@@ -94,7 +118,11 @@ impl Net {
         sift(is_idle, at.step_count() == self.limit, spot)
     }
 
-    /// The lane of a Take that is due.
+    /// Returns the lane of a Take that is due: its hand is empty, and the outbox at its beginning is not.
+    ///
+    /// # Errors
+    ///
+    /// `NoSuch` if there is no such lane, `StepLimit` as for [`sift`].
     pub(crate) fn due_take(&self, lane: u8) -> Result<Option<Spot>, NetFault>
         ensures due { IsDueOr self.now (Event.Take lane) result }
         ensures spot { IfOk result (λ o. IfSome o (IsLaneStart self.now.plan lane)) }
@@ -108,7 +136,11 @@ impl Net {
         sift(is_idle, at.step_count() == self.limit, spot)
     }
 
-    /// The lane of a Put that is due.
+    /// Returns the lane of a Put that is due: an item is in hand, and the inbox at its end is not full.
+    ///
+    /// # Errors
+    ///
+    /// `NoSuch` if there is no such lane, `StepLimit` as for [`sift`].
     pub(crate) fn due_put(&self, lane: u8) -> Result<Option<Spot>, NetFault>
         ensures due { IsDueOr self.now (Event.Put lane) result }
         ensures spot { IfOk result (λ o. IfSome o (IsLaneEnd self.now.plan lane)) }

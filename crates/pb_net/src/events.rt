@@ -1,4 +1,4 @@
-//! What a network does for each kind of event.
+//! The steps of a network, by kind of event.
 
 ghost use Rattle.pb_net.specs.Answers.{IsAnswer};
 
@@ -13,7 +13,7 @@ use bytes::Bytes;
 use pb_lan::{Event, Place};
 
 impl Net {
-    /// A frame comes in at a customer port.
+    /// Polls a frame at a customer port.
     pub(crate) fn poll(&mut self, port: u8, frame: Bytes) -> Result<Did, NetFault>
         ensures { IsAnswer self.old (Event.Poll port frame) result self.new }
     {
@@ -24,7 +24,7 @@ impl Net {
         Ok(Did::Done(Place::Customer(port)))
     }
 
-    /// A customer port hands the frame that it holds to its bridge.
+    /// Feeds the frame in a customer port's hand to its bridge.
     fn feed(&mut self, port: u8) -> Result<Did, NetFault>
         ensures { IsAnswer self.old (Event.Feed port) result self.new }
     {
@@ -38,7 +38,7 @@ impl Net {
         Ok(Did::Done(Place::Customer(port)))
     }
 
-    /// A customer port takes the oldest frame that its bridge sent to it.
+    /// Delivers the oldest frame that the bridge sent to a customer port.
     fn deliver(&mut self, port: u8) -> Result<Did, NetFault>
         ensures { IsAnswer self.old (Event.Deliver port) result self.new }
     {
@@ -52,7 +52,7 @@ impl Net {
         Ok(Did::Done(Place::Customer(port)))
     }
 
-    /// A bridge takes the oldest item that came to one of its ports.
+    /// Receives the oldest item that came to a bridge's port.
     fn receive(&mut self, bridge: u8, port: u8) -> Result<Did, NetFault>
         ensures { IsAnswer self.old (Event.Receive bridge port) result self.new }
     {
@@ -64,7 +64,7 @@ impl Net {
         Ok(Did::Done(Place::Bridge(bridge)))
     }
 
-    /// A bridge sends the next item of one of its ports.
+    /// Transmits the next item of a bridge's port.
     fn transmit(&mut self, bridge: u8, port: u8) -> Result<Did, NetFault>
         ensures { IsAnswer self.old (Event.Transmit bridge port) result self.new }
     {
@@ -76,7 +76,7 @@ impl Net {
         Ok(Did::Done(Place::Bridge(bridge)))
     }
 
-    /// A bridge's clock goes on by one.
+    /// Advances a bridge's clock by one tick.
     fn tick(&mut self, bridge: u8) -> Result<Did, NetFault>
         ensures { IsAnswer self.old (Event.Tick bridge) result self.new }
     {
@@ -87,7 +87,7 @@ impl Net {
         Ok(Did::Done(Place::Bridge(bridge)))
     }
 
-    /// A bridge's port to another bridge is set up or down.
+    /// Enables or disables a bridge's port to another bridge.
     fn admin(&mut self, bridge: u8, port: u8, up: bool) -> Result<Did, NetFault>
         ensures { IsAnswer self.old (Event.Admin bridge port up) result self.new }
     {
@@ -98,7 +98,7 @@ impl Net {
         Ok(Did::Done(Place::Bridge(bridge)))
     }
 
-    /// A lane takes the oldest item that was sent to it.
+    /// Takes the oldest item that was sent to a lane.
     fn take(&mut self, lane: u8) -> Result<Did, NetFault>
         ensures { IsAnswer self.old (Event.Take lane) result self.new }
     {
@@ -109,7 +109,7 @@ impl Net {
         Ok(Did::Done(Place::Lane(lane)))
     }
 
-    /// A lane puts the item that it holds in front of the far bridge.
+    /// Puts the item in a lane's hand before the far bridge.
     fn put(&mut self, lane: u8) -> Result<Did, NetFault>
         ensures { IsAnswer self.old (Event.Put lane) result self.new }
     {
@@ -120,7 +120,7 @@ impl Net {
         Ok(Did::Done(Place::Lane(lane)))
     }
 
-    /// A frame of the caller's comes in at a customer port.
+    /// Polls a copy of the caller's frame at a customer port.
     fn poll_copy(&mut self, port: u8, frame: &Bytes) -> Result<Did, NetFault>
         ensures { IsAnswer self.old (Event.Poll port frame.now) result self.new }
     {
@@ -130,7 +130,7 @@ impl Net {
         self.poll(port, frame.clone()?)
     }
 
-    /// Does what an event asks for, of which the caller keeps the frame.
+    /// Performs an event, of which the caller keeps the frame.
     pub(crate) fn act(&mut self, event: &Event) -> Result<Did, NetFault>
         ensures { IsAnswer self.old event.now result self.new }
     {

@@ -1,4 +1,4 @@
-//! Why an event is refused.
+//! The reason for refusing an event.
 
 ghost use Rattle.std.specs.Prelude.{◌≡◌};
 ghost use Rattle.pb_net.specs.declared.fault.NetFault.{NetFault};
@@ -10,16 +10,16 @@ use pb_relay::BridgeFault;
 use std::alloc::AllocError;
 use thiserror::Error;
 
-/// Why an event is refused. Nothing has changed then.
+/// The reason for refusing an event. The network is unchanged then.
 #[derive(Clone, Copy, Debug, PartialEq, Eq, Error)]
 pub enum NetFault {
-    /// The event's place holds as many steps as the plan allows.
+    /// The place has taken as many steps as the plan allows.
     #[error("the list holds the plan's number of steps")]
     StepLimit,
-    /// Memory ran out.
+    /// An allocation failed.
     #[error("out of memory")]
     Memory,
-    /// A number of the event names nothing, or the port of an `Admin` is no provider port.
+    /// A number of the event names no place or port, or the port of an `Admin` is no provider port.
     #[error("there is no such place")]
     NoSuch,
 }

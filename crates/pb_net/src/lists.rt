@@ -1,4 +1,4 @@
-//! The lists of a network's record, made before its first step.
+//! The lists of a network's record, allocated before its first step.
 
 ghost use Rattle.std.specs.List.{AllByRecursion};
 ghost use Rattle.std.specs.Prelude.{◌≡◌, ◌≤◌, [], true, map, length, vec_capacity};
@@ -8,7 +8,7 @@ use pb_lan::Step;
 use pb_link::{CustomerPlace, Lane};
 use pb_relay::Bridge;
 
-/// Empty lists with room for the steps of each place, so that a network's end takes no memory.
+/// Empty lists with capacity for each place. They let `Net::finish` gather the record without an allocation.
 #[derive(Drop)]
 pub(crate) struct Lists {
     pub bridges: Vec<Seq<Step>>,
@@ -16,7 +16,7 @@ pub(crate) struct Lists {
     pub customers: Vec<Seq<Step>>,
 }
 
-/// The steps of each bridge.
+/// Moves the steps of each bridge into `lists`, and returns these.
 pub(crate) fn bridge_steps(bridges: Vec<Bridge>, mut lists: Vec<Seq<Step>>) -> Seq<Seq<Step>>
     requires empty { lists.items ≡ [] }
     requires room { length bridges.items ≤ vec_capacity lists }
@@ -29,7 +29,7 @@ pub(crate) fn bridge_steps(bridges: Vec<Bridge>, mut lists: Vec<Seq<Step>>) -> S
     Seq::from_vec(lists)
 }
 
-/// The steps of each lane.
+/// Moves the steps of each lane into `lists`, and returns these.
 pub(crate) fn lane_steps(lanes: Vec<Lane>, mut lists: Vec<Seq<Step>>) -> Seq<Seq<Step>>
     requires empty { lists.items ≡ [] }
     requires room { length lanes.items ≤ vec_capacity lists }
@@ -42,7 +42,7 @@ pub(crate) fn lane_steps(lanes: Vec<Lane>, mut lists: Vec<Seq<Step>>) -> Seq<Seq
     Seq::from_vec(lists)
 }
 
-/// The steps of each customer port.
+/// Moves the steps of each customer port into `lists`, and returns these.
 pub(crate) fn customer_steps(
     customers: Vec<CustomerPlace>,
     mut lists: Vec<Seq<Step>>,

@@ -20,6 +20,24 @@ use std::collections::VecDeque;
 use std::marker::Model;
 
 /// A network of a plan, in one thread. Contracts see its plan and the record of its steps.
+///
+/// The network keeps the steps of its places, the queues between them, and nothing else that does not follow from
+/// these.
+///
+/// # Examples
+///
+/// A frame crosses a bridge from customer port 1, at its local port 2, to customer port 2, at its local port 3:
+///
+/// ```text
+/// let (plan, _ports) = read_plan(alloc, file)?;               // of pb_service; it is sound
+/// let mut net = Net::new(alloc, plan)?;
+/// net.step(Event::Poll { port: 1, frame })?;                  // the port polls the frame
+/// net.step(Event::Feed { port: 1 })?;                         // and feeds it to the bridge
+/// net.step(Event::Receive { bridge: 1, port: 2 })?;           // it is learnt and relayed
+/// net.step(Event::Transmit { bridge: 1, port: 3 })?;          // it leaves the bridge
+/// net.step(Event::Deliver { port: 2 })?;                      // and the network
+/// let frames = left(alloc, &net.finish(), 2)?;                // of pb_lan: it, octet for octet
+/// ```
 #[derive(Drop)]
 pub struct Net {
     pub(crate) plan: Plan,
@@ -28,9 +46,9 @@ pub struct Net {
     pub(crate) bridges: Vec<Bridge>,
     pub(crate) lanes: Vec<Lane>,
     pub(crate) customers: Vec<CustomerPlace>,
-    /// By slot, what was sent to the bridge's port and not received.
+    /// By slot, the items that were sent to the bridge's port and not yet received.
     pub(crate) inboxes: Vec<VecDeque<Item>>,
-    /// By slot, what the bridge transmitted at the port and nobody fetched.
+    /// By slot, the items that the bridge transmitted at the port and nobody fetched yet.
     pub(crate) outboxes: Vec<VecDeque<Item>>,
     pub(crate) slots: Slots,
     pub(crate) lists: Lists,
@@ -57,12 +75,14 @@ impl Model for Net {
 }
 
 impl Net {
-    /// Does what an event asks for: its place takes one step of its kind, or there is nothing to do.
+    /// Performs an event: its place takes one step of the event's kind, or the event is idle because there is nothing
+    /// to do.
     ///
-    /// `NoSuch` is answered exactly where a number names nothing, or the port of an `Admin` is no
-    /// provider port; else `Idle` exactly where there is nothing to do; else `StepLimit` exactly
-    /// where the place's list holds the plan's number of steps; else `Memory` where memory ran out.
-    /// Nothing has changed after any of them.
+    /// # Errors
+    ///
+    /// `NoSuch` if a number of the event names no place or port, or if the port of an `Admin` is no provider port.
+    /// `StepLimit` if there is something to do and the place has taken the plan's number of steps. `Memory` if an
+    /// allocation failed. The network is unchanged after each of them.
     pub fn step(&mut self, event: Event) -> Result<Did, NetFault>
         ensures { IsAnswer self.old event result self.new }
     {
@@ -72,10 +92,12 @@ impl Net {
         }
     }
 
-    /// Does what the events ask for, one after the other.
+    /// Performs events, one after the other, up to the first fault.
     ///
-    /// The first fault ends it. The number of events done before it and the fault are answered, and what those
-    /// events did stays done. The faults are those of [`step`](Net::step).
+    /// # Errors
+    ///
+    /// The number of events that were performed, and the fault of the next. The faults are those of
+    /// [`step`](Net::step). The performed events keep their effect.
     pub fn run(&mut self, events: &[Event]) -> Result<(), (u64, NetFault)>
         ensures ok { OnOk result (HaveRun self.old events.now self.new) }
         ensures fault { IfErr result (λ e. HasStopped self.old events.now e.0 e.1 self.new) }
@@ -88,7 +110,7 @@ impl Net {
         Ok(())
     }
 
-    /// Whether the plan has a place. [`steps`](Net::steps) asks this of its caller.
+    /// Checks whether the plan has this place, as [`steps`](Net::steps) requires.
     pub fn has_place(&self, place: Place) -> bool
         ensures { result ≡ has_place self.now.plan place }
     {
@@ -99,7 +121,7 @@ impl Net {
         }
     }
 
-    /// The steps of a place so far. Those of all places are a lawful record.
+    /// Returns the steps of a place. Those of all places are a lawful record.
     pub fn steps(&self, place: Place) -> &[Step]
         requires { has_place self.now.plan place ≡ true }
         ensures steps { result.now ≡ steps_at self.now.rec place }
@@ -112,13 +134,13 @@ impl Net {
         }
     }
 
-    /// Ends the network, and gives the record of its steps, which is lawful. Takes no memory.
+    /// Ends the network, and returns the record of its steps, which is lawful. Allocates nothing.
     ///
-    /// Whatever the events were: each departure has the octets of an arrival at a port of the same service, less
-    /// a priority S-tag; a frame that was handled under a forest leaves each other port at most once, its own
-    /// never, and none outside its tree; one to a group that was neither refused nor lost, and has
-    /// drained, leaves each port of its service in its tree once; no frame is multiplied; and frames
-    /// of one port and one priority keep their order.
+    /// The guarantee holds whatever the events were. Each departure has the octets of an arrival at a port of the same
+    /// service, less a priority S-tag. A frame that was handled under a forest leaves each other port at most once,
+    /// never its own port, and no port outside its tree. A group frame that was neither refused nor lost, and has
+    /// drained, leaves each port of its service in its tree once. No frame is multiplied. Frames of one port and one
+    /// priority keep their order.
     pub fn finish(self) -> Record
         ensures record { result ≡ self.rec }
         ensures lawful { IsLawfulRecord spanning_tree self.plan result }

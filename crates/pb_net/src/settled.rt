@@ -1,4 +1,4 @@
-//! The spanning trees of a network's bridges, and whether these are settled.
+//! The spanning trees of a network's bridges, and whether they are settled.
 
 ghost use Rattle.std.specs.Option.{option_copied};
 ghost use Rattle.std.specs.Prelude.{◌≡◌, true, map, IfOk};
@@ -16,7 +16,11 @@ use pb_rstp::{Rstp, is_settled, planned_are_machines};
 use std::alloc::Global;
 
 impl Net {
-    /// The spanning trees of the bridges, in the plan's order.
+    /// Returns the spanning trees of the bridges, in the plan's order.
+    ///
+    /// # Errors
+    ///
+    /// `Memory` if the allocation of the list failed.
     fn machines(&self, alloc: Global) -> Result<Vec<&Rstp>, Memory>
         requires { self.now.plan.spanning ≡ by_protocol }
         ensures { IfOk result (λ machines. map (λ m. m.now) machines.items ≡ machines_in self.now.plan self.now.rec) }
@@ -31,8 +35,8 @@ impl Net {
         Ok(machines)
     }
 
-    /// The spanning tree of a bridge, which shows the roles of its ports (IEEE 802.1D-2004 clause 17.7), or None
-    /// where the plan gives the states of the ports. Takes no memory.
+    /// Returns the spanning tree of a bridge, which shows the roles of its ports (IEEE 802.1D-2004 clause 17.7), or
+    /// `None` if the plan gives the states of the ports. Allocates nothing.
     pub fn rstp(&self, bridge: u8) -> Option<&Rstp>
         requires { has_place self.now.plan (Bridge bridge) ≡ true }
         ensures { option_copied result ≡ machine_in self.now.plan bridge (steps_of self.now.rec.bridges bridge) }
@@ -40,13 +44,16 @@ impl Net {
         self.bridges[index_of(bridge)].rstp()
     }
 
-    /// Whether the bridges are settled (IEEE 802.1D-2004 clause 17), or None where the plan gives the states of
-    /// the ports.
+    /// Checks whether the bridges are settled (IEEE 802.1D-2004 clause 17). Returns `None` if the plan gives the states
+    /// of the ports.
     ///
-    /// They are settled where each link with both ends up has just one Designated end, the other end stores
-    /// what that one offers, each port has the role that follows from the vectors, and only Root and Designated
-    /// ports are Forwarding. The answer is of this moment: bridges may settle and unsettle again. `Memory` is
-    /// answered where there was none for a list of the bridges.
+    /// The bridges are settled if each link with both ends enabled has exactly one Designated end, the other end stores
+    /// what that one offers, each port has the role that follows from the vectors, and only Root and Designated ports
+    /// are Forwarding. The result holds for this moment: later steps may change it.
+    ///
+    /// # Errors
+    ///
+    /// `Memory` if the allocation of a list of the bridges failed.
     pub fn settled(&self, alloc: Global) -> Result<Option<bool>, Memory>
         ensures { IfOk result (TellsSettled self.now.plan self.now.rec) }
     {

@@ -1,32 +1,42 @@
-//! The meeting places at the bridges' ports, by slot.
+//! The queues at the bridges' ports, by slot.
 
-/// Who is at a local port of a bridge.
+/// The neighbour at a local port of a bridge.
 #[derive(Clone, Copy, Debug)]
 pub(crate) enum PortUse {
+    /// A customer port.
     ToCustomer,
+    /// A lane to another bridge and a lane from it.
     ToBridge,
+    /// None: the plan does not use the port.
     ToNobody,
 }
 
 /// The slots of the ports at which a lane begins and ends.
 #[derive(Clone, Copy, Debug)]
 pub(crate) struct LaneSlots {
+    /// The slot at the lane's beginning.
     pub from: usize,
+    /// The slot at the lane's end.
     pub to: usize,
 }
 
-/// By slot who is there, and by lane and by customer port the slots where they meet bridges. A bridge
-/// has sixteen slots, one for each local port.
+/// The neighbour at each slot, and the slots at which lanes and customer ports meet bridges. A bridge has sixteen
+/// slots, one for each local port.
 #[derive(Drop)]
 pub(crate) struct Slots {
+    /// The neighbour, by slot.
     pub uses: Vec<PortUse>,
+    /// The two slots, by lane.
     pub lanes: Vec<LaneSlots>,
+    /// The slot, by customer port.
     pub customers: Vec<usize>,
 }
 
-/// The index of a place among those of its kind, and a slot where it meets another.
+/// The index of a place among those of its kind, and a slot at which it meets another.
 #[derive(Clone, Copy, Debug)]
 pub(crate) struct Spot {
+    /// The index of the place.
     pub place: usize,
+    /// The slot.
     pub slot: usize,
 }

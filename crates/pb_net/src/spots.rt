@@ -1,4 +1,4 @@
-//! Where a network has the place, and the meeting place, that a number names.
+//! Finds the place and the slot that a number names.
 
 ghost use Rattle.std.specs.Prelude.{◌≡◌, ◌<◌, ◌+◌, ◌⊎◌, true, false, nat_le, ◌&&◌, IfSome, IfNone};
 ghost use Rattle.pb_lan.specs.Events.{has_place};
@@ -10,7 +10,7 @@ ghost use Rattle.pb_net.specs.Slots.{IsBridgeSpot, IsCustomerSpot, IsLaneStart, 
 use crate::net::Net;
 use crate::slots::{PortUse, Spot};
 
-/// The index of the thing of a number, where there are so many, numbered from 1.
+/// Returns the index of the item with this number among `count` items, numbered from 1. `None` if there is none.
 pub(crate) fn index_among(number: u8, count: usize) -> Option<usize>
     ensures some { IfSome result (λ r. (r + 1 ≡ number) × (r < count)) }
     ensures none { IfNone result ((number ≡ 0) ⊎ (count < number)) }
@@ -21,7 +21,7 @@ pub(crate) fn index_among(number: u8, count: usize) -> Option<usize>
     Some(usize::from(number) - 1)
 }
 
-/// Whether there is a thing of this number, where there are so many, numbered from 1.
+/// Checks whether `number` is one of `count` numbers from 1.
 pub(crate) fn is_number(number: u8, count: usize) -> bool
     ensures { result ≡ (nat_le 1 number && nat_le number count) }
 {
@@ -29,7 +29,7 @@ pub(crate) fn is_number(number: u8, count: usize) -> bool
 }
 
 impl Net {
-    /// The slot of a customer port.
+    /// Returns the index and the slot of a customer port.
     pub(crate) fn customer_spot(&self, port: u8) -> Option<Spot>
         ensures some { IfSome result (IsCustomerSpot self.now.plan port) }
         ensures none { IfNone result (has_place self.now.plan (CustomerPort port) ≡ false) }
@@ -39,7 +39,7 @@ impl Net {
         Some(Spot { place, slot })
     }
 
-    /// The slot where a lane begins.
+    /// Returns the index of a lane, and the slot at which it begins.
     pub(crate) fn lane_start(&self, lane: u8) -> Option<Spot>
         ensures some { IfSome result (IsLaneStart self.now.plan lane) }
         ensures none { IfNone result (has_place self.now.plan (Lane lane) ≡ false) }
@@ -52,7 +52,7 @@ impl Net {
         })
     }
 
-    /// The slot where a lane ends.
+    /// Returns the index of a lane, and the slot at which it ends.
     pub(crate) fn lane_end(&self, lane: u8) -> Option<Spot>
         ensures some { IfSome result (IsLaneEnd self.now.plan lane) }
         ensures none { IfNone result (has_place self.now.plan (Lane lane) ≡ false) }
@@ -62,7 +62,7 @@ impl Net {
         Some(Spot { place, slot: at.to })
     }
 
-    /// The slot of a bridge's port, in use or not.
+    /// Returns the index of a bridge, and the slot of its port, used or not.
     fn bridge_spot(&self, bridge: u8, port: u8) -> Option<Spot>
         ensures some { IfSome result (IsBridgeSpot self.now.plan bridge port) }
         ensures none { IfNone result (port_at self.now.plan bridge port ≡ Unused) }
@@ -75,7 +75,7 @@ impl Net {
         })
     }
 
-    /// The slot of a bridge's port that the plan uses.
+    /// Returns the index of a bridge, and the slot of its port, if the plan uses the port.
     pub(crate) fn used_spot(&self, bridge: u8, port: u8) -> Option<Spot>
         ensures some { IfSome result (IsBridgeSpot self.now.plan bridge port) }
         ensures used { IfSome result (λ _. is_used (port_at self.now.plan bridge port) ≡ true) }
@@ -88,7 +88,7 @@ impl Net {
         }
     }
 
-    /// The slot of a bridge's port to another bridge.
+    /// Returns the index of a bridge, and the slot of its port, if the port leads to another bridge.
     pub(crate) fn provider_spot(&self, bridge: u8, port: u8) -> Option<Spot>
         ensures some { IfSome result (IsBridgeSpot self.now.plan bridge port) }
         ensures used { IfSome result (λ _. is_provider (port_at self.now.plan bridge port) ≡ true) }

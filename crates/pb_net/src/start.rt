@@ -21,7 +21,7 @@ use pb_relay::Bridge;
 use std::alloc::Global;
 use std::collections::VecDeque;
 
-/// The bridges of a plan, none of which has taken a step.
+/// Returns the bridges of a plan, none of which has taken a step.
 fn fresh_bridges(alloc: Global, plan: &Plan) -> Result<Vec<Bridge>, Memory>
     requires { IsSound plan.now }
     ensures { IfOk result (λ bridges. AreFreshBridges plan.now (length plan.now.bridges) bridges.items) }
@@ -33,7 +33,7 @@ fn fresh_bridges(alloc: Global, plan: &Plan) -> Result<Vec<Bridge>, Memory>
     Ok(bridges)
 }
 
-/// A lane that loses the items of these numbers, and has taken no step.
+/// Returns a lane that loses the items of these numbers, and has taken no step.
 fn fresh_lane(alloc: Global, losses: &Seq<u64>) -> Result<Lane, Memory>
     requires { Rises losses.now }
     ensures { IfOk result (λ lane. lane ≡ fresh_lane losses.now) }
@@ -41,7 +41,7 @@ fn fresh_lane(alloc: Global, losses: &Seq<u64>) -> Result<Lane, Memory>
     Ok(Lane::new(alloc, losses.clone()?))
 }
 
-/// The lanes of a plan, none of which has taken a step.
+/// Returns the lanes of a plan, two to a link, none of which has taken a step.
 fn fresh_lanes(alloc: Global, plan: &Plan) -> Result<Vec<Lane>, Memory>
     requires { IsSound plan.now }
     ensures { IfOk result (λ lanes. AreFreshLanes plan.now (2 * length plan.now.links) lanes.items) }
@@ -55,7 +55,7 @@ fn fresh_lanes(alloc: Global, plan: &Plan) -> Result<Vec<Lane>, Memory>
     Ok(lanes)
 }
 
-/// So many customer ports, none of which has taken a step.
+/// Returns `count` customer ports, none of which has taken a step.
 fn fresh_customers(alloc: Global, count: usize) -> Result<Vec<CustomerPlace>, Memory>
     requires { count < 256 }
     ensures { IfOk result (λ customers. AreFreshCustomers count customers.items) }
@@ -67,7 +67,7 @@ fn fresh_customers(alloc: Global, count: usize) -> Result<Vec<CustomerPlace>, Me
     Ok(customers)
 }
 
-/// So many meeting places, at which nothing stands.
+/// Returns `count` empty queues.
 fn empty_boxes(alloc: Global, count: usize) -> Result<Vec<VecDeque<Item>>, Memory>
     ensures { IfOk result (λ boxes. AreEmptyBoxes count boxes.items) }
 {
@@ -78,14 +78,14 @@ fn empty_boxes(alloc: Global, count: usize) -> Result<Vec<VecDeque<Item>>, Memor
     Ok(boxes)
 }
 
-/// Whether a customer port stands at a bridge's port.
+/// Checks whether a customer port is at a bridge's port.
 fn is_customer_there(customers: &[CustomerPlan], bridge: u8, port: u8) -> bool
     ensures { result ≡ list_any (is_customer_at bridge port) customers.now }
 {
     customers.iter().any(|customer| customer.bridge == bridge && customer.port == port)
 }
 
-/// Whether a link ends at a bridge's port.
+/// Checks whether a link ends at a bridge's port.
 fn is_end_there(links: &[LinkPlan], bridge: u8, port: u8) -> bool
     ensures { result ≡ list_any (λ l. is_end_at bridge port l.a || is_end_at bridge port l.b) links.now }
 {
@@ -95,7 +95,7 @@ fn is_end_there(links: &[LinkPlan], bridge: u8, port: u8) -> bool
     })
 }
 
-/// Who is at a bridge's port.
+/// Returns the neighbour at a bridge's port.
 fn use_at(plan: &Plan, bridge: u8, port: u8) -> PortUse
     ensures { result ≡ use_of (port_at plan.now bridge port) }
 {
@@ -108,7 +108,7 @@ fn use_at(plan: &Plan, bridge: u8, port: u8) -> PortUse
     PortUse::ToNobody
 }
 
-/// By slot, who is there.
+/// Returns the neighbour of each slot.
 fn uses(alloc: Global, plan: &Plan) -> Result<Vec<PortUse>, Memory>
     requires { IsSound plan.now }
     ensures { IfOk result (λ uses. AreUses plan.now (16 * length plan.now.bridges) uses.items) }
@@ -120,7 +120,7 @@ fn uses(alloc: Global, plan: &Plan) -> Result<Vec<PortUse>, Memory>
     Ok(uses)
 }
 
-/// The slot of a bridge's port.
+/// Returns the slot of a bridge's port.
 fn slot_of(bridge: u8, port: u8) -> usize
     requires bridge { 0 < bridge }
     requires port { 0 < port }
@@ -129,7 +129,7 @@ fn slot_of(bridge: u8, port: u8) -> usize
     16 * (usize::from(bridge) - 1) + (usize::from(port) - 1)
 }
 
-/// The slot of an end of a link.
+/// Returns the slot of an end of a link.
 fn slot_of_end(end: &End) -> usize
     requires bridge { 0 < end.now.bridge }
     requires port { 0 < end.now.port }
@@ -138,7 +138,7 @@ fn slot_of_end(end: &End) -> usize
     slot_of(end.bridge, end.port)
 }
 
-/// By lane, the slots where it begins and ends.
+/// Returns the slots at which each lane begins and ends.
 fn lane_slots(alloc: Global, plan: &Plan) -> Result<Vec<LaneSlots>, Memory>
     requires { IsSound plan.now }
     ensures { IfOk result (λ slots. AreLaneSlots plan.now (2 * length plan.now.links) slots.items) }
@@ -153,7 +153,7 @@ fn lane_slots(alloc: Global, plan: &Plan) -> Result<Vec<LaneSlots>, Memory>
     Ok(slots)
 }
 
-/// By customer port, its slot.
+/// Returns the slot of each customer port.
 fn customer_slots(alloc: Global, plan: &Plan) -> Result<Vec<usize>, Memory>
     requires { IsSound plan.now }
     ensures { IfOk result (λ slots. AreCustomerSlots plan.now (length plan.now.customers) slots.items) }
@@ -166,7 +166,7 @@ fn customer_slots(alloc: Global, plan: &Plan) -> Result<Vec<usize>, Memory>
     Ok(slots)
 }
 
-/// The meeting places at the bridges' ports.
+/// Returns the tables of the plan's slots.
 fn slots_of(alloc: Global, plan: &Plan) -> Result<Slots, Memory>
     requires { IsSound plan.now }
     ensures { IfOk result (AreTables plan.now) }
@@ -178,7 +178,7 @@ fn slots_of(alloc: Global, plan: &Plan) -> Result<Slots, Memory>
     })
 }
 
-/// Room for the lists of the record.
+/// Allocates the lists of the record.
 fn empty_lists(alloc: Global, plan: &Plan) -> Result<Lists, Memory>
     requires { length plan.now.links < 256 }
     ensures { IfOk result (AreEmpty (length plan.now.bridges) (2 * length plan.now.links) (length plan.now.customers)) }
@@ -191,10 +191,12 @@ fn empty_lists(alloc: Global, plan: &Plan) -> Result<Lists, Memory>
 }
 
 impl Net {
-    /// The network of a sound plan (802.1Q clause 15), in which no place has taken a step. The plan gives the
-    /// states of the ports, or a spanning tree at each bridge decides them. The network keeps the plan.
+    /// Returns the network of a sound plan (IEEE 802.1Q clause 15), in which no place has taken a step. The plan gives
+    /// the states of the ports, or a spanning tree at each bridge decides them. The network keeps the plan.
     ///
-    /// `Memory` is answered where memory ran out, and nothing else is refused.
+    /// # Errors
+    ///
+    /// `Memory` if an allocation failed. There is no other error.
     pub fn new(alloc: Global, plan: Plan) -> Result<Net, Memory>
         requires { IsSound plan }
         ensures { IfOk result (λ net. net ≡ record { plan = plan; rec = empty_record plan }) }

@@ -1,4 +1,4 @@
--- What a test bench is told of a finished record in which no state changed.
+-- The results of a test bench for a finished record in which no state changed.
 use Rattle.std.specs.Prelude.{◌≡◌, ℕ, Bool, List, Some, IsTrue}
 use Rattle.pb_lan.specs.Counts.{IsUnhindered}
 use Rattle.pb_lan.specs.Laws.{IsReached, IsDelivered, NoPortIsSet}
@@ -19,8 +19,8 @@ pub record IsUnhinderedOf (plan : Plan) (rec : Record) (service : ℕ) (mark : M
   pub of_service : entry.service ≡ service
   pub unhindered : IsUnhindered plan (start_shape plan) (vid_at plan entry) rec mark
 
--- where the bench says so, each such mark left each other port of its tree as often as it should, if the plan gives
--- the states and no port was set up or down
+-- if the bench says so, each such mark left each other port of its tree as often as it should, if the plan gives the
+-- states and no port was enabled or disabled
 abbrev pub TellsAllDelivered : Plan → Record → ℕ → Bool → Type 0
 TellsAllDelivered plan rec service told =
     IsTrue told → plan.spanning ≡ Fixed → NoPortIsSet rec

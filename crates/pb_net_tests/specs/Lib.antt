@@ -1,2 +1,2 @@
--- Words of the test bench.
+-- Definitions of the test bench.
 pub mod Benches

@@ -1,4 +1,4 @@
--- The ends of rings that have not been given away.
+-- The ends of rings that no place has yet.
 use Rattle.std.proofs.Common.{◌≡◌, ℕ, zero, suc, ◌+◌, ◌*◌, ◌<◌, ◌≤◌, List, [], ◌∷◌, ◌++◌, Some, None, false, true}
 use Rattle.std.proofs.Common.{length, map, drop, slice_get, slice_set, refl, sym, ap, ◌∙◌, subst, arith}
 use Rattle.std.proofs.lemmas.Bool.{eq-eqb}
@@ -14,7 +14,7 @@ use Rattle.pb_lan.specs.declared.plan.LinkPlan.{LinkPlan}
 use Rattle.pb_lan.specs.declared.plan.Plan.{Plan}
 use Rattle.pb_run.specs.Wires.{ring_into, ring_out, IsThere, HasInner, HasOuter}
 
--- what is given away leaves the others
+-- the other ends remain after one was taken
 still_there : {X : Type 0} (ends : List (Option X)) (i n : ℕ) → (n ≡ i → ⊥) → IsThere ends n
     → IsThere (slice_set ends i None) n
 still_there [] i n other h = h
@@ -49,7 +49,7 @@ out_apart one two some within some_too within_too other same = into_apart one tw
 into_no_out : (one two : ℕ × ℕ) → ring_into two.0 two.1 ≡ ring_out one.0 one.1 → ⊥
 into_no_out one two same = omega arith
 
--- what is left once a bridge has its ends at a local port
+-- the remaining ends after a bridge has taken its two at a local port
 module _ {X Y : Type 0} (outlets outlets_left : List (Option X)) (inlets inlets_left : List (Option Y)) (one : ℕ × ℕ)
     (into out : ℕ) (has : HasInner outlets inlets one)
     (is_into : into ≡ ring_into one.0 one.1) (is_out : out ≡ ring_out one.0 one.1)
@@ -75,7 +75,7 @@ module _ {X Y : Type 0} (outlets outlets_left : List (Option X)) (inlets inlets_
           (λ same. into_no_out at one (sym same)) h.receiving;
     }
 
--- and once what stands there has the other two
+-- the remaining ends after the neighbour at a local port has taken its two
 pub outer_rest : {X Y : Type 0} (outlets outlets_left : List (Option X)) (inlets inlets_left : List (Option Y))
     (one : ℕ × ℕ) (into out : ℕ) → HasOuter outlets inlets one
     → into ≡ ring_into one.0 one.1 → out ≡ ring_out one.0 one.1 → outlets_left ≡ slice_set outlets into None
@@ -91,7 +91,7 @@ outer_rest outlets outlets_left inlets inlets_left one into out has is_into is_o
           (out_apart one at has.bridge has.port h.bridge h.port other) h.receiving;
     }
 
--- where all are there, and one more is
+-- the ends so far are there, and one more
 pub one_more_there : {X : Type 0} (ends more : List (Option X)) (x : X) → more ≡ ends ++ Some x ∷ []
     → ((n : ℕ) → n < length ends → IsThere ends n) → (n : ℕ) → n < length more → IsThere more n
 one_more_there {X} ends more x e all n within = rw e (by ends all n (rw e at within))
@@ -103,7 +103,7 @@ one_more_there {X} ends more x e all n within = rw e (by ends all n (rw e at wit
     by (y ∷ xs) each zero less = each zero (omega arith)
     by (y ∷ xs) each (suc n) less = by xs (λ m h. each (suc m) (omega arith)) n (omega arith)
 
--- where the ends of all rings are there, so are those of each local port
+-- if the ends of all rings are there, those of each local port are
 module _ {X Y : Type 0} (outlets : List (Option X)) (inlets : List (Option Y)) (count bridges : ℕ)
     (is : count ≡ 32 * bridges) (all : (n : ℕ) → n < count → IsThere outlets n × IsThere inlets n) where
   pub all_inner : (at : ℕ × ℕ) → IsNumber at.0 bridges → IsNumber at.1 16 → HasInner outlets inlets at
@@ -122,7 +122,7 @@ module _ {X Y : Type 0} (outlets : List (Option X)) (inlets : List (Option Y)) (
     receiving = (all (ring_out at.0 at.1) (omega (arith, bridge.0, bridge.1, port.0, port.1))).1;
   }
 
--- what holds of each local port holds of those that a sound plan uses
+-- a property of each local port holds of those that a sound plan uses
 pub all_used : (P : (ℕ × ℕ) → Type 0) (plan : Plan) → IsSound plan
     → ((at : ℕ × ℕ) → IsNumber at.0 (length plan.bridges) → IsNumber at.1 16 → P at)
     → AllByRecursion P (ports_in plan.links plan.customers)
@@ -135,19 +135,19 @@ all_used P plan sound each =
     (All-imply (IsSoundCustomer plan) (λ c. P (c.bridge, c.port)) (λ c is. each (c.bridge, c.port) is.bridge is.port)
     plan.customers sound.customers))
 
--- no two customer ports stand at one local port
+-- no two customer ports are at one local port
 pub customers_apart : (plan : Plan) → IsSound plan → IsDistinct is_same_port (ports_in [] plan.customers)
 customers_apart plan sound = IsDistinct-back is_same_port (map (λ e. (e.bridge, e.port)) (all_ends plan))
     (map (λ c. (c.bridge, c.port)) plan.customers) sound.ports
 
--- two local ports that the test tells apart
+-- two local ports that the test distinguishes differ
 tested_apart : (one two : ℕ × ℕ) → is_same_port one two ≡ false → two ≡ one → ⊥
 tested_apart one two test same =
     let yes : is_same_port one two ≡ true = both_true (eq-eqb one.0 two.0 (ap (λ (at : ℕ × ℕ). at.0) (sym same)))
     (eq-eqb one.1 two.1 (ap (λ (at : ℕ × ℕ). at.1) (sym same))) in
     cc
 
--- what holds of the others stays so, where it stays so of each port but one
+-- a property of the other local ports is kept if it is kept of each port but one
 all_kept : (P Q : (ℕ × ℕ) → Type 0) (one : ℕ × ℕ) (others : List (ℕ × ℕ))
     → ((at : ℕ × ℕ) → (at ≡ one → ⊥) → P at → Q at)
     → AllByRecursion (λ at. is_same_port one at ≡ false) others → AllByRecursion P others → AllByRecursion Q others
@@ -155,7 +155,7 @@ all_kept P Q one [] keeps apart all = tt
 all_kept P Q one (at ∷ others) keeps apart all =
     (keeps at (tested_apart one at apart.0) all.0, all_kept P Q one others keeps apart.1 all.1)
 
--- the first of some local ports, and the others
+-- the first of a list of local ports, and the others
 module _ (one : ℕ × ℕ) (others ports : List (ℕ × ℕ)) (is : ports ≡ one ∷ others) where
   all_there : (P : (ℕ × ℕ) → Type 0) → AllByRecursion P ports → P one × AllByRecursion P others
   all_there P all = subst (AllByRecursion P) is all
@@ -180,7 +180,7 @@ pub customer_ports : (customers : List CustomerPlan) (k : ℕ) (c : CustomerPlan
     → ports_in [] (drop k customers) ≡ (c.bridge, c.port) ∷ ports_in [] (drop (k + 1) customers)
 customer_ports customers k c at = ap (λ (cs : List CustomerPlan). ports_in [] cs) (from_here customers k c at)
 
--- those of one link, and those after it
+-- the local ports of one link, and those after it
 module _ (links : List LinkPlan) (customers : List CustomerPlan) (k : ℕ) (link : LinkPlan)
     (at : slice_get links k ≡ Some link) where
   abbrev later : List (ℕ × ℕ)

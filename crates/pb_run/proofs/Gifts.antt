@@ -1,4 +1,4 @@
--- What workers are given, one more at a time, and which rings join them.
+-- What workers are given, for the loops that build them, and the rings that join them.
 use Rattle.std.proofs.Common.{◌≡◌, ℕ, suc, ◌+◌, ◌-◌, ◌*◌, ◌<◌, ◌≤◌, inl, inr, List, [], ◌∷◌, ◌++◌, Some, length}
 use Rattle.std.proofs.Common.{slice_get, slice_index_or, map, refl, sym, ap, ◌∙◌, subst, arith, length-append}
 use Rattle.std.proofs.Common.{below_more}
@@ -18,7 +18,7 @@ use Rattle.pb_workers.specs.declared.gift.LaneGift.{LaneGift}
 use Rattle.pb_run.specs.Wires.{ring_into, ring_out}
 use Rattle.pb_run.proofs.Lists.{slice_get-front}
 
--- one bridge more
+-- the list of bridges extended by one
 pub bridges_more : (plan : Plan) (k : ℕ) (gifts : List BridgeGift) (gift : BridgeGift) → AreBridges plan k gifts
     → IsBridgeGift plan (k + 1) gift → AreBridges plan (k + 1) (gifts ++ gift ∷ [])
 bridges_more plan k gifts gift are is = record {
@@ -27,11 +27,11 @@ bridges_more plan k gifts gift are is = record {
       (subst (λ n. IsBridgeGift plan (n + 1) gift) (sym are.counted) is);
 }
 
--- what stands at the end of a list
+-- the item at the end of a list
 at_end : {X : Type 0} (xs : List X) (x : X) (n : ℕ) → length xs ≡ n → slice_get (xs ++ x ∷ []) n ≡ Some x
 at_end xs x n counted = ap (slice_get (xs ++ x ∷ [])) (sym counted) ∙ slice_get-next xs [] x
 
--- what stands for each of so many parts of a plan, and for one more, in a list in which all of it stands still
+-- a property of an entry for each part of a plan holds after one more, in a list that keeps its entries
 one_more_stands : {P G : Type 0} (gift : ℕ → P → G) (place : ℕ → ℕ) (ps : List P) (k : ℕ) (p : P) (gifts more : List G)
     → slice_get ps k ≡ Some p → ((n : ℕ) (g : G) → slice_get gifts n ≡ Some g → slice_get more n ≡ Some g)
     → ((j : ℕ) (q : P) → j < k → slice_get ps j ≡ Some q → slice_get gifts (place j) ≡ Some (gift j q))
@@ -42,7 +42,7 @@ one_more_stands {P} gift place ps k p gifts more at stays are here j q less ther
     (λ n below r h. stays (place n) (gift n r) (are n r below h))
     (λ r h. here ∙ ap (λ z. Some (gift k z)) (Some-injective (sym at ∙ h))) j less q there
 
--- one customer port more
+-- the list of customer ports extended by one
 pub accesses_more : (plan : Plan) (k : ℕ) (c : CustomerPlan) (gifts : List AccessGift) (gift : AccessGift)
     → slice_get plan.customers k ≡ Some c → AreAccesses plan k gifts → gift ≡ access_gift (k + 1) c
     → AreAccesses plan (k + 1) (gifts ++ gift ∷ [])
@@ -52,7 +52,7 @@ accesses_more plan k c gifts gift at are is = record {
       (slice_get-front gifts (gift ∷ [])) are.each (at_end gifts gift k are.counted ∙ ap (λ g. Some g) is);
 }
 
--- two lanes more
+-- the list of lanes extended by the two of a link
 pub lanes_more : (plan : Plan) (k : ℕ) (link : LinkPlan) (gifts : List LaneGift) (one two : LaneGift)
     → slice_get plan.links k ≡ Some link → AreLanes plan k gifts
     → one ≡ lane_gift (2 * k + 1) link.a link.b link.lost_ab → two ≡ lane_gift (2 * k + 2) link.b link.a link.lost_ba
@@ -79,7 +79,7 @@ pub link_ends : (plan : Plan) (k : ℕ) (link : LinkPlan) → IsSound plan → s
 link_ends plan k link sound at =
     (sound-end plan sound (suc k) link link.a at (inl refl), sound-end plan sound (suc k) link link.b at (inr refl))
 
--- where a customer port stands
+-- the local port of a customer port
 pub customer_stands : (plan : Plan) (k : ℕ) (c : CustomerPlan) → IsSound plan → slice_get plan.customers k ≡ Some c
     → IsSoundCustomer plan c
 customer_stands plan k c sound at = All-at (IsSoundCustomer plan) plan.customers k c at sound.customers
@@ -98,7 +98,7 @@ rings_at plan gifts bridge port gift are at some from to =
       is.out (port - 1) (omega arith) ∙ ap (λ n. ring_out n (port - 1 + 1)) b ∙ ap (ring_out bridge) p,
     )
 
--- none of them yet
+-- the empty list of bridges
 pub no_bridges : {X : Type 0} (gift : X → BridgeGift) (plan : Plan) (xs : List X) → xs ≡ []
     → AreBridges plan 0 (map gift xs)
 no_bridges gift plan [] none = record { counted = refl; each = λ r g at. cc }

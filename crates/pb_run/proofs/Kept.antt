@@ -47,19 +47,19 @@ module _ {X P : Type 0} (script tally : P → Option Frames) (was port : X → P
     used_up = λ number. (kept_by ws all number).2;
   }
 
-  -- the same of ports, lists and answers that come back
+  -- what ports gave and took, for the lists of ports, steps and poll results that come back
   pub kept_back : (ws : List X) (before after : List P) (customers : List (List Step)) (lasts : List Last)
       → map was ws ≡ before → after ≡ map port ws → customers ≡ map steps ws → lasts ≡ map last ws → All Keeps ws
       → ArePortsKept (lists_of script tally before) (lists_of script tally after) customers lasts
   kept_back ws before after customers lasts eb ea ec el all = rw (el, ec, ea, ← eb) (kept_ports ws all)
 
--- what is seen of things through what is seen of them
+-- the images of items, through the images of what they were given
 through : {X G Y : Type 0} (given : X → G) (seen : G → Y) (shown : X → Y) (ws : List X)
     → ((w : X) → shown w ≡ seen (given w)) → map shown ws ≡ map seen (map given ws)
 through given seen shown [] same = refl
 through given seen shown (w ∷ ws) same = let here = same w in let rest = through given seen shown ws same in cc
 
--- what is seen through what stayed stays
+-- images stay the same if what the items were given stays the same
 pub seen_through : {X G Y : Type 0} (given : X → G) (seen : G → Y) (shown : X → Y) (ws olds : List X)
     → ((w : X) → shown w ≡ seen (given w)) → map given ws ≡ map given olds → map shown ws ≡ map shown olds
 seen_through given seen shown ws olds same e = through given seen shown ws same ∙ ap (map seen) e
@@ -83,14 +83,14 @@ pub keeps_fresh : {P : Type 0} (script tally : P → Option Frames) (was port : 
 keeps_fresh script tally was port steps last same none more =
     rw (same, none, more) (nothing_given (script port), nothing_taken (tally port), tt)
 
--- as many come back as were given, one for each port
+-- as many workers come back as there were ports
 pub as_many : {X G P : Type 0} (given : X → G) (port : X → P) (ws olds : List X) (ports : List P)
     → map given ws ≡ map given olds → map port olds ≡ ports
     → length ws ≡ length ports
 as_many given port ws olds ports kept are = sym (length-map ws given) ∙ ap length kept ∙ length-map olds given
     ∙ sym (length-map olds port) ∙ ap length are
 
--- the accesses that come back have the numbers that they had
+-- the accesses that come back keep their numbers
 pub accesses_back : {X D G : Type 0} (given : X → G) (ws olds : List X) (after : List D) (before : List AccessGift)
     (access : X → D) (gift : D → AccessGift) (plan : Plan) (n : ℕ)
     → map given ws ≡ map given olds → after ≡ map access ws → map (λ w. gift (access w)) olds ≡ before

@@ -31,7 +31,7 @@ use Rattle.pb_run.specs.declared.ended.Ended.TheVariants.{Drained}
 use Rattle.pb_run.proofs.Lists.{all_at, thing_at}
 use Rattle.pb_run.proofs.Meeting.{steps_there}
 
--- what holds of each place's steps, and of none, holds at every number
+-- a property of each place's steps, and of the empty list, holds at every number
 by_place : {X : Type 0} (L : ℕ → List Step → Type 0) (steps : X → List Step) (ws : List X) (r : ℕ)
     → ((n : ℕ) → L n []) → ((j : ℕ) (w : X) → slice_get ws j ≡ Some w → L j (steps w))
     → L r (unwrap_or (slice_get (map steps ws) r) [])
@@ -95,7 +95,7 @@ lawful_ports gift steps plan ws are all n =
     let number : (gift w).place ≡ suc j = ap (λ (z : AccessGift). z.place) same ∙ add-one j in
     subst (λ m. IsLawfulPort m (steps w)) number (all_at (λ x. IsLawfulPort (gift x).place (steps x)) ws j w all h))
 
--- what each part of a record says makes it lawful
+-- a record is lawful if each of its parts is and neighbours agree
 pub lawful_record : (plan : Plan) (rec : Record)
     → length rec.bridges ≡ length plan.bridges → length rec.lanes ≡ 2 * length plan.links
     → length rec.customers ≡ length plan.customers
@@ -143,7 +143,7 @@ lawful_record plan rec bridge_count lane_count customer_count bridges lanes port
           meets_ba = record { onto = over_ba.onto; off = over_ba.off };
         }
 
--- the same of the workers of a plan that are back and have met
+-- `lawful_record` for the workers of a plan that are back and have met
 pub lawful_workers : {X Y Z : Type 0} (bridge : X → BridgeGift) (bridge_steps : X → List Step) (lane : Y → LaneGift)
     (lane_steps : Y → List Step) (access : Z → AccessGift) (access_steps : Z → List Step)
     (plan : Plan) (rec : Record) (bs : List X) (ls : List Y) (ds : List Z) (bridges : List BridgeGift)
@@ -177,7 +177,7 @@ lawful_workers bridge bridge_steps lane lane_steps access access_steps plan rec 
     (λ k c less at. rw (rec_ds ∙ ed1, rec_bs ∙ eb1) (met_ds k c less at))
     (λ k link less at. rw (rec_ls ∙ el1, rec_bs ∙ eb2) (met_ls k link less at))
 
--- how a run ended, by a record that is lawful
+-- the reported end of a run is true, from its lawful record
 pub tells_ended : (plan : Plan) (rec : Record) (lasts looked : List Last) (drained : Bool) (ended : Ended)
     → ((ended ≡ Drained) ↔ IsTrue drained) → TellsAllDrained rec looked drained → looked ≡ lasts
     → IsSound plan → IsLawfulRecord spanning_tree plan rec → TellsEnded plan rec lasts ended

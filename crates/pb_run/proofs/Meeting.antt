@@ -19,13 +19,13 @@ use Rattle.pb_run.specs.Wires.{ring_into, ring_out}
 use Rattle.pb_run.proofs.Gifts.{rings_at}
 use Rattle.pb_run.proofs.Lists.{thing_is}
 
--- the steps of a place that is known by its place in the list
+-- the steps of a place at an index of the list
 pub steps_there : {X : Type 0} (steps : X → List Step) (ws : List X) (r n : ℕ) (w : X) → slice_get ws r ≡ Some w
     → n ≡ suc r → steps_of (map steps ws) n ≡ steps w
 steps_there steps ws r n w at e = ap (λ m. steps_of (map steps ws) m) e
     ∙ ap (λ o. unwrap_or o []) (part_at steps ws r w at)
 
--- what begins something at two places does so in the lists of all places
+-- a beginning between two places is one between their entries in the lists of all places
 pub begins_there : {X Y : Type 0} (part_of whole_of : List Step → List Item) (one : X → List Step)
     (two : Y → List Step) (xs : List X) (ys : List Y) (r s n m : ℕ) (x : X) (y : Y)
     → slice_get xs r ≡ Some x → slice_get ys s ≡ Some y → n ≡ suc r → m ≡ suc s
@@ -37,14 +37,14 @@ begins_there part_of whole_of one two xs ys r s n m x y at_x at_y n_is m_is begi
     (subst (λ (z : List Step). IsBeginning (part_of z) (whole_of (two y))) (sym (steps_there one xs r n x at_x n_is))
     begins)
 
--- the worker of a bridge stands at its place
+-- the worker of a bridge is at its index
 pub bridge_here : {X : Type 0} (gift : X → BridgeGift) (plan : Plan) (xs : List X) (bridge i : ℕ) (x : X)
     → AreBridges plan (length plan.bridges) (map gift xs) → IsNumber bridge (length plan.bridges)
     → i ≡ bridge → x ≡ get_or xs (i - 1) x → slice_get xs (i - 1) ≡ Some x
 bridge_here gift plan xs bridge i x are number e value =
     here_is xs (i - 1) x (omega (arith, are.counted, length-map xs gift, number.0, number.1)) value
 
--- its ports have places for their rings, and these rings
+-- the rings of a bridge's port are these, and there is an index for them
 pub bridge_rings : {X : Type 0} (gift : X → BridgeGift) (plan : Plan) (xs : List X) (bridge port i : ℕ) (x : X)
     → AreBridges plan (length plan.bridges) (map gift xs) → IsNumber bridge (length plan.bridges)
     → IsNumber port 16 → i ≡ bridge → x ≡ get_or xs (i - 1) x
@@ -57,12 +57,12 @@ bridge_rings gift plan xs bridge port i x are number there e value =
     let rings = rings_at plan (map gift xs) bridge port (gift x) are here number.0 there.0 there.1 in
     (rings.0, rings.1, (are.each (bridge - 1) (gift x) here).count)
 
--- the thing at an index has what the list of gifts says
+-- the item at an index has what the list of gifts says
 pub gift_is : {X Y : Type 0} (gift : X → Y) (xs : List X) (r : ℕ) (x : X) (y : Y) → slice_get (map gift xs) r ≡ Some y
     → x ≡ get_or xs r x → gift x ≡ y
 gift_is gift xs r x y is value = Some-injective (sym (part_at gift xs r x (thing_is gift xs r y x is value)) ∙ is)
 
--- what begins something in the lists after a call does so in those before
+-- a beginning in the lists after a call is one in the lists before it
 pub as_before : (part_of whole_of : List Step → List Item) (xs xs' ys ys' : List (List Step)) (n n' m m' : ℕ)
     → xs' ≡ xs → ys' ≡ ys → n' ≡ n → m' ≡ m
     → IsBeginning (part_of (steps_of xs' n')) (whole_of (steps_of ys' m'))
@@ -81,7 +81,7 @@ pub link_meets : (rec : Record) (n m : ℕ) (k l : LinkPlan) → k ≡ l → Mee
     → MeetsOver rec n l.a l.b × MeetsOver rec m l.b l.a
 link_meets rec n m k l e meet = subst (λ (x : LinkPlan). MeetsOver rec n x.a x.b × MeetsOver rec m x.b x.a) e meet
 
--- what has met, and one more, in lists that stayed the same
+-- the meetings so far and one more, in lists that stayed the same
 pub one_more_met : {X : Type 0} (Met : List (List Step) → List (List Step) → ℕ → X → Type 0) (xs : List X) (place : ℕ)
     (bs bs' ds ds' : List (List Step)) → bs' ≡ bs → ds' ≡ ds
     → ((k : ℕ) (x : X) → k < place → slice_get xs k ≡ Some x → Met bs ds k x)

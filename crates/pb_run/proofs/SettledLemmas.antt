@@ -22,7 +22,7 @@ use Rattle.pb_run.specs.Gifts.{AreBridges}
 use Rattle.pb_workers.specs.declared.gift.BridgeGift.{BridgeGift}
 use Rattle.pb_run.proofs.Meeting.{steps_there}
 
--- the machine of the worker at a place of the list
+-- the machine of the worker at an index of the list
 pub machine_there : {X : Type 0} (gift : X → BridgeGift) (steps : X → List Step) (plan : Plan) (ws : List X) (r : ℕ)
     (w : X) → plan.spanning ≡ Rstp
     → AreBridges plan (length plan.bridges) (map gift ws) → r < length ws → w ≡ get_or ws r w
@@ -37,7 +37,7 @@ machine_there gift steps plan ws r w rstp are within value =
     ∙ ap (machine_in plan (r + 1)) (sym (steps_there steps ws r (r + 1) w at next))
     ∙ a_machine plan (r + 1) (steps_of (map steps ws) (r + 1)) rstp
 
--- one more thing that is known by its number
+-- the list of items that are known by number, extended by one
 pub one_more_known : {X Y : Type 0} (see : X → Y) (f : ℕ → Y) (olds news : List X) (x : X) (r : ℕ) → length olds ≡ r
     → news ≡ olds ++ x ∷ []
     → ((q : ℕ) (y : Y) → slice_get (map see olds) q ≡ Some y → y ≡ f q) → see x ≡ f r → (q : ℕ) (y : Y)
@@ -47,7 +47,7 @@ one_more_known see f olds news x r counted grown each here q y at =
     each_more (λ n z. z ≡ f n) (map see olds) (see x) each (here ∙ ap f (sym (length-map olds see ∙ counted))) q y
     (ap (λ zs. slice_get zs q) (sym all) ∙ at)
 
--- what stands at each place is known by its number
+-- the item at each index is known by its number
 by_numbers : {X Y : Type 0} (f : ℕ → Y) (k : ℕ) (xs : List X) (ys : List Y) → length ys ≡ length xs
     → ((r : ℕ) (y : Y) → slice_get ys r ≡ Some y → y ≡ f (k + r)) → ys ≡ map f (numbers_from k xs)
 by_numbers f k [] [] counted each = refl
@@ -60,7 +60,7 @@ by_numbers f k (x ∷ xs) (y ∷ ys) counted each =
     (λ r z at. let s : k + suc r ≡ k + 1 + r = omega arith in each (suc r) z at ∙ ap f s) in
     ap (λ z. z ∷ ys) first ∙ ap (λ zs. f k ∷ zs) others
 
--- as many machines as bridges, each by its number, are those of the record
+-- machines that are as many as the bridges, each by its number, are those of the record
 pub machines_all : {X : Type 0} (gift : X → BridgeGift) (steps : X → List Step) (plan : Plan) (rec : Record)
     (ws : List X) (machines : List Machine) → AreBridges plan (length plan.bridges) (map gift ws)
     → rec.bridges ≡ map steps ws → length machines ≡ length ws
@@ -76,7 +76,7 @@ machines_all gift steps plan rec ws machines are lists counted each =
     there ∙ ap (λ (zs : List (List Step)). map (λ bridge. machine_of plan bridge (steps_of zs bridge))
     (numbers_from 1 plan.bridges)) (sym lists)
 
--- what the answer tells of the machines of a record
+-- the contract of `whether_settled`, from the machines of a record
 pub tells : (plan : Plan) (rec : Record) (machines : List Machine) (answer : Bool) → plan.spanning ≡ Rstp
     → machines ≡ machines_in plan rec → IsSound plan → PlannedAreMachines
     → (IsTrue answer ↔ IsSettled plan machines)

@@ -8,18 +8,18 @@ use Rattle.pb_ring.specs.Rings.{RingName, writer_name, reader_name}
 use Rattle.pb_run.specs.Wires.{AreNew, AreNamed}
 use Rattle.pb_run.proofs.Lists.{first_to_come, still_to_come}
 
--- both ends of a ring go by one name
+-- both ends of a ring have one name
 one_name : {T A P : Type 0} → (p : Producer T A P) (c : Consumer T A P) → IsPair p c → reader_name c ≡ writer_name p
 one_name p c pair = cc
 
--- rings go by the names of their writing ends
+-- rings have the names of their writing ends
 pub all_named : {T A P : Type 0} → (rings : List (Producer T A P × Consumer T A P)) → AreNew rings
     → AreNamed (map (λ r. writer_name r.0) rings) rings
 all_named rings new n ring at =
     let here = part_at (λ r. writer_name r.0) rings n ring at in
     (here, here ∙ ap (λ name. Some name) (sym (one_name ring.0 ring.1 (new n ring at).0)))
 
--- the rings that are still to come, by their numbers: the first of them, and the others
+-- the remaining rings by number: the first, and the others
 module _ {T A P : Type 0} where
   abbrev IsNamedAt : List (RingName A) → ℕ → Producer T A P × Consumer T A P → Type 0
   IsNamedAt names n ring =

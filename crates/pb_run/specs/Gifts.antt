@@ -13,7 +13,7 @@ use Rattle.pb_workers.specs.declared.gift.LaneGift.{LaneGift}
 use Rattle.pb_workers.specs.declared.lane.LaneWorker.{LaneWorker}
 use Rattle.pb_run.specs.Wires.{ring_into, ring_out}
 
--- a bridge
+-- what the worker of a bridge is given
 abbrev pub given_bridge : {X : Type 0} {W : Ghosts X} → BridgeWorker X W → BridgeGift
 given_bridge w = record {
   worker = w.number;
@@ -31,12 +31,12 @@ pub record IsBridgeGift (plan : Plan) (number : ℕ) (gift : BridgeGift) : Type 
   pub into : (q : ℕ) → q < 16 → slice_index_or gift.ins q 0 ≡ ring_into number (q + 1)
   pub out : (q : ℕ) → q < 16 → slice_index_or gift.outs q 0 ≡ ring_out number (q + 1)
 
--- the first so many bridges of the plan
+-- what the workers of the plan's first bridges, this many, are given
 pub record AreBridges (plan : Plan) (count : ℕ) (gifts : List BridgeGift) : Type 0 where
   pub counted : length gifts ≡ count
   pub each : (r : ℕ) (gift : BridgeGift) → slice_get gifts r ≡ Some gift → IsBridgeGift plan (r + 1) gift
 
--- a lane
+-- what the worker of a lane over these rings is given
 abbrev pub lane_over : ℕ → ℕ → ℕ → List ℕ → LaneGift
 lane_over number from to losses = record { number = number; from = from; to = to; losses = losses }
 
@@ -46,7 +46,7 @@ given_lane w = lane_over w.number w.from.number w.to.number w.lane.losses
 abbrev pub lane_gift : ℕ → End → End → List ℕ → LaneGift
 lane_gift number from to losses = lane_over number (ring_out from.bridge from.port) (ring_into to.bridge to.port) losses
 
--- the lanes of the first so many links
+-- what the workers of the lanes of the first links, this many, are given
 pub record AreLanes (plan : Plan) (count : ℕ) (gifts : List LaneGift) : Type 0 where
   pub counted : length gifts ≡ 2 * count
   pub ab : (k : ℕ) (link : LinkPlan) → k < count → slice_get plan.links k ≡ Some link
@@ -54,14 +54,14 @@ pub record AreLanes (plan : Plan) (count : ℕ) (gifts : List LaneGift) : Type 0
   pub ba : (k : ℕ) (link : LinkPlan) → k < count → slice_get plan.links k ≡ Some link
       → slice_get gifts (2 * k + 1) ≡ Some (lane_gift (2 * k + 2) link.b link.a link.lost_ba)
 
--- a customer port
+-- what a customer port is given, except for the port outside
 abbrev pub given_access : {X : Type 0} {W : Ghosts X} → Access X W → AccessGift
 given_access d = record { place = d.place.number; feed = d.feed.number; drain = d.drain.number }
 
 abbrev pub access_gift : ℕ → CustomerPlan → AccessGift
 access_gift number c = record { place = number; feed = ring_into c.bridge c.port; drain = ring_out c.bridge c.port }
 
--- the first so many customer ports
+-- what the first customer ports, this many, are given
 pub record AreAccesses (plan : Plan) (count : ℕ) (gifts : List AccessGift) : Type 0 where
   pub counted : length gifts ≡ count
   pub each : (k : ℕ) (c : CustomerPlan) → k < count → slice_get plan.customers k ≡ Some c → slice_get gifts k ≡ Some (access_gift (k + 1) c)

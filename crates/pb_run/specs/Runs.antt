@@ -1,4 +1,4 @@
--- What a run guarantees of its record, its ports and its end.
+-- The guarantee of a run: of its record, its ports and its end.
 use Rattle.std.specs.Prelude.{◌≡◌, ◌↔◌, ℕ, Bool, IfOk, Option, Result, None, List, length, map, vec_len, unwrap_or, All}
 use Rattle.std.specs.declared.vec.Vec.{Vec}
 use Rattle.pb_frame.specs.declared.memory.Memory.{Memory}
@@ -22,11 +22,11 @@ use Rattle.pb_run.specs.declared.ended.Ended.TheVariants.{Drained}
 use Rattle.pb_run.specs.declared.fault.RunCause.{RunCause}
 use Rattle.pb_run.specs.declared.fault.RunCause.TheVariants.{PortCount}
 
--- the frames of the port of this number, where it keeps them as a list
+-- the frames of the port of this number, if it keeps them as a list
 abbrev pub frames_of : List (Option Frames) → ℕ → Option Frames
 frames_of lists number = unwrap_or (numbered lists number) None
 
--- what its newest poll said
+-- the result of the newest poll of the port of this number
 abbrev pub last_of : List Last → ℕ → Last
 last_of lasts number = unwrap_or (numbered lasts number) More
 
@@ -39,8 +39,7 @@ pub record Lists : Type 0 where
 abbrev pub lists_of : {P : Type 0} → (P → Option Frames) → (P → Option Frames) → List P → Lists
 lists_of script tally ports = record { scripts = map script ports; tallies = map tally ports }
 
--- what each port gave is what entered there, and what it took is what left; a script that came to its
--- end is used up
+-- what each port gave is what entered there, and what it took is what left; a script whose end was reported is used up
 pub record ArePortsKept (before after : Lists) (customers : List (List Step)) (lasts : List Last) : Type 0 where
   pub port_count : length after.scripts ≡ length before.scripts
   pub last_count : length lasts ≡ length before.scripts
@@ -48,20 +47,20 @@ pub record ArePortsKept (before after : Lists) (customers : List (List Step)) (l
   pub tally : (number : ℕ) → frames_of after.tallies number ≡ behind (frames_of before.tallies number) (left (steps_of customers number))
   pub used_up : (number : ℕ) → IsEnded (last_of lasts number) (frames_of after.scripts number)
 
--- the run is told to have drained exactly where every port came to its end and every frame has drained
+-- the run reports that it has drained exactly if every port came to its end and every frame has drained
 abbrev pub TellsEnded : Plan → Record → List Last → Ended → Type 0
 TellsEnded plan rec lasts ended = (ended ≡ Drained) ↔ (All (λ last. last ≡ End) lasts × ((mark : Mark) → IsDrained plan rec mark))
 
--- the steps of a run are a lawful record, which is faithful to what came in, and its frames were handled under the start where
--- the plan gives the states and no port was set
+-- the steps of a run are a lawful record, faithful to what entered, and frames were handled under the start if the plan
+-- gives the states and no port was set
 pub record IsTrueRecord (plan : Plan) (counts : Record) : Type 0 where
   pub lawful : IsLawfulRecord spanning_tree plan counts
   pub headline : IsFaithful plan counts
   pub planned : plan.spanning ≡ Fixed → NoPortIsSet counts → AreTracedFromStart plan counts
 
--- what a run guarantees: its record is lawful and faithful to what came in, its ports gave what entered and took what left,
--- what it reports of its end and of its spanning trees is true, and there was one port for each customer port of the plan.
--- The ports keep these scripts and tallies
+-- the guarantee of a run: its record is lawful and faithful to what entered, its ports gave what entered and took what
+-- left, its reports of its end and of its spanning trees are true, and there was one port for each customer port of the
+-- plan. The ports keep these scripts and tallies
 pub record IsRun {P Z : Type 0} (script tally : P → Option Frames) (plan : Plan) (before after : Vec P Z) (counts : Record)
     (lasts : List Last) (end : Ended) (answer : Result (Option Bool) Memory) : Type 0 where
   pub steps : IsTrueRecord plan counts
@@ -70,8 +69,8 @@ pub record IsRun {P Z : Type 0} (script tally : P → Option Frames) (plan : Pla
   pub settled : IfOk answer (TellsSettled plan counts)
   pub count : vec_len before ≡ length plan.customers
 
--- a plan was not run: the cause is PortCount exactly if there were too few ports or too many, and the ports come back as
--- they were
+-- a plan was not run: the cause is PortCount exactly if there were too few ports or too many, and the ports come back
+-- unchanged
 pub record HasNotRun {P Z : Type 0} (plan : Plan) (before after : Vec P Z) (cause : RunCause) : Type 0 where
   pub counted : (cause ≡ PortCount) ↔ (vec_len before ≡ length plan.customers → ⊥)
   pub unpolled : after.items ≡ before.items

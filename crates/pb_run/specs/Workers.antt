@@ -9,20 +9,20 @@ use Rattle.pb_workers.specs.declared.bridge.BridgeWorker.{BridgeWorker}
 use Rattle.pb_run.specs.declared.build.Built.{Built}
 use Rattle.pb_workers.specs.declared.lane.LaneWorker.{LaneWorker}
 
--- they are those of all places of the plan, and no customer port has taken a step or been told of an end
+-- the workers are those of all places of the plan, and no customer port has taken a step or reported its end
 pub record IsBuilt {X : Type 0} {W : Ghosts X} (plan : Plan) (built : Built X W) : Type 0 where
   pub accesses : AreAccesses plan (length plan.customers) (map given_access built.accesses.items)
   pub fresh : All (λ d. (d.place.steps ≡ []) × (d.book.last ≡ More)) built.accesses.items
   pub lanes : AreLanes plan (length plan.links) (map given_lane built.lanes.items)
   pub bridges : AreBridges plan (length plan.bridges) (map given_bridge built.bridges.items)
 
--- they are those of all places of the plan, once they are back
+-- the workers are those of all places of the plan, once they are back
 pub record AreBack {X : Type 0} {W : Ghosts X} (plan : Plan) (ds : List (Access X W)) (ls : List (LaneWorker X W)) (bs : List (BridgeWorker X W)) : Type 0 where
   pub accesses : AreAccesses plan (length plan.customers) (map given_access ds)
   pub lanes : AreLanes plan (length plan.links) (map given_lane ls)
   pub bridges : AreBridges plan (length plan.bridges) (map given_bridge bs)
 
--- each has what it was given still, and its place has taken no step
+-- each worker has what it was given, and the steps of its place are unchanged
 abbrev pub AreSameBridges : {X : Type 0} {W : Ghosts X} → List (BridgeWorker X W) → List (BridgeWorker X W) → Type 0
 AreSameBridges old new =
     (map given_bridge new ≡ map given_bridge old) × (map (λ b. b.bridge.steps) new ≡ map (λ b. b.bridge.steps) old)

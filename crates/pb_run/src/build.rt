@@ -1,4 +1,4 @@
-//! The workers of a plan, and the rings between them.
+//! Builds the workers of a plan, and the rings between them.
 
 ghost use Rattle.std.specs.Prelude.{◌≡◌, ◌≢◌, ◌<◌, ◌+◌, ℕ, [], true, IfOk, All, length, map, vec_len, slice_index_or};
 ghost use Rattle.std.specs.List.{AllByRecursion};
@@ -26,7 +26,7 @@ use std::collections::VecDeque;
 /// The places of a run without their ports outside.
 #[derive(Drop)]
 pub(crate) struct Built<W: Wiring> {
-    /// What customer ports have but for the ports outside.
+    /// The accesses of customer ports, without the ports outside.
     pub accesses: VecDeque<Access<W>>,
     /// The workers of lanes.
     pub lanes: Vec<LaneWorker<W>>,
@@ -34,7 +34,11 @@ pub(crate) struct Built<W: Wiring> {
     pub bridges: Vec<BridgeWorker<W>>,
 }
 
-/// The ends that a bridge has, by local port: those through which it receives, and those through which it sends.
+/// Returns the ring ends of a bridge, by local port: those from which it receives, and those onto which it sends.
+///
+/// # Errors
+///
+/// `Memory` if an allocation failed.
 fn sides_of<W: Wiring>(
     alloc: Global,
     ends: &mut Ends<W>,
@@ -64,7 +68,11 @@ fn sides_of<W: Wiring>(
     Ok((Inlets { ends: inlets }, Outlets { ends: outlets }))
 }
 
-/// The worker of the bridge of this number.
+/// Returns the worker of the bridge of this number.
+///
+/// # Errors
+///
+/// `Memory` if an allocation failed.
 fn bridge_worker<W: Wiring>(
     alloc: Global,
     plan: &Plan,
@@ -88,7 +96,11 @@ fn bridge_worker<W: Wiring>(
     BridgeWorker::new(alloc, plan, number, ins, outs, mode)
 }
 
-/// The workers of a plan's bridges.
+/// Returns the workers of a plan's bridges.
+///
+/// # Errors
+///
+/// `Memory` if an allocation failed.
 fn bridge_workers<W: Wiring>(
     alloc: Global,
     plan: &Plan,
@@ -111,7 +123,11 @@ fn bridge_workers<W: Wiring>(
     Ok(workers)
 }
 
-/// The lane that loses the items of these numbers, and keeps its steps or only counts them.
+/// Returns the lane that loses the items of these numbers. It keeps its steps, or only counts them.
+///
+/// # Errors
+///
+/// `Memory` if an allocation failed.
 fn new_lane(alloc: Global, losses: &Seq<u64>, keeps: bool) -> Result<Lane, Memory>
     requires { Rises losses.now }
     ensures { IfOk result (λ lane. lane ≡ new_lane losses.now keeps) }
@@ -123,7 +139,11 @@ fn new_lane(alloc: Global, losses: &Seq<u64>, keeps: bool) -> Result<Lane, Memor
     Ok(Lane::counting(alloc, losses))
 }
 
-/// The worker of a lane from one ring onto another, which loses the items of these numbers.
+/// Returns the worker of a lane from one ring onto another, which loses the items of these numbers.
+///
+/// # Errors
+///
+/// `Memory` if an allocation failed.
 fn lane_worker<W: Wiring>(
     alloc: Global,
     number: u8,
@@ -142,7 +162,11 @@ fn lane_worker<W: Wiring>(
     Ok(LaneWorker::new(number, lane, from, to, limit))
 }
 
-/// The workers of a plan's lanes.
+/// Returns the workers of a plan's lanes, two to a link.
+///
+/// # Errors
+///
+/// `Memory` if an allocation failed.
 fn lane_workers<W: Wiring>(
     alloc: Global,
     plan: &Plan,
@@ -171,7 +195,7 @@ fn lane_workers<W: Wiring>(
     Ok(workers)
 }
 
-/// The customer port of this number, which keeps its steps or only counts them.
+/// Returns the customer port of this number. It keeps its steps, or only counts them.
 fn new_customer(alloc: Global, number: u8, keeps: bool) -> CustomerPlace
     ensures { result ≡ new_customer number keeps }
 {
@@ -181,7 +205,7 @@ fn new_customer(alloc: Global, number: u8, keeps: bool) -> CustomerPlace
     CustomerPlace::counting(alloc, number)
 }
 
-/// The access of the customer port of this number.
+/// Returns the access of the customer port of this number.
 fn access_of<W: Wiring>(
     alloc: Global,
     ends: &mut Ends<W>,
@@ -203,7 +227,11 @@ fn access_of<W: Wiring>(
     Access::new(number, place, feed, drain, limit)
 }
 
-/// The accesses of a plan's customer ports.
+/// Returns the accesses of a plan's customer ports.
+///
+/// # Errors
+///
+/// `Memory` if an allocation failed.
 fn accesses_of<W: Wiring>(
     alloc: Global,
     plan: &Plan,
@@ -229,9 +257,12 @@ fn accesses_of<W: Wiring>(
     Ok(accesses)
 }
 
-/// The places of a plan, none of which has taken a step, joined by rings that nothing has passed. By the mode they keep
-/// their steps or only count them, and bridges fulfil wishes or not.
-/// `Memory` is answered where there was none for them.
+/// Returns the places of a plan, none of which has taken a step, over rings that nothing has passed. The mode says
+/// whether they keep their steps, and whether bridges fulfil wishes.
+///
+/// # Errors
+///
+/// `Memory` if an allocation failed.
 pub(crate) fn places_of<W: Wiring>(
     alloc: Global,
     plan: &Plan,

@@ -1,33 +1,33 @@
-//! How a run ended.
+//! The end of a run.
 
 ghost use Rattle.std.specs.Prelude.{◌≡◌, ◌↔◌, IsTrue};
 
 use pb_threads::Finish;
 
-/// How a run ended.
+/// The end of a run.
 #[derive(Clone, Copy, PartialEq, Eq, Debug)]
 pub enum Ended {
-    /// No frame comes any more, and none is on its way.
+    /// No more frames come, and none is on its way.
     Drained,
-    /// A worker was refused memory.
+    /// An allocation of a worker failed.
     NoMemory,
     /// A worker took as many turns, or its place as many steps, as it may.
     Limit,
-    /// A worker was told to stop, by the gate.
+    /// None of these: the gate stopped the run, or nothing was left to do after the input of a port had a fault.
     Stopped,
 }
 
-/// What ended workers before there was nothing left to do.
+/// The reasons for which workers ended while something was left to do.
 #[derive(Clone, Copy, PartialEq, Eq, Debug)]
 pub(crate) struct Causes {
-    /// Memory was refused.
+    /// An allocation failed.
     pub memory: bool,
     /// A limit was reached.
     pub limit: bool,
 }
 
 impl Causes {
-    /// These, and that of one more worker.
+    /// Returns these reasons, with that of one more worker.
     pub(crate) fn and(self, finish: Option<Finish>) -> Causes {
         Causes {
             memory: self.memory || finish == Some(Finish::Memory),
@@ -36,7 +36,7 @@ impl Causes {
     }
 }
 
-/// How a run ended, by whether it has drained and by what ended its workers.
+/// Returns the end of a run, by whether it has drained and by what ended its workers.
 pub(crate) fn ended_by(is_drained: bool, causes: Causes) -> Ended
     ensures { (result ≡ Ended.Drained) ↔ IsTrue is_drained }
 {

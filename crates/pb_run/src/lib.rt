@@ -1,7 +1,8 @@
-//! Runs of a plan's network: a worker for each place, the rings between them, and what comes back once all have ended.
+//! Runs of a plan's network in threads, over pb_workers: a worker for each place, rings between them, and the record
+//! once all have ended.
 //!
-//! The workers are built over new rings, which lead from each to its neighbours; they work in threads of their own; and
-//! once all are back, the ends of each ring meet, so that what they did is one lawful record.
+//! The workers are built over new rings (`build.rt`), run in threads of their own (`running.rt`), and the ends of each
+//! ring meet once all are back (`meet.rt`). What the places did is one lawful record. Begin reading at `run`.
 #![tactic(auto)]
 
 mod build;

@@ -1,4 +1,4 @@
-//! The meetings: both ends of each ring in one thread again, once all workers are back.
+//! Lets both ends of each ring meet in one thread, once all workers are back.
 
 ghost use Rattle.std.specs.Prelude.{◌≡◌, ◌<◌, ◌+◌, ◌*◌, ℕ, List, Some, length, map, slice_get};
 ghost use Rattle.pb_frame.specs.Lists.{IsBeginning};
@@ -17,7 +17,7 @@ use pb_lan::{End, Plan};
 use pb_ring::Wiring;
 use pb_workers::{Access, BridgeWorker, LaneWorker};
 
-/// The rings of a customer port meet.
+/// Lets the rings of a customer port meet.
 fn meet_access<W: Wiring>(
     plan: &Plan,
     bridges: &mut Vec<BridgeWorker<W>>,
@@ -39,7 +39,7 @@ fn meet_access<W: Wiring>(
     bridge.meet_customer(customer.port, &mut accesses[place]);
 }
 
-/// The rings of all customer ports meet.
+/// Lets the rings of all customer ports meet.
 pub(crate) fn meet_accesses<W: Wiring>(
     plan: &Plan,
     bridges: &mut Vec<BridgeWorker<W>>,
@@ -59,7 +59,7 @@ pub(crate) fn meet_accesses<W: Wiring>(
     }
 }
 
-/// The ring from a bridge's port to a lane that leads away from it meets.
+/// Lets the ends of the ring from a bridge's port to the lane that leads away from it meet.
 fn meet_away<W: Wiring>(
     plan: &Plan,
     bridges: &mut Vec<BridgeWorker<W>>,
@@ -80,7 +80,7 @@ fn meet_away<W: Wiring>(
     bridge.meet_lane_away(from.port, &mut lanes[place]);
 }
 
-/// The ring from a lane to the bridge's port to which it leads meets.
+/// Lets the ends of the ring from a lane to the bridge's port to which it leads meet.
 fn meet_here<W: Wiring>(
     plan: &Plan,
     bridges: &mut Vec<BridgeWorker<W>>,
@@ -102,7 +102,7 @@ fn meet_here<W: Wiring>(
     bridge.meet_lane_here(to.port, &mut lanes[place]);
 }
 
-/// The rings of a link's two lanes meet.
+/// Lets the rings of a link's two lanes meet.
 fn meet_link<W: Wiring>(
     plan: &Plan,
     bridges: &mut Vec<BridgeWorker<W>>,
@@ -128,7 +128,7 @@ fn meet_link<W: Wiring>(
     meet_here(plan, bridges, lanes, 2 * place + 1, &link.a);
 }
 
-/// The rings of all lanes meet.
+/// Lets the rings of all lanes meet.
 pub(crate) fn meet_links<W: Wiring>(
     plan: &Plan,
     bridges: &mut Vec<BridgeWorker<W>>,

@@ -14,7 +14,7 @@ use std::collections::VecDeque;
 /// A port that the caller made.
 pub type Held = Box<dyn Port + Send>;
 
-/// The workers of ports and their accesses, one of each in order. Takes no memory.
+/// Returns a worker for each port and its access, in order. Allocates nothing.
 pub(crate) fn attended<W: Wiring, P: Port>(
     ports: Vec<P>,
     accesses: VecDeque<Access<W>>,
@@ -38,18 +38,18 @@ pub(crate) fn attended<W: Wiring, P: Port>(
     workers
 }
 
-/// What comes back of customer ports, in the order of their workers.
+/// The parts of customer ports that are back, in the order of their workers.
 #[derive(Drop)]
 pub(crate) struct Parts<A, P> {
     /// The ports outside.
     pub ports: Vec<P>,
-    /// Their accesses.
+    /// The accesses of the ports.
     pub accesses: Vec<A>,
-    /// What the newest polls said.
+    /// The results of the newest polls.
     pub lasts: Vec<Last>,
 }
 
-/// Puts the parts of a worker behind those of the workers before it. Takes no memory.
+/// Appends the parts of a worker to the lists. Allocates nothing.
 fn part<W: Wiring, P: Drop>(
     worker: CustomerWorker<W, P>,
     ports: &mut Vec<P>,
@@ -68,8 +68,8 @@ fn part<W: Wiring, P: Drop>(
     accesses.push_reserved(worker.access);
 }
 
-/// The ports outside, their accesses, and what the newest polls said, each in the order of the workers. Takes no
-/// memory.
+/// Splits workers into the ports outside, their accesses, and the results of the newest polls, each in the order of the
+/// workers. Allocates nothing.
 pub(crate) fn apart<W: Wiring, P: Drop>(
     workers: Vec<CustomerWorker<W, P>>,
     rooms: Parts<Access<W>, P>,

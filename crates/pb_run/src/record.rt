@@ -1,4 +1,4 @@
-//! What is gathered of the places of a run once they are back.
+//! The counts and steps of the places of a run once they are back.
 
 ghost use Rattle.std.specs.Prelude.{◌≡◌, ◌≤◌, ◌<◌, ◌++◌, ◌∷◌, [], All, true, false, map, vec_len, vec_capacity, IfOk};
 ghost use Rattle.std.specs.List.{AllByRecursion, list_any};
@@ -16,17 +16,21 @@ use pb_ring::Wiring;
 use pb_workers::{Access, BridgeWorker, LaneWorker};
 use std::alloc::Global;
 
-/// What is counted at each place, and the steps of those places that keep them.
+/// The counts of each place, and the steps of those places that keep them.
 #[derive(Drop)]
 pub(crate) struct Gathered {
-    /// What is counted at each place.
+    /// The counts of each place.
     pub tallies: Vec<Tally>,
-    /// The steps of each place that keeps them; of another none.
+    /// The steps of each place that keeps them, and an empty list for any other.
     pub lists: Vec<Seq<Step>>,
 }
 
 impl Gathered {
-    /// Nothing, with room for so many places.
+    /// Returns empty lists with capacity for `places` places.
+    ///
+    /// # Errors
+    ///
+    /// `Memory` if an allocation failed.
     pub(crate) fn with_room(alloc: Global, places: usize) -> Result<Gathered, Memory>
         ensures { IfOk result (HasRoomFor places) }
     {
@@ -37,7 +41,7 @@ impl Gathered {
         })
     }
 
-    /// One place more. Takes no memory.
+    /// Appends the counts and steps of one place. Allocates nothing.
     fn push(&mut self, steps: Steps)
         requires tallies { vec_len self.old.tallies < vec_capacity self.old.tallies }
         requires lists { vec_len self.old.lists < vec_capacity self.old.lists }
@@ -53,7 +57,7 @@ impl Gathered {
     }
 }
 
-/// What is gathered of bridges. Takes no memory.
+/// Gathers the counts and steps of bridges. Allocates nothing.
 pub(crate) fn bridge_lists<W: Wiring>(workers: Vec<BridgeWorker<W>>, mut room: Gathered) -> Gathered
     requires empty { (room.tallies.items ≡ []) × (room.lists.items ≡ []) }
     requires room { (vec_len workers ≤ vec_capacity room.tallies) × (vec_len workers ≤ vec_capacity room.lists) }
@@ -69,7 +73,7 @@ pub(crate) fn bridge_lists<W: Wiring>(workers: Vec<BridgeWorker<W>>, mut room: G
     room
 }
 
-/// What is gathered of lanes. Takes no memory.
+/// Gathers the counts and steps of lanes. Allocates nothing.
 pub(crate) fn lane_lists<W: Wiring>(workers: Vec<LaneWorker<W>>, mut room: Gathered) -> Gathered
     requires empty { (room.tallies.items ≡ []) × (room.lists.items ≡ []) }
     requires room { (vec_len workers ≤ vec_capacity room.tallies) × (vec_len workers ≤ vec_capacity room.lists) }
@@ -91,7 +95,7 @@ pub(crate) fn lane_lists<W: Wiring>(workers: Vec<LaneWorker<W>>, mut room: Gathe
     room
 }
 
-/// The steps of a customer port.
+/// Returns the steps of a customer port.
 fn access_steps<W: Wiring>(access: Access<W>) -> Steps
     ensures steps { result.steps ≡ access.place.steps }
     ensures kept { W.keeps ≡ true → result.is_kept ≡ true }
@@ -107,7 +111,7 @@ fn access_steps<W: Wiring>(access: Access<W>) -> Steps
     place.into_steps()
 }
 
-/// What is gathered of customer ports. Takes no memory.
+/// Gathers the counts and steps of customer ports. Allocates nothing.
 pub(crate) fn access_lists<W: Wiring>(accesses: Vec<Access<W>>, mut room: Gathered) -> Gathered
     requires empty { (room.tallies.items ≡ []) × (room.lists.items ≡ []) }
     requires room { (vec_len accesses ≤ vec_capacity room.tallies) × (vec_len accesses ≤ vec_capacity room.lists) }

@@ -31,39 +31,39 @@ use std::sync::Wait;
 use std::thread::Threads;
 use std::time::Clock;
 
-/// What a run gives.
+/// The result of a run.
 #[derive(Drop)]
 pub struct Ran {
-    /// What is counted of the steps of all places. Contracts see the record of these steps.
+    /// The counts of the steps of all places. Contracts see the record of these steps.
     pub counts: Tallies,
     /// The ports outside, in the plan's order.
     pub ports: Vec<Held>,
-    /// What the newest poll of each of them said.
+    /// The result of the newest poll of each port.
     pub last: Vec<Last>,
-    /// How the run ended.
+    /// The end of the run.
     pub ended: Ended,
-    /// Whether the bridges are settled, or None where the plan gives the states of the ports. `Memory` is
-    /// answered where there was none for a list of the bridges.
+    /// Whether the bridges are settled, or `None` if the plan gives the states of the ports. `Memory` if the allocation
+    /// of a list of the bridges failed.
     pub settled: Result<Option<bool>, Memory>,
 }
 
-/// What a run gives whose places keep their steps.
+/// The result of a run whose places keep their steps.
 #[derive(Drop)]
 pub struct KeptRun {
-    /// What each run gives.
+    /// The result that each run has.
     pub ran: Ran,
     /// The steps of all places.
     pub rec: Record,
 }
 
-/// What is told of the places that are back.
+/// The counts and the record of the places that are back.
 #[derive(Drop)]
 struct Told {
     counts: Tallies,
     rec: Record,
 }
 
-/// What is gathered of customer ports, lanes and bridges.
+/// The counts and steps of customer ports, lanes and bridges.
 #[derive(Drop)]
 struct GatheredPlaces {
     customers: Gathered,
@@ -71,21 +71,25 @@ struct GatheredPlaces {
     bridges: Gathered,
 }
 
-/// Room for what comes back.
+/// Empty lists with capacity for what comes back.
 #[derive(Drop)]
 struct Rooms<C, A, P> {
-    /// Workers of customer ports.
+    /// The workers of customer ports.
     workers: Vec<C>,
-    /// Their parts.
+    /// The parts of these workers.
     parts: Parts<A, P>,
-    /// What is gathered of all places.
+    /// The counts and steps of all places.
     gathered: GatheredPlaces,
 }
 
-/// Room for what comes back of places over such rings.
+/// The lists for places over rings of this wiring.
 type RoomsOf<W> = Rooms<CustomerWorker<W, Held>, Access<W>, Held>;
 
-/// Room for the parts of so many workers of customer ports.
+/// Allocates lists for the parts of `customers` workers of customer ports.
+///
+/// # Errors
+///
+/// `Memory` if an allocation failed.
 fn part_rooms<W: Wiring>(alloc: Global, customers: usize) -> Result<Parts<Access<W>, Held>, Memory>
     ensures { IfOk result (HasPartRooms customers) }
 {
@@ -98,7 +102,11 @@ fn part_rooms<W: Wiring>(alloc: Global, customers: usize) -> Result<Parts<Access
     })
 }
 
-/// Room for what is gathered of a plan's places.
+/// Allocates lists for the counts and steps of a plan's places.
+///
+/// # Errors
+///
+/// `Memory` if an allocation failed.
 fn place_rooms(alloc: Global, plan: &Plan) -> Result<GatheredPlaces, Memory>
     requires { IsSound plan.now }
     ensures { IfOk result (HasPlaceRooms plan.now) }
@@ -113,7 +121,11 @@ fn place_rooms(alloc: Global, plan: &Plan) -> Result<GatheredPlaces, Memory>
     })
 }
 
-/// Room for what comes back of a plan's places, made before a worker is started.
+/// Allocates the lists for all that comes back of a plan's places, before a worker is started.
+///
+/// # Errors
+///
+/// `Memory` if an allocation failed.
 fn rooms_of<W: Wiring>(alloc: Global, plan: &Plan) -> Result<RoomsOf<W>, Memory>
     requires { IsSound plan.now }
     ensures { IfOk result (HasRooms plan.now) }
@@ -128,10 +140,10 @@ fn rooms_of<W: Wiring>(alloc: Global, plan: &Plan) -> Result<RoomsOf<W>, Memory>
     })
 }
 
-/// The places of a run over such rings.
+/// The places of a run over rings of this wiring.
 type PlacesOf<W> = Places<CustomerWorker<W, Held>, LaneWorker<W>, BridgeWorker<W>>;
 
-/// Returns what ended the workers.
+/// Returns the reasons for which the workers ended.
 fn causes_of<W: Wiring>(places: &PlacesOf<W>) -> Causes {
     let mut causes = Causes {
         memory: false,
@@ -149,7 +161,7 @@ fn causes_of<W: Wiring>(places: &PlacesOf<W>) -> Causes {
     causes
 }
 
-/// The record of places that are back. Takes no memory.
+/// Returns the counts and the record of places that are back, after the ends of all rings have met. Allocates nothing.
 fn told_of<W: Wiring>(
     plan: &Plan,
     accesses: Vec<Access<W>>,
@@ -182,7 +194,12 @@ fn told_of<W: Wiring>(
     }
 }
 
-/// Runs the places of a plan, and looks at what came of it.
+/// Runs the workers of a plan, and gathers their results.
+///
+/// # Errors
+///
+/// `Memory` if an allocation failed before the workers were started, `Spawn` if a worker could not be started. The
+/// ports come back unchanged.
 fn run_built<W: Wiring + Send, G: Gate, R: Threads + Wait + Clock + Sync>(
     rt: &R,
     alloc: Global,
@@ -241,7 +258,12 @@ fn run_built<W: Wiring + Send, G: Gate, R: Threads + Wait + Clock + Sync>(
     Ok(KeptRun { ran, rec })
 }
 
-/// Runs a plan over rings, whose ends are known by number.
+/// Builds the workers of a plan over rings, whose ends are known by number, and runs them.
+///
+/// # Errors
+///
+/// `Memory` if an allocation failed before the workers were started, `Spawn` if a worker could not be started. The
+/// ports come back unchanged.
 fn run_wired<W: Wiring + Send, G: Gate, R: Threads + Wait + Clock + Sync>(
     rt: &R,
     alloc: Global,
@@ -273,7 +295,11 @@ fn run_wired<W: Wiring + Send, G: Gate, R: Threads + Wait + Clock + Sync>(
     run_built(rt, alloc, plan, ports, built, rooms, gate, limits)
 }
 
-/// Runs a plan, whose places work in this mode.
+/// Runs a plan whose places work in this mode.
+///
+/// # Errors
+///
+/// Those of [`run`].
 fn run_places<G: Gate, R: Threads + Wait + Clock + Sync>(
     rt: &R,
     alloc: Global,
@@ -302,22 +328,22 @@ fn run_places<G: Gate, R: Threads + Wait + Clock + Sync>(
 }
 
 /// Runs a sound plan: one worker for each bridge, lane and customer port, in threads of their own, with rings between
-/// them. No worker takes a step before all are started. A bridge ticks once every so many turns. No wish of the gate is
-/// fulfilled: see [`run_set`].
+/// them. No worker takes a step before all are started. A bridge ticks by turns or by milliseconds, as the limits say.
+/// No wish of the gate is fulfilled: see [`run_set`].
 ///
-/// Steps are only counted. The memory of a run does not grow with them. Contracts see the record of what all places
+/// Steps are only counted: the memory of a run does not grow with them. Contracts see the record of what all places
 /// did. It is lawful, and the laws hold of it, whatever the schedule was:
 ///
 /// - Each departure has the octets of an arrival at a port of the same service, less a priority S-tag.
-/// - A frame that was handled under a forest leaves each other port at most once, its own never, and none outside its
-///   tree.
-/// - A frame to a group that was neither refused nor lost, and has drained, leaves each other port of its service in
-///   its tree once.
+/// - A frame that was handled under a forest leaves each other port at most once, never its own port, and no port
+///   outside its tree.
+/// - A group frame that was neither refused nor lost, and has drained, leaves each other port of its service in its
+///   tree once.
 /// - No frame is multiplied.
 /// - Frames of one port and one priority keep their order.
 ///
-/// For each port that keeps a script, the script before the run is what entered followed by the script left. For each
-/// port that keeps a tally, the tally after the run is the tally before followed by what left.
+/// For each port that keeps a script, the script before the run is what entered followed by the script that remains.
+/// For each port that keeps a tally, the tally after the run is the tally before followed by what left.
 ///
 /// If the plan gives the states of the ports, none changes: each frame of a service for which the start is a forest was
 /// handled under that forest.
@@ -327,9 +353,9 @@ fn run_places<G: Gate, R: Threads + Wait + Clock + Sync>(
 ///
 /// # Errors
 ///
-/// `PortCount` exactly if there are not as many ports as customer ports, `Memory` if an allocation for the workers
-/// failed, `Spawn` if a worker could not be started. The ports come back as they were: none was polled, and none was
-/// offered a frame.
+/// `PortCount` exactly if the number of ports is not the number of customer ports of the plan, `Memory` if an
+/// allocation for the workers failed, `Spawn` if a worker could not be started. The ports come back unchanged: none was
+/// polled, and none was offered a frame.
 pub fn run<G: Gate, R: Threads + Wait + Clock + Sync>(
     rt: &R,
     alloc: Global,
@@ -349,9 +375,9 @@ pub fn run<G: Gate, R: Threads + Wait + Clock + Sync>(
     Ok(ran)
 }
 
-/// Runs a sound plan as [`run`] does, and bridges enable and disable their ports to other bridges meanwhile, as the
-/// gate wishes. A wish for any other port does nothing. Each such setting is a step of its bridge like any other. The
-/// record is lawful all the same, and all that follows from that holds.
+/// Runs a sound plan as [`run`] does. Meanwhile bridges enable and disable their ports to other bridges, as the gate
+/// wishes. A wish for any other port does nothing. Each such setting is a step of its bridge like any other. The record
+/// is lawful all the same, and all that follows from that holds.
 ///
 /// If the plan gives the states of the ports, and none was set, each frame of a service for which the start is a forest
 /// was handled under that forest.
@@ -377,8 +403,8 @@ pub fn run_set<G: Gate, R: Threads + Wait + Clock + Sync>(
     Ok(ran)
 }
 
-/// Runs a sound plan as [`run`] does, with places that keep their steps, and returns their record besides. The memory
-/// of the run grows with each step.
+/// Runs a sound plan as [`run`] does, with places that keep their steps, and returns their record too. The memory of
+/// the run grows with each step.
 ///
 /// # Errors
 ///

@@ -1,4 +1,4 @@
-//! Whether the bridges of a run are settled.
+//! Checks whether the bridges of a run are settled.
 
 ghost use Rattle.std.specs.Prelude.{◌≡◌, length, map, IfOk};
 ghost use Rattle.pb_lan.specs.declared.plan.Spanning.TheVariants.{Rstp as by_protocol};
@@ -14,7 +14,11 @@ use pb_rstp::{Rstp, is_settled, planned_are_machines};
 use pb_workers::BridgeWorker;
 use std::alloc::Global;
 
-/// The spanning trees of the bridges, in the plan's order.
+/// Returns the spanning trees of the bridges, in the plan's order.
+///
+/// # Errors
+///
+/// `Memory` if the allocation of the list failed.
 fn machines_of<'a, W: Wiring>(
     alloc: Global,
     plan: &Plan,
@@ -35,8 +39,12 @@ fn machines_of<'a, W: Wiring>(
     Ok(machines)
 }
 
-/// Whether the bridges are settled (IEEE 802.1D-2004 clause 17) after the steps that they took, or None where
-/// the plan gives the states of the ports. `Memory` is answered where there was none for a list of the bridges.
+/// Checks whether the bridges are settled (IEEE 802.1D-2004 clause 17) after the steps that they took. Returns `None`
+/// if the plan gives the states of the ports.
+///
+/// # Errors
+///
+/// `Memory` if the allocation of a list of the bridges failed.
 pub(crate) fn whether_settled<W: Wiring>(
     alloc: Global,
     plan: &Plan,

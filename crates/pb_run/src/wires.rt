@@ -12,10 +12,10 @@ use pb_workers::is_used;
 use rtrb::{Consumer, Producer, RingBuffer};
 use std::alloc::Global;
 
-/// A ring's two ends.
+/// The two ends of a ring.
 pub(crate) type Ring = (Producer<Item>, Consumer<Item>);
 
-/// The number of the ring by which a bridge receives at a local port.
+/// Returns the number of the ring from which a bridge receives at a local port.
 pub(crate) fn ring_into(bridge: u8, port: u8) -> usize
     requires { (0 < bridge) × (0 < port) }
     ensures { result ≡ ring_into bridge port }
@@ -23,7 +23,7 @@ pub(crate) fn ring_into(bridge: u8, port: u8) -> usize
     32 * (usize::from(bridge) - 1) + 2 * (usize::from(port) - 1)
 }
 
-/// The number of the ring by which a bridge sends at a local port.
+/// Returns the number of the ring onto which a bridge sends at a local port.
 pub(crate) fn ring_out(bridge: u8, port: u8) -> usize
     requires { (0 < bridge) × (0 < port) }
     ensures { result ≡ ring_out bridge port }
@@ -31,8 +31,8 @@ pub(crate) fn ring_out(bridge: u8, port: u8) -> usize
     ring_into(bridge, port) + 1
 }
 
-/// How many items the rings of this number hold: those of a port that the plan uses as many as the plan
-/// says, and all others one.
+/// Returns the capacity of the ring of this number in items: the plan's ring size for a port that the plan uses, and 1
+/// for any other.
 fn capacity_of(plan: &Plan, number: usize) -> usize {
     let (bridge, port) = (number / 32 + 1, number % 32 / 2 + 1);
     if bridge < 256 && is_used(plan, bridge as u8, port as u8) {
@@ -42,8 +42,11 @@ fn capacity_of(plan: &Plan, number: usize) -> usize {
     }
 }
 
-/// One ring into each local port of each bridge, and one out of it, by number. `Memory` is answered where
-/// there was none for them.
+/// Returns one ring into each local port of each bridge, and one out of it, by number.
+///
+/// # Errors
+///
+/// `Memory` if an allocation failed.
 pub(crate) fn new_rings(alloc: Global, plan: &Plan) -> Result<Vec<Ring>, Memory>
     requires { IsSound plan.now }
     ensures new { IfOk result (λ rings. AreNew rings.items) }
@@ -57,10 +60,14 @@ pub(crate) fn new_rings(alloc: Global, plan: &Plan) -> Result<Vec<Ring>, Memory>
     Ok(rings)
 }
 
-/// The ends through which is sent, and those through which is received, by the ring's number.
+/// The sending ends and the receiving ends of rings, by the ring's number.
 type Sides<W> = (Vec<Option<Outlet<W>>>, Vec<Option<Inlet<W>>>);
 
-/// The ends of rings, which are numbered in this order.
+/// Returns the ends of rings, which are numbered in this order.
+///
+/// # Errors
+///
+/// `Memory` if an allocation failed.
 fn ends_of<W: Wiring>(alloc: Global, rings: Vec<Ring>) -> Result<Sides<W>, Memory>
     requires new { AreNew rings.items }
     requires named { AreNamed W.rings rings.items }
@@ -94,8 +101,11 @@ pub(crate) struct Ends<W: Wiring> {
 }
 
 impl<W: Wiring> Ends<W> {
-    /// The ends of rings, which are numbered in this order. `Memory` is answered where there was none for
-    /// their lists.
+    /// Returns the ends of rings, which are numbered in this order.
+    ///
+    /// # Errors
+    ///
+    /// `Memory` if the allocation of a list failed.
     pub(crate) fn of(alloc: Global, rings: Vec<Ring>) -> Result<Ends<W>, Memory>
         requires new { AreNew rings.items }
         requires named { AreNamed W.rings rings.items }
@@ -106,7 +116,7 @@ impl<W: Wiring> Ends<W> {
         Ok(Ends { outlets, inlets })
     }
 
-    /// The sending end of the ring of this number.
+    /// Takes the sending end of the ring of this number.
     fn outlet(&mut self, number: usize) -> Outlet<W>
         requires { IsThere self.old.outlets.items number }
         ensures end { (result.number ≡ number) × (sent result.end ≡ []) }
@@ -119,7 +129,7 @@ impl<W: Wiring> Ends<W> {
         outlet
     }
 
-    /// The receiving end of the ring of this number.
+    /// Takes the receiving end of the ring of this number.
     fn inlet(&mut self, number: usize) -> Inlet<W>
         requires { IsThere self.old.inlets.items number }
         ensures end { (result.number ≡ number) × (received result.end ≡ []) }
@@ -132,7 +142,7 @@ impl<W: Wiring> Ends<W> {
         inlet
     }
 
-    /// The two ends that a bridge has at a local port: through one it receives, through the other it sends.
+    /// Takes the two ends that a bridge has at a local port: it receives from the first, and sends onto the second.
     pub(crate) fn inner(&mut self, bridge: u8, port: u8) -> (Inlet<W>, Outlet<W>)
         requires { HasInner self.old.outlets.items self.old.inlets.items (bridge, port) }
         ensures inlet { (result.0.number ≡ ring_into bridge port) × (received result.0.end ≡ []) }
@@ -148,8 +158,8 @@ impl<W: Wiring> Ends<W> {
         (inlet, outlet)
     }
 
-    /// The other two ends of the rings at a bridge's local port: through one is sent to the bridge, through
-    /// the other is received from it.
+    /// Takes the other two ends of the rings at a bridge's local port: its neighbour sends onto the first, and receives
+    /// from the second.
     pub(crate) fn outer(&mut self, bridge: u8, port: u8) -> (Outlet<W>, Inlet<W>)
         requires { HasOuter self.old.outlets.items self.old.inlets.items (bridge, port) }
         ensures outlet { (result.0.number ≡ ring_into bridge port) × (sent result.0.end ≡ []) }

@@ -1,4 +1,4 @@
-//! The events of one bridge.
+//! The planned events of one bridge.
 
 ghost use Rattle.std.specs.Prelude.{◌≡◌, ◌==◌, IfOk};
 ghost use Rattle.std.specs.List.{filter};
@@ -10,14 +10,14 @@ use pb_threads::Wish;
 use std::alloc::Global;
 use std::sync::atomic::{AtomicU64, Ordering};
 
-/// The events of one bridge, in the order in which they come, and how many have come.
+/// The planned events of one bridge in the order of their ticks, and the count of those that have come.
 #[derive(Drop)]
 pub(crate) struct Agenda {
     events: Vec<PortEvent>,
     come: AtomicU64,
 }
 
-/// The wish of the event that comes after so many, where the bridge's clock has ticked often enough.
+/// Returns the wish of the event after the first `come`, if the bridge's clock has ticked `at` times or more.
 fn wish_due(events: &[PortEvent], come: u64, now: u32) -> Option<Wish>
     ensures { result ≡ wish_due events.now come now }
 {
@@ -34,7 +34,11 @@ fn wish_due(events: &[PortEvent], come: u64, now: u32) -> Option<Wish>
     })
 }
 
-/// The events of a bridge, in the order of all.
+/// Returns the events of a bridge, in the order of all events.
+///
+/// # Errors
+///
+/// `Memory` if an allocation failed.
 fn events_of(alloc: Global, events: &[PortEvent], bridge: u8) -> Result<Vec<PortEvent>, Memory>
     ensures { IfOk result (λ own. own.items ≡ filter (λ e. e.bridge == bridge) events.now) }
 {
@@ -48,7 +52,12 @@ fn events_of(alloc: Global, events: &[PortEvent], bridge: u8) -> Result<Vec<Port
 }
 
 impl Agenda {
-    /// The events of a bridge among those of all bridges, which stand in the order of their ticks. None has come.
+    /// Returns the agenda of a bridge from the events of all bridges, which are in the order of their ticks. No event
+    /// has come.
+    ///
+    /// # Errors
+    ///
+    /// `Memory` if an allocation failed.
     pub(crate) fn of(alloc: Global, events: &[PortEvent], bridge: u8) -> Result<Agenda, Memory> {
         Ok(Agenda {
             events: events_of(alloc, events, bridge)?,
@@ -56,8 +65,8 @@ impl Agenda {
         })
     }
 
-    /// The wish of the next event, where the bridge's clock has ticked often enough. It has come then. Only the
-    /// bridge's own worker asks.
+    /// Takes the wish of the next event, if the bridge's clock has ticked often enough. Only the bridge's own worker
+    /// calls this.
     pub(crate) fn take(&self, now: u32) -> Option<Wish> {
         let come = self.come.load(Ordering::SeqCst);
         let wish = wish_due(self.events.as_slice(), come, now)?;
@@ -65,7 +74,7 @@ impl Agenda {
         Some(wish)
     }
 
-    /// How many events have not come.
+    /// Returns how many events have not come.
     pub(crate) fn left(&self) -> u64 {
         let count = self.events.len() as u64;
         count.saturating_sub(self.come.load(Ordering::SeqCst))

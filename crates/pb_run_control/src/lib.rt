@@ -1,8 +1,9 @@
-//! What happens to a run besides what its ports do: the events of its plan, wishes from outside, and what is counted
-//! meanwhile.
+//! Control of a run, over pb_threads, pb_service and pb_control_socket: the events of its plan, wishes from the control
+//! socket, and live counts.
 //!
-//! [`Steering`] is a gate between the workers and the gate of whoever runs them. It gives a bridge's worker the wishes
-//! that are due: those of the plan's events, by the ticks of that bridge, and those that come by the control socket.
+//! [`Steering`] is a gate between the workers and the caller's gate. It hands a bridge's worker the wishes that are
+//! due: those of the plan's events, by the ticks of that bridge, and those of the control socket. Begin reading at
+//! [`Steering`].
 #![tactic(auto)]
 
 mod agenda;

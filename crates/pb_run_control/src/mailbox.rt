@@ -1,30 +1,34 @@
-//! The wishes that are put in for a bridge while it runs.
+//! The wishes that the control socket puts in for a bridge.
 
 use pb_threads::Wish;
 use std::alloc::{AllocError, Global};
 use std::sync::atomic::{AtomicU64, Ordering};
 
-/// The local ports of a bridge.
+/// The number of local ports of a bridge.
 const PORTS: u8 = 16;
 
-/// Nothing is wished of a port.
+/// The value of a port without a wish.
 const NOTHING: u64 = 0;
-/// It is to be set down.
+/// The value of a port that is to be disabled.
 const DOWN: u64 = 1;
-/// It is to be set up.
+/// The value of a port that is to be enabled.
 const UP: u64 = 2;
 
-/// The wishes that are put in for a bridge and not yet given to its worker: of each port the newest.
+/// The wishes for a bridge that its worker has not taken yet: for each port the newest.
 #[derive(Drop)]
 pub(crate) struct Mailbox {
-    /// 1 where a wish may be there.
+    /// 1 if a wish may be there.
     any: AtomicU64,
-    /// What is wished of each local port, from 1.
+    /// The wish for each local port, from 1.
     ports: Vec<AtomicU64>,
 }
 
 impl Mailbox {
-    /// Without wishes.
+    /// Returns a mailbox without wishes.
+    ///
+    /// # Errors
+    ///
+    /// `AllocError` if an allocation failed.
     pub(crate) fn new(alloc: Global) -> Result<Mailbox, AllocError> {
         let mut ports = Vec::with_capacity(alloc, usize::from(PORTS))?;
         for _ in 0..PORTS {
@@ -36,7 +40,7 @@ impl Mailbox {
         })
     }
 
-    /// Puts a wish in, in place of an older one of the same port.
+    /// Puts a wish in, in place of an older one for the same port.
     pub(crate) fn put(&self, wish: Wish) {
         if let Some(port) = self.ports.get(usize::from(wish.port).wrapping_sub(1)) {
             port.store(if wish.up { UP } else { DOWN }, Ordering::SeqCst);
@@ -44,7 +48,7 @@ impl Mailbox {
         }
     }
 
-    /// Takes a wish out, where one is there: that of the lowest port.
+    /// Takes the wish for the lowest port, if there is one.
     pub(crate) fn take(&self) -> Option<Wish> {
         if self.any.load(Ordering::SeqCst) == 0 || self.any.swap(0, Ordering::SeqCst) == 0 {
             return None;
@@ -62,7 +66,7 @@ impl Mailbox {
         None
     }
 
-    /// Takes out what is wished of the port at a place, from 0.
+    /// Takes the value of the port at this index, from 0.
     fn take_at(&self, place: u8) -> u64 {
         match self.ports.get(usize::from(place)) {
             Some(port) => port.swap(NOTHING, Ordering::SeqCst),

@@ -17,31 +17,31 @@ use std::fs::Files;
 use std::sync::Mutex;
 use std::sync::atomic::{AtomicU64, Ordering};
 
-/// The worker of the first bridge attends to the control socket once in so many turns.
+/// The number of turns of the first bridge's worker between two turns of the control socket.
 const LOOK: u64 = 16;
 
-/// After how many ticks of each bridge frames enter all the same, where the bridges have not settled.
+/// The number of ticks of each bridge after which frames enter even if the bridges have not converged.
 const PATIENCE: u64 = 200;
 
-/// Why frames may enter that were held back until the bridges have settled.
+/// The reason why frames may enter that were held back until the bridges converged.
 #[derive(Clone, Copy, PartialEq, Eq, Debug)]
 pub enum Opening {
-    /// The bridges seem settled after so many ticks of the one that ticked most.
+    /// The bridges seem settled. The one that ticked most has ticked this often.
     Settled(u64),
-    /// They don't after so many of the one that ticked least, and it is waited no longer.
+    /// The bridges do not seem settled, and the wait is over. The one that ticked least has ticked this often.
     Unsettled(u64),
 }
 
 /// A gate that receives the progress of its run.
 pub trait RunProgress: Gate {
-    /// Receives that frames may enter from now on. They were held back until the bridges converged.
+    /// Receives that frames may enter. They were held back until the bridges converged.
     fn open(&self, opening: Opening);
 
-    /// Receives that the run is over: no worker comes any more, and no report was printed yet.
+    /// Receives that the run is over: no worker runs any more, and no report is printed yet.
     fn close(&self);
 }
 
-/// What is to happen to one bridge.
+/// The planned events, the wishes and the views of one bridge.
 #[derive(Drop)]
 struct Course {
     agenda: Agenda,
@@ -49,14 +49,14 @@ struct Course {
     views: Views,
 }
 
-/// The gate that steers a run: it gives bridges the wishes that are due, attends to the control socket, counts, and is
-/// else the gate that it has inside.
+/// The gate that steers a run. It hands bridges the wishes that are due, serves the control socket, counts, and
+/// otherwise passes calls to the gate inside.
 #[derive(Drop)]
 pub struct Steering<'a, G> {
     gate: &'a G,
     plan: &'a Plan,
     traffic: &'a Traffic,
-    /// That of each bridge, in the order of the plan.
+    /// The course of each bridge, in the order of the plan.
     courses: Vec<Course>,
     /// The control socket, while there is one.
     control: Mutex<Option<Control>>,
@@ -68,7 +68,11 @@ pub struct Steering<'a, G> {
     ghost few_customers: { length plan.now.customers ≤ 128 },
 }
 
-/// What is to happen to the bridge of this number, from 1.
+/// Returns the course of the bridge of this number, from 1.
+///
+/// # Errors
+///
+/// `Memory` if an allocation failed.
 fn course_of(alloc: Global, events: &[PortEvent], bridge: u8) -> Result<Course, Memory> {
     Ok(Course {
         agenda: Agenda::of(alloc, events, bridge)?,
@@ -77,7 +81,11 @@ fn course_of(alloc: Global, events: &[PortEvent], bridge: u8) -> Result<Course, 
     })
 }
 
-/// What is to happen to each bridge of a plan.
+/// Returns the course of each bridge of a plan.
+///
+/// # Errors
+///
+/// `Memory` if an allocation failed.
 fn courses_of(alloc: Global, plan: &Plan, events: Vec<PortEvent>) -> Result<Vec<Course>, Memory> {
     let mut events = events;
     events.sort_by_key(|event| event.at)?;
@@ -89,10 +97,14 @@ fn courses_of(alloc: Global, plan: &Plan, events: Vec<PortEvent>) -> Result<Vec<
 }
 
 impl<'a, G> Steering<'a, G> {
-    /// The gate that steers a run of a sound plan, in which these events come, beside the gate of whoever runs it. It
-    /// has no control socket. Where it is to wait for the bridges, no frame enters before each of them has ports in the
-    /// states of their roles (802.1D-2004 clause 17.10) of which none has changed for four ticks, or each has ticked
-    /// 200 times; no contract says so. `Memory` is answered where there was none for the gate.
+    /// Returns the gate that steers a run of a sound plan with these events, around the caller's gate. It has no
+    /// control socket. If it `waits` for the bridges, no frame enters before each bridge has ports in the states of
+    /// their roles (IEEE 802.1D-2004 clause 17.10) of which none has changed for four ticks, or before each bridge has
+    /// ticked 200 times. No contract says so.
+    ///
+    /// # Errors
+    ///
+    /// `Memory` if an allocation failed.
     pub fn new(
         alloc: Global,
         gate: &'a G,
@@ -115,7 +127,7 @@ impl<'a, G> Steering<'a, G> {
         })
     }
 
-    /// How many events have not come so far.
+    /// Returns how many events have not come.
     pub fn left(&self) -> u64 {
         let mut left = 0u64;
         for course in &self.courses {
@@ -124,14 +136,14 @@ impl<'a, G> Steering<'a, G> {
         left
     }
 
-    /// Whoever connects to this control socket steers the run too, from now on.
+    /// Adds a control socket. Its peers steer the run too.
     pub fn plug(&self, control: Control) {
         if let Some(mut held) = self.control.try_lock() {
             *held = Some(control);
         }
     }
 
-    /// Closes the control socket, where there is one, and removes its file.
+    /// Closes the control socket, if there is one, and removes its file.
     pub fn unplug<R: Files>(&self, rt: &R) {
         if let Some(mut held) = self.control.try_lock() {
             if let Some(control) = held.take() {
@@ -140,7 +152,8 @@ impl<'a, G> Steering<'a, G> {
         }
     }
 
-    /// The wish that is due at the bridge of this number, from 1, where one is. Its clock has ticked so often.
+    /// Returns the wish that is due at the bridge of this number, from 1, whose clock has ticked `now` times: that of
+    /// the next planned event, else one from the control socket.
     fn due(&self, bridge: u8, now: u32) -> Option<Wish> {
         let course = self.courses.get(usize::from(bridge).wrapping_sub(1))?;
         match course.agenda.take(now) {
@@ -149,7 +162,7 @@ impl<'a, G> Steering<'a, G> {
         }
     }
 
-    /// Whether all bridges seem settled, by their own clocks.
+    /// Checks whether all bridges seem settled, by their own clocks.
     fn are_settled(&self) -> bool {
         let mut bridge = 0u8;
         for course in &self.courses {
@@ -162,7 +175,7 @@ impl<'a, G> Steering<'a, G> {
         true
     }
 
-    /// How often the clock of the bridge has ticked that ticked least.
+    /// Returns the ticks of the bridge that ticked least.
     fn slowest(&self) -> u64 {
         let (mut bridge, mut least) = (0u8, u64::MAX);
         for _ in &self.courses {
@@ -173,7 +186,7 @@ impl<'a, G> Steering<'a, G> {
         least
     }
 
-    /// Why frames may enter now that were held back so far; None where they may not yet, or may already.
+    /// Returns the reason why frames that were held back may enter. `None` if they may not yet enter, or already may.
     fn opening(&self) -> Option<Opening> {
         if self.open.load(Ordering::SeqCst) != 0 {
             return None;
@@ -188,7 +201,7 @@ impl<'a, G> Steering<'a, G> {
         None
     }
 
-    /// Attends to the control socket, and answers whether the run goes on.
+    /// Takes a turn of the control socket, and returns whether the run goes on.
     fn attend(&self) -> Go {
         if let Some(mut held) = self.control.try_lock() {
             if let Some(control) = held.as_mut() {

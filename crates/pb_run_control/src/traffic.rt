@@ -1,19 +1,19 @@
-//! What is counted of a network while it runs.
+//! The live counts of a network.
 
 use std::alloc::{AllocError, Global};
 use std::sync::atomic::{AtomicU64, Ordering};
 
-/// The most customer ports of a network.
+/// The greatest number of customer ports of a network.
 const PORTS: usize = 128;
 
-/// The most bridges.
+/// The greatest number of bridges.
 const BRIDGES: usize = 32;
 
-/// Words that nobody reads: they stand between the counts of one worker and those of the next, since processors that
-/// write to the same 128 octets wait for one another.
+/// Unused octets between the counts of one worker and those of the next. Processors that write to the same 128 octets
+/// wait for one another.
 type Gap = [u64; 14];
 
-/// How many frames have entered and left at a customer port.
+/// The counts of frames that entered and left at a customer port.
 #[derive(Drop)]
 struct PortTraffic {
     entered: AtomicU64,
@@ -21,7 +21,7 @@ struct PortTraffic {
     _gap: Gap,
 }
 
-/// How many copies a bridge had no room for, and how often its clock has ticked.
+/// The copies that a bridge lost because a queue was full, and the ticks of its clock.
 #[derive(Drop)]
 struct BridgeTraffic {
     refused: AtomicU64,
@@ -29,21 +29,25 @@ struct BridgeTraffic {
     _gap: Gap,
 }
 
-/// What is counted of a network while it runs. Workers count it, and whoever else looks may see it a moment later; the
-/// report of a run counts anew.
+/// The live counts of a network. Workers count, and readers may see a count a moment later. The report of a run counts
+/// on its own.
 #[derive(Drop)]
 pub struct Traffic {
     ports: Vec<PortTraffic>,
     bridges: Vec<BridgeTraffic>,
 }
 
-/// Where the thing of a number from 1 stands in a list.
+/// Returns the index of the item with this number, from 1.
 fn place_of(number: u8) -> usize {
     usize::from(number).wrapping_sub(1)
 }
 
 impl Traffic {
-    /// None so far. `AllocError` is answered where there was no memory for the counts.
+    /// Returns counts that are all 0.
+    ///
+    /// # Errors
+    ///
+    /// `AllocError` if an allocation failed.
     pub fn new(alloc: Global) -> Result<Traffic, AllocError> {
         let mut ports = Vec::with_capacity(alloc, PORTS)?;
         for _ in 0..PORTS {
@@ -64,28 +68,28 @@ impl Traffic {
         Ok(Traffic { ports, bridges })
     }
 
-    /// A frame entered at the customer port of this number, from 1.
+    /// Counts a frame that entered at the customer port of this number, from 1.
     pub fn enter(&self, port: u8) {
         if let Some(port) = self.ports.get(place_of(port)) {
             port.entered.fetch_add(1, Ordering::SeqCst);
         }
     }
 
-    /// A frame left there.
+    /// Counts a frame that left at the customer port of this number, from 1.
     pub fn leave(&self, port: u8) {
         if let Some(port) = self.ports.get(place_of(port)) {
             port.left.fetch_add(1, Ordering::SeqCst);
         }
     }
 
-    /// The bridge of this number, from 1, had no room for so many copies.
+    /// Counts copies that the bridge of this number, from 1, lost because a queue was full.
     pub fn refuse(&self, bridge: u8, copies: u64) {
         if let Some(bridge) = self.bridges.get(place_of(bridge)) {
             bridge.refused.fetch_add(copies, Ordering::SeqCst);
         }
     }
 
-    /// The clock of the bridge has ticked so often.
+    /// Sets the ticks of the clock of the bridge of this number, from 1.
     pub fn tick(&self, bridge: u8, now: u32) {
         if let Some(bridge) = self.bridges.get(place_of(bridge)) {
             let now = u64::from(now);
@@ -95,7 +99,7 @@ impl Traffic {
         }
     }
 
-    /// How many frames have entered so far at the customer port of this number, from 1, and how many have left there.
+    /// Returns how many frames have entered at the customer port of this number, from 1, and how many have left there.
     pub fn at_port(&self, port: u8) -> (u64, u64) {
         match self.ports.get(place_of(port)) {
             Some(port) => (
@@ -106,7 +110,8 @@ impl Traffic {
         }
     }
 
-    /// How many copies the bridge of this number, from 1, had no room for so far, and how often its clock has ticked.
+    /// Returns how many copies the bridge of this number, from 1, lost because a queue was full, and how often its
+    /// clock has ticked.
     pub fn at_bridge(&self, bridge: u8) -> (u64, u64) {
         match self.bridges.get(place_of(bridge)) {
             Some(bridge) => (
@@ -117,7 +122,7 @@ impl Traffic {
         }
     }
 
-    /// How many frames have entered so far, at all ports.
+    /// Returns how many frames have entered, at all ports.
     pub fn entered(&self) -> u64 {
         let mut sum = 0u64;
         for port in &self.ports {
@@ -126,7 +131,7 @@ impl Traffic {
         sum
     }
 
-    /// How many frames have left so far, at all ports.
+    /// Returns how many frames have left, at all ports.
     pub fn left(&self) -> u64 {
         let mut sum = 0u64;
         for port in &self.ports {
@@ -135,7 +140,7 @@ impl Traffic {
         sum
     }
 
-    /// How many copies bridges had no room for so far.
+    /// Returns how many copies all bridges lost because a queue was full.
     pub fn refused(&self) -> u64 {
         let mut sum = 0u64;
         for bridge in &self.bridges {
@@ -144,7 +149,7 @@ impl Traffic {
         sum
     }
 
-    /// How often the clock has ticked of the bridge that ticked most.
+    /// Returns the ticks of the bridge that ticked most.
     pub fn ticks(&self) -> u64 {
         let mut most = 0u64;
         for bridge in &self.bridges {

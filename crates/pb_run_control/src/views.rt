@@ -1,4 +1,4 @@
-//! What the ports of a bridge are like while it runs.
+//! The views of a bridge's ports while it runs.
 
 ghost use Rattle.std.specs.Prelude.{◌≤◌};
 
@@ -8,22 +8,23 @@ use pb_threads::PortView;
 use std::alloc::{AllocError, Global};
 use std::sync::atomic::{AtomicU64, Ordering};
 
-/// The local ports of a bridge.
+/// The number of local ports of a bridge.
 const PORTS: usize = 16;
 
-/// For how many ticks nothing may change at a bridge that is settled: two hello times (802.1D-2004 table 17-1).
+/// The number of ticks without a change after which a bridge may seem settled: two hello times (IEEE 802.1D-2004 table
+/// 17-1).
 const QUIET: u64 = 4;
 
-/// What the ports of a bridge are like, as its worker shows them.
+/// The views of a bridge's ports, as its worker shows them.
 #[derive(Drop)]
 pub(crate) struct Views {
-    /// That of each local port, as a number; 0 where nothing was shown.
+    /// The view of each local port as a number, 0 if none was shown.
     ports: Vec<AtomicU64>,
-    /// After how many ticks a port was last shown otherwise than before.
+    /// The ticks at which a port last showed a changed view.
     stirred: AtomicU64,
 }
 
-/// The number of a role, from 0 to 5.
+/// Returns the number of a role, from 0 to 5.
 fn role_code(role: Option<Role>) -> u64
     ensures { result ≤ 5 }
 {
@@ -37,7 +38,7 @@ fn role_code(role: Option<Role>) -> u64
     }
 }
 
-/// The role of a number.
+/// Returns the role with this number.
 fn role_of(code: u64) -> Option<Role> {
     match code {
         1 => Some(Role::Disabled),
@@ -49,7 +50,7 @@ fn role_of(code: u64) -> Option<Role> {
     }
 }
 
-/// The number of a state, from 1 to 3.
+/// Returns the number of a state, from 1 to 3.
 fn state_code(state: PortState) -> u64
     ensures { result ≤ 3 }
 {
@@ -60,7 +61,7 @@ fn state_code(state: PortState) -> u64
     }
 }
 
-/// The view of a number, where it is that of one.
+/// Returns the view with this number, if there is one.
 fn view_of(code: u64) -> Option<PortView> {
     let state = match code % 4 {
         1 => PortState::Discarding,
@@ -74,7 +75,8 @@ fn view_of(code: u64) -> Option<PortView> {
     })
 }
 
-/// Whether the port has the state of its role, in which it stays while nothing changes (802.1D-2004 clause 17.10).
+/// Checks whether the port has the state of its role, which it keeps while nothing changes (IEEE 802.1D-2004 clause
+/// 17.10).
 fn is_at_rest(view: PortView) -> bool {
     match view.role {
         None => true,
@@ -86,7 +88,11 @@ fn is_at_rest(view: PortView) -> bool {
 }
 
 impl Views {
-    /// Nothing was shown. `AllocError` is answered where there was no memory for them.
+    /// Returns the views of a bridge that has shown none.
+    ///
+    /// # Errors
+    ///
+    /// `AllocError` if an allocation failed.
     pub(crate) fn new(alloc: Global) -> Result<Views, AllocError> {
         let mut ports = Vec::with_capacity(alloc, PORTS)?;
         for _ in 0..PORTS {
@@ -98,7 +104,8 @@ impl Views {
         })
     }
 
-    /// The local port of this number, from 1, is like this after so many ticks. Only the bridge's own worker shows it.
+    /// Records the view of the local port of this number, from 1, after `ticks` ticks. Only the bridge's own worker
+    /// calls this.
     pub(crate) fn show(&self, port: u8, view: PortView, ticks: u64) {
         if let Some(kept) = self.ports.get(usize::from(port).wrapping_sub(1)) {
             let code = 4 * role_code(view.role) + state_code(view.state);
@@ -108,12 +115,12 @@ impl Views {
         }
     }
 
-    /// What the port at this place, from 0, is like.
+    /// Returns the view of the port at this index, from 0.
     fn at(&self, place: usize) -> Option<PortView> {
         view_of(self.ports.get(place)?.load(Ordering::SeqCst))
     }
 
-    /// What the local ports are like. None of one that was not shown.
+    /// Returns the views of the local ports, `None` for one that was not shown.
     pub(crate) fn all(&self) -> [Option<PortView>; 16] {
         let mut views = [None; 16];
         for place in 0..PORTS {
@@ -122,8 +129,8 @@ impl Views {
         views
     }
 
-    /// Whether the bridge seems settled after so many ticks: each port has the state of its role, and none has changed
-    /// for two hello times.
+    /// Checks whether the bridge seems settled after `ticks` ticks: each port has the state of its role, and none has
+    /// changed for two hello times.
     pub(crate) fn are_quiet(&self, ticks: u64) -> bool {
         if ticks < self.stirred.load(Ordering::SeqCst).saturating_add(QUIET) {
             return false;

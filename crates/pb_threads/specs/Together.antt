@@ -1,4 +1,4 @@
--- What is known of places that work together, and of what comes back of them.
+-- What is known of places that work together, and of the places that come back.
 use Rattle.std.specs.Prelude.{◌≡◌, List, All, map}
 use Rattle.pb_threads.specs.declared.threads.Places.{Places}
 
@@ -7,11 +7,11 @@ abbrev pub AllFit : {C L B : Type 0} → (C → Type 0) → (L → Type 0) → (
 AllFit customer lane bridge places =
     All customer places.customers.items × All lane places.lanes.items × All bridge places.bridges.items
 
--- the places of one kind are back: each of the gift that it was given, and as it may be between turns
+-- the places of one kind are back: each with what it was given, and as it may be between turns
 abbrev pub AreBack : {P G : Type 0} → (P → G) → (P → Type 0) → List P → List P → Type 0
 AreBack given fits was back = (map given back ≡ map given was) × All fits back
 
--- they came back as they were
+-- the places came back unchanged
 abbrev pub AreUntouched : {C L B : Type 0} → Places C L B → Places C L B → Type 0
 AreUntouched was back =
     (back.customers.items ≡ was.customers.items) × (back.lanes.items ≡ was.lanes.items) × (back.bridges.items ≡ was.bridges.items)

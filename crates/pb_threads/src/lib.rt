@@ -1,8 +1,8 @@
-//! Workers: each owns one place, and takes turn after turn in a thread of its own.
+//! Workers: each owns one place and takes turns in a thread of its own, over pb_lan and pb_rstp.
 //!
-//! What a worker knows of its place at the start, and what holds of the place between turns, is known of
-//! what comes back when all threads are joined. Nothing else passes from worker to worker here: how the
-//! places are joined is a matter of theirs.
+//! `run_all` starts them, joins them and returns the places. What holds of a place at the start and between turns holds
+//! of the place that comes back. Workers share counters and nothing else here: the rings between places belong to the
+//! places. Begin reading at `run_all` and `take_turns`.
 #![tactic(auto)]
 
 mod gate;

@@ -3,15 +3,16 @@
 use crate::words::Words;
 
 /// How much a worker takes or gives back at once.
+/// The amount that a worker takes or gives back at once.
 const PART: u64 = 64;
 
-/// After how many turns in a row in which it counted nothing a worker gives all back. A clock that ticks is nothing to
-/// count, so that a bridge which ticks every few turns gives back its share like one that is idle.
+/// The number of turns in a row without a count after which a worker gives all back. A tick counts nothing: a bridge
+/// that ticks every few turns gives back its share like an idle one.
 const PATIENCE: u32 = 32;
 
-/// How much the word that all workers share says beyond what is left to do, on this worker's account. The worker counts
-/// against it, and so writes that word once in many turns. The word is never below what is left to do. Once all workers
-/// have given back their shares, it is what is left. No contract speaks of it.
+/// The amount by which the shared counter exceeds what is left to do on this worker's account. The worker counts
+/// against it, and writes the counter only once in many turns. The counter is never below what is left to do. Once all
+/// workers have given back their shares, it is what is left. No contract speaks of it.
 #[derive(Drop)]
 pub(crate) struct Share {
     spare: u64,
@@ -20,12 +21,12 @@ pub(crate) struct Share {
 }
 
 impl Share {
-    /// None.
+    /// Returns an empty share.
     pub(crate) fn new() -> Share {
         Share { spare: 0, quiet: 0 }
     }
 
-    /// After a turn: there is so much more to do, and so much less.
+    /// Counts what a turn added to what is left to do and took from it.
     pub(crate) fn count(&mut self, words: &Words, more: u64, fewer: u64) {
         if more > 0 || fewer > 0 {
             self.quiet = 0;
@@ -38,7 +39,8 @@ impl Share {
         }
     }
 
-    /// Counts against the spare, and asks the word for more or gives it some back.
+    /// Counts against the spare amount. Adds to the shared counter if too little is spare, and subtracts if too much
+    /// is.
     fn reckon(&mut self, words: &Words, more: u64, fewer: u64) {
         let mut spare = self.spare.saturating_add(fewer);
         if spare < more {

@@ -1,4 +1,4 @@
-//! Starting and joining the workers.
+//! Starts and joins the workers.
 
 ghost use Rattle.std.specs.Prelude.{◌≡◌, ◌≤◌, [], false, map, vec_len, All, IfErr};
 ghost use Rattle.std.specs.Vec.{vec_capacity};
@@ -19,10 +19,10 @@ use std::thread::{Promise, PromisedHandle, Scope, Threads};
 use std::time::Clock;
 use thiserror::Error;
 
-/// Why no worker took a turn.
+/// The reason why no worker took a turn.
 #[derive(Clone, Copy, PartialEq, Eq, Debug, Error)]
 pub enum WorkFault {
-    /// Memory ran out before the workers were started.
+    /// An allocation failed before the workers were started.
     #[error("out of memory")]
     Memory,
     /// A thread could not be started.
@@ -33,24 +33,25 @@ pub enum WorkFault {
 /// Places of three kinds.
 #[derive(Drop)]
 pub struct Places<C, L, B> {
-    /// Those of customer ports.
+    /// The customer ports.
     pub customers: Vec<C>,
-    /// Those of lanes.
+    /// The lanes.
     pub lanes: Vec<L>,
-    /// Those of bridges.
+    /// The bridges.
     pub bridges: Vec<B>,
 }
 
-/// What comes of the work of places.
+/// The result of `run_all`.
 #[derive(Drop)]
 pub struct Worked<C, L, B> {
-    /// The places, each where it stood.
+    /// The places, in the order in which they were given.
     pub places: Places<C, L, B>,
-    /// Why no worker took a turn, where none did.
+    /// The reason why no worker took a turn, if none did.
     pub verdict: Result<(), WorkFault>,
 }
 
-/// The promise that what comes back keeps what the worker was given.
+/// The guarantee of a worker's thread: its place comes back as the worker was given it, as far as `given` and `fits`
+/// say.
 #[derive(Drop)]
 struct KeepsGiven<T>(Snapshot<T>);
 
@@ -58,17 +59,17 @@ impl<T: Work> Promise<Back<T>> for KeepsGiven<T> {
     ghost kept_by = { λ p r. IsBack T.given T.fits p.0.value r };
 }
 
-/// A worker in a thread, or its place, where none could be started.
+/// A worker in a thread, or its place, if the thread could not be started.
 type Child<T> = Result<PromisedHandle<Back<T>, KeepsGiven<T>>, Back<T>>;
 
-/// A worker that was started, and its place as it was given it.
+/// A worker that was started, and its place as it was given.
 #[derive(Drop)]
 struct Started<T: Work> {
     child: Child<T>,
     was: Snapshot<T>,
 }
 
-/// Starts one worker.
+/// Starts one worker. If its thread could not be started, no worker begins, and the place is kept.
 fn start<'s, E, T: Work + Send + 's, G: Gate, R: Threads + Wait + Clock + Sync>(
     scope: &'s Scope<'s, E>,
     rt: &'s R,
@@ -124,7 +125,7 @@ fn start_all<'s, E, T: Work + Send + 's, G: Gate, R: Threads + Wait + Clock + Sy
     }
 }
 
-/// What a worker gives back.
+/// Returns what a worker gives back. Waits for its thread.
 fn join_one<T: Work, R: Threads>(rt: &R, started: Started<T>) -> Back<T>
     requires { IsHeld (λ h. h.promise.0.value) (IsBack T.given T.fits) started.was.value started.child }
     ensures { IsBack T.given T.fits started.was.value result }
@@ -136,7 +137,7 @@ fn join_one<T: Work, R: Threads>(rt: &R, started: Started<T>) -> Back<T>
     }
 }
 
-/// What the workers give back, in order, and whether one of them began.
+/// Joins the workers in order, and appends their places. Returns whether one of them began.
 fn join_all<T: Work, R: Threads>(
     rt: &R,
     children: &mut VecDeque<Started<T>>,
@@ -222,7 +223,11 @@ fn in_scope<
     Worked { places, verdict }
 }
 
-/// Whether workers began: none did where one could not be started.
+/// Returns the verdict. No worker began if one could not be started.
+///
+/// # Errors
+///
+/// `Spawn` if no worker began.
 fn verdict_of(have_begun: bool) -> Result<(), WorkFault>
     ensures { IfErr result (λ fault. have_begun ≡ false) }
 {
@@ -233,12 +238,12 @@ fn verdict_of(have_begun: bool) -> Result<(), WorkFault>
     }
 }
 
-/// Runs a worker for each place in a thread of its own, and joins them all. `left` is how much there is to
-/// do at the start; a worker's turn tells by how much that changes, and at 0 all workers end.
+/// Runs a worker for each place in a thread of its own, and joins them all. `left` counts what there is to do at the
+/// start. Each turn reports how that count changes, and all workers end when it is 0.
 ///
-/// Each place comes back as what it was given, and as a place may be between turns. `Memory` is answered
-/// where memory ran out before a worker was started, and `Spawn` where one could not be started: then no
-/// worker took a turn, and the places come back as they were.
+/// Each place comes back with what it was given, and as it may be between turns. The verdict is `Memory` if an
+/// allocation failed before the workers were started, and `Spawn` if a thread could not be started. No worker takes a
+/// turn then, and the places come back unchanged.
 pub fn run_all<
     C: Work + Send,
     L: Work + Send,

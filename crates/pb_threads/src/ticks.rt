@@ -3,17 +3,17 @@
 use pb_lan::Limits;
 use std::time::Clock;
 
-/// The highest number of ticks that is told.
+/// The highest number of ticks that a moment reports.
 const MOST: u64 = 4_294_967_295;
 
-/// When a turn is taken.
+/// The moment at which a turn is taken.
 #[derive(Clone, Copy, PartialEq, Eq, Debug)]
 pub struct Moment {
-    /// How often the worker's clock has ticked, held at 4,294,967,295.
+    /// The number of ticks of the worker's clock, at most 4,294,967,295.
     pub now: u32,
-    /// The clock ticks at this turn.
+    /// Whether the clock ticks at this turn.
     pub is_tick: bool,
-    /// Frames may enter: the clock has ticked as often as they are held back.
+    /// Whether frames may enter: the clock has ticked as often as they are held back.
     pub is_open: bool,
 }
 
@@ -21,15 +21,15 @@ pub struct Moment {
 #[derive(Clone, Copy)]
 pub(crate) struct Ticks {
     limits: Limits,
-    /// How many turns were taken since the last tick, where it ticks by turns.
+    /// The number of turns after the last tick, if the clock ticks by turns.
     turns: u64,
-    /// When the next tick is due, in milliseconds of the monotonic clock, where it ticks by these.
+    /// The time of the next tick in milliseconds of the monotonic clock, if the clock ticks by these.
     due: u64,
-    /// How often it has ticked.
+    /// The number of ticks.
     count: u64,
 }
 
-/// The milliseconds of the monotonic clock, where it can be read.
+/// Returns the milliseconds of the monotonic clock, or `None` if it can't be read.
 fn millis<R: Clock>(rt: &R) -> Option<u64> {
     let time = rt.monotonic().ok()?;
     let whole = time.as_secs().saturating_mul(1_000);
@@ -37,7 +37,8 @@ fn millis<R: Clock>(rt: &R) -> Option<u64> {
 }
 
 impl Ticks {
-    /// A clock that has not ticked. One by milliseconds that can't be read never will.
+    /// Returns a clock that has not ticked. One by milliseconds never ticks if the monotonic clock can't be read at the
+    /// start.
     pub(crate) fn new<R: Clock>(rt: &R, limits: Limits) -> Ticks {
         let mut due = u64::MAX;
         if limits.tick_ms > 0 {
@@ -53,7 +54,7 @@ impl Ticks {
         }
     }
 
-    /// The moment of the next turn. Where the clock ticks at it, it has ticked once more after it.
+    /// Returns the moment of the next turn, and counts its tick if it has one.
     pub(crate) fn next<R: Clock>(&mut self, rt: &R) -> Moment {
         let is_tick = self.is_due(rt);
         let moment = self.moment(is_tick);
@@ -63,12 +64,12 @@ impl Ticks {
         moment
     }
 
-    /// The moment behind the last turn.
+    /// Returns the moment after the last turn.
     pub(crate) fn last(&self) -> Moment {
         self.moment(false)
     }
 
-    /// The moment after so many ticks.
+    /// Returns the moment after the ticks so far.
     fn moment(&self, is_tick: bool) -> Moment {
         Moment {
             now: self.count.min(MOST) as u32,
@@ -77,7 +78,7 @@ impl Ticks {
         }
     }
 
-    /// Whether the clock ticks at the next turn.
+    /// Checks whether the clock ticks at the next turn.
     fn is_due<R: Clock>(&mut self, rt: &R) -> bool {
         if self.limits.tick_ms > 0 {
             return self.is_late(rt);
@@ -85,7 +86,7 @@ impl Ticks {
         self.limits.tick_every > 0 && self.is_turn()
     }
 
-    /// Whether so many turns have passed.
+    /// Counts a turn, and checks whether `tick_every` of them have passed.
     fn is_turn(&mut self) -> bool {
         self.turns = self.turns.saturating_add(1);
         if self.turns < self.limits.tick_every {
@@ -95,7 +96,7 @@ impl Ticks {
         true
     }
 
-    /// Whether so many milliseconds have passed. A clock that is late catches up by one tick a turn.
+    /// Checks whether the next tick is due. A clock that is late catches up by one tick a turn.
     fn is_late<R: Clock>(&mut self, rt: &R) -> bool {
         let Some(now) = millis(rt) else {
             return false;

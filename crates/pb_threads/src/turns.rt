@@ -1,4 +1,4 @@
-//! What a worker does, whatever its place.
+//! The turns of a worker, whatever its place.
 
 ghost use Rattle.std.specs.Prelude.{◌≡◌, ℕ, None};
 ghost use Rattle.std.specs.declared.option.Option.{Option};
@@ -15,13 +15,13 @@ use std::sync::Wait;
 use std::thread;
 use std::time::{Clock, Duration};
 
-/// The local ports of a place.
+/// The number of local ports of a place.
 const PORTS: u8 = 16;
 
 /// The status of a turn.
 #[derive(Clone, Copy, PartialEq, Eq, Debug)]
 pub enum TurnStatus {
-    /// There was nothing to do.
+    /// Nothing was to do.
     Idle,
     /// The place took a step, or did something else that was due.
     Done,
@@ -31,23 +31,23 @@ pub enum TurnStatus {
     Limit,
 }
 
-/// The result of a turn: its status, how much more and less is left to do in the whole run, and what was lost.
+/// The result of a turn: its status, how it changes what is left to do in the whole run, and what was lost.
 #[derive(Clone, Copy, PartialEq, Eq, Debug)]
 pub struct Turn {
-    /// Its status.
+    /// The status.
     pub status: TurnStatus,
-    /// How much more is left.
+    /// The amount that the turn adds to what is left to do.
     pub more: u64,
-    /// How much less is left.
+    /// The amount that the turn takes from what is left to do.
     pub fewer: u64,
-    /// How many copies of a frame found no room.
+    /// The number of copies of a frame that were lost because a queue was full.
     pub refused: u64,
-    /// Whether what is shown of the place's ports may have changed.
+    /// Whether the view of the place's ports may have changed.
     pub has_stirred: bool,
 }
 
 impl Turn {
-    /// A turn in which there was nothing to do.
+    /// A turn in which nothing was to do.
     pub const IDLE: Turn = Turn {
         status: TurnStatus::Idle,
         more: 0,
@@ -57,45 +57,45 @@ impl Turn {
     };
 }
 
-/// Why a worker took no more turns.
+/// The reason why a worker takes no more turns.
 #[derive(Clone, Copy, PartialEq, Eq, Debug)]
 pub enum Finish {
-    /// Another worker ended the run, the gate did, or nothing was left to do.
+    /// The run has ended: by another worker, by the gate, or because nothing is left to do.
     Told,
-    /// Memory was refused.
+    /// An allocation failed.
     Memory,
-    /// It took as many turns, or its place as many steps, as it may.
+    /// The worker has taken as many turns, or its place as many steps, as it may.
     Limit,
 }
 
 /// A place that a worker owns.
 pub trait Work: Drop {
-    /// What clauses remember of the place as the worker was given it.
+    /// The part of the place, as the worker was given it, that contracts keep.
     type Given;
 
     /// What the worker was given.
     ghost given: { Self → Self.Given };
 
-    /// What holds of the place between turns.
+    /// The property of the place between turns.
     ghost fits: { Self → Type 0 };
 
-    /// What is shown of a local port. A place of which nothing is shown leaves it out.
+    /// The view of a local port. A place that shows no port leaves it out.
     ghost shown_of: { Self → ℕ → Option PortView } = { λ _ _. None };
 
-    /// The place.
+    /// Returns the place's kind and number.
     fn place(&self) -> Place;
 
-    /// What is shown of the local port of this number, 1 to 16. None: nothing is.
+    /// Returns the view of the local port of this number, 1 to 16, if the place shows one.
     fn shown(&self, port: u8) -> Option<PortView>
         ensures { result ≡ shown_of self.now port };
 
-    /// Takes a turn: a tick where the clock ticks, and at most one step more.
+    /// Takes a turn: a tick if the clock ticks at this moment, and at most one step more.
     fn turn(&mut self, moment: Moment) -> Turn
         requires { fits self.old }
         ensures given { given self.new ≡ given self.old }
         ensures fits { fits self.new };
 
-    /// Fulfils a wish in place of a turn. A place that has no such port does nothing.
+    /// Fulfils a wish in place of a turn. A place without such a port does nothing.
     fn fulfil(&mut self, _wish: Wish) -> Turn
         requires { fits self.old }
         ensures given { given self.new ≡ given self.old }
@@ -104,14 +104,14 @@ pub trait Work: Drop {
         Turn::IDLE
     }
 
-    /// What is to be done after the last turn. `moment` is that of the turn which would come next.
+    /// Closes the place after its last turn. `moment` is that of the turn that would come next.
     fn close(&mut self, moment: Moment, finish: Finish)
         requires { fits self.old }
         ensures given { given self.new ≡ given self.old }
         ensures fits { fits self.new };
 }
 
-/// Lets other threads run, and after many idle turns in a row leaves the processor for a while.
+/// Yields the processor, and sleeps up to half a millisecond after 64 idle turns in a row.
 fn rest<R: Clock>(rt: &R, idle: u32) {
     if idle < 64 {
         thread::yield_now();
@@ -121,7 +121,7 @@ fn rest<R: Clock>(rt: &R, idle: u32) {
     thread::sleep(rt, Duration::from_micros(micros));
 }
 
-/// Whether a worker that may take this turn ends before it.
+/// Checks whether the worker ends before its next turn. If the gate stops it, the others end too.
 fn is_ended<G: Gate>(gate: &G, words: &Words, place: Place, turn: u64) -> bool {
     if !words.go_on() {
         return true;
@@ -133,7 +133,7 @@ fn is_ended<G: Gate>(gate: &G, words: &Words, place: Place, turn: u64) -> bool {
     is_stopped
 }
 
-/// Returns why a worker ends after a turn with this status, if it does.
+/// Returns the reason for which a worker ends after a turn with this status, if it does.
 fn own_end(status: TurnStatus) -> Option<Finish> {
     match status {
         TurnStatus::Idle | TurnStatus::Done => None,
@@ -164,7 +164,7 @@ fn take_turn<T: Work, G: Gate, R: Clock>(
     }
 }
 
-/// Shows what each local port of a place is like.
+/// Shows the gate the view of each local port of a place.
 fn show_ports<T: Work, G: Gate>(owned: &T, gate: &G, place: Place) {
     for index in 0..PORTS {
         let port = index + 1;
@@ -174,7 +174,7 @@ fn show_ports<T: Work, G: Gate>(owned: &T, gate: &G, place: Place) {
     }
 }
 
-/// Takes turn after turn, and answers why there are no more.
+/// Takes turn after turn, at most `turns`, and returns the reason why there are no more.
 fn take_turns<T: Work, G: Gate, R: Clock>(
     rt: &R,
     owned: &mut T,
@@ -221,12 +221,12 @@ fn take_turns<T: Work, G: Gate, R: Clock>(
 pub(crate) struct Back<T> {
     /// The place.
     pub place: T,
-    /// The worker was let begin.
+    /// Whether the worker began.
     pub has_begun: bool,
 }
 
-/// Waits for the start, takes turn after turn, and closes the place. A worker that ends for a cause of
-/// its own has the others end, and one that is not let begin gives its place back as it is.
+/// Waits for the start, takes turn after turn, and closes the place. A worker that ends for a reason of its own ends
+/// the others. A worker that may not begin returns its place unchanged.
 pub(crate) fn run_place<T: Work, G: Gate, R: Wait + Clock>(
     rt: &R,
     place: T,

@@ -1,4 +1,4 @@
-//! What is shown of a bridge's port while the bridge works.
+//! The view of a bridge's port while the bridge works.
 
 use pb_lan::PortState;
 use pb_rstp::Role;
@@ -6,8 +6,8 @@ use pb_rstp::Role;
 /// The role and the state of a port to another bridge.
 #[derive(Clone, Copy, PartialEq, Eq, Debug)]
 pub struct PortView {
-    /// Its role (IEEE 802.1D-2004 clause 17.7). None: the plan gives the states of the ports.
+    /// The port's role (IEEE 802.1D-2004 clause 17.7), or `None` if the plan gives the states of the ports.
     pub role: Option<Role>,
-    /// Its state.
+    /// The port's state.
     pub state: PortState,
 }

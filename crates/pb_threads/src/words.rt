@@ -1,26 +1,29 @@
-//! The words that workers share. They begin and end loops, and no contract speaks of them.
+//! The counters that workers share. They begin and end loops, and no contract speaks of them.
 
 use std::sync::Wait;
 use std::sync::atomic::{AtomicU64, Ordering};
 use std::thread;
 
-/// The workers wait for the start.
+/// The value of `start` while the workers wait.
 const WAIT: u64 = 0;
-/// They take turns.
+/// The value of `start` while they take turns.
 const RUN: u64 = 1;
-/// They end before their first turn, since not all could be started.
+/// The value of `start` if they end before their first turn, because not all could be started.
 const LEAVE: u64 = 2;
 
-/// The words that are shared.
+/// The counters that all workers share.
 #[derive(Drop)]
 pub(crate) struct Words {
+    /// Whether the workers wait, run or leave.
     start: AtomicU64,
+    /// Not 0 once a worker has ended the run.
     stop: AtomicU64,
+    /// The upper bound of what is left to do.
     left: AtomicU64,
 }
 
 impl Words {
-    /// The words of a run with this much left to do.
+    /// Returns the counters of a run with this much left to do.
     pub(crate) fn new(left: u64) -> Words {
         Words {
             start: AtomicU64::new(WAIT),
@@ -29,19 +32,19 @@ impl Words {
         }
     }
 
-    /// All workers may begin, unless one could not be started. Answers whether they do.
+    /// Lets all workers begin, unless one could not be started. Returns whether they do.
     pub(crate) fn begin(&self) -> bool {
         self.start
             .compare_exchange(WAIT, RUN, Ordering::SeqCst, Ordering::SeqCst)
             .is_ok()
     }
 
-    /// No worker may begin.
+    /// Lets no worker begin.
     pub(crate) fn leave(&self) {
         self.start.store(LEAVE, Ordering::SeqCst);
     }
 
-    /// Whether the workers begin. Waits until it is decided.
+    /// Waits until the start is decided. Returns whether the workers begin.
     pub(crate) fn wait<R: Wait>(&self, rt: &R) -> bool {
         for _ in rt.forever() {
             match self.start.load(Ordering::SeqCst) {
@@ -53,22 +56,22 @@ impl Words {
         unreachable!()
     }
 
-    /// Whether something is left to do, and no worker has ended the run.
+    /// Checks whether something is left to do and no worker has ended the run.
     pub(crate) fn go_on(&self) -> bool {
         self.stop.load(Ordering::SeqCst) == 0 && self.left.load(Ordering::SeqCst) != 0
     }
 
-    /// There is so much more to do.
+    /// Adds to what is left to do.
     pub(crate) fn add(&self, more: u64) {
         self.left.fetch_add(more, Ordering::SeqCst);
     }
 
-    /// There is so much less to do.
+    /// Subtracts from what is left to do.
     pub(crate) fn take(&self, fewer: u64) {
         self.left.fetch_sub(fewer, Ordering::SeqCst);
     }
 
-    /// All workers end before their next turn.
+    /// Ends all workers before their next turn.
     pub(crate) fn end(&self) {
         self.stop.store(1, Ordering::SeqCst);
     }

@@ -1,4 +1,4 @@
--- Which local ports a plan uses.
+-- The local ports that a plan uses.
 use Rattle.std.proofs.Common.{◌≡◌, ℕ, true, ◌||◌, Some, None, is_some}
 use Rattle.std.proofs.Common.{refl, ◌∙◌}
 use Rattle.std.specs.List.{list_any}

@@ -19,7 +19,7 @@ use Rattle.pb_lan.specs.declared.plan.Plan.{Plan}
 abbrev pub AreUsed : Plan → ℕ → ℕ → List ℕ → Type 0
 AreUsed plan bridge count ports = All (λ port. (0 < port) × (port ≤ count) × (is_used (port_at plan bridge port) ≡ true)) ports
 
--- the role of a port among those of a bridge's ports, and where the protocol decides the states of ports
+-- the entry of a list of roles is that of this port
 abbrev pub is_of_port : ℕ → ℕ × Role → Bool
 is_of_port port entry = entry.0 == port
 
@@ -30,7 +30,7 @@ abbrev pub role_in : Option Machine → ℕ → Option Role
 role_in None port = None
 role_in (Some machine) port = role_among (roles_of machine.ports) port
 
--- what is shown of a port after the steps that the bridge took: nothing where it leads to no other bridge
+-- the view of a port after the steps that the bridge took: none if the port leads to no other bridge
 abbrev pub view_of : Bridge → ℕ → Option PortView
 view_of bridge port = if is_provider (port_at bridge.plan bridge.number port)
     then Some (record {

@@ -12,13 +12,13 @@ use Rattle.pb_workers.specs.declared.customer.CustomerWorker.{CustomerWorker}
 use Rattle.pb_workers.specs.declared.lane.LaneWorker.{LaneWorker}
 use Rattle.pb_workers.specs.declared.mode.Mode.{Mode}
 
--- places over rings may work in this mode: they keep their steps if the rings ask for it, and set ports only if the rings
--- allow it
+-- places over rings may work in this mode: they keep their steps if the rings require it, and set ports only if the
+-- rings allow it
 pub record IsModeFor (keeps sets : Bool) (mode : Mode) : Type 0 where
   pub kept : keeps ≡ true → mode.keeps ≡ true
   pub set : mode.sets ≡ true → sets ≡ true
 
--- a bridge has as many rings to send by as to receive by, and nothing has passed them
+-- a bridge has as many rings to send as to receive, and nothing has passed them
 pub record AreNewSides {X : Type 0} {W : Ghosts X} (ins : Inlets X W) (outs : Outlets X W) : Type 0 where
   pub sides : vec_len outs.ends ≡ vec_len ins.ends
   pub came : (q : ℕ) → shown_at (λ i. received_over i.end) ins.ends.items q ≡ []
@@ -31,7 +31,7 @@ pub record IsSameAccess {X : Type 0} {W : Ghosts X} (old new : Access X W) : Typ
   pub drain : new.drain.number ≡ old.drain.number
   pub book : new.book ≡ old.book
 
--- a customer port's worker keeps the port as it was given it, and the numbers of its place, its book and its rings
+-- a customer port's worker keeps the port as it was given, and the numbers of its place, its book and its rings
 pub record IsSameCustomer {X P : Type 0} {W : Ghosts X} (old new : CustomerWorker X P W) : Type 0 where
   pub was : new.was ≡ old.was
   pub place : new.access.place.number ≡ old.access.place.number
@@ -39,7 +39,7 @@ pub record IsSameCustomer {X P : Type 0} {W : Ghosts X} (old new : CustomerWorke
   pub feed : new.access.feed.number ≡ old.access.feed.number
   pub drain : new.access.drain.number ≡ old.access.drain.number
 
--- what a worker's port gave since the worker has it is what entered, and what the port took is what left
+-- what the worker's port gave to the worker is what entered, and what it took from the worker is what left
 abbrev pub IsPortKept : {X P : Type 0} {W : Ghosts X} → (P → Option Frames) → (P → Option Frames) → CustomerWorker X P W → Type 0
 IsPortKept script tally worker =
     KeepsPort script tally worker.was.value worker.port worker.access.place.steps worker.access.book.last
@@ -51,7 +51,8 @@ pub record IsSameLane {X : Type 0} {W : Ghosts X} (old new : LaneWorker X W) : T
   pub to : new.to.number ≡ old.to.number
   pub losses : new.lane.losses ≡ old.lane.losses
 
--- a bridge's worker keeps its number, its ports and the numbers of its rings, and its bridge the plan and its number
+-- a bridge's worker keeps its number, its ports and the numbers of its rings, and its bridge keeps its plan and its
+-- number
 pub record IsSameBridge {X : Type 0} {W : Ghosts X} (old new : BridgeWorker X W) : Type 0 where
   pub number : new.number ≡ old.number
   pub plan : new.bridge.plan ≡ old.bridge.plan
@@ -61,7 +62,7 @@ pub record IsSameBridge {X : Type 0} {W : Ghosts X} (old new : BridgeWorker X W)
   pub ins : map (λ i. i.number) new.ins.ends.items ≡ map (λ i. i.number) old.ins.ends.items
   pub outs : map (λ o. o.number) new.outs.ends.items ≡ map (λ o. o.number) old.outs.ends.items
 
--- a bridge's worker keeps all that, and its rings are unchanged
+-- a bridge's worker keeps all of this, and its rings are unchanged
 pub record KeepsRings {X : Type 0} {W : Ghosts X} (old new : BridgeWorker X W) : Type 0 where
   pub number : new.number ≡ old.number
   pub plan : new.bridge.plan ≡ old.bridge.plan
@@ -70,7 +71,7 @@ pub record KeepsRings {X : Type 0} {W : Ghosts X} (old new : BridgeWorker X W) :
   pub ins : new.ins ≡ old.ins
   pub outs : new.outs ≡ old.outs
 
--- a bridge's worker has two rings at a local port: it receives by the one of this number, and sends by the one of that
+-- a bridge's worker has two rings at a local port: it receives by the first of these numbers, and sends by the second
 pub record HasRings {X : Type 0} {W : Ghosts X} (worker : BridgeWorker X W) (at receives sends : ℕ) : Type 0 where
   pub port : (0 < at) × (at ≤ vec_len worker.ins.ends)
   pub into : slice_index_or (map (λ i. i.number) worker.ins.ends.items) (at - 1) 0 ≡ receives

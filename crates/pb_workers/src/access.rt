@@ -1,4 +1,4 @@
-//! A customer's access to its bridge: the place of a customer port with its ring ends.
+//! A customer's access to its bridge: the place of a customer port, with its ring ends.
 
 ghost use Rattle.std.specs.Prelude.{◌≡◌, ◌++◌, ◌∷◌, [], true, false, Ok, Some, if◌then◌else◌};
 ghost use Rattle.std.specs.Prelude.{IsSome, OnOk, OnErr, option_to_list};
@@ -14,48 +14,53 @@ use pb_link::CustomerPlace;
 use pb_port::PortFault;
 use pb_ring::{Inlet, Outlet, Wiring};
 
-/// What the newest poll of a port said.
+/// The result of the newest poll of a port.
 #[derive(Clone, Copy, PartialEq, Eq, Debug)]
 pub enum Last {
     /// More frames may come.
     More,
-    /// No frame comes any more.
+    /// The end of the input: no more frames come.
     End,
-    /// The input has this fault, and no frame comes any more.
+    /// A fault of the input: no more frames come.
     Fault(PortFault),
 }
 
-/// What an access goes by: its number, its limit, and what the port said.
+/// The number and the limit of an access, and the result of the newest poll.
 #[derive(Clone, Copy, PartialEq, Eq, Debug)]
 pub struct Book {
     /// The customer port's number in the plan, from 1.
     pub number: u8,
-    /// The most steps.
+    /// The greatest number of steps.
     pub limit: usize,
-    /// What the newest poll said.
+    /// The result of the newest poll.
     pub last: Last,
 }
 
-/// How a customer reaches its bridge: the place of a customer port with the two rings that join it to its
-/// bridge, and the item that was offered to the port and not yet taken.
+/// The access of a customer to its bridge: the place of a customer port, the two rings between it and its bridge, and
+/// the item that was offered to the port outside and not yet taken.
 #[derive(Drop)]
 pub struct Access<W: Wiring> {
     /// The place.
     pub place: CustomerPlace,
-    /// The end through which it feeds its bridge.
+    /// The ring end onto which it feeds its bridge.
     pub feed: Outlet<W>,
-    /// The end from which it takes what its bridge sent.
+    /// The ring end from which it takes what its bridge sent.
     pub drain: Inlet<W>,
-    /// The item that waits to be offered.
+    /// The item that waits to be taken by the port outside.
     pub offered: Option<Item>,
-    /// What the access goes by.
+    /// The number, the limit and the newest poll.
     pub book: Book,
     pub ghost fed: { sent feed.end ≡ fed place.steps },
     pub ghost drained: { received drain.end ≡ delivered place.steps ++ option_to_list offered },
     pub ghost kept: { W.keeps ≡ true → place.is_kept ≡ true },
 }
 
-/// Reserves a step of a place that may take so many.
+/// Reserves a step of a place that may take `limit` steps.
+///
+/// # Errors
+///
+/// `Memory` if an allocation failed, `Limit` if the place has taken as many steps as it may. The place is unchanged
+/// then.
 fn reserve(place: &mut CustomerPlace, limit: usize) -> Result<(), Refusal>
     ensures ok { OnOk result (place.new ≡ record place.old { is_reserved = true }) }
     ensures err { OnErr result (place.new ≡ place.old) }
@@ -69,8 +74,8 @@ fn reserve(place: &mut CustomerPlace, limit: usize) -> Result<(), Refusal>
 impl<W: Wiring> Access<W> {
     ghost use Rattle.pb_workers.specs.Workers.{IsSameAccess};
 
-    /// The access of a customer port that has taken no step, over rings that nothing has passed. It may take so many
-    /// steps. Takes no memory.
+    /// Returns the access of a customer port that has taken no step, over rings that nothing has passed. It may take
+    /// `limit` steps. Allocates nothing.
     pub fn new(
         number: u8,
         place: CustomerPlace,
@@ -98,7 +103,11 @@ impl<W: Wiring> Access<W> {
         }
     }
 
-    /// Whether a frame may be polled: none is in hand, and more may come. A step is reserved then.
+    /// Checks whether a frame may be polled: none is in hand, and more may come. A step is reserved then.
+    ///
+    /// # Errors
+    ///
+    /// `Memory` if an allocation failed, `Limit` if the place has taken as many steps as it may.
     pub(crate) fn asks(&mut self) -> Taken
         ensures same { IsSameAccess self.old self.new }
         ensures steps { self.new.place.steps ≡ self.old.place.steps }
@@ -113,7 +122,7 @@ impl<W: Wiring> Access<W> {
         Ok(true)
     }
 
-    /// A frame came in. It is in hand then.
+    /// Takes a frame from outside. It is in hand then.
     pub(crate) fn take_in(&mut self, frame: Bytes)
         requires reserved { self.old.place.is_reserved ≡ true }
         requires empty { is_hand_empty self.old.place.steps ≡ true }
@@ -124,7 +133,11 @@ impl<W: Wiring> Access<W> {
         self.place.poll(frame);
     }
 
-    /// Feeds the frame in hand to the bridge, where one is there and the ring has room.
+    /// Feeds the frame in hand to the bridge, if there is one and the ring is not full. Returns whether it did.
+    ///
+    /// # Errors
+    ///
+    /// `Memory` if an allocation failed, `Limit` if the place has taken as many steps as it may.
     pub(crate) fn hand_on(&mut self) -> Taken
         ensures same { IsSameAccess self.old self.new }
         ensures entered { entered self.new.place.steps ≡ entered self.old.place.steps }
@@ -139,7 +152,12 @@ impl<W: Wiring> Access<W> {
         Ok(true)
     }
 
-    /// Whether an item waits to be offered. A step is reserved then.
+    /// Checks whether an item waits to be offered, and takes one off the ring if none does. A step is reserved if the
+    /// result is `true`.
+    ///
+    /// # Errors
+    ///
+    /// `Memory` if an allocation failed, `Limit` if the place has taken as many steps as it may.
     pub(crate) fn fetch(&mut self) -> Taken
         ensures same { IsSameAccess self.old self.new }
         ensures steps { self.new.place.steps ≡ self.old.place.steps }
@@ -155,7 +173,7 @@ impl<W: Wiring> Access<W> {
         Ok(self.offered.is_some())
     }
 
-    /// The item that was offered has left, or the port takes no frames any more.
+    /// Delivers the offered item: it has left, or the port takes no more frames (`gone`).
     pub(crate) fn let_out(&mut self, gone: bool)
         requires reserved { self.old.place.is_reserved ≡ true }
         requires some { IsSome self.old.offered }

@@ -30,25 +30,25 @@ use pb_ring::{Inlets, Outlets, Wiring};
 use pb_threads::{Finish, Moment, PortView, Turn, TurnStatus, Wish, Work};
 use std::alloc::Global;
 
-/// A bridge of a plan with the rings at its local ports: by one it receives, and by the other it sends.
-/// The rings of local port p stand at place p-1.
+/// A bridge of a plan with the rings at its local ports. It receives by one ring of a port and sends by the other. The
+/// rings of local port p are at index p-1.
 #[derive(Drop)]
 pub struct BridgeWorker<W: Wiring> {
     /// The bridge's number in the plan, from 1.
     pub number: u8,
     /// The bridge.
     pub bridge: Bridge,
-    /// The ends through which it receives.
+    /// The ring ends from which it receives.
     pub ins: Inlets<W>,
-    /// The ends through which it sends.
+    /// The ring ends onto which it sends.
     pub outs: Outlets<W>,
     /// The local ports that the plan uses.
     pub ports: Vec<u8>,
-    /// Why the worker ended, once it has.
+    /// The reason why the worker ended, once it has.
     pub finish: Option<Finish>,
-    /// Where the next look at the ports begins.
+    /// The index in `ports` at which the next search for work begins.
     pub(crate) next: usize,
-    /// Whether it fulfils wishes.
+    /// Whether the worker fulfils wishes.
     pub(crate) sets: bool,
     pub ghost used: { AreUsed bridge.plan bridge.number (vec_len ins.ends) ports.items },
     pub ghost sides: { vec_len outs.ends ≡ vec_len ins.ends },
@@ -68,7 +68,11 @@ impl From<BridgeFault> for Refusal {
     }
 }
 
-/// The bridge of this number, which keeps its steps or only counts them.
+/// Returns the bridge of this number, without steps. It keeps its steps, or only counts them.
+///
+/// # Errors
+///
+/// `Memory` if an allocation failed.
 fn new_bridge(alloc: Global, plan: &Plan, number: u8, keeps: bool) -> Result<Bridge, Memory>
     requires sound { IsSound plan.now }
     requires bridge { IsNumber number (length plan.now.bridges) }
@@ -81,13 +85,13 @@ fn new_bridge(alloc: Global, plan: &Plan, number: u8, keeps: bool) -> Result<Bri
     }
 }
 
-/// How many copies of a frame were queued, and how many found no room.
+/// The copies of a frame: how many were queued, and how many were lost because a queue was full.
 struct Copies {
     queued: u64,
     refused: u64,
 }
 
-/// How many copies there are of a frame of which this became.
+/// Returns the copies of a received frame with this outcome.
 fn copies_of(outcome: &Outcome) -> Copies {
     match outcome {
         Outcome::Relayed { chosen, refused } => {
@@ -105,7 +109,8 @@ fn copies_of(outcome: &Outcome) -> Copies {
     }
 }
 
-/// The turn in which a frame was received, of which this became. One that is marked is to be done with.
+/// Returns the turn in which a frame with this outcome was received. A marked frame is finished at this bridge, and its
+/// queued copies are new.
 fn received(is_marked: bool, outcome: &Outcome) -> Turn {
     let Copies { queued, refused } = copies_of(outcome);
     Turn {
@@ -117,7 +122,7 @@ fn received(is_marked: bool, outcome: &Outcome) -> Turn {
     }
 }
 
-/// A turn after which roles and states of ports may be others.
+/// Returns the turn, marked as one after which roles and states of ports may have changed.
 fn stirred(turn: Turn) -> Turn {
     Turn {
         has_stirred: true,
@@ -128,11 +133,13 @@ fn stirred(turn: Turn) -> Turn {
 impl<W: Wiring> BridgeWorker<W> {
     ghost use Rattle.pb_workers.specs.Workers.{IsModeFor, AreNewSides, IsSameBridge, KeepsRings, HasRings};
 
-    /// The worker of the bridge of this number, which has taken no step, over rings that nothing has
-    /// passed. It serves the local ports that the plan uses and that have rings. By its mode it keeps its steps or only
-    /// counts them, and fulfils wishes or not.
+    /// Returns the worker of the bridge of this number, which has taken no step, over rings that nothing has passed. It
+    /// serves the local ports that the plan uses and that have rings. Its mode says whether it keeps its steps, and
+    /// whether it fulfils wishes.
     ///
-    /// `Memory` is answered where there was none for the bridge or for the list of its ports.
+    /// # Errors
+    ///
+    /// `Memory` if an allocation for the bridge or for the list of its ports failed.
     pub fn new(
         alloc: Global,
         plan: &Plan,
@@ -163,7 +170,11 @@ impl<W: Wiring> BridgeWorker<W> {
         })
     }
 
-    /// Sends the item that leaves a port next, where one waits and the ring has room.
+    /// Transmits the next item of a port, if one waits and the ring is not full. Returns whether it did.
+    ///
+    /// # Errors
+    ///
+    /// `Memory` if an allocation failed, `Limit` if the bridge has taken as many steps as it may.
     fn transmit(&mut self, port: u8) -> Taken
         requires port { (0 < port) × (port ≤ vec_len self.old.ins.ends) }
         requires used { is_used (port_at self.old.bridge.plan self.old.bridge.number port) ≡ true }
@@ -179,7 +190,7 @@ impl<W: Wiring> BridgeWorker<W> {
         Ok(true)
     }
 
-    /// Receives the first item that came to a port, if one came.
+    /// Receives the first item that came to a port, if there is one.
     fn receive(&mut self, port: u8) -> Turn
         requires port { (0 < port) × (port ≤ vec_len self.old.ins.ends) }
         requires used { is_used (port_at self.old.bridge.plan self.old.bridge.number port) ≡ true }
@@ -202,7 +213,11 @@ impl<W: Wiring> BridgeWorker<W> {
         received(is_marked, &outcome)
     }
 
-    /// The clock ticks.
+    /// Ticks the bridge's clock.
+    ///
+    /// # Errors
+    ///
+    /// `Memory` if an allocation failed, `Limit` if the bridge has taken as many steps as it may.
     fn tick(&mut self) -> Taken
         ensures { KeepsRings self.old self.new }
     {
@@ -211,7 +226,12 @@ impl<W: Wiring> BridgeWorker<W> {
     }
 
     /// Enables or disables a port to another bridge, if the worker fulfils wishes and the bridge has such a port.
-    /// Changes nothing otherwise.
+    /// Returns whether it did, and changes nothing if it did not.
+    ///
+    /// # Errors
+    ///
+    /// `Memory` if an allocation failed, `Limit` if the bridge has taken as many steps as it may. The bridge is
+    /// unchanged then.
     fn set(&mut self, wish: Wish) -> Taken
         ensures whether { IfOk result (λ has_set. has_set
             ≡ (self.old.sets && is_provider (port_at self.old.bridge.plan self.old.bridge.number wish.port))) }
@@ -228,7 +248,7 @@ impl<W: Wiring> BridgeWorker<W> {
         Ok(true)
     }
 
-    /// Sends at a port, or receives there: the first that there is to do.
+    /// Transmits at a port, or receives there: the first that has something to do.
     fn serve(&mut self, port: u8) -> Turn
         requires port { (0 < port) × (port ≤ vec_len self.old.ins.ends) }
         requires used { is_used (port_at self.old.bridge.plan self.old.bridge.number port) ≡ true }
@@ -241,7 +261,7 @@ impl<W: Wiring> BridgeWorker<W> {
         self.receive(port)
     }
 
-    /// Serves the first port at which there is something to do, in turn from that behind the last.
+    /// Serves the first port with something to do, beginning after the port that was served last.
     fn look(&mut self) -> Turn
         ensures { IsSameBridge self.old self.new }
     {
@@ -258,8 +278,9 @@ impl<W: Wiring> BridgeWorker<W> {
         turn(Ok(false), 0, 0)
     }
 
-    /// The rings of a customer port and of this bridge's local port, once both workers are back: what the
-    /// bridge received begins what the port fed, and what the port took begins what the bridge sent.
+    /// Lets the ring ends of a customer port and of this bridge's local port meet, once both workers are back. What the
+    /// bridge received is a beginning of what the port fed, and what the port delivered is a beginning of what the
+    /// bridge transmitted.
     pub fn meet_customer(&mut self, port: u8, access: &mut Access<W>)
         requires { HasRings self.old port access.old.feed.number access.old.drain.number }
         ensures into { IsBeginning (received port self.old.bridge.steps) (fed access.old.place.steps) }
@@ -276,8 +297,8 @@ impl<W: Wiring> BridgeWorker<W> {
         self.outs.meet(index_of(port), &mut access.drain);
     }
 
-    /// The ring from this bridge's local port to the lane that leads away from it, once both workers are
-    /// back: what the lane took begins what the bridge sent.
+    /// Lets the ends of the ring from this bridge's local port to a lane meet, once both workers are back. What the
+    /// lane took is a beginning of what the bridge transmitted.
     pub fn meet_lane_away(&mut self, port: u8, lane: &mut LaneWorker<W>)
         requires port { (0 < port) × (port ≤ vec_len self.old.ins.ends) }
         requires ring { slice_index_or (map (λ o. o.number) self.old.outs.ends.items) (port - 1) 0
@@ -292,8 +313,8 @@ impl<W: Wiring> BridgeWorker<W> {
         self.outs.meet(index_of(port), &mut lane.from);
     }
 
-    /// The ring from the lane that leads to this bridge's local port, once both workers are back: what the
-    /// bridge received begins what the lane put.
+    /// Lets the ends of the ring from a lane to this bridge's local port meet, once both workers are back. What the
+    /// bridge received is a beginning of what the lane put.
     pub fn meet_lane_here(&mut self, port: u8, lane: &mut LaneWorker<W>)
         requires port { (0 < port) × (port ≤ vec_len self.old.ins.ends) }
         requires ring { slice_index_or (map (λ i. i.number) self.old.ins.ends.items) (port - 1) 0 ≡ lane.old.to.number }

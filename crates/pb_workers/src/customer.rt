@@ -12,27 +12,27 @@ use pb_ring::Wiring;
 use pb_threads::{Finish, Moment, PortView, Turn, TurnStatus, Work};
 use std::snapshot::Snapshot;
 
-/// After how many turns the port writes at the latest, if something waits in it. It writes sooner if there is nothing
-/// else to do, or if it is full. Frames that leave in close order are written together.
+/// The number of turns after which the port writes at the latest, if something waits in it. It writes sooner if nothing
+/// else is to do, or if it is full. Frames that leave in close order are written together.
 const PART: u8 = 32;
 
-/// A customer port of a plan: the port outside, and its access.
+/// A customer port of a plan: the port outside, and its access to the bridge.
 #[derive(Drop)]
 pub struct CustomerWorker<W: Wiring, P> {
     /// The port outside.
     pub port: P,
-    /// The access.
+    /// The access to the bridge.
     pub access: Access<W>,
-    /// Why the worker ended, once it has.
+    /// The reason why the worker ended, once it has.
     pub finish: Option<Finish>,
     /// The port as the worker was given it.
     pub was: Snapshot<P>,
-    /// For how many turns the port has not written.
+    /// The number of turns in which the port has not written.
     pub held: u8,
 }
 
 impl<W: Wiring, P> CustomerWorker<W, P> {
-    /// The worker of a port and its access. Takes no memory.
+    /// Returns the worker of a port and its access. Allocates nothing.
     pub fn new(port: P, access: Access<W>) -> CustomerWorker<W, P>
         ensures port { (result.port ≡ port) × (result.was.value ≡ port) }
         ensures access { result.access ≡ access }
@@ -49,7 +49,11 @@ impl<W: Wiring, P> CustomerWorker<W, P> {
 }
 
 impl<W: Wiring, P: Port> CustomerWorker<W, P> {
-    /// Polls the port, where a frame may come in.
+    /// Polls the port outside, if no frame is in hand and more may come. Returns whether a frame came.
+    ///
+    /// # Errors
+    ///
+    /// `Memory` if an allocation failed, `Limit` if the place has taken as many steps as it may.
     fn poll(&mut self) -> Taken
         requires { IsPortKept P.script P.tally self.old }
         ensures port { IsPortKept P.script P.tally self.new }
@@ -71,7 +75,11 @@ impl<W: Wiring, P: Port> CustomerWorker<W, P> {
         Ok(false)
     }
 
-    /// Offers the port the oldest item that waits for it.
+    /// Offers the port outside the oldest item that waits for it. Returns whether the item left or the port is gone.
+    ///
+    /// # Errors
+    ///
+    /// `Memory` if an allocation failed, `Limit` if the place has taken as many steps as it may.
     fn deliver(&mut self) -> Taken
         requires { IsPortKept P.script P.tally self.old }
         ensures port { IsPortKept P.script P.tally self.new }
@@ -84,7 +92,7 @@ impl<W: Wiring, P: Port> CustomerWorker<W, P> {
         let Some(item) = &access.offered else {
             return Ok(false);
         };
-        // No port takes a frame of more than 65,535 octets: it counts as lost, and the run goes on.
+        // No port takes a frame of more than 65,535 octets. Such a frame counts as lost, and the run goes on.
         if item.wire.len() >= 65_536 {
             self.access.let_out(true);
             return Ok(true);
@@ -106,7 +114,11 @@ impl<W: Wiring, P: Port> CustomerWorker<W, P> {
         }
     }
 
-    /// Has the port write what waits in it. Answers whether frames left.
+    /// Lets the port write what waits in it. Returns whether frames left.
+    ///
+    /// # Errors
+    ///
+    /// `Memory` if an allocation failed.
     fn pump(&mut self, now: u32) -> Taken
         requires { IsPortKept P.script P.tally self.old }
         ensures port { IsPortKept P.script P.tally self.new }
@@ -120,7 +132,7 @@ impl<W: Wiring, P: Port> CustomerWorker<W, P> {
         }
     }
 
-    /// Whether the port is to write after a turn with this status.
+    /// Checks whether the port has to write after a turn with this status, and counts the turns in which it does not.
     fn is_to_write(&mut self, status: TurnStatus) -> bool
         ensures port { self.new.port ≡ self.old.port }
         ensures access { self.new.access ≡ self.old.access }
@@ -139,7 +151,7 @@ impl<W: Wiring, P: Port> CustomerWorker<W, P> {
         }
     }
 
-    /// Delivers, or feeds, or, where frames may enter, polls: the first that there is to do.
+    /// Delivers, feeds, or polls if frames may enter: the first that has something to do.
     fn step(&mut self, may_enter: bool) -> Turn
         requires { IsPortKept P.script P.tally self.old }
         ensures port { IsPortKept P.script P.tally self.new }

@@ -1,4 +1,4 @@
-//! Whether a run has drained.
+//! Checks whether a run has drained.
 
 ghost use Rattle.std.specs.Prelude.{◌≡◌, ◌↔◌, All, IsTrue};
 ghost use Rattle.pb_workers.specs.Drained.{TellsAllDrained};
@@ -7,15 +7,15 @@ use crate::access::Last;
 use pb_forest::is_drained;
 use pb_history::Tallies;
 
-/// Whether every port came to its end.
+/// Checks whether every port came to its end.
 fn are_all_ended(lasts: &[Last]) -> bool
     ensures { IsTrue result ↔ All (λ last. last ≡ Last.End) lasts.now }
 {
     lasts.iter().all(|last| *last == Last::End)
 }
 
-/// Whether every customer port of a run came to its end, by what the newest poll of each said, and no frame is on its
-/// way, by what was counted. Takes no memory.
+/// Checks whether a run has drained: the newest poll of every customer port reported the end, and by the counts no
+/// frame is on its way. Allocates nothing.
 pub fn has_drained(lasts: &[Last], counts: &Tallies) -> bool
     ensures { TellsAllDrained counts.now lasts.now result }
 {

@@ -1,4 +1,4 @@
-//! What workers are given. Clauses alone speak of it: no value of these types is ever made.
+//! What workers are given. Contracts alone use these types: no value of them is ever made.
 
 use pb_lan::Plan;
 use std::collections::LinkedList;
@@ -30,7 +30,7 @@ pub struct LaneGift {
     pub losses: LinkedList<u64>,
 }
 
-/// What a customer port is given but for the port outside.
+/// What a customer port is given, except for the port outside.
 pub struct AccessGift {
     /// The customer port's number in the plan, from 1.
     pub place: u8,
@@ -46,6 +46,6 @@ pub struct CustomerGift<P> {
     pub was: Snapshot<P>,
     /// The number in its book.
     pub book: u8,
-    /// What it has but for the port outside.
+    /// What it is given except for the port outside.
     pub access: AccessGift,
 }

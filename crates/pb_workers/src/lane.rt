@@ -11,20 +11,20 @@ use pb_link::Lane;
 use pb_ring::{Inlet, Outlet, Wiring};
 use pb_threads::{Finish, Moment, PortView, Turn, Work};
 
-/// A lane of a plan with the two rings that it joins: from one it takes, and onto the other it puts.
+/// A lane of a plan with its two rings: it takes from one and puts onto the other.
 #[derive(Drop)]
 pub struct LaneWorker<W: Wiring> {
     /// The lane's number in the plan, from 1.
     pub number: u8,
     /// The lane.
     pub lane: Lane,
-    /// The end from which it takes.
+    /// The ring end from which it takes.
     pub from: Inlet<W>,
-    /// The end through which it puts.
+    /// The ring end onto which it puts.
     pub to: Outlet<W>,
-    /// The most steps.
+    /// The greatest number of steps.
     pub limit: usize,
-    /// Why the worker ended, once it has.
+    /// The reason why the worker ended, once it has.
     pub finish: Option<Finish>,
     pub ghost took: { received from.end ≡ taken lane.steps },
     pub ghost gave: { sent to.end ≡ put lane.steps },
@@ -34,8 +34,8 @@ pub struct LaneWorker<W: Wiring> {
 impl<W: Wiring> LaneWorker<W> {
     ghost use Rattle.pb_workers.specs.Workers.{IsSameLane};
 
-    /// Makes the worker of a lane that has taken no step, over rings that nothing has passed. The lane may take so many
-    /// steps. Takes no memory.
+    /// Returns the worker of a lane that has taken no step, over rings that nothing has passed. The lane may take
+    /// `limit` steps. Allocates nothing.
     pub fn new(number: u8, lane: Lane, from: Inlet<W>, to: Outlet<W>, limit: usize) -> LaneWorker<W>
         requires steps { lane.steps ≡ [] }
         requires kept { W.keeps ≡ true → lane.is_kept ≡ true }
@@ -54,7 +54,11 @@ impl<W: Wiring> LaneWorker<W> {
         }
     }
 
-    /// Nothing, where the lane may take a step more.
+    /// Checks that the lane may take one more step.
+    ///
+    /// # Errors
+    ///
+    /// `Limit` if it may not.
     fn within_limit(&self) -> Result<(), Refusal> {
         if self.lane.step_count() >= self.limit as u64 {
             return Err(Refusal::Limit);
@@ -62,7 +66,11 @@ impl<W: Wiring> LaneWorker<W> {
         Ok(())
     }
 
-    /// Puts the item in hand, where one is there and the ring has room.
+    /// Puts the item in hand, if there is one and the ring is not full. Returns whether it did.
+    ///
+    /// # Errors
+    ///
+    /// `Memory` if an allocation failed, `Limit` if the lane has taken as many steps as it may.
     fn put(&mut self) -> Taken
         ensures { IsSameLane self.old self.new }
     {
@@ -73,7 +81,11 @@ impl<W: Wiring> LaneWorker<W> {
         Ok(self.lane.put(&mut self.to.end)?)
     }
 
-    /// Takes an item, where none is in hand and one is on the ring.
+    /// Takes an item, if none is in hand and the ring is not empty. Returns whether it did.
+    ///
+    /// # Errors
+    ///
+    /// `Memory` if an allocation failed, `Limit` if the lane has taken as many steps as it may.
     fn take(&mut self) -> Taken
         ensures { IsSameLane self.old self.new }
     {

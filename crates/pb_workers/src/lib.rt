@@ -1,9 +1,9 @@
-//! The places of a network as workers over rings: customer ports, lanes and bridges.
+//! The places of a network as workers over rings (customer ports, lanes and bridges), over pb_relay, pb_link, pb_ring,
+//! pb_threads and pb_port.
 //!
-//! Each worker owns its place, the ends of the rings that lead to its neighbours, and, at a customer port,
-//! the port outside. A turn takes at most one step. What a ring end sent or received is what the steps of
-//! its place say, and for each port what came in and what left is what they say; so once all workers are
-//! back, the ends of each ring can meet.
+//! A worker owns its place, the ends of its rings and, at a customer port, the port outside. A turn takes at most one
+//! step. What passed a ring end or the port outside is what the steps of the place say. Begin reading at
+//! `BridgeWorker`.
 #![tactic(auto)]
 
 mod access;

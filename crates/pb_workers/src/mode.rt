@@ -1,28 +1,28 @@
-//! How the places of a run work.
+//! The mode in which the places of a run work.
 
-/// How the places of a run work.
+/// The mode in which the places of a run work.
 #[derive(Clone, Copy, PartialEq, Eq, Debug)]
 pub struct Mode {
-    /// They keep their steps in memory; else these are only counted.
+    /// Whether places keep their steps in memory. Otherwise they only count them.
     pub keeps: bool,
-    /// Bridges set ports up and down as their gate wishes; else they leave them.
+    /// Whether bridges enable and disable ports as their gate wishes. Otherwise they leave them.
     pub sets: bool,
 }
 
 impl Mode {
-    /// Steps are counted, and ports left as they are.
+    /// The mode that counts steps and leaves ports as they are.
     pub const COUNTED: Mode = Mode {
         keeps: false,
         sets: false,
     };
 
-    /// Steps are counted, and ports set as the gate wishes.
+    /// The mode that counts steps and sets ports as the gate wishes.
     pub const SET: Mode = Mode {
         keeps: false,
         sets: true,
     };
 
-    /// Steps are kept, and ports left as they are.
+    /// The mode that keeps steps and leaves ports as they are.
     pub const KEPT: Mode = Mode {
         keeps: true,
         sets: false,

@@ -1,12 +1,12 @@
-//! Why a worker can't take a step that it has to take.
+//! The reason why a worker can't take a step that is due.
 
 use pb_frame::Memory;
 use pb_threads::{Turn, TurnStatus};
 
-/// Why a worker can't take a step that it has to take.
+/// The reason why a worker can't take a step that is due.
 #[derive(Clone, Copy, PartialEq, Eq, Debug)]
 pub(crate) enum Refusal {
-    /// Memory was refused.
+    /// An allocation failed.
     Memory,
     /// The place has taken as many steps as it may.
     Limit,
@@ -18,10 +18,10 @@ impl From<Memory> for Refusal {
     }
 }
 
-/// Whether a step was taken, or why it could not be.
+/// Whether a step was taken, or the reason why it could not be.
 pub(crate) type Taken = Result<bool, Refusal>;
 
-/// Returns the status of a turn that took a step, or could not.
+/// Returns the status of a turn that took a step or could not.
 fn status_of(taken: Taken) -> TurnStatus {
     match taken {
         Ok(true) => TurnStatus::Done,
@@ -31,7 +31,7 @@ fn status_of(taken: Taken) -> TurnStatus {
     }
 }
 
-/// Returns a turn after which so much more and so much less is left to do, if it took a step.
+/// Returns the turn of a step. If the step was taken, `more` is added to what is left to do, and `fewer` subtracted.
 pub(crate) fn turn(taken: Taken, more: u64, fewer: u64) -> Turn {
     let status = status_of(taken);
     if status == TurnStatus::Done {

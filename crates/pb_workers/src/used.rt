@@ -9,14 +9,14 @@ use pb_frame::Memory;
 use pb_lan::{CustomerPlan, LinkPlan, Plan};
 use std::alloc::Global;
 
-/// Whether a customer port stands at a bridge's port.
+/// Checks whether a customer port is at a bridge's port.
 fn is_customer_there(customers: &[CustomerPlan], bridge: u8, port: u8) -> bool
     ensures { result ≡ list_any (is_customer_at bridge port) customers.now }
 {
     customers.iter().any(|customer| customer.bridge == bridge && customer.port == port)
 }
 
-/// Whether a link ends at a bridge's port.
+/// Checks whether a link ends at a bridge's port.
 fn is_end_there(links: &[LinkPlan], bridge: u8, port: u8) -> bool
     ensures { result ≡ list_any (λ l. is_end_at bridge port l.a || is_end_at bridge port l.b) links.now }
 {
@@ -26,7 +26,7 @@ fn is_end_there(links: &[LinkPlan], bridge: u8, port: u8) -> bool
     })
 }
 
-/// Whether the plan uses a bridge's port.
+/// Checks whether the plan uses a bridge's port.
 pub fn is_used(plan: &Plan, bridge: u8, port: u8) -> bool
     ensures { IsTrue result → is_used (port_at plan.now bridge port) ≡ true }
 {
@@ -34,7 +34,11 @@ pub fn is_used(plan: &Plan, bridge: u8, port: u8) -> bool
         || is_end_there(plan.links.as_slice(), bridge, port)
 }
 
-/// The local ports that the plan uses of a bridge, up to the port of this number.
+/// Returns the local ports of a bridge that the plan uses, from 1 to `count`.
+///
+/// # Errors
+///
+/// `Memory` if an allocation failed.
 pub(crate) fn used_ports(
     alloc: Global,
     plan: &Plan,

@@ -1,4 +1,4 @@
-//! What is shown of a bridge's ports while it works.
+//! The view of a bridge's ports while it works.
 
 ghost use Rattle.std.specs.Option.{option_copied};
 ghost use Rattle.std.specs.Prelude.{◌≡◌, unwrap_or};
@@ -12,7 +12,7 @@ use pb_relay::Bridge;
 use pb_rstp::{Role, Rstp};
 use pb_threads::PortView;
 
-/// The role of a port in a list of those of a bridge's ports.
+/// Returns the role of a port in a list of a bridge's ports with their roles.
 fn role_at(roles: &[(u8, Role)], port: u8) -> Option<Role>
     ensures { result ≡ role_among roles.now port }
 {
@@ -24,7 +24,7 @@ fn role_at(roles: &[(u8, Role)], port: u8) -> Option<Role>
     None
 }
 
-/// The role of a port, where the protocol decides the states of ports.
+/// Returns the role of a port, if a spanning tree decides the states of ports.
 fn role_of(machine: Option<&Rstp>, port: u8) -> Option<Role>
     ensures { result ≡ role_in (option_copied machine.entry) port }
 {
@@ -34,7 +34,7 @@ fn role_of(machine: Option<&Rstp>, port: u8) -> Option<Role>
     }
 }
 
-/// The state in the list of those of a bridge's ports, Discarding where it has none.
+/// Returns the state of a port in a list by local port, or Discarding if the list has no such port.
 fn state_at(states: &[PortState], port: u8) -> PortState
     ensures { result ≡ unwrap_or (numbered states.now port) Discarding }
 {
@@ -47,7 +47,8 @@ fn state_at(states: &[PortState], port: u8) -> PortState
     }
 }
 
-/// What is shown of a bridge's port after the steps that it took. Nothing is of a port that leads to no other bridge.
+/// Returns the view of a bridge's port after the steps that the bridge took, or `None` if the port leads to no other
+/// bridge.
 pub(crate) fn view_of(bridge: &Bridge, port: u8) -> Option<PortView>
     ensures { result ≡ view_of bridge.now port }
 {

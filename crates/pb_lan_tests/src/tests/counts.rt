@@ -6,10 +6,10 @@ use pb_lan::{FrameNumber, Item, Mark, Record, Seq, Step, entered, left};
 use std::alloc::{AllocError, Global};
 use std::test::Fail;
 
-/// What a customer port does with a frame.
+/// A customer port's action with a frame.
 #[derive(Clone, Copy)]
 enum Deed {
-    /// It comes in.
+    /// It is polled.
     Poll,
     /// It is handed on.
     Feed,
@@ -19,16 +19,16 @@ enum Deed {
     Miss,
 }
 
-/// What a customer port did with a frame of customer port 1: the frame's number, and its only octet.
+/// A customer port's action with a frame of customer port 1: the frame's number, and its only octet.
 type FrameDeed = (Deed, u64, u8);
 
-/// By customer port, what it did.
+/// The actions of each customer port.
 const DONE: &[&[FrameDeed]] = &[
     &[(Deed::Poll, 0, 7), (Deed::Feed, 0, 7), (Deed::Poll, 1, 8)],
     &[(Deed::Deliver, 0, 7), (Deed::Miss, 1, 8)],
 ];
 
-/// A frame of customer port 1, of one octet.
+/// Returns a frame of customer port 1, of one octet.
 fn item(alloc: Global, number: u64, octet: u8) -> Result<Item, AllocError> {
     Ok(Item {
         mark: Some(Mark {
@@ -50,7 +50,7 @@ fn step(alloc: Global, deed: Deed, number: u64, octet: u8) -> Result<Step, Alloc
     })
 }
 
-/// The steps of a customer port.
+/// Returns the steps of a customer port.
 fn steps(alloc: Global, all: &[FrameDeed]) -> Result<Seq<Step>, AllocError> {
     let mut steps = Vec::new(alloc);
     for (deed, number, octet) in all {
@@ -59,7 +59,7 @@ fn steps(alloc: Global, all: &[FrameDeed]) -> Result<Seq<Step>, AllocError> {
     Ok(Seq::from_vec(steps))
 }
 
-/// The steps of all customer ports.
+/// Returns the steps of all customer ports.
 fn customers(alloc: Global, all: &[&[FrameDeed]]) -> Result<Seq<Seq<Step>>, AllocError> {
     let mut customers = Vec::new(alloc);
     for deeds in all {
@@ -68,7 +68,7 @@ fn customers(alloc: Global, all: &[&[FrameDeed]]) -> Result<Seq<Seq<Step>>, Allo
     Ok(Seq::from_vec(customers))
 }
 
-/// The record of it.
+/// Returns the record of it.
 fn record(alloc: Global, all: &[&[FrameDeed]]) -> Result<Record, AllocError> {
     let customers = customers(alloc, all)?;
     Ok(Record {
@@ -78,7 +78,7 @@ fn record(alloc: Global, all: &[&[FrameDeed]]) -> Result<Record, AllocError> {
     })
 }
 
-/// Whether these are the frames, each of one octet.
+/// Checks whether these are the frames, each of one octet.
 fn are(frames: &[Bytes], wanted: &[u8]) -> bool {
     for (frame, octet) in frames.iter().zip(wanted) {
         if frame.as_slice() != [*octet].as_slice() {
@@ -88,7 +88,7 @@ fn are(frames: &[Bytes], wanted: &[u8]) -> bool {
     frames.len() == wanted.len()
 }
 
-/// A customer port, and the octets of the frames that entered and left there.
+/// A customer port, and the octets of the frames that entered and left at it.
 const FRAMES: &[(u8, &[u8], &[u8])] = &[
     (0, &[], &[]),
     (1, &[7, 8], &[]),
@@ -96,13 +96,13 @@ const FRAMES: &[(u8, &[u8], &[u8])] = &[
     (3, &[], &[]),
 ];
 
-/// Whether these frames entered at a customer port.
+/// Checks whether these frames entered at a customer port.
 fn came(alloc: Global, record: &Record, port: u8, wanted: &[u8]) -> Result<bool, Memory> {
     let frames = entered(alloc, record, port)?;
     Ok(are(&frames, wanted))
 }
 
-/// Whether these frames left there.
+/// Checks whether these frames left at a customer port.
 fn went(alloc: Global, record: &Record, port: u8, wanted: &[u8]) -> Result<bool, Memory> {
     let frames = left(alloc, record, port)?;
     Ok(are(&frames, wanted))
@@ -118,7 +118,7 @@ fn frames_enter_and_leave(rt: HostRuntime) -> Result<(), Fail> {
     Ok(())
 }
 
-/// Whether the copy of an item is equal to it.
+/// Checks whether the copy of an item is equal to it.
 fn copies(alloc: Global) -> Result<bool, AllocError> {
     let first = item(alloc, 3, 9)?;
     let copy = first.clone()?;

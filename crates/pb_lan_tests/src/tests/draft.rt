@@ -11,14 +11,14 @@ pub(super) struct Bridge {
     pub(super) queue: u16,
 }
 
-/// An end of a link, which is Forwarding where the plan gives the states.
+/// An end of a link, which is Forwarding if the plan gives the states.
 #[derive(Clone, Copy)]
 pub(super) struct Side {
     pub(super) bridge: u8,
     pub(super) port: u8,
     pub(super) cost: u32,
     pub(super) priority: u8,
-    /// The services that it lists; None where it takes all.
+    /// The services that it lists, or None if it takes all.
     pub(super) services: Option<&'static [u8]>,
 }
 
@@ -30,7 +30,7 @@ pub(super) struct Joint {
     pub(super) b: Side,
     /// The numbers of the items that are lost from a to b.
     pub(super) lost_ab: &'static [u64],
-    /// The same from b to a.
+    /// The numbers of the items that are lost from b to a.
     pub(super) lost_ba: &'static [u64],
 }
 
@@ -52,7 +52,7 @@ pub(super) struct Site {
     pub(super) queue: u16,
 }
 
-/// What a plan has behind the others of its kind.
+/// An item that a plan has after the others of its kind.
 #[derive(Clone, Copy)]
 pub(super) enum More {
     Nothing,

@@ -5,7 +5,7 @@ use std::process::Abort;
 
 const NUMBERS: &[u64] = &[0, 1, 255, 256, u64::MAX];
 
-/// Whether the frame number of a number is that number, and equal to another one of it.
+/// Checks whether the frame number of a number is that number, and equal to another one of it.
 fn is_its_number(number: u64) -> bool {
     FrameNumber::new(number).get() == number && FrameNumber::new(number) == FrameNumber::new(number)
 }

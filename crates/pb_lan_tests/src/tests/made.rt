@@ -4,12 +4,12 @@ use super::draft::{Bridge, Draft, Joint, More, Service, Side, Site};
 use pb_lan::{BridgePlan, CustomerPlan, End, LinkPlan, Plan, PortState, Seq, ServicePlan, Text};
 use std::alloc::{AllocError, Global};
 
-/// A name.
+/// Returns a name.
 fn text(alloc: Global, name: &str) -> Result<Text, AllocError> {
     Ok(Text::from_string(String::from_str(alloc, name)?))
 }
 
-/// A copy of a list.
+/// Returns a copy of a list.
 pub(super) fn seq<T: Copy>(alloc: Global, items: &[T]) -> Result<Seq<T>, AllocError> {
     Ok(Seq::from_vec(Vec::from_slice(alloc, items)?))
 }
@@ -23,7 +23,7 @@ fn bridge(alloc: Global, bridge: Bridge) -> Result<BridgePlan, AllocError> {
     })
 }
 
-/// The services that an end lists.
+/// Returns the services that an end lists.
 fn listed(alloc: Global, side: Side) -> Result<Option<Seq<u8>>, AllocError> {
     match side.services {
         Some(services) => Ok(Some(seq(alloc, services)?)),
@@ -114,7 +114,7 @@ fn customers(alloc: Global, draft: &Draft) -> Result<Seq<CustomerPlan>, AllocErr
     Ok(Seq::from_vec(customers))
 }
 
-/// The plan of a draft.
+/// Returns the plan of a draft.
 pub(super) fn plan_of(alloc: Global, draft: &Draft) -> Result<Plan, AllocError> {
     Ok(Plan {
         bridges: bridges(alloc, draft)?,

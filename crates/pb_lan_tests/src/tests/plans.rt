@@ -7,13 +7,13 @@ use std::alloc::{AllocError, Global};
 use std::process::Abort;
 use std::test::Fail;
 
-/// Whether the plan of a draft is sound.
+/// Checks whether the plan of a draft is sound.
 pub(super) fn is_sound(alloc: Global, draft: &Draft) -> Result<bool, AllocError> {
     let plan = plan_of(alloc, draft)?;
     Ok(plan_is_sound(&plan))
 }
 
-/// The plan of a draft is sound, or it is not.
+/// Returns the plan of a draft is sound, or it is not.
 pub(super) fn stands(
     rt: &impl Abort,
     alloc: Global,
@@ -84,7 +84,7 @@ fn the_limits_themselves_are_sound(rt: HostRuntime) -> Result<(), Fail> {
     stands(&rt, rt.alloc(), &LIMITS, true, "limits")
 }
 
-/// Whether the copy of a draft's plan is equal to it.
+/// Checks whether the copy of a draft's plan is equal to it.
 fn copies(alloc: Global, draft: &Draft) -> Result<bool, AllocError> {
     let plan = plan_of(alloc, draft)?;
     let copy = plan.clone()?;

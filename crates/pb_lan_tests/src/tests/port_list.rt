@@ -8,7 +8,7 @@ use std::test::Fail;
 /// All local ports of a bridge.
 const ALL: [u8; 16] = [1, 2, 3, 4, 5, 6, 7, 8, 9, 10, 11, 12, 13, 14, 15, 16];
 
-/// Whether a list has these ports, in this order.
+/// Checks whether a list has these ports, in this order.
 fn has(list: &PortList, ports: &[u8]) -> bool {
     list.as_slice() == ports
 }
@@ -35,7 +35,7 @@ fn lists_of_the_same_ports_are_equal(rt: HostRuntime) {
     assert!(rt; ports == others);
 }
 
-/// Whether a set and its copies have these ports.
+/// Checks whether a set and its copies have these ports.
 fn all_have(set: &PortSet, ports: &[u8]) -> Result<bool, AllocError> {
     let copy = set.clone()?;
     Ok(has(&set.list(), ports) && has(&set.copied().list(), ports) && has(&copy.list(), ports))
@@ -51,7 +51,7 @@ fn a_set_has_its_ports(rt: HostRuntime) -> Result<(), Fail> {
     Ok(())
 }
 
-/// Whether the ports of a slice are taken for a set, which then has just these.
+/// Checks whether the ports of a slice make a set, which has exactly these.
 fn is_set(ports: &[u8]) -> bool {
     PortSet::from_slice(ports).is_some_and(|set| set.list().as_slice() == ports)
 }
@@ -69,7 +69,7 @@ fn a_set_is_taken_of_local_ports_that_ascend(rt: HostRuntime) {
     }
 }
 
-/// Whether the sets of two slices are equal.
+/// Checks whether the sets of two slices are equal.
 fn same(ports: &[u8], others: &[u8]) -> bool {
     PortSet::from_slice(ports) == PortSet::from_slice(others)
 }
@@ -81,18 +81,18 @@ fn sets_of_the_same_ports_are_equal(rt: HostRuntime) {
     assert!(rt; !same(&[1, 3], &[1]));
 }
 
-/// Whether refusals have these ports and causes, in this order.
+/// Checks whether refusals have these ports and causes, in this order.
 fn name(refusals: &Refusals, all: &[(u8, NoRoom)]) -> bool {
     refusals.list().as_slice() == all
 }
 
-/// Whether refusals and their copies have these ports and causes.
+/// Checks whether refusals and their copies have these ports and causes.
 fn all_name(refusals: &Refusals, all: &[(u8, NoRoom)]) -> Result<bool, AllocError> {
     let copy = refusals.clone()?;
     Ok(name(refusals, all) && name(&refusals.copied(), all) && name(&copy, all))
 }
 
-/// Port 1 was refused for want of memory, and port 16 for want of room.
+/// Port 1 was refused because an allocation failed, and port 16 because the queue was full.
 const ALL_NAMED: &[(u8, NoRoom)] = &[(1, NoRoom::Memory), (16, NoRoom::Full)];
 
 #[test]
@@ -106,7 +106,7 @@ fn refusals_have_their_ports_and_causes(rt: HostRuntime) -> Result<(), Fail> {
     Ok(())
 }
 
-/// Whether the ports and causes of a slice are taken for refusals, which then have just these.
+/// Checks whether the ports and causes of a slice make refusals, which have exactly these.
 fn are_refusals(all: &[(u8, NoRoom)]) -> bool {
     Refusals::from_slice(all).is_some_and(|refusals| name(&refusals, all)
         && refusals.is_empty() == all.is_empty())
@@ -129,7 +129,7 @@ fn refusals_are_taken_of_local_ports_that_ascend(rt: HostRuntime) {
     }
 }
 
-/// Whether the refusals of a slice equal those of port 2 alone, for want of room.
+/// Checks whether the refusals of a slice equal those of port 2 alone, because the queue was full.
 fn is_full(all: &[(u8, NoRoom)]) -> bool {
     Refusals::from_slice(&[(2, NoRoom::Full)]) == Refusals::from_slice(all)
 }

@@ -13,7 +13,7 @@ const D: PortState = PortState::Discarding;
 
 const F: PortState = PortState::Forwarding;
 
-/// Whether the ports of all bridges have these states.
+/// Checks whether the ports of all bridges have these states.
 fn are(shape: &Shape, wanted: &[&[PortState]]) -> bool {
     let bridges = shape.states.as_slice();
     for (bridge, states) in bridges.iter().zip(wanted) {
@@ -24,7 +24,7 @@ fn are(shape: &Shape, wanted: &[&[PortState]]) -> bool {
     bridges.len() == wanted.len()
 }
 
-/// Whether the plan of a draft is sound, and its ports start so.
+/// Checks whether the plan of a draft is sound, and its ports have these states at the start.
 fn start(alloc: Global, draft: &Draft, wanted: &[&[PortState]]) -> Result<bool, Memory> {
     let plan = plan_of(alloc, draft)?;
     if !plan_is_sound(&plan) {
@@ -60,7 +60,7 @@ fn provider_ports_start_discarding_under_the_spanning_tree(rt: HostRuntime) -> R
     Ok(())
 }
 
-/// The state that a port changed to, and the port where what was learnt is forgotten.
+/// Returns a change of these ports' states, with these ports flushed.
 fn moved(alloc: Global, states: &[(u8, PortState)], flushed: &[u8]) -> Result<Moved, AllocError> {
     let states = seq(alloc, states)?;
     let flushed = seq(alloc, flushed)?;
@@ -72,7 +72,7 @@ fn moved(alloc: Global, states: &[(u8, PortState)], flushed: &[u8]) -> Result<Mo
     })
 }
 
-/// The steps of a bridge whose port 1 went down.
+/// Returns the steps of a bridge whose port 1 was disabled.
 fn went_down(alloc: Global) -> Result<Vec<Step>, AllocError> {
     const STATES: &[(u8, PortState)] = &[(1, D)];
     let mut steps = Vec::new(alloc);
@@ -84,7 +84,7 @@ fn went_down(alloc: Global) -> Result<Vec<Step>, AllocError> {
     Ok(steps)
 }
 
-/// The steps of two bridges: port 1 of the first went down.
+/// Returns the steps of two bridges: port 1 of the first was disabled.
 fn steps(alloc: Global) -> Result<Vec<Seq<Step>>, AllocError> {
     let mut bridges = Vec::new(alloc);
     bridges.push(Seq::from_vec(went_down(alloc)?))?;
@@ -92,7 +92,7 @@ fn steps(alloc: Global) -> Result<Vec<Seq<Step>>, AllocError> {
     Ok(bridges)
 }
 
-/// The record in which port 1 of the first bridge went down.
+/// Returns the record in which port 1 of the first bridge was disabled.
 fn record(alloc: Global) -> Result<Record, AllocError> {
     let bridges = steps(alloc)?;
     Ok(Record {
@@ -102,7 +102,7 @@ fn record(alloc: Global) -> Result<Record, AllocError> {
     })
 }
 
-/// Whether the plan of a draft is sound, and its ports stand so at the end of the record.
+/// Checks whether the plan of a draft is sound, and its ports have these states at the end of the record.
 fn end(
     alloc: Global,
     draft: &Draft,

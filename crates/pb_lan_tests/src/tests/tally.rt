@@ -1,4 +1,4 @@
-//! What is counted of steps, where each is kept and where none is.
+//! The counts of steps, kept and only counted.
 
 use bytes::Bytes;
 use pb_history::{CauseCounts, Steps, Tally};
@@ -9,22 +9,22 @@ use std::alloc::{AllocError, Global};
 use std::process::Abort;
 use std::test::Fail;
 
-/// A step, of which the tests name what is counted.
+/// A step, of which the tests name the counted parts.
 #[derive(Clone, Copy)]
 enum CountedStep {
     Poll,
     Feed,
     Deliver { gone: bool },
     Take { lost: bool },
-    /// Relayed to the ports 2 and 4, of which the last had no room.
+    /// Relayed to the ports 2 and 4. The queue of the last was full.
     Relay,
     /// Filtered at a port, and its source not learnt.
     Filter(u8),
-    /// The clock went on: a port came to a state, and a BPDU found no room at port 1.
+    /// The clock ticked: a port changed its state, and a BPDU was lost because the queue of port 1 was full.
     Tick(u8, PortState),
 }
 
-/// A frame of a bridge's own.
+/// Returns a frame of a bridge's own.
 fn item() -> Item {
     Item {
         mark: None,
@@ -33,7 +33,7 @@ fn item() -> Item {
     }
 }
 
-/// What changed at a port.
+/// Returns the change at a port.
 fn moved(alloc: Global, port: u8, state: PortState) -> Result<Moved, AllocError> {
     let states = Seq::from_vec(Vec::from_slice(alloc, &[(port, state)])?);
     let dropped = Seq::from_vec(Vec::from_slice(alloc, &[(1, NoRoom::Memory)])?);
@@ -45,14 +45,14 @@ fn moved(alloc: Global, port: u8, state: PortState) -> Result<Moved, AllocError>
     })
 }
 
-/// What a received frame was relayed to.
+/// Returns the outcome of a relayed frame.
 fn relayed() -> Outcome {
     let chosen = PortSet::from_slice(&[2, 4]).unwrap_or(PortSet::new());
     let refused = Refusals::from_slice(&[(4, NoRoom::Full)]).unwrap_or(Refusals::new());
     Outcome::Relayed { chosen, refused }
 }
 
-/// A received frame.
+/// Returns a received frame.
 fn received(port: u8, learnt: Option<Learnt>, outcome: Outcome) -> Step {
     Step::Receive {
         port,
@@ -124,7 +124,7 @@ const fn causes(full: u128, memory: u128) -> CauseCounts {
     CauseCounts { full, memory }
 }
 
-/// The steps are counted.
+/// Returns the steps are counted.
 fn are_counted(rt: &impl Abort, tally: &Tally) {
     assert_eq!(rt; tally.len(), 14);
     assert_eq!(rt; (tally.entered(), tally.left(), tally.gone()), (2, 1, 1));

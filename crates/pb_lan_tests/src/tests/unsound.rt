@@ -9,7 +9,7 @@ use std::alloc::Global;
 use std::process::Abort;
 use std::test::Fail;
 
-/// The plan of a draft is unsound with each of these more, for what is told.
+/// Checks that the plan of a draft is unsound with each of these items added, with the expected error.
 fn all_break(
     rt: &impl Abort,
     alloc: Global,
@@ -232,7 +232,7 @@ fn unsound_customers(rt: HostRuntime) -> Result<(), Fail> {
     all_break(&rt, rt.alloc(), &ONE_CUSTOMER, ROWS)
 }
 
-/// The plan of a draft is unsound with each of these ageing times, rooms between places and steps of a place.
+/// Returns the plan of a draft is unsound with each of these ageing times, rooms between places and steps of a place.
 fn numbers_break(
     rt: &impl Abort,
     alloc: Global,

@@ -6,7 +6,7 @@ use std::alloc::{AllocError, Global};
 use std::process::Abort;
 use std::test::Fail;
 
-/// What bridge 32768/02-00-00-00-00-01 sends on its port 1 at first.
+/// The first BPDU of bridge 32768/02-00-00-00-00-01 on its port 1.
 const PROPOSAL: [u8; 53] = [
     0x01, 0x80, 0xc2, 0x00, 0x00, 0x08, 0x02, 0x00, 0x00, 0x00, 0x00, 0x01, 0x00, 0x27, 0x42, 0x42,
     0x03, 0x00, 0x00, 0x02, 0x02, 0x0e, 0x80, 0x00, 0x02, 0x00, 0x00, 0x00, 0x00, 0x01, 0x00, 0x00,
@@ -14,7 +14,7 @@ const PROPOSAL: [u8; 53] = [
     0x02, 0x00, 0x0f, 0x00, 0x00,
 ];
 
-/// What bridge 32768/02-00-00-00-00-02 at the other end answers.
+/// The reply of bridge 32768/02-00-00-00-00-02 at the other end.
 const ANSWER: [u8; 53] = [
     0x01, 0x80, 0xc2, 0x00, 0x00, 0x08, 0x02, 0x00, 0x00, 0x00, 0x00, 0x02, 0x00, 0x27, 0x42, 0x42,
     0x03, 0x00, 0x00, 0x02, 0x02, 0x79, 0x80, 0x00, 0x02, 0x00, 0x00, 0x00, 0x00, 0x01, 0x00, 0x00,
@@ -60,7 +60,7 @@ fn answer() -> Bpdu {
     }
 }
 
-/// Whether a BPDU is written so by the bridge with an address that ends in this octet.
+/// Checks whether the bridge with an address that ends in this octet writes a BPDU as these octets.
 fn is_written(alloc: Global, last: u8, bpdu: &Bpdu, wanted: &[u8]) -> Result<bool, Memory> {
     let frame = write(alloc, Mac([2, 0, 0, 0, 0, last]), bpdu)?;
     Ok(frame.as_slice() == wanted)
@@ -73,7 +73,7 @@ fn writes_what_is_sent(rt: HostRuntime) -> Result<(), Fail> {
     Ok(())
 }
 
-/// Whether a frame is read as this BPDU.
+/// Checks whether a frame is read as this BPDU.
 fn is_read(frame: &[u8], wanted: &Bpdu) -> bool {
     match read(frame) {
         Ok(bpdu) => bpdu == *wanted,
@@ -81,7 +81,7 @@ fn is_read(frame: &[u8], wanted: &Bpdu) -> bool {
     }
 }
 
-/// Whether a frame is refused for this, or else read as the proposal.
+/// Checks whether a frame is refused for this fault, or read as the proposal if there is none.
 fn is_told(frame: &[u8], wanted: Option<BpduFault>) -> bool {
     match read(frame) {
         Ok(bpdu) => wanted.is_none() && bpdu == proposal(),
@@ -95,7 +95,7 @@ fn reads_what_is_sent(rt: HostRuntime) {
     assert!(rt; is_read(&ANSWER, &answer()));
 }
 
-/// The proposal with another octet at a place, and with octets behind it.
+/// Returns the proposal with another octet at an index, and with octets after it.
 fn changed(alloc: Global, place: usize, octet: u8, behind: &[u8]) -> Result<Vec<u8>, AllocError> {
     let mut frame = Vec::from_slice(alloc, &PROPOSAL)?;
     if place < frame.len() {
@@ -105,17 +105,17 @@ fn changed(alloc: Global, place: usize, octet: u8, behind: &[u8]) -> Result<Vec<
     Ok(frame)
 }
 
-/// A place, an octet there, what stands behind the frame, and what is told.
+/// An index, an octet there, the octets after the frame, and the fault.
 type Row = (usize, u8, &'static [u8], Option<BpduFault>);
 
-/// Whether that is told of the proposal with another octet at a place, and with octets behind it.
+/// Checks whether the fault is that of the proposal with another octet at an index, and with octets after it.
 fn holds(alloc: Global, row: &Row) -> Result<bool, AllocError> {
     let (place, octet, behind, wanted) = *row;
     let frame = changed(alloc, place, octet, behind)?;
     Ok(is_told(&frame, wanted))
 }
 
-/// Each row holds.
+/// Checks that each row holds.
 fn all_hold(rt: &impl Abort, alloc: Global, rows: &[Row]) -> Result<(), Fail> {
     for (number, row) in rows.iter().enumerate() {
         assert!(rt; holds(alloc, row)?, "row {number}");
@@ -161,7 +161,7 @@ fn a_frame_without_link_control_is_told(rt: HostRuntime) {
     assert!(rt; is_told(&PROPOSAL[..16], Some(BpduFault::Llc)));
 }
 
-/// What is told of the proposal with this length, where all octets are there.
+/// Returns the fault of the proposal with this length, if all octets are there.
 fn told_by(length: u8) -> Option<BpduFault> {
     match length {
         0..=2 => Some(BpduFault::Llc),
@@ -170,7 +170,7 @@ fn told_by(length: u8) -> Option<BpduFault> {
     }
 }
 
-/// Whether the proposal is told of by this length, and where an octet is missing as cut.
+/// Checks whether the proposal has the right fault with this length, and is cut if an octet is missing.
 fn is_read_by(alloc: Global, length: u8) -> Result<bool, AllocError> {
     let frame = changed(alloc, 13, length, &[0; 21])?;
     let end = 14 + length as usize;

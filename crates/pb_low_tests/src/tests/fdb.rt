@@ -1,4 +1,4 @@
-//! Learning tables, and a plain list that is told the same.
+//! Learning tables, compared with a plain list.
 
 mod both;
 mod plain;
@@ -46,7 +46,7 @@ fn stations_age_out_after_300_ticks(rt: HostRuntime) {
     Timed::new(rt.alloc(), 4096, 300).walk(&rt, ROWS);
 }
 
-/// The first station, as it was seen last.
+/// The entry of the first station at its last sighting.
 const FIRST: Entry = Entry {
     vid: 5,
     mac: ONE,
@@ -54,7 +54,7 @@ const FIRST: Entry = Entry {
     learnt: 2,
 };
 
-/// The second station, once it has moved.
+/// The entry of the second station after it has moved.
 const SECOND: Entry = Entry {
     vid: 5,
     mac: TWO,

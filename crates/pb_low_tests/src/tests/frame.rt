@@ -8,7 +8,7 @@ use pb_frame::{FrameFault, Mac, Memory, Tci, destination_of, index_of, source_of
 use std::alloc::{AllocError, Global};
 use std::test::Fail;
 
-/// Whether a frame has these addresses, this type and this rest.
+/// Checks whether a frame has these addresses, this type and this payload.
 fn has_parts(frame: &[u8], dst: Mac, src: Mac, kind: u16, rest: &[u8]) -> bool {
     match view(frame) {
         Ok(parts) => {
@@ -46,13 +46,13 @@ fn numbers_begin_at_1(rt: HostRuntime) {
     assert!(rt; index_of(1) == 0 && index_of(255) == 254);
 }
 
-/// What is wrong with a frame of so many octets, all 7.
+/// Returns the fault of a frame of this many octets, all 7.
 fn fault_of(alloc: Global, octets: usize) -> Result<Option<FrameFault>, AllocError> {
     let frame = vec![in alloc; 7u8; octets]?;
     Ok(view(&frame).err())
 }
 
-/// Lengths of frames, and what is wrong with each.
+/// Lengths of frames, and the fault of each.
 const LENGTHS: &[(usize, Option<FrameFault>)] = &[
     (13, Some(FrameFault::Short)),
     (14, None),
@@ -68,7 +68,7 @@ fn frames_have_14_to_1996_octets(rt: HostRuntime) -> Result<(), Fail> {
     Ok(())
 }
 
-/// Whether a control has this value, and is read from it.
+/// Checks whether a control has this value, and is read from it.
 fn has_value(tci: Tci, value: u16) -> bool {
     tci.value() == value && Tci::of(value) == tci
 }
@@ -104,7 +104,7 @@ fn addresses_are_read(rt: HostRuntime) {
     }
 }
 
-/// Whether an address is written so.
+/// Checks whether an address is written as this text.
 fn is_written(alloc: Global, address: Mac, wanted: &str) -> Result<bool, Memory> {
     let text = address.text(alloc)?;
     Ok(text.as_str() == wanted)

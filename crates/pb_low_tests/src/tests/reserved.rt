@@ -3,7 +3,7 @@
 use pb_frame::Mac;
 use pb_reserved::{Fate, fate};
 
-/// Last octets of addresses 01-80-C2-00-00-XX, and what becomes of frames to these.
+/// Last octets of addresses 01-80-C2-00-00-XX, and the fate of frames to these.
 const FATES: &[(u8, Fate)] = &[
     (0, Fate::Carry),
     (1, Fate::Filter(1)),

@@ -6,12 +6,12 @@ use std::alloc::{AllocError, Global};
 use std::process::Abort;
 use std::test::Fail;
 
-/// The number of a VID, if there is one.
+/// Returns the number of a VID, if there is one.
 fn number_of(vid: Option<Vid>) -> Option<u16> {
     Some(vid?.number())
 }
 
-/// Numbers, and what the VID of each says, if there is one.
+/// Numbers, and the VID of each, if there is one.
 const VIDS: &[(u16, Option<u16>)] = &[(0, None), (4095, None), (1, Some(1)), (4094, Some(4094))];
 
 #[test]
@@ -24,18 +24,18 @@ fn vids_run_from_1_to_4094(rt: HostRuntime) {
 /// The priority of a frame that enters, and whether a tag is cut; or why it is refused.
 type Entered = Result<(u8, bool), Reason>;
 
-/// What is done with services, or seen of them.
+/// A change of services, or a check of them.
 #[derive(Clone, Copy)]
 enum Row {
-    /// A service is added by its name and VID, with this answer.
+    /// A service is added by its name and VID, with this result.
     Adds(&'static str, u16, Result<u8, AddFault>),
-    /// So many services are added, from VID 1 on.
+    /// This many services are added, from VID 1 on.
     AddsFirst(u8),
-    /// There are so many services.
+    /// There are this many services.
     Counts(usize),
-    /// A port joins a service at a priority, with this answer.
+    /// A port joins a service at a priority, with this result.
     Joins(u8, u8, u8, Result<(), JoinFault>),
-    /// A port is made a trunk, of all services or of those listed, with this answer.
+    /// A port is made a trunk, of all services or of those listed, with this result.
     Trunks(u8, Option<&'static [u8]>, Result<(), JoinFault>),
     /// These ports are the members of a VID.
     Members(u16, &'static [u8]),
@@ -47,13 +47,13 @@ enum Row {
     Priority(u8, Option<u8>),
     /// The VID at a port.
     VidAt(u8, Option<u16>),
-    /// What becomes, at port 1, of a frame of this length to 02-00-00-00-00-05, with these octets behind its addresses.
+    /// A frame of this length to 02-00-00-00-00-05, with these octets after its addresses, has this result at port 1.
     Enters(usize, &'static [u8], Entered),
-    /// The same, of a frame to 01-80-C2-00-00-XX that has no more octets.
+    /// A frame to 01-80-C2-00-00-XX, with no octets after these, has this result at port 1.
     EntersTo(u8, &'static [u8], Entered),
 }
 
-/// Whether a service is added with this answer.
+/// Checks whether a service is added with this result.
 fn adds(
     alloc: Global,
     services: &mut Services,
@@ -67,13 +67,13 @@ fn adds(
     }
 }
 
-/// Whether a service with this number and VID is added.
+/// Checks whether a service with this number and VID is added.
 fn adds_number(alloc: Global, services: &mut Services, number: u8) -> Result<bool, Memory> {
     let name = format!(in alloc; "service {number}")?;
     Ok(adds(alloc, services, &name, u16::from(number), Ok(number)))
 }
 
-/// Whether so many services are added.
+/// Checks whether this many services are added.
 fn adds_first(alloc: Global, services: &mut Services, count: u8) -> Result<bool, Memory> {
     for number in 1..=count {
         if !adds_number(alloc, services, number)? {
@@ -83,7 +83,7 @@ fn adds_first(alloc: Global, services: &mut Services, count: u8) -> Result<bool,
     Ok(true)
 }
 
-/// Whether these ports are the members of a VID.
+/// Checks whether these ports are the members of a VID.
 fn has_members(
     alloc: Global,
     services: &Services,
@@ -94,7 +94,7 @@ fn has_members(
     Ok(ports.as_slice() == wanted)
 }
 
-/// A frame to an address, with these octets behind its addresses and zeros up to this length.
+/// Returns a frame to an address, with these octets after its addresses and zeros up to this length.
 fn frame(alloc: Global, to: [u8; 6], behind: &[u8], length: usize) -> Result<Vec<u8>, AllocError> {
     let mut octets = Vec::from_slice(alloc, &to)?;
     octets.extend_from_slice(&[2, 0, 0, 0, 0, 6])?;
@@ -103,7 +103,7 @@ fn frame(alloc: Global, to: [u8; 6], behind: &[u8], length: usize) -> Result<Vec
     Ok(octets)
 }
 
-/// What becomes of a frame at port 1.
+/// Returns the result of a frame at port 1.
 fn entered(services: &Services, frame: &[u8]) -> Entered {
     if services.vid_at(1).is_none() {
         return Ok((9, false));
@@ -112,7 +112,7 @@ fn entered(services: &Services, frame: &[u8]) -> Entered {
     Ok((entered.pcp, entered.cut))
 }
 
-/// Whether this becomes of a frame to an address.
+/// Checks whether this becomes of a frame to an address.
 fn enters(
     alloc: Global,
     services: &Services,
@@ -123,7 +123,7 @@ fn enters(
     Ok(entered(services, &octets) == wanted)
 }
 
-/// Whether a row is as it is told.
+/// Checks whether a row holds.
 fn holds(alloc: Global, services: &mut Services, row: Row) -> Result<bool, Memory> {
     match row {
         Row::AddsFirst(count) => adds_first(alloc, services, count),
@@ -148,7 +148,7 @@ fn holds(alloc: Global, services: &mut Services, row: Row) -> Result<bool, Memor
     }
 }
 
-/// The same, of a row by which nothing else is made.
+/// Checks whether a row that makes nothing else holds.
 fn is_so(alloc: Global, services: &mut Services, row: Row) -> bool {
     match row {
         Row::Adds(name, number, wanted) => adds(alloc, services, name, number, wanted),
@@ -165,7 +165,7 @@ fn is_so(alloc: Global, services: &mut Services, row: Row) -> bool {
     }
 }
 
-/// Each row is as it is told of services that are none at first, one after the other.
+/// Checks that the rows hold one after the other, of services that are none at first.
 fn all_hold(rt: &impl Abort, alloc: Global, rows: &[Row]) -> Result<(), Fail> {
     let mut services = Services::new(alloc);
     for (number, row) in rows.iter().enumerate() {

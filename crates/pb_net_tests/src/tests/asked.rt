@@ -1,16 +1,16 @@
-//! What rows do to a network.
+//! The actions of rows on a network.
 
 use super::draft::{Draft, Port};
 use bytes::Bytes;
 use pb_net::{Did, Event, Net};
 
-/// Whether the event's place takes a step.
+/// Checks whether the event's place takes a step.
 pub(super) fn does(net: &mut Net, event: Event) -> bool {
     let place = event.place();
     net.step(event) == Ok(Did::Done(place))
 }
 
-/// A frame comes in at a customer port, and its bridge receives it.
+/// Polls a frame at a customer port, and lets its bridge receive it. Returns whether each step was taken.
 pub(super) fn enters(net: &mut Net, draft: &Draft, customer: u8, frame: Bytes) -> bool {
     let Some((bridge, port)) = draft.site_of(customer) else {
         return false;
@@ -24,7 +24,8 @@ pub(super) fn enters(net: &mut Net, draft: &Draft, customer: u8, frame: Bytes) -
         && does(net, Event::Receive { bridge, port })
 }
 
-/// The bridge where a lane begins sends an item, and the bridge where it ends receives it.
+/// Lets the bridge at a lane's beginning transmit an item, and the bridge at its end receive it. Returns whether each
+/// step was taken.
 pub(super) fn crosses(net: &mut Net, draft: &Draft, lane: u8) -> bool {
     let Some((from, to)) = draft.ends_of(lane) else {
         return false;
@@ -37,7 +38,7 @@ pub(super) fn crosses(net: &mut Net, draft: &Draft, lane: u8) -> bool {
     sent && does(net, Event::Receive { bridge, port })
 }
 
-/// A bridge sends an item to a customer port, which delivers it.
+/// Returns a bridge sends an item to a customer port, which delivers it.
 pub(super) fn leaves(net: &mut Net, draft: &Draft, customer: u8) -> bool {
     let Some((bridge, port)) = draft.site_of(customer) else {
         return false;
@@ -45,7 +46,7 @@ pub(super) fn leaves(net: &mut Net, draft: &Draft, customer: u8) -> bool {
     does(net, Event::Transmit { bridge, port }) && does(net, Event::Deliver { port: customer })
 }
 
-/// One item, if one waits, goes on at each part of a lane; whether one did.
+/// Moves one item, if one waits, at each part of a lane. Returns whether one moved.
 fn goes_on(net: &mut Net, lane: u8, ends: (Port, Port)) -> bool {
     let (from, to) = ends;
     let (bridge, port) = from;
@@ -57,7 +58,7 @@ fn goes_on(net: &mut Net, lane: u8, ends: (Port, Port)) -> bool {
     sent | taken | put | received
 }
 
-/// One frame, if one waits, goes in and out at a customer port; whether one did.
+/// Feeds and delivers one frame, if one waits, at a customer port. Returns whether one moved.
 fn goes_through(net: &mut Net, customer: u8, at: Port) -> bool {
     let (bridge, port) = at;
     let fed = does(net, Event::Feed { port: customer });
@@ -67,7 +68,7 @@ fn goes_through(net: &mut Net, customer: u8, at: Port) -> bool {
     fed | received | sent | delivered
 }
 
-/// Each lane and each customer port is asked once; whether something went on.
+/// Visits each lane and each customer port once. Returns whether something moved.
 fn turns(net: &mut Net, draft: &Draft) -> bool {
     let mut moved = false;
     for number in 1..=128u8 {
@@ -81,7 +82,7 @@ fn turns(net: &mut Net, draft: &Draft) -> bool {
     moved
 }
 
-/// All is carried to where it goes, and what that sends, too; whether nothing waits at the end.
+/// Carries all that is on its way to its end. Returns whether nothing waits then.
 pub(super) fn empties(net: &mut Net, draft: &Draft) -> bool {
     for _turn in 0..400u16 {
         if !turns(net, draft) {
@@ -91,7 +92,7 @@ pub(super) fn empties(net: &mut Net, draft: &Draft) -> bool {
     false
 }
 
-/// Each bridge ticks once, and all is carried to where it goes.
+/// Ticks each bridge once, and carries all that is on its way to its end.
 fn round(net: &mut Net, draft: &Draft) -> bool {
     for bridge in 1..=draft.bridges {
         if !does(net, Event::Tick { bridge }) {
@@ -101,7 +102,7 @@ fn round(net: &mut Net, draft: &Draft) -> bool {
     empties(net, draft)
 }
 
-/// So many rounds.
+/// Runs this many rounds.
 pub(super) fn rounds(net: &mut Net, draft: &Draft, count: u8) -> bool {
     for _round in 0..count {
         if !round(net, draft) {

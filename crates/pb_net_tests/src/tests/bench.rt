@@ -1,4 +1,4 @@
-//! A test bench, which asks of a finished record what the laws of records rest on.
+//! A test bench that checks the premises of the laws on a finished record.
 
 ghost use Rattle.std.specs.Prelude.{IfOk};
 ghost use Rattle.pb_forest.specs.Benches.{CanArrive, TellsDelivered};
@@ -20,10 +20,9 @@ use pb_lan::{
 use std::alloc::Global;
 use std::test::Fail;
 
-/// Whether the active links of the service are a forest at the end of the record, and no customer's
-/// frame is left on its way. Then each frame of the service that was handled under that shape, and
-/// neither refused nor lost, left each other port of its tree as often as it should: a broadcast
-/// once.
+/// Checks whether the active links of the service are a forest at the end of the record, and no customer's frame is on
+/// its way. Each frame of the service that was handled under that shape, and neither refused nor lost, then left each
+/// other port of its tree as often as it should: a broadcast once.
 fn arrives(alloc: Global, plan: &Plan, counts: &Tallies, service: u8) -> Result<bool, Memory>
     requires { IsSound plan.now }
     ensures { IfOk result (TellsDelivered plan.now (last_shape plan.now counts.now) counts.now service) }
@@ -36,9 +35,9 @@ fn arrives(alloc: Global, plan: &Plan, counts: &Tallies, service: u8) -> Result<
     Ok(is_drained(counts))
 }
 
-/// Whether the active links of the service are a forest at the start, and no customer's frame is left on its
-/// way. Then, where the plan gives the states and no port was set up or down, each frame of the service that was
-/// neither refused nor lost left each other port of its tree as often as it should: no shape is asked about.
+/// Checks whether the active links of the service are a forest at the start, and no customer's frame is on its way. If
+/// the plan gives the states and no port was enabled or disabled, each frame of the service that was neither refused
+/// nor lost then left each other port of its tree as often as it should, whatever the shape.
 fn all_arrive(alloc: Global, plan: &Plan, counts: &Tallies, service: u8) -> Result<bool, Memory>
     requires { IsSound plan.now }
     ensures { IfOk result (TellsAllDelivered plan.now counts.now service) }
@@ -53,7 +52,7 @@ fn all_arrive(alloc: Global, plan: &Plan, counts: &Tallies, service: u8) -> Resu
     Ok(is_drained(counts))
 }
 
-/// What the law asks can all be met: a broadcast that goes over a link meets it.
+/// Shows that the premises of the law can all be met: a broadcast over a link meets them.
 fn broadcasts_can_arrive()
     ensures { CanArrive }
 {}
@@ -61,7 +60,7 @@ fn broadcasts_can_arrive()
 /// A broadcast of sixteen octets.
 const BROADCAST: &[u8] = &[255, 255, 255, 255, 255, 255, 2, 0, 0, 0, 1, 1, 8, 0, 65, 66];
 
-/// The same with the S-tag of red.
+/// The broadcast with the S-tag of red.
 const TAGGED: &[u8] = &[
     255, 255, 255, 255, 255, 255, 2, 0, 0, 0, 1, 1, 136, 168, 0, 100, 8, 0, 65, 66,
 ];
@@ -102,20 +101,20 @@ const ON_ITS_WAY: Done = Done {
     customers: &[AT_C1, &[], &[]],
 };
 
-/// The same network with a second link, which closes a ring.
+/// The network with a second link, which forms a loop.
 const RINGED: Draft = Draft {
     links: &[Joint::Plain((1, 1), (2, 1)), Joint::Plain((1, 3), (2, 4))],
     ..JOINED
 };
 
-/// A network, what was done in it, and whether the bench says that the frames arrived.
+/// A network, the actions in it, and whether the bench says that the frames arrived.
 const ROWS: &[(Draft, Done, bool)] = &[
     (JOINED, FINISHED, true),
     (JOINED, ON_ITS_WAY, false),
     (RINGED, FINISHED, false),
 ];
 
-/// What both benches say of red.
+/// Returns the results of both benches for red.
 fn said(alloc: Global, plan: &Plan, counts: &Tallies) -> Result<(bool, bool), Memory>
     requires { IsSound plan.now }
 {
@@ -123,7 +122,7 @@ fn said(alloc: Global, plan: &Plan, counts: &Tallies) -> Result<(bool, bool), Me
     Ok((first, all_arrive(alloc, plan, counts, 1)?))
 }
 
-/// Whether both benches say so, and the plan is sound.
+/// Checks whether both benches have this result, and the plan is sound.
 fn is_told(alloc: Global, draft: &Draft, done: &Done, wanted: bool) -> Result<bool, Memory> {
     let plan = plan_of(alloc, draft)?;
     if !plan_is_sound(&plan) {
@@ -142,7 +141,7 @@ fn a_bench_tells_what_arrived(rt: HostRuntime) -> Result<(), Fail> {
     Ok(())
 }
 
-/// Whether just the broadcast left at customer port 2.
+/// Checks whether the broadcast alone left at customer port 2.
 fn has_left(alloc: Global, rec: &Record) -> Result<bool, Memory> {
     let frames = left(alloc, rec, 2)?;
     match frames.first() {

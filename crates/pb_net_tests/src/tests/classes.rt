@@ -65,7 +65,7 @@ fn higher_classes_go_first(rt: HostRuntime) -> Result<(), Fail> {
     walks(&rt, rt.alloc(), &MIXED, ROWS)
 }
 
-/// The same, but two items wait at a port.
+/// The network with two items at most that wait at a port.
 const NARROW: Draft = Draft { queue: 2, ..MIXED };
 
 #[test]

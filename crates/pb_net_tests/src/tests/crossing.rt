@@ -19,7 +19,7 @@ fn a_customers_notice_of_change_is_carried(rt: HostRuntime) -> Result<(), Fail> 
         ),
         Row::Leaves(2),
         Row::Moved(Place::Customer(2), NOTICE),
-        // To no port of another service, and not back to its own.
+        // It goes to no port of another service, and not back to its own.
         Row::Idle(Act::Transmit(2, 3)),
         Row::Idle(Act::Transmit(1, 2)),
     ];
@@ -59,7 +59,7 @@ fn a_priority_tag_gives_its_priority(rt: HostRuntime) -> Result<(), Fail> {
             Place::Customer(2),
             b"\xff\xff\xff\xff\xff\xff\x02\0\0\0\x01\x01\x08\0AB",
         ),
-        // Whether it may be dropped first is not kept.
+        // The drop eligibility is not kept.
         Row::Enters(
             1,
             b"\xff\xff\xff\xff\xff\xff\x02\0\0\0\x01\x01\x88\xa8\xb0\0\x08\0AB",
@@ -135,7 +135,7 @@ const TWO_EACH: Draft = Draft {
 #[test]
 fn both_bridges_learn(rt: HostRuntime) -> Result<(), Fail> {
     const ROWS: &[Row] = &[
-        // A broadcast of 02-00-00-00-01-01 goes everywhere.
+        // A broadcast of 02-00-00-00-01-01 goes to all ports.
         Row::Enters(1, BROADCAST),
         Row::Ruled {
             bridge: 1,
@@ -146,7 +146,7 @@ fn both_bridges_learn(rt: HostRuntime) -> Result<(), Fail> {
             bridge: 2,
             fate: Fate::Relayed(&[2, 3]),
         },
-        // The answer of 02-00-00-00-02-02 goes to one port alone at each bridge.
+        // The reply of 02-00-00-00-02-02 goes to one port alone at each bridge.
         Row::Enters(3, b"\x02\0\0\0\x01\x01\x02\0\0\0\x02\x02\x08\0AB"),
         Row::Ruled {
             bridge: 2,
@@ -157,7 +157,7 @@ fn both_bridges_learn(rt: HostRuntime) -> Result<(), Fail> {
             bridge: 1,
             fate: Fate::Relayed(&[2]),
         },
-        // So does the answer to it.
+        // The next reply does so too.
         Row::Enters(1, b"\x02\0\0\0\x02\x02\x02\0\0\0\x01\x01\x08\0AB"),
         Row::Ruled {
             bridge: 1,

@@ -19,7 +19,7 @@ pub(super) enum Joint {
 }
 
 impl Joint {
-    /// The ports at its two ends.
+    /// Returns the ports at its two ends.
     pub(super) fn ends(self) -> (Port, Port) {
         match self {
             Joint::Plain(a, b)
@@ -29,7 +29,7 @@ impl Joint {
         }
     }
 
-    /// The services that its two ends list.
+    /// Returns the services that its two ends list.
     pub(super) fn listed(self) -> (Option<&'static [u8]>, Option<&'static [u8]>) {
         match self {
             Joint::Listed(_, a, _, b) => (a, b),
@@ -37,7 +37,7 @@ impl Joint {
         }
     }
 
-    /// What its first lane loses.
+    /// Returns the numbers of the items that its first lane loses.
     pub(super) fn losses(self) -> &'static [u64] {
         match self {
             Joint::Losing(_, _, losses) => losses,
@@ -45,7 +45,7 @@ impl Joint {
         }
     }
 
-    /// The path cost at its ends.
+    /// Returns the path cost at its ends.
     pub(super) fn cost(self) -> u32 {
         match self {
             Joint::Costly(_, _, cost) => cost,
@@ -80,14 +80,14 @@ pub(super) struct Draft {
 }
 
 impl Draft {
-    /// Where a customer port stands.
+    /// Returns the local port of a customer port.
     pub(super) fn site_of(&self, customer: u8) -> Option<Port> {
         let place = usize::from(customer).checked_sub(1)?;
         let site = self.customers.get(place)?;
         Some(site.at)
     }
 
-    /// The ports where a lane begins and ends.
+    /// Returns the ports at which a lane begins and ends.
     pub(super) fn ends_of(&self, lane: u8) -> Option<(Port, Port)> {
         let place = usize::from(lane).checked_sub(1)?;
         let (a, b) = self.links.get(place / 2)?.ends();

@@ -9,7 +9,7 @@ use std::test::Fail;
 
 const FRAME: Piece = (0, &[7]);
 
-/// What a bridge and its two customer ports did, and whether nothing is on its way.
+/// The actions of a bridge and its two customer ports, and whether nothing is on its way.
 const ROWS: &[(Done, bool)] = &[
     (
         Done {

@@ -1,8 +1,6 @@
-//! Networks that others drew.
-//!
-//! A figure orders its bridges by their addresses. Ours have the figures' order of addresses, as they rise with the
-//! bridges' numbers. A LAN with one port is left out, and the numbers of the other ports stay.
-//! The letter of each LAN stands above its link.
+//! Networks that others drew. A figure orders its bridges by their addresses, and our addresses rise with the bridges'
+//! numbers. A LAN with one port is left out, and the numbers of the other ports stay. The letter of each LAN is above
+//! its link.
 
 use super::draft::Draft;
 use pb_lan::{Place, PortState, Spanning};
@@ -24,7 +22,7 @@ pub(super) const DRAWN: Draft = Draft {
     steps: 1_000_000,
 };
 
-/// Whether a bridge has just the ports of this table that are its own, and each stands as drawn.
+/// Checks whether a bridge has exactly its ports of this table, each as drawn.
 fn stands_as(tree: &Rstp, bridge: u8, ports: &[Drawn]) -> bool {
     let cost = tree.root().cost;
     let mut count = 0usize;
@@ -41,7 +39,7 @@ fn stands_as(tree: &Rstp, bridge: u8, ports: &[Drawn]) -> bool {
     tree.roles().len() == count
 }
 
-/// Whether each port of each bridge is in the table once, and stands as drawn.
+/// Checks whether each port of each bridge is in the table once, and is as drawn.
 pub(super) fn stand_as(net: &Net, draft: &Draft, ports: &[Drawn]) -> bool {
     for bridge in 1..=draft.bridges {
         if !net.has_place(Place::Bridge(bridge)) {

@@ -1,11 +1,11 @@
-//! Events of rows, and whether steps are as rows tell them.
+//! The events of rows, and checks of steps against rows.
 
 use super::rows::{Act, Deed, Fate, Sent};
 use bytes::Bytes;
 use pb_lan::{Event, Item, Learnt, Mark, Moved, NoRoom, Outcome, PortState, Step};
 use std::alloc::{AllocError, Global};
 
-/// The event that asks for an act.
+/// Returns the event of an act.
 pub(super) fn event_of(act: Act) -> Event {
     match act {
         Act::Poll(port, octets) => Event::Poll {
@@ -23,7 +23,7 @@ pub(super) fn event_of(act: Act) -> Event {
     }
 }
 
-/// The events that ask for acts.
+/// Returns the events of acts.
 pub(super) fn events_of(alloc: Global, acts: &[Act]) -> Result<Vec<Event>, AllocError> {
     let mut events = Vec::new(alloc);
     for act in acts {
@@ -32,14 +32,14 @@ pub(super) fn events_of(alloc: Global, acts: &[Act]) -> Result<Vec<Event>, Alloc
     Ok(events)
 }
 
-/// A frame that begins so, with zeros up to this many octets.
+/// Returns a frame that begins with these octets, with zeros up to this many octets.
 pub(super) fn long(alloc: Global, head: &[u8], octets: usize) -> Result<Bytes, AllocError> {
     let mut frame = Vec::from_slice(alloc, head)?;
     frame.resize(octets, 0)?;
     Ok(Bytes::from_vec(frame)?)
 }
 
-/// Whether a frame was relayed to ports, but for those that refused.
+/// Checks whether a frame was relayed to ports, but for those that refused.
 fn is_relayed(outcome: &Outcome, ports: &[u8], refusals: &[(u8, NoRoom)]) -> bool {
     match outcome {
         Outcome::Relayed { chosen, refused } => {
@@ -49,7 +49,7 @@ fn is_relayed(outcome: &Outcome, ports: &[u8], refusals: &[(u8, NoRoom)]) -> boo
     }
 }
 
-/// Whether an outcome is this fate.
+/// Checks whether an outcome is this fate.
 pub(super) fn is_fate(outcome: &Outcome, fate: Fate) -> bool {
     match fate {
         Fate::Relayed(ports) => is_relayed(outcome, ports, &[]),
@@ -61,7 +61,7 @@ pub(super) fn is_fate(outcome: &Outcome, fate: Fate) -> bool {
     }
 }
 
-/// Whether a frame came in at customer port 1 as the one of this number.
+/// Checks whether a frame came in at customer port 1 as the one of this number.
 fn is_mark(mark: Option<Mark>, number: u64) -> bool {
     match mark {
         Some(mark) => mark.port == 1 && mark.number.get() == number,
@@ -69,12 +69,12 @@ fn is_mark(mark: Option<Mark>, number: u64) -> bool {
     }
 }
 
-/// Whether an item is this frame of customer port 1.
+/// Checks whether an item is this frame of customer port 1.
 fn is_sent(item: &Item, sent: Sent) -> bool {
     is_mark(item.mark, sent.number) && item.hops == sent.hops && item.wire.as_slice() == sent.frame
 }
 
-/// Whether these states changed and these ports were flushed, and no BPDU came of it.
+/// Checks whether these states changed and these ports were flushed, and no BPDU came of it.
 fn has_moved(moved: &Moved, states: &[(u8, PortState)], flushed: &[u8]) -> bool {
     moved.states.as_slice() == states
         && moved.flushed.as_slice() == flushed
@@ -82,7 +82,7 @@ fn has_moved(moved: &Moved, states: &[(u8, PortState)], flushed: &[u8]) -> bool 
         && moved.dropped.len() == 0
 }
 
-/// Whether a bridge received this frame at a port, learnt this, and nothing else changed.
+/// Checks whether a bridge received this frame at a port, with this result of learning, and nothing else changed.
 fn is_receipt(step: &Step, at: u8, sent: Sent, wanted: (Learnt, Fate)) -> bool {
     match step {
         Step::Receive {
@@ -102,7 +102,7 @@ fn is_receipt(step: &Step, at: u8, sent: Sent, wanted: (Learnt, Fate)) -> bool {
     }
 }
 
-/// Whether a customer port delivered this frame, which was taken.
+/// Checks whether a customer port delivered this frame, which was taken.
 fn is_delivery(step: &Step, sent: Sent) -> bool {
     match step {
         Step::Deliver { item, gone } => !*gone && is_sent(item, sent),
@@ -110,7 +110,7 @@ fn is_delivery(step: &Step, sent: Sent) -> bool {
     }
 }
 
-/// Whether a bridge's port was set up or down with these changes.
+/// Checks whether a bridge's port was enabled or disabled with these changes.
 fn is_admin(
     step: &Step,
     (at, is_up): (u8, bool),
@@ -125,7 +125,7 @@ fn is_admin(
     }
 }
 
-/// Whether a step is this deed.
+/// Checks whether a step is this deed.
 pub(super) fn is_deed(step: &Step, deed: Deed) -> bool {
     match deed {
         Deed::Receive {
@@ -144,7 +144,7 @@ pub(super) fn is_deed(step: &Step, deed: Deed) -> bool {
     }
 }
 
-/// Whether steps are these deeds, one by one.
+/// Checks whether steps are these deeds, one by one.
 pub(super) fn are_deeds(steps: &[Step], deeds: &[Deed]) -> bool {
     for (place, deed) in deeds.iter().enumerate() {
         match steps.get(place) {

@@ -1,7 +1,6 @@
-//! Ports go down in trees that others drew, and their neighbours aren't told.
-//!
-//! Whose they are: the wirings, the failures and how each port stands after them are those of the public tests of
-//! Open vSwitch's rapid spanning tree (after IEEE 802.1D-2004 clause 17). None comes from our program.
+//! Ports that are disabled in trees that others drew. The neighbours' ends stay enabled. The wirings, the failures and
+//! the ports after them are those of the public tests of Open vSwitch's rapid spanning tree (after IEEE 802.1D-2004
+//! clause 17). None is of our making.
 
 use super::draft::{Draft, Joint};
 use super::drawn::{DRAWN, Drawn};
@@ -25,7 +24,7 @@ const ONE_FAILS: Draft = Draft {
     ..DRAWN
 };
 
-/// The ring as it settles.
+/// The ring after convergence.
 const RING: &[Drawn] = &[
     (1, 1, Role::Designated, PortState::Forwarding, 0),
     (1, 2, Role::Designated, PortState::Forwarding, 0),
@@ -35,7 +34,7 @@ const RING: &[Drawn] = &[
     (3, 2, Role::Alternate, PortState::Discarding, 200_000),
 ];
 
-/// It stands so after port 1 of B3 went down.
+/// The ring after port 1 of B3 was disabled.
 const RING_AFTER: &[Drawn] = &[
     (1, 1, Role::Designated, PortState::Forwarding, 0),
     (1, 2, Role::Designated, PortState::Forwarding, 0),
@@ -65,7 +64,7 @@ const TWO_FAIL: Draft = Draft {
     ..DRAWN
 };
 
-/// The five as they settle.
+/// The five after convergence.
 const FIVE: &[Drawn] = &[
     (1, 1, Role::Designated, PortState::Forwarding, 0),
     (1, 2, Role::Designated, PortState::Forwarding, 0),
@@ -81,7 +80,7 @@ const FIVE: &[Drawn] = &[
     (5, 2, Role::Alternate, PortState::Discarding, 400_000),
 ];
 
-/// They stand so after port 1 of B3 went down.
+/// The five after port 1 of B3 was disabled.
 const FIVE_AFTER_ONE: &[Drawn] = &[
     (1, 1, Role::Designated, PortState::Forwarding, 0),
     (1, 2, Role::Designated, PortState::Forwarding, 0),
@@ -97,7 +96,7 @@ const FIVE_AFTER_ONE: &[Drawn] = &[
     (5, 2, Role::Alternate, PortState::Discarding, 600_000),
 ];
 
-/// They stand so after port 1 of B5 went down, too.
+/// The five after port 1 of B5 was disabled, too.
 const FIVE_AFTER_TWO: &[Drawn] = &[
     (1, 1, Role::Designated, PortState::Forwarding, 0),
     (1, 2, Role::Designated, PortState::Forwarding, 0),
@@ -113,8 +112,8 @@ const FIVE_AFTER_TWO: &[Drawn] = &[
     (5, 2, Role::Root, PortState::Forwarding, 600_000),
 ];
 
-/// A link with one end down is no link of which `settled` asks anything, though the other end, which wasn't told,
-/// goes on as Designated. So its answer is that the bridges are settled.
+/// Checks that `settled` ignores a link with one end disabled, though the other end stays enabled and goes on as
+/// Designated. The bridges count as settled.
 #[test]
 fn one_link_fails(rt: HostRuntime) -> Result<(), Fail> {
     const ROWS: &[Row] = &[

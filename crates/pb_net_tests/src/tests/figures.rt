@@ -1,7 +1,5 @@
-//! Trees that the standard draws.
-//!
-//! Whose they are: the wirings and how each port stands are figures 17-4 and 17-5 of IEEE 802.1D-2004, as the public
-//! tests of Open vSwitch's rapid spanning tree hold them. None comes from our program.
+//! Trees of the standard's figures. The wirings and the ports are those of figures 17-4 and 17-5 of IEEE 802.1D-2004,
+//! as the public tests of Open vSwitch's rapid spanning tree have them. None is of our making.
 
 use super::draft::{Draft, Joint};
 use super::drawn::{DRAWN, Drawn};

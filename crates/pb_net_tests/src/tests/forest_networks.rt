@@ -1,4 +1,4 @@
-//! The networks of which is asked whether they are forests.
+//! The networks of the tests of forests.
 
 use super::draft::{Draft, Joint};
 use pb_lan::Spanning;
@@ -66,7 +66,7 @@ const LOOPED: Draft = Draft {
     ..APART
 };
 
-/// The link goes to a bridge that the plan lacks.
+/// The link goes to a bridge that is not in the plan.
 const ASTRAY: Draft = Draft {
     links: &[Joint::Plain((1, 1), (4, 1))],
     ..APART

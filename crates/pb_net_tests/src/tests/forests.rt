@@ -1,4 +1,4 @@
-//! What is asked about forests: searches, certificates and paths.
+//! Tests of forests: searches, certificates and paths.
 
 use super::forest_networks::{Network, draft_of};
 use super::plans::plan_of;
@@ -19,7 +19,7 @@ enum Closed {
     Bridge(usize),
 }
 
-/// The states of the sixteen ports of the bridge of this index.
+/// Returns the states of the sixteen ports of the bridge of this index.
 fn states_of(alloc: Global, bridge: usize, closed: Closed) -> Result<Seq<PortState>, Memory> {
     let mut states = [PortState::Forwarding; 16];
     match closed {
@@ -64,7 +64,7 @@ const ROW_OF_FOUR: Tree = Tree {
     depth: &[0, 1, 2, 3],
 };
 
-/// The same links, but all of the others stand right below the first.
+/// The same links, with all other bridges right below the first.
 const FLAT: Tree = Tree {
     depth: &[0, 1, 1, 1],
     ..ROW_OF_FOUR
@@ -94,7 +94,7 @@ const BY_THE_SECOND: Tree = Tree {
     depth: &[0, 1],
 };
 
-/// What comes of a search.
+/// The result of a search.
 #[derive(Clone, Copy, PartialEq, Eq)]
 enum Found {
     /// Parents and depths that show a forest.
@@ -105,12 +105,12 @@ enum Found {
     Wrong,
 }
 
-/// What is asked of a network.
+/// A question about a network.
 #[derive(Clone, Copy)]
 enum Asked {
     /// Whether parents and depths show a forest for a service.
     Shows(u8, Tree, bool),
-    /// What is found for a service.
+    /// The result of a search for a service.
     Finds(u8, Found),
     /// By parents and depths that show a forest for the first service, the links from one bridge to another.
     Goes(Tree, (u8, u8), Option<&'static [u8]>),
@@ -145,7 +145,7 @@ fn shows(
 /// Two bridges, and the links from one to the other.
 type Way<'a> = ((u8, u8), Option<&'a [u8]>);
 
-/// Whether the path is the one that is wanted, where parents and depths show a forest for the first service.
+/// Checks whether the path is the expected one, if parents and depths show a forest for the first service.
 fn goes_so(
     alloc: Global,
     shape: &Shape,
@@ -171,7 +171,7 @@ fn goes(
     goes_so(alloc, shape, plan, &rooted, way)
 }
 
-/// The path by the parents that the search finds.
+/// Returns the path by the parents that the search finds.
 fn found_path(
     alloc: Global,
     shape: &Shape,
@@ -197,7 +197,7 @@ fn finds_way(
     Ok(found.as_deref() == wanted)
 }
 
-/// Whether the answer is the one that is wanted.
+/// Checks whether the result is the expected one.
 fn answers(alloc: Global, shape: &Shape, plan: &Plan, asked: Asked) -> Result<bool, Memory> {
     match asked {
         Asked::Shows(service, tree, wanted) => {
@@ -209,7 +209,7 @@ fn answers(alloc: Global, shape: &Shape, plan: &Plan, asked: Asked) -> Result<bo
     }
 }
 
-/// A network, what is closed in it, and what is asked.
+/// A network, its blocked ports, and a question.
 type Row = (Network, Closed, Asked);
 
 fn holds(alloc: Global, row: &Row) -> Result<bool, Memory> {
@@ -265,7 +265,7 @@ fn parents_and_depths_show_a_forest_or_none(rt: HostRuntime) -> Result<(), Fail>
     all_hold(&rt, rt.alloc(), ROWS)
 }
 
-/// What is found in networks.
+/// The results of searches in networks.
 const SEARCHES: &[Row] = &[
     (Network::Apart, NOTHING, Asked::Finds(1, Found::Forest)),
     (Network::Line, NOTHING, Asked::Finds(1, Found::Forest)),

@@ -9,7 +9,7 @@ use std::test::Fail;
 /// A broadcast's first octets, up to its type.
 const PLAIN: &[u8] = b"\xff\xff\xff\xff\xff\xff\x02\0\0\0\x01\x01\x08\0";
 
-/// The same with a service tag of VID 0, priority 5.
+/// The broadcast with a service tag of VID 0, priority 5.
 const PRIORITY: &[u8] = b"\xff\xff\xff\xff\xff\xff\x02\0\0\0\x01\x01\x88\xa8\xa0\0\x08\0";
 
 #[test]

@@ -34,7 +34,7 @@ fn each_place_has_its_own_steps(rt: HostRuntime) -> Result<(), Fail> {
     walks(&rt, rt.alloc(), &FEW_STEPS, ROWS)
 }
 
-/// The first broadcast, as it comes to the bridge.
+/// The first broadcast, as the bridge receives it.
 const FIRST: Sent = Sent {
     number: 0,
     hops: 0,

@@ -1,4 +1,4 @@
-//! Rows for which memory is wanted, or an event. Each owns one thing.
+//! Rows that allocate, or that make an event.
 
 use super::asked::{does, enters};
 use super::draft::Draft;
@@ -8,17 +8,17 @@ use pb_net::{Did, Net, NetFault};
 use std::alloc::Global;
 use std::test::Fail;
 
-/// Whether the act's place takes its step.
+/// Checks whether the act's place takes its step.
 pub(super) fn acts(net: &mut Net, act: Act) -> bool {
     does(net, event_of(act))
 }
 
-/// Whether this is answered to an act.
+/// Checks whether an act has this result.
 pub(super) fn answers(net: &mut Net, act: Act, wanted: Result<Did, NetFault>) -> bool {
     net.step(event_of(act)) == wanted
 }
 
-/// Whether a run over all acts ends so.
+/// Checks whether a run over all acts has this result.
 pub(super) fn runs(
     alloc: Global,
     net: &mut Net,
@@ -29,7 +29,8 @@ pub(super) fn runs(
     Ok(net.run(&events) == wanted)
 }
 
-/// Whether a frame that begins so and has so many octets comes in at a customer port, and its bridge receives it.
+/// Checks whether a frame that begins with these octets and has this many is polled at a customer port, and its bridge
+/// receives it.
 pub(super) fn enters_long(
     alloc: Global,
     net: &mut Net,

@@ -1,5 +1,5 @@
-//! A network that is refused memory, where the run refuses it: an event that wants memory changes nothing, and is done
-//! at the next try.
+//! A network with an allocator that fails: an event that met a failed allocation changes nothing, and is done at the
+//! next try.
 
 use super::expected::event_of;
 use super::networks::{BROADCAST, JOINED};
@@ -12,7 +12,7 @@ use pb_net::{Did, Net, NetFault};
 use std::alloc::Global;
 use std::test::Fail;
 
-/// All events by which a broadcast gets from customer port 1 over the link to customer port 2.
+/// The events of a broadcast from customer port 1 over the link to customer port 2.
 const EVENTS: &[Act] = &[
     Act::Poll(1, BROADCAST),
     Act::Feed(1),
@@ -34,7 +34,7 @@ const PLACES: &[Place] = &[
     Place::Bridge(2),
 ];
 
-/// How many steps these places took.
+/// Returns how many steps these places took.
 fn taken(net: &Net) -> usize {
     let mut taken = 0usize;
     for place in PLACES {
@@ -43,7 +43,7 @@ fn taken(net: &Net) -> usize {
     taken
 }
 
-/// What came of an event.
+/// The result of an event.
 #[derive(Clone, Copy, PartialEq, Eq, Debug)]
 enum Came {
     Done,
@@ -64,7 +64,7 @@ fn told_by(answer: Result<Did, NetFault>) -> Came {
     }
 }
 
-/// Gives an event, and once more where it wanted memory.
+/// Gives an event, and again if an allocation failed.
 fn gives(net: &mut Net, act: Act) -> Came {
     let before = taken(net);
     let first = told_by(net.step(event_of(act)));
@@ -77,7 +77,7 @@ fn gives(net: &mut Net, act: Act) -> Came {
     told_by(net.step(event_of(act)))
 }
 
-/// What came of the events, up to the first that was not done.
+/// Returns the result of the events, up to the first that was not done.
 fn all_come(net: &mut Net) -> Came {
     for act in EVENTS {
         let came = gives(net, *act);
@@ -88,8 +88,8 @@ fn all_come(net: &mut Net) -> Came {
     Came::Done
 }
 
-/// What came of the events in a network, and whether the frame left as it came, or else a bridge's step tells of want
-/// of memory.
+/// Returns the result of the events in a network, whether the frame left as it came, and whether otherwise a bridge's
+/// step reports a failed allocation.
 fn seen(alloc: Global) -> Result<(Came, bool, bool), Memory> {
     let plan = plan_of(alloc, &JOINED)?;
     if !plan_is_sound(&plan) {

@@ -6,7 +6,7 @@ use pb_lan::Spanning;
 /// A broadcast from 02-00-00-00-01-01, of the least length.
 pub(super) const SHORT: &[u8] = b"\xff\xff\xff\xff\xff\xff\x02\0\0\0\x01\x01\x08\0";
 
-/// A broadcast from 02-00-00-00-01-01 with two octets behind its type.
+/// A broadcast from 02-00-00-00-01-01 with two octets after its type.
 pub(super) const BROADCAST: &[u8] = b"\xff\xff\xff\xff\xff\xff\x02\0\0\0\x01\x01\x08\0AB";
 
 /// One bridge with the customer ports 1 and 2 of red, at its ports 1 and 2.

@@ -7,12 +7,12 @@ use pb_lan::{
 };
 use std::alloc::Global;
 
-/// A name with a number.
+/// Returns a name with a number.
 fn name(alloc: Global, word: &str, number: usize) -> Result<Text, Memory> {
     Ok(Text::from_string(format!(in alloc; "{word}{number}")?))
 }
 
-/// The bridge of a number.
+/// Returns the bridge of a number.
 fn bridge(alloc: Global, number: u8, queue: u16) -> Result<BridgePlan, Memory> {
     let name = name(alloc, "B", usize::from(number))?;
     Ok(BridgePlan {
@@ -23,7 +23,7 @@ fn bridge(alloc: Global, number: u8, queue: u16) -> Result<BridgePlan, Memory> {
     })
 }
 
-/// An end for all services, which is Forwarding where the plan gives the states.
+/// Returns an end for all services, which is Forwarding if the plan gives the states.
 fn end(at: Port, cost: u32) -> End {
     End {
         bridge: at.0,
@@ -35,7 +35,7 @@ fn end(at: Port, cost: u32) -> End {
     }
 }
 
-/// The services that an end lists, if it does.
+/// Returns the services that an end lists, if it does.
 fn listed(alloc: Global, services: Option<&[u8]>) -> Result<Option<Seq<u8>>, Memory> {
     match services {
         Some(services) => Ok(Some(Seq::from_vec(Vec::from_slice(alloc, services)?))),
@@ -43,7 +43,7 @@ fn listed(alloc: Global, services: Option<&[u8]>) -> Result<Option<Seq<u8>>, Mem
     }
 }
 
-/// A link as yet without lists.
+/// Returns a link as yet without lists.
 fn bare_link(alloc: Global, name: Text, joint: Joint) -> LinkPlan {
     let (a, b) = joint.ends();
     LinkPlan {
@@ -64,7 +64,7 @@ fn fill_link(alloc: Global, joint: Joint, link: &mut LinkPlan) -> Result<(), Mem
     Ok(())
 }
 
-/// The link behind so many others.
+/// Returns the link at this index.
 fn link(alloc: Global, place: usize, joint: Joint) -> Result<LinkPlan, Memory> {
     let name = name(alloc, "L", place)?;
     let mut link = bare_link(alloc, name, joint);
@@ -72,7 +72,7 @@ fn link(alloc: Global, place: usize, joint: Joint) -> Result<LinkPlan, Memory> {
     Ok(link)
 }
 
-/// The customer port behind so many others.
+/// Returns the customer port at this index.
 fn customer(alloc: Global, place: usize, site: Site) -> Result<CustomerPlan, Memory> {
     let name = name(alloc, "C", place)?;
     Ok(CustomerPlan {
@@ -85,7 +85,7 @@ fn customer(alloc: Global, place: usize, site: Site) -> Result<CustomerPlan, Mem
     })
 }
 
-/// The service behind so many others.
+/// Returns the service at this index.
 fn service(alloc: Global, place: usize, vid: u16) -> Result<ServicePlan, Memory> {
     let name = name(alloc, "S", place)?;
     Ok(ServicePlan { name, vid })
@@ -118,7 +118,7 @@ fn customers(alloc: Global, draft: &Draft) -> Result<Seq<CustomerPlan>, Memory> 
 /// The VIDs of red and blue.
 const VIDS: &[u16] = &[100, 200];
 
-/// Red and blue.
+/// Returns red and blue.
 fn services(alloc: Global) -> Result<Seq<ServicePlan>, Memory> {
     let mut services = Vec::new(alloc);
     for (place, vid) in VIDS.iter().enumerate() {
@@ -127,7 +127,7 @@ fn services(alloc: Global) -> Result<Seq<ServicePlan>, Memory> {
     Ok(Seq::from_vec(services))
 }
 
-/// The plan of a draft, as yet without lists.
+/// Returns the plan of a draft, as yet without lists.
 fn bare(alloc: Global, draft: &Draft) -> Plan {
     Plan {
         bridges: Seq::from_vec(Vec::new(alloc)),
@@ -151,7 +151,7 @@ fn fill(alloc: Global, draft: &Draft, plan: &mut Plan) -> Result<(), Memory> {
     Ok(())
 }
 
-/// The plan of a draft.
+/// Returns the plan of a draft.
 pub(super) fn plan_of(alloc: Global, draft: &Draft) -> Result<Plan, Memory> {
     let mut plan = bare(alloc, draft);
     fill(alloc, draft, &mut plan)?;

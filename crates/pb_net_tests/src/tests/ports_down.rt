@@ -7,7 +7,7 @@ use pb_lan::{Place, PortState, Reason};
 use pb_net::NetFault;
 use std::test::Fail;
 
-/// The port from B1 to B2 is set down.
+/// The port from B1 to B2 is disabled.
 const DOWN: Row = Row::Does(Act::Admin(1, 1, false));
 
 #[test]

@@ -16,7 +16,7 @@ pub(super) type Piece = (u32, &'static [u8]);
 pub(super) enum FrameAction {
     Poll(Piece),
     Feed(Piece),
-    /// A bridge received it at a port, and relayed it to another one, or refused it there.
+    /// A bridge received it at a port, and relayed it to another one or refused it there.
     Receive(u8, Piece, u8, &'static [(u8, NoRoom)]),
     Transmit(u8, Piece),
     Take(Piece),
@@ -103,7 +103,7 @@ fn lists_of(alloc: Global, all: &[&[FrameAction]]) -> Result<Seq<Seq<Step>>, All
     Ok(Seq::from_vec(lists))
 }
 
-/// Gives a record the lists of what was done.
+/// Fills the lists of a record with these actions.
 fn fill(alloc: Global, done: &Done, record: &mut Record) -> Result<(), AllocError> {
     record.bridges = lists_of(alloc, done.bridges)?;
     record.lanes = lists_of(alloc, done.lanes)?;
@@ -111,7 +111,7 @@ fn fill(alloc: Global, done: &Done, record: &mut Record) -> Result<(), AllocErro
     Ok(())
 }
 
-/// The record of what was done.
+/// Returns the record of these actions.
 pub(super) fn record_of(alloc: Global, done: &Done) -> Result<Record, AllocError> {
     let mut record = Record {
         bridges: Seq::from_vec(Vec::new(alloc)),
@@ -122,7 +122,7 @@ pub(super) fn record_of(alloc: Global, done: &Done) -> Result<Record, AllocError
     Ok(record)
 }
 
-/// The tallies of what was done.
+/// Returns the tallies of these actions.
 pub(super) fn tallies_of(alloc: Global, done: &Done) -> Result<Tallies, Memory> {
     let record = record_of(alloc, done)?;
     Tallies::of(alloc, &record)

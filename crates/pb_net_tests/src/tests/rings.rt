@@ -34,10 +34,10 @@ fn a_ring_of_three_settles(rt: HostRuntime) -> Result<(), Fail> {
         Row::Roles(3, Some(&[(1, Role::Root), (2, Role::Alternate)])),
     ];
     const STATES: &[(u8, u8, PortState)] = &[
-        // Towards the root.
+        // The ports towards the root.
         (2, 1, PortState::Forwarding),
         (3, 1, PortState::Forwarding),
-        // The ring is cut.
+        // The port that cuts the ring.
         (3, 2, PortState::Discarding),
     ];
     ends_as_forest(&rt, rt.alloc(), &THREE, ROWS, STATES)
@@ -93,7 +93,8 @@ const SIX: Draft = Draft {
     steps: 1_000_000,
 };
 
-/// The ring settles, is mended around the link between B1 and B2, and takes it back. A broadcast each time.
+/// The ring converges, reconverges without the link between B1 and B2, and converges with it again. A broadcast each
+/// time.
 const MENDED: &[Row] = &[
     Row::Settled(Some(false)),
     Row::Rounds(10),
@@ -107,7 +108,7 @@ const MENDED: &[Row] = &[
     Row::Enters(1, BROADCAST),
     Row::Empties,
     Row::Left(&[0, 1, 1, 1, 1, 1]),
-    // The link between B1 and B2 goes down.
+    // The link between B1 and B2 is disabled.
     Row::Does(Act::Admin(1, 1, false)),
     Row::Does(Act::Admin(2, 2, false)),
     Row::Rounds(10),
@@ -121,7 +122,7 @@ const MENDED: &[Row] = &[
     Row::Enters(1, BROADCAST),
     Row::Empties,
     Row::Left(&[0, 2, 2, 2, 2, 2]),
-    // It comes up again.
+    // It is enabled again.
     Row::Does(Act::Admin(1, 1, true)),
     Row::Does(Act::Admin(2, 2, true)),
     Row::Rounds(10),
@@ -145,7 +146,7 @@ const MENDED_STATES: &[(u8, u8, PortState)] = &[
     (2, 2, PortState::Forwarding),
     (3, 1, PortState::Forwarding),
     (3, 2, PortState::Forwarding),
-    // The ring is cut.
+    // The port that cuts the ring.
     (4, 1, PortState::Discarding),
     (4, 2, PortState::Forwarding),
     (5, 1, PortState::Forwarding),

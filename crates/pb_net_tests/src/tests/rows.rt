@@ -5,22 +5,22 @@ use pb_lan::{Learnt, NoRoom, Place, PortState, Reason};
 use pb_net::NetFault;
 use pb_rstp::Role;
 
-/// What is asked of a network.
+/// An action of a network.
 #[derive(Clone, Copy)]
 pub(super) enum Act {
-    /// A frame comes in at a customer port.
+    /// A frame is polled at a customer port.
     Poll(u8, &'static [u8]),
-    /// A customer port hands on the frame that it holds.
+    /// A customer port feeds the frame in its hand to its bridge.
     Feed(u8),
-    /// A customer port takes the oldest frame that was sent to it.
+    /// A customer port delivers the oldest frame that was sent to it.
     Deliver(u8),
-    /// A bridge takes the oldest item that came to a port.
+    /// A bridge receives the oldest item that came to a port.
     Receive(u8, u8),
-    /// A bridge sends the next item of a port.
+    /// A bridge transmits the next item of a port.
     Transmit(u8, u8),
-    /// A bridge's clock goes on by one.
+    /// A bridge's clock ticks.
     Tick(u8),
-    /// A bridge's port is set up or down.
+    /// A bridge's port is enabled or disabled.
     Admin(u8, u8, bool),
     /// A lane takes the oldest item that was sent to it.
     Take(u8),
@@ -28,14 +28,14 @@ pub(super) enum Act {
     Put(u8),
 }
 
-/// What becomes of a frame at a bridge.
+/// The fate of a frame at a bridge.
 #[derive(Clone, Copy)]
 pub(super) enum Fate {
     /// It is relayed to these ports, none of which refuses.
     Relayed(&'static [u8]),
-    /// It is relayed to these ports, but for those that refuse.
+    /// It is relayed to these ports, except those that refuse.
     RelayedBut(&'static [u8], &'static [(u8, NoRoom)]),
-    /// It goes nowhere.
+    /// It is dropped.
     Filtered(Reason),
 }
 
@@ -61,7 +61,7 @@ pub(super) enum Deed {
     },
     /// A customer port delivered a frame, which was taken.
     Deliver(Sent),
-    /// A bridge's port was set up or down, and no BPDU came of it.
+    /// A bridge's port was enabled or disabled, and no BPDU came of it.
     Admin {
         port: u8,
         up: bool,
@@ -70,47 +70,48 @@ pub(super) enum Deed {
     },
 }
 
-/// One thing that is done to a network, or seen of it.
+/// An action of a network, or a check of it.
 #[derive(Clone, Copy)]
 pub(super) enum Row {
     /// The place takes its step.
     Does(Act),
-    /// There is nothing to do.
+    /// Nothing is to do.
     Idle(Act),
-    /// The fault is answered.
+    /// The act has this fault.
     Refused(Act, NetFault),
-    /// A run over all meets no fault.
+    /// A run over all acts meets no fault.
     Runs(&'static [Act]),
-    /// A run over all stops at a fault, after so many.
+    /// A run over all acts stops at a fault, after this many.
     Stops {
         acts: &'static [Act],
         done: u64,
         fault: NetFault,
     },
-    /// A frame comes in at a customer port, and its bridge receives it.
+    /// A frame is polled at a customer port, and its bridge receives it.
     Enters(u8, &'static [u8]),
-    /// The same, of a frame that begins so and has so many octets, the others 0.
+    /// A frame that begins with these octets, with zeros up to this many, is polled at a customer port, and its bridge
+    /// receives it.
     EntersLong {
         customer: u8,
         head: &'static [u8],
         octets: usize,
     },
-    /// The bridge where a lane begins sends an item, and the bridge where it ends receives it.
+    /// The bridge at a lane's beginning transmits an item, and the bridge at its end receives it.
     Crosses(u8),
-    /// A bridge sends an item to a customer port, which delivers it.
+    /// A bridge transmits an item to a customer port, which delivers it.
     Leaves(u8),
-    /// So many times each bridge ticks once, in order, and then all is carried to where it goes.
+    /// This many times each bridge ticks once, in order, and then all is carried to its end.
     Rounds(u8),
-    /// All is carried to where it goes, until nothing waits any more.
+    /// All is carried to its end, until nothing waits.
     Empties,
     /// The plan has the place, or not.
     Knows(Place, bool),
-    /// The place has taken so many steps.
+    /// The place has taken this many steps.
     Steps {
         place: Place,
         count: usize,
     },
-    /// The step of a number of the place, the first being 0.
+    /// The step of this number of the place, from 0.
     Took(Place, usize, Deed),
     /// The last step of a lane takes the item of a number, and loses it or not.
     Taken {
@@ -120,23 +121,23 @@ pub(super) enum Row {
     },
     /// The last step of a place moved a frame of these octets.
     Moved(Place, &'static [u8]),
-    /// The last step of a place moved a frame of so many octets.
+    /// The last step of a place moved a frame of this many octets.
     Octets(Place, usize),
-    /// The last step of a place moved a frame that passed so many bridges.
+    /// The last step of a place moved a frame that passed this many bridges.
     Hops(Place, u32),
     /// The last step of a bridge received a frame of this fate.
     Ruled {
         bridge: u8,
         fate: Fate,
     },
-    /// The last step of a bridge received a frame, and this was learnt.
+    /// The last step of a bridge received a frame, with this result of learning.
     Learnt(u8, Option<Learnt>),
     /// By customer port, how many frames it has delivered.
     Left(&'static [usize]),
     /// Whether the bridges are settled.
     Settled(Option<bool>),
-    /// The role of each port of a bridge, where a spanning tree decides the states.
+    /// The role of each port of a bridge, if a spanning tree decides the states.
     Roles(u8, Option<&'static [(u8, Role)]>),
-    /// Each port of each bridge stands so.
+    /// Each port of each bridge is as drawn.
     Trees(&'static [Drawn]),
 }

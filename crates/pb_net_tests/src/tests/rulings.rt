@@ -1,4 +1,4 @@
-//! What becomes of frames at customer port 1.
+//! The fate of frames at customer port 1.
 
 use super::networks::JOINED;
 use super::rows::{Fate, Row};

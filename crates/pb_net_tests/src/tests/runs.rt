@@ -16,14 +16,14 @@ const GOES: &[Act] = &[
     Act::Deliver(2),
 ];
 
-/// The step by which the first one is delivered.
+/// The step that delivers the first broadcast.
 const FIRST: Deed = Deed::Deliver(Sent {
     number: 0,
     hops: 1,
     frame: SHORT,
 });
 
-/// The step by which the second one is delivered.
+/// The step that delivers the second broadcast.
 const SECOND: Deed = Deed::Deliver(Sent {
     number: 1,
     hops: 1,

@@ -1,4 +1,4 @@
-//! What rows see of a network.
+//! The checks of rows on a network.
 
 use super::draft::Draft;
 use super::expected::{is_deed, is_fate};
@@ -7,7 +7,7 @@ use pb_lan::{Item, Learnt, NoRoom, Outcome, Place, Reason, Step};
 use pb_net::Net;
 use pb_rstp::Role;
 
-/// The steps of a place, if the plan has it.
+/// Returns the steps of a place, if the plan has it.
 fn steps(net: &Net, place: Place) -> Option<&[Step]> {
     if net.has_place(place) {
         Some(net.steps(place))
@@ -16,13 +16,13 @@ fn steps(net: &Net, place: Place) -> Option<&[Step]> {
     }
 }
 
-/// The number of steps of a place.
+/// Returns the number of steps of a place.
 pub(super) fn taken_at(net: &Net, place: Place) -> Option<usize> {
     let steps = steps(net, place)?;
     Some(steps.len())
 }
 
-/// Whether a place did this, by the number of its step from 0.
+/// Checks whether a place did this, by the number of its step from 0.
 pub(super) fn took(net: &Net, place: Place, number: usize, deed: Deed) -> bool {
     match step_at(net, place, number) {
         Some(step) => is_deed(step, deed),
@@ -34,12 +34,12 @@ fn step_at(net: &Net, place: Place, number: usize) -> Option<&Step> {
     steps(net, place)?.get(number)
 }
 
-/// The last step of a place.
+/// Returns the last step of a place.
 fn last(net: &Net, place: Place) -> Option<&Step> {
     steps(net, place)?.last()
 }
 
-/// The item that the last step of a place moved.
+/// Returns the item that the last step of a place moved.
 fn moved(net: &Net, place: Place) -> Option<&Item> {
     match last(net, place)? {
         Step::Take { item, .. }
@@ -50,7 +50,7 @@ fn moved(net: &Net, place: Place) -> Option<&Item> {
     }
 }
 
-/// Whether the last step of a place moved a frame of these octets.
+/// Checks whether the last step of a place moved a frame of these octets.
 pub(super) fn has_moved(net: &Net, place: Place, wire: &[u8]) -> bool {
     match moved(net, place) {
         Some(item) => item.wire.as_slice() == wire,
@@ -58,7 +58,7 @@ pub(super) fn has_moved(net: &Net, place: Place, wire: &[u8]) -> bool {
     }
 }
 
-/// Whether the last step of a place moved a frame of so many octets.
+/// Checks whether the last step of a place moved a frame of this many octets.
 pub(super) fn has_moved_octets(net: &Net, place: Place, octets: usize) -> bool {
     match moved(net, place) {
         Some(item) => item.wire.len() == octets,
@@ -66,7 +66,7 @@ pub(super) fn has_moved_octets(net: &Net, place: Place, octets: usize) -> bool {
     }
 }
 
-/// Whether the last step of a place moved a frame that passed so many bridges.
+/// Checks whether the last step of a place moved a frame that passed this many bridges.
 pub(super) fn has_moved_hops(net: &Net, place: Place, hops: u32) -> bool {
     match moved(net, place) {
         Some(item) => item.hops == hops,
@@ -74,7 +74,7 @@ pub(super) fn has_moved_hops(net: &Net, place: Place, hops: u32) -> bool {
     }
 }
 
-/// Whether the last step of a lane takes the item of a number, and loses it or not.
+/// Checks whether the last step of a lane takes the item of a number, and loses it or not.
 pub(super) fn has_taken(net: &Net, lane: u8, wanted: u64, is_lost: bool) -> bool {
     match last(net, Place::Lane(lane)) {
         Some(Step::Take { number, lost, .. }) => *number == wanted && *lost == is_lost,
@@ -82,7 +82,7 @@ pub(super) fn has_taken(net: &Net, lane: u8, wanted: u64, is_lost: bool) -> bool
     }
 }
 
-/// Whether the last step of a bridge received a frame of this fate.
+/// Checks whether the last step of a bridge received a frame of this fate.
 pub(super) fn has_ruled(net: &Net, bridge: u8, fate: Fate) -> bool {
     match last(net, Place::Bridge(bridge)) {
         Some(Step::Receive { outcome, .. }) => is_fate(outcome, fate),
@@ -90,7 +90,7 @@ pub(super) fn has_ruled(net: &Net, bridge: u8, fate: Fate) -> bool {
     }
 }
 
-/// Whether the last step of a bridge is a Receive by which this was learnt.
+/// Checks whether the last step of a bridge is a Receive with this result of learning.
 pub(super) fn has_learnt(net: &Net, bridge: u8, wanted: Option<Learnt>) -> bool {
     match last(net, Place::Bridge(bridge)) {
         Some(Step::Receive { learnt, .. }) => *learnt == wanted,
@@ -98,7 +98,7 @@ pub(super) fn has_learnt(net: &Net, bridge: u8, wanted: Option<Learnt>) -> bool 
     }
 }
 
-/// How many of the steps deliver a frame that is taken.
+/// Returns how many of the steps deliver a frame that is taken.
 fn delivered(steps: &[Step]) -> usize {
     let mut count = 0usize;
     for step in steps {
@@ -109,12 +109,12 @@ fn delivered(steps: &[Step]) -> usize {
     count
 }
 
-/// How many frames a customer port has delivered, if the plan has it.
+/// Returns how many frames a customer port has delivered, if the plan has it.
 fn delivered_at(net: &Net, customer: u8) -> Option<usize> {
     Some(delivered(steps(net, Place::Customer(customer))?))
 }
 
-/// Whether each customer port has delivered so many frames.
+/// Checks whether each customer port has delivered this many frames.
 pub(super) fn left(net: &Net, draft: &Draft, counts: &[usize]) -> bool {
     for number in 1..=128u8 {
         let wanted = counts.get(usize::from(number) - 1).copied();
@@ -125,7 +125,7 @@ pub(super) fn left(net: &Net, draft: &Draft, counts: &[usize]) -> bool {
     counts.len() == draft.customers.len()
 }
 
-/// Whether these are the roles of a bridge's ports.
+/// Checks whether these are the roles of a bridge's ports.
 pub(super) fn has_roles(net: &Net, bridge: u8, wanted: Option<&[(u8, Role)]>) -> bool {
     if !net.has_place(Place::Bridge(bridge)) {
         return false;
@@ -137,7 +137,7 @@ pub(super) fn has_roles(net: &Net, bridge: u8, wanted: Option<&[(u8, Role)]>) ->
     }
 }
 
-/// Whether one of these found no memory.
+/// Checks whether an allocation failed for one of these.
 fn wants_memory(refused: &[(u8, NoRoom)]) -> bool {
     for (_port, cause) in refused {
         if *cause == NoRoom::Memory {
@@ -147,7 +147,7 @@ fn wants_memory(refused: &[(u8, NoRoom)]) -> bool {
     false
 }
 
-/// Whether an outcome tells that a frame, or a copy of it, went nowhere for want of memory.
+/// Checks whether an outcome reports that a frame, or a copy of it, was dropped because an allocation failed.
 fn is_short(outcome: &Outcome) -> bool {
     match outcome {
         Outcome::Filtered(reason) => *reason == Reason::Memory,
@@ -156,7 +156,7 @@ fn is_short(outcome: &Outcome) -> bool {
     }
 }
 
-/// Whether the last step of a bridge tells so.
+/// Checks whether the last step of a bridge reports a failed allocation.
 pub(super) fn tells_short(net: &Net, bridge: u8) -> bool {
     match last(net, Place::Bridge(bridge)) {
         Some(Step::Receive { outcome, .. }) => is_short(outcome),

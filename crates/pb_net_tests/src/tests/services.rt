@@ -1,4 +1,4 @@
-//! Services that are kept apart.
+//! Services that are separate.
 
 use super::draft::{Draft, Joint, Site};
 use super::networks::{BROADCAST, JOINED};

@@ -50,7 +50,7 @@ fn of_parallel_links_the_lower_port_serves(rt: HostRuntime) -> Result<(), Fail> 
     ends_as_forest(&rt, rt.alloc(), &PARALLEL, ROWS, STATES)
 }
 
-/// The same, but from port 1 to port 2 and from port 2 to port 1.
+/// Two links between B1 and B2, from port 1 to port 2 and from port 2 to port 1.
 const CROSSED: Draft = Draft {
     bridges: 2,
     links: &[Joint::Plain((1, 1), (2, 2)), Joint::Plain((1, 2), (2, 1))],

@@ -1,4 +1,4 @@
-//! The harness: a network is walked through a table.
+//! The harness that walks a network through a table.
 
 ghost use Rattle.pb_lan.specs.Plans.{IsSound};
 
@@ -23,7 +23,7 @@ use std::alloc::Global;
 use std::process::Abort;
 use std::test::Fail;
 
-/// Whether a row is as it is told. What a row owns belongs to the functions of `made`.
+/// Checks whether a row holds. The functions of `made` make what a row owns.
 fn holds(alloc: Global, net: &mut Net, draft: &Draft, row: Row) -> Result<bool, Fail> {
     match row {
         Row::Runs(acts) => runs(alloc, net, acts, Ok(())),
@@ -38,7 +38,7 @@ fn holds(alloc: Global, net: &mut Net, draft: &Draft, row: Row) -> Result<bool, 
     }
 }
 
-/// The same, of a row that needs no memory.
+/// Checks whether a row that allocates nothing holds.
 fn is_done(net: &mut Net, draft: &Draft, row: Row) -> bool {
     match row {
         Row::Does(act) => acts(net, act),
@@ -53,7 +53,7 @@ fn is_done(net: &mut Net, draft: &Draft, row: Row) -> bool {
     }
 }
 
-/// The same, of a row that only looks.
+/// Checks whether a row that changes nothing holds.
 fn is_seen(net: &Net, draft: &Draft, row: Row) -> bool {
     match row {
         Row::Knows(place, known) => net.has_place(place) == known,
@@ -72,7 +72,7 @@ fn is_seen(net: &Net, draft: &Draft, row: Row) -> bool {
     }
 }
 
-/// Each row is as it is told, one after the other.
+/// Checks that the rows hold one after the other.
 fn all_hold(
     rt: &impl Abort,
     alloc: Global,
@@ -89,7 +89,7 @@ fn all_hold(
     Ok(())
 }
 
-/// What the places of a network of the draft did that went through the rows.
+/// Returns the record of a network of the draft that was walked through the rows.
 fn record_of(rt: &impl Abort, alloc: Global, draft: &Draft, rows: &[Row]) -> Result<Record, Fail> {
     let plan = plan_of(alloc, draft)?;
     assert!(rt; plan_is_sound(&plan));
@@ -100,7 +100,7 @@ fn record_of(rt: &impl Abort, alloc: Global, draft: &Draft, rows: &[Row]) -> Res
     Ok(record)
 }
 
-/// A network of the draft goes through the rows.
+/// Walks a network of the draft through the rows.
 pub(super) fn walks(
     rt: &impl Abort,
     alloc: Global,
@@ -116,18 +116,18 @@ pub(super) struct Recorded {
     /// The numbers of bridges and lanes in it.
     pub(super) bridges: usize,
     pub(super) lanes: usize,
-    /// By customer port, its steps; None where they aren't told.
+    /// The steps of each customer port, or None if they are not checked.
     pub(super) customers: &'static [Option<&'static [Deed]>],
 }
 
-/// Whether the record has so many places.
+/// Checks whether the record has this many places.
 fn has_places(record: &Record, wanted: &Recorded) -> bool {
     record.bridges.len() == wanted.bridges
         && record.lanes.len() == wanted.lanes
         && record.customers.len() == wanted.customers.len()
 }
 
-/// Whether the steps of a customer port are those of the deeds.
+/// Checks whether the steps of a customer port are those of the deeds.
 fn has_taken_all(record: &Record, place: usize, deeds: &[Deed]) -> bool {
     match record.customers.as_slice().get(place) {
         Some(steps) => are_deeds(steps.as_slice(), deeds),
@@ -135,7 +135,7 @@ fn has_taken_all(record: &Record, place: usize, deeds: &[Deed]) -> bool {
     }
 }
 
-/// Whether the steps of customer ports are as they are told.
+/// Checks whether the steps of customer ports are the expected ones.
 fn has_steps(record: &Record, customers: &[Option<&[Deed]>]) -> bool {
     for (place, deeds) in customers.iter().enumerate() {
         if let Some(deeds) = deeds {
@@ -147,7 +147,7 @@ fn has_steps(record: &Record, customers: &[Option<&[Deed]>]) -> bool {
     true
 }
 
-/// A network of the draft goes through the rows, and this is its record.
+/// Walks a network of the draft through the rows, and checks its record.
 pub(super) fn records(
     rt: &impl Abort,
     alloc: Global,
@@ -164,7 +164,7 @@ pub(super) fn records(
     Ok(())
 }
 
-/// The state of a bridge's port in a shape.
+/// Returns the state of a bridge's port in a shape.
 fn state_in(shape: &Shape, bridge: u8, port: u8) -> Option<PortState> {
     let place = usize::from(bridge).checked_sub(1)?;
     let slot = usize::from(port).checked_sub(1)?;
@@ -172,8 +172,8 @@ fn state_in(shape: &Shape, bridge: u8, port: u8) -> Option<PortState> {
     states.as_slice().get(slot).copied()
 }
 
-/// A network of the draft goes through the rows. At the end its active links are a forest for each service, and
-/// the ports of bridges have these states.
+/// Walks a network of the draft through the rows. Checks that its active links are a forest for each service at the
+/// end, and that the ports of bridges have these states.
 pub(super) fn ends_as_forest(
     rt: &impl Abort,
     alloc: Global,
@@ -187,13 +187,13 @@ pub(super) fn ends_as_forest(
     Ok(())
 }
 
-/// The states of all ports of a network of the draft that went through the rows.
+/// Returns the states of all ports of a network of the draft that went through the rows.
 fn shape_after(rt: &impl Abort, alloc: Global, draft: &Draft, rows: &[Row]) -> Result<Shape, Fail> {
     let record = record_of(rt, alloc, draft, rows)?;
     shape_of(rt, alloc, draft, &record)
 }
 
-/// The states of all ports of a plan behind a record.
+/// Returns the states of all ports of a plan after a record.
 fn shape_in(alloc: Global, plan: &Plan, record: &Record) -> Result<Shape, Memory>
     requires { IsSound plan.now }
 {
@@ -201,21 +201,21 @@ fn shape_in(alloc: Global, plan: &Plan, record: &Record) -> Result<Shape, Memory
     last_shape(alloc, plan, &counts)
 }
 
-/// The states of all ports behind a record.
+/// Returns the states of all ports of a draft after a record.
 fn shape_of(rt: &impl Abort, alloc: Global, draft: &Draft, record: &Record) -> Result<Shape, Fail> {
     let plan = plan_of(alloc, draft)?;
     assert!(rt; plan_is_sound(&plan));
     Ok(shape_in(alloc, &plan, record)?)
 }
 
-/// Whether the active links of a service are a forest.
+/// Checks whether the active links of a service are a forest.
 fn is_forest(alloc: Global, plan: &Plan, shape: &Shape, service: u8) -> Result<bool, Memory>
     requires { IsSound plan.now }
 {
     Ok(forest(alloc, shape, plan, service)?.is_some())
 }
 
-/// The active links of each service are a forest.
+/// Checks that the active links of each service are a forest.
 fn are_forests(rt: &impl Abort, alloc: Global, draft: &Draft, shape: &Shape) -> Result<(), Fail> {
     let plan = plan_of(alloc, draft)?;
     assert!(rt; plan_is_sound(&plan));
@@ -228,7 +228,7 @@ fn are_forests(rt: &impl Abort, alloc: Global, draft: &Draft, shape: &Shape) -> 
     Ok(())
 }
 
-/// The ports of bridges have these states.
+/// Checks that the ports of bridges have these states.
 fn have_states(rt: &impl Abort, shape: &Shape, states: &[(u8, u8, PortState)]) {
     for (bridge, port, state) in states {
         let told = state_in(shape, *bridge, *port);

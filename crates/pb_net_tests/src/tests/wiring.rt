@@ -56,7 +56,7 @@ const WIRING: Draft = Draft {
     steps: 1_000_000,
 };
 
-/// B1 is the root; the lower of two bridges at one cost serves, and its port the link between the two.
+/// B1 is the root. Of two bridges at one cost the lower is Designated, and so is its port on the link between the two.
 const ROLES: &[Row] = &[
     Row::Rounds(10),
     Row::Settled(Some(true)),
@@ -109,7 +109,7 @@ const ROLES: &[Row] = &[
     Row::Left(&[0, 1, 1, 1]),
 ];
 
-/// The ports that stand by, and those beside them.
+/// The Alternate ports, and the ports next to them.
 const STATES: &[(u8, u8, PortState)] = &[
     (3, 1, PortState::Forwarding),
     (3, 2, PortState::Discarding),

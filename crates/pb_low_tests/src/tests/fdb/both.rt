@@ -1,4 +1,4 @@
-//! The table and the plain list, told the same.
+//! The table and the plain list, driven by the same commands.
 
 ghost use Rattle.std.specs.Prelude.{◌<◌, ◌≤◌};
 
@@ -12,7 +12,7 @@ use std::alloc::Global;
 pub struct Dice(pub u32);
 
 impl Dice {
-    /// A number below this one.
+    /// Returns a number below this one.
     pub fn below(&mut self, sides: u32) -> u32
         requires { 0 < sides }
         ensures { result < sides }
@@ -31,7 +31,7 @@ pub struct Both {
     ghost in_time: { table.clock ≤ now },
 }
 
-/// How often each answer came.
+/// The count of each result.
 #[derive(Clone, Copy)]
 pub struct Answers {
     new: u32,
@@ -64,7 +64,7 @@ impl Answers {
         *place = place.saturating_add(1);
     }
 
-    /// Whether each answer came more than a hundred times.
+    /// Checks whether each result came more than a hundred times.
     pub fn are_many(&self) -> bool {
         self.new > 100 && self.kept > 100 && self.moved > 100 && self.full > 100 && self.group > 100
     }
@@ -81,7 +81,8 @@ impl Both {
         }
     }
 
-    /// A little later, one command to both; whether they answer the same, and have the same entries then.
+    /// Advances the time a little, and gives one command to both. Returns whether both have the same result and the
+    /// same entries.
     pub fn step(&mut self, dice: &mut Dice, answers: &mut Answers) -> bool {
         self.now = self.now.saturating_add(u64::from(dice.below(3)));
         self.command(dice, answers) && self.are_alike()
@@ -123,7 +124,7 @@ impl Both {
         self.plain.expire(self.now);
     }
 
-    /// Whether both have the same entries in the same order.
+    /// Checks whether both have the same entries in the same order.
     fn are_alike(&self) -> bool {
         let mut entries = self.table.entries();
         for entry in &self.plain.entries {
@@ -143,7 +144,7 @@ fn some_port(dice: &mut Dice) -> u8 {
     1 + dice.below(4) as u8
 }
 
-/// One of nine stations, and now and then a group.
+/// Returns one of nine stations, and now and then a group.
 fn some_station(dice: &mut Dice) -> Mac {
     let first = if dice.below(16) == 0 { 3 } else { 2 };
     Mac([first, 0, 0, 0, dice.below(3) as u8, dice.below(3) as u8])

@@ -1,4 +1,4 @@
-//! The table once more, as a list that is searched from end to end: a second opinion.
+//! The table again, as a list that is searched from end to end: an independent model.
 
 use pb_fdb::{Entry, Learnt};
 use pb_frame::Mac;
@@ -10,7 +10,7 @@ pub struct Plain {
     limit: usize,
     ageing: u32,
     pub entries: Vec<Entry>,
-    /// How often old entries made room for a station.
+    /// The number of times that old entries were dropped for a new station.
     pub sweeps: u32,
 }
 
@@ -55,7 +55,7 @@ impl Plain {
         }
     }
 
-    /// How many entries are not too old.
+    /// Returns how many entries are not too old.
     fn live(&self, now: u64) -> usize {
         let mut live = 0usize;
         for entry in &self.entries {
@@ -66,7 +66,7 @@ impl Plain {
         live
     }
 
-    /// Room for one more, if not as many as may be are live.
+    /// Drops old entries if the list is full. Returns whether one more entry fits.
     fn makes_room(&mut self, now: u64) -> bool {
         if self.live(now) >= self.limit {
             return false;
@@ -97,12 +97,12 @@ impl Plain {
     }
 }
 
-/// Whether an entry tells of a station in a service.
+/// Checks whether an entry is that of a station in a service.
 fn is_of(entry: &Entry, vid: u16, mac: Mac) -> bool {
     entry.vid == vid && entry.mac == mac
 }
 
-/// Whether an entry is not too old.
+/// Checks whether an entry is not too old.
 fn is_live(entry: &Entry, ageing: u32, now: u64) -> bool {
     now.saturating_sub(entry.learnt) < u64::from(ageing)
 }

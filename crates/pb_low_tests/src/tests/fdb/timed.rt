@@ -7,16 +7,16 @@ use pb_frame::Mac;
 use std::alloc::Global;
 use std::process::Abort;
 
-/// What is done with a table, or what it tells.
+/// A command to a table, or a check of it.
 #[derive(Clone, Copy)]
 pub enum Row {
-    /// So many ticks have passed since the first moment.
+    /// This many ticks have passed since the first moment.
     At(u64),
-    /// A station is seen in a service at a port, and this is learnt.
+    /// A station is seen in a service at a port, with this result of learning.
     Learns(u16, Mac, u8, Learnt),
-    /// So many stations 02-00-00-00-XX-XX, from number 0 on, are new in a service at a port.
+    /// This many stations 02-00-00-00-XX-XX, from number 0 on, are new in a service at a port.
     LearnsFirst(u16, u16, u8),
-    /// A station is found in a service at this port, or nowhere.
+    /// A station is found in a service at this port, or not at all.
     Finds(u16, Mac, Option<u8>),
     /// A port is flushed.
     Flushes(u8),
@@ -24,7 +24,7 @@ pub enum Row {
     Expires,
     /// These entries are kept, in this order.
     Has(&'static [Entry]),
-    /// So many entries are kept.
+    /// This many entries are kept.
     Counts(usize),
 }
 
@@ -53,7 +53,7 @@ impl Timed {
         }
     }
 
-    /// Whether a row is as it is told.
+    /// Checks whether a row holds.
     fn holds(&mut self, row: Row) -> bool {
         match row {
             Row::At(moment) => self.now = self.now.max(moment),
@@ -70,7 +70,7 @@ impl Timed {
         true
     }
 
-    /// Whether so many stations, from number 0 on, are new in a service at a port.
+    /// Checks whether this many stations, from number 0 on, are new in a service at a port.
     fn learns(&mut self, stations: u16, vid: u16, port: u8) -> bool {
         for number in 0..stations {
             if self.table.learn(vid, station(number), port, self.now) != Learnt::New {
@@ -81,13 +81,13 @@ impl Timed {
     }
 }
 
-/// The station 02-00-00-00-XX-XX of this number.
+/// Returns the station 02-00-00-00-XX-XX of this number.
 fn station(number: u16) -> Mac {
     let [high, low] = number.to_be_bytes();
     Mac([2, 0, 0, 0, high, low])
 }
 
-/// Whether the table has these entries in this order.
+/// Checks whether the table has these entries in this order.
 fn has(table: &Fdb, wanted: &[Entry]) -> bool {
     let mut entries = table.entries();
     for entry in wanted {
@@ -98,7 +98,7 @@ fn has(table: &Fdb, wanted: &[Entry]) -> bool {
     entries.next().is_none()
 }
 
-/// How many entries the table has.
+/// Returns how many entries the table has.
 fn count(table: &Fdb) -> usize {
     let mut count = 0usize;
     for _entry in table.entries() {

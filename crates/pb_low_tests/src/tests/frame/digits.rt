@@ -9,7 +9,7 @@ use std::test::Fail;
 
 const OCTETS: &[u8] = b"\x00\xaf\xfa";
 
-/// Whether these octets are read from digits.
+/// Checks whether these octets are read from digits.
 fn are_read(alloc: Global, digits: &[u8], octets: &[u8]) -> Result<bool, HexFault> {
     let read = hex_octets(alloc, digits)?;
     Ok(read.as_slice() == octets)
@@ -21,7 +21,7 @@ fn hexadecimal_is_read_in_either_case(rt: HostRuntime) -> Result<(), Fail> {
     Ok(())
 }
 
-/// Whether octets are written as these digits.
+/// Checks whether octets are written as these digits.
 fn are_written(alloc: Global, octets: &[u8], digits: &str) -> Result<bool, Memory> {
     let text = hex_text(alloc, octets)?;
     Ok(text.as_str() == digits)
@@ -33,7 +33,7 @@ fn hexadecimal_is_written_in_lower_case(rt: HostRuntime) -> Result<(), Fail> {
     Ok(())
 }
 
-/// Whether a text is refused for this.
+/// Checks whether a text is refused for this.
 fn is_refused(alloc: Global, text: &str, wanted: HexFault) -> bool {
     hex_read(alloc, text).err() == Some(wanted)
 }
@@ -54,19 +54,19 @@ fn capitals_are_found(rt: HostRuntime) {
     }
 }
 
-/// Whether octets are read from these digits, also where they are capitals.
+/// Checks whether octets are read from these digits, also if they are capitals.
 fn are_read_either(alloc: Global, digits: &str, octets: &[u8]) -> Result<bool, Fail> {
     let capitals = digits.to_ascii_uppercase(alloc)?;
     Ok(reads(alloc, digits, octets)? && reads(alloc, &capitals, octets)?)
 }
 
-/// Whether these octets are read from a text.
+/// Checks whether these octets are read from a text.
 fn reads(alloc: Global, digits: &str, octets: &[u8]) -> Result<bool, HexFault> {
     let read = hex_read(alloc, digits)?;
     Ok(read.as_slice() == octets)
 }
 
-/// Whether octets are read from what is written of them.
+/// Checks whether octets are read back from their digits.
 fn are_read_back(alloc: Global, octets: &[u8]) -> Result<bool, Fail> {
     let digits = hex_text(alloc, octets)?;
     are_read_either(alloc, &digits, octets)
@@ -91,7 +91,8 @@ fn what_is_no_digit_is_refused(rt: HostRuntime) {
     }
 }
 
-/// Whether what is no octets is refused, and takes no room of a buffer; nor do no digits.
+/// Checks whether digits that are no octets are refused without taking space of a buffer, and whether no digits take
+/// none.
 fn keeps_its_room(buffer: &mut BytesMut) -> bool
     requires { buffer.old.items ≡ [] }
     ensures { buffer.new.items ≡ [] }
@@ -107,7 +108,7 @@ fn keeps_its_room(buffer: &mut BytesMut) -> bool
     are_refused && third == 0 && buffer.capacity() == room
 }
 
-/// Whether the octets 17 take room of a buffer.
+/// Checks whether the octets of `17` take space of a buffer.
 fn takes_room(buffer: &mut BytesMut) -> Result<bool, HexFault>
     requires { buffer.old.items ≡ [] }
 {
@@ -126,7 +127,7 @@ fn octets_share_the_memory_of_a_buffer(rt: HostRuntime) -> Result<(), Fail> {
     Ok(())
 }
 
-/// Whether the octets are so many, and each is that of the digits 77.
+/// Checks whether there are this many octets, each that of the digits 77.
 fn are_sevens(octets: &[u8], count: usize) -> bool {
     for octet in octets {
         if *octet != 0x77 {
@@ -136,7 +137,7 @@ fn are_sevens(octets: &[u8], count: usize) -> bool {
     octets.len() == count
 }
 
-/// Whether digits, all 7, are read three times into one buffer.
+/// Checks whether digits, all 7, are read three times into one buffer.
 fn are_read_thrice(alloc: Global, digits: &[u8]) -> Result<bool, HexFault> {
     let mut buffer = BytesMut::new(alloc);
     let first = hex_octets_in(&mut buffer, digits)?;

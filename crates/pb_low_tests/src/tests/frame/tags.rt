@@ -9,12 +9,12 @@ use std::alloc::Global;
 use std::process::Abort;
 use std::test::Fail;
 
-/// What is done with a frame, or seen of it.
+/// A change of a frame, or a check of it.
 #[derive(Clone, Copy)]
 enum Case {
     /// With the tag of a VID, priority 0, it is this one.
     Tagged(u16, &'static [u8]),
-    /// The tag of this VID is taken off it, and this is left.
+    /// The tag of this VID is removed from it, and this frame remains.
     TakenOff(u16, &'static [u8]),
     /// No service tag is taken off it, for this.
     Stays(TagFault),
@@ -22,11 +22,11 @@ enum Case {
     Shows(Option<(u8, u8, u16)>),
     /// It has a priority tag of this priority, and is this one without it.
     HasPriority(u8, &'static [u8]),
-    /// This priority is taken off it, or none, and this is left.
+    /// This priority tag is removed from it, or none, and this frame remains.
     LosesPriority(Option<u8>, &'static [u8]),
 }
 
-/// A frame, and what holds of it.
+/// A frame, and a case that holds of it.
 type Row = (&'static [u8], Case);
 
 fn is_tagged(alloc: Global, frame: &Bytes, vid: u16, wanted: &[u8]) -> Result<bool, Memory> {
@@ -49,7 +49,7 @@ fn shows(frame: &[u8], wanted: Option<(u8, u8, u16)>) -> bool {
     }
 }
 
-/// Whether a frame has a priority tag of this priority.
+/// Checks whether a frame has a priority tag of this priority.
 fn says_priority(frame: &[u8], priority: u8) -> bool {
     frame.len() >= 18
         && has_service_type(frame)
@@ -79,7 +79,7 @@ fn loses_priority(
     Ok(priority == wanted && left.as_slice() == rest)
 }
 
-/// Whether a case holds of a frame.
+/// Checks whether a case holds of a frame.
 fn holds(alloc: Global, frame: &Bytes, case: Case) -> Result<bool, Fail> {
     match case {
         Case::Tagged(vid, wanted) => Ok(is_tagged(alloc, frame, vid, wanted)?),
@@ -91,7 +91,7 @@ fn holds(alloc: Global, frame: &Bytes, case: Case) -> Result<bool, Fail> {
     }
 }
 
-/// Each row holds.
+/// Checks that each row holds.
 fn all_hold(rt: &impl Abort, alloc: Global, rows: &[Row]) -> Result<(), Fail> {
     for (number, (octets, case)) in rows.iter().enumerate() {
         let frame = Bytes::from_static(octets);

@@ -10,7 +10,7 @@ use Rattle.pb_run.proofs.meet.meet_link.Given.{Over}
 use Rattle.pb_run.proofs.meet.meet_link.Goals.{After-index-as_slice-place}
 use Rattle.pb_run.proofs.meet.meet_link.Goals as goal
 
--- the link is the plan's, and so are its ends
+-- the link is the plan's, and its ends are these
 planned-link : (g : Over) (c : After-index-as_slice-place g)
     → slice_get c.args.plan.now.links c.args.place ≡ Some c.index-as_slice-place.result
 planned-link g c = here_is c.args.plan.now.links c.args.place c.index-as_slice-place.result c.requires.place

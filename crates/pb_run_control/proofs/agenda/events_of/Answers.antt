@@ -5,7 +5,7 @@ use Rattle.pb_run_control.proofs.EventLists.{taken, left_out}
 use Rattle.pb_run_control.proofs.agenda.events_of.Goals as goal
 use Rattle.pb_run_control.proofs.agenda.events_of.Goals.{then-event-bridge+in_ok-push, else-event-bridge}
 
--- what stands nowhere in a list
+-- an event for `get_or` past the end of the list
 abbrev nothing : PortEvent
 nothing = record { at = 0; bridge = 0; port = 0; up = false }
 

@@ -10,7 +10,7 @@ use Rattle.pb_net.proofs.Done.{bridge_kept, admin_done, answers_fault, answers_d
 use Rattle.pb_net.proofs.net.Net.admin.Goals as goal
 use Rattle.pb_net.proofs.net.Net.admin.Goals.{After-index_mut}
 
--- what stands at the spot, and that the port leads to a bridge
+-- the bridge at the spot, and that the port leads to a bridge
 at : (c : After-index_mut) → BridgeAt c.self.inside c.args.bridge c.args.port c.in-Some.spot c.index_mut.result.now
 at c = bridge_at c.self.inside c.self.invariant c.self.view_is c.in-Some.ensures.some c.index_mut.ensures.value
 

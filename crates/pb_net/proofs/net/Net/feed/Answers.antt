@@ -9,7 +9,7 @@ use Rattle.pb_net.proofs.Done.{customer_failed, feed_done, answers_memory, answe
 use Rattle.pb_net.proofs.net.Net.feed.Goals as goal
 use Rattle.pb_net.proofs.net.Net.feed.Goals.{After-index_mut-2}
 
--- what stands at the spot, and that the event is due
+-- the customer port at the spot, and that the event is due
 at : (c : After-index_mut-2) → CustomerAt c.self.inside c.args.port c.in-Some.spot c.index_mut.result.now
 at c = customer_at c.self.inside c.self.invariant c.self.view_is (rw c.in-Some.is at c.in_ok-spot.ensures.spot)
     c.index_mut.ensures.value

@@ -9,7 +9,7 @@ use Rattle.pb_net.proofs.Done.{lane_failed, put_done, answers_memory, answers_do
 use Rattle.pb_net.proofs.net.Net.put.Goals as goal
 use Rattle.pb_net.proofs.net.Net.put.Goals.{After-index_mut-2}
 
--- what stands at the spot, and that the event is due
+-- the lane at the spot, and that the event is due
 at : (c : After-index_mut-2) → EndAt c.self.inside c.args.lane c.in-Some.spot c.index_mut.result.now
 at c = end_at c.self.inside c.self.invariant c.self.view_is (rw c.in-Some.is at c.in_ok-spot.ensures.spot)
     c.index_mut.ensures.value

@@ -9,7 +9,7 @@ use Rattle.pb_net.proofs.SpotLemmas.{first_spot}
 use Rattle.pb_net.proofs.net.Net.tick.Goals as goal
 use Rattle.pb_net.proofs.net.Net.tick.Goals.{After-index_mut}
 
--- the bridge stands at the spot of its first port
+-- the bridge at the spot of its first port
 at : (c : After-index_mut) → BridgeAt c.self.inside c.args.bridge 1
     (record { place = c.in-Some.place; slot = 16 * c.in-Some.place }) c.index_mut.result.now
 at c =

@@ -11,7 +11,7 @@ use Rattle.pb_net.proofs.Done.{some_there, bridge_failed, transmit_done, answers
 use Rattle.pb_net.proofs.net.Net.transmit.Goals as goal
 use Rattle.pb_net.proofs.net.Net.transmit.Goals.{After-index_mut}
 
--- what stands at the spot, and that the event is due
+-- the bridge at the spot, and that the event is due
 at : (c : After-index_mut) → BridgeAt c.self.inside c.args.bridge c.args.port c.in-Some.spot c.index_mut-at.result.now
 at c = bridge_at c.self.inside c.self.invariant c.self.view_is (rw c.in-Some.is at c.in_ok-spot.ensures.spot)
     c.index_mut-at.ensures.value
