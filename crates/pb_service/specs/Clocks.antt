@@ -1,4 +1,4 @@
--- Whether the limits of a run go together.
+-- Whether the limits of a run agree with each other.
 use Rattle.std.specs.Prelude.{◌≡◌, ◌⊎◌, ℕ, List, codes, nat_lt, ◌==◌, Bool, true, false, ◌&&◌}
 use Rattle.pb_frame.specs.Admission.{same}
 use Rattle.pb_lan.specs.declared.limits.Limits.{Limits}
@@ -7,19 +7,19 @@ use Rattle.pb_service.specs.declared.fault.PlanFault.TheVariants.{Range, Memory}
 use Rattle.pb_service.specs.declared.section.KeyTable.TheVariants.{Network}
 use Rattle.pb_service.specs.Sections.{path_at}
 
--- bridges would tick by turns and by time
+-- bridges would tick both by turns and by time
 abbrev pub has_two_clocks : Limits → Bool
 has_two_clocks limits = nat_lt 0 limits.tick_every && nat_lt 0 limits.tick_ms
 
--- frames are held back until a clock has ticked, and none ticks
+-- frames are held until a clock has ticked, and no clock ticks
 abbrev pub holds_forever : Limits → Bool
 holds_forever limits = nat_lt 0 limits.hold && (limits.tick_every == 0 && limits.tick_ms == 0)
 
--- a capture's records would tell the time of day by a clock, and none ticks by time
+-- records are to have the time of day, and no clock ticks by time
 abbrev pub lacks_time : Limits → List ℕ → Bool
 lacks_time limits stamp = same stamp (codes "time") && limits.tick_ms == 0
 
--- the limits don't go together, in the way that the fault tells
+-- the limits contradict each other, and the fault has the key that does
 abbrev pub RefusesClocks : Limits → PlanFault → Type 0
 RefusesClocks limits (Range path) =
     ((has_two_clocks limits ≡ true) × (path ≡ path_at Network (codes "tick_ms")))
