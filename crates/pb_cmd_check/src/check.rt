@@ -1,4 +1,4 @@
-//! What a plan file tells.
+//! The command `check`.
 
 ghost use Rattle.std.specs.Prelude.{◌≡◌, ◌≢◌, ◌⊎◌, ◌++◌, List, ℕ, string_bytes, IfOk, IfErr, OnOk};
 ghost use Rattle.std.specs.Io.KnownBytes.{Appends, Keeps};
@@ -13,13 +13,13 @@ use pb_service::read_plan;
 use std::alloc::Global;
 use std::io::Write;
 
-/// The exit status where the file is a plan.
+/// The exit status for a plan.
 const TAKEN: u8 = 0;
 
-/// The exit status where it isn't.
+/// The exit status for a refused file.
 const REFUSED: u8 = 1;
 
-/// The line of a plan that is taken.
+/// Appends the line for a plan.
 fn put_plan(out: &mut String, plan: &Plan) -> Result<(), Memory>
     ensures { OnOk result (string_bytes out.new ≡ string_bytes out.old ++ plan_line plan.now) }
 {
@@ -34,7 +34,11 @@ fn put_plan(out: &mut String, plan: &Plan) -> Result<(), Memory>
     Ok(())
 }
 
-/// Puts what a plan file tells behind a text, and answers the exit status.
+/// Appends the text for a plan file, and returns the exit status.
+///
+/// # Errors
+///
+/// `Memory` if an allocation failed.
 fn put_check(alloc: Global, out: &mut String, file: &[u8]) -> Result<u8, Memory>
     ensures { IfOk result (λ status. (text : List ℕ) × (string_bytes out.new ≡ string_bytes out.old ++ text)
         × IsCheckText file.now status text) }
@@ -53,15 +57,17 @@ fn put_check(alloc: Global, out: &mut String, file: &[u8]) -> Result<u8, Memory>
     }
 }
 
-/// Reads a plan file, and writes whether it is one.
+/// Checks a plan file and writes the result. Returns the exit status: 0 for a plan, 1 for any other file.
 ///
-/// Of a plan: `ok bridges N links N services N ports N`, and `forest yes`, or `forest no` and a line
-/// `loop NAME` for each service whose Forwarding ports close a ring at the start, by name; the answer is
-/// the exit status 0. Of any other file: `plan: N WORD` with the number and the word of the rule that it
-/// breaks, and the key or name where there is one; the answer is 1.
+/// For a plan the text is `ok bridges N links N services N ports N`, and then `forest yes`, or `forest no` and a line
+/// `loop NAME` for each service whose forwarding ports form a loop at the start, sorted by name. For any other file it
+/// is `plan: N TEXT` with the number and the text of the rule that the file breaks, and the key or name if there is
+/// one.
 ///
-/// `Memory` is answered where memory ran out for the text, and then nothing was written; `Write` where a write
-/// failed, and then nothing is said of what was written. No other fault comes.
+/// # Errors
+///
+/// `Memory` if an allocation failed, and then nothing was written. `Write` if the write failed, and then it is not
+/// known how much was written. There are no other errors.
 pub fn run_check<W: Write>(alloc: Global, file: &[u8], writer: &mut W) -> Result<u8, CommandFault>
     ensures ok { IfOk result (λ status. (text : List ℕ) × Appends (W.contents writer.old) (W.contents writer.new) text
         × IsCheckText file.now status text) }

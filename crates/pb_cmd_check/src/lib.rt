@@ -1,4 +1,7 @@
-//! What a plan file tells, and what becomes of frames for the reserved addresses: the commands `check` and `show`.
+//! The commands `check` and `show`: they validate a plan, and print how reserved addresses are handled.
+//!
+//! It builds on pb_service for plan files, pb_reserved for reserved addresses and pb_report for texts.
+//! Begin with [`run_check`] in `check.rt` and [`run_show`] in `show.rt`.
 #![tactic(auto)]
 
 mod check;

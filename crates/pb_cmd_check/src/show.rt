@@ -1,4 +1,4 @@
-//! What becomes of frames for the reserved addresses.
+//! The command `show`.
 
 ghost use Rattle.std.specs.Prelude.{◌≡◌, OnOk, IfErr};
 ghost use Rattle.std.specs.Io.KnownBytes.{Appends};
@@ -7,7 +7,7 @@ ghost use Rattle.pb_cmd_check.specs.Shows.{fate_lines};
 use pb_messages::{CommandFault, write_whole};
 use std::io::Write;
 
-/// The address and the fate of each.
+/// A line for each reserved address: the address, and how a bridge handles frames for it.
 const FATES: &str = "\
 01-80-C2-00-00-00 carry\n\
 01-80-C2-00-00-01 filter\n\
@@ -26,9 +26,13 @@ const FATES: &str = "\
 01-80-C2-00-00-0E filter\n\
 01-80-C2-00-00-0F carry\n";
 
-/// Writes what becomes of frames for the addresses 01-80-C2-00-00-00 to -0F (IEEE 802.1Q clause 8,
-/// reserved addresses of an S-VLAN component): sixteen lines, each the address and `carry`, `filter`
-/// or `provider`. Takes no memory. `Write` is answered where a write failed, and nothing else.
+/// Writes how a bridge handles frames for the addresses 01-80-C2-00-00-00 to -0F (IEEE 802.1Q clause 8, reserved
+/// addresses of an S-VLAN component). The text has sixteen lines, each with an address and `carry`, `filter` or
+/// `provider`. Nothing is allocated.
+///
+/// # Errors
+///
+/// `Write` if the write failed. There are no other errors.
 pub fn run_show<W: Write>(writer: &mut W) -> Result<(), CommandFault>
     ensures ok { OnOk result (Appends (W.contents writer.old) (W.contents writer.new) fate_lines) }
     ensures err { IfErr result (λ e. e ≡ CommandFault.Write) }

@@ -1,4 +1,4 @@
--- A conversation, command by command.
+-- A conversation, command by command (used by `converse`).
 use Rattle.std.proofs.Common.{◌≡◌, ℕ, max, List, [], ◌∷◌, ◌++◌, length, Option, Some, None, flat_map, IfSome}
 use Rattle.std.specs.Bool.{⊤}
 use Rattle.std.proofs.Common.{refl, sym, ap, ◌∙◌, arith, append_assoc, append-nil, length-append}
@@ -11,14 +11,14 @@ use Rattle.pb_cmd_control.specs.Conversations.{HasConversed, IsPassedOn, PrintsA
 use Rattle.pb_cmd_control.proofs.AnswerLemmas.{AreAnswers-snoc, status_of_all-snoc}
 use Rattle.pb_cmd_control.specs.declared.answer.Verdict.{Verdict}
 
--- these commands were read of the input, and the others are those of what is held and left
+-- these commands were read, and the remaining ones are those of the held and the unread octets
 abbrev pub AreRead : Option (List ℕ) → List ℕ → Option (List ℕ) → List (List ℕ) → Type 0
 AreRead None held left commands = ⊤
 AreRead (Some octets) held None commands = ⊥
 AreRead (Some octets) held (Some rest) commands =
     cut_lines longest_command octets ≡ commands ++ cut_lines longest_command (held ++ rest)
 
--- a conversation of which some commands are answered
+-- a conversation in which some commands have their replies
 pub record Conversation (status : ℕ) (held : List ℕ)
     (input left sent sent_now came came_now printed printed_now : Option (List ℕ)) : Type 0 where
   pub commands : List (List ℕ)
@@ -62,7 +62,7 @@ one_read (Some octets) (Some rest) (Some rest') held held' command commands read
     read ∙ ap (λ z. commands ++ z) gives
     ∙ sym (append_assoc commands (command ∷ []) (cut_lines longest_command (held' ++ rest')))
 
--- a command is sent and answered
+-- a command is sent and its reply printed
 pub goes_on : (status : ℕ) (verdict : Verdict) (held held' command : List ℕ)
     (input mid left sent sent_now sent_then came came_now came_then printed printed_now printed_then : Option (List ℕ))
     → Conversation status held input mid sent sent_now came came_now printed printed_now
@@ -100,7 +100,7 @@ all_read None left held commands read none = tt
 all_read (Some octets) None held commands read none = absurd read
 all_read (Some octets) (Some rest) held commands read none = read ∙ ap (λ z. commands ++ z) none ∙ append-nil commands
 
--- no command is left
+-- the conversation is complete if no command remains
 pub finishes : (status : ℕ) (held : List ℕ) (input left sent sent_now came came_now printed printed_now : Option
     (List ℕ))
     → Conversation status held input left sent sent_now came came_now printed printed_now
@@ -119,7 +119,7 @@ finishes status held input left sent sent_now came came_now printed printed_now 
   status_is = so_far.status_is;
 }
 
--- at any command whole answers are printed
+-- before any command, whole replies are printed
 pub prints : (status : ℕ) (held : List ℕ) (input left sent sent_now came came_now printed printed_now : Option (List ℕ))
     → Conversation status held input left sent sent_now came came_now printed printed_now
     → PrintsAnswers printed printed_now

@@ -2,8 +2,8 @@
 use Rattle.std.specs.Prelude.{ℕ, Bool, true, false, List, [], ◌∷◌, ◌++◌, codes, nat_eq, if◌then◌else◌}
 use Rattle.std.specs.Cmp.Lexicographic.{pointwise}
 
--- a line for each command: its arguments with one space between them. The argument `--` ends a command, and the last
--- one ends by itself. The flag says whether a command begins
+-- a line for each command, with its arguments and one space between them, if the argument `--` ends a command (the flag
+-- says whether a command begins)
 abbrev pub lines_of_arguments : Bool → List (List ℕ) → List ℕ
 lines_of_arguments begins [] = 10 ∷ []
 lines_of_arguments begins (argument ∷ arguments) =

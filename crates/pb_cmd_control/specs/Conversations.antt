@@ -1,31 +1,32 @@
--- What a conversation with a control socket has sent, received and printed.
+-- The octets that a conversation with a control socket has sent, received and printed.
 use Rattle.std.specs.Prelude.{◌≡◌, ℕ, List, [], ◌∷◌, ◌++◌, length, flat_map, Option, IfSome}
 use Rattle.std.specs.Io.KnownBytes.{Appends, Consumes}
 use Rattle.pb_lines.specs.Lines.{cut_lines}
 use Rattle.pb_cmd_control.specs.Answers.{IsAnswer, AreAnswers, status_of_all}
 use Rattle.pb_cmd_control.specs.declared.answer.Verdict.{Verdict}
 
--- the most octets of a command, but for one that tells of more
+-- the maximum length of a command (a longer line is sent with one octet more)
 abbrev pub longest_command : ℕ
 longest_command = 256
 
--- a command as it is sent: with its LF
+-- a command as it is sent, with its line feed
 abbrev pub sent_line : List ℕ → List ℕ
 sent_line command = command ++ 10 ∷ []
 
--- an answer came, and just that was printed
+-- a reply came, and exactly this was printed
 pub record IsPassedOn (verdict : Verdict) (came came_after printed printed_after : Option (List ℕ)) : Type 0 where
   pub text : List ℕ
   pub is_answer : IsAnswer verdict text
   pub has_come : Consumes came came_after text
   pub is_printed : Appends printed printed_after text
 
--- whole answers were printed, and nothing else
+-- whole replies were printed, and nothing else
 abbrev pub PrintsAnswers : Option (List ℕ) → Option (List ℕ) → Type 0
 PrintsAnswers printed printed_after =
     (verdicts : List Verdict) × (text : List ℕ) × AreAnswers verdicts text × Appends printed printed_after text
 
--- each line of the input was sent, and got its answer; just these answers came and were printed; the status is theirs
+-- each line of the input was sent and got its reply, exactly these replies came and were printed, and the status is
+-- theirs
 pub record HasConversed (status : ℕ)
     (input sent sent_after came came_after printed printed_after : Option (List ℕ)) : Type 0 where
   pub commands : List (List ℕ)

@@ -1,4 +1,4 @@
--- The fault of a conversation whose commands can't be read.
+-- The faults of a conversation by those of the line reader.
 use Rattle.pb_lines.specs.declared.LineFault.{LineFault}
 use Rattle.pb_lines.specs.declared.LineFault.TheVariants.{Read as line_unread, Memory as line_unheld}
 use Rattle.pb_cmd_control.specs.declared.fault.ControlFault.{ControlFault}

@@ -1,4 +1,4 @@
-//! Answers of a control socket.
+//! Replies of a control socket.
 
 ghost use Rattle.std.specs.Prelude.{◌≡◌, ◌↔◌, ◌++◌, IsTrue, IfOk, IfSome, IfNone, List, ℕ, OnOk};
 ghost use Rattle.std.specs.Io.KnownBytes.{Consumes};
@@ -9,25 +9,25 @@ use crate::fault::ControlFault;
 use std::alloc::Global;
 use std::io::{ErrorKind, Read};
 
-/// How many octets are read at a time.
+/// The number of octets that are read at a time.
 const CHUNK: usize = 4096;
 
-/// The most octets after which an answer has to end. The longest one of a run has less than 16,384.
+/// The number of octets after which a reply must have ended. The longest reply of a run has less than 16,384.
 const LONGEST: usize = 65_536;
 
-/// How an answer ends.
+/// The result that the last line of a reply gives.
 #[derive(Clone, Copy, Debug, PartialEq, Eq)]
 pub enum Verdict {
     /// `ok`: the command is done.
     Done,
     /// `no such`: the plan lacks the bridge, or its port leads to no other bridge.
     NoSuch,
-    /// `bad`: no command reads so.
+    /// `bad`: there is no such command.
     Bad,
 }
 
 impl Verdict {
-    /// Returns the exit status of a command that ended so: 0 for `ok`, 4 for `no such` and `bad`.
+    /// Returns the exit status for a command with this result: 0 for `ok`, 4 for `no such` and `bad`.
     pub(crate) fn status(self) -> u8
         ensures { result ≡ status_of self }
     {
@@ -38,7 +38,7 @@ impl Verdict {
     }
 }
 
-/// Returns whether a text is no line, or lines that all have their LF.
+/// Returns whether a text is empty or ends with a line feed.
 fn are_whole_lines(text: &[u8]) -> bool
     ensures { IsTrue result ↔ AreWholeLines text.now }
 {
@@ -48,7 +48,7 @@ fn are_whole_lines(text: &[u8]) -> bool
     }
 }
 
-/// Returns whether a text is lines, of which this is the last one.
+/// Returns whether a text consists of whole lines, of which this is the last one.
 fn ends_with_line(text: &[u8], line: &[u8]) -> bool
     ensures { IsTrue result ↔ EndsWithLine line.now text.now }
 {
@@ -59,7 +59,7 @@ fn ends_with_line(text: &[u8], line: &[u8]) -> bool
     last == line && are_whole_lines(lines)
 }
 
-/// Returns the verdict of a text that is an answer.
+/// Returns the result of a text, if the text is a whole reply.
 fn verdict_of(text: &[u8]) -> Option<Verdict>
     ensures some { IfSome result (λ verdict. IsAnswer verdict text.now) }
     ensures none { IfNone result ((verdict : Verdict) → IsAnswer verdict text.now → ⊥) }
@@ -76,7 +76,11 @@ fn verdict_of(text: &[u8]) -> Option<Verdict>
     None
 }
 
-/// Appends to a text what comes next. The fault is that nothing comes any more, or that an allocation failed.
+/// Appends the octets of one read. An interrupted read appends nothing.
+///
+/// # Errors
+///
+/// `HungUp` if the other side has closed or the read failed, `Memory` if an allocation failed.
 fn read_more<R: Read>(answers: &mut R, text: &mut Vec<u8>) -> Result<(), ControlFault>
     ensures { OnOk result ((more : List ℕ) × Consumes (R.remaining answers.old) (R.remaining answers.new) more
         × (text.new.items ≡ text.old.items ++ more)) }
@@ -93,15 +97,19 @@ fn read_more<R: Read>(answers: &mut R, text: &mut Vec<u8>) -> Result<(), Control
     }
 }
 
-/// An answer as it came, and how it ends.
+/// A reply as it came, with its result.
 #[derive(Drop)]
 pub(crate) struct Answer {
     pub text: Vec<u8>,
     pub verdict: Verdict,
 }
 
-/// Reads the next answer. The fault is `HungUp` if the other side hangs up before, or sends more than [`LONGEST`]
-/// octets that are no answer; `Memory` if an allocation failed.
+/// Reads the next reply.
+///
+/// # Errors
+///
+/// `HungUp` if the other side hangs up before the reply has ended, or sends more than [`LONGEST`] octets that are no
+/// reply. `Memory` if an allocation failed.
 pub(crate) fn read_answer<R: Read>(alloc: Global, answers: &mut R) -> Result<Answer, ControlFault>
     ensures came { IfOk result (λ answer.
         Consumes (R.remaining answers.old) (R.remaining answers.new) answer.text.items) }

@@ -8,9 +8,10 @@ use std::alloc::{AllocError, Global};
 /// The argument that ends a command.
 const END: &str = "--";
 
-/// Returns the commands that these arguments give, a line each: the arguments of a command with one space between them.
-/// The argument `--` ends a command, and the last one ends by itself. So `down B1 1 -- stop` gives `down B1 1` and
-/// `stop`.
+/// Returns the commands that these arguments give, one line for each: the arguments of a command with one space between
+/// them.
+///
+/// The argument `--` ends a command. The last command needs none. `down B1 1 -- stop` gives `down B1 1` and `stop`.
 ///
 /// # Errors
 ///

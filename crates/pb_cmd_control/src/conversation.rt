@@ -10,10 +10,14 @@ use pb_lines::{Found, LineReader};
 use std::alloc::Global;
 use std::io::{Read, Write};
 
-/// The most octets of a command. Of a longer one one octet more is sent, and the run answers `bad`.
+/// The maximum length of a command in octets. A longer line is sent up to one octet more, and the run replies `bad`.
 const LONGEST: usize = 256;
 
-/// Sends a command as a line. The fault is `HungUp` or `Memory`.
+/// Sends a command as a line.
+///
+/// # Errors
+///
+/// `HungUp` if the write failed, `Memory` if an allocation failed.
 fn send<Q: Write>(alloc: Global, command: &[u8], requests: &mut Q) -> Result<(), ControlFault>
     ensures sent { OnOk result (Appends (Q.contents requests.old) (Q.contents requests.new) (sent_line command.now)) }
     ensures kinds { IfErr result (λ e. e ≢ ControlFault.Output) }
@@ -26,7 +30,11 @@ fn send<Q: Write>(alloc: Global, command: &[u8], requests: &mut Q) -> Result<(),
     }
 }
 
-/// Prints an answer at once. The fault is `Output`.
+/// Prints a reply and flushes the output.
+///
+/// # Errors
+///
+/// `Output` if either failed.
 fn print<W: Write>(text: &[u8], out: &mut W) -> Result<(), ControlFault>
     ensures ok { OnOk result (Appends (W.contents out.old) (W.contents out.new) text.now) }
     ensures kinds { IfErr result (λ e. e ≡ ControlFault.Output) }
@@ -37,7 +45,11 @@ fn print<W: Write>(text: &[u8], out: &mut W) -> Result<(), ControlFault>
     Ok(())
 }
 
-/// Sends a command, and prints its answer once that came whole.
+/// Sends a command, reads the whole reply and prints it. Returns the result of the reply.
+///
+/// # Errors
+///
+/// The faults of [`converse`].
 fn ask<Q: Write, R: Read, W: Write>(
     alloc: Global,
     command: &[u8],
@@ -56,16 +68,16 @@ fn ask<Q: Write, R: Read, W: Write>(
     Ok(answer.verdict)
 }
 
-/// Sends each line of the input as a command, and prints the answer to each before it reads the next line. Of a line of
-/// more than 256 octets it sends 257, to which a run answers `bad`.
+/// Sends each line of the input as a command, and prints the reply before it reads the next line. A line of more than
+/// 256 octets is sent up to its 257th, and a run replies `bad` to it.
 ///
-/// Returns the exit status: 0 if each command was answered by `ok`, else 4.
+/// Returns the exit status: 0 if the result of each command is `ok`, else 4.
 ///
 /// # Errors
 ///
-/// `HungUp` if the other side hangs up before it has answered a command, or sends more than 65,536 octets that end no
-/// answer; `Input` if the input can't be read; `Memory` if an allocation failed. Then the answers to the commands
-/// before are printed whole, and nothing else. `Output` if an answer can't be printed.
+/// `HungUp` if the other side hangs up before its reply has ended, or sends more than 65,536 octets that are no reply.
+/// `Input` if the input can't be read. `Memory` if an allocation failed. After these the replies to the earlier
+/// commands are printed whole, and nothing else. `Output` if a reply can't be printed.
 pub fn converse<I: Read, Q: Write, R: Read, W: Write>(
     alloc: Global,
     input: &mut I,

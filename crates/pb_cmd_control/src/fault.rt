@@ -1,4 +1,4 @@
-//! Why a conversation ended early.
+//! The reasons why a conversation ends early.
 
 ghost use Rattle.std.specs.Prelude.{◌≡◌};
 ghost use Rattle.pb_cmd_control.specs.declared.fault.ControlFault.TheVariants.{Memory as memory_fault};
@@ -8,16 +8,16 @@ use pb_lines::LineFault;
 use std::alloc::{AllocError, AllocFailed};
 use thiserror::Error;
 
-/// Why a conversation with a control socket ended early. Its text is the word that follows `fault: `.
+/// A reason why a conversation with a control socket ends early. Its text follows `fault: ` on standard error.
 #[derive(Clone, Copy, Debug, PartialEq, Eq, Error)]
 pub enum ControlFault {
-    /// The run hung up before it answered a command, or sent more than 65,536 octets that end no answer.
+    /// The run hung up before its reply ended, or sent more than 65,536 octets that are no reply.
     #[error("read")]
     HungUp,
     /// The commands can't be read.
     #[error("read")]
     Input,
-    /// An answer can't be printed.
+    /// A reply can't be printed.
     #[error("write")]
     Output,
     /// An allocation failed.

@@ -1,7 +1,7 @@
-//! The command `control`: sends commands to a running network by its control socket, and prints what it answers.
+//! The command `control`: sends commands to the control socket of a running network, and prints the replies.
 //!
-//! [`converse`] sends each line of its input, waits for the answer and prints it, over any reader and writer. Begin
-//! reading there. [`command_lines`] makes such an input of the arguments of a command line.
+//! It reads lines with pb_lines and works over any reader and writer. Begin with [`converse`] in `conversation.rt`.
+//! [`command_lines`] turns the arguments of a command line into its input.
 #![tactic(auto)]
 
 mod answer;

@@ -1,4 +1,4 @@
--- The bridge takes a frame in.
+-- The bridge receives a frame (used by `Switch::handle`).
 use Rattle.std.proofs.Common.{◌≡◌, ℕ, ◌+◌, ◌≤◌, ◌==◌, ◌&&◌, inl, inr, Bool, true, false, not, if◌then◌else◌, List, []}
 use Rattle.std.proofs.Common.{◌∷◌, ◌++◌, None, length, refl, sym, ap, subst, ◌∙◌, arith, append-nil, length-append}
 use Rattle.std.specs.List.{list_any}
@@ -32,7 +32,7 @@ use Rattle.pb_cmd_flat.specs.Receipts.{receipts, receipt_by}
 use Rattle.pb_cmd_flat.proofs.FlatPlanLaws.{flat_port-at}
 use Rattle.pb_cmd_flat.proofs.StepLengths.{length-more}
 
--- what the bridge may rule at a customer port
+-- the rulings that are possible at a customer port of this plan
 abbrev IsPlainRuling : Ruling → Type 0
 IsPlainRuling (Refuses reason) = Unit {0}
 IsPlainRuling Listens = ⊥
@@ -45,7 +45,7 @@ plain_ruling : (plan : Plan) (c : CustomerPlan) (state : PortState) (item : Item
 plain_ruling plan c state item =
     refusing-is IsPlainRuling (customer_reasons item) (Carries (vid_at plan c)) (λ r. tt) tt
 
--- a Receive there moves nothing
+-- a Receive step at such a port reports no change of port states
 unmoved : (plan : Plan) (earlier : List Step) (port : ℕ) (item : Item) (learnt : Option Learnt) (outcome : Outcome)
     (moved : Option Moved) (g : Ruling)
     → IsPlainRuling g → Follows spanning_tree plan 1 earlier port item learnt outcome moved g → moved ≡ None
@@ -65,7 +65,7 @@ customer_unmoved plan earlier port c item learnt outcome moved there fits =
     (subst (λ (p : Port). IsPlainRuling (ruling_by spanning_tree plan p (state_after plan 1 earlier port) item))
     (sym there) (plain_ruling plan c (state_after plan 1 earlier port) item)) fits
 
--- at most one copy is queued at a port, and none where the frame came in
+-- at most one copy is queued at a port, and none at the port at which the frame entered
 copies_few : (plan : Plan) (port : ℕ) (item : Item) (outcome : Outcome) (exit : ℕ)
     → length (copies plan 1 port item outcome exit) ≤ 1
 copies_few plan port item (Relayed chosen refused) exit =
@@ -94,7 +94,7 @@ no_copy_back plan earlier port item learnt (Relayed chosen refused) moved fits =
 no_copy_back plan earlier port item learnt (Filtered reason) moved fits = refl
 no_copy_back plan earlier port item learnt Heard moved fits = refl
 
--- what waits after a Receive that moved nothing: what waited, and a copy
+-- after such a step, the items that waited and the copy wait
 waiting_received : (plan : Plan) (steps : List Step) (port exit : ℕ) (item : Item) (learnt : Option Learnt)
     (outcome : Outcome)
     → length (waiting plan 1 exit (steps ++ Received port item learnt outcome None ∷ [])) ≡ length
@@ -104,21 +104,21 @@ waiting_received plan steps port exit item learnt outcome =
     ∙ ap (λ ws. length (waiting plan 1 exit steps ++ ws)) (append-nil (copies plan 1 port item outcome exit))
     ∙ length-append (waiting plan 1 exit steps) (copies plan 1 port item outcome exit)
 
--- what waits at the bridge of the plan
+-- the items that wait at the bridge of this plan
 pub waits-alone : (ports : ℕ) (bridge : BridgeView) → IsAlone ports bridge → (n : ℕ)
     → waits bridge n ≡ length (waiting (flat_plan ports) 1 n bridge.steps)
 waits-alone ports bridge alone n =
     ap (λ (p : Plan). length (waiting p bridge.number n bridge.steps)) alone.plan
     ∙ ap (λ k. length (waiting (flat_plan ports) k n bridge.steps)) alone.number
 
--- its ports are in use
+-- the local ports of the bridge are in use
 pub used-alone : (ports : ℕ) (bridge : BridgeView) → IsAlone ports bridge → (n : ℕ) → 1 ≤ n → n ≤ ports
     → is_used (port_at bridge.plan bridge.number n) ≡ true
 used-alone ports bridge alone n low high =
     ap (λ (p : Plan). is_used (port_at p bridge.number n)) alone.plan
     ∙ ap (λ k. is_used (port_at (flat_plan ports) k n)) alone.number ∙ ap is_used (flat_port-at ports n low high)
 
--- at most a copy waits at each port
+-- after a frame was received, at most one copy waits at each port
 pub admitted_waiting : (ports port : ℕ) (frame : List ℕ) (old new : BridgeView) → IsQuiet ports old → 1 ≤ port
     → port ≤ ports → HasAdmitted port frame old new → IsWaiting ports port new
 admitted_waiting ports port frame old new quiet from to (outcome, (learnt, moved, appended, fits_there)) =

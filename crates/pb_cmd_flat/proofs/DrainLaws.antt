@@ -1,4 +1,4 @@
--- The bridge's ports send what waits there.
+-- The ports of the bridge send what waits there (used by `drain` and `Switch::handle`).
 use Rattle.std.proofs.Common.{◌≡◌, ℕ, suc, ◌+◌, ◌<◌, ◌≤◌, ◌==◌, inl, inr, max, cond, true, false, nat_le}
 use Rattle.std.proofs.Common.{nat_lt, List, [], ◌∷◌, ◌++◌, length, refl, sym, ap, subst, ◌∙◌, arith, append-nil}
 use Rattle.std.proofs.Common.{ne_eqb}
@@ -25,14 +25,14 @@ use Rattle.pb_cmd_flat.proofs.AdmitLaws.{waits-alone}
 gtb : (a b : ℕ) → b < a → nat_le a b ≡ false
 gtb a b h = elim (leb_tells a b) [ inl r ↦ absurd (omega (arith, r.1, h)) | inr r ↦ r.0 ]
 
--- the only one that waits leaves nothing behind
+-- nothing waits after the only item has left
 alone : (ws : List Waiting) → length ws ≤ 1 → length (without (highest ws) ws) ≡ 0
 alone [] few = refl
 alone (w ∷ []) few = let top : (w.class == max w.class 0) ≡ true = eq-eqb w.class (max w.class 0) (omega arith) in ap
     (λ b. length (cond b [] (w ∷ []))) top
 alone (w ∷ v ∷ ws) few = absurd (omega arith)
 
--- a frame leaves
+-- the items that wait at a port after a Transmit step
 waiting-sent : (plan : Plan) (r p : ℕ) (steps : List Step) (item : Item)
     → waiting plan 1 r (steps ++ Transmitted p item ∷ []) ≡ cond (p == r)
     (without (highest (waiting plan 1 r steps)) (waiting plan 1 r steps)) (waiting plan 1 r steps)
@@ -40,7 +40,7 @@ waiting-sent plan r p steps item =
     waiting_from-append plan 1 r [] steps (Transmitted p item) ∙ ap (λ ws. cond (p == r) (without (highest ws) ws) ws)
     (append-nil (waiting plan 1 r steps))
 
--- what a port's sending changes
+-- the effect of one port's turn on the bridge
 pub record Drained (ports q : ℕ) (old new : BridgeView) : Type 0 where
   pub alone : IsAlone ports new
   pub same : receipts new.steps ≡ receipts old.steps
@@ -94,7 +94,7 @@ drained ports q old new alone_there (one item some appended) =
       none = λ e. absurd (omega (arith, e, some));
     }
 
--- past a port
+-- the flag that the entry port was passed, after another port
 flag_past : (port q : ℕ) → (q ≡ port → ⊥) → nat_lt port (q + 1) ≡ nat_lt port q
 flag_past port q ne =
     elim (leb_tells (suc port) q) [
@@ -115,7 +115,7 @@ flag_at port = le-leb (suc port) (port + 1) (omega arith)
 flag_not_yet : (port : ℕ) → nat_lt port port ≡ false
 flag_not_yet port = gtb (suc port) port (omega arith)
 
--- past each port
+-- the ports up to this one have sent, after the turn of this one
 pub draining_next : (ports port q : ℕ) (old mid new : BridgeView) → IsDraining ports port q old mid → 1 ≤ q
     → q ≤ ports → HasDrained q mid new → IsDraining ports port (q + 1) old new
 draining_next ports port q old mid new so_far low high sent =
@@ -147,7 +147,7 @@ draining_next ports port q old mid new so_far low high sent =
       ];
     }
 
--- at the end the bridge is quiet again
+-- the bridge is quiet after the turn of the last port
 pub quiet_again : (ports port : ℕ) (old bridge : BridgeView) → ports ≤ 16 → port ≤ ports
     → IsDraining ports port (ports + 1) old bridge → AllByRecursion IsClear old.steps → IsQuiet ports bridge
 quiet_again ports port old bridge most to end clear = record {

@@ -1,4 +1,4 @@
--- The bridge at its start, and once it has handled a frame.
+-- The bridge at its start, and after it has handled a frame (used by `Switch::new` and `Switch::handle`).
 use Rattle.std.proofs.Common.{◌≡◌, ℕ, ◌+◌, ◌-◌, ◌≤◌, Bool, true, false, List, [], ◌∷◌, ◌++◌}
 use Rattle.std.proofs.Common.{refl, sym, ap, subst, ◌∙◌, arith}
 use Rattle.std.specs.List.{AllByRecursion}
@@ -27,7 +27,7 @@ quiet_start ports = record {
   calm = λ n low high. refl;
 }
 
--- a frame whose step is known was admitted, and this is what the step tells
+-- the bridge has received the frame that a counted step reports, with the outcome of the step
 abbrev pub admitted : (port : ℕ) (frame : List ℕ) (step : Step) (old new : BridgeView)
     → HasCounted old port (arriving frame) step new → HasAdmitted port frame old new
 admitted port frame step old new (learnt, outcome, moved, is, appended, fits) = (
@@ -55,7 +55,7 @@ pub received_admitted : (port : ℕ) (frame digits : List ℕ) (step : Step) (ol
 received_admitted port frame digits step old new hex h = subst (IsToldBy digits)
     (sym (step_is port frame step old new h)) hex
 
--- one frame more was received
+-- one more frame was received
 pub told_admitted : (port : ℕ) (frame : List ℕ) (old new : BridgeView) → (adm : HasAdmitted port frame old new)
     → receipts new.steps ≡ receipts old.steps ++ receipt_one port frame adm.0
 told_admitted port frame old new (outcome, (learnt, moved, appended, fits)) =

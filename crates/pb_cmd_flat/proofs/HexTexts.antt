@@ -1,4 +1,4 @@
--- Hexadecimal texts.
+-- Hexadecimal texts (used by `hex_of` and `bare_hex`).
 use Rattle.std.proofs.Common.{◌≡◌, ℕ, suc, ◌<◌, ◌/◌, ◌%◌, List, [], ◌∷◌, ◌++◌, length, get_or, refl, sym, ap, ◌∙◌}
 use Rattle.std.proofs.Common.{arith, map}
 use Rattle.std.specs.List.{range_with_len}
@@ -9,7 +9,7 @@ use Rattle.pb_frame.specs.Hex.{hex_text, lower_digit}
 same_digits : map (λ n. get_or lower_digits n 0) (range_with_len 0 16) ≡ map lower_digit (range_with_len 0 16)
 same_digits = refl
 
--- the digit of the table is the one that is told by cases
+-- the digit of the crate hex is that of the definition
 same_digit : (n : ℕ) → n < 16 → get_or lower_digits n 0 ≡ lower_digit n
 same_digit n h =
     sym (get_or-map-range_with_len (λ m. get_or lower_digits m 0) 0 16 n n 0 h (omega arith))

@@ -1,4 +1,4 @@
--- A run over lines, line by line.
+-- A run over lines, line by line (used by `answer_lines` and `run_flat`).
 use Rattle.std.proofs.Common.{◌≢◌, ◌≡◌, ℕ, suc, ◌+◌, ◌-◌, ◌^◌, ◌≤◌, List, [], ◌∷◌, ◌++◌, length, take}
 use Rattle.std.proofs.Common.{map, Option, Some, None, refl, sym, ap, subst, ◌∙◌, arith, append_assoc, append-nil}
 use Rattle.std.proofs.Common.{add-one, length-append}
@@ -15,7 +15,7 @@ use Rattle.pb_cmd_flat.specs.Progress.{Prints, PrintsBeginning, Progress, least_
 use Rattle.pb_messages.specs.declared.fault.CommandFault.{CommandFault}
 use Rattle.pb_messages.specs.declared.fault.CommandFault.TheVariants.{Read, Write, Steps, Memory}
 
--- one line more
+-- the output of the first lines, and that of one more
 Answers-snoc : (limit ports n : ℕ) (front : List (List ℕ)) (line : List ℕ) (old mid new : List Receipt)
     (text more : List ℕ)
     → Answers limit ports n front old mid text → Answer limit ports (n + length front) line mid new more
@@ -34,7 +34,7 @@ Answers-snoc limit ports n (l ∷ front) line old mid new text more (between, he
       ap (λ z. z ++ more) e ∙ append_assoc head tail more,
     )
 
--- a line that was cut is answered as the whole line is
+-- a line that was cut to one octet above the limit has the output of the whole line
 Answer-uncut : (limit ports n : ℕ) (line : List ℕ) (old new : List Receipt) (text : List ℕ)
     → Answer limit ports n (take (limit + 1) line) old new text → Answer limit ports n line old new text
 Answer-uncut limit ports n [] old new text a =
@@ -82,7 +82,7 @@ starts limit ports (Some octets) held before e = record {
   answers = (refl, refl);
 }
 
--- a line is answered
+-- progress goes on with the output of a line
 pub goes_on : (limit ports n : ℕ) (input mid left before now after : Option (List ℕ)) (held held' line text : List ℕ)
     (old new : List Receipt)
     → Progress limit ports n input held mid before now old → GivesLine limit mid held left held' line
@@ -104,7 +104,7 @@ goes_on limit ports n (Some octets) (Some rest) (Some rest') before now after he
       answers = Answers-snoc limit ports 1 p.front line [] old new p.text text p.answers (rw at_n a);
     }
 
--- no line is left
+-- the output is complete if no line remains
 pub finishes : (limit ports n : ℕ) (input left before now after : Option (List ℕ)) (held : List ℕ) (steps : List Step)
     → IsFlatPast ports steps → Progress limit ports n input held left before now (receipts steps)
     → HasNoLine limit left held → Keeps now after
@@ -118,7 +118,7 @@ finishes limit ports n (Some octets) (Some rest) before now after held steps pas
       (steps, past, Answers-uncut limit ports 1 (lines_of octets) [] (receipts steps) p.text (rw all p.answers)),
     )
 
--- at any line what is written are the answers to the first lines
+-- before any line, the output of the first lines is written whole
 pub has_begun : (fault : CommandFault) (limit ports n : ℕ) (input left before now : Option (List ℕ)) (held : List ℕ)
     (steps : List Step)
     → IsFlatPast ports steps → Progress limit ports n input held left before now (receipts steps)
@@ -145,7 +145,7 @@ has_begun fault limit ports n (Some octets) (Some rest) before now held steps pa
 pub fresh : (ports : ℕ) → IsFlatPast ports []
 fresh ports = record { lawful = tt; clear = tt }
 
--- before anything is read
+-- before anything is read, nothing is written
 pub begins : (fault : CommandFault) (limit ports : ℕ) (input before : Option (List ℕ)) → fault ≢ Steps
     → PrintsBeginning fault limit ports input before before
 begins fault limit ports None before ne = tt

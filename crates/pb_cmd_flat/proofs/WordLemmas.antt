@@ -1,4 +1,4 @@
--- A line has one reading.
+-- A line has one reading (used by `read_frame_line`).
 use Rattle.std.proofs.Common.{◌≡◌, ◌≢◌, ℕ, zero, suc, ◌+◌, ◌-◌, ◌*◌, ◌<◌, ◌≤◌, Bool, true, false, ◌&&◌, List, [], ◌∷◌}
 use Rattle.std.proofs.Common.{◌++◌, length, drop, get_or, Some, None, refl, sym, ap, ◌∙◌, arith, codes}
 use Rattle.std.proofs.Common.{cond, leb, leb-true, nat_eq}
@@ -21,7 +21,7 @@ test_of : (b : Bool) (n p : ℕ) → cond b (Some n) None ≡ Some p → b ≡ t
 test_of true n p e = refl
 test_of false n p e = cc
 
--- a port's digits have no space
+-- the digits of a port have no space
 pub port_has_no_space : (digits : List ℕ) (p : ℕ) → port_of digits ≡ Some p → (k : ℕ) → k < length digits
     → get_or digits k 0 ≢ 32
 port_has_no_space [] p e k h = absurd (omega arith)
@@ -52,7 +52,7 @@ pub space_in : (a x : List ℕ) → HasNoSpace (a ++ 32 ∷ x) → ⊥
 space_in [] x none = none 0 (omega arith) refl
 space_in (y ∷ a) x none = space_in a x (λ k h. none (suc k) (omega arith))
 
--- a text is parted at its first space in one way
+-- a text is divided at its first space in one way
 pub split_unique : (a b x y : List ℕ) → HasNoSpace a → HasNoSpace b → a ++ 32 ∷ x ≡ b ++ 32 ∷ y → (a ≡ b) × (x ≡ y)
 split_unique [] [] x y na nb e = (refl, cc)
 split_unique [] (c ∷ b) x y na nb e = let head : c ≡ 32 = cc in absurd (nb 0 (omega arith) head)
@@ -63,7 +63,7 @@ split_unique (d ∷ a) (c ∷ b) x y na nb e =
     let rest = split_unique a b x y (λ k h. na (suc k) (omega arith)) (λ k h. nb (suc k) (omega arith)) tail in
     (let same : a ≡ b = rest.0 in cc, rest.1)
 
--- the parts that are read are the line's parts
+-- the parts that are read are those of the line
 pub same_parts : (limit ports : ℕ) (line digits hex : List ℕ) (port : ℕ) (frame : List ℕ)
     (l : IsFrameLine limit ports line port frame) → HasNoSpace digits
     → drop 3 line ≡ digits ++ 32 ∷ hex → (l.digits ≡ digits) × (l.hex ≡ hex)

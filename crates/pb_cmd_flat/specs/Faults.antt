@@ -1,4 +1,4 @@
--- What ends a run where the bridge can take no step.
+-- The faults of the command by those of the bridge.
 use Rattle.pb_messages.specs.declared.fault.CommandFault.{CommandFault}
 use Rattle.pb_messages.specs.declared.fault.CommandFault.TheVariants.{Steps, Memory}
 use Rattle.pb_relay.specs.declared.fault.BridgeFault.{BridgeFault}

@@ -1,4 +1,4 @@
--- The plan of one bridge that stands alone.
+-- The plan of a network with one bridge.
 use Rattle.std.specs.Prelude.{ℕ, zero, suc, ◌+◌, List, [], ◌∷◌, ◌++◌}
 use Rattle.pb_frame.specs.declared.mac.Mac.{Mac}
 use Rattle.pb_lan.specs.Plans.{default_ageing}
@@ -8,7 +8,7 @@ use Rattle.pb_lan.specs.declared.plan.CustomerPlan.{CustomerPlan}
 use Rattle.pb_lan.specs.declared.plan.ServicePlan.{ServicePlan}
 use Rattle.pb_lan.specs.declared.plan.Spanning.TheVariants.{Fixed}
 
--- a station address that no maker has: 02-00-00-00-00-01
+-- a locally administered address: 02-00-00-00-00-01
 abbrev pub flat_address : Mac
 flat_address = record { 0 = 2 ∷ 0 ∷ 0 ∷ 0 ∷ 0 ∷ 1 ∷ [] }
 
@@ -18,7 +18,7 @@ flat_bridge = record { name = 98 ∷ []; address = flat_address; priority = 3276
 abbrev pub flat_service : ServicePlan
 flat_service = record { name = 115 ∷ []; vid = 100 }
 
--- the customer port of this number, at the local port of this number; its name is a letter
+-- the customer port with this number, at the local port with the same number, with a letter as its name
 abbrev pub flat_customer : ℕ → CustomerPlan
 flat_customer number = record { name = (96 + number) ∷ []; bridge = 1; port = number; service = 1; pcp = 0; queue = 64 }
 
@@ -26,7 +26,7 @@ abbrev pub flat_customers : ℕ → List CustomerPlan
 flat_customers zero = []
 flat_customers (suc n) = flat_customers n ++ flat_customer (suc n) ∷ []
 
--- one bridge with so many customer ports of one service, with VID 100 and the default limits
+-- the plan of one bridge with so many customer ports, all of one service with VID 100, and the default limits
 abbrev pub flat_plan : ℕ → Plan
 flat_plan ports = record {
   bridges = flat_bridge ∷ [];

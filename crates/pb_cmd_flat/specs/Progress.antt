@@ -1,4 +1,4 @@
--- What a run over lines has written, where the octets are known.
+-- The output of a run over lines, if the written octets are known.
 use Rattle.std.specs.Prelude.{◌≡◌, ℕ, ◌-◌, ◌^◌, suc, List, [], ◌++◌, length, Option, Some, None, IfSome, ⊤}
 use Rattle.std.specs.Io.KnownBytes.{Appends}
 use Rattle.pb_lines.specs.Lines.{cut_lines}
@@ -7,21 +7,22 @@ use Rattle.pb_messages.specs.declared.fault.CommandFault.TheVariants.{Steps}
 use Rattle.pb_cmd_flat.specs.Answers.{Answers, IsFlatText, IsFlatBeginning}
 use Rattle.pb_cmd_flat.specs.Receipts.{Receipt}
 
--- the answers to all of the input were written behind what stood there
+-- the output for the whole input was written after the earlier octets
 abbrev pub Prints : ℕ → ℕ → Option (List ℕ) → Option (List ℕ) → Option (List ℕ) → Type 0
 Prints limit ports input before after = IfSome input (λ octets. (text : List ℕ) × Appends before after text × IsFlatText limit ports octets text)
 
--- a run that used up its steps had taken so many frames at least
+-- the least number of frames before a fault: a run that reached the limit of steps had received so many
 abbrev pub least_frames : CommandFault → ℕ
 least_frames Steps = 2 ^ 60 - 1
 least_frames other = 0
 
--- the answers to some of the first lines, whole
+-- the output for the first lines was written, each line's output whole
 abbrev pub PrintsBeginning : CommandFault → ℕ → ℕ → Option (List ℕ) → Option (List ℕ) → Option (List ℕ) → Type 0
 PrintsBeginning fault limit ports input before after =
     IfSome input (λ octets. (text : List ℕ) × Appends before after text × IsFlatBeginning (least_frames fault) limit ports octets text)
 
--- before line n: the lines before it are answered, and the others are those of what is held and left
+-- before line n: the output of the earlier lines is written, and the remaining lines are those of the held and the
+-- unread octets
 pub record IsUpTo (limit ports n : ℕ) (octets held rest : List ℕ) (before after : Option (List ℕ)) (got : List Receipt) : Type 0 where
   pub front : List (List ℕ)
   pub lines : cut_lines limit octets ≡ front ++ cut_lines limit (held ++ rest)

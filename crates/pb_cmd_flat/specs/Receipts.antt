@@ -1,4 +1,4 @@
--- What a bridge was asked at its ports, and what it answered.
+-- The frames that a bridge received, with their outcomes.
 use Rattle.std.specs.Prelude.{◌≡◌, ◌≢◌, ℕ, List, [], ◌∷◌, Some, flat_map}
 use Rattle.pb_frame.specs.declared.learnt.Learnt.TheVariants.{Memory as not_learnt}
 use Rattle.pb_lan.specs.declared.step.Outcome.{Outcome}
@@ -7,7 +7,7 @@ use Rattle.pb_frame.specs.declared.reason.Reason.TheVariants.{Memory as want_of_
 use Rattle.pb_lan.specs.declared.step.Step.{Step}
 use Rattle.pb_lan.specs.declared.step.Step.TheVariants.{Receive}
 
--- a frame came in at a port, and this became of it
+-- a frame entered at a port, with this outcome
 pub record Receipt : Type 0 where
   pub port : ℕ
   pub wire : List ℕ
@@ -21,13 +21,13 @@ receipt_by _ = []
 abbrev pub receipts : List Step → List Receipt
 receipts steps = flat_map receipt_by steps
 
--- each chosen port got its copy, and no frame was lost for want of memory
+-- each chosen port got its copy, and no allocation for the frame failed
 abbrev pub IsClearOutcome : Outcome → Type 0
 IsClearOutcome (Relayed chosen refused) = refused ≡ []
 IsClearOutcome (Filtered reason) = reason ≢ want_of_memory
 IsClearOutcome Heard = Unit {0}
 
--- the step tells of no want of memory and of no refused copy
+-- the step reports no failed allocation and no refused copy
 abbrev pub IsClear : Step → Type 0
 IsClear (Receive port item learnt outcome moved) = (learnt ≢ Some not_learnt) × IsClearOutcome outcome
 IsClear _ = Unit {0}

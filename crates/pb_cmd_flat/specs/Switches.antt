@@ -1,4 +1,4 @@
--- One bridge that stands alone, and what it does with a frame.
+-- A single bridge, and how it handles a frame.
 use Rattle.std.specs.Prelude.{◌≡◌, ℕ, Bool, true, List, [], ◌∷◌, ◌++◌}
 use Rattle.std.specs.List.{AllByRecursion}
 use Rattle.pb_lan.specs.BridgeLists.{IsLawfulBridge}
@@ -19,12 +19,12 @@ pub record SwitchView : Type 0 where
 abbrev pub IsReadyAt : ℕ → SwitchView → Type 0
 IsReadyAt ports switch = (switch.is_ready ≡ true) × (switch.ports ≡ ports)
 
--- the steps are a lawful past of the bridge, with no want of memory
+-- the steps are a lawful past of the bridge, without failed allocations
 pub record IsFlatPast (ports : ℕ) (steps : List Step) : Type 0 where
   pub lawful : IsLawfulBridge spanning_tree (flat_plan ports) 1 steps
   pub clear : AllByRecursion IsClear steps
 
--- the bridge received the frame at the port, and what became of it is printed
+-- the bridge has received the frame at the port, and the lines for it were appended
 pub record HasHandled (old : SwitchView) (port : ℕ) (frame : List ℕ) (out : List ℕ) (new : SwitchView) (out' : List ℕ) : Type 0 where
   pub ports : new.ports ≡ old.ports
   pub ready : new.is_ready ≡ true

@@ -1,9 +1,9 @@
--- The line that hands a frame to a port.
+-- The line that brings a frame to a port.
 use Rattle.std.specs.Prelude.{◌≡◌, ℕ, List, ◌∷◌, ◌++◌, Some, ◌<◌, ◌≤◌, length, codes}
 use Rattle.pb_frame.specs.Hex.{IsHex}
 use Rattle.pb_messages.specs.Words.{port_of}
 
--- the line hands a frame to a port: `in PORT HEX`, with one space each, and one octet at least
+-- the line brings a frame to a port: `in PORT HEX`, separated by one space each, with at least one octet
 pub record IsFrameLine (limit ports : ℕ) (line : List ℕ) (port : ℕ) (frame : List ℕ) : Type 0 where
   pub short : length line ≤ limit
   pub digits : List ℕ

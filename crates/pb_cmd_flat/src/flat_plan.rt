@@ -1,4 +1,4 @@
-//! The plan of one bridge that stands alone.
+//! The plan of a network with one bridge.
 
 ghost use Rattle.std.specs.Prelude.{◌≡◌, ◌<◌, ◌≤◌, ◌∷◌, [], IfOk};
 ghost use Rattle.pb_cmd_flat.specs.FlatPlans.{flat_bridge, flat_service, flat_customer, flat_customers, flat_plan};
@@ -7,7 +7,7 @@ use pb_frame::{Mac, Memory, Seq, Text};
 use pb_lan::{BridgePlan, CustomerPlan, DEFAULT_AGEING, Plan, ServicePlan, Spanning};
 use std::alloc::Global;
 
-/// A name of one letter.
+/// Returns a name of one letter, by its ASCII code.
 fn letter(alloc: Global, code: u8) -> Result<Text, Memory>
     requires { code < 128 }
     ensures { IfOk result (λ name. name ≡ code ∷ []) }
@@ -17,7 +17,7 @@ fn letter(alloc: Global, code: u8) -> Result<Text, Memory>
     Ok(Text::from_string(name))
 }
 
-/// The customer port of this number, at the local port of this number.
+/// Returns the customer port with this number, at the local port with the same number.
 fn flat_customer(alloc: Global, number: u8) -> Result<CustomerPlan, Memory>
     requires { number ≤ 16 }
     ensures { IfOk result (λ customer. customer ≡ flat_customer number) }
@@ -32,7 +32,7 @@ fn flat_customer(alloc: Global, number: u8) -> Result<CustomerPlan, Memory>
     })
 }
 
-/// The customer ports from 1 on.
+/// Returns the customer ports from 1 to `ports`.
 fn flat_customers(alloc: Global, ports: u8) -> Result<Vec<CustomerPlan>, Memory>
     requires { ports ≤ 16 }
     ensures { IfOk result (λ customers. customers.items ≡ flat_customers ports) }
@@ -44,7 +44,7 @@ fn flat_customers(alloc: Global, ports: u8) -> Result<Vec<CustomerPlan>, Memory>
     Ok(customers)
 }
 
-/// The bridge.
+/// Returns the bridge.
 fn flat_bridge(alloc: Global) -> Result<BridgePlan, Memory>
     ensures { IfOk result (λ bridge. bridge ≡ flat_bridge) }
 {
@@ -56,7 +56,7 @@ fn flat_bridge(alloc: Global) -> Result<BridgePlan, Memory>
     })
 }
 
-/// The service of all its ports.
+/// Returns the service of all ports.
 fn flat_service(alloc: Global) -> Result<ServicePlan, Memory>
     ensures { IfOk result (λ service. service ≡ flat_service) }
 {
@@ -66,8 +66,7 @@ fn flat_service(alloc: Global) -> Result<ServicePlan, Memory>
     })
 }
 
-/// The plan of one bridge with so many customer ports, 2 to 16, of one service with VID 100, and
-/// the default limits.
+/// Returns the plan of one bridge with 2 to 16 customer ports, all of one service with VID 100, and the default limits.
 pub(crate) fn flat_plan(alloc: Global, ports: u8) -> Result<Plan, Memory>
     requires { (2 ≤ ports) × (ports ≤ 16) }
     ensures { IfOk result (λ plan. plan ≡ flat_plan ports) }

@@ -1,10 +1,8 @@
-//! One bridge that stands alone, driven by lines of text: the command `flat`.
+//! The command `flat`: one bridge, driven by lines of text.
 //!
-//! ```text
-//! let mut input = b"in 1 ffffffffffff02000000010108004142\n".as_slice();
-//! run_flat(alloc, 3, &mut input, &mut output)?;
-//! // output: "out 2 ffffffffffff02000000010108004142\nout 3 ffffffffffff02000000010108004142\n"
-//! ```
+//! It runs a bridge of pb_relay and reads lines with pb_lines. The line `in 1 HEX` gives `out 2 HEX` and `out 3 HEX` at
+//! a
+//! bridge with three ports that has not learnt the destination. Begin with [`run_flat`] in `run.rt`.
 #![tactic(auto)]
 
 mod flat_plan;

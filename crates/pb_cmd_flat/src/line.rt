@@ -1,4 +1,4 @@
-//! Lines that hand a frame to a port.
+//! Lines that bring a frame to a port.
 
 ghost use Rattle.std.specs.Prelude.{◌≡◌, ◌≤◌, [], ℕ, List, IfOk, IfSome, IfNone};
 ghost use Rattle.pb_frame.specs.Hex.{IsHex};
@@ -8,7 +8,7 @@ use bytes::{Bytes, BytesMut};
 use pb_frame::{HexFault, Memory, hex_octets_in};
 use pb_messages::{cut, read_port};
 
-/// A frame, the port at which it comes in, and the digits that told it.
+/// A frame, the port at which it enters, and the hexadecimal digits of its line.
 #[derive(Drop)]
 pub(crate) struct Handed<'a> {
     pub port: u8,
@@ -16,9 +16,15 @@ pub(crate) struct Handed<'a> {
     pub digits: &'a [u8],
 }
 
-/// Reads the line `in PORT HEX`: one space each, PORT from 1 to `ports` in decimal without leading
-/// zeros, and HEX one pair of hexadecimal digits at least, in either case. Any other line, and one
-/// of more than `limit` octets, is none. The frame takes room of a buffer in which nothing stands.
+/// Reads the line `in PORT HEX`.
+///
+/// The parts are separated by one space each. PORT is a decimal number from 1 to `ports` without leading zeros. HEX is
+/// at least one pair of hexadecimal digits in either case. Returns `None` for any other line and for a line of more
+/// than `limit` octets. The frame takes its memory from the buffer `frames`, which is empty before and after.
+///
+/// # Errors
+///
+/// `Memory` if an allocation failed.
 pub(crate) fn read_frame_line<'a>(
     frames: &mut BytesMut,
     limit: usize,

@@ -1,4 +1,4 @@
-//! The lines that are printed.
+//! The printed lines.
 
 ghost use Rattle.std.specs.Prelude.{◌≡◌, ◌++◌, string_bytes, true, IfOk, OnOk};
 ghost use Rattle.pb_frame.specs.Hex.{hex_text, IsHex};
@@ -12,10 +12,15 @@ use pb_lan::{Outcome, Reason};
 use pb_messages::{put_bad, put_reason};
 use std::alloc::Global;
 
-/// Puts what became of a frame that a port received behind a text: for a relayed frame a line for
-/// each port that was chosen, with the frame as it leaves there, less its priority tag; for a
-/// filtered one the reason; for one that the bridge itself heard nothing. The frame's own digits are
-/// printed again where they are those to print.
+/// Appends the lines for a frame that a port received.
+///
+/// A relayed frame has one line for each chosen port, with the frame as it leaves there, without its priority tag. A
+/// filtered frame has one line with the reason. A frame that the bridge itself heard has no line. If the frame leaves
+/// unchanged, `digits` are printed as they were read.
+///
+/// # Errors
+///
+/// `Memory` if an allocation failed.
 pub(crate) fn put_answer(
     alloc: Global,
     out: &mut Vec<u8>,
@@ -41,7 +46,7 @@ pub(crate) fn put_answer(
     }
 }
 
-/// Puts `line N: bad` behind octets: the line of this number, from 1 on, is none that is known.
+/// Appends `line N: bad`. N is the number of the line, from 1.
 pub(crate) fn append_bad(alloc: Global, out: &mut Vec<u8>, number: u64) -> Result<(), Memory>
     ensures { OnOk result (out.new.items ≡ out.old.items ++ bad_line number) }
 {
@@ -51,7 +56,7 @@ pub(crate) fn append_bad(alloc: Global, out: &mut Vec<u8>, number: u64) -> Resul
     Ok(())
 }
 
-/// The digits of a frame are those of the frame as it leaves.
+/// Returns whether the digits that were read are those of the frame as it leaves.
 fn is_as_printed(wire: &[u8], digits: &[u8]) -> bool
     requires { IsHex digits.now wire.now }
     ensures { result ≡ true → digits.now ≡ hex_text (bare wire.now) }
@@ -59,7 +64,7 @@ fn is_as_printed(wire: &[u8], digits: &[u8]) -> bool
     !has_priority_tag(wire) && !has_upper_case(digits)
 }
 
-/// A frame without its priority tag, in hexadecimal.
+/// Returns a frame in hexadecimal, without its priority tag.
 fn bare_hex(alloc: Global, wire: &[u8]) -> Result<String, Memory>
     ensures { IfOk result (λ hex. string_bytes hex ≡ hex_text (bare wire.now)) }
 {
@@ -71,14 +76,14 @@ fn bare_hex(alloc: Global, wire: &[u8]) -> Result<String, Memory>
     Ok(hex)
 }
 
-/// Two hexadecimal digits for each octet, in lower case.
+/// Returns two hexadecimal digits for each octet, in lower case.
 fn hex_of(alloc: Global, octets: &[u8]) -> Result<String, Memory>
     ensures { IfOk result (λ hex. string_bytes hex ≡ hex_text octets.now) }
 {
     Ok(hex::encode(alloc, octets)?)
 }
 
-/// A line for each port at which a frame left.
+/// Appends a line for each port at which a frame left.
 fn put_out_lines(out: &mut Vec<u8>, hex: &[u8], ports: &[u8]) -> Result<(), Memory>
     ensures { OnOk result (out.new.items ≡ out.old.items ++ out_lines hex.now ports.now) }
 {
@@ -88,7 +93,7 @@ fn put_out_lines(out: &mut Vec<u8>, hex: &[u8], ports: &[u8]) -> Result<(), Memo
     Ok(())
 }
 
-/// The line of a frame that left at a port.
+/// Appends the line of a frame that left at a port.
 fn put_out(out: &mut Vec<u8>, hex: &[u8], port: u8) -> Result<(), Memory>
     ensures { OnOk result (out.new.items ≡ out.old.items ++ out_line hex.now port) }
 {
@@ -101,7 +106,7 @@ fn put_out(out: &mut Vec<u8>, hex: &[u8], port: u8) -> Result<(), Memory>
     Ok(())
 }
 
-/// The line of a frame that went nowhere.
+/// Appends the line of a frame that was filtered.
 fn put_filtered(alloc: Global, out: &mut Vec<u8>, port: u8, reason: Reason) -> Result<(), Memory>
     ensures { OnOk result (out.new.items ≡ out.old.items ++ filtered_line port reason) }
 {

@@ -1,4 +1,4 @@
-//! One bridge, driven by lines of text.
+//! A bridge, driven by lines of text.
 
 ghost use Rattle.std.specs.Prelude.{◌≡◌, ◌≢◌, ◌<◌, ◌≤◌, ◌-◌, ◌^◌, ◌++◌, [], ℕ, List, length, true, IsErrOf, OnOk};
 ghost use Rattle.std.specs.Prelude.{IfErr};
@@ -19,7 +19,12 @@ use pb_messages::{CommandFault, MAX_LINE};
 use std::alloc::Global;
 use std::io::{Read, Write};
 
-/// Puts the answer to one line behind a text. Its frame takes room of a buffer in which nothing stands.
+/// Appends the output of one line. Its frame takes its memory from the buffer `frames`, which is empty before and
+/// after.
+///
+/// # Errors
+///
+/// The faults of [`Switch::handle`], and `Memory` if an allocation failed.
 fn answer(
     limit: usize,
     ports: u8,
@@ -50,7 +55,11 @@ fn answer(
     Ok(())
 }
 
-/// Has the writer hand on all that it took.
+/// Flushes the writer.
+///
+/// # Errors
+///
+/// `Write` if that failed.
 fn finish<W: Write>(writer: &mut W) -> Result<(), CommandFault>
     ensures ok { OnOk result (Keeps (W.contents writer.old) (W.contents writer.new)) }
     ensures err { IfErr result (λ e. e ≡ CommandFault.Write) }
@@ -61,7 +70,11 @@ fn finish<W: Write>(writer: &mut W) -> Result<(), CommandFault>
     Ok(())
 }
 
-/// Answers each line of what is read, with a reader of lines and a bridge that are new.
+/// Reads all lines and writes the output of each. The line reader and the bridge have read nothing before.
+///
+/// # Errors
+///
+/// The faults of [`run_flat`].
 fn answer_lines<R: Read, W: Write>(
     alloc: Global,
     limit: usize,
@@ -104,9 +117,11 @@ fn answer_lines<R: Read, W: Write>(
     Err(CommandFault::Read)
 }
 
-/// Runs a bridge that is new over lines, as [`run_flat`] does with a bridge of its own, and with its
-/// faults. The bridge stays with the caller: a program that ends then need not free the record of its
-/// steps one by one.
+/// Runs a new bridge over lines, as [`run_flat`] does with a bridge of its own. The bridge remains with the caller.
+///
+/// # Errors
+///
+/// The faults of [`run_flat`].
 pub fn run_flat_on<R: Read, W: Write>(
     alloc: Global,
     switch: &mut Switch,
@@ -126,17 +141,18 @@ pub fn run_flat_on<R: Read, W: Write>(
     answer_lines(alloc, MAX_LINE, ports, &mut lines, switch, reader, writer)
 }
 
-/// Runs one bridge (IEEE 802.1Q) with `ports` customer ports of one service, 2 to 16, over lines,
-/// and writes each line's answers by one `write_all`, in order.
+/// Runs one bridge (IEEE 802.1Q) over lines. It has 2 to 16 customer ports of one service. The output of each line is
+/// written by one call of `write_all`, in order.
 ///
-/// The line `in PORT HEX` hands a frame to a port; its answer is a line `out PORT HEX` for each port
-/// at which the frame leaves, ascending, or a line `filtered PORT REASON`. An empty line has no
-/// answer, and any other, also one of more than [`MAX_LINE`] octets, has `line N: bad`.
+/// The line `in PORT HEX` brings a frame to a port. Its output is one line `out PORT HEX` for each port at which the
+/// frame leaves, in rising order, or one line `filtered PORT REASON`. An empty line has no output. Any other line has
+/// the output `line N: bad`, and so has a line of more than [`MAX_LINE`] octets.
 ///
-/// `Read` is answered where a read failed, `Write` where a write did, `Steps` where the bridge has
-/// taken as many steps as it may, `Memory` where memory ran out. After any fault but `Write`, the answers to
-/// the first lines, as many as were answered, are written whole, and nothing else is; at least 2^60-1 of these
-/// lines hand over a frame where the fault is `Steps`. After `Write` nothing is said of what was written.
+/// # Errors
+///
+/// `Read` if a read failed. `Write` if a write failed, and then it is not known how much was written. `Steps` if the
+/// bridge has reached its limit of steps: at least 2^60-1 lines brought a frame then. `Memory` if an allocation failed.
+/// After any fault but `Write`, the output of the first lines is written whole, and nothing else is.
 pub fn run_flat<R: Read, W: Write>(
     alloc: Global,
     ports: u8,

@@ -1,4 +1,4 @@
-//! One bridge that stands alone.
+//! A single bridge.
 
 ghost use Rattle.std.specs.Prelude.{◌≡◌, ◌≤◌, ◌<◌, ◌+◌, ◌-◌, ◌^◌, ◌⊎◌, [], true, false, length, IfErr, OnOk, IsErrOf};
 ghost use Rattle.std.specs.Prelude.{IfOk};
@@ -23,7 +23,7 @@ use pb_relay::{Bridge, BridgeFault};
 use std::alloc::Global;
 use std::marker::Model;
 
-/// A bridge of customer ports of one service. A fault leaves it not ready for another frame.
+/// A bridge whose ports are customer ports of one service. After a fault it takes no more frames.
 #[derive(Drop)]
 pub struct Switch {
     ports: u8,
@@ -43,7 +43,7 @@ impl Model for Switch {
     ghost invariant = { λ s. (2 ≤ s.ports) × (s.ports ≤ 16) × (s.is_ready ≡ true → IsQuiet s.ports s.bridge) };
 }
 
-/// What ends a run where the bridge can take no step.
+/// Returns the fault of the command for a fault of the bridge.
 fn fault_of(fault: BridgeFault) -> CommandFault
     ensures { result ≡ of_bridge fault }
 {
@@ -53,7 +53,11 @@ fn fault_of(fault: BridgeFault) -> CommandFault
     }
 }
 
-/// Has the bridge receive a frame at a port, and hands out the step that tells of it.
+/// Has the bridge receive a frame at a port. Returns the step that reports it.
+///
+/// # Errors
+///
+/// `Steps` if the bridge has reached its limit of steps, `Memory` if an allocation failed.
 fn admit(bridge: &mut Bridge, port: u8, frame: Bytes) -> Result<Step, CommandFault>
     requires used { is_used (port_at bridge.old.plan bridge.old.number port) ≡ true }
     requires counted { bridge.old.is_kept ≡ false }
@@ -72,8 +76,8 @@ fn admit(bridge: &mut Bridge, port: u8, frame: Bytes) -> Result<Step, CommandFau
     }
 }
 
-/// The outcome tells of a frame or a copy that was lost for want of memory. The bridge's queues were
-/// empty, so a copy is refused for nothing else.
+/// Returns whether an allocation for the frame or for a copy of it failed. The queues of the bridge were empty, so a
+/// copy is refused for no other reason.
 fn is_lost(outcome: &Outcome) -> bool
     ensures lost { result ≡ true → IsClearOutcome outcome.now → ⊥ }
     ensures kept { result ≡ false → IsClearOutcome outcome.now }
@@ -85,7 +89,11 @@ fn is_lost(outcome: &Outcome) -> bool
     }
 }
 
-/// Prints what became of the frame that a step received.
+/// Appends the lines for the frame that a step received.
+///
+/// # Errors
+///
+/// `Memory` if an allocation failed, also one of the bridge for a source, the frame or a copy.
 fn tell(alloc: Global, step: &Step, digits: &[u8], out: &mut Vec<u8>) -> Result<(), CommandFault>
     requires { IsToldBy digits.now step.now }
     ensures ok { OnOk result (Tells step.now out.old.items out.new.items) }
@@ -108,7 +116,11 @@ fn tell(alloc: Global, step: &Step, digits: &[u8], out: &mut Vec<u8>) -> Result<
     Ok(())
 }
 
-/// Has a port send what waits there, at most one item.
+/// Has a port send the item that waits there, if one does. At most one item waits.
+///
+/// # Errors
+///
+/// `Steps` if the bridge has reached its limit of steps, `Memory` if an allocation failed.
 fn drain_at(bridge: &mut Bridge, port: u8) -> Result<(), CommandFault>
     requires used { is_used (port_at bridge.old.plan bridge.old.number port) ≡ true }
     ensures ok { OnOk result (HasDrained port bridge.old bridge.new) }
@@ -126,7 +138,11 @@ fn drain_at(bridge: &mut Bridge, port: u8) -> Result<(), CommandFault>
     Ok(())
 }
 
-/// Has each port send what waits there. Nothing does at the one at which a frame came in.
+/// Has each port send the item that waits there. No item waits at the port at which the frame entered.
+///
+/// # Errors
+///
+/// `Steps` if the bridge has reached its limit of steps, `Memory` if an allocation failed.
 fn drain(bridge: &mut Bridge, ports: u8, port: u8) -> Result<(), CommandFault>
     requires most { ports ≤ 16 }
     requires from { 1 ≤ port }
@@ -145,7 +161,11 @@ fn drain(bridge: &mut Bridge, ports: u8, port: u8) -> Result<(), CommandFault>
 }
 
 impl Switch {
-    /// A bridge with so many ports, 2 to 16, that has received nothing.
+    /// Returns a bridge with 2 to 16 ports that has received nothing.
+    ///
+    /// # Errors
+    ///
+    /// `Memory` if an allocation failed.
     pub fn new(alloc: Global, ports: u8) -> Result<Switch, Memory>
         requires { (2 ≤ ports) × (ports ≤ 16) }
         ensures { IfOk result (λ s. s ≡ record { ports = ports; steps = []; is_ready = true }) }
@@ -159,17 +179,20 @@ impl Switch {
         })
     }
 
-    /// The number of ports.
+    /// Returns the number of ports.
     pub fn ports(&self) -> u8
         ensures { result ≡ self.now.ports }
     {
         self.ports
     }
 
-    /// Takes a frame at a port, and prints what becomes of it. The digits are those of the frame.
+    /// Has the bridge handle a frame at a port, and appends the lines for it. `digits` are the hexadecimal digits of
+    /// the frame.
     ///
-    /// `Steps` is answered where the bridge has taken 2^64-1 steps, `Memory` where memory ran out: at least
-    /// 2^60-1 frames were taken before the first. After either the bridge takes no more frames.
+    /// # Errors
+    ///
+    /// `Steps` if the bridge has taken 2^64-1 steps: it has received at least 2^60-1 frames before this one. `Memory`
+    /// if an allocation failed. After either fault the bridge takes no more frames.
     pub fn handle(
         &mut self,
         alloc: Global,

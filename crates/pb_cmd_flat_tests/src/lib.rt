@@ -1,4 +1,4 @@
-//! Runs of pb_cmd_flat with ample memory.
+//! Tests of pb_cmd_flat without failing allocations.
 #![tactic(auto)]
 
 #[cfg(test)]

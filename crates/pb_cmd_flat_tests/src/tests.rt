@@ -1,4 +1,4 @@
-//! Runs of flat networks.
+//! Runs of `flat`.
 
 ghost use Rattle.std.specs.Prelude.{◌≡◌, [], true, OnOk};
 
@@ -17,6 +17,7 @@ use std::io::ErrorKind;
 use std::process::Abort;
 use std::test::Fail;
 
+/// Asserts the output for an input at a bridge with so many ports.
 fn ran(rt: &impl Abort, alloc: Global, ports: u8, input: &str, want: &str) {
     assert!(rt; 2 <= ports && ports <= 16);
     let mut output = Vec::new(alloc);
@@ -26,7 +27,7 @@ fn ran(rt: &impl Abort, alloc: Global, ports: u8, input: &str, want: &str) {
     assert!(rt; output.as_slice() == want.as_bytes(), "{input}");
 }
 
-/// Hands a frame of zeros but for a few octets in front to port 1 of 2.
+/// Asserts the beginning of the output for a frame of zeros, except its first octets, at port 1 of 2.
 fn ran_long(
     rt: &impl Abort,
     alloc: Global,
@@ -50,7 +51,7 @@ fn ran_long(
     Ok(())
 }
 
-/// A switch that has read nothing yet reads this, and what is written comes of it.
+/// Asserts the output for an input at a bridge that has read nothing before.
 fn reads(rt: &impl Abort, alloc: Global, switch: &mut Switch, row: (&str, &str)) -> Result<(), Fail>
     requires ready { switch.old.is_ready ≡ true }
     requires fresh { switch.old.steps ≡ [] }
@@ -72,7 +73,7 @@ fn a_switch_stays_after_its_run(rt: HostRuntime) -> Result<(), Fail> {
     Ok(())
 }
 
-/// A frame comes in at a port, and the answer stands behind what stood there.
+/// Asserts the lines for a frame at a port, and that they follow the earlier output.
 fn answers(
     rt: &impl Abort,
     alloc: Global,
@@ -216,7 +217,7 @@ fn filters_with_a_reason(rt: HostRuntime) -> Result<(), Fail> {
             "in 1 ffffffffffff02000000010188a8a00008004142",
             "out 2 ffffffffffff02000000010108004142\n",
         ),
-        // A tag that is cut off is no whole tag, and its type shows all the same.
+        // A tag that is cut off is not a whole tag, but its type is there.
         (
             "in 1 ffffffffffff02000000010188a8000000",
             "filtered 1 s-tagged\n",
@@ -264,7 +265,7 @@ fn takes_lines_up_to_the_longest(rt: HostRuntime) -> Result<(), Fail> {
         }
         ran(&rt, alloc, 2, text.as_str(), want);
     }
-    // A line of exactly the most octets, and one of two more.
+    // A line of exactly the maximum length, and one that is two octets longer.
     let mut longest = String::from_str(alloc, "in 10 ")?;
     for _ in 0..139_994usize {
         longest.push('0')?;
@@ -307,8 +308,10 @@ fn prints_frames_without_priority_tag(rt: HostRuntime) {
     }
 }
 
+/// An input of two frames and an invalid line.
 const PIECES: &str = "in 1 0000\nhop\nin 2 0000";
 
+/// The output for `PIECES`.
 const PIECES_ANSWER: &[u8] = b"filtered 1 malformed\nline 2: bad\nfiltered 2 malformed\n";
 
 #[test]
@@ -335,7 +338,7 @@ fn reads_in_any_pieces(rt: HostRuntime) -> Result<(), Fail> {
 fn tells_a_failed_read(rt: HostRuntime) -> Result<(), Fail> {
     let alloc = rt.alloc();
     for most in 1..25usize {
-        // The end shows in one more call.
+        // The end is found in one more call.
         let calls = (PIECES.len() as u64).div_ceil(most as u64) + 1;
         for fails_at in 0..27u64 {
             let mut reader = Slow {

@@ -1,4 +1,4 @@
--- Plans of files and their ports.
+-- Plans in files, and their ports (used by the functions of `network.rt`).
 use Rattle.std.proofs.Common.{◌≡◌, ℕ, Bool, refl, List, [], ◌∷◌, ◌++◌, length, map, ap, sym, ◌∙◌}
 use Rattle.std.proofs.Common.{append-nil, arith, Ok, Err, IfOk}
 use Rattle.std.proofs.lemmas.Slice.Zip.{AllZip-long}
@@ -22,7 +22,7 @@ pub ports_per_plan : (file : List ℕ) (plan : Plan) (specs : List PortSpec)
 ports_per_plan file plan specs (document, parsed, told) = AllZip-long _ _ specs told.ports
     ∙ sym (AllZip-long _ _ plan.customers told.customers)
 
--- the exit status of a run by what it lost, where a strict run knows that
+-- the exit status of a run by its loss report, which a strict run has
 pub exits : (strictness : Strictness) (ended : Ended) (lost text : List ℕ) (told : ℕ) (whole : Bool) (status : ℕ)
     → status ≡ exit_status strictness whole told → whole ≡ is_whole ended lost → (strictness ≡ Strict → lost ≡ text)
     → status ≡ exit_status strictness (is_whole ended text) told
@@ -30,12 +30,12 @@ exits Strict ended lost text told whole status s w l = s
     ∙ ap (λ x. exit_status Strict x told) (w ∙ ap (is_whole ended) (l refl))
 exits Lenient ended lost text told whole status s w l = s
 
--- what a fact of a value that is Ok gives
+-- a fact of an Ok value gives another
 pub on_value : {A E : Type 0} {P Q : A → Type 0} (r : Result A E) → ((x : A) → P x → Q x) → IfOk r P → IfOk r Q
 on_value (Ok x) f p = f x p
 on_value (Err e) f p = p
 
--- what entered at ports that had to give what a file lists
+-- the frames that entered at ports which had the listed frames
 pub are_scripted : (specs : List PortSpec) (before after : Lists) (customers : List (List Step)) (lasts : List Last)
     → before.scripts ≡ map script_in specs → ArePortsKept before after customers lasts
     → AreScripted specs customers lasts
@@ -45,7 +45,7 @@ are_scripted specs before after customers lasts same kept = record {
   used_up = kept.used_up;
 }
 
--- once nothing is to come, all that was made shows what all showed that came
+-- all things have moved if none remains, and what is compared of them is the same
 pub all_moved : {X Y Z : Type 0} (f : X → Z) (xs : List X) (g : Y → Z) (left all ys : List Y)
     → map f xs ++ map g left ≡ map g all → length left ≡ 0 → all ≡ ys → map f xs ≡ map g ys
 all_moved f xs g [] all ys before none same = sym (append-nil (map f xs)) ∙ before ∙ ap (map g) same

@@ -1,4 +1,4 @@
--- Ports that show what was asked.
+-- Opened ports that agree with the plan file (used by `open_system`).
 use Rattle.std.proofs.Common.{◌≡◌, List, [], ◌∷◌, length, map, refl, ap, sym, ◌∙◌}
 use Rattle.std.proofs.lemmas.List.{length-map}
 use Rattle.pb_run_ports.specs.Opened.{asked, shown}

@@ -1,4 +1,4 @@
--- What is printed of the network of a plan file.
+-- The output for the network of a plan file.
 use Rattle.std.specs.Prelude.{◌≡◌, ◌⊎◌, ℕ, Bool, List, [], length}
 use Rattle.std.specs.Io.KnownBytes.{Appends}
 use Rattle.std.specs.declared.option.Option.{Option}
@@ -23,8 +23,8 @@ use Rattle.pb_cmd_run.specs.Scripted.{AreScripted}
 use Rattle.pb_run_losses.specs.Strict.{exit_status, is_whole, lost_text}
 use Rattle.pb_run_losses.specs.declared.strictness.Strictness.{Strictness}
 
--- a run is reported, and the exit status is that of the report, or 4 where the run is strict and wasn't whole. Of each
--- customer port there is what its newest poll said, and what waits in it
+-- the report of a run was written, and the exit status is its own, or 4 if the run is strict and was not whole (each
+-- customer port has its newest poll, and frames that it still holds)
 pub record PrintsReport (strictness : Strictness) (plan : Plan) (rec : Record) (ended : Ended) (settled : Result (Option Bool) Memory) (lasts : List Last) (status : ℕ) (before after : Option (List ℕ)) : Type 0 where
   pub told : ℕ
   pub text : List ℕ
@@ -34,8 +34,8 @@ pub record PrintsReport (strictness : Strictness) (plan : Plan) (rec : Record) (
   pub unsent_count : length unsent ≡ length plan.customers
   pub status_is : status ≡ exit_status strictness (is_whole ended (lost_text plan rec settled unsent)) told
 
--- a plan has run with its ports: what its places did is a lawful record with the promises of every run, what
--- entered is what the ports had to give, and the report tells of that record
+-- a plan has run with its ports: the record is lawful and has the guarantees of every run, the frames that entered are
+-- those that the ports had, and the report is that of the record
 pub record PrintsRan (strictness : Strictness) (plan : Plan) (specs : List PortSpec) (status : ℕ) (before after : Option (List ℕ)) : Type 0 where
   pub rec : Record
   pub lawful : IsLawfulRecord spanning_tree plan rec
@@ -48,19 +48,19 @@ pub record PrintsRan (strictness : Strictness) (plan : Plan) (specs : List PortS
   pub settled : Result (Option Bool) Memory
   pub report : PrintsReport strictness plan rec ended settled lasts status before after
 
--- the plan that the file tells has run with the ports that it tells
+-- the plan in the file has run with the ports in the file
 pub record PrintsRunOf (strictness : Strictness) (file : List ℕ) (status : ℕ) (before after : Option (List ℕ)) : Type 0 where
   pub plan : Plan
   pub specs : List PortSpec
   pub told : Tells file (λ document. IsPlanOf document plan specs)
   pub prints : PrintsRan strictness plan specs status before after
 
--- what is written for a file, with the program's exit status
+-- the output for a file, with the exit status
 abbrev pub PrintsNetwork : Strictness → List ℕ → ℕ → Option (List ℕ) → Option (List ℕ) → Type 0
 PrintsNetwork strictness file status before after = ((status ≡ 1) × PrintsRefusal file before after) ⊎ PrintsRunOf strictness file status before after
 
--- the file tells a plan, and its network has carried all that entered: each frame has left or was dropped for a reason that is
--- no want of room, what left is faithful to what entered, and nothing is to be told of losses
+-- the file is a plan whose network has carried all that entered: each frame has left or was dropped for another reason
+-- than a full queue, the frames that left are faithful to those that entered, and the loss report is empty
 pub record HasCarriedAll (file : List ℕ) : Type 0 where
   pub plan : Plan
   pub specs : List PortSpec

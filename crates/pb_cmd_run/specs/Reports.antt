@@ -1,4 +1,4 @@
--- What is printed of a run.
+-- The printed report of a run.
 use Rattle.std.specs.Prelude.{◌≡◌, ℕ, Bool, List, [], ◌∷◌, ◌++◌, Ok, Err, IfOk, codes}
 use Rattle.std.specs.declared.option.Option.{Option}
 use Rattle.std.specs.declared.result.Result.{Result}
@@ -15,44 +15,44 @@ use Rattle.pb_run.specs.declared.ended.Ended.{Ended}
 use Rattle.pb_run.specs.declared.ended.Ended.TheVariants.{Drained, NoMemory, Limit, Stopped}
 use Rattle.pb_report.specs.RecordTexts.{settled_line, IsRecordText}
 
--- how a run ended
+-- the line that says how a run ended
 abbrev pub ended_line : Ended → List ℕ
 ended_line Drained = codes "ended drained" ++ 10 ∷ []
 ended_line Stopped = codes "ended stopped" ++ 10 ∷ []
 ended_line Limit = codes "ended limit" ++ 10 ∷ []
 ended_line NoMemory = codes "ended memory" ++ 10 ∷ []
 
--- whether the bridges are settled, where it could be found and the spanning tree decides the states
+-- whether the bridges have settled, if this is known and the spanning tree decides the states
 abbrev pub settled_lines : Result (Option Bool) Memory → List ℕ
 settled_lines (Ok answer) = settled_line answer
 settled_lines (Err memory) = []
 
--- there was no memory to find it
+-- the line that an allocation failed in finding it
 abbrev pub memory_line : Result (Option Bool) Memory → List ℕ
 memory_line (Ok answer) = []
 memory_line (Err memory) = codes "fault: memory" ++ 10 ∷ []
 
--- the input of a customer port has a fault
+-- the line for a fault of a customer port's input
 abbrev pub fault_line : List ℕ → ℕ → List ℕ
 fault_line name number = codes "fault: port " ++ name ++ codes " " ++ decimal number ++ 10 ∷ []
 
--- what its newest poll said, where that is a fault
+-- the line for the newest poll of a port, if that was a fault
 abbrev pub fault_at : List ℕ → Last → List ℕ
 fault_at name (Fault fault) = fault_line name (fault_number fault)
 fault_at name More = []
 fault_at name End = []
 
--- a line for each customer port whose input has one, in the plan's order
+-- a line for each customer port whose input has a fault, in the order of the plan
 abbrev pub fault_lines : List CustomerPlan → List Last → List ℕ
 fault_lines (customer ∷ customers) (last ∷ lasts) = fault_at customer.name last ++ fault_lines customers lasts
 fault_lines _ _ = []
 
--- the exit status: 3 where faults are told
+-- the exit status: 3 if there are lines for faults
 abbrev pub status_of : List ℕ → ℕ
 status_of [] = 0
 status_of (code ∷ codes) = 3
 
--- what is told of a run, and the exit status
+-- the report of a run, and the exit status
 pub record IsRunReport (plan : Plan) (rec : Record) (ended : Ended) (settled : Result (Option Bool) Memory) (lasts : List Last) (status : ℕ) (text : List ℕ) : Type 0 where
   pub told : List ℕ
   pub is_told : IsRecordText plan rec told

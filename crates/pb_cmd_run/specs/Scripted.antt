@@ -1,4 +1,4 @@
--- What a plan file gives its ports.
+-- The frames that a plan file lists for its ports.
 use Rattle.std.specs.Prelude.{◌≡◌, ℕ, Option, Some, None, List, map}
 use Rattle.pb_cmd_run.specs.AnyPorts.{of_any}
 use Rattle.pb_cmd_run.specs.declared.any_port.AnyPort.{AnyPort}
@@ -12,11 +12,11 @@ use Rattle.pb_port.specs.declared.memory.MemoryPort.{MemoryPort}
 use Rattle.pb_service.specs.declared.port_spec.PortSpec.{PortSpec}
 use Rattle.pb_run_ports.specs.Opened.{script_in}
 
--- the frames that a port has still to give, where it keeps them in memory
+-- the frames that a port in memory has not given yet
 abbrev pub script_at : {C S : Type 0} → AnyPort MemoryPort C S → Option (List (List ℕ))
 script_at {C} {S} = of_any (λ (port : MemoryPort). Some port.script.items) (λ (port : C). None) (λ (port : S). None)
 
--- at each port whose frames the file lists, the first of them entered, and all where the port came to its end
+-- at each port whose frames the file lists, the first of them entered, and all of them if the port came to its end
 pub record AreScripted (specs : List PortSpec) (customers : List (List Step)) (lasts : List Last) : Type 0 where
   pub rest : List (Option (List (List ℕ)))
   pub begun : (number : ℕ) → frames_of (map script_in specs) number ≡ in_front (entered (steps_of customers number)) (frames_of rest number)

@@ -6,7 +6,7 @@ use bytes::Bytes;
 use pb_port::{Offered, Polled, Port, Pumped, Shelf};
 use std::collections::VecDeque;
 
-/// A port of one of three kinds: each call is that port's.
+/// A port of one of three kinds. Each call goes to that port.
 #[derive(Drop)]
 pub(crate) enum AnyPort<M, C, S> {
     /// A script and a LAN in memory.

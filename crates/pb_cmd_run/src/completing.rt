@@ -1,4 +1,4 @@
-//! Captures once a run is over: those to which nothing left, and inputs of another format.
+//! Captures after a run: files to which no frame was written become captures without records.
 
 ghost use Rattle.std.specs.Prelude.{◌≡◌, OnOk};
 ghost use Rattle.std.specs.Io.KnownBytes.{Appends};
@@ -22,11 +22,11 @@ pub(crate) struct CaptureFiles {
     pub read: Text,
     /// The path of the file that it writes.
     pub write: Text,
-    /// A handle of the file that it writes, which shares its position with the port's.
+    /// A handle of the file that it writes, which shares its position with that of the port.
     pub file: File,
 }
 
-/// The octets of a capture without records, as a capture port writes them before its first one.
+/// Returns the octets of a capture without records, as a capture port writes them before its first record.
 fn empty_capture() -> [u8; 24]
     ensures { result ≡ file_header }
 {
@@ -36,13 +36,21 @@ fn empty_capture() -> [u8; 24]
 }
 
 /// Writes a capture without records.
+///
+/// # Errors
+///
+/// The error of the writer.
 fn write_empty_capture<W: Write>(writer: &mut W) -> io::Result<()>
     ensures { OnOk result (Appends (W.contents writer.old) (W.contents writer.new) file_header) }
 {
     writer.write_all(&empty_capture())
 }
 
-/// Makes a capture without records of a file in which nothing stands. A device or a pipe stays as it is.
+/// Makes an empty file a capture without records. A device or a pipe stays as it is.
+///
+/// # Errors
+///
+/// The error of the system.
 fn complete(file: &File) -> io::Result<()> {
     let metadata = file.metadata()?;
     if metadata.is_file() && metadata.len() == 0 {
@@ -52,8 +60,7 @@ fn complete(file: &File) -> io::Result<()> {
     Ok(())
 }
 
-/// Makes captures without records of the files to which nothing left, and tells on the error writer where one can't
-/// be written.
+/// Makes each empty file of the ports a capture without records. Writes a line to `errors` for each that fails.
 pub(crate) fn complete_all<E: Write>(
     alloc: Global,
     customers: &[CustomerPlan],

@@ -1,4 +1,4 @@
-//! What captures are read from, in reads that don't wait.
+//! Inputs of captures, whose reads don't block.
 
 use std::fs::{File, Files, OpenOptions};
 use std::io::{ErrorKind, Read, Write};
@@ -11,8 +11,8 @@ use std::{fs, io};
 #[derive(Drop)]
 pub(crate) struct Input {
     file: File,
-    /// Of a named pipe from which nothing has come: a writer of our own, so that it isn't at its end before another has
-    /// come.
+    /// For a named pipe from which nothing has come: a writer that the run itself holds, which keeps the pipe from its
+    /// end until another writer has come.
     writer: Option<File>,
 }
 
@@ -27,7 +27,7 @@ impl Read for Input {
 }
 
 impl Write for Input {
-    /// Nothing is written here: `Unsupported` is answered.
+    /// Returns `Unsupported`. An input can't be written.
     fn write(&mut self, _buf: &[u8]) -> io::Result<usize> {
         Err(io::Error::from(ErrorKind::Unsupported))
     }
@@ -37,18 +37,22 @@ impl Write for Input {
     }
 }
 
-/// The path of a file to be read, where `-` is standard input.
+/// Returns the path of a file to read. `-` is standard input.
 pub(crate) fn input_path(path: &str) -> &str {
     if path == "-" { "/dev/stdin" } else { path }
 }
 
-/// Has reads of a file answer `WouldBlock` where they would wait.
+/// Makes reads of a file return `WouldBlock` instead of blocking.
 fn stop_waiting(file: &File) -> io::Result<()> {
     let twin = file.try_clone()?;
     UnixStream::from(OwnedFd::from(twin)).set_nonblocking(true)
 }
 
-/// Opens a pipe to be read. No call waits for a writer: while it is opened, one of our own is there.
+/// Opens a pipe for reading without waiting for a writer: the run itself holds one while it opens the pipe.
+///
+/// # Errors
+///
+/// The error of the system.
 fn open_pipe<R: Files<File = File>>(rt: &R, path: &str, is_standard: bool) -> io::Result<Input> {
     let writer = OpenOptions::new().read(true).write(true).open(rt, path)?;
     let file = File::open(rt, path)?;
@@ -57,8 +61,14 @@ fn open_pipe<R: Files<File = File>>(rt: &R, path: &str, is_standard: bool) -> io
     Ok(Input { file, writer })
 }
 
-/// Opens a file to be read, or standard input where the path is `-`. No read of it waits. A named pipe is at its end
-/// once something has come from it and no writer is left; standard input that is a pipe, once no writer is left.
+/// Opens a file for reading, or standard input if the path is `-`. Its reads don't block.
+///
+/// A named pipe ends when something has come from it and no writer is left. Standard input that is a pipe ends when no
+/// writer is left.
+///
+/// # Errors
+///
+/// The error of the system.
 pub(crate) fn open_input<R: Files<File = File>>(rt: &R, path: &str) -> io::Result<Input> {
     let is_standard = path == "-";
     let path = input_path(path);

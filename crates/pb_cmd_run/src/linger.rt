@@ -1,4 +1,4 @@
-//! Ports that have a while to write what waits in them, once a run is over.
+//! The time after a run in which ports write the frames that wait in them.
 
 ghost use Rattle.std.specs.Prelude.{◌≡◌, length};
 
@@ -8,36 +8,36 @@ use pb_run_control::Traffic;
 use std::thread;
 use std::time::{Clock, Duration, Instant};
 
-/// How many milliseconds it is waited for devices that take nothing, before they are asked again.
+/// The pause in milliseconds before devices that took nothing are tried again.
 const PAUSE: u64 = 1;
 
-/// How often devices are asked at most.
+/// The maximum number of tries.
 const MOST_TRIES: u32 = 10_000_000;
 
-/// The highest number of ticks that is told.
+/// The highest number of ticks that a port is given.
 const MOST_TICKS: u64 = 4_294_967_295;
 
-/// How long ports have to write once a run is over.
+/// The time that ports have after a run, and the counts of the run.
 #[derive(Clone, Copy)]
 pub(crate) struct Lingering<'a> {
-    /// For so many milliseconds at most.
+    /// The maximum time, in milliseconds.
     pub millis: u32,
-    /// What was counted of the run: captures are stamped with the ticks of the clock that ticked most.
+    /// The counts of the run. Captures are stamped with the ticks of the clock that ticked most.
     pub traffic: &'a Traffic,
 }
 
-/// What a try to write came to.
+/// The result of a try to write.
 #[derive(Clone, Copy, PartialEq, Eq)]
 enum Try {
-    /// Frames left.
+    /// Frames were written.
     Moved,
-    /// None left, and some wait for a device that takes nothing now.
+    /// No frame was written, and some wait for a device that takes nothing yet.
     Waiting,
-    /// None waits that could leave.
+    /// No frame waits that could be written.
     Over,
 }
 
-/// Has a port write what its device takes, after so many ticks.
+/// Has a port write the frames that its device takes, at this number of ticks.
 fn try_port(port: &mut Held, ticks: u32) -> Try {
     match port.pump(ticks) {
         Pumped::Wrote(_) => Try::Moved,
@@ -46,7 +46,7 @@ fn try_port(port: &mut Held, ticks: u32) -> Try {
     }
 }
 
-/// Has each port write what its device takes, after so many ticks.
+/// Has each port write the frames that its device takes, at this number of ticks.
 fn try_all(ports: &mut [Held], ticks: u32) -> Try {
     let mut came = Try::Over;
     for port in ports {
@@ -59,7 +59,7 @@ fn try_all(ports: &mut [Held], ticks: u32) -> Try {
     came
 }
 
-/// Whether so many milliseconds have passed since a moment, or the clock can't be read.
+/// Returns whether so many milliseconds have passed since a moment. Returns true if the clock can't be read.
 fn is_past<R: Clock>(rt: &R, start: Instant, millis: u32) -> bool {
     match start.elapsed(rt) {
         Ok(time) => time >= Duration::from_millis(u64::from(millis)),
@@ -67,7 +67,7 @@ fn is_past<R: Clock>(rt: &R, start: Instant, millis: u32) -> bool {
     }
 }
 
-/// Has ports write for so many milliseconds at most, until nothing waits that could leave.
+/// Has ports write until no frame waits that could be written, or the time is over.
 fn write_on<R: Clock>(rt: &R, ports: &mut [Held], lingering: Lingering<'_>) {
     let ticks = lingering.traffic.ticks().min(MOST_TICKS) as u32;
     let Ok(start) = Instant::now(rt) else {
@@ -85,8 +85,8 @@ fn write_on<R: Clock>(rt: &R, ports: &mut [Held], lingering: Lingering<'_>) {
     }
 }
 
-/// Gives the ports of a run a while to write what waits in them, and ends before where nothing waits that could leave.
-/// What is told of the run stays.
+/// Gives the ports of a run time to write the frames that wait in them, and returns when none waits that could be
+/// written or the time is over. All other results of the run stay as they are.
 pub(crate) fn lingered<R: Clock>(rt: &R, ran: Ran, lingering: Lingering<'_>) -> Ran
     ensures counts { result.counts ≡ ran.counts }
     ensures last { result.last ≡ ran.last }

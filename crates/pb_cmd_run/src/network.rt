@@ -42,11 +42,15 @@ use std::sync::{Arc, Wait};
 use std::thread::Threads;
 use std::time::Clock;
 
-/// The exit status where the plan is refused.
+/// The exit status for a refused plan file.
 const REFUSED: u8 = 1;
 
-/// Writes which rule a plan file breaks, and answers the exit status. `Write` is answered where a write failed,
-/// `Memory` where memory for the text ran out, and then nothing was written. No other fault comes.
+/// Writes the rule that a plan file breaks, and returns the exit status.
+///
+/// # Errors
+///
+/// `Write` if the write failed. `Memory` if an allocation failed, and then nothing was written. There are no other
+/// errors.
 fn refuse<W: Write>(alloc: Global, fault: &PlanFault, writer: &mut W) -> Result<u8, NetworkFault>
     ensures status { IfOk result (λ status. status ≡ 1) }
     ensures text { OnOk result (Appends (W.contents writer.old) (W.contents writer.new) (refusal_line fault.now)) }
@@ -57,8 +61,11 @@ fn refuse<W: Write>(alloc: Global, fault: &PlanFault, writer: &mut W) -> Result<
     Ok(REFUSED)
 }
 
-/// What a run lost. Where there is no memory to tell it, a lenient run tells nothing, and a strict one answers
-/// `Memory`.
+/// Returns the loss report of a run. If an allocation for it fails, it is empty for a lenient run.
+///
+/// # Errors
+///
+/// `Memory` if an allocation failed in a strict run.
 fn lost_under(
     alloc: Global,
     strictness: Strictness,
@@ -80,22 +87,25 @@ fn lost_under(
     }
 }
 
-/// Writes a text, where there is one. It isn't told where that fails.
+/// Writes a text to `errors`, unless it is empty. A failed write is ignored.
 fn show<E: Write>(text: &str, errors: &mut E) {
     if !text.is_empty() {
         let _ = write_whole(errors, text.as_bytes());
     }
 }
 
-/// Tells that the control socket can't be made.
+/// Writes a line to `errors` that the control socket can't be made.
 fn show_unmade<E: Write>(alloc: Global, path: &str, error: &io::Error, errors: &mut E) {
     if let Ok(text) = format!(in alloc; "control {path}: {error}\n") {
         show(text.as_str(), errors);
     }
 }
 
-/// Makes the control socket of a run, where one is asked for. `Path` is answered where it can't be made, and told on
-/// the error writer.
+/// Makes the control socket of a run, if the settings ask for one.
+///
+/// # Errors
+///
+/// `Path` if it can't be made, with a line in `errors`.
 fn plug<R: Files + Net, G, E: Write>(
     rt: &R,
     alloc: Global,
@@ -120,14 +130,14 @@ fn plug<R: Files + Net, G, E: Write>(
     }
 }
 
-/// Whether frames wait until the bridges have settled: where that is asked for, and the bridges decide the states of
-/// their ports, by clocks that tick.
+/// Returns whether frames wait until the bridges have converged: the settings ask for it, and the spanning tree decides
+/// the states of ports by clocks that tick.
 fn waits_for(settings: &RunSettings<'_>, plan: &Plan, limits: Limits) -> bool {
     let has_clock = limits.tick_every > 0 || limits.tick_ms > 0;
     settings.settles && has_clock && plan.spanning == Spanning::Rstp
 }
 
-/// Tells how many events of the plan have not come, where there are some: the run was over before.
+/// Writes a line to `errors` with the number of events that had not come when the run ended, if there are any.
 fn show_left<E: Write>(alloc: Global, left: u64, errors: &mut E) {
     if left == 0 {
         return;
@@ -142,9 +152,12 @@ fn show_left<E: Write>(alloc: Global, left: u64, errors: &mut E) {
     }
 }
 
-/// Writes what came of a run, and then what it lost, and answers the exit status. `Write` is answered where the report
-/// could not be written, `Memory` where memory for its text ran out, or for that of what a strict run lost, and then
-/// nothing of it was written. No other fault comes.
+/// Writes the report of a run and its losses, and returns the exit status.
+///
+/// # Errors
+///
+/// `Write` if the report can't be written. `Memory` if an allocation failed for the report, or for the losses of a
+/// strict run, and then nothing of the report was written. There are no other errors.
 fn tell<W: Write, E: Write>(
     alloc: Global,
     strictness: Strictness,
@@ -172,12 +185,14 @@ fn tell<W: Write, E: Write>(
     Ok(exit_status(strictness, is_whole, told))
 }
 
-/// Runs a plan with its ports, of which some have these files, and reports on the run, as [`run_network`] does.
+/// Runs a plan with its ports, some of which have these capture files, and reports on the run as [`run_network`] does.
 ///
-/// `Memory` is answered where there was none for the ports' boxes or for the workers, and then nothing has run; and
-/// where there was none for the text of the report, once the run is over. `Spawn` is answered where a thread could
-/// not be started, and then nothing has run; `Write` where the report could not be written. After any fault but
-/// `Write`, nothing was written to `writer`. `Ports` is never answered: there are as many ports as customer ports.
+/// # Errors
+///
+/// `Memory` if an allocation failed: for the ports or the workers, and then nothing has run, or for the report after
+/// the run. `Spawn` if a thread can't be started, and then nothing has run. `Write` if the report can't be written.
+/// After any fault but `Write` nothing was written to `writer`. `Ports` does not occur, since there are as many ports
+/// as customer ports.
 fn run_ports<R, G: RunProgress, W: Write, E: Write>(
     rt: &R,
     alloc: Global,
@@ -223,8 +238,11 @@ where
     }
 }
 
-/// Runs a plan with the ports that it tells, as [`run_network`] does, once they are open. The faults are those of
-/// [`run_ports`], and `Path` where a port can't be opened.
+/// Opens the ports of a plan and runs it, as [`run_network`] does.
+///
+/// # Errors
+///
+/// The faults of [`run_ports`], and `Path` if a port can't be opened.
 fn run_opened<R, G: RunProgress, W: Write, E: Write>(
     rt: &R,
     alloc: Global,
@@ -266,31 +284,36 @@ where
     ran
 }
 
-/// Runs the network of a plan file, whose ports lead to the files and sockets that it names, each bridge, each
-/// direction of a link and each customer port in a thread of its own, within the limits of the file, and reports on the
-/// run as [`write_report`] does. The exit status is answered. The frames that enter and leave, the copies that find no
-/// room and the ticks are counted in `traffic` meanwhile, and each worker passes the gate before each of its turns.
-/// Ports between bridges are set up and down as the file's events say: each when the clock of its bridge has ticked so
-/// often, if the run goes on till then, and `errors` is told how many events have not come. Whoever connects to the
-/// control socket, where one is asked for, sets ports so too, sees what was counted, and stops the run. Where it is
-/// asked for, and the bridges decide the states of their ports by clocks that tick, no frame enters before they seem
-/// settled or have ticked 200 times, and the gate is told which. What [`lost_of`] tells goes to `errors`, behind the
-/// report; a strict run that has something of it to tell, or that did not end drained, has the status 4 in place of 0.
+/// Runs the network of a plan file and reports on the run as [`write_report`] does. Returns the exit status. If the
+/// file is no plan, it writes the rule that the file breaks, as `check` does, and returns 1.
 ///
-/// Where the file is no plan, the rule that it breaks is written as `check` does, and
-/// the answer is 1.
+/// Each bridge, each direction of a link and each customer port has a thread of its own. Ports lead to the files and
+/// sockets that the file names. The run keeps the limits of the file, and each worker passes the gate before each of
+/// its turns. `traffic` counts the frames that enter and leave, the copies that are not queued and the ticks during the
+/// run.
 ///
-/// Once a run is over, its ports have a while to write what still waits in them, as the settings say. A file to which
-/// nothing left is made a capture without records then, or `errors` is told why it can't be; sockets that ports have
-/// made are removed; and `errors` is told which inputs are pcapng.
+/// Ports between bridges are disabled and enabled by the file's events, each when the clock of its bridge has ticked so
+/// often. `errors` reports how many events had not come when the run ended. A client of the control socket, if the
+/// settings ask for one, enables and disables ports too, reads the counts, and stops the run. If the settings ask for
+/// it, and the spanning tree decides the states of ports by clocks that tick, no frame enters before the bridges seem
+/// to have converged or have ticked 200 times. The gate receives which of the two it was.
 ///
-/// `Path` is answered where a file can't be opened, made or emptied, a socket not be connected to or made, or a file
-/// has two uses, and `errors` is told which: the control socket is made first, and then files and sockets are opened as
-/// [`open_all`] says, so that no file is emptied before all are open. `Memory` is answered where there was none for the
-/// ports or the workers, and where there was none for the text to be written; `Spawn` where a worker could not be
-/// started; `Write` where a write to `writer` failed. Nothing has run after `Path` and `Spawn`, and they come only
-/// where the file is a plan. After any fault but `Write`, nothing was written to `writer`; after `Write` nothing is
-/// said of what was. `Ports` is never answered, since a plan file has as many ports as its plan.
+/// After the run the ports have time to write the frames that wait in them, as the settings say. An output file to
+/// which nothing was written becomes a capture without records, or `errors` reports why it can't. Sockets that ports
+/// made are removed. `errors` names the inputs that are pcapng, and has the losses ([`lost_of`]) after the report. A
+/// strict run that had losses or did not end drained has the status 4 in place of 0.
+///
+/// # Errors
+///
+/// `Path` if the control socket can't be made, a file can't be opened, made or emptied, a socket can't be made or
+/// connected to, or a file has two uses. `errors` names it. The control socket is made first. Then files and sockets
+/// are opened as [`open_all`] says, and no file is emptied before all are open.
+///
+/// `Memory` if an allocation failed for the plan, the ports, the workers or the written text. `Spawn` if a thread can't
+/// be started. `Write` if a write to `writer` failed, and then it is not known how much was written.
+///
+/// Nothing has run after `Path` and `Spawn`, and they occur only if the file is a plan. After any fault but `Write`
+/// nothing was written to `writer`. `Ports` does not occur, since a plan file has as many ports as its plan.
 pub fn run_network<R, G: RunProgress, W: Write, E: Write>(
     rt: &R,
     alloc: Global,

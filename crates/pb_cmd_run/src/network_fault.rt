@@ -1,4 +1,4 @@
-//! Why a network was not run.
+//! The reasons why a network is not run, or not reported.
 
 ghost use Rattle.std.specs.Prelude.{◌≡◌, ◌⊎◌};
 ghost use Rattle.pb_cmd_run.specs.Faults.{of_cause, of_command};
@@ -12,23 +12,23 @@ use pb_run_ports::OpenFault;
 use std::alloc::{AllocError, AllocFailed};
 use thiserror::Error;
 
-/// Why the network of a plan file was not run.
+/// A reason why the network of a plan file is not run, or its run not reported.
 #[derive(Clone, Copy, Debug, PartialEq, Eq, Error)]
 pub enum NetworkFault {
-    /// A port's file can't be opened, made or emptied, its socket not be connected to, or a file has two uses. Nothing
-    /// has run.
+    /// A port's file can't be opened, made or emptied, its socket can't be made or connected to, a file has two uses,
+    /// or the control socket can't be made. Nothing has run.
     #[error("path")]
     Path,
-    /// The report could not be written, or the rule that the file breaks.
+    /// The report, or the line for a refused plan file, can't be written.
     #[error("write")]
     Write,
-    /// Memory ran out: before the run, for the ports or the workers; or behind it, for the text of the report.
+    /// An allocation failed: before the run, for the plan, the ports or the workers, or after it, for the report.
     #[error("memory")]
     Memory,
-    /// A thread could not be started. Nothing has run.
+    /// A thread can't be started. Nothing has run.
     #[error("spawn")]
     Spawn,
-    /// There are not as many ports as the plan has customer ports.
+    /// There are not as many ports as customer ports in the plan.
     #[error("ports")]
     Ports,
 }

@@ -1,4 +1,4 @@
-//! What the ports of a network lead to.
+//! The files and sockets of the ports of a network.
 
 ghost use Rattle.std.specs.Prelude.{◌≡◌, ◌⊎◌, ◌<◌, ◌≤◌, length, map, vec_len, IfOk, IfErr};
 ghost use Rattle.pb_lan.specs.Plans.{IsSound};
@@ -28,30 +28,34 @@ use std::net::Net;
 use std::sync::Arc;
 use std::time::Clock;
 
-/// A port over memory, files of the system or a socket of it.
+/// A port over memory, over files of the system or over a socket of the system.
 pub(crate) type SystemPort = AnyPort<
     MemoryPort,
     CapturePort<Over<Input>, Over<File>>,
     SocketPort<Over<Peer>>,
 >;
 
-/// What a port has open at the system.
+/// The open files or the open socket of a port.
 type SystemOpened = Opened<Input, Output, Peer>;
 
-/// The ports of a network, the files of those over captures, and the sockets that some have made.
+/// The ports of a network, the files of those over captures, and the sockets that some of them made.
 pub(crate) struct Outside {
     pub ports: Vec<Watched<SystemPort>>,
     pub files: Vec<CaptureFiles>,
     pub sockets: Vec<SocketFile>,
 }
 
-/// What the ports of a network have open, and the sockets that were made for it.
+/// The open files and sockets of the ports of a network, and the sockets that were made for them.
 struct OpenSystem {
     opened: Vec<SystemOpened>,
     sockets: Vec<SocketFile>,
 }
 
-/// The frames of a script, in a queue.
+/// Returns the frames of a script in a queue.
+///
+/// # Errors
+///
+/// `AllocError` if an allocation failed.
 fn script_of(alloc: Global, frames: Seq<Bytes>) -> Result<VecDeque<Bytes>, AllocError>
     ensures { IfOk result (λ script. script.items ≡ frames) }
 {
@@ -62,11 +66,11 @@ fn script_of(alloc: Global, frames: Seq<Bytes>) -> Result<VecDeque<Bytes>, Alloc
     Ok(script)
 }
 
-/// The most microseconds at tick 0.
+/// The maximum time of tick 0, in microseconds since 1970.
 const LATEST: u64 = 4_611_686_018_427_387_903;
 
-/// The scale that tells the time of day after so many ticks of so many milliseconds, beginning now. Where the clock
-/// can't be read, it begins in 1970.
+/// Returns the scale of a clock that shows the time of day: tick 0 is now, and each tick has `tick_ms` milliseconds. If
+/// the system's clock can't be read, tick 0 is the beginning of 1970.
 fn day_scale<R: Clock>(rt: &R, tick_ms: u64) -> Timescale {
     let start = match rt.since_1970() {
         Ok(time) => time
@@ -81,7 +85,7 @@ fn day_scale<R: Clock>(rt: &R, tick_ms: u64) -> Timescale {
     }
 }
 
-/// On which scale a capture tells times.
+/// Returns the scale of the time stamps of a capture.
 fn scale_of(stamp: Stamp, day: Timescale) -> Timescale {
     match stamp {
         Stamp::Ticks => Timescale::ticks(),
@@ -89,7 +93,12 @@ fn scale_of(stamp: Stamp, day: Timescale) -> Timescale {
     }
 }
 
-/// The port at a place of the plan, of what it has open. The files of one over captures are put behind others.
+/// Returns the port at a place of the plan over its open files or its open socket. The files of a port over captures
+/// are appended to `files`.
+///
+/// # Errors
+///
+/// `AllocError` if an allocation failed.
 fn port_of(
     alloc: Global,
     capacity: u16,
@@ -132,7 +141,7 @@ fn port_of(
     }
 }
 
-/// How many frames may wait in a customer port of a plan, by its place, from 0.
+/// Returns the number of frames that may wait in the customer port at a place, from 0: 1 to 4096.
 fn capacity_of(plan: &Plan, place: usize) -> u16
     requires sound { IsSound plan.now }
     requires place { place < length plan.now.customers }
@@ -141,13 +150,17 @@ fn capacity_of(plan: &Plan, place: usize) -> u16
     plan.customers.as_slice()[place].queue
 }
 
-/// The number of the customer port at a place, from 0.
+/// Returns the number of the customer port at a place, from 0.
 fn number_at(place: usize) -> u8 {
     place.min(254) as u8 + 1
 }
 
-/// The ports of a plan, of what each has open. Their frames are counted, and the files of those over captures are put
-/// behind others.
+/// Returns the ports of a plan over their open files and sockets. Their frames are counted in `traffic`. The files of
+/// ports over captures are appended to `files`.
+///
+/// # Errors
+///
+/// `AllocError` if an allocation failed.
 fn ports_of(
     alloc: Global,
     plan: &Plan,
@@ -178,9 +191,13 @@ fn ports_of(
     Ok(ports)
 }
 
-/// Opens the files and sockets of a plan, as [`open_all`] does, and tells on the error writer what could not be opened.
-/// `Path` is answered then, and `Memory` where memory ran out, and no socket that was made is left. No other fault
-/// comes.
+/// Opens the files and sockets of a plan, as [`open_all`] does. Writes a line to `errors` for a file or socket that
+/// can't be opened.
+///
+/// # Errors
+///
+/// `Path` if a file or socket can't be opened or a file has two uses, `Memory` if an allocation failed. Sockets that
+/// were made are removed then. There are no other errors.
 fn open_system<R: Files<File = File> + Net, E: Write>(
     rt: &R,
     alloc: Global,
@@ -212,9 +229,12 @@ fn open_system<R: Files<File = File> + Net, E: Write>(
     }
 }
 
-/// Opens the ports of a plan, which was read at a path. Their frames are counted. `Path` is answered where a file or
-/// socket can't be opened, or a file has two uses, and told on the error writer; `Memory` where memory ran out. No
-/// other fault comes, and after one no socket that was made is left.
+/// Opens the ports of a plan that was read at `plan_path`. Their frames are counted in `traffic`.
+///
+/// # Errors
+///
+/// `Path` if a file or socket can't be opened or a file has two uses, with a line in `errors`. `Memory` if an
+/// allocation failed. Sockets that were made are removed then. There are no other errors.
 pub(crate) fn open_ports<R: Files<File = File> + Net + Clock, E: Write>(
     rt: &R,
     alloc: Global,

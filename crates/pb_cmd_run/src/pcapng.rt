@@ -1,4 +1,4 @@
-//! Inputs that are pcapng.
+//! Inputs in the format pcapng.
 
 use crate::completing::CaptureFiles;
 use crate::input::input_path;
@@ -12,10 +12,14 @@ use std::fs::Files;
 use std::io::{Read, Write};
 use std::{fs, io};
 
-/// The first octets of each file in the format of pcapng.
+/// The first octets of each pcapng file.
 const MAGIC: [u8; 4] = [0x0a, 0x0d, 0x0d, 0x0a];
 
-/// The first four octets of a file.
+/// Returns the first four octets of a file.
+///
+/// # Errors
+///
+/// The error of the system, also if the file is shorter.
 fn first_octets(rt: &impl Files, path: &str) -> io::Result<[u8; 4]> {
     let mut file = fs::open(rt, path)?;
     let mut octets = [0u8; 4];
@@ -23,7 +27,7 @@ fn first_octets(rt: &impl Files, path: &str) -> io::Result<[u8; 4]> {
     Ok(octets)
 }
 
-/// Whether the file at a path begins as pcapng does. What stood in a pipe is gone, and isn't looked for.
+/// Returns whether the regular file at a path begins as pcapng does. Pipes and devices are not read again.
 fn is_pcapng(rt: &impl Files, path: &str) -> bool {
     match fs::metadata(rt, path) {
         Ok(metadata) if metadata.is_file() => match first_octets(rt, path) {
@@ -34,7 +38,7 @@ fn is_pcapng(rt: &impl Files, path: &str) -> bool {
     }
 }
 
-/// Tells on the error writer which ports have the fault 1 as they read pcapng, by a line each.
+/// Writes a line to `errors` for each port whose input was refused because it is pcapng.
 pub(crate) fn show_pcapng<E: Write>(
     rt: &impl Files,
     alloc: Global,

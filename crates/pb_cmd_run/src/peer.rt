@@ -17,7 +17,12 @@ pub(crate) enum Peer {
 }
 
 impl Peer {
-    /// Lets the peer in, where one waits. Nobody listens then any more, so that there is no other.
+    /// Accepts the connection of the peer, if it has not connected yet. The listener is closed after that, and no other
+    /// peer can connect.
+    ///
+    /// # Errors
+    ///
+    /// The error of the system.
     fn meet(&mut self) -> io::Result<()> {
         if let Peer::Awaited(listener) = self {
             let (stream, _) = listener.accept()?;
@@ -55,11 +60,11 @@ impl Write for Peer {
 #[derive(Drop)]
 pub(crate) struct SocketFile {
     pub path: Text,
-    /// Its device and its number, once it is made.
+    /// Its device number and inode, after the socket was made.
     pub node: Option<(u64, u64)>,
 }
 
-/// Removes the files of sockets, each where it still stands at its path.
+/// Removes the files of sockets, each if it is still the one at its path.
 pub(crate) fn remove_sockets(rt: &impl Files, sockets: &[SocketFile]) {
     for socket in sockets {
         let path = socket.path.as_str();

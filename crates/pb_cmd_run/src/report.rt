@@ -1,4 +1,4 @@
-//! What is printed of a run.
+//! The printed report of a run.
 
 ghost use Rattle.std.specs.Prelude.{◌≡◌, ◌≢◌, ◌⊎◌, ◌++◌, List, ℕ, length, string_bytes, IfOk, IfErr, OnOk};
 ghost use Rattle.std.specs.Io.KnownBytes.{Appends, Keeps};
@@ -16,13 +16,13 @@ use pb_run::{Ended, Last, Ran};
 use std::alloc::Global;
 use std::io::Write;
 
-/// The exit status of a run that was reported without a fault.
+/// The exit status of a run whose report has no fault.
 const REPORTED: u8 = 0;
 
-/// The exit status of a run with a fault.
+/// The exit status of a run whose report has a fault.
 const FAULT: u8 = 3;
 
-/// Puts how a run ended behind a text.
+/// Appends the line that says how a run ended.
 fn put_ended(out: &mut String, ended: Ended) -> Result<(), Memory>
     ensures { OnOk result (string_bytes out.new ≡ string_bytes out.old ++ ended_line ended) }
 {
@@ -35,7 +35,7 @@ fn put_ended(out: &mut String, ended: Ended) -> Result<(), Memory>
     Ok(())
 }
 
-/// Puts whether the bridges are settled behind a text, where that could be found.
+/// Appends whether the bridges have settled, if this is known.
 fn put_settling(out: &mut String, settled: &Result<Option<bool>, Memory>) -> Result<(), Memory>
     ensures { OnOk result (string_bytes out.new ≡ string_bytes out.old ++ settled_lines settled.now) }
 {
@@ -45,7 +45,7 @@ fn put_settling(out: &mut String, settled: &Result<Option<bool>, Memory>) -> Res
     }
 }
 
-/// Puts what is wrong with a customer port's input behind a text, where something is.
+/// Appends the line for the fault of a customer port's input, if it has one.
 fn put_port_fault(out: &mut String, name: &str, last: Last) -> Result<(), Memory>
     ensures { OnOk result (string_bytes out.new ≡ string_bytes out.old ++ fault_at name.now last) }
 {
@@ -56,7 +56,7 @@ fn put_port_fault(out: &mut String, name: &str, last: Last) -> Result<(), Memory
     Ok(())
 }
 
-/// Puts a line for each customer port whose input has a fault behind a text.
+/// Appends a line for each customer port whose input has a fault.
 fn put_port_faults(
     out: &mut String,
     customers: &[CustomerPlan],
@@ -71,7 +71,7 @@ fn put_port_faults(
     Ok(())
 }
 
-/// Puts that there was no memory to look whether the bridges are settled behind a text, where there was none.
+/// Appends the line that an allocation failed in finding whether the bridges have settled, if one did.
 fn put_memory_fault(out: &mut String, settled: &Result<Option<bool>, Memory>) -> Result<(), Memory>
     ensures { OnOk result (string_bytes out.new ≡ string_bytes out.old ++ memory_line settled.now) }
 {
@@ -82,7 +82,7 @@ fn put_memory_fault(out: &mut String, settled: &Result<Option<bool>, Memory>) ->
     Ok(())
 }
 
-/// Puts the faults of a run behind a text, and answers the exit status that they ask for.
+/// Appends the faults of a run, and returns the exit status for them.
 fn put_faults(
     out: &mut String,
     customers: &[CustomerPlan],
@@ -104,7 +104,11 @@ fn put_faults(
     Ok(FAULT)
 }
 
-/// Puts what a run tells behind a text, and answers the exit status.
+/// Appends the report of a run, and returns the exit status.
+///
+/// # Errors
+///
+/// `Memory` if an allocation failed.
 fn put_run(alloc: Global, out: &mut String, plan: &Plan, ran: &Ran) -> Result<u8, Memory>
     requires sound { IsSound plan.now }
     requires settled { IfOk ran.now.settled (TellsSettled plan.now ran.now.counts) }
@@ -121,19 +125,20 @@ fn put_run(alloc: Global, out: &mut String, plan: &Plan, ran: &Ran) -> Result<u8
     Ok(status)
 }
 
-/// Writes what came of a run by one `write_all`, and answers the exit status: 3 exactly where a line that
-/// begins with `fault:` was written, else 0.
+/// Writes the report of a run by one call of `write_all`, and returns the exit status: 3 if the report has a line that
+/// begins with `fault:`, else 0.
 ///
-/// The report begins with `ended drained`, `ended stopped`, `ended limit` or `ended memory`. A line
-/// `port NAME entered N left N filtered N` for each customer port and a line `link NAME ab taken N lost N ba
-/// taken N lost N` for each link follow, both by name, then `forest yes`, or `forest no` and a line `loop NAME`
-/// for each service for which the last shape is none. Where the spanning tree decides the states of ports,
-/// `settled yes` or `settled no` tells whether the bridges are settled (IEEE 802.1D-2004 clause 17). Last, for
-/// each customer port in the plan's order whose input has a fault, comes `fault: port NAME N`, and
-/// `fault: memory` where there was none to look whether the bridges are settled.
+/// The report begins with `ended drained`, `ended stopped`, `ended limit` or `ended memory`. A line `port NAME entered
+/// N left N filtered N` for each customer port and a line `link NAME ab taken N lost N ba taken N lost N` for each link
+/// follow, both sorted by name. Then comes `forest yes`, or `forest no` and a line `loop NAME` for each service whose
+/// active links form a loop. If the spanning tree decides the states of ports, `settled yes` or `settled no` says
+/// whether the bridges have converged (IEEE 802.1D-2004 clause 17). The last lines are `fault: port NAME N` for each
+/// customer port whose input has a fault, in the order of the plan, and `fault: memory` if an allocation failed in
+/// finding whether the bridges have settled.
 ///
-/// `Write` is answered where a write failed, `Memory` where memory for the text ran out, and then nothing was
-/// written.
+/// # Errors
+///
+/// `Write` if the write failed. `Memory` if an allocation failed, and then nothing was written.
 pub fn write_report<W: Write>(
     alloc: Global,
     plan: &Plan,

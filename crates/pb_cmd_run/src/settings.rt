@@ -1,14 +1,14 @@
-//! The settings of a run beside its plan file.
+//! The settings of a run outside its plan file.
 
-/// The settings of a run beside its plan file. No guarantee about a run depends on them.
+/// The settings of a run outside its plan file. No guarantee about a run depends on them.
 #[derive(Clone, Copy)]
 pub struct RunSettings<'a> {
     /// The path of the plan file.
     pub plan: &'a str,
-    /// Where the control socket is made. None: there is none.
+    /// The path at which the control socket is made, or `None` for no control socket.
     pub control: Option<&'a str>,
-    /// No frame enters before the bridges have settled.
+    /// Whether frames wait until the bridges have converged.
     pub settles: bool,
-    /// For how many milliseconds what is left in sockets' ports at the end is still sent.
+    /// The maximum time, in milliseconds, in which ports write waiting frames after the run.
     pub linger: u32,
 }

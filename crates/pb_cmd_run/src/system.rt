@@ -1,4 +1,4 @@
-//! The files and sockets of the system.
+//! The files and sockets of the operating system.
 
 use crate::input::{Input, input_path, open_input};
 use crate::peer::{Peer, SocketFile};
@@ -14,34 +14,34 @@ use std::os::unix::fs::{FileTypeExt, MetadataExt};
 use std::path::Path;
 use std::{fs, io};
 
-/// The system as what files and sockets are opened by.
+/// The operating system as an opener of files and sockets.
 #[derive(Drop)]
 pub(crate) struct System<'a, R> {
     pub rt: &'a R,
     pub alloc: Global,
-    /// The sockets that were made, or that could not be.
+    /// The sockets that were made, or whose making was tried.
     pub sockets: Vec<SocketFile>,
 }
 
 /// A file that is written.
 #[derive(Drop)]
 pub(crate) struct Output {
-    /// The file, as its port has it.
+    /// The handle that its port has.
     pub file: File,
-    /// Another handle of it, which is kept till the run is over.
+    /// Another handle of it, which is kept until the run is over.
     pub twin: File,
-    /// It was made when it was opened.
+    /// Whether the file was made when it was opened.
     pub is_made: bool,
 }
 
-/// The device and the number of a file, as a text.
+/// Returns the device number and the inode of a file, as a text.
 fn number_of(alloc: Global, metadata: &Metadata) -> Result<String, AllocError> {
     let (device, number) = (metadata.dev(), metadata.ino());
     format!(in alloc; "{device} {number}")
 }
 
-/// A text for a file that is missing: the folder where it would stand, by device and number, and its name there.
-/// Where the folder can't be found it is the path itself.
+/// Returns a text that identifies a missing file: the device number and the inode of its folder, and its name. If the
+/// folder can't be found it is the path.
 fn missing_file(rt: &impl Files, alloc: Global, path: &str) -> Result<String, AllocError> {
     let whole = Path::new(path);
     let (Some(folder), Some(name)) = (whole.parent(), whole.file_name()) else {
@@ -59,7 +59,8 @@ fn missing_file(rt: &impl Files, alloc: Global, path: &str) -> Result<String, Al
     format!(in alloc; "{folder}/{name}")
 }
 
-/// Which file a path names, as a text, where `-` is standard input. A device, as `/dev/null`, may have several uses.
+/// Returns a text that identifies the file at a path, in which `-` is standard input. Returns `None` for a character
+/// device such as `/dev/null`, which may have several uses.
 fn file_at(rt: &impl Files, alloc: Global, path: &str) -> Result<Option<String>, AllocError> {
     let path = input_path(path);
     match fs::metadata(rt, path) {
@@ -69,7 +70,8 @@ fn file_at(rt: &impl Files, alloc: Global, path: &str) -> Result<Option<String>,
     }
 }
 
-/// Makes a file to be written. One that a symbolic link leads to was not there either, and stays where it is made.
+/// Makes a file for writing. Returns it, and whether it may be removed again. A file that is made through a symbolic
+/// link stays.
 fn make<R: Files<File = File>>(rt: &R, path: &str) -> io::Result<(File, bool)> {
     match OpenOptions::new()
         .write(true)
@@ -85,7 +87,7 @@ fn make<R: Files<File = File>>(rt: &R, path: &str) -> io::Result<(File, bool)> {
     }
 }
 
-/// Opens a file to be written, or makes it, and says whether it was made.
+/// Opens a file for writing, or makes it. Returns it, and whether it was made.
 fn open_or_make<R: Files<File = File>>(rt: &R, path: &str) -> io::Result<(File, bool)> {
     match OpenOptions::new().write(true).open(rt, path) {
         Ok(file) => Ok((file, false)),
@@ -94,7 +96,7 @@ fn open_or_make<R: Files<File = File>>(rt: &R, path: &str) -> io::Result<(File, 
     }
 }
 
-/// Removes a file that was made, and no other.
+/// Removes a file if it was made.
 fn remove_made(rt: &impl Files, path: &str, is_made: bool) {
     if is_made {
         let _ = fs::remove_file(rt, path);

@@ -1,4 +1,4 @@
-//! What is told of files and sockets that can't be used.
+//! Texts about files and sockets that can't be used.
 
 ghost use Rattle.std.specs.Prelude.{◌≡◌, ◌++◌, List, ℕ, string_bytes, IfOk, OnOk};
 ghost use Rattle.std.specs.Io.KnownBytes.{Appends};
@@ -11,7 +11,7 @@ use pb_run_ports::{FileUser, OpenFault, Verb};
 use std::alloc::{AllocError, Global};
 use std::io::{Error, Write};
 
-/// The name of the customer port at a place of the plan, from 0, or nothing.
+/// Returns the name of the customer port at a place of the plan, from 0, or the empty text if there is none.
 #[tactic(auto, using(crate::proofs::TellingLemmas::named, crate::proofs::TellingLemmas::unnamed))]
 pub(crate) fn name_at(customers: &[CustomerPlan], place: usize) -> &str
     ensures { result.now ≡ name_at customers.now place }
@@ -23,7 +23,7 @@ pub(crate) fn name_at(customers: &[CustomerPlan], place: usize) -> &str
     }
 }
 
-/// What a port does with a path, in a word.
+/// Returns the word for the use that a port makes of a path.
 fn word_of(verb: Verb) -> &'static str
     ensures { result.now ≡ word_of verb }
 {
@@ -35,7 +35,7 @@ fn word_of(verb: Verb) -> &'static str
     }
 }
 
-/// Puts a line on a path behind a text.
+/// Appends a line about a path.
 fn put_line(out: &mut String, name: &str, word: &str, path: &str, why: &str) -> Result<(), Memory>
     ensures { OnOk result (string_bytes out.new ≡ string_bytes out.old
         ++ path_line name.now word.now path.now why.now) }
@@ -44,8 +44,11 @@ fn put_line(out: &mut String, name: &str, word: &str, path: &str, why: &str) -> 
     Ok(())
 }
 
-/// Writes a line on a path by one `write_all`. `Write` is answered where a write failed, `Memory` where memory for the
-/// text ran out.
+/// Writes a line about a path by one call of `write_all`.
+///
+/// # Errors
+///
+/// `Write` if the write failed, `Memory` if an allocation failed.
 fn write_line<W: Write>(
     alloc: Global,
     name: &str,
@@ -62,7 +65,11 @@ fn write_line<W: Write>(
     write_whole(writer, out.as_bytes())
 }
 
-/// Writes `port NAME: VERB PATH: WHY`, for a path that a port could not use, with what the system says of it.
+/// Writes `port NAME: VERB PATH: WHY` for a path that a port could not use. WHY is the error of the system.
+///
+/// # Errors
+///
+/// `Write` if the write failed, `Memory` if an allocation failed.
 pub(crate) fn write_path_fault<W: Write>(
     alloc: Global,
     name: &str,
@@ -78,7 +85,7 @@ pub(crate) fn write_path_fault<W: Write>(
     write_line(alloc, name, word_of(verb), path, why.as_str(), writer)
 }
 
-/// What is said of a file that has another user too.
+/// Returns the text about the other user of a file.
 fn sharing(alloc: Global, customers: &[CustomerPlan], other: FileUser) -> Result<String, AllocError>
     ensures { IfOk result (λ text. string_bytes text ≡ sharing customers.now other) }
 {
@@ -95,9 +102,11 @@ fn sharing(alloc: Global, customers: &[CustomerPlan], other: FileUser) -> Result
     }
 }
 
-/// Writes `port NAME: VERB PATH: WHY`, why the ports of a plan could not be opened, and nothing where memory ran out.
+/// Writes `port NAME: VERB PATH: WHY` for the fault in opening the ports of a plan. Writes nothing for `Memory`.
 ///
-/// `Write` is answered where a write failed, `Memory` where memory for the text ran out.
+/// # Errors
+///
+/// `Write` if the write failed, `Memory` if an allocation failed.
 pub(crate) fn write_open_fault<W: Write>(
     alloc: Global,
     customers: &[CustomerPlan],

@@ -7,14 +7,14 @@ use std::alloc::Global;
 use std::collections::VecDeque;
 use std::sync::Arc;
 
-/// A port that counts the frames that it gives and takes, and is else the port that it has inside.
+/// A port that counts the frames that enter and leave at it. In all else it is the port that it contains.
 #[derive(Drop)]
 pub(crate) struct Watched<P: Port> {
     pub port: P,
     /// Its number in the plan, from 1.
     pub number: u8,
     pub traffic: Arc<Traffic, Global>,
-    /// How often the clock had ticked at the latest pump, so that one without a clock goes on from there.
+    /// The highest number of ticks so far. A write without a clock goes on from there.
     pub latest: u32,
 }
 

@@ -1,4 +1,4 @@
--- What a strict run says by its exit status.
+-- The meaning of a strict run's exit status.
 use Rattle.std.proofs.Common.{◌≡◌, ◌⊎◌, ℕ, zero, suc, Bool, true, false, refl, sym, subst, ◌∙◌, List, [], ◌∷◌, Option, inl, inr}
 use Rattle.std.proofs.Common.{IfOk}
 use Rattle.std.specs.declared.result.Result.{Result}
@@ -57,14 +57,14 @@ by_case (inr b) f g = g b
 neither : {C : Type 0} (status : ℕ) → status ≡ 0 → status ≡ 1 → C
 neither status nil one = cc
 
--- a strict run with the exit status 0 has carried all
+-- a strict run with the exit status 0 has carried all (used by `strict_carried`)
 pub zero_carried : (file : List ℕ) (status : ℕ) (before after : Option (List ℕ)) → status ≡ 0
     → PrintsNetwork Strict file status before after → HasCarriedAll file
 zero_carried file status before after e prints =
     by_case {A = (status ≡ 1) × PrintsRefusal file before after} {B = PrintsRunOf Strict file status before after} {C = HasCarriedAll file}
     prints (λ refusal. neither status e refusal.0) (λ run. of_run file status before after e run)
 
--- the same of what a run may answer, over octets that are those of a text
+-- the same for the result of a run over the octets of a text (used by `carry`)
 pub strict_carried : (strictness : Strictness) (file text : List ℕ) (before after : Option (List ℕ)) (r : Result ℕ NetworkFault)
     → file ≡ text → IfOk r (λ status. PrintsNetwork strictness file status before after) → strictness ≡ Strict
     → IfOk r (λ status. status ≡ 0 → HasCarriedAll text)

@@ -1,4 +1,4 @@
-//! Runs of pb_cmd_run with ample memory.
+//! Tests of pb_cmd_run without failing allocations.
 #![tactic(auto)]
 
 #[cfg(test)]

@@ -1,7 +1,7 @@
 //! Runs of the networks of plan files.
 //!
-//! Each test is a table of rows, each a run and what has to come of it. Each run ends by itself, and tells the
-//! same whatever the schedule.
+//! Each test is a table of rows, and each row is a run with its result. Each run ends by itself, and has the same
+//! result in any schedule.
 
 ghost use Rattle.std.specs.Prelude.{◌≡◌, IfOk};
 ghost use Rattle.pb_cmd_run.specs.Networks.{HasCarriedAll};
@@ -38,24 +38,25 @@ use std::test::Fail;
 use std::thread::Threads;
 use std::time::Clock;
 
-/// How a plan file is run.
+/// The settings of a test run.
 #[derive(Clone, Copy)]
 struct Manner {
-    /// Where it is said to stand.
+    /// The path that the run is given for its plan file.
     path: &'static str,
     strictness: Strictness,
-    /// How many milliseconds ports may write once the run is over.
+    /// The time after the run in which ports write, in milliseconds.
     linger: u32,
 }
 
-/// The manner of runs of which no test asks for another. There is no such file.
+/// The settings of a run without others. There is no file at the path.
 const PLAIN: Manner = Manner {
     path: "plan.toml",
     strictness: Strictness::Lenient,
     linger: 100,
 };
 
-/// Every worker may go on. It counts how often it is told that its run is over, and the turns of all workers.
+/// A gate that lets every worker go on, and counts the calls that say that the run is over and the turns of all
+/// workers.
 #[derive(Drop)]
 struct Door {
     closed: AtomicU64,
@@ -63,6 +64,7 @@ struct Door {
 }
 
 impl Door {
+    /// Returns a gate without counts.
     fn new() -> Door {
         Door {
             closed: AtomicU64::new(0),
@@ -70,10 +72,12 @@ impl Door {
         }
     }
 
+    /// Returns the number of calls that said that the run is over.
     fn closed(&self) -> u64 {
         self.closed.load(Ordering::SeqCst)
     }
 
+    /// Returns the number of turns of all workers.
     fn turns(&self) -> u64 {
         self.turns.load(Ordering::SeqCst)
     }
@@ -94,24 +98,24 @@ impl RunProgress for Door {
     }
 }
 
-/// What the network of a plan file tells beside what it writes.
+/// The result of a run, apart from its output.
 #[derive(Clone, Copy, PartialEq, Eq, Debug)]
 struct Told {
-    /// The exit status, or why there is none.
+    /// The exit status, or the fault.
     result: Result<u8, NetworkFault>,
-    /// How many frames were counted, as they entered and as they left.
+    /// The number of frames that entered, and the number that left.
     traffic: (u64, u64),
-    /// How often the gate was told that the run is over.
+    /// The number of calls that said that the run is over.
     closed: u64,
 }
 
-/// No frames yet.
+/// Returns counts without frames.
 fn no_traffic(alloc: Global) -> Result<Arc<Traffic, Global>, AllocError> {
     Ok(Arc::new(alloc, Traffic::new(alloc)?)?)
 }
 
-/// Runs the network of a plan file. What a caller may take from a strict run with the exit status 0: the network has
-/// carried all.
+/// Runs the network of a plan file. Its contract says that the network has carried all frames if a strict run has the
+/// exit status 0.
 fn carry<R, W: Write, E: Write>(
     rt: &R,
     alloc: Global,
@@ -145,7 +149,7 @@ where
     })
 }
 
-/// A plan file of two parts.
+/// Returns a plan file of two parts.
 fn joined(alloc: Global, parts: [&str; 2]) -> Result<String, AllocError> {
     let mut file = String::from_str(alloc, parts[0])?;
     file.push_str(parts[1])?;
@@ -169,7 +173,7 @@ where
     carry(rt, alloc, file.as_str(), manner, door, writer, errors)
 }
 
-/// The same, where nobody looks at the door.
+/// Runs the network of a plan file of two parts, with a gate of its own.
 fn run<R, W: Write, E: Write>(
     rt: &R,
     alloc: Global,
@@ -185,7 +189,7 @@ where
     run_past(rt, alloc, parts, manner, &door, writer, errors)
 }
 
-/// A plan file, and what its network tells and writes.
+/// A plan file, with the result and the report of its network.
 #[derive(Clone, Copy)]
 struct Row {
     parts: [&'static str; 2],
@@ -193,7 +197,7 @@ struct Row {
     report: &'static str,
 }
 
-/// The network of a row's plan file tells what the row says, and this on the error writer.
+/// Asserts the result and the report of a row's network, and its remarks on standard error.
 fn check_under<R>(
     rt: &R,
     alloc: Global,
@@ -216,7 +220,7 @@ where
     Ok(())
 }
 
-/// The same of a run that is not strict, and has nothing to tell on the error writer.
+/// Asserts the result and the report of a row's network in a lenient run, without remarks.
 fn check<R>(rt: &R, alloc: Global, row: &Row) -> Result<(), Fail>
 where
     R: Files<File = File> + Net + Threads + Wait + Clock + Sync + Abort,

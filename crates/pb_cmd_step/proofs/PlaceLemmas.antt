@@ -1,4 +1,4 @@
--- The places of events.
+-- The places of events exist.
 use Rattle.std.proofs.Common.{true, ◌≡◌, ℕ, zero, suc, ◌≤◌, List, [], ◌∷◌}
 use Rattle.std.proofs.Common.{length, is_some, refl, arith}
 use Rattle.pb_relay.proofs.SettingLemmas.{provider_used}
@@ -18,13 +18,13 @@ numbered_there [] (suc n) low high = absurd (omega (arith, high))
 numbered_there (x ∷ xs) (suc zero) low high = refl
 numbered_there (x ∷ xs) (suc (suc n)) low high = numbered_there xs (suc n) (omega arith) (omega (arith, high))
 
--- a port that a sound plan uses stands at one of its bridges
+-- a port that a sound plan uses belongs to one of its bridges
 used_there : (plan : Plan) → IsSound plan → (b q : ℕ) → is_used (port_at plan b q) ≡ true
     → is_some (numbered plan.bridges b) ≡ true
 used_there plan sound b q u =
     let there = bridge_there plan sound b q u in numbered_there plan.bridges b there.0 there.1
 
--- the place of an event that names something is there
+-- the place of an event that names a part of the plan exists
 pub named_place : (plan : Plan) → IsSound plan → (event : Event) → names_something plan event ≡ true
     → has_place plan (place_of event) ≡ true
 named_place plan sound (Poll port frame) h = h

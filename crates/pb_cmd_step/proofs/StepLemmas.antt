@@ -1,4 +1,4 @@
--- A network that is driven line by line.
+-- A network that is driven line by line (used by the functions of `steps.rt`).
 use Rattle.std.proofs.Common.{true, ◌≢◌, ◌≡◌, ℕ, suc, ◌+◌, List, [], ◌∷◌, ◌++◌, length, take, map, Option, Some, None}
 use Rattle.std.proofs.Common.{Ok, Err, IfErr, refl, sym, ap, subst, ◌∙◌, arith, append_assoc, append-nil}
 use Rattle.std.proofs.Common.{length-append}
@@ -31,7 +31,7 @@ use Rattle.pb_report.specs.RecordTexts.{IsRecordText}
 use Rattle.pb_messages.specs.declared.fault.CommandFault.TheVariants.{Steps, Memory}
 use Rattle.pb_messages.proofs.LineLemmas.{whole_line, uncut, parts_of_map}
 
--- one line more
+-- the output of the first lines, and that of one more
 StepAnswers-snoc : (limit n : ℕ) (front : List (List ℕ)) (line : List ℕ) (old mid new : NetView) (text more : List ℕ)
     → StepAnswers limit n front old mid text → StepAnswer limit (n + length front) line mid new more
     → StepAnswers limit n (front ++ line ∷ []) old new (text ++ more)
@@ -49,7 +49,7 @@ StepAnswers-snoc limit n (l ∷ front) line old mid new text more (between, head
       ap (λ z. z ++ more) e ∙ append_assoc head tail more,
     )
 
--- a line that was cut asks for what the whole line does
+-- a line that was cut to one octet above the limit asks for the event of the whole line
 Asks-uncut : (limit : ℕ) (plan : Plan) (line : List ℕ) (event : Event) → Asks limit plan (take (limit + 1) line) event
     → Asks limit plan line event
 Asks-uncut limit plan line event a = subst (λ z. Asks limit plan z event) (whole_line limit line a.short) a
@@ -82,7 +82,7 @@ StepAnswers-uncut limit n (line ∷ lines) old new text (mid, front, back, first
   e,
 )
 
--- the limit that the next cut line meets, the next line meets
+-- the limit of steps that the next cut line meets is met by the next line
 IsAtLimit-uncut : (limit : ℕ) (net : NetView) (lines : List (List ℕ)) (line : List ℕ) (rest : List (List ℕ))
     → line ∷ rest ≡ map (λ l. take (limit + 1) l) lines
     → IsAtLimit limit net (line ∷ []) → IsAtLimit limit net lines
@@ -105,7 +105,7 @@ steps_start limit plan (Some octets) held before net e f = record {
   answers = (f, refl);
 }
 
--- a line is answered
+-- progress goes on with the output of a line
 pub steps_go_on : (limit n : ℕ) (plan : Plan) (input mid left before now after : Option (List ℕ))
     (held held' line text : List ℕ) (old new : NetView)
     → StepsProgress limit n plan input held mid before now old → GivesLine limit mid held left held' line
@@ -128,7 +128,7 @@ steps_go_on limit n plan (Some octets) (Some rest) (Some rest') before now after
       answers = StepAnswers-snoc limit 1 p.front line (start_of plan) old new p.text text p.answers (rw at_n a);
     }
 
--- no line is left
+-- the output is complete if no line remains
 pub steps_end : (limit n : ℕ) (plan : Plan) (input left before now : Option (List ℕ)) (held : List ℕ) (net : NetView)
     → StepsProgress limit n plan input held left before now net → HasNoLine limit left held
     → HaveAnswered limit plan input before now net
@@ -141,7 +141,7 @@ steps_end limit n plan (Some octets) (Some rest) before now held net p none =
       StepAnswers-uncut limit 1 (lines_of octets) (start_of plan) net p.text (rw all p.answers),
     )
 
--- the answers to the first lines are what a fault leaves
+-- the output of the first lines is the text after a fault
 steps_left : (fault : CommandFault) (limit n : ℕ) (plan : Plan) (octets held rest : List ℕ)
     (before now : Option (List ℕ))
     (net : NetView)
@@ -167,7 +167,7 @@ steps_left fault limit n plan octets held rest before now net p at =
       },
     )
 
--- at any line what is written are the answers to the first lines
+-- before any line, the output of the first lines is written whole
 pub steps_begun : (fault : CommandFault) (limit n : ℕ) (plan : Plan) (input left before now : Option (List ℕ))
     (held : List ℕ) (net : NetView)
     → StepsProgress limit n plan input held left before now net → fault ≢ Steps
@@ -177,7 +177,7 @@ steps_begun fault limit n plan (Some octets) None before now held net p ne = abs
 steps_begun fault limit n plan (Some octets) (Some rest) before now held net p ne =
     steps_left fault limit n plan octets held rest before now net p (λ back same e. absurd (ne e))
 
--- the same where the next line is known
+-- the same if the next line was read
 pub steps_stopped : (fault : CommandFault) (limit n : ℕ) (plan : Plan) (input mid left before now : Option (List ℕ))
     (held held' line : List ℕ) (net : NetView)
     → StepsProgress limit n plan input held mid before now net → GivesLine limit mid held left held' line
@@ -190,7 +190,7 @@ steps_stopped fault limit n plan (Some octets) (Some rest) (Some rest') before n
     steps_left fault limit n plan octets held rest before now net p
     (λ back same e. IsAtLimit-uncut limit net back line (cut_lines limit (held' ++ rest')) (sym gives ∙ same) (at e))
 
--- before anything is read
+-- before anything is read, nothing is written
 pub steps_unread : (fault : CommandFault) (limit : ℕ) (plan : Plan) (input before : Option (List ℕ)) → fault ≢ Steps
     → PrintsStepsBeginning fault limit plan input before before
 steps_unread fault limit plan None before ne = tt
@@ -212,7 +212,7 @@ steps_unread fault limit plan (Some octets) before ne = (
   },
 )
 
--- the answers and the report
+-- the output of all lines, and the report
 pub reported : (limit : ℕ) (plan : Plan) (input before now after : Option (List ℕ)) (net : NetView) (rec : Record)
     (report : List ℕ)
     → HaveAnswered limit plan input before now net → rec ≡ net.rec → IsLawfulRecord spanning_tree plan rec
@@ -233,7 +233,7 @@ reported limit plan (Some octets) before now after net rec report (text, written
   },
 )
 
--- the answers without the report
+-- the output of all lines, without the report
 pub unreported : (fault : CommandFault) (limit : ℕ) (plan : Plan) (input before now after : Option (List ℕ))
     (net : NetView)
     → HaveAnswered limit plan input before now net → Keeps now after → fault ≢ Steps
@@ -257,7 +257,7 @@ unreported fault limit plan (Some octets) before now after net (text, written, a
   },
 )
 
--- the answers, and what is told of the record, where there was no memory to look whether the bridges are settled
+-- the output of all lines, and the report without its last line, if an allocation for that line failed
 pub part_reported : (fault : CommandFault) (limit : ℕ) (plan : Plan) (input before now after : Option (List ℕ))
     (net : NetView) (rec : Record) (more : List ℕ)
     → HaveAnswered limit plan input before now net → rec ≡ net.rec → IsLawfulRecord spanning_tree plan rec
@@ -283,13 +283,13 @@ part_reported fault limit plan (Some octets) before now after net rec more (text
       },
     )
 
--- what two facts give of an error
+-- two facts of an error give a third
 pub on_err : {A E : Type 0} {P Q S : E → Type 0} (r : Result A E) → ((e : E) → P e → Q e → S e) → IfErr r P
     → IfErr r Q → IfErr r S
 on_err (Ok x) f p q = p
 on_err (Err e) f p q = f e p q
 
--- the place of an event that was done is there, and has taken one step more
+-- the place of an event that was done exists, and has taken one more step
 pub place_there : (plan : Plan) → IsSound plan → (old new : NetView) (event : Event) (place : Place) → old.plan ≡ plan
     → IsAnswer old event (Ok (Done place)) new
     → has_place new.plan place ≡ true
@@ -298,7 +298,7 @@ place_there plan sound old new event place e h =
     (subst (λ q. has_place old.plan q ≡ true) (sym h.1)
     (named_place old.plan (subst (λ p. IsSound p) (sym e) sound) event h.0.named))
 
--- the answer to a line, where the network has the plan that the line was read by
+-- the output of a line whose event was done, for a network with the plan by which the line was read
 pub answered_done : (limit n : ℕ) (line : List ℕ) (plan : Plan) (old new : NetView) (event : Event) (place : Place)
     (step : Step) (out out' : List ℕ)
     → old.plan ≡ plan → Asks limit plan line event → IsAnswer old event (Ok (Done place)) new

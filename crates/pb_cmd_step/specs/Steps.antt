@@ -1,4 +1,4 @@
--- What is answered to a step script.
+-- The output of a step script.
 use Rattle.std.specs.Prelude.{◌≡◌, ℕ, ◌-◌, suc, Bool, List, [], ◌∷◌, ◌++◌, Option, Some, None, IfSome, ⊤, length, slice_get, Ok, Err}
 use Rattle.std.specs.Io.KnownBytes.{Appends}
 use Rattle.pb_lan.specs.Events.{empty_record, steps_at, with_step}
@@ -30,8 +30,8 @@ newest_at rec place = slice_get (steps_at rec place) (length (steps_at rec place
 abbrev pub HasGrown : Record → Place → Type 0
 HasGrown new place = (old : Record) × (step : Step) × (new ≡ with_step old place step)
 
--- the answer to line n: a line of no form is bad; any other asks for an event, and what stepping has for
--- it is told. Where a step was taken, the record is a lawful one
+-- the output of line n: an invalid line is bad, any other asks for an event whose result is printed, and after a step
+-- the record is lawful
 pub data StepAnswer (limit n : ℕ) (line : List ℕ) (old new : NetView) (text : List ℕ) : Type 0 where
   bad : ((event : Event) → Asks limit old.plan line event → ⊥) → new ≡ old → text ≡ bad_line n → StepAnswer limit n line old new text
   absent : (event : Event) → Asks limit old.plan line event → IsAnswer old event (Err NoSuch) new → text ≡ no_such_line → StepAnswer limit n line old new text
@@ -39,7 +39,7 @@ pub data StepAnswer (limit n : ℕ) (line : List ℕ) (old new : NetView) (text 
   done : (event : Event) (place : Place) (step : Step) → Asks limit old.plan line event → IsAnswer old event (Ok (Done place)) new → IsLawfulRecord spanning_tree new.plan new.rec
       → newest_at new.rec place ≡ Some step → text ≡ step_line old.plan place step → StepAnswer limit n line old new text
 
--- the answers to lines from line n on
+-- the output of the lines from line n on
 abbrev pub StepAnswers : ℕ → ℕ → List (List ℕ) → NetView → NetView → List ℕ → Type 0
 StepAnswers limit n [] old new text = (new ≡ old) × (text ≡ [])
 StepAnswers limit n (line ∷ lines) old new text =
@@ -49,8 +49,8 @@ StepAnswers limit n (line ∷ lines) old new text =
 abbrev pub start_of : Plan → NetView
 start_of plan = record { plan = plan; rec = empty_record plan }
 
--- what is told of a record: its counts, for which services its last shape is no forest, and whether its
--- bridges are settled
+-- the report of a record: its counts, the services for which its last shape is no forest, and whether its bridges have
+-- settled
 pub record IsReport (plan : Plan) (rec : Record) (text : List ℕ) : Type 0 where
   pub told : List ℕ
   pub is_told : IsRecordText plan rec told
@@ -58,8 +58,7 @@ pub record IsReport (plan : Plan) (rec : Record) (text : List ℕ) : Type 0 wher
   pub is_answer : TellsSettled plan rec answer
   pub text_is : text ≡ told ++ settled_line answer
 
--- the whole text for a script: the answers to its lines, and the report of the record that the network has
--- then, which is lawful
+-- the whole text for a script: the output of its lines, and the report of the record of the network, which is lawful
 pub record IsStepsText (limit : ℕ) (plan : Plan) (input text : List ℕ) : Type 0 where
   pub last : NetView
   pub answers : List ℕ
@@ -74,14 +73,14 @@ abbrev pub IsAtLimit : ℕ → NetView → List (List ℕ) → Type 0
 IsAtLimit limit net [] = ⊥
 IsAtLimit limit net (line ∷ lines) = (event : Event) × Asks limit net.plan line event × IsAnswer net event (Err StepLimit) net
 
--- what stands behind the answers to the first lines, after a fault: nothing; or, where the spanning tree decides the
--- states, every line is answered and the fault is `Memory`, what is told of the record, which is lawful
+-- the text after the output of the first lines, after a fault: nothing, or, if the spanning tree decides the states,
+-- all lines were read and the fault is `Memory`, the report of the record without its last line
 pub data MayFollow (fault : CommandFault) (plan : Plan) (last : NetView) (back : List (List ℕ)) (text : List ℕ) : Type 0 where
   no_report : text ≡ [] → MayFollow fault plan last back text
   part_report : fault ≡ Memory → plan.spanning ≡ Rstp → back ≡ [] → IsLawfulRecord spanning_tree plan last.rec → IsRecordText plan last.rec text
       → MayFollow fault plan last back text
 
--- the text for the first lines of a script, after a fault. The fault `Steps` comes only at the limit of steps
+-- the text for the first lines of a script, after a fault (the fault `Steps` comes only at the limit of steps)
 pub record IsStepsBeginning (fault : CommandFault) (limit : ℕ) (plan : Plan) (input text : List ℕ) : Type 0 where
   pub front : List (List ℕ)
   pub back : List (List ℕ)
@@ -94,20 +93,21 @@ pub record IsStepsBeginning (fault : CommandFault) (limit : ℕ) (plan : Plan) (
   pub follows : MayFollow fault plan last back more
   pub text_is : text ≡ answers ++ more
 
--- the answers and the report were written behind what stood there, where the octets are known
+-- the output of all lines and the report were written after the earlier octets, if the input is known
 abbrev pub PrintsSteps : ℕ → Plan → Option (List ℕ) → Option (List ℕ) → Option (List ℕ) → Type 0
 PrintsSteps limit plan input before after = IfSome input (λ octets. (text : List ℕ) × Appends before after text × IsStepsText limit plan octets text)
 
--- the answers to all lines were, and the network has come to this
+-- the output of all lines was written, and this is the network then
 abbrev pub HaveAnswered : ℕ → Plan → Option (List ℕ) → Option (List ℕ) → Option (List ℕ) → NetView → Type 0
 HaveAnswered limit plan input before after last =
     IfSome input (λ octets. (text : List ℕ) × Appends before after text × StepAnswers limit 1 (lines_of octets) (start_of plan) last text)
 
--- the answers to some of the first lines were, whole, and what may follow them
+-- the output of the first lines was written, each line's output whole, and what may follow it
 abbrev pub PrintsStepsBeginning : CommandFault → ℕ → Plan → Option (List ℕ) → Option (List ℕ) → Option (List ℕ) → Type 0
 PrintsStepsBeginning fault limit plan input before after = IfSome input (λ octets. (text : List ℕ) × Appends before after text × IsStepsBeginning fault limit plan octets text)
 
--- before line n: the lines before it are answered, and the others are those of what is held and left
+-- before line n: the output of the earlier lines is written, and the remaining lines are those of the held and the
+-- unread octets
 pub record HasCome (limit n : ℕ) (plan : Plan) (octets held rest : List ℕ) (before after : Option (List ℕ)) (net : NetView) : Type 0 where
   pub front : List (List ℕ)
   pub lines : cut_lines limit octets ≡ front ++ cut_lines limit (held ++ rest)

@@ -1,4 +1,7 @@
-//! The network of a plan file, driven by lines of text: the command `step`.
+//! The command `step`: the network of a plan file, driven event by event from a step script.
+//!
+//! It runs the network of pb_net, reads script lines with pb_step_script and prints the report of pb_report.
+//! Begin with [`run_steps`] in `steps.rt`.
 #![tactic(auto)]
 
 mod script;

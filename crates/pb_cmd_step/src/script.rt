@@ -14,20 +14,22 @@ use pb_service::read_plan;
 use std::alloc::Global;
 use std::io::{Read, Write};
 
-/// The exit status where the script was driven to its end.
+/// The exit status after a script was read to its end.
 const DRIVEN: u8 = 0;
 
-/// The exit status where the plan is refused.
+/// The exit status for a refused plan file.
 const REFUSED: u8 = 1;
 
-/// Drives the network of a plan file by the lines of a step script, as [`run_steps`] does, and answers the
-/// exit status 0; or writes the rule that the file breaks, as `check` does, and answers 1.
+/// Drives the network of a plan file by the lines of a step script, as [`run_steps`] does, and returns the exit status
+/// 0. If the file is no plan, it writes the rule that the file breaks, as `check` does, and returns 1.
 ///
-/// Where the file tells a plan, the faults are those of [`run_steps`], and come when they do there: after any but
-/// `Write`, the answers to the first lines of the script stand whole, and what may follow them is said there.
-/// Where the file tells none, `Memory` is answered where memory ran out for the text of the refusal, and then
-/// nothing was written, and `Write` where a write failed. `Memory` is also answered, with nothing written, where
-/// it ran out before the first line. After `Write` nothing is said of what was written.
+/// # Errors
+///
+/// If the file is a plan, the faults of [`run_steps`], with what they say about the written octets. `Memory` also if an
+/// allocation failed before the first line, and then nothing was written.
+///
+/// If the file is no plan, `Memory` if an allocation failed, and then nothing was written. `Write` if the write failed,
+/// and then it is not known how much was written.
 pub fn run_script<R: Read, W: Write>(
     alloc: Global,
     file: &[u8],

@@ -25,7 +25,7 @@ use pb_step_script::{Names, put_done, put_idle, put_no_such, read_line};
 use std::alloc::Global;
 use std::io::{Read, Write};
 
-/// The newest step of a place that has taken one.
+/// Returns the newest step of a place that has taken one.
 fn newest(net: &Net, place: Place) -> &Step
     requires has { has_place net.now.plan place ≡ true }
     requires grown { HasGrown net.now.rec place }
@@ -38,7 +38,11 @@ fn newest(net: &Net, place: Place) -> &Step
     step
 }
 
-/// Puts the answer to one line behind a text.
+/// Appends the output of one line.
+///
+/// # Errors
+///
+/// `Steps` if the event's place has taken as many steps as the plan allows, `Memory` if an allocation failed.
 fn answer_step(
     alloc: Global,
     limit: usize,
@@ -77,7 +81,11 @@ fn answer_step(
     }
 }
 
-/// Answers each line of what is read, with a reader of lines and a network that are new.
+/// Reads all lines and writes the output of each. The line reader and the network are new.
+///
+/// # Errors
+///
+/// `Read` if a read failed, `Write` if a write failed, else the faults of [`answer_step`].
 fn answer_steps<R: Read, W: Write>(
     alloc: Global,
     limit: usize,
@@ -118,8 +126,12 @@ fn answer_steps<R: Read, W: Write>(
     Err(CommandFault::Read)
 }
 
-/// Puts what a record tells behind a text: the counts of its customer ports and links, whether its last
-/// shape is a forest for each service, and whether its bridges are settled.
+/// Appends the report of a record: the counts of its customer ports and links, whether its last shape is a forest for
+/// each service, and whether its bridges have settled.
+///
+/// # Errors
+///
+/// `Memory` if an allocation failed.
 fn put_report(
     alloc: Global,
     out: &mut String,
@@ -136,7 +148,12 @@ fn put_report(
     put_settled(out, settled)
 }
 
-/// Writes what a record tells.
+/// Writes the report of a record.
+///
+/// # Errors
+///
+/// `Write` if the write failed. `Memory` if an allocation failed, and then nothing was written. There are no other
+/// errors.
 fn write_report<W: Write>(
     alloc: Global,
     plan: &Plan,
@@ -157,8 +174,12 @@ fn write_report<W: Write>(
     write_whole(writer, out.as_bytes())
 }
 
-/// Writes what a record tells but for whether its bridges are settled. `Write` is answered where a write failed,
-/// `Memory` where memory for the text ran out, and then nothing was written. No other fault comes.
+/// Writes the report of a record without the line that says whether its bridges have settled.
+///
+/// # Errors
+///
+/// `Write` if the write failed. `Memory` if an allocation failed, and then nothing was written. There are no other
+/// errors.
 fn write_record<W: Write>(
     alloc: Global,
     plan: &Plan,
@@ -177,8 +198,11 @@ fn write_record<W: Write>(
     write_whole(writer, out.as_bytes())
 }
 
-/// Whether the bridges of a network are settled, or None where its plan gives the states of ports. `Memory` is
-/// answered where memory ran out for it, and only where the spanning tree decides the states.
+/// Returns whether the bridges of a network have settled, or `None` if its plan gives the states of ports.
+///
+/// # Errors
+///
+/// `Memory` if an allocation failed. This happens only if the spanning tree decides the states.
 fn look_settled(alloc: Global, plan: &Plan, net: &Net) -> Result<Option<bool>, Memory>
     requires { net.now.plan ≡ plan.now }
     ensures ok { IfOk result (TellsSettled plan.now net.now.rec) }
@@ -190,7 +214,11 @@ fn look_settled(alloc: Global, plan: &Plan, net: &Net) -> Result<Option<bool>, M
     }
 }
 
-/// Answers each line of what is read, and reports on the network that has come of it.
+/// Writes the output of each line, and then the report of the network.
+///
+/// # Errors
+///
+/// The faults of [`run_steps`].
 fn drive<R: Read, W: Write>(
     alloc: Global,
     limit: usize,
@@ -222,25 +250,31 @@ fn drive<R: Read, W: Write>(
     }
 }
 
-/// Drives the network of a sound plan by the lines of a step script, each of which asks for one event, and
-/// writes each line's answer by one `write_all`, in order, and at the end the report.
+/// Drives the network of a sound plan by the lines of a step script, each of which asks for one event. The output of
+/// each line is written by one call of `write_all`, in order. The report follows at the end.
 ///
-/// An answer is what the event's place did, as `polled NAME K`, `fed`, `delivered HEX`, `relayed` with
-/// ports, `filtered REASON`, `heard`, `sent HEX`, `ticked`, `set`, `taken K`, `lost K` or `put`; `idle` where
-/// there was nothing to do; `no such` where the plan lacks what the line names; and `line N: bad` for a line
-/// of no such form, also for an empty one and one of more than [`MAX_LINE`] octets. The report has a line
-/// `port NAME entered N left N filtered N` for each customer port, a line `link NAME ab taken N lost N ba
-/// taken N lost N` for each link, both by name, and `forest yes`, or `forest no` and a line `loop NAME` for
-/// each service for which the last shape is none. Where the spanning tree decides the states of ports, its
+/// The output of a line is one line:
+///
+/// - the step of the event's place: `polled NAME K`, `fed`, `delivered HEX`, `relayed` with ports, `filtered REASON`,
+///   `heard`, `sent HEX`, `ticked`, `set`, `taken K`, `lost K` or `put`
+/// - `idle` if the event had nothing to do
+/// - `no such` if the plan lacks the part that the line names
+/// - `line N: bad` for an invalid line, an empty one, and one of more than [`MAX_LINE`] octets
+///
+/// The report has a line `port NAME entered N left N filtered N` for each customer port and a line `link NAME ab taken
+/// N lost N ba taken N lost N` for each link, both sorted by name. Then comes `forest yes`, or `forest no` and a line
+/// `loop NAME` for each service whose active links form a loop. If the spanning tree decides the states of ports, the
 /// last line is `settled yes` or `settled no`.
 ///
-/// `Read` is answered where a read failed, `Write` where a write did, `Steps` where the place of the next
-/// line's event has taken as many steps as the plan allows, `Memory` where memory ran out. After any fault but
-/// `Write`, the answers to the first lines, as many as were answered, are written whole; where the fault is
-/// `Steps`, the line behind these asks for the step that is too many. Nothing stands behind these answers but in
-/// one case: where the spanning tree decides the states of ports, every line was answered, and the fault is
-/// `Memory`, the report may stand there without its last line, since there was no memory to look whether the
-/// bridges are settled. After `Write` nothing is said of what was written.
+/// # Errors
+///
+/// `Read` if a read failed. `Write` if a write failed, and then it is not known how much was written. `Steps` if the
+/// place of an event has taken as many steps as the plan allows: the line after the last one with output asks for that
+/// event. `Memory` if an allocation failed.
+///
+/// After any fault but `Write` the output of the first lines is written whole. Nothing follows it, with one exception:
+/// if the spanning tree decides the states of ports, all lines were read and the fault is `Memory`, the report without
+/// its last line may follow.
 pub fn run_steps<R: Read, W: Write>(
     alloc: Global,
     plan: Plan,

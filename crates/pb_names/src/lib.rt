@@ -1,10 +1,7 @@
-//! What texts call the parts of a plan, and which part a name or a bridge's port is.
+//! The names of the parts of a plan, and the part that a name or a bridge's port means.
 //!
-//! ```text
-//! let port = port_named(&plan, "left");           // 1, where `left` is the plan's first customer port
-//! let service = service_at(&plan, port);          // the number of its service
-//! let name = service_name(&plan, service);        // and what that is called
-//! ```
+//! It builds on pb_lan, pb_forest and pb_rstp. Begin with [`port_named`] in `numbers.rt` and [`bridge_name`] in
+//! `names.rt`: one finds the number of a name, the other the name of a number.
 #![tactic(auto)]
 
 mod names;

@@ -1,4 +1,4 @@
-//! What the parts of a plan are called.
+//! The names of the parts of a plan, by their numbers.
 
 ghost use Rattle.std.specs.Prelude.{◌≡◌};
 ghost use Rattle.pb_rstp.specs.Vectors.{bridge_id};
@@ -9,7 +9,7 @@ use pb_forest::numbered;
 use pb_frame::Mac;
 use pb_lan::Plan;
 
-/// The name of the bridge of this number, from 1; empty where there is none.
+/// Returns the name of the bridge with this number, from 1, or the empty text if there is none.
 pub fn bridge_name(plan: &Plan, number: u8) -> &str
     ensures { result.now ≡ bridge_name plan.now number }
 {
@@ -19,7 +19,7 @@ pub fn bridge_name(plan: &Plan, number: u8) -> &str
     }
 }
 
-/// The name of the link of this number, from 1; empty where there is none.
+/// Returns the name of the link with this number, from 1, or the empty text if there is none.
 pub fn link_name(plan: &Plan, number: u8) -> &str
     ensures { result.now ≡ link_name plan.now number }
 {
@@ -29,7 +29,7 @@ pub fn link_name(plan: &Plan, number: u8) -> &str
     }
 }
 
-/// The name of the service of this number, from 1; empty where there is none.
+/// Returns the name of the service with this number, from 1, or the empty text if there is none.
 pub fn service_name(plan: &Plan, number: u8) -> &str
     ensures { result.now ≡ service_name plan.now number }
 {
@@ -39,7 +39,7 @@ pub fn service_name(plan: &Plan, number: u8) -> &str
     }
 }
 
-/// The name of the customer port of this number, from 1; empty where there is none.
+/// Returns the name of the customer port with this number, from 1, or the empty text if there is none.
 pub fn port_name(plan: &Plan, number: u8) -> &str
     ensures { result.now ≡ port_name plan.now number }
 {
@@ -49,8 +49,8 @@ pub fn port_name(plan: &Plan, number: u8) -> &str
     }
 }
 
-/// The identifier of a bridge with this priority and address: the priority times 2^48 and the address
-/// (IEEE 802.1D-2004 clause 9.2.5).
+/// Returns the identifier of a bridge with this priority and address: the priority times 2^48 plus the address (IEEE
+/// 802.1D-2004 clause 9.2.5).
 pub fn bridge_id(priority: u16, address: Mac) -> u64
     ensures { result ≡ bridge_id priority address.0 }
 {

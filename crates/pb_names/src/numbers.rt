@@ -1,4 +1,4 @@
-//! Which part of a plan is meant: its number, from 1, by its name or by another part.
+//! The numbers of the parts of a plan, from 1.
 
 ghost use Rattle.std.specs.Prelude.{◌≡◌};
 ghost use Rattle.pb_lan.specs.Plans.{IsSound};
@@ -7,7 +7,7 @@ ghost use Rattle.pb_names.specs.Numbers.{service_named, port_named, service_at};
 use pb_forest::numbered;
 use pb_lan::Plan;
 
-/// The number of the service of a name, or 0 where the plan has none.
+/// Returns the number of the service with this name, or 0 if the plan has none. The plan is sound.
 pub fn service_named(plan: &Plan, name: &str) -> u8
     requires { IsSound plan.now }
     ensures { result ≡ service_named plan.now name.now }
@@ -20,7 +20,7 @@ pub fn service_named(plan: &Plan, name: &str) -> u8
     0
 }
 
-/// The number of the customer port of a name, or 0 where the plan has none.
+/// Returns the number of the customer port with this name, or 0 if the plan has none. The plan is sound.
 pub fn port_named(plan: &Plan, name: &str) -> u8
     requires { IsSound plan.now }
     ensures { result ≡ port_named plan.now name.now }
@@ -33,7 +33,7 @@ pub fn port_named(plan: &Plan, name: &str) -> u8
     0
 }
 
-/// The number of the service of the customer port of this number, or 0 where the plan has no such port.
+/// Returns the number of the service of the customer port with this number, or 0 if the plan has no such port.
 pub fn service_at(plan: &Plan, port: u8) -> u8
     ensures { result ≡ service_at plan.now port }
 {

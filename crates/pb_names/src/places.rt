@@ -1,4 +1,4 @@
-//! What stands at a bridge's port. A bridge goes by its number and a port by its local number, both from 1.
+//! The customer port or the link at a local port of a bridge. Bridges and local ports are numbered from 1.
 
 ghost use Rattle.std.specs.Option.{option_copied};
 ghost use Rattle.std.specs.Prelude.{◌≡◌};
@@ -7,7 +7,7 @@ ghost use Rattle.pb_names.specs.Places.{customer_at, link_at};
 
 use pb_lan::{CustomerPlan, End, LinkPlan, Plan};
 
-/// The customer port at a bridge's port, if one is there. A sound plan has at most one.
+/// Returns the customer port at a local port of a bridge, if there is one. A sound plan has at most one.
 pub fn customer_at(plan: &Plan, bridge: u8, port: u8) -> Option<&CustomerPlan>
     ensures { option_copied result ≡ customer_at plan.now bridge port }
 {
@@ -19,14 +19,14 @@ pub fn customer_at(plan: &Plan, bridge: u8, port: u8) -> Option<&CustomerPlan>
     None
 }
 
-/// Whether an end of a link is this bridge's port.
+/// Returns whether the end of a link is at this local port of this bridge.
 pub fn is_end_at(bridge: u8, port: u8, end: &End) -> bool
     ensures { result ≡ is_end_at bridge port end.now }
 {
     end.bridge == bridge && end.port == port
 }
 
-/// The link with an end at a bridge's port, if one is there. A sound plan has at most one.
+/// Returns the link with an end at a local port of a bridge, if there is one. A sound plan has at most one.
 pub fn link_at(plan: &Plan, bridge: u8, port: u8) -> Option<&LinkPlan>
     ensures { option_copied result ≡ link_at plan.now bridge port }
 {

@@ -1,4 +1,4 @@
-//! The words for what a port of a bridge is and does.
+//! The printed names of port roles and port states.
 
 ghost use Rattle.std.specs.Prelude.{◌≡◌};
 ghost use Rattle.pb_names.specs.Names.{role_word, state_word};
@@ -6,7 +6,7 @@ ghost use Rattle.pb_names.specs.Names.{role_word, state_word};
 use pb_lan::PortState;
 use pb_rstp::Role;
 
-/// The word for a role, in small letters.
+/// Returns the name of a port role, in lower case.
 pub fn role_word(role: Role) -> &'static str
     ensures { result.now ≡ role_word role }
 {
@@ -19,7 +19,7 @@ pub fn role_word(role: Role) -> &'static str
     }
 }
 
-/// The word for a state, in small letters.
+/// Returns the name of a port state, in lower case.
 pub fn state_word(state: PortState) -> &'static str
     ensures { result.now ≡ state_word state }
 {

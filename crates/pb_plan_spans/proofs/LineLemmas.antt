@@ -9,7 +9,7 @@ use Rattle.std.proofs.lemmas.List.Splits.{slice_split_first}
 use Rattle.pb_plan_spans.specs.Lines.{lines_of, begins_text, has_text}
 use Rattle.pb_plan_spans.specs.Places.{parted}
 
--- one line, where none ends
+-- a text without a line feed is one line
 one_line : (text : List ℕ) → length text ≤ position_or_len (λ b. b == 10) text → lines_of text ≡ text ∷ []
 one_line [] l = refl
 one_line (x ∷ text) l = step (x == 10) l (λ h. one_line text h)
@@ -20,7 +20,7 @@ one_line (x ∷ text) l = step (x == 10) l (λ h. one_line text h)
     step true h rest = absurd (omega arith)
     step false h rest = ap (λ parts. onto_first x parts) (rest (omega arith))
 
--- the lines of a text that was parted at the end of its first line, or not
+-- the lines of a text that is divided at the end of its first line, or that is one line
 lines_parted : List ℕ → Option (List ℕ × List ℕ) → List (List ℕ)
 lines_parted text None = text ∷ []
 lines_parted text (Some p) = p.0 ∷ lines_of p.1
@@ -45,7 +45,7 @@ pub last_line : (text : List ℕ) → None ≡ parted 10 text → lines_of text 
 unfolding lines_parted
 last_line text e = parted_lines text ∙ ap (λ o. lines_parted text o) (sym e)
 
--- no text begins at an octet
+-- no text of several lines begins at this octet (used by the loop of `has_text`)
 pub text_more : (file : List ℕ) (i : ℕ) → i < length file → begins_text (drop i file) ≡ false
     → has_text (drop i file) ≡ has_text (drop (i + 1) file)
 text_more file i l h =

@@ -1,4 +1,4 @@
--- A key with its place, as it is printed, leads to the header of its table.
+-- The path of a key, as pb_service prints it, leads to the header of its table.
 use Rattle.std.proofs.Common.{◌≡◌, ℕ, suc, zero, ◌+◌, ◌<◌, inl, inr, Bool, true, false, List, [], ◌∷◌, ◌++◌, length}
 use Rattle.std.proofs.Common.{take, drop, Some, None, refl, sym, ap, subst, ◌∙◌, arith, append_assoc, codes}
 use Rattle.std.proofs.Common.{length-append, nat_eq}
@@ -11,7 +11,7 @@ use Rattle.std.proofs.lemmas.Bool.{lt-ltb, true≢false, eqb-true, and_parts}
 use Rattle.std.proofs.lemmas.Bool.Decides.{eqb_tells}
 use Rattle.pb_plan_spans.specs.Places.{number_in, parted, row_in, place_in}
 
--- the octet isn't in the text
+-- the octet doesn't occur in the text
 abbrev lacks : ℕ → List ℕ → Bool
 lacks mark text = list_all (λ b. not (b == mark)) text
 
@@ -28,7 +28,7 @@ first_at mark self (x ∷ a) rest h = step (x == mark) h (λ g. first_at mark se
     step true g ih = absurd (true≢false (sym g))
     step false g ih = omega (arith, ih g)
 
--- a text is parted at the first octet of a kind
+-- a text is divided at the first octet of this value
 parted_at : (mark : ℕ) → (mark == mark) ≡ true → (a rest : List ℕ) → lacks mark a ≡ true
     → parted mark (a ++ mark ∷ rest) ≡ Some (a, rest)
 parted_at mark self a rest h =
@@ -41,11 +41,11 @@ parted_at mark self a rest h =
     ∙ ap (λ t. Some (t, drop (length a + 1) text)) (take-append_seam a (mark ∷ rest))
     ∙ ap (λ t. Some (a, t)) (drop-append-add a (mark ∷ rest) 1)
 
--- a number that is printed is read back, and has no bracket
+-- a printed number is read back, and has no bracket
 reads_back : ℕ → Bool
 reads_back n = lacks 93 (decimal n) && option_map_or (λ m. m == n) (number_in (decimal n)) false
 
--- each below a bound
+-- each number below the bound is read back
 all_read_back : ℕ → Bool
 all_read_back zero = true
 all_read_back (suc n) = reads_back n && all_read_back n
@@ -68,7 +68,7 @@ read_one : (n : ℕ) (o : Option ℕ) → option_map_or (λ m. m == n) o false �
 read_one n None h = absurd (true≢false (sym h))
 read_one n (Some m) h = ap (λ x. Some x) (eqb-true m n h)
 
--- the number of a table is read back
+-- the number of a table, which is below 128, is read back
 number_place : (n : ℕ) → n < 128 → (lacks 93 (decimal n) ≡ true) × (number_in (decimal n) ≡ Some n)
 unfolding reads_back
 number_place n l =
@@ -76,7 +76,7 @@ number_place n l =
     (one_of n 128 table_numbers l) in
     (parts.0, read_one n (number_in (decimal n)) parts.1)
 
--- WORD and N are read off `WORD[N].KEY`
+-- WORD and N are read back from `WORD[N].KEY`
 row_back : (word key : List ℕ) (n : ℕ) → n < 128 → lacks 91 word ≡ true
     → row_in (word ++ 91 ∷ (decimal n ++ 93 ∷ (46 ∷ key))) ≡ Some (word, n)
 row_back word key n l h =
@@ -88,7 +88,7 @@ row_back word key n l h =
     (parted_at 93 refl (decimal n) (46 ∷ key) number.0)
     ∙ ap (λ o. option_map (λ m. (word, m)) o) number.1
 
--- the parts of a place as they are printed, in another grouping
+-- the parts of a printed path, grouped differently
 regrouped : (word digits key : List ℕ) → word ++ codes "[" ++ digits ++ codes "]." ++ key ≡ word
     ++ 91 ∷ (digits ++ 93 ∷ (46 ∷ key))
 regrouped word digits key = simp append_assoc
@@ -103,8 +103,8 @@ row_place word key n l h other =
     (other (91 ∷ (decimal n ++ 93 ∷ (46 ∷ key))))
     ∙ ap (λ o. unwrap_or o (path, 0)) (row_back word key n l h)
 
--- a key with its place, as pb_service prints it (`path_at`); a plan has at most 128 tables of one kind, and tells of no key behind
--- them
+-- the path of a key of each section, as pb_service prints it (`path_at`), leads back to the section and the number of
+-- its table, of which a plan has at most 128
 pub bridge_place : (n : ℕ) (key : List ℕ) → n < 128
     → place_in (codes "bridge" ++ codes "[" ++ decimal n ++ codes "]." ++ key) ≡ (codes "bridge", n)
 bridge_place n key l = row_place (codes "bridge") key n l refl (λ rest. refl)

@@ -1,4 +1,4 @@
--- A line behind its beginning.
+-- A line after its beginning (used by `is_made_of`).
 use Rattle.std.proofs.Common.{◌≡◌, inl, inr, ℕ, suc, arith, Bool, true, false, List, [], ◌∷◌, ◌++◌, length, Some}
 use Rattle.std.proofs.Common.{None, refl, sym, ap, ◌∙◌}
 use Rattle.std.specs.Prelude.{◌==◌, ◌&&◌, if◌then◌else◌}
@@ -7,7 +7,7 @@ use Rattle.std.proofs.lemmas.Bool.Decides.{eqb_tells}
 use Rattle.pb_frame.specs.Admission.{same}
 use Rattle.pb_plan_spans.specs.Stripping.{behind, ends}
 
--- behind two texts is what is behind the second, of what is behind the first
+-- the rest after two texts is the rest after the second, taken of the rest after the first
 behind-append : (a b t : List ℕ) → behind (a ++ b) t ≡ option_and_then (behind b) (behind a t)
 behind-append [] b t = refl
 behind-append (x ∷ a) b [] = refl
@@ -22,7 +22,7 @@ behind-append (x ∷ a) b (y ∷ t) = step (y == x) (behind-append a b t)
 not_empty : (n : ℕ) → false ≡ (suc n == 0)
 not_empty n = elim (eqb_tells (suc n) 0) [ inl p ↦ absurd (omega (arith, p.1)) | inr p ↦ sym p.0 ]
 
--- nothing is left behind the whole
+-- a text is the same as another if nothing remains after it
 ends-behind : (a t : List ℕ) → same t a ≡ ends (behind a t)
 ends-behind [] [] = refl
 ends-behind [] (y ∷ t) = not_empty (length t)
@@ -43,7 +43,7 @@ pub not_first : (a b d t : List ℕ) → None ≡ behind a t → false ≡ same 
 not_first a b d t e = sym (whole a b d t ∙ ap (λ o. ends (option_and_then (behind d) (option_and_then (behind b) o)))
     (sym e))
 
--- what is left behind the first two
+-- the comparison that remains after the first text
 second : (a b d t r : List ℕ) → Some r ≡ behind a t
     → same t (a ++ b ++ d) ≡ ends (option_and_then (behind d) (behind b r))
 second a b d t r e = whole a b d t ∙ ap (λ o. ends (option_and_then (behind d) (option_and_then (behind b) o))) (sym e)

@@ -7,7 +7,7 @@ use Rattle.pb_frame.specs.Admission.{same}
 abbrev pub lines_of : List ℕ → List (List ℕ)
 lines_of text = slice_split (λ b. b == 10) text
 
--- the lines of what is left of a text
+-- the lines of the rest of a text
 abbrev pub lines_left : Option (List ℕ) → List (List ℕ)
 lines_left None = []
 lines_left (Some text) = lines_of text
@@ -21,17 +21,17 @@ abbrev pub squeezed : List ℕ → List ℕ
 squeezed [] = []
 squeezed (b ∷ line) = if b == 35 then [] else if is_blank b then squeezed line else b ∷ squeezed line
 
--- the line is `[word]` or `[[word]]`, but for blanks and a comment
+-- the line is `[word]` or `[[word]]`, apart from blanks and a comment
 abbrev pub is_header : List ℕ → List ℕ → Bool
 is_header word line =
     same (squeezed line) (codes "[" ++ word ++ codes "]") || same (squeezed line) (codes "[[" ++ word ++ codes "]]")
 
--- the numbers of the headers of the word among lines of which the first has the number n
+-- the numbers of the headers of a word, among lines of which the first has the number n
 abbrev pub headers_from : ℕ → List ℕ → List (List ℕ) → List ℕ
 headers_from n word [] = []
 headers_from n word (line ∷ lines) = (if is_header word line then n ∷ [] else []) ++ headers_from (n + 1) word lines
 
--- the number, from 1, of the line that is the header of the word behind so many others of it
+-- the number, from 1, of the line that is a header of the word after so many earlier ones
 abbrev pub header_line : List ℕ → ℕ → List (List ℕ) → Option ℕ
 header_line word others lines = slice_get (headers_from 1 word lines) others
 
@@ -48,18 +48,18 @@ abbrev pub has_text : List ℕ → Bool
 has_text [] = false
 has_text (b ∷ rest) = begins_text (b ∷ rest) || has_text rest
 
--- a quotation mark stands before the comment
+-- a quotation mark occurs before the comment
 abbrev pub quotes : List ℕ → Bool
 quotes [] = false
 quotes (b ∷ line) = if b == 35 then false else is_mark b || quotes line
 
--- the line is a header in which a quotation mark stands, or begins with one and has an equals sign: its key may be quoted
+-- the line is a header with a quotation mark, or begins with one and has an equals sign, which means that a key may be
+-- quoted
 abbrev pub is_quoted : List ℕ → Bool
 is_quoted [] = false
 is_quoted (b ∷ line) =
     if is_blank b then is_quoted line else if b == 91 then quotes line else is_mark b && list_any (λ x. x == 61) line
 
--- each line says by itself whether it is a header, and of which table: no text goes over several lines, and no key of a
--- table is quoted
+-- headers can be recognized line by line: no text spans several lines, and no key or header is quoted
 abbrev pub is_plain : List ℕ → Bool
 is_plain file = not (has_text file) && not (list_any is_quoted (lines_of file))

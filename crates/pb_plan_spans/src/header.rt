@@ -9,7 +9,7 @@ ghost use Rattle.pb_plan_spans.specs.Lines.{is_plain};
 use crate::line::{is_header, is_mark, is_quoted};
 use crate::place::parted;
 
-/// The first line of a text, and the text behind it, where there are more.
+/// Returns the first line of a text, without its line feed, and the text after it if there is more.
 fn cut(text: &[u8]) -> (&[u8], Option<&[u8]>)
     ensures lines { lines_of text.now ≡ result.0.now ∷ lines_left (option_map (λ rest. rest.now) result.1) }
     ensures shorter { IfSome result.1 (λ rest. length rest.now < length text.now) }
@@ -20,7 +20,7 @@ fn cut(text: &[u8]) -> (&[u8], Option<&[u8]>)
     }
 }
 
-/// The number, from 1, of the line that is the header of the word behind so many others of it.
+/// Returns the number, from 1, of the line that is a header of this word, after `others` earlier headers of it.
 pub(crate) fn header_line(file: &[u8], word: &[u8], others: usize) -> Option<usize>
     ensures { result ≡ header_line word.now others (lines_of file.now) }
 {
@@ -41,7 +41,7 @@ pub(crate) fn header_line(file: &[u8], word: &[u8], others: usize) -> Option<usi
     None
 }
 
-/// A text begins with three quotation marks of one kind.
+/// Returns whether a text begins with three quotation marks of one kind.
 fn begins_text(rest: &[u8]) -> bool
     ensures { result ≡ begins_text rest.now }
 {
@@ -51,7 +51,7 @@ fn begins_text(rest: &[u8]) -> bool
     }
 }
 
-/// Three quotation marks of one kind stand in a row.
+/// Returns whether three quotation marks of one kind occur in a row.
 fn has_text(file: &[u8]) -> bool
     ensures { result ≡ has_text file.now }
 {
@@ -63,7 +63,7 @@ fn has_text(file: &[u8]) -> bool
     false
 }
 
-/// Some line may have a key or a header in quotation marks.
+/// Returns whether some line may have a key or a header in quotation marks.
 fn has_quoted(file: &[u8]) -> bool
     ensures { result ≡ list_any is_quoted (lines_of file.now) }
 {
@@ -78,7 +78,7 @@ fn has_quoted(file: &[u8]) -> bool
     false
 }
 
-/// Each line says by itself whether it is a header, and of which table.
+/// Returns whether headers can be recognized line by line: no text spans several lines, and no key or header is quoted.
 pub(crate) fn is_plain(file: &[u8]) -> bool
     ensures { result ≡ is_plain file.now }
 {

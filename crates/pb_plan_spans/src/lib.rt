@@ -1,11 +1,7 @@
-//! Where in a plan file a rule is broken, so that nobody has to look for the place.
+//! Line and column at which a plan file breaks a rule.
 //!
-//! ```text
-//! match refused_at(alloc, file)? {
-//!     Some(spot) => ..            // spot.to_string(): `line 3, column 7`, or `line 12`
-//!     None => ..                  // the file is a plan, or the place can't be told
-//! }
-//! ```
+//! It finds the place for a fault of pb_service: an octet of the file, or the header of a table.
+//! Begin with [`spot_of`] in `locate.rt`.
 #![tactic(auto)]
 
 mod header;

@@ -7,14 +7,15 @@ ghost use Rattle.pb_frame.specs.Admission.{same};
 ghost use Rattle.pb_plan_spans.specs.Lines.{is_blank, is_header, squeezed, is_mark, quotes, is_quoted};
 ghost use Rattle.pb_plan_spans.specs.Stripping.{behind};
 
-/// A space, a tab, the carriage return of a line's end, or an octet of the byte order mark that may begin a file.
+/// Returns whether the octet is a space, a tab, a carriage return, or one of those of the byte order mark that may
+/// begin a file.
 fn is_blank(b: u8) -> bool
     ensures { result ≡ is_blank b }
 {
     matches!(b, b' ' | b'\t' | b'\r' | 0xEF | 0xBB | 0xBF)
 }
 
-/// What of a line stands behind an octet, which is its first one but for blanks.
+/// Returns the rest of a line after this octet, if the octet is its first one apart from blanks.
 fn behind_octet(line: &[u8], octet: u8) -> Option<&[u8]>
     ensures { option_map (λ rest. squeezed rest.now) result ≡ behind (octet ∷ []) (squeezed line.now) }
 {
@@ -33,7 +34,7 @@ fn behind_octet(line: &[u8], octet: u8) -> Option<&[u8]>
     None
 }
 
-/// What of a line stands behind a text, with which it begins but for blanks.
+/// Returns the rest of a line after this text, if the line begins with the text apart from blanks.
 fn behind<'a>(line: &'a [u8], text: &[u8]) -> Option<&'a [u8]>
     ensures { option_map (λ rest. squeezed rest.now) result ≡ behind text.now (squeezed line.now) }
 {
@@ -44,7 +45,7 @@ fn behind<'a>(line: &'a [u8], text: &[u8]) -> Option<&'a [u8]>
     Some(rest)
 }
 
-/// A line of blanks and a comment.
+/// Returns whether a line has only blanks and a comment.
 fn is_empty(line: &[u8]) -> bool
     ensures { result ≡ (length (squeezed line.now) == 0) }
 {
@@ -59,7 +60,7 @@ fn is_empty(line: &[u8]) -> bool
     true
 }
 
-/// A line that is these three texts one behind the other, but for blanks and a comment.
+/// Returns whether a line consists of these three texts in turn, apart from blanks and a comment.
 fn is_made_of(line: &[u8], before: &[u8], word: &[u8], after: &[u8]) -> bool
     ensures { result ≡ same (squeezed line.now) (before.now ++ word.now ++ after.now) }
 {
@@ -75,21 +76,21 @@ fn is_made_of(line: &[u8], before: &[u8], word: &[u8], after: &[u8]) -> bool
     is_empty(line)
 }
 
-/// The line is `[word]` or `[[word]]`, but for blanks and a comment.
+/// Returns whether a line is `[word]` or `[[word]]`, apart from blanks and a comment.
 pub(crate) fn is_header(word: &[u8], line: &[u8]) -> bool
     ensures { result ≡ is_header word.now line.now }
 {
     is_made_of(line, b"[", word, b"]") || is_made_of(line, b"[[", word, b"]]")
 }
 
-/// A quotation mark.
+/// Returns whether the octet is a quotation mark.
 pub(crate) fn is_mark(b: u8) -> bool
     ensures { result ≡ is_mark b }
 {
     b == b'"' || b == b'\''
 }
 
-/// A quotation mark stands before the comment.
+/// Returns whether a quotation mark occurs before the comment.
 fn quotes(line: &[u8]) -> bool
     ensures { result ≡ quotes line.now }
 {
@@ -104,14 +105,14 @@ fn quotes(line: &[u8]) -> bool
     false
 }
 
-/// An equals sign stands in a line.
+/// Returns whether an equals sign occurs in a line.
 fn has_equals(line: &[u8]) -> bool
     ensures { result ≡ list_any (λ x. x == 61) line.now }
 {
     line.iter().any(|x| *x == b'=')
 }
 
-/// The line is a header in which a quotation mark stands, or begins with one and has an equals sign.
+/// Returns whether a line is a header with a quotation mark, or begins with a quotation mark and has an equals sign.
 pub(crate) fn is_quoted(line: &[u8]) -> bool
     ensures { result ≡ is_quoted line.now }
 {

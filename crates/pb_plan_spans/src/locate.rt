@@ -1,4 +1,4 @@
-//! Where a plan file breaks a rule.
+//! The place at which a plan file breaks a rule.
 
 ghost use Rattle.std.specs.Prelude.{◌≡◌, IfOk};
 ghost use Rattle.pb_plan_spans.specs.Spots.{key_spot, IsUtf8Spot, IsTomlSpot, IsSpotOf, TellsSpot};
@@ -10,7 +10,7 @@ use pb_frame::{Memory, Text};
 use pb_service::{PlanFault, read_plan};
 use std::alloc::Global;
 
-/// The first octet that is no UTF-8.
+/// Returns the place of the first octet that isn't UTF-8.
 fn utf8_spot(file: &[u8]) -> Option<Spot>
     ensures { IsUtf8Spot file.now result }
 {
@@ -20,7 +20,7 @@ fn utf8_spot(file: &[u8]) -> Option<Spot>
     }
 }
 
-/// Where the toml reader stops. None too where memory ran out.
+/// Returns the place at which the TOML reader stops. Returns `None` too if an allocation failed.
 fn toml_spot(alloc: Global, file: &[u8]) -> Option<Spot>
     ensures { IsTomlSpot file.now result }
 {
@@ -34,7 +34,7 @@ fn toml_spot(alloc: Global, file: &[u8]) -> Option<Spot>
     }
 }
 
-/// The header of the table of a key, with its place.
+/// Returns the line of the header of a key's table, by the path of the key.
 fn key_spot(file: &[u8], path: &Text) -> Option<Spot>
     ensures { result ≡ key_spot file.now path.now }
 {
@@ -48,17 +48,16 @@ fn key_spot(file: &[u8], path: &Text) -> Option<Spot>
     header_line(file, word, others).map(line_spot)
 }
 
-/// Where a plan file has a fault that [`read_plan`] tells.
+/// Returns the place of a fault in a plan file, as [`read_plan`] reports it.
 ///
-/// - `Utf8`: the first octet that is no UTF-8.
-/// - `Toml`: where the toml reader stops.
-/// - A key with its place: the line that is the header of its table, as `[network]` or `[[bridge]]`, but for blanks and
-/// a comment; of a key at the top the first such line with the key itself.
+/// - `Utf8`: the first octet that isn't UTF-8.
+/// - `Toml`: the octet at which the TOML reader stops.
+/// - `Missing`, `Kind`, `Range`, `Unknown`: the line that is the header of the key's table, as `[network]` or
+///   `[[bridge]]`, apart from blanks and a comment. For a key at the top it is the first such line with the key itself.
 ///
-/// None is answered of any other fault, and where memory ran out as the text was read again. It is answered of a key
-/// too where there are not so many headers, as with inline tables and dotted keys, and where a line that looks like a
-/// header need not be one or a header may look otherwise: there are texts of several lines or quoted keys. A wrong line
-/// would be worse than none.
+/// Returns `None` for all other faults. It also returns `None` for a key if the place is uncertain: the file has too
+/// few such headers, as with inline tables and dotted keys, it has texts of several lines or quoted keys, or the key
+/// could be a value. It returns `None` for `Toml` if an allocation failed.
 pub fn spot_of(alloc: Global, file: &[u8], fault: &PlanFault) -> Option<Spot>
     ensures { IsSpotOf file.now fault.now result }
 {
@@ -77,9 +76,12 @@ pub fn spot_of(alloc: Global, file: &[u8], fault: &PlanFault) -> Option<Spot>
     }
 }
 
-/// Where a file breaks the first rule for which it is refused, as [`spot_of`] tells it. None where it is a plan, too.
+/// Reads a plan file and returns the place of its first fault, as [`spot_of`] finds it. Returns `None` if the file is a
+/// plan.
 ///
-/// `Memory` is answered where memory ran out as the file was read.
+/// # Errors
+///
+/// `Memory` if an allocation failed while the file was read.
 pub fn refused_at(alloc: Global, file: &[u8]) -> Result<Option<Spot>, Memory>
     ensures { IfOk result (TellsSpot file.now) }
 {

@@ -1,11 +1,11 @@
-//! The header to which a key with its place leads.
+//! The header to which the path of a key leads.
 
 ghost use Rattle.std.specs.Prelude.{◌≡◌, ◌==◌};
 ghost use Rattle.std.specs.List.{position};
 ghost use Rattle.std.specs.Option.{option_map};
 ghost use Rattle.pb_plan_spans.specs.Places.{is_value, number_in, parted, row_in, place_in};
 
-/// A word that is itself a value of TOML, or begins as a number does.
+/// Returns whether the word is a TOML value by itself (`true`, `false`, `inf`, `nan`) or begins as a number does.
 pub(crate) fn is_value(word: &[u8]) -> bool
     ensures { result ≡ is_value word.now }
 {
@@ -16,7 +16,7 @@ pub(crate) fn is_value(word: &[u8]) -> bool
     }
 }
 
-/// The number that one to three digits write.
+/// Returns the number that one to three decimal digits denote.
 fn number_in(text: &[u8]) -> Option<usize>
     ensures { result ≡ number_in text.now }
 {
@@ -32,14 +32,14 @@ fn number_in(text: &[u8]) -> Option<usize>
     }
 }
 
-/// Where the first octet of this kind stands.
+/// Returns the index of the first octet with this value.
 fn place_of(text: &[u8], mark: u8) -> Option<usize>
     ensures { result ≡ position (λ b. b == mark) text.now }
 {
     text.iter().position(|b| *b == mark)
 }
 
-/// What stands before the first octet of this kind, and what behind it.
+/// Returns the text before the first octet with this value, and the text after it.
 pub(crate) fn parted(text: &[u8], mark: u8) -> Option<(&[u8], &[u8])>
     ensures { option_map (λ p. (p.0.now, p.1.now)) result ≡ parted mark text.now }
 {
@@ -47,7 +47,7 @@ pub(crate) fn parted(text: &[u8], mark: u8) -> Option<(&[u8], &[u8])>
     Some((&text[..at], &text[at + 1..]))
 }
 
-/// WORD and N of `WORD[N].KEY`.
+/// Returns WORD and N of `WORD[N].KEY`.
 fn row_in(path: &[u8]) -> Option<(&[u8], usize)>
     ensures { option_map (λ p. (p.0.now, p.1)) result ≡ row_in path.now }
 {
@@ -57,7 +57,7 @@ fn row_in(path: &[u8]) -> Option<(&[u8], usize)>
     Some((word, index))
 }
 
-/// The word of the header to which a key with its place leads, and how many of it come before.
+/// Returns the word of the header to which the path of a key leads, and the number of earlier headers of this word.
 pub(crate) fn place_in(path: &[u8]) -> (&[u8], usize)
     ensures { (result.0.now, result.1) ≡ place_in path.now }
 {

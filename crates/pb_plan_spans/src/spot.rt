@@ -5,12 +5,12 @@ ghost use Rattle.pb_plan_spans.specs.Spots.{octet_spot, line_spot};
 
 use std::fmt;
 
-/// A place in a file. Lines and columns count from 1, and a column counts octets. A whole line has no column.
+/// A place in a file: an octet or a whole line.
 #[derive(Clone, Copy, Debug, PartialEq, Eq)]
 pub struct Spot {
-    /// The line.
+    /// The line, counted from 1.
     pub line: usize,
-    /// The octet of the line.
+    /// The octet of the line, counted from 1. `None` means the whole line.
     pub column: Option<usize>,
 }
 
@@ -29,21 +29,21 @@ impl fmt::Display for Spot {
     }
 }
 
-/// How many lines end in a text.
+/// Returns the number of line feeds in a text.
 fn ended_lines(text: &[u8]) -> usize
     ensures { result ≡ count_by (λ b. b == 10) text.now }
 {
     text.iter().filter(|b| **b == b'\n').count()
 }
 
-/// How many octets stand in the last line of a text.
+/// Returns the length of the last line of a text, in octets.
 fn last_length(text: &[u8]) -> usize
     ensures { result ≡ length (take_while (λ b. not (b == 10)) (reverse text.now)) }
 {
     text.iter().rev().take_while(|b| **b != b'\n').count()
 }
 
-/// The octet behind so many others.
+/// Returns the place of the octet that has so many before it.
 pub(crate) fn octet_spot(file: &[u8], before: usize) -> Spot
     requires { before ≤ length file.now }
     ensures { result ≡ octet_spot file.now before }
@@ -55,7 +55,7 @@ pub(crate) fn octet_spot(file: &[u8], before: usize) -> Spot
     }
 }
 
-/// A whole line.
+/// Returns the place that is a whole line.
 pub(crate) fn line_spot(line: usize) -> Spot
     ensures { result ≡ line_spot line }
 {

@@ -1,4 +1,4 @@
-//! Reading plan files, telling where they are wrong, and reading step scripts, with ample memory.
+//! Tests of plan files, of the places of their errors, and of step scripts, without failing allocations.
 #![tactic(auto)]
 
 #[cfg(test)]

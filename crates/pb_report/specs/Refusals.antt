@@ -1,4 +1,4 @@
--- What is printed of a file that is no plan.
+-- The printed line for a refused plan file.
 use Rattle.std.specs.Prelude.{◌≡◌, ℕ, List, [], ◌∷◌, ◌++◌, Option, codes}
 use Rattle.std.specs.Fmt.{decimal}
 use Rattle.std.specs.Io.KnownBytes.{Appends}
@@ -7,7 +7,7 @@ use Rattle.pb_service.specs.PlanFiles.{RefusesFile}
 use Rattle.pb_service.specs.declared.fault.PlanFault.{PlanFault}
 use Rattle.pb_service.specs.declared.fault.PlanFault.TheVariants.{Utf8, Toml, Missing, Kind, Range, Unknown, Twice, NoSuch, LinkEnd, TooMany, Memory}
 
--- the word for a fault, and the key or name that it tells
+-- the printed text of a fault, with its key or name
 abbrev pub fault_words : PlanFault → List ℕ
 fault_words Utf8 = codes "utf8"
 fault_words Toml = codes "toml"
@@ -21,17 +21,17 @@ fault_words LinkEnd = codes "link-end"
 fault_words TooMany = codes "too-many"
 fault_words Memory = codes "memory"
 
--- the file is refused
+-- the line for a fault of a plan file
 abbrev pub refusal_line : PlanFault → List ℕ
 refusal_line fault = codes "plan: " ++ decimal (number_of fault) ++ codes " " ++ fault_words fault ++ 10 ∷ []
 
--- the file is answered by the rule that it breaks
+-- the text is the line for a rule that the file breaks
 pub record IsRefusalText (file : List ℕ) (text : List ℕ) : Type 0 where
   pub fault : PlanFault
   pub refuses : RefusesFile file fault
   pub text_is : text ≡ refusal_line fault
 
--- that answer was written behind what stood there, where the octets are known
+-- the line for a rule that the file breaks was written after the earlier octets, if the written octets are known
 pub record PrintsRefusal (file : List ℕ) (before after : Option (List ℕ)) : Type 0 where
   pub text : List ℕ
   pub written : Appends before after text

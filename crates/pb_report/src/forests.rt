@@ -1,4 +1,4 @@
-//! Whether a shape is a forest for each service of a plan.
+//! Whether the active links of each service are a forest.
 
 ghost use Rattle.std.specs.Prelude.{◌≡◌, ◌++◌, List, ℕ, map, string_bytes, IfOk, OnOk};
 ghost use Rattle.pb_lan.specs.Plans.{IsSound};
@@ -9,7 +9,7 @@ use pb_frame::Memory;
 use pb_lan::{Plan, Shape};
 use std::alloc::Global;
 
-/// The names of the services whose active links close a ring, in the order of the plan.
+/// Returns the names of the services whose active links form a loop, in the order of the plan.
 fn looping<'a>(alloc: Global, plan: &'a Plan, shape: &Shape) -> Result<Vec<&'a str>, Memory>
     requires { IsSound plan.now }
     ensures { IfOk result (λ names. AreLooping plan.now shape.now plan.now.services (map (λ n. n.now) names.items)) }
@@ -23,7 +23,7 @@ fn looping<'a>(alloc: Global, plan: &'a Plan, shape: &Shape) -> Result<Vec<&'a s
     Ok(names)
 }
 
-/// A line that says whether there are loops, and one for each of them.
+/// Appends a line that says whether there are loops, and one line for each loop.
 fn put_loops(out: &mut String, names: &[&str]) -> Result<(), Memory>
     ensures { OnOk result (string_bytes out.new ≡ string_bytes out.old ++ forest_lines (map (λ n. n.now) names.now)) }
 {
@@ -38,9 +38,14 @@ fn put_loops(out: &mut String, names: &[&str]) -> Result<(), Memory>
     Ok(())
 }
 
-/// Puts whether a shape is a forest for each service of a plan behind a text: `forest yes`, or `forest
-/// no` and a line `loop NAME` for each service for which it is none, by name. `Memory` is answered where memory
-/// ran out.
+/// Appends whether the active links of each service are a forest.
+///
+/// The text is `forest yes`, or `forest no` and a line `loop NAME` for each service whose active links form a loop,
+/// sorted by name. The plan is sound.
+///
+/// # Errors
+///
+/// `Memory` if an allocation failed.
 pub fn put_forest(alloc: Global, out: &mut String, plan: &Plan, shape: &Shape) -> Result<(), Memory>
     requires { IsSound plan.now }
     ensures { OnOk result ((text : List ℕ) × (string_bytes out.new ≡ string_bytes out.old ++ text)

@@ -1,4 +1,7 @@
-//! What several commands print.
+//! Report texts that several commands print.
+//!
+//! It builds on pb_step_script for counts, pb_forest for forwarding loops and pb_service for plan errors.
+//! Begin with [`put_record`] in `record.rt`.
 #![tactic(auto)]
 
 mod forests;

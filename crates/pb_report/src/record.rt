@@ -1,4 +1,4 @@
-//! What a record tells, in print.
+//! The printed report of a record.
 
 ghost use Rattle.std.specs.Prelude.{◌≡◌, ◌++◌, List, ℕ, string_bytes, OnOk};
 ghost use Rattle.pb_lan.specs.Plans.{IsSound};
@@ -11,9 +11,12 @@ use pb_lan::Plan;
 use pb_step_script::put_counts;
 use std::alloc::Global;
 
-/// Puts the counts of a record behind a text, and whether its last shape is a forest for each service: a line
-/// for each customer port and each link, by name, and then what [`put_forest`] puts. `Memory` is answered where
-/// memory ran out.
+/// Appends the report of a record: a line for each customer port and each link, sorted by name, and then whether its
+/// last shape is a forest for each service, as [`put_forest`] prints it. The plan is sound.
+///
+/// # Errors
+///
+/// `Memory` if an allocation failed.
 pub fn put_record(
     alloc: Global,
     out: &mut String,
@@ -29,8 +32,12 @@ pub fn put_record(
     put_forest(alloc, out, plan, &shape)
 }
 
-/// Puts `settled yes` or `settled no` behind a text, and nothing where there is no answer, since the plan gives
-/// the states of ports. `Memory` is answered where memory ran out.
+/// Appends `settled yes` or `settled no`. Appends nothing for `None`, which means that the plan gives the states of
+/// ports.
+///
+/// # Errors
+///
+/// `Memory` if an allocation failed.
 pub fn put_settled(out: &mut String, answer: Option<bool>) -> Result<(), Memory>
     ensures { OnOk result (string_bytes out.new ≡ string_bytes out.old ++ settled_line answer) }
 {

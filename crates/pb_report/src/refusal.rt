@@ -1,4 +1,4 @@
-//! Files that are no plans.
+//! The line for a refused plan file.
 
 ghost use Rattle.std.specs.Prelude.{◌≡◌, ◌≢◌, ◌⊎◌, ◌++◌, string_bytes, IfErr, OnOk};
 ghost use Rattle.std.specs.Io.KnownBytes.{Appends, Keeps};
@@ -10,7 +10,7 @@ use pb_service::PlanFault;
 use std::alloc::Global;
 use std::io::Write;
 
-/// The word for a fault, and the key or name that it tells.
+/// Appends the printed text of a fault, with its key or name.
 fn put_fault(out: &mut String, fault: &PlanFault) -> Result<(), Memory>
     ensures { OnOk result (string_bytes out.new ≡ string_bytes out.old ++ fault_words fault.now) }
 {
@@ -30,8 +30,12 @@ fn put_fault(out: &mut String, fault: &PlanFault) -> Result<(), Memory>
     Ok(())
 }
 
-/// Puts the line of a plan that is refused behind a text: `plan: N WORD` with the number and the word of the
-/// rule that the file breaks, and the key or name where there is one. `Memory` is answered where memory ran out.
+/// Appends the line for a refused plan file: `plan: N TEXT` with the number and the text of the rule that the file
+/// breaks, and the key or name if there is one.
+///
+/// # Errors
+///
+/// `Memory` if an allocation failed.
 pub fn put_refusal(out: &mut String, fault: &PlanFault) -> Result<(), Memory>
     ensures { OnOk result (string_bytes out.new ≡ string_bytes out.old ++ refusal_line fault.now) }
 {
@@ -42,9 +46,12 @@ pub fn put_refusal(out: &mut String, fault: &PlanFault) -> Result<(), Memory>
     Ok(())
 }
 
-/// Writes which rule a plan file breaks, by one `write_all`. `Write` is answered where a write failed, and then
-/// nothing is said of what was written; `Memory` where memory for the text ran out, and then nothing was written.
-/// No other fault comes.
+/// Writes the line for a refused plan file, in one call of `write_all`.
+///
+/// # Errors
+///
+/// `Write` if the write failed. It is not known then how much was written. `Memory` if an allocation failed, and then
+/// nothing was written. There are no other errors.
 pub fn write_refusal<W: Write>(
     alloc: Global,
     fault: &PlanFault,

@@ -1,4 +1,4 @@
--- What is told of copies, BPDUs and sources for which bridges had no room.
+-- The lines for copies, BPDUs and sources that bridges dropped.
 use Rattle.std.specs.Prelude.{ℕ, ◌==◌, if◌then◌else◌, List, [], ◌∷◌, ◌++◌, Some, None, flat_map, codes}
 use Rattle.std.specs.Fmt.{decimal}
 use Rattle.std.specs.List.{range_with_len, zip}
@@ -9,16 +9,16 @@ use Rattle.pb_lan.specs.declared.step.Step.{Step}
 use Rattle.pb_history.specs.Losses.{refused_by, dropped_by, unlearnt_by, counts_of, counts_at}
 use Rattle.pb_history.specs.declared.cause_counts.CauseCounts.{CauseCounts}
 
--- a bridge, or one of its ports
+-- the name of a bridge, or of one of its ports
 abbrev pub place_words : List ℕ → Option ℕ → List ℕ
 place_words name None = codes "bridge " ++ name
 place_words name (Some port) = codes "bridge " ++ name ++ codes " port " ++ decimal port
 
--- the line of a count; a count of 0 has none
+-- the line of a count, or nothing if the count is 0
 abbrev pub count_line : List ℕ → ℕ → List ℕ → List ℕ
 count_line place count words = if count == 0 then [] else place ++ codes ": " ++ decimal count ++ codes " " ++ words ++ 10 ∷ []
 
--- the lines of a port: of copies, and then of BPDUs
+-- the lines of a port: those of copies, then those of BPDUs
 abbrev pub port_lines : List ℕ → ℕ → CauseCounts → CauseCounts → List ℕ
 port_lines name port copies bpdus =
     count_line (place_words name (Some port)) copies.full (codes "copies not queued: full")
@@ -26,17 +26,18 @@ port_lines name port copies bpdus =
     ++ count_line (place_words name (Some port)) bpdus.full (codes "BPDUs not queued: full")
     ++ count_line (place_words name (Some port)) bpdus.memory (codes "BPDUs not queued: memory")
 
+-- the lines of sources that were not learnt
 abbrev pub source_lines : List ℕ → CauseCounts → List ℕ
 source_lines name sources =
     count_line (place_words name None) sources.full (codes "sources not learnt: full")
     ++ count_line (place_words name None) sources.memory (codes "sources not learnt: memory")
 
--- the lines of a bridge: those of its ports 1 to 16, and then of sources
+-- the lines of a bridge: those of its ports 1 to 16, then those of sources
 abbrev pub bridge_lines : List ℕ → List Step → List ℕ
 bridge_lines name steps =
     flat_map (λ port. port_lines name port (counts_at port (flat_map refused_by steps)) (counts_at port (flat_map dropped_by steps))) (range_with_len 1 16)
     ++ source_lines name (counts_of (flat_map unlearnt_by steps))
 
--- the lines of each bridge of the plan of which the record has a list
+-- the lines of each bridge of the plan for which the record has a list
 abbrev pub losses_text : Plan → Record → List ℕ
 losses_text plan rec = flat_map (λ b. bridge_lines b.0.name b.1) (zip plan.bridges rec.bridges)

@@ -1,4 +1,4 @@
--- What a run lost, and the exit status of one that is strict.
+-- The loss report of a run, and the exit status of a strict run.
 use Rattle.std.specs.Prelude.{ℕ, zero, Bool, true, false, List, [], ◌∷◌, ◌++◌, Ok, Some, codes}
 use Rattle.std.specs.declared.option.Option.{Option}
 use Rattle.std.specs.declared.result.Result.{Result}
@@ -13,21 +13,21 @@ use Rattle.pb_run_losses.specs.Unwritten.{unwritten_lines}
 use Rattle.pb_run_losses.specs.declared.strictness.Strictness.{Strictness}
 use Rattle.pb_run_losses.specs.declared.strictness.Strictness.TheVariants.{Strict}
 
--- the bridges have not settled
+-- the line that the bridges have not converged
 abbrev pub unsettled_line : Result (Option Bool) Memory → List ℕ
 unsettled_line (Ok (Some false)) = codes "bridges not settled" ++ 10 ∷ []
 unsettled_line _ = []
 
--- what ports could not write, what bridges had no room for, and whether the bridges have settled
+-- the loss report: frames that ports could not write, drops of bridges, and whether the bridges have converged
 abbrev pub lost_text : Plan → Record → Result (Option Bool) Memory → List Frames → List ℕ
 lost_text plan rec settled waiting = unwritten_lines plan.customers waiting rec.customers ++ losses_text plan rec ++ unsettled_line settled
 
--- the run has drained, and nothing of this is to be told
+-- the run has drained, and its loss report is empty
 abbrev pub is_whole : Ended → List ℕ → Bool
 is_whole Drained [] = true
 is_whole ended lost = false
 
--- the exit status of a report, by whether the run was whole: a strict run that wasn't has the status 4 in place of 0
+-- the exit status of a run: 4 in place of 0 if it is strict and was not whole
 abbrev pub exit_status : Strictness → Bool → ℕ → ℕ
 exit_status Strict false zero = 4
 exit_status strictness whole status = status

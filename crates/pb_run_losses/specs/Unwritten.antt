@@ -8,11 +8,11 @@ use Rattle.pb_port.specs.Reading.{held_sum}
 use Rattle.pb_workers.specs.Ports.{Frames}
 use Rattle.pb_history.specs.Passages.{is_gone}
 
--- so many frames of a customer port were not written, where there are some
+-- the line for the unwritten frames of a customer port, or nothing if there are none
 abbrev pub unwritten_line : List ℕ → ℕ → List ℕ
 unwritten_line name count = if count == 0 then [] else codes "port " ++ name ++ codes ": " ++ decimal count ++ codes " frames not written" ++ 10 ∷ []
 
--- of each customer port those that wait in its port, and those that came when it took none any more
+-- for each customer port, the frames that it still holds and those that came after a write had failed
 abbrev pub unwritten_lines : List CustomerPlan → List Frames → List (List Step) → List ℕ
 unwritten_lines (customer ∷ customers) (waiting ∷ waitings) (steps ∷ lists) =
     unwritten_line customer.name (held_sum (length waiting) (count_by is_gone steps)) ++ unwritten_lines customers waitings lists

@@ -1,5 +1,7 @@
-//! The loss report of a run: what ports could not write, and the copies, BPDUs and sources that bridges dropped; and
-//! the exit status of a strict run.
+//! The loss report of a run, and the exit status of a strict run.
+//!
+//! It takes the counts of steps from pb_history, unwritten frames from pb_frame and the end of a run from pb_run.
+//! Begin with [`lost_of`] in `lost.rt`.
 #![tactic(auto)]
 
 mod losses;

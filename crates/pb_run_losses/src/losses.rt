@@ -1,4 +1,4 @@
-//! What is told of copies, BPDUs and sources for which bridges had no room.
+//! The lines for copies, BPDUs and sources that bridges dropped.
 
 ghost use Rattle.std.specs.Prelude.{◌≡◌, ◌++◌, ◌≤◌, flat_map, string_bytes, OnOk};
 ghost use Rattle.std.specs.List.{range_with_len};
@@ -10,7 +10,7 @@ use pb_frame::Memory;
 use pb_history::{CauseCounts, Tallies, Tally};
 use pb_lan::Plan;
 
-/// Names a bridge, or one of its ports.
+/// Appends the name of a bridge, or of one of its ports.
 fn put_place(out: &mut String, name: &str, port: Option<u8>) -> Result<(), Memory>
     ensures { OnOk result (string_bytes out.new ≡ string_bytes out.old ++ place_words name.now port) }
 {
@@ -21,7 +21,7 @@ fn put_place(out: &mut String, name: &str, port: Option<u8>) -> Result<(), Memor
     Ok(())
 }
 
-/// The line of a count; a count of 0 has none.
+/// Appends the line of a count. A count of 0 has no line.
 fn put_count(
     out: &mut String,
     name: &str,
@@ -40,7 +40,7 @@ fn put_count(
     Ok(())
 }
 
-/// The lines of a port: of copies, and then of BPDUs.
+/// Appends the lines of a port: those of copies, then those of BPDUs.
 fn put_port(
     out: &mut String,
     name: &str,
@@ -57,7 +57,7 @@ fn put_port(
     put_count(out, name, at, bpdus.memory, "BPDUs not queued: memory")
 }
 
-/// The lines of the ports 1 to 16.
+/// Appends the lines of ports 1 to 16.
 fn put_ports(out: &mut String, name: &str, tally: &Tally) -> Result<(), Memory>
     ensures { OnOk result (string_bytes out.new ≡ string_bytes out.old
         ++ flat_map (λ port. port_lines name.now port (counts_at port (flat_map refused_by tally.now))
@@ -70,7 +70,7 @@ fn put_ports(out: &mut String, name: &str, tally: &Tally) -> Result<(), Memory>
     Ok(())
 }
 
-/// The lines of sources.
+/// Appends the lines of sources that were not learnt.
 fn put_sources(out: &mut String, name: &str, sources: CauseCounts) -> Result<(), Memory>
     ensures { OnOk result (string_bytes out.new ≡ string_bytes out.old ++ source_lines name.now sources) }
 {
@@ -84,7 +84,7 @@ fn put_sources(out: &mut String, name: &str, sources: CauseCounts) -> Result<(),
     )
 }
 
-/// The lines of a bridge.
+/// Appends the lines of a bridge.
 fn put_bridge(out: &mut String, name: &str, tally: &Tally) -> Result<(), Memory>
     ensures { OnOk result (string_bytes out.new ≡ string_bytes out.old ++ bridge_lines name.now tally.now) }
 {
@@ -92,9 +92,11 @@ fn put_bridge(out: &mut String, name: &str, tally: &Tally) -> Result<(), Memory>
     put_sources(out, name, tally.sources_not_learnt())
 }
 
-/// Appends to a text how often queues and learning tables of bridges were full. No loss is silent. Each bridge of the
-/// plan has, in the plan's order, lines of these forms, each with a count of the steps in the bridge's list. A count of
-/// 0 has no line:
+/// Appends the counts of copies, BPDUs and sources that bridges dropped because a queue or a learning table was full or
+/// an allocation failed.
+///
+/// Each bridge of the plan has lines of these forms, in the order of the plan. The counts are of the steps in the
+/// bridge's list. A count of 0 has no line:
 ///
 /// ```text
 /// bridge B2 port 1: 2571 copies not queued: full
@@ -105,11 +107,11 @@ fn put_bridge(out: &mut String, name: &str, tally: &Tally) -> Result<(), Memory>
 /// bridge B2: 2 sources not learnt: memory
 /// ```
 ///
-/// The local ports come first, 1 to 16, each with its four lines in this order. The two lines of the bridge follow.
-/// A copy of a relayed frame, or a BPDU of the bridge's own, is not queued at a port if the queue is full or an
-/// allocation failed (802.1Q clauses 8.6.6 and 8.6.7). A source is not learnt if the learning table holds its limit of
-/// live entries or an allocation failed (802.1Q clause 8.8). A bridge for which the record has no list has no lines.
-/// Lists after the plan's last bridge have none either.
+/// The local ports come first, 1 to 16, each with its four lines in this order. The two lines of the bridge follow. A
+/// copy of a relayed frame, or a BPDU of the bridge's own, is not queued at a port if the queue is full or an
+/// allocation failed (IEEE 802.1Q clauses 8.6.6 and 8.6.7). A source is not learnt if the learning table holds its
+/// limit of live entries or an allocation failed (IEEE 802.1Q clause 8.8). A bridge for which the record has no list
+/// has no lines. Lists after that of the plan's last bridge have none either.
 ///
 /// # Errors
 ///

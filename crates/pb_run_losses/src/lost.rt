@@ -1,4 +1,4 @@
-//! What a run lost.
+//! The loss report of a run.
 
 ghost use Rattle.std.specs.Prelude.{◌≡◌, ◌++◌, length, map, string_bytes, IfOk, OnOk};
 ghost use Rattle.pb_run_losses.specs.Strict.{is_whole, lost_text, unsettled_line};
@@ -11,7 +11,7 @@ use pb_lan::Plan;
 use pb_run::{Ended, Held};
 use std::alloc::Global;
 
-/// Puts that bridges have not settled behind a text, where they have not.
+/// Appends the line that the bridges have not converged, if they have not.
 fn put_unsettled(out: &mut String, settled: &Result<Option<bool>, Memory>) -> Result<(), Memory>
     ensures { OnOk result (string_bytes out.new ≡ string_bytes out.old ++ unsettled_line settled.now) }
 {
@@ -22,14 +22,16 @@ fn put_unsettled(out: &mut String, settled: &Result<Option<bool>, Memory>) -> Re
     Ok(())
 }
 
-/// Returns what a run lost, in lines: for each customer port `port NAME: N frames not written`, which counts the frames
-/// that its port took and still has and those that came to it after a write had failed; the lines of [`put_losses`];
-/// and `bridges not settled` if the bridges decide the states of ports and have not converged (IEEE 802.1D-2004
-/// clause 17). The text is empty if nothing was lost.
+/// Returns the loss report of a run, which is empty if nothing was lost.
+///
+/// Each customer port has a line `port NAME: N frames not written`, which counts the frames that its port took and
+/// still holds and those that came to it after a write had failed. The lines of [`put_losses`] follow. The last line is
+/// `bridges not settled` if the bridges decide the states of ports and have not converged (IEEE 802.1D-2004 clause 17).
+/// A count of 0 has no line.
 ///
 /// # Errors
 ///
-/// `Memory` if an allocation for the text failed.
+/// `Memory` if an allocation failed.
 pub fn lost_of(
     alloc: Global,
     plan: &Plan,
@@ -50,7 +52,7 @@ pub fn lost_of(
     Ok(out)
 }
 
-/// Whether a run has drained and lost nothing of what the text tells.
+/// Returns whether a run has drained and its loss report is empty.
 pub fn is_whole(ended: Ended, lost: &str) -> bool
     ensures { result ≡ is_whole ended lost.now }
 {

@@ -9,7 +9,7 @@ use pb_lan::CustomerPlan;
 use pb_port::Port;
 use pb_run::Held;
 
-/// Puts how many frames of a customer port were not written behind a text, where there are some.
+/// Appends the line for the unwritten frames of a customer port. A count of 0 has no line.
 fn put_count(out: &mut String, name: &str, count: u64) -> Result<(), Memory>
     ensures { OnOk result (string_bytes out.new ≡ string_bytes out.old ++ unwritten_line name.now count) }
 {
@@ -19,9 +19,14 @@ fn put_count(out: &mut String, name: &str, count: u64) -> Result<(), Memory>
     Ok(())
 }
 
-/// Puts `port NAME: N frames not written` behind a text for each customer port, in the plan's order, with frames that a
-/// run could not write: those that its port took and still has, and those that came to it after a write had failed.
-/// Nothing is put where there are none.
+/// Appends a line `port NAME: N frames not written` for each customer port, in the order of the plan.
+///
+/// The count is of the frames that the port took and still holds and those that came to it after a write had failed. A
+/// count of 0 has no line.
+///
+/// # Errors
+///
+/// `Memory` if an allocation failed.
 pub(crate) fn put_unwritten(
     out: &mut String,
     customers: &[CustomerPlan],

@@ -1,26 +1,26 @@
--- Deeds in order.
+-- Operations in order (used by the loops of `opened.rt`).
 use Rattle.std.proofs.Common.{◌≡◌, List, [], ◌++◌, Option, Some, None, refl, sym, ap, ◌∙◌, subst, append_assoc}
 use Rattle.std.proofs.Common.{append-nil}
 use Rattle.pb_run_ports.specs.Deeds.{Adds, Begun, HasBegun}
 use Rattle.pb_run_ports.specs.declared.deed.Deed.{Deed}
 
--- nothing was done
+-- no operation follows
 pub Adds-nil : (before : Option (List Deed)) → Adds before before []
 Adds-nil None = tt
 Adds-nil (Some done) = ap Some (sym (append-nil done))
 
--- one thing after the other
+-- operations that follow operations
 pub Adds-trans : (a b c : Option (List Deed)) (ds es : List Deed) → Adds a b ds → Adds b c es → Adds a c (ds ++ es)
 Adds-trans None b c ds es p q = tt
 Adds-trans (Some done) b c ds es p q =
     let last : c ≡ Some (done ++ ds ++ es) = subst (λ known. Adds known c es) p q in last
     ∙ ap Some (append_assoc done ds es)
 
--- all is still to be done
+-- all operations remain
 pub begun_none : (a : Option (List Deed)) (all : List Deed) → Begun a a all all
 begun_none a all = record { first = []; done = Adds-nil a; whole = refl }
 
--- of what is left these were done
+-- the next of the remaining operations were done
 pub begun_more : (a b c : Option (List Deed)) (all rest ds left : List Deed) → Begun a b all rest → rest ≡ ds ++ left
     → Adds b c ds → Begun a c all left
 begun_more a b c all rest ds left begun next done = record {
@@ -29,12 +29,12 @@ begun_more a b c all rest ds left begun next done = record {
   whole = append_assoc begun.first ds left ∙ ap (λ l. begun.first ++ l) (sym next) ∙ begun.whole;
 }
 
--- nothing is left
+-- no operation remains, and all were done
 pub begun_all : (a b : Option (List Deed)) (all rest : List Deed) → Begun a b all rest → rest ≡ [] → Adds a b all
 begun_all a b all rest begun none =
     subst (Adds a b) (sym (append-nil begun.first) ∙ ap (λ l. begun.first ++ l) (sym none) ∙ begun.whole) begun.done
 
--- more is to be done behind
+-- a beginning of the operations is one of a longer list
 pub has_begun_front : (a b : Option (List Deed)) (all more : List Deed) → HasBegun a b all → HasBegun a b (all ++ more)
 has_begun_front a b all more (rest, begun) = (
   rest ++ more,
@@ -45,7 +45,7 @@ has_begun_front a b all more (rest, begun) = (
   },
 )
 
--- more was done in front
+-- a beginning after operations that were all done
 pub has_begun_after : (a b c : Option (List Deed)) (front all : List Deed) → Adds a b front → HasBegun b c all
     → HasBegun a c (front ++ all)
 has_begun_after a b c front all done (rest, begun) = (
@@ -57,7 +57,7 @@ has_begun_after a b c front all done (rest, begun) = (
   },
 )
 
--- of what is left these were done
+-- a beginning with the next of the remaining operations
 pub has_begun_more : (a b c : Option (List Deed)) (all rest ds left whole : List Deed) → Begun a b all rest
     → rest ≡ ds ++ left → Adds b c ds → all ≡ whole → HasBegun a c whole
 has_begun_more a b c all rest ds left whole begun next done same =

@@ -1,8 +1,8 @@
--- Lists from which things go over into another, one by one.
+-- Lists whose things move to another list one by one.
 use Rattle.std.proofs.Common.{◌≡◌, List, [], ◌∷◌, ◌++◌, map, ap, sym, ◌∙◌, append_assoc}
 use Rattle.std.proofs.lemmas.List.{map-append}
 
--- one thing more goes from the things to come to those that were made of them, and shows the same
+-- one more thing moves, and what is compared of it stays the same (used by the loops over ports)
 pub moved_over : {X Y Z : Type 0} (f : X → Z) (xs ys : List X) (x : X) (g : Y → Z) (rest left : List Y) (y : Y)
     (all : List Z)
     → map f xs ++ map g rest ≡ all → ys ≡ xs ++ x ∷ [] → rest ≡ y ∷ left → f x ≡ g y → map f ys ++ map g left ≡ all

@@ -1,4 +1,4 @@
--- How far the opening of ports came.
+-- The operations before a fault (used by `open_apart`).
 use Rattle.std.proofs.Common.{◌≡◌, Option, List, map, ◌∙◌, subst}
 use Rattle.std.specs.List.{flat_map}
 use Rattle.pb_run_ports.specs.Deeds.{Adds, HasBegun}
@@ -10,7 +10,7 @@ use Rattle.pb_run_ports.specs.declared.open_fault.OpenFault.TheVariants.{Unopene
 use Rattle.pb_run_ports.proofs.DeedLemmas.{Adds-trans, has_begun_front, has_begun_after}
 use Rattle.pb_service.specs.declared.port_spec.PortSpec.{PortSpec}
 
--- some of what is opened was opened
+-- the fault came while files and sockets were opened
 pub stops_opening : (e : OpenFault) (a b : Option (List Deed)) (specs : List PortSpec) → IsUnopened e
     → HasBegun a b (openings_of specs) → HasStopped e a b specs
 stops_opening (Unopened fault) a b specs is begun = begun
@@ -18,7 +18,7 @@ stops_opening Memory a b specs is begun = begun
 stops_opening (Unemptied fault) a b specs is begun = absurd is
 stops_opening (Shared file) a b specs is begun = absurd is
 
--- all is open, and some of it was emptied
+-- the fault came while files were emptied
 pub stops_emptying : (e : OpenFault) (a b : Option (List Deed)) (specs : List PortSpec) → IsUnemptied e
     → HasBegun a b (deeds_of specs) → HasStopped e a b specs
 stops_emptying (Unopened fault) a b specs is begun = absurd is
@@ -26,13 +26,13 @@ stops_emptying Memory a b specs is begun = absurd is
 stops_emptying (Unemptied fault) a b specs is begun = begun
 stops_emptying (Shared file) a b specs is begun = absurd is
 
--- some of what is read was opened
+-- the fault came while files to read and sockets were opened
 pub stops_in : (e : OpenFault) (a b : Option (List Deed)) (specs : List PortSpec)
     → IsUnopened e × HasBegun a b (flat_map entering specs) → HasStopped e a b specs
 stops_in e a b specs (is, begun) = stops_opening e a b specs is
     (has_begun_front a b (flat_map entering specs) (written (map asked specs)) begun)
 
--- all that is read is open, and some of what is written
+-- the fault came while files to write were opened
 pub stops_out : (e : OpenFault) (a b c : Option (List Deed)) (specs : List PortSpec) (ports : List Shown)
     → Adds a b (flat_map entering specs) → ports ≡ map asked specs
     → IsUnopened e × HasBegun b c (written ports) → HasStopped e a c specs
@@ -40,7 +40,7 @@ stops_out e a b c specs ports ins same (is, begun) =
     let outs : HasBegun b c (written (map asked specs)) = subst (λ shown. HasBegun b c (written shown)) same begun in
     stops_opening e a c specs is (has_begun_after a b c (flat_map entering specs) (written (map asked specs)) ins outs)
 
--- all that is opened
+-- all openings were done
 pub all_open : (a b c : Option (List Deed)) (specs : List PortSpec) (ports : List Shown)
     → Adds a b (flat_map entering specs) → ports ≡ map asked specs
     → Adds b c (written ports) → Adds a c (openings_of specs)
@@ -48,7 +48,7 @@ all_open a b c specs ports ins same outs =
     Adds-trans a b c (flat_map entering specs) (written (map asked specs)) ins
     (subst (λ shown. Adds b c (written shown)) same outs)
 
--- all is open, and some of what is written was emptied
+-- the fault came at a file to empty, with all open
 pub stops_last : (e : OpenFault) (a b c d : Option (List Deed)) (specs : List PortSpec) (ports whole : List Shown)
     → Adds a b (flat_map entering specs) → ports ≡ map asked specs
     → Adds b c (written ports) → whole ≡ ports → IsUnemptied e × HasBegun c d (emptied whole) → HasStopped e a d specs
@@ -58,7 +58,7 @@ stops_last e a b c d specs ports whole ins same outs alike (is, begun) =
     stops_emptying e a d specs is (has_begun_after a c d (openings_of specs) (emptied (map asked specs))
     (all_open a b c specs ports ins same outs) emptying)
 
--- all is open, and all that is written was emptied
+-- all operations were done
 pub all_done : (a b c d : Option (List Deed)) (specs : List PortSpec) (ports whole : List Shown)
     → Adds a b (flat_map entering specs) → ports ≡ map asked specs
     → Adds b c (written ports) → whole ≡ ports → Adds c d (emptied whole) → Adds a d (deeds_of specs)

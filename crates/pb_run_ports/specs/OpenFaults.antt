@@ -1,8 +1,8 @@
--- Why the ports of a plan were not opened.
+-- The reasons why the ports of a plan are not opened.
 use Rattle.pb_run_ports.specs.declared.open_fault.OpenFault.{OpenFault}
 use Rattle.pb_run_ports.specs.declared.open_fault.OpenFault.TheVariants.{Unopened, Unemptied, Shared, Memory}
 
--- a path can't be opened, or memory ran out
+-- a path can't be opened, or an allocation failed
 abbrev pub IsUnopened : OpenFault → Type 0
 IsUnopened (Unopened fault) = Unit {0}
 IsUnopened Memory = Unit {0}

@@ -1,4 +1,4 @@
--- Files that have two uses.
+-- Files with two uses.
 use Rattle.std.specs.Prelude.{ℕ, ◌+◌, Bool, true, false, not, ◌||◌, ◌&&◌, Option, Some, None, List, [], ◌∷◌, ◌++◌, nat_eq}
 use Rattle.std.specs.List.{list_any}
 use Rattle.std.specs.Cmp.Lexicographic.{pointwise}
@@ -18,12 +18,12 @@ writes Plan = false
 abbrev pub clashes : FileUse → FileUse → Bool
 clashes earlier later = (writes earlier.user || writes later.user) && pointwise nat_eq earlier.file later.file
 
--- no use clashes with a later one
+-- no use conflicts with a later one
 abbrev pub is_apart : List FileUse → Bool
 is_apart [] = true
 is_apart (first ∷ uses) = not (list_any (clashes first) uses) && is_apart uses
 
--- the use that is made of a file, unless it may have several
+-- the use of a file, or none if the file may have several
 abbrev pub use_of : FileUser → Option (List ℕ) → List FileUse
 use_of user None = []
 use_of user (Some file) = record { file = file; user = user } ∷ []
@@ -39,6 +39,6 @@ abbrev pub uses_in : (List ℕ → Option (List ℕ)) → ℕ → List PortSpec 
 uses_in name place [] = []
 uses_in name place (spec ∷ specs) = uses_at name place spec ++ uses_in name (place + 1) specs
 
--- no file that a port writes is another one's, its own to read, or the one at which the plan was read
+-- no port writes a file that another port uses, that it reads itself, or from which the plan was read
 abbrev pub are_apart : (List ℕ → Option (List ℕ)) → List ℕ → List PortSpec → Bool
 are_apart name plan_path specs = is_apart (use_of Plan (name plan_path) ++ uses_in name 0 specs)

@@ -1,5 +1,8 @@
-//! Opening the files and sockets of a plan's customer ports: first what is read and the sockets, then what is written,
-//! and no file is emptied before all are open. A file that a port would write has no other use.
+//! Opens the files and sockets of a plan's customer ports.
+//!
+//! Files to read and sockets are opened first, then files to write. No file is emptied before all are open.
+//! It takes the kinds of ports from pb_service, and files and sockets through the trait [`Openings`].
+//! Begin with [`open_all`] in `opened.rt`.
 #![tactic(auto)]
 
 mod deed;

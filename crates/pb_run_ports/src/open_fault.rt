@@ -1,4 +1,4 @@
-//! Why the ports of a plan were not opened.
+//! The reasons why the ports of a plan are not opened.
 
 ghost use Rattle.std.specs.Prelude.{◌≡◌};
 ghost use Rattle.pb_run_ports.specs.OpenFaults.{IsUnopened, IsUnemptied};
@@ -8,7 +8,7 @@ use pb_frame::{Memory, Text};
 use std::alloc::{AllocFailed, Global};
 use std::io::{Error, ErrorKind};
 
-/// What a port does with a path.
+/// The use that a port makes of a path.
 #[derive(Clone, Copy, Debug, PartialEq, Eq)]
 pub enum Verb {
     /// It reads the file.
@@ -21,10 +21,10 @@ pub enum Verb {
     Listen,
 }
 
-/// Who uses a file. A port goes by its place in the plan, from 0.
+/// A user of a file. A port goes by its place in the plan, from 0.
 #[derive(Clone, Copy, Debug, PartialEq, Eq)]
 pub enum FileUser {
-    /// The run, which has read its plan there.
+    /// The run itself, which read its plan from the file.
     Plan,
     /// A port that reads it.
     Reader(usize),
@@ -37,11 +37,11 @@ pub enum FileUser {
 pub struct PathFault {
     /// The port's place in the plan, from 0.
     pub place: usize,
-    /// What it was to do with the path.
+    /// The use that the port would make of the path.
     pub verb: Verb,
-    /// The path.
+    /// The path. It is empty if an allocation for it failed.
     pub path: Text,
-    /// Why it could not.
+    /// The error of the system.
     pub error: Error,
 }
 
@@ -50,22 +50,22 @@ pub struct PathFault {
 pub struct SharedFile {
     /// The place in the plan, from 0, of the port that would write it.
     pub place: usize,
-    /// The path by which it would.
+    /// The path by which the port would write it.
     pub path: Text,
-    /// Who uses it too.
+    /// The other user of the file.
     pub other: FileUser,
 }
 
-/// Why the ports of a plan were not opened.
+/// A reason why the ports of a plan are not opened.
 #[derive(Debug, Drop)]
 pub enum OpenFault {
-    /// A file can't be opened or made, or a socket not be connected to or made. No file was emptied.
+    /// A file can't be opened or made, or a socket can't be connected to or made. No file was emptied.
     Unopened(PathFault),
-    /// All were open, and a file can't be emptied. Those before it in the plan are empty.
+    /// All were open, and a file can't be emptied. Those of earlier ports are empty.
     Unemptied(PathFault),
     /// One file would be written twice, written and read, or written over the plan. Nothing was opened.
     Shared(SharedFile),
-    /// Memory ran out. No file was emptied.
+    /// An allocation failed. No file was emptied.
     Memory,
 }
 
@@ -85,7 +85,7 @@ impl<T: Drop> From<AllocFailed<T>> for OpenFault {
     }
 }
 
-/// Why a path can't be opened: want of memory, or another reason.
+/// Returns the fault of a path that can't be opened: `Memory` if the system was out of memory, else `Unopened`.
 pub(crate) fn unopened(place: usize, verb: Verb, path: Text, error: Error) -> OpenFault
     ensures { IsUnopened result }
 {
@@ -100,7 +100,7 @@ pub(crate) fn unopened(place: usize, verb: Verb, path: Text, error: Error) -> Op
     })
 }
 
-/// Why the file at a path can't be emptied. Where there is no memory for the path, it is left out.
+/// Returns the fault of a file that can't be emptied. The path is left out if an allocation for it fails.
 pub(crate) fn unemptied(alloc: Global, place: usize, path: &Text, error: Error) -> OpenFault
     ensures { IsUnemptied result }
 {

@@ -1,5 +1,5 @@
-//! Opening the ports of a plan: first what is read and what is connected to, then what is written, and no file is
-//! emptied before all are open.
+//! Opening the ports of a plan: first files to read and sockets, then files to write, and no file is emptied before all
+//! are open.
 
 ghost use Rattle.std.specs.Prelude.{◌≡◌, true, [], map, IfSome, IfOk, IfErr, OnOk};
 ghost use Rattle.std.specs.List.{flat_map};
@@ -17,12 +17,12 @@ use pb_frame::{Memory, Seq, Text};
 use pb_service::{PortSpec, Stamp};
 use std::alloc::Global;
 
-/// What a port has open.
+/// The open files or the open socket of a port.
 #[derive(Drop)]
 pub enum Opened<I, O, S> {
-    /// Nothing: a script in memory.
+    /// Nothing is open: a script in memory, with the frames that enter.
     Memory(Seq<Bytes>),
-    /// The file that it reads and the one that it writes.
+    /// The file that the port reads and the file that it writes.
     Capture {
         /// The file that it reads.
         input: I,
@@ -32,14 +32,18 @@ pub enum Opened<I, O, S> {
         read: Text,
         /// The path of the file that it writes.
         write: Text,
-        /// What times are written there.
+        /// The time stamp of the records that it writes.
         stamp: Stamp,
     },
     /// The stream of its socket.
     Socket(S),
 }
 
-/// Makes the socket of a port, or connects it to its socket.
+/// Makes the socket of a port, or connects the port to its socket.
+///
+/// # Errors
+///
+/// `Unopened`, or `Memory` if the system is out of memory.
 fn open_socket<O: Openings>(
     opener: &mut O,
     place: usize,
@@ -61,7 +65,11 @@ fn open_socket<O: Openings>(
     }
 }
 
-/// Opens what a port reads, or connects it to its socket, or makes that.
+/// Opens the file that a port reads, or makes its socket or connects to it.
+///
+/// # Errors
+///
+/// `Unopened`, or `Memory` if the system is out of memory.
 fn open_in<O: Openings>(
     opener: &mut O,
     place: usize,
@@ -95,7 +103,11 @@ fn open_in<O: Openings>(
     }
 }
 
-/// Opens what the ports read, and connects them to their sockets, or makes those, in the plan's order.
+/// Opens the files that the ports read, and makes their sockets or connects to them, in the order of the plan.
+///
+/// # Errors
+///
+/// `Unopened` at the first that fails, `Memory` if an allocation failed.
 fn open_ins<O: Openings>(
     alloc: Global,
     opener: &mut O,
@@ -115,7 +127,11 @@ fn open_ins<O: Openings>(
     Ok(ports)
 }
 
-/// Opens what a port writes, whose other side is open.
+/// Opens the file that a port writes.
+///
+/// # Errors
+///
+/// `Unopened`, or `Memory` if the system is out of memory.
 fn open_out<O: Openings>(
     opener: &mut O,
     place: usize,
@@ -147,7 +163,12 @@ fn open_out<O: Openings>(
     }
 }
 
-/// Opens what the ports write, in the plan's order. Those that were opened are in `whole`, however far it came.
+/// Opens the files that the ports write, in the order of the plan. `whole` holds the ports that were opened, also after
+/// a fault.
+///
+/// # Errors
+///
+/// `Unopened` at the first that fails, `Memory` if an allocation failed.
 fn open_outs<O: Openings>(
     opener: &mut O,
     ports: Vec<Opened<O::Input, (), O::Stream>>,
@@ -167,7 +188,7 @@ fn open_outs<O: Openings>(
     Ok(())
 }
 
-/// Gives up the output of a port. One that was made is removed.
+/// Closes the output of a port, and removes its file if the opening made it.
 fn forget_out<O: Openings>(opener: &mut O, port: Opened<O::Input, O::Output, O::Stream>)
     ensures { O.done opener.new ≡ O.done opener.old }
 {
@@ -186,7 +207,7 @@ fn forget_out<O: Openings>(opener: &mut O, port: Opened<O::Input, O::Output, O::
     }
 }
 
-/// Gives up the outputs of ports. Those that were made are removed.
+/// Closes the outputs of ports, and removes the files that the openings made.
 fn forget_outs<O: Openings>(opener: &mut O, ports: Vec<Opened<O::Input, O::Output, O::Stream>>)
     ensures { O.done opener.new ≡ O.done opener.old }
 {
@@ -195,7 +216,11 @@ fn forget_outs<O: Openings>(opener: &mut O, ports: Vec<Opened<O::Input, O::Outpu
     }
 }
 
-/// Opens what the ports write, all of it, or none of it stays open and made.
+/// Opens the files that the ports write. After a fault none of them stays open, and those that were made are removed.
+///
+/// # Errors
+///
+/// `Unopened` at the first that fails, `Memory` if an allocation failed.
 fn open_all_outs<O: Openings>(
     alloc: Global,
     opener: &mut O,
@@ -216,7 +241,11 @@ fn open_all_outs<O: Openings>(
     }
 }
 
-/// Empties what a port writes.
+/// Empties the file that a port writes.
+///
+/// # Errors
+///
+/// `Unemptied` if that fails.
 fn empty_out<O: Openings>(
     alloc: Global,
     opener: &mut O,
@@ -235,7 +264,11 @@ fn empty_out<O: Openings>(
     }
 }
 
-/// Empties what the ports write, in the plan's order.
+/// Empties the files that the ports write, in the order of the plan.
+///
+/// # Errors
+///
+/// `Unemptied` at the first that fails.
 fn empty_outs<O: Openings>(
     alloc: Global,
     opener: &mut O,
@@ -251,8 +284,11 @@ fn empty_outs<O: Openings>(
     Ok(())
 }
 
-/// Opens what ports read and write and their sockets, where no file has two uses; with all open, empties what they
-/// write.
+/// Opens all files and sockets of the ports, and then empties the files to write. No file has two uses.
+///
+/// # Errors
+///
+/// `Unopened`, `Unemptied` or `Memory`, as [`open_all`].
 fn open_apart<O: Openings>(
     alloc: Global,
     opener: &mut O,
@@ -268,7 +304,7 @@ fn open_apart<O: Openings>(
     Ok(ports)
 }
 
-/// The fault of a file with two uses, of which a capture port that writes is one.
+/// Returns the fault of a file with two uses, one of which is a capture port that writes it.
 fn shared(alloc: Global, specs: &[PortSpec], clash: Clash) -> Result<SharedFile, Memory> {
     let path = match specs.get(clash.place) {
         Some(PortSpec::Capture { write, .. }) => write.clone()?,
@@ -281,14 +317,23 @@ fn shared(alloc: Global, specs: &[PortSpec], clash: Clash) -> Result<SharedFile,
     })
 }
 
-/// Opens the ports of a plan, as their rows of the plan file say, which was read at a path.
+/// Opens the ports of a plan by the kinds that its plan file gives, which was read at `plan_path`.
 ///
-/// No file has two uses: `Shared` is answered where one would be written by two ports, written and read, or is the plan
-/// file itself and written, and then nothing was opened. Then every file to read is opened and every socket connected
-/// to or made, in the plan's order, then every file to write, which keeps what stands in it and is made where it is
-/// missing; and once all are open, those to write are emptied. `Unopened` is answered where one can't be opened, and
-/// then none was emptied, and those that were made are removed. `Unemptied` is answered where one can't be emptied.
-/// `Memory` is answered where memory ran out, and then none was emptied.
+/// First every file to read is opened, and every socket is made or connected to, in the order of the plan. Then every
+/// file to write is opened: it keeps its contents, and is made if it is missing. When all are open, the files to write
+/// are emptied.
+///
+/// # Errors
+///
+/// `Shared` if a file would be written by two ports, would be written and read, or is the plan file and would be
+/// written. Nothing was opened then.
+///
+/// `Unopened` if a file or socket can't be opened. No file was emptied, and files that were made for writing are
+/// removed.
+///
+/// `Unemptied` if a file can't be emptied. Those of earlier ports are empty.
+///
+/// `Memory` if an allocation failed. No file was emptied.
 pub fn open_all<O: Openings>(
     alloc: Global,
     opener: &mut O,

@@ -11,9 +11,9 @@ use pb_frame::{Memory, Text};
 use std::alloc::Global;
 use std::io;
 
-/// Where files and sockets are opened: the system, or what stands in for it.
+/// An opener of files and sockets: the operating system, or a replacement for tests.
 ///
-/// A call that fails has done nothing.
+/// A call that fails has no effect.
 pub trait Openings {
     /// A file that is read.
     type Input: Drop;
@@ -21,46 +21,70 @@ pub trait Openings {
     /// A file that is written.
     type Output: Drop;
 
-    /// A socket's stream.
+    /// The stream of a socket.
     type Stream: Drop;
 
-    /// What was done so far, in order, where that is known.
+    /// The operations so far, in order, if they are known.
     ghost done: { Self → Option (List Deed) } = { λ _. None };
 
-    /// Which file each path names, where that is known: none for what may have several uses.
+    /// The file that each path names, if this is known, or none for a file that may have several uses.
     ghost named: { Self → Option (List ℕ → Option (List ℕ)) } = { λ _. None };
 
-    /// Which file a path names, missing or not, as a text that is the same for all paths to it. None is
-    /// answered for what may have several uses at once.
+    /// Returns a text that identifies the file at a path, whether it exists or not: the same text for all paths to the
+    /// file. Returns `None` for a file that may have several uses at once.
+    ///
+    /// # Errors
+    ///
+    /// `Memory` if an allocation failed.
     fn file_at(&self, alloc: Global, path: &str) -> Result<Option<Text>, Memory>
         ensures { IfOk result (λ file. IfSome (named self.now) (λ name. file ≡ name path.now)) };
 
-    /// Opens a file to be read.
+    /// Opens a file for reading.
+    ///
+    /// # Errors
+    ///
+    /// The error of the system. Nothing was done then.
     fn open_read(&mut self, path: &str) -> io::Result<Self::Input>
         ensures ok { OnOk result (Adds (done self.old) (done self.new) (reads path.now ∷ [])) }
         ensures err { OnErr result (done self.new ≡ done self.old) };
 
     /// Connects to a socket.
+    ///
+    /// # Errors
+    ///
+    /// The error of the system. Nothing was done then.
     fn connect(&mut self, path: &str) -> io::Result<Self::Stream>
         ensures ok { OnOk result (Adds (done self.old) (done self.new) (connects path.now ∷ [])) }
         ensures err { OnErr result (done self.new ≡ done self.old) };
 
-    /// Makes a socket, at which one peer may connect.
+    /// Makes a socket at which one peer may connect.
+    ///
+    /// # Errors
+    ///
+    /// The error of the system. Nothing was done then.
     fn listen(&mut self, path: &str) -> io::Result<Self::Stream>
         ensures ok { OnOk result (Adds (done self.old) (done self.new) (listens path.now ∷ [])) }
         ensures err { OnErr result (done self.new ≡ done self.old) };
 
-    /// Opens a file to be written, and makes it where it is missing. What stands in it stays.
+    /// Opens a file for writing, and makes it if it is missing. Its contents stay.
+    ///
+    /// # Errors
+    ///
+    /// The error of the system. Nothing was done then.
     fn open_write(&mut self, path: &str) -> io::Result<Self::Output>
         ensures ok { OnOk result (Adds (done self.old) (done self.new) (writes path.now ∷ [])) }
         ensures err { OnErr result (done self.new ≡ done self.old) };
 
-    /// Takes away what stands in a file that was opened at a path.
+    /// Empties a file that was opened for writing at this path.
+    ///
+    /// # Errors
+    ///
+    /// The error of the system. Nothing was done then.
     fn empty(&mut self, output: &Self::Output, path: &str) -> io::Result<()>
         ensures ok { OnOk result (Adds (done self.old) (done self.new) (empties path.now ∷ [])) }
         ensures err { OnErr result (done self.new ≡ done self.old) };
 
-    /// Gives up a file that was opened to be written at a path, and removes it where it was made then.
+    /// Closes a file that was opened for writing at this path, and removes it if the opening made it.
     fn forget(&mut self, output: Self::Output, path: &str)
         ensures { done self.new ≡ done self.old };
 }

@@ -1,4 +1,4 @@
-//! Files that have two uses.
+//! Files with two uses.
 
 ghost use Rattle.std.specs.Prelude.{◌≡◌, ◌++◌, is_some, is_none, IfSome, IfOk, OnOk};
 ghost use Rattle.std.specs.List.{list_any};
@@ -10,25 +10,25 @@ use pb_frame::{Memory, Text};
 use pb_service::PortSpec;
 use std::alloc::Global;
 
-/// A use that is made of a file.
+/// A use of a file.
 #[derive(Drop)]
 pub(crate) struct FileUse {
-    /// Which file it is.
+    /// The text that identifies the file.
     pub file: Text,
-    /// Who uses it.
+    /// The user of the file.
     pub user: FileUser,
 }
 
-/// A port would write a file that has another use.
+/// A conflict: a port would write a file that has another use.
 #[derive(Clone, Copy)]
 pub(crate) struct Clash {
     /// The place in the plan, from 0, of the port that would write it.
     pub place: usize,
-    /// Who uses it too.
+    /// The other user of the file.
     pub other: FileUser,
 }
 
-/// Whether a user of a file writes it.
+/// Returns whether a user of a file writes it.
 fn writes(user: FileUser) -> bool
     ensures { result ≡ writes user }
 {
@@ -38,7 +38,7 @@ fn writes(user: FileUser) -> bool
     }
 }
 
-/// The place in the plan, from 0, of a port that uses a file.
+/// Returns the place in the plan, from 0, of a port that uses a file, and 0 for the plan itself.
 fn place_of(user: FileUser) -> usize {
     match user {
         FileUser::Reader(place) | FileUser::Writer(place) => place,
@@ -46,7 +46,7 @@ fn place_of(user: FileUser) -> usize {
     }
 }
 
-/// Two uses are of one file, and one of them writes it.
+/// Returns whether two uses are of one file and one of them writes it.
 fn is_clash(earlier: &FileUse, later: &FileUse) -> bool
     ensures { result ≡ clashes earlier.now later.now }
 {
@@ -54,7 +54,7 @@ fn is_clash(earlier: &FileUse, later: &FileUse) -> bool
     is_written && earlier.file == later.file
 }
 
-/// What is told of two uses: the later one, where it writes.
+/// Returns the conflict of two uses. The writer is the later one if that writes.
 fn clash_of(earlier: &FileUse, later: &FileUse) -> Clash {
     let (one, other) = if writes(later.user) {
         (later, earlier)
@@ -67,7 +67,7 @@ fn clash_of(earlier: &FileUse, later: &FileUse) -> Clash {
     }
 }
 
-/// A use that clashes with an earlier one, where there is one.
+/// Returns the conflict with the first later use that has one, if there is one.
 fn clash_with(earlier: &FileUse, uses: &[FileUse]) -> Option<Clash>
     ensures { is_some result ≡ list_any (clashes earlier.now) uses.now }
 {
@@ -79,7 +79,7 @@ fn clash_with(earlier: &FileUse, uses: &[FileUse]) -> Option<Clash>
     None
 }
 
-/// Two uses that clash, where there are such.
+/// Returns the first conflict among the uses, if there is one.
 fn clash_in(uses: &[FileUse]) -> Option<Clash>
     ensures { is_none result ≡ is_apart uses.now }
 {
@@ -92,7 +92,7 @@ fn clash_in(uses: &[FileUse]) -> Option<Clash>
     None
 }
 
-/// Puts the use that is made of a path behind others, where it may have no other.
+/// Appends the use of a path, unless the file there may have several uses.
 fn put_use<O: Openings>(
     alloc: Global,
     opener: &O,
@@ -109,7 +109,7 @@ fn put_use<O: Openings>(
     Ok(())
 }
 
-/// Puts the uses that a port makes of files behind others.
+/// Appends the uses that a port makes of files.
 fn put_uses<O: Openings>(
     alloc: Global,
     opener: &O,
@@ -127,7 +127,12 @@ fn put_uses<O: Openings>(
     Ok(())
 }
 
-/// A file that a port would write and that has another use, where there is one. The plan was read at its path.
+/// Returns the first conflict of the ports, if there is one: a file that a port would write and that has another use.
+/// The plan was read at `plan_path`.
+///
+/// # Errors
+///
+/// `Memory` if an allocation failed.
 pub(crate) fn find_clash<O: Openings>(
     alloc: Global,
     opener: &O,

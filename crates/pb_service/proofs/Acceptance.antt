@@ -1,4 +1,4 @@
--- What is known of a table that keeps the rules of its keys.
+-- What follows for a table that keeps the rules of its keys.
 use Rattle.std.proofs.Common.{◌≡◌, ℕ, Bool, true, false, List, [], ◌∷◌, Some, None, Option, unwrap_or, refl, subst}
 use Rattle.std.specs.Prelude.{codes}
 use Rattle.std.specs.Option.{option_map_or}
@@ -35,7 +35,7 @@ memory_keys : (kind : List ℕ) (listens : Bool) → same kind (codes "capture")
     → same kind (codes "socket") ≡ false → own_keys kind listens ≡ with_default (codes "in") Frames ∷ []
 memory_keys kind listens a b = rw (a, b)
 
--- the frames of a port in memory are hexadecimal
+-- the frames of a port in memory are hexadecimal (used by `port_spec_of`)
 pub accepted_frames : (row : Members)
     → IsAccepted (port_keys (text_at row (codes "kind")) (has_key row (codes "listen"))) row
     → same (text_at row (codes "kind")) (codes "capture") ≡ false

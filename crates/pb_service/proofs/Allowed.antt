@@ -1,4 +1,4 @@
--- The numbers that a table tells where it keeps the rules of its keys.
+-- The ranges of the numbers of a table that keeps the rules of its keys.
 use Rattle.std.proofs.Common.{◌≡◌, ℕ, ◌+◌, ◌<◌, ◌≤◌, ◌%◌, true, false, suc, min, List, [], ◌∷◌, ◌++◌, length, Option}
 use Rattle.std.proofs.Common.{Some, None, unwrap_or, refl, arith, lit≤, inl, inr}
 use Rattle.std.specs.Prelude.{nat_le, ◌==◌, ◌&&◌}
@@ -15,7 +15,7 @@ use Rattle.pb_service.specs.Values.{natural_of, rise_from, any_item, is_text}
 use Rattle.pb_service.specs.Keys.{with_default, without_default, IsTaken}
 use Rattle.pb_service.specs.Told.{number_told, items_told, naturals_in, number_from, listed_from}
 
--- a number between bounds
+-- a number within bounds
 within : (low high default highest : ℕ) (told : Option ℕ) → high ≤ highest
     → option_map_or (λ n. nat_le low n && nat_le n high) told false ≡ true
     → (low ≤ min (unwrap_or told default) highest) × (min (unwrap_or told default) highest ≤ high)
@@ -32,7 +32,7 @@ pub defaulted : (name : List ℕ) (low high default highest : ℕ) (value : Opti
 defaulted name low high default highest None a b c h = (omega arith, omega arith)
 defaulted name low high default highest (Some d) a b c h = within low high default highest (natural_of d) c h
 
--- where the default is the highest number there is, above those that the key takes
+-- a number whose default is the highest there is, above those that the key allows
 pub unlimited : (name : List ℕ) (low high highest : ℕ) (value : Option Data) → low ≤ highest → high ≤ highest
     → IsTaken (with_default name (Number low high)) value → (low ≤ number_told highest highest value)
     × (number_told highest highest value ≤ highest)
@@ -46,7 +46,7 @@ pub needed : (name : List ℕ) (low high default highest : ℕ) (value : Option 
 needed name low high default highest None c h = absurd cc
 needed name low high default highest (Some d) c h = within low high default highest (natural_of d) c h
 
--- a multiple
+-- a multiple of a step
 stepped : (step default highest : ℕ) (told : Option ℕ)
     → option_map_or (λ n. n % step == 0 && nat_le n highest) told false ≡ true
     → (min (unwrap_or told default) highest % step ≡ 0) × (min (unwrap_or told default) highest ≤ highest)
@@ -67,7 +67,7 @@ pub port_priority : (name : List ℕ) (value : Option Data) → IsTaken (with_de
 port_priority name None h = (refl, lit≤ tt)
 port_priority name (Some d) h = stepped 16 128 240 (natural_of d) h
 
--- one number more before those that rise above it
+-- a number followed by numbers that rise above it
 rises_more : (least : ℕ) (told : Option ℕ) (rest : List ℕ) → option_map_or (nat_le least) told false ≡ true
     → AllByRecursion (λ m. suc (unwrap_or told 0) ≤ m) rest × Rises rest
     → AllByRecursion (λ m. least ≤ m) (option_to_list told ++ rest) × Rises (option_to_list told ++ rest)
@@ -93,13 +93,13 @@ rises_listed : (items : Option Items) → option_map_or (rise_from 0) items fals
 rises_listed None h = tt
 rises_listed (Some ds) h = (rises_from 0 ds h).1
 
--- the numbers of lost items
+-- the numbers of lost items rise (used for soundness)
 pub losses : (name : List ℕ) (value : Option Data) → IsTaken (with_default name Losses) value
     → Rises (naturals_in (items_told value))
 losses name None h = tt
 losses name (Some d) h = rises_listed (as_array d) h
 
--- the numbers of things whose names are listed
+-- the numbers of listed things rise and are within bounds
 listed_rise : (n : ℕ) (names : List (List ℕ)) (listed : Items)
     → AllByRecursion (λ m. (n ≤ m) × (m < n + length names)) (listed_from n names listed)
     × Rises (listed_from n names listed)
@@ -125,7 +125,7 @@ listed_numbers count names listed h =
           (listed_from 1 names listed) all.0,
     )
 
--- the number of the thing with a name
+-- the number of a named thing is within bounds
 pub number_below : (n : ℕ) (names : List (List ℕ)) (name : List ℕ) (k : ℕ) → number_from n names name ≡ Some k
     → (n ≤ k) × (k < n + length names)
 number_below n [] name k e = absurd cc

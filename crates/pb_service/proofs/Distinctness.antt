@@ -1,4 +1,4 @@
--- Lists in which nothing stands twice, and one thing more.
+-- Lists without repetition, and such a list with one more thing.
 use Rattle.std.proofs.Common.{◌≡◌, ℕ, ◌+◌, ◌≤◌, Bool, true, false, List, [], ◌∷◌, ◌++◌, length, map, take}
 use Rattle.std.proofs.Common.{Some, Bor, refl, sym, ap, subst, ◌∙◌, arith}
 use Rattle.std.specs.Prelude.{slice_get, codes}
@@ -30,7 +30,7 @@ distinct_last e (x ∷ ks) k d h =
     let parts = or_parts (e x k) (list_any (λ y. e y k) ks) h in
     (All-append (λ y. e x y ≡ false) ks (k ∷ []) d.0 (parts.0, tt), distinct_last e ks k d.1 parts.1)
 
--- nothing stands twice in an empty list
+-- the empty list has no repetition
 pub distinct_none : {K : Type 0} (e : K → K → Bool) → IsDistinct e []
 unfolding IsDistinct
 distinct_none e = tt
@@ -38,7 +38,7 @@ distinct_none e = tt
 pub distinct_empty : {X K : Type 0} (e : K → K → Bool) (f : X → K) (xs : List X) → xs ≡ [] → IsDistinct e (map f xs)
 distinct_empty e f xs is = rw is (distinct_none e)
 
--- one thing more, with a key that none of the others has
+-- a list stays without repetition if the new thing has a key that none of the others has
 pub distinct_next : {X K : Type 0} (e : K → K → Bool) (f : X → K) (xs new : List X) (x : X) → IsDistinct e (map f xs)
     → list_any (λ y. e (f y) (f x)) xs ≡ false
     → new ≡ xs ++ x ∷ [] → IsDistinct e (map f new)
@@ -59,7 +59,7 @@ take_next : {X : Type 0} (xs : List X) (i : ℕ) (x : X) → slice_get xs i ≡ 
 take_next xs i x h = take_more xs i x (slice_get_within xs i x h)
     ∙ ap (λ z. take i xs ++ z ∷ []) (get_or_from_slice_get xs i x x h)
 
--- the names of the first tables, and of one more, whose name none of these has
+-- the names of the first tables stay distinct with one more name that none of them has
 pub name_next : (document : Members) (section : Section) (names : List (Bor (List ℕ))) (i : ℕ) (row : Members)
     → map (λ n. n.now) names ≡ names_of document section
     → slice_get (rows_of document section) i ≡ Some row
@@ -76,7 +76,7 @@ name_next document section names i row e at new d =
     (distinct_last same (take i (names_of document section)) name d
     (any-flip name (take i (names_of document section)) others))
 
--- the names of all tables
+-- the names of the first tables are those of all tables, once all are read
 pub names_all : (document : Members) (section : Section) (rows : List (Bor Table)) (n : ℕ) → length rows ≤ n
     → map (λ t. table_view t.now) rows ≡ rows_of document section
     → IsDistinct same (take n (names_of document section)) → IsDistinct same (names_of document section)
@@ -93,12 +93,12 @@ names_all document section rows n h e d =
 pub used_none : (used : List LocalPort) → used ≡ [] → AreUsedOnce used
 used_none used is = distinct_empty is_same_port (λ p. (p.bridge, p.port)) used is
 
--- one more port, that nothing has used
+-- local ports stay distinct with one more that isn't in use
 pub used_next : (used new : List LocalPort) (port : LocalPort) → AreUsedOnce used → is_used used port ≡ false
     → new ≡ used ++ port ∷ [] → AreUsedOnce new
 used_next used new port d h is = distinct_next is_same_port (λ p. (p.bridge, p.port)) used new port d h is
 
--- all ports of a document
+-- the local ports of links and customer ports are all that the document uses, once all tables are read
 pub ports_all : (document : Members) (rows : List (Bor Table)) (n : ℕ) (bridges : List (List ℕ))
     (first used : List LocalPort) → length rows ≤ n → map (λ t. table_view t.now) rows ≡ rows_of document Port
     → bridges ≡ names_of document Bridge

@@ -28,7 +28,7 @@ use Rattle.pb_service.specs.Refusals.{no_listed, no_time, no_memory}
 use Rattle.pb_service.proofs.Refusing.{Table, passed_on}
 use Rattle.pb_service.proofs.Allowed.{number_below}
 
--- a list has few names where its array is not too long
+-- a list of names is short if its array isn't too long
 pub few_names : (document : Members) (section : Section) (names : List (Bor (List ℕ))) → HasTables document section
     → map (λ n. n.now) names ≡ names_of document section → length names ≤ most_of section
 few_names document section names h e =
@@ -56,7 +56,7 @@ split_last : {X : Type 0} (f g : X → List LocalPort) (xs ys : List X) (i : ℕ
     → flat_map f xs ++ flat_map g ys ≡ used ++ (ports ++ flat_map g (drop (suc i) ys))
 split_last f g xs ys i y used ports at before here = rw (flat_split g ys i y at, before, here) (simp append_assoc)
 
--- the ports of one more table
+-- the local ports after one more table
 pub flat_next : (f : Members → List LocalPort) (rows : List (Bor Table)) (i : ℕ) (d x : Bor Table)
     (first used new ports : List LocalPort) → i < length rows → x ≡ get_or rows i d
     → used ≡ first ++ flat_map f (map (λ t. table_view t.now) (take i rows)) → f (table_view x.now) ≡ ports
@@ -67,7 +67,7 @@ flat_next f rows i d x first used new ports h is before here e =
     rw (← is) (append-nil (f (table_view x.now)) ∙ here) in
     rw (take_more rows i d h, map-append, flat_map-append, last) (e ∙ ap (λ z. z ++ ports) before ∙ simp append_assoc)
 
--- the ports of all tables
+-- the local ports of all tables, once all are read
 pub flat_all : (f : Members → List LocalPort) (document : Members) (section : Section) (rows : List (Bor Table))
     (n : ℕ) (used : List LocalPort) → length rows ≤ n
     → map (λ t. table_view t.now) rows ≡ rows_of document section
@@ -83,13 +83,13 @@ pub port_of_customer : (bridges services : List (List ℕ)) (row : Members) (c :
     → customer_ports bridges row ≡ record { bridge = c.bridge; port = c.port } ∷ []
 port_of_customer bridges services row c told = rw (told.bridge, ← told.port) refl
 
--- the rows that were read are the first ones
+-- the rows read first are the first rows of the document
 pub first_rows : (document : Members) (section : Section) (rows : List (Bor Table)) (i : ℕ)
     → map (λ t. table_view t.now) rows ≡ rows_of document section
     → map (λ t. table_view t.now) (take i rows) ≡ take i (rows_of document section)
 first_rows document section rows i e = sym (take-map (λ t. table_view t.now) i rows) ∙ ap (take i) e
 
--- an end of a link is used already
+-- a link with an end at a port in use refuses the document
 pub ends_refused : (document row : Members) (i : ℕ) (services : List (List ℕ)) (l : LinkPlan) (used : List LocalPort)
     (e : PlanFault)
     → slice_get (rows_of document Link) i ≡ Some row → IsLinkOf (names_of document Bridge) services row l
@@ -120,7 +120,7 @@ ends_refused document row i services l used e at told before (inr (t, twice)) =
           })
     ])
 
--- a customer port is used already
+-- a customer port at a port in use refuses the document
 pub port_refused : (document row : Members) (i : ℕ) (services : List (List ℕ)) (c : CustomerPlan)
     (used : List LocalPort) (e : PlanFault)
     → slice_get (rows_of document Port) i ≡ Some row → IsCustomerOf (names_of document Bridge) services row c
@@ -138,7 +138,7 @@ port_refused document row i services c used e at told before (inr (t, twice)) =
     let low : 1 ≤ c.bridge = (number_below 1 (names_of document Bridge) _ c.bridge told.bridge).0 in
     rw t (used_twice document p (record { before = used; behind = rest; stands = whole; again = twice; bridge = low }))
 
--- a link names what isn't there
+-- a link that names something unknown refuses the document
 pub link_refused : (document row : Members) (i : ℕ) (e : PlanFault) → slice_get (rows_of document Link) i ≡ Some row
     → LinkLacks (names_of document Bridge) (names_of document Service) row e → Refuses document e
 link_refused document row i e at (inl m) = rw m (no_memory document)
@@ -151,7 +151,7 @@ link_refused document row i e at (inr (inr (inl (name, t, h)))) =
 link_refused document row i e at (inr (inr (inr (name, t, h)))) =
     rw t (no_listed document i row (codes "b_services") name at refl h.stands h.unknown)
 
--- a customer port names what isn't there
+-- a customer port that names something unknown refuses the document
 pub customer_refused : (document row : Members) (i : ℕ) (e : PlanFault) → slice_get (rows_of document Port) i ≡ Some row
     → CustomerLacks (names_of document Bridge) (names_of document Service) row e → Refuses document e
 customer_refused document row i e at (inl m) = rw m (no_memory document)
@@ -159,7 +159,7 @@ customer_refused document row i e at (inr (inl (t, none))) =
     rw t (no_bridge document Port i row (codes "bridge") at refl none)
 customer_refused document row i e at (inr (inr (t, none))) = rw t (no_service document i row at none)
 
--- the same with lists that are the names of the document
+-- the same for lists that equal the names of the document
 pub link_passed : {X : Type 0} (document row : Members) (bridges services : List (List ℕ)) (i : ℕ)
     (r : Result X PlanFault) (e : PlanFault)
     → bridges ≡ names_of document Bridge → services ≡ names_of document Service
@@ -201,7 +201,7 @@ port_passed document row bridges services i c links used r e eb at told el befor
     passed_on (Refuses document) r e p
     (port_refused document row i services c used e at (rw (← eb) told) (rw (← el, ← eb) before) h)
 
--- a customer port tells the time of day by no clock
+-- a capture with the time of day and without a clock refuses the document
 stamp_refused : (document row : Members) (i : ℕ) (e : PlanFault) → slice_get (rows_of document Port) i ≡ Some row
     → RefusesStamp (network_limits document) i row e → Refuses document e
 stamp_refused document row i e at (inl m) = rw m (no_memory document)
@@ -222,7 +222,7 @@ pub specs_whole : (document : Members) (limits : Limits) (specs : List PortSpec)
 specs_whole document limits specs el z = subst (λ (l : Limits). AllZip (IsPortSpecOf l) (rows_of document Port) specs)
     el z
 
--- all links, and all customer ports, by the names of the document
+-- all links, and all customer ports, with the names of the document
 pub links_whole : (document : Members) (bridges services : List (List ℕ)) (ls : List LinkPlan)
     → bridges ≡ names_of document Bridge → services ≡ names_of document Service
     → AllZip (IsRead (IsLinkOf bridges services) link_keys) (rows_of document Link) ls

@@ -1,4 +1,4 @@
--- Events, and refusals of them.
+-- The events of a document, and when one is refused.
 use Rattle.std.proofs.Common.{◌≡◌, ℕ, List, Some, Result, Err, IfErr}
 use Rattle.std.specs.Prelude.{slice_get}
 use Rattle.std.specs.List.{AllZip}
@@ -13,7 +13,7 @@ use Rattle.pb_service.specs.Refusals.{Refuses, RefusesEvent, ends_told, names_of
 use Rattle.pb_service.specs.Tables.{IsRead}
 use Rattle.pb_service.specs.Told.{rows_of}
 
--- the fault of an event is handed on
+-- the fault of an event refuses the document (used by `read_events`)
 pub event_passed : {X : Type 0} (document : Members) (bridges : List (List ℕ)) (ends : List LocalPort) (index : ℕ)
     (row : Members) (r : Result X PlanFault) (e : PlanFault)
     → bridges ≡ names_of document Bridge → ends ≡ ends_told document
@@ -22,7 +22,7 @@ pub event_passed : {X : Type 0} (document : Members) (bridges : List (List ℕ))
 event_passed document bridges ends index row r e names told at p h =
     rw (p.1, p.2) (in_event document index row e at (rw (← told, ← names) h))
 
--- the events of all tables
+-- the events of all tables, with the names and ends of the document (used by `read_events`)
 pub events_whole : (document : Members) (bridges : List (List ℕ)) (ends : List LocalPort) (events : List PortEvent)
     → bridges ≡ names_of document Bridge → ends ≡ ends_told document
     → AllZip (IsRead (IsEventOf bridges ends) event_keys) (rows_of document Event) events

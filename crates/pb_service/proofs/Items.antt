@@ -1,4 +1,4 @@
--- Lists of values, and the data that they stand for.
+-- Lists of values, and the data that they denote.
 use Rattle.std.proofs.Common.{◌≡◌, ℕ, ◌+◌, ◌<◌, ◌≤◌, Bool, true, false, zero, suc, List, [], ◌∷◌, ◌++◌, inl, inr}
 use Rattle.std.proofs.Common.{length, get_or, drop, Option, Some, None, unwrap_or, arith}
 use Rattle.std.proofs.lemmas.Bool.{cases_Bool, false≢true}
@@ -37,7 +37,7 @@ any_at test (v ∷ vs) (suc i) d x h is t =
       | inr other ↦ rw (other, any_at test vs i d x (omega arith) is t)
     ]
 
--- what each item passes, one of them does
+-- a test that all items pass holds of the item at an index
 all_at : (test : Data → Bool) (vs : List Value) (i : ℕ) (d x : Value) → all_items test (items_view vs) ≡ true
     → i < length vs → x ≡ get_or vs i d → test (view x) ≡ true
 all_at test [] i d x a h is = absurd (omega arith)
@@ -50,7 +50,7 @@ text_passes : (test : List ℕ → Bool) (text : Option (List ℕ)) → option_m
 text_passes test None h = absurd (false≢true h)
 text_passes test (Some t) h = h
 
--- one of hexadecimal texts
+-- the item at an index is hexadecimal if all are (used by `frames_of`)
 pub hex_at : (vs : List Value) (i : ℕ) (d x : Value) (t : List ℕ) → all_items (is_text is_hex) (items_view vs) ≡ true
     → i < length vs → x ≡ get_or vs i d → t ≡ text_in (view x) → is_hex t ≡ true
 hex_at vs i d x t a h is et = rw et (text_passes is_hex (as_str (view x)) (all_at (is_text is_hex) vs i d x a h is))

@@ -1,4 +1,4 @@
--- Keys of tables.
+-- The keys of tables.
 use Rattle.std.proofs.Common.{◌≡◌, ℕ, ◌<◌, List, [], ◌∷◌, zero, suc, length, get_or, Option, option_map, refl, arith}
 use Rattle.std.proofs.Common.{string_bytes, inl, inr}
 use Rattle.std.specs.Prelude.{find, not, ◌⊎◌}
@@ -17,7 +17,8 @@ use Rattle.pb_service.specs.Sections.{path_at}
 use Rattle.pb_service.specs.Keys.{KeyRule, rule_of, rules_of, is_known, first_unknown, SomeOf, IsRefused, RefusesKey}
 use Rattle.pb_service.specs.Keys.{RefusesRow, fault_of}
 
--- the first unknown key of a map is that of its members
+-- the first unknown key that a search in the map finds is that of the definition (used by `unknown_key` and
+-- `unknown_top`)
 pub first_unknown-find : (names : List (List ℕ)) (es : List Entry)
     → option_map string_bytes (find (λ key. not (is_known names (string_bytes key))) (keys_of es)) ≡ first_unknown
     names (members_view es)
@@ -28,14 +29,14 @@ first_unknown-find names (e ∷ es) =
       | inr other ↦ rw other
     ]
 
--- a fact of one key by its index
+-- a fact of the key at an index is a fact of one of the keys (used by `check_keys`)
 pub some_at : (P : KeyRule → Type 0) (keys : List Key) (i : ℕ) (d : Key) → i < length keys
     → P (rule_of (get_or keys i d)) → SomeOf P (rules_of keys)
 some_at P [] i d h p = absurd (omega arith)
 some_at P (k ∷ ks) zero d h p = inl p
 some_at P (k ∷ ks) (suc i) d h p = inr (some_at P ks i d (omega arith) p)
 
--- the fault that is told of a refused key
+-- the fault of a refused key refuses its table (used by `check_keys`)
 pub refuses_told : (keys : List KeyRule) (key_table : KeyTable) (row : Members) (f : KeyFault) (path : List ℕ) (e : PlanFault)
     → RefusesKey keys key_table row f path → (e ≡ Memory) ⊎ (e ≡ fault_of f path) → RefusesRow keys key_table row e
 refuses_told keys key_table row Missing path e h (inl m) = rw m tt

@@ -1,4 +1,4 @@
--- The numbers of listed names, one name after another.
+-- The numbers of listed names, name by name, for the loop of `numbers_among`.
 use Rattle.std.proofs.Common.{◌≡◌, ℕ, ◌+◌, ◌<◌, true, false, List, [], ◌∷◌, ◌++◌, length, get_or, drop, map, Bor}
 use Rattle.std.proofs.Common.{append_assoc}
 use Rattle.std.proofs.lemmas.List.{drop_more}

@@ -1,4 +1,4 @@
--- Refusals of documents.
+-- Refusals of documents, as the readers of tables need them.
 use Rattle.std.proofs.Common.{◌≡◌, ℕ, ◌<◌, true, List, length, get_or, map, take, Some, Result}
 use Rattle.std.proofs.Common.{Ok, Err, IfErr, Bor, BTreeMap, Global, String, sym, ap, ◌∙◌, inl, inr}
 use Rattle.std.specs.Prelude.{◌⊎◌, slice_get, codes}
@@ -17,7 +17,7 @@ use Rattle.pb_service.specs.Tables.{text_at, is_one_of}
 use Rattle.pb_service.specs.Refusals.{Refuses, RefusesNetwork, RefusesTable, names_of, no_memory, in_network}
 use Rattle.pb_service.specs.Refusals.{in_table, same_name}
 
--- memory ran out, or the fault is one that the document has
+-- an allocation failed, or the document has the fault
 pub either : (document : Members) (e f : PlanFault) → (e ≡ Memory) ⊎ (e ≡ f) → Refuses document f → Refuses document e
 either document e f (inl m) h = rw m (no_memory document)
 either document e f (inr t) h = rw t h
@@ -28,7 +28,7 @@ pub network_refused : (document row : Members) (r : Result NetworkValue PlanFaul
 network_refused document row (Ok n) e h = tt
 network_refused document row (Err f) e h = in_network document f (rw (← e) h)
 
--- the table at an index
+-- a table, as the document's map has it
 abbrev pub Table : Type 0
 Table = BTreeMap (String Global) Value
 
@@ -46,7 +46,7 @@ table_refused document section names i row e en at (inl keys) = in_table documen
 table_refused document section names i row e en at (inr (told, again)) =
     rw told (same_name document section i row at (rw (← en) again))
 
--- what a `?` hands on
+-- the fault that a `?` returns
 pub passed_on : {X : Type 0} (P : PlanFault → Type 0) (r : Result X PlanFault) (e : PlanFault)
     → ((y : PlanFault) × (r ≡ Err y) × (y ≡ e)) → P e → IfErr r P
 passed_on P r e p h = rw (p.1, p.2) h
@@ -55,7 +55,7 @@ pub long_rows : (document : Members) (section : Section) (rows : List (Bor Table
     → map (λ t. table_view t.now) rows ≡ rows_of document section → length (rows_of document section) ≡ length rows
 long_rows document section rows e = rw (← e) (length-map rows (λ t. table_view t.now))
 
--- the fault of a table is handed on
+-- the fault of a table refuses the document
 pub table_passed : {X : Type 0} (document : Members) (section : Section) (names : List (List ℕ)) (i : ℕ)
     (row : Members) (r : Result X PlanFault) (e : PlanFault)
     → names ≡ names_of document section → slice_get (rows_of document section) i ≡ Some row
@@ -63,12 +63,12 @@ pub table_passed : {X : Type 0} (document : Members) (section : Section) (names 
 table_passed document section names i row r e en at p h =
     rw (p.1, p.2) (table_refused document section names i row e en at h)
 
--- want of memory is handed on
+-- a failed allocation refuses the document
 pub memory_passed : {X : Type 0} (document : Members) (r : Result X PlanFault) (e : PlanFault)
     → ((y : PlanFault) × (r ≡ Err y) × (y ≡ e)) → e ≡ Memory → IfErr r (Refuses document)
 memory_passed document r e p m = rw (p.1, p.2, m) (no_memory document)
 
--- the name of a table is one of those before it
+-- the table has the name of an earlier one (used by `check_row`)
 pub name_again : (section : Section) (names : List (Bor (List ℕ))) (index : ℕ) (row : Members) (name : List ℕ)
     (e : PlanFault) → name ≡ text_at row (codes "name")
     → (e ≡ Memory) ⊎ (e ≡ Twice name) → is_one_of (map (λ n. n.now) (take index names)) name ≡ true

@@ -1,4 +1,4 @@
--- The plan of a document that repeats nothing is sound.
+-- The plan of a document without repetitions is sound.
 use Rattle.std.proofs.Common.{◌≡◌, ℕ, ◌≤◌, ◌%◌, List, [], ◌∷◌, ◌++◌, length, map, take, Option, Some, None}
 use Rattle.std.proofs.Common.{IfSome, refl, sym, ap, subst, ◌∙◌, arith, length-take}
 use Rattle.std.specs.Prelude.{codes, nat_eq}
@@ -37,7 +37,7 @@ use Rattle.pb_service.proofs.Ends.{ends_of_link, port_of_customer}
 use Rattle.pb_service.proofs.Allowed.{defaulted, unlimited, needed, bridge_priority, port_priority, losses}
 use Rattle.pb_service.proofs.Allowed.{listed_numbers, named_number}
 
--- neither names nor addresses, VIDs or ports stand twice
+-- names, addresses, VIDs and local ports are distinct
 pub record RepeatsNothing (document : Members) (plan : Plan) : Type 0 where
   pub bridge_names : IsDistinct same (names_of document Bridge)
   pub link_names : IsDistinct same (names_of document Link)
@@ -54,7 +54,7 @@ zip_each R P [] (y ∷ ys) f z = absurd z
 zip_each R P (x ∷ xs) [] f z = absurd z
 zip_each R P (x ∷ xs) (y ∷ ys) f z = (f x y z.0, zip_each R P xs ys f z.1)
 
--- what things and their tables have in common
+-- if each thing has the same attribute as its table, the lists of attributes are the same
 zip_same : {A B C : Type 0} (R : A → B → Type 0) (f : A → C) (g : B → C) (xs : List A) (ys : List B)
     → ((x : A) (y : B) → R x y → g y ≡ f x) → AllZip R xs ys → map g ys ≡ map f xs
 zip_same R f g [] [] h z = refl
@@ -70,7 +70,7 @@ zip_names : {X : Type 0} (R : Members → X → Type 0) (name : X → List ℕ) 
 zip_names R name document section xs h z d = subst (IsDistinct same)
     (sym (zip_same R (λ row. text_at row (codes "name")) name (rows_of document section) xs h z)) d
 
--- as many names as things
+-- there are as many names of tables as things
 zip_count : {X : Type 0} (R : Members → X → Type 0) (document : Members) (section : Section) (xs : List X)
     → AllZip R (rows_of document section) xs → length (names_of document section) ≡ length xs
 zip_count R document section xs z = length-map (rows_of document section) (λ r. text_at r (codes "name"))
@@ -173,7 +173,7 @@ limits_sound document plan specs p =
           keys.1.0);
     }
 
--- the ports of links and customer ports, as their tables tell them
+-- the local ports of links, and those of customer ports, are the ones that their tables give
 link_ports_told : (bridges services : List (List ℕ)) (rows : List Members) (ls : List LinkPlan)
     → AllZip (IsRead (IsLinkOf bridges services) link_keys) rows ls
     → map {B = ℕ × ℕ} (λ p. (p.bridge, p.port)) (flat_map (link_ports bridges) rows) ≡ map {B = ℕ × ℕ}

@@ -1,4 +1,4 @@
--- A text tells one address.
+-- A text denotes at most one address.
 use Rattle.std.proofs.Common.{◌≡◌, ℕ, ◌+◌, ◌*◌, ◌/◌, ◌%◌, List, arith}
 use Rattle.std.specs.Prelude.{slice_index}
 use Rattle.pb_frame.specs.Frames.{is_group}

@@ -1,4 +1,4 @@
--- Tables beside what they tell.
+-- Tables paired with what they describe.
 use Rattle.std.proofs.Common.{◌≡◌, ℕ, ◌+◌, ◌<◌, ◌≤◌, Bool, true, List, [], ◌∷◌, ◌++◌, length, get_or, map, take, Bor}
 use Rattle.std.proofs.Common.{inl, inr}
 use Rattle.std.proofs.lemmas.Bool.{cases_Bool, false≢true}
@@ -12,7 +12,7 @@ use Rattle.pb_service.specs.Keys.{SomeOf}
 use Rattle.pb_service.specs.Told.{rows_of}
 use Rattle.pb_service.proofs.Refusing.{Table}
 
--- one more table
+-- the pairing with one more table
 pub zip_next : {A B : Type 0} (R : A → B → Type 0) (xs : List A) (i : ℕ) (d x : A) (ys new : List B) (y : B)
     → i < length xs → x ≡ get_or xs i d → AllZip R (take i xs) ys → R x y
     → new ≡ ys ++ y ∷ [] → AllZip R (take (i + 1) xs) new
@@ -26,7 +26,7 @@ zip_map R f [] (y ∷ ys) z = absurd z
 zip_map R f (x ∷ xs) [] z = absurd z
 zip_map R f (x ∷ xs) (y ∷ ys) z = (z.0, zip_map R f xs ys z.1)
 
--- all tables of an array
+-- the pairing with all tables of an array, once all are read
 pub zip_all : {X : Type 0} (R : Members → X → Type 0) (document : Members) (section : Section)
     (rows : List (Bor Table)) (n : ℕ) (xs : List X) → length rows ≤ n
     → map (λ r. table_view r.now) rows ≡ rows_of document section
@@ -52,7 +52,7 @@ some_map P f [] h = absurd h
 some_map P f (x ∷ xs) (inl h) = inl h
 some_map P f (x ∷ xs) (inr h) = inr (some_map P f xs h)
 
--- what an earlier thing passes, its table does
+-- a test that an earlier thing passes gives the fact of its table (used for addresses and VIDs that occur twice)
 pub earlier : {X : Type 0} (R : Members → X → Type 0) (P : Members → Type 0) (p : X → Bool) (document : Members)
     (section : Section) (rows : List (Bor Table)) (i : ℕ) (xs : List X)
     → map (λ r. table_view r.now) rows ≡ rows_of document section

@@ -7,7 +7,7 @@ use Rattle.pb_service.specs.Tables.{number_at, text_at}
 use Rattle.pb_service.specs.Told.{flag_told, number_from}
 use Rattle.pb_service.specs.UsedPorts.{is_used}
 
--- the event that a table tells, among bridges of these names; at its port a link ends
+-- the event that a table describes, among bridges of these names, at a port at which a link ends
 pub record IsEventOf (bridges : List (List ℕ)) (ends : List LocalPort) (row : Members) (e : PortEvent) : Type 0 where
   pub at : e.at ≡ number_at row (codes "at") 0 4294967295
   pub bridge : number_from 1 bridges (text_at row (codes "bridge")) ≡ Some e.bridge

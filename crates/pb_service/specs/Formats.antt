@@ -26,7 +26,7 @@ network_keys =
     ∷ with_default (codes "prompt") Flag
     ∷ []
 
--- of a bridge
+-- the keys of a bridge
 abbrev pub bridge_keys : List KeyRule
 bridge_keys =
     without_default (codes "name") Name
@@ -35,7 +35,7 @@ bridge_keys =
     ∷ with_default (codes "queue") (Number 1 4096)
     ∷ []
 
--- of a link
+-- the keys of a link
 abbrev pub link_keys : List KeyRule
 link_keys =
     without_default (codes "name") Name
@@ -55,14 +55,15 @@ link_keys =
     ∷ with_default (codes "lost_ba") Losses
     ∷ []
 
--- of a service
+-- the keys of a service
 abbrev pub service_keys : List KeyRule
 service_keys =
     without_default (codes "name") Name
     ∷ without_default (codes "vid") (Number 1 4094)
     ∷ []
 
--- of a customer port of each kind, with those that they share before them. One over a socket listens, or connects
+-- the keys of one kind of customer port alone, of which a port over a socket has the path at which it listens or to
+-- which it connects
 abbrev pub own_keys : List ℕ → Bool → List KeyRule
 own_keys kind listens =
     if same kind (codes "capture") then without_default (codes "read") Path ∷ without_default (codes "write") Path ∷ with_default (codes "stamp") Stamp ∷ []
@@ -70,6 +71,7 @@ own_keys kind listens =
     else with_default (codes "in") Frames ∷ []
 
 abbrev pub port_keys : List ℕ → Bool → List KeyRule
+-- the keys of one kind of customer port: those of every kind, followed by its own
 port_keys kind listens =
     without_default (codes "name") Name
     ∷ without_default (codes "bridge") Name
@@ -80,7 +82,7 @@ port_keys kind listens =
     ∷ with_default (codes "kind") PortKind
     ∷ own_keys kind listens
 
--- of an event
+-- the keys of an event
 abbrev pub event_keys : List KeyRule
 event_keys =
     without_default (codes "at") (Number 0 4294967295)
@@ -89,7 +91,7 @@ event_keys =
     ∷ without_default (codes "up") Flag
     ∷ []
 
--- of a table of an array
+-- the keys of a table of an array
 abbrev pub keys_of : Section → Members → List KeyRule
 keys_of Bridge row = bridge_keys
 keys_of Link row = link_keys

@@ -1,4 +1,4 @@
--- When a key of a table is taken, and when it is refused.
+-- When a key of a table is accepted, and when it is refused.
 use Rattle.std.specs.Prelude.{◌≡◌, ℕ, Bool, true, false, List, [], ◌∷◌, map, ◌⊎◌, Some, None, if◌then◌else◌}
 use Rattle.std.specs.declared.option.Option.{Option}
 use Rattle.std.specs.List.{AllByRecursion, list_any}
@@ -14,7 +14,7 @@ use Rattle.pb_service.specs.declared.section.KeyTable.{KeyTable}
 use Rattle.pb_service.specs.Sections.{path_at}
 use Rattle.pb_service.specs.Values.{is_of_kind, IsAllowed}
 
--- a key of a table: its name, whether it must be there, and what it may hold
+-- a key of a table: its name, whether it must be present, and the rule for its value
 pub record KeyRule : Type 0 where
   pub name : List ℕ
   pub needed : Bool
@@ -32,23 +32,23 @@ rule_of key = record { name = key.name.now; needed = key.needed; rule = key.rule
 abbrev pub rules_of : List Key → List KeyRule
 rules_of keys = map rule_of keys
 
--- what stands at the key is taken: nothing where there is a default, or a value that is allowed
+-- the value at the key is accepted: it is allowed, or it is missing and has a default
 abbrev pub IsTaken : KeyRule → Option Data → Type 0
 IsTaken key None = key.needed ≡ false
 IsTaken key (Some d) = IsAllowed key.rule d
 
--- what stands at the key is refused
+-- the value at the key is refused for this reason
 abbrev pub IsRefused : KeyRule → Option Data → KeyFault → Type 0
 IsRefused key None missing = key.needed ≡ true
 IsRefused key (Some d) kind = is_of_kind key.rule d ≡ false
 IsRefused key (Some d) range = (is_of_kind key.rule d ≡ true) × (IsAllowed key.rule d → ⊥)
 IsRefused key value fault = ⊥
 
--- the table has one of the keys
+-- one of the names is this key
 abbrev pub is_known : List (List ℕ) → List ℕ → Bool
 is_known names key = list_any (same key) names
 
--- the first key of a table that isn't one of those that are known
+-- the first key of a table that isn't one of the known names
 abbrev pub first_unknown : List (List ℕ) → Members → Option (List ℕ)
 first_unknown names no_members = None
 first_unknown names (member key d members) = if is_known names key then first_unknown names members else Some key
@@ -56,27 +56,27 @@ first_unknown names (member key d members) = if is_known names key then first_un
 abbrev pub names_of : List KeyRule → List (List ℕ)
 names_of keys = map (λ k. k.name) keys
 
--- each key of the table is taken, and it has no others
+-- each key of the table is accepted, and the table has no other keys
 pub record IsAccepted (keys : List KeyRule) (row : Members) : Type 0 where
   pub taken : AllByRecursion (λ k. IsTaken k (get_member k.name row)) keys
   pub known : first_unknown (names_of keys) row ≡ None
 
--- the fault of a key, told with a path
+-- the fault of a key, with its path
 abbrev pub fault_of : KeyFault → List ℕ → PlanFault
 fault_of missing path = Missing path
 fault_of kind path = Kind path
 fault_of range path = Range path
 
--- a fact of one of the things
+-- the fact holds of one of the things
 abbrev pub SomeOf : {X : Type 0} → (X → Type 0) → List X → Type 0
 SomeOf P [] = ⊥
 SomeOf P (x ∷ xs) = P x ⊎ SomeOf P xs
 
--- one of the keys is refused in this way, and the path is that key's
+-- one of the keys is refused for this reason, and the path is that of the key
 abbrev pub RefusesKey : List KeyRule → KeyTable → Members → KeyFault → List ℕ → Type 0
 RefusesKey keys key_table row fault path = SomeOf (λ k. IsRefused k (get_member k.name row) fault × (path ≡ path_at key_table k.name)) keys
 
--- the table breaks a rule of its keys, in the way that the fault tells
+-- the table breaks the rule of its keys that the fault names
 abbrev pub RefusesRow : List KeyRule → KeyTable → Members → PlanFault → Type 0
 RefusesRow keys key_table row (Missing path) = RefusesKey keys key_table row missing path
 RefusesRow keys key_table row (Kind path) = RefusesKey keys key_table row kind path

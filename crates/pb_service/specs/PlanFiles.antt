@@ -1,4 +1,4 @@
--- What a plan file tells, and when it is refused.
+-- The contents of a plan file, and when a file is refused.
 use Rattle.std.specs.Prelude.{◌≡◌, ◌⊎◌, ℕ, codes, true, false, List, Some, None}
 use Rattle.std.specs.List.{AllZip}
 use Rattle.std.specs.Str.{IsUtf8}
@@ -20,14 +20,15 @@ use Rattle.pb_service.specs.Clocks.{has_two_clocks, holds_forever, is_vainly_pro
 use Rattle.pb_service.specs.Tables.{number_at, text_at, prompt_told, limits_told, IsRead, IsReadPort, IsBridgeOf, IsLinkOf, IsServiceOf, IsCustomerOf, IsPortSpecOf}
 use Rattle.pb_service.specs.Refusals.{Refuses, HasTables, ends_told, is_table, names_of}
 
--- the table of the network; an empty one where there is none
+-- the table of the network, or an empty one if the document has none
 abbrev pub network_row : Members → Members
 network_row document = table_told (get_member (codes "network") document)
 
--- under the key of the network stands nothing, or a table
+-- the document has a table at the key of the network, or nothing
 abbrev pub HasNetworkTable : Members → Type 0
 HasNetworkTable document = is_table (get_member (codes "network") document) ≡ true
 
+-- the parts of the plan that the table of the network determines
 pub record TellsNetwork (row : Members) (plan : Plan) : Type 0 where
   pub keys : IsAccepted network_keys row
   pub spanning : plan.spanning ≡ spanning_of (text_at row (codes "spanning"))
@@ -37,19 +38,20 @@ pub record TellsNetwork (row : Members) (plan : Plan) : Type 0 where
   pub ring : plan.ring ≡ number_at row (codes "ring") 64 4096
   pub steps : plan.steps ≡ number_at row (codes "steps") 18446744073709551615 18446744073709551615
 
--- the limits of a run that a document tells: bridges tick by one clock at most, and frames are held back only where one ticks
+-- the limits of a run that a document gives: bridges tick by one clock at most, and frames are held only if a clock
+-- ticks
 pub record AreLimitsOf (document : Members) (limits : Limits) : Type 0 where
   pub network_table : HasNetworkTable document
   pub told : limits ≡ limits_told (network_row document)
   pub one_clock : has_two_clocks limits ≡ false
   pub some_clock : holds_forever limits ≡ false
 
--- the events that a document tells
+-- the events of a document, one for each of its tables
 pub record AreEventsOf (document : Members) (events : List PortEvent) : Type 0 where
   pub tables : HasTables document Event
   pub told : AllZip (IsRead (IsEventOf (names_of document Bridge) (ends_told document)) event_keys) (rows_of document Event) events
 
--- the plan that a document tells, table by table, and what its customer ports are
+-- the plan of a document, table by table, and the kind of each customer port
 pub record IsPlanOf (document : Members) (plan : Plan) (specs : List PortSpec) : Type 0 where
   pub top : first_unknown top_keys document ≡ None
   pub network_table : HasNetworkTable document
@@ -64,15 +66,15 @@ pub record IsPlanOf (document : Members) (plan : Plan) (specs : List PortSpec) :
   pub customers : AllZip (IsReadPort (IsCustomerOf (names_of document Bridge) (names_of document Service))) (rows_of document Port) plan.customers
   pub ports : AllZip (IsPortSpecOf (limits_told (network_row document))) (rows_of document Port) specs
 
--- the file is a document of which the fact holds
+-- the file is a TOML document with this property
 abbrev pub Tells : List ℕ → (Members → Type 0) → Type 0
 Tells file P = (document : Members) × (parse_document file ≡ Some document) × P document
 
--- the file tells a sound plan
+-- the file contains a sound plan
 abbrev pub IsPlanFile : List ℕ → Type 0
 IsPlanFile file = (plan : Plan) × (specs : List PortSpec) × Tells file (λ document. IsPlanOf document plan specs) × IsSound plan
 
--- the file breaks a rule, in the way that the fault tells
+-- the file breaks the rule that the fault names
 abbrev pub RefusesFile : List ℕ → PlanFault → Type 0
 RefusesFile file Utf8 = IsUtf8 file → ⊥
 RefusesFile file Toml = parse_document file ≡ None

@@ -1,4 +1,4 @@
--- When a document is refused, and why.
+-- When a document is refused, and with which fault.
 use Rattle.std.specs.Prelude.{◌≡◌, ◌≤◌, ◌<◌, ◌⊎◌, ℕ, codes, Bool, true, false, ◌||◌, List, [], ◌∷◌, ◌++◌, length, take, slice_get, is_some, Some, None, unwrap_or}
 use Rattle.std.specs.declared.option.Option.{Option}
 use Rattle.std.specs.Fmt.{decimal}
@@ -23,15 +23,15 @@ use Rattle.pb_service.specs.Told.{rows_of, names_in, number_from, table_told, sp
 use Rattle.pb_service.specs.Clocks.{lacks_time, RefusesClocks, RefusesPrompt}
 use Rattle.pb_service.specs.Tables.{number_at, text_at, items_at, is_one_of, limits_told, prompt_told}
 
--- nothing, or a table
+-- there is no value, or it is a table
 abbrev pub is_table : Option Data → Bool
 is_table value = option_map_or (λ d. is_some (as_table d)) value true
 
--- nothing, or an array of tables
+-- there is no value, or it is an array of tables
 abbrev pub is_array_of_tables : Option Data → Bool
 is_array_of_tables value = option_map_or (is_list (all_items (λ d. is_some (as_table d)))) value true
 
--- there is nothing or an array of tables, not too many
+-- the document has an array of tables at the key, or nothing, and the tables are not too many
 pub record HasTables (document : Members) (section : Section) : Type 0 where
   pub tables : is_array_of_tables (get_member (word_of section) document) ≡ true
   pub few : length (rows_of document section) ≤ most_of section
@@ -50,7 +50,7 @@ names_bridge section key = false
 abbrev pub lists_services : List ℕ → Bool
 lists_services key = same key (codes "a_services") || same key (codes "b_services")
 
--- the local port of a bridge that two keys of a table tell
+-- the local port that two keys of a table give, one for the bridge and one for the number
 abbrev pub port_told : List (List ℕ) → Members → List ℕ → List ℕ → LocalPort
 port_told bridges row bridge port = record { bridge = unwrap_or (number_from 1 bridges (text_at row bridge)) 0; port = number_at row port 0 16 }
 
@@ -60,27 +60,27 @@ link_ports bridges row = port_told bridges row (codes "a") (codes "a_port") ∷ 
 abbrev pub customer_ports : List (List ℕ) → Members → List LocalPort
 customer_ports bridges row = port_told bridges row (codes "bridge") (codes "port") ∷ []
 
--- the local ports that a document uses, in order
+-- the local ports that a document uses, those of links first
 abbrev pub ports_told : Members → List LocalPort
 ports_told document =
     flat_map (link_ports (names_of document Bridge)) (rows_of document Link)
     ++ flat_map (customer_ports (names_of document Bridge)) (rows_of document Port)
 
--- the ports at which the links of a document end
+-- the local ports at which the links of a document end
 abbrev pub ends_told : Members → List LocalPort
 ends_told document = flat_map (link_ports (names_of document Bridge)) (rows_of document Link)
 
--- the key of a table names nothing
+-- the key of a table names something that doesn't exist
 abbrev pub LacksName : List (List ℕ) → Members → List ℕ → PlanFault → Type 0
 LacksName names row key fault = (fault ≡ NoSuch (text_at row key)) × (number_from 1 names (text_at row key) ≡ None)
 
--- an event breaks a rule of its keys, or names a bridge that isn't there, or a port at which no link ends
+-- an event breaks a rule of its keys, names a bridge that doesn't exist, or a port at which no link ends
 abbrev pub RefusesEvent : List (List ℕ) → List LocalPort → ℕ → Members → PlanFault → Type 0
 RefusesEvent bridges ends index row fault =
     (fault ≡ Memory) ⊎ (RefusesRow event_keys (Row Event index) row fault ⊎ (LacksName bridges row (codes "bridge") fault
     ⊎ ((fault ≡ Range (path_at (Row Event index) (codes "port"))) × (is_used ends (port_told bridges row (codes "bridge") (codes "port")) ≡ false))))
 
--- a local port of a bridge that is there stands again behind the first time
+-- a local port of an existing bridge occurs a second time in the list
 pub record UsesTwice (ports : List LocalPort) (port : LocalPort) : Type 0 where
   pub before : List LocalPort
   pub behind : List LocalPort
@@ -88,17 +88,17 @@ pub record UsesTwice (ports : List LocalPort) (port : LocalPort) : Type 0 where
   pub again : is_used before port ≡ true
   pub bridge : 1 ≤ port.bridge
 
--- the table of the network breaks a rule of its keys, or its keys don't go together
+-- the table of the network breaks a rule of its keys, or its keys contradict each other
 abbrev pub RefusesNetwork : Members → PlanFault → Type 0
 RefusesNetwork row fault =
     RefusesRow network_keys Network row fault
     ⊎ (RefusesClocks (limits_told row) fault ⊎ RefusesPrompt (spanning_of (text_at row (codes "spanning"))) (prompt_told row) fault)
 
--- the limits of a run that the document tells
+-- the limits of a run that the document gives
 abbrev pub network_limits : Members → Limits
 network_limits document = limits_told (table_told (get_member (codes "network") document))
 
--- the document breaks a rule, in the way that the fault tells
+-- the document breaks the rule that the fault names
 pub data Refuses : Members → PlanFault → Type 0 where
   other_key : (document : Members) (key : List ℕ) → first_unknown top_keys document ≡ Some key → Refuses document (Unknown key)
   no_network : (document : Members) (d : Data) → get_member (codes "network") document ≡ Some d → as_table d ≡ None → Refuses document (Kind (codes "network"))
@@ -134,13 +134,13 @@ pub data Refuses : Members → PlanFault → Type 0 where
       → slice_get (rows_of document Event) index ≡ Some row → RefusesEvent (names_of document Bridge) (ends_told document) index row fault → Refuses document fault
   no_memory : (document : Members) → Refuses document Memory
 
--- a table breaks a rule of its keys, or has the name of one before it
+-- a table breaks a rule of its keys, or has the name of an earlier table
 abbrev pub RefusesTable : Section → List (List ℕ) → ℕ → Members → PlanFault → Type 0
 RefusesTable section names index row fault =
     RefusesRow (keys_of section row) (Row section index) row fault
     ⊎ ((fault ≡ Twice (text_at row (codes "name"))) × (is_one_of (take index names) (text_at row (codes "name")) ≡ true))
 
--- the name is listed and names nothing
+-- the name is listed, and nothing has it
 pub record IsUnlisted (names : List (List ℕ)) (listed : Items) (name : List ℕ) : Type 0 where
   pub stands : any_item (λ d. same name (text_in d)) listed ≡ true
   pub unknown : is_one_of names name ≡ false
@@ -148,7 +148,7 @@ pub record IsUnlisted (names : List (List ℕ)) (listed : Items) (name : List �
 abbrev pub LacksListed : List (List ℕ) → Items → PlanFault → Type 0
 LacksListed names listed fault = (name : List ℕ) × (fault ≡ NoSuch name) × IsUnlisted names listed name
 
--- a link names a bridge or a service that isn't there, or memory ran out
+-- a link names a bridge or a service that doesn't exist, or an allocation failed
 abbrev pub LinkLacks : List (List ℕ) → List (List ℕ) → Members → PlanFault → Type 0
 LinkLacks bridges services row fault =
     (fault ≡ Memory) ⊎ ((LacksName bridges row (codes "a") fault ⊎ LacksName bridges row (codes "b") fault)
@@ -158,7 +158,7 @@ abbrev pub CustomerLacks : List (List ℕ) → List (List ℕ) → Members → P
 CustomerLacks bridges services row fault =
     (fault ≡ Memory) ⊎ (LacksName bridges row (codes "bridge") fault ⊎ LacksName services row (codes "service") fault)
 
--- a customer port tells the time of day by no clock, or memory ran out
+-- the records of a capture are to have the time of day and no clock ticks by time, or an allocation failed
 abbrev pub RefusesStamp : Limits → ℕ → Members → PlanFault → Type 0
 RefusesStamp limits index row fault =
     (fault ≡ Memory) ⊎ ((fault ≡ Range (path_at (Row Port index) (codes "stamp"))) × (lacks_time limits (text_at row (codes "stamp")) ≡ true))

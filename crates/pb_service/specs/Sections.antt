@@ -14,7 +14,7 @@ word_of Service = codes "service"
 word_of Port = codes "port"
 word_of Event = codes "event"
 
--- the most tables that it may have
+-- the maximum number of tables in an array
 abbrev pub most_of : Section → ℕ
 most_of Bridge = 32
 most_of Link = 64

@@ -1,4 +1,4 @@
--- What the tables of a plan file tell.
+-- The contents of the tables of a plan file.
 use Rattle.std.specs.Prelude.{◌≡◌, ℕ, codes, Bool, true, false, List, [], ◌∷◌, take, Some, None, if◌then◌else◌}
 use Rattle.std.specs.declared.option.Option.{Option}
 use Rattle.std.specs.List.{list_any}
@@ -22,7 +22,7 @@ use Rattle.pb_service.specs.Keys.{KeyRule, IsAccepted}
 use Rattle.pb_service.specs.Formats.{network_keys, port_keys}
 use Rattle.pb_service.specs.Told.{has_key, number_told, text_told, items_told, stamp_of, state_of, spanning_of, flag_told, naturals_in, number_from, listed_from}
 
--- the number, and the text, at a key of a table
+-- the number at a key of a table, or the default, and never above the highest
 abbrev pub number_at : Members → List ℕ → ℕ → ℕ → ℕ
 number_at row key default highest = number_told default highest (get_member key row)
 
@@ -32,7 +32,8 @@ text_at row key = text_told (get_member key row)
 abbrev pub items_at : Members → List ℕ → Items
 items_at row key = items_told (get_member key row)
 
--- how long a run may go on, by which clock bridges tick, and how long frames are held back
+-- the limits of a run that a table gives: its turns, the clock by which bridges tick, and how many ticks frames are
+-- held
 abbrev pub limits_told : Members → Limits
 limits_told row = record {
   turns = number_at row (codes "turns") 18446744073709551615 18446744073709551615;
@@ -41,10 +42,11 @@ limits_told row = record {
   hold = number_at row (codes "hold") 0 1000000;
 }
 
--- ports that stay Designated send as soon as what they offer changes
+-- a port that stays Designated sends as soon as what it offers changes
 abbrev pub prompt_told : Members → Bool
 prompt_told row = flag_told (get_member (codes "prompt") row)
 
+-- the network that a table describes
 pub record IsNetworkOf (row : Members) (n : Network) : Type 0 where
   pub keys : IsAccepted network_keys row
   pub spanning : n.spanning ≡ spanning_of (text_at row (codes "spanning"))
@@ -57,25 +59,28 @@ pub record IsNetworkOf (row : Members) (n : Network) : Type 0 where
   pub some_clock : holds_forever n.limits ≡ false
   pub not_vain : is_vainly_prompt n.spanning n.prompt ≡ false
 
+-- the bridge that a table describes
 pub record IsBridgeOf (row : Members) (b : BridgePlan) : Type 0 where
   pub name : b.name ≡ text_at row (codes "name")
   pub address : IsMacText (text_at row (codes "address")) b.address.0
   pub priority : b.priority ≡ number_at row (codes "priority") 32768 61440
   pub queue : b.queue ≡ number_at row (codes "queue") 64 4096
 
+-- the service that a table describes
 pub record IsServiceOf (row : Members) (s : ServicePlan) : Type 0 where
   pub name : s.name ≡ text_at row (codes "name")
   pub vid : s.vid ≡ number_at row (codes "vid") 0 4094
 
--- the services of an end: all of them, or those that are listed, by their numbers
+-- the services of an end: all of them if it lists none, otherwise the numbers of the listed ones
 abbrev pub services_told : List (List ℕ) → Option Data → Option (List ℕ)
 services_told services None = None
 services_told services (Some d) = Some (listed_from 1 (take 64 services) (items_told (Some d)))
 
--- each listed name is one of those that are known
+-- the name is one of the names
 abbrev pub is_one_of : List (List ℕ) → List ℕ → Bool
 is_one_of names name = list_any (same name) names
 
+-- each listed name is one of the known names
 abbrev pub are_known : List (List ℕ) → Items → Bool
 are_known names listed = all_items (λ d. is_one_of names (text_in d)) listed
 
@@ -97,7 +102,7 @@ a_names = record { bridge = codes "a"; port = codes "a_port"; cost = codes "a_co
 abbrev pub b_names : EndNames
 b_names = record { bridge = codes "b"; port = codes "b_port"; cost = codes "b_cost"; priority = codes "b_priority"; state = codes "b_state"; services = codes "b_services" }
 
--- the end of a link that is at the bridge of a number, among services of these names
+-- the end of a link that a table describes, apart from its bridge, among services of these names
 pub record IsEndOf (known : List (List ℕ)) (row : Members) (k : EndNames) (e : End) : Type 0 where
   pub port : e.port ≡ number_at row k.port 0 16
   pub cost : e.cost ≡ number_at row k.cost 20000 200000000
@@ -105,7 +110,7 @@ pub record IsEndOf (known : List (List ℕ)) (row : Members) (k : EndNames) (e :
   pub start : e.start ≡ state_of (text_at row k.state)
   pub services : e.services ≡ services_told known (get_member k.services row)
 
--- the link, among bridges and services of these names
+-- the link that a table describes, among bridges and services of these names
 pub record IsLinkOf (bridges services : List (List ℕ)) (row : Members) (l : LinkPlan) : Type 0 where
   pub name : l.name ≡ text_at row (codes "name")
   pub a_bridge : number_from 1 bridges (text_at row (codes "a")) ≡ Some l.a.bridge
@@ -117,6 +122,7 @@ pub record IsLinkOf (bridges services : List (List ℕ)) (row : Members) (l : Li
   pub lost_ab : l.lost_ab ≡ naturals_in (items_at row (codes "lost_ab"))
   pub lost_ba : l.lost_ba ≡ naturals_in (items_at row (codes "lost_ba"))
 
+-- the customer port that a table describes, among bridges and services of these names
 pub record IsCustomerOf (bridges services : List (List ℕ)) (row : Members) (c : CustomerPlan) : Type 0 where
   pub name : c.name ≡ text_at row (codes "name")
   pub bridge : number_from 1 bridges (text_at row (codes "bridge")) ≡ Some c.bridge
@@ -125,13 +131,14 @@ pub record IsCustomerOf (bridges services : List (List ℕ)) (row : Members) (c 
   pub pcp : c.pcp ≡ number_at row (codes "pcp") 0 7
   pub queue : c.queue ≡ number_at row (codes "queue") 64 4096
 
--- the frames that texts tell
+-- the frames of a list of hexadecimal texts
 abbrev pub AreFrames : Items → List (List ℕ) → Type 0
 AreFrames no_items [] = Unit {0}
 AreFrames (item d ds) (frame ∷ frames) = IsHex (text_in d) frame × AreFrames ds frames
 AreFrames ds frames = ⊥
 
--- what a customer port is. A capture tells the time of day only where a clock ticks by time, and a socket is made by a port that listens
+-- the kind of customer port that a table describes: records have the time of day only if a clock ticks by time, and a
+-- port with the key `listen` makes its socket
 abbrev pub IsPortSpecOf : Limits → Members → PortSpec → Type 0
 IsPortSpecOf limits row (Memory frames) = (same (text_at row (codes "kind")) (codes "capture") ≡ false) × (same (text_at row (codes "kind")) (codes "socket") ≡ false) × AreFrames (items_at row (codes "in")) frames
 IsPortSpecOf limits row (Capture read write stamp) =
@@ -141,12 +148,12 @@ IsPortSpecOf limits row (Socket path listens) =
     (same (text_at row (codes "kind")) (codes "socket") ≡ true) × (listens ≡ has_key row (codes "listen"))
     × (path ≡ text_at row (if listens then codes "listen" else codes "path"))
 
--- a table that keeps the rules of its keys, and what it tells
+-- a table that keeps the rules of its keys, and what it describes
 pub record IsRead {X : Type 0} (Tells : Members → X → Type 0) (keys : List KeyRule) (row : Members) (x : X) : Type 0 where
   pub accepted : IsAccepted keys row
   pub told : Tells row x
 
--- the same of a customer port, whose keys depend on what it is
+-- a table of a customer port that keeps the rules of the keys of its kind, and what it describes
 pub record IsReadPort {X : Type 0} (Tells : Members → X → Type 0) (row : Members) (x : X) : Type 0 where
   pub accepted : IsAccepted (port_keys (text_at row (codes "kind")) (has_key row (codes "listen"))) row
   pub told : Tells row x

@@ -1,4 +1,4 @@
--- What a table tells under a key, whatever stands there.
+-- The value at a key of a table, with a default.
 use Rattle.std.specs.Prelude.{ℕ, Bool, false, suc, ◌+◌, codes, min, List, [], ◌∷◌, ◌++◌, map, Some, None, unwrap_or, if◌then◌else◌, is_some}
 use Rattle.std.specs.declared.option.Option.{Option}
 use Rattle.std.specs.Option.{option_map_or, option_and_then, option_to_list}
@@ -14,11 +14,11 @@ use Rattle.pb_service.specs.declared.section.Section.{Section}
 use Rattle.pb_service.specs.Sections.{word_of}
 use Rattle.pb_service.specs.Values.{natural_of, text_in, any_item, is_text}
 
--- the number, or the default; never above the highest
+-- the number, or the default, and never above the highest
 abbrev pub number_told : ℕ → ℕ → Option Data → ℕ
 number_told default highest value = min (unwrap_or (option_and_then natural_of value) default) highest
 
--- something stands at the key
+-- the table has the key
 abbrev pub has_key : Members → List ℕ → Bool
 has_key row key = is_some (get_member key row)
 
@@ -46,7 +46,7 @@ spanning_of text = if same text (codes "rstp") then Rstp else Fixed
 abbrev pub stamp_of : List ℕ → Stamp
 stamp_of text = if same text (codes "time") then Time else Ticks
 
--- the numbers of a list
+-- the natural numbers of a list
 abbrev pub naturals_in : Items → List ℕ
 naturals_in no_items = []
 naturals_in (item d ds) = option_to_list (natural_of d) ++ naturals_in ds
@@ -56,19 +56,20 @@ abbrev pub tables_in : Items → List Members
 tables_in no_items = []
 tables_in (item d ds) = option_to_list (as_table d) ++ tables_in ds
 
--- the tables of an array, and their names
+-- the tables of an array
 abbrev pub rows_of : Members → Section → List Members
 rows_of document section = tables_in (items_told (get_member (word_of section) document))
 
+-- the names of tables
 abbrev pub names_in : List Members → List (List ℕ)
 names_in rows = map (λ row. text_told (get_member (codes "name") row)) rows
 
--- the number of the first thing with the name, of things that are numbered from n
+-- the number of the first thing with this name, if the things are numbered from n
 abbrev pub number_from : ℕ → List (List ℕ) → List ℕ → Option ℕ
 number_from n [] name = None
 number_from n (x ∷ names) name = if same name x then Some n else number_from (suc n) names name
 
--- the numbers of the things whose names are listed
+-- the numbers of the things whose names are listed, if the things are numbered from n
 abbrev pub listed_from : ℕ → List (List ℕ) → Items → List ℕ
 listed_from n [] listed = []
 listed_from n (name ∷ names) listed = (if any_item (is_text (same name)) listed then n ∷ [] else []) ++ listed_from (n + 1) names listed

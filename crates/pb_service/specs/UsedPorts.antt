@@ -1,11 +1,11 @@
--- The local ports that are used so far.
+-- The local ports that are in use.
 use Rattle.std.specs.Prelude.{Bool, List, map}
 use Rattle.std.specs.List.{list_any, IsDistinct}
 use Rattle.pb_lan.specs.Plans.{is_same_port}
 use Rattle.pb_lan.specs.declared.plan.End.{End}
 use Rattle.pb_service.specs.declared.used.LocalPort.{LocalPort}
 
--- the port is among those that are used
+-- the port is in use
 abbrev pub is_used : List LocalPort → LocalPort → Bool
 is_used used port = list_any (λ p. is_same_port (p.bridge, p.port) (port.bridge, port.port)) used
 

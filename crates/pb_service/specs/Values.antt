@@ -1,4 +1,4 @@
--- What values of a TOML document may be, and what they stand for.
+-- Which values of a TOML document are allowed, and what they denote.
 use Rattle.std.specs.Prelude.{◌≡◌, ℕ, suc, pos, negsuc, ℤ, codes, ◌%◌, nat_le, ◌==◌, Bool, true, false, ◌&&◌, ◌||◌, not, List, [], length, Some, None, is_some, unwrap_or}
 use Rattle.std.specs.declared.option.Option.{Option}
 use Rattle.std.specs.Option.{option_map_or, option_and_then}
@@ -11,7 +11,7 @@ use Rattle.toml.specs.Data.{Data, Items, no_items, item, as_str, as_integer, as_
 use Rattle.pb_service.specs.declared.rule.Rule.{Rule}
 use Rattle.pb_service.specs.declared.rule.Rule.TheVariants.{Number, BridgePriority, PortPriority, Name, Address, Spanning, State, PortKind, Stamp, Path, Losses, Names, Frames, Flag}
 
--- an integer that isn't negative
+-- the number of an integer that isn't negative
 abbrev pub to_natural : ℤ → Option ℕ
 to_natural (pos n) = Some n
 to_natural (negsuc n) = None
@@ -19,7 +19,7 @@ to_natural (negsuc n) = None
 abbrev pub natural_of : Data → Option ℕ
 natural_of d = option_and_then to_natural (as_integer d)
 
--- a value is a text that passes the test, or a number that does
+-- the value is a text that passes the test
 abbrev pub is_text : (List ℕ → Bool) → Data → Bool
 is_text test d = option_map_or test (as_str d) false
 
@@ -42,11 +42,11 @@ is_list test d = option_map_or test (as_array d) false
 abbrev pub is_hex : List ℕ → Bool
 is_hex text = list_all is_digit text && length text % 2 == 0
 
--- the text of a value; of another value than a text the empty one
+-- the text of a value, or the empty text if the value isn't a text
 abbrev pub text_in : Data → List ℕ
 text_in d = unwrap_or (as_str d) []
 
--- the address of one station
+-- the text denotes an individual MAC address
 abbrev pub IsAddress : List ℕ → Type 0
 IsAddress text = (octets : List ℕ) × IsMacText text octets × (is_group octets ≡ false)
 
@@ -55,12 +55,12 @@ abbrev pub rise_from : ℕ → Items → Bool
 rise_from least no_items = true
 rise_from least (item d ds) = is_natural (nat_le least) d && rise_from (suc (unwrap_or (natural_of d) 0)) ds
 
--- texts no two of which are the same
+-- texts that are pairwise distinct
 abbrev pub are_distinct : Items → Bool
 are_distinct no_items = true
 are_distinct (item d ds) = not (any_item (is_text (same (text_in d))) ds) && are_distinct ds
 
--- the value is of the TOML type that the rule asks for, the items of a list too
+-- the value is of the TOML type that the rule requires, and each item of a list is too
 abbrev pub is_of_kind : Rule → Data → Bool
 is_of_kind (Number low high) d = is_some (as_integer d)
 is_of_kind BridgePriority d = is_some (as_integer d)
@@ -71,7 +71,7 @@ is_of_kind Frames d = is_list (all_items (λ e. is_some (as_str e))) d
 is_of_kind Flag d = is_some (as_bool d)
 is_of_kind _ d = is_some (as_str d)
 
--- the value is one that the rule allows
+-- the rule allows the value
 abbrev pub IsAllowed : Rule → Data → Type 0
 IsAllowed (Number low high) d = is_natural (λ n. nat_le low n && nat_le n high) d ≡ true
 IsAllowed BridgePriority d = is_natural (λ n. n % 4096 == 0 && nat_le n 61440) d ≡ true

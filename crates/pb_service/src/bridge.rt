@@ -24,7 +24,7 @@ use pb_lan::BridgePlan;
 use std::alloc::Global;
 use toml::Table;
 
-/// The bridge that a table tells.
+/// Returns the bridge that a table describes.
 fn bridge_of(alloc: Global, row: &Table) -> Result<BridgePlan, PlanFault>
     requires { IsAddress (text_at (table_view row.now) (codes "address")) }
     ensures ok { IfOk result (IsBridgeOf (table_view row.now)) }
@@ -39,7 +39,7 @@ fn bridge_of(alloc: Global, row: &Table) -> Result<BridgePlan, PlanFault>
     })
 }
 
-/// The bridge that a table tells, where it keeps the rules of its keys and has a name of its own.
+/// Returns the bridge that a table describes, after a check of its keys and of its name against the earlier names.
 fn read_bridge(
     alloc: Global,
     row: &Table,
@@ -56,7 +56,7 @@ fn read_bridge(
     bridge_of(alloc, row)
 }
 
-/// One of the bridges has the address.
+/// Returns whether one of the bridges has the address.
 fn has_address(bridges: &[BridgePlan], address: &Mac) -> bool
     ensures { result ≡ list_any (λ b. same b.address.0 address.now.0) bridges.now }
 {
@@ -68,7 +68,7 @@ fn has_address(bridges: &[BridgePlan], address: &Mac) -> bool
     false
 }
 
-/// The fault that two bridges have one address.
+/// Returns the fault of two bridges with one address.
 fn twice(alloc: Global, address: &Mac) -> PlanFault
     ensures { (result ≡ memory_fault) ⊎ (result ≡ twice_fault (mac_text address.now.0)) }
 {
@@ -78,7 +78,12 @@ fn twice(alloc: Global, address: &Mac) -> PlanFault
     }
 }
 
-/// The bridges of a document.
+/// Reads the bridges of a document.
+///
+/// # Errors
+///
+/// The first rule that a table breaks. `Twice` if two bridges have one name or one address, `Memory` if an allocation
+/// failed.
 pub(crate) fn read_bridges(alloc: Global, document: &Table) -> Result<Vec<BridgePlan>, PlanFault>
     ensures ok { IfOk result (λ bridges. AllZip (IsRead IsBridgeOf bridge_keys)
         (rows_of (table_view document.now) bridge_section) bridges.items) }

@@ -1,4 +1,4 @@
-//! What is asked of each table of an array before it is read.
+//! Checks that the tables of all arrays have in common.
 
 ghost use Rattle.std.specs.Prelude.{◌≡◌, ◌⊎◌, ◌≤◌, ◌++◌, ◌∷◌, [], false, codes, length, map, take, OnOk, IfErr};
 ghost use Rattle.toml.specs.View.{table_view};
@@ -18,7 +18,7 @@ use pb_frame::Text;
 use std::alloc::Global;
 use toml::Table;
 
-/// The name stands among others.
+/// Returns whether the name is one of the names.
 pub(crate) fn is_one_of(names: &[&str], name: &str) -> bool
     ensures { result ≡ is_one_of (map (λ n. n.now) names.now) name.now }
 {
@@ -30,7 +30,7 @@ pub(crate) fn is_one_of(names: &[&str], name: &str) -> bool
     false
 }
 
-/// The fault that two things have one name.
+/// Returns the fault of two things with one name.
 fn twice(alloc: Global, name: &str) -> PlanFault
     ensures { (result ≡ memory_fault) ⊎ (result ≡ twice_fault name.now) }
 {
@@ -40,7 +40,7 @@ fn twice(alloc: Global, name: &str) -> PlanFault
     }
 }
 
-/// The fault that nothing has a name.
+/// Returns the fault of a name that nothing has.
 pub(crate) fn no_such(alloc: Global, name: &str) -> PlanFault
     ensures { (result ≡ memory_fault) ⊎ (result ≡ no_such_fault name.now) }
 {
@@ -50,7 +50,12 @@ pub(crate) fn no_such(alloc: Global, name: &str) -> PlanFault
     }
 }
 
-/// Whether a table keeps the rules of its keys, and has another name than those before it.
+/// Checks a table against the rules of its keys, and its name against those of the tables before it.
+///
+/// # Errors
+///
+/// The first rule of its keys that the table breaks, `Twice` if an earlier table has its name, `Memory` if an
+/// allocation failed.
 pub(crate) fn check_row(
     alloc: Global,
     section: Section,
@@ -77,7 +82,7 @@ pub(crate) fn check_row(
     Ok(())
 }
 
-/// Puts a thing behind those of a list.
+/// Appends a thing to a list.
 pub(crate) fn put<T: Drop>(list: &mut Vec<T>, thing: T) -> Result<(), PlanFault>
     ensures ok { OnOk result (list.new.items ≡ list.old.items ++ thing ∷ []) }
     ensures err { IfErr result (λ e. e ≡ memory_fault) }

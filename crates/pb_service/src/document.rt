@@ -1,4 +1,4 @@
-//! A whole document.
+//! The whole document.
 
 ghost use Rattle.std.specs.Prelude.{IfOk, IfErr, OnOk};
 ghost use Rattle.toml.specs.View.{table_view};
@@ -20,20 +20,22 @@ use pb_lan::{Limits, Plan};
 use std::alloc::Global;
 use toml::Table;
 
-/// What a plan file tells.
+/// The contents of a plan file.
 #[derive(Drop)]
 pub struct PlanFile {
     /// The network.
     pub plan: Plan,
-    /// What each customer port is, in the order of the plan.
+    /// The kind of each customer port, in the order of the plan.
     pub ports: Vec<PortSpec>,
-    /// How long a run may go on, and by which clock bridges tick.
+    /// The limits of a run, and the clock by which bridges tick.
     pub limits: Limits,
-    /// The ports that are set up and down while the network runs, in the order of the file.
+    /// The events that disable and enable ports during a run, in the order of the file.
     pub events: Vec<PortEvent>,
 }
 
-/// What a document tells.
+/// Returns the contents of a document, or the first rule that it breaks.
+///
+/// The order of the checks is: keys at the top, network, bridges, links, services, events, customer ports.
 fn file_of(alloc: Global, document: &Table) -> Result<PlanFile, PlanFault>
     ensures ok { IfOk result (λ file. IsPlanOf (table_view document.now) file.plan file.ports.items) }
     ensures limits { IfOk result (λ file. AreLimitsOf (table_view document.now) file.limits) }
@@ -67,7 +69,11 @@ fn file_of(alloc: Global, document: &Table) -> Result<PlanFile, PlanFault>
     })
 }
 
-/// Reads all that a plan file tells, with the faults of [`read_plan`].
+/// Reads a whole plan file.
+///
+/// # Errors
+///
+/// The faults of [`read_plan`].
 pub fn read_plan_file(alloc: Global, file: &[u8]) -> Result<PlanFile, PlanFault>
     ensures ok { IfOk result (λ r. Tells file.now (λ document. IsPlanOf document r.plan r.ports.items)) }
     ensures limits { IfOk result (λ r. Tells file.now (λ document. AreLimitsOf document r.limits)) }
@@ -86,10 +92,16 @@ pub fn read_plan_file(alloc: Global, file: &[u8]) -> Result<PlanFile, PlanFault>
     }
 }
 
-/// Reads a plan file: the plan of its network, and what each customer port is, in the order of the plan.
+/// Reads a plan file. Returns the plan of its network and the kind of each customer port, in the order of the plan.
 ///
-/// Any fault but `Memory` comes only where the file breaks a rule in the way that the fault tells; of
-/// several faults the first is told, in the order of the tables and keys of the format.
+/// The plan is sound (`IsSound`): its numbers are in range, its names, addresses and VIDs are distinct, and no local
+/// port is used twice.
+///
+/// # Errors
+///
+/// `Memory` if an allocation failed. `Utf8` if the file isn't UTF-8, `Toml` if it isn't a TOML document. Otherwise the
+/// first rule that the file breaks: tables are checked in the order network, bridge, link, service, event, port, and
+/// the keys of a table in the order of the format, unknown keys last.
 pub fn read_plan(alloc: Global, file: &[u8]) -> Result<(Plan, Vec<PortSpec>), PlanFault>
     ensures plan { IfOk result (λ r. Tells file.now (λ document. IsPlanOf document r.0 r.1.items)) }
     ensures sound { IfOk result (λ r. IsSound r.0) }
@@ -104,7 +116,11 @@ pub fn read_plan(alloc: Global, file: &[u8]) -> Result<(Plan, Vec<PortSpec>), Pl
     Ok((plan, ports))
 }
 
-/// Reads the limits of a run from a plan file, with the faults of [`read_plan`].
+/// Reads the limits of a run from a plan file. The rest of the file is checked too.
+///
+/// # Errors
+///
+/// The faults of [`read_plan`].
 pub fn read_limits(alloc: Global, file: &[u8]) -> Result<Limits, PlanFault>
     ensures limits { IfOk result (λ limits. Tells file.now (λ document. AreLimitsOf document limits)) }
     ensures accepted { OnOk result (IsPlanFile file.now) }

@@ -1,4 +1,4 @@
-//! The events of a document: ports that are set up and down while a network runs.
+//! The events of a document: ports that are disabled and enabled during a run.
 
 ghost use Rattle.std.specs.Prelude.{◌≡◌, ◌<◌, ◌⊎◌, length, map, IfOk, IfErr, OnOk};
 ghost use Rattle.std.specs.List.{AllZip};
@@ -24,20 +24,25 @@ use crate::used::{LocalPort, is_used};
 use std::alloc::Global;
 use toml::Table;
 
-/// A port to another bridge that is set up or down while the network runs.
+/// An event that disables or enables a port to another bridge during a run.
 #[derive(Clone, Copy, PartialEq, Eq, Debug)]
 pub struct PortEvent {
-    /// How often the clock of the bridge has ticked then, at least.
+    /// The number of ticks of the bridge's clock from which the event is due.
     pub at: u32,
     /// The bridge, by its number in the plan from 1.
     pub bridge: u8,
     /// Its local port, 1 to 16.
     pub port: u8,
-    /// Whether the port is set up, or down.
+    /// Whether the event enables the port. Otherwise it disables it.
     pub up: bool,
 }
 
-/// The event that a table tells, where it keeps the rules of its keys and its port is the end of a link.
+/// Returns the event that a table describes.
+///
+/// # Errors
+///
+/// The first rule of its keys that the table breaks. `NoSuch` if no bridge has the name given, `Range` if no link ends
+/// at the port, `Memory` if an allocation failed.
 fn read_event(
     alloc: Global,
     row: &Table,
@@ -65,7 +70,11 @@ fn read_event(
     })
 }
 
-/// The events of a document, at ends of its links.
+/// Reads the events of a document. `ends` are the local ports at which its links end.
+///
+/// # Errors
+///
+/// The first rule that a table breaks. `Memory` if an allocation failed.
 pub(crate) fn read_events(
     alloc: Global,
     document: &Table,

@@ -1,4 +1,4 @@
-//! Why a plan file is refused.
+//! The reasons to refuse a plan file.
 
 ghost use Rattle.std.specs.Prelude.{◌≡◌};
 ghost use Rattle.pb_service.specs.declared.fault.PlanFault.{PlanFault};
@@ -8,10 +8,10 @@ use pb_frame::{Memory, Text};
 use std::alloc::{AllocError, AllocFailed};
 use thiserror::Error;
 
-/// Why a plan file is refused: the first rule that it breaks.
+/// The first rule that a refused plan file breaks.
 ///
-/// A key is printed with its path, as `network.ageing` or `bridge[0].name`, where tables count from 0; a
-/// key at the top stands bare. The text printed is a word, and the key or name where there is one.
+/// A key has its path, as `network.ageing` or `bridge[0].name`, in which tables count from 0. A key at the top has no
+/// path. The printed text is a fixed word, followed by the key or name if there is one.
 #[derive(Debug, PartialEq, Eq, Drop, Error)]
 pub enum PlanFault {
     /// The file isn't UTF-8.
@@ -20,16 +20,16 @@ pub enum PlanFault {
     /// The text isn't a TOML document.
     #[error("toml")]
     Toml,
-    /// A key without default isn't there.
+    /// A key without a default is missing.
     #[error("missing {}", .0.as_str())]
     Missing(Text),
-    /// The value is of another TOML type than the key's.
+    /// The value is of another TOML type than that of the key.
     #[error("kind {}", .0.as_str())]
     Kind(Text),
-    /// The value is of the key's type, and not one that the key may have.
+    /// The value is of the key's type but not allowed: it is out of range, or it contradicts another key.
     #[error("range {}", .0.as_str())]
     Range(Text),
-    /// The table has no such key.
+    /// The table has a key that the format doesn't know.
     #[error("unknown {}", .0.as_str())]
     Unknown(Text),
     /// Two of a kind have this name, address or VID.
@@ -38,13 +38,13 @@ pub enum PlanFault {
     /// No bridge, or no service, has this name.
     #[error("no-such {}", .0.as_str())]
     NoSuch(Text),
-    /// A local port of a bridge is used twice, by ends of links and customer ports.
+    /// A local port of a bridge is used twice, by ends of links or customer ports.
     #[error("link-end")]
     LinkEnd,
-    /// There are more bridges, links, services or ports than a network may have.
+    /// There are more bridges, links, services, ports or events than a plan may have.
     #[error("too-many")]
     TooMany,
-    /// Memory ran out.
+    /// An allocation failed.
     #[error("memory")]
     Memory,
 }
@@ -76,7 +76,7 @@ impl From<Memory> for PlanFault {
 impl PlanFault {
     ghost use Rattle.pb_service.specs.Faults.{number_of};
 
-    /// The number of the fault, 1 to 11 in the order above.
+    /// Returns the number of the fault, 1 to 11 in the order of the variants.
     pub fn number(&self) -> u8
         ensures { result ≡ number_of self.now }
     {

@@ -10,7 +10,7 @@ use crate::section::Section;
 use crate::told::{has_key, text_at};
 use toml::Table;
 
-/// A key that a table has to have, and what its value may be: by a rule, or a number of this range.
+/// A key without a default, and the rule or range of its value.
 macro_rules! needed {
     ($name:literal, $low:literal..=$high:literal) => {
         needed!($name, Rule::Number { low: $low, high: $high })
@@ -20,7 +20,7 @@ macro_rules! needed {
     };
 }
 
-/// The same of a key that a table may have.
+/// A key with a default, and the rule or range of its value.
 macro_rules! optional {
     ($name:literal, $low:literal..=$high:literal) => {
         optional!($name, Rule::Number { low: $low, high: $high })
@@ -30,7 +30,7 @@ macro_rules! optional {
     };
 }
 
-/// The keys of a customer port: those of every one, and behind them these of its kind.
+/// The keys of a customer port: those of every kind, followed by those of its own kind.
 macro_rules! port_keys {
     ($($own:expr),+ $(,)?) => {
         [
@@ -113,14 +113,14 @@ static EVENT: [Key; 4] = [
     needed!("up", Rule::Flag),
 ];
 
-/// The keys of the network.
+/// Returns the keys of the network.
 pub(crate) fn network_keys() -> &'static [Key]
     ensures { rules_of result.now ≡ network_keys }
 {
     &NETWORK
 }
 
-/// The keys of a customer port of a kind. Those of one over a socket depend on whether it listens.
+/// Returns the keys of a customer port of a kind. A port over a socket has other keys if it listens.
 fn port_keys(kind: &str, listens: bool) -> &'static [Key]
     ensures { rules_of result.now ≡ port_keys kind.now listens }
 {
@@ -133,7 +133,7 @@ fn port_keys(kind: &str, listens: bool) -> &'static [Key]
     }
 }
 
-/// The keys of a table of an array. Those of a customer port depend on what it is.
+/// Returns the keys of a table of an array. Those of a customer port depend on its kind.
 pub(crate) fn keys_of(section: Section, row: &Table) -> &'static [Key]
     ensures { rules_of result.now ≡ keys_of section (table_view row.now) }
 {

@@ -1,12 +1,12 @@
-//! Why a key's value isn't taken.
+//! The reasons to refuse the value of a key.
 
-/// Why a key's value isn't taken.
+/// A reason to refuse the value of a key.
 #[derive(Clone, Copy)]
 pub(crate) enum KeyFault {
-    /// It isn't there, and has no default.
+    /// The key is missing, and has no default.
     Missing,
-    /// It is of another TOML type.
+    /// The value is of another TOML type.
     Kind,
-    /// It is of that type, and not one that the key may have.
+    /// The value is of that type but not allowed.
     Range,
 }

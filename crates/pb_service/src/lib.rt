@@ -1,14 +1,7 @@
-//! The plan file: a network, its limits and its ports, read from a TOML text.
+//! The plan file: a network, the limits of a run and the customer ports, read from a TOML text.
 //!
-//! A file is read table by table against the rules of its keys; the first rule that it breaks is told
-//! as a [`PlanFault`].
-//!
-//! ```text
-//! match read_plan(alloc, file.as_slice()) {
-//!     Ok((plan, ports)) => ..     // a sound plan, and where each customer port leads
-//!     Err(fault) => ..            // the first rule that the file breaks: fault.to_string()
-//! }
-//! ```
+//! It builds on `toml` for the document, on pb_lan for the plan, and on pb_frame for addresses and frames.
+//! Begin with [`read_plan_file`] in `document.rt`. [`PlanFault`] lists the rules that a file can break.
 #![tactic(auto)]
 
 mod bridge;

@@ -31,7 +31,7 @@ use pb_lan::{End, LinkPlan};
 use std::alloc::Global;
 use toml::{Table, Value};
 
-/// The keys of an end of a link.
+/// The keys of one end of a link.
 #[derive(Clone, Copy)]
 struct EndKeys {
     bridge: &'static str,
@@ -42,6 +42,7 @@ struct EndKeys {
     services: &'static str,
 }
 
+/// The keys of end A.
 static A: EndKeys = EndKeys {
     bridge: "a",
     port: "a_port",
@@ -51,6 +52,7 @@ static A: EndKeys = EndKeys {
     services: "a_services",
 };
 
+/// The keys of end B.
 static B: EndKeys = EndKeys {
     bridge: "b",
     port: "b_port",
@@ -60,7 +62,11 @@ static B: EndKeys = EndKeys {
     services: "b_services",
 };
 
-/// The number of the thing that a key names.
+/// Returns the number of the thing that the key names, counted from 1.
+///
+/// # Errors
+///
+/// `NoSuch` if none of the names is that one, `Memory` if an allocation failed.
 pub(crate) fn named(alloc: Global, row: &Table, key: &str, names: &[&str]) -> Result<u8, PlanFault>
     requires { length names.now < 256 }
     ensures ok { IfOk result (λ n. number_from 1 (map (λ n. n.now) names.now) (text_at (table_view row.now) key.now)
@@ -75,7 +81,7 @@ pub(crate) fn named(alloc: Global, row: &Table, key: &str, names: &[&str]) -> Re
     }
 }
 
-/// The first listed name that isn't one of those that are known.
+/// Returns the first listed name that isn't one of the known names.
 fn unlisted<'a>(names: &[&str], listed: &'a [Value]) -> Option<&'a str>
     ensures none { IfNone result (are_known (map (λ n. n.now) names.now) (items_view listed.now) ≡ true) }
     ensures some { IfSome result (λ name. IsUnlisted (map (λ n. n.now) names.now) (items_view listed.now) name.now) }
@@ -89,7 +95,11 @@ fn unlisted<'a>(names: &[&str], listed: &'a [Value]) -> Option<&'a str>
     None
 }
 
-/// Whether each listed name is one of those that are known.
+/// Checks that each listed name is one of the known names.
+///
+/// # Errors
+///
+/// `NoSuch` for the first that isn't, `Memory` if an allocation failed.
 fn check_listed(alloc: Global, names: &[&str], listed: &[Value]) -> Result<(), PlanFault>
     ensures ok { OnOk result (are_known (map (λ n. n.now) names.now) (items_view listed.now) ≡ true) }
     ensures err { IfErr result (λ e.
@@ -101,7 +111,8 @@ fn check_listed(alloc: Global, names: &[&str], listed: &[Value]) -> Result<(), P
     }
 }
 
-/// The services that an end of a link lists, if it does.
+/// Returns the numbers of the services that an end of a link lists. Returns `None` if the table lists none, which means
+/// all services.
 fn services_at(
     alloc: Global,
     row: &Table,
@@ -118,7 +129,7 @@ fn services_at(
     }
 }
 
-/// The end of a link that a table tells, at the bridge of a number.
+/// Returns the end of a link that a table describes, at the given bridge.
 fn end_of(
     alloc: Global,
     row: &Table,
@@ -140,7 +151,11 @@ fn end_of(
     })
 }
 
-/// The link that a table tells.
+/// Returns the link that a table describes.
+///
+/// # Errors
+///
+/// `NoSuch` if no bridge or service has a name given, `Memory` if an allocation failed.
 fn link_of(
     alloc: Global,
     row: &Table,
@@ -166,7 +181,11 @@ fn link_of(
     })
 }
 
-/// Uses the ports of a link.
+/// Appends the two local ports of a link to those in use.
+///
+/// # Errors
+///
+/// `LinkEnd` if one is in use already or if both are the same, `Memory` if an allocation failed.
 fn use_ends(used: &mut Vec<LocalPort>, link: &LinkPlan) -> Result<(), PlanFault>
     ensures ok { OnOk result (used.new.items ≡ used.old.items ++ port_of link.now.a ∷ port_of link.now.b ∷ []) }
     ensures once { OnOk result (AreUsedOnce used.old.items → AreUsedOnce used.new.items) }
@@ -192,14 +211,18 @@ fn use_ends(used: &mut Vec<LocalPort>, link: &LinkPlan) -> Result<(), PlanFault>
     Ok(())
 }
 
-/// The links of a document, and the local ports that they use.
+/// The links of a document, and the local ports at which they end.
 #[derive(Drop)]
 pub(crate) struct Links {
     pub links: Vec<LinkPlan>,
     pub used: Vec<LocalPort>,
 }
 
-/// The links of a document.
+/// Reads the links of a document.
+///
+/// # Errors
+///
+/// The first rule that a table breaks. `LinkEnd` if a local port is used twice, `Memory` if an allocation failed.
 pub(crate) fn read_links(alloc: Global, document: &Table) -> Result<Links, PlanFault>
     requires { HasTables (table_view document.now) bridge_section }
     ensures ok { IfOk result (λ r. AllZip (IsRead (IsLinkOf (names_of (table_view document.now) bridge_section)

@@ -22,7 +22,7 @@ use pb_lan::{DEFAULT_AGEING, Limits, Spanning};
 use std::alloc::Global;
 use toml::Table;
 
-/// What the table of the network tells.
+/// The contents of the table of the network.
 #[derive(Clone, Copy)]
 pub(crate) struct Network {
     pub spanning: Spanning,
@@ -33,7 +33,7 @@ pub(crate) struct Network {
     pub limits: Limits,
 }
 
-/// What a table tells of the limits of a run.
+/// Returns the limits of a run that a table gives.
 fn limits_of(row: &Table) -> Limits
     ensures { result ≡ limits_told (table_view row.now) }
 {
@@ -45,21 +45,26 @@ fn limits_of(row: &Table) -> Limits
     }
 }
 
-/// Bridges would tick by turns and by time.
+/// Returns whether bridges would tick both by turns and by time.
 fn has_two_clocks(limits: Limits) -> bool
     ensures { result ≡ has_two_clocks limits }
 {
     limits.tick_every > 0 && limits.tick_ms > 0
 }
 
-/// Frames are held back until a clock has ticked, and none ticks.
+/// Returns whether frames are held until a clock has ticked although no clock ticks.
 fn holds_forever(limits: Limits) -> bool
     ensures { result ≡ holds_forever limits }
 {
     limits.hold > 0 && (limits.tick_every == 0 && limits.tick_ms == 0)
 }
 
-/// Whether the limits of a run go together.
+/// Checks that the limits of a run agree with each other.
+///
+/// # Errors
+///
+/// `Range` for `tick_ms` if there are two clocks, and for `hold` if frames are held and there is none. `Memory` if an
+/// allocation failed.
 fn check_clocks(alloc: Global, limits: Limits) -> Result<(), PlanFault>
     ensures one { OnOk result (has_two_clocks limits ≡ false) }
     ensures some { OnOk result (holds_forever limits ≡ false) }
@@ -95,7 +100,7 @@ fn check_prompt(alloc: Global, spanning: Spanning, prompt: bool) -> Result<(), P
     Ok(())
 }
 
-/// What a table tells of the network.
+/// Returns the network that a table describes, after a check of its keys and limits.
 fn network_of(alloc: Global, row: &Table) -> Result<Network, PlanFault>
     ensures ok { IfOk result (IsNetworkOf (table_view row.now)) }
     ensures err { IfErr result (RefusesNetwork (table_view row.now)) }
@@ -116,7 +121,7 @@ fn network_of(alloc: Global, row: &Table) -> Result<Network, PlanFault>
     })
 }
 
-/// The fault of a network that isn't a table.
+/// Returns the fault of a network that isn't a table.
 fn no_network(alloc: Global) -> PlanFault
     ensures { (result ≡ memory_fault) ⊎ (result ≡ kind_fault (codes "network")) }
 {
@@ -126,7 +131,12 @@ fn no_network(alloc: Global) -> PlanFault
     }
 }
 
-/// What a document tells of the network.
+/// Reads the network of a document. Without a table `network` each of its keys has its default.
+///
+/// # Errors
+///
+/// `Kind` if the value of `network` isn't a table, else the first rule that the table breaks. `Memory` if an allocation
+/// failed.
 pub(crate) fn read_network(alloc: Global, document: &Table) -> Result<Network, PlanFault>
     ensures ok { IfOk result (IsNetworkOf (table_told (get_member (codes "network") (table_view document.now)))) }
     ensures table { OnOk result (HasNetworkTable (table_view document.now)) }

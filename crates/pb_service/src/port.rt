@@ -36,7 +36,7 @@ use pb_lan::{CustomerPlan, Limits};
 use std::alloc::Global;
 use toml::{Table, Value};
 
-/// The frame that a hexadecimal text tells.
+/// Returns the frame of a hexadecimal text.
 fn frame_of(alloc: Global, text: &str) -> Result<Bytes, PlanFault>
     requires { is_hex text.now ≡ true }
     ensures ok { IfOk result (IsHex text.now) }
@@ -50,7 +50,7 @@ fn frame_of(alloc: Global, text: &str) -> Result<Bytes, PlanFault>
     }
 }
 
-/// The frames that hexadecimal texts tell.
+/// Returns the frames of a list of hexadecimal texts.
 fn frames_of(alloc: Global, items: &[Value]) -> Result<Vec<Bytes>, PlanFault>
     requires { all_items (is_text is_hex) (items_view items.now) ≡ true }
     ensures ok { IfOk result (λ frames. AreFrames (items_view items.now) frames.items) }
@@ -63,14 +63,18 @@ fn frames_of(alloc: Global, items: &[Value]) -> Result<Vec<Bytes>, PlanFault>
     Ok(frames)
 }
 
-/// A capture's records would tell the time of day by a clock, and none ticks by time.
+/// Returns whether records are to have the time of day although no clock ticks by time.
 fn lacks_time(limits: Limits, stamp: &str) -> bool
     ensures { result ≡ lacks_time limits stamp.now }
 {
     stamp == "time" && limits.tick_ms == 0
 }
 
-/// What a table tells that a customer port over capture files is.
+/// Returns the port over two capture files that a table describes.
+///
+/// # Errors
+///
+/// `Range` if records are to have the time of day and no clock ticks by time, `Memory` if an allocation failed.
 fn capture_of(
     alloc: Global,
     limits: Limits,
@@ -93,7 +97,7 @@ fn capture_of(
     })
 }
 
-/// The path of the socket that a table tells: at which the port listens, or to which it connects.
+/// Returns the path of a socket: that at which the port listens, or that to which it connects.
 fn socket_path(alloc: Global, row: &Table, listens: bool) -> Result<Text, PlanFault>
     ensures ok { IfOk result (λ path. path ≡ text_at (table_view row.now)
         (if listens then codes "listen" else codes "path")) }
@@ -106,7 +110,12 @@ fn socket_path(alloc: Global, row: &Table, listens: bool) -> Result<Text, PlanFa
     }
 }
 
-/// What a table tells that a customer port is.
+/// Returns the kind of customer port that a table describes, with its frames or paths.
+///
+/// # Errors
+///
+/// `Range` if a capture's records are to have the time of day and no clock ticks by time, `Memory` if an allocation
+/// failed.
 fn port_spec_of(
     alloc: Global,
     limits: Limits,
@@ -131,7 +140,11 @@ fn port_spec_of(
     Ok(PortSpec::Memory(Seq::from_vec(frames)))
 }
 
-/// The customer port that a table tells.
+/// Returns the customer port that a table describes.
+///
+/// # Errors
+///
+/// `NoSuch` if no bridge or no service has the name given, `Memory` if an allocation failed.
 fn customer_of(
     alloc: Global,
     row: &Table,
@@ -157,14 +170,20 @@ fn customer_of(
     })
 }
 
-/// The customer ports of a document, and what they are.
+/// The customer ports of a document, and the kind of each.
 #[derive(Drop)]
 pub(crate) struct Customers {
     pub customers: Vec<CustomerPlan>,
     pub specs: Vec<PortSpec>,
 }
 
-/// The customer ports of a document of these limits, and what they are.
+/// Reads the customer ports of a document, and the kind of each.
+///
+/// `used` holds the local ports at which links end. The ports are added to it one by one.
+///
+/// # Errors
+///
+/// The first rule that a table breaks. `LinkEnd` if a local port is used already, `Memory` if an allocation failed.
 pub(crate) fn read_customers(
     alloc: Global,
     document: &Table,

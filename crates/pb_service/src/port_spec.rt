@@ -1,36 +1,36 @@
-//! What a customer port is.
+//! The kinds of customer ports.
 
 use bytes::Bytes;
 use pb_frame::{Seq, Text};
 
-/// What times a capture's records tell.
+/// The time stamp of a record in a capture file.
 #[derive(Clone, Copy, PartialEq, Eq, Debug)]
 pub enum Stamp {
-    /// How often the clock of the port's worker has ticked.
+    /// The number of ticks of the clock of the port's worker.
     Ticks,
     /// The time of day.
     Time,
 }
 
-/// What a customer port is.
+/// A kind of customer port, with its frames or paths.
 #[derive(PartialEq, Debug, Drop)]
 pub enum PortSpec {
-    /// A script in memory: the frames that come in, in order.
+    /// A script in memory: the frames that enter, in order.
     Memory(Seq<Bytes>),
     /// Two capture files, by their paths.
     Capture {
-        /// The file whose frames come in.
+        /// The path of the file whose frames enter.
         read: Text,
-        /// The file to which go those that leave.
+        /// The path of the file for the frames that leave.
         write: Text,
-        /// What times are written there.
+        /// The time stamp that the records of that file have.
         stamp: Stamp,
     },
     /// A stream socket, by its path.
     Socket {
         /// The path of the socket.
         path: Text,
-        /// The port makes the socket and waits for a peer; else it connects to one.
+        /// Whether the port makes the socket and waits for a peer. Otherwise it connects to one.
         listens: bool,
     },
 }

@@ -1,4 +1,4 @@
-//! Whether a table keeps the rules of its keys.
+//! Checks of a table against the rules of its keys.
 
 ghost use Rattle.std.specs.Prelude.{◌≡◌, ◌⊎◌, option_map, option_copied, find, not};
 ghost use Rattle.std.specs.Prelude.{OnOk, IfErr, IfNone, IfSome, None, string_bytes};
@@ -23,7 +23,8 @@ use pb_frame::Text;
 use std::alloc::Global;
 use toml::{Table, Value};
 
-/// Why what stands at a key is refused, if it is.
+/// Returns the rule that the value at a key breaks, if it breaks one. `None` for the value means that the key is
+/// missing.
 fn refusal(key: &Key, value: Option<&Value>) -> Option<KeyFault>
     ensures none { IfNone result (IsTaken (rule_of key.now) (option_map (λ v. view v.now) value.entry)) }
     ensures some { IfSome result (λ fault.
@@ -55,7 +56,7 @@ pub(crate) fn told(alloc: Global, key_table: KeyTable, key: &str, fault: KeyFaul
     }
 }
 
-/// The fault of a key with its path.
+/// Returns the fault of a key at a given path.
 fn told_at(path: Text, fault: KeyFault) -> PlanFault
     ensures { result ≡ fault_of fault path }
 {
@@ -66,7 +67,7 @@ fn told_at(path: Text, fault: KeyFault) -> PlanFault
     }
 }
 
-/// The first key of a table that isn't one of those that are known.
+/// Returns the first key of a table that isn't known.
 fn unknown_key<'a>(table: &'a Table, known: &[Key]) -> Option<&'a str>
     ensures { option_map (λ k. k.now) result ≡ first_unknown (names_of (rules_of known.now)) (table_view table.now) }
 {
@@ -76,6 +77,7 @@ fn unknown_key<'a>(table: &'a Table, known: &[Key]) -> Option<&'a str>
     }
 }
 
+/// Returns the first key of a table that isn't known, as the table's own string.
 fn unknown_entry<'a>(table: &'a Table, known: &[Key]) -> Option<&'a String>
     ensures { option_copied result ≡ find (λ key. not (is_known (names_of (rules_of known.now)) (string_bytes key)))
         (keys table.now) }
@@ -83,6 +85,7 @@ fn unknown_entry<'a>(table: &'a Table, known: &[Key]) -> Option<&'a String>
     table.keys().find(|key| !is_known(known, key.as_str()))
 }
 
+/// Returns whether one of the known keys has this name.
 fn is_known(known: &[Key], key: &str) -> bool
     ensures { result ≡ is_known (names_of (rules_of known.now)) key.now }
 {
@@ -94,7 +97,12 @@ fn is_known(known: &[Key], key: &str) -> bool
     false
 }
 
-/// Whether a table keeps the rules of its keys: the first that is broken.
+/// Checks a table against the rules of its keys, in their order, and then for unknown keys.
+///
+/// # Errors
+///
+/// `Missing`, `Kind` or `Range` for the first key whose rule is broken, else `Unknown` for the first unknown key.
+/// `Memory` if an allocation failed.
 pub(crate) fn check_keys(
     alloc: Global,
     key_table: KeyTable,
@@ -115,7 +123,11 @@ pub(crate) fn check_keys(
     }
 }
 
-/// Whether the document has only the keys at the top that there are: the first other one.
+/// Checks that the document has only known keys at the top.
+///
+/// # Errors
+///
+/// `Unknown` for the first other key, `Memory` if an allocation failed.
 pub(crate) fn check_top(alloc: Global, document: &Table) -> Result<(), PlanFault>
     ensures ok { OnOk result (first_unknown top_keys (table_view document.now) ≡ None) }
     ensures err { IfErr result (Refuses (table_view document.now)) }
@@ -126,7 +138,7 @@ pub(crate) fn check_top(alloc: Global, document: &Table) -> Result<(), PlanFault
     }
 }
 
-/// The fault of a key at the top.
+/// Returns the fault of an unknown key at the top.
 fn unknown(alloc: Global, key: &str) -> PlanFault
     ensures { (result ≡ memory_fault) ⊎ (result ≡ unknown_fault key.now) }
 {
@@ -136,7 +148,7 @@ fn unknown(alloc: Global, key: &str) -> PlanFault
     }
 }
 
-/// The first key at the top that isn't one of those that there are.
+/// Returns the first unknown key at the top.
 fn unknown_top(document: &Table) -> Option<&str>
     ensures { option_map (λ k. k.now) result ≡ first_unknown top_keys (table_view document.now) }
 {
@@ -146,12 +158,14 @@ fn unknown_top(document: &Table) -> Option<&str>
     }
 }
 
+/// Returns the first unknown key at the top, as the document's own string.
 fn unknown_top_entry(document: &Table) -> Option<&String>
     ensures { option_copied result ≡ find (λ key. not (is_known top_keys (string_bytes key))) (keys document.now) }
 {
     document.keys().find(|key| !is_top_key(key.as_str()))
 }
 
+/// Returns whether a document may have this key at the top.
 fn is_top_key(key: &str) -> bool
     ensures { result ≡ is_known top_keys key.now }
 {

@@ -1,25 +1,25 @@
-//! What a key of a table may hold.
+//! The rules for the values of keys.
 
-/// What a value may be.
+/// A rule for the value of a key.
 #[derive(Clone, Copy)]
 pub(crate) enum Rule {
-    /// A number within bounds.
+    /// A number from `low` to `high`.
     Number { low: u64, high: u64 },
     /// A multiple of 4,096 up to 61,440.
     BridgePriority,
     /// A multiple of 16 up to 240.
     PortPriority,
-    /// A name.
+    /// A name, as `is_name` of pb_lan defines it.
     Name,
-    /// The address of a bridge.
+    /// An individual MAC address.
     Address,
-    /// Who decides the states of ports.
+    /// How the states of ports are decided: `fixed` or `rstp`.
     Spanning,
-    /// The state of a port.
+    /// The state of a port: `discarding`, `learning` or `forwarding`.
     State,
-    /// What a customer port is.
+    /// The kind of a customer port: `memory`, `capture` or `socket`.
     PortKind,
-    /// What times a capture's records tell.
+    /// The time stamps of a capture's records: `ticks` or `time`.
     Stamp,
     /// Any text.
     Path,
@@ -27,13 +27,13 @@ pub(crate) enum Rule {
     Losses,
     /// A list of distinct names.
     Names,
-    /// A list of hexadecimal texts.
+    /// A list of texts, each of pairs of hexadecimal digits.
     Frames,
     /// True or false.
     Flag,
 }
 
-/// A key of a table: its name, whether it must be there, and what it may hold.
+/// A key of a table: its name, whether it must be present, and the rule for its value.
 #[derive(Clone, Copy)]
 pub(crate) struct Key {
     pub name: &'static str,

@@ -17,7 +17,7 @@ pub(crate) enum Section {
     Event,
 }
 
-/// The table in which a key is: the top of the file, the table of the network, or a table of an array. Tables of an
+/// The table that holds a key: the top of the file, the table of the network, or a table of an array. Tables of an
 /// array are numbered from 0.
 #[derive(Clone, Copy)]
 pub(crate) enum KeyTable {
@@ -26,7 +26,7 @@ pub(crate) enum KeyTable {
     Row(Section, usize),
 }
 
-/// The key of an array of tables.
+/// Returns the key of an array of tables.
 pub(crate) fn word_of(section: Section) -> &'static str
     ensures { result.now ≡ word_of section }
 {
@@ -39,7 +39,7 @@ pub(crate) fn word_of(section: Section) -> &'static str
     }
 }
 
-/// The most tables that it may have.
+/// Returns the maximum number of tables in an array.
 pub(crate) fn most_of(section: Section) -> usize
     ensures { result ≡ most_of section }
 {

@@ -22,7 +22,7 @@ use pb_lan::ServicePlan;
 use std::alloc::Global;
 use toml::Table;
 
-/// The service that a table tells.
+/// Returns the service that a table describes.
 fn service_of(alloc: Global, row: &Table) -> Result<ServicePlan, PlanFault>
     ensures ok { IfOk result (IsServiceOf (table_view row.now)) }
     ensures err { IfErr result (λ e. e ≡ memory_fault) }
@@ -33,7 +33,7 @@ fn service_of(alloc: Global, row: &Table) -> Result<ServicePlan, PlanFault>
     })
 }
 
-/// The service that a table tells, where it keeps the rules of its keys and has a name of its own.
+/// Returns the service that a table describes, after a check of its keys and of its name against the earlier names.
 fn read_service(
     alloc: Global,
     row: &Table,
@@ -50,7 +50,7 @@ fn read_service(
     service_of(alloc, row)
 }
 
-/// One of the services has the VID.
+/// Returns whether one of the services has the VID.
 fn has_vid(services: &[ServicePlan], vid: u16) -> bool
     ensures { result ≡ list_any (λ s. s.vid == vid) services.now }
 {
@@ -62,7 +62,7 @@ fn has_vid(services: &[ServicePlan], vid: u16) -> bool
     false
 }
 
-/// The fault that two services have one VID.
+/// Returns the fault of two services with one VID.
 fn twice(alloc: Global, vid: u16) -> PlanFault
     ensures { (result ≡ memory_fault) ⊎ (result ≡ twice_fault (decimal vid)) }
 {
@@ -72,7 +72,12 @@ fn twice(alloc: Global, vid: u16) -> PlanFault
     }
 }
 
-/// The services of a document.
+/// Reads the services of a document.
+///
+/// # Errors
+///
+/// The first rule that a table breaks. `Twice` if two services have one name or one VID, `Memory` if an allocation
+/// failed.
 pub(crate) fn read_services(alloc: Global, document: &Table) -> Result<Vec<ServicePlan>, PlanFault>
     ensures ok { IfOk result (λ services. AllZip (IsRead IsServiceOf service_keys)
         (rows_of (table_view document.now) service_section) services.items) }

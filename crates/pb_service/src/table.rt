@@ -16,7 +16,7 @@ use pb_frame::Text;
 use std::alloc::Global;
 use toml::{Table, Value};
 
-/// The tables of an array; other things in it are left out.
+/// Returns the tables of an array. Items that aren't tables are left out.
 pub(crate) fn tables_of<'a>(
     alloc: Global,
     document: &'a Table,
@@ -30,7 +30,7 @@ pub(crate) fn tables_of<'a>(
     tables_in(alloc, items)
 }
 
-/// The tables of a list; other things in it are left out.
+/// Returns the tables among the items. Other items are left out.
 fn tables_in<'a>(alloc: Global, items: &'a [Value]) -> Result<Vec<&'a Table>, PlanFault>
     ensures ok { IfOk result (λ tables. map (λ t. table_view t.now) tables.items ≡ tables_in (items_view items.now)) }
     ensures err { IfErr result (λ e. e ≡ memory_fault) }
@@ -44,7 +44,7 @@ fn tables_in<'a>(alloc: Global, items: &'a [Value]) -> Result<Vec<&'a Table>, Pl
     Ok(tables)
 }
 
-/// Each item is a table.
+/// Returns whether each item is a table.
 fn are_tables(items: &[Value]) -> bool
     ensures { result ≡ all_items (λ d. is_some (as_table d)) (items_view items.now) }
 {
@@ -56,7 +56,7 @@ fn are_tables(items: &[Value]) -> bool
     true
 }
 
-/// The value is an array of tables.
+/// Returns whether the value is an array of tables.
 fn is_array_of_tables(value: &Value) -> bool
     ensures { result ≡ is_list (all_items (λ d. is_some (as_table d))) (view value.now) }
 {
@@ -66,7 +66,7 @@ fn is_array_of_tables(value: &Value) -> bool
     }
 }
 
-/// The fault of a value that isn't an array of tables.
+/// Returns the fault of a value that isn't an array of tables.
 fn no_tables(alloc: Global, section: Section) -> PlanFault
     ensures { (result ≡ memory_fault) ⊎ (result ≡ kind_fault (word_of section)) }
 {
@@ -76,7 +76,12 @@ fn no_tables(alloc: Global, section: Section) -> PlanFault
     }
 }
 
-/// The tables of an array, where it is an array of tables and not too long.
+/// Returns the tables of an array, after a check that it is an array of tables and not too long.
+///
+/// # Errors
+///
+/// `Kind` if the value at the key isn't an array of tables, `TooMany` if it has too many, `Memory` if an allocation
+/// failed.
 pub(crate) fn rows_of<'a>(
     alloc: Global,
     document: &'a Table,
@@ -97,7 +102,7 @@ pub(crate) fn rows_of<'a>(
     Ok(rows)
 }
 
-/// The document has nothing under the key, or an array of tables.
+/// Returns whether the document has an array of tables at the key, or nothing.
 fn has_tables(document: &Table, section: Section) -> bool
     ensures { result ≡ is_array_of_tables (get_member (word_of section) (table_view document.now)) }
 {
@@ -107,7 +112,7 @@ fn has_tables(document: &Table, section: Section) -> bool
     }
 }
 
-/// The names that tables tell.
+/// Returns the name of each table, or the empty text if it has none.
 pub(crate) fn names_in<'a>(alloc: Global, rows: &[&'a Table]) -> Result<Vec<&'a str>, PlanFault>
     ensures ok { IfOk result (λ names. map (λ n. n.now) names.items ≡ names_in (map (λ t. table_view t.now) rows.now)) }
     ensures len { IfOk result (λ names. length names.items ≡ length rows.now) }
@@ -120,7 +125,7 @@ pub(crate) fn names_in<'a>(alloc: Global, rows: &[&'a Table]) -> Result<Vec<&'a 
     Ok(names)
 }
 
-/// The names of the tables of an array.
+/// Returns the names of the tables of an array.
 pub(crate) fn names_of<'a>(
     alloc: Global,
     document: &'a Table,
@@ -133,7 +138,7 @@ pub(crate) fn names_of<'a>(
     names_in(alloc, &rows)
 }
 
-/// The tables of an array and their names, where it is an array of tables and not too long.
+/// Returns the tables of an array and their names, with the checks and faults of [`rows_of`].
 pub(crate) fn tables_at<'a>(
     alloc: Global,
     document: &'a Table,

@@ -1,4 +1,4 @@
-//! What a table tells under a key, whatever stands there.
+//! Reading the value at a key of a table, with a default.
 
 ghost use Rattle.std.specs.Prelude.{◌≡◌, ◌<◌, ◌≤◌, ◌^◌, length, map, option_map, take, IfOk, IfErr, IfSome};
 ghost use Rattle.toml.specs.Data.{get_member};
@@ -15,14 +15,14 @@ use pb_lan::{PortState, Spanning};
 use std::alloc::Global;
 use toml::{Table, Value};
 
-/// The value at a key.
+/// Returns the value at a key, if the table has the key.
 pub(crate) fn value_at<'a>(table: &'a Table, key: &str) -> Option<&'a Value>
     ensures { option_map (λ v. view v.now) result ≡ get_member key.now (table_view table.now) }
 {
     table.get(key)
 }
 
-/// Whether something stands at a key.
+/// Returns whether the table has the key.
 pub(crate) fn has_key(table: &Table, key: &str) -> bool
     ensures { result ≡ has_key (table_view table.now) key.now }
 {
@@ -32,7 +32,8 @@ pub(crate) fn has_key(table: &Table, key: &str) -> bool
     }
 }
 
-/// The number at a key, or the default; never above the highest.
+/// Returns the number at a key, or the default if there is no natural number. A larger number than the highest is cut
+/// to the highest.
 pub(crate) fn number_at(table: &Table, key: &str, default: u64, highest: u64) -> u64
     ensures value { result ≡ number_told default highest (get_member key.now (table_view table.now)) }
     ensures within { result ≤ highest }
@@ -44,7 +45,7 @@ pub(crate) fn number_at(table: &Table, key: &str, default: u64, highest: u64) ->
     told.min(highest)
 }
 
-/// The flag at a key, or false.
+/// Returns the flag at a key, or false if there is none.
 pub(crate) fn flag_at(table: &Table, key: &str) -> bool
     ensures { result ≡ flag_told (get_member key.now (table_view table.now)) }
 {
@@ -54,7 +55,7 @@ pub(crate) fn flag_at(table: &Table, key: &str) -> bool
     }
 }
 
-/// The text at a key, or the empty one.
+/// Returns the text at a key, or the empty text if there is none.
 pub(crate) fn text_at<'a>(table: &'a Table, key: &str) -> &'a str
     ensures { result.now ≡ text_told (get_member key.now (table_view table.now)) }
 {
@@ -64,7 +65,7 @@ pub(crate) fn text_at<'a>(table: &'a Table, key: &str) -> &'a str
     }
 }
 
-/// A copy of the text at a key, or of the empty one.
+/// Returns a copy of the text at a key, or of the empty text if there is none.
 pub(crate) fn copy_at(alloc: Global, table: &Table, key: &str) -> Result<Text, PlanFault>
     ensures ok { IfOk result (λ text. text ≡ text_told (get_member key.now (table_view table.now))) }
     ensures err { IfErr result (λ e. e ≡ memory_fault) }
@@ -73,7 +74,7 @@ pub(crate) fn copy_at(alloc: Global, table: &Table, key: &str) -> Result<Text, P
     Ok(Text::from_string(text))
 }
 
-/// The list at a key, or the empty one.
+/// Returns the items of the array at a key, or no items if there is no array.
 pub(crate) fn items_at<'a>(table: &'a Table, key: &str) -> &'a [Value]
     ensures { items_view result.now ≡ items_told (get_member key.now (table_view table.now)) }
 {
@@ -86,7 +87,7 @@ pub(crate) fn items_at<'a>(table: &'a Table, key: &str) -> &'a [Value]
     }
 }
 
-/// The state of a port that a text tells.
+/// Returns the state of a port by its name. Any other text than `discarding` and `learning` means forwarding.
 pub(crate) fn state_of(text: &str) -> PortState
     ensures { result ≡ state_of text.now }
 {
@@ -99,7 +100,7 @@ pub(crate) fn state_of(text: &str) -> PortState
     }
 }
 
-/// Who decides the states of ports, as a text tells.
+/// Returns how the states of ports are decided: by the spanning tree if the text is `rstp`, else by the plan.
 pub(crate) fn spanning_of(text: &str) -> Spanning
     ensures { result ≡ spanning_of text.now }
 {
@@ -110,7 +111,7 @@ pub(crate) fn spanning_of(text: &str) -> Spanning
     }
 }
 
-/// What times a capture's records tell, by a text.
+/// Returns the kind of time stamps by its name. Any other text than `time` means ticks.
 pub(crate) fn stamp_of(text: &str) -> Stamp
     ensures { result ≡ stamp_of text.now }
 {
@@ -121,7 +122,7 @@ pub(crate) fn stamp_of(text: &str) -> Stamp
     }
 }
 
-/// The numbers of a list.
+/// Returns the natural numbers among the items, in order.
 pub(crate) fn naturals_in(alloc: Global, items: &[Value]) -> Result<Seq<u64>, PlanFault>
     ensures ok { IfOk result (λ numbers. numbers ≡ naturals_in (items_view items.now)) }
     ensures err { IfErr result (λ e. e ≡ memory_fault) }
@@ -135,7 +136,7 @@ pub(crate) fn naturals_in(alloc: Global, items: &[Value]) -> Result<Seq<u64>, Pl
     Ok(Seq::from_vec(numbers))
 }
 
-/// The number of the first thing with the name, of things that are numbered from 1.
+/// Returns the position of the first name that equals the given one, counted from 1.
 pub(crate) fn number_of(names: &[&str], name: &str) -> Option<u8>
     requires { length names.now < 256 }
     ensures value { result ≡ number_from 1 (map (λ n. n.now) names.now) name.now }
@@ -148,7 +149,8 @@ pub(crate) fn number_of(names: &[&str], name: &str) -> Option<u8>
     None
 }
 
-/// The numbers of the things whose names are listed, of 64 things that are numbered from 1.
+/// Returns the numbers of those names that are listed, counted from 1 and in rising order. Only the first 64 names are
+/// considered.
 pub(crate) fn numbers_of(
     alloc: Global,
     names: &[&str],
@@ -161,7 +163,7 @@ pub(crate) fn numbers_of(
     numbers_among(alloc, &names[..64usize.min(names.len())], listed)
 }
 
-/// The numbers of the things whose names are listed, of things that are numbered from 1.
+/// Returns the numbers of those names that are listed, counted from 1 and in rising order.
 fn numbers_among(alloc: Global, names: &[&str], listed: &[Value]) -> Result<Seq<u8>, PlanFault>
     requires { length names.now ≤ 64 }
     ensures ok { IfOk result (λ numbers. numbers ≡ listed_from 1 (map (λ n. n.now) names.now) (items_view listed.now)) }

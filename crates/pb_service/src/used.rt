@@ -1,4 +1,4 @@
-//! The local ports that are used so far.
+//! The local ports that are in use.
 
 ghost use Rattle.std.specs.Prelude.{◌≡◌, ◌⊎◌, ◌++◌, ◌∷◌, [], true, false, OnOk, IfErr};
 ghost use Rattle.pb_service.specs.UsedPorts.{is_used};
@@ -7,14 +7,14 @@ ghost use Rattle.pb_service.specs.declared.fault.PlanFault.TheVariants.{Memory a
 
 use crate::fault::PlanFault;
 
-/// A local port of a bridge.
+/// A local port of a bridge, by the bridge's number in the plan from 1.
 #[derive(Clone, Copy)]
 pub(crate) struct LocalPort {
     pub bridge: u8,
     pub port: u8,
 }
 
-/// The port is among those that are used.
+/// Returns whether the port is in use.
 pub(crate) fn is_used(used: &[LocalPort], port: LocalPort) -> bool
     ensures { result ≡ is_used used.now port }
 {
@@ -26,7 +26,11 @@ pub(crate) fn is_used(used: &[LocalPort], port: LocalPort) -> bool
     false
 }
 
-/// Uses a port that nothing has used so far.
+/// Appends a port to those in use.
+///
+/// # Errors
+///
+/// `LinkEnd` if the port is in use already, `Memory` if an allocation failed.
 pub(crate) fn use_port(used: &mut Vec<LocalPort>, port: LocalPort) -> Result<(), PlanFault>
     ensures ok { OnOk result (used.new.items ≡ used.old.items ++ port ∷ []) }
     ensures free { OnOk result (is_used used.old.items port ≡ false) }

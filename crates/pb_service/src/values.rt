@@ -1,4 +1,4 @@
-//! What values of a TOML document may be.
+//! Checks of the values of a TOML document.
 
 ghost use Rattle.std.specs.Prelude.{◌≡◌, false, ◌+◌, ◌^◌, ◌<◌, ◌↔◌, IsTrue, IsSome, IfSome, IfNone};
 ghost use Rattle.std.specs.Prelude.{nat_le, ◌==◌, ◌%◌, ◌&&◌, ◌||◌, is_some, codes, List, ℕ};
@@ -16,7 +16,7 @@ use crate::rule::Rule;
 use pb_frame::Mac;
 use toml::Value;
 
-/// An integer that isn't negative.
+/// Returns the number of an integer that isn't negative.
 pub(crate) fn natural_of(value: &Value) -> Option<u64>
     ensures value { result ≡ natural_of (view value.now) }
     ensures signed { IfSome result (λ n. n < 2 ^ 63) }
@@ -25,7 +25,7 @@ pub(crate) fn natural_of(value: &Value) -> Option<u64>
     if n < 0 { None } else { Some(n as u64) }
 }
 
-/// The text of a value; of another value than a text the empty one.
+/// Returns the text of a value, or the empty text if the value isn't a text.
 pub(crate) fn text_in(value: &Value) -> &str
     ensures { result.now ≡ text_in (view value.now) }
 {
@@ -35,6 +35,7 @@ pub(crate) fn text_in(value: &Value) -> &str
     }
 }
 
+/// Returns whether the value is a number from `low` to `high`.
 fn is_number(value: &Value, low: u64, high: u64) -> bool
     ensures { result ≡ is_natural (λ n. nat_le low n && nat_le n high) (view value.now) }
 {
@@ -44,6 +45,7 @@ fn is_number(value: &Value, low: u64, high: u64) -> bool
     }
 }
 
+/// Returns whether the value is a multiple of 4,096 up to 61,440.
 fn is_bridge_priority(value: &Value) -> bool
     ensures { result ≡ is_natural (λ n. n % 4096 == 0 && nat_le n 61440) (view value.now) }
 {
@@ -53,6 +55,7 @@ fn is_bridge_priority(value: &Value) -> bool
     }
 }
 
+/// Returns whether the value is a multiple of 16 up to 240.
 fn is_port_priority(value: &Value) -> bool
     ensures { result ≡ is_natural (λ n. n % 16 == 0 && nat_le n 240) (view value.now) }
 {
@@ -62,6 +65,7 @@ fn is_port_priority(value: &Value) -> bool
     }
 }
 
+/// Returns whether the value is a text that is a name.
 fn is_name(value: &Value) -> bool
     ensures { result ≡ is_text is_name (view value.now) }
 {
@@ -71,18 +75,21 @@ fn is_name(value: &Value) -> bool
     }
 }
 
+/// Returns whether the octet is a hexadecimal digit, in either case.
 fn is_digit(c: u8) -> bool
     ensures { result ≡ is_digit c }
 {
     matches!(c, b'0'..=b'9' | b'A'..=b'F' | b'a'..=b'f')
 }
 
+/// Returns whether all octets are hexadecimal digits.
 fn are_digits(text: &[u8]) -> bool
     ensures { result ≡ list_all is_digit text.now }
 {
     text.iter().all(|c| is_digit(*c))
 }
 
+/// Returns whether the text consists of pairs of hexadecimal digits.
 fn is_hex_text(text: &str) -> bool
     ensures { result ≡ is_hex text.now }
 {
@@ -90,6 +97,7 @@ fn is_hex_text(text: &str) -> bool
     digits && text.len() % 2 == 0
 }
 
+/// Returns whether the value is a text of pairs of hexadecimal digits.
 fn is_hex(value: &Value) -> bool
     ensures { result ≡ is_text is_hex (view value.now) }
 {
@@ -99,7 +107,7 @@ fn is_hex(value: &Value) -> bool
     }
 }
 
-/// The address of one station that a text tells.
+/// Returns the individual MAC address that the text denotes. Returns `None` for a group address and for other texts.
 pub(crate) fn station(text: &str) -> Option<Mac>
     ensures found { IfSome result (λ m. IsMacText text.now m.0) }
     ensures individual { IfSome result (λ m. is_group m.0 ≡ false) }
@@ -112,6 +120,7 @@ pub(crate) fn station(text: &str) -> Option<Mac>
     }
 }
 
+/// Returns whether the value is `fixed` or `rstp`.
 fn is_spanning(value: &Value) -> bool
     ensures { result ≡ is_text (λ t. same t (codes "fixed") || same t (codes "rstp")) (view value.now) }
 {
@@ -121,6 +130,7 @@ fn is_spanning(value: &Value) -> bool
     }
 }
 
+/// Returns whether the value is `discarding`, `learning` or `forwarding`.
 fn is_state(value: &Value) -> bool
     ensures { result ≡ is_text (λ t. same t (codes "discarding")
         || (same t (codes "learning") || same t (codes "forwarding"))) (view value.now) }
@@ -131,6 +141,7 @@ fn is_state(value: &Value) -> bool
     }
 }
 
+/// Returns whether the value is `memory`, `capture` or `socket`.
 fn is_port_kind(value: &Value) -> bool
     ensures { result ≡ is_text (λ t. same t (codes "memory") || (same t (codes "capture") || same t (codes "socket")))
         (view value.now) }
@@ -141,6 +152,7 @@ fn is_port_kind(value: &Value) -> bool
     }
 }
 
+/// Returns whether the value is `ticks` or `time`.
 fn is_stamp(value: &Value) -> bool
     ensures { result ≡ is_text (λ t. same t (codes "ticks") || same t (codes "time")) (view value.now) }
 {
@@ -150,6 +162,7 @@ fn is_stamp(value: &Value) -> bool
     }
 }
 
+/// Returns whether each item is an integer.
 fn are_integers(items: &[Value]) -> bool
     ensures { result ≡ all_items (λ e. is_some (as_integer e)) (items_view items.now) }
 {
@@ -161,6 +174,7 @@ fn are_integers(items: &[Value]) -> bool
     true
 }
 
+/// Returns whether each item is a text.
 fn are_texts(items: &[Value]) -> bool
     ensures { result ≡ all_items (λ e. is_some (as_str e)) (items_view items.now) }
 {
@@ -172,6 +186,7 @@ fn are_texts(items: &[Value]) -> bool
     true
 }
 
+/// Returns whether each item is a text of pairs of hexadecimal digits.
 fn are_hex(items: &[Value]) -> bool
     ensures { result ≡ all_items (is_text is_hex) (items_view items.now) }
 {
@@ -183,6 +198,7 @@ fn are_hex(items: &[Value]) -> bool
     true
 }
 
+/// Returns whether each item is a name.
 fn are_names(items: &[Value]) -> bool
     ensures { result ≡ all_items (is_text is_name) (items_view items.now) }
 {
@@ -194,7 +210,7 @@ fn are_names(items: &[Value]) -> bool
     true
 }
 
-/// The numbers rise strictly.
+/// Returns whether the items are natural numbers that rise strictly.
 fn rise(items: &[Value]) -> bool
     ensures { result ≡ rise_from 0 (items_view items.now) }
 {
@@ -211,7 +227,7 @@ fn rise(items: &[Value]) -> bool
     true
 }
 
-/// One of the values is this text.
+/// Returns whether one of the items is this text.
 pub(crate) fn has_text(items: &[Value], text: &str) -> bool
     ensures { result ≡ any_item (is_text (same text.now)) (items_view items.now) }
 {
@@ -223,6 +239,7 @@ pub(crate) fn has_text(items: &[Value], text: &str) -> bool
     false
 }
 
+/// Returns whether the value is this text.
 fn is_same(value: &Value, text: &str) -> bool
     ensures { result ≡ is_text (same text.now) (view value.now) }
 {
@@ -232,7 +249,7 @@ fn is_same(value: &Value, text: &str) -> bool
     }
 }
 
-/// No text stands twice.
+/// Returns whether no text occurs twice among the items.
 fn are_distinct(items: &[Value]) -> bool
     ensures { result ≡ are_distinct (items_view items.now) }
 {
@@ -245,7 +262,7 @@ fn are_distinct(items: &[Value]) -> bool
     true
 }
 
-/// The value is of the TOML type that the rule asks for, the items of a list too.
+/// Returns whether the value is of the TOML type that the rule requires. The items of a list are checked too.
 pub(crate) fn is_of_kind(rule: Rule, value: &Value) -> bool
     ensures { result ≡ is_of_kind rule (view value.now) }
 {
@@ -270,7 +287,7 @@ pub(crate) fn is_of_kind(rule: Rule, value: &Value) -> bool
     }
 }
 
-/// The value is one that the rule allows.
+/// Returns whether the rule allows the value.
 pub(crate) fn is_allowed(rule: Rule, value: &Value) -> bool
     ensures { IsTrue result ↔ IsAllowed rule (view value.now) }
 {
@@ -292,6 +309,7 @@ pub(crate) fn is_allowed(rule: Rule, value: &Value) -> bool
     }
 }
 
+/// Returns whether the value is a list of numbers that rises strictly.
 fn are_losses(value: &Value) -> bool
     ensures { result ≡ is_list (rise_from 0) (view value.now) }
 {
@@ -301,6 +319,7 @@ fn are_losses(value: &Value) -> bool
     }
 }
 
+/// Returns whether the value is a list of distinct names.
 fn are_listed(value: &Value) -> bool
     ensures { result ≡ is_list (λ ds. all_items (is_text is_name) ds && are_distinct ds) (view value.now) }
 {
@@ -310,6 +329,7 @@ fn are_listed(value: &Value) -> bool
     }
 }
 
+/// Returns whether the value is a list of hexadecimal texts.
 fn are_frames(value: &Value) -> bool
     ensures { result ≡ is_list (all_items (is_text is_hex)) (view value.now) }
 {

@@ -1,4 +1,4 @@
--- The numbers of names.
+-- The numbers of names (used by `numbers` and `Names::link`).
 use Rattle.std.proofs.Common.{◌≡◌, ℕ, suc, ◌+◌, ◌<◌, ◌≤◌, Bool, true, false, cond, List, [], ◌∷◌, length, drop}
 use Rattle.std.proofs.Common.{get_or, map, refl, ap, arith, Option, Some, unwrap_or}
 use Rattle.std.proofs.lemmas.List.{drop_more}
@@ -17,13 +17,13 @@ number_of-few test k (x ∷ xs) =
     rw next (let more = number_of-few test (suc k) xs in omega arith) in
     cond-within (test x) (suc k) (number_of test (suc k + 1) xs) (k + suc (length xs)) (omega arith) rest
 
--- the number of a thing by what is seen of it
+-- the number of a thing is that of its image in the mapped list
 pub number_of-map : {X Y : Type 0} (f : X → Y) (test : Y → Bool) (k : ℕ) (xs : List X)
     → number_of test k (map f xs) ≡ number_of (λ x. test (f x)) k xs
 number_of-map f test k [] = refl
 number_of-map f test k (x ∷ xs) = ap (λ n. cond (test (f x)) k n) (number_of-map f test (k + 1) xs)
 
--- the number among the things from one on
+-- the search from an index tests the thing there, and goes on after it
 pub number_of-from : {X : Type 0} (test : X → Bool) (xs : List X) (i : ℕ) (d : X) → i < length xs
     → number_of test (i + 1) (drop i xs) ≡ cond (test (get_or xs i d)) (i + 1)
     (number_of test (i + 1 + 1) (drop (i + 1) xs))

@@ -1,4 +1,4 @@
--- What a record tells of customer ports and links.
+-- The printed counts of customer ports and links.
 use Rattle.std.specs.Prelude.{◌≡◌, ℕ, ◌+◌, List, [], ◌∷◌, ◌++◌, Some, None, map, flat_map, codes, IsPermutation}
 use Rattle.std.specs.Cmp.Lexicographic.{slice_cmp}
 use Rattle.std.specs.Fmt.{decimal}
@@ -13,7 +13,7 @@ use Rattle.pb_lan.specs.declared.plan.CustomerPlan.{CustomerPlan}
 use Rattle.pb_lan.specs.declared.record.Record.{Record}
 use Rattle.pb_history.specs.Passages.{is_poll, is_departure, is_filtered, is_take, is_loss}
 
--- the frames of a customer port that its bridge filtered
+-- the number of frames of a customer port that its bridge filtered
 abbrev pub filtered_at : Record → Option CustomerPlan → ℕ
 filtered_at rec None = 0
 filtered_at rec (Some c) = count_by (is_filtered c.port) (steps_of rec.bridges c.bridge)
@@ -25,7 +25,7 @@ port_line plan rec port =
     ++ codes " left " ++ decimal (count_by is_departure (steps_of rec.customers port.1))
     ++ codes " filtered " ++ decimal (filtered_at rec (numbered plan.customers port.1)) ++ 10 ∷ []
 
--- the line of a link
+-- the line of a link, by its name and number
 abbrev pub link_line : Record → (List ℕ × ℕ) → List ℕ
 link_line rec link =
     codes "link " ++ link.0
@@ -33,17 +33,17 @@ link_line rec link =
     ++ codes " ba taken " ++ decimal (count_by is_take (steps_of rec.lanes (lane_ba link.1))) ++ codes " lost " ++ decimal (count_by is_loss (steps_of rec.lanes (lane_ba link.1)))
     ++ 10 ∷ []
 
--- names with their numbers, counted from k on
+-- names with their numbers, counted from k
 abbrev pub with_numbers : ℕ → List (List ℕ) → List (List ℕ × ℕ)
 with_numbers k [] = []
 with_numbers k (name ∷ names) = (name, k) ∷ with_numbers (k + 1) names
 
--- the same, sorted by the octets of the names
+-- names with their numbers, sorted by the octets of the names
 pub record AreByName (names : List (List ℕ)) (sorted : List (List ℕ × ℕ)) : Type 0 where
   pub same : IsPermutation (with_numbers 1 names) sorted
   pub by_name : IsSortedByKey (λ n. n.0) (slice_cmp nat_cmp) sorted
 
--- a line for each customer port, and one for each link, by name
+-- a line for each customer port, and then one for each link, both sorted by name
 pub record IsCountsText (plan : Plan) (rec : Record) (text : List ℕ) : Type 0 where
   pub ports : List (List ℕ × ℕ)
   pub are_ports : AreByName (map (λ c. c.name) plan.customers) ports

@@ -1,4 +1,4 @@
--- What a line asks for.
+-- The event that a script line asks for.
 use Rattle.std.specs.Prelude.{◌≡◌, ◌⊎◌, ℕ, ◌<◌, ◌≤◌, Bool, true, false, List, Some, length, codes}
 use Rattle.pb_frame.specs.Hex.{IsHex}
 use Rattle.pb_lan.specs.Names.{is_name}
@@ -12,7 +12,7 @@ use Rattle.pb_messages.specs.Words.{cut, port_of, local_port}
 use Rattle.pb_step_script.specs.declared.verb.Verb.{Verb}
 use Rattle.pb_step_script.specs.declared.verb.Verb.TheVariants.{Poll as poll, Feed as feed, Deliver as deliver, Receive as receive, Transmit as transmit, Tick as tick, Admin as admin, Take as take, Put as put}
 
--- `NAME HEX`: a frame of one octet at least, at a customer port
+-- `NAME HEX`: a frame of at least one octet, at a customer port
 pub record IsFrameAt (plan : Plan) (words : List ℕ) (port : ℕ) (frame : List ℕ) : Type 0 where
   pub name : List ℕ
   pub hex : List ℕ
@@ -22,7 +22,7 @@ pub record IsFrameAt (plan : Plan) (words : List ℕ) (port : ℕ) (frame : List
   pub octets : IsHex hex frame
   pub some : 0 < length frame
 
--- `BRIDGE PORT`
+-- `BRIDGE PORT`: a local port of a bridge
 pub record IsBridgePort (plan : Plan) (words : List ℕ) (bridge port : ℕ) : Type 0 where
   pub name : List ℕ
   pub digits : List ℕ
@@ -33,11 +33,11 @@ pub record IsBridgePort (plan : Plan) (words : List ℕ) (bridge port : ℕ) : T
   pub bridge_is : bridge ≡ bridge_named plan name
   pub port_is : port ≡ local_port number
 
--- `up` or `down`
+-- `up` enables and `down` disables
 abbrev pub IsWay : List ℕ → Bool → Type 0
 IsWay word up = ((word ≡ codes "up") × (up ≡ true)) ⊎ ((word ≡ codes "down") × (up ≡ false))
 
--- `BRIDGE PORT up` or `down`
+-- `BRIDGE PORT up` or `BRIDGE PORT down`: a local port of a bridge, and whether to enable it
 pub record IsBridgeWay (plan : Plan) (words : List ℕ) (bridge port : ℕ) (up : Bool) : Type 0 where
   pub name : List ℕ
   pub rest : List ℕ
@@ -52,7 +52,7 @@ pub record IsBridgeWay (plan : Plan) (words : List ℕ) (bridge port : ℕ) (up 
   pub bridge_is : bridge ≡ bridge_named plan name
   pub port_is : port ≡ local_port number
 
--- `LINK ab` or `ba`: one of the lanes of a link
+-- `LINK ab` or `LINK ba`: a lane of a link
 pub record IsLinkLane (plan : Plan) (words : List ℕ) (lane : ℕ) : Type 0 where
   pub name : List ℕ
   pub way : List ℕ
@@ -60,8 +60,8 @@ pub record IsLinkLane (plan : Plan) (words : List ℕ) (lane : ℕ) : Type 0 whe
   pub is_named : is_name name ≡ true
   pub lane_is : ((way ≡ codes "ab") × (lane ≡ lane_ab (link_named plan name))) ⊎ ((way ≡ codes "ba") × (lane ≡ lane_ba (link_named plan name)))
 
--- what the words behind the first one ask for. A name or a port that the plan lacks stands for 0, which
--- names nothing
+-- the event that the arguments after the verb ask for, in which a name or port that the plan lacks has the number 0,
+-- which no part has
 abbrev pub AsksFor : Plan → Verb → List ℕ → Event → Type 0
 AsksFor plan poll words event = (port : ℕ) × (frame : List ℕ) × IsFrameAt plan words port frame × (event ≡ Poll port frame)
 AsksFor plan feed words event = (is_name words ≡ true) × (event ≡ Feed (customer_named plan words))
@@ -73,7 +73,7 @@ AsksFor plan admin words event = (bridge : ℕ) × (port : ℕ) × (up : Bool) �
 AsksFor plan take words event = (lane : ℕ) × IsLinkLane plan words lane × (event ≡ Take lane)
 AsksFor plan put words event = (lane : ℕ) × IsLinkLane plan words lane × (event ≡ Put lane)
 
--- the line is one of the format, and asks for the event
+-- the line is valid, and asks for the event
 pub record Asks (limit : ℕ) (plan : Plan) (line : List ℕ) (event : Event) : Type 0 where
   pub short : length line ≤ limit
   pub verb : Verb

@@ -1,4 +1,4 @@
--- The first word of a line.
+-- The verbs of script lines.
 use Rattle.std.specs.Prelude.{ℕ, List, codes}
 use Rattle.pb_step_script.specs.declared.verb.Verb.{Verb}
 use Rattle.pb_step_script.specs.declared.verb.Verb.TheVariants.{Poll, Feed, Deliver, Receive, Transmit, Tick, Admin, Take, Put}

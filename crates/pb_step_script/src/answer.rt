@@ -1,4 +1,4 @@
-//! What is said of events.
+//! The printed text of a step.
 
 ghost use Rattle.std.specs.Prelude.{◌≡◌, ◌++◌, ◌==◌, not, string_bytes, OnOk};
 ghost use Rattle.std.specs.List.{list_any};
@@ -11,14 +11,14 @@ use pb_lan::{NoRoom, Outcome, Place, Plan, Step};
 use pb_messages::put_reason;
 use std::alloc::Global;
 
-/// Whether a port is among those that got no copy.
+/// Returns whether a port got no copy.
 fn is_refused(port: u8, refused: &[(u8, NoRoom)]) -> bool
     ensures { result ≡ list_any (λ r. r.0 == port) refused.now }
 {
     refused.iter().any(|r| r.0 == port)
 }
 
-/// The chosen ports that got a copy.
+/// Appends the chosen ports that got a copy.
 fn put_ports(out: &mut String, chosen: &[u8], refused: &[(u8, NoRoom)]) -> Result<(), Memory>
     ensures { OnOk result (string_bytes out.new ≡ string_bytes out.old ++ port_words (copied refused.now chosen.now)) }
 {
@@ -30,7 +30,7 @@ fn put_ports(out: &mut String, chosen: &[u8], refused: &[(u8, NoRoom)]) -> Resul
     Ok(())
 }
 
-/// The ports that got none, and why.
+/// Appends each port that got no copy, with the reason: its queue was full, or an allocation failed.
 fn put_refused(out: &mut String, refused: &[(u8, NoRoom)]) -> Result<(), Memory>
     ensures { OnOk result (string_bytes out.new ≡ string_bytes out.old ++ refused_words refused.now) }
 {
@@ -43,7 +43,7 @@ fn put_refused(out: &mut String, refused: &[(u8, NoRoom)]) -> Result<(), Memory>
     Ok(())
 }
 
-/// What became of a frame.
+/// Appends the outcome of a received frame.
 fn put_outcome(out: &mut String, outcome: &Outcome) -> Result<(), Memory>
     ensures { OnOk result (string_bytes out.new ≡ string_bytes out.old ++ outcome_words outcome.now) }
 {
@@ -65,7 +65,7 @@ fn put_outcome(out: &mut String, outcome: &Outcome) -> Result<(), Memory>
     }
 }
 
-/// A frame in hexadecimal.
+/// Appends a frame in hexadecimal.
 fn put_hex(alloc: Global, out: &mut String, octets: &[u8]) -> Result<(), Memory>
     ensures { OnOk result (string_bytes out.new ≡ string_bytes out.old ++ hex_of octets.now) }
 {
@@ -74,7 +74,7 @@ fn put_hex(alloc: Global, out: &mut String, octets: &[u8]) -> Result<(), Memory>
     Ok(())
 }
 
-/// What a place did; `name` is that of a customer port.
+/// Appends the text of a step. `name` is that of the customer port that took it, and else not used.
 fn put_step(alloc: Global, out: &mut String, name: &str, step: &Step) -> Result<(), Memory>
     ensures { OnOk result (string_bytes out.new ≡ string_bytes out.old ++ step_words name.now step.now) }
 {
@@ -109,7 +109,7 @@ fn put_step(alloc: Global, out: &mut String, name: &str, step: &Step) -> Result<
     Ok(())
 }
 
-/// The name of a place that is a customer port.
+/// Returns the name of a customer port, or the empty text for another place or an unknown number.
 fn name_at(plan: &Plan, place: Place) -> &str
     ensures { result.now ≡ place_name plan.now place }
 {
@@ -125,10 +125,15 @@ fn name_at(plan: &Plan, place: Place) -> &str
     }
 }
 
-/// Puts what a place did behind a text: `polled NAME K`, `fed`, `delivered HEX`, `sent HEX`, `ticked`,
-/// `set`, `taken K`, `lost K`, `put`, or what became of a frame that a bridge received: `relayed` with the
-/// ports that got a copy, and ` full Q` or ` memory Q` for each that got none; `filtered REASON`; or
-/// `heard`. `Memory` is answered where memory ran out.
+/// Appends the line of the step that a place took.
+///
+/// The line is `polled NAME K`, `fed`, `delivered HEX`, `sent HEX`, `ticked`, `set`, `taken K`, `lost K` or `put`. For
+/// a frame that a bridge received it is `relayed` with the ports that got a copy, followed by ` full Q` or ` memory Q`
+/// for each chosen port that got none; `filtered REASON`; or `heard`.
+///
+/// # Errors
+///
+/// `Memory` if an allocation failed.
 pub fn put_done(
     alloc: Global,
     out: &mut String,
@@ -143,7 +148,11 @@ pub fn put_done(
     Ok(())
 }
 
-/// Puts `idle` behind a text: there was nothing to do.
+/// Appends the line `idle`: the event had nothing to do.
+///
+/// # Errors
+///
+/// `Memory` if an allocation failed.
 pub fn put_idle(out: &mut String) -> Result<(), Memory>
     ensures { OnOk result (string_bytes out.new ≡ string_bytes out.old ++ idle_line) }
 {
@@ -151,7 +160,11 @@ pub fn put_idle(out: &mut String) -> Result<(), Memory>
     Ok(())
 }
 
-/// Puts `no such` behind a text: the plan lacks what the line names.
+/// Appends the line `no such`: the plan lacks the part that the script line names.
+///
+/// # Errors
+///
+/// `Memory` if an allocation failed.
 pub fn put_no_such(out: &mut String) -> Result<(), Memory>
     ensures { OnOk result (string_bytes out.new ≡ string_bytes out.old ++ no_such_line) }
 {

@@ -1,4 +1,4 @@
-//! The names of a plan's things, by their octets.
+//! The names of a plan's parts, sorted by their octets.
 
 ghost use Rattle.std.specs.Prelude.{◌≡◌, ◌≤◌, List, ℕ, length, map, IfOk};
 ghost use Rattle.pb_step_script.specs.Counts.{with_numbers, AreByName};
@@ -7,7 +7,7 @@ use pb_frame::Memory;
 use pb_lan::Plan;
 use std::alloc::Global;
 
-/// The names of the customer ports, with their numbers.
+/// Returns the names of the customer ports with their numbers, in the order of the plan.
 fn numbered_ports<'a>(alloc: Global, plan: &'a Plan) -> Result<Vec<(&'a str, u8)>, Memory>
     requires { length plan.now.customers ≤ 128 }
     ensures { IfOk result (λ ports. map (λ n. (n.0.now, n.1)) ports.items
@@ -20,7 +20,7 @@ fn numbered_ports<'a>(alloc: Global, plan: &'a Plan) -> Result<Vec<(&'a str, u8)
     Ok(ports)
 }
 
-/// The names of the links, with their numbers.
+/// Returns the names of the links with their numbers, in the order of the plan.
 fn numbered_links<'a>(alloc: Global, plan: &'a Plan) -> Result<Vec<(&'a str, u8)>, Memory>
     requires { length plan.now.links ≤ 64 }
     ensures { IfOk result (λ links. map (λ n. (n.0.now, n.1)) links.items
@@ -33,7 +33,7 @@ fn numbered_links<'a>(alloc: Global, plan: &'a Plan) -> Result<Vec<(&'a str, u8)
     Ok(links)
 }
 
-/// The names of the bridges, with their numbers.
+/// Returns the names of the bridges with their numbers, in the order of the plan.
 fn numbered_bridges<'a>(alloc: Global, plan: &'a Plan) -> Result<Vec<(&'a str, u8)>, Memory>
     requires { length plan.now.bridges ≤ 32 }
     ensures { IfOk result (λ bridges. map (λ n. (n.0.now, n.1)) bridges.items
@@ -46,7 +46,7 @@ fn numbered_bridges<'a>(alloc: Global, plan: &'a Plan) -> Result<Vec<(&'a str, u
     Ok(bridges)
 }
 
-/// Sorts names by their octets.
+/// Sorts names by their octets, and equal names by their numbers.
 fn sort(things: &mut Vec<(&str, u8)>)
     ensures { (names : List (List ℕ)) → map (λ n. (n.0.now, n.1)) things.old.items ≡ with_numbers 1 names
         → AreByName names (map (λ n. (n.0.now, n.1)) things.new.items) }
@@ -54,8 +54,13 @@ fn sort(things: &mut Vec<(&str, u8)>)
     things.sort_unstable();
 }
 
-/// The names of a plan's customer ports, each with its number from 1, in the order of the octets of the names.
-/// `Memory` is answered where there was none for them.
+/// Returns the names of a plan's customer ports, sorted by their octets, each with its number from 1.
+///
+/// The plan has at most 128 customer ports.
+///
+/// # Errors
+///
+/// `Memory` if an allocation failed.
 pub fn ports_by_name<'a>(alloc: Global, plan: &'a Plan) -> Result<Vec<(&'a str, u8)>, Memory>
     requires { length plan.now.customers ≤ 128 }
     ensures { IfOk result (λ ports. AreByName (map (λ c. c.name) plan.now.customers)
@@ -66,7 +71,13 @@ pub fn ports_by_name<'a>(alloc: Global, plan: &'a Plan) -> Result<Vec<(&'a str, 
     Ok(ports)
 }
 
-/// The names of a plan's links, as [`ports_by_name`] gives those of customer ports.
+/// Returns the names of a plan's links, sorted by their octets, each with its number from 1.
+///
+/// The plan has at most 64 links.
+///
+/// # Errors
+///
+/// `Memory` if an allocation failed.
 pub fn links_by_name<'a>(alloc: Global, plan: &'a Plan) -> Result<Vec<(&'a str, u8)>, Memory>
     requires { length plan.now.links ≤ 64 }
     ensures { IfOk result (λ links. AreByName (map (λ l. l.name) plan.now.links)
@@ -77,7 +88,13 @@ pub fn links_by_name<'a>(alloc: Global, plan: &'a Plan) -> Result<Vec<(&'a str, 
     Ok(links)
 }
 
-/// The names of a plan's bridges, as [`ports_by_name`] gives those of customer ports.
+/// Returns the names of a plan's bridges, sorted by their octets, each with its number from 1.
+///
+/// The plan has at most 32 bridges.
+///
+/// # Errors
+///
+/// `Memory` if an allocation failed.
 pub fn bridges_by_name<'a>(alloc: Global, plan: &'a Plan) -> Result<Vec<(&'a str, u8)>, Memory>
     requires { length plan.now.bridges ≤ 32 }
     ensures { IfOk result (λ bridges. AreByName (map (λ b. b.name) plan.now.bridges)

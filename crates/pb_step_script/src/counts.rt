@@ -1,4 +1,4 @@
-//! How many frames the places of a network have had.
+//! The counts of frames at the places of a network.
 
 ghost use Rattle.std.specs.Prelude.{◌≡◌, unwrap_or};
 ghost use Rattle.std.specs.List.{count_by};
@@ -12,7 +12,7 @@ ghost use Rattle.pb_history.specs.Passages.{is_poll, is_departure, is_take, is_l
 use pb_history::{Tallies, Tally};
 use pb_lan::Plan;
 
-/// What was counted at the place of this number; None where there is no such place.
+/// Returns the counts of the place with this number, from 1, if there is one.
 fn tally_of(places: &[Tally], number: usize) -> Option<&Tally>
     ensures { option_copied result ≡ numbered places.now number }
 {
@@ -22,7 +22,7 @@ fn tally_of(places: &[Tally], number: usize) -> Option<&Tally>
     places.get(number - 1)
 }
 
-/// How many frames came in at a customer port, and how many left by it.
+/// Returns the number of frames that entered at a customer port, and the number that left at it.
 pub(crate) fn passed(tallies: &Tallies, number: u8) -> (u64, u64)
     ensures entered { result.0 ≡ count_by is_poll (steps_of tallies.now.customers number) }
     ensures left { result.1 ≡ count_by is_departure (steps_of tallies.now.customers number) }
@@ -33,7 +33,7 @@ pub(crate) fn passed(tallies: &Tallies, number: u8) -> (u64, u64)
     }
 }
 
-/// How many frames of a customer port its bridge filtered.
+/// Returns the number of frames of a customer port that its bridge filtered.
 pub(crate) fn filtered_at(plan: &Plan, tallies: &Tallies, number: u8) -> u64
     requires { IsSound plan.now }
     ensures { result ≡ filtered_at tallies.now (numbered plan.now.customers number) }
@@ -50,7 +50,7 @@ pub(crate) fn filtered_at(plan: &Plan, tallies: &Tallies, number: u8) -> u64
     }
 }
 
-/// How many items a lane took, and how many of them it lost.
+/// Returns the number of items that a lane took, and the number of those that it lost.
 pub(crate) fn carried(tallies: &Tallies, lane: usize) -> (u64, u64)
     ensures taken { result.0 ≡ count_by is_take (steps_of tallies.now.lanes lane) }
     ensures lost { result.1 ≡ count_by is_loss (steps_of tallies.now.lanes lane) }

@@ -1,7 +1,7 @@
-//! Step scripts: what their lines ask of a network, and what is answered.
+//! Step scripts: the event that a line asks for, and the line that reports the step.
 //!
-//! A line names bridges, links and customer ports as the plan does. What it asks for is one event of
-//! the network; what is said of it is the step that the event's place took.
+//! A line names bridges, links and customer ports as the plan does. It asks for one event of the network.
+//! The crate builds on pb_frame, pb_history and pb_messages. Begin with [`read_line`] in `line.rt`.
 #![tactic(auto)]
 
 mod answer;

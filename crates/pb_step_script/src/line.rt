@@ -14,10 +14,13 @@ use pb_lan::{Event, is_name};
 use pb_messages::{cut, local_port, read_port};
 use std::alloc::Global;
 
-/// A frame of one octet at least, from pairs of hexadecimal digits in either case.
+/// Reads a frame of at least one octet from pairs of hexadecimal digits in either case.
 ///
-/// None is answered of no digits, an odd number of them, and another octet among them; `Memory` where memory ran out
-/// for the frame.
+/// Returns `None` if there are no digits, an odd number of them, or another octet among them.
+///
+/// # Errors
+///
+/// `Memory` if an allocation failed.
 pub fn read_frame(alloc: Global, hex: &[u8]) -> Result<Option<Bytes>, Memory>
     ensures some { IfOk result (λ o. IfSome o (λ frame. IsHex hex.now frame)) }
     ensures filled { IfOk result (λ o. IfSome o (λ frame. 0 < length frame)) }
@@ -34,7 +37,11 @@ pub fn read_frame(alloc: Global, hex: &[u8]) -> Result<Option<Bytes>, Memory>
     }
 }
 
-/// What comes in at which customer port, of the words `NAME HEX`.
+/// Reads the arguments `NAME HEX`: the number of a customer port and a frame.
+///
+/// # Errors
+///
+/// `Memory` if an allocation failed.
 fn read_frame_at(
     alloc: Global,
     names: &Names<'_>,
@@ -56,7 +63,7 @@ fn read_frame_at(
     }
 }
 
-/// The bridge and its local port, of the words `BRIDGE PORT`.
+/// Reads the arguments `BRIDGE PORT`: the number of a bridge and a local port of it.
 fn read_bridge_port(names: &Names<'_>, words: &[u8]) -> Option<(u8, u8)>
     ensures some { IfSome result (λ at. IsBridgePort names.now.plan.now words.now at.0 at.1) }
     ensures none { IfNone result ((bridge port : ℕ) → IsBridgePort names.now.plan.now words.now bridge port → ⊥) }
@@ -69,7 +76,7 @@ fn read_bridge_port(names: &Names<'_>, words: &[u8]) -> Option<(u8, u8)>
     Some((names.bridge(name), local_port(number)))
 }
 
-/// Whether a port is set up, of the word `up` or `down`.
+/// Reads `up` or `down`: whether to enable the port.
 fn read_way(word: &[u8]) -> Option<bool>
     ensures some { IfSome result (λ up. IsWay word.now up) }
     ensures none { IfNone result ((up : Bool) → IsWay word.now up → ⊥) }
@@ -81,18 +88,18 @@ fn read_way(word: &[u8]) -> Option<bool>
     }
 }
 
-/// A local port of a bridge that is to be set up or down.
+/// A local port of a bridge, and whether to enable or disable it.
 #[derive(Clone, Copy)]
 struct PortSetting {
     /// The bridge's number.
     bridge: u8,
     /// The local port.
     port: u8,
-    /// Whether it is to be up.
+    /// Whether to enable it. Otherwise it is disabled.
     up: bool,
 }
 
-/// The port that is to be set, and whether up, of the words `BRIDGE PORT WAY`.
+/// Reads the arguments `BRIDGE PORT up` or `BRIDGE PORT down`.
 fn read_bridge_way(names: &Names<'_>, words: &[u8]) -> Option<PortSetting>
     ensures some { IfSome result (λ at. IsBridgeWay names.now.plan.now words.now at.bridge at.port at.up) }
     ensures none { IfNone result ((bridge port : ℕ) (up : Bool) →
@@ -114,7 +121,7 @@ fn read_bridge_way(names: &Names<'_>, words: &[u8]) -> Option<PortSetting>
     }
 }
 
-/// The lane of a link, of the words `LINK ab` or `LINK ba`.
+/// Reads the arguments `LINK ab` or `LINK ba`: the number of a lane.
 fn read_link_lane(names: &Names<'_>, words: &[u8]) -> Option<u8>
     ensures some { IfSome result (λ lane. IsLinkLane names.now.plan.now words.now lane) }
     ensures none { IfNone result ((lane : ℕ) → IsLinkLane names.now.plan.now words.now lane → ⊥) }
@@ -131,7 +138,11 @@ fn read_link_lane(names: &Names<'_>, words: &[u8]) -> Option<u8>
     }
 }
 
-/// The event that a line's words behind its verb ask for.
+/// Reads the arguments after the verb. Returns the event that the line asks for.
+///
+/// # Errors
+///
+/// `Memory` if an allocation failed.
 fn read_words(
     alloc: Global,
     names: &Names<'_>,
@@ -180,11 +191,15 @@ fn read_words(
     Ok(Some(event))
 }
 
-/// Reads a line of a step script, of at most `limit` octets: a verb and its words, one space each.
+/// Reads a line of a step script: a verb and its arguments, separated by one space each.
 ///
-/// The answer is the event that it asks for. Of a name that the plan lacks, or a port above 16, the
-/// event has the number 0, which names nothing. None is answered of any other line, an empty one too,
-/// and of one that is longer. `Memory` is answered where memory ran out for a frame.
+/// Returns the event that the line asks for. A name that the plan lacks, or a port above 16, gives the number 0, which
+/// no part of a plan has. Returns `None` for any other line, for an empty line, and for a line of more than `limit`
+/// octets.
+///
+/// # Errors
+///
+/// `Memory` if an allocation failed.
 pub fn read_line(
     alloc: Global,
     limit: usize,

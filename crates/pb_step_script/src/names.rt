@@ -11,7 +11,7 @@ use pb_lan::Plan;
 use std::alloc::Global;
 use std::collections::HashMap;
 
-/// The number of each name, counted from 1.
+/// Returns a map from each name to its number, counted from 1. Of equal names the first counts.
 fn numbers<'a>(alloc: Global, names: &[&'a [u8]]) -> Result<HashMap<&'a [u8], u8>, Memory>
     requires { length names.now < 256 }
     ensures { IfOk result (λ numbers. (q : List ℕ) → unwrap_or (get_by (λ k. bytes_eq q k.now) numbers) 0
@@ -24,7 +24,7 @@ fn numbers<'a>(alloc: Global, names: &[&'a [u8]]) -> Result<HashMap<&'a [u8], u8
     Ok(numbers)
 }
 
-/// The names of the plan's bridges.
+/// Returns the names of the plan's bridges.
 fn bridge_names<'a>(alloc: Global, plan: &'a Plan) -> Result<Vec<&'a [u8]>, Memory>
     ensures { IfOk result (λ names. map (λ n. n.now) names.items ≡ map (λ b. b.name) plan.now.bridges) }
 {
@@ -35,7 +35,7 @@ fn bridge_names<'a>(alloc: Global, plan: &'a Plan) -> Result<Vec<&'a [u8]>, Memo
     Ok(names)
 }
 
-/// The names of the plan's links.
+/// Returns the names of the plan's links.
 fn link_names<'a>(alloc: Global, plan: &'a Plan) -> Result<Vec<&'a [u8]>, Memory>
     ensures { IfOk result (λ names. map (λ n. n.now) names.items ≡ map (λ l. l.name) plan.now.links) }
 {
@@ -46,7 +46,7 @@ fn link_names<'a>(alloc: Global, plan: &'a Plan) -> Result<Vec<&'a [u8]>, Memory
     Ok(names)
 }
 
-/// The names of the plan's customer ports.
+/// Returns the names of the plan's customer ports.
 fn customer_names<'a>(alloc: Global, plan: &'a Plan) -> Result<Vec<&'a [u8]>, Memory>
     ensures { IfOk result (λ names. map (λ n. n.now) names.items ≡ map (λ c. c.name) plan.now.customers) }
 {
@@ -57,7 +57,7 @@ fn customer_names<'a>(alloc: Global, plan: &'a Plan) -> Result<Vec<&'a [u8]>, Me
     Ok(names)
 }
 
-/// The number of the name of each of the plan's bridges.
+/// Returns a map from the names of the plan's bridges to their numbers.
 fn bridge_numbers<'a>(alloc: Global, plan: &'a Plan) -> Result<HashMap<&'a [u8], u8>, Memory>
     requires { IsSound plan.now }
     ensures { IfOk result (λ numbers. (q : List ℕ) → unwrap_or (get_by (λ k. bytes_eq q k.now) numbers) 0
@@ -67,7 +67,7 @@ fn bridge_numbers<'a>(alloc: Global, plan: &'a Plan) -> Result<HashMap<&'a [u8],
     numbers(alloc, names.as_slice())
 }
 
-/// The number of the name of each of the plan's links.
+/// Returns a map from the names of the plan's links to their numbers.
 fn link_numbers<'a>(alloc: Global, plan: &'a Plan) -> Result<HashMap<&'a [u8], u8>, Memory>
     requires { IsSound plan.now }
     ensures { IfOk result (λ numbers. (q : List ℕ) → unwrap_or (get_by (λ k. bytes_eq q k.now) numbers) 0
@@ -77,7 +77,7 @@ fn link_numbers<'a>(alloc: Global, plan: &'a Plan) -> Result<HashMap<&'a [u8], u
     numbers(alloc, names.as_slice())
 }
 
-/// The number of the name of each of the plan's customer ports.
+/// Returns a map from the names of the plan's customer ports to their numbers.
 fn customer_numbers<'a>(alloc: Global, plan: &'a Plan) -> Result<HashMap<&'a [u8], u8>, Memory>
     requires { IsSound plan.now }
     ensures { IfOk result (λ numbers. (q : List ℕ) → unwrap_or (get_by (λ k. bytes_eq q k.now) numbers) 0
@@ -87,14 +87,14 @@ fn customer_numbers<'a>(alloc: Global, plan: &'a Plan) -> Result<HashMap<&'a [u8
     numbers(alloc, names.as_slice())
 }
 
-/// The number of a name, or 0.
+/// Returns the number of a name, or 0 if it isn't in the map.
 fn find(numbers: &HashMap<&[u8], u8>, name: &[u8]) -> u8
     ensures { result ≡ unwrap_or (get_by (λ k. bytes_eq name.now k.now) numbers.now) 0 }
 {
     numbers.get(name).copied().unwrap_or(0)
 }
 
-/// A plan whose bridges, links and customer ports are found by name.
+/// A plan whose bridges, links and customer ports are found by name, each in one look-up.
 #[derive(Drop)]
 pub struct Names<'a> {
     /// The plan.
@@ -111,7 +111,11 @@ pub struct Names<'a> {
 }
 
 impl<'a> Names<'a> {
-    /// The names of a plan. `Memory` is answered where memory ran out.
+    /// Returns a plan with its names. The plan is sound.
+    ///
+    /// # Errors
+    ///
+    /// `Memory` if an allocation failed.
     pub fn new(alloc: Global, plan: &'a Plan) -> Result<Names<'a>, Memory>
         requires { IsSound plan.now }
         ensures { IfOk result (λ names. names.plan.now ≡ plan.now) }
@@ -124,14 +128,14 @@ impl<'a> Names<'a> {
         })
     }
 
-    /// The number of the bridge of a name, or 0 where the plan has none.
+    /// Returns the number of the bridge with this name, or 0 if the plan has none.
     pub(crate) fn bridge(&self, name: &[u8]) -> u8
         ensures { result ≡ bridge_named self.now.plan.now name.now }
     {
         find(&self.bridges, name)
     }
 
-    /// The number of the link of a name, or 0 where the plan has none.
+    /// Returns the number of the link with this name, or 0 if the plan has none.
     pub(crate) fn link(&self, name: &[u8]) -> u8
         ensures named { result ≡ link_named self.now.plan.now name.now }
         ensures few { result ≤ 64 }
@@ -139,7 +143,7 @@ impl<'a> Names<'a> {
         find(&self.links, name)
     }
 
-    /// The number of the customer port of a name, or 0 where the plan has none.
+    /// Returns the number of the customer port with this name, or 0 if the plan has none.
     pub(crate) fn customer(&self, name: &[u8]) -> u8
         ensures { result ≡ customer_named self.now.plan.now name.now }
     {

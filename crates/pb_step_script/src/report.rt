@@ -1,4 +1,4 @@
-//! What is said of a record.
+//! The printed counts of a record.
 
 ghost use Rattle.std.specs.Prelude.{◌≡◌, ◌++◌, List, ℕ, map, flat_map, string_bytes, OnOk};
 ghost use Rattle.pb_lan.specs.Plans.{IsSound};
@@ -11,7 +11,7 @@ use pb_history::Tallies;
 use pb_lan::Plan;
 use std::alloc::Global;
 
-/// The line of a customer port.
+/// Appends the line of a customer port.
 fn put_port(
     out: &mut String,
     plan: &Plan,
@@ -34,7 +34,7 @@ fn put_port(
     Ok(())
 }
 
-/// The line of a link.
+/// Appends the line of a link.
 fn put_link(out: &mut String, tallies: &Tallies, name: &str, number: u8) -> Result<(), Memory>
     ensures { OnOk result (string_bytes out.new ≡ string_bytes out.old ++ link_line tallies.now (name.now, number)) }
 {
@@ -46,7 +46,7 @@ fn put_link(out: &mut String, tallies: &Tallies, name: &str, number: u8) -> Resu
     Ok(())
 }
 
-/// The lines of customer ports.
+/// Appends the lines of customer ports.
 fn put_ports(
     out: &mut String,
     plan: &Plan,
@@ -63,7 +63,7 @@ fn put_ports(
     Ok(())
 }
 
-/// The lines of links.
+/// Appends the lines of links.
 fn put_links(out: &mut String, tallies: &Tallies, links: &[(&str, u8)]) -> Result<(), Memory>
     ensures { OnOk result (string_bytes out.new ≡ string_bytes out.old
         ++ flat_map (link_line tallies.now) (map (λ n. (n.0.now, n.1)) links.now)) }
@@ -74,11 +74,16 @@ fn put_links(out: &mut String, tallies: &Tallies, links: &[(&str, u8)]) -> Resul
     Ok(())
 }
 
-/// Puts what a record tells of customer ports and links behind a text: a line `port NAME entered N left N
-/// filtered N` for each customer port, and a line `link NAME ab taken N lost N ba taken N lost N` for each
-/// link, both by name. A frame entered where it was polled, and left where it was delivered to a customer
-/// that took it; it is filtered at a port where its bridge received it there and dropped it; what is taken
-/// counts the lost ones too. `Memory` is answered where memory ran out.
+/// Appends the counts of customer ports and links, sorted by name.
+///
+/// Each customer port has a line `port NAME entered N left N filtered N`, and each link a line `link NAME ab taken N
+/// lost N ba taken N lost N`. A frame has entered when the port polled it, and has left when the port delivered it to a
+/// customer that took it. A frame is filtered if the bridge received it at this port and dropped it. The items taken
+/// include the lost ones.
+///
+/// # Errors
+///
+/// `Memory` if an allocation failed.
 pub fn put_counts(
     alloc: Global,
     out: &mut String,

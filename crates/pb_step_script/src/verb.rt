@@ -1,13 +1,13 @@
-//! The first words of lines.
+//! The verbs of script lines.
 
 ghost use Rattle.std.specs.Prelude.{◌≡◌, IfSome, IfNone};
 ghost use Rattle.pb_step_script.specs.Verbs.{verb_word};
 ghost use Rattle.pb_step_script.specs.declared.verb.Verb.{Verb};
 
-/// What a line asks for, by its first word.
+/// The verb of a script line, which is its first argument.
 #[derive(Clone, Copy, Debug, PartialEq, Eq)]
 pub enum Verb {
-    /// `poll NAME HEX`: a frame comes in at a customer port.
+    /// `poll NAME HEX`: a customer port takes in a frame.
     Poll,
     /// `feed NAME`: a customer port hands the frame that it holds to its bridge.
     Feed,
@@ -17,17 +17,17 @@ pub enum Verb {
     Receive,
     /// `transmit BRIDGE PORT`: a bridge sends the next item of a port.
     Transmit,
-    /// `tick BRIDGE`: a bridge's clock goes on by one.
+    /// `tick BRIDGE`: the clock of a bridge ticks once.
     Tick,
-    /// `admin BRIDGE PORT up` or `down`: a port to another bridge is set up or down.
+    /// `admin BRIDGE PORT up` or `down`: a port to another bridge is enabled or disabled.
     Admin,
     /// `take LINK ab` or `ba`: a lane of a link takes the oldest item that was sent to it.
     Take,
-    /// `put LINK ab` or `ba`: a lane puts the item that it holds in front of the far bridge.
+    /// `put LINK ab` or `ba`: a lane puts the item that it holds before the far bridge.
     Put,
 }
 
-/// The verb of a word.
+/// Returns the verb that an argument spells.
 pub(crate) fn verb_of(word: &[u8]) -> Option<Verb>
     ensures some { IfSome result (λ verb. word.now ≡ verb_word verb) }
     ensures none { IfNone result ((verb : Verb) → word.now ≡ verb_word verb → ⊥) }

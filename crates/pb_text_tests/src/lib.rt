@@ -1,4 +1,4 @@
-//! Runs of pb_lines, pb_run_losses, pb_messages and pb_cli with ample memory.
+//! Tests of pb_lines, pb_cli, pb_run_losses and the arguments of lines, without failing allocations.
 #![tactic(auto)]
 
 #[cfg(test)]

@@ -1,4 +1,4 @@
-//! Runs with ample memory, a file for each library.
+//! Tests without failing allocations, one file for each library or command.
 
 mod arguments;
 mod asked;

@@ -1,4 +1,4 @@
-//! The examples of `flat`, as their files have them.
+//! The examples of `flat`, as in their files.
 
 /// Two stations, one of which moves.
 pub(super) const LEARNING: &str = r#"in 1 02000000020202000000010108004142
@@ -9,7 +9,7 @@ in 2 02000000010102000000020208004950
 in 3 02000000010102000000010108005152
 "#;
 
-/// What leaves three ports.
+/// The output of a bridge with three ports for `LEARNING`.
 pub(super) const LEARNING_ANSWERS: &str = r#"out 2 02000000020202000000010108004142
 out 3 02000000020202000000010108004142
 out 1 02000000010102000000020208004344
@@ -18,7 +18,7 @@ out 2 02000000020202000000010108004748
 out 3 02000000010102000000020208004950
 "#;
 
-/// Frames that are filtered, frames that are data although they look like a bridge's own, and bad lines.
+/// Frames that are filtered, frames that are data although they look like those between bridges, and invalid lines.
 pub(super) const REASONS: &str = r#"in 1 0000
 in 1 0180c200000802000000010108004142
 in 1 0180c200000e02000000010188cc0207
@@ -31,7 +31,7 @@ in 4 ffffffffffff02000000010108004142
 hop
 "#;
 
-/// What leaves three ports, and what does not.
+/// The output of a bridge with three ports for `REASONS`.
 pub(super) const REASONS_ANSWERS: &str = r#"filtered 1 malformed
 filtered 1 reserved-8
 filtered 1 reserved-14

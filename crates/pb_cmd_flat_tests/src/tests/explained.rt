@@ -1,4 +1,4 @@
-//! What a caller may take from a run over lines.
+//! The guarantee of a run over lines, as a caller may use it.
 
 ghost use Rattle.std.specs.Prelude.{◌≡◌, ◌≢◌, ◌≤◌, ◌++◌, ℕ, List, [], length, IfErr, IfSome, OnOk};
 ghost use Rattle.std.specs.Io.KnownBytes.{Appends};
@@ -15,8 +15,8 @@ use pb_messages::CommandFault;
 use std::alloc::Global;
 use std::io::{Read, Write};
 
-/// What a caller may take from `run_flat`: one past of a bridge with so many ports explains all that was printed, line
-/// by line, or, after a fault, all that was printed before it.
+/// Calls `run_flat`. Its contract says that one past of a bridge with so many ports explains the whole output line by
+/// line, or, after a fault, the output before it.
 pub(super) fn explained<R: Read, W: Write>(
     alloc: Global,
     ports: u8,

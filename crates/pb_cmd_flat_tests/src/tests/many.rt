@@ -1,22 +1,22 @@
-//! More lines than there is memory for a list of what they did.
+//! More lines than memory could hold as a list of steps.
 
 use pb_cmd_flat::run_flat;
 use std::io;
 use std::io::{Read, Write};
 use std::test::Fail;
 
-/// A broadcast comes in at port 1.
+/// The line of a broadcast at port 1.
 const LINE: &[u8] = b"in 1 ffffffffffff0200000001010800\n";
 
-/// The octets of `out 2` or `out 3` with that broadcast.
+/// The length of the line `out 2` or `out 3` with that broadcast.
 const ANSWER_OCTETS: u64 = 35;
 
-/// Gives the line again and again, at most the rest of one a call.
+/// A reader that gives the line again and again, in each call at most the rest of one line.
 #[derive(Drop)]
 struct Again {
-    /// How many octets were given.
+    /// The number of octets that were given.
     given: u64,
-    /// How many are given in all.
+    /// The number of octets that are given in all.
     most: u64,
 }
 
@@ -33,7 +33,7 @@ impl Read for Again {
     }
 }
 
-/// Counts what it is given.
+/// A writer that counts the octets.
 #[derive(Drop)]
 struct Counter {
     octets: u64,

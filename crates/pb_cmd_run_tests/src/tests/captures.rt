@@ -1,4 +1,4 @@
-//! The example `captures`, as its files have it.
+//! The example `captures`, as in its files.
 
 use super::folder::{Contents, enter, leave, make, wrong};
 use super::plans::NO_FRAMES;
@@ -175,7 +175,7 @@ link ring6 ab taken 0 lost 0 ba taken 5 lost 0
 forest yes
 "#;
 
-/// What the provider sent.
+/// The frames that the provider sent.
 const PROVIDER: &[u8] =
     b"\xd4\xc3\xb2\xa1\x02\0\x04\0\0\0\0\0\0\0\0\0\xff\xff\0\0\x01\0\0\0\0\0\0\0\0\0\0\0\x2a\0\0\0\x2a\0\0\0\xff\xff\
     \xff\xff\xff\xff\x02\0\0\0\x01\x01\x08\x06\0\x01\x08\0\x06\x04\0\x01\x02\0\0\0\x01\x01\0\0\0\0\0\0\0\0\0\0\xc0\0\
@@ -183,14 +183,14 @@ const PROVIDER: &[u8] =
     \0\0\0\0\0\0\0\xe0\0\0\x01\0\0\0\0\0\0\0\0\0\0\0\0\0\0\0\0\x22\0\0\0\x22\0\0\0\x02\0\0\0\x03\x01\x02\0\0\0\x01\x01\
     \x08\0\x45\0\0\x14\0\0\0\0\x40\0\0\0\xc0\0\x02\x01\xc0\0\x02\x03";
 
-/// What the camera sent.
+/// The frames that the camera sent.
 const CAMERA: &[u8] =
     b"\xd4\xc3\xb2\xa1\x02\0\x04\0\0\0\0\0\0\0\0\0\xff\xff\0\0\x01\0\0\0\0\0\0\0\0\0\0\0\x23\0\0\0\x23\0\0\0\x02\0\0\0\
     \x05\x02\x02\0\0\0\x05\x01\x08\0\x45\0\0\x15\0\0\0\0\x40\x11\0\0\x0a\x03\0\x01\x0a\x03\0\x02\x58\0\0\0\0\0\0\0\0\
     \x27\0\0\0\x27\0\0\0\x02\0\0\0\x05\x02\x02\0\0\0\x05\x01\x81\0\0\x07\x08\0\x45\0\0\x15\0\0\0\0\x40\x11\0\0\x0a\x03\
     \0\x01\x0a\x03\0\x02\x59";
 
-/// What comes of the run.
+/// The result of the run.
 const ROW: Row = Row {
     parts: ["", PLAN],
     told: Told {
@@ -201,14 +201,14 @@ const ROW: Row = Row {
     report: REPORT,
 };
 
-/// The captures that go in.
+/// The captures that are read.
 const READ: Contents = &[
     ("examples/captures/none.pcap", NO_FRAMES),
     ("examples/captures/provider.pcap", PROVIDER),
     ("examples/captures/camera.pcap", CAMERA),
 ];
 
-/// Captures that are written.
+/// The captures that are written.
 const WRITTEN: Contents = &[
     ("out/shop.pcap", PROVIDER),
     ("out/hotel.pcap", PROVIDER),

@@ -13,13 +13,14 @@ use std::fs::Files;
 use std::os::unix::fs::symlink;
 use std::test::Fail;
 
-/// What the ports P2 and P1 read, what is told, and what is written at P1.
+/// The captures that ports P2 and P1 read, the result, and the capture that P1 writes.
 struct Captures {
     read: [&'static [u8]; 2],
     row: Row,
     wrote: &'static [u8],
 }
 
+/// Captures with their results.
 const CAPTURE_ROWS: &[Captures] = &[
     Captures {
         read: [ONE_FRAME, NO_FRAMES],
@@ -82,7 +83,7 @@ fn captures_are_carried_and_their_faults_told(rt: HostRuntime) -> Result<(), Fai
     Ok(())
 }
 
-/// Two captures of which the first is pcapng.
+/// Two captures, the first of which is pcapng.
 const PCAPNG: Row = Row {
     parts: ["", CAPTURES],
     told: Told {
@@ -94,6 +95,7 @@ const PCAPNG: Row = Row {
         port P3 entered 0 left 0 filtered 0\nforest yes\nfault: port P2 1\nfault: port P1 1\n",
 };
 
+/// The files of `PCAPNG`.
 const PCAPNG_FILES: Contents = &[
     (
         "p2.in",
@@ -128,13 +130,13 @@ fn frames_that_are_not_written_are_told(rt: HostRuntime) -> Result<(), Fail> {
     Ok(())
 }
 
-/// The seconds of a capture's first record.
+/// Returns the seconds of a capture's first record.
 fn seconds_of(capture: &[u8]) -> u64 {
     let octet = |place: usize| capture.get(place).copied().unwrap_or(255);
     u64::from(u32::from_le_bytes([octet(24), octet(25), octet(26), octet(27)]))
 }
 
-/// How many octets a capture has, and the seconds of its first record.
+/// Returns the length of a capture in octets, and the seconds of its first record.
 fn measured<R: Files + AllocGlobal>(rt: &R, name: &str) -> (usize, u64) {
     match fs::read(rt, name) {
         Ok(found) => (found.len(), seconds_of(found.as_slice())),
@@ -165,8 +167,8 @@ fn seconds_of_captures_are_those_of_the_workers_turns(rt: HostRuntime) -> Result
     Ok(())
 }
 
-/// Runs that come to no end: a plan file, what is told on the error writer, and the files that have to be there and
-/// as they were. What `missing` names must not be there afterwards.
+/// A run that can't open its files: a plan file, the remark on standard error, and a file that must not be there
+/// afterwards. The files of `KEPT` stay as they were.
 struct Refused {
     path: &'static str,
     plan: &'static str,
@@ -174,17 +176,17 @@ struct Refused {
     missing: &'static str,
 }
 
-/// Where the first of these is run, `paths.in` and `paths.out` hold one frame, `again.in` is another name of
-/// `paths.in`, and `paths.again` leads to `paths.out`.
+/// Runs that can't open their files. Before the first, `paths.in` and `paths.out` hold one frame, `again.in` is another
+/// name of `paths.in`, and `paths.again` leads to `paths.out`.
 const REFUSED: &[Refused] = &[
-    // A socket behind a capture is missing: the capture was emptied before.
+    // A socket after a capture is missing: the capture is not emptied.
     Refused {
         path: "plan.toml",
         plan: PATHS,
         told: b"port P2: connect paths.none: No such file or directory (os error 2)\n",
         missing: "paths.last",
     },
-    // One path is read and written: the input was emptied before.
+    // One path is read and written: the input is not emptied.
     Refused {
         path: "plan.toml",
         plan: SAME,
@@ -198,7 +200,7 @@ const REFUSED: &[Refused] = &[
         told: b"port P1: write again.in: also read by port P1\n",
         missing: "paths.last",
     },
-    // Two ports write one file that is not there: each took half of it before.
+    // Two ports write one file that is not there.
     Refused {
         path: "plan.toml",
         plan: TWICE,
@@ -212,21 +214,21 @@ const REFUSED: &[Refused] = &[
         told: b"port P2: write paths.none/out: No such file or directory (os error 2)\n",
         missing: "paths.last",
     },
-    // The plan stands where a port writes: it was emptied before.
+    // A port writes the plan file: it is not emptied.
     Refused {
         path: ".//paths.out",
         plan: OVER,
         told: b"port P1: write paths.out: also the plan file\n",
         missing: "paths.last",
     },
-    // The plan has another name there.
+    // A port writes the plan file by another name.
     Refused {
         path: "paths.again",
         plan: OVER,
         told: b"port P1: write paths.out: also the plan file\n",
         missing: "paths.last",
     },
-    // A file to be read is missing behind a socket that was made.
+    // A file to read is missing after a socket that was made.
     Refused {
         path: "plan.toml",
         plan: UNLISTENED,

@@ -1,4 +1,4 @@
-//! A folder for temporary files, which a test works in, and its files.
+//! A folder for the temporary files of a test.
 
 use std::fs::Files;
 use std::path::PathBuf;
@@ -6,13 +6,14 @@ use std::process::Process;
 use std::rt::Env;
 use std::{env, fs, io, process};
 
-/// A folder of the process's own where the system keeps temporary files. Each test runs in a process of its own.
+/// Returns the path of a folder of the process's own among the system's temporary files. Each test runs in a process of
+/// its own.
 fn folder<R: Env + AllocGlobal>(rt: &R, process: Process) -> io::Result<PathBuf> {
     let name = format!(in rt.alloc(); "pb_cmd_run_tests-{}", process::id(process))?;
     Ok(env::temp_dir(rt)?.join(rt.alloc(), name.as_str())?)
 }
 
-/// Makes the folder, and goes there.
+/// Makes the folder, and makes it the current one.
 pub(super) fn enter<R: Env + Files + AllocGlobal>(rt: &R, process: Process) -> io::Result<()> {
     let folder = folder(rt, process)?;
     let _ = fs::remove_dir_all(rt, folder.as_path());
@@ -26,7 +27,7 @@ pub(super) fn leave<R: Env + Files + AllocGlobal>(rt: &R, process: Process) -> i
     fs::remove_dir_all(rt, folder.as_path())
 }
 
-/// Files by their names, and the octets of each.
+/// Files by their names, with the octets of each.
 pub(super) type Contents<'a> = &'a [(&'static str, &'static [u8])];
 
 /// Makes these files.
@@ -37,7 +38,7 @@ pub(super) fn make<R: Files>(rt: &R, files: Contents) -> io::Result<()> {
     Ok(())
 }
 
-/// Whether a file is there with these octets.
+/// Returns whether there is a file with these octets.
 pub(super) fn has<R: Files + AllocGlobal>(rt: &R, name: &str, octets: &[u8]) -> bool {
     match fs::read(rt, name) {
         Ok(found) => found.as_slice() == octets,
@@ -45,7 +46,7 @@ pub(super) fn has<R: Files + AllocGlobal>(rt: &R, name: &str, octets: &[u8]) -> 
     }
 }
 
-/// The name of the first of these files that is not as it is to be, or nothing.
+/// Returns the name of the first of these files that differs, or the empty text.
 pub(super) fn wrong<R: Files + AllocGlobal>(rt: &R, files: Contents) -> &'static str {
     for (name, octets) in files {
         if !has(rt, name, octets) {
@@ -55,7 +56,7 @@ pub(super) fn wrong<R: Files + AllocGlobal>(rt: &R, files: Contents) -> &'static
     ""
 }
 
-/// Whether there is no such file.
+/// Returns whether there is no such file.
 pub(super) fn is_missing<R: Files>(rt: &R, name: &str) -> bool {
     matches!(fs::exists(rt, name), Ok(false))
 }

@@ -15,16 +15,16 @@ use std::thread::Threads;
 use std::time::{Clock, Duration};
 use std::{fs, io, thread};
 
-/// How many frames go to the port, more than a socket holds.
+/// The number of frames that go to the port, which is more than a socket holds.
 const FRAMES: usize = 200;
 
-/// How many octets each of them has.
+/// The length of each frame in octets.
 const LENGTH: usize = 1_900;
 
-/// How many octets are to come.
+/// The number of octets that are to arrive.
 const ALL: usize = FRAMES * (LENGTH + 2);
 
-/// A plan with a port that sends so many frames.
+/// Returns a plan with a port that sends so many frames.
 fn busy_plan(alloc: Global) -> Result<String, AllocError> {
     let mut file = String::from_str(alloc, BUSY)?;
     file.push_str("in = [")?;
@@ -39,7 +39,7 @@ fn busy_plan(alloc: Global) -> Result<String, AllocError> {
     Ok(file)
 }
 
-/// Waits until the run is over, for a minute at most.
+/// Waits until the run is over, for at most a minute.
 fn wait<R: Clock>(rt: &R, door: &Door) {
     for _ in 0..60_000u32 {
         if door.closed() > 0 {
@@ -49,15 +49,15 @@ fn wait<R: Clock>(rt: &R, door: &Door) {
     }
 }
 
-/// How many octets come.
+/// Reads to the end, and returns the number of octets.
 fn count(alloc: Global, stream: &mut UnixStream) -> io::Result<usize> {
     let mut heard = Vec::new(alloc);
     stream.read_to_end(&mut heard)?;
     Ok(heard.len())
 }
 
-/// Lets the port in and says that no frame comes. Takes nothing until the run is over, and then all that comes; answers
-/// how many octets came.
+/// Accepts the port's connection, closes the sending direction, waits until the run is over, and returns the number of
+/// octets that arrive.
 fn take_late<R: Clock>(
     rt: &R,
     alloc: Global,
@@ -71,7 +71,7 @@ fn take_late<R: Clock>(
     count(alloc, &mut stream)
 }
 
-/// The same, with the kind of an error.
+/// Returns the number of octets that arrive, or the kind of the error.
 fn taken<R: Clock>(
     rt: &R,
     alloc: Global,
@@ -84,8 +84,8 @@ fn taken<R: Clock>(
     }
 }
 
-/// What came of a run with such a peer: what it told, how many octets came, and whether nothing stands on the error
-/// writer, or that frames were not written.
+/// The result of a run with such a peer: that of the run, the number of octets that arrived, whether standard error is
+/// empty, and whether it reports unwritten frames.
 #[derive(Clone, Copy)]
 struct Came {
     told: Result<Told, AllocError>,
@@ -94,12 +94,12 @@ struct Came {
     is_remark: bool,
 }
 
-/// Whether this is a line that tells of frames that were not written.
+/// Returns whether this is a line about unwritten frames.
 fn is_remark(errors: &[u8]) -> bool {
     errors.starts_with(b"port P2: ") && errors.ends_with(b" frames not written\n")
 }
 
-/// Runs the busy plan, whose ports may write for so many milliseconds once it is over.
+/// Runs the busy plan, whose ports may write for so many milliseconds after the run.
 fn come_of<R>(rt: &R, alloc: Global, file: &str, linger: u32, listener: UnixListener) -> Came
 where
     R: Files<File = File> + Net + Threads + Wait + Clock + Sync,
@@ -109,7 +109,7 @@ where
     let (mut output, mut errors) = (Sheet::front(b""), Vec::new(alloc));
     let network = || {
         let told = carry(rt, alloc, file, manner, &door, &mut output, &mut errors);
-        // The peer waits no longer, where the network has not connected.
+        // A connection ends the wait of the peer if the network has not connected.
         let _ = UnixStream::connect(rt, "peer.sock");
         told
     };
@@ -128,11 +128,11 @@ fn ports_have_a_while_to_write(rt: HostRuntime) -> Result<(), Fail> {
     enter(&rt, rt.process())?;
     let slow = UnixListener::bind(&rt, "peer.sock")?;
     let file = busy_plan(alloc)?;
-    // A peer that is slower than the network gets all frames in the time that it has.
+    // A peer that is slower than the network receives all frames in the time that it has.
     let all = come_of(&rt, alloc, file.as_str(), 60_000, slow);
     fs::remove_file(&rt, "peer.sock")?;
     let late = UnixListener::bind(&rt, "peer.sock")?;
-    // Without time it doesn't, and what is missing is told.
+    // Without time it doesn't, and the loss report has the missing frames.
     let some = come_of(&rt, alloc, file.as_str(), 0, late);
     drop(file);
     assert_eq!(rt;

@@ -1,4 +1,4 @@
-//! What a run lost, by its record.
+//! The loss report of a run, by its record.
 
 ghost use Rattle.std.specs.Prelude.{◌≡◌, [], IfOk};
 
@@ -10,7 +10,7 @@ use pb_lan::{BridgePlan, Item, NoRoom, Outcome, Plan, PortSet, Record, Refusals,
 use std::alloc::Global;
 use std::test::Fail;
 
-/// A bridge.
+/// Returns a bridge.
 fn bridge(alloc: Global) -> Result<BridgePlan, Memory> {
     Ok(BridgePlan {
         name: Text::from_string(String::from_str(alloc, "B1")?),
@@ -20,7 +20,7 @@ fn bridge(alloc: Global) -> Result<BridgePlan, Memory> {
     })
 }
 
-/// The plan of one bridge, and nothing else.
+/// Returns the plan of one bridge, and nothing else.
 fn alone(alloc: Global) -> Result<Plan, Memory>
     ensures { IfOk result (λ plan. plan.customers ≡ []) }
 {
@@ -38,7 +38,7 @@ fn alone(alloc: Global) -> Result<Plan, Memory>
     })
 }
 
-/// The bridge has relayed a frame to ports 2 and 3, and port 3 got no copy.
+/// Returns the step of a frame that was relayed to ports 2 and 3, without a copy at port 3.
 fn step() -> Step {
     Step::Receive {
         port: 1,
@@ -56,7 +56,7 @@ fn step() -> Step {
     }
 }
 
-/// The steps of a bridge that did so so many times.
+/// Returns this step so many times.
 fn steps(alloc: Global, times: u32) -> Result<Seq<Step>, Memory> {
     let mut steps = Vec::new(alloc);
     for _ in 0..times {
@@ -65,7 +65,7 @@ fn steps(alloc: Global, times: u32) -> Result<Seq<Step>, Memory> {
     Ok(Seq::from_vec(steps))
 }
 
-/// The record of the plan's network, whose bridge did so.
+/// Returns the record of the plan's network, whose bridge took this step so many times.
 fn refused(alloc: Global, times: u32) -> Result<Record, Memory>
     ensures { IfOk result (λ rec. rec.customers ≡ []) }
 {
@@ -77,9 +77,10 @@ fn refused(alloc: Global, times: u32) -> Result<Record, Memory>
     })
 }
 
-/// How often a copy was refused, whether the bridges have settled, and what is told.
+/// The number of refused copies, whether the bridges have converged, and the loss report.
 type Lost = (u32, Result<Option<bool>, Memory>, &'static str);
 
+/// Records with their loss reports.
 const LOST: &[Lost] = &[
     (0, Ok(Some(true)), ""),
     (0, Ok(None), ""),
@@ -96,7 +97,7 @@ const LOST: &[Lost] = &[
     ),
 ];
 
-/// What is counted in that record.
+/// Returns the counts of that record.
 fn counts(alloc: Global, times: u32) -> Result<Tallies, Memory>
     ensures { IfOk result (λ counts. counts.customers ≡ []) }
 {
@@ -104,7 +105,7 @@ fn counts(alloc: Global, times: u32) -> Result<Tallies, Memory>
     Ok(Tallies::of(alloc, &record)?)
 }
 
-/// Whether this is told of such a run.
+/// Returns whether this is the loss report of such a run.
 fn is_told(alloc: Global, (times, settled, wanted): Lost) -> Result<bool, Memory> {
     let counts = counts(alloc, times)?;
     let plan = alone(alloc)?;

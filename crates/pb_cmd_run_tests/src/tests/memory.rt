@@ -1,4 +1,4 @@
-//! What is reported of a run that wanted memory.
+//! The report of a run in which an allocation failed.
 
 ghost use Rattle.std.specs.Prelude.{◌≡◌, []};
 
@@ -10,7 +10,7 @@ use pb_lan::{Plan, Spanning, plan_is_sound};
 use pb_run::{Ended, Ran};
 use std::alloc::Global;
 
-/// The plan of no places.
+/// Returns the plan without places.
 fn nothing(alloc: Global) -> Plan
     ensures { result.customers ≡ [] }
 {
@@ -27,7 +27,7 @@ fn nothing(alloc: Global) -> Plan
     }
 }
 
-/// What is counted of no places.
+/// Returns the counts of no places.
 fn no_steps(alloc: Global) -> Tallies {
     Tallies::new(Vec::new(alloc), Vec::new(alloc), Vec::new(alloc))
 }

@@ -1,4 +1,4 @@
-//! What is opened when, over what stands in for the system.
+//! The order in which files and sockets are opened, with a replacement for the operating system.
 
 ghost use Rattle.std.specs.Prelude.{◌≡◌, Some, IfOk};
 
@@ -11,7 +11,7 @@ use std::io;
 use std::io::{Error, ErrorKind};
 use std::test::Fail;
 
-/// Remembers what is done. One path can't be opened, and one can't be emptied.
+/// An opener that records its operations. One path can't be opened, and one can't be emptied.
 #[derive(Drop)]
 struct Desk {
     alloc: Global,
@@ -22,7 +22,7 @@ struct Desk {
 }
 
 impl Desk {
-    /// A path as it is remembered, or an error where it can't be opened.
+    /// Returns a path as it is recorded, or an error if it can't be opened.
     fn text(&self, path: &str) -> io::Result<Text>
         ensures { IfOk result (λ text. text ≡ path.now) }
     {
@@ -87,7 +87,7 @@ impl Openings for Desk {
     }
 }
 
-/// What a port of a row is.
+/// The kind of a port of a row.
 #[derive(Clone, Copy)]
 enum Kind {
     Memory,
@@ -96,11 +96,12 @@ enum Kind {
     Listener(&'static str),
 }
 
-/// A text of the plan.
+/// Returns a text of the plan.
 fn text(alloc: Global, text: &str) -> Result<Text, AllocError> {
     Ok(Text::from_string(String::from_str(alloc, text)?))
 }
 
+/// Returns a port over two captures.
 fn capture(alloc: Global, read: &str, write: &str) -> Result<PortSpec, AllocError> {
     let read = text(alloc, read)?;
     Ok(PortSpec::Capture {
@@ -110,12 +111,13 @@ fn capture(alloc: Global, read: &str, write: &str) -> Result<PortSpec, AllocErro
     })
 }
 
+/// Returns a port over a socket.
 fn socket(alloc: Global, path: &str, listens: bool) -> Result<PortSpec, AllocError> {
     let path = text(alloc, path)?;
     Ok(PortSpec::Socket { path, listens })
 }
 
-/// A port of a row.
+/// Returns a port of a row.
 fn spec_of(alloc: Global, kind: Kind) -> Result<PortSpec, AllocError> {
     match kind {
         Kind::Memory => Ok(PortSpec::Memory(Seq::from_vec(Vec::<Bytes>::new(alloc)))),
@@ -125,7 +127,7 @@ fn spec_of(alloc: Global, kind: Kind) -> Result<PortSpec, AllocError> {
     }
 }
 
-/// The ports of a row.
+/// Returns the ports of a row.
 fn specs_of(alloc: Global, kinds: &[Kind]) -> Result<Vec<PortSpec>, AllocError> {
     let mut specs = Vec::new(alloc);
     for kind in kinds {
@@ -134,7 +136,7 @@ fn specs_of(alloc: Global, kinds: &[Kind]) -> Result<Vec<PortSpec>, AllocError> 
     Ok(specs)
 }
 
-/// Something that is done, by its path.
+/// An operation, by its path.
 #[derive(Clone, Copy)]
 enum Done {
     Read(&'static str),
@@ -144,7 +146,7 @@ enum Done {
     Empty(&'static str),
 }
 
-/// What comes of it in the end. A port goes by its place in the plan, from 0.
+/// The result of the opening. A port goes by its place in the plan, from 0.
 #[derive(Clone, Copy)]
 enum End {
     /// So many ports are open.
@@ -157,7 +159,7 @@ enum End {
     Shared(&'static str, usize, FileUser),
 }
 
-/// Whether this was done.
+/// Returns whether this operation was done.
 fn is_done(deed: &Deed, done: Done) -> bool {
     match (deed, done) {
         (Deed::Read(path), Done::Read(wanted)) => path.as_str() == wanted,
@@ -169,7 +171,7 @@ fn is_done(deed: &Deed, done: Done) -> bool {
     }
 }
 
-/// How many deeds are those that were to be done, before the first that is not.
+/// Returns the number of operations before the first that differs from the wanted ones.
 fn deeds_done(deeds: &[Deed], done: &[Done]) -> usize {
     for (place, deed) in deeds.iter().enumerate() {
         match done.get(place) {
@@ -180,7 +182,7 @@ fn deeds_done(deeds: &[Deed], done: &[Done]) -> usize {
     deeds.len()
 }
 
-/// Whether this came of it.
+/// Returns whether this is the result.
 fn is_end(outcome: &Result<Vec<Opened<(), (), ()>>, OpenFault>, end: End) -> bool {
     match (outcome, end) {
         (Ok(ports), End::Open(count)) => ports.len() == count,
@@ -197,8 +199,8 @@ fn is_end(outcome: &Result<Vec<Opened<(), (), ()>>, OpenFault>, end: End) -> boo
     }
 }
 
-/// Ports of a plan that was read at `plan`, what can't be opened and what can't be emptied, what is done, what comes of
-/// it, and how many outputs are given up.
+/// The ports of a plan that was read at `plan`, the path that can't be opened, the path that can't be emptied, the
+/// operations, the result, and the number of outputs that are closed again.
 struct Row {
     kinds: &'static [Kind],
     missing: &'static str,
@@ -208,6 +210,7 @@ struct Row {
     forgotten: usize,
 }
 
+/// Two captures, a port in memory and a socket.
 const TWO: &[Kind] = &[
     Kind::Capture("a.in", "a.out"),
     Kind::Memory,
@@ -215,6 +218,7 @@ const TWO: &[Kind] = &[
     Kind::Capture("b.in", "b.out"),
 ];
 
+/// Ports with the operations and results of their opening.
 const ROWS: &[Row] = &[
     Row {
         kinds: TWO,
@@ -232,7 +236,7 @@ const ROWS: &[Row] = &[
         end: End::Open(4),
         forgotten: 0,
     },
-    // The socket behind a capture is missing: its output was emptied before.
+    // The socket after a capture is missing: no output is emptied.
     Row {
         kinds: TWO,
         missing: "s",
@@ -249,7 +253,7 @@ const ROWS: &[Row] = &[
         end: End::Unopened(3, "b.in"),
         forgotten: 0,
     },
-    // The last output can't be made: the first was emptied before.
+    // The last output can't be made: the first is not emptied.
     Row {
         kinds: TWO,
         missing: "b.out",
@@ -278,7 +282,7 @@ const ROWS: &[Row] = &[
         end: End::Unemptied(3, "b.out"),
         forgotten: 0,
     },
-    // One path is read and written: the input was emptied before.
+    // One path is read and written: nothing is opened.
     Row {
         kinds: &[Kind::Memory, Kind::Capture("a", "a")],
         missing: "",
@@ -287,7 +291,7 @@ const ROWS: &[Row] = &[
         end: End::Shared("a", 1, FileUser::Reader(1)),
         forgotten: 0,
     },
-    // Two ports write one path: each took half of the file before.
+    // Two ports write one path: nothing is opened.
     Row {
         kinds: &[Kind::Capture("a", "c"), Kind::Capture("b", "c")],
         missing: "",
@@ -321,7 +325,7 @@ const ROWS: &[Row] = &[
         end: End::Open(2),
         forgotten: 0,
     },
-    // A port writes the plan: it was emptied before.
+    // A port writes the plan: nothing is opened.
     Row {
         kinds: &[Kind::Memory, Kind::Capture("a", "plan")],
         missing: "",
@@ -339,7 +343,7 @@ const ROWS: &[Row] = &[
         end: End::Open(1),
         forgotten: 0,
     },
-    // A socket is made where others are connected to.
+    // A socket is made in the same pass in which others are connected to.
     Row {
         kinds: &[
             Kind::Socket("s"),
@@ -372,8 +376,8 @@ const ROWS: &[Row] = &[
     },
 ];
 
-/// What is seen of a row: how many of its deeds were done, how many were done at all, whether the end is the row's, and
-/// how many outputs were given up.
+/// Returns the number of operations that are those of the row, the number of all operations, whether the result is the
+/// row's, and the number of outputs that were closed again.
 fn seen(alloc: Global, row: &Row) -> Result<(usize, usize, bool, usize), AllocError> {
     let specs = specs_of(alloc, row.kinds)?;
     let mut desk = Desk {

@@ -1,4 +1,4 @@
-//! A port over a socket, with a peer behind it.
+//! A port over a socket, and its peer.
 
 use super::folder::{enter, has, is_missing, leave, make};
 use super::plans::{LISTENER, SOCKET};
@@ -14,40 +14,41 @@ use std::test::Fail;
 use std::time::{Clock, Duration};
 use std::{fs, io, thread};
 
-/// A frame behind its length, which the peer sends.
+/// The frame that the peer sends, after its length.
 const SENT: &[u8] = b"\0\x10\xff\xff\xff\xff\xff\xff\x02\0\0\0\x01\x02\x08\0CD";
 
-/// A frame behind its length, which the peer gets.
+/// The frame that the peer receives, after its length.
 const WANTED: &[u8] = b"\0\x10\xff\xff\xff\xff\xff\xff\x02\0\0\0\x01\x01\x08\0AB";
 
+/// The report of the run.
 const REPORT: &[u8] =
     b"ended drained\nport C1 entered 1 left 1 filtered 0\nport P2 entered 1 left 1 filtered 0\nforest yes\n";
 
-/// What the network tells.
+/// The result of the run.
 const TOLD: Told = Told {
     result: Ok(0),
     traffic: (2, 2),
     closed: 1,
 };
 
-/// What a peer heard.
+/// The octets that a peer received.
 #[derive(Clone, Copy, PartialEq, Eq, Debug)]
 enum Heard {
-    /// Nothing.
+    /// No octets.
     Nothing,
     /// The frame, and nothing else.
     Wanted,
-    /// Something else.
+    /// Other octets.
     Other,
 }
 
-/// Sends a frame, and that no more come.
+/// Sends a frame and closes the sending direction.
 fn send(stream: &mut UnixStream) -> io::Result<()> {
     stream.write_all(SENT)?;
     stream.shutdown(Shutdown::Write)
 }
 
-/// All that comes back.
+/// Reads to the end, and returns what was received.
 fn hear(alloc: Global, stream: &mut UnixStream) -> io::Result<Heard> {
     let mut heard = Vec::new(alloc);
     stream.read_to_end(&mut heard)?;
@@ -60,20 +61,20 @@ fn hear(alloc: Global, stream: &mut UnixStream) -> io::Result<Heard> {
     })
 }
 
-/// Sends a frame, and that no more come. Answers all that comes back.
+/// Sends a frame, closes the sending direction, and returns what was received.
 fn talk(alloc: Global, stream: &mut UnixStream) -> io::Result<Heard> {
     send(stream)?;
     hear(alloc, stream)
 }
 
-/// Talks with the first that connects.
+/// Accepts one connection, and talks over it.
 fn converse(alloc: Global, listener: UnixListener) -> io::Result<Heard> {
     let (stream, _) = listener.accept()?;
     let mut stream = stream;
     talk(alloc, &mut stream)
 }
 
-/// The kind of an error.
+/// Returns what was received, or the kind of the error.
 fn kind_of(heard: io::Result<Heard>) -> Result<Heard, ErrorKind> {
     match heard {
         Ok(heard) => Ok(heard),
@@ -89,7 +90,7 @@ fn frames_pass_a_socket_both_ways(rt: HostRuntime) -> Result<(), Fail> {
     let (mut output, mut errors) = (Sheet::whole(REPORT), Sheet::whole(b""));
     let network = || {
         let told = run(&rt, alloc, ["", SOCKET], PLAIN, &mut output, &mut errors);
-        // The peer waits no longer, where the network has not connected.
+        // A connection ends the wait of the peer if the network has not connected.
         let _ = UnixStream::connect(&rt, "peer.sock");
         told
     };
@@ -100,7 +101,7 @@ fn frames_pass_a_socket_both_ways(rt: HostRuntime) -> Result<(), Fail> {
     Ok(())
 }
 
-/// Only its owner may connect to the socket at a path.
+/// Returns whether there is a socket at the path to which only its owner may connect.
 fn is_made(rt: &impl Files, path: &str) -> bool {
     match fs::metadata(rt, path) {
         Ok(metadata) => metadata.mode() & 0o777 == 0o600,
@@ -108,7 +109,7 @@ fn is_made(rt: &impl Files, path: &str) -> bool {
     }
 }
 
-/// Connects to the port, and talks with it.
+/// Connects to the port, and talks over the connection.
 fn call_on<R: Files + Net>(rt: &R, alloc: Global) -> io::Result<Heard> {
     if !is_made(rt, "peer.sock") {
         return Err(io::Error::from(ErrorKind::NotFound));
@@ -117,7 +118,7 @@ fn call_on<R: Files + Net>(rt: &R, alloc: Global) -> io::Result<Heard> {
     talk(alloc, &mut stream)
 }
 
-/// The same, again and again until the port is there and hangs up no more.
+/// Tries again until the port is there and doesn't hang up.
 fn call<R: Files + Net + Clock>(rt: &R, alloc: Global) -> Result<Heard, ErrorKind> {
     for _ in 0..5_000u32 {
         match kind_of(call_on(rt, alloc)) {
@@ -132,7 +133,7 @@ fn call<R: Files + Net + Clock>(rt: &R, alloc: Global) -> Result<Heard, ErrorKin
 fn a_port_waits_for_its_peer(rt: HostRuntime) -> Result<(), Fail> {
     let alloc = rt.alloc();
     enter(&rt, rt.process())?;
-    // Nobody listens on this one any more.
+    // No one listens at this socket any more.
     drop(UnixListener::bind(&rt, "peer.sock")?);
     let (mut output, mut errors) = (Vec::new(alloc), Vec::new(alloc));
     let network = || run(&rt, alloc, ["", LISTENER], PLAIN, &mut output, &mut errors);

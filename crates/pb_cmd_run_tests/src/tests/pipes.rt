@@ -11,24 +11,25 @@ use std::test::Fail;
 use std::time::{Clock, Duration};
 use std::{io, thread};
 
+/// The report of the run.
 const REPORT: &[u8] =
     b"ended drained\nport P1 entered 0 left 1 filtered 0\nport P2 entered 1 left 0 filtered 0\n\
     port P3 entered 0 left 1 filtered 0\nforest yes\n";
 
-/// What the network tells.
+/// The result of the run.
 const TOLD: Told = Told {
     result: Ok(0),
     traffic: (1, 2),
     closed: 1,
 };
 
-/// A plan whose first port reads what is open under a number.
+/// Returns a plan whose first port reads an open file by its descriptor.
 fn plan_of(alloc: Global, number: i32) -> Result<String, AllocError> {
     let (front, back) = CAPTURES.split_once("p2.in").unwrap_or(("", ""));
     format!(in alloc; "{front}/proc/self/fd/{number}{back}")
 }
 
-/// Writes a capture after a while, in two parts.
+/// Writes a capture in two parts, each after a while.
 fn write_late(rt: &impl Clock, writer: &mut PipeWriter) -> io::Result<()> {
     for part in [&ONE_FRAME[..30], &ONE_FRAME[30..]] {
         thread::sleep(rt, Duration::from_millis(20));
@@ -37,7 +38,7 @@ fn write_late(rt: &impl Clock, writer: &mut PipeWriter) -> io::Result<()> {
     Ok(())
 }
 
-/// The same, and hangs up. Answers the kind of an error.
+/// Writes a capture in two parts and closes the pipe. Returns the kind of an error.
 fn feed(rt: &impl Clock, writer: PipeWriter) -> Result<(), ErrorKind> {
     let mut writer = writer;
     match write_late(rt, &mut writer) {

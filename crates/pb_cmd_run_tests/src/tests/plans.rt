@@ -183,7 +183,7 @@ read = "paths.in"
 write = "./paths.last"
 "#;
 
-/// One bridge with two captures to be made, of which one can't be.
+/// One bridge with two captures to be made, one of which can't be.
 pub(super) const UNMADE: &str = r#"
 [[bridge]]
 name = "B1"
@@ -260,7 +260,7 @@ read = "paths.none"
 write = "paths.out"
 "#;
 
-/// One bridge with a memory port and a socket that is made. Workers take only so many turns.
+/// One bridge with a memory port and a socket that is made. Workers take a limited number of turns.
 pub(super) const LISTENER: &str = r#"
 [network]
 turns = 200000
@@ -289,7 +289,7 @@ kind = "socket"
 listen = "peer.sock"
 "#;
 
-/// One bridge with room for many frames, and a socket. Behind it comes a port with a script.
+/// One bridge with long queues and a socket. A port with a script follows.
 pub(super) const BUSY: &str = r#"
 [network]
 ring = 4096
@@ -346,7 +346,7 @@ kind = "socket"
 path = "peer.sock"
 "#;
 
-/// One bridge with two ports, of which the first has a script, and nothing can be written to the other's file.
+/// One bridge with two ports. The first has a script, and the file of the other can't be written.
 pub(super) const FULL: &str = r#"
 [[bridge]]
 name = "B1"
@@ -373,19 +373,19 @@ read = "full.in"
 write = "/dev/full"
 "#;
 
-/// A limit of one step, in front of a plan file.
+/// A limit of one step, which a plan file follows.
 pub(super) const ONE_STEP: &str = "[network]\nsteps = 1\n";
 
-/// Bridges that decide their own spanning tree, in front of a plan file.
+/// Bridges that decide the states of ports themselves, which a plan file follows.
 pub(super) const RSTP: &str = "[network]\nspanning = \"rstp\"\n";
 
-/// A clock that ticks at each thousandth turn, and very many turns, in front of a plan file.
+/// A clock that ticks at each thousandth turn, and a high limit of turns, which a plan file follows.
 pub(super) const TICKS: &str = "[network]\nturns = 1000000000\ntick_every = 1000\n";
 
-/// A limit that no network may have, in front of a plan file.
+/// A limit that no network may have, which a plan file follows.
 pub(super) const NO_TURN: &str = "[network]\nturns = 0\n";
 
-/// A capture of no frames.
+/// A capture without frames.
 pub(super) const NO_FRAMES: &[u8] =
     b"\xd4\xc3\xb2\xa1\x02\0\x04\0\0\0\0\0\0\0\0\0\xff\xff\0\0\x01\0\0\0";
 
@@ -394,7 +394,7 @@ pub(super) const ONE_FRAME: &[u8] =
     b"\xd4\xc3\xb2\xa1\x02\0\x04\0\0\0\0\0\0\0\0\0\xff\xff\0\0\x01\0\0\0\0\0\0\0\0\0\0\0\x10\0\0\0\x10\0\0\0\xff\xff\
     \xff\xff\xff\xff\x02\0\0\0\x01\x01\x08\0AB";
 
-/// Port 1 of B1 is set down before the first turn, and once more long after.
+/// Events that disable port 1 of B1 before the first turn, and once more long after.
 pub(super) const SET_DOWN: &str = r#"
 [[event]]
 at = 4294967295
@@ -409,7 +409,7 @@ port = 1
 up = false
 "#;
 
-/// Two settings that never come, as no clock ticks.
+/// Two events that never come, since no clock ticks.
 pub(super) const NEVER: &str = r#"
 [[event]]
 at = 1

@@ -1,4 +1,4 @@
-//! What is reported of runs over memory.
+//! Reports of runs over memory.
 
 use super::plans::{LOSSY, NEVER, NO_TURN, ONE_STEP, RSTP, SET_DOWN};
 use super::{PLAIN, Row, Told, check, check_under, run};
@@ -7,7 +7,7 @@ use pb_fakes::plans::PAIR;
 use pb_fakes::{Full, Unflushed};
 use std::test::Fail;
 
-/// Runs over memory, and the exit status of each where it is strict.
+/// Runs over memory, and the exit status of each if it is strict.
 const ROWS: &[(Row, u8)] = &[
     (
         Row {
@@ -70,7 +70,7 @@ fn runs_over_memory_are_reported(rt: HostRuntime) -> Result<(), Fail> {
     Ok(())
 }
 
-/// Runs in which ports are to be set, and what is told of the events that have not come.
+/// Runs with events, and the remark about events that had not come.
 const EVENTS: &[(Row, &str)] = &[
     (
         Row {
@@ -108,7 +108,7 @@ fn events_set_ports_while_a_network_runs(rt: HostRuntime) -> Result<(), Fail> {
     Ok(())
 }
 
-/// Bridges that would have to find their own tree, and never tick.
+/// Bridges that decide the states of ports themselves, and never tick.
 const UNSETTLED: Row = Row {
     parts: [RSTP, LOSSY],
     told: Told {
@@ -126,7 +126,7 @@ fn bridges_that_have_not_settled_are_told(rt: HostRuntime) -> Result<(), Fail> {
     check_under(&rt, rt.alloc(), &UNSETTLED, Strictness::Lenient, remarks)
 }
 
-/// The same run, with the status of a strict one.
+/// Returns the same run, with the status of a strict one.
 fn strictly(row: &Row, status: u8) -> Row {
     Row {
         told: Told {

@@ -1,21 +1,21 @@
-//! A writer that looks at what is written, and keeps none of it.
+//! A writer that compares its octets with the wanted ones, and keeps none.
 
 use std::io;
 use std::io::Write;
 
-/// Tells whether what was written to it is what was wanted.
+/// A writer that compares its octets with the wanted ones.
 #[derive(Drop)]
 pub(super) struct Sheet {
-    /// What is still to come.
+    /// The wanted octets that have not come.
     rest: &'static [u8],
-    /// Whether anything may follow behind it.
+    /// Whether any octets may follow.
     is_open: bool,
-    /// Whether all that came was wanted.
+    /// Whether all octets so far were wanted.
     was_right: bool,
 }
 
 impl Sheet {
-    /// These octets are wanted, and nothing else.
+    /// Returns a writer that wants these octets, and nothing else.
     pub(super) fn whole(wanted: &'static [u8]) -> Sheet {
         Sheet {
             rest: wanted,
@@ -24,7 +24,7 @@ impl Sheet {
         }
     }
 
-    /// These octets are wanted, and anything behind them.
+    /// Returns a writer that wants these octets, and any that follow.
     pub(super) fn front(wanted: &'static [u8]) -> Sheet {
         Sheet {
             rest: wanted,
@@ -33,7 +33,7 @@ impl Sheet {
         }
     }
 
-    /// Whether all that is wanted has come, and nothing else.
+    /// Returns whether all wanted octets have come, and no others.
     pub(super) fn is_right(&self) -> bool {
         self.was_right && self.rest.is_empty()
     }

@@ -10,15 +10,15 @@ use std::fs::Files;
 use std::test::Fail;
 use std::time::Clock;
 
-/// What the plan has in front.
+/// The network of the plan.
 const CLOCK: &str = "[network]\ntick_ms = 1\n";
 
-/// The plan whose last port writes the time of day.
+/// Returns the plan whose last port writes the time of day.
 fn timed_plan(alloc: Global) -> Result<String, AllocError> {
     format!(in alloc; "{CAPTURES}stamp = \"time\"\n")
 }
 
-/// A number of four octets, the lowest first.
+/// Returns the number in four octets, the lowest first.
 fn number_at(octets: &[u8], place: usize) -> u64 {
     let octet = |k: usize| octets.get(k).copied().unwrap_or(255);
     u64::from(u32::from_le_bytes([
@@ -29,7 +29,7 @@ fn number_at(octets: &[u8], place: usize) -> u64 {
     ]))
 }
 
-/// What a capture of one frame tells: the seconds and the millionths of its record, and whether the rest is the frame.
+/// Returns the seconds and microseconds of the record in a capture of one frame, and whether the rest is the frame.
 fn stamp_of<R: Files + AllocGlobal>(rt: &R, name: &str) -> (u64, u64, bool) {
     match fs::read(rt, name) {
         Ok(wrote) => (

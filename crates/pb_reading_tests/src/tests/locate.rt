@@ -1,4 +1,4 @@
-//! Where files break a rule.
+//! The places at which files break a rule.
 
 ghost use Rattle.std.specs.Prelude.{◌≡◌, ◌⊎◌, None, IfOk};
 ghost use Rattle.pb_plan_spans.specs.Spots.{IsRefusedAt};
@@ -8,26 +8,27 @@ use pb_frame::Memory;
 use pb_plan_spans::{Spot, refused_at};
 use std::alloc::Global;
 
-/// A file, and the spot that is told of it, or nothing.
+/// A file, and the printed place of its fault, or nothing.
 type Row = (&'static [u8], &'static str);
 
+/// Files with their places.
 const ROWS: &[Row] = &[
     // plans
     (b"", ""),
     (b"[network]\nageing = 300\n", ""),
-    // no UTF-8: octets at the start, behind others, on a later line, and a character that ends too early
+    // not UTF-8: octets at the start, after others, on a later line, and a character that ends too early
     (b"\xff", "line 1, column 1"),
     (b"ab\xffcd\xff", "line 1, column 3"),
     (b"a\r\n\n\tb\xe4c\n", "line 3, column 3"),
     (b"# \xc3\xa4\n\xc3\xa4\xc3", "line 2, column 3"),
-    // no TOML: a column counts octets
+    // not TOML: a column counts octets
     (b"a", "line 1, column 2"),
     (b"\n\n  a = = 1\n", "line 3, column 7"),
     (b"a = '\xc3\xa4' b\n", "line 1, column 10"),
     (b"a = 1\r\na = 2\r\n", "line 2, column 1"),
     (b"[[bridge]]\n[bridge]\n", "line 2, column 1"),
     (b"\xef\xbb\xbfa = ", "line 1, column 8"),
-    // a key of the network: first line, last line, with spaces, tabs and comments, twice in comments before
+    // a key of the network: first line, last line, with spaces, tabs and comments, twice in earlier comments
     (b"[network]\nageing = 9", "line 1"),
     (b"\n\n[network]\nageing = 9", "line 3"),
     (
@@ -43,7 +44,7 @@ const ROWS: &[Row] = &[
     (b"network = { ageing = 9 }\n", ""),
     (b"network.ageing = 9\n", ""),
     (b"[network.more]\n", ""),
-    // tables of arrays: the first, those behind it, and other headers between them
+    // tables of arrays: the first, those after it, and other headers between them
     (b"[[bridge]]\nqueue = 0\n", "line 1"),
     (
         b"[[bridge]]\nname = 'A'\naddress = '02-00-00-00-00-01'\n\n[[bridge]] # the second\nname = 'B'\n",
@@ -137,14 +138,14 @@ const ROWS: &[Row] = &[
     ),
 ];
 
-/// What a caller may take from `refused_at`: a plan, of which nothing is told, or a fault with what is told of it.
+/// Calls `refused_at`, and has what a caller may conclude from it as its contract.
 fn placed(alloc: Global, file: &[u8]) -> Result<Option<Spot>, Memory>
     ensures { IfOk result (λ spot. (IsPlanFile file.now × (spot ≡ None)) ⊎ IsRefusedAt file.now spot) }
 {
     refused_at(alloc, file)
 }
 
-/// What is told of a file, or nothing.
+/// Returns the printed place of a file's fault, or the empty text.
 fn told_of(alloc: Global, file: &[u8]) -> Result<String, Memory> {
     match placed(alloc, file)? {
         Some(spot) => Ok(spot.to_string(alloc)?),

@@ -1,4 +1,4 @@
-//! Lines of scripts, and what is said of steps.
+//! Lines of scripts, and the printed text of steps.
 
 mod answers;
 mod by_name;
@@ -12,7 +12,7 @@ use std::alloc::Global;
 use std::process::Abort;
 use std::test::Fail;
 
-/// What is wanted of a line: an event, by its kind and numbers.
+/// The event that a line is to ask for, by its kind and numbers.
 #[derive(Clone, Copy)]
 enum Wanted {
     Nothing,
@@ -27,7 +27,7 @@ enum Wanted {
     Put(u8),
 }
 
-/// The event that is wanted. Every frame is of the octets FF and 41.
+/// Returns the wanted event. Each frame has the octets FF and 41.
 fn event_of(alloc: Global, wanted: Wanted) -> Result<Option<Event>, Fail> {
     Ok(Some(match wanted {
         Wanted::Nothing => return Ok(None),
@@ -46,13 +46,13 @@ fn event_of(alloc: Global, wanted: Wanted) -> Result<Option<Event>, Fail> {
     }))
 }
 
-/// Whether a line of at most 40 octets asks for what is wanted.
+/// Returns whether a line of at most 40 octets asks for the wanted event.
 fn asks(alloc: Global, names: &Names<'_>, line: &str, wanted: Wanted) -> Result<bool, Fail> {
     let event = event_of(alloc, wanted)?;
     Ok(read_line(alloc, 40, names, line.as_bytes())? == event)
 }
 
-/// Each of these lines asks for what stands beside it.
+/// Asserts that each of these lines asks for its event.
 fn all_ask(rt: &impl Abort, alloc: Global, rows: &[(&str, Wanted)]) -> Result<(), Fail> {
     let plan = network(alloc)?;
     assert!(rt; plan_is_sound(&plan));
@@ -102,7 +102,7 @@ fn what_the_plan_lacks_has_number_0(rt: HostRuntime) -> Result<(), Fail> {
     all_ask(&rt, rt.alloc(), &rows)
 }
 
-/// Each of these lines asks for nothing.
+/// Asserts that each of these lines asks for nothing.
 fn none_asks(rt: &impl Abort, alloc: Global, lines: &[&str]) -> Result<(), Fail> {
     for line in lines {
         all_ask(rt, alloc, &[(*line, Wanted::Nothing)])?;

@@ -1,4 +1,4 @@
-//! Runs with ample memory.
+//! Tests of plan files without failing allocations.
 
 mod faults;
 mod order;
@@ -9,7 +9,7 @@ use pb_service::{PlanFault, read_plan};
 use std::alloc::Global;
 use std::process::Abort;
 
-/// The network of two bridges that the tests begin from.
+/// The network of two bridges from which the tests begin.
 const NETWORK: &str = "\
 [[bridge]]
 name = \"B1\"
@@ -46,14 +46,14 @@ port = 3
 service = \"blue\"
 ";
 
-/// Whether these are the number and the text of a fault.
+/// Returns whether the fault has this number and text.
 fn is_fault(alloc: Global, fault: &PlanFault, want: &str) -> Result<bool, PlanFault> {
     let number = fault.number();
     let text = format!(in alloc; "{number} {fault}")?;
     Ok(text.as_str() == want)
 }
 
-/// Whether a file has the fault of this number and text, or none where that is `0 ok`.
+/// Returns whether a file has the fault with this number and text, or none if that is `0 ok`.
 fn tells(alloc: Global, file: &[u8], want: &str) -> Result<bool, PlanFault> {
     match read_plan(alloc, file).err() {
         Some(fault) => is_fault(alloc, &fault, want),
@@ -61,7 +61,7 @@ fn tells(alloc: Global, file: &[u8], want: &str) -> Result<bool, PlanFault> {
     }
 }
 
-/// The file has the fault of this number and text, or none where that is `0 ok`.
+/// Asserts that a file has the fault with this number and text, or none if that is `0 ok`.
 fn told(rt: &impl Abort, alloc: Global, file: &[u8], want: &str) -> Result<(), PlanFault> {
     assert!(rt; tells(alloc, file, want)?, "{want}");
     Ok(())

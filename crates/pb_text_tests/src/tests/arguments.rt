@@ -133,7 +133,7 @@ fn runs_one_file(rt: HostRuntime) -> Result<(), Fail> {
     all_ask(&rt, rt.alloc(), ROWS)
 }
 
-/// Options beside the file of a run.
+/// Options of `run` with its file.
 const BESIDE: &[Row] = &[
     (
         &["run", "--seconds", "1", "a"],

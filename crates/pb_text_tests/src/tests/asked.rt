@@ -1,4 +1,4 @@
-//! The harness: arguments of a command line are parsed, and what they ask for is checked.
+//! The harness: it parses the arguments of a command line and checks the command.
 
 use super::wanted::{Look, Of, Picture, Row, Run, Wanted};
 use pb_cli::{
@@ -9,6 +9,7 @@ use std::alloc::{AllocError, Global};
 use std::process::Abort;
 use std::test::Fail;
 
+/// Appends an argument.
 fn push(line: &mut Vec<String>, alloc: Global, argument: &str) -> Result<(), AllocError> {
     line.push(String::from_str(alloc, argument)?)?;
     Ok(())
@@ -24,7 +25,7 @@ fn line_of(alloc: Global, arguments: &[&str]) -> Result<Vec<String>, AllocError>
     Ok(line)
 }
 
-/// Whether a text is this one, or none.
+/// Returns whether a text is this one, or both are missing.
 fn is_text(told: Option<&String>, wanted: Option<&str>) -> bool {
     match (told, wanted) {
         (Some(told), Some(text)) => told.as_str() == text,
@@ -33,7 +34,7 @@ fn is_text(told: Option<&String>, wanted: Option<&str>) -> bool {
     }
 }
 
-/// Whether these are the texts.
+/// Returns whether these are the texts.
 fn are_texts(told: &[String], wanted: &[&str]) -> bool {
     for (index, text) in wanted.iter().enumerate() {
         if !is_text(told.get(index), Some(*text)) {
@@ -43,6 +44,7 @@ fn are_texts(told: &[String], wanted: &[&str]) -> bool {
     told.len() == wanted.len()
 }
 
+/// Returns whether a frame is this one, with its port.
 fn is_entry(told: Option<&TraceEntry>, port: &str, hex: &str) -> bool {
     match told {
         Some(told) => told.port.as_str() == port && told.hex.as_str() == hex,
@@ -50,7 +52,7 @@ fn is_entry(told: Option<&TraceEntry>, port: &str, hex: &str) -> bool {
     }
 }
 
-/// Whether these are the frames, each with its port.
+/// Returns whether these are the frames, each with its port.
 fn are_entries(told: &[TraceEntry], wanted: &[(&str, &str)]) -> bool {
     for (place, (port, hex)) in wanted.iter().enumerate() {
         if !is_entry(told.get(place), port, hex) {
@@ -60,11 +62,12 @@ fn are_entries(told: &[TraceEntry], wanted: &[(&str, &str)]) -> bool {
     told.len() == wanted.len()
 }
 
-/// Whether it is a report as text over this plan file.
+/// Returns whether it is a report as text over this plan file.
 fn is_report(told: &ReportOptions, path: &str) -> bool {
     told.path.as_str() == path && told.format == ReportFormat::Text
 }
 
+/// Returns whether these are the options of the run.
 fn is_run(told: &RunOptions, run: &Run) -> bool {
     told.path.as_str() == run.path
         && told.seconds == run.seconds
@@ -76,6 +79,7 @@ fn is_run(told: &RunOptions, run: &Run) -> bool {
         && told.format == ReportFormat::Text
 }
 
+/// Returns whether these are the options of `tree`.
 fn is_tree(told: &TreeOptions, path: &str, downs: &[&str], ticks: u32) -> bool {
     told.path.as_str() == path
         && are_texts(&told.downs, downs)
@@ -83,6 +87,7 @@ fn is_tree(told: &TreeOptions, path: &str, downs: &[&str], ticks: u32) -> bool {
         && told.format == ReportFormat::Text
 }
 
+/// Returns whether these are the options of `trace`.
 fn is_trace(told: &TraceOptions, path: &str, frames: &[(&str, &str)], settles: bool) -> bool {
     told.path.as_str() == path
         && are_entries(&told.entries, frames)
@@ -90,6 +95,7 @@ fn is_trace(told: &TraceOptions, path: &str, frames: &[(&str, &str)], settles: b
         && told.format == ReportFormat::Text
 }
 
+/// Returns whether these are the services of the survey.
 fn is_scope(told: &SurviveScope, of: Of) -> bool {
     match (told, of) {
         (SurviveScope::All, Of::All) => true,
@@ -99,6 +105,7 @@ fn is_scope(told: &SurviveScope, of: Of) -> bool {
     }
 }
 
+/// Returns whether these are the options of the survey.
 fn is_look(told: &SurviveOptions, look: &Look) -> bool {
     told.path.as_str() == look.path
         && told.pairs == look.pairs
@@ -108,6 +115,7 @@ fn is_look(told: &SurviveOptions, look: &Look) -> bool {
         && told.format == ReportFormat::Text
 }
 
+/// Returns whether these are the options of the picture.
 fn is_picture(told: &DrawOptions, picture: &Picture) -> bool {
     told.path.as_str() == picture.path
         && is_text(told.service.as_ref(), picture.service)
@@ -117,11 +125,12 @@ fn is_picture(told: &DrawOptions, picture: &Picture) -> bool {
         && is_text(told.output.as_ref(), picture.output)
 }
 
+/// Returns whether these are the options of `control`.
 fn is_control(told: &ControlOptions, path: &str, arguments: &[&str]) -> bool {
     told.path.as_str() == path && are_texts(told.arguments.as_slice(), arguments)
 }
 
-/// The form of the report that is asked for, where there is one.
+/// Returns the format of the report, if the command has one.
 fn format_of(line: &CommandLine) -> Option<ReportFormat> {
     match line {
         CommandLine::Check(options) => Some(options.format),
@@ -138,7 +147,7 @@ fn format_of(line: &CommandLine) -> Option<ReportFormat> {
     }
 }
 
-/// Whether a command line is the one that is wanted.
+/// Returns whether a command line is the wanted one.
 fn is_so(line: &CommandLine, wanted: &Wanted) -> bool {
     match (wanted, line) {
         (Wanted::Flat(ports), CommandLine::Flat(told)) => told == ports,
@@ -163,7 +172,7 @@ fn is_so(line: &CommandLine, wanted: &Wanted) -> bool {
     }
 }
 
-/// Whether that is wanted of arguments that are refused, or that ask for help.
+/// Returns whether no command is wanted, for arguments that are refused or ask for help.
 fn is_nothing(is_wrong: bool, wanted: &Wanted) -> bool {
     match wanted {
         Wanted::Nothing { wrong } => *wrong == is_wrong,
@@ -171,7 +180,7 @@ fn is_nothing(is_wrong: bool, wanted: &Wanted) -> bool {
     }
 }
 
-/// Whether the arguments after the program's name ask for what is wanted.
+/// Returns whether the arguments after the program's name ask for the wanted command.
 fn ask(alloc: Global, arguments: &[&str], wanted: &Wanted) -> Result<bool, AllocError> {
     let line = line_of(alloc, arguments)?;
     Ok(match command_line_of(alloc, line.as_slice()) {
@@ -181,7 +190,7 @@ fn ask(alloc: Global, arguments: &[&str], wanted: &Wanted) -> Result<bool, Alloc
     })
 }
 
-/// The arguments of each row ask for what is beside them.
+/// Asserts that the arguments of each row ask for its command.
 pub(super) fn all_ask(rt: &impl Abort, alloc: Global, rows: &[Row]) -> Result<(), Fail> {
     for (arguments, wanted) in rows {
         assert!(rt; ask(alloc, arguments, wanted)?, "{arguments:?}");

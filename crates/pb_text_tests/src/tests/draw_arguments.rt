@@ -5,7 +5,7 @@ use super::wanted::{Picture, Row, WRONG, Wanted};
 use pb_cli::PictureFormat;
 use std::test::Fail;
 
-/// A picture of the file `a`, on standard output.
+/// A picture of the file `a` on standard output.
 const PICTURE: Picture = Picture {
     path: "a",
     service: None,

@@ -1,14 +1,17 @@
-//! The form of reports, and further options of `run`.
+//! The format of reports, and further options of `run`.
 
 use super::asked::all_ask;
 use super::wanted::{RUN, Row, Run, WRONG, Wanted};
 use pb_cli::ReportFormat;
 use std::test::Fail;
 
+/// A report as text.
 const TEXT: Wanted = Wanted::Form(ReportFormat::Text);
 
+/// A report as JSON.
 const JSON: Wanted = Wanted::Form(ReportFormat::Json);
 
+/// A report as CSV.
 const CSV: Wanted = Wanted::Form(ReportFormat::Csv);
 
 #[test]

@@ -1,11 +1,12 @@
-//! Words of lines: the parts around a space, a port's digits, names.
+//! Arguments of lines: the parts around a space, the digits of a port, names.
 
 use pb_lan::is_name;
 use pb_messages::{cut, local_port, read_port};
 
-/// A text, and what stands in front of its first space and behind it.
+/// A text, and the parts before and after its first space.
 type Parts = (&'static [u8], Option<(&'static [u8], &'static [u8])>);
 
+/// Texts with their parts.
 const PARTS: &[Parts] = &[
     (b"in 1 ff", Some((b"in", b"1 ff"))),
     (b" x", Some((b"", b"x"))),
@@ -21,7 +22,7 @@ fn a_text_is_cut_at_its_first_space(rt: HostRuntime) {
     }
 }
 
-/// Digits, and the number that they say.
+/// Digits, and the number that they denote.
 const NUMBERS: &[(&[u8], Option<u16>)] = &[
     (b"1", Some(1)),
     (b"16", Some(16)),

@@ -1,4 +1,4 @@
-//! Lines in any pieces, and reads that fail.
+//! Lines in pieces of any length, and reads that fail.
 
 use pb_lines::{Found, LineFault, LineReader};
 use std::alloc::Global;
@@ -6,7 +6,7 @@ use std::io;
 use std::io::{Error, ErrorKind, Read};
 use std::test::Fail;
 
-/// Gives a few octets a call, and an error at one of its calls.
+/// A reader that gives a few octets in each call, and an error in one call.
 #[derive(Drop)]
 struct Slow<'a> {
     rest: &'a [u8],
@@ -33,7 +33,7 @@ impl Read for Slow<'_> {
 /// A line, and how it was found.
 type Line = (&'static [u8], Found);
 
-/// Whether these lines are read one by one, of which so many octets and one more are kept.
+/// Returns whether exactly these lines are read, of which `limit` octets and one more are kept.
 fn reads(
     alloc: Global,
     reader: &mut Slow<'_>,
@@ -49,6 +49,7 @@ fn reads(
     Ok(true)
 }
 
+/// Returns whether the next line is this one.
 fn gives(
     lines: &mut LineReader,
     reader: &mut Slow<'_>,
@@ -57,8 +58,10 @@ fn gives(
     Ok(lines.next(reader)? == found && lines.line() == line)
 }
 
+/// A text of several lines, one of them empty and the last without a line feed.
 const TEXT: &[u8] = b"one\n\nlonger\r\nlast";
 
+/// The lines of `TEXT`.
 const LINES: &[Line] = &[
     (b"one", Found::Line),
     (b"", Found::Line),
@@ -66,7 +69,7 @@ const LINES: &[Line] = &[
     (b"last", Found::Last),
 ];
 
-/// Whether all lines of `TEXT` are read in pieces of so many octets, where one call fails so.
+/// Returns whether all lines of `TEXT` are read in pieces of so many octets, if one call fails with this kind of error.
 fn reads_text(
     alloc: Global,
     most: usize,
@@ -93,9 +96,9 @@ fn gives_each_line_in_any_pieces(rt: HostRuntime) {
     }
 }
 
-/// What comes of reading `TEXT` in pieces of so many octets, where one call fails.
+/// Returns the result of reading `TEXT` in pieces of so many octets, if one call fails.
 fn told_of(most: u64, fails_at: u64) -> Result<bool, LineFault> {
-    // The end shows in one more call.
+    // The end is found in one more call.
     let calls = (TEXT.len() as u64).div_ceil(most.max(1)) + 1;
     if fails_at < calls {
         Err(LineFault::Read)
@@ -114,10 +117,10 @@ fn tells_a_failed_read_at_each_call(rt: HostRuntime) {
     }
 }
 
-/// Limits, and what is kept of the line abcd.
+/// Limits, and the kept part of the line abcd.
 const CUT: &[(u8, &[u8])] = &[(0, b"a"), (1, b"ab"), (3, b"abcd"), (4, b"abcd")];
 
-/// Whether this is kept of the line abcd, and the next line and the end are found behind it.
+/// Returns whether this part of the line abcd is kept, and the next line and the end follow.
 fn cuts(alloc: Global, limit: u8, kept: &'static [u8]) -> Result<bool, LineFault> {
     let mut reader = Slow {
         rest: b"abcd\nx\n",

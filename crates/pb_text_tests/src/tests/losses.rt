@@ -1,4 +1,4 @@
-//! What is told of copies, BPDUs and sources for which bridges had no room.
+//! The loss report of copies, BPDUs and sources that bridges dropped.
 
 use bytes::Bytes;
 use pb_frame::{Held, Memory};
@@ -11,27 +11,27 @@ use pb_run_losses::put_losses;
 use std::alloc::Global;
 use std::test::Fail;
 
-/// Local ports, each with the cause for which there was no room.
+/// Local ports, each with the reason why a copy or BPDU was not queued there.
 type Ports = &'static [(u8, NoRoom)];
 
-/// What a bridge did.
+/// A step of a bridge.
 #[derive(Clone, Copy)]
 enum Performed {
     /// It relayed a frame, and these ports got no copy.
     Relay(Ports),
-    /// It relayed a frame to no port, and its table answered this.
+    /// It relayed a frame to no port, with this result of learning.
     Learn(Learnt),
-    /// It relayed a frame with a new source that its table did not take, and these ports got no copy.
+    /// It relayed a frame with a new source that was not learnt, and these ports got no copy.
     Refuse(Ports, Learnt),
     /// It dropped a frame.
     Filter,
-    /// It heard a BPDU, and these ports had no room for its own.
+    /// It heard a BPDU, and its own BPDU was not queued at these ports.
     Hear(Ports),
     /// It heard a BPDU that changed nothing.
     HearNothing,
-    /// Its clock went on, and these ports had no room for a BPDU.
+    /// Its clock ticked, and a BPDU was not queued at these ports.
     Tick(Ports),
-    /// A port was set up, and these had no room for a BPDU.
+    /// A port was enabled, and a BPDU was not queued at these ports.
     Admin(Ports),
     /// It sent a frame.
     Transmit,
@@ -42,11 +42,13 @@ use Performed::{Admin, Filter, Hear, HearNothing, Learn, Refuse, Relay, Tick, Tr
 /// The bridges of the plan, in its order.
 const NAMES: &[&str] = &["B2", "B1", "core"];
 
-/// What each bridge of the record did, and what is told.
+/// The steps of each bridge of the record, and the loss report.
 type Row = (&'static [&'static [Performed]], &'static str);
 
+/// The queue was full.
 const FULL: NoRoom = NoRoom::Full;
 
+/// An allocation failed.
 const NO_MEMORY: NoRoom = NoRoom::Memory;
 
 /// Steps without losses: none of them has a line.
@@ -64,11 +66,12 @@ const QUIET: &[Performed] = &[
     Transmit,
 ];
 
+/// Records with their loss reports.
 const ROWS: &[Row] = &[
     (&[], ""),
     (&[&[], &[], &[]], ""),
     (&[QUIET, QUIET, QUIET], ""),
-    // copies, at the least and at the greatest port, with both causes
+    // copies, at the lowest and at the highest port, for both reasons
     (
         &[&[
             Relay(&[(16, FULL)]),
@@ -87,7 +90,7 @@ const ROWS: &[Row] = &[
         &[&[Relay(&[(3, FULL)]); 12]],
         "bridge B2 port 3: 12 copies not queued: full\n",
     ),
-    // each step that may drop a BPDU; one port twice in a step
+    // each step that may drop a BPDU, and one port twice in a step
     (
         &[
             &[],
@@ -147,14 +150,14 @@ const ROWS: &[Row] = &[
         "bridge B2 port 1: 1 copies not queued: full\n\
          bridge B2: 1 sources not learnt: full\n",
     ),
-    // and one with more
+    // a record with more lists
     (
         &[QUIET, QUIET, &[Tick(&[(1, FULL)])], &[Tick(&[(1, FULL)])]],
         "bridge core port 1: 1 BPDUs not queued: full\n",
     ),
 ];
 
-/// What changed at the ports: nothing, but these had no room for a BPDU.
+/// Returns the report of a step in which no port changed, but a BPDU was not queued at these ports.
 fn moved_of(alloc: Global, ports: &[(u8, NoRoom)]) -> Result<Moved, Memory> {
     let dropped = Vec::from_slice(alloc, ports)?;
     Ok(Moved {
@@ -165,6 +168,7 @@ fn moved_of(alloc: Global, ports: &[(u8, NoRoom)]) -> Result<Moved, Memory> {
     })
 }
 
+/// Returns the ports that got no copy.
 fn refusals_of(refused: &[(u8, NoRoom)]) -> Refusals {
     match Refusals::from_slice(refused) {
         Some(refusals) => refusals,
@@ -172,6 +176,7 @@ fn refusals_of(refused: &[(u8, NoRoom)]) -> Refusals {
     }
 }
 
+/// Returns the outcome of a frame that was relayed, with the ports that got no copy.
 fn relayed(refused: &[(u8, NoRoom)]) -> Outcome {
     Outcome::Relayed {
         chosen: PortSet::new(),
@@ -179,7 +184,7 @@ fn relayed(refused: &[(u8, NoRoom)]) -> Outcome {
     }
 }
 
-/// What became of a frame, and what the table answered.
+/// Returns the result of learning and the outcome of a frame.
 fn ruling_of(performed: Performed) -> (Option<Learnt>, Outcome) {
     match performed {
         Relay(ports) => (Some(Learnt::Kept), relayed(ports)),
@@ -190,6 +195,7 @@ fn ruling_of(performed: Performed) -> (Option<Learnt>, Outcome) {
     }
 }
 
+/// Returns an item of two octets.
 fn item(alloc: Global) -> Result<Item, Memory> {
     let wire = Bytes::copy_from_slice(alloc, b"\xab\x01")?;
     Ok(Item {
@@ -199,7 +205,7 @@ fn item(alloc: Global) -> Result<Item, Memory> {
     })
 }
 
-/// What changed by a BPDU that a bridge heard, if something did.
+/// Returns the report of a BPDU that a bridge heard, if it changed something.
 fn heard(alloc: Global, performed: Performed) -> Result<Option<Held<Moved>>, Memory> {
     let Hear(ports) = performed else {
         return Ok(None);
@@ -207,7 +213,7 @@ fn heard(alloc: Global, performed: Performed) -> Result<Option<Held<Moved>>, Mem
     Ok(Some(Held::new(alloc, moved_of(alloc, ports)?)?))
 }
 
-/// The step in which a bridge received a frame.
+/// Returns the step in which a bridge received a frame.
 fn receipt(performed: Performed, item: Item, moved: Option<Held<Moved>>) -> Step {
     let (learnt, outcome) = ruling_of(performed);
     Step::Receive {
@@ -219,22 +225,26 @@ fn receipt(performed: Performed, item: Item, moved: Option<Held<Moved>>) -> Step
     }
 }
 
+/// Returns the Receive step of a bridge.
 fn receipt_of(alloc: Global, performed: Performed) -> Result<Step, Memory> {
     let item = item(alloc)?;
     let moved = heard(alloc, performed)?;
     Ok(receipt(performed, item, moved))
 }
 
+/// Returns a Transmit step.
 fn transmission(alloc: Global) -> Result<Step, Memory> {
     let item = item(alloc)?;
     Ok(Step::Transmit { port: 9, item })
 }
 
+/// Returns a Tick step with the BPDUs that were not queued.
 fn tick(alloc: Global, ports: &[(u8, NoRoom)]) -> Result<Step, Memory> {
     let moved = moved_of(alloc, ports)?;
     Ok(Step::Tick { now: 1, moved })
 }
 
+/// Returns an Admin step with the BPDUs that were not queued.
 fn admin(alloc: Global, ports: &[(u8, NoRoom)]) -> Result<Step, Memory> {
     let moved = moved_of(alloc, ports)?;
     Ok(Step::Admin {
@@ -244,6 +254,7 @@ fn admin(alloc: Global, ports: &[(u8, NoRoom)]) -> Result<Step, Memory> {
     })
 }
 
+/// Returns the step of a bridge.
 fn step_of(alloc: Global, performed: Performed) -> Result<Step, Memory> {
     match performed {
         Tick(ports) => tick(alloc, ports),
@@ -253,6 +264,7 @@ fn step_of(alloc: Global, performed: Performed) -> Result<Step, Memory> {
     }
 }
 
+/// Returns the steps of a bridge.
 fn steps_of(alloc: Global, all: &[Performed]) -> Result<Seq<Step>, Memory> {
     let mut steps = Vec::new(alloc);
     for performed in all {
@@ -261,7 +273,7 @@ fn steps_of(alloc: Global, all: &[Performed]) -> Result<Seq<Step>, Memory> {
     Ok(Seq::from_vec(steps))
 }
 
-/// The record in which the bridges did this.
+/// Returns the record of bridges with these steps.
 fn record_of(alloc: Global, bridges: &[&[Performed]]) -> Result<Record, Memory> {
     let mut lists = Vec::new(alloc);
     for all in bridges {
@@ -274,7 +286,7 @@ fn record_of(alloc: Global, bridges: &[&[Performed]]) -> Result<Record, Memory> 
     })
 }
 
-/// A bridge of this name.
+/// Returns a bridge with this name.
 fn bridge(alloc: Global, name: &str) -> Result<BridgePlan, Memory> {
     let name = String::from_str(alloc, name)?;
     Ok(BridgePlan {
@@ -285,6 +297,7 @@ fn bridge(alloc: Global, name: &str) -> Result<BridgePlan, Memory> {
     })
 }
 
+/// Returns the bridges of the plan.
 fn bridges(alloc: Global) -> Result<Seq<BridgePlan>, Memory> {
     let mut bridges = Vec::new(alloc);
     for name in NAMES {
@@ -293,7 +306,7 @@ fn bridges(alloc: Global) -> Result<Seq<BridgePlan>, Memory> {
     Ok(Seq::from_vec(bridges))
 }
 
-/// The plan of the bridges, which are joined by nothing.
+/// Returns the plan of the bridges, without links.
 fn plan_of(alloc: Global) -> Result<Plan, Memory> {
     let bridges = bridges(alloc)?;
     Ok(Plan {
@@ -309,20 +322,20 @@ fn plan_of(alloc: Global) -> Result<Plan, Memory> {
     })
 }
 
-/// The tallies of the record in which the bridges did this.
+/// Returns the counts of bridges with these steps.
 fn tallies_of(alloc: Global, bridges: &[&[Performed]]) -> Result<Tallies, Memory> {
     let record = record_of(alloc, bridges)?;
     Tallies::of(alloc, &record)
 }
 
-/// Appends what is told where the bridges did this.
+/// Appends the loss report of bridges with these steps.
 fn put(out: &mut String, alloc: Global, bridges: &[&[Performed]]) -> Result<(), Memory> {
     let plan = plan_of(alloc)?;
     let tallies = tallies_of(alloc, bridges)?;
     put_losses(out, &plan, &tallies)
 }
 
-/// Whether this is told behind what stands there, where the bridges did this.
+/// Returns whether this is the loss report of bridges with these steps, and it follows the earlier text.
 fn is_told(alloc: Global, bridges: &[&[Performed]], wanted: &str) -> Result<bool, Memory> {
     let mut out = String::from_str(alloc, "before\n")?;
     put(&mut out, alloc, bridges)?;

@@ -4,7 +4,7 @@ use super::asked::all_ask;
 use super::wanted::{Look, Of, Row, WRONG, Wanted};
 use std::test::Fail;
 
-/// A look at the single links of the file `a`, for all services.
+/// A survey of the single links of the file `a`, for all services.
 const LINKS: Look = Look {
     path: "a",
     pairs: false,

@@ -1,24 +1,24 @@
-//! What arguments of the command line ask for.
+//! The commands that arguments ask for.
 
 use pb_cli::{InitOptions, PictureFormat, ReportFormat};
 
-/// A run of a plan file, and what is to be done beside it. Its report is a text.
+/// A run of a plan file with its options. Its report is a text.
 #[derive(Clone, Copy)]
 pub(super) struct Run {
     pub(super) path: &'static str,
     pub(super) seconds: Option<u32>,
-    /// Whether progress is told.
+    /// Whether progress is printed.
     pub(super) progress: bool,
     /// The path of the control socket.
     pub(super) control: Option<&'static str>,
     pub(super) strict: bool,
-    /// Whether the bridges settle first.
+    /// Whether frames wait until the bridges have converged.
     pub(super) settles: bool,
-    /// For how many milliseconds is lingered.
+    /// The time after the run in which ports write, in milliseconds.
     pub(super) linger: u32,
 }
 
-/// A run of the file `a`, with nothing beside.
+/// A run of the file `a` without options.
 pub(super) const RUN: Run = Run {
     path: "a",
     seconds: None,
@@ -29,7 +29,7 @@ pub(super) const RUN: Run = Run {
     linger: 100,
 };
 
-/// Which services are looked at.
+/// The services of a survey.
 #[derive(Clone, Copy)]
 pub(super) enum Of {
     All,
@@ -37,13 +37,13 @@ pub(super) enum Of {
     From(&'static str),
 }
 
-/// A look at a plan file under failures. Its report is a text.
+/// A survey of a plan file under failures. Its report is a text.
 #[derive(Clone, Copy)]
 pub(super) struct Look {
     pub(super) path: &'static str,
-    /// Whether two links fail, too.
+    /// Whether pairs of links fail too.
     pub(super) pairs: bool,
-    /// Whether bridges fail, too.
+    /// Whether bridges fail too.
     pub(super) bridges: bool,
     pub(super) of: Of,
     pub(super) ticks: u32,
@@ -53,27 +53,27 @@ pub(super) struct Look {
 #[derive(Clone, Copy)]
 pub(super) struct Picture {
     pub(super) path: &'static str,
-    /// The service that stands out.
+    /// The service that is highlighted.
     pub(super) service: Option<&'static str>,
-    /// The ports that go down.
+    /// The ports that are disabled.
     pub(super) downs: &'static [&'static str],
     pub(super) format: PictureFormat,
-    /// The most ticks.
+    /// The maximum number of ticks.
     pub(super) ticks: u32,
-    /// Where the picture is to be written. None: on standard output.
+    /// The path of the picture, or `None` for standard output.
     pub(super) output: Option<&'static str>,
 }
 
-/// The command line that arguments make. Each report is a text.
+/// The command that arguments ask for. Each report is a text.
 #[derive(Clone, Copy)]
 pub(super) enum Wanted {
     Flat(u8),
     Check(&'static str),
     Step(&'static str),
     Run(Run),
-    /// With the ports that go down, and the most ticks.
+    /// A plan file, the ports that are disabled, and the maximum number of ticks.
     Tree(&'static str, &'static [&'static str], u32),
-    /// With the frames that come in, each a port and digits, and whether the bridges settle before.
+    /// A plan file, the frames as pairs of a port and digits, and whether the bridges converge first.
     Trace(&'static str, &'static [(&'static str, &'static str)], bool),
     Survive(Look),
     Draw(Picture),
@@ -81,15 +81,17 @@ pub(super) enum Wanted {
     Init(InitOptions),
     /// The path of the control socket, and the arguments of its commands.
     Control(&'static str, &'static [&'static str]),
-    /// A report in this form.
+    /// A report in this format.
     Form(ReportFormat),
-    /// They are wrong, or ask for help.
+    /// No command: the arguments are wrong, or ask for help.
     Nothing { wrong: bool },
 }
 
+/// Wrong arguments.
 pub(super) const WRONG: Wanted = Wanted::Nothing { wrong: true };
 
+/// A request for help.
 pub(super) const HELP: Wanted = Wanted::Nothing { wrong: false };
 
-/// The arguments after the program's name, and what they ask for.
+/// The arguments after the program's name, and the command that they ask for.
 pub(super) type Row = (&'static [&'static str], Wanted);

@@ -5,7 +5,7 @@ use Rattle.pb_plan_spans.specs.Lines.{lines_of, lines_left, is_quoted}
 use Rattle.pb_plan_spans.proofs.LeftOver.{left_of}
 use Rattle.pb_plan_spans.proofs.header.has_quoted.Given as goal
 
--- the lines before are not quoted
+-- the earlier lines are not quoted
 abbrev pub invariant-loop-rest : goal.invariant-loop-rest
 invariant-loop-rest l = list_any is_quoted (lines_left (option_map (λ t. t.now) l.rest)) ≡ list_any is_quoted
     (lines_of l.file)

@@ -5,7 +5,7 @@ use Rattle.pb_plan_spans.specs.Lines.{lines_of, lines_left, headers_from, header
 use Rattle.pb_plan_spans.proofs.LeftOver.{left_of}
 use Rattle.pb_plan_spans.proofs.header.header_line.Given as goal
 
--- among the lines that are left, the header is behind so many others as are left
+-- among the remaining lines, the header is the one after `left` others
 abbrev pub invariant-loop-rest : goal.invariant-loop-rest
 invariant-loop-rest l = record {
   header : slice_get (headers_from l.number l.word (lines_left (option_map (λ t. t.now) l.rest))) l.left ≡ header_line

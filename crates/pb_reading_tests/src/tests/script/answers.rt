@@ -1,4 +1,4 @@
-//! What is said of steps.
+//! The printed text of steps.
 
 use super::plans::network;
 use bytes::Bytes;
@@ -10,7 +10,7 @@ use std::alloc::{AllocError, Global};
 use std::process::Abort;
 use std::test::Fail;
 
-/// A frame of two octets with a mark.
+/// Returns a frame of two octets with a mark.
 fn item(alloc: Global) -> Result<Item, AllocError> {
     Ok(Item {
         mark: Some(Mark {
@@ -22,7 +22,7 @@ fn item(alloc: Global) -> Result<Item, AllocError> {
     })
 }
 
-/// Nothing moved.
+/// Returns the report of a step in which no port changed.
 fn moved(alloc: Global) -> Moved {
     Moved {
         states: Seq::from_vec(Vec::new(alloc)),
@@ -32,7 +32,7 @@ fn moved(alloc: Global) -> Moved {
     }
 }
 
-/// What stands there, and behind it what is said of a step of a place.
+/// Returns a text to which the line of a step of a place was appended.
 fn text_of(alloc: Global, place: Place, step: &Step) -> Result<String, Fail> {
     let plan = network(alloc)?;
     let mut out = String::from_str(alloc, "before\n")?;
@@ -40,7 +40,7 @@ fn text_of(alloc: Global, place: Place, step: &Step) -> Result<String, Fail> {
     Ok(out)
 }
 
-/// What is said of a step of a place.
+/// Asserts the line of a step of a place.
 fn said(rt: &impl Abort, alloc: Global, place: Place, step: Step, want: &str) -> Result<(), Fail> {
     let text = text_of(alloc, place, &step)?;
     assert_eq!(rt; text.as_str().strip_prefix("before\n"), Some(want));
@@ -84,7 +84,7 @@ fn a_departure_is_told_with_its_octets(rt: HostRuntime) -> Result<(), Fail> {
     )
 }
 
-/// What is said of a lane that takes an item.
+/// Asserts the line of a lane that takes an item.
 fn takes(rt: &impl Abort, alloc: Global, lost: bool, want: &str) -> Result<(), Fail> {
     let (number, item) = (3, item(alloc)?);
     let take = Step::Take { number, item, lost };
@@ -125,7 +125,7 @@ fn a_setting_is_told(rt: HostRuntime) -> Result<(), Fail> {
     said(&rt, rt.alloc(), Place::Bridge(1), admin, "set\n")
 }
 
-/// What is said of a bridge's frame.
+/// Asserts the line of a frame that a bridge received, with this outcome.
 fn ruled(rt: &impl Abort, alloc: Global, outcome: Outcome, want: &str) -> Result<(), Fail> {
     let step = Step::Receive {
         port: 2,
@@ -137,7 +137,7 @@ fn ruled(rt: &impl Abort, alloc: Global, outcome: Outcome, want: &str) -> Result
     said(rt, alloc, Place::Bridge(1), step, want)
 }
 
-/// What is said of a frame that is relayed to these ports, of which these got no copy.
+/// Asserts the line of a frame that is relayed to these ports, some of which got no copy.
 fn relayed(
     rt: &impl Abort,
     alloc: Global,

@@ -4,7 +4,7 @@ use super::plans::unordered;
 use pb_step_script::{bridges_by_name, links_by_name, ports_by_name};
 use std::test::Fail;
 
-/// Whether these are the names and numbers that are wanted.
+/// Returns whether these are the wanted names and numbers.
 fn are(names: &[(&str, u8)], wanted: &[(&str, u8)]) -> bool {
     names == wanted
 }

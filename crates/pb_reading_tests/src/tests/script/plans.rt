@@ -6,7 +6,7 @@ use pb_service::read_plan;
 use std::alloc::Global;
 use std::test::Fail;
 
-/// Bridges, links and customer ports whose names do not come in the order of their octets.
+/// Bridges, links and customer ports whose names are not in the order of their octets.
 const UNORDERED: &str = r#"
 [[bridge]]
 name = "west"
@@ -54,13 +54,13 @@ port = 4
 service = "red"
 "#;
 
-/// The network.
+/// Returns the network.
 pub(super) fn network(alloc: Global) -> Result<Plan, Fail> {
     let (plan, _) = read_plan(alloc, PAIR.as_bytes())?;
     Ok(plan)
 }
 
-/// That with names in another order.
+/// Returns the network whose names are in another order.
 pub(super) fn unordered(alloc: Global) -> Result<Plan, Fail> {
     let (plan, _) = read_plan(alloc, UNORDERED.as_bytes())?;
     Ok(plan)

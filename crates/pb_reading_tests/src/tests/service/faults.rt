@@ -1,14 +1,14 @@
-//! Each fault, and the text that is printed.
+//! Each fault, with its printed text.
 
 use super::{NETWORK, tells, told};
 use pb_service::PlanFault;
 use std::alloc::Global;
 use std::process::Abort;
 
-/// A text of the network's file, what stands in its place, and the fault of the file then.
+/// A text of the network's file, its replacement, and the fault of the file with the replacement.
 type Change = (&'static str, &'static str, &'static str);
 
-/// Whether the file of the network with one text in place of another has this fault.
+/// Returns whether the network's file has this fault after a replacement.
 fn changes(alloc: Global, (old, new, want): Change) -> Result<bool, PlanFault> {
     let Some((front, back)) = NETWORK.split_once(old) else {
         return Ok(false);
@@ -17,7 +17,7 @@ fn changes(alloc: Global, (old, new, want): Change) -> Result<bool, PlanFault> {
     tells(alloc, text.as_bytes(), want)
 }
 
-/// Each of these changes gives its fault.
+/// Asserts that each of these replacements gives its fault.
 fn all_change(rt: &impl Abort, alloc: Global, rows: &[Change]) -> Result<(), PlanFault> {
     for (number, row) in rows.iter().enumerate() {
         assert!(rt; changes(alloc, *row)?, "row {number}");
@@ -25,7 +25,7 @@ fn all_change(rt: &impl Abort, alloc: Global, rows: &[Change]) -> Result<(), Pla
     Ok(())
 }
 
-/// Each of these files has the fault beside it.
+/// Asserts that each of these files has its fault.
 fn all_told(rt: &impl Abort, alloc: Global, rows: &[(&[u8], &str)]) -> Result<(), PlanFault> {
     for (file, want) in rows {
         told(rt, alloc, file, want)?;

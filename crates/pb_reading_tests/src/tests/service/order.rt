@@ -1,10 +1,10 @@
-//! Which of two faults is told.
+//! The order in which faults are found.
 
 use super::tells;
 use pb_service::PlanFault;
 use std::alloc::Global;
 
-/// Files with two faults each, and the one that is told.
+/// Files with two faults each, and the one that is reported.
 const FILES: &[(&str, &str)] = &[
     ("zebra = 1\nnetwork = 1", "6 unknown zebra"),
     ("[network]\nring = 0\nageing = 1", "5 range network.ageing"),
@@ -110,14 +110,14 @@ fn the_first_fault_is_told(rt: HostRuntime) -> Result<(), PlanFault> {
     Ok(())
 }
 
-/// A file of 33 bridges without keys, and what is told of it with this behind them.
+/// Texts that follow 33 bridges without keys, and the fault of each file.
 const MANY: &[(&str, &str)] = &[
     ("", "10 too-many"),
     ("[[port]]\n", "10 too-many"),
     ("[[port]]\n[network]\nring = 0\n", "5 range network.ring"),
 ];
 
-/// Whether this is told of 33 bridges without keys and what is behind them.
+/// Returns whether a file of 33 bridges without keys and the text that follows has this fault.
 fn tells_of_many(alloc: Global, behind: &str, want: &str) -> Result<bool, PlanFault> {
     let mut text = String::new(alloc);
     for _ in 0..33u8 {

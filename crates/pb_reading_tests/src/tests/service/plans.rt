@@ -1,4 +1,4 @@
-//! What a file that is taken tells.
+//! The contents of accepted files.
 
 ghost use Rattle.std.specs.Prelude.{◌≡◌, IfOk};
 ghost use Rattle.pb_service.specs.PlanFiles.{Tells, network_row};
@@ -16,14 +16,14 @@ use pb_service::{
 use std::alloc::Global;
 use std::fmt::Write;
 
-/// What a caller may take from `read_limits`: what stands under the network's keys, with the defaults.
+/// Calls `read_limits`. Its contract says that the limits are those of the network's keys, with the defaults.
 fn limits_of(alloc: Global, file: &[u8]) -> Result<Limits, PlanFault>
     ensures { IfOk result (λ limits. Tells file.now (λ document. limits ≡ limits_told (network_row document))) }
 {
     read_limits(alloc, file)
 }
 
-/// Whether these are its bridges, by the defaults where the file tells nothing.
+/// Returns whether these are the bridges of the network, with the defaults for missing keys.
 fn are_bridges(bridges: &[BridgePlan]) -> bool {
     let [first, second] = bridges else {
         return false;
@@ -34,7 +34,7 @@ fn are_bridges(bridges: &[BridgePlan]) -> bool {
         && first.queue == 64
 }
 
-/// Whether these are its services.
+/// Returns whether these are the services of the network.
 fn are_services(services: &[ServicePlan]) -> bool {
     let [_, second] = services else {
         return false;
@@ -42,7 +42,7 @@ fn are_services(services: &[ServicePlan]) -> bool {
     second.name.as_str() == "blue" && second.vid == 200
 }
 
-/// Whether it has these by default.
+/// Returns whether the plan has the defaults of the network.
 fn has_defaults(plan: &Plan) -> bool {
     plan.spanning == Spanning::Fixed
         && plan.ageing == 300
@@ -59,7 +59,7 @@ fn the_network_has_its_bridges_and_services(rt: HostRuntime) -> Result<(), PlanF
     Ok(())
 }
 
-/// Whether an end is this port, by the defaults.
+/// Returns whether an end is at this port, and else has the defaults.
 fn is_end_at(end: &End, bridge: u8, port: u8) -> bool {
     end.bridge == bridge
         && end.port == port
@@ -69,7 +69,7 @@ fn is_end_at(end: &End, bridge: u8, port: u8) -> bool {
         && end.services.is_none()
 }
 
-/// Whether this is its one link.
+/// Returns whether this is the only link of the network.
 fn are_links(links: &[LinkPlan]) -> bool {
     let [link] = links else {
         return false;
@@ -80,7 +80,7 @@ fn are_links(links: &[LinkPlan]) -> bool {
         && link.lost_ab.len() == 0
 }
 
-/// Whether these are its customer ports, the last one by its keys.
+/// Returns whether these are the customer ports of the network, the last one with its keys.
 fn are_customers(customers: &[CustomerPlan]) -> bool {
     let [_, _, last] = customers else {
         return false;
@@ -93,7 +93,7 @@ fn are_customers(customers: &[CustomerPlan]) -> bool {
         && last.queue == 64
 }
 
-/// Whether there are three ports, of which the last is this.
+/// Returns whether there are three ports, of which the last is this one.
 fn are_ports(ports: &[PortSpec], want: &PortSpec) -> bool {
     match ports {
         [_, _, last] => last == want,
@@ -111,10 +111,10 @@ fn the_network_has_its_link_and_ports(rt: HostRuntime) -> Result<(), PlanFault> 
     Ok(())
 }
 
-/// A file, and the limits that it asks for.
+/// A file, and its limits.
 type Asked = (&'static str, Limits);
 
-/// The limits of a file that says nothing of them.
+/// The limits of a file that gives none.
 const UNSAID: Limits = Limits {
     turns: u64::MAX,
     tick_every: 0,
@@ -161,7 +161,7 @@ fn limits_are_read_or_have_defaults(rt: HostRuntime) -> Result<(), PlanFault> {
     Ok(())
 }
 
-/// Events behind the network's file, and what they are, in the order of the file.
+/// Events that follow the network's file, and their values in the order of the file.
 const EVENTS: (&str, &[PortEvent]) = (
     "[[event]]\nat = 4294967295\nbridge = \"B2\"\nport = 1\nup = true\n[[event]]\nat = 0\nbridge = \"B1\"\nport = 1\n\
     up = false\n",
@@ -181,7 +181,7 @@ const EVENTS: (&str, &[PortEvent]) = (
     ],
 );
 
-/// What the network's file tells with these behind it: how many bridges and ports, and whether the turns have no limit
+/// Returns the number of bridges and ports of the network's file with these events, and whether the turns have no limit
 /// and the events are these.
 fn told_with(
     alloc: Global,
@@ -215,7 +215,7 @@ fn limits_of_a_wrong_file_are_refused(rt: HostRuntime) {
     }
 }
 
-/// A link with every key, between a bridge's ports.
+/// A link with every key, between two ports of one bridge.
 const LINK: &str = "\
 [network]
 spanning = \"rstp\"
@@ -249,12 +249,12 @@ name = \"blue\"
 vid = 3
 ";
 
-/// Whether an end has these keys.
+/// Returns whether an end has these values.
 fn has_keys(end: &End, cost: u32, priority: u8, start: PortState) -> bool {
     end.cost == cost && end.priority == priority && end.start == start
 }
 
-/// Whether the ends of the one link have their keys.
+/// Returns whether the ends of the only link have the values of their keys.
 fn have_keys(links: &[LinkPlan]) -> bool {
     let [link] = links else {
         return false;
@@ -269,7 +269,7 @@ fn ends_have_their_keys(rt: HostRuntime) -> Result<(), PlanFault> {
     Ok(())
 }
 
-/// Whether an end is for these services.
+/// Returns whether an end carries these services.
 fn is_for(end: &End, services: &[u8]) -> bool {
     match &end.services {
         Some(listed) => listed.as_slice() == services,
@@ -277,12 +277,13 @@ fn is_for(end: &End, services: &[u8]) -> bool {
     }
 }
 
-/// The items that the link loses each way.
+/// The items that the link loses from A to B.
 const LOST_AB: &[u64] = &[0, 5];
 
+/// The items that the link loses from B to A.
 const LOST_BA: &[u64] = &[1, 2, 9_223_372_036_854_775_807];
 
-/// Whether the one link has its lists.
+/// Returns whether the only link has its lists.
 fn have_lists(links: &[LinkPlan]) -> bool {
     let [link] = links else {
         return false;
@@ -300,14 +301,14 @@ fn links_have_their_lists(rt: HostRuntime) -> Result<(), PlanFault> {
     Ok(())
 }
 
-/// Whether a port with these keys is of this kind.
+/// Returns whether a port with these keys is of this kind.
 fn is_port(alloc: Global, keys: &str, want: &PortSpec) -> Result<bool, PlanFault> {
     let text = format!(in alloc; "{NETWORK}{keys}\n")?;
     let (_, ports) = read_plan(alloc, text.as_bytes())?;
     Ok(are_ports(&ports, want))
 }
 
-/// A port over memory that gives the octets 0A and FF, and then none.
+/// Returns a port over memory with a frame of the octets 0A and FF, and an empty frame.
 fn memory(alloc: Global) -> Result<PortSpec, PlanFault> {
     let mut frames = Vec::new(alloc);
     frames.push(Bytes::copy_from_slice(alloc, &[0x0a, 0xff])?)?;
@@ -315,29 +316,31 @@ fn memory(alloc: Global) -> Result<PortSpec, PlanFault> {
     Ok(PortSpec::Memory(Seq::from_vec(frames)))
 }
 
+/// Returns a text of the plan.
 fn text(alloc: Global, word: &str) -> Result<Text, PlanFault> {
     Ok(Text::from_string(String::from_str(alloc, word)?))
 }
 
-/// A port over two captures.
+/// Returns a port over two captures.
 fn capture(alloc: Global, stamp: Stamp) -> Result<PortSpec, PlanFault> {
     let read = text(alloc, "in.pcap")?;
     let write = text(alloc, "out.pcap")?;
     Ok(PortSpec::Capture { read, write, stamp })
 }
 
+/// Returns a port over a socket.
 fn socket(alloc: Global, listens: bool) -> Result<PortSpec, PlanFault> {
     let path = text(alloc, "p")?;
     Ok(PortSpec::Socket { path, listens })
 }
 
-/// Whether the keys of a port over memory are read.
+/// Returns whether the keys of a port over memory are read.
 fn is_memory(alloc: Global) -> Result<bool, PlanFault> {
     let want = memory(alloc)?;
     is_port(alloc, "in = [\"0aFf\", \"\"]", &want)
 }
 
-/// The same of a port over captures, with this stamp.
+/// Returns whether the keys of a port over captures are read, with this stamp.
 fn is_capture(alloc: Global, stamp: &str, want: Stamp) -> Result<bool, PlanFault> {
     let want = capture(alloc, want)?;
     let keys = format!(in alloc;
@@ -346,7 +349,7 @@ fn is_capture(alloc: Global, stamp: &str, want: Stamp) -> Result<bool, PlanFault
     is_port(alloc, keys.as_str(), &want)
 }
 
-/// The same of a port over a socket, whose path stands at a key.
+/// Returns whether the keys of a port over a socket are read, with its path at this key.
 fn is_socket(alloc: Global, key: &str, listens: bool) -> Result<bool, PlanFault> {
     let want = socket(alloc, listens)?;
     let keys = format!(in alloc; "kind = \"socket\"\n{key} = \"p\"")?;
@@ -364,13 +367,13 @@ fn ports_are_of_three_kinds(rt: HostRuntime) -> Result<(), PlanFault> {
     Ok(())
 }
 
-/// A table of the largest plan.
+/// Appends a table of the largest plan.
 fn put_table(text: &mut String, head: &str, number: u8, rest: &str) -> Result<(), PlanFault> {
     write!(text, "[[{head}]]\nname = \"{head}-{number}\"\n{rest}\n")?;
     Ok(())
 }
 
-/// The bridges and services of the largest plan.
+/// Appends the bridges and services of the largest plan.
 fn put_bridges(alloc: Global, text: &mut String) -> Result<(), PlanFault> {
     for i in 0..32u8 {
         put_table(
@@ -391,7 +394,7 @@ fn put_bridges(alloc: Global, text: &mut String) -> Result<(), PlanFault> {
     Ok(())
 }
 
-/// Its links and customer ports.
+/// Appends the links and customer ports of the largest plan.
 fn put_ports(alloc: Global, text: &mut String) -> Result<(), PlanFault> {
     for i in 0..64u8 {
         let (a, b, port) = (i % 32, (i % 32 + 1) % 32, 1 + i / 32 * 2);
@@ -410,7 +413,7 @@ fn put_ports(alloc: Global, text: &mut String) -> Result<(), PlanFault> {
     Ok(())
 }
 
-/// How many bridges, links, services and customer ports there are.
+/// Returns the number of bridges, links, services and customer ports.
 fn sizes(plan: &Plan) -> (usize, usize, usize, usize) {
     let (bridges, links) = (plan.bridges.len(), plan.links.len());
     (bridges, links, plan.services.len(), plan.customers.len())

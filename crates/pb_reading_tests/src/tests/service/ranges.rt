@@ -1,20 +1,23 @@
-//! The lowest and highest value of each number, and those just outside.
+//! The lowest and the highest value of each number, and the values just outside.
 
 use super::tells;
 use pb_service::PlanFault;
 use std::alloc::Global;
 use std::process::Abort;
 
-/// A bridge, and the beginnings of other tables.
+/// A bridge.
 const BRIDGE: &str = "[[bridge]]\nname = \"B\"\naddress = \"02-00-00-00-00-01\"\n";
 
+/// The beginning of a service.
 const SERVICE: &str = "[[service]]\nname = \"S\"\n";
 
+/// The beginning of a link.
 const LINK: &str = "[[link]]\nname = \"L\"\na = \"B\"\nb = \"B\"\n";
 
+/// The beginning of a customer port.
 const PORT: &str = "[[port]]\nname = \"P\"\nbridge = \"B\"\nservice = \"S\"\n";
 
-/// The tables before a key, those behind it, the key, its place, its lowest and its highest value.
+/// The text before a key, the text after it, the key, its path, its lowest and its highest value.
 type Number = (
     &'static str,
     &'static str,
@@ -97,7 +100,7 @@ const NUMBERS: &[Number] = &[
     (BRIDGE, "", "priority", "bridge[0].priority", 4096, 57_344),
 ];
 
-/// The file in which the key has the value.
+/// Returns a file in which the key has the value.
 fn file_with(
     alloc: Global,
     front: &str,
@@ -115,28 +118,28 @@ fn file_with(
     Ok(text)
 }
 
-/// Whether this is the fault of a file in which the key has the value.
+/// Returns whether a file in which the key has the value has this fault.
 fn tells_with(alloc: Global, number: &Number, value: i64, want: &str) -> Result<bool, PlanFault> {
     let (front, back, key, _, _, _) = *number;
     let file = file_with(alloc, front, back, key, value)?;
     tells(alloc, file.as_bytes(), want)
 }
 
-/// A value is taken.
+/// Asserts that a value is accepted.
 fn is_within(rt: &impl Abort, alloc: Global, number: &Number, value: i64) -> Result<(), PlanFault> {
     let is_ok = tells_with(alloc, number, value, "0 ok")?;
     assert!(rt; is_ok, "{} {value}", number.3);
     Ok(())
 }
 
-/// Whether a value is refused.
+/// Returns whether a value is refused as out of range.
 fn is_refused(alloc: Global, number: &Number, value: i64) -> Result<bool, PlanFault> {
     let path = number.3;
     let want = format!(in alloc; "5 range {path}")?;
     tells_with(alloc, number, value, want.as_str())
 }
 
-/// A value is refused.
+/// Asserts that a value is refused as out of range.
 fn is_outside(
     rt: &impl Abort,
     alloc: Global,
@@ -171,7 +174,7 @@ fn numbers_outside_are_refused(rt: HostRuntime) -> Result<(), PlanFault> {
     Ok(())
 }
 
-/// Names of services, and what is told of each.
+/// Names of services, with the fault of each.
 const NAMES: &[(&str, &str)] = &[
     ("", "5 range service[0].name"),
     ("a", "0 ok"),
@@ -185,7 +188,7 @@ const NAMES: &[(&str, &str)] = &[
     ("ä", "5 range service[0].name"),
 ];
 
-/// Whether this is told of a service's name.
+/// Returns whether a service with this name has this fault.
 fn tells_of_name(alloc: Global, name: &str, want: &str) -> Result<bool, PlanFault> {
     let text = format!(in alloc; "[[service]]\nname = \"{name}\"\nvid = 1\n")?;
     tells(alloc, text.as_bytes(), want)
@@ -199,7 +202,7 @@ fn names_have_1_to_32_letters(rt: HostRuntime) -> Result<(), PlanFault> {
     Ok(())
 }
 
-/// Addresses of bridges, and what is told of each.
+/// Addresses of bridges, with the fault of each.
 const ADDRESSES: &[(&str, &str)] = &[
     ("02-00-00-00-00-01", "0 ok"),
     ("fe-FF-ff-Ff-fF-00", "0 ok"),
@@ -209,7 +212,7 @@ const ADDRESSES: &[(&str, &str)] = &[
     ("02-00-00-00-00-0g", "5 range bridge[0].address"),
 ];
 
-/// Whether this is told of a bridge's address.
+/// Returns whether a bridge with this address has this fault.
 fn tells_of_address(alloc: Global, address: &str, want: &str) -> Result<bool, PlanFault> {
     let text = format!(in alloc; "[[bridge]]\nname = \"B\"\naddress = \"{address}\"\n")?;
     tells(alloc, text.as_bytes(), want)

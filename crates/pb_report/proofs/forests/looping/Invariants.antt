@@ -2,7 +2,7 @@ use Rattle.std.proofs.Common.{◌++◌, List, ℕ, map, drop}
 use Rattle.pb_report.specs.ForestTexts.{AreLooping}
 use Rattle.pb_report.proofs.forests.looping.Given as goal
 
--- whatever names the services from here on give, they complete the names so far
+-- the names so far, followed by those of the remaining services, are the names of all
 abbrev pub invariant-loop-index : goal.invariant-loop-index
 invariant-loop-index l =
     (rest : List (List ℕ)) → AreLooping l.plan l.shape (drop l.index l.plan.services) rest

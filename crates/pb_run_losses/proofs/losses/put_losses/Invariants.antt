@@ -5,7 +5,7 @@ use Rattle.std.specs.Slice.Iter.{iter_rest}
 use Rattle.pb_run_losses.specs.Losses.{bridge_lines}
 use Rattle.pb_run_losses.proofs.losses.put_losses.Given as goal
 
--- the lines so far, and those of the bridges from here on, are the lines of all bridges
+-- the lines so far, followed by those of the remaining bridges, are the lines of all bridges
 abbrev pub invariant-loop-bridge : goal.invariant-loop-bridge
 invariant-loop-bridge l =
     string_bytes l.out ++ flat_map (λ b. bridge_lines b.0.name b.1)

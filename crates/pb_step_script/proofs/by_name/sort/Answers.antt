@@ -11,7 +11,7 @@ use Rattle.std.specs.declared.cmp.Ordering.{Ordering}
 use Rattle.std.specs.declared.cmp.Ordering.TheVariants.{Less, Equal, Greater}
 use Rattle.pb_step_script.proofs.by_name.sort.Goals as goal
 
--- what comes first decides
+-- the first comparison decides if it is not equal
 first_decides : (a b : Ordering) → is_lt (ordering_then a b) ≡ false → is_lt a ≡ false
 first_decides Less b e = e
 first_decides Equal b e = refl
@@ -21,7 +21,7 @@ first_decides Greater b e = refl
 abbrev seen : Bor (List ℕ) × ℕ → List ℕ × ℕ
 seen n = (n.0.now, n.1)
 
--- the names come in order
+-- the sorted names are in order
 in_order : (c : goal.After-sort_unstable) → IsSortedByKey {X = List ℕ × ℕ} (λ n. n.0) (slice_cmp nat_cmp)
     (map seen c.sort_unstable.new.self.items)
 in_order c = λ k d low high.

@@ -7,7 +7,7 @@ use Rattle.pb_lan.specs.Events.{number_of}
 use Rattle.pb_step_script.proofs.NameLemmas.{number_of-from, number_of-map, unwrap_or-cond}
 use Rattle.pb_step_script.proofs.names.numbers.Goals as goal
 
--- what `get_or` reads past the end of a list of names
+-- the default that `get_or` returns after the end of a list of names
 abbrev no_name : Bor (List ℕ)
 no_name = record { ref_ptr = (0, 0); now = [] }
 
