@@ -122,9 +122,9 @@ fn write_trace<W: Write>(
 /// followed to its end before the next one; of a bridge's copies the one at the lowest port comes first. If the port
 /// still holds another frame, the frame is not injected, and one line reports that.
 ///
-/// A frame that takes 1,000 events is in a forwarding loop. No more frames are injected then, and a line names each link that
-/// the frame passed twice or more in one direction. The last line has the customer ports at which frames were
-/// delivered, the number of customer frames and copies that bridges dropped, and the number that links lost.
+/// A frame that takes 1,000 events is in a forwarding loop. No more frames are injected then, and a line names each
+/// link that the frame passed twice or more in one direction. The last line has the customer ports at which frames
+/// were delivered, the number of customer frames and copies that bridges dropped, and the number that links lost.
 ///
 /// If the file is not a valid plan, the line `plan: N WORD` is written, as `check` prints it, and `Refused` is
 /// returned. `NoPort` is returned if the plan lacks a frame's customer port, and `NoFrame` if its text is not one or
