@@ -1,5 +1,5 @@
 //! The command `trace`: follows frames hop by hop through the network of a plan.
-//! It stands on pb_converge (driving), pb_net (one event at a time), pb_names and pb_step_script (the texts of steps).
+//! It builds on pb_converge (driving), pb_net (one event at a time), pb_names and pb_step_script (the texts of steps).
 //! Begin reading at `trace.rt`, [`run_trace`], then `walk.rt`.
 #![tactic(auto)]
 

@@ -1,5 +1,5 @@
 //! The command `tree`: the spanning trees of a plan's network, after the bridges have converged.
-//! It stands on pb_converge (driving), pb_forest (loops), pb_names and pb_report (texts).
+//! It builds on pb_converge (driving), pb_forest (loops), pb_names and pb_report (texts).
 //! Begin reading at `tree.rt`, [`run_tree`].
 #![tactic(auto)]
 

@@ -21,6 +21,7 @@ pub enum FormatFault {
 impl From<AllocError> for FormatFault {
     ghost from_gives = { λ _ e. e ≡ memory_fault };
 
+    /// Returns `Memory`.
     fn from(_e: AllocError) -> FormatFault {
         FormatFault::Memory
     }
@@ -29,6 +30,7 @@ impl From<AllocError> for FormatFault {
 impl<T: Drop> From<AllocFailed<T>> for FormatFault {
     ghost from_gives = { λ _ e. e ≡ memory_fault };
 
+    /// Returns `Memory`.
     fn from(_e: AllocFailed<T>) -> FormatFault {
         FormatFault::Memory
     }

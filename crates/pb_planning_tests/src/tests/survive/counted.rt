@@ -32,11 +32,13 @@ impl Counted {
 }
 
 impl FailureProgress for Counted {
+    /// Counts one more finished failure, and keeps the number of all.
     fn looked(&self, failures: usize) {
         self.looked.fetch_add(1, Ordering::SeqCst);
         self.failures.store(failures as u64, Ordering::SeqCst);
     }
 
+    /// Counts one more end of the progress.
     fn close(&self) {
         self.closed.fetch_add(1, Ordering::SeqCst);
     }
